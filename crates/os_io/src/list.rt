@@ -1,9 +1,8 @@
 ghost use Rattle.std.specs.Prelude.{◌≡◌, [], ◌∷◌, ◌++◌, length, OnOk, OnErr};
 
+use crate::refusals::Memory;
 use std::alloc::Global;
 use std::marker::Model;
-
-use crate::refusals::Memory;
 
 /// A vector that contracts see as the list of its items and nothing else.
 /// It may stand inside a type that leads back to itself.
@@ -24,6 +23,9 @@ impl<T> Model for List<T> {
 }
 
 impl<T> List<T> {
+    ghost use Rattle.std.specs.Borrow.{sem};
+    ghost use Rattle.os_io.specs.Lending.{LendsItems};
+
     /// An empty list. It takes no memory.
     pub fn new(alloc: Global) -> List<T>
         ensures { result ≡ [] }
@@ -38,6 +40,14 @@ impl<T> List<T> {
         ensures { result.now ≡ self.now }
     {
         self.items.as_slice()
+    }
+
+    /// The items, for writing: what stands there when the loan ends is what the list then holds.
+    pub fn as_mut_slice(&mut self) -> &mut [T]
+        ensures* writes_back { sem 𝓛 (LendsItems T.row self.entry result) }
+        ensures value { result.now ≡ self.old }
+    {
+        self.items.as_mut_slice()
     }
 
     /// The number of items.
@@ -55,6 +65,27 @@ impl<T: Drop> List<T> {
         ensures err { OnErr result (self.new ≡ self.old) }
     {
         self.items.push(item)?;
+        Ok(())
+    }
+}
+
+#[cfg(test)]
+mod tests {
+    use super::*;
+    use std::test::Fail;
+
+    #[test]
+    fn holds_what_is_pushed_and_written(rt: HostRuntime) -> Result<(), Fail> {
+        let mut list = List::new(rt.alloc());
+        assert_eq!(rt; list.len(), 0);
+        for item in [2u32, 3, 5] {
+            list.push(item)?;
+        }
+        assert_eq!(rt; list.as_slice(), [2, 3, 5].as_slice());
+        for item in list.as_mut_slice().iter_mut() {
+            *item = 7;
+        }
+        assert_eq!(rt; list.as_slice(), [7, 7, 7].as_slice());
         Ok(())
     }
 }

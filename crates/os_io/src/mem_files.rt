@@ -1,0 +1,268 @@
+ghost use Rattle.std.specs.Prelude.{◌≡◌, ◌^◌, ◌<◌, ◌≤◌, ℕ, List, [], ◌∷◌, ◌++◌, map, length, take, drop, is_err, is_none, min, if◌then◌else◌, OnOk, OnErr, IfOk, MatchOption};
+ghost use Rattle.std.specs.Str.{bytes_eq};
+ghost use Rattle.std.specs.Map.{lookup};
+ghost use Rattle.os_io.specs.Counts.{HasRisen};
+ghost use Rattle.os_io.specs.Views.{file, bytes_at, rest_at, IsPlaceIn};
+ghost use Rattle.os_io.specs.StoredFiles.{no_files, held, found, fails_next, read_count, after_open, after_read};
+
+use crate::calls::Calls;
+use crate::files::Files;
+use crate::refusals::{Failed, Memory};
+use std::alloc::Global;
+use std::marker::Model;
+
+/// A file in memory.
+#[derive(Debug, Drop)]
+struct Entry {
+    name: String,
+    bytes: Vec<u8>,
+}
+
+/// Where the next byte of the current file stands.
+#[derive(Clone, Copy, Debug)]
+struct Place {
+    entry: usize,
+    position: usize,
+}
+
+/// Files in memory, for tests. The calls of `open` and `read` are counted together from 0, and
+/// those whose number was named fail.
+#[derive(Debug, Drop)]
+pub struct MemFiles {
+    entries: Vec<Entry>,
+    place: Option<Place>,
+    calls: Calls,
+    opens: u64,
+    given: u64,
+}
+
+impl Model for MemFiles {
+    ghost use Rattle.os_io.specs.StoredFiles.{StoredFiles};
+
+    ghost Value = { StoredFiles };
+
+    ghost use Rattle.os_io.specs.Views.{stored_files, IsPlaceIn};
+
+    ghost view = { stored_files };
+
+    ghost invariant = { λ s. IsPlaceIn s.entries.items s.place };
+}
+
+impl MemFiles {
+    /// No files, none of them current. It takes no memory.
+    pub fn new(alloc: Global) -> MemFiles
+        ensures { result ≡ no_files }
+    {
+        MemFiles {
+            entries: Vec::new(alloc),
+            place: None,
+            calls: Calls::new(alloc),
+            opens: 0,
+            given: 0,
+        }
+    }
+
+    /// Adds a file under a name that isn't there yet. `Memory` leaves the files as they were.
+    pub fn add(&mut self, name: &str, bytes: &[u8]) -> Result<(), Memory>
+        requires { held self.old name.now ≡ None }
+        ensures ok { OnOk result
+            (self.new ≡ record self.old { files = self.old.files ++ (name.now, bytes.now) ∷ [] }) }
+        ensures held { OnOk result ((other : List ℕ) →
+            held self.new other
+            ≡ (if bytes_eq other name.now then Some bytes.now else held self.old other)) }
+        ensures err { OnErr result (self.new ≡ self.old) }
+    {
+        let alloc = *self.entries.allocator();
+        let name = String::from_str(alloc, name)?;
+        let bytes = Vec::from_slice(alloc, bytes)?;
+        self.entries.push(Entry { name, bytes })?;
+        Ok(())
+    }
+
+    /// Names a call that is to fail.
+    pub fn fail_at(&mut self, call: u64) -> Result<(), Memory>
+        ensures ok { OnOk result
+            (self.new ≡ record self.old { failing = self.old.failing ++ call ∷ [] }) }
+        ensures err { OnErr result (self.new ≡ self.old) }
+    {
+        self.calls.fail_at(call)
+    }
+}
+
+impl Files for MemFiles {
+    ghost use Rattle.std.specs.Prelude.{Some, true, refl};
+    ghost use Rattle.os_io.specs.StoredFiles as stored;
+
+    ghost faults = { λ s. s.faults };
+
+    ghost given = { λ s. s.given };
+
+    ghost holds = { stored.held };
+
+    ghost rest = { λ s. Some s.rest };
+
+    ghost opens = { λ s. s.opens };
+
+    ghost may = { λ _ _ _. true };
+
+    ghost may_at_last = { λ _ _. refl };
+
+    /// Fails exactly where its number was named or no file has the name.
+    fn open(&mut self, name: &str) -> Result<(), Failed>
+        ensures failed { OnErr result (HasRisen self.old.faults self.new.faults) }
+        ensures faults_kept { self.old.faults ≤ self.new.faults }
+        ensures fails { is_err result ≡ is_none (found self.old name.now) }
+        ensures after { self.new ≡ after_open self.old name.now }
+    {
+        self.opens = self.opens.saturating_add(1);
+        self.given = 0;
+        self.calls.count()?;
+        let Some(entry) = index_of(&self.entries, name) else {
+            return Err(self.calls.fault());
+        };
+        self.place = Some(Place { entry, position: 0 });
+        Ok(())
+    }
+
+    /// Fails exactly where its number was named. Gives as many bytes as there are and as fit.
+    fn read(&mut self, buf: &mut [u8]) -> Result<usize, Failed>
+        ensures failed { OnErr result (HasRisen self.old.faults self.new.faults) }
+        ensures faults_kept { self.old.faults ≤ self.new.faults }
+        ensures fails { is_err result ≡ fails_next self.old }
+        ensures count { IfOk result (λ n. n ≡ read_count self.old (length buf.old)) }
+        ensures bytes { IfOk result (λ n. buf.new ≡ take n self.old.rest ++ drop n buf.old) }
+        ensures after { self.new ≡ after_read self.old (length buf.old) }
+    {
+        self.calls.count()?;
+        let count = copy_front(rest_of(&self.entries, self.place), buf);
+        self.given = self.given.saturating_add(count as u64);
+        self.place = place_after(&self.entries, self.place, count);
+        Ok(count)
+    }
+}
+
+/// The index of the file with a name.
+fn index_of(entries: &[Entry], name: &str) -> Option<usize>
+    ensures { MatchOption result
+        (lookup (bytes_eq name.now) (map file entries.now) ≡ None)
+        (λ i. (i < length entries.now)
+        × (lookup (bytes_eq name.now) (map file entries.now) ≡ Some (bytes_at entries.now i))) }
+{
+    for (i, entry) in entries.iter().enumerate() {
+        if name == entry.name.as_str() {
+            return Some(i);
+        }
+    }
+    None
+}
+
+/// The bytes of the file at an index.
+fn bytes_of(entries: &[Entry], index: usize) -> &[u8]
+    requires { index < length entries.now }
+    ensures { result.now ≡ bytes_at entries.now index }
+{
+    entries[index].bytes.as_slice()
+}
+
+/// The bytes from a place on.
+fn rest_of(entries: &[Entry], place: Option<Place>) -> &[u8]
+    requires { IsPlaceIn entries.now place }
+    ensures { result.now ≡ rest_at entries.now place }
+{
+    match place {
+        None => &[],
+        Some(place) => &bytes_of(entries, place.entry)[place.position..],
+    }
+}
+
+/// The place behind as many bytes.
+fn place_after(entries: &[Entry], place: Option<Place>, count: usize) -> Option<Place>
+    requires place { IsPlaceIn entries.now place }
+    requires count { count ≤ length (rest_at entries.now place) }
+    ensures place { IsPlaceIn entries.now result }
+    ensures rest { rest_at entries.now result ≡ drop count (rest_at entries.now place) }
+{
+    let Place { entry, position } = place?;
+    // The length of a slice bounds the sum.
+    let _bound = bytes_of(entries, entry).len();
+    let position = position + count;
+    Some(Place { entry, position })
+}
+
+/// Copies as many bytes as there are and as fit, and says how many.
+fn copy_front(from: &[u8], to: &mut [u8]) -> usize
+    ensures count { result ≡ min (length to.old) (length from.now) }
+    ensures bytes { to.new ≡ take result from.now ++ drop result to.old }
+{
+    let count = to.len().min(from.len());
+    to[..count].copy_from_slice(&from[..count]);
+    count
+}
+
+#[cfg(test)]
+mod tests {
+    use super::*;
+    use crate::reading::{Loaded, ReadError, read_whole};
+    use std::alloc::AllocError;
+    use std::test::Fail;
+
+    #[test]
+    fn gives_the_bytes_of_the_file_that_was_opened_last(rt: HostRuntime) -> Result<(), Fail> {
+        let mut files = MemFiles::new(rt.alloc());
+        files.add("a", b"alpha")?;
+        files.add("b", b"")?;
+        let mut buf = [0u8; 3];
+        assert_eq!(rt; files.read(&mut buf), Ok(0), "no file is open");
+        assert_eq!(rt; files.open("c"), Err(Failed), "no such file");
+        assert_eq!(rt; files.open("a"), Ok(()));
+        assert_eq!(rt; files.read(&mut buf), Ok(3));
+        assert_eq!(rt; buf.as_slice(), b"alp".as_slice());
+        assert_eq!(rt; files.open("c"), Err(Failed), "and `a` stays open");
+        assert_eq!(rt; files.read(&mut buf), Ok(2));
+        assert_eq!(rt; buf.as_slice(), b"hap".as_slice());
+        assert_eq!(rt; files.read(&mut buf), Ok(0), "the end of `a`");
+        assert_eq!(rt; files.open("b"), Ok(()));
+        assert_eq!(rt; files.read(&mut buf), Ok(0), "`b` is empty");
+        Ok(())
+    }
+
+    /// The length of a file that is read whole, or `None` where it is too long. Call 0 is the `open`.
+    fn length_read(
+        alloc: Global,
+        text: &[u8],
+        limit: u64,
+        failing: u64,
+    ) -> Result<Option<usize>, ReadError>
+        requires { limit ≤ 2 ^ 26 }
+    {
+        let mut files = MemFiles::new(alloc);
+        files.add("text", text)?;
+        files.fail_at(failing)?;
+        match read_whole(alloc, &mut files, "text", limit)? {
+            Loaded::Whole(bytes) => Ok(Some(bytes.len())),
+            Loaded::TooLong => Ok(None),
+        }
+    }
+
+    // The first piece has 8,192 bytes, so 20,000 are read by the calls 1 to 3, and 4 is their end.
+    #[test]
+    fn is_read_whole_or_not_at_all(rt: HostRuntime) -> Result<(), Fail> {
+        let text = twenty_thousand(rt.alloc())?;
+        let text = text.as_slice();
+        let alloc = rt.alloc();
+        assert_eq!(rt; length_read(alloc, text, 20_000, 9)?, Some(20_000));
+        assert_eq!(rt; length_read(alloc, text, 67_108_864, 9)?, Some(20_000));
+        assert_eq!(rt; length_read(alloc, text, 19_999, 9)?, None);
+        assert_eq!(rt; length_read(alloc, text, 0, 9)?, None);
+        assert_eq!(rt; length_read(alloc, text, 20_000, 5)?, Some(20_000));
+        for failing in 0..5 {
+            let outcome = length_read(alloc, text, 20_000, failing);
+            assert!(rt; matches!(outcome, Err(ReadError::Failed)), "call {failing}");
+        }
+        Ok(())
+    }
+
+    fn twenty_thousand(alloc: Global) -> Result<Vec<u8>, AllocError> {
+        vec![in alloc; 7u8; 20_000]
+    }
+}
