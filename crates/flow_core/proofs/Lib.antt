@@ -1,0 +1,11 @@
+pub mod Counting
+pub mod Sources
+pub mod Carrying
+pub mod Gathering
+pub mod Rounds
+pub mod Showing
+pub mod Running
+pub mod Examples
+pub mod Windows
+pub mod Orders
+pub mod SoundTests

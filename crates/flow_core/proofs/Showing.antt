@@ -1,0 +1,185 @@
+-- What a run shows of the meaning, through each step.
+use Rattle.std.proofs.Common.{◌≡◌, ◌≢◌, ℕ, ◌+◌, ◌-◌, ◌<◌, ◌≤◌, ℤ, List, [], ◌∷◌, Option, Some, None, Bool, true, false, cond, map, length, get_or, set, take, drop, refl, sym, ap, ◌∙◌, subst, ◌⊎◌, inl, inr, arith}
+use Rattle.std.specs.Prelude.{slice_get, is_some, option_and_then, IsSome}
+use Rattle.std.specs.Option.{option_map}
+use Rattle.std.specs.List.{range_with_len}
+use Rattle.std.proofs.lemmas.Bool.{cases_lt, cases_eq}
+use Rattle.std.proofs.lemmas.List.{get_or-set_same, get_or-set_other, length-set, same_lists, get_or_past, get_or-take, get_or-drop, length-take, length-drop, get_or_default}
+use Rattle.std.proofs.lemmas.List.FromFn.{length-map-range_with_len, get_or-map-range_with_len}
+use Rattle.flow_core.specs.declared.plan.FramePlan.{FramePlan}
+use Rattle.flow_core.specs.declared.plan.Piece.{Piece}
+use Rattle.flow_core.specs.declared.plan.Plan.{Plan}
+use Rattle.flow_core.specs.declared.task_end.TaskEnd.{TaskEnd}
+use Rattle.flow_core.specs.declared.task_end.TaskEnd.TheVariants.{Done, Trapped, OverBudget}
+use Rattle.flow_core.specs.declared.waits.Waits.{Waits}
+use Rattle.flow_core.specs.Outcome.{Outcome, State, outcome_at, delivered}
+use Rattle.flow_core.specs.Element.{Source, given, fed, nobody, element, output_at}
+use Rattle.flow_core.specs.Round.{gathered}
+use Rattle.flow_core.specs.Plans.{frame_at, cells_of, value_at, cell_source, plan_reads, plan_meaning}
+use Rattle.flow_core.specs.IsSound.{Covers, IsSound}
+use Rattle.flow_core.specs.Counted.{IsCounted, Carries, AreEmpty}
+use Rattle.flow_core.specs.Shows.{end_at, shown, Shows, Gives}
+use Rattle.flow_core.proofs.Carrying.{piece_fits}
+use Rattle.flow_core.proofs.Gathering.{gathered-weaker, all_gathered}
+use Rattle.flow_core.proofs.Rounds.{outcome_at-meaning}
+use Rattle.flow_core.proofs.Sources.{cell_source-covered, fed-covered}
+
+-- the pieces of a frame
+from_frame : (plan : Plan) (f number : ℕ) (p : Piece) → IsSound plan → f < length plan.frames → slice_get plan.pieces number ≡ Some p → (frame_at plan f).piece ≤ number → number < (frame_at plan f).piece + (frame_at plan f).pieces → p.from ≡ f
+from_frame plan f number p sound lt is low high = (sound.pieces_stand_together f number p (omega arith) is).1 (low, high)
+
+-- a frame without an end has empty cells under its pieces
+pub AreEmpty-waiting : (plan : Plan) (m : State) (cells : List (Option ℤ)) (ends : List (Option TaskEnd)) (f : ℕ) → IsSound plan → length cells ≡ length plan.filled → Shows plan m cells ends → f < length plan.frames → end_at ends f ≡ None → AreEmpty plan (frame_at plan f).piece ((frame_at plan f).piece + (frame_at plan f).pieces) cells
+AreEmpty-waiting plan m cells ends f sound len shows lt waits number c low high (p, is, from, to) =
+    let at_f : p.from ≡ f = from_frame plan f number p sound lt is low high in
+    let inside = piece_fits plan number p sound is in
+    let hidden : cond (is_some (end_at ends p.from)) (output_at m p.from (p.first + (c - p.at))) None ≡ None = ap (λ (o : Option TaskEnd). cond (is_some o) (output_at m p.from (p.first + (c - p.at))) None) (ap (end_at ends) at_f ∙ waits) in
+    shows.cells_are_shown c (omega arith) ∙ ap (shown ends m) (cell_source-covered plan number c p sound is from to) ∙ hidden
+
+-- the ends with one more
+pub end_at-set : (ends : List (Option TaskEnd)) (f g : ℕ) (e : TaskEnd) → f < length ends → (g ≡ f) ⊎ (g ≢ f) → (end_at (set ends f (Some e)) g ≡ Some e) × (g ≡ f) ⊎ (end_at (set ends f (Some e)) g ≡ end_at ends g) × (g ≢ f)
+end_at-set ends f g e lt (inl same) = inl (ap (end_at (set ends f (Some e))) same ∙ get_or-set_same ends f (Some e) None lt, same)
+end_at-set ends f g e lt (inr other) = inr (get_or-set_other ends f g (Some e) None other, other)
+
+-- what a frame with an outcome gives
+output_at-outcome : (m : State) (f k : ℕ) (o : Outcome) → outcome_at m f ≡ Some o → output_at m f k ≡ slice_get (delivered o.end o.outputs) k
+output_at-outcome m f k o is = ap (option_and_then (λ (q : Outcome). slice_get (delivered q.end q.outputs) k)) is
+
+nothing_delivered : (e : TaskEnd) (outputs : List ℤ) (k : ℕ) → e ≢ Done → slice_get (delivered e outputs) k ≡ None
+nothing_delivered Done outputs k other = absurd (other refl)
+nothing_delivered (Trapped code line) outputs k other = refl
+nothing_delivered OverBudget outputs k other = refl
+
+-- the ends stay the meaning's
+ends_set : (m : State) (ends : List (Option TaskEnd)) (f : ℕ) (e : TaskEnd) (o : Outcome) → f < length ends → outcome_at m f ≡ Some o → o.end ≡ e → ((g : ℕ) (d : TaskEnd) → end_at ends g ≡ Some d → option_map (λ (q : Outcome). q.end) (outcome_at m g) ≡ Some d) → (g : ℕ) (d : TaskEnd) → end_at (set ends f (Some e)) g ≡ Some d → option_map (λ (q : Outcome). q.end) (outcome_at m g) ≡ Some d
+ends_set m ends f e o lt is o_end old g d h = by_case (end_at-set ends f g e lt (cases_eq g f))
+  where
+    by_case : (end_at (set ends f (Some e)) g ≡ Some e) × (g ≡ f) ⊎ (end_at (set ends f (Some e)) g ≡ end_at ends g) × (g ≢ f) → option_map (λ (q : Outcome). q.end) (outcome_at m g) ≡ Some d
+    by_case (inl (now, same)) = ap (option_map (λ (q : Outcome). q.end)) (ap (outcome_at m) same ∙ is) ∙ ap (λ (x : TaskEnd). Some x) o_end ∙ sym now ∙ h
+    by_case (inr (stays, other)) = old g d (sym stays ∙ h)
+
+-- another frame's sources show as before
+shown-other : (ends : List (Option TaskEnd)) (m : State) (f g k : ℕ) (e : TaskEnd) → g ≢ f → shown (set ends f (Some e)) m (fed g k) ≡ shown ends m (fed g k)
+shown-other ends m f g k e other = ap (λ (o : Option TaskEnd). cond (is_some o) (output_at m g k) None) (get_or-set_other ends f g (Some e) None other)
+
+shown-same : (ends : List (Option TaskEnd)) (m : State) (f k : ℕ) (e : TaskEnd) → f < length ends → shown (set ends f (Some e)) m (fed f k) ≡ output_at m f k
+shown-same ends m f k e lt = ap (λ (o : Option TaskEnd). cond (is_some o) (output_at m f k) None) (get_or-set_same ends f (Some e) None lt)
+
+-- a frame that isn't Done shows nothing more
+pub Shows-not_done : (plan : Plan) (m : State) (cells : List (Option ℤ)) (ends : List (Option TaskEnd)) (f : ℕ) (e : TaskEnd) (outputs : List ℤ) → Shows plan m cells ends → f < length ends → e ≢ Done → end_at ends f ≡ None → Gives m f e outputs → Shows plan m cells (set ends f (Some e))
+Shows-not_done plan m cells ends f e outputs shows lt other waits (o, is, o_end, o_outputs) = record {
+  ends_of_plan = length-set ends f (Some e) ∙ shows.ends_of_plan;
+  ends_are_meant = ends_set m ends f e o lt is o_end shows.ends_are_meant;
+  cells_are_shown = λ c h. shows.cells_are_shown c h ∙ same_shown (cell_source plan c);
+}
+  where
+    fed_shown : (g k : ℕ) → (g ≡ f) ⊎ (g ≢ f) → shown ends m (fed g k) ≡ shown (set ends f (Some e)) m (fed g k)
+    fed_shown g k (inl same) =
+        let before : shown ends m (fed f k) ≡ None = ap (λ (o : Option TaskEnd). cond (is_some o) (output_at m f k) None) waits in
+        let after : shown (set ends f (Some e)) m (fed f k) ≡ None = shown-same ends m f k e lt ∙ output_at-outcome m f k o is ∙ nothing_delivered o.end o.outputs k (λ d. other (sym o_end ∙ d)) in
+        subst (λ (h : ℕ). shown ends m (fed h k) ≡ shown (set ends f (Some e)) m (fed h k)) (sym same) (before ∙ sym after)
+    fed_shown g k (inr different) = sym (shown-other ends m f g k e different)
+
+    same_shown : (source : Source) → shown ends m source ≡ shown (set ends f (Some e)) m source
+    same_shown (given v) = refl
+    same_shown (fed g k) = fed_shown g k (cases_eq g f)
+    same_shown nobody = refl
+
+-- no piece of a frame covers a cell that it doesn't feed
+not_from : (plan : Plan) (f c : ℕ) → IsSound plan → f < length plan.frames → ((k : ℕ) → cell_source plan c ≢ fed f k) → (number : ℕ) → (frame_at plan f).piece ≤ number → number < (frame_at plan f).piece + (frame_at plan f).pieces → ¬ (Covers plan number c)
+not_from plan f c sound lt unfed number low high (p, is, from, to) =
+    unfed (p.first + (c - p.at)) (cell_source-covered plan number c p sound is from to ∙ ap (λ (g : ℕ). fed g (p.first + (c - p.at))) (from_frame plan f number p sound lt is low high))
+
+-- a frame that is Done shows what its pieces carried
+pub Shows-done : (plan : Plan) (m : State) (cells new : List (Option ℤ)) (ends : List (Option TaskEnd)) (f : ℕ) (outputs : List ℤ) → IsSound plan → f < length plan.frames → Shows plan m cells ends → Gives m f Done outputs → length new ≡ length cells → Carries plan (frame_at plan f).piece ((frame_at plan f).piece + (frame_at plan f).pieces) outputs cells new → Shows plan m new (set ends f (Some Done))
+Shows-done plan m cells new ends f outputs sound f_lt shows (o, is, o_end, o_outputs) len carries = record {
+  ends_of_plan = length-set ends f (Some Done) ∙ shows.ends_of_plan;
+  ends_are_meant = ends_set m ends f Done o lt is o_end shows.ends_are_meant;
+  cells_are_shown = λ c h. at_source c h (cell_source plan c) refl;
+}
+  where
+    lt : f < length ends
+    lt = let l = shows.ends_of_plan in omega arith
+
+    stays : (c : ℕ) → c < length new → ((k : ℕ) → cell_source plan c ≢ fed f k) → value_at new c ≡ shown ends m (cell_source plan c)
+    stays c h unfed = carries.others c (not_from plan f c sound f_lt unfed) ∙ shows.cells_are_shown c (omega arith)
+
+    from_f : (c k : ℕ) → cell_source plan c ≡ fed f k → value_at new c ≡ shown (set ends f (Some Done)) m (fed f k)
+    from_f c k is_fed =
+        let (number, p, p_is, low, high, from, place) = fed-covered plan c f k is_fed in
+        let range = (sound.pieces_stand_together f number p (omega arith) p_is).0 from in
+        let there : value_at new c ≡ slice_get outputs k = carries.filled number c p range.0 range.1 p_is low high ∙ ap (slice_get outputs) place in
+        let meant : slice_get outputs k ≡ slice_get (delivered o.end o.outputs) k = ap (λ (xs : List ℤ). slice_get xs k) (o_outputs refl ∙ ap (λ (e : TaskEnd). delivered e o.outputs) (sym o_end)) in
+        there ∙ meant ∙ sym (output_at-outcome m f k o is) ∙ sym (shown-same ends m f k Done lt)
+
+    at_fed : (c g k : ℕ) → c < length new → cell_source plan c ≡ fed g k → (g ≡ f) ⊎ (g ≢ f) → value_at new c ≡ shown (set ends f (Some Done)) m (fed g k)
+    at_fed c g k h e (inl same) = subst (λ (x : ℕ). cell_source plan c ≡ fed x k → value_at new c ≡ shown (set ends f (Some Done)) m (fed x k)) (sym same) (from_f c k) e
+    at_fed c g k h e (inr other) = stays c h (λ j e'. other (let q : fed g k ≡ fed f j = sym e ∙ e' in cc)) ∙ ap (shown ends m) e ∙ sym (shown-other ends m f g k Done other)
+
+    at_source : (c : ℕ) → c < length new → (source : Source) → cell_source plan c ≡ source → value_at new c ≡ shown (set ends f (Some Done)) m (cell_source plan c)
+    at_source c h (given v) e = stays c h (λ j e'. cc) ∙ ap (shown ends m) e ∙ ap (shown (set ends f (Some Done)) m) (sym e)
+    at_source c h (fed g k) e = at_fed c g k h e (cases_eq g f) ∙ ap (shown (set ends f (Some Done)) m) (sym e)
+    at_source c h nobody e = stays c h (λ j e'. cc) ∙ ap (shown ends m) e ∙ ap (shown (set ends f (Some Done)) m) (sym e)
+
+-- what a run shows is the meaning's
+shown_if : (b : Bool) (o : Option ℤ) (v : ℤ) → cond b o None ≡ Some v → o ≡ Some v
+shown_if true o v h = h
+shown_if false o v h = absurd (cc)
+
+pub shown_meant : (ends : List (Option TaskEnd)) (m : State) (source : Source) (v : ℤ) → shown ends m source ≡ Some v → element m source ≡ Some v
+shown_meant ends m (given w) v h = h
+shown_meant ends m (fed g k) v h = shown_if (is_some (end_at ends g)) (output_at m g k) v h
+shown_meant ends m nobody v h = absurd (cc)
+
+-- the values that cells have are the meaning's
+pub value_meant : (plan : Plan) (m : State) (cells : List (Option ℤ)) (ends : List (Option TaskEnd)) → Shows plan m cells ends → (c : ℕ) (v : ℤ) → value_at cells c ≡ Some v → element m (cell_source plan c) ≡ Some v
+value_meant plan m cells ends shows c v h = inside (cases_lt c (length cells))
+  where
+    inside : (c < length cells) ⊎ (length cells ≤ c) → element m (cell_source plan c) ≡ Some v
+    inside (inl lt) = shown_meant ends m (cell_source plan c) v (sym (shows.cells_are_shown c lt) ∙ h)
+    inside (inr past) = let n : value_at cells c ≡ None = get_or_past cells c None past in absurd (cc)
+
+-- a stretch of cells, cell by cell
+pub stretch : (cells : List (Option ℤ)) (from n : ℕ) → from + n ≤ length cells → take (from + n - from) (drop from cells) ≡ map (value_at cells) (range_with_len from n)
+stretch cells from n le = same_lists (take (from + n - from) (drop from cells)) (map (value_at cells) (range_with_len from n)) (omega (arith, length-take (from + n - from) (drop from cells), length-drop from cells, length-map-range_with_len (value_at cells) from n)) (λ k d lt. at k d (omega (arith, length-take (from + n - from) (drop from cells), length-drop from cells)))
+  where
+    at : (k : ℕ) (d : Option ℤ) → k < n → get_or (take (from + n - from) (drop from cells)) k d ≡ get_or (map (value_at cells) (range_with_len from n)) k d
+    at k d lt = get_or-take (from + n - from) (drop from cells) k d (omega arith) ∙ get_or-drop from cells k d ∙ get_or_default cells (from + k) d None (omega arith) ∙ sym (get_or-map-range_with_len (value_at cells) from n k (from + k) d lt refl)
+
+-- the sources of cells, one by one
+pub map_map : (f : ℕ → Source) (g : Source → Option ℤ) (xs : List ℕ) → map g (map f xs) ≡ map (λ x. g (f x)) xs
+map_map f g [] = refl
+map_map f g (x ∷ xs) = ap (λ (ys : List (Option ℤ)). g (f x) ∷ ys) (map_map f g xs)
+
+pub stretch_of : (plan : Plan) (cells : List (Option ℤ)) (waits : Waits) (f : ℕ) → IsSound plan → IsCounted plan cells waits → f ≤ length plan.frames → take ((frame_at plan f).cell + (frame_at plan f).inputs - (frame_at plan f).cell) (drop (frame_at plan f).cell cells) ≡ map (value_at cells) (cells_of plan f)
+stretch_of plan cells waits f sound counted le =
+    let exist = sound.cells_exist f le in
+    let len = counted.cells_of_plan in
+    stretch cells (frame_at plan f).cell (frame_at plan f).inputs (omega arith)
+
+pub length-stretch : (plan : Plan) (cells : List (Option ℤ)) (waits : Waits) (f : ℕ) → IsSound plan → IsCounted plan cells waits → f ≤ length plan.frames → length (take ((frame_at plan f).cell + (frame_at plan f).inputs - (frame_at plan f).cell) (drop (frame_at plan f).cell cells)) ≡ (frame_at plan f).inputs
+length-stretch plan cells waits f sound counted le = ap length (stretch_of plan cells waits f sound counted le) ∙ length-map-range_with_len (value_at cells) (frame_at plan f).cell (frame_at plan f).inputs
+
+-- the inputs of a frame that misses nothing are there
+pub inputs_there : (plan : Plan) (cells : List (Option ℤ)) (waits : Waits) (f : ℕ) → IsSound plan → IsCounted plan cells waits → f < length plan.frames → get_or waits.missing.items f 0 ≡ 0 → (vs : List ℤ) × (gathered (take ((frame_at plan f).cell + (frame_at plan f).inputs - (frame_at plan f).cell) (drop (frame_at plan f).cell cells)) ≡ Some vs)
+inputs_there plan cells waits f sound counted lt full =
+    let (vs, h) = all_gathered (value_at cells) (cells_of plan f) (sym (counted.counts f lt) ∙ full) in
+    (vs, ap gathered (stretch_of plan cells waits f sound counted (let le : f ≤ length plan.frames = omega arith in le)) ∙ h)
+
+-- the outcome of such a frame is what its body gives for its cells
+pub outcome_meant : (plan : Plan) (outcome : ℕ → List ℤ → Outcome) (cells : List (Option ℤ)) (ends : List (Option TaskEnd)) (waits : Waits) (f : ℕ) (vs : List ℤ) → IsSound plan → IsCounted plan cells waits → Shows plan (plan_meaning plan outcome) cells ends → f < length plan.frames → gathered (take ((frame_at plan f).cell + (frame_at plan f).inputs - (frame_at plan f).cell) (drop (frame_at plan f).cell cells)) ≡ Some vs → outcome_at (plan_meaning plan outcome) f ≡ Some (outcome f vs)
+outcome_meant plan outcome cells ends waits f vs sound counted shows lt h =
+    let m = plan_meaning plan outcome in
+    let cell_by_cell : gathered (map (value_at cells) (cells_of plan f)) ≡ Some vs = ap gathered (sym (stretch_of plan cells waits f sound counted (let le : f ≤ length plan.frames = omega arith in le))) ∙ h in
+    let read : gathered (map (λ c. element (plan_meaning plan outcome) (cell_source plan c)) (cells_of plan f)) ≡ Some vs = gathered-weaker (value_at cells) (λ c. element (plan_meaning plan outcome) (cell_source plan c)) (value_meant plan (plan_meaning plan outcome) cells ends shows) (cells_of plan f) vs cell_by_cell in
+    outcome_at-meaning (plan_reads plan) outcome (length plan.frames) f lt ∙ ap (option_map (outcome f)) (ap gathered (map_map (cell_source plan) (element (plan_meaning plan outcome)) (cells_of plan f)) ∙ read)
+
+-- a frame's part of the cells, as it is read
+abbrev pub part_of : FramePlan → List (Option ℤ) → List (Option ℤ)
+part_of place cells = take (place.cell + place.inputs - place.cell) (drop place.cell cells)
+
+pub part_read : (plan : Plan) (f : ℕ) (place : FramePlan) (cells read : List (Option ℤ)) → place ≡ frame_at plan f → read ≡ cells → part_of place read ≡ part_of (frame_at plan f) cells
+part_read plan f place cells read at is = ap (λ (p : FramePlan). part_of p read) at ∙ ap (part_of (frame_at plan f)) is
+
+pub IsSome-from : (o : Option (List ℤ)) (vs : List ℤ) → o ≡ Some vs → IsSome o
+IsSome-from o vs h = subst (λ (p : Option (List ℤ)). IsSome p) (sym h) refl

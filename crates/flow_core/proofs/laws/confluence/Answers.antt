@@ -1,0 +1,11 @@
+use Rattle.std.proofs.Common.{length}
+use Rattle.flow_core.specs.Streams.{stream_reads}
+use Rattle.flow_core.specs.Plans.{plan_reads}
+use Rattle.flow_core.proofs.Orders.{reached_extends, reached_meaning}
+use Rattle.flow_core.proofs.laws.confluence.Goals as goal
+
+pub returns-clause-streams : goal.returns-clause-streams
+returns-clause-streams c = λ activations input body. record { agrees = λ s a o r. (reached_extends (stream_reads activations input) body (length activations) s r).kept a o; ends_there = reached_meaning (stream_reads activations input) body (length activations) }
+
+pub returns-clause-plans : goal.returns-clause-plans
+returns-clause-plans c = λ plan outcome. record { agrees = λ s a o r. (reached_extends (plan_reads plan) outcome (length plan.frames) s r).kept a o; ends_there = reached_meaning (plan_reads plan) outcome (length plan.frames) }

@@ -1,0 +1,33 @@
+-- The cells of a run, their counters, and what a piece carries into them.
+use Rattle.std.specs.Prelude.{◌≡◌, ℕ, ℤ, ◌+◌, ◌-◌, ◌<◌, ◌≤◌, List, Option, Some, None, length, slice_get, slice_index}
+use Rattle.flow_core.specs.declared.plan.Piece.{Piece}
+use Rattle.flow_core.specs.declared.plan.Plan.{Plan}
+use Rattle.flow_core.specs.declared.waits.Waits.{Waits}
+use Rattle.flow_core.specs.Plans.{frame_at, value_at, missing_of}
+use Rattle.flow_core.specs.IsSound.{Covers}
+use Rattle.flow_core.specs.Waits.{OpensFull}
+
+-- The counters are those of the cells, and the opened frames are those that miss nothing.
+pub record IsCounted (plan : Plan) (cells : List (Option ℤ)) (waits : Waits) : Type 0 where
+  pub cells_of_plan : length cells ≡ length plan.filled
+  pub frames_of_plan : length waits.missing.items ≡ length plan.frames
+  pub counts : (f : ℕ) → f < length plan.frames → slice_index waits.missing.items f ≡ missing_of plan cells f
+  pub opens_full : OpensFull waits
+
+-- The pieces of these numbers were carried over: their cells hold their output elements, and the
+-- other cells are as they were.
+pub record Carries (plan : Plan) (low high : ℕ) (outputs : List ℤ) (old new : List (Option ℤ)) : Type 0 where
+  pub filled : (number c : ℕ) (p : Piece) → low ≤ number → number < high → slice_get plan.pieces number ≡ Some p → p.at ≤ c → c < p.at + p.count → value_at new c ≡ slice_get outputs (p.first + (c - p.at))
+  pub others : (c : ℕ) → ((number : ℕ) → low ≤ number → number < high → ¬ (Covers plan number c)) → value_at new c ≡ value_at old c
+
+-- The cells of the pieces of these numbers have no value.
+abbrev pub AreEmpty : Plan → ℕ → ℕ → List (Option ℤ) → Type 0
+AreEmpty plan low high cells = (number c : ℕ) → low ≤ number → number < high → Covers plan number c → value_at cells c ≡ None
+
+-- The cells that a frame feeds have no value.
+abbrev pub IsUnfed : Plan → ℕ → List (Option ℤ) → Type 0
+IsUnfed plan frame cells = AreEmpty plan (frame_at plan frame).piece ((frame_at plan frame).piece + (frame_at plan frame).pieces) cells
+
+-- A frame's outputs were carried over to the cells that it feeds.
+abbrev pub Delivers : Plan → ℕ → List ℤ → List (Option ℤ) → List (Option ℤ) → Type 0
+Delivers plan frame outputs old new = Carries plan (frame_at plan frame).piece ((frame_at plan frame).piece + (frame_at plan frame).pieces) outputs old new

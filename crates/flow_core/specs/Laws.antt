@@ -1,0 +1,63 @@
+-- The laws of the meaning, as statements.
+use Rattle.std.specs.Prelude.{◌≡◌, ℕ, ℤ, ◌<◌, ◌≤◌, List, Some, None, slice_get, length, replicate, slice_set, take, IsTrue}
+use Rattle.std.specs.Option.{option_map}
+use Rattle.flow_core.specs.declared.activation.Activation.{Activation}
+use Rattle.flow_core.specs.declared.plan.Plan.{Plan}
+use Rattle.flow_core.specs.Outcome.{Outcome, State, outcome_at}
+use Rattle.flow_core.specs.Element.{Source}
+use Rattle.flow_core.specs.Round.{IsEnabled, inputs_in, round, rounds, meaning}
+use Rattle.flow_core.specs.Window.{Window, windows, claims_of, is_written_by}
+use Rattle.flow_core.specs.FirstPosition.{first_position}
+use Rattle.flow_core.specs.Streams.{stream_reads, stream_meaning}
+use Rattle.flow_core.specs.Plans.{plan_reads, plan_meaning}
+use Rattle.flow_core.specs.StandsFor.{StandsFor}
+
+-- one more round changes nothing in a meaning
+abbrev pub IsSettled : (ℕ → List Source) → (ℕ → List ℤ → Outcome) → ℕ → Type 0
+IsSettled reads body count = round reads body (meaning reads body count) ≡ meaning reads body count
+
+-- an outcome that is there after some rounds is the same after all later ones
+abbrev pub KeepsOutcomes : (ℕ → List Source) → (ℕ → List ℤ → Outcome) → ℕ → Type 0
+KeepsOutcomes reads body count = (n m a : ℕ) (o : Outcome) → n ≤ m → outcome_at (rounds reads body n (replicate count None)) a ≡ Some o → outcome_at (rounds reads body m (replicate count None)) a ≡ Some o
+
+-- where all inputs of an activation are there in a meaning, its outcome is what its body gives for
+-- them; elsewhere it has none
+abbrev pub IsFixed : (ℕ → List Source) → (ℕ → List ℤ → Outcome) → ℕ → Type 0
+IsFixed reads body count = (a : ℕ) → a < count → outcome_at (meaning reads body count) a ≡ option_map (body a) (inputs_in reads (meaning reads body count) a)
+
+-- a fact of the meaning of each list of activations over each input, with each body
+abbrev pub OfStreams : ((ℕ → List Source) → (ℕ → List ℤ → Outcome) → ℕ → Type 0) → Type 0
+OfStreams fact = (activations : List Activation) (input : List ℕ) (body : ℕ → List ℤ → Outcome) → fact (stream_reads activations input) body (length activations)
+
+-- a fact of the meaning of each plan, with each outcome
+abbrev pub OfPlans : ((ℕ → List Source) → (ℕ → List ℤ → Outcome) → ℕ → Type 0) → Type 0
+OfPlans fact = (plan : Plan) (outcome : ℕ → List ℤ → Outcome) → fact (plan_reads plan) outcome (length plan.frames)
+
+-- the meaning of a plan that stands for activations and an input is the meaning of the streams
+abbrev pub MeansTheStreams : Type 0
+MeansTheStreams = (plan : Plan) (activations : List Activation) (input : List ℕ) (outcome : ℕ → List ℤ → Outcome) → StandsFor plan activations input → plan_meaning plan outcome ≡ stream_meaning activations input outcome
+
+-- The windows are those of all claims in order, and each begins after all the claims before it.
+pub record WindowsAreInOrder (activations : List Activation) : Type 0 where
+  pub one_each : length (windows activations) ≡ length (claims_of activations)
+  pub claims : (i : ℕ) (w : Window) → slice_get (windows activations) i ≡ Some w → slice_get (claims_of activations) i ≡ Some w.claim
+  pub begins : (i : ℕ) (w : Window) → slice_get (windows activations) i ≡ Some w → w.first ≡ first_position (take i (claims_of activations)) w.claim
+
+-- no two write claims cover one position of a stream
+abbrev pub HasOneWriter : Type 0
+HasOneWriter = (activations : List Activation) (stream position i j : ℕ) (v w : Window) → slice_get (windows activations) i ≡ Some v → slice_get (windows activations) j ≡ Some w → IsTrue (is_written_by stream position v) → IsTrue (is_written_by stream position w) → i ≡ j
+
+-- A round gives an enabled activation the outcome of its body for its inputs, and leaves the others.
+pub record RoundsFire (reads : ℕ → List Source) (body : ℕ → List ℤ → Outcome) (count : ℕ) : Type 0 where
+  pub fires : (state : State) (a : ℕ) → length state ≡ count → a < count → IsEnabled reads state a → (inputs : List ℤ) × (inputs_in reads state a ≡ Some inputs) × (outcome_at (round reads body state) a ≡ Some (body a inputs))
+  pub leaves : (state : State) (a : ℕ) → ¬ (IsEnabled reads state a) → outcome_at (round reads body state) a ≡ outcome_at state a
+
+-- The states that are reached by giving enabled activations their outcomes one at a time, in any order.
+pub data Reached (reads : ℕ → List Source) (body : ℕ → List ℤ → Outcome) (count : ℕ) : State → Type 0 where
+  start : Reached reads body count (replicate count None)
+  fire : (state : State) (a : ℕ) (inputs : List ℤ) → Reached reads body count state → a < count → outcome_at state a ≡ None → inputs_in reads state a ≡ Some inputs → Reached reads body count (slice_set state a (Some (body a inputs)))
+
+-- Each such state agrees with the meaning, and one in which nothing is enabled is the meaning.
+pub record IsConfluent (reads : ℕ → List Source) (body : ℕ → List ℤ → Outcome) (count : ℕ) : Type 0 where
+  pub agrees : (state : State) (a : ℕ) (o : Outcome) → Reached reads body count state → outcome_at state a ≡ Some o → outcome_at (meaning reads body count) a ≡ Some o
+  pub ends_there : (state : State) → Reached reads body count state → ((a : ℕ) → a < count → ¬ (IsEnabled reads state a)) → state ≡ meaning reads body count

@@ -1,0 +1,19 @@
+-- How an activation ends, and the states of a run.
+pub mod Outcome
+pub mod Element
+pub mod Round
+-- What a list of activations means.
+pub mod FirstPosition
+pub mod Window
+pub mod Streams
+-- The same over a plan.
+pub mod Plans
+pub mod IsSound
+pub mod StandsFor
+pub mod Serves
+pub mod Laws
+-- Where a run of a plan stands.
+pub mod Waits
+pub mod Counted
+pub mod Shows
+pub mod Board

@@ -1,0 +1,145 @@
+ghost use Rattle.std.specs.Prelude.{◌≡◌, ◌+◌, ◌-◌, ◌<◌, ◌≤◌, ℕ, IsSome, Some, None, OnOk, IfOk, length, slice_get, slice_set, slice_range, map};
+ghost use Rattle.flow_core.specs.Plans.{value_at, frame_at};
+ghost use Rattle.flow_core.specs.Round.{gathered};
+ghost use Rattle.flow_core.specs.IsSound.{IsSound};
+ghost use Rattle.flow_core.specs.Waits.{OpensFull, OpensMore};
+ghost use Rattle.flow_core.specs.Counted.{IsCounted, Carries, AreEmpty, IsUnfed, Delivers};
+ghost use Rattle.flow_core.specs.Shows.{Shows, Gives, end_at};
+ghost use Rattle.flow_core.specs.Outcome.{State};
+
+use crate::cells::fill;
+use crate::ends::Ends;
+use crate::plan::Plan;
+use crate::task_end::TaskEnd;
+use crate::waits::Waits;
+use os_io::{List, Memory};
+use std::alloc::Global;
+
+/// Where a run of a plan stands.
+#[derive(Drop)]
+pub(crate) struct Board {
+    pub(crate) cells: Vec<Option<i32>>,
+    pub(crate) waits: Waits,
+    pub(crate) ends: Vec<Option<TaskEnd>>,
+}
+
+impl Board {
+    /// The board of a plan before anything ran.
+    pub(crate) fn open(alloc: Global, plan: &Plan) -> Result<Board, Memory>
+        requires { IsSound plan.now }
+        ensures counted { IfOk result (λ b. IsCounted plan.now b.cells.items b.waits) }
+        ensures filled { IfOk result (λ b. b.cells.items ≡ plan.now.filled) }
+        ensures waiting { IfOk result (λ b. b.ends.items ≡ map (λ _. None) plan.now.frames) }
+    {
+        let cells = Vec::from_slice(alloc, plan.filled.as_slice())?;
+        let mut waits = Waits::new(alloc);
+        let mut ends = Vec::new(alloc);
+        for frame in plan.frames.as_slice() {
+            waits.add(frame.wait)?;
+            ends.push(None)?;
+        }
+        Ok(Board { cells, waits, ends })
+    }
+
+    /// What the run came to: the ends, and the sink cells.
+    pub(crate) fn close(&self, alloc: Global, plan: &Plan) -> Result<Ends, Memory>
+        requires { plan.now.sink.cell + plan.now.sink.inputs ≤ length self.now.cells.items }
+        ensures ends { IfOk result (λ e. e.ends ≡ self.now.ends.items) }
+        ensures output { IfOk result (λ e. e.output
+            ≡ slice_range self.now.cells.items plan.now.sink.cell (plan.now.sink.cell + plan.now.sink.inputs)) }
+    {
+        let first = plan.sink.cell as usize;
+        let output = &self.cells[first..first + plan.sink.inputs as usize];
+        Ok(Ends {
+            ends: list_of(alloc, self.ends.as_slice())?,
+            output: list_of(alloc, output)?,
+        })
+    }
+
+    /// Takes the end of a frame, with its outputs where it is `Done`.
+    pub(crate) fn take(
+        &mut self,
+        plan: &Plan,
+        frame: u32,
+        end: TaskEnd,
+        outputs: &[i32],
+    ) -> Result<(), Memory>
+        requires sound { IsSound plan.now }
+        requires exists { frame < length plan.now.frames }
+        requires waits { end_at self.old.ends.items frame ≡ None }
+        requires has_place { length self.old.ends.items ≡ length plan.now.frames }
+        requires fits { end ≡ TaskEnd.Done → length outputs.now ≡ (frame_at plan.now frame).outputs }
+        requires counted { IsCounted plan.now self.old.cells.items self.old.waits }
+        requires empty { IsUnfed plan.now frame self.old.cells.items }
+        ensures counted { OnOk result (IsCounted plan.now self.new.cells.items self.new.waits) }
+        ensures ends { OnOk result (self.new.ends.items ≡ slice_set self.old.ends.items frame (Some end)) }
+        ensures opens { OnOk result (OpensMore self.old.waits self.new.waits) }
+        ensures shows { OnOk result ((meaning : State)
+            → Shows plan.now meaning self.old.cells.items self.old.ends.items
+            → Gives meaning frame end outputs.now
+            → Shows plan.now meaning self.new.cells.items self.new.ends.items) }
+    {
+        self.ends[frame as usize] = Some(end);
+        let TaskEnd::Done = end else {
+            return Ok(());
+        };
+        self.deliver(plan, frame, outputs)?;
+        Ok(())
+    }
+
+    /// Carries the output elements of a frame's pieces into their cells.
+    fn deliver(&mut self, plan: &Plan, frame: u32, outputs: &[i32]) -> Result<(), Memory>
+        requires sound { IsSound plan.now }
+        requires exists { frame < length plan.now.frames }
+        requires fits { length outputs.now ≡ (frame_at plan.now frame).outputs }
+        requires counted { IsCounted plan.now self.old.cells.items self.old.waits }
+        requires empty { IsUnfed plan.now frame self.old.cells.items }
+        ensures counted { OnOk result (IsCounted plan.now self.new.cells.items self.new.waits) }
+        ensures carried { OnOk result
+            (Delivers plan.now frame outputs.now self.old.cells.items self.new.cells.items) }
+        ensures opens { OnOk result (OpensMore self.old.waits self.new.waits) }
+        ensures ends { self.new.ends.items ≡ self.old.ends.items }
+    {
+        let place = plan.frame(frame);
+        let first = place.piece as usize;
+        for number in first..first + place.pieces as usize {
+            self.deliver_piece(plan, number, outputs)?;
+        }
+        Ok(())
+    }
+
+    /// Carries the elements of one piece, and lowers the count of the frame that misses them.
+    fn deliver_piece(&mut self, plan: &Plan, number: usize, outputs: &[i32]) -> Result<(), Memory>
+        requires sound { IsSound plan.now }
+        requires exists { number < length plan.now.pieces }
+        requires fits { (p : _) → slice_get plan.now.pieces number ≡ Some p
+            → p.first + p.count ≤ length outputs.now }
+        requires counted { IsCounted plan.now self.old.cells.items self.old.waits }
+        requires empty { AreEmpty plan.now number (number + 1) self.old.cells.items }
+        ensures counted { OnOk result (IsCounted plan.now self.new.cells.items self.new.waits) }
+        ensures carried { OnOk result
+            (Carries plan.now number (number + 1) outputs.now self.old.cells.items self.new.cells.items) }
+        ensures opens { OnOk result (OpensMore self.old.waits self.new.waits) }
+        ensures ends { self.new.ends.items ≡ self.old.ends.items }
+    {
+        let piece = plan.pieces.as_slice()[number];
+        let first = piece.first as usize;
+        let elements = &outputs[first..first + piece.count as usize];
+        fill(&mut self.cells, piece.at as usize, elements);
+        if (piece.to as usize) < plan.frames.len() {
+            self.waits.lower(piece.to, piece.count)?;
+        }
+        Ok(())
+    }
+}
+
+/// A list of the same items.
+pub(crate) fn list_of<T: Copy + Drop>(alloc: Global, items: &[T]) -> Result<List<T>, Memory>
+    ensures { IfOk result (λ list. list ≡ items.now) }
+{
+    let mut list = List::new(alloc);
+    for item in items {
+        list.push(*item)?;
+    }
+    Ok(list)
+}

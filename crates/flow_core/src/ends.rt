@@ -1,0 +1,11 @@
+use crate::task_end::TaskEnd;
+use os_io::List;
+
+/// What a run of a plan came to.
+#[derive(Debug, Drop)]
+pub struct Ends {
+    /// The end of each activation; none where it is starved.
+    pub ends: List<Option<TaskEnd>>,
+    /// The element of each sink cell; none where it has no value.
+    pub output: List<Option<i32>>,
+}
