@@ -1,0 +1,171 @@
+-- What one piece makes of what the reader knows.
+use Rattle.std.proofs.Common.{◌≡◌, ℕ, ◌+◌, ◌-◌, ◌<◌, ◌≤◌, Bool, true, false, cond, List, [], ◌∷◌, ◌++◌, length, take, drop, Some, None, position, unwrap_or, bytes_eq, refl, sym, ap, ap₂, ◌∙◌, subst, ⊎_elim, arith, length-take-le, length-drop, length-append, take-add, add-zero, eqb, lt-ltb, le-ltb, eq-eqb, eqb-true}
+use Rattle.std.proofs.lemmas.Bool.{cond-true, cond-false, cases_lt, cond_both, false_from_ne_true}
+use Rattle.std.proofs.lemmas.Bool.Decides.{same_from_decides}
+use Rattle.std.proofs.lemmas.List.Sums.{sum_by-append}
+use Rattle.std.proofs.lemmas.List.Folds.{position_or_len_push}
+use Rattle.std.proofs.lemmas.Slice.Eq.{bytes_eq-Decides}
+use Rattle.std.specs.List.{position_or_len}
+use Rattle.std.specs.Prelude.{count_by, nat_lt, not, slice_range}
+use Rattle.os_lexer.specs.Bytes.{is_line_feed}
+use Rattle.os_lexer.specs.Cover.{Place, token_of, effect_at, Step, skips, gives, IsFaultAt, faulty}
+use Rattle.os_lexer.specs.Effects.{effect}
+use Rattle.os_lexer.specs.Forms.{IsPiece}
+use Rattle.os_lexer.specs.Lines.{line_of}
+use Rattle.os_lexer.specs.Names.{fixed_names, spelling, name_number}
+use Rattle.os_lexer.specs.Spellings.{first_of}
+use Rattle.os_lexer.specs.States.{place_of, KnowsSpellings, IsState, number_in, IsFaultHere}
+use Rattle.os_lexer.specs.Answer.{error_of}
+use Rattle.os_lexer.proofs.Cuts.{IsPiece-some}
+use Rattle.os_lexer.specs.declared.effect.Effect.TheVariants.{Skip, Give, Fail}
+use Rattle.os_lexer.specs.declared.fault.Fault.{Fault}
+use Rattle.os_lexer.specs.declared.fault.Fault.TheVariants as fault
+use Rattle.os_lexer.specs.declared.form.Form.{Form}
+use Rattle.os_lexer.specs.declared.lexer.Lexer.{Lexer}
+use Rattle.os_lexer.specs.declared.mode.Mode.{Mode}
+use Rattle.os_lexer.specs.declared.names.Spellings.{Spellings}
+use Rattle.os_lexer.specs.declared.token.Kind.{Kind}
+use Rattle.os_lexer.specs.declared.token.Token.{Token}
+
+-- ---- positions
+position_or_len-le : {X : Type 0} (p : X → Bool) (xs : List X) → position_or_len p xs ≤ length xs
+position_or_len-le p [] = omega arith
+position_or_len-le p (x ∷ xs) =
+    let later = position_or_len-le p xs in
+    let P : ℕ → Type 0 = λ k. k ≤ length (x ∷ xs) in
+    cond_both (not (p x)) (1 + position_or_len p xs) 0 P (λ _. omega (arith, later)) (λ _. omega arith)
+
+module _ {X : Type 0} (p : X → Bool) where
+  position_some : (xs : List X) → position_or_len p xs < length xs → position p xs ≡ Some (position_or_len p xs)
+  position_some xs below = cond-true (nat_lt (position_or_len p xs) (length xs)) _ _ (lt-ltb (position_or_len p xs) (length xs) below)
+
+  position_none : (xs : List X) → length xs ≤ position_or_len p xs → position p xs ≡ None
+  position_none xs over = cond-false (nat_lt (position_or_len p xs) (length xs)) _ _ (le-ltb (position_or_len p xs) (length xs) over)
+
+  -- the first position, or the length
+  pub unwrap_or-position : (xs : List X) → unwrap_or (position p xs) (length xs) ≡ position_or_len p xs
+  unwrap_or-position xs =
+      ⊎_elim
+      (λ below. ap (λ o. unwrap_or o (length xs)) (position_some xs below))
+      (λ over. ap (λ o. unwrap_or o (length xs)) (position_none xs over) ∙ omega (arith, over, position_or_len-le p xs))
+      (cases_lt (position_or_len p xs) (length xs))
+
+  some_either : (b : Bool) (k n : ℕ) → cond b (Some (unwrap_or (Some k) n)) (Some k) ≡ Some k
+  some_either true k n = refl
+  some_either false k n = refl
+
+  push_new : (xs : List X) (y : X) (b : Bool) → p y ≡ b → length xs ≤ position_or_len p xs → position p (xs ++ y ∷ []) ≡ cond b (Some (length xs)) None
+  push_new xs y true e over =
+      let all : position_or_len p xs ≡ length xs = omega (arith, over, position_or_len-le p xs) in
+      let is : position_or_len p (xs ++ y ∷ []) ≡ length xs = position_or_len_push p xs y ∙ cond-true (eqb (position_or_len p xs) (length xs)) _ _ (eq-eqb _ _ all) ∙ ap (λ b. length xs + cond b 0 1) e ∙ add-zero (length xs) in
+      position_some (xs ++ y ∷ []) (omega (arith, length-append xs (y ∷ []))) ∙ ap Some is
+  push_new xs y false e over =
+      let all : position_or_len p xs ≡ length xs = omega (arith, over, position_or_len-le p xs) in
+      let is : position_or_len p (xs ++ y ∷ []) ≡ length xs + 1 = position_or_len_push p xs y ∙ cond-true (eqb (position_or_len p xs) (length xs)) _ _ (eq-eqb _ _ all) ∙ ap (λ b. length xs + cond b 0 1) e in
+      position_none (xs ++ y ∷ []) (omega (arith, length-append xs (y ∷ [])))
+
+  -- one more element
+  pub position-push : (xs : List X) (y : X) → position p (xs ++ y ∷ []) ≡ cond (p y) (Some (unwrap_or (position p xs) (length xs))) (position p xs)
+  position-push xs y =
+      ⊎_elim
+      (λ below.
+      let k = position_or_len p xs in
+      let apart : eqb k (length xs) ≡ false = false_from_ne_true _ (λ e. let same = eqb-true _ _ e in omega (arith, same, below)) in
+      let is : position_or_len p (xs ++ y ∷ []) ≡ k = position_or_len_push p xs y ∙ cond-false (eqb k (length xs)) _ _ apart in
+      position_some (xs ++ y ∷ []) (omega (arith, length-append xs (y ∷ []))) ∙ ap Some is ∙ sym (some_either (p y) k (length xs)) ∙ ap (λ o. cond (p y) (Some (unwrap_or o (length xs))) o) (sym (position_some xs below)))
+      (λ over. push_new xs y (p y) refl over ∙ ap (λ o. cond (p y) (Some (unwrap_or o (length xs))) o) (sym (position_none xs over)))
+      (cases_lt (position_or_len p xs) (length xs))
+
+-- ---- the numbers of names
+module _ (text : List ℕ) (tokens : List Token) (spellings : Spellings) (known : KnowsSpellings text tokens spellings) where
+  pub number_in-is : (name : List ℕ) → number_in spellings (length tokens) name ≡ name_number text tokens name
+  number_in-is name =
+      ap (λ i. unwrap_or (position (bytes_eq name) fixed_names) (12 + i)) (ap (λ o. unwrap_or o (length tokens)) (known name) ∙ unwrap_or-position (λ token. bytes_eq name (spelling text token)) tokens)
+
+bytes_eq-flip : (xs ys : List ℕ) → bytes_eq xs ys ≡ bytes_eq ys xs
+bytes_eq-flip xs ys =
+    same_from_decides _ _ (bytes_eq-Decides xs ys) ((λ t. sym ((bytes_eq-Decides ys xs).0 t)), λ e. (bytes_eq-Decides ys xs).1 (sym e))
+
+-- the map after one more token
+pub known_push : (text : List ℕ) (tokens : List Token) (old new : Spellings) (t : Token) (s : List ℕ) → KnowsSpellings text tokens old → spelling text t ≡ s → ((name : List ℕ) → first_of new name ≡ cond (bytes_eq s name) (Some (unwrap_or (first_of old name) (length tokens))) (first_of old name)) → KnowsSpellings text (tokens ++ t ∷ []) new
+known_push text tokens old new t s known spelled noted name =
+    let same : bytes_eq s name ≡ bytes_eq name (spelling text t) = bytes_eq-flip s name ∙ ap (bytes_eq name) (sym spelled) in
+    noted name ∙ ap₂ (λ b o. cond b (Some (unwrap_or o (length tokens))) o) same (known name) ∙ sym (position-push (λ token. bytes_eq name (spelling text token)) tokens t)
+
+-- the line of a later place
+pub line_of-later : (text : List ℕ) (at n : ℕ) → at + n ≤ length text → line_of text (at + n) ≡ line_of text at + count_by is_line_feed (take n (drop at text))
+line_of-later text at n within =
+    ap (λ l. 1 + count_by is_line_feed l) (take-add at n text) ∙ ap (λ k. 1 + k) (sum_by-append (λ b. cond (is_line_feed b) 1 0) (take at text) (take n (drop at text))) ∙ omega arith
+
+-- a piece at the place
+module _ (text : List ℕ) (old : Lexer) (f : Form) (n : ℕ) (state : IsState text old) (is_piece : IsPiece (drop old.at text) f n) where
+  pub slice_is : slice_range text old.at (old.at + n) ≡ take n (drop old.at text)
+  slice_is = let count : old.at + n - old.at ≡ n = omega arith in ap (λ k. take k (drop old.at text)) count
+
+  pub fits : old.at + n ≤ length text
+  fits = omega (arith, is_piece.within, length-drop old.at text, state.within)
+
+  pub slice_length : length (slice_range text old.at (old.at + n)) ≡ n
+  slice_length = ap length slice_is ∙ length-take-le n (drop old.at text) is_piece.within
+
+  pub effect_is : effect old.mode (number_in old.spellings (length old.tokens.items) (slice_range text old.at (old.at + n))) f (slice_range text old.at (old.at + n)) ≡ effect_at text (place_of old) f n
+  effect_is =
+      ap₂ (λ k s. effect old.mode k f s) (number_in-is text old.tokens.items old.spellings state.known (slice_range text old.at (old.at + n)) ∙ ap (name_number text old.tokens.items) slice_is) slice_is
+
+  line_is : (line : ℕ) → line ≡ old.line + count_by is_line_feed (slice_range text old.at (old.at + n)) → line ≡ line_of text (old.at + n)
+  line_is line e =
+      e ∙ ap₂ (λ a s. a + count_by is_line_feed s) state.lined slice_is ∙ sym (line_of-later text old.at n fits)
+
+  -- the piece is skipped
+  module _ (new : Lexer) (mode : Mode) (does : effect old.mode (number_in old.spellings (length old.tokens.items) (slice_range text old.at (old.at + n))) f (slice_range text old.at (old.at + n)) ≡ Skip mode) (at_is : new.at ≡ old.at + length (slice_range text old.at (old.at + n))) (tokens_are : new.tokens.items ≡ old.tokens.items) where
+    pub step_skip : new.mode ≡ mode → Step text (place_of old) (place_of new)
+    step_skip mode_is =
+        let at_end : new.at ≡ old.at + n = at_is ∙ ap (λ k. old.at + k) slice_length in
+        let there : Step text (place_of old) (record { at = old.at + n; mode = mode; tokens = old.tokens.items }) = skips is_piece (sym effect_is ∙ does) in
+        let place_is : ◌≡◌ {A = Place} (record { at = old.at + n; mode = mode; tokens = old.tokens.items }) (place_of new) = λ i. record { at = sym at_end i; mode = sym mode_is i; tokens = sym tokens_are i } in
+        subst (λ p. Step text (place_of old) p) place_is there
+
+    pub state_skip : new.line ≡ old.line + count_by is_line_feed (slice_range text old.at (old.at + n)) → new.spellings ≡ old.spellings → IsState text new
+    state_skip lines same =
+        let at_end : new.at ≡ old.at + n = at_is ∙ ap (λ k. old.at + k) slice_length in
+        record {
+          short = state.short;
+          within = omega (arith, at_end, fits);
+          lined = line_is new.line lines ∙ ap (line_of text) (sym at_end);
+          few = omega (arith, state.few, at_end, ap length tokens_are);
+          known = λ name. ap (λ m. first_of m name) same ∙ state.known name ∙ ap (position (λ token. bytes_eq name (spelling text token))) (sym tokens_are);
+        }
+
+  -- the piece is a token
+  module _ (new : Lexer) (kind : Kind) (mode : Mode) (does : effect old.mode (number_in old.spellings (length old.tokens.items) (slice_range text old.at (old.at + n))) f (slice_range text old.at (old.at + n)) ≡ Give kind mode) (at_is : new.at ≡ old.at + length (slice_range text old.at (old.at + n))) (tokens_are : new.tokens.items ≡ old.tokens.items ++ record { kind = kind; start = old.at; end = old.at + length (slice_range text old.at (old.at + n)); line = old.line } ∷ []) where
+    given_tokens : new.tokens.items ≡ old.tokens.items ++ token_of text kind old.at (old.at + n) ∷ []
+    given_tokens = tokens_are ∙ ap₂ (λ k line. old.tokens.items ++ record { kind = kind; start = old.at; end = old.at + k; line = line } ∷ []) slice_length state.lined
+
+    pub step_give : new.mode ≡ mode → Step text (place_of old) (place_of new)
+    step_give mode_is =
+        let at_end : new.at ≡ old.at + n = at_is ∙ ap (λ k. old.at + k) slice_length in
+        let there : Step text (place_of old) (record { at = old.at + n; mode = mode; tokens = old.tokens.items ++ token_of text kind old.at (old.at + n) ∷ [] }) = gives is_piece (sym effect_is ∙ does) in
+        let place_is : ◌≡◌ {A = Place} (record { at = old.at + n; mode = mode; tokens = old.tokens.items ++ token_of text kind old.at (old.at + n) ∷ [] }) (place_of new) = λ i. record { at = sym at_end i; mode = sym mode_is i; tokens = sym given_tokens i } in
+        subst (λ p. Step text (place_of old) p) place_is there
+
+    pub state_give : new.line ≡ old.line + count_by is_line_feed (slice_range text old.at (old.at + n)) → ((name : List ℕ) → first_of new.spellings name ≡ cond (bytes_eq (slice_range text old.at (old.at + n)) name) (Some (unwrap_or (first_of old.spellings name) (length old.tokens.items))) (first_of old.spellings name)) → IsState text new
+    state_give lines noted =
+        let at_end : new.at ≡ old.at + n = at_is ∙ ap (λ k. old.at + k) slice_length in
+        let some : 0 < n = (IsPiece-some (drop old.at text) f n is_piece).0 in
+        record {
+          short = state.short;
+          within = omega (arith, at_end, fits);
+          lined = line_is new.line lines ∙ ap (line_of text) (sym at_end);
+          few = omega (arith, state.few, at_end, some, ap length given_tokens, length-append old.tokens.items (token_of text kind old.at (old.at + n) ∷ []));
+          known = λ name. known_push text old.tokens.items old.spellings new.spellings (token_of text kind old.at (old.at + n)) (slice_range text old.at (old.at + n)) state.known refl noted name ∙ ap (position (λ token. bytes_eq name (spelling text token))) (sym given_tokens);
+        }
+
+  -- the piece is a fault
+  pub fault_take : (wrong : Fault) → effect old.mode (number_in old.spellings (length old.tokens.items) (slice_range text old.at (old.at + n))) f (slice_range text old.at (old.at + n)) ≡ Fail wrong → IsFaultAt text (place_of old) wrong
+  fault_take wrong does = faulty is_piece (sym effect_is ∙ does)
+
+-- the error for a fault that stands at the place
+pub fault_here : (text : List ℕ) (p : Place) (wrong : Fault) (line : ℕ) → IsFaultAt text p wrong → line ≡ line_of text p.at → IsFaultHere text p (error_of wrong line)
+fault_here text p fault.BadByte line stands lined = (stands, lined)
+fault_here text p fault.OpenComment line stands lined = (stands, lined)
+fault_here text p fault.BigNumber line stands lined = (stands, lined)

@@ -1,0 +1,179 @@
+-- What a cover is made of, and the text before a fault.
+use Rattle.std.proofs.Common.{◌≡◌, ℕ, ◌+◌, ◌-◌, ◌≤◌, Bool, true, false, cond, List, [], ◌∷◌, ◌++◌, length, take, drop, Option, Some, None, refl, sym, ap, ap₂, ◌∙◌, subst, ⊎_elim, arith, length-take-le, length-drop, append_assoc, append-nil, take-take}
+use Rattle.std.proofs.lemmas.Bool.{cases_lt}
+use Rattle.std.proofs.lemmas.List.{drop-take}
+use Rattle.std.specs.Prelude.{slice_range, count_by, bytes_eq, position, unwrap_or, nat_le, not}
+use Rattle.os_lexer.specs.Bytes.{is_line_feed}
+use Rattle.os_lexer.specs.Cover.{Place, token_of, effect_at, Step, skips, gives, Leads, here, on, tokens_at_end}
+use Rattle.os_lexer.specs.Effects.{effect, directive_effect, number_effect, mode_after_token}
+use Rattle.os_lexer.specs.Forms.{IsForm, IsPiece}
+use Rattle.os_lexer.specs.Laws.{CoverBeforeFault, MayBeSkipped, IsCut, done, gap, token, CoverCuts}
+use Rattle.os_lexer.specs.Lines.{line_of}
+use Rattle.os_lexer.specs.Names.{fixed_names, spelling, first_index, name_number}
+use Rattle.os_lexer.specs.Numbers.{number_value}
+use Rattle.os_lexer.specs.declared.effect.Effect.TheVariants.{Skip, Give, Fail}
+use Rattle.os_lexer.specs.declared.fault.Fault.TheVariants as fault
+use Rattle.os_lexer.specs.declared.form.Form.{Form}
+use Rattle.os_lexer.specs.declared.form.Form.TheVariants as form
+use Rattle.os_lexer.specs.declared.mode.Mode.{Mode}
+use Rattle.os_lexer.specs.declared.mode.Mode.TheVariants.{LineStart, InLine, InPragma}
+use Rattle.os_lexer.specs.declared.token.Kind.TheVariants as kind
+use Rattle.os_lexer.specs.declared.token.Token.{Token}
+use Rattle.os_lexer.proofs.Cuts.{leads_within, fault_within, IsPiece-some}
+
+-- only what may be skipped is skipped
+number_gives : (mode m : Mode) (v : ℕ) (b : Bool) → cond b (Give (kind.Number v) (mode_after_token mode)) (Fail fault.BigNumber) ≡ Skip m → ⊥
+number_gives mode m v true e = cc
+number_gives mode m v false e = cc
+
+number_unskipped : (mode m : Mode) (v : Option ℕ) → number_effect mode v ≡ Skip m → ⊥
+number_unskipped mode m None e = cc
+number_unskipped mode m (Some v) e = number_gives mode m v (nat_le v 2147483647) e
+
+pragma_unskipped : (mode m : Mode) → directive_effect mode (Give kind.PragmaStart InPragma) ≡ Skip m → ⊥
+pragma_unskipped LineStart m e = cc
+pragma_unskipped InLine m e = cc
+pragma_unskipped InPragma m e = cc
+
+may_be_skipped : (mode m : Mode) (name : ℕ) (f : Form) (s : List ℕ) → effect mode name f s ≡ Skip m → MayBeSkipped f
+may_be_skipped mode m name form.Space s e = tt
+may_be_skipped mode m name form.JoinedLine s e = tt
+may_be_skipped mode m name form.LineComment s e = tt
+may_be_skipped mode m name form.BlockComment s e = tt
+may_be_skipped mode m name form.OpenComment s e = cc
+may_be_skipped mode m name form.IncludeLine s e = tt
+may_be_skipped mode m name form.PragmaStart s e = pragma_unskipped mode m e
+may_be_skipped mode m name form.OtherDirective s e = cc
+may_be_skipped mode m name form.Word s e = cc
+may_be_skipped mode m name form.Number s e = number_unskipped mode m (number_value s) e
+may_be_skipped mode m name (form.Mark k) s e = cc
+
+module _ (text : List ℕ) where
+  slice_is : (at n : ℕ) → slice_range text at (at + n) ≡ take n (drop at text)
+  slice_is at n = let count : at + n - at ≡ n = omega arith in ap (λ k. take k (drop at text)) count
+
+  cut_append : {a b c : ℕ} {ts us : List Token} → IsCut text a ts b → IsCut text b us c → IsCut text a (ts ++ us) c
+  cut_append done more = more
+  cut_append (gap form below skipped is_form cut) more = gap form below skipped is_form (cut_append cut more)
+  cut_append (token ordered lined cut) more = token ordered lined (cut_append cut more)
+
+  -- the tokens that a step adds, as a cut
+  abbrev CutsOn : Place → Place → Type 0
+  CutsOn p q = (news : List Token) × (q.tokens ≡ p.tokens ++ news) × IsCut text p.at news q.at
+
+  step_cuts : {p q : Place} → Step text p q → CutsOn p q
+  step_cuts (skips {p = p} {form = form} {n = n} {mode = mode} is_piece e) =
+      let some = IsPiece-some (drop p.at text) form n is_piece in
+      ([], sym (append-nil p.tokens), gap form (omega arith) (may_be_skipped p.mode mode _ form _ e) (subst (IsForm form) (sym (slice_is p.at n)) is_piece.of_form) done)
+  step_cuts (gives {p = p} {form = form} {n = n} {kind = kind} {mode = mode} is_piece e) =
+      (token_of text kind p.at (p.at + n) ∷ [], refl, token {token = token_of text kind p.at (p.at + n)} (omega arith) refl done)
+
+  leads_cuts : {p q : Place} → Leads text p q → CutsOn p q
+  leads_cuts {p = p} here = ([], sym (append-nil p.tokens), done)
+  leads_cuts {p = p} {q = q} (on s l) =
+      let first = step_cuts s in
+      let later = leads_cuts l in
+      (first.0 ++ later.0, later.1 ∙ ap (λ ts. ts ++ later.0) first.1 ∙ append_assoc p.tokens first.0 later.0, cut_append first.2 later.2)
+
+  end_cuts : (mode : Mode) → IsCut text (length text) (tokens_at_end text mode) (length text)
+  end_cuts LineStart = done
+  end_cuts InLine = done
+  end_cuts InPragma = token {token = token_of text kind.PragmaEnd (length text) (length text)} (omega arith) refl done
+
+pub cover_cuts : CoverCuts
+cover_cuts text tokens p =
+    let cuts = leads_cuts text p.reached in
+    let to_end : IsCut text 0 cuts.0 (length text) = subst (λ to. IsCut text 0 cuts.0 to) p.ends cuts.2 in
+    let all : tokens ≡ cuts.0 ++ tokens_at_end text p.place.mode = p.all_tokens ∙ ap (λ ts. ts ++ tokens_at_end text p.place.mode) cuts.1 in
+    subst (λ ts. IsCut text 0 ts (length text)) (sym all) (cut_append text to_end (end_cuts text p.place.mode))
+
+-- the tokens stand in the first c bytes
+abbrev AreWithin : ℕ → List Token → Type 0
+AreWithin c [] = Unit {0}
+AreWithin c (t ∷ ts) = (t.start ≤ c) × (t.end ≤ c) × AreWithin c ts
+
+AreWithin-push : (c : ℕ) (ts : List Token) (t : Token) → AreWithin c ts → t.start ≤ c → t.end ≤ c → AreWithin c (ts ++ t ∷ [])
+AreWithin-push c [] t within low high = (low, high, tt)
+AreWithin-push c (x ∷ xs) t within low high = (within.0, within.1, AreWithin-push c xs t within.2 low high)
+
+-- the first c bytes of a text
+module _ (text : List ℕ) (c : ℕ) (inside : c ≤ length text) where
+  before_length : length (take c text) ≡ c
+  before_length = length-take-le c text inside
+
+  drop_before : (at : ℕ) → at ≤ c → drop at (take c text) ≡ take (c - at) (drop at text)
+  drop_before at low =
+      let sum_is : at + (c - at) ≡ c = omega arith in
+      ap (λ k. drop at (take k text)) (sym sum_is) ∙ drop-take at (c - at) text
+
+  slice_before : (at n : ℕ) → at ≤ c → at + n ≤ c → take n (drop at (take c text)) ≡ take n (drop at text)
+  slice_before at n low high = ap (λ l. take n l) (drop_before at low) ∙ take-take n (c - at) (drop at text) (omega arith)
+
+  line_before : (at : ℕ) → at ≤ c → line_of (take c text) at ≡ line_of text at
+  line_before at low = ap (λ l. 1 + count_by is_line_feed l) (take-take at c text low)
+
+  spelling_before : (t : Token) → t.start ≤ c → t.end ≤ c → spelling (take c text) t ≡ spelling text t
+  spelling_before t low high =
+      ⊎_elim
+      (λ ordered. slice_before t.start (t.end - t.start) low (omega arith))
+      (λ empty. let none : t.end - t.start ≡ 0 = omega (arith, empty) in ap₂ (λ k l. take k l) none (drop_before t.start low) ∙ ap (λ k. take k (drop t.start text)) (sym none))
+      (cases_lt t.start t.end)
+
+  index_before : (name : List ℕ) (tokens : List Token) → AreWithin c tokens → first_index (take c text) tokens name ≡ first_index text tokens name
+  index_before name [] within = refl
+  index_before name (t ∷ ts) within =
+      ap₂ (λ b k. cond (not b) (1 + k) 0) (ap (bytes_eq name) (spelling_before t within.0 within.1)) (index_before name ts within.2)
+
+  number_before : (name : List ℕ) (tokens : List Token) → AreWithin c tokens → name_number (take c text) tokens name ≡ name_number text tokens name
+  number_before name tokens within = ap (λ i. unwrap_or (position (bytes_eq name) fixed_names) (12 + i)) (index_before name tokens within)
+
+  effect_before : (p : Place) (f : Form) (n : ℕ) → AreWithin c p.tokens → p.at + n ≤ c → effect_at (take c text) p f n ≡ effect_at text p f n
+  effect_before p f n within high =
+      let slice = slice_before p.at n (omega arith) high in
+      ap (λ s. effect p.mode (name_number (take c text) p.tokens s) f s) slice ∙ ap (λ k. effect p.mode k f (take n (drop p.at text))) (number_before (take n (drop p.at text)) p.tokens within)
+
+  piece_before : (at n : ℕ) (f : Form) → at + n ≤ c → IsPiece (drop at text) f n → IsPiece (drop at (take c text)) f n
+  piece_before at n f high is_piece =
+      let low : at ≤ c = omega arith in
+      let rest_is : length (drop at (take c text)) ≡ c - at = length-drop at (take c text) ∙ ap (λ k. k - at) before_length in
+      record {
+        within = omega arith;
+        of_form = subst (IsForm f) (sym (slice_before at n low high)) is_piece.of_form;
+        longest = λ other m within is_form. is_piece.longest other m (omega (arith, length-drop at text)) (subst (IsForm other) (slice_before at m low (omega arith)) is_form);
+      }
+
+  -- a step within the first bytes is one of theirs
+  step_before : {p q : Place} → Step text p q → AreWithin c p.tokens → q.at ≤ c → Step (take c text) p q × AreWithin c q.tokens
+  step_before (skips {p = p} {form = form} {n = n} {mode = mode} is_piece e) within high =
+      (skips (piece_before p.at n form high is_piece) (effect_before p form n within high ∙ e), within)
+  step_before (gives {p = p} {form = form} {n = n} {kind = kind} {mode = mode} is_piece e) within high =
+      let low : p.at ≤ c = omega arith in (
+        subst (λ line. Step (take c text) p (record { at = p.at + n; mode = mode; tokens = p.tokens ++ record { kind = kind; start = p.at; end = p.at + n; line = line } ∷ [] }))
+            (line_before p.at low)
+            (gives (piece_before p.at n form high is_piece) (effect_before p form n within high ∙ e)),
+        AreWithin-push c p.tokens (token_of text kind p.at (p.at + n)) within low high,
+      )
+
+  leads_before : {p q : Place} → Leads text p q → AreWithin c p.tokens → q.at ≤ c → Leads (take c text) p q
+  leads_before here within high = here
+  leads_before (on s l) within high =
+      let first = step_before s within (omega (arith, leads_within text l)) in
+      on first.0 (leads_before l first.1 high)
+
+pub cover_before_fault : CoverBeforeFault
+cover_before_fault text code line f =
+    let p = f.place in
+    let inside = fault_within text f.stands in (
+      p.at,
+      inside,
+      f.lined,
+      (
+        p.tokens ++ tokens_at_end (take p.at text) p.mode,
+        record {
+          place = p;
+          reached = leads_before text p.at (omega (arith, inside)) f.reached tt (omega arith);
+          ends = sym (before_length text p.at (omega (arith, inside)));
+          all_tokens = refl;
+        },
+      ),
+    )

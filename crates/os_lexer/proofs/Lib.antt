@@ -1,0 +1,13 @@
+pub mod FirstPlaces
+pub mod Classes
+pub mod MarkSpellings
+pub mod Longest
+pub mod Found
+pub mod Cuts
+pub mod CoverLaws
+pub mod CoverCuts
+pub mod Ends
+pub mod Values
+pub mod Positions
+pub mod Advance
+pub mod Outcomes

@@ -1,0 +1,72 @@
+-- What a piece of a text does: it is skipped, is a token, or is a fault. One row for each form.
+use Rattle.std.specs.Prelude.{ℕ, List, Option, Some, None, nat_le, if◌then◌else◌}
+use Rattle.std.specs.List.{list_any}
+use Rattle.os_lexer.specs.Bytes.{is_line_feed}
+use Rattle.os_lexer.specs.Keywords.{key_of}
+use Rattle.os_lexer.specs.Numbers.{number_value}
+use Rattle.os_lexer.specs.declared.effect.Effect.{Effect}
+use Rattle.os_lexer.specs.declared.effect.Effect.TheVariants.{Skip, Give, Fail}
+use Rattle.os_lexer.specs.declared.fault.Fault.{Fault}
+use Rattle.os_lexer.specs.declared.fault.Fault.TheVariants as fault
+use Rattle.os_lexer.specs.declared.form.Form.{Form}
+use Rattle.os_lexer.specs.declared.form.Form.TheVariants as form
+use Rattle.os_lexer.specs.declared.mode.Mode.{Mode}
+use Rattle.os_lexer.specs.declared.mode.Mode.TheVariants.{LineStart, InLine, InPragma}
+use Rattle.os_lexer.specs.declared.token.Key.{Key}
+use Rattle.os_lexer.specs.declared.token.Kind.{Kind}
+use Rattle.os_lexer.specs.declared.token.Kind.TheVariants as kind
+
+-- the codes of the faults
+abbrev pub code_of : Fault → ℕ
+code_of fault.BadByte = 1
+code_of fault.OpenComment = 2
+code_of fault.BigNumber = 3
+
+-- behind a token
+abbrev pub mode_after_token : Mode → Mode
+mode_after_token LineStart = InLine
+mode_after_token InLine = InLine
+mode_after_token InPragma = InPragma
+
+-- A line feed ends the line, also in a joined line or a block comment. Within a pragma's line these don't end it.
+abbrev pub mode_after_gap : Mode → List ℕ → Mode
+mode_after_gap LineStart s = LineStart
+mode_after_gap InLine s = if list_any is_line_feed s then LineStart else InLine
+mode_after_gap InPragma s = InPragma
+
+-- The line feed that ends a pragma's line is a token. Other white space is skipped.
+abbrev pub space_effect : Mode → List ℕ → Effect
+space_effect LineStart s = Skip (mode_after_gap LineStart s)
+space_effect InLine s = Skip (mode_after_gap InLine s)
+space_effect InPragma s = if list_any is_line_feed s then Give kind.PragmaEnd LineStart else Skip InPragma
+
+-- A `#` that begins a directive has only white space and comments before it on its line. Any other is a bad byte.
+abbrev pub directive_effect : Mode → Effect → Effect
+directive_effect LineStart effect = effect
+directive_effect InLine effect = Fail fault.BadByte
+directive_effect InPragma effect = Fail fault.BadByte
+
+-- A run that begins with a digit and is no number is a bad byte. A value above 2,147,483,647 is a big number.
+abbrev pub number_effect : Mode → Option ℕ → Effect
+number_effect mode None = Fail fault.BadByte
+number_effect mode (Some value) =
+    if nat_le value 2147483647 then Give (kind.Number value) (mode_after_token mode) else Fail fault.BigNumber
+
+-- a word that is no keyword is a name
+abbrev pub word_kind : Option Key → ℕ → Kind
+word_kind None name = kind.Name name
+word_kind (Some key) name = kind.Key key
+
+-- What the slice s of a form does at a place of this mode. As a name it has the number given.
+abbrev pub effect : Mode → ℕ → Form → List ℕ → Effect
+effect mode name form.Space s = space_effect mode s
+effect mode name form.JoinedLine s = Skip (mode_after_gap mode s)
+effect mode name form.LineComment s = Skip mode
+effect mode name form.BlockComment s = Skip (mode_after_gap mode s)
+effect mode name form.OpenComment s = Fail fault.OpenComment
+effect mode name form.IncludeLine s = directive_effect mode (Skip LineStart)
+effect mode name form.PragmaStart s = directive_effect mode (Give kind.PragmaStart InPragma)
+effect mode name form.OtherDirective s = Fail fault.BadByte
+effect mode name form.Word s = Give (word_kind (key_of s) name) (mode_after_token mode)
+effect mode name form.Number s = number_effect mode (number_value s)
+effect mode name (form.Mark mark) s = Give (kind.Punct mark) (mode_after_token mode)

@@ -1,0 +1,14 @@
+pub mod Bytes
+pub mod Lines
+pub mod Marks
+pub mod Keywords
+pub mod Numbers
+pub mod Names
+pub mod Forms
+pub mod Effects
+pub mod Cover
+pub mod Answer
+pub mod Reading
+pub mod Laws
+pub mod Spellings
+pub mod States

@@ -1,0 +1,34 @@
+-- The numbers of names.
+use Rattle.std.specs.Prelude.{ℕ, ◌+◌, List, [], ◌∷◌, unwrap_or, position, codes, bytes_eq, slice_range}
+use Rattle.std.specs.List.{position_or_len}
+use Rattle.os_lexer.specs.declared.token.Token.{Token}
+
+-- the names that have the numbers 0 to 11
+abbrev pub fixed_names : List (List ℕ)
+fixed_names =
+    codes "omp" ∷
+    codes "task" ∷
+    codes "tick" ∷
+    codes "taskwait" ∷
+    codes "input" ∷
+    codes "output" ∷
+    codes "firstprivate" ∷
+    codes "stream" ∷
+    codes "main" ∷
+    codes "osin" ∷
+    codes "osout" ∷
+    codes "osin_len" ∷
+    []
+
+-- the slice of the text that a token is
+abbrev pub spelling : List ℕ → Token → List ℕ
+spelling text token = slice_range text token.start token.end
+
+-- the index of the first token with this spelling, where the token to come has it
+abbrev pub first_index : List ℕ → List Token → List ℕ → ℕ
+first_index text tokens name = position_or_len (λ token. bytes_eq name (spelling text token)) tokens
+
+-- every name that isn't fixed has 12 plus the index of the first token with the same spelling
+abbrev pub name_number : List ℕ → List Token → List ℕ → ℕ
+name_number text tokens name =
+    unwrap_or (position (bytes_eq name) fixed_names) (12 + first_index text tokens name)

@@ -1,0 +1,66 @@
+use os_io::Memory;
+use std::alloc::AllocFailed;
+use thiserror::Error;
+
+/// Why a text has no tokens, and the line of the first place where it is so. Lines count from 1.
+#[derive(Clone, Copy, Debug, PartialEq, Eq, Error)]
+pub enum LexError {
+    /// A byte, a `#` or a run of letters and digits that begins no form. It has the code 1.
+    #[error("bad byte on line {line}")]
+    BadByte { line: u32 },
+    /// A `/*` without `*/`. It has the code 2.
+    #[error("open comment on line {line}")]
+    OpenComment { line: u32 },
+    /// A number above 2,147,483,647. It has the code 3.
+    #[error("big number on line {line}")]
+    BigNumber { line: u32 },
+    /// Memory ran out. This says nothing of the text.
+    #[error("out of memory")]
+    Memory,
+}
+
+/// What is wrong at a place.
+#[derive(Clone, Copy)]
+pub(crate) enum Fault {
+    BadByte,
+    OpenComment,
+    BigNumber,
+}
+
+impl Fault {
+    ghost use Rattle.std.specs.Prelude.{◌≡◌};
+    ghost use Rattle.os_lexer.specs.Answer.{error_of};
+
+    /// The error for this fault on a line.
+    pub(crate) fn on_line(self, line: u32) -> LexError
+        ensures { result ≡ error_of self line }
+    {
+        match self {
+            Fault::BadByte => LexError::BadByte { line },
+            Fault::OpenComment => LexError::OpenComment { line },
+            Fault::BigNumber => LexError::BigNumber { line },
+        }
+    }
+}
+
+impl From<Memory> for LexError {
+    ghost use Rattle.std.specs.Prelude.{◌≡◌};
+    ghost use Rattle.os_lexer.specs.declared.fault.LexError.TheVariants as error;
+
+    ghost from_gives = { λ _ e. e ≡ error.Memory };
+
+    fn from(_error: Memory) -> LexError {
+        LexError::Memory
+    }
+}
+
+impl<T: Drop> From<AllocFailed<T>> for LexError {
+    ghost use Rattle.std.specs.Prelude.{◌≡◌};
+    ghost use Rattle.os_lexer.specs.declared.fault.LexError.TheVariants as error;
+
+    ghost from_gives = { λ _ e. e ≡ error.Memory };
+
+    fn from(_error: AllocFailed<T>) -> LexError {
+        LexError::Memory
+    }
+}

@@ -1,0 +1,34 @@
+//! The tokens of a program text.
+//!
+//! `lex` takes the bytes of a text and gives its tokens: what each is, its slice of the text and its line. It is
+//! the first stop on the way from a text to a run, and what stands above it sees tokens alone.
+//!
+//! Its promise is the token cover. From its start on the text is cut into pieces, each the longest form at its
+//! place, and the tokens are the pieces that aren't skipped. A text without a cover has a first fault, with a code
+//! and a line. `lex` answers each of the two exactly where it is so, unless memory runs out.
+//!
+//! `specs/Cover.antt` is where a reader begins: it says what a cover and a first fault are, over the forms of
+//! `specs/Forms.antt` and what they do, in `specs/Effects.antt`. `specs/Laws.antt` has what follows, and the empty
+//! functions of `laws` are its proofs. `specs/Reading.antt` only says what the private functions give.
+#![tactic(auto)]
+
+mod bytes;
+mod effect;
+mod fault;
+mod form;
+mod laws;
+mod lexer;
+mod marks;
+mod mode;
+mod names;
+mod numbers;
+mod pieces;
+mod scans;
+mod token;
+mod tokens;
+mod words;
+
+pub use fault::LexError;
+pub use laws::{cover_before_fault, cover_cuts, one_cover};
+pub use token::{Key, Kind, Punct, Token};
+pub use tokens::lex;

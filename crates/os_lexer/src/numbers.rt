@@ -1,0 +1,114 @@
+//! The forms of numbers, and their values.
+ghost use Rattle.std.specs.Prelude.{◌≡◌, ◌≤◌, min};
+ghost use Rattle.std.specs.List.{list_all};
+ghost use Rattle.os_lexer.specs.Bytes.{is_digit};
+ghost use Rattle.os_lexer.specs.Numbers.{is_octal_digit, is_hexadecimal_digit, digit_value, value_in, value_if_all, number_value, value_after_zero, hexadecimal_value};
+ghost use Rattle.os_lexer.specs.Reading.{capped};
+
+/// One more than the greatest number: a value is read up to it.
+const CAP: u64 = 1 << 31;
+
+/// The value of a run that begins with a digit, if it is a number, but at most 2,147,483,648.
+pub(crate) fn number_value(run: &[u8]) -> Option<u32>
+    ensures { result ≡ capped (number_value run.now) }
+{
+    match run {
+        [] => None,
+        [b'0', rest @ ..] => value_after_zero(rest),
+        _ => decimal_value(run),
+    }
+}
+
+/// The value of what follows a `0`.
+fn value_after_zero(rest: &[u8]) -> Option<u32>
+    ensures { result ≡ capped (value_after_zero rest.now) }
+{
+    match rest {
+        [] => Some(0),
+        [b'x' | b'X', digits @ ..] => hexadecimal_value(digits),
+        _ => octal_value(rest),
+    }
+}
+
+fn decimal_value(digits: &[u8]) -> Option<u32>
+    ensures { result ≡ capped (value_if_all is_digit 10 digits.now) }
+{
+    if are_decimal(digits) {
+        Some(value_in(10, digits))
+    } else {
+        None
+    }
+}
+
+fn octal_value(digits: &[u8]) -> Option<u32>
+    ensures { result ≡ capped (value_if_all is_octal_digit 8 digits.now) }
+{
+    if are_octal(digits) {
+        Some(value_in(8, digits))
+    } else {
+        None
+    }
+}
+
+fn hexadecimal_value(digits: &[u8]) -> Option<u32>
+    ensures { result ≡ capped (hexadecimal_value digits.now) }
+{
+    match digits {
+        [] => None,
+        _ => all_hexadecimal_value(digits),
+    }
+}
+
+fn all_hexadecimal_value(digits: &[u8]) -> Option<u32>
+    ensures { result ≡ capped (value_if_all is_hexadecimal_digit 16 digits.now) }
+{
+    if are_hexadecimal(digits) {
+        Some(value_in(16, digits))
+    } else {
+        None
+    }
+}
+
+fn are_decimal(digits: &[u8]) -> bool
+    ensures { result ≡ list_all is_digit digits.now }
+{
+    digits.iter().all(|digit| matches!(*digit, b'0'..=b'9'))
+}
+
+fn are_octal(digits: &[u8]) -> bool
+    ensures { result ≡ list_all is_octal_digit digits.now }
+{
+    digits.iter().all(|digit| matches!(*digit, b'0'..=b'7'))
+}
+
+fn are_hexadecimal(digits: &[u8]) -> bool
+    ensures { result ≡ list_all is_hexadecimal_digit digits.now }
+{
+    digits.iter().all(|digit| matches!(*digit, b'0'..=b'9' | b'A'..=b'F' | b'a'..=b'f'))
+}
+
+/// The number that the digits stand for, but at most 2,147,483,648.
+#[tactic(auto, using(crate::proofs::Values::product_fits, crate::proofs::Values::value_in_more))]
+fn value_in(base: u64, digits: &[u8]) -> u32
+    requires low { 1 ≤ base }
+    requires high { base ≤ 16 }
+    ensures { result ≡ min (value_in base digits.now) 2147483648 }
+{
+    let mut value = 0;
+    for digit in digits {
+        value = (value * base + digit_value(*digit)).min(CAP);
+    }
+    value as u32
+}
+
+/// What a digit counts.
+fn digit_value(digit: u8) -> u64
+    ensures value { result ≡ digit_value digit }
+    ensures small { result ≤ 255 }
+{
+    match digit {
+        0..b'A' => u64::from(digit.saturating_sub(b'0')),
+        b'A'..b'a' => u64::from(digit - 55),
+        _ => u64::from(digit - 87),
+    }
+}
