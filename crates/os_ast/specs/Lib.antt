@@ -1,0 +1,10 @@
+pub mod Beginnings
+pub mod Depth
+pub mod Examples
+pub mod Leveled
+pub mod Marks
+pub mod Means
+pub mod Operators
+pub mod Spelling
+pub mod Trees
+pub mod Views

@@ -1,0 +1,60 @@
+//! Laws that show what the definitions of `specs/` mean. They take nothing and do nothing.
+
+ghost use Rattle.std.specs.Prelude.{◌≡◌, ◌≢◌, ◌++◌, [], List, ℕ, map};
+ghost use Rattle.os_ast.specs.Beginnings.{BeginsWith, CanBeginExpr, CanBeginStmt, CanBeginItem};
+ghost use Rattle.os_ast.specs.Leveled.{IsExpr, IsStmt, IsLeveled};
+ghost use Rattle.os_ast.specs.Marks.{HasMark, IsMarkOf};
+ghost use Rattle.os_ast.specs.Means.{Means};
+ghost use Rattle.os_ast.specs.Spelling.{Piece, expr, stmt, item, pieces, spell};
+ghost use Rattle.os_ast.specs.Trees as tree;
+ghost use Rattle.os_ast.specs.declared.expr.Binary.{Binary};
+ghost use Rattle.os_ast.specs.declared.expr.Level.{Level};
+ghost use Rattle.os_ast.specs.declared.expr.Mark.{Mark};
+ghost use Rattle.os_lexer.specs.declared.token.Token.{Token};
+
+/// What a part is spelled with begins with a token that can begin such a part, so nothing is spelled by
+/// no token: no expression, statement, declaration, constant or function.
+pub fn parts_begin()
+    ensures expressions { (e : tree.ExprTree) (rest : List Piece) → BeginsWith CanBeginExpr (expr e rest) }
+    ensures statements { (s : tree.StmtTree) (rest : List Piece) → BeginsWith CanBeginStmt (stmt s rest) }
+    ensures items { (i : tree.ItemTree) (rest : List Piece) → BeginsWith CanBeginItem (item i rest) }
+{}
+
+/// A part is spelled in the same way whatever follows it.
+pub fn parts_stand_alone()
+    ensures expressions { (e : tree.ExprTree) (rest : List Piece) → expr e rest ≡ expr e [] ++ rest }
+    ensures statements { (s : tree.StmtTree) (rest : List Piece) → stmt s rest ≡ stmt s [] ++ rest }
+    ensures items { (i : tree.ItemTree) (rest : List Piece) → item i rest ≡ item i [] ++ rest }
+{}
+
+/// Parentheses are nodes: `(a)` isn't spelled as `a`.
+pub fn parentheses_are_spelled()
+    ensures { (e : tree.ExprTree) → expr (tree.Paren e) [] ≢ expr e [] }
+{}
+
+/// Operators of one level make one chain: neither `(a - b) - c` nor `a - (b - c)` is a tree of
+/// `a - b - c`, where `-` stands for the operators of any level.
+pub fn chains_are_flat()
+    ensures left { (l : Level) (a : tree.ExprTree) (inner outer : tree.Links) →
+        IsExpr (tree.Chain l (tree.Chain l a inner) outer) → ⊥ }
+    ensures right { (l : Level) (a b : tree.ExprTree) (op : Binary) (m : Mark) (inner outer : tree.Links) →
+        IsExpr (tree.Chain l a (tree.link op m (tree.Chain l b inner) outer)) → ⊥ }
+{}
+
+/// An `else` belongs to the nearest `if`: where the first branch is an `if` without `else`, there is
+/// no `else` behind it.
+pub fn else_is_the_nearest()
+    ensures { (c d : tree.ExprTree) (a b : tree.StmtTree) → IsStmt (tree.IfElse c (tree.If d a) b) → ⊥ }
+{}
+
+/// What a list of tokens means, token by token: the kinds are the spelling, and each mark that the tree
+/// keeps has its place in the list and that token's line. No more is asked of a leveled program.
+pub fn meaning_by_tokens()
+    ensures kinds { (tokens : List Token) (p : tree.ProgramTree) → Means tokens p → spell p ≡ map (λ t. t.kind) tokens }
+    ensures marks { (tokens : List Token) (p : tree.ProgramTree) (place : ℕ) (mark : Mark) →
+        Means tokens p → HasMark (pieces p) place mark → IsMarkOf tokens place mark }
+    ensures only { (tokens : List Token) (p : tree.ProgramTree) → IsLeveled p →
+        spell p ≡ map (λ t. t.kind) tokens →
+        ((place : ℕ) (mark : Mark) → HasMark (pieces p) place mark → IsMarkOf tokens place mark) →
+        Means tokens p }
+{}

@@ -1,0 +1,23 @@
+//! The trees of programs, and what it means that a list of tokens is the program of a tree.
+//!
+//! The types are plain data: expressions, statements, pragmas and programs, with the marks of the tokens
+//! that a later stage names in a refusal or a trap. `depth` counts how deep a program is nested.
+//!
+//! The definitions stand in `specs/` on trees without boxes (`Trees`, reached from the code by `Views`):
+//! `Spelling` prints a tree as tokens, production by production; `Leveled` says where each part may stand;
+//! `Depth` says how deep it is; `Means` joins them to what a list of tokens means, and states that this is
+//! at most one program. `laws` and `examples` show that these definitions are the ones that were meant.
+#![tactic(auto)]
+
+pub mod examples;
+mod expr;
+pub mod laws;
+mod nesting;
+mod pragma;
+mod program;
+mod stmt;
+
+pub use expr::{Binary, Call, Expr, Index, Level, Link, Mark, Name, Target, Unary};
+pub use pragma::{Clause, ClauseItem, ClauseKind, Join, TaskSite, TickSite};
+pub use program::{Constant, DEPTH_LIMIT, Function, Item, Params, Program};
+pub use stmt::{Assign, Change, Declarator, Head, Start, Step, Stmt};
