@@ -1,0 +1,44 @@
+-- Why no run is made, and the lines that tell it.
+use Rattle.std.specs.Prelude.{ℕ, List, ◌++◌, codes}
+use Rattle.std.specs.Fmt.{decimal}
+use Rattle.osrun_core.specs.declared.refusal.Subject.{Subject}
+use Rattle.osrun_core.specs.declared.refusal.Subject.TheVariants.{Program, Input}
+use Rattle.osrun_core.specs.declared.refusal.Refusal.{Refusal}
+use Rattle.osrun_core.specs.declared.refusal.Refusal.TheVariants as refusal
+use Rattle.osrun_core.specs.declared.status.Status.{Status}
+use Rattle.osrun_core.specs.declared.status.Status.TheVariants as status
+use Rattle.osrun_core.specs.Line.{line}
+
+-- how many bytes a file may have
+abbrev pub limit_of : Subject → ℕ
+limit_of Program = 262144
+limit_of Input = 4194304
+
+-- how many files are opened up to and with this one
+abbrev pub opens_of : Subject → ℕ
+opens_of Program = 1
+opens_of Input = 2
+
+abbrev pub subject_name : Subject → List ℕ
+subject_name Program = codes "program"
+subject_name Input = codes "input"
+
+-- the line that is told where the words name no job
+abbrev pub usage_line : List ℕ
+usage_line = line (codes "usage")
+
+-- the line that tells a refusal; want of memory has none
+abbrev pub refusal_line : Refusal → List ℕ
+refusal_line (refusal.Token code line_number) = line (codes "refused " ++ decimal code ++ codes " line " ++ decimal line_number)
+refusal_line refusal.NoProgram = line (codes "refused 4")
+refusal_line (refusal.TooLong subject) = line (codes "too long " ++ subject_name subject)
+refusal_line (refusal.ReadFault subject) = line (codes "read fault " ++ subject_name subject)
+refusal_line refusal.Memory = codes ""
+
+-- the status of a refusal
+abbrev pub refusal_status : Refusal → Status
+refusal_status (refusal.Token code line_number) = status.Refused
+refusal_status refusal.NoProgram = status.Refused
+refusal_status (refusal.TooLong subject) = status.TooLong
+refusal_status (refusal.ReadFault subject) = status.ReadFault
+refusal_status refusal.Memory = status.NoMemory

@@ -1,0 +1,30 @@
+ghost use Rattle.std.specs.Prelude.{◌≡◌, ◌≤◌, IsTrue, IfOk, IfErr};
+ghost use Rattle.os_io.specs.Counts.{raised};
+ghost use Rattle.osrun_core.specs.Loads.{IsLoaded, IsLoadRefusal};
+
+use crate::refusal::{Refusal, Subject};
+use os_io::{Files, Loaded, ReadError, read_whole};
+use std::alloc::Global;
+
+/// Reads one of the two files, as far as its limit.
+pub fn load<F: Files>(
+    alloc: Global,
+    files: &mut F,
+    name: &str,
+    subject: Subject,
+) -> Result<Vec<u8>, Refusal>
+    requires { IsTrue (F.may files.old (F.opens files.old) name.now) }
+    ensures loaded { IfOk result (λ bytes. IsLoaded subject (F.given files.new) (F.holds files.old name.now) bytes.items) }
+    ensures refused { IfErr result (IsLoadRefusal subject (F.given files.new) (F.faults files.old) (F.faults files.new) (F.holds files.old name.now)) }
+    ensures faults_kept { F.faults files.old ≤ F.faults files.new }
+    ensures opens { F.opens files.new ≡ raised (F.opens files.old) 1 }
+    ensures holds { F.holds files.new ≡ F.holds files.old }
+    ensures may { F.may files.new ≡ F.may files.old }
+{
+    match read_whole(alloc, files, name, subject.limit()) {
+        Ok(Loaded::Whole(bytes)) => Ok(bytes),
+        Ok(Loaded::TooLong) => Err(Refusal::TooLong(subject)),
+        Err(ReadError::Failed) => Err(Refusal::ReadFault(subject)),
+        Err(ReadError::Memory) => Err(Refusal::Memory),
+    }
+}
