@@ -5,6 +5,7 @@ use Rattle.os_lexer.specs.declared.fault.LexError.{LexError}
 use Rattle.os_lexer.specs.declared.fault.LexError.TheVariants as lex_error
 use Rattle.os_lexer.specs.declared.token.Token.{Token}
 use Rattle.os_lexer.specs.Answer.{IsMemory}
+use Rattle.os_lexer.specs.Cover.{IsTokenCover, IsFirstFault}
 use Rattle.osrun_core.specs.declared.first_program.FirstProgram.{FirstProgram}
 use Rattle.osrun_core.specs.declared.first_program_error.FirstProgramError.{FirstProgramError}
 use Rattle.osrun_core.specs.declared.first_program_error.FirstProgramError.TheVariants as syntax_error
@@ -14,7 +15,7 @@ use Rattle.osrun_core.specs.FirstProgram.{kinds}
 use Rattle.osrun_core.specs.Program.{IsProgramOf}
 use Rattle.osrun_core.specs.Loading.{IsHeld, IsFaultOrMemory}
 use Rattle.osrun_core.specs.declared.refusal.Refusal.{Refusal}
-use Rattle.osrun_core.specs.Accepting.{token_refusal, syntax_refusal}
+use Rattle.osrun_core.specs.Accepting.{token_refusal, syntax_refusal, IsRefusalOf}
 
 pub token_memory : (e : LexError) → IsMemory e → token_refusal e ≡ refusal.Memory
 token_memory (lex_error.BadByte line) h = absurd h
@@ -36,3 +37,13 @@ only_memory r told held read text p is_told is_read same h accepted =
     let read_held : IsHeld (Some held) read = subst (λ t. IsHeld t read) is_told is_read in
     let program : IsProgramOf text p = subst (λ t. IsProgramOf t p) (sym (same ∙ read_held)) h in
     subst IsFaultOrMemory (sym (accepted p program)) tt
+
+-- a text whose tokens spell a program isn't refused
+pub not_refused : (text : List ℕ) (read tokens : List Token) (p : FirstProgram) (cause : Refusal) → ((code line : ℕ) → IsFirstFault text code line → ⊥)
+    → ((others : List Token) → IsTokenCover text others → tokens ≡ others) → read ≡ tokens → IsReadingOf (kinds read) p → IsRefusalOf text cause → ⊥
+not_refused text read tokens p (refusal.Token code line) no_fault only same reading h = no_fault code line h
+not_refused text read tokens p refusal.NoProgram no_fault only same reading h =
+    h.none p (subst (λ ts. IsReadingOf (kinds ts) p) (same ∙ only h.tokens h.cover) reading)
+not_refused text read tokens p (refusal.TooLong subject) no_fault only same reading h = h
+not_refused text read tokens p (refusal.ReadFault subject) no_fault only same reading h = h
+not_refused text read tokens p refusal.Memory no_fault only same reading h = h

@@ -1,5 +1,5 @@
 -- What the status of an answered job says.
-use Rattle.std.proofs.Common.{◌≡◌, ◌∙◌, ℕ, ◌<◌, ◌≤◌, Bool, true, false, cond, List, sym, ap, inl, inr, arith}
+use Rattle.std.proofs.Common.{◌≡◌, ◌∙◌, subst, ℕ, ◌<◌, ◌≤◌, Bool, true, false, cond, List, sym, ap, inl, inr, arith}
 use Rattle.std.specs.Prelude.{◌⊎◌, ◌≢◌}
 use Rattle.osrun_core.specs.declared.refusal.Refusal.{Refusal}
 use Rattle.osrun_core.specs.declared.refusal.Refusal.TheVariants as refusals
@@ -7,7 +7,8 @@ use Rattle.osrun_core.specs.declared.refusal.Subject.{Subject}
 use Rattle.osrun_core.specs.declared.status.Status.{Status}
 use Rattle.osrun_core.specs.declared.status.Status.TheVariants as statuses
 use Rattle.osrun_core.specs.Command.{Job}
-use Rattle.osrun_core.specs.JobAnswer.{AnswersJob, IsRunUndelivered}
+use Rattle.osrun_core.specs.JobAnswer.{AnswersJob, IsRunDelivered, IsRunUndelivered}
+use Rattle.osrun_core.specs.JobComplete.{IsRefusing}
 use Rattle.osrun_core.specs.Loading.{FilesCall, IsCauseOf, IsRefusedText, IsTooLong}
 use Rattle.osrun_core.specs.Refusal.{refusal_line, refusal_status}
 use Rattle.osrun_core.specs.Run.{IsRunOfJob}
@@ -90,3 +91,34 @@ pub complete_number : (s : Status) → (s ≡ statuses.AllDone) ⊎ ((s ≡ stat
 complete_number s (inl e) = inl (let n : number_of s ≡ 0 = ap number_of e in omega arith)
 complete_number s (inr (inl e)) = inl (let n : number_of s ≡ 1 = ap number_of e in omega arith)
 complete_number s (inr (inr e)) = inr (ap number_of e)
+
+-- a refusal's status is above 1
+refusal_large : (r : Refusal) → 2 ≤ number_of (refusal_status r)
+refusal_large (refusals.Token code line) = omega arith
+refusal_large refusals.NoProgram = omega arith
+refusal_large (refusals.TooLong subject) = omega arith
+refusal_large (refusals.ReadFault subject) = omega arith
+refusal_large refusals.Memory = omega arith
+
+-- a status below 2 is that of a run that was delivered
+pub delivered_answer : (files : FilesCall) (job : Job) (out report : SinkCall) (s : Status) → AnswersJob files job out report s → number_of s < 2
+    → IsRunDelivered files job out report (number_of s)
+delivered_answer files job out report s (inl a) small = elim a.delivers [
+  | inl d ↦ record {
+    output_bytes = a.output_bytes;
+    report_bytes = a.report_bytes;
+    made = subst (IsRunOfJob files job a.output_bytes a.report_bytes) (ap number_of (sym d.1)) a.made;
+    delivered = d.0;
+  }
+  | inr d ↦ absurd (let same : number_of s ≡ 6 = ap number_of d.1 in omega arith)
+]
+delivered_answer files job out report s (inr a) small = elim a.refuses [
+  | inl d ↦ absurd (let large : 2 ≤ number_of (refusal_status a.refusal) = refusal_large a.refusal in let same : number_of s ≡ number_of (refusal_status a.refusal) = ap number_of d.0 in omega arith)
+  | inr d ↦ absurd (let same : number_of s ≡ 7 = ap number_of d.0 in omega arith)
+]
+
+-- three statuses by their numbers
+pub refusing_number : (s : Status) → IsRefusing s → (number_of s ≡ 3) ⊎ ((number_of s ≡ 5) ⊎ (number_of s ≡ 7))
+refusing_number s (inl e) = inl (ap number_of e)
+refusing_number s (inr (inl e)) = inr (inl (ap number_of e))
+refusing_number s (inr (inr e)) = inr (inr (ap number_of e))

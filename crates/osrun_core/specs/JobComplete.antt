@@ -2,7 +2,7 @@
 use Rattle.std.specs.Prelude.{◌≡◌, ◌⊎◌}
 use Rattle.os_io.specs.Counts.{HasRisen}
 use Rattle.osrun_core.specs.declared.status.Status.{Status}
-use Rattle.osrun_core.specs.declared.status.Status.TheVariants.{AllDone, NotAllDone, NoMemory}
+use Rattle.osrun_core.specs.declared.status.Status.TheVariants.{AllDone, NotAllDone, Refused, ReadFault, NoMemory}
 use Rattle.osrun_core.specs.Command.{Job}
 use Rattle.osrun_core.specs.Loading.{FilesCall}
 use Rattle.osrun_core.specs.Run.{IsRunnable}
@@ -19,3 +19,7 @@ pub record IsUntroubled (files : FilesCall) (out report : SinkCall) : Type 0 whe
 abbrev pub IsComplete : FilesCall → Job → SinkCall → SinkCall → Status → Type 0
 IsComplete files job out report answered = IsRunnable files.holds job → IsUntroubled files out report
     → (answered ≡ AllDone) ⊎ ((answered ≡ NotAllDone) ⊎ (answered ≡ NoMemory))
+
+-- the text is refused, or a file could not be read, or memory ran out
+abbrev pub IsRefusing : Status → Type 0
+IsRefusing answered = (answered ≡ Refused) ⊎ ((answered ≡ ReadFault) ⊎ (answered ≡ NoMemory))

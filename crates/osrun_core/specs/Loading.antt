@@ -1,5 +1,5 @@
 -- What a run finds in its two files.
-use Rattle.std.specs.Prelude.{◌≡◌, ℕ, ◌+◌, ◌<◌, ◌≤◌, Bool, List, Option, IfSome, IsTrue, length}
+use Rattle.std.specs.Prelude.{◌≡◌, ℕ, ◌+◌, ◌<◌, ◌≤◌, Bool, List, Option, Some, IfSome, IsTrue, length}
 use Rattle.os_io.specs.Counts.{HasRisen, raised, last_count}
 use Rattle.osrun_core.specs.declared.refusal.Subject.{Subject}
 use Rattle.osrun_core.specs.declared.refusal.Subject.TheVariants.{Program, Input}
@@ -84,3 +84,19 @@ IsFaultOrMemory refusal.NoProgram = ⊥
 IsFaultOrMemory (refusal.TooLong subject) = ⊥
 IsFaultOrMemory (refusal.ReadFault subject) = Unit {0}
 IsFaultOrMemory refusal.Memory = Unit {0}
+
+-- any refusal but that of a file that is too long
+abbrev pub IsNotTooLong : Refusal → Type 0
+IsNotTooLong (refusal.Token code line_number) = Unit {0}
+IsNotTooLong refusal.NoProgram = Unit {0}
+IsNotTooLong (refusal.TooLong subject) = ⊥
+IsNotTooLong (refusal.ReadFault subject) = Unit {0}
+IsNotTooLong refusal.Memory = Unit {0}
+
+-- the program is told and within its limit, and its text is refused
+pub record IsRejected (holds : List ℕ → Option (List ℕ)) (job : Job) : Type 0 where
+  pub text : List ℕ
+  pub held : holds job.program ≡ Some text
+  pub fits : length text ≤ limit_of Program
+  pub cause : Refusal
+  pub refused : IsRefusalOf text cause

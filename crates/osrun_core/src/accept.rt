@@ -1,7 +1,8 @@
-ghost use Rattle.std.specs.Prelude.{◌≡◌, ◌≤◌, length, IfOk, IfErr};
-ghost use Rattle.osrun_core.specs.Accepting.{IsTextRefusal, IsAcceptedUnlessMemory};
+ghost use Rattle.std.specs.Prelude.{◌≡◌, ◌≤◌, length, IfOk, IfErr, OnOk};
+ghost use Rattle.osrun_core.specs.Accepting.{IsRefusalOf, IsTextRefusal, IsAcceptedUnlessMemory};
 ghost use Rattle.osrun_core.specs.Program.{IsProgramOf};
 ghost use Rattle.osrun_core.specs.declared.first_program.FirstProgram.{FirstProgram as Tree};
+ghost use Rattle.osrun_core.specs.declared.refusal.Refusal.{Refusal as Cause};
 
 use crate::first_program::FirstProgram;
 use crate::reader::read_first_program;
@@ -16,6 +17,7 @@ pub fn accept(alloc: Global, text: &[u8]) -> Result<FirstProgram, Refusal>
     ensures few { IfOk result (λ p. length p.tasks ≤ 65536) }
     ensures refused { IfErr result (IsTextRefusal text.now) }
     ensures accepted { (p : Tree) → IsProgramOf text.now p → IsAcceptedUnlessMemory result }
+    ensures rejected { (cause : Cause) → IsRefusalOf text.now cause → OnOk result ⊥ }
 {
     let tokens = lex(alloc, text)?;
     let program = read_first_program(alloc, &tokens)?;

@@ -7,7 +7,7 @@ ghost use Rattle.osrun_core.specs.declared.refusal.Refusal.TheVariants as refusa
 ghost use Rattle.osrun_core.specs.Command.{command, texts};
 ghost use Rattle.osrun_core.specs.JobAnswer.{IsRunDelivered, IsRunUndelivered};
 ghost use Rattle.osrun_core.specs.JobComplete.{IsUntroubled};
-ghost use Rattle.osrun_core.specs.Loading.{MayOpen, IsTooLong, IsUnread, IsRefusedText, IsLastOpened, files_call};
+ghost use Rattle.osrun_core.specs.Loading.{MayOpen, IsTooLong, IsUnread, IsRefusedText, IsRejected, IsLastOpened, files_call};
 ghost use Rattle.osrun_core.specs.Refusal.{limit_of, refusal_line, usage_line};
 ghost use Rattle.osrun_core.specs.Run.{IsRunnable};
 ghost use Rattle.osrun_core.specs.Telling.{Tells, TookNothing, sink_call};
@@ -52,6 +52,9 @@ pub fn run_words<R: Threads + Sync, F: Files, O: Sink, E: Sink, G: Gate>(
     ensures refused { result ≡ 3 → IsSomeAnd (command (texts words.now)) (λ job. (cause : Cause)
         × IsRefusedText (files_call F.holds F.opens F.faults F.given files.old files.new) job cause
         × Tells (sink_call E.taken E.faults E.empty_takes report.old report.new) (refusal_line cause)) }
+
+    ensures refused_always { IfSome (command (texts words.now)) (λ job. IsRejected (F.holds files.old) job
+        → (result ≡ 3) ⊎ ((result ≡ 5) ⊎ (result ≡ 7))) }
 
     // 4: a file that is too long, which is named.
     ensures too_long { result ≡ 4 → IsSomeAnd (command (texts words.now)) (λ job. (subject : Subject)

@@ -9,6 +9,10 @@ use std::thread::Threads;
 const REVERSE: &[u8] =
     b"int main(void) {\n    int a[4], b[4];\n    #pragma omp task input(osin >> a[4]) output(osout << b[4])\n    { b[0] = a[3]; b[1] = a[2]; b[2] = a[1]; b[3] = a[0]; }\n}\n";
 
+/// A program of the language that is no first program.
+const SMOOTH: &[u8] =
+    b"int main(void) {\n    int i;\n    for (i = 0; i + 2 < osin_len; i++) {\n        int w[3], y;\n        #pragma omp task input(osin >> w[1]) output(osout << y)\n        y = (w[0] + w[1] + w[2]) / 3;\n    }\n    return 0;\n}\n";
+
 /// How often and how much a sink takes, and the call at which it fails.
 #[derive(Clone, Copy)]
 struct Taking {
@@ -95,7 +99,7 @@ fn run_text<R: Threads + Sync + AllocGlobal>(
 
 #[test]
 fn runs_and_refuses_texts(rt: HostRuntime) -> Result<(), Fail> {
-    let cases: [(&[u8], &[u8], &[u8], &str, u8); 12] = [
+    let cases: [(&[u8], &[u8], &[u8], &str, u8); 13] = [
         (
             REVERSE,
             &[1, 2, 3, 4],
@@ -125,13 +129,7 @@ fn runs_and_refuses_texts(rt: HostRuntime) -> Result<(), Fail> {
             0,
         ),
         (b"", &[], &[], "refused 4\n", 3),
-        (
-            b"int main(void) {\n    int i;\n}",
-            &[],
-            &[],
-            "refused 4\n",
-            3,
-        ),
+        (SMOOTH, &[3, 6, 9, 12], &[], "refused 4\n", 3),
         (b"int main(void) { /* x", &[], &[], "refused 2 line 1\n", 3),
         (
             b"int main(void) { return 2147483648; }",
@@ -161,6 +159,14 @@ fn runs_and_refuses_texts(rt: HostRuntime) -> Result<(), Fail> {
             &[1, 2],
             &[],
             "starved 0 stream 0 position 2 producer none\ncontrol done\noutput 0 of 3\n",
+            1,
+        ),
+        // A starved task stands between two that run.
+        (
+            b"int main(void) { int a[1], b[9], o[1];\n#pragma omp task input(osin >> a[1]) output(osout << o[1])\n{ o[0] = a[0]; }\n#pragma omp task input(osin >> b[0]) output(osout << o[1])\n{ o[0] = b[8]; }\n#pragma omp task input(osin >> a[1]) output(osout << o[1])\n{ o[0] = a[0]; }\n#pragma omp task input(osin >> b[1]) output(osout << o[1])\n{ o[0] = b[8]; }\n}",
+            &[1, 2, 3],
+            &[1],
+            "starved 1 stream 0 position 3 producer none\nstarved 3 stream 0 position 3 producer none\ncontrol done\noutput 1 of 4\n",
             1,
         ),
         // Elements are skipped, and an element without a copy is 0.

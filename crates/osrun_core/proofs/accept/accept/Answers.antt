@@ -1,6 +1,6 @@
 use Rattle.std.proofs.Common.{◌∙◌, ap, Err, length, arith}
 use Rattle.std.proofs.lemmas.Result.{err_from_is_err_and}
-use Rattle.osrun_core.proofs.Accepted.{token_memory, syntax_memory}
+use Rattle.osrun_core.proofs.Accepted.{token_memory, syntax_memory, not_refused}
 use Rattle.osrun_core.proofs.TaskCounts.{tasks_few}
 use Rattle.osrun_core.proofs.accept.accept.Goals as goal
 
@@ -20,3 +20,8 @@ pub returns-clause-few : goal.returns-clause-few
 returns-clause-few c =
     tasks_few c.deref.result.now c.in_ok-program.program c.in_ok-program.ensures.ok
     (omega (arith, c.in_ok-tokens.ensures.few, ap length c.deref.ensures.value, c.requires))
+
+pub returns-clause-rejected : goal.returns-clause-rejected
+returns-clause-rejected c cause =
+    not_refused c.args.text.now c.deref.result.now c.in_ok-tokens.tokens.items c.in_ok-program.program cause
+    c.in_ok-tokens.ensures.faulted c.in_ok-tokens.ensures.covered c.deref.ensures.value c.in_ok-program.ensures.ok

@@ -1,0 +1,87 @@
+#!/usr/bin/env bash
+# Runs the built program over real files and streams. The last line counts what passed and what failed.
+set -u
+top=$(cd "$(dirname "${BASH_SOURCE[0]}")/.." && pwd)
+osrun=$top/osrun
+work=$(mktemp -d)
+trap 'rm -rf "$work"' EXIT
+passed=0
+failed=0
+
+# check NAME STATUS OUT REPORT: compares the last run with the status, the bytes of the output in hexadecimal,
+# and the report, whose lines are parted by " / ".
+check() {
+    local out report
+    out=$(od -An -tx1 -v "$work/out" | tr -d ' \n')
+    report=$(sed -e ':a' -e '$!{N;ba' -e '}' -e 's|\n| / |g' "$work/report")
+    if [ "$status" = "$2" ] && [ "$out" = "$3" ] && [ "$report" = "$4" ]; then
+        passed=$((passed + 1))
+    else
+        failed=$((failed + 1))
+        printf '%s: status %s, output %s, report %s\n' "$1" "$status" "$out" "$report"
+        printf '%s: wanted %s, %s, %s\n' "$1" "$2" "$3" "$4"
+    fi
+}
+
+run() {
+    "$osrun" "$@" >"$work/out" 2>"$work/report"
+    status=$?
+}
+
+cp "$top/examples/first.c" "$top/examples/in.bin" "$work"
+mkdir "$work/folder"
+head -c 262145 /dev/zero | tr '\0' ' ' >"$work/long.c"
+head -c 4194305 /dev/zero >"$work/long.bin"
+head -c 4194304 /dev/zero >"$work/full.bin"
+printf '\001\002' >"$work/short.bin"
+: >"$work/empty.c"
+cd "$work" || exit 1
+
+run run first.c in.bin
+check "the first program" 0 04030201 "control done / output 4 of 4"
+run run "$top/examples/overlap.c" in.bin
+check "windows that overlap" 1 0304 "starved 2 stream 0 position 4 producer none / control done / output 2 of 3"
+run run first.c short.bin
+check "an input that is too short" 1 "" "starved 0 stream 0 position 2 producer none / control done / output 0 of 4"
+run run first.c full.bin
+check "the longest input" 0 00000000 "control done / output 4 of 4"
+run run empty.c in.bin
+check "an empty program" 3 "" "refused 4"
+
+run
+check "no words" 2 "" usage
+run run first.c
+check "too few words" 2 "" usage
+run run first.c in.bin more
+check "too many words" 2 "" usage
+run run first.c "$(printf 'in\377')"
+check "a word that isn't text" 2 "" usage
+
+run run long.c in.bin
+check "a program that is too long" 4 "" "too long program"
+run run first.c long.bin
+check "an input that is too long" 4 "" "too long input"
+run run none.c in.bin
+check "no such program" 5 "" "read fault program"
+run run first.c none.bin
+check "no such input" 5 "" "read fault input"
+run run folder in.bin
+check "a folder in place of a program" 5 "" "read fault program"
+run run first.c folder
+check "a folder in place of an input" 5 "" "read fault input"
+
+"$osrun" run first.c in.bin >/dev/full 2>"$work/report"
+status=$?
+: >"$work/out"
+check "a full standard output" 6 "" ""
+"$osrun" run first.c in.bin >"$work/out" 2>/dev/full
+status=$?
+: >"$work/report"
+check "a full standard error" 6 04030201 ""
+"$osrun" run empty.c in.bin >"$work/out" 2>/dev/full
+status=$?
+: >"$work/report"
+check "a refusal and a full standard error" 3 "" ""
+
+echo "$passed passed, $failed failed"
+[ "$failed" = 0 ]
