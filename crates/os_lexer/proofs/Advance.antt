@@ -23,7 +23,7 @@ use Rattle.os_lexer.specs.declared.fault.Fault.TheVariants as fault
 use Rattle.os_lexer.specs.declared.form.Form.{Form}
 use Rattle.os_lexer.specs.declared.lexer.Lexer.{Lexer}
 use Rattle.os_lexer.specs.declared.mode.Mode.{Mode}
-use Rattle.os_lexer.specs.declared.names.Spellings.{Spellings}
+use Rattle.os_lexer.specs.declared.spellings.Spellings.{Spellings}
 use Rattle.os_lexer.specs.declared.token.Kind.{Kind}
 use Rattle.os_lexer.specs.declared.token.Token.{Token}
 

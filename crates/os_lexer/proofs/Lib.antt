@@ -11,3 +11,5 @@ pub mod Values
 pub mod Positions
 pub mod Advance
 pub mod Outcomes
+pub mod FewTokens
+pub mod TokenNumbers

@@ -1,10 +1,13 @@
 -- An answer that is right is the one that is wanted.
-use Rattle.std.proofs.Common.{ℕ, List, Result, Ok, Err, IfOk, IfErr, Vec, Global}
+use Rattle.std.proofs.Common.{◌≤◌, ℕ, length, List, Result, Ok, Err, IfOk, IfErr, All, Vec, Global}
 use Rattle.os_lexer.specs.Answer.{IsFaultOf, IsMemory, HasCodeUnlessMemory, IsGivenUnlessMemory, IsToldUnlessMemory}
 use Rattle.os_lexer.specs.Cover.{IsTokenCover, IsFirstFault}
 use Rattle.os_lexer.specs.declared.fault.LexError.{LexError}
 use Rattle.os_lexer.specs.declared.fault.LexError.TheVariants.{BadByte, OpenComment, BigNumber, Memory}
 use Rattle.os_lexer.specs.declared.token.Token.{Token}
+use Rattle.os_lexer.proofs.FewTokens.{few_tokens}
+use Rattle.os_lexer.specs.Laws.{HasSmallNumber}
+use Rattle.os_lexer.proofs.TokenNumbers.{small_numbers}
 use Rattle.os_lexer.proofs.CoverLaws.{one_cover, one_fault, never_both}
 
 module _ (text : List ℕ) where
@@ -29,3 +32,13 @@ module _ (text : List ℕ) where
   pub told : (r : Result (Vec Token Global) LexError) → IfOk r (λ v. IsTokenCover text v.items) → IfErr r (IsFaultOf text) → (code line : ℕ) → IsFirstFault text code line → IsToldUnlessMemory code line r
   told (Ok v) ok err code line first = never_both text v.items code line ok first
   told (Err e) ok err code line first = same_fault e code line first err
+
+  -- what is answered has no more tokens than the text has bytes
+  pub few : (r : Result (Vec Token Global) LexError) → IfOk r (λ v. IsTokenCover text v.items) → IfOk r (λ v. length v.items ≤ length text)
+  few (Ok v) ok = few_tokens text v.items ok
+  few (Err e) ok = tt
+
+  -- and no greater number
+  pub small : (r : Result (Vec Token Global) LexError) → IfOk r (λ v. IsTokenCover text v.items) → IfOk r (λ v. All (λ token. HasSmallNumber token.kind) v.items)
+  small (Ok v) ok = small_numbers text v.items ok
+  small (Err e) ok = tt

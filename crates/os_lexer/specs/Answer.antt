@@ -22,6 +22,7 @@ HasCodeUnlessMemory code line (OpenComment l) = (code ≡ 2) × (line ≡ l)
 HasCodeUnlessMemory code line (BigNumber l) = (code ≡ 3) × (line ≡ l)
 HasCodeUnlessMemory code line Memory = Unit {0}
 
+-- the error is want of memory
 abbrev pub IsMemory : LexError → Type 0
 IsMemory (BadByte l) = ⊥
 IsMemory (OpenComment l) = ⊥

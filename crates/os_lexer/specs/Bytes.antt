@@ -9,6 +9,7 @@ is_white b = b == 32 || b == 9 || b == 13 || b == 10 || b == 11 || b == 12
 abbrev pub is_blank : ℕ → Bool
 is_blank b = b == 32 || b == 9
 
+-- what ends a line
 abbrev pub is_line_feed : ℕ → Bool
 is_line_feed b = b == 10
 

@@ -25,6 +25,7 @@ pub record Place : Type 0 where
   pub mode : Mode
   pub tokens : List Token
 
+-- where a text starts
 abbrev pub text_start : Place
 text_start = record { at = 0; mode = LineStart; tokens = [] }
 

@@ -1,10 +1,12 @@
 -- What follows of the token cover and the first fault: that the definitions are the ones meant.
-use Rattle.std.specs.Prelude.{◌≡◌, ℕ, ◌<◌, ◌≤◌, ◌⊎◌, List, [], ◌∷◌, length, take, slice_range}
+use Rattle.std.specs.Prelude.{◌≡◌, ℕ, ◌<◌, ◌≤◌, ◌⊎◌, List, [], ◌∷◌, length, take, slice_range, All}
 use Rattle.os_lexer.specs.Cover.{IsTokenCover, IsFirstFault}
 use Rattle.os_lexer.specs.Forms.{IsForm}
 use Rattle.os_lexer.specs.Lines.{line_of}
 use Rattle.os_lexer.specs.declared.form.Form.{Form}
 use Rattle.os_lexer.specs.declared.form.Form.TheVariants as form
+use Rattle.os_lexer.specs.declared.token.Kind.{Kind}
+use Rattle.os_lexer.specs.declared.token.Kind.TheVariants as kind
 use Rattle.os_lexer.specs.declared.token.Token.{Token}
 
 -- a text has at most one cover
@@ -63,3 +65,21 @@ pub data IsCut (text : List ℕ) : ℕ → List Token → ℕ → Type 0 where
 -- the tokens of a cover are slices of the whole text in order, with nothing but skipped slices between them
 abbrev pub CoverCuts : Type 0
 CoverCuts = (text : List ℕ) (tokens : List Token) → IsTokenCover text tokens → IsCut text 0 tokens (length text)
+
+-- a text has at least as many bytes as tokens
+abbrev pub FewTokens : Type 0
+FewTokens = (text : List ℕ) (tokens : List Token) → IsTokenCover text tokens → length tokens ≤ length text
+
+-- a number is at most 2,147,483,647
+abbrev pub HasSmallNumber : Kind → Type 0
+HasSmallNumber (kind.Name n) = Unit {0}
+HasSmallNumber (kind.Number value) = value ≤ 2147483647
+HasSmallNumber (kind.Key key) = Unit {0}
+HasSmallNumber (kind.Punct mark) = Unit {0}
+HasSmallNumber kind.PragmaStart = Unit {0}
+HasSmallNumber kind.PragmaEnd = Unit {0}
+
+-- no token has a greater number
+abbrev pub SmallNumbers : Type 0
+SmallNumbers =
+    (text : List ℕ) (tokens : List Token) → IsTokenCover text tokens → All (λ token. HasSmallNumber token.kind) tokens

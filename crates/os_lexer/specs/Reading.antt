@@ -34,22 +34,28 @@ first_from test (suc n) place = if test place then place else first_from test n 
 abbrev pub first_in : (List ℕ → ℕ → Bool) → List ℕ → ℕ → ℕ
 first_in test bytes from = first_from (test bytes) (length bytes - from) from
 
+-- a byte at the place that no run has
 abbrev pub ends_run : List ℕ → ℕ → Bool
 ends_run bytes i = not (is_word_byte (slice_index bytes i))
 
+-- a byte at the place that is neither space nor tab
 abbrev pub ends_blanks : List ℕ → ℕ → Bool
 ends_blanks bytes i = not (is_blank (slice_index bytes i))
 
+-- a line feed at the place is that of a joined line
 abbrev pub is_joined : List ℕ → ℕ → Bool
 is_joined bytes i =
     slice_index bytes (i - 1) == 92 || (slice_index bytes (i - 1) == 13 && slice_index bytes (i - 2) == 92)
 
+-- a line feed at the place that isn't that of a joined line
 abbrev pub ends_line : List ℕ → ℕ → Bool
 ends_line bytes i = slice_index bytes i == 10 && not (is_joined bytes i)
 
+-- a `*/` at the place
 abbrev pub closes : List ℕ → ℕ → Bool
 closes bytes i = slice_index bytes i == 42 && slice_index bytes (i + 1) == 47
 
+-- where a run, blanks, a line and a comment end, each from a place on
 unfoldable pub run_end : List ℕ → ℕ → ℕ
 run_end = first_in ends_run
 
@@ -62,9 +68,11 @@ line_end = first_in ends_line
 unfoldable pub comment_end : List ℕ → ℕ → ℕ
 comment_end = first_in closes
 
+-- a form of so many bytes
 abbrev pub piece : Form → ℕ → Piece
 piece form n = record { form = form; length = n }
 
+-- the joined line that a backslash at the front begins
 unfoldable pub joined_line_at : List ℕ → Option Piece
 joined_line_at bytes =
     if slice_index bytes 1 == 10 then Some (piece form.JoinedLine 2)
@@ -89,6 +97,7 @@ abbrev pub mark_from : List Punct → List ℕ → Option Punct
 mark_from [] s = None
 mark_from (m ∷ ms) s = if bytes_eq s (mark_spelling m) then Some m else mark_from ms s
 
+-- the mark that is spelled so, among all
 unfoldable pub mark_of : List ℕ → Option Punct
 mark_of s = mark_from all_marks s
 
@@ -96,6 +105,7 @@ mark_of s = mark_from all_marks s
 unfoldable pub mark_front : List ℕ → ℕ → Option Punct
 mark_front bytes n = if nat_lt (length bytes) n then None else mark_of (take n bytes)
 
+-- the piece of a mark that was found, and else the other answer
 abbrev pub mark_piece : Option Punct → ℕ → Option Piece → Option Piece
 mark_piece None n other = other
 mark_piece (Some m) n other = Some (piece (form.Mark m) n)
@@ -104,19 +114,23 @@ mark_piece (Some m) n other = Some (piece (form.Mark m) n)
 abbrev pub mark_or : List ℕ → ℕ → Option Piece → Option Piece
 mark_or bytes n other = mark_piece (mark_front bytes n) n other
 
+-- the longest mark at the front
 unfoldable pub mark_at : List ℕ → Option Piece
 mark_at bytes = mark_or bytes 3 (mark_or bytes 2 (mark_or bytes 1 None))
 
+-- the comment that a `/*` at the front begins
 unfoldable pub comment_at : List ℕ → Piece
 comment_at bytes =
     if nat_lt (comment_end bytes 2) (length bytes) then piece form.BlockComment (comment_end bytes 2 + 2)
     else piece form.OpenComment (length bytes)
 
+-- what a slash at the front begins
 unfoldable pub slash_at : List ℕ → Option Piece
 slash_at bytes =
     if slice_index bytes 1 == 47 then Some (piece form.LineComment (line_end bytes 2))
     else (if slice_index bytes 1 == 42 then Some (comment_at bytes) else mark_at bytes)
 
+-- the directive at the front whose word begins at a place
 unfoldable pub named_directive : List ℕ → ℕ → Piece
 named_directive bytes name_at =
     let name = slice_range bytes name_at (run_end bytes name_at) in
@@ -124,6 +138,7 @@ named_directive bytes name_at =
     else (if bytes_eq name (codes "include") then piece form.IncludeLine (line_end bytes (run_end bytes name_at))
     else piece form.OtherDirective (run_end bytes name_at))
 
+-- the directive that a `#` at the front begins
 unfoldable pub directive_at : List ℕ → Option Piece
 directive_at bytes =
     if is_letter (slice_index bytes (blanks_end bytes 1)) then Some (named_directive bytes (blanks_end bytes 1)) else None
@@ -138,6 +153,7 @@ piece_of Slash bytes = slash_at bytes
 piece_of Hash bytes = directive_at bytes
 piece_of Other bytes = mark_at bytes
 
+-- the longest form at the front
 unfoldable pub piece_at : List ℕ → Option Piece
 piece_at bytes = piece_of (class_of (slice_index bytes 0)) bytes
 

@@ -3,7 +3,7 @@ use Rattle.std.specs.Prelude.{ℕ, List, Option}
 use Rattle.std.specs.BTreeMap.{get_by}
 use Rattle.std.specs.Cmp.Lexicographic.{slice_cmp}
 use Rattle.std.specs.Ordering.{nat_cmp}
-use Rattle.os_lexer.specs.declared.names.Spellings.{Spellings}
+use Rattle.os_lexer.specs.declared.spellings.Spellings.{Spellings}
 
 -- the index that it has for a spelling
 abbrev pub first_of : Spellings → List ℕ → Option ℕ

@@ -12,7 +12,7 @@ use Rattle.os_lexer.specs.declared.form.Form.TheVariants as form
 use Rattle.os_lexer.specs.declared.lexer.Lexer.{Lexer}
 use Rattle.os_lexer.specs.declared.mode.Mode.{Mode}
 use Rattle.os_lexer.specs.declared.mode.Mode.TheVariants.{LineStart, InLine, InPragma}
-use Rattle.os_lexer.specs.declared.names.Spellings.{Spellings}
+use Rattle.os_lexer.specs.declared.spellings.Spellings.{Spellings}
 use Rattle.os_lexer.specs.declared.token.Kind.TheVariants as kind
 use Rattle.os_lexer.specs.declared.token.Token.{Token}
 
@@ -25,6 +25,7 @@ abbrev pub KnowsSpellings : List ℕ → List Token → Spellings → Type 0
 KnowsSpellings text tokens spellings =
     (name : List ℕ) → first_of spellings name ≡ position (λ token. bytes_eq name (spelling text token)) tokens
 
+-- what the reader keeps true: its line, and its map of spellings
 pub record IsState (text : List ℕ) (lexer : Lexer) : Type 0 where
   pub short : length text ≤ 262144
   pub within : lexer.at ≤ length text
@@ -58,6 +59,7 @@ IsFaultHere text p (OpenComment line) = IsFaultAt text p fault.OpenComment × (l
 IsFaultHere text p (BigNumber line) = IsFaultAt text p fault.BigNumber × (line ≡ line_of text p.at)
 IsFaultHere text p Memory = Unit {0}
 
+-- the end of a pragma's line, where there is one
 abbrev pub end_in : Mode → Token → List Token
 end_in LineStart token = []
 end_in InLine token = []

@@ -6,8 +6,8 @@ use crate::effect::{Effect, effect_of};
 use crate::fault::{Fault, LexError};
 use crate::form::{Form, Piece};
 use crate::mode::Mode;
-use crate::names::Spellings;
 use crate::pieces::piece_at;
+use crate::spellings::Spellings;
 use crate::token::{Kind, Token};
 use crate::words::fixed_number;
 use std::alloc::Global;
@@ -182,7 +182,6 @@ impl<'a> Lexer<'a> {
     pub(crate) fn finish(self) -> Result<Vec<Token>, LexError>
         requires { self.at < 2 ^ 32 }
         ensures tokens { IfOk result (λ tokens. tokens.items ≡ self.entry.tokens.items ++ end_of self.entry) }
-        ensures few { IfOk result (λ tokens. length tokens.items ≤ length self.entry.tokens.items + 1) }
         ensures memory { IfErr result IsMemory }
     {
         let Lexer {

@@ -13,6 +13,7 @@
 #![tactic(auto)]
 
 mod bytes;
+mod cover;
 mod effect;
 mod fault;
 mod form;
@@ -20,15 +21,14 @@ mod laws;
 mod lexer;
 mod marks;
 mod mode;
-mod names;
 mod numbers;
 mod pieces;
 mod scans;
+mod spellings;
 mod token;
-mod tokens;
 mod words;
 
+pub use cover::lex;
 pub use fault::LexError;
 pub use laws::{cover_before_fault, cover_cuts, one_cover};
 pub use token::{Key, Kind, Punct, Token};
-pub use tokens::lex;

@@ -1,5 +1,7 @@
 use Rattle.os_lexer.proofs.CoverCuts.{cover_cuts}
+use Rattle.os_lexer.proofs.FewTokens.{few_tokens}
+use Rattle.os_lexer.proofs.TokenNumbers.{small_numbers}
 use Rattle.os_lexer.proofs.laws.cover_cuts.Goals as goal
 
 pub returns : goal.returns
-returns c = cover_cuts
+returns c = record { cuts = cover_cuts; few = few_tokens; small = small_numbers }

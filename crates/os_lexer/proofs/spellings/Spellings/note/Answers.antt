@@ -3,7 +3,7 @@ use Rattle.std.specs.Prelude.{is_none, not, option_copied}
 use Rattle.std.proofs.lemmas.Map.Text.{btree_map_updates_str}
 use Rattle.std.proofs.lemmas.Slice.Eq.{bytes_eq-Decides}
 use Rattle.os_lexer.specs.Spellings.{first_of}
-use Rattle.os_lexer.proofs.names.Spellings.note.Goals as goal
+use Rattle.os_lexer.proofs.spellings.Spellings.note.Goals as goal
 
 keeps_first : (b : Bool) (o : Option ℕ) (i : ℕ) → (b ≡ true → o ≡ None) → cond b (Some i) o ≡ cond b (Some (unwrap_or o i)) o
 keeps_first true o i none = ap (λ k. Some (unwrap_or k i)) (sym (none refl))

@@ -1,7 +1,7 @@
 use Rattle.std.proofs.Common.{sym, subst, arith}
 use Rattle.os_lexer.specs.Cover.{text_start, Leads, here}
 use Rattle.os_lexer.proofs.Cuts.{leads_on, step_within}
-use Rattle.os_lexer.proofs.tokens.tokens_of.Goals as goal
+use Rattle.os_lexer.proofs.cover.tokens_of.Goals as goal
 
 pub loop-lexer-init : goal.loop-lexer-init
 loop-lexer-init c = record {

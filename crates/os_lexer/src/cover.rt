@@ -1,6 +1,7 @@
-ghost use Rattle.std.specs.Prelude.{ℕ, ◌+◌, ◌≤◌, List, length, IfOk, IfErr};
+ghost use Rattle.std.specs.Prelude.{ℕ, ◌≤◌, List, length, All, IfOk, IfErr};
 ghost use Rattle.os_lexer.specs.Cover.{IsTokenCover, IsFirstFault};
 ghost use Rattle.os_lexer.specs.Answer.{IsFaultOf, IsGivenUnlessMemory, IsToldUnlessMemory};
+ghost use Rattle.os_lexer.specs.Laws.{HasSmallNumber};
 ghost use Rattle.os_lexer.specs.declared.token.Token.{Token};
 
 use crate::fault::LexError;
@@ -17,14 +18,15 @@ pub fn lex(alloc: Global, text: &[u8]) -> Result<Vec<Token>, LexError>
     ensures cover { IfOk result (λ tokens. IsTokenCover text.now tokens.items) }
     ensures fault { IfErr result (IsFaultOf text.now) }
 
-    // Each token but a pragma's end at the end of the text takes a byte.
-    ensures few { IfOk result (λ tokens. length tokens.items ≤ length text.now + 1) }
-
     // It is answered wherever it is right, unless memory runs out.
     ensures covered { (tokens : List Token) → IsTokenCover text.now tokens
         → IsGivenUnlessMemory tokens result }
     ensures faulted { (code line : ℕ) → IsFirstFault text.now code line
         → IsToldUnlessMemory code line result }
+
+    // No text has more tokens than bytes, and no number is above 2,147,483,647.
+    ensures few { IfOk result (λ tokens. length tokens.items ≤ length text.now) }
+    ensures small { IfOk result (λ tokens. All (λ token. HasSmallNumber token.kind) tokens.items) }
 {
     tokens_of(alloc, text)
 }
@@ -33,7 +35,6 @@ fn tokens_of(alloc: Global, text: &[u8]) -> Result<Vec<Token>, LexError>
     requires { length text.now ≤ 262144 }
     ensures cover { IfOk result (λ tokens. IsTokenCover text.now tokens.items) }
     ensures fault { IfErr result (IsFaultOf text.now) }
-    ensures few { IfOk result (λ tokens. length tokens.items ≤ length text.now + 1) }
 {
     let mut lexer = Lexer::new(alloc);
     while lexer.at() < text.len() {

@@ -1,7 +1,7 @@
 use Rattle.std.proofs.Common.{◌-◌, length}
 use Rattle.os_lexer.specs.Cover.{text_start, Leads}
 use Rattle.os_lexer.specs.States.{place_of, IsState}
-use Rattle.os_lexer.proofs.tokens.tokens_of.Given as goal
+use Rattle.os_lexer.proofs.cover.tokens_of.Given as goal
 
 abbrev pub invariant-loop-lexer : goal.invariant-loop-lexer
 invariant-loop-lexer l = record {
