@@ -2,6 +2,7 @@ pub mod Begins
 pub mod Chains
 pub mod Drops
 pub mod Fits
+pub mod Kept
 pub mod Leveling
 pub mod Parens
 pub mod Prints

@@ -1,9 +1,17 @@
 -- Programs with their tokens, both written down by hand.
 pub mod Branches
+pub mod Capturing
 pub mod Invert
 pub mod Parentheses
 pub mod Productions
+pub mod Refused
+pub mod Rules
+pub mod Several
+pub mod Shadowing
 pub mod Smooth
+pub mod SmoothNames
+pub mod Spreading
+pub mod Stages
 pub mod Subtractions
 use Rattle.std.specs.Prelude.{ℕ, ◌+◌, false, List, [], ◌∷◌, Option, Some, None}
 use Rattle.os_ast.specs.Trees as tree

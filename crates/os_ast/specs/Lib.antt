@@ -1,10 +1,17 @@
 pub mod Beginnings
 pub mod Depth
 pub mod Examples
+pub mod Kept
 pub mod Leveled
+pub mod Limits
 pub mod Marks
+pub mod Meanings
 pub mod Means
+pub mod Names
+pub mod Notes
 pub mod Operators
 pub mod Spelling
 pub mod Trees
+pub mod Uses
 pub mod Views
+pub mod Violations

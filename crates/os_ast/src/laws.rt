@@ -2,9 +2,12 @@
 
 ghost use Rattle.std.specs.Prelude.{◌≡◌, ◌≢◌, ◌++◌, [], List, ℕ, map};
 ghost use Rattle.os_ast.specs.Beginnings.{BeginsWith, CanBeginExpr, CanBeginStmt, CanBeginItem};
+ghost use Rattle.os_ast.specs.Kept.{Keeps};
 ghost use Rattle.os_ast.specs.Leveled.{IsExpr, IsStmt, IsLeveled};
 ghost use Rattle.os_ast.specs.Marks.{HasMark, IsMarkOf};
 ghost use Rattle.os_ast.specs.Means.{Means};
+ghost use Rattle.os_ast.specs.Names.{Scope};
+ghost use Rattle.os_ast.specs.Notes.Statements.{after_stmt, after_stmts};
 ghost use Rattle.os_ast.specs.Spelling.{Piece, expr, stmt, item, pieces, spell};
 ghost use Rattle.os_ast.specs.Trees as tree;
 ghost use Rattle.os_ast.specs.declared.expr.Binary.{Binary};
@@ -57,4 +60,12 @@ pub fn meaning_by_tokens()
         spell p ≡ map (λ t. t.kind) tokens →
         ((place : ℕ) (mark : Mark) → HasMark (pieces p) place mark → IsMarkOf tokens place mark) →
         Means tokens p }
+{}
+
+/// Statements take no declaration out of scope, and change none. A block takes its own with it.
+#[tactic(auto, using(crate::proofs::Kept::keeps))]
+pub fn declarations_stay()
+    ensures statements { (s : Scope) (a : tree.StmtTree) → Keeps s.entries (after_stmt s a).entries }
+    ensures lists { (s : Scope) (ss : tree.Stmts) → Keeps s.entries (after_stmts s ss).entries }
+    ensures blocks { (s : Scope) (ss : tree.Stmts) → (after_stmt s (tree.Block ss)).entries ≡ s.entries }
 {}

@@ -12,12 +12,17 @@
 pub mod examples;
 mod expr;
 pub mod laws;
+mod names;
 mod nesting;
 mod pragma;
 mod program;
+pub mod refusals;
 mod stmt;
+mod violation;
 
 pub use expr::{Binary, Call, Expr, Index, Level, Link, Mark, Name, Target, Unary};
+pub use names::{Direction, Entity, Entry, Form, Meaning, Owner, Resolution, Shape};
 pub use pragma::{Clause, ClauseItem, ClauseKind, Join, TaskSite, TickSite};
 pub use program::{Constant, DEPTH_LIMIT, Function, Item, Params, Program};
 pub use stmt::{Assign, Change, Declarator, Head, Start, Step, Stmt};
+pub use violation::Violation;

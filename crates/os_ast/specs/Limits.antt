@@ -1,0 +1,25 @@
+-- How much a program may declare.
+use Rattle.std.specs.Prelude.{ℕ}
+
+-- At most so many elements has a local array, and so many streams a stream array.
+abbrev pub size_limit : ℕ
+size_limit = 65536
+
+-- the elements of the local arrays of one function or task
+abbrev pub elements_limit : ℕ
+elements_limit = 65536
+
+-- the elements of the local arrays of a program
+abbrev pub arrays_limit : ℕ
+arrays_limit = 1048576
+
+-- the streams that a program declares
+abbrev pub streams_limit : ℕ
+streams_limit = 65536
+
+-- the items of a task, and the scalars that it captures
+abbrev pub items_limit : ℕ
+items_limit = 8
+
+abbrev pub captured_limit : ℕ
+captured_limit = 64

@@ -1,0 +1,76 @@
+-- What names mean: declarations, scopes, and what is in scope at a place.
+use Rattle.std.specs.Prelude.{ℕ, ◌+◌, ◌==◌, Bool, true, false, if◌then◌else◌, List, [], ◌∷◌, Option, Some, None, ℤ, pos, neg_ℤ}
+use Rattle.os_ast.specs.declared.names.Entity.{Entity}
+use Rattle.os_ast.specs.declared.names.Entry.{Entry}
+use Rattle.os_ast.specs.declared.names.Owner.{Owner}
+use Rattle.os_ast.specs.declared.program.Constant.{Constant as ConstantItem}
+
+-- The numbers that the lexer gives the names which a program doesn't declare, or that mean more than others.
+abbrev pub main_id : ℕ
+main_id = 8
+
+abbrev pub osin_id : ℕ
+osin_id = 9
+
+abbrev pub osout_id : ℕ
+osout_id = 10
+
+abbrev pub osin_len_id : ℕ
+osin_len_id = 11
+
+-- A place of the program: what is in scope there, from the innermost declaration on, how many scopes are open,
+-- whose body it is, whether a loop of that body is round it, and what is taken by the declarations before it.
+pub record Scope : Type 0 where
+  pub entries : List Entry
+  pub depth : ℕ
+  pub owner : Owner
+  pub loop : Bool
+  -- slots and elements of local arrays, of this function, task or main
+  pub slots : ℕ
+  pub elements : ℕ
+  -- elements of local arrays, streams and functions of the program
+  pub arrays : ℕ
+  pub streams : ℕ
+  pub functions : ℕ
+
+-- The innermost declaration counts.
+abbrev pub lookup : List Entry → ℕ → Option Entry
+lookup [] id = None
+lookup (e ∷ es) id = if e.id == id then Some e else lookup es id
+
+-- what a name is declared as where it stands
+abbrev pub entity_of : Option Entry → Option Entity
+entity_of None = None
+entity_of (Some e) = Some e.entity
+
+abbrev pub stands_at : ℕ → Option Entry → Bool
+stands_at depth None = false
+stands_at depth (Some e) = e.depth == depth
+
+-- a name is declared already in the innermost scope
+abbrev pub is_declared : Scope → ℕ → Bool
+is_declared s id = stands_at s.depth (lookup s.entries id)
+
+-- the scope with one more declaration
+abbrev pub declare : Scope → ℕ → Entity → Scope
+declare s id e = record s { entries = record { id = id; depth = s.depth; entity = e } ∷ s.entries }
+
+-- a new innermost scope
+abbrev pub enter : Scope → Scope
+enter s = record s { depth = s.depth + 1 }
+
+-- After an inner scope its declarations are gone, and what they took stays taken.
+abbrev pub leave : Scope → Scope → Scope
+leave outer inner = record inner { entries = outer.entries; depth = outer.depth; loop = outer.loop }
+
+-- inside a loop
+abbrev pub in_loop : Scope → Scope
+in_loop s = record s { loop = true }
+
+-- behind a loop, whether one is round the place is as before it
+abbrev pub behind : Scope → Scope → Scope
+behind before body = record body { loop = before.loop }
+
+-- the value of a constant
+abbrev pub constant_value : ConstantItem → ℤ
+constant_value c = if c.minus then neg_ℤ (pos c.size) else pos c.size

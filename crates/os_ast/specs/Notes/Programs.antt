@@ -1,0 +1,84 @@
+-- Functions, constants and whole programs.
+use Rattle.std.specs.Prelude.{ℕ, ◌+◌, ◌==◌, false, if◌then◌else◌, List, [], ◌∷◌, ◌++◌, map, length}
+use Rattle.os_ast.specs.Meanings.{Note, Fault, Means, meaning}
+use Rattle.os_ast.specs.Names.{Scope, declare, enter, is_declared, constant_value, main_id, osin_id, osout_id, osin_len_id}
+use Rattle.os_ast.specs.Notes.Declarators.{scalar_entity}
+use Rattle.os_ast.specs.Notes.Statements.{after_stmts, stmts_notes}
+use Rattle.os_ast.specs.Trees as tree
+use Rattle.os_ast.specs.Uses.{when}
+use Rattle.os_ast.specs.declared.expr.Name.{Name}
+use Rattle.os_ast.specs.declared.program.Params.TheVariants as params_of
+use Rattle.os_ast.specs.declared.program.Params.{Params}
+use Rattle.os_ast.specs.declared.names.Owner.{Owner}
+use Rattle.os_ast.specs.declared.names.Owner.TheVariants as owner
+use Rattle.os_ast.specs.declared.names.Entity.TheVariants as entity
+
+-- The control program is the function `main`.
+abbrev pub owner_of : ℕ → Owner
+owner_of id = if id == main_id then owner.OfMain else owner.OfFunction
+
+abbrev pub param_names : Params → List Name
+param_names params_of.Empty = []
+param_names params_of.Void = []
+param_names (params_of.Names ns) = ns
+
+-- The scope round the body of `main`, with `osin_len` in slot 0.
+abbrev pub round_body : Owner → Scope → Scope
+round_body owner.OfMain s =
+    record (declare (declare (declare (enter s) osin_id (entity.Stream 0)) osout_id (entity.Stream 1)) osin_len_id entity.InputLength) { slots = 1 }
+round_body owner.OfFunction s = enter s
+round_body owner.OfTask s = enter s
+
+-- the scope of a function's parameters and of its outermost block, before the parameters
+abbrev pub in_function : Scope → ℕ → Scope
+in_function s id = enter (round_body (owner_of id) (record s { owner = owner_of id; loop = false; slots = 0; elements = 0 }))
+
+abbrev pub after_param : Scope → Name → Scope
+after_param s n = declare (record s { slots = s.slots + 1 }) n.id (scalar_entity s.owner s.slots)
+
+abbrev pub after_params : Scope → List Name → Scope
+after_params s [] = s
+after_params s (n ∷ ns) = after_params (after_param s n) ns
+
+abbrev pub params_notes : Scope → List Name → List Note
+params_notes s [] = []
+params_notes s (n ∷ ns) =
+    map (Fault n.mark) (when (is_declared s n.id) 12)
+    ++ Means n.mark (meaning s.owner (scalar_entity s.owner s.slots))
+    ∷ params_notes (after_param s n) ns
+
+-- A function is in scope from its body's end.
+abbrev pub after_function : Scope → Scope → tree.FunctionTree → Scope
+after_function s inner f =
+    declare (record s { arrays = inner.arrays; streams = inner.streams; functions = s.functions + 1 })
+    f.name.id (entity.Function s.functions (length (param_names f.params)))
+
+abbrev pub in_body : Scope → tree.FunctionTree → Scope
+in_body s f = after_params (in_function s f.name.id) (param_names f.params)
+
+abbrev pub after_item : Scope → tree.ItemTree → Scope
+after_item s (tree.Constant c) = declare s c.name.id (entity.Constant (constant_value c))
+after_item s (tree.Function f) = after_function s (after_stmts (in_body s f) f.body) f
+
+abbrev pub item_notes : Scope → tree.ItemTree → List Note
+item_notes s (tree.Constant c) = map (Fault c.name.mark) (when (is_declared s c.name.id) 12)
+item_notes s (tree.Function f) =
+    map (Fault f.name.mark) (when (is_declared s f.name.id) 12)
+    ++ params_notes (in_function s f.name.id) (param_names f.params)
+    ++ stmts_notes (in_body s f) f.body
+
+abbrev pub after_items : Scope → List tree.ItemTree → Scope
+after_items s [] = s
+after_items s (i ∷ is) = after_items (after_item s i) is
+
+abbrev pub items_notes : Scope → List tree.ItemTree → List Note
+items_notes s [] = []
+items_notes s (i ∷ is) = item_notes s i ++ items_notes (after_item s i) is
+
+-- the scope of the file, before its first item
+abbrev pub file : Scope
+file = record { entries = []; depth = 0; owner = owner.OfFunction; loop = false; slots = 0; elements = 0; arrays = 0; streams = 0; functions = 0 }
+
+-- what is to be said of a program's tokens
+abbrev pub program_notes : tree.ProgramTree → List Note
+program_notes p = items_notes file p

@@ -1,0 +1,59 @@
+-- Statements, and what is in scope after each.
+use Rattle.std.specs.Prelude.{not, List, [], ◌++◌, map}
+use Rattle.os_ast.specs.Meanings.{Note, Fault}
+use Rattle.os_ast.specs.Names.{Scope, enter, leave, in_loop, behind}
+use Rattle.os_ast.specs.Notes.Clauses.{parts, with_items, in_task, after_task, task_notes, pragma_codes, return_codes}
+use Rattle.os_ast.specs.Notes.Declarators.{after_declarators, declarators_notes, after_start, start_notes}
+use Rattle.os_ast.specs.Notes.Expressions.{count_args, expr_notes, place_notes, args_notes, value_notes, change_notes, step_notes}
+use Rattle.os_ast.specs.Trees as tree
+use Rattle.os_ast.specs.Uses.{call_codes, stream_codes, use_notes, when}
+use Rattle.os_ast.specs.declared.names.Direction.TheVariants as direction
+
+-- Statements: what is in scope after each, and its notes.
+abbrev mutual
+  pub after_stmt : Scope → tree.StmtTree → Scope
+  after_stmt s tree.StmtTree.Empty = s
+  after_stmt s (tree.Block ss) = leave s (after_stmts (enter s) ss)
+  after_stmt s (tree.StmtTree.Declare ds) = after_declarators s ds
+  after_stmt s (tree.StmtTree.Change c) = s
+  after_stmt s (tree.StmtTree.Call f args) = s
+  after_stmt s (tree.If c a) = after_stmt s a
+  after_stmt s (tree.IfElse c a b) = after_stmt (after_stmt s a) b
+  after_stmt s (tree.While c a) = behind s (after_stmt (in_loop s) a)
+  after_stmt s (tree.For start test step a) = leave s (after_stmt (in_loop (after_start (enter s) start)) a)
+  after_stmt s (tree.Break m) = s
+  after_stmt s (tree.Continue m) = s
+  after_stmt s (tree.Return m e) = s
+  after_stmt s (tree.Task m cs a) = after_task s (after_stmt (with_items s (in_task s) 0 (parts cs)) a)
+  after_stmt s (tree.Tick m t arrow e) = s
+  after_stmt s (tree.Taskwait m) = s
+
+  pub after_stmts : Scope → tree.Stmts → Scope
+  after_stmts s tree.no_stmts = s
+  after_stmts s (tree.stmt a rest) = after_stmts (after_stmt s a) rest
+
+abbrev mutual
+  pub stmt_notes : Scope → tree.StmtTree → List Note
+  stmt_notes s tree.StmtTree.Empty = []
+  stmt_notes s (tree.Block ss) = stmts_notes (enter s) ss
+  stmt_notes s (tree.StmtTree.Declare ds) = declarators_notes s ds
+  stmt_notes s (tree.StmtTree.Change c) = change_notes s c
+  stmt_notes s (tree.StmtTree.Call f args) = use_notes s f (call_codes f.id (count_args args)) ++ args_notes s args
+  stmt_notes s (tree.If c a) = expr_notes s c ++ stmt_notes s a
+  stmt_notes s (tree.IfElse c a b) = expr_notes s c ++ stmt_notes s a ++ stmt_notes (after_stmt s a) b
+  stmt_notes s (tree.While c a) = expr_notes s c ++ stmt_notes (in_loop s) a
+  stmt_notes s (tree.For start test step a) =
+      let head = after_start (enter s) start in
+      start_notes (enter s) start ++ value_notes head test ++ step_notes head step ++ stmt_notes (in_loop head) a
+  -- 16: outside a loop of the same function or task
+  stmt_notes s (tree.Break m) = map (Fault m) (when (not s.loop) 16)
+  stmt_notes s (tree.Continue m) = map (Fault m) (when (not s.loop) 16)
+  stmt_notes s (tree.Return m e) = map (Fault m) (return_codes s.owner) ++ expr_notes s e
+  stmt_notes s (tree.Task m cs a) = task_notes s m (parts cs) (stmt_notes (with_items s (in_task s) 0 (parts cs)) a)
+  stmt_notes s (tree.Tick m t arrow e) =
+      map (Fault m) (pragma_codes s.owner) ++ place_notes s (stream_codes direction.Reads) t ++ expr_notes s e
+  stmt_notes s (tree.Taskwait m) = map (Fault m) (pragma_codes s.owner)
+
+  pub stmts_notes : Scope → tree.Stmts → List Note
+  stmts_notes s tree.no_stmts = []
+  stmts_notes s (tree.stmt a rest) = stmt_notes s a ++ stmts_notes (after_stmt s a) rest

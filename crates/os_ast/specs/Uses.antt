@@ -1,0 +1,112 @@
+-- What may be violated where a name is used, code by code.
+use Rattle.std.specs.Prelude.{ℕ, ◌==◌, Bool, true, false, not, List, [], ◌∷◌, ◌++◌, map, Option, Some, None}
+use Rattle.os_ast.specs.Meanings.{Note, Fault, Means, meaning}
+use Rattle.os_ast.specs.Names.{Scope, lookup, entity_of, main_id}
+use Rattle.os_ast.specs.declared.expr.Mark.{Mark}
+use Rattle.os_ast.specs.declared.expr.Name.{Name}
+use Rattle.os_ast.specs.declared.names.Owner.{Owner}
+use Rattle.os_ast.specs.declared.names.Shape.{Shape}
+use Rattle.os_ast.specs.declared.names.Shape.TheVariants as shape
+use Rattle.os_ast.specs.declared.names.Entity.{Entity}
+use Rattle.os_ast.specs.declared.names.Entity.TheVariants as entity
+use Rattle.os_ast.specs.declared.names.Direction.{Direction}
+use Rattle.os_ast.specs.declared.names.Direction.TheVariants as direction
+
+-- the code, where the rule is violated
+abbrev pub when : Bool → ℕ → List ℕ
+when true code = code ∷ []
+when false code = []
+
+-- 11: something that isn't an array stands with an index
+abbrev pub no_index : Shape → List ℕ
+no_index shape.Bare = []
+no_index shape.Indexed = 11 ∷ []
+
+-- 11: something that is an array stands without one
+abbrev pub one_index : Shape → List ℕ
+one_index shape.Bare = 11 ∷ []
+one_index shape.Indexed = []
+
+-- A name as a value. 11: a function that isn't called; a local array or view without index; a scalar, element,
+-- constant or single stream with one; a stream array without one. 19: a stream that is no clause item's or tick's.
+-- 24: a window.
+abbrev pub value_codes : Shape → Entity → List ℕ
+value_codes s (entity.Constant v) = no_index s
+value_codes s (entity.Function number params) = 11 ∷ []
+value_codes s (entity.Scalar slot) = no_index s
+value_codes s (entity.Control slot) = no_index s
+value_codes s entity.InputLength = no_index s
+value_codes s (entity.Array first size) = one_index s
+value_codes s (entity.Window slot) = 24 ∷ []
+value_codes s (entity.Stream number) = no_index s ++ 19 ∷ []
+value_codes s (entity.Streams first count) = one_index s ++ 19 ∷ []
+value_codes s (entity.Element item d) = no_index s
+value_codes s (entity.View item d) = one_index s
+
+-- 14: an element of an input item is changed
+abbrev pub only_read : Direction → List ℕ
+only_read direction.Reads = 14 ∷ []
+only_read direction.Writes = []
+
+-- A name as the target of a change. 14: an element or view of an input item, a constant, `osin_len`, or a stream.
+-- 11 and 24 as for a value.
+abbrev pub target_codes : Shape → Entity → List ℕ
+target_codes s (entity.Constant v) = no_index s ++ 14 ∷ []
+target_codes s (entity.Function number params) = 11 ∷ []
+target_codes s (entity.Scalar slot) = no_index s
+target_codes s (entity.Control slot) = no_index s
+target_codes s entity.InputLength = no_index s ++ 14 ∷ []
+target_codes s (entity.Array first size) = one_index s
+target_codes s (entity.Window slot) = 24 ∷ []
+target_codes s (entity.Stream number) = no_index s ++ 14 ∷ []
+target_codes s (entity.Streams first count) = one_index s ++ 14 ∷ []
+target_codes s (entity.Element item d) = no_index s ++ only_read d
+target_codes s (entity.View item d) = one_index s ++ only_read d
+
+-- 19 and 24 of a name where neither a stream nor a window may stand, beside 11
+abbrev pub misplaced : Entity → List ℕ
+misplaced (entity.Stream number) = 11 ∷ 19 ∷ []
+misplaced (entity.Streams first count) = 11 ∷ 19 ∷ []
+misplaced (entity.Window slot) = 11 ∷ 24 ∷ []
+misplaced _ = 11 ∷ []
+
+-- A called name, by its number and the count of arguments. 11: it is no function, or it is `main`. 13: the function
+-- has another number of parameters.
+abbrev pub call_codes : ℕ → ℕ → Entity → List ℕ
+call_codes id args (entity.Function number params) = when (id == main_id) 11 ++ when (not (args == params)) 13
+call_codes id args e = misplaced e
+
+-- what gives a stream its elements, or takes them: an input item or a tick, an output item
+-- 20: `osout`, which is stream 1, is read, or `osin`, which is stream 0, is written
+abbrev pub end_codes : Direction → ℕ → List ℕ
+end_codes direction.Reads number = when (number == 1) 20
+end_codes direction.Writes number = when (number == 0) 20
+
+-- The stream of an item or of a tick. 11: it is no stream, a single stream with index, or a stream array without.
+abbrev pub stream_codes : Direction → Shape → Entity → List ℕ
+stream_codes d s (entity.Stream number) = no_index s ++ end_codes d number
+stream_codes d s (entity.Streams first count) = one_index s
+stream_codes d s (entity.Window slot) = 11 ∷ 24 ∷ []
+stream_codes d s _ = 11 ∷ []
+
+-- What follows `>>` or `<<` in an item, with a burst or without. 11: it is neither a scalar of the control program,
+-- which has no burst, nor a window, which has one.
+abbrev pub item_codes : Shape → Entity → List ℕ
+item_codes s (entity.Control slot) = no_index s
+item_codes s (entity.Window slot) = one_index s
+item_codes s e = misplaced e
+
+-- A `firstprivate` name. 11: it is neither a scalar of the control program nor `osin_len`.
+abbrev pub private_codes : Entity → List ℕ
+private_codes (entity.Control slot) = []
+private_codes entity.InputLength = []
+private_codes e = misplaced e
+
+-- What is to be said of a name by what it is declared as. 10: no declaration is in scope.
+abbrev pub said : Owner → Mark → (Entity → List ℕ) → Option Entity → List Note
+said o m codes None = Fault m 10 ∷ []
+said o m codes (Some e) = map (Fault m) (codes e) ++ Means m (meaning o e) ∷ []
+
+-- the notes of a used name
+abbrev pub use_notes : Scope → Name → (Entity → List ℕ) → List Note
+use_notes s n codes = said s.owner n.mark codes (entity_of (lookup s.entries n.id))
