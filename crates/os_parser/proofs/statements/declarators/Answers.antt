@@ -1,0 +1,68 @@
+use Rattle.std.proofs.Common.{◌≡◌, ◌+◌, [], ◌∷◌, ◌++◌, length, true, false, refl, ap, ◌∙◌, arith}
+use Rattle.std.proofs.lemmas.Result.{err_from_is_err_and}
+use Rattle.std.proofs.lemmas.List.{length_push}
+use Rattle.os_ast.specs.Views.{declarator_tree}
+use Rattle.os_lexer.specs.declared.token.Kind.TheVariants as kind
+use Rattle.os_lexer.specs.declared.token.Punct.TheVariants as puncts
+use Rattle.os_parser.specs.Expressions.{below}
+use Rattle.os_parser.specs.Reading.{after, begins}
+use Rattle.os_parser.specs.Statements.{list_of, declarator}
+use Rattle.os_parser.proofs.Lists as lists
+use Rattle.os_parser.proofs.Refusals.{refuses-on}
+use Rattle.os_parser.proofs.Tokens.{begins-takes}
+use Rattle.os_parser.proofs.statements.declarators.Goals as goal
+
+pub returns-in_err-declarator-clause-gives : goal.returns-in_err-declarator-clause-gives
+unfolding list_of
+returns-in_err-declarator-clause-gives c =
+    let p = err_from_is_err_and c.from_residual.result c.from_residual.ensures.1 in
+    rw (p.1, p.2) (refuses-on c.in_err-declarator.field-0.0 c.declarator.new.cursor _ _ c.in_err-declarator.ensures.gives (λ e. rw e refl))
+
+pub loop-alloc-init : goal.loop-alloc-init
+loop-alloc-init c =
+    let pushed : c.push.new.self ≡ [] ++ c.in_ok-declarator.field-0 ∷ [] = cc (c.in_ok-push.ensures.ok, c.new-declarators.ensures) in
+    let one : length c.push.new.self ≡ 1 = ap length pushed in
+    record {
+      read = rw pushed (lists.list_of-start declarator_tree (declarator (below c.args.depth)) c.args.cursor.now c.declarator.new.cursor c.in_ok-declarator.field-0 c.in_ok-declarator.ensures.gives);
+      within = omega arith;
+      some = omega arith;
+      shorter = c.in_ok-declarator.ensures.within;
+    }
+
+pub returns-in_err-declarator-2-clause-gives : goal.returns-in_err-declarator-2-clause-gives
+returns-in_err-declarator-2-clause-gives c =
+    let p = err_from_is_err_and c.from_residual-in_err-declarator-2.result c.from_residual-in_err-declarator-2.ensures.1 in
+    let comma : begins (kind.Punct puncts.Comma) c.loop-alloc.cursor ≡ true = cc in
+    rw (p.1, p.2)
+    (refuses-on c.in_err-declarator-2.field-0.0 c.declarator-in-loop-alloc.new.cursor _ _ c.in_err-declarator-2.ensures.gives
+    (λ e. c.loop-alloc.invariant.read
+    ∙ lists.with_list-fails (length c.declarator.new.cursor + 2) declarator_tree c.loop-alloc.declarators (begins (kind.Punct puncts.Comma)) (λ ts. declarator (below c.args.depth) (after ts))
+    c.loop-alloc.cursor c.declarator-in-loop-alloc.new.cursor (omega arith) comma (rw (← c.advance.ensures) e)))
+
+pub loop-alloc-preserved : goal.loop-alloc-preserved
+loop-alloc-preserved c =
+    let comma : begins (kind.Punct puncts.Comma) c.loop-alloc.cursor ≡ true = cc in
+    let x = c.in_ok-declarator-2.field-0 in
+    let pushed : c.push-in-loop-alloc.new.self ≡ c.loop-alloc.declarators ++ x ∷ [] = c.in_ok-push-2.ensures.ok in
+    let longer : length c.push-in-loop-alloc.new.self ≡ length c.loop-alloc.declarators + 1 = ap length pushed ∙ length_push c.loop-alloc.declarators x in
+    record {
+      read = rw pushed (c.loop-alloc.invariant.read
+          ∙ lists.with_list-more (length c.declarator.new.cursor + 2) declarator_tree c.loop-alloc.declarators (begins (kind.Punct puncts.Comma)) (λ ts. declarator (below c.args.depth) (after ts))
+          c.loop-alloc.cursor c.declarator-in-loop-alloc.new.cursor x (omega arith) comma (rw (← c.advance.ensures) c.in_ok-declarator-2.ensures.gives));
+      within =
+          let past = begins-takes (kind.Punct puncts.Comma) c.loop-alloc.cursor comma in
+          let rest : length c.advance.new.self ≡ length (after c.loop-alloc.cursor) = ap length c.advance.ensures in
+          omega (arith, c.in_ok-declarator-2.ensures.within);
+      some = omega arith;
+      shorter = c.loop-alloc.invariant.shorter;
+    }
+
+pub returns-clause-gives : goal.returns-clause-gives
+returns-clause-gives c =
+    let none : begins (kind.Punct puncts.Comma) c.loop-alloc.cursor ≡ false = cc in
+    c.loop-alloc.invariant.read
+    ∙ lists.with_list-end (length c.declarator.new.cursor + 2) declarator_tree c.loop-alloc.declarators (begins (kind.Punct puncts.Comma)) (λ ts. declarator (below c.args.depth) (after ts))
+    c.loop-alloc.cursor (omega arith) none
+
+pub returns-clause-within : goal.returns-clause-within
+returns-clause-within c = omega (arith, c.loop-alloc.invariant.within, c.loop-alloc.invariant.shorter)

@@ -1,0 +1,264 @@
+//! Expressions, production by production.
+
+ghost use Rattle.std.specs.Prelude.{◌≡◌, ◌+◌, ◌-◌, ◌≤◌, ◌<◌, length, IfOk, IfErr};
+ghost use Rattle.os_ast.specs.Views.{expr_tree, target_tree, index_tree, args_tree, links_tree};
+ghost use Rattle.os_parser.specs.Expressions.{below, layer, chained, branches, operand, chains, linked, expr_on, named, target_of, index, args, some_args, paren, sign};
+ghost use Rattle.os_parser.specs.Reading.{Gives};
+ghost use Rattle.os_parser.specs.declared.parse_error.ParseError.TheVariants as errors;
+
+use crate::cursor::Cursor;
+use crate::depth::deeper;
+use crate::operators::{OperandStart, level_at, operator_at, start_at};
+use crate::parse_error::ParseError;
+use os_ast::{Binary, Call, Expr, Index, Link, Mark, Name, Target, Unary};
+use os_io::List;
+use os_lexer::{Kind, Punct};
+use std::alloc::Global;
+
+/// The rank of a unary, one above that of the chains that bind closest.
+const UNARY_RANK: u32 = 11;
+
+/// `or [ "?" expr ":" expr ]`
+#[cycle(expressions)]
+#[tactic(auto, unfolding(crate::specs::Expressions::expr_on))]
+pub(crate) fn expr(alloc: Global, cursor: &mut Cursor<'_>, depth: u32) -> Result<Expr, ParseError>
+    ensures gives { Gives expr_tree result cursor.new (expr_on (below depth) cursor.old) }
+    ensures within { length cursor.new ≤ length cursor.old }
+{
+    let condition = chain(alloc, cursor, 1, depth)?;
+    if !cursor.is_at(Kind::Punct(Punct::Question)) {
+        return Ok(condition);
+    }
+    branches(alloc, cursor, condition, depth)
+}
+
+/// The rest of a choice, from its `?` on.
+#[cycle(expressions)]
+#[tactic(auto, unfolding(crate::specs::Expressions::branches))]
+fn branches(
+    alloc: Global,
+    cursor: &mut Cursor<'_>,
+    condition: Expr,
+    depth: u32,
+) -> Result<Expr, ParseError>
+    ensures gives { Gives expr_tree result cursor.new (branches (below depth) (expr_tree condition) cursor.old) }
+    ensures within { length cursor.new ≤ length cursor.old }
+{
+    let depth = deeper(depth)?;
+    cursor.advance();
+    let first = expr(alloc, cursor, depth)?;
+    cursor.expect(Kind::Punct(Punct::Colon))?;
+    let second = expr(alloc, cursor, depth)?;
+    Ok(Expr::Choice(
+        Box::new(alloc, condition)?,
+        Box::new(alloc, first)?,
+        Box::new(alloc, second)?,
+    ))
+}
+
+/// The chains of a rank and of those above it.
+#[cycle(expressions)]
+#[tactic(auto, using(crate::proofs::Chaining::chaining))]
+fn chain(
+    alloc: Global,
+    cursor: &mut Cursor<'_>,
+    lowest: u32,
+    depth: u32,
+) -> Result<Expr, ParseError>
+    requires from { 1 ≤ lowest }
+    requires to { lowest ≤ 11 }
+    ensures gives { Gives expr_tree result cursor.new (chains (11 - lowest) (operand (below depth)) cursor.old) }
+    ensures within { length cursor.new ≤ length cursor.old }
+{
+    let mut first = operand(alloc, cursor, depth)?;
+    let mut rank = UNARY_RANK;
+    while lowest < rank {
+        rank -= 1;
+        first = linked(alloc, cursor, rank, first, depth)?;
+    }
+    Ok(first)
+}
+
+/// A chain of a rank, from its first operand on; or that operand, where no operator of the rank follows.
+#[cycle(expressions)]
+#[tactic(auto, using(crate::proofs::Chaining::chaining), unfolding(crate::specs::Expressions::linked))]
+fn linked(
+    alloc: Global,
+    cursor: &mut Cursor<'_>,
+    rank: u32,
+    first: Expr,
+    depth: u32,
+) -> Result<Expr, ParseError>
+    requires from { 1 ≤ rank }
+    requires to { rank ≤ 10 }
+    ensures gives { Gives expr_tree result cursor.new
+        (linked rank (chains (10 - rank) (operand (below depth))) (expr_tree first) cursor.old) }
+    ensures within { length cursor.new ≤ length cursor.old }
+{
+    let mut links = List::new(alloc);
+    while let Some(op) = operator_at(rank, cursor) {
+        let mark = cursor.mark();
+        cursor.advance();
+        let right = chain(alloc, cursor, rank + 1, depth)?;
+        links.push(Link { op, mark, right })?;
+    }
+    chained(alloc, rank, first, links)
+}
+
+/// A chain with these links, or its first operand where there are none.
+#[tactic(auto, using(crate::proofs::Trees::trees))]
+fn chained(alloc: Global, rank: u32, first: Expr, links: List<Link>) -> Result<Expr, ParseError>
+    ensures chain { IfOk result (λ e. expr_tree e ≡ chained rank (expr_tree first) (links_tree links)) }
+    ensures memory { IfErr result (λ e. e ≡ errors.Memory) }
+{
+    if links.len() == 0 {
+        return Ok(first);
+    }
+    Ok(Expr::Chain(level_at(rank), Box::new(alloc, first)?, links))
+}
+
+/// A unary, or what stands by itself.
+#[cycle(expressions)]
+#[tactic(auto, unfolding(crate::specs::Expressions::operand, crate::specs::Expressions::operand_by))]
+fn operand(alloc: Global, cursor: &mut Cursor<'_>, depth: u32) -> Result<Expr, ParseError>
+    ensures gives { Gives expr_tree result cursor.new (operand (below depth) cursor.old) }
+    ensures within { length cursor.new ≤ length cursor.old }
+{
+    match start_at(cursor) {
+        OperandStart::Number(number) => {
+            cursor.advance();
+            Ok(Expr::Number(number))
+        }
+        OperandStart::Name(id) => {
+            let mark = cursor.mark();
+            cursor.advance();
+            named(alloc, cursor, Name { id, mark }, depth)
+        }
+        OperandStart::Paren => paren(alloc, cursor, depth),
+        OperandStart::Sign(op) => sign(alloc, cursor, op, depth),
+        OperandStart::Other => Err(ParseError::Syntax),
+    }
+}
+
+/// An operator and its one operand.
+#[cycle(expressions)]
+#[tactic(auto, unfolding(crate::specs::Expressions::sign))]
+fn sign(alloc: Global, cursor: &mut Cursor<'_>, op: Unary, depth: u32) -> Result<Expr, ParseError>
+    ensures gives { Gives expr_tree result cursor.new (sign op (below depth) cursor.old) }
+    ensures within { length cursor.new ≤ length cursor.old }
+{
+    let depth = deeper(depth)?;
+    let mark = cursor.mark();
+    cursor.advance();
+    let right = operand(alloc, cursor, depth)?;
+    Ok(Expr::Unary(op, mark, Box::new(alloc, right)?))
+}
+
+/// `"(" expr ")"`
+#[cycle(expressions)]
+#[tactic(auto, unfolding(crate::specs::Expressions::paren))]
+fn paren(alloc: Global, cursor: &mut Cursor<'_>, depth: u32) -> Result<Expr, ParseError>
+    ensures gives { Gives expr_tree result cursor.new (paren (below depth) cursor.old) }
+    ensures within { length cursor.new ≤ length cursor.old }
+{
+    let depth = deeper(depth)?;
+    cursor.advance();
+    let inner = expr(alloc, cursor, depth)?;
+    cursor.expect(Kind::Punct(Punct::CloseParen))?;
+    Ok(Expr::Paren(Box::new(alloc, inner)?))
+}
+
+/// A call or a target, from what follows its name on.
+#[cycle(expressions)]
+#[tactic(auto, using(crate::proofs::Trees::trees), unfolding(crate::specs::Expressions::named))]
+pub(crate) fn named(
+    alloc: Global,
+    cursor: &mut Cursor<'_>,
+    name: Name,
+    depth: u32,
+) -> Result<Expr, ParseError>
+    ensures gives { Gives expr_tree result cursor.new (named (below depth) name cursor.old) }
+    ensures within { length cursor.new ≤ length cursor.old }
+{
+    if cursor.is_at(Kind::Punct(Punct::OpenParen)) {
+        let args = args(alloc, cursor, depth)?;
+        return Ok(Expr::Call(Call { name, args }));
+    }
+    let target = target(alloc, cursor, name, depth)?;
+    Ok(Expr::Place(target))
+}
+
+/// `name [ "[" expr "]" ]`, from what follows its name on.
+#[cycle(expressions)]
+#[tactic(auto, unfolding(crate::specs::Expressions::target_of))]
+pub(crate) fn target(
+    alloc: Global,
+    cursor: &mut Cursor<'_>,
+    name: Name,
+    depth: u32,
+) -> Result<Target, ParseError>
+    ensures gives { Gives target_tree result cursor.new (target_of (below depth) name cursor.old) }
+    ensures within { length cursor.new ≤ length cursor.old }
+{
+    if !cursor.is_at(Kind::Punct(Punct::OpenBracket)) {
+        return Ok(Target { name, index: None });
+    }
+    let index = index(alloc, cursor, depth)?;
+    Ok(Target {
+        name,
+        index: Some(Box::new(alloc, index)?),
+    })
+}
+
+/// `"[" expr "]"`
+#[cycle(expressions)]
+#[tactic(auto, unfolding(crate::specs::Expressions::index))]
+pub(crate) fn index(alloc: Global, cursor: &mut Cursor<'_>, depth: u32) -> Result<Index, ParseError>
+    ensures gives { Gives index_tree result cursor.new (index (below depth) cursor.old) }
+    ensures within { length cursor.new ≤ length cursor.old }
+{
+    let depth = deeper(depth)?;
+    let mark = cursor.mark();
+    cursor.advance();
+    let value = expr(alloc, cursor, depth)?;
+    cursor.expect(Kind::Punct(Punct::CloseBracket))?;
+    Ok(Index { mark, value })
+}
+
+/// `"(" [ expr { "," expr } ] ")"`
+#[cycle(expressions)]
+#[tactic(auto, unfolding(crate::specs::Expressions::args))]
+pub(crate) fn args(
+    alloc: Global,
+    cursor: &mut Cursor<'_>,
+    depth: u32,
+) -> Result<List<Expr>, ParseError>
+    ensures gives { Gives args_tree result cursor.new (args (below depth) cursor.old) }
+    ensures within { length cursor.new ≤ length cursor.old }
+{
+    cursor.advance();
+    if cursor.is_at(Kind::Punct(Punct::CloseParen)) {
+        cursor.advance();
+        return Ok(List::new(alloc));
+    }
+    let depth = deeper(depth)?;
+    let args = some_args(alloc, cursor, depth)?;
+    cursor.expect(Kind::Punct(Punct::CloseParen))?;
+    Ok(args)
+}
+
+/// `expr { "," expr }`
+#[cycle(expressions)]
+#[tactic(auto, using(crate::proofs::Chaining::listing), unfolding(crate::specs::Expressions::some_args))]
+fn some_args(alloc: Global, cursor: &mut Cursor<'_>, depth: u32) -> Result<List<Expr>, ParseError>
+    ensures gives { Gives args_tree result cursor.new (some_args (layer (below depth)) cursor.old) }
+    ensures within { length cursor.new ≤ length cursor.old }
+{
+    let mut args = List::new(alloc);
+    args.push(expr(alloc, cursor, depth)?)?;
+    while cursor.is_at(Kind::Punct(Punct::Comma)) {
+        cursor.advance();
+        args.push(expr(alloc, cursor, depth)?)?;
+    }
+    Ok(args)
+}

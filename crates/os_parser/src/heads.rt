@@ -1,0 +1,88 @@
+//! The heads of statements.
+
+ghost use Rattle.std.specs.Prelude.{◌≡◌, ◌+◌, ◌-◌, ◌≤◌, ◌<◌, length, map, option_map};
+ghost use Rattle.os_ast.specs.Views.{expr_tree, declarator_tree, change_tree, start_tree};
+ghost use Rattle.os_parser.specs.Expressions.{below, layer};
+ghost use Rattle.os_parser.specs.Reading.{Gives};
+ghost use Rattle.os_parser.specs.Statements.{condition, start, test, step, change, head_declare};
+
+use crate::cursor::Cursor;
+use crate::expressions::expr;
+use crate::parse_error::ParseError;
+use crate::statements::{change, head_declare};
+use os_ast::{Change, Expr, Start};
+use os_lexer::{Key, Kind, Punct};
+use std::alloc::Global;
+
+/// `"(" expr ")"`
+#[tactic(auto, unfolding(crate::specs::Statements::condition))]
+pub(crate) fn condition(
+    alloc: Global,
+    cursor: &mut Cursor<'_>,
+    depth: u32,
+) -> Result<Expr, ParseError>
+    ensures gives { Gives expr_tree result cursor.new (condition (layer (below depth)) cursor.old) }
+    ensures within { length cursor.new ≤ length cursor.old }
+{
+    cursor.expect(Kind::Punct(Punct::OpenParen))?;
+    let value = expr(alloc, cursor, depth)?;
+    cursor.expect(Kind::Punct(Punct::CloseParen))?;
+    Ok(value)
+}
+
+/// `declare1 | [ change ] ";"`
+#[tactic(auto, unfolding(crate::specs::Statements::start))]
+pub(crate) fn start(alloc: Global, cursor: &mut Cursor<'_>, depth: u32) -> Result<Start, ParseError>
+    ensures gives { Gives start_tree result cursor.new (start (below depth) cursor.old) }
+    ensures within { length cursor.new ≤ length cursor.old }
+{
+    if cursor.is_at(Kind::Punct(Punct::Semicolon)) {
+        cursor.advance();
+        return Ok(Start::Empty);
+    }
+    if cursor.is_at(Kind::Key(Key::Int)) {
+        let declarators = head_declare(alloc, cursor, depth)?;
+        return Ok(Start::Declare(declarators));
+    }
+    let change = change(alloc, cursor, depth)?;
+    cursor.expect(Kind::Punct(Punct::Semicolon))?;
+    Ok(Start::Change(change))
+}
+
+/// `[ expr ] ";"`
+#[tactic(auto, unfolding(crate::specs::Statements::test))]
+pub(crate) fn test(
+    alloc: Global,
+    cursor: &mut Cursor<'_>,
+    depth: u32,
+) -> Result<Option<Expr>, ParseError>
+    ensures gives { Gives (λ e. option_map expr_tree e) result cursor.new (test (layer (below depth)) cursor.old) }
+    ensures within { length cursor.new ≤ length cursor.old }
+{
+    if cursor.is_at(Kind::Punct(Punct::Semicolon)) {
+        cursor.advance();
+        return Ok(None);
+    }
+    let value = expr(alloc, cursor, depth)?;
+    cursor.expect(Kind::Punct(Punct::Semicolon))?;
+    Ok(Some(value))
+}
+
+/// `[ change ] ")"`
+#[tactic(auto, unfolding(crate::specs::Statements::step))]
+pub(crate) fn step(
+    alloc: Global,
+    cursor: &mut Cursor<'_>,
+    depth: u32,
+) -> Result<Option<Change>, ParseError>
+    ensures gives { Gives (λ c. option_map change_tree c) result cursor.new (step (below depth) cursor.old) }
+    ensures within { length cursor.new ≤ length cursor.old }
+{
+    if cursor.is_at(Kind::Punct(Punct::CloseParen)) {
+        cursor.advance();
+        return Ok(None);
+    }
+    let change = change(alloc, cursor, depth)?;
+    cursor.expect(Kind::Punct(Punct::CloseParen))?;
+    Ok(Some(change))
+}

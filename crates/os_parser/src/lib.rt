@@ -1,0 +1,32 @@
+//! Tokens to trees.
+//!
+//! `parse` reads the one program that a list of tokens means, and answers `Syntax` exactly where the tokens
+//! mean none. `one_reading` is the law that they mean at most one. `parse_expr` and `one_expression` say the
+//! same of an expression alone.
+//!
+//! The reader goes down the grammar with one function a production, over a `Cursor`, in time linear in the
+//! tokens. Chains are read by loops, and the depth that is left is carried along, so the stack is bounded.
+//! Each function's contract says that it gives, and leaves the cursor, as its definition in `specs/` says;
+//! the proofs show of these definitions that what they give is spelled by the tokens, and that what is
+//! spelled is given again.
+#![tactic(auto)]
+
+mod alone;
+mod cursor;
+mod depth;
+mod expressions;
+mod heads;
+mod operators;
+mod parse_error;
+mod pragmas;
+mod program;
+mod reading;
+mod starts;
+mod statements;
+mod stmt;
+#[cfg(test)]
+mod tests;
+
+pub use alone::{one_expression, parse_expr};
+pub use parse_error::ParseError;
+pub use reading::{one_reading, parse};

@@ -1,0 +1,252 @@
+//! The clauses of tasks, and ticks.
+
+ghost use Rattle.std.specs.Prelude.{◌≡◌, ◌+◌, ◌-◌, ◌≤◌, ◌<◌, length, map, option_map, OnOk};
+ghost use Rattle.os_ast.specs.Views.{expr_tree, target_tree, index_tree, join_tree, clause_item_tree, clause_kind_tree, clause_tree, stmt_tree};
+ghost use Rattle.os_parser.specs.Expressions.{below};
+ghost use Rattle.os_parser.specs.Reading.{Gives, Same, after};
+ghost use Rattle.os_parser.specs.Statements.{name, join, alone, clause_item, clause_kind, clause, clauses, first_clause, some_clauses, list_of, in_parens, tick, taskwait};
+
+use crate::cursor::Cursor;
+use crate::depth::deeper;
+use crate::expressions::expr;
+use crate::parse_error::ParseError;
+use crate::statements::{name, size, target};
+use os_ast::{Clause, ClauseItem, ClauseKind, Join, Mark, Name, Stmt, Target, TickSite};
+use os_io::List;
+use os_lexer::{Kind, Punct};
+use std::alloc::Global;
+
+/// The arrow of an item, and the window or the scalar behind it.
+#[tactic(auto, unfolding(crate::specs::Statements::join))]
+fn join(alloc: Global, cursor: &mut Cursor<'_>, depth: u32) -> Result<Join, ParseError>
+    ensures gives { Gives join_tree result cursor.new (join (below depth) cursor.old) }
+    ensures within { length cursor.new ≤ length cursor.old }
+{
+    let mark = cursor.mark();
+    cursor.advance();
+    let name = name(cursor)?;
+    let burst = size(alloc, cursor, depth)?;
+    Ok(Join { mark, name, burst })
+}
+
+/// An item that is a stream without a window.
+fn alone(cursor: &mut Cursor<'_>, stream: Target) -> Result<ClauseItem, ParseError>
+    ensures gives { Gives clause_item_tree result cursor.new (alone (target_tree stream) cursor.old) }
+    ensures within { length cursor.new ≤ length cursor.old }
+{
+    match stream.index {
+        Some(_) => Err(ParseError::Syntax),
+        None => Ok(ClauseItem {
+            stream: Target {
+                name: stream.name,
+                index: None,
+            },
+            window: None,
+        }),
+    }
+}
+
+/// `stream ">>" name [ "[" expr "]" ] | name`, or the same with `<<`.
+#[tactic(auto, unfolding(crate::specs::Statements::clause_item))]
+fn clause_item(
+    alloc: Global,
+    cursor: &mut Cursor<'_>,
+    arrow: Punct,
+    depth: u32,
+) -> Result<ClauseItem, ParseError>
+    ensures gives { Gives clause_item_tree result cursor.new (clause_item arrow (below depth) cursor.old) }
+    ensures within { length cursor.new ≤ length cursor.old }
+{
+    let stream = target(alloc, cursor, depth)?;
+    if !cursor.is_at(Kind::Punct(arrow)) {
+        return alone(cursor, stream);
+    }
+    let window = join(alloc, cursor, depth)?;
+    Ok(ClauseItem {
+        stream,
+        window: Some(window),
+    })
+}
+
+/// Items with commas between them.
+fn clause_items(
+    alloc: Global,
+    cursor: &mut Cursor<'_>,
+    arrow: Punct,
+    depth: u32,
+) -> Result<List<ClauseItem>, ParseError>
+    ensures gives { Gives (map clause_item_tree) result cursor.new (list_of (clause_item arrow (below depth)) cursor.old) }
+    ensures within { length cursor.new ≤ length cursor.old }
+{
+    let mut items = List::new(alloc);
+    items.push(clause_item(alloc, cursor, arrow, depth)?)?;
+    while cursor.is_at(Kind::Punct(Punct::Comma)) {
+        cursor.advance();
+        items.push(clause_item(alloc, cursor, arrow, depth)?)?;
+    }
+    Ok(items)
+}
+
+/// Names with commas between them.
+fn names(alloc: Global, cursor: &mut Cursor<'_>) -> Result<List<Name>, ParseError>
+    ensures gives { Gives (map Same) result cursor.new (list_of name cursor.old) }
+    ensures within { length cursor.new ≤ length cursor.old }
+{
+    let mut names = List::new(alloc);
+    names.push(name(cursor)?)?;
+    while cursor.is_at(Kind::Punct(Punct::Comma)) {
+        cursor.advance();
+        names.push(name(cursor)?)?;
+    }
+    Ok(names)
+}
+
+/// Items in parentheses.
+#[tactic(auto, unfolding(crate::specs::Statements::in_parens))]
+fn items_in_parens(
+    alloc: Global,
+    cursor: &mut Cursor<'_>,
+    arrow: Punct,
+    depth: u32,
+) -> Result<List<ClauseItem>, ParseError>
+    ensures gives { Gives (map clause_item_tree) result cursor.new (in_parens (clause_item arrow (below depth)) cursor.old) }
+    ensures within { length cursor.new ≤ length cursor.old }
+{
+    cursor.expect(Kind::Punct(Punct::OpenParen))?;
+    let items = clause_items(alloc, cursor, arrow, depth)?;
+    cursor.expect(Kind::Punct(Punct::CloseParen))?;
+    Ok(items)
+}
+
+/// Names in parentheses.
+#[tactic(auto, unfolding(crate::specs::Statements::in_parens))]
+fn names_in_parens(alloc: Global, cursor: &mut Cursor<'_>) -> Result<List<Name>, ParseError>
+    ensures gives { Gives (map Same) result cursor.new (in_parens name cursor.old) }
+    ensures within { length cursor.new ≤ length cursor.old }
+{
+    cursor.expect(Kind::Punct(Punct::OpenParen))?;
+    let names = names(alloc, cursor)?;
+    cursor.expect(Kind::Punct(Punct::CloseParen))?;
+    Ok(names)
+}
+
+/// What a clause lists, from its word on.
+#[tactic(auto, using(crate::proofs::Lists::same), unfolding(crate::specs::Statements::clause_kind))]
+fn clause_kind(alloc: Global, cursor: &mut Cursor<'_>, depth: u32) -> Result<ClauseKind, ParseError>
+    ensures gives { Gives clause_kind_tree result cursor.new (clause_kind (below depth) cursor.old) }
+    ensures within { length cursor.new ≤ length cursor.old }
+    ensures taken { OnOk result (length cursor.new ≤ length (after cursor.old)) }
+{
+    if cursor.is_at(Kind::Name(4)) {
+        cursor.advance();
+        let items = items_in_parens(alloc, cursor, Punct::ShiftRight, depth)?;
+        return Ok(ClauseKind::Input(items));
+    }
+    if cursor.is_at(Kind::Name(5)) {
+        cursor.advance();
+        let items = items_in_parens(alloc, cursor, Punct::ShiftLeft, depth)?;
+        return Ok(ClauseKind::Output(items));
+    }
+    if cursor.is_at(Kind::Name(6)) {
+        cursor.advance();
+        let names = names_in_parens(alloc, cursor)?;
+        return Ok(ClauseKind::Firstprivate(names));
+    }
+    Err(ParseError::Syntax)
+}
+
+/// The first clause of a task, before which no comma stands.
+#[tactic(auto, unfolding(crate::specs::Statements::first_clause))]
+fn first_clause(alloc: Global, cursor: &mut Cursor<'_>, depth: u32) -> Result<Clause, ParseError>
+    ensures gives { Gives clause_tree result cursor.new (first_clause (below depth) cursor.old) }
+    ensures within { length cursor.new ≤ length cursor.old }
+{
+    let kind = clause_kind(alloc, cursor, depth)?;
+    Ok(Clause { comma: false, kind })
+}
+
+/// `[ "," ] clause`
+#[tactic(auto, using(crate::proofs::Tokens::lengths), unfolding(crate::specs::Statements::clause))]
+fn clause(alloc: Global, cursor: &mut Cursor<'_>, depth: u32) -> Result<Clause, ParseError>
+    ensures gives { Gives clause_tree result cursor.new (clause (below depth) cursor.old) }
+    ensures within { length cursor.new ≤ length cursor.old }
+    ensures taken { OnOk result (length cursor.new ≤ length (after cursor.old)) }
+{
+    if cursor.is_at(Kind::Punct(Punct::Comma)) {
+        cursor.advance();
+        let kind = clause_kind(alloc, cursor, depth)?;
+        return Ok(Clause { comma: true, kind });
+    }
+    let kind = clause_kind(alloc, cursor, depth)?;
+    Ok(Clause { comma: false, kind })
+}
+
+/// The clauses of a task that has some.
+fn some_clauses(
+    alloc: Global,
+    cursor: &mut Cursor<'_>,
+    depth: u32,
+) -> Result<List<Clause>, ParseError>
+    ensures gives { Gives (map clause_tree) result cursor.new (some_clauses (below depth) cursor.old) }
+    ensures within { length cursor.new ≤ length cursor.old }
+{
+    let mut clauses = List::new(alloc);
+    clauses.push(first_clause(alloc, cursor, depth)?)?;
+    while !cursor.is_at(Kind::PragmaEnd) {
+        clauses.push(clause(alloc, cursor, depth)?)?;
+    }
+    Ok(clauses)
+}
+
+/// The clauses of a task, to the end of its line.
+#[tactic(auto, unfolding(crate::specs::Statements::clauses))]
+pub(crate) fn clauses(
+    alloc: Global,
+    cursor: &mut Cursor<'_>,
+    depth: u32,
+) -> Result<List<Clause>, ParseError>
+    ensures gives { Gives (map clause_tree) result cursor.new (clauses (below depth) cursor.old) }
+    ensures within { length cursor.new ≤ length cursor.old }
+{
+    if cursor.is_at(Kind::PragmaEnd) {
+        return Ok(List::new(alloc));
+    }
+    some_clauses(alloc, cursor, depth)
+}
+
+/// A tick, from what follows its word.
+#[tactic(auto, unfolding(crate::specs::Statements::tick))]
+pub(crate) fn tick(
+    alloc: Global,
+    cursor: &mut Cursor<'_>,
+    mark: Mark,
+    depth: u32,
+) -> Result<Stmt, ParseError>
+    ensures gives { Gives stmt_tree result cursor.new (tick mark (below depth) cursor.old) }
+    ensures within { length cursor.new ≤ length cursor.old }
+{
+    let deeper_by_one = deeper(depth)?;
+    cursor.expect(Kind::Punct(Punct::OpenParen))?;
+    let stream = target(alloc, cursor, depth)?;
+    let arrow = cursor.expect(Kind::Punct(Punct::ShiftRight))?;
+    let amount = expr(alloc, cursor, deeper_by_one)?;
+    cursor.expect(Kind::Punct(Punct::CloseParen))?;
+    cursor.expect(Kind::PragmaEnd)?;
+    let site = TickSite {
+        mark,
+        stream,
+        arrow,
+        amount,
+    };
+    Ok(Stmt::Tick(Box::new(alloc, site)?))
+}
+
+/// A taskwait, from what follows its word.
+#[tactic(auto, unfolding(crate::specs::Statements::taskwait))]
+pub(crate) fn taskwait(cursor: &mut Cursor<'_>, mark: Mark) -> Result<Stmt, ParseError>
+    ensures gives { Gives stmt_tree result cursor.new (taskwait mark cursor.old) }
+    ensures within { length cursor.new ≤ length cursor.old }
+{
+    cursor.expect(Kind::PragmaEnd)?;
+    Ok(Stmt::Taskwait(mark))
+}

@@ -1,0 +1,157 @@
+//! Programs, functions and constants.
+
+ghost use Rattle.std.specs.Prelude.{◌≡◌, ◌+◌, ◌-◌, ◌≤◌, ◌<◌, length, map, OnOk};
+ghost use Rattle.os_ast.specs.Views.{stmts_tree, item_tree};
+ghost use Rattle.os_parser.specs.Reading.{Gives, Same, got, after};
+ghost use Rattle.os_parser.specs.Statements.{inner, param, params, list_of, function, number, minus, constant, item, is_more, program};
+
+use crate::cursor::Cursor;
+use crate::parse_error::ParseError;
+use crate::starts::number_at;
+use crate::statements::name;
+use crate::stmt::block;
+use os_ast::{Constant, Function, Item, Name, Params};
+use os_io::List;
+use os_lexer::{Key, Kind, Punct};
+use std::alloc::Global;
+
+/// `"int" name`
+#[tactic(auto, unfolding(crate::specs::Statements::param))]
+fn param(cursor: &mut Cursor<'_>) -> Result<Name, ParseError>
+    ensures gives { Gives Same result cursor.new (param cursor.old) }
+    ensures within { length cursor.new ≤ length cursor.old }
+{
+    cursor.expect(Kind::Key(Key::Int))?;
+    name(cursor)
+}
+
+/// Parameters with commas between them.
+fn param_list(alloc: Global, cursor: &mut Cursor<'_>) -> Result<List<Name>, ParseError>
+    ensures gives { Gives (map Same) result cursor.new (list_of param cursor.old) }
+    ensures within { length cursor.new ≤ length cursor.old }
+{
+    let mut names = List::new(alloc);
+    names.push(param(cursor)?)?;
+    while cursor.is_at(Kind::Punct(Punct::Comma)) {
+        cursor.advance();
+        names.push(param(cursor)?)?;
+    }
+    Ok(names)
+}
+
+/// `[ params ]`
+#[tactic(auto, using(crate::proofs::Lists::same), unfolding(crate::specs::Statements::params))]
+fn params(alloc: Global, cursor: &mut Cursor<'_>) -> Result<Params, ParseError>
+    ensures gives { Gives Same result cursor.new (params cursor.old) }
+    ensures within { length cursor.new ≤ length cursor.old }
+{
+    if cursor.is_at(Kind::Punct(Punct::CloseParen)) {
+        return Ok(Params::Empty);
+    }
+    if cursor.is_at(Kind::Key(Key::Void)) {
+        cursor.advance();
+        return Ok(Params::Void);
+    }
+    let names = param_list(alloc, cursor)?;
+    Ok(Params::Names(names))
+}
+
+/// `"int" name "(" [ params ] ")" block`, from its `int` on.
+#[tactic(auto, unfolding(crate::specs::Statements::function))]
+fn function(alloc: Global, cursor: &mut Cursor<'_>, depth: u32) -> Result<Item, ParseError>
+    ensures gives { Gives item_tree result cursor.new (function (inner depth) cursor.old) }
+    ensures within { length cursor.new ≤ length cursor.old }
+    ensures taken { OnOk result (length cursor.new ≤ length (after cursor.old)) }
+{
+    cursor.advance();
+    let name = name(cursor)?;
+    cursor.expect(Kind::Punct(Punct::OpenParen))?;
+    let params = params(alloc, cursor)?;
+    cursor.expect(Kind::Punct(Punct::CloseParen))?;
+    cursor.expect(Kind::Punct(Punct::OpenBrace))?;
+    let body = block(alloc, cursor, depth)?;
+    Ok(Item::Function(Function { name, params, body }))
+}
+
+/// A number below 2^31.
+#[tactic(auto, unfolding(crate::specs::Statements::number))]
+fn number(cursor: &mut Cursor<'_>) -> Result<u32, ParseError>
+    ensures gives { Gives Same result cursor.new (number cursor.old) }
+    ensures within { length cursor.new ≤ length cursor.old }
+{
+    match number_at(cursor) {
+        Some(number) => {
+            cursor.advance();
+            Ok(number)
+        }
+        None => Err(ParseError::Syntax),
+    }
+}
+
+/// `[ "-" ]`, and whether it is there.
+#[tactic(auto, using(crate::proofs::Tokens::lengths), unfolding(crate::specs::Statements::minus))]
+fn minus(cursor: &mut Cursor<'_>) -> bool
+    ensures gives { minus cursor.old ≡ got result cursor.new }
+    ensures within { length cursor.new ≤ length cursor.old }
+{
+    if !cursor.is_at(Kind::Punct(Punct::Minus)) {
+        return false;
+    }
+    cursor.advance();
+    true
+}
+
+/// `"const" "int" name "=" [ "-" ] number ";"`, from its `const` on.
+#[tactic(auto, unfolding(crate::specs::Statements::constant))]
+fn constant(cursor: &mut Cursor<'_>) -> Result<Item, ParseError>
+    ensures gives { Gives item_tree result cursor.new (constant cursor.old) }
+    ensures within { length cursor.new ≤ length cursor.old }
+    ensures taken { OnOk result (length cursor.new ≤ length (after cursor.old)) }
+{
+    cursor.advance();
+    cursor.expect(Kind::Key(Key::Int))?;
+    let name = name(cursor)?;
+    cursor.expect(Kind::Punct(Punct::Set))?;
+    let minus = minus(cursor);
+    let size = number(cursor)?;
+    cursor.expect(Kind::Punct(Punct::Semicolon))?;
+    Ok(Item::Constant(Constant { name, minus, size }))
+}
+
+/// `constant | function`
+#[tactic(auto, unfolding(crate::specs::Statements::item))]
+fn item(alloc: Global, cursor: &mut Cursor<'_>, depth: u32) -> Result<Item, ParseError>
+    ensures gives { Gives item_tree result cursor.new (item (inner depth) cursor.old) }
+    ensures within { length cursor.new ≤ length cursor.old }
+    ensures taken { OnOk result (length cursor.new ≤ length (after cursor.old)) }
+{
+    if cursor.is_at(Kind::Key(Key::Const)) {
+        return constant(cursor);
+    }
+    if cursor.is_at(Kind::Key(Key::Int)) {
+        return function(alloc, cursor, depth);
+    }
+    Err(ParseError::Syntax)
+}
+
+/// Whether tokens are left.
+fn is_more(cursor: &Cursor<'_>) -> bool
+    ensures { result ≡ is_more cursor.now }
+{
+    cursor.kind().is_some()
+}
+
+/// `{ constant | function }`, to the last token.
+pub(crate) fn program(
+    alloc: Global,
+    cursor: &mut Cursor<'_>,
+    depth: u32,
+) -> Result<List<Item>, ParseError>
+    ensures gives { Gives (map item_tree) result cursor.new (program (inner depth) cursor.old) }
+{
+    let mut items = List::new(alloc);
+    while is_more(cursor) {
+        items.push(item(alloc, cursor, depth)?)?;
+    }
+    Ok(items)
+}

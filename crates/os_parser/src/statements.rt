@@ -1,0 +1,358 @@
+//! The parts of statements, production by production.
+
+ghost use Rattle.std.specs.Prelude.{◌≡◌, ◌+◌, ◌-◌, ◌≤◌, ◌<◌, length, map, option_map, IfOk, IfErr, OnOk};
+ghost use Rattle.os_ast.specs.Trees as tree;
+ghost use Rattle.os_ast.specs.Views.{expr_tree, target_tree, index_tree, declarator_tree, change_tree, start_tree, stmt_tree};
+ghost use Rattle.os_parser.specs.Expressions.{below};
+ghost use Rattle.os_parser.specs.Reading.{Gives, Same, after};
+ghost use Rattle.os_parser.specs.Statements.{name, target, size, value, attribute, scalar, declarator, head_declarator, declare, head_declare, list_of, change_of, change_by, before, change, ended, named_stmt, return_stmt};
+
+use crate::cursor::Cursor;
+use crate::depth::deeper;
+use crate::expressions::{self, expr, index, named};
+use crate::parse_error::ParseError;
+use crate::starts::{ChangeSign, StmtStart, change_at, name_at, stmt_at};
+use os_ast::{Assign, Call, Change, Declarator, Expr, Index, Mark, Name, Step, Stmt, Target};
+use os_io::List;
+use os_lexer::{Key, Kind, Punct};
+use std::alloc::Global;
+
+/// A name.
+#[tactic(auto, unfolding(crate::specs::Statements::name))]
+pub(crate) fn name(cursor: &mut Cursor<'_>) -> Result<Name, ParseError>
+    ensures gives { Gives Same result cursor.new (name cursor.old) }
+    ensures within { length cursor.new ≤ length cursor.old }
+{
+    match name_at(cursor) {
+        Some(id) => {
+            let mark = cursor.mark();
+            cursor.advance();
+            Ok(Name { id, mark })
+        }
+        None => Err(ParseError::Syntax),
+    }
+}
+
+/// `name [ "[" expr "]" ]`
+#[tactic(auto, unfolding(crate::specs::Statements::target))]
+pub(crate) fn target(
+    alloc: Global,
+    cursor: &mut Cursor<'_>,
+    depth: u32,
+) -> Result<Target, ParseError>
+    ensures gives { Gives target_tree result cursor.new (target (below depth) cursor.old) }
+    ensures within { length cursor.new ≤ length cursor.old }
+{
+    let name = name(cursor)?;
+    expressions::target(alloc, cursor, name, depth)
+}
+
+/// `[ "[" expr "]" ]`
+#[tactic(auto, unfolding(crate::specs::Statements::size))]
+pub(crate) fn size(
+    alloc: Global,
+    cursor: &mut Cursor<'_>,
+    depth: u32,
+) -> Result<Option<Index>, ParseError>
+    ensures gives { Gives (λ i. option_map index_tree i) result cursor.new (size (below depth) cursor.old) }
+    ensures within { length cursor.new ≤ length cursor.old }
+{
+    if !cursor.is_at(Kind::Punct(Punct::OpenBracket)) {
+        return Ok(None);
+    }
+    let index = index(alloc, cursor, depth)?;
+    Ok(Some(index))
+}
+
+/// `[ "=" expr ]`
+#[tactic(auto, unfolding(crate::specs::Statements::value))]
+fn value(alloc: Global, cursor: &mut Cursor<'_>, depth: u32) -> Result<Option<Expr>, ParseError>
+    ensures gives { Gives (λ e. option_map expr_tree e) result cursor.new (value (below depth) cursor.old) }
+    ensures within { length cursor.new ≤ length cursor.old }
+{
+    if !cursor.is_at(Kind::Punct(Punct::Set)) {
+        return Ok(None);
+    }
+    let depth = deeper(depth)?;
+    cursor.advance();
+    let value = expr(alloc, cursor, depth)?;
+    Ok(Some(value))
+}
+
+/// `[ "__attribute__" "(" "(" "stream" ")" ")" ]`, and whether it is there.
+#[tactic(auto, unfolding(crate::specs::Statements::attribute))]
+fn attribute(cursor: &mut Cursor<'_>) -> Result<bool, ParseError>
+    ensures gives { Gives Same result cursor.new (attribute cursor.old) }
+    ensures within { length cursor.new ≤ length cursor.old }
+{
+    if !cursor.is_at(Kind::Key(Key::Attribute)) {
+        return Ok(false);
+    }
+    cursor.advance();
+    cursor.expect(Kind::Punct(Punct::OpenParen))?;
+    cursor.expect(Kind::Punct(Punct::OpenParen))?;
+    cursor.expect(Kind::Name(7))?;
+    cursor.expect(Kind::Punct(Punct::CloseParen))?;
+    cursor.expect(Kind::Punct(Punct::CloseParen))?;
+    Ok(true)
+}
+
+/// `declr`
+#[tactic(auto, unfolding(crate::specs::Statements::declarator))]
+fn declarator(alloc: Global, cursor: &mut Cursor<'_>, depth: u32) -> Result<Declarator, ParseError>
+    ensures gives { Gives declarator_tree result cursor.new (declarator (below depth) cursor.old) }
+    ensures within { length cursor.new ≤ length cursor.old }
+{
+    let name = name(cursor)?;
+    let size = size(alloc, cursor, depth)?;
+    let stream = attribute(cursor)?;
+    match size {
+        Some(size) => Ok(Declarator {
+            name,
+            size: Some(size),
+            stream,
+            first: None,
+        }),
+        None => scalar(alloc, cursor, name, stream, depth),
+    }
+}
+
+/// A declarator without a size, from what follows the attribute.
+fn scalar(
+    alloc: Global,
+    cursor: &mut Cursor<'_>,
+    name: Name,
+    stream: bool,
+    depth: u32,
+) -> Result<Declarator, ParseError>
+    ensures gives { Gives declarator_tree result cursor.new (scalar (below depth) name stream cursor.old) }
+    ensures within { length cursor.new ≤ length cursor.old }
+{
+    if stream {
+        return Ok(Declarator {
+            name,
+            size: None,
+            stream: true,
+            first: None,
+        });
+    }
+    let first = value(alloc, cursor, depth)?;
+    Ok(Declarator {
+        name,
+        size: None,
+        stream: false,
+        first,
+    })
+}
+
+/// `name [ "=" expr ]`
+#[tactic(auto, unfolding(crate::specs::Statements::head_declarator))]
+fn head_declarator(
+    alloc: Global,
+    cursor: &mut Cursor<'_>,
+    depth: u32,
+) -> Result<Declarator, ParseError>
+    ensures gives { Gives declarator_tree result cursor.new (head_declarator (below depth) cursor.old) }
+    ensures within { length cursor.new ≤ length cursor.old }
+{
+    let name = name(cursor)?;
+    scalar(alloc, cursor, name, false, depth)
+}
+
+/// What a target is changed by, from what follows it.
+#[tactic(auto, unfolding(crate::specs::Statements::change_of))]
+fn change_of(
+    alloc: Global,
+    cursor: &mut Cursor<'_>,
+    target: Target,
+    depth: u32,
+) -> Result<Change, ParseError>
+    ensures gives { Gives change_tree result cursor.new (change_of (below depth) (target_tree target) cursor.old) }
+    ensures within { length cursor.new ≤ length cursor.old }
+{
+    match change_at(cursor) {
+        ChangeSign::Assign(assign) => {
+            let depth = deeper(depth)?;
+            let mark = cursor.mark();
+            cursor.advance();
+            let value = expr(alloc, cursor, depth)?;
+            Ok(Change::Set(target, assign, mark, value))
+        }
+        ChangeSign::Step(step) => {
+            let mark = cursor.mark();
+            cursor.advance();
+            Ok(Change::After(target, step, mark))
+        }
+        ChangeSign::Other => Err(ParseError::Syntax),
+    }
+}
+
+/// `( "++" | "--" ) target`
+#[tactic(auto, unfolding(crate::specs::Statements::before))]
+pub(crate) fn before(
+    alloc: Global,
+    cursor: &mut Cursor<'_>,
+    step: Step,
+    depth: u32,
+) -> Result<Change, ParseError>
+    ensures gives { Gives change_tree result cursor.new (before step (below depth) cursor.old) }
+    ensures within { length cursor.new ≤ length cursor.old }
+    ensures taken { OnOk result (length cursor.new ≤ length (after cursor.old)) }
+{
+    let mark = cursor.mark();
+    cursor.advance();
+    let target = target(alloc, cursor, depth)?;
+    Ok(Change::Before(target, step, mark))
+}
+
+/// `"int" declr { "," declr } ";"`, from the `int` on.
+#[tactic(auto, unfolding(crate::specs::Statements::declare))]
+pub(crate) fn declare(
+    alloc: Global,
+    cursor: &mut Cursor<'_>,
+    depth: u32,
+) -> Result<List<Declarator>, ParseError>
+    ensures gives { Gives (map declarator_tree) result cursor.new (declare (below depth) cursor.old) }
+    ensures within { length cursor.new ≤ length cursor.old }
+    ensures taken { OnOk result (length cursor.new ≤ length (after cursor.old)) }
+{
+    cursor.advance();
+    let declarators = declarators(alloc, cursor, depth)?;
+    cursor.expect(Kind::Punct(Punct::Semicolon))?;
+    Ok(declarators)
+}
+
+/// `declr { "," declr }`
+fn declarators(
+    alloc: Global,
+    cursor: &mut Cursor<'_>,
+    depth: u32,
+) -> Result<List<Declarator>, ParseError>
+    ensures gives { Gives (map declarator_tree) result cursor.new (list_of (declarator (below depth)) cursor.old) }
+    ensures within { length cursor.new ≤ length cursor.old }
+{
+    let mut declarators = List::new(alloc);
+    declarators.push(declarator(alloc, cursor, depth)?)?;
+    while cursor.is_at(Kind::Punct(Punct::Comma)) {
+        cursor.advance();
+        declarators.push(declarator(alloc, cursor, depth)?)?;
+    }
+    Ok(declarators)
+}
+
+/// `"int" name [ "=" expr ] { "," name [ "=" expr ] } ";"`, from the `int` on.
+#[tactic(auto, unfolding(crate::specs::Statements::head_declare))]
+pub(crate) fn head_declare(
+    alloc: Global,
+    cursor: &mut Cursor<'_>,
+    depth: u32,
+) -> Result<List<Declarator>, ParseError>
+    ensures gives { Gives (map declarator_tree) result cursor.new (head_declare (below depth) cursor.old) }
+    ensures within { length cursor.new ≤ length cursor.old }
+{
+    cursor.advance();
+    let declarators = head_declarators(alloc, cursor, depth)?;
+    cursor.expect(Kind::Punct(Punct::Semicolon))?;
+    Ok(declarators)
+}
+
+/// `name [ "=" expr ] { "," name [ "=" expr ] }`
+fn head_declarators(
+    alloc: Global,
+    cursor: &mut Cursor<'_>,
+    depth: u32,
+) -> Result<List<Declarator>, ParseError>
+    ensures gives { Gives (map declarator_tree) result cursor.new (list_of (head_declarator (below depth)) cursor.old) }
+    ensures within { length cursor.new ≤ length cursor.old }
+{
+    let mut declarators = List::new(alloc);
+    declarators.push(head_declarator(alloc, cursor, depth)?)?;
+    while cursor.is_at(Kind::Punct(Punct::Comma)) {
+        cursor.advance();
+        declarators.push(head_declarator(alloc, cursor, depth)?)?;
+    }
+    Ok(declarators)
+}
+
+/// `change`
+#[tactic(auto, unfolding(crate::specs::Statements::change))]
+pub(crate) fn change(
+    alloc: Global,
+    cursor: &mut Cursor<'_>,
+    depth: u32,
+) -> Result<Change, ParseError>
+    ensures gives { Gives change_tree result cursor.new (change (below depth) cursor.old) }
+    ensures within { length cursor.new ≤ length cursor.old }
+{
+    match stmt_at(cursor) {
+        StmtStart::Name(_) => {
+            let target = target(alloc, cursor, depth)?;
+            change_of(alloc, cursor, target, depth)
+        }
+        StmtStart::Step(step) => before(alloc, cursor, step, depth),
+        StmtStart::Semicolon
+        | StmtStart::Brace
+        | StmtStart::If
+        | StmtStart::While
+        | StmtStart::For
+        | StmtStart::Break
+        | StmtStart::Continue
+        | StmtStart::Return
+        | StmtStart::Pragma
+        | StmtStart::Other => Err(ParseError::Syntax),
+    }
+}
+
+/// A change and the semicolon behind it, from what follows its target.
+fn changed(
+    alloc: Global,
+    cursor: &mut Cursor<'_>,
+    target: Target,
+    depth: u32,
+) -> Result<Stmt, ParseError>
+    ensures gives { Gives stmt_tree result cursor.new (ended (change_of (below depth) (target_tree target) cursor.old) tree.StmtTree.Change) }
+    ensures within { length cursor.new ≤ length cursor.old }
+{
+    let change = change_of(alloc, cursor, target, depth)?;
+    cursor.expect(Kind::Punct(Punct::Semicolon))?;
+    Ok(Stmt::Change(change))
+}
+
+/// A statement that begins with a name, from what follows it.
+#[tactic(auto, using(crate::proofs::Trees::trees), unfolding(crate::specs::Statements::named_stmt))]
+pub(crate) fn named_stmt(
+    alloc: Global,
+    cursor: &mut Cursor<'_>,
+    name: Name,
+    depth: u32,
+) -> Result<Stmt, ParseError>
+    ensures gives { Gives stmt_tree result cursor.new (named_stmt (below depth) name cursor.old) }
+    ensures within { length cursor.new ≤ length cursor.old }
+{
+    if cursor.is_at(Kind::Punct(Punct::OpenParen)) {
+        let args = expressions::args(alloc, cursor, depth)?;
+        cursor.expect(Kind::Punct(Punct::Semicolon))?;
+        return Ok(Stmt::Call(Call { name, args }));
+    }
+    let target = expressions::target(alloc, cursor, name, depth)?;
+    changed(alloc, cursor, target, depth)
+}
+
+/// `"return" expr ";"`
+#[tactic(auto, unfolding(crate::specs::Statements::return_stmt))]
+pub(crate) fn return_stmt(
+    alloc: Global,
+    cursor: &mut Cursor<'_>,
+    depth: u32,
+) -> Result<Stmt, ParseError>
+    ensures gives { Gives stmt_tree result cursor.new (return_stmt (below depth) cursor.old) }
+    ensures within { length cursor.new ≤ length cursor.old }
+    ensures taken { OnOk result (length cursor.new ≤ length (after cursor.old)) }
+{
+    let depth = deeper(depth)?;
+    let mark = cursor.mark();
+    cursor.advance();
+    let value = expr(alloc, cursor, depth)?;
+    cursor.expect(Kind::Punct(Punct::Semicolon))?;
+    Ok(Stmt::Return(mark, value))
+}

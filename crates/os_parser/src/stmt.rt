@@ -1,0 +1,203 @@
+//! Statements and blocks.
+
+ghost use Rattle.std.specs.Prelude.{◌≡◌, ◌+◌, ◌-◌, ◌≤◌, ◌<◌, length, map, OnOk};
+ghost use Rattle.os_ast.specs.Views.{stmt_tree, stmts_tree, clause_tree};
+ghost use Rattle.os_parser.specs.Expressions.{below};
+ghost use Rattle.os_parser.specs.Reading.{Gives, after};
+ghost use Rattle.os_parser.specs.Statements.{inner, inner_item, stmt_on, stmts, block, block_item, if_stmt, while_stmt, for_stmt, task, pragma};
+
+use crate::cursor::Cursor;
+use crate::depth::deeper;
+use crate::heads::{condition, start, step, test};
+use crate::parse_error::ParseError;
+use crate::pragmas::{clauses, taskwait, tick};
+use crate::starts::{StmtStart, stmt_at};
+use crate::statements::{before, declare, named_stmt, return_stmt};
+use os_ast::{Change, Head, Mark, Name, Stmt, TaskSite};
+use os_io::List;
+use os_lexer::{Key, Kind, Punct};
+use std::alloc::Global;
+
+/// `stmt`
+#[cycle(statements)]
+#[tactic(auto, using(crate::proofs::Depths::readers, crate::proofs::Trees::trees), unfolding(crate::specs::Statements::stmt_on, crate::specs::Statements::stmt_by))]
+pub(crate) fn stmt(alloc: Global, cursor: &mut Cursor<'_>, depth: u32) -> Result<Stmt, ParseError>
+    ensures gives { Gives stmt_tree result cursor.new (stmt_on (inner depth) cursor.old) }
+    ensures within { length cursor.new ≤ length cursor.old }
+    ensures taken { OnOk result (length cursor.new ≤ length (after cursor.old)) }
+{
+    match stmt_at(cursor) {
+        StmtStart::Semicolon => {
+            cursor.advance();
+            Ok(Stmt::Empty)
+        }
+        StmtStart::Brace => {
+            cursor.advance();
+            Ok(Stmt::Block(block(alloc, cursor, depth)?))
+        }
+        StmtStart::Name(id) => {
+            let mark = cursor.mark();
+            cursor.advance();
+            named_stmt(alloc, cursor, Name { id, mark }, depth)
+        }
+        StmtStart::Step(step) => {
+            let change = before(alloc, cursor, step, depth)?;
+            cursor.expect(Kind::Punct(Punct::Semicolon))?;
+            Ok(Stmt::Change(change))
+        }
+        StmtStart::If => if_stmt(alloc, cursor, depth),
+        StmtStart::While => while_stmt(alloc, cursor, depth),
+        StmtStart::For => for_stmt(alloc, cursor, depth),
+        StmtStart::Break => {
+            let mark = cursor.mark();
+            cursor.advance();
+            cursor.expect(Kind::Punct(Punct::Semicolon))?;
+            Ok(Stmt::Break(mark))
+        }
+        StmtStart::Continue => {
+            let mark = cursor.mark();
+            cursor.advance();
+            cursor.expect(Kind::Punct(Punct::Semicolon))?;
+            Ok(Stmt::Continue(mark))
+        }
+        StmtStart::Return => return_stmt(alloc, cursor, depth),
+        StmtStart::Pragma => pragma(alloc, cursor, depth),
+        StmtStart::Other => Err(ParseError::Syntax),
+    }
+}
+
+/// `{ declare | stmt } "}"`, from what follows the `{`.
+#[cycle(statements)]
+#[tactic(auto, unfolding(crate::specs::Statements::block))]
+pub(crate) fn block(
+    alloc: Global,
+    cursor: &mut Cursor<'_>,
+    depth: u32,
+) -> Result<List<Stmt>, ParseError>
+    ensures gives { Gives stmts_tree result cursor.new (block (inner depth) cursor.old) }
+    ensures within { length cursor.new ≤ length cursor.old }
+{
+    let mut stmts = List::new(alloc);
+    while !cursor.is_at(Kind::Punct(Punct::CloseBrace)) {
+        stmts.push(block_item(alloc, cursor, depth)?)?;
+    }
+    cursor.advance();
+    Ok(stmts)
+}
+
+/// `declare | stmt`
+#[cycle(statements)]
+#[tactic(auto, unfolding(crate::specs::Statements::inner_item, crate::specs::Statements::block_item))]
+fn block_item(alloc: Global, cursor: &mut Cursor<'_>, depth: u32) -> Result<Stmt, ParseError>
+    ensures gives { Gives stmt_tree result cursor.new (inner_item (inner depth) cursor.old) }
+    ensures within { length cursor.new ≤ length cursor.old }
+    ensures taken { OnOk result (length cursor.new ≤ length (after cursor.old)) }
+{
+    let depth = deeper(depth)?;
+    if cursor.is_at(Kind::Key(Key::Int)) {
+        let declarators = declare(alloc, cursor, depth)?;
+        return Ok(Stmt::Declare(declarators));
+    }
+    stmt(alloc, cursor, depth)
+}
+
+/// `"if" "(" expr ")" stmt [ "else" stmt ]`
+#[cycle(statements)]
+#[tactic(auto, unfolding(crate::specs::Statements::if_stmt))]
+fn if_stmt(alloc: Global, cursor: &mut Cursor<'_>, depth: u32) -> Result<Stmt, ParseError>
+    ensures gives { Gives stmt_tree result cursor.new (if_stmt (inner depth) cursor.old) }
+    ensures within { length cursor.new ≤ length cursor.old }
+    ensures taken { OnOk result (length cursor.new ≤ length (after cursor.old)) }
+{
+    let depth = deeper(depth)?;
+    cursor.advance();
+    let condition = condition(alloc, cursor, depth)?;
+    let first = Box::new(alloc, stmt(alloc, cursor, depth)?)?;
+    if !cursor.is_at(Kind::Key(Key::Else)) {
+        return Ok(Stmt::If(condition, first, None));
+    }
+    cursor.advance();
+    let second = Box::new(alloc, stmt(alloc, cursor, depth)?)?;
+    Ok(Stmt::If(condition, first, Some(second)))
+}
+
+/// `"while" "(" expr ")" stmt`
+#[cycle(statements)]
+#[tactic(auto, unfolding(crate::specs::Statements::while_stmt))]
+fn while_stmt(alloc: Global, cursor: &mut Cursor<'_>, depth: u32) -> Result<Stmt, ParseError>
+    ensures gives { Gives stmt_tree result cursor.new (while_stmt (inner depth) cursor.old) }
+    ensures within { length cursor.new ≤ length cursor.old }
+    ensures taken { OnOk result (length cursor.new ≤ length (after cursor.old)) }
+{
+    let depth = deeper(depth)?;
+    cursor.advance();
+    let condition = condition(alloc, cursor, depth)?;
+    let body = stmt(alloc, cursor, depth)?;
+    Ok(Stmt::While(condition, Box::new(alloc, body)?))
+}
+
+/// `"for" "(" ( declare1 | [ change ] ";" ) [ expr ] ";" [ change ] ")" stmt`
+#[cycle(statements)]
+#[tactic(auto, unfolding(crate::specs::Statements::for_stmt))]
+fn for_stmt(alloc: Global, cursor: &mut Cursor<'_>, depth: u32) -> Result<Stmt, ParseError>
+    ensures gives { Gives stmt_tree result cursor.new (for_stmt (inner depth) cursor.old) }
+    ensures within { length cursor.new ≤ length cursor.old }
+    ensures taken { OnOk result (length cursor.new ≤ length (after cursor.old)) }
+{
+    let inner = deeper(depth)?;
+    cursor.advance();
+    cursor.expect(Kind::Punct(Punct::OpenParen))?;
+    let start = start(alloc, cursor, depth)?;
+    let test = test(alloc, cursor, inner)?;
+    let step = step(alloc, cursor, depth)?;
+    let body = stmt(alloc, cursor, inner)?;
+    Ok(Stmt::For(
+        Box::new(alloc, Head { start, test, step })?,
+        Box::new(alloc, body)?,
+    ))
+}
+
+/// A pragma that is a statement.
+#[cycle(statements)]
+#[tactic(auto, using(crate::proofs::Depths::readers), unfolding(crate::specs::Statements::pragma))]
+fn pragma(alloc: Global, cursor: &mut Cursor<'_>, depth: u32) -> Result<Stmt, ParseError>
+    ensures gives { Gives stmt_tree result cursor.new (pragma (inner depth) cursor.old) }
+    ensures within { length cursor.new ≤ length cursor.old }
+    ensures taken { OnOk result (length cursor.new ≤ length (after cursor.old)) }
+{
+    let mark = cursor.mark();
+    cursor.advance();
+    cursor.expect(Kind::Name(0))?;
+    if cursor.is_at(Kind::Name(1)) {
+        cursor.advance();
+        return task(alloc, cursor, mark, depth);
+    }
+    if cursor.is_at(Kind::Name(2)) {
+        cursor.advance();
+        return tick(alloc, cursor, mark, depth);
+    }
+    if cursor.is_at(Kind::Name(3)) {
+        cursor.advance();
+        return taskwait(cursor, mark);
+    }
+    Err(ParseError::Syntax)
+}
+
+/// A task, from what follows its word.
+#[cycle(statements)]
+#[tactic(auto, unfolding(crate::specs::Statements::task))]
+fn task(alloc: Global, cursor: &mut Cursor<'_>, mark: Mark, depth: u32) -> Result<Stmt, ParseError>
+    ensures gives { Gives stmt_tree result cursor.new (task mark (inner depth) cursor.old) }
+    ensures within { length cursor.new ≤ length cursor.old }
+{
+    let inner = deeper(depth)?;
+    let clauses = clauses(alloc, cursor, depth)?;
+    cursor.expect(Kind::PragmaEnd)?;
+    let body = stmt(alloc, cursor, inner)?;
+    let site = TaskSite {
+        mark,
+        clauses,
+        body,
+    };
+    Ok(Stmt::Task(Box::new(alloc, site)?))
+}
