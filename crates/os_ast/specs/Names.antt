@@ -33,6 +33,10 @@ pub record Scope : Type 0 where
   pub streams : ℕ
   pub functions : ℕ
 
+-- A body begins: a function's or a task's, with slots and elements of its own and in no loop.
+abbrev pub in_unit : Owner → Scope → Scope
+in_unit o s = record s { owner = o; loop = false; slots = 0; elements = 0 }
+
 -- The innermost declaration counts.
 abbrev pub lookup : List Entry → ℕ → Option Entry
 lookup [] id = None
@@ -62,6 +66,10 @@ enter s = record s { depth = s.depth + 1 }
 -- After an inner scope its declarations are gone, and what they took stays taken.
 abbrev pub leave : Scope → Scope → Scope
 leave outer inner = record inner { entries = outer.entries; depth = outer.depth; loop = outer.loop }
+
+-- Behind the body of a function or a task all is as round it, but what the body took of the program stays taken.
+abbrev pub after_unit : Scope → Scope → Scope
+after_unit outer inner = record (leave outer inner) { owner = outer.owner; slots = outer.slots; elements = outer.elements }
 
 -- inside a loop
 abbrev pub in_loop : Scope → Scope

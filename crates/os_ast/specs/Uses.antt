@@ -1,6 +1,6 @@
 -- What may be violated where a name is used, code by code.
 use Rattle.std.specs.Prelude.{ℕ, ◌==◌, Bool, true, false, not, List, [], ◌∷◌, ◌++◌, map, Option, Some, None}
-use Rattle.os_ast.specs.Meanings.{Note, Fault, Means, meaning}
+use Rattle.os_ast.specs.Meanings.{Note, Fault, meant}
 use Rattle.os_ast.specs.Names.{Scope, lookup, entity_of, main_id}
 use Rattle.os_ast.specs.declared.expr.Mark.{Mark}
 use Rattle.os_ast.specs.declared.expr.Name.{Name}
@@ -105,7 +105,7 @@ private_codes e = misplaced e
 -- What is to be said of a name by what it is declared as. 10: no declaration is in scope.
 abbrev pub said : Owner → Mark → (Entity → List ℕ) → Option Entity → List Note
 said o m codes None = Fault m 10 ∷ []
-said o m codes (Some e) = map (Fault m) (codes e) ++ Means m (meaning o e) ∷ []
+said o m codes (Some e) = map (Fault m) (codes e) ++ meant o m e ∷ []
 
 -- the notes of a used name
 abbrev pub use_notes : Scope → Name → (Entity → List ℕ) → List Note

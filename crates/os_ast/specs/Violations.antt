@@ -1,12 +1,12 @@
 -- The violations of a program, its refusal, and what its names mean where there is none.
 use Rattle.std.specs.Prelude.{◌≡◌, ℕ, ◌+◌, ◌<◌, ◌≤◌, ◌==◌, ◌&&◌, ◌||◌, Bool, true, false, List, [], ◌∷◌, ◌++◌, length, All, Contains, if◌then◌else◌}
-use Rattle.os_ast.specs.Meanings.{Note, Fault, Means}
+use Rattle.os_ast.specs.Meanings.{Note, Fault, Means, Captures}
 use Rattle.os_ast.specs.Names.{main_id}
 use Rattle.os_ast.specs.Notes.Programs.{program_notes, after_items, file, param_names}
 use Rattle.os_ast.specs.Spelling.{spell}
 use Rattle.os_ast.specs.Trees as tree
-use Rattle.os_ast.specs.declared.names.Meaning.{Meaning}
-use Rattle.os_ast.specs.declared.names.Resolution.{Resolution}
+use Rattle.os_ast.specs.declared.names.Resolved.{Resolved}
+use Rattle.os_ast.specs.declared.names.What.{What}
 use Rattle.os_ast.specs.declared.violation.Violation.{Violation}
 
 -- a violation by its parts
@@ -18,16 +18,18 @@ abbrev pub faults : List Note → List Violation
 faults [] = []
 faults (Fault m code ∷ rest) = violated m.place code m.line ∷ faults rest
 faults (Means m w ∷ rest) = faults rest
+faults (Captures m slot ∷ rest) = faults rest
 
 -- a name token, by its place, and what it means
-abbrev pub resolved : ℕ → Meaning → Resolution
-resolved place w = record { place = place; meaning = w }
+abbrev pub resolved : ℕ → What → Resolved
+resolved place w = record { place = place; what = w }
 
--- the names among notes
-abbrev pub resolutions : List Note → List Resolution
+-- The names among notes. What captured scalars mean is known where their task is done, so that a program has none left.
+abbrev pub resolutions : List Note → List Resolved
 resolutions [] = []
 resolutions (Fault m code ∷ rest) = resolutions rest
 resolutions (Means m w ∷ rest) = resolved m.place w ∷ resolutions rest
+resolutions (Captures m slot ∷ rest) = resolutions rest
 
 abbrev pub is_empty : {A : Type 0} → List A → Bool
 is_empty [] = true
@@ -62,7 +64,7 @@ pub record IsRefusal (p : tree.ProgramTree) (v : Violation) : Type 0 where
 
 -- What the names of a program without violations mean, in the order of places: each name that is used, or that
 -- declares a parameter, or is a declarator's name.
-abbrev pub names : tree.ProgramTree → List Resolution
+abbrev pub names : tree.ProgramTree → List Resolved
 names p = resolutions (program_notes p)
 
 -- `osin`, `osout`, and the streams that the program declares

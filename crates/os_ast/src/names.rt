@@ -50,27 +50,30 @@ pub struct Entry {
 
 /// What a name token means. Slots are those of the function, task or main in which it stands.
 #[derive(Clone, Copy, Debug, PartialEq, Eq)]
-pub enum Meaning {
+pub enum What {
+    /// The constant's value.
     Constant(i32),
+    /// The function's number, in the order of the text.
     Function(u32),
+    /// The scalar's slot.
     Scalar(u32),
-    /// First slot and size.
-    Array(u32, u32),
+    /// A local array, by its first slot and how many slots it has.
+    Array { first: u32, size: u32 },
+    /// The window's slot.
     Window(u32),
-    /// First number and count.
-    Stream(u32, u32),
-    /// An item of the task.
+    /// A stream or an array of streams, by the first number and how many they are.
+    Stream { first: u32, count: u32 },
+    /// The task's item with this number, where its name stands for one element.
     Element(u32),
+    /// The task's item with this number, where its name is that of a window.
     View(u32),
-    /// A scalar of the control program, by its slot there, in a task that captures it.
-    Captured(u32),
 }
 
-/// A name token, by its place, and what it means.
+/// A name token, by its place among the tokens, and what it means.
 #[derive(Clone, Copy, Debug, PartialEq, Eq)]
-pub struct Resolution {
+pub struct Resolved {
     pub place: u32,
-    pub meaning: Meaning,
+    pub what: What,
 }
 
 /// Whether a name stands with an index.

@@ -1,9 +1,9 @@
 -- What the names of the program with a window of three elements mean.
 use Rattle.std.specs.Prelude.{List, [], ◌∷◌}
-use Rattle.os_ast.specs.declared.names.Meaning.TheVariants as meaning
+use Rattle.os_ast.specs.declared.names.What.TheVariants as what
 use Rattle.os_ast.specs.Violations.{resolved}
-use Rattle.os_ast.specs.declared.names.Resolution.{Resolution}
+use Rattle.os_ast.specs.declared.names.Resolved.{Resolved}
 
 -- what each name means, by its place
-abbrev pub meanings : List Resolution
-meanings = resolved 7 (meaning.Scalar 1) ∷ resolved 11 (meaning.Scalar 1) ∷ resolved 15 (meaning.Scalar 1) ∷ resolved 19 (meaning.Scalar 0) ∷ resolved 21 (meaning.Scalar 1) ∷ resolved 26 (meaning.Window 2) ∷ resolved 31 (meaning.Scalar 3) ∷ resolved 38 (meaning.Stream 0 1) ∷ resolved 40 (meaning.Window 2) ∷ resolved 47 (meaning.Stream 1 1) ∷ resolved 49 (meaning.Scalar 3) ∷ resolved 52 (meaning.Element 1) ∷ resolved 55 (meaning.View 0) ∷ resolved 60 (meaning.View 0) ∷ resolved 65 (meaning.View 0) ∷ []
+abbrev pub meanings : List Resolved
+meanings = resolved 7 (what.Scalar 1) ∷ resolved 11 (what.Scalar 1) ∷ resolved 15 (what.Scalar 1) ∷ resolved 19 (what.Scalar 0) ∷ resolved 21 (what.Scalar 1) ∷ resolved 26 (what.Window 2) ∷ resolved 31 (what.Scalar 3) ∷ resolved 38 (what.Stream 0 1) ∷ resolved 40 (what.Window 2) ∷ resolved 47 (what.Stream 1 1) ∷ resolved 49 (what.Scalar 3) ∷ resolved 52 (what.Element 1) ∷ resolved 55 (what.View 0) ∷ resolved 60 (what.View 0) ∷ resolved 65 (what.View 0) ∷ []

@@ -2,7 +2,7 @@
 use Rattle.std.specs.Prelude.{ℕ, suc, ◌==◌, ◌||◌, Bool, false, ltb, List, [], ◌∷◌, ◌++◌, map, length, Option, Some, None}
 use Rattle.os_ast.specs.Limits.{items_limit, captured_limit}
 use Rattle.os_ast.specs.Meanings.{Note, Fault, captured, with_captured, with_slot}
-use Rattle.os_ast.specs.Names.{Scope, lookup, entity_of, declare, enter}
+use Rattle.os_ast.specs.Names.{Scope, lookup, entity_of, declare, enter, in_unit}
 use Rattle.os_ast.specs.Notes.Expressions.{place_notes, index_notes}
 use Rattle.os_ast.specs.Trees as tree
 use Rattle.os_ast.specs.Uses.{stream_codes, item_codes, private_codes, use_notes, when}
@@ -97,13 +97,9 @@ with_items s inner item (Item d i ∷ ps) =
     with_items s (declare inner (item_name i.stream i.window).id (item_entity s item d i)) (suc item) ps
 with_items s inner item (Private n ∷ ps) = with_items s inner item ps
 
--- a task's body is in no loop and has slots and elements of its own
+-- the scope round a task's body, before the names of its items
 abbrev pub in_task : Scope → Scope
-in_task s = record (enter s) { owner = owner.OfTask; loop = false; slots = 0; elements = 0 }
-
--- after the task, what it took of the program stays taken
-abbrev pub after_task : Scope → Scope → Scope
-after_task s inner = record s { arrays = inner.arrays; streams = inner.streams }
+in_task s = enter (in_unit owner.OfTask s)
 
 -- the scalars of the control program that `firstprivate` names
 abbrev pub private_slots : Option Entity → List ℕ → List ℕ
@@ -111,10 +107,10 @@ private_slots (Some (entity.Control slot)) slots = with_slot slot slots
 private_slots (Some entity.InputLength) slots = with_slot 0 slots
 private_slots _ slots = slots
 
-abbrev pub privates : Scope → List Part → List ℕ
-privates s [] = []
-privates s (Item d i ∷ ps) = privates s ps
-privates s (Private n ∷ ps) = private_slots (entity_of (lookup s.entries n.id)) (privates s ps)
+abbrev pub privates : Scope → List ℕ → List Part → List ℕ
+privates s slots [] = slots
+privates s slots (Item d i ∷ ps) = privates s slots ps
+privates s slots (Private n ∷ ps) = privates s (private_slots (entity_of (lookup s.entries n.id)) slots) ps
 
 -- 22: more than 8 items, or more than 64 scalars captured
 abbrev pub task_codes : ℕ → ℕ → List ℕ
@@ -142,7 +138,7 @@ captured_notes owner.OfFunction slots body = map (with_captured slots) body
 -- stands in another one is known where the outer one is.
 abbrev pub task_notes : Scope → Mark → List Part → List Note → List Note
 task_notes s m ps body =
-    let slots = captured (privates s ps) body in
+    let slots = captured (privates s [] ps) body in
     map (Fault m) (pragma_codes s.owner ++ task_codes (count_items ps) (length slots))
     ++ parts_notes s [] ps
     ++ captured_notes s.owner slots body

@@ -1,5 +1,5 @@
 -- Declarators: what they declare and take, and what is to be said of their names.
-use Rattle.std.specs.Prelude.{ℕ, ◌+◌, ◌==◌, ◌&&◌, ◌||◌, Bool, true, false, not, if◌then◌else◌, ltb, leb, List, [], ◌∷◌, ◌++◌, map, Option, Some, None, is_none, ℤ, pos, negsuc, unwrap_or}
+use Rattle.std.specs.Prelude.{ℕ, min, ◌+◌, ◌==◌, ◌&&◌, ◌||◌, Bool, true, false, not, if◌then◌else◌, ltb, leb, List, [], ◌∷◌, ◌++◌, map, Option, Some, None, is_none, ℤ, pos, negsuc, unwrap_or}
 use Rattle.os_ast.specs.Limits.{size_limit, elements_limit, arrays_limit, streams_limit}
 use Rattle.os_ast.specs.Meanings.{Note, Fault, Means, meaning}
 use Rattle.os_ast.specs.Names.{Scope, lookup, entity_of, declare, is_declared}
@@ -41,7 +41,7 @@ size_of s e = limited (size_value s e)
 -- the name of a constant as size: it is judged by 15 alone where it is something else
 abbrev pub constant_notes : Mark → Option ℤ → List Note
 constant_notes m None = []
-constant_notes m (Some v) = Means m (meaning owner.OfFunction (entity.Constant v)) ∷ []
+constant_notes m (Some v) = Means m (meaning (entity.Constant v)) ∷ []
 
 abbrev pub bare_name : tree.ExprTree → Option Name
 bare_name (tree.Place (tree.Variable n)) = Some n
@@ -82,13 +82,31 @@ form_entity s form_of.Window = entity.Window s.slots
 form_entity s form_of.Stream = entity.Stream (2 + s.streams)
 form_entity s (form_of.Streams size) = entity.Streams (2 + s.streams) (unwrap_or size 0)
 
+-- a count of what has a limit: one past the limit stands for all that is more
+abbrev pub counted : ℕ → ℕ → ℕ
+counted limit n = min n (limit + 1)
+
+-- the slots of a local array: it has none where the arrays of its function or task pass the limit with it
+abbrev pub array_slots : ℕ → ℕ → ℕ
+array_slots elements size = if leb (elements + size) elements_limit then size else 0
+
+abbrev pub with_array : Scope → ℕ → Scope
+with_array s size = record s {
+  slots = s.slots + array_slots s.elements size;
+  elements = counted elements_limit (s.elements + size);
+  arrays = counted arrays_limit (s.arrays + size);
+}
+
+abbrev pub with_streams : Scope → ℕ → Scope
+with_streams s count = record s { streams = counted streams_limit (s.streams + count) }
+
 -- what the declarator takes: a scalar or a window one slot, a local array as many as its size
 abbrev pub taken : Scope → Form → Scope
 taken s form_of.Scalar = record s { slots = s.slots + 1 }
-taken s (form_of.Array size) = record s { slots = s.slots + unwrap_or size 0; elements = s.elements + unwrap_or size 0; arrays = s.arrays + unwrap_or size 0 }
+taken s (form_of.Array size) = with_array s (unwrap_or size 0)
 taken s form_of.Window = record s { slots = s.slots + 1 }
-taken s form_of.Stream = record s { streams = s.streams + 1 }
-taken s (form_of.Streams size) = record s { streams = s.streams + unwrap_or size 0 }
+taken s form_of.Stream = with_streams s 1
+taken s (form_of.Streams size) = with_streams s (unwrap_or size 0)
 
 -- 15: the size is none, or with this declarator the arrays or streams pass a limit, when so much is taken with it
 abbrev pub form_codes : Scope → Form → List ℕ
@@ -129,7 +147,7 @@ declarator_codes s d =
 abbrev pub declarator_notes : Scope → tree.DeclaratorTree → List Note
 declarator_notes s d =
     map (Fault d.name.mark) (declarator_codes s d)
-    ++ Means d.name.mark (meaning s.owner (form_entity s (form s d)))
+    ++ Means d.name.mark (meaning (form_entity s (form s d)))
     ∷ sized_notes s d.stream d.size
     ++ value_notes (after_declarator s d) d.first
 

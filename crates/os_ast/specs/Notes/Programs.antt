@@ -1,7 +1,7 @@
 -- Functions, constants and whole programs.
 use Rattle.std.specs.Prelude.{ℕ, ◌+◌, ◌==◌, false, if◌then◌else◌, List, [], ◌∷◌, ◌++◌, map, length}
 use Rattle.os_ast.specs.Meanings.{Note, Fault, Means, meaning}
-use Rattle.os_ast.specs.Names.{Scope, declare, enter, is_declared, constant_value, main_id, osin_id, osout_id, osin_len_id}
+use Rattle.os_ast.specs.Names.{Scope, declare, enter, in_unit, after_unit, is_declared, constant_value, main_id, osin_id, osout_id, osin_len_id}
 use Rattle.os_ast.specs.Notes.Declarators.{scalar_entity}
 use Rattle.os_ast.specs.Notes.Statements.{after_stmts, stmts_notes}
 use Rattle.os_ast.specs.Trees as tree
@@ -25,13 +25,13 @@ param_names (params_of.Names ns) = ns
 -- The scope round the body of `main`, with `osin_len` in slot 0.
 abbrev pub round_body : Owner → Scope → Scope
 round_body owner.OfMain s =
-    record (declare (declare (declare (enter s) osin_id (entity.Stream 0)) osout_id (entity.Stream 1)) osin_len_id entity.InputLength) { slots = 1 }
-round_body owner.OfFunction s = enter s
-round_body owner.OfTask s = enter s
+    record (declare (declare (declare s osin_id (entity.Stream 0)) osout_id (entity.Stream 1)) osin_len_id entity.InputLength) { slots = 1 }
+round_body owner.OfFunction s = s
+round_body owner.OfTask s = s
 
 -- the scope of a function's parameters and of its outermost block, before the parameters
 abbrev pub in_function : Scope → ℕ → Scope
-in_function s id = enter (round_body (owner_of id) (record s { owner = owner_of id; loop = false; slots = 0; elements = 0 }))
+in_function s id = enter (round_body (owner_of id) (enter (in_unit (owner_of id) s)))
 
 abbrev pub after_param : Scope → Name → Scope
 after_param s n = declare (record s { slots = s.slots + 1 }) n.id (scalar_entity s.owner s.slots)
@@ -44,14 +44,14 @@ abbrev pub params_notes : Scope → List Name → List Note
 params_notes s [] = []
 params_notes s (n ∷ ns) =
     map (Fault n.mark) (when (is_declared s n.id) 12)
-    ++ Means n.mark (meaning s.owner (scalar_entity s.owner s.slots))
+    ++ Means n.mark (meaning (scalar_entity s.owner s.slots))
     ∷ params_notes (after_param s n) ns
 
 -- A function is in scope from its body's end.
 abbrev pub after_function : Scope → Scope → tree.FunctionTree → Scope
 after_function s inner f =
-    declare (record s { arrays = inner.arrays; streams = inner.streams; functions = s.functions + 1 })
-    f.name.id (entity.Function s.functions (length (param_names f.params)))
+    let after = after_unit s inner in
+    declare (record after { functions = after.functions + 1 }) f.name.id (entity.Function after.functions (length (param_names f.params)))
 
 abbrev pub in_body : Scope → tree.FunctionTree → Scope
 in_body s f = after_params (in_function s f.name.id) (param_names f.params)

@@ -1,8 +1,8 @@
 -- Statements, and what is in scope after each.
 use Rattle.std.specs.Prelude.{not, List, [], ◌++◌, map}
 use Rattle.os_ast.specs.Meanings.{Note, Fault}
-use Rattle.os_ast.specs.Names.{Scope, enter, leave, in_loop, behind}
-use Rattle.os_ast.specs.Notes.Clauses.{parts, with_items, in_task, after_task, task_notes, pragma_codes, return_codes}
+use Rattle.os_ast.specs.Names.{Scope, enter, leave, after_unit, in_loop, behind}
+use Rattle.os_ast.specs.Notes.Clauses.{parts, with_items, in_task, task_notes, pragma_codes, return_codes}
 use Rattle.os_ast.specs.Notes.Declarators.{after_declarators, declarators_notes, after_start, start_notes}
 use Rattle.os_ast.specs.Notes.Expressions.{count_args, expr_notes, place_notes, args_notes, value_notes, change_notes, step_notes}
 use Rattle.os_ast.specs.Trees as tree
@@ -24,7 +24,7 @@ abbrev mutual
   after_stmt s (tree.Break m) = s
   after_stmt s (tree.Continue m) = s
   after_stmt s (tree.Return m e) = s
-  after_stmt s (tree.Task m cs a) = after_task s (after_stmt (with_items s (in_task s) 0 (parts cs)) a)
+  after_stmt s (tree.Task m cs a) = after_unit s (after_stmt (with_items s (in_task s) 0 (parts cs)) a)
   after_stmt s (tree.Tick m t arrow e) = s
   after_stmt s (tree.Taskwait m) = s
 
