@@ -1,0 +1,29 @@
+ghost use Rattle.std.specs.Prelude.{◌≡◌, ◌≤◌, [], length};
+ghost use Rattle.os_ast.specs.Leveled.{IsLeveled};
+ghost use Rattle.os_ast.specs.Marks.{HasPlaces};
+ghost use Rattle.os_ast.specs.Spelling.{spell};
+ghost use Rattle.os_ast.specs.Views.{program_tree};
+ghost use Rattle.os_ast.specs.Violations.{violations};
+ghost use Rattle.os_ast.specs.Violations as rules;
+
+use os_ast::{Program, Resolved};
+use os_io::List;
+
+/// A program that violates no rule, with what its names mean.
+#[derive(Drop)]
+pub struct Checked {
+    pub program: Program,
+    /// What each name means that is used, or declares a parameter, or is a declarator's, in the order of the text.
+    pub names: List<Resolved>,
+    /// `osin`, `osout` and the streams that the program declares: 2 to 65,538.
+    pub streams: u32,
+    // The program was spelled by a text's tokens.
+    ghost leveled: { ∥ IsLeveled (program_tree program) ∥₁ },
+    ghost few: { length (spell (program_tree program)) ≤ 262144 },
+    ghost placed: { HasPlaces (program_tree program) },
+    // It violates no rule.
+    ghost lawful: { violations (program_tree program) ≡ [] },
+    // The names and streams are its own.
+    ghost named: { names ≡ rules.names (program_tree program) },
+    ghost counted: { streams ≡ rules.streams (program_tree program) },
+}

@@ -1,0 +1,53 @@
+ghost use Rattle.std.specs.Prelude.{◌≡◌, ◌≤◌, length, IfOk, IfErr};
+ghost use Rattle.os_ast.specs.Leveled.{IsLeveled};
+ghost use Rattle.os_ast.specs.Marks.{HasPlaces};
+ghost use Rattle.os_ast.specs.Spelling.{spell};
+ghost use Rattle.os_ast.specs.Views.{program_tree};
+ghost use Rattle.window_check.specs.Refusal.{IsAnswer};
+
+use crate::check_error::CheckError;
+use crate::checked::Checked;
+use crate::codes;
+use crate::found::Found;
+use crate::functions::{has_main, items};
+use crate::scopes::Scopes;
+use os_ast::Program;
+use std::alloc::Global;
+
+/// Judges a program by the rules for names and declarations, and finds what each name means.
+///
+/// A program that violates rules is refused by the least of its violations, by the place of the token and then by
+/// the rule's code. The walk takes time linear in the program but for the look-up of names, and stack for the depth
+/// of the program. The program is consumed in every case.
+pub fn check(alloc: Global, program: Program) -> Result<Checked, CheckError>
+    // The program is spelled by at most so many tokens, and each of its marks has its place among them.
+    requires leveled { IsLeveled (program_tree program) }
+    requires few { length (spell (program_tree program)) ≤ 262144 }
+    requires placed { HasPlaces (program_tree program) }
+    // What is accepted is the same program, and `Checked` says that it violates no rule.
+    ensures accepted { IfOk result (λ checked. checked.program ≡ program) }
+    // A program is refused only where it violates a rule, by its least violation.
+    ensures refused { IfErr result (IsAnswer (program_tree program)) }
+{
+    let mut scopes = Scopes::new(alloc);
+    let mut found = Found::new(alloc);
+    items(alloc, &mut scopes, &mut found, &program.items)?;
+    let (least, names) = found.into_parts();
+    if let Some(violation) = least {
+        return Err(CheckError::Fault {
+            code: violation.code,
+            line: violation.line,
+        });
+    }
+    if !has_main(&program.items) {
+        return Err(CheckError::Fault {
+            code: codes::NO_MAIN,
+            line: 1,
+        });
+    }
+    Ok(Checked {
+        program,
+        names,
+        streams: 2 + scopes.streams(),
+    })
+}

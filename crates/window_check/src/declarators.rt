@@ -1,0 +1,141 @@
+//! Declarators: what they declare and take, and which rules they violate.
+
+ghost use Rattle.std.specs.Prelude.{◌≡◌, ◌&&◌, not, OnOk, length, map, option_map};
+ghost use Rattle.os_ast.specs.Notes.Declarators.{form, sized_form, is_outermost, is_window, sized_notes, declarator_notes, declarators_notes, after_declarator, after_declarators, after_start, start_notes};
+ghost use Rattle.os_ast.specs.Names.{is_declared};
+ghost use Rattle.os_ast.specs.Uses.{when};
+ghost use Rattle.os_ast.specs.Views.{declarator_tree, index_tree, start_tree};
+ghost use Rattle.window_check.specs.Codes.{least_code, lesser_code};
+ghost use Rattle.window_check.specs.Findings.{noted};
+ghost use Rattle.window_check.specs.Room.{HasRoom, FormFits, start_weight};
+
+use crate::codes::{self, lesser, when};
+use crate::expressions::{change, expr, value};
+use crate::found::{Found, meaning};
+use crate::scopes::Scopes;
+use crate::sizes::{size_name, size_of};
+use os_ast::{Declarator, Form, Index, Owner, Start};
+use os_io::{List, Memory};
+
+/// What a declarator with a size, which isn't a stream, declares.
+fn sized_form(owner: Owner, size: Option<u32>) -> Form
+    ensures { result ≡ sized_form owner size }
+{
+    match owner {
+        Owner::OfMain => Form::Window,
+        Owner::OfFunction | Owner::OfTask => Form::Array(size),
+    }
+}
+
+/// What a declarator declares.
+fn form(scopes: &Scopes, declarator: &Declarator) -> Form
+    ensures form { result ≡ form scopes.now (declarator_tree declarator.now) }
+    ensures fits { FormFits result }
+{
+    match &declarator.size {
+        None if declarator.stream => Form::Stream,
+        None => Form::Scalar,
+        Some(size) => {
+            let size = size_of(scopes, &size.value);
+            if declarator.stream {
+                Form::Streams(size)
+            } else {
+                sized_form(scopes.owner(), size)
+            }
+        }
+    }
+}
+
+/// Whether this is directly in the outermost block of `main`.
+fn is_outermost(scopes: &Scopes) -> bool
+    ensures { result ≡ is_outermost scopes.now.owner scopes.now.depth }
+{
+    match scopes.owner() {
+        Owner::OfMain => scopes.depth() == 2,
+        Owner::OfFunction | Owner::OfTask => false,
+    }
+}
+
+/// Whether an array declaration is a window.
+fn is_window(owner: Owner) -> bool
+    ensures { result ≡ is_window owner }
+{
+    match owner {
+        Owner::OfMain => true,
+        Owner::OfFunction | Owner::OfTask => false,
+    }
+}
+
+/// The size of a declarator: that of a window is any expression.
+fn sized(
+    scopes: &Scopes,
+    found: &mut Found,
+    stream: bool,
+    size: &Option<Index>,
+) -> Result<(), Memory>
+    ensures { OnOk result (found.new ≡ noted found.old (sized_notes scopes.now stream (option_map index_tree size.now))) }
+{
+    match size {
+        None => Ok(()),
+        Some(size) if is_window(scopes.owner()) && !stream => expr(scopes, found, &size.value),
+        Some(size) => size_name(scopes, found, &size.value),
+    }
+}
+
+/// The least code of a declarator's name but for the size, whose code is handed in.
+fn declarator_code(scopes: &Scopes, declarator: &Declarator, size: Option<u8>) -> Option<u8>
+    ensures { result ≡ lesser_code (least_code (when (is_declared scopes.now declarator.now.name.id) 12)) (lesser_code size (least_code (when (declarator.now.stream && not (is_outermost scopes.now.owner scopes.now.depth)) 17))) }
+{
+    let twice = when(
+        scopes.is_declared(declarator.name.id),
+        codes::DECLARED_TWICE,
+    );
+    let misplaced = when(declarator.stream && !is_outermost(scopes), codes::MISPLACED);
+    lesser(twice, lesser(size, misplaced))
+}
+
+/// One declarator.
+fn declarator(scopes: &mut Scopes, found: &mut Found, declarator: &Declarator) -> Result<(), Memory>
+    requires { HasRoom scopes.old 1 }
+    ensures scopes { OnOk result (scopes.new ≡ after_declarator scopes.old (declarator_tree declarator.now)) }
+    ensures found { OnOk result (found.new ≡ noted found.old (declarator_notes scopes.old (declarator_tree declarator.now))) }
+{
+    let form = form(scopes, declarator);
+    let entity = scopes.form_entity(form);
+    let code = declarator_code(scopes, declarator, scopes.code_with(form));
+    found.blame(declarator.name.mark, code);
+    found.name(declarator.name.mark, meaning(entity))?;
+    sized(scopes, found, declarator.stream, &declarator.size)?;
+    scopes.take(form);
+    scopes.declare(declarator.name.id, entity)?;
+    value(scopes, found, &declarator.first)
+}
+
+/// The declarators of a declaration.
+pub(crate) fn declarators(
+    scopes: &mut Scopes,
+    found: &mut Found,
+    declarators: &List<Declarator>,
+) -> Result<(), Memory>
+    requires { HasRoom scopes.old (length declarators.now) }
+    ensures scopes { OnOk result (scopes.new ≡ after_declarators scopes.old (map declarator_tree declarators.now)) }
+    ensures found { OnOk result (found.new ≡ noted found.old (declarators_notes scopes.old (map declarator_tree declarators.now))) }
+{
+    for next in declarators.as_slice() {
+        declarator(scopes, found, next)?;
+    }
+    Ok(())
+}
+
+/// What stands before the first semicolon in the head of a `for`.
+pub(crate) fn start(scopes: &mut Scopes, found: &mut Found, start: &Start) -> Result<(), Memory>
+    requires { HasRoom scopes.old (start_weight (start_tree start.now)) }
+    ensures scopes { OnOk result (scopes.new ≡ after_start scopes.old (start_tree start.now)) }
+    ensures found { OnOk result (found.new ≡ noted found.old (start_notes scopes.old (start_tree start.now))) }
+{
+    match start {
+        Start::Empty => Ok(()),
+        Start::Declare(list) => declarators(scopes, found, list),
+        Start::Change(first) => change(scopes, found, first),
+    }
+}

@@ -1,0 +1,100 @@
+ghost use Rattle.std.specs.Prelude.{◌≡◌, ◌∷◌, ◌-◌, [], OnOk, length, drop};
+ghost use Rattle.os_ast.specs.Names.{lookup};
+
+use os_ast::Entry;
+use os_io::Memory;
+use std::alloc::Global;
+use std::collections::BTreeMap;
+use std::marker::Model;
+
+/// A declaration in scope, and the one that it hides.
+#[derive(Clone, Copy)]
+struct Row {
+    entry: Entry,
+    hidden: Option<Entry>,
+}
+
+/// The declarations in scope, from the innermost on.
+#[derive(Drop)]
+pub(crate) struct Declared {
+    rows: Vec<Row>,
+    newest: BTreeMap<u32, Entry>,
+}
+
+impl Model for Declared {
+    ghost use Rattle.std.specs.Prelude.{◌≡◌, ℕ, List};
+    ghost use Rattle.std.specs.BTreeMap.{get};
+    ghost use Rattle.std.specs.Ordering.{nat_cmp};
+    ghost use Rattle.os_ast.specs.Names.{lookup};
+    ghost use Rattle.os_ast.specs.declared.names.Entry.{Entry};
+    ghost use Rattle.window_check.specs.Rows.{entries, Hides};
+
+    ghost Value = { List Entry };
+
+    ghost view = { λ d. entries d.rows.items };
+
+    ghost invariant = { λ d. Hides d.rows.items × ((id : ℕ) → get nat_cmp d.newest id ≡ lookup (entries d.rows.items) id) };
+}
+
+impl Declared {
+    /// Nothing is declared.
+    pub(crate) fn new(alloc: Global) -> Declared
+        ensures { result ≡ [] }
+    {
+        Declared {
+            rows: Vec::new(alloc),
+            newest: BTreeMap::new(alloc),
+        }
+    }
+
+    /// How many declarations there are, hidden ones included.
+    pub(crate) fn len(&self) -> usize
+        ensures { result ≡ length self.now }
+    {
+        self.rows.len()
+    }
+
+    /// The innermost declaration of a name.
+    pub(crate) fn entry(&self, id: u32) -> Option<Entry>
+        ensures { result ≡ lookup self.now id }
+    {
+        self.newest.get(&id).copied()
+    }
+
+    /// One more declaration, which is the innermost.
+    pub(crate) fn declare(&mut self, entry: Entry) -> Result<(), Memory>
+        ensures { OnOk result (self.new ≡ entry ∷ self.old) }
+    {
+        let hidden = self.newest.insert(entry.id, entry)?;
+        self.rows.push(Row { entry, hidden })?;
+        Ok(())
+    }
+
+    /// Takes the innermost declarations away until there are so many.
+    pub(crate) fn drop_to(&mut self, len: usize) -> Result<(), Memory>
+        ensures { OnOk result (self.new ≡ drop (length self.old - len) self.old) }
+    {
+        while self.rows.len() > len {
+            self.undo()?;
+        }
+        Ok(())
+    }
+
+    /// Takes the innermost declaration away, and the one that it hid is in scope again.
+    fn undo(&mut self) -> Result<(), Memory>
+        ensures { OnOk result (self.new ≡ drop 1 self.old) }
+    {
+        let Some(row) = self.rows.pop() else {
+            return Ok(());
+        };
+        match row.hidden {
+            Some(hidden) => {
+                self.newest.insert(row.entry.id, hidden)?;
+            }
+            None => {
+                self.newest.remove(&row.entry.id);
+            }
+        }
+        Ok(())
+    }
+}

@@ -1,0 +1,188 @@
+//! Constants, functions and the items of a program.
+
+ghost use Rattle.std.specs.Prelude.{◌≡◌, ◌≤◌, ◌<◌, ◌+◌, ◌^◌, [], ◌∷◌, false, OnOk, IfOk, length, map};
+ghost use Rattle.os_ast.specs.Leveled.{IsItem, AreAll};
+ghost use Rattle.os_ast.specs.Names.{constant_value};
+ghost use Rattle.os_ast.specs.Notes.Programs.{owner_of, param_names, after_param, after_params, params_notes, after_item, item_notes, after_items, items_notes, in_function};
+ghost use Rattle.os_ast.specs.Trees as tree;
+ghost use Rattle.os_ast.specs.Views.{item_tree};
+ghost use Rattle.os_ast.specs.Violations.{is_main, has_main};
+ghost use Rattle.os_ast.specs.declared.program.Item.TheVariants as variant;
+ghost use Rattle.window_check.specs.Findings.{noted};
+ghost use Rattle.window_check.specs.Room.{HasRoom, item_weight, items_weight};
+ghost use Rattle.window_check.specs.Scopes.{around_of};
+
+use crate::codes::{self, when};
+use crate::found::{Found, meaning};
+use crate::scopes::{Around, MAIN, Scopes};
+use crate::statements::stmts;
+use os_ast::{Constant, Entity, Form, Function, Item, Name, Owner, Params};
+use os_io::{List, Memory};
+use std::alloc::Global;
+
+/// Whose body that of a function with this name is: the control program is the function `main`.
+fn owner_of(id: u32) -> Owner
+    ensures { result ≡ owner_of id }
+{
+    if id == MAIN {
+        Owner::OfMain
+    } else {
+        Owner::OfFunction
+    }
+}
+
+/// The value of a constant. A number token is below 2^31, and its type has more numbers.
+fn constant_value(constant: &Constant) -> i32
+    requires { constant.now.size < 2 ^ 31 }
+    ensures { result ≡ constant_value constant.now }
+{
+    let size = constant.size as i32;
+    if constant.minus { -size } else { size }
+}
+
+/// The names of a function's parameters.
+fn param_names(params: &Params) -> &[Name]
+    ensures { result.now ≡ param_names params.now }
+{
+    match params {
+        Params::Empty | Params::Void => &[],
+        Params::Names(names) => names.as_slice(),
+    }
+}
+
+/// A parameter.
+fn param(scopes: &mut Scopes, found: &mut Found, name: Name) -> Result<(), Memory>
+    requires { HasRoom scopes.old 1 }
+    ensures scopes { OnOk result (scopes.new ≡ after_param scopes.old name) }
+    ensures found { OnOk result (found.new ≡ noted found.old (params_notes scopes.old (name ∷ []))) }
+{
+    found.blame(
+        name.mark,
+        when(scopes.is_declared(name.id), codes::DECLARED_TWICE),
+    );
+    let entity = scopes.scalar();
+    found.name(name.mark, meaning(entity))?;
+    scopes.take(Form::Scalar);
+    scopes.declare(name.id, entity)
+}
+
+/// The parameters of a function.
+fn params(scopes: &mut Scopes, found: &mut Found, names: &[Name]) -> Result<(), Memory>
+    requires { HasRoom scopes.old (length names.now) }
+    ensures scopes { OnOk result (scopes.new ≡ after_params scopes.old names.now) }
+    ensures found { OnOk result (found.new ≡ noted found.old (params_notes scopes.old names.now)) }
+{
+    for name in names {
+        param(scopes, found, *name)?;
+    }
+    Ok(())
+}
+
+/// A constant.
+fn constant(scopes: &mut Scopes, found: &mut Found, constant: &Constant) -> Result<(), Memory>
+    requires { constant.now.size < 2 ^ 31 }
+    ensures scopes { OnOk result (scopes.new ≡ after_item scopes.old (tree.Constant constant.now)) }
+    ensures found { OnOk result (found.new ≡ noted found.old (item_notes scopes.old (tree.Constant constant.now))) }
+{
+    let name = constant.name;
+    found.blame(
+        name.mark,
+        when(scopes.is_declared(name.id), codes::DECLARED_TWICE),
+    );
+    scopes.declare(name.id, Entity::Constant(constant_value(constant)))
+}
+
+/// The scopes of a function begin: the one round the body of `main`, and that of the parameters and the body.
+fn begin_function(scopes: &mut Scopes, id: u32) -> Result<Around, Memory>
+    requires { scopes.old.depth + 2 ≤ 262144 }
+    ensures scopes { OnOk result (scopes.new ≡ in_function scopes.old id) }
+    ensures around { IfOk result (λ around. around ≡ around_of scopes.old) }
+{
+    let owner = owner_of(id);
+    let around = scopes.begin(owner);
+    scopes.declare_round(owner)?;
+    scopes.enter();
+    Ok(around)
+}
+
+/// A function.
+fn function(
+    alloc: Global,
+    scopes: &mut Scopes,
+    found: &mut Found,
+    function: &Function,
+) -> Result<(), Memory>
+    requires room { HasRoom scopes.old (item_weight (item_tree (variant.Function function.now))) }
+    requires task { found.old.in_task ≡ false }
+    ensures scopes { OnOk result (scopes.new ≡ after_item scopes.old (item_tree (variant.Function function.now))) }
+    ensures found { OnOk result (found.new ≡ noted found.old (item_notes scopes.old (item_tree (variant.Function function.now)))) }
+{
+    let name = function.name;
+    let names = param_names(&function.params);
+    found.blame(
+        name.mark,
+        when(scopes.is_declared(name.id), codes::DECLARED_TWICE),
+    );
+    let around = begin_function(scopes, name.id)?;
+    params(scopes, found, names)?;
+    stmts(alloc, scopes, found, &function.body)?;
+    scopes.end(around)?;
+    scopes.declare_function(name.id, names.len() as u32)
+}
+
+/// A constant or a function.
+fn item(alloc: Global, scopes: &mut Scopes, found: &mut Found, item: &Item) -> Result<(), Memory>
+    requires room { HasRoom scopes.old (item_weight (item_tree item.now)) }
+    requires task { found.old.in_task ≡ false }
+    requires leveled { IsItem (item_tree item.now) }
+    ensures scopes { OnOk result (scopes.new ≡ after_item scopes.old (item_tree item.now)) }
+    ensures found { OnOk result (found.new ≡ noted found.old (item_notes scopes.old (item_tree item.now))) }
+{
+    match item {
+        Item::Constant(next) => constant(scopes, found, next),
+        Item::Function(next) => function(alloc, scopes, found, next),
+    }
+}
+
+/// The items of a program.
+pub(crate) fn items(
+    alloc: Global,
+    scopes: &mut Scopes,
+    found: &mut Found,
+    items: &List<Item>,
+) -> Result<(), Memory>
+    requires room { HasRoom scopes.old (items_weight (map item_tree items.now)) }
+    requires task { found.old.in_task ≡ false }
+    requires leveled { AreAll IsItem (map item_tree items.now) }
+    ensures scopes { OnOk result (scopes.new ≡ after_items scopes.old (map item_tree items.now)) }
+    ensures found { OnOk result (found.new ≡ noted found.old (items_notes scopes.old (map item_tree items.now))) }
+{
+    for next in items.as_slice() {
+        item(alloc, scopes, found, next)?;
+    }
+    Ok(())
+}
+
+/// Whether an item is a function `main` without parameters.
+fn is_main(item: &Item) -> bool
+    ensures { result ≡ is_main (item_tree item.now) }
+{
+    match item {
+        Item::Constant(_) => false,
+        Item::Function(function) => {
+            function.name.id == MAIN && param_names(&function.params).is_empty()
+        }
+    }
+}
+
+/// Whether there is a function `main` without parameters.
+pub(crate) fn has_main(items: &List<Item>) -> bool
+    ensures { result ≡ has_main (map item_tree items.now) }
+{
+    for item in items.as_slice() {
+        if is_main(item) {
+            return true;
+        }
+    }
+    false
+}

@@ -1,0 +1,33 @@
+//! Names and rules: the least violation of a program, or what each of its names means.
+//!
+//! `check` takes a program and answers the refusal, which is the least of its violations by place and then by
+//! code, or the program with what each name means: the value of a constant, the number of a function, slots,
+//! streams and items. What a violation is and what a name means stand beside the trees, in os_ast.
+//!
+//! The walk goes over the program once, in the order of the text. `Scopes` is what is in scope at a place, and
+//! `Found` is what was found so far; each function of the walk says of these two what the definitions say of its
+//! part of the tree. It never stops early: a task's first token is judged where the task is done.
+#![tactic(auto)]
+
+mod captures;
+mod check_error;
+mod checked;
+mod checker;
+mod clauses;
+mod codes;
+mod declarators;
+mod declared;
+mod expressions;
+mod found;
+mod functions;
+mod naming;
+mod parts;
+mod scopes;
+mod sizes;
+mod statements;
+mod uses;
+
+pub use check_error::CheckError;
+pub use checked::Checked;
+pub use checker::check;
+pub use os_ast::{Resolved, What};

@@ -1,0 +1,116 @@
+ghost use Rattle.std.specs.Prelude.{◌≡◌, ◌≤◌, OnOk, length};
+ghost use Rattle.os_ast.specs.Names.{lookup, entity_of};
+ghost use Rattle.os_ast.specs.Notes.Clauses.{again};
+ghost use Rattle.window_check.specs.Codes.{least_code};
+ghost use Rattle.window_check.specs.Parts.{none_listed, after_names, with_item, with_private};
+
+use crate::captures::Captured;
+use crate::codes::{self, when};
+use crate::scopes::Scopes;
+use os_ast::{Direction, Entity, Name};
+use os_io::{List, Memory};
+use std::alloc::Global;
+use std::collections::BTreeSet;
+use std::marker::Model;
+
+/// The name of a task's item, and what it is in the task's body.
+#[derive(Clone, Copy, Debug, PartialEq, Eq)]
+pub(crate) struct ItemName {
+    pub(crate) id: u32,
+    pub(crate) entity: Entity,
+}
+
+/// What the clauses of a task list.
+#[derive(Drop)]
+pub(crate) struct Listed {
+    names: BTreeSet<u32>,
+    items: List<ItemName>,
+    captured: Captured,
+}
+
+impl Model for Listed {
+    ghost use Rattle.std.specs.Prelude.{All};
+    ghost use Rattle.window_check.specs.Parts.{ListedParts};
+    ghost use Rattle.window_check.specs.Room.{IsSmall};
+
+    ghost Value = { ListedParts };
+
+    ghost view = { λ l. record { names = l.names.keys; items = l.items; slots = l.captured } };
+
+    ghost invariant = { λ l. All (λ i. IsSmall i.entity) l.items };
+}
+
+impl Listed {
+    /// Nothing is listed.
+    pub(crate) fn new(alloc: Global) -> Listed
+        ensures { result ≡ none_listed }
+    {
+        Listed {
+            names: BTreeSet::new(alloc),
+            items: List::new(alloc),
+            captured: Captured::new(alloc),
+        }
+    }
+
+    /// The code of a name that is listed already.
+    pub(crate) fn again(&self, name: Name) -> Option<u8>
+        ensures { result ≡ least_code (again self.now.names name) }
+    {
+        when(self.names.contains(&name.id), codes::LISTED_TWICE)
+    }
+
+    /// One more item, by its name.
+    pub(crate) fn add_item(
+        &mut self,
+        scopes: &Scopes,
+        id: u32,
+        is_joined: bool,
+        direction: Direction,
+    ) -> Result<(), Memory>
+        requires { length self.old.items ≤ 262144 }
+        ensures { OnOk result (self.new ≡ with_item (entity_of (lookup scopes.now.entries id)) self.old id is_joined direction) }
+    {
+        let number = self.items.len() as u32;
+        let entity = match scopes.entity(id) {
+            Some(Entity::Window(_)) if is_joined => Entity::View(number, direction),
+            _ => Entity::Element(number, direction),
+        };
+        self.names.insert(id)?;
+        self.items.push(ItemName { id, entity })
+    }
+
+    /// One more `firstprivate` name.
+    pub(crate) fn add_private(&mut self, scopes: &Scopes, id: u32) -> Result<(), Memory>
+        ensures { OnOk result (self.new ≡ with_private (entity_of (lookup scopes.now.entries id)) self.old id) }
+    {
+        self.names.insert(id)?;
+        match scopes.entity(id) {
+            Some(Entity::Control(slot)) => self.captured.insert(slot),
+            Some(Entity::InputLength) => self.captured.insert(0),
+            _ => Ok(()),
+        }
+    }
+
+    /// Declares the names of the items.
+    pub(crate) fn declare(&self, scopes: &mut Scopes) -> Result<(), Memory>
+        ensures { OnOk result (scopes.new ≡ after_names scopes.old self.now.items) }
+    {
+        for item in self.items.as_slice() {
+            scopes.declare(item.id, item.entity)?;
+        }
+        Ok(())
+    }
+
+    /// The number of items, and the captured scalars that `firstprivate` gave.
+    pub(crate) fn into_parts(self) -> (usize, Captured)
+        ensures items { result.0 ≡ length self.items }
+        ensures captured { result.1 ≡ self.slots }
+    {
+        let Listed {
+            names: _,
+            items,
+            captured,
+        } = self;
+        (items.len(), captured)
+    }
+}
