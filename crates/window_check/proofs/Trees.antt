@@ -1,0 +1,40 @@
+-- The rest of a list of parts, one part at a time, and what a tree of the code holds as a row.
+use Rattle.std.proofs.Common.{◌≡◌, ℕ, ◌+◌, ◌<◌, List, [], ◌∷◌, ◌++◌, length, suc, get_or, drop, add-one, map, refl, ap}
+use Rattle.std.proofs.Math.Seq.{drop-cons}
+use Rattle.os_ast.proofs.Rows.{expr_tree-call, expr_tree-chain, stmt_tree-block}
+use Rattle.os_ast.specs.Trees as tree
+use Rattle.os_ast.specs.Names.{Scope}
+use Rattle.os_ast.specs.Notes.Clauses.{parts, parts_of}
+use Rattle.os_ast.specs.Notes.Declarators.{after_declarator, after_declarators, declarator_notes, declarators_notes}
+use Rattle.os_ast.specs.Notes.Expressions.{count_args, expr_notes, args_notes, links_notes}
+use Rattle.os_ast.specs.Notes.Programs.{after_item, after_items, item_notes, items_notes, after_param, after_params, params_notes}
+use Rattle.os_ast.specs.Notes.Statements.{after_stmt, after_stmts, stmt_notes, stmts_notes}
+use Rattle.os_ast.specs.Views.{expr_tree, args_tree, links_tree, declarator_tree, clause_tree, stmt_tree, stmts_tree, item_tree}
+use Rattle.os_ast.specs.Violations.{is_main, has_main}
+use Rattle.os_ast.specs.declared.expr.Expr.{Expr}
+use Rattle.os_ast.specs.declared.expr.Link.{Link}
+use Rattle.os_ast.specs.declared.expr.Name.{Name}
+use Rattle.os_ast.specs.declared.pragma.Clause.{Clause}
+use Rattle.os_ast.specs.declared.program.Item.{Item}
+use Rattle.os_ast.specs.declared.stmt.Declarator.{Declarator}
+use Rattle.os_ast.specs.declared.stmt.Stmt.{Stmt}
+
+pub count_args-length : (es : List Expr) → count_args (args_tree es) ≡ length es
+count_args-length [] = refl
+count_args-length (e ∷ es) = ap suc (count_args-length es)
+
+pub args_tree-drop : (es : List Expr) (i : ℕ) (e : Expr) → i < length es → e ≡ get_or es i e →
+    args_tree (drop i es) ≡ tree.arg (expr_tree e) (args_tree (drop (i + 1) es))
+args_tree-drop es i e h is = rw (drop-cons es i e h, ← is, add-one)
+
+pub links_tree-drop : (ls : List Link) (i : ℕ) (l : Link) → i < length ls → l ≡ get_or ls i l →
+    links_tree (drop i ls) ≡ tree.link l.op l.mark (expr_tree l.right) (links_tree (drop (i + 1) ls))
+links_tree-drop ls i l h is = rw (drop-cons ls i l h, ← is, add-one)
+
+pub stmts_tree-drop : (ss : List Stmt) (i : ℕ) (s : Stmt) → i < length ss → s ≡ get_or ss i s →
+    stmts_tree (drop i ss) ≡ tree.stmt (stmt_tree s) (stmts_tree (drop (i + 1) ss))
+stmts_tree-drop ss i s h is = rw (drop-cons ss i s h, ← is, add-one)
+
+pub map-drop : {A B : Type 0} (view : A → B) (xs : List A) (i : ℕ) (x : A) → i < length xs → x ≡ get_or xs i x →
+    map view (drop i xs) ≡ view x ∷ map view (drop (i + 1) xs)
+map-drop view xs i x h is = rw (drop-cons xs i x h, ← is, add-one)
