@@ -116,6 +116,7 @@ pub(crate) fn indexed(
 }
 
 /// A change.
+#[tactic(auto, using(crate::proofs::Rules::exprs))]
 pub(crate) fn change(scopes: &Scopes, found: &mut Found, change: &Change) -> Result<(), Memory>
     ensures { OnOk result (found.new ≡ noted found.old (change_notes scopes.now (change_tree change.now))) }
 {
