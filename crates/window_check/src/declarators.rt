@@ -95,6 +95,7 @@ fn declarator_code(scopes: &Scopes, declarator: &Declarator, size: Option<u8>) -
 }
 
 /// One declarator.
+#[tactic(auto, using(crate::proofs::Rules::declarator))]
 fn declarator(scopes: &mut Scopes, found: &mut Found, declarator: &Declarator) -> Result<(), Memory>
     requires { HasRoom scopes.old 1 }
     ensures scopes { OnOk result (scopes.new ≡ after_declarator scopes.old (declarator_tree declarator.now)) }
@@ -112,6 +113,7 @@ fn declarator(scopes: &mut Scopes, found: &mut Found, declarator: &Declarator) -
 }
 
 /// The declarators of a declaration.
+#[tactic(auto, using(crate::proofs::Rules::declarators))]
 pub(crate) fn declarators(
     scopes: &mut Scopes,
     found: &mut Found,
