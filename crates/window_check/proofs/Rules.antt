@@ -1,11 +1,6 @@
 -- What the walk's proofs cite.
 use Rattle.os_ast.proofs.Rows.{expr_tree-call, expr_tree-chain}
-use Rattle.window_check.proofs.Declaring.{declarator-found}
 use Rattle.window_check.proofs.Noted.{noted-append}
-use Rattle.window_check.proofs.Trees.{count_args-length, args_tree-drop, links_tree-drop, declarators_notes-drop, after_declarators-drop}
+use Rattle.window_check.proofs.Trees.{count_args-length, args_tree-drop, links_tree-drop}
 
 pub ruleset exprs = (expr_tree-call, expr_tree-chain, noted-append, count_args-length, args_tree-drop, links_tree-drop)
-
-pub ruleset declarator = (declarator-found)
-
-pub ruleset declarators = (noted-append, declarators_notes-drop, after_declarators-drop)

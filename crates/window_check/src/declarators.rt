@@ -95,7 +95,6 @@ fn declarator_code(scopes: &Scopes, declarator: &Declarator, size: Option<u8>) -
 }
 
 /// One declarator.
-#[tactic(auto, using(crate::proofs::Rules::declarator))]
 fn declarator(scopes: &mut Scopes, found: &mut Found, declarator: &Declarator) -> Result<(), Memory>
     requires { HasRoom scopes.old 1 }
     ensures scopes { OnOk result (scopes.new ≡ after_declarator scopes.old (declarator_tree declarator.now)) }
@@ -113,7 +112,6 @@ fn declarator(scopes: &mut Scopes, found: &mut Found, declarator: &Declarator) -
 }
 
 /// The declarators of a declaration.
-#[tactic(auto, using(crate::proofs::Rules::declarators))]
 pub(crate) fn declarators(
     scopes: &mut Scopes,
     found: &mut Found,
