@@ -15,6 +15,7 @@ use os_io::{List, Memory};
 
 /// An expression.
 #[cycle(exprs)]
+#[tactic(auto, using(crate::proofs::Rules::exprs))]
 pub(crate) fn expr(scopes: &Scopes, found: &mut Found, expr: &Expr) -> Result<(), Memory>
     ensures { OnOk result (found.new ≡ noted found.old (expr_notes scopes.now (expr_tree expr.now))) }
 {
@@ -38,6 +39,7 @@ pub(crate) fn expr(scopes: &Scopes, found: &mut Found, expr: &Expr) -> Result<()
 
 /// A name with an index or without, by where it stands.
 #[cycle(exprs)]
+#[tactic(auto, using(crate::proofs::Rules::exprs))]
 pub(crate) fn place(
     scopes: &Scopes,
     found: &mut Found,
@@ -57,6 +59,7 @@ pub(crate) fn place(
 
 /// A call.
 #[cycle(exprs)]
+#[tactic(auto, using(crate::proofs::Rules::exprs))]
 pub(crate) fn called(scopes: &Scopes, found: &mut Found, call: &Call) -> Result<(), Memory>
     ensures { OnOk result (found.new ≡ noted found.old (expr_notes scopes.now (tree.ExprTree.Call call.now.name (args_tree call.now.args)))) }
 {
@@ -66,6 +69,7 @@ pub(crate) fn called(scopes: &Scopes, found: &mut Found, call: &Call) -> Result<
 
 /// The arguments of a call.
 #[cycle(exprs)]
+#[tactic(auto, using(crate::proofs::Rules::exprs))]
 fn args(scopes: &Scopes, found: &mut Found, args: &List<Expr>) -> Result<(), Memory>
     ensures { OnOk result (found.new ≡ noted found.old (args_notes scopes.now (args_tree args.now))) }
 {
@@ -77,6 +81,7 @@ fn args(scopes: &Scopes, found: &mut Found, args: &List<Expr>) -> Result<(), Mem
 
 /// The links of a chain.
 #[cycle(exprs)]
+#[tactic(auto, using(crate::proofs::Rules::exprs))]
 fn linked(scopes: &Scopes, found: &mut Found, links: &List<Link>) -> Result<(), Memory>
     ensures { OnOk result (found.new ≡ noted found.old (links_notes scopes.now (links_tree links.now))) }
 {
@@ -111,6 +116,7 @@ pub(crate) fn indexed(
 }
 
 /// A change.
+#[tactic(auto, using(crate::proofs::Rules::exprs))]
 pub(crate) fn change(scopes: &Scopes, found: &mut Found, change: &Change) -> Result<(), Memory>
     ensures { OnOk result (found.new ≡ noted found.old (change_notes scopes.now (change_tree change.now))) }
 {
