@@ -7,9 +7,9 @@ use Rattle.window_check.proofs.clauses.items.Given as goal
 
 abbrev pub invariant-loop-next : goal.invariant-loop-next
 invariant-loop-next l = record {
-  found : noted l.found (listed_notes l.scopes l.listed (map (Item l.direction) (map clause_item_tree (drop l.next-index l.items))))
-      ≡ noted l.fn.found (listed_notes l.scopes l.fn.listed (map (Item l.direction) (map clause_item_tree l.items)));
-  listed : after_parts l.scopes l.listed (map (Item l.direction) (map clause_item_tree (drop l.next-index l.items)))
-      ≡ after_parts l.scopes l.fn.listed (map (Item l.direction) (map clause_item_tree l.items));
+  found : noted l.found (listed_notes l.scopes l.listed (map (Item l.fn.direction) (map clause_item_tree (drop l.next-index l.items))))
+      ≡ noted l.fn.found (listed_notes l.scopes l.fn.listed (map (Item l.fn.direction) (map clause_item_tree l.items)));
+  listed : after_parts l.scopes l.listed (map (Item l.fn.direction) (map clause_item_tree (drop l.next-index l.items)))
+      ≡ after_parts l.scopes l.fn.listed (map (Item l.fn.direction) (map clause_item_tree l.items));
   count : length l.listed.items + length l.items ≤ 262144 + l.next-index;
 }
