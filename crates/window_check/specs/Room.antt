@@ -1,7 +1,7 @@
 -- How much a tree may declare, and that there is room for it: no count of a scope passes a limit of its type.
-use Rattle.std.specs.Prelude.{⊤, ℕ, ◌+◌, ◌≤◌, ◌<◌, ◌^◌, List, [], ◌∷◌, length, Option, Some, None, IfSome}
+use Rattle.std.specs.Prelude.{⊤, ℕ, ◌+◌, ◌≤◌, ◌<◌, ◌^◌, List, [], ◌∷◌, length, IfSome}
 use Rattle.os_ast.specs.Names.{Scope}
-use Rattle.os_ast.specs.Notes.Clauses.{Part, parts}
+use Rattle.os_ast.specs.Notes.Clauses.{parts}
 use Rattle.os_ast.specs.Notes.Programs.{param_names}
 use Rattle.os_ast.specs.Trees as tree
 use Rattle.os_ast.specs.declared.names.Entity.{Entity}
