@@ -256,7 +256,7 @@ fn statements_have_their_parts(rt: HostRuntime) -> Result<(), Fail> {
     Ok(())
 }
 
-static PROGRAMS: [Case; 9] = [
+static PROGRAMS: [Case; 10] = [
     ("", ""),
     (" // nothing\n", ""),
     ("const int a = 5;", "(constant a 5)"),
@@ -270,6 +270,10 @@ static PROGRAMS: [Case; 9] = [
     (
         "int f(int a, int b, int c) { }",
         "(function f (params a b c))",
+    ),
+    (
+        "int f(int a) { if (a) if (a) ; else return 1; return 2; }",
+        "(function f (params a) (if a (if a ; else (return 1))) (return 2))",
     ),
     (
         "const int a = 1; int f(int b) { return b; } const int c = -0; int main(void) { f(a); }",
