@@ -1,9 +1,12 @@
 -- What clauses list is what is said of them: the names, the items and the captured scalars.
-use Rattle.std.proofs.Common.{◌≡◌, ℕ, ◌+◌, Bool, true, false, List, [], ◌∷◌, ◌++◌, length, Option, Some, None, Ordering, refl, ap, ◌∙◌, add-one, append_assoc, length-append, arith}
+use Rattle.std.proofs.Common.{◌≡◌, ℕ, ◌+◌, Bool, true, false, List, [], ◌∷◌, ◌++◌, length, Option, Some, None, Ordering, refl, ap, ◌∙◌, add-one, append_assoc, length-append, arith, eq-eqb, inl, inr}
 use Rattle.std.specs.Prelude.{◌==◌, ◌||◌, is_some}
 use Rattle.std.specs.declared.cmp.Ordering.TheVariants.{Less, Equal, Greater}
+use Rattle.std.specs.BTreeMap.{is_at}
 use Rattle.std.specs.BTreeSet.{insert_key}
-use Rattle.std.specs.Ordering.{nat_cmp, match_ordering}
+use Rattle.std.specs.List.{list_any}
+use Rattle.std.specs.Ordering.{nat_cmp, match_ordering, is_eq}
+use Rattle.std.proofs.lemmas.Bool.{cases_order, lt-ltb, le-ltb, ne_eqb}
 use Rattle.std.proofs.lemmas.Map.Lookups.{exact_unsigned}
 use Rattle.os_ast.specs.Names.{Scope, lookup, entity_of, declare}
 use Rattle.os_ast.specs.Notes.Clauses.{Part, Item, Private, part_name, part_notes, parts_notes, window_notes, is_in, again, count_items, privates, with_items, target_name, item_name, named_entity}
@@ -40,6 +43,20 @@ is_in-inserted id k x xs Greater e same = rw same (or_other (x == id) (k == id) 
 pub is_in-insert_key : (id k : ℕ) (names : List ℕ) → is_in id (insert_key nat_cmp names k) ≡ ((k == id) || is_in id names)
 is_in-insert_key id k [] = refl
 is_in-insert_key id k (x ∷ xs) = is_in-inserted id k x xs (nat_cmp k x) refl (is_in-insert_key id k xs)
+
+equal-is : (id x : ℕ) → is_eq (nat_cmp id x) ≡ (x == id)
+equal-is id x = elim (cases_order id x) [
+  | inl same ↦ rw (same, le-ltb x x (omega arith), eq-eqb x x refl)
+  | inr apart ↦ elim apart [
+    | inl less ↦ rw (lt-ltb id x less, ne_eqb x id (λ same. absurd (omega arith)))
+    | inr more ↦ rw (le-ltb id x (omega arith), ne_eqb id x (λ same. absurd (omega arith)), ne_eqb x id (λ same. absurd (omega arith)))
+  ]
+]
+
+-- a search of the names in order
+pub list_any-is_in : (id : ℕ) (names : List ℕ) → list_any (is_at (nat_cmp id)) names ≡ is_in id names
+list_any-is_in id [] = refl
+list_any-is_in id (x ∷ xs) = rw (equal-is id x, list_any-is_in id xs)
 
 again-same : (names before : List ℕ) → SameNames names before → (n : Name) → again names n ≡ again before n
 again-same names before same n = ap (λ (b : Bool). when b 21) (same n.id)

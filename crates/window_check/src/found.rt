@@ -1,7 +1,9 @@
-ghost use Rattle.std.specs.Prelude.{◌≡◌, ◌<◌, ◌≤◌, [], false, OnOk, length, drop};
+ghost use Rattle.std.specs.Prelude.{◌≡◌, ◌<◌, ◌≤◌, ◌++◌, [], false, OnOk, All, length, drop, map};
+ghost use Rattle.std.specs.List.Sorted.{IsStrictlySortedBy};
+ghost use Rattle.std.specs.Ordering.{nat_cmp};
 ghost use Rattle.os_ast.specs.Meanings.{Means, meaning, meant, control_note};
-ghost use Rattle.window_check.specs.Findings.{nothing_found, before, lesser, captures, note, blamed, waits, settle, captured_among};
-ghost use Rattle.window_check.specs.Room.{IsSmall, IsSmallWhat, slots_end};
+ghost use Rattle.window_check.specs.Findings.{nothing_found, before, lesser, captures, note, blamed, waits, settle, settled, captured_among};
+ghost use Rattle.window_check.specs.Room.{IsSmall, IsSmallNaming, IsSmallWhat, slots_end};
 
 use crate::captures::{Captured, settled};
 use crate::naming::Naming;
@@ -173,13 +175,24 @@ impl Found {
         ensures { OnOk result (self.new ≡ settle captured.now self.old) }
     {
         let slots = captured.in_order(alloc)?;
-        for naming in self.waiting.as_slice() {
-            self.names.push(settled(slots.as_slice(), *naming))?;
-        }
+        add_settled(&mut self.names, slots.as_slice(), self.waiting.as_slice())?;
         self.waiting = List::new(alloc);
         self.in_task = false;
         Ok(())
     }
+}
+
+/// Adds what names of a task mean that captures scalars with these slots.
+fn add_settled(names: &mut List<Resolved>, slots: &[u32], waiting: &[Naming]) -> Result<(), Memory>
+    requires ascending { IsStrictlySortedBy nat_cmp slots.now }
+    requires small { All (λ s. s < slots_end) slots.now }
+    requires small_names { All IsSmallNaming waiting.now }
+    ensures { OnOk result (names.new ≡ names.old ++ map (settled slots.now) waiting.now) }
+{
+    for naming in waiting {
+        names.push(settled(slots, *naming))?;
+    }
+    Ok(())
 }
 
 /// What a declaration means.
