@@ -84,11 +84,7 @@ impl Captured {
         ensures ascending { IfOk result (λ ordered. IsStrictlySortedBy nat_cmp ordered.items) }
         ensures small { IfOk result (λ ordered. All (λ s. s < slots_end) ordered.items) }
     {
-        let mut ordered = Vec::new(alloc);
-        for slot in &self.slots {
-            ordered.push(*slot)?;
-        }
-        Ok(ordered)
+        Ok(self.slots.iter().copied().collect(alloc)?)
     }
 }
 

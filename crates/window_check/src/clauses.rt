@@ -38,6 +38,7 @@ fn shape_of(index: &Option<Index>) -> Shape
 }
 
 /// What stands behind the arrow of an item.
+#[tactic(auto, using(crate::proofs::Lists::lists))]
 fn joined(scopes: &Scopes, found: &mut Found, join: &Join) -> Result<(), Memory>
     ensures { OnOk result (found.new ≡ noted found.old (use_notes scopes.now join.now.name (item_codes (shape_of (option_map index_tree join.now.burst))) ++ index_notes scopes.now (option_map index_tree join.now.burst))) }
 {
@@ -46,6 +47,7 @@ fn joined(scopes: &Scopes, found: &mut Found, join: &Join) -> Result<(), Memory>
 }
 
 /// What stands behind the stream of an item.
+#[tactic(auto, using(crate::proofs::Lists::lists))]
 fn window(
     scopes: &Scopes,
     found: &mut Found,
@@ -63,6 +65,7 @@ fn window(
 }
 
 /// An item.
+#[tactic(auto, using(crate::proofs::Lists::lists))]
 fn item(
     scopes: &Scopes,
     found: &mut Found,
@@ -80,6 +83,7 @@ fn item(
 }
 
 /// The items of a clause.
+#[tactic(auto, using(crate::proofs::Lists::lists))]
 fn items(
     scopes: &Scopes,
     found: &mut Found,
@@ -98,6 +102,7 @@ fn items(
 }
 
 /// A `firstprivate` name.
+#[tactic(auto, using(crate::proofs::Lists::lists))]
 fn private(
     scopes: &Scopes,
     found: &mut Found,
@@ -113,6 +118,7 @@ fn private(
 }
 
 /// The names of a `firstprivate` clause.
+#[tactic(auto, using(crate::proofs::Lists::lists))]
 fn privates(
     scopes: &Scopes,
     found: &mut Found,
@@ -147,6 +153,7 @@ fn clause(
 }
 
 /// The clauses of a task. The answer is what they list.
+#[tactic(auto, using(crate::proofs::Lists::clauses))]
 pub(crate) fn clauses(
     alloc: Global,
     scopes: &Scopes,

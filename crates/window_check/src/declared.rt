@@ -48,6 +48,7 @@ impl Declared {
     }
 
     /// How many declarations there are, hidden ones included.
+    #[tactic(auto, using(crate::proofs::Rows::length_entries))]
     pub(crate) fn len(&self) -> usize
         ensures { result ≡ length self.now }
     {
@@ -65,8 +66,9 @@ impl Declared {
     pub(crate) fn declare(&mut self, entry: Entry) -> Result<(), Memory>
         ensures { OnOk result (self.new ≡ entry ∷ self.old) }
     {
+        self.rows.reserve(1)?;
         let hidden = self.newest.insert(entry.id, entry)?;
-        self.rows.push(Row { entry, hidden })?;
+        self.rows.push_reserved(Row { entry, hidden });
         Ok(())
     }
 
@@ -74,7 +76,7 @@ impl Declared {
     pub(crate) fn drop_to(&mut self, len: usize) -> Result<(), Memory>
         ensures { OnOk result (self.new ≡ drop (length self.old - len) self.old) }
     {
-        while self.rows.len() > len {
+        while self.len() > len {
             self.undo()?;
         }
         Ok(())

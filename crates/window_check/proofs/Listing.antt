@@ -1,0 +1,147 @@
+-- What clauses list is what is said of them: the names, the items and the captured scalars.
+use Rattle.std.proofs.Common.{◌≡◌, ℕ, ◌+◌, Bool, true, false, List, [], ◌∷◌, ◌++◌, length, Option, Some, None, Ordering, refl, ap, ◌∙◌, add-one, append_assoc, length-append, arith}
+use Rattle.std.specs.Prelude.{◌==◌, ◌||◌, is_some}
+use Rattle.std.specs.declared.cmp.Ordering.TheVariants.{Less, Equal, Greater}
+use Rattle.std.specs.BTreeSet.{insert_key}
+use Rattle.std.specs.Ordering.{nat_cmp, match_ordering}
+use Rattle.std.proofs.lemmas.Map.Lookups.{exact_unsigned}
+use Rattle.os_ast.specs.Names.{Scope, lookup, entity_of, declare}
+use Rattle.os_ast.specs.Notes.Clauses.{Part, Item, Private, part_name, part_notes, parts_notes, window_notes, is_in, again, count_items, privates, with_items, target_name, item_name, named_entity}
+use Rattle.os_ast.specs.Uses.{when}
+use Rattle.os_ast.specs.Trees as tree
+use Rattle.os_ast.specs.declared.expr.Name.{Name}
+use Rattle.os_ast.specs.declared.names.Direction.{Direction}
+use Rattle.os_ast.specs.declared.names.Entity.{Entity}
+use Rattle.os_ast.specs.declared.names.Entity.TheVariants as entity
+use Rattle.window_check.specs.declared.parts.ItemName.{ItemName}
+use Rattle.window_check.specs.Parts.{ListedParts, none_listed, inside, after_part, after_parts, listed_notes, after_names}
+
+or_other : (a b c : Bool) → (a || (b || c)) ≡ (b || (a || c))
+or_other true true c = refl
+or_other true false c = refl
+or_other false true c = refl
+or_other false false c = refl
+
+or_twice : (a c : Bool) → (a || c) ≡ (a || (a || c))
+or_twice true c = refl
+or_twice false c = refl
+
+abbrev SameNames : List ℕ → List ℕ → Type 0
+SameNames xs ys = (id : ℕ) → is_in id xs ≡ is_in id ys
+
+is_in-inserted : (id k x : ℕ) (xs : List ℕ) (r : Ordering) → nat_cmp k x ≡ r →
+    is_in id (insert_key nat_cmp xs k) ≡ ((k == id) || is_in id xs) →
+    is_in id (match_ordering r (k ∷ x ∷ xs) (x ∷ xs) (x ∷ insert_key nat_cmp xs k)) ≡ ((k == id) || is_in id (x ∷ xs))
+is_in-inserted id k x xs Less e same = refl
+is_in-inserted id k x xs Equal e same = rw (exact_unsigned k x e) (or_twice (x == id) (is_in id xs))
+is_in-inserted id k x xs Greater e same = rw same (or_other (x == id) (k == id) (is_in id xs))
+
+-- the names in order, with one more
+pub is_in-insert_key : (id k : ℕ) (names : List ℕ) → is_in id (insert_key nat_cmp names k) ≡ ((k == id) || is_in id names)
+is_in-insert_key id k [] = refl
+is_in-insert_key id k (x ∷ xs) = is_in-inserted id k x xs (nat_cmp k x) refl (is_in-insert_key id k xs)
+
+again-same : (names before : List ℕ) → SameNames names before → (n : Name) → again names n ≡ again before n
+again-same names before same n = ap (λ (b : Bool). when b 21) (same n.id)
+
+window_notes-same : (s : Scope) (names before : List ℕ) → SameNames names before → (t : tree.TargetTree) (j : Option tree.JoinTree) →
+    window_notes s names t j ≡ window_notes s before t j
+window_notes-same s names before same t None = rw (again-same names before same (target_name t))
+window_notes-same s names before same t (Some j) = rw (again-same names before same j.name)
+
+part_notes-same : (s : Scope) (names before : List ℕ) → SameNames names before → (p : Part) → part_notes s names p ≡ part_notes s before p
+part_notes-same s names before same (Item d i) = rw (window_notes-same s names before same i.stream i.window)
+part_notes-same s names before same (Private n) = rw (again-same names before same n)
+
+same-more : (s : Scope) (l : ListedParts) (before : List ℕ) (p : Part) → SameNames l.names before → SameNames (after_part s l p).names ((part_name p).id ∷ before)
+same-more s l before (Item d i) same id = rw (is_in-insert_key id (item_name i.stream i.window).id l.names, same id)
+same-more s l before (Private n) same id = rw (is_in-insert_key id n.id l.names, same id)
+
+listed-from : (s : Scope) (l : ListedParts) (before : List ℕ) (ps : List Part) → SameNames l.names before → listed_notes s l ps ≡ parts_notes s before ps
+listed-from s l before [] same = refl
+listed-from s l before (p ∷ ps) same =
+    rw (part_notes-same s l.names before same p, listed-from s (after_part s l p) ((part_name p).id ∷ before) ps (same-more s l before p same))
+
+-- the notes of parts by the names that are listed before each
+pub listed_notes-all : (s : Scope) (ps : List Part) → listed_notes s none_listed ps ≡ parts_notes s [] ps
+listed_notes-all s ps = listed-from s none_listed [] ps (λ id. refl)
+
+inside-named : (e : Option Entity) (item : ℕ) (d : Direction) (j : Option tree.JoinTree) →
+    inside e item (is_some j) d ≡ named_entity item d j e
+inside-named None item d None = refl
+inside-named None item d (Some j) = refl
+inside-named (Some (entity.Window slot)) item d None = refl
+inside-named (Some (entity.Window slot)) item d (Some j) = refl
+inside-named (Some (entity.Constant v)) item d None = refl
+inside-named (Some (entity.Constant v)) item d (Some j) = refl
+inside-named (Some (entity.Function n ps)) item d None = refl
+inside-named (Some (entity.Function n ps)) item d (Some j) = refl
+inside-named (Some (entity.Scalar slot)) item d None = refl
+inside-named (Some (entity.Scalar slot)) item d (Some j) = refl
+inside-named (Some (entity.Control slot)) item d None = refl
+inside-named (Some (entity.Control slot)) item d (Some j) = refl
+inside-named (Some entity.InputLength) item d None = refl
+inside-named (Some entity.InputLength) item d (Some j) = refl
+inside-named (Some (entity.Array first size)) item d None = refl
+inside-named (Some (entity.Array first size)) item d (Some j) = refl
+inside-named (Some (entity.Stream number)) item d None = refl
+inside-named (Some (entity.Stream number)) item d (Some j) = refl
+inside-named (Some (entity.Streams first count)) item d None = refl
+inside-named (Some (entity.Streams first count)) item d (Some j) = refl
+inside-named (Some (entity.Element i e)) item d None = refl
+inside-named (Some (entity.Element i e)) item d (Some j) = refl
+inside-named (Some (entity.View i e)) item d None = refl
+inside-named (Some (entity.View i e)) item d (Some j) = refl
+
+pub after_names-append : (s : Scope) (is more : List ItemName) → after_names s (is ++ more) ≡ after_names (after_names s is) more
+after_names-append s [] more = refl
+after_names-append s (i ∷ is) more = after_names-append (declare s i.id i.entity) is more
+
+with_items-more : (s inner : Scope) (l : ListedParts) (d : Direction) (i : tree.ClauseItemTree) (ps : List Part) →
+    with_items s (after_names inner (after_part s l (Item d i)).items) (length (after_part s l (Item d i)).items) ps
+    ≡ with_items s (after_names inner l.items) (length l.items) (Item d i ∷ ps)
+with_items-more s inner l d i ps =
+    let id = (item_name i.stream i.window).id in
+    rw (after_names-append, length-append, add-one, inside-named (entity_of (lookup s.entries id)) (length l.items) d i.window)
+
+items-from : (s inner : Scope) (l : ListedParts) (ps : List Part) →
+    after_names inner (after_parts s l ps).items ≡ with_items s (after_names inner l.items) (length l.items) ps
+items-from s inner l [] = refl
+items-from s inner l (Item d i ∷ ps) = items-from s inner (after_part s l (Item d i)) ps ∙ with_items-more s inner l d i ps
+items-from s inner l (Private n ∷ ps) = items-from s inner (after_part s l (Private n)) ps
+
+-- the scope with the names of the items
+pub items-all : (s inner : Scope) (ps : List Part) → after_names inner (after_parts s none_listed ps).items ≡ with_items s inner 0 ps
+items-all s inner ps = items-from s inner none_listed ps
+
+slots-from : (s : Scope) (l : ListedParts) (ps : List Part) → (after_parts s l ps).slots ≡ privates s l.slots ps
+slots-from s l [] = refl
+slots-from s l (Item d i ∷ ps) = slots-from s (after_part s l (Item d i)) ps
+slots-from s l (Private n ∷ ps) = slots-from s (after_part s l (Private n)) ps
+
+-- the captured scalars that `firstprivate` gave
+pub slots-all : (s : Scope) (ps : List Part) → (after_parts s none_listed ps).slots ≡ privates s [] ps
+slots-all s ps = slots-from s none_listed ps
+
+count-from : (s : Scope) (l : ListedParts) (ps : List Part) → length (after_parts s l ps).items ≡ length l.items + count_items ps
+count-from s l [] = omega arith
+count-from s l (Item d i ∷ ps) = simp length-append at (count-from s (after_part s l (Item d i)) ps) ∙ omega arith
+count-from s l (Private n ∷ ps) = count-from s (after_part s l (Private n)) ps
+
+-- how many the items are
+pub count-all : (s : Scope) (ps : List Part) → length (after_parts s none_listed ps).items ≡ count_items ps
+count-all s ps = omega (arith, count-from s none_listed ps)
+
+-- the parts of two clauses, one after the other
+pub after_parts-append : (s : Scope) (l : ListedParts) (ps qs : List Part) → after_parts s l (ps ++ qs) ≡ after_parts s (after_parts s l ps) qs
+after_parts-append s l [] qs = refl
+after_parts-append s l (p ∷ ps) qs = after_parts-append s (after_part s l p) ps qs
+
+pub listed_notes-append : (s : Scope) (l : ListedParts) (ps qs : List Part) →
+    listed_notes s l (ps ++ qs) ≡ listed_notes s l ps ++ listed_notes s (after_parts s l ps) qs
+listed_notes-append s l [] qs = refl
+listed_notes-append s l (p ∷ ps) qs = rw (listed_notes-append s (after_part s l p) ps qs, append_assoc)
+
+pub ruleset listing = (listed_notes-all, items-all, slots-all, count-all)
+
+pub ruleset joined_parts = (after_parts-append, listed_notes-append)
