@@ -176,6 +176,7 @@ fn is_main(item: &Item) -> bool
 }
 
 /// Whether there is a function `main` without parameters.
+#[tactic(auto, using(crate::proofs::Rules::items))]
 pub(crate) fn has_main(items: &List<Item>) -> bool
     ensures { result ≡ has_main (map item_tree items.now) }
 {
