@@ -9,10 +9,9 @@ use Rattle.os_ast.specs.Trees as tree
 use Rattle.os_ast.specs.Uses.{when}
 use Rattle.os_ast.specs.declared.expr.Name.{Name}
 use Rattle.os_ast.specs.declared.names.Owner.TheVariants as owner
-use Rattle.window_check.proofs.Declaring.{noted-name}
 use Rattle.window_check.proofs.HasRoom.{room_less, room_stmts, room_in_body, room_item}
 use Rattle.window_check.proofs.Loops.{noted-loop}
-use Rattle.window_check.proofs.Noted.{noted-append}
+use Rattle.window_check.proofs.Noted.{noted-append, noted-codes-append}
 use Rattle.window_check.proofs.Restored.{ended_function, owner_in_body}
 use Rattle.window_check.proofs.Tasks.{noted-in_task, blamed-in_task}
 use Rattle.window_check.specs.Codes.{least_code}
@@ -62,7 +61,7 @@ function-found f blame given found s begun inside names t params begin body blam
     let ps = params_notes (in_function s t.name.id) (param_names t.params) in
     let ss = stmts_notes (in_body s t) t.body in
     rw (finding, giving, blaming, body, begin, params)
-    (sym (noted-append f (map (Fault t.name.mark) codes ++ ps) ss ∙ ap (λ (g : Findings). noted g ss) (noted-name f t.name codes ps)))
+    (sym (noted-append f (map (Fault t.name.mark) codes ++ ps) ss ∙ ap (λ (g : Findings). noted g ss) (noted-codes-append f t.name.mark codes ps)))
 
 -- an item, and those behind it
 pub items_room-first : (s : Scope) (is rest : List tree.ItemTree) (i : tree.ItemTree) → is ≡ i ∷ rest → HasRoom s (items_weight is) → HasRoom s (item_weight i)
