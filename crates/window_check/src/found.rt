@@ -1,4 +1,4 @@
-ghost use Rattle.std.specs.Prelude.{◌≡◌, ◌<◌, ◌≤◌, ◌++◌, OnOk, All, length, drop, map};
+ghost use Rattle.std.specs.Prelude.{◌≡◌, ◌<◌, ◌≤◌, ◌++◌, [], false, OnOk, All, length, drop, map};
 ghost use Rattle.std.specs.List.Sorted.{IsStrictlySortedBy};
 ghost use Rattle.std.specs.Ordering.{nat_cmp};
 ghost use Rattle.os_ast.specs.Meanings.{Means, meaning, meant, control_note};
@@ -22,7 +22,7 @@ pub(crate) struct Found {
 }
 
 impl Model for Found {
-    ghost use Rattle.std.specs.Prelude.{All};
+    ghost use Rattle.std.specs.Prelude.{◌≡◌, [], false, All};
     ghost use Rattle.window_check.specs.Findings.{Findings};
     ghost use Rattle.window_check.specs.Room.{IsSmallNaming};
 
@@ -30,7 +30,7 @@ impl Model for Found {
 
     ghost view = { λ f. record { least = f.least; names = f.names; waiting = f.waiting; in_task = f.in_task } };
 
-    ghost invariant = { λ f. All IsSmallNaming f.waiting };
+    ghost invariant = { λ f. All IsSmallNaming f.waiting × (f.in_task ≡ false → f.waiting ≡ []) };
 }
 
 /// Whether a violation comes before another: by place, then by code, then by line.
@@ -155,7 +155,8 @@ impl Found {
 
     /// A task begins that stands in no other one: its names wait for its end.
     pub(crate) fn begin_task(&mut self, alloc: Global)
-        ensures { self.new ≡ waits self.old }
+        ensures waits { self.new ≡ waits self.old }
+        ensures idle { self.old.in_task ≡ false → self.old.waiting ≡ [] }
     {
         self.waiting = List::new(alloc);
         self.in_task = true;
