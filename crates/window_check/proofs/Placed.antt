@@ -334,10 +334,12 @@ mutual
       let one = of-start P (enter s) start _ h in
       let two = of-value P head test _ one.1 in
       let three = of-step P head step _ two.1 in
-      let four = of-stmt P (in_loop head) a rest three.1 in
-      (of-append P (start_notes (enter s) start ++ value_notes head test ++ step_notes head step) (stmt_notes (in_loop head) a)
-      (of-append P (start_notes (enter s) start ++ value_notes head test) (step_notes head step)
-      (of-append P (start_notes (enter s) start) (value_notes head test) one.0 two.0) three.0) four.0, four.1)
+      let four = of-stmt P (in_loop head) a rest three.1 in (
+        of-append P (start_notes (enter s) start ++ value_notes head test ++ step_notes head step) (stmt_notes (in_loop head) a)
+            (of-append P (start_notes (enter s) start ++ value_notes head test) (step_notes head step)
+            (of-append P (start_notes (enter s) start) (value_notes head test) one.0 two.0) three.0) four.0,
+        four.1,
+      )
   of-stmt P s (tree.Break m) rest h = (of-codes P m (when (not s.loop) 16) h.0, h.1)
   of-stmt P s (tree.Continue m) rest h = (of-codes P m (when (not s.loop) 16) h.0, h.1)
   of-stmt P s (tree.Return m e) rest h =
@@ -349,9 +351,11 @@ mutual
       (of-task P s m (parts cs) (stmt_notes (with_items s (in_task s) 0 (parts cs)) a) h.0 one.0 two.0, two.1)
   of-stmt P s (tree.Tick m t arrow e) rest h =
       let one = of-place P s (stream_codes direction.Reads) t _ h.1 in
-      let two = of-expr P s e _ one.1.1 in
-      (of-append P (map (Fault m) (pragma_codes s.owner) ++ place_notes s (stream_codes direction.Reads) t) (expr_notes s e)
-      (of-append P (map (Fault m) (pragma_codes s.owner)) (place_notes s (stream_codes direction.Reads) t) (of-codes P m (pragma_codes s.owner) h.0) one.0) two.0, two.1)
+      let two = of-expr P s e _ one.1.1 in (
+        of-append P (map (Fault m) (pragma_codes s.owner) ++ place_notes s (stream_codes direction.Reads) t) (expr_notes s e)
+            (of-append P (map (Fault m) (pragma_codes s.owner)) (place_notes s (stream_codes direction.Reads) t) (of-codes P m (pragma_codes s.owner) h.0) one.0) two.0,
+        two.1,
+      )
   of-stmt P s (tree.Taskwait m) rest h = (of-codes P m (pragma_codes s.owner) h.0, h.1)
 
   of-stmts : (P : Mark → Type 0) (s : Scope) (ss : tree.Stmts) (rest : List Piece) → HasKept P (spelling.stmts ss rest) → AreOf P (stmts_notes s ss) × HasKept P rest
@@ -391,10 +395,12 @@ of-programs_item : (P : Mark → Type 0) (s : Scope) (i : tree.ItemTree) (rest :
 of-programs_item P s (tree.Constant c) rest h = (of-codes P c.name.mark (when (is_declared s c.name.id) 12) h.0, of-sign P c.minus _ h.1)
 of-programs_item P s (tree.Function f) rest h =
     let one = of-param_list P (in_function s f.name.id) f.params _ h.1 in
-    let two = of-stmts P (in_body s f) f.body _ one.1 in
-    (of-append P (map (Fault f.name.mark) (when (is_declared s f.name.id) 12) ++ params_notes (in_function s f.name.id) (param_names f.params)) (stmts_notes (in_body s f) f.body)
-    (of-append P (map (Fault f.name.mark) (when (is_declared s f.name.id) 12)) (params_notes (in_function s f.name.id) (param_names f.params))
-    (of-codes P f.name.mark (when (is_declared s f.name.id) 12) h.0) one.0) two.0, two.1)
+    let two = of-stmts P (in_body s f) f.body _ one.1 in (
+      of-append P (map (Fault f.name.mark) (when (is_declared s f.name.id) 12) ++ params_notes (in_function s f.name.id) (param_names f.params)) (stmts_notes (in_body s f) f.body)
+          (of-append P (map (Fault f.name.mark) (when (is_declared s f.name.id) 12)) (params_notes (in_function s f.name.id) (param_names f.params))
+          (of-codes P f.name.mark (when (is_declared s f.name.id) 12) h.0) one.0) two.0,
+      two.1,
+    )
 
 pub of-program : (P : Mark → Type 0) (s : Scope) (is : List tree.ItemTree) (rest : List Piece) → HasKept P (spelling.each spelling.item is rest) → AreOf P (items_notes s is) × HasKept P rest
 of-program P s [] rest h = (tt, h)

@@ -37,19 +37,21 @@ noted_of p s f g a b e = e ∙ (ap (λ (s : Scope). noted f (items_notes s p)) a
 pub returns-in-Some-clause-refused : goal.returns-in-Some-clause-refused
 returns-in-Some-clause-refused c =
     let p = program_tree c.args.program in
-    let found = noted_of p c.new-scopes.result c.new-found.result c.items.new.found c.new-scopes.ensures c.new-found.ensures c.in_ok-items.ensures.found in
-    (c.in-Some.violation.place,
-     refused p c.in-Some.violation c.requires.placed
-     (sym (ap (λ (f : Findings). f.least) found) ∙ (sym c.into_parts-least.ensures.least ∙ c.in-Some.is)))
+    let found = noted_of p c.new-scopes.result c.new-found.result c.items.new.found c.new-scopes.ensures c.new-found.ensures c.in_ok-items.ensures.found in (
+      c.in-Some.violation.place,
+      refused p c.in-Some.violation c.requires.placed
+          (sym (ap (λ (f : Findings). f.least) found) ∙ (sym c.into_parts-least.ensures.least ∙ c.in-Some.is)),
+    )
 
 pub returns-then-not-has_main-clause-refused : goal.returns-then-not-has_main-clause-refused
 returns-then-not-has_main-clause-refused c =
     let p = program_tree c.args.program in
-    let found = noted_of p c.new-scopes.result c.new-found.result c.items.new.found c.new-scopes.ensures c.new-found.ensures c.in_ok-items.ensures.found in
-    (length (spell p),
-     refused-end p
-     (sym (ap (λ (f : Findings). f.least) found) ∙ (sym c.into_parts-least.ensures.least ∙ c.in_default.is))
-     (sym c.has_main.ensures ∙ c.if-not-has_main.true))
+    let found = noted_of p c.new-scopes.result c.new-found.result c.items.new.found c.new-scopes.ensures c.new-found.ensures c.in_ok-items.ensures.found in (
+      length (spell p),
+      refused-end p
+          (sym (ap (λ (f : Findings). f.least) found) ∙ (sym c.into_parts-least.ensures.least ∙ c.in_default.is))
+          (sym c.has_main.ensures ∙ c.if-not-has_main.true),
+    )
 
 -- how many streams were counted
 streams_of : (p : ProgramTree) (s t : Scope) → s ≡ file → t ≡ after_items s p → t.streams ≡ (after_items file p).streams
@@ -69,8 +71,8 @@ invariant_of-result c =
       few = c.requires.few;
       placed = c.requires.placed;
       lawful = lawful p
-        (sym (ap (λ (f : Findings). f.least) found) ∙ (sym c.into_parts-least.ensures.least ∙ c.in_default.is))
-        (sym c.has_main.ensures ∙ c.if-not-has_main.false);
+          (sym (ap (λ (f : Findings). f.least) found) ∙ (sym c.into_parts-least.ensures.least ∙ c.in_default.is))
+          (sym c.has_main.ensures ∙ c.if-not-has_main.false);
       named = c.into_parts-least.ensures.names ∙ (ap (λ (f : Findings). f.names) found ∙ found-names p);
       counted = ap (λ n. 2 + n) (c.streams.ensures ∙ streams_of p c.new-scopes.result c.items.new.scopes c.new-scopes.ensures c.in_ok-items.ensures.scopes);
     }
