@@ -32,7 +32,7 @@ noted-name f n codes rest = noted-append f (map (Fault n.mark) codes) rest ∙ a
 
 declarator_least : (s : Scope) (d : tree.DeclaratorTree) → least_code (declarator_codes s d)
     ≡ lesser_code (least_code (when (is_declared s d.name.id) 12))
-      (lesser_code (least_code (form_codes (taken s (form s d)) (form s d))) (least_code (when (d.stream && not (is_outermost s.owner s.depth)) 17)))
+    (lesser_code (least_code (form_codes (taken s (form s d)) (form s d))) (least_code (when (d.stream && not (is_outermost s.owner s.depth)) 17)))
 declarator_least s d =
     let twice = when (is_declared s d.name.id) 12 in
     let sizes = form_codes (taken s (form s d)) (form s d) in
@@ -44,30 +44,30 @@ declarator_least s d =
 pub declarator-found : (f : Findings) (s : Scope) (d : tree.DeclaratorTree) →
     noted f (declarator_notes s d)
     ≡ noted
-      (noted
-      (note
-      (blamed f d.name.mark
-      (lesser_code (least_code (when (is_declared s d.name.id) 12))
-      (lesser_code (least_code (form_codes (taken s (form s d)) (form s d))) (least_code (when (d.stream && not (is_outermost s.owner s.depth)) 17)))))
-      (Means d.name.mark (meaning (form_entity s (form s d)))))
-      (sized_notes s d.stream d.size))
-      (value_notes (after_declarator s d) d.first)
+    (noted
+    (note
+    (blamed f d.name.mark
+    (lesser_code (least_code (when (is_declared s d.name.id) 12))
+    (lesser_code (least_code (form_codes (taken s (form s d)) (form s d))) (least_code (when (d.stream && not (is_outermost s.owner s.depth)) 17)))))
+    (Means d.name.mark (meaning (form_entity s (form s d)))))
+    (sized_notes s d.stream d.size))
+    (value_notes (after_declarator s d) d.first)
 declarator-found f s d =
     let means = Means d.name.mark (meaning (form_entity s (form s d))) in
     let sized = sized_notes s d.stream d.size in
     let first = value_notes (after_declarator s d) d.first in
     noted-append f (map (Fault d.name.mark) (declarator_codes s d) ++ (means ∷ sized)) first
     ∙ ap
-      (λ (g : Findings). noted g first)
-      (noted-name f d.name (declarator_codes s d) (means ∷ sized)
-      ∙ ap (λ (c : Option ℕ). noted (blamed f d.name.mark c) (means ∷ sized)) (declarator_least s d))
+    (λ (g : Findings). noted g first)
+    (noted-name f d.name (declarator_codes s d) (means ∷ sized)
+    ∙ ap (λ (c : Option ℕ). noted (blamed f d.name.mark c) (means ∷ sized)) (declarator_least s d))
 
 -- the steps of the code
 pub declarator-steps : (f blame named size : Findings) (s after declared : Scope) (d : tree.DeclaratorTree) (fm : Form) (e : Entity) (c code : Option ℕ) (w : What) →
     fm ≡ form s d → e ≡ form_entity s fm → c ≡ least_code (form_codes (taken s fm) fm) →
     code
     ≡ lesser_code (least_code (when (is_declared s d.name.id) 12))
-      (lesser_code c (least_code (when (d.stream && not (is_outermost s.owner s.depth)) 17))) →
+    (lesser_code c (least_code (when (d.stream && not (is_outermost s.owner s.depth)) 17))) →
     blame ≡ blamed f d.name.mark code → w ≡ meaning e → named ≡ note blame (Means d.name.mark w) →
     size ≡ noted named (sized_notes s d.stream d.size) → after ≡ taken s fm → declared ≡ declare after d.name.id e →
     noted size (value_notes declared d.first) ≡ noted f (declarator_notes s d)

@@ -60,4 +60,5 @@ listed-parts s l m ps rest all whole split listed h =
     cc both
 
 pub ruleset lists = (items-drop, privates-drop, items-part, noted-append)
+
 pub ruleset clauses = (parts-drop, items-parts, listing)

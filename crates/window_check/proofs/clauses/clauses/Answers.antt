@@ -20,6 +20,6 @@ loop-next-preserved c =
         arith,
         items-parts s l here,
         ap (λ (l : ListedParts). length l.items) c.in_ok-clause.ensures.listed,
-        simp length-append at (ap (λ (ps : List Part). length ps) split)
+        simp length-append at (ap (λ (ps : List Part). length ps) split),
       );
     }

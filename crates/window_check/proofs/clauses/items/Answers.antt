@@ -18,6 +18,6 @@ loop-next-preserved c =
       count = omega (
         arith,
         items-part s l part,
-        ap (λ (l : ListedParts). length l.items) c.in_ok-item.ensures.listed
+        ap (λ (l : ListedParts). length l.items) c.in_ok-item.ensures.listed,
       );
     }
