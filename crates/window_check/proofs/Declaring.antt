@@ -1,34 +1,17 @@
--- What is found of a declarator and of a parameter, step by step.
-use Rattle.std.proofs.Common.{◌≡◌, ℕ, ◌&&◌, not, min, List, [], ◌∷◌, ◌++◌, map, Option, Some, None, refl, ap, sym, ◌∙◌, arith}
-use Rattle.os_ast.specs.Meanings.{Note, Fault, Means, meaning}
+-- What is found of a declarator, step by step.
+use Rattle.std.proofs.Common.{◌≡◌, ℕ, ◌&&◌, not, ◌∷◌, ◌++◌, map, Option, ap, sym, ◌∙◌, append_assoc}
+use Rattle.os_ast.specs.Meanings.{Fault, Means, meaning}
 use Rattle.os_ast.specs.Names.{Scope, declare, is_declared}
-use Rattle.os_ast.specs.Notes.Declarators.{form, form_codes, form_entity, taken, is_outermost, after_declarator, declarator_notes, declarator_codes, sized_notes, scalar_entity}
+use Rattle.os_ast.specs.Notes.Declarators.{form, form_codes, form_entity, taken, is_outermost, after_declarator, declarator_notes, declarator_codes, sized_notes}
 use Rattle.os_ast.specs.Notes.Expressions.{value_notes}
-use Rattle.os_ast.specs.Notes.Programs.{params_notes}
 use Rattle.os_ast.specs.Trees as tree
 use Rattle.os_ast.specs.Uses.{when}
-use Rattle.os_ast.specs.declared.expr.Name.{Name}
 use Rattle.os_ast.specs.declared.names.Entity.{Entity}
 use Rattle.os_ast.specs.declared.names.Form.{Form}
 use Rattle.os_ast.specs.declared.names.What.{What}
-use Rattle.window_check.proofs.Noted.{noted-append, noted-codes}
+use Rattle.window_check.proofs.Noted.{noted-append, noted-codes-append, least_code-append}
 use Rattle.window_check.specs.Codes.{least_code, lesser_code}
 use Rattle.window_check.specs.Findings.{Findings, blamed, note, noted}
-
-lesser_code-assoc : (a b c : Option ℕ) → lesser_code a (lesser_code b c) ≡ lesser_code (lesser_code a b) c
-lesser_code-assoc None b c = refl
-lesser_code-assoc (Some a) None c = refl
-lesser_code-assoc (Some a) (Some b) None = refl
-lesser_code-assoc (Some a) (Some b) (Some c) = let e : min a (min b c) ≡ min (min a b) c = omega arith in ap (λ (n : ℕ). Some n) e
-
-pub least_code-append : (xs ys : List ℕ) → least_code (xs ++ ys) ≡ lesser_code (least_code xs) (least_code ys)
-least_code-append [] ys = refl
-least_code-append (x ∷ xs) ys = ap (lesser_code (Some x)) (least_code-append xs ys) ∙ lesser_code-assoc (Some x) (least_code xs) (least_code ys)
-
--- a name that is declared: its codes first, then what it means
-pub noted-name : (f : Findings) (n : Name) (codes : List ℕ) (rest : List Note) →
-    noted f (map (Fault n.mark) codes ++ rest) ≡ noted (blamed f n.mark (least_code codes)) rest
-noted-name f n codes rest = noted-append f (map (Fault n.mark) codes) rest ∙ ap (λ (g : Findings). noted g rest) (noted-codes f n.mark codes)
 
 declarator_least : (s : Scope) (d : tree.DeclaratorTree) → least_code (declarator_codes s d)
     ≡ lesser_code (least_code (when (is_declared s d.name.id) 12))
@@ -37,9 +20,9 @@ declarator_least s d =
     let twice = when (is_declared s d.name.id) 12 in
     let sizes = form_codes (taken s (form s d)) (form s d) in
     let streams = when (d.stream && not (is_outermost s.owner s.depth)) 17 in
-    least_code-append (twice ++ sizes) streams
-    ∙ ap (λ (c : Option ℕ). lesser_code c (least_code streams)) (least_code-append twice sizes)
-    ∙ sym (lesser_code-assoc (least_code twice) (least_code sizes) (least_code streams))
+    ap least_code (append_assoc twice sizes streams)
+    ∙ least_code-append twice (sizes ++ streams)
+    ∙ ap (lesser_code (least_code twice)) (least_code-append sizes streams)
 
 pub declarator-found : (f : Findings) (s : Scope) (d : tree.DeclaratorTree) →
     noted f (declarator_notes s d)
@@ -59,7 +42,7 @@ declarator-found f s d =
     noted-append f (map (Fault d.name.mark) (declarator_codes s d) ++ (means ∷ sized)) first
     ∙ ap
     (λ (g : Findings). noted g first)
-    (noted-name f d.name (declarator_codes s d) (means ∷ sized)
+    (noted-codes-append f d.name.mark (declarator_codes s d) (means ∷ sized)
     ∙ ap (λ (c : Option ℕ). noted (blamed f d.name.mark c) (means ∷ sized)) (declarator_least s d))
 
 -- the steps of the code
@@ -73,8 +56,3 @@ pub declarator-steps : (f blame named size : Findings) (s after declared : Scope
     noted size (value_notes declared d.first) ≡ noted f (declarator_notes s d)
 declarator-steps f blame named size s after declared d fm e c code w hfm he hc hcode hblame hw hnamed hsize hafter hdeclared =
     rw (hsize, hnamed, hw, hblame, hcode, hc, hdeclared, hafter, he, hfm) (sym (declarator-found f s d))
-
-pub param-found : (f : Findings) (s : Scope) (n : Name) →
-    noted f (params_notes s (n ∷ []))
-    ≡ note (blamed f n.mark (least_code (when (is_declared s n.id) 12))) (Means n.mark (meaning (scalar_entity s.owner s.slots)))
-param-found f s n = noted-name f n (when (is_declared s n.id) 12) (Means n.mark (meaning (scalar_entity s.owner s.slots)) ∷ [])

@@ -1,21 +1,17 @@
 -- The rest of a list of parts, one part at a time, and what a tree of the code holds as a row.
-use Rattle.std.proofs.Common.{◌≡◌, ℕ, ◌+◌, ◌<◌, List, [], ◌∷◌, ◌++◌, ◌||◌, length, suc, get_or, drop, add-one, map, refl, ap, sym, append_assoc}
+use Rattle.std.proofs.Common.{◌≡◌, ℕ, ◌+◌, ◌<◌, List, [], ◌∷◌, ◌++◌, ◌||◌, length, suc, get_or, drop, add-one, map, refl, ap}
 use Rattle.std.proofs.Math.Seq.{drop-cons}
-use Rattle.os_ast.proofs.Rows.{expr_tree-call, expr_tree-chain, stmt_tree-block}
+use Rattle.os_ast.proofs.Rows.{stmt_tree-block}
 use Rattle.os_ast.specs.Trees as tree
-use Rattle.os_ast.specs.Meanings.{Fault, Means, meaning}
-use Rattle.os_ast.specs.Names.{Scope, is_declared}
+use Rattle.os_ast.specs.Names.{Scope}
 use Rattle.os_ast.specs.Notes.Clauses.{parts, parts_of}
-use Rattle.os_ast.specs.Notes.Declarators.{after_declarator, after_declarators, declarator_notes, declarators_notes, scalar_entity}
-use Rattle.os_ast.specs.Notes.Expressions.{count_args, expr_notes, args_notes, links_notes}
-use Rattle.os_ast.specs.Notes.Programs.{after_item, after_items, item_notes, items_notes, after_param, after_params, params_notes}
+use Rattle.os_ast.specs.Notes.Declarators.{after_declarator, after_declarators, declarator_notes, declarators_notes}
+use Rattle.os_ast.specs.Notes.Expressions.{count_args}
 use Rattle.os_ast.specs.Notes.Statements.{after_stmt, after_stmts, stmt_notes, stmts_notes}
-use Rattle.os_ast.specs.Uses.{when}
 use Rattle.os_ast.specs.Views.{expr_tree, args_tree, links_tree, declarator_tree, clause_tree, stmt_tree, stmts_tree, item_tree}
 use Rattle.os_ast.specs.Violations.{is_main, has_main}
 use Rattle.os_ast.specs.declared.expr.Expr.{Expr}
 use Rattle.os_ast.specs.declared.expr.Link.{Link}
-use Rattle.os_ast.specs.declared.expr.Name.{Name}
 use Rattle.os_ast.specs.declared.pragma.Clause.{Clause}
 use Rattle.os_ast.specs.declared.program.Item.{Item}
 use Rattle.os_ast.specs.declared.stmt.Declarator.{Declarator}
@@ -62,28 +58,8 @@ pub after_declarators-drop : (s : Scope) (ds : List Declarator) (i : ℕ) (d : D
     after_declarators s (map declarator_tree (drop i ds)) ≡ after_declarators (after_declarator s (declarator_tree d)) (map declarator_tree (drop (i + 1) ds))
 after_declarators-drop s ds i d h is = rw (drop-cons ds i d h, ← is, add-one)
 
-pub items_notes-drop : (s : Scope) (is : List Item) (i : ℕ) (x : Item) → i < length is → x ≡ get_or is i x →
-    items_notes s (map item_tree (drop i is)) ≡ item_notes s (item_tree x) ++ items_notes (after_item s (item_tree x)) (map item_tree (drop (i + 1) is))
-items_notes-drop s is i x h e = rw (drop-cons is i x h, ← e, add-one)
-
-pub after_items-drop : (s : Scope) (is : List Item) (i : ℕ) (x : Item) → i < length is → x ≡ get_or is i x →
-    after_items s (map item_tree (drop i is)) ≡ after_items (after_item s (item_tree x)) (map item_tree (drop (i + 1) is))
-after_items-drop s is i x h e = rw (drop-cons is i x h, ← e, add-one)
-
 pub has_main-drop : (is : List Item) (i : ℕ) (x : Item) → i < length is → x ≡ get_or is i x →
     has_main (map item_tree (drop i is)) ≡ is_main (item_tree x) || has_main (map item_tree (drop (i + 1) is))
 has_main-drop is i x h e = rw (drop-cons is i x h, ← e, add-one)
-
-params_notes-one : (s : Scope) (n : Name) (ns : List Name) → params_notes s (n ∷ ns) ≡ params_notes s (n ∷ []) ++ params_notes (after_param s n) ns
-params_notes-one s n ns =
-    sym (append_assoc (map (Fault n.mark) (when (is_declared s n.id) 12)) (Means n.mark (meaning (scalar_entity s.owner s.slots)) ∷ []) (params_notes (after_param s n) ns))
-
-pub params_notes-drop : (s : Scope) (ns : List Name) (i : ℕ) (n : Name) → i < length ns → n ≡ get_or ns i n →
-    params_notes s (drop i ns) ≡ params_notes s (n ∷ []) ++ params_notes (after_param s n) (drop (i + 1) ns)
-params_notes-drop s ns i n h is = rw (drop-cons ns i n h, ← is, add-one i) (params_notes-one s n (drop (suc i) ns))
-
-pub after_params-drop : (s : Scope) (ns : List Name) (i : ℕ) (n : Name) → i < length ns → n ≡ get_or ns i n →
-    after_params s (drop i ns) ≡ after_params (after_param s n) (drop (i + 1) ns)
-after_params-drop s ns i n h is = rw (drop-cons ns i n h, ← is, add-one i)
 
 pub ruleset stmts = (stmt_tree-block, stmts_notes-drop, after_stmts-drop, parts-drop)
