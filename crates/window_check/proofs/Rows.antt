@@ -2,6 +2,7 @@
 use Rattle.std.proofs.Common.{◌≡◌, ℕ, suc, ◌+◌, ◌-◌, ◌<◌, ◌≤◌, nat_cmp, List, [], ◌∷◌, ◌++◌, length, drop, refl, ap, subst, sym, ◌∙◌, arith, Option, Some}
 use Rattle.std.proofs.lemmas.Grind.{common_steps}
 use Rattle.std.specs.BTreeMap.{BTreeMap, get, Updates}
+use Rattle.std.specs.Option.{IsSome}
 use Rattle.os_ast.specs.Names.{lookup}
 use Rattle.os_ast.specs.declared.names.Entry.{Entry}
 use Rattle.window_check.specs.Rows.{entries, entries_onto, Hides, HidesFrom}
@@ -82,6 +83,9 @@ kept_there all rows r m is h =
     ∙ ap (λ (rs : List Row). lookup (entries rs) r.entry.id) is
     ∙ ap (λ (es : List Entry). lookup es r.entry.id) (entries_push rows r)
     ∙ lookup_here (entries rows) r.entry
+
+pub is_some : (o : Option Entry) (e : Entry) → o ≡ Some e → IsSome o
+is_some o e is = grind (arith, common_steps)
 
 pub entries_less : (all rows : List Row) (r : Row) → all ≡ rows ++ r ∷ [] → entries rows ≡ drop 1 (entries all)
 entries_less all rows r is = sym (ap (drop 1) (ap entries is ∙ entries_push rows r))

@@ -1,4 +1,4 @@
-ghost use Rattle.std.specs.Prelude.{◌≡◌, ◌∷◌, ◌-◌, [], OnOk, length, drop};
+ghost use Rattle.std.specs.Prelude.{◌≡◌, ◌∷◌, ◌-◌, [], OnErr, OnOk, length, drop};
 ghost use Rattle.os_ast.specs.Names.{lookup};
 
 use os_ast::Entry;
@@ -62,9 +62,10 @@ impl Declared {
         self.newest.get(&id).copied()
     }
 
-    /// One more declaration, which is the innermost.
+    /// One more declaration, which is the innermost. `Memory` leaves them as they were.
     pub(crate) fn declare(&mut self, entry: Entry) -> Result<(), Memory>
-        ensures { OnOk result (self.new ≡ entry ∷ self.old) }
+        ensures ok { OnOk result (self.new ≡ entry ∷ self.old) }
+        ensures err { OnErr result (self.new ≡ self.old) }
     {
         self.rows.reserve(1)?;
         let hidden = self.newest.insert(entry.id, entry)?;
@@ -73,30 +74,30 @@ impl Declared {
     }
 
     /// Takes the innermost declarations away until there are so many.
-    pub(crate) fn drop_to(&mut self, len: usize) -> Result<(), Memory>
-        ensures { OnOk result (self.new ≡ drop (length self.old - len) self.old) }
+    pub(crate) fn drop_to(&mut self, len: usize)
+        ensures { self.new ≡ drop (length self.old - len) self.old }
     {
         while self.len() > len {
-            self.undo()?;
+            self.undo();
         }
-        Ok(())
     }
 
     /// Takes the innermost declaration away, and the one that it hid is in scope again.
-    fn undo(&mut self) -> Result<(), Memory>
-        ensures { OnOk result (self.new ≡ drop 1 self.old) }
+    fn undo(&mut self)
+        ensures { self.new ≡ drop 1 self.old }
     {
         let Some(row) = self.rows.pop() else {
-            return Ok(());
+            return;
         };
         match row.hidden {
             Some(hidden) => {
-                self.newest.insert(row.entry.id, hidden)?;
+                if let Some(newest) = self.newest.get_mut(&row.entry.id) {
+                    *newest = hidden;
+                }
             }
             None => {
                 self.newest.remove(&row.entry.id);
             }
         }
-        Ok(())
     }
 }

@@ -181,7 +181,7 @@ impl Scopes {
     pub(crate) fn leave(&mut self, outer: Outer) -> Result<(), Memory>
         ensures { OnOk result (self.new ≡ returned outer self.old) }
     {
-        self.declared.drop_to(outer.declared)?;
+        self.declared.drop_to(outer.declared);
         self.depth = outer.depth;
         self.in_loop = outer.in_loop;
         Ok(())

@@ -13,7 +13,7 @@ invariant_of-self-2 c =
     c.in_ok-hidden.ensures.updates
     c.in_ok-hidden.ensures.old)
 
-pub returns : goal.returns
-returns c =
+pub returns-clause-ok : goal.returns-clause-ok
+returns-clause-ok c =
     rw (c.push_reserved.ensures.items, c.reserve.ensures.items, ← c.self.view_is)
     (entries_push c.self.inside.rows.items (record { entry = c.args.entry; hidden = c.in_ok-hidden.hidden }))
