@@ -130,9 +130,33 @@ noted-task f s m ps body =
     let inner = captured_notes s.owner slots body in
     let g = blamed f m (least_code first) in
     rw (slots-all s ps, count-all s ps, map-append (Fault m) first last)
-    (noted-append f (map (Fault m) first ++ map (Fault m) last) (given ++ inner)
-    ∙ ap (λ (g : Findings). noted g (given ++ inner)) (noted-append f (map (Fault m) first) (map (Fault m) last))
-    ∙ ap (λ (g : Findings). noted (noted g (map (Fault m) last)) (given ++ inner)) (noted-codes f m first)
-    ∙ ap (λ (g : Findings). noted g (given ++ inner)) (noted-codes g m last)
-    ∙ noted-blamed g m (least_code last) (given ++ inner)
-    ∙ ap (λ (g : Findings). blamed g m (least_code last)) (noted-append g given inner))
+    (noted-append f (map (Fault m) first ++ map (Fault m) last ++ given) inner
+    ∙ ap (λ (h : Findings). noted h inner) (noted-append f (map (Fault m) first ++ map (Fault m) last) given)
+    ∙ ap (λ (h : Findings). noted (noted h given) inner) (noted-append f (map (Fault m) first) (map (Fault m) last))
+    ∙ ap (λ (h : Findings). noted (noted (noted h (map (Fault m) last)) given) inner) (noted-codes f m first)
+    ∙ ap (λ (h : Findings). noted (noted h given) inner) (noted-codes g m last)
+    ∙ ap (λ (h : Findings). noted h inner) (noted-blamed g m (least_code last) given)
+    ∙ noted-blamed (noted g given) m (least_code last) inner)
+
+-- what is found of a body and of its task, where the task stands in another one
+pub found-inside : (f g h : Findings) (m : Mark) (l : ListedParts) (body : List Note) (first items count : ℕ) (given slots : List ℕ) (code : Option ℕ) →
+    f.in_task ≡ true → first ≡ length f.waiting → g ≡ noted f body → items ≡ length l.items → given ≡ l.slots →
+    slots ≡ captured_among given (drop first g.waiting) → count ≡ length slots → code ≡ least_code (task_codes items count) →
+    h ≡ blamed g m code → h ≡ noted_body f owners.OfTask m l body
+found-inside f g h m l body first items count given slots code task waits noting is_items is_given is_slots is_count is_code blaming =
+    let among : slots ≡ captured l.slots body =
+    is_slots
+    ∙ rw (is_given, waits, noting) (captured-inside f l.slots body task) in
+    rw (blaming, is_code, is_count, is_items, among, noting) refl
+
+-- what is found of a body and of its task, where the task stands in no other one
+pub found-outside : (f b g h k : Findings) (m : Mark) (l : ListedParts) (body : List Note) (items count : ℕ) (given slots : List ℕ) (code : Option ℕ) →
+    f.in_task ≡ false → f.waiting ≡ [] → b ≡ waits f → g ≡ noted b body → items ≡ length l.items → given ≡ l.slots →
+    slots ≡ captured_among given (drop 0 g.waiting) → count ≡ length slots → code ≡ least_code (task_codes items count) →
+    h ≡ blamed g m code → k ≡ settle slots h → k ≡ noted_body f owners.OfMain m l body
+found-outside f b g h k m l body items count given slots code task idle beginning noting is_items is_given is_slots is_count is_code blaming ending =
+    let among : slots ≡ captured l.slots body =
+    is_slots
+    ∙ rw (is_given, noting, beginning) (captured-outside f l.slots body) in
+    rw (ending, blaming, is_code, is_count, is_items, among, noting, beginning)
+    (settled-task f (captured l.slots body) body m (least_code (task_codes (length l.items) (length (captured l.slots body)))) task idle)

@@ -5,8 +5,7 @@ use Rattle.std.specs.declared.alloc.Global.{Global}
 use Rattle.os_ast.specs.Meanings.{Note, captured}
 use Rattle.os_ast.specs.Notes.Clauses.{task_codes, captured_notes}
 use Rattle.os_ast.specs.Trees as tree
-use Rattle.os_ast.specs.Views.{expr_tree, stmt_tree}
-use Rattle.os_ast.specs.declared.expr.Expr.{Expr}
+use Rattle.os_ast.specs.Views.{stmt_tree}
 use Rattle.os_ast.specs.declared.expr.Mark.{Mark}
 use Rattle.os_ast.specs.declared.names.Owner.{Owner}
 use Rattle.os_ast.specs.declared.stmt.Stmt.{Stmt}
@@ -14,10 +13,10 @@ use Rattle.window_check.specs.Codes.{least_code}
 use Rattle.window_check.specs.Findings.{Findings, noted, blamed}
 use Rattle.window_check.specs.Parts.{ListedParts}
 
--- an `if` with an `else` or without
-abbrev pub if_tree : Expr → Stmt → Option (Box Stmt Global) → tree.StmtTree
-if_tree c a None = tree.If (expr_tree c) (stmt_tree a)
-if_tree c a (Some b) = tree.IfElse (expr_tree c) (stmt_tree a) (stmt_tree b.value)
+-- what stands behind `else`: where there is none, it is as if nothing stood there
+abbrev pub else_tree : Option (Box Stmt Global) → tree.StmtTree
+else_tree None = tree.StmtTree.Empty
+else_tree (Some b) = stmt_tree b.value
 
 -- what is found in a task's body, and of the task where its body is done
 abbrev pub noted_body : Findings → Owner → Mark → ListedParts → List Note → Findings

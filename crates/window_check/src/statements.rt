@@ -1,6 +1,7 @@
 //! Statements and declarations.
 
 ghost use Rattle.std.specs.Prelude.{◌≡◌, ◌+◌, true, false, OnOk, length, map, option_map};
+ghost use Rattle.os_ast.specs.Names.{behind, in_loop};
 ghost use Rattle.os_ast.specs.Notes.Clauses.{parts, pragma_codes, return_codes, task_codes};
 ghost use Rattle.os_ast.specs.Notes.Statements.{after_stmt, after_stmts, stmt_notes, stmts_notes};
 ghost use Rattle.os_ast.specs.Trees as tree;
@@ -8,7 +9,7 @@ ghost use Rattle.os_ast.specs.Views.{expr_tree, target_tree, change_tree, clause
 ghost use Rattle.window_check.specs.Codes.{least_code};
 ghost use Rattle.window_check.specs.Findings.{noted, is_task};
 ghost use Rattle.window_check.specs.Room.{HasRoom, stmt_weight, stmts_weight, start_weight};
-ghost use Rattle.window_check.specs.Statements.{if_tree, noted_body};
+ghost use Rattle.window_check.specs.Statements.{else_tree, noted_body};
 ghost use Rattle.os_ast.specs.declared.names.Owner.TheVariants as owners;
 
 use crate::clauses::clauses;
@@ -73,9 +74,14 @@ fn stmt(alloc: Global, scopes: &mut Scopes, found: &mut Found, stmt: &Stmt) -> R
         Stmt::Change(next) => change(scopes, found, next),
         Stmt::Call(call) => called(scopes, found, call),
         Stmt::If(condition, first, second) => {
-            branches(alloc, scopes, found, condition, first, second)
+            expr(scopes, found, condition)?;
+            self::stmt(alloc, scopes, found, first)?;
+            otherwise(alloc, scopes, found, second)
         }
-        Stmt::While(condition, body) => while_loop(alloc, scopes, found, condition, body),
+        Stmt::While(condition, body) => {
+            expr(scopes, found, condition)?;
+            repeated(alloc, scopes, found, body)
+        }
         Stmt::For(head, body) => for_loop(alloc, scopes, found, head, body),
         Stmt::Break(mark) | Stmt::Continue(mark) => {
             found.blame(*mark, when(!scopes.in_loop(), codes::NO_LOOP));
@@ -131,44 +137,38 @@ fn block(
     scopes.leave(outer)
 }
 
-/// `if`, with an `else` or without.
+/// What stands behind `else`, where there is one.
 #[cycle(stmts)]
-fn branches(
+fn otherwise(
     alloc: Global,
     scopes: &mut Scopes,
     found: &mut Found,
-    condition: &Expr,
-    first: &Stmt,
     second: &Option<Box<Stmt>>,
 ) -> Result<(), Memory>
-    requires room { HasRoom scopes.old (stmt_weight (if_tree condition.now first.now second.now)) }
+    requires room { HasRoom scopes.old (stmt_weight (else_tree second.now)) }
     requires task { found.old.in_task ≡ is_task scopes.old.owner }
-    ensures scopes { OnOk result (scopes.new ≡ after_stmt scopes.old (if_tree condition.now first.now second.now)) }
-    ensures found { OnOk result (found.new ≡ noted found.old (stmt_notes scopes.old (if_tree condition.now first.now second.now))) }
+    ensures scopes { OnOk result (scopes.new ≡ after_stmt scopes.old (else_tree second.now)) }
+    ensures found { OnOk result (found.new ≡ noted found.old (stmt_notes scopes.old (else_tree second.now))) }
 {
-    expr(scopes, found, condition)?;
-    stmt(alloc, scopes, found, first)?;
     match second {
         None => Ok(()),
         Some(second) => stmt(alloc, scopes, found, second),
     }
 }
 
-/// `while`.
+/// What a `while` repeats.
 #[cycle(stmts)]
-fn while_loop(
+fn repeated(
     alloc: Global,
     scopes: &mut Scopes,
     found: &mut Found,
-    condition: &Expr,
     body: &Stmt,
 ) -> Result<(), Memory>
     requires room { HasRoom scopes.old (stmt_weight (stmt_tree body.now)) }
     requires task { found.old.in_task ≡ is_task scopes.old.owner }
-    ensures scopes { OnOk result (scopes.new ≡ after_stmt scopes.old (tree.While (expr_tree condition.now) (stmt_tree body.now))) }
-    ensures found { OnOk result (found.new ≡ noted found.old (stmt_notes scopes.old (tree.While (expr_tree condition.now) (stmt_tree body.now)))) }
+    ensures scopes { OnOk result (scopes.new ≡ behind scopes.old (after_stmt (in_loop scopes.old) (stmt_tree body.now))) }
+    ensures found { OnOk result (found.new ≡ noted found.old (stmt_notes (in_loop scopes.old) (stmt_tree body.now))) }
 {
-    expr(scopes, found, condition)?;
     let before = scopes.enter_loop();
     stmt(alloc, scopes, found, body)?;
     scopes.leave_loop(before);
@@ -199,6 +199,7 @@ fn for_loop(
 }
 
 /// A tick.
+#[tactic(auto, using(crate::proofs::Steps::noting))]
 fn tick(scopes: &Scopes, found: &mut Found, site: &TickSite) -> Result<(), Memory>
     ensures { OnOk result (found.new ≡ noted found.old (stmt_notes scopes.now (tree.Tick site.now.mark (target_tree site.now.stream) site.now.arrow (expr_tree site.now.amount)))) }
 {

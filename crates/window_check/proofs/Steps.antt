@@ -1,0 +1,159 @@
+-- The parts of a statement: that there is room for each, and that what they find is what the statement finds.
+use Rattle.std.proofs.Common.{◌≡◌, ℕ, ◌+◌, ◌<◌, List, [], ◌++◌, length, get_or, drop, Option, Some, None, Box, Global, refl, ap, sym, subst, ◌∙◌, add-one, arith}
+use Rattle.std.proofs.lemmas.List.{append-nil}
+use Rattle.os_ast.proofs.Rows.{stmt_tree-block}
+use Rattle.os_ast.specs.Meanings.{Note}
+use Rattle.os_ast.specs.Names.{Scope, enter, in_loop, in_unit}
+use Rattle.os_ast.specs.Notes.Clauses.{Part, parts_notes, pragma_codes, task_notes, with_items}
+use Rattle.os_ast.specs.Notes.Expressions.{expr_notes}
+use Rattle.os_ast.specs.Notes.Statements.{after_stmt, after_stmts, stmt_notes, stmts_notes}
+use Rattle.os_ast.specs.Trees as tree
+use Rattle.os_ast.specs.Views.{expr_tree, stmt_tree, stmts_tree}
+use Rattle.os_ast.specs.declared.expr.Expr.{Expr}
+use Rattle.os_ast.specs.declared.expr.Mark.{Mark}
+use Rattle.os_ast.specs.declared.names.Owner.{Owner}
+use Rattle.os_ast.specs.declared.names.Owner.TheVariants as owners
+use Rattle.os_ast.specs.declared.stmt.Stmt.{Stmt}
+use Rattle.os_ast.specs.declared.stmt.Stmt.TheVariants as variant
+use Rattle.window_check.specs.Codes.{least_code}
+use Rattle.window_check.specs.Findings.{Findings, noted, blamed, is_task}
+use Rattle.window_check.specs.Parts.{ListedParts, none_listed, after_parts, after_names}
+use Rattle.window_check.specs.Room.{HasRoom, stmt_weight, stmts_weight}
+use Rattle.window_check.specs.Statements.{else_tree, noted_body}
+use Rattle.window_check.proofs.HasRoom.{room_then, room_stmt}
+use Rattle.window_check.proofs.Listing.{items-all}
+use Rattle.window_check.proofs.Noted.{noted-append, noted-codes}
+use Rattle.window_check.proofs.Restored.{owner_stmt}
+use Rattle.window_check.proofs.Tasks.{noted-in_task, blamed-in_task, noted-task}
+use Rattle.window_check.proofs.Trees.{stmts_tree-drop}
+
+-- what is found of two parts
+pub found-two : (f g h : Findings) (a b : List Note) → g ≡ noted f a → h ≡ noted g b → h ≡ noted f (a ++ b)
+found-two f g h a b first second = second ∙ ap (λ (k : Findings). noted k b) first ∙ sym (noted-append f a b)
+
+-- whether a task is at hand, behind a part
+pub task-after : (f g : Findings) (o p : Owner) (a : List Note) → f.in_task ≡ is_task o → g ≡ noted f a → p ≡ o → g.in_task ≡ is_task p
+task-after f g o p a task found same = rw (found, same) (noted-in_task f a ∙ task)
+
+-- a statement that has room is this one
+pub room-same : (s : Scope) (a b : tree.StmtTree) → a ≡ b → HasRoom s (stmt_weight a) → HasRoom s (stmt_weight b)
+room-same s a b same room = subst (λ (x : tree.StmtTree). HasRoom s (stmt_weight x)) same room
+
+pub block-is : (a : Stmt) (list : List Stmt) → a ≡ variant.Block list → stmt_tree a ≡ tree.Block (stmts_tree list)
+block-is a list is = ap stmt_tree is ∙ stmt_tree-block list
+
+-- `if`, with an `else` or without
+weight-if : (c : Expr) (a : Box Stmt Global) (other : Option (Box Stmt Global)) →
+    stmt_weight (stmt_tree (variant.If c a other)) ≡ stmt_weight (stmt_tree a.value) + stmt_weight (else_tree other)
+weight-if c a None = omega arith
+weight-if c a (Some b) = refl
+
+after-if : (s : Scope) (c : Expr) (a : Box Stmt Global) (other : Option (Box Stmt Global)) →
+    after_stmt s (stmt_tree (variant.If c a other)) ≡ after_stmt (after_stmt s (stmt_tree a.value)) (else_tree other)
+after-if s c a None = refl
+after-if s c a (Some b) = refl
+
+notes-if : (s : Scope) (c : Expr) (a : Box Stmt Global) (other : Option (Box Stmt Global)) →
+    stmt_notes s (stmt_tree (variant.If c a other))
+    ≡ expr_notes s (expr_tree c) ++ stmt_notes s (stmt_tree a.value) ++ stmt_notes (after_stmt s (stmt_tree a.value)) (else_tree other)
+notes-if s c a None = sym (append-nil (expr_notes s (expr_tree c) ++ stmt_notes s (stmt_tree a.value)))
+notes-if s c a (Some b) = refl
+
+pub room-first : (s : Scope) (x : Stmt) (c : Expr) (a : Box Stmt Global) (other : Option (Box Stmt Global)) (d : Stmt) →
+    x ≡ variant.If c a other → d ≡ a.value → HasRoom s (stmt_weight (stmt_tree x)) → HasRoom s (stmt_weight (stmt_tree d))
+room-first s x c a other d is there room =
+    let both = subst (λ (n : ℕ). HasRoom s n) (ap (λ (y : Stmt). stmt_weight (stmt_tree y)) is ∙ weight-if c a other) room in
+    rw there (room_then s (stmt_tree a.value) (stmt_weight (else_tree other)) both)
+
+pub room-other : (s t : Scope) (x : Stmt) (c : Expr) (a : Box Stmt Global) (other : Option (Box Stmt Global)) (d : Stmt) →
+    x ≡ variant.If c a other → d ≡ a.value → t ≡ after_stmt s (stmt_tree d) →
+    HasRoom s (stmt_weight (stmt_tree x)) → HasRoom t (stmt_weight (else_tree other))
+room-other s t x c a other d is there after room =
+    let both = subst (λ (n : ℕ). HasRoom s n) (ap (λ (y : Stmt). stmt_weight (stmt_tree y)) is ∙ weight-if c a other) room in
+    rw (after, there) (room_stmt s (stmt_tree a.value) (stmt_weight (else_tree other)) both)
+
+pub scopes-if : (s t u : Scope) (x : Stmt) (c : Expr) (a : Box Stmt Global) (other : Option (Box Stmt Global)) (d : Stmt) →
+    x ≡ variant.If c a other → d ≡ a.value → t ≡ after_stmt s (stmt_tree d) → u ≡ after_stmt t (else_tree other) →
+    u ≡ after_stmt s (stmt_tree x)
+scopes-if s t u x c a other d is there first second =
+    second
+    ∙ ap (λ (v : Scope). after_stmt v (else_tree other)) (first ∙ ap (λ (y : Stmt). after_stmt s (stmt_tree y)) there)
+    ∙ sym (after-if s c a other)
+    ∙ ap (λ (y : Stmt). after_stmt s (stmt_tree y)) (sym is)
+
+pub found-if : (f g h k : Findings) (s t : Scope) (x : Stmt) (c : Expr) (a : Box Stmt Global) (other : Option (Box Stmt Global)) (d : Stmt) →
+    x ≡ variant.If c a other → d ≡ a.value → t ≡ after_stmt s (stmt_tree d) →
+    g ≡ noted f (expr_notes s (expr_tree c)) → h ≡ noted g (stmt_notes s (stmt_tree d)) → k ≡ noted h (stmt_notes t (else_tree other)) →
+    k ≡ noted f (stmt_notes s (stmt_tree x))
+found-if f g h k s t x c a other d is there after first second third =
+    let inner = stmt_notes s (stmt_tree a.value) in
+    let last = stmt_notes (after_stmt s (stmt_tree a.value)) (else_tree other) in
+    let second_is : h ≡ noted g inner = second ∙ ap (λ (y : Stmt). noted g (stmt_notes s (stmt_tree y))) there in
+    let after_is : t ≡ after_stmt s (stmt_tree a.value) = after ∙ ap (λ (y : Stmt). after_stmt s (stmt_tree y)) there in
+    let third_is : k ≡ noted h last = third ∙ ap (λ (v : Scope). noted h (stmt_notes v (else_tree other))) after_is in
+    let both = found-two f g h (expr_notes s (expr_tree c)) inner first second_is in
+    found-two f h k (expr_notes s (expr_tree c) ++ inner) last both third_is
+    ∙ ap (noted f) (sym (notes-if s c a other) ∙ ap (λ (y : Stmt). stmt_notes s (stmt_tree y)) (sym is))
+
+-- `while`
+pub found-while : (f g h : Findings) (s : Scope) (x : Stmt) (c : Expr) (a : Box Stmt Global) (d : Stmt) → x ≡ variant.While c a → d ≡ a.value →
+    g ≡ noted f (expr_notes s (expr_tree c)) → h ≡ noted g (stmt_notes (in_loop s) (stmt_tree d)) → h ≡ noted f (stmt_notes s (stmt_tree x))
+found-while f g h s x c a d is there first second =
+    let second_is : h ≡ noted g (stmt_notes (in_loop s) (stmt_tree a.value)) =
+    second ∙ ap (λ (y : Stmt). noted g (stmt_notes (in_loop s) (stmt_tree y))) there in
+    found-two f g h (expr_notes s (expr_tree c)) (stmt_notes (in_loop s) (stmt_tree a.value)) first second_is
+    ∙ ap (λ (y : Stmt). noted f (stmt_notes s (stmt_tree y))) (sym is)
+
+pub while-is : (x : Stmt) (c : Expr) (a : Box Stmt Global) (d : Stmt) → x ≡ variant.While c a → d ≡ a.value →
+    stmt_tree x ≡ tree.While (expr_tree c) (stmt_tree d)
+while-is x c a d is there = ap stmt_tree is ∙ ap (λ (y : Stmt). tree.While (expr_tree c) (stmt_tree y)) (sym there)
+
+-- a statement of a block, and those behind it
+pub room-next : (s : Scope) (ss : List Stmt) (i : ℕ) (a : Stmt) → i < length ss → a ≡ get_or ss i a →
+    HasRoom s (stmts_weight (stmts_tree (drop i ss))) → HasRoom s (stmt_weight (stmt_tree a))
+room-next s ss i a h is room =
+    let split = stmts_tree-drop ss i a h is in
+    room_then s (stmt_tree a) (stmts_weight (stmts_tree (drop (i + 1) ss)))
+    (subst (λ (x : tree.Stmts). HasRoom s (stmts_weight x)) split room)
+
+pub room-rest : (s t : Scope) (ss : List Stmt) (i : ℕ) (a : Stmt) → i < length ss → a ≡ get_or ss i a → t ≡ after_stmt s (stmt_tree a) →
+    HasRoom s (stmts_weight (stmts_tree (drop i ss))) → HasRoom t (stmts_weight (stmts_tree (drop (i + 1) ss)))
+room-rest s t ss i a h is after room =
+    let split = stmts_tree-drop ss i a h is in
+    rw after
+    (room_stmt s (stmt_tree a) (stmts_weight (stmts_tree (drop (i + 1) ss)))
+    (subst (λ (x : tree.Stmts). HasRoom s (stmts_weight x)) split room))
+
+pub scopes-rest : (s t end : Scope) (ss : List Stmt) (i : ℕ) (a : Stmt) → i < length ss → a ≡ get_or ss i a → t ≡ after_stmt s (stmt_tree a) →
+    after_stmts s (stmts_tree (drop i ss)) ≡ end → after_stmts t (stmts_tree (drop (i + 1) ss)) ≡ end
+scopes-rest s t end ss i a h is after sofar =
+    rw after (subst (λ (x : tree.Stmts). after_stmts s x ≡ end) (stmts_tree-drop ss i a h is) sofar)
+
+pub found-rest : (f g end : Findings) (s t : Scope) (ss : List Stmt) (i : ℕ) (a : Stmt) → i < length ss → a ≡ get_or ss i a →
+    t ≡ after_stmt s (stmt_tree a) → g ≡ noted f (stmt_notes s (stmt_tree a)) →
+    noted f (stmts_notes s (stmts_tree (drop i ss))) ≡ end → noted g (stmts_notes t (stmts_tree (drop (i + 1) ss))) ≡ end
+found-rest f g end s t ss i a h is after noting sofar =
+    let rest = stmts_notes (after_stmt s (stmt_tree a)) (stmts_tree (drop (i + 1) ss)) in
+    rw (after, noting)
+    (sym (noted-append f (stmt_notes s (stmt_tree a)) rest)
+    ∙ subst (λ (x : tree.Stmts). noted f (stmts_notes s x) ≡ end) (stmts_tree-drop ss i a h is) sofar)
+
+-- the scope round a task's body
+pub items-declared : (s t u : Scope) (l : ListedParts) (ps : List Part) → t ≡ enter (in_unit owners.OfTask s) → l ≡ after_parts s none_listed ps →
+    u ≡ after_names t l.items → u ≡ with_items s (enter (in_unit owners.OfTask s)) 0 ps
+items-declared s t u l ps beginning listing declaring =
+    declaring ∙ rw (beginning, listing) (items-all s (enter (in_unit owners.OfTask s)) ps)
+
+-- whether a task is at hand, behind the clauses of a task
+pub task-before : (f g h : Findings) (o p : Owner) (m : Mark) (code : Option ℕ) (given : List Note) → f.in_task ≡ is_task o → p ≡ o →
+    g ≡ blamed f m code → h ≡ noted g given → h.in_task ≡ is_task p
+task-before f g h o p m code given task same blaming noting = rw (noting, blaming, same) (noted-in_task (blamed f m code) given ∙ blamed-in_task f m code ∙ task)
+
+-- what is found of a task
+pub found-task : (f g h k : Findings) (s : Scope) (m : Mark) (o : Owner) (code : Option ℕ) (l : ListedParts) (ps : List Part) (body : List Note) →
+    o ≡ s.owner → code ≡ least_code (pragma_codes o) → g ≡ blamed f m code → h ≡ noted g (parts_notes s [] ps) → l ≡ after_parts s none_listed ps →
+    k ≡ noted_body h o m l body → k ≡ noted f (task_notes s m ps body)
+found-task f g h k s m o code l ps body same is_code blaming noting listing last =
+    last ∙ rw (noting, blaming, is_code, listing, same) (sym (noted-task f s m ps body))
+
+pub ruleset noting = (noted-append, noted-codes)
