@@ -18,7 +18,7 @@ use std::alloc::Global;
 /// The rank of a unary, one above that of the chains that bind closest.
 const UNARY_RANK: u32 = 11;
 
-/// `or [ "?" expr ":" expr ]`
+/// `expr = or [ "?" expr ":" expr ]`
 #[cycle(expressions)]
 #[tactic(auto, unfolding(crate::specs::Expressions::expr_on))]
 pub(crate) fn expr(alloc: Global, cursor: &mut Cursor<'_>, depth: u32) -> Result<Expr, ParseError>
@@ -32,7 +32,7 @@ pub(crate) fn expr(alloc: Global, cursor: &mut Cursor<'_>, depth: u32) -> Result
     branches(alloc, cursor, condition, depth)
 }
 
-/// The rest of a choice, from its `?` on.
+/// `"?" expr ":" expr`, the rest of a choice, from its `?` on.
 #[cycle(expressions)]
 #[tactic(auto, unfolding(crate::specs::Expressions::branches))]
 fn branches(
@@ -56,7 +56,8 @@ fn branches(
     ))
 }
 
-/// The chains of a rank and of those above it.
+/// The production of a rank: from 1 on `or`, `and`, `bor`, `bxor`, `band`, `equal`, `order`, `shift`, `sum`,
+/// `prod` and, at 11, `unary`.
 #[cycle(expressions)]
 #[tactic(auto, using(crate::proofs::Chaining::chaining))]
 fn chain(
@@ -79,7 +80,8 @@ fn chain(
     Ok(first)
 }
 
-/// A chain of a rank, from its first operand on; or that operand, where no operator of the rank follows.
+/// `{ operator operand }` with the operators of a rank: its chain, from what follows the first operand, or that
+/// operand where no operator of the rank follows.
 #[cycle(expressions)]
 #[tactic(auto, using(crate::proofs::Chaining::chaining), unfolding(crate::specs::Expressions::linked))]
 fn linked(
@@ -117,7 +119,7 @@ fn chained(alloc: Global, rank: u32, first: Expr, links: List<Link>) -> Result<E
     Ok(Expr::Chain(level_at(rank), Box::new(alloc, first)?, links))
 }
 
-/// A unary, or what stands by itself.
+/// `unary = ( "-" | "+" | "!" | "~" ) unary | primary`, and `primary = number | target | call | "(" expr ")"`.
 #[cycle(expressions)]
 #[tactic(auto, unfolding(crate::specs::Expressions::operand, crate::specs::Expressions::operand_by))]
 fn operand(alloc: Global, cursor: &mut Cursor<'_>, depth: u32) -> Result<Expr, ParseError>
@@ -140,7 +142,7 @@ fn operand(alloc: Global, cursor: &mut Cursor<'_>, depth: u32) -> Result<Expr, P
     }
 }
 
-/// An operator and its one operand.
+/// `( "-" | "+" | "!" | "~" ) unary`, from its operator on.
 #[cycle(expressions)]
 #[tactic(auto, unfolding(crate::specs::Expressions::sign))]
 fn sign(alloc: Global, cursor: &mut Cursor<'_>, op: Unary, depth: u32) -> Result<Expr, ParseError>
@@ -154,7 +156,7 @@ fn sign(alloc: Global, cursor: &mut Cursor<'_>, op: Unary, depth: u32) -> Result
     Ok(Expr::Unary(op, mark, Box::new(alloc, right)?))
 }
 
-/// `"(" expr ")"`
+/// `"(" expr ")"`, from its `(` on.
 #[cycle(expressions)]
 #[tactic(auto, unfolding(crate::specs::Expressions::paren))]
 fn paren(alloc: Global, cursor: &mut Cursor<'_>, depth: u32) -> Result<Expr, ParseError>
@@ -168,7 +170,7 @@ fn paren(alloc: Global, cursor: &mut Cursor<'_>, depth: u32) -> Result<Expr, Par
     Ok(Expr::Paren(Box::new(alloc, inner)?))
 }
 
-/// A call or a target, from what follows its name on.
+/// `target | call`, from what follows its name on.
 #[cycle(expressions)]
 #[tactic(auto, using(crate::proofs::Trees::trees), unfolding(crate::specs::Expressions::named))]
 pub(crate) fn named(
@@ -188,7 +190,7 @@ pub(crate) fn named(
     Ok(Expr::Place(target))
 }
 
-/// `name [ "[" expr "]" ]`, from what follows its name on.
+/// `target = name [ "[" expr "]" ]`, from what follows its name on.
 #[cycle(expressions)]
 #[tactic(auto, unfolding(crate::specs::Expressions::target_of))]
 pub(crate) fn target(
@@ -210,7 +212,7 @@ pub(crate) fn target(
     })
 }
 
-/// `"[" expr "]"`
+/// `"[" expr "]"`, from its `[` on.
 #[cycle(expressions)]
 #[tactic(auto, unfolding(crate::specs::Expressions::index))]
 pub(crate) fn index(alloc: Global, cursor: &mut Cursor<'_>, depth: u32) -> Result<Index, ParseError>
@@ -225,7 +227,7 @@ pub(crate) fn index(alloc: Global, cursor: &mut Cursor<'_>, depth: u32) -> Resul
     Ok(Index { mark, value })
 }
 
-/// `"(" [ expr { "," expr } ] ")"`
+/// `"(" [ expr { "," expr } ] ")"`, what follows the name of a `call`.
 #[cycle(expressions)]
 #[tactic(auto, unfolding(crate::specs::Expressions::args))]
 pub(crate) fn args(
@@ -247,7 +249,7 @@ pub(crate) fn args(
     Ok(args)
 }
 
-/// `expr { "," expr }`
+/// `expr { "," expr }`, the arguments of a `call`.
 #[cycle(expressions)]
 #[tactic(auto, using(crate::proofs::Chaining::listing), unfolding(crate::specs::Expressions::some_args))]
 fn some_args(alloc: Global, cursor: &mut Cursor<'_>, depth: u32) -> Result<List<Expr>, ParseError>

@@ -14,7 +14,7 @@ use os_ast::{Change, Expr, Start};
 use os_lexer::{Key, Kind, Punct};
 use std::alloc::Global;
 
-/// `"(" expr ")"`
+/// `"(" expr ")"`, behind `if` and `while`.
 #[tactic(auto, unfolding(crate::specs::Statements::condition))]
 pub(crate) fn condition(
     alloc: Global,
@@ -30,7 +30,7 @@ pub(crate) fn condition(
     Ok(value)
 }
 
-/// `declare1 | [ change ] ";"`
+/// `declare1 | [ change ] ";"`, behind `for` and its parenthesis.
 #[tactic(auto, unfolding(crate::specs::Statements::start))]
 pub(crate) fn start(alloc: Global, cursor: &mut Cursor<'_>, depth: u32) -> Result<Start, ParseError>
     ensures gives { Gives start_tree result cursor.new (start (below depth) cursor.old) }
@@ -49,7 +49,7 @@ pub(crate) fn start(alloc: Global, cursor: &mut Cursor<'_>, depth: u32) -> Resul
     Ok(Start::Change(change))
 }
 
-/// `[ expr ] ";"`
+/// `[ expr ] ";"`, in the middle of the head of a `for`.
 #[tactic(auto, unfolding(crate::specs::Statements::test))]
 pub(crate) fn test(
     alloc: Global,
@@ -68,7 +68,7 @@ pub(crate) fn test(
     Ok(Some(value))
 }
 
-/// `[ change ] ")"`
+/// `[ change ] ")"`, at the end of the head of a `for`.
 #[tactic(auto, unfolding(crate::specs::Statements::step))]
 pub(crate) fn step(
     alloc: Global,

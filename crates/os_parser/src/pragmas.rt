@@ -16,7 +16,7 @@ use os_io::List;
 use os_lexer::{Kind, Punct};
 use std::alloc::Global;
 
-/// The arrow of an item, and the window or the scalar behind it.
+/// `">>" name [ "[" expr "]" ]` of an `in`, or the same of an `out` with `"<<"`, from the arrow on.
 #[tactic(auto, unfolding(crate::specs::Statements::join))]
 fn join(alloc: Global, cursor: &mut Cursor<'_>, depth: u32) -> Result<Join, ParseError>
     ensures gives { Gives join_tree result cursor.new (join (below depth) cursor.old) }
@@ -29,7 +29,7 @@ fn join(alloc: Global, cursor: &mut Cursor<'_>, depth: u32) -> Result<Join, Pars
     Ok(Join { mark, name, burst })
 }
 
-/// An item that is a stream without a window.
+/// An `in` or `out` that is a `name` alone, from what was read as its `stream`.
 fn alone(cursor: &mut Cursor<'_>, stream: Target) -> Result<ClauseItem, ParseError>
     ensures gives { Gives clause_item_tree result cursor.new (alone (target_tree stream) cursor.old) }
     ensures within { length cursor.new ≤ length cursor.old }
@@ -46,7 +46,7 @@ fn alone(cursor: &mut Cursor<'_>, stream: Target) -> Result<ClauseItem, ParseErr
     }
 }
 
-/// `stream ">>" name [ "[" expr "]" ] | name`, or the same with `<<`.
+/// `in = stream ">>" name [ "[" expr "]" ] | name`, or `out`, the same with `"<<"`.
 #[tactic(auto, unfolding(crate::specs::Statements::clause_item))]
 fn clause_item(
     alloc: Global,
@@ -68,7 +68,7 @@ fn clause_item(
     })
 }
 
-/// Items with commas between them.
+/// `in { "," in }`, or the same of `out`.
 fn clause_items(
     alloc: Global,
     cursor: &mut Cursor<'_>,
@@ -87,7 +87,7 @@ fn clause_items(
     Ok(items)
 }
 
-/// Names with commas between them.
+/// `name { "," name }`
 fn names(alloc: Global, cursor: &mut Cursor<'_>) -> Result<List<Name>, ParseError>
     ensures gives { Gives (map Same) result cursor.new (list_of name cursor.old) }
     ensures within { length cursor.new ≤ length cursor.old }
@@ -101,7 +101,7 @@ fn names(alloc: Global, cursor: &mut Cursor<'_>) -> Result<List<Name>, ParseErro
     Ok(names)
 }
 
-/// Items in parentheses.
+/// `"(" in { "," in } ")"`, or the same of `out`.
 #[tactic(auto, unfolding(crate::specs::Statements::in_parens))]
 fn items_in_parens(
     alloc: Global,
@@ -118,7 +118,7 @@ fn items_in_parens(
     Ok(items)
 }
 
-/// Names in parentheses.
+/// `"(" name { "," name } ")"`
 #[tactic(auto, unfolding(crate::specs::Statements::in_parens))]
 fn names_in_parens(alloc: Global, cursor: &mut Cursor<'_>) -> Result<List<Name>, ParseError>
     ensures gives { Gives (map Same) result cursor.new (in_parens name cursor.old) }
@@ -130,7 +130,7 @@ fn names_in_parens(alloc: Global, cursor: &mut Cursor<'_>) -> Result<List<Name>,
     Ok(names)
 }
 
-/// What a clause lists, from its word on.
+/// `clause`: one of the words `"input"`, `"output"` and `"firstprivate"`, and what it lists.
 #[tactic(auto, using(crate::proofs::Lists::same), unfolding(crate::specs::Statements::clause_kind))]
 fn clause_kind(alloc: Global, cursor: &mut Cursor<'_>, depth: u32) -> Result<ClauseKind, ParseError>
     ensures gives { Gives clause_kind_tree result cursor.new (clause_kind (below depth) cursor.old) }
@@ -155,7 +155,7 @@ fn clause_kind(alloc: Global, cursor: &mut Cursor<'_>, depth: u32) -> Result<Cla
     Err(ParseError::Syntax)
 }
 
-/// The first clause of a task, before which no comma stands.
+/// The first `clause` of a task, before which no comma stands.
 #[tactic(auto, unfolding(crate::specs::Statements::first_clause))]
 fn first_clause(alloc: Global, cursor: &mut Cursor<'_>, depth: u32) -> Result<Clause, ParseError>
     ensures gives { Gives clause_tree result cursor.new (first_clause (below depth) cursor.old) }
@@ -165,7 +165,7 @@ fn first_clause(alloc: Global, cursor: &mut Cursor<'_>, depth: u32) -> Result<Cl
     Ok(Clause { comma: false, kind })
 }
 
-/// `[ "," ] clause`
+/// `[ "," ] clause`, a later one of a task.
 #[tactic(auto, using(crate::proofs::Tokens::lengths), unfolding(crate::specs::Statements::clause))]
 fn clause(alloc: Global, cursor: &mut Cursor<'_>, depth: u32) -> Result<Clause, ParseError>
     ensures gives { Gives clause_tree result cursor.new (clause (below depth) cursor.old) }
@@ -181,7 +181,7 @@ fn clause(alloc: Global, cursor: &mut Cursor<'_>, depth: u32) -> Result<Clause, 
     Ok(Clause { comma: false, kind })
 }
 
-/// The clauses of a task that has some.
+/// `{ [ "," ] clause }` where a task has some, without a comma before the first.
 fn some_clauses(
     alloc: Global,
     cursor: &mut Cursor<'_>,
@@ -198,7 +198,7 @@ fn some_clauses(
     Ok(clauses)
 }
 
-/// The clauses of a task, to the end of its line.
+/// `{ [ "," ] clause }`, to the end of the task's line.
 #[tactic(auto, unfolding(crate::specs::Statements::clauses))]
 pub(crate) fn clauses(
     alloc: Global,
@@ -214,7 +214,7 @@ pub(crate) fn clauses(
     some_clauses(alloc, cursor, depth)
 }
 
-/// A tick, from what follows its word.
+/// `"tick" "(" stream ">>" expr ")" PragmaEnd`, from what follows its word.
 #[tactic(auto, unfolding(crate::specs::Statements::tick))]
 pub(crate) fn tick(
     alloc: Global,
@@ -241,7 +241,7 @@ pub(crate) fn tick(
     Ok(Stmt::Tick(Box::new(alloc, site)?))
 }
 
-/// A taskwait, from what follows its word.
+/// `"taskwait" PragmaEnd`, from what follows its word.
 #[tactic(auto, unfolding(crate::specs::Statements::taskwait))]
 pub(crate) fn taskwait(cursor: &mut Cursor<'_>, mark: Mark) -> Result<Stmt, ParseError>
     ensures gives { Gives stmt_tree result cursor.new (taskwait mark cursor.old) }

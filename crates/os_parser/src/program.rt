@@ -15,7 +15,7 @@ use os_io::List;
 use os_lexer::{Key, Kind, Punct};
 use std::alloc::Global;
 
-/// `"int" name`
+/// `"int" name`, a parameter of `params`.
 #[tactic(auto, unfolding(crate::specs::Statements::param))]
 fn param(cursor: &mut Cursor<'_>) -> Result<Name, ParseError>
     ensures gives { Gives Same result cursor.new (param cursor.old) }
@@ -25,7 +25,7 @@ fn param(cursor: &mut Cursor<'_>) -> Result<Name, ParseError>
     name(cursor)
 }
 
-/// Parameters with commas between them.
+/// `"int" name { "," "int" name }`, the parameters of `params`.
 fn param_list(alloc: Global, cursor: &mut Cursor<'_>) -> Result<List<Name>, ParseError>
     ensures gives { Gives (map Same) result cursor.new (list_of param cursor.old) }
     ensures within { length cursor.new ≤ length cursor.old }
@@ -56,7 +56,7 @@ fn params(alloc: Global, cursor: &mut Cursor<'_>) -> Result<Params, ParseError>
     Ok(Params::Names(names))
 }
 
-/// `"int" name "(" [ params ] ")" block`, from its `int` on.
+/// `function = "int" name "(" [ params ] ")" block`, from its `int` on.
 #[tactic(auto, unfolding(crate::specs::Statements::function))]
 fn function(alloc: Global, cursor: &mut Cursor<'_>, depth: u32) -> Result<Item, ParseError>
     ensures gives { Gives item_tree result cursor.new (function (inner depth) cursor.old) }
@@ -73,7 +73,7 @@ fn function(alloc: Global, cursor: &mut Cursor<'_>, depth: u32) -> Result<Item, 
     Ok(Item::Function(Function { name, params, body }))
 }
 
-/// A number below 2^31.
+/// `number`, which is below 2^31.
 #[tactic(auto, unfolding(crate::specs::Statements::number))]
 fn number(cursor: &mut Cursor<'_>) -> Result<u32, ParseError>
     ensures gives { Gives Same result cursor.new (number cursor.old) }
@@ -101,7 +101,7 @@ fn minus(cursor: &mut Cursor<'_>) -> bool
     true
 }
 
-/// `"const" "int" name "=" [ "-" ] number ";"`, from its `const` on.
+/// `constant = "const" "int" name "=" [ "-" ] number ";"`, from its `const` on.
 #[tactic(auto, unfolding(crate::specs::Statements::constant))]
 fn constant(cursor: &mut Cursor<'_>) -> Result<Item, ParseError>
     ensures gives { Gives item_tree result cursor.new (constant cursor.old) }
@@ -141,7 +141,7 @@ fn is_more(cursor: &Cursor<'_>) -> bool
     cursor.kind().is_some()
 }
 
-/// `{ constant | function }`, to the last token.
+/// `program = { constant | function }`, to the last token.
 pub(crate) fn program(
     alloc: Global,
     cursor: &mut Cursor<'_>,

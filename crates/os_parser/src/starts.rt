@@ -182,7 +182,7 @@ fn change_sign(kind: Kind) -> ChangeSign
     }
 }
 
-/// What the next token makes of the target before it.
+/// What the next token makes of the target before it: an `assign`, or a `"++"` or `"--"`.
 pub(crate) fn change_at(cursor: &Cursor<'_>) -> ChangeSign
     ensures { result ≡ change_at cursor.now }
 {

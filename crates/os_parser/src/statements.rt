@@ -17,7 +17,7 @@ use os_io::List;
 use os_lexer::{Key, Kind, Punct};
 use std::alloc::Global;
 
-/// A name.
+/// `name`
 #[tactic(auto, unfolding(crate::specs::Statements::name))]
 pub(crate) fn name(cursor: &mut Cursor<'_>) -> Result<Name, ParseError>
     ensures gives { Gives Same result cursor.new (name cursor.old) }
@@ -33,7 +33,7 @@ pub(crate) fn name(cursor: &mut Cursor<'_>) -> Result<Name, ParseError>
     }
 }
 
-/// `name [ "[" expr "]" ]`
+/// `target = name [ "[" expr "]" ]`, which is also `stream`.
 #[tactic(auto, unfolding(crate::specs::Statements::target))]
 pub(crate) fn target(
     alloc: Global,
@@ -47,7 +47,7 @@ pub(crate) fn target(
     expressions::target(alloc, cursor, name, depth)
 }
 
-/// `[ "[" expr "]" ]`
+/// `[ "[" expr "]" ]`, the size of a `declr`, or the burst of an `in` or `out`.
 #[tactic(auto, unfolding(crate::specs::Statements::size))]
 pub(crate) fn size(
     alloc: Global,
@@ -64,7 +64,7 @@ pub(crate) fn size(
     Ok(Some(index))
 }
 
-/// `[ "=" expr ]`
+/// `[ "=" expr ]`, the first value of a scalar.
 #[tactic(auto, unfolding(crate::specs::Statements::value))]
 fn value(alloc: Global, cursor: &mut Cursor<'_>, depth: u32) -> Result<Option<Expr>, ParseError>
     ensures gives { Gives (λ e. option_map expr_tree e) result cursor.new (value (below depth) cursor.old) }
@@ -97,7 +97,7 @@ fn attribute(cursor: &mut Cursor<'_>) -> Result<bool, ParseError>
     Ok(true)
 }
 
-/// `declr`
+/// `declr`: a scalar, a window or an array, or streams.
 #[tactic(auto, unfolding(crate::specs::Statements::declarator))]
 fn declarator(alloc: Global, cursor: &mut Cursor<'_>, depth: u32) -> Result<Declarator, ParseError>
     ensures gives { Gives declarator_tree result cursor.new (declarator (below depth) cursor.old) }
@@ -117,7 +117,7 @@ fn declarator(alloc: Global, cursor: &mut Cursor<'_>, depth: u32) -> Result<Decl
     }
 }
 
-/// A declarator without a size, from what follows the attribute.
+/// A `declr` without a size, from what follows the attribute.
 fn scalar(
     alloc: Global,
     cursor: &mut Cursor<'_>,
@@ -145,7 +145,7 @@ fn scalar(
     })
 }
 
-/// `name [ "=" expr ]`
+/// `name [ "=" expr ]`, a scalar of `declare1`.
 #[tactic(auto, unfolding(crate::specs::Statements::head_declarator))]
 fn head_declarator(
     alloc: Global,
@@ -159,7 +159,7 @@ fn head_declarator(
     scalar(alloc, cursor, name, false, depth)
 }
 
-/// What a target is changed by, from what follows it.
+/// `target assign expr | target ( "++" | "--" )`, from what follows the target of this `change`.
 #[tactic(auto, unfolding(crate::specs::Statements::change_of))]
 fn change_of(
     alloc: Global,
@@ -187,7 +187,7 @@ fn change_of(
     }
 }
 
-/// `( "++" | "--" ) target`
+/// `( "++" | "--" ) target`, a `change` from its first token on.
 #[tactic(auto, unfolding(crate::specs::Statements::before))]
 pub(crate) fn before(
     alloc: Global,
@@ -205,7 +205,7 @@ pub(crate) fn before(
     Ok(Change::Before(target, step, mark))
 }
 
-/// `"int" declr { "," declr } ";"`, from the `int` on.
+/// `declare = "int" declr { "," declr } ";"`, from its `int` on.
 #[tactic(auto, unfolding(crate::specs::Statements::declare))]
 pub(crate) fn declare(
     alloc: Global,
@@ -222,7 +222,7 @@ pub(crate) fn declare(
     Ok(declarators)
 }
 
-/// `declr { "," declr }`
+/// `declr { "," declr }`, the declarators of `declare`.
 fn declarators(
     alloc: Global,
     cursor: &mut Cursor<'_>,
@@ -240,7 +240,7 @@ fn declarators(
     Ok(declarators)
 }
 
-/// `"int" name [ "=" expr ] { "," name [ "=" expr ] } ";"`, from the `int` on.
+/// `declare1 = "int" name [ "=" expr ] { "," name [ "=" expr ] } ";"`, from its `int` on.
 #[tactic(auto, unfolding(crate::specs::Statements::head_declare))]
 pub(crate) fn head_declare(
     alloc: Global,
@@ -256,7 +256,7 @@ pub(crate) fn head_declare(
     Ok(declarators)
 }
 
-/// `name [ "=" expr ] { "," name [ "=" expr ] }`
+/// `name [ "=" expr ] { "," name [ "=" expr ] }`, the declarators of `declare1`.
 fn head_declarators(
     alloc: Global,
     cursor: &mut Cursor<'_>,
@@ -303,7 +303,7 @@ pub(crate) fn change(
     }
 }
 
-/// A change and the semicolon behind it, from what follows its target.
+/// `change ";"`, from what follows the target of the `change`.
 fn changed(
     alloc: Global,
     cursor: &mut Cursor<'_>,
@@ -318,7 +318,7 @@ fn changed(
     Ok(Stmt::Change(change))
 }
 
-/// A statement that begins with a name, from what follows it.
+/// `change ";" | call ";"` where it begins with a name, from what follows the name.
 #[tactic(auto, using(crate::proofs::Trees::trees), unfolding(crate::specs::Statements::named_stmt))]
 pub(crate) fn named_stmt(
     alloc: Global,
@@ -338,7 +338,7 @@ pub(crate) fn named_stmt(
     changed(alloc, cursor, target, depth)
 }
 
-/// `"return" expr ";"`
+/// `"return" expr ";"`, from its `return` on.
 #[tactic(auto, unfolding(crate::specs::Statements::return_stmt))]
 pub(crate) fn return_stmt(
     alloc: Global,

@@ -66,7 +66,7 @@ pub(crate) fn stmt(alloc: Global, cursor: &mut Cursor<'_>, depth: u32) -> Result
     }
 }
 
-/// `{ declare | stmt } "}"`, from what follows the `{`.
+/// `block = "{" { declare | stmt } "}"`, from what follows its `{`.
 #[cycle(statements)]
 #[tactic(auto, unfolding(crate::specs::Statements::block))]
 pub(crate) fn block(
@@ -85,7 +85,7 @@ pub(crate) fn block(
     Ok(stmts)
 }
 
-/// `declare | stmt`
+/// `declare | stmt`, a part of `block`.
 #[cycle(statements)]
 #[tactic(auto, unfolding(crate::specs::Statements::inner_item, crate::specs::Statements::block_item))]
 fn block_item(alloc: Global, cursor: &mut Cursor<'_>, depth: u32) -> Result<Stmt, ParseError>
@@ -101,7 +101,7 @@ fn block_item(alloc: Global, cursor: &mut Cursor<'_>, depth: u32) -> Result<Stmt
     stmt(alloc, cursor, depth)
 }
 
-/// `"if" "(" expr ")" stmt [ "else" stmt ]`
+/// `"if" "(" expr ")" stmt [ "else" stmt ]`, from its `if` on.
 #[cycle(statements)]
 #[tactic(auto, unfolding(crate::specs::Statements::if_stmt))]
 fn if_stmt(alloc: Global, cursor: &mut Cursor<'_>, depth: u32) -> Result<Stmt, ParseError>
@@ -121,7 +121,7 @@ fn if_stmt(alloc: Global, cursor: &mut Cursor<'_>, depth: u32) -> Result<Stmt, P
     Ok(Stmt::If(condition, first, Some(second)))
 }
 
-/// `"while" "(" expr ")" stmt`
+/// `"while" "(" expr ")" stmt`, from its `while` on.
 #[cycle(statements)]
 #[tactic(auto, unfolding(crate::specs::Statements::while_stmt))]
 fn while_stmt(alloc: Global, cursor: &mut Cursor<'_>, depth: u32) -> Result<Stmt, ParseError>
@@ -136,7 +136,7 @@ fn while_stmt(alloc: Global, cursor: &mut Cursor<'_>, depth: u32) -> Result<Stmt
     Ok(Stmt::While(condition, Box::new(alloc, body)?))
 }
 
-/// `"for" "(" ( declare1 | [ change ] ";" ) [ expr ] ";" [ change ] ")" stmt`
+/// `"for" "(" ( declare1 | [ change ] ";" ) [ expr ] ";" [ change ] ")" stmt`, from its `for` on.
 #[cycle(statements)]
 #[tactic(auto, unfolding(crate::specs::Statements::for_stmt))]
 fn for_stmt(alloc: Global, cursor: &mut Cursor<'_>, depth: u32) -> Result<Stmt, ParseError>
@@ -157,7 +157,7 @@ fn for_stmt(alloc: Global, cursor: &mut Cursor<'_>, depth: u32) -> Result<Stmt, 
     ))
 }
 
-/// A pragma that is a statement.
+/// `PragmaStart "omp"` and one of `"task"`, `"tick"` and `"taskwait"`, with what belongs to it.
 #[cycle(statements)]
 #[tactic(auto, using(crate::proofs::Depths::readers), unfolding(crate::specs::Statements::pragma))]
 fn pragma(alloc: Global, cursor: &mut Cursor<'_>, depth: u32) -> Result<Stmt, ParseError>
@@ -183,7 +183,7 @@ fn pragma(alloc: Global, cursor: &mut Cursor<'_>, depth: u32) -> Result<Stmt, Pa
     Err(ParseError::Syntax)
 }
 
-/// A task, from what follows its word.
+/// `"task" { [ "," ] clause } PragmaEnd stmt`, from what follows its word.
 #[cycle(statements)]
 #[tactic(auto, unfolding(crate::specs::Statements::task))]
 fn task(alloc: Global, cursor: &mut Cursor<'_>, mark: Mark, depth: u32) -> Result<Stmt, ParseError>

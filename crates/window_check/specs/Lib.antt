@@ -2,6 +2,7 @@ pub mod Codes
 pub mod Findings
 pub mod Refusal
 pub mod Room
+pub mod Order
 pub mod Parts
 pub mod Rows
 pub mod Scopes
