@@ -295,14 +295,8 @@ room_items_of_file s (i ∷ is) n h =
 
 -- the scopes within a statement or an item, which has room
 
-pub room_in_block : (s : Scope) (ss : tree.Stmts) → HasRoom s (1 + stmts_weight ss) → HasRoom (enter s) (stmts_weight ss)
-room_in_block s ss h = room_enter s (stmts_weight ss) h
-
 pub room_then : (s : Scope) (a : tree.StmtTree) (n : ℕ) → HasRoom s (stmt_weight a + n) → HasRoom s (stmt_weight a)
 room_then s a n h = room_less s (stmt_weight a + n) (stmt_weight a) h (omega arith)
-
-pub room_in_start : (s : Scope) (start : tree.StartTree) (n : ℕ) → HasRoom s (1 + start_weight start + n) → HasRoom (enter s) (start_weight start)
-room_in_start s start n h = room_enter s (start_weight start) (room_less s _ (1 + start_weight start) h (omega arith))
 
 pub room_in_for : (s : Scope) (start : tree.StartTree) (n : ℕ) → HasRoom s (1 + start_weight start + n) →
     HasRoom (in_loop (after_start (enter s) start)) n
@@ -313,9 +307,6 @@ room_in_for s start n h =
 pub room_in_items : (s : Scope) (ps : List Part) (n : ℕ) → HasRoom s (1 + length ps + n) → HasRoom (with_items s (in_task s) 0 ps) n
 room_in_items s ps n h =
     room_items s (in_task s) 0 ps n (room_in_task s (length ps + n) (room_less s _ (1 + (length ps + n)) h (omega arith)))
-
-pub room_for_params : (s : Scope) (id l n : ℕ) → HasRoom s (3 + l + n) → HasRoom (in_function s id) l
-room_for_params s id l n h = room_in_function s id l (room_less s (3 + l + n) (2 + l) h (omega arith))
 
 pub room_for_body : (s : Scope) (f : tree.FunctionTree) → HasRoom s (3 + length (param_names f.params) + stmts_weight f.body) →
     HasRoom (in_body s f) (stmts_weight f.body)

@@ -94,8 +94,6 @@ pub ended_function : (s : Scope) (f : tree.FunctionTree) →
 ended_function s f =
     ended_unit s (after_stmts (in_body s f) f.body) (keeps-then (keeps_in_body s f) (keeps-stmts (in_body s f) f.body))
 
-pub ruleset restored = (returned_block, returned_for, ended_task, ended_function)
-
 -- whose body it is stays
 
 owner_taken : (s : Scope) (f : Form) → (taken s f).owner ≡ s.owner

@@ -38,7 +38,6 @@ fn shape_of(index: &Option<Index>) -> Shape
 }
 
 /// What stands behind the arrow of an item.
-#[tactic(auto, using(crate::proofs::Lists::lists))]
 fn joined(scopes: &Scopes, found: &mut Found, join: &Join) -> Result<(), Memory>
     ensures { OnOk result (found.new ≡ noted found.old (use_notes scopes.now join.now.name (item_codes (shape_of (option_map index_tree join.now.burst))) ++ index_notes scopes.now (option_map index_tree join.now.burst))) }
 {
@@ -47,7 +46,6 @@ fn joined(scopes: &Scopes, found: &mut Found, join: &Join) -> Result<(), Memory>
 }
 
 /// What stands behind the stream of an item.
-#[tactic(auto, using(crate::proofs::Lists::lists))]
 fn window(
     scopes: &Scopes,
     found: &mut Found,
@@ -102,7 +100,6 @@ fn items(
 }
 
 /// A `firstprivate` name.
-#[tactic(auto, using(crate::proofs::Lists::lists))]
 fn private(
     scopes: &Scopes,
     found: &mut Found,

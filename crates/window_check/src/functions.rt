@@ -126,7 +126,7 @@ fn function(
     let around = begin_function(scopes, name.id)?;
     params(scopes, found, names)?;
     stmts(alloc, scopes, found, &function.body)?;
-    scopes.end(around)?;
+    scopes.end(around);
     scopes.declare_function(name.id, names.len() as u32)
 }
 

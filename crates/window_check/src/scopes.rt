@@ -178,13 +178,12 @@ impl Scopes {
     }
 
     /// Leaves the scopes that were entered since then, with what was declared since then.
-    pub(crate) fn leave(&mut self, outer: Outer) -> Result<(), Memory>
-        ensures { OnOk result (self.new ≡ returned outer self.old) }
+    pub(crate) fn leave(&mut self, outer: Outer)
+        ensures { self.new ≡ returned outer self.old }
     {
         self.declared.drop_to(outer.declared);
         self.depth = outer.depth;
         self.in_loop = outer.in_loop;
-        Ok(())
     }
 
     /// A loop of the body is round what follows.
@@ -229,14 +228,13 @@ impl Scopes {
     }
 
     /// The body ends.
-    pub(crate) fn end(&mut self, around: Around) -> Result<(), Memory>
-        ensures { OnOk result (self.new ≡ ended around self.old) }
+    pub(crate) fn end(&mut self, around: Around)
+        ensures { self.new ≡ ended around self.old }
     {
-        self.leave(around.outer)?;
+        self.leave(around.outer);
         self.owner = around.owner;
         self.slots = around.slots;
         self.elements = around.elements;
-        Ok(())
     }
 
     /// What a scalar is that is declared next.

@@ -134,7 +134,8 @@ fn block(
 {
     let outer = scopes.enter();
     stmts(alloc, scopes, found, list)?;
-    scopes.leave(outer)
+    scopes.leave(outer);
+    Ok(())
 }
 
 /// What stands behind `else`, where there is one.
@@ -195,7 +196,8 @@ fn for_loop(
     step(scopes, found, &head.step)?;
     scopes.enter_loop();
     stmt(alloc, scopes, found, body)?;
-    scopes.leave(outer)
+    scopes.leave(outer);
+    Ok(())
 }
 
 /// A tick.
@@ -227,7 +229,8 @@ fn task(
     let around = scopes.begin(Owner::OfTask);
     listed.declare(scopes)?;
     body(alloc, scopes, found, owner, site, listed)?;
-    scopes.end(around)
+    scopes.end(around);
+    Ok(())
 }
 
 /// The body of a task that stands in a body of this owner, where its clauses list this.

@@ -43,7 +43,7 @@ declare_function-requires c =
     let inside = c.params.new.scopes in
     let after = c.stmts.new.scopes in
     let body : inside ≡ in_body s f = body-scope s begun inside names f c.param_names-names.ensures c.in_ok-around.ensures.scopes c.in_ok-params.ensures.scopes in
-    let ending : c.end.new.self ≡ ended (around_of s) after = c.in_ok-end.ensures ∙ ap (λ a. ended a after) c.in_ok-around.ensures.around in
+    let ending : c.end.new.self ≡ ended (around_of s) after = c.end.ensures ∙ ap (λ a. ended a after) c.in_ok-around.ensures.around in
     function-room s inside after c.end.new.self f c.requires.room body c.in_ok-stmts.ensures.scopes ending
 
 pub returns-clause-scopes : goal.returns-clause-scopes
@@ -55,7 +55,7 @@ returns-clause-scopes c =
     let inside = c.params.new.scopes in
     let after = c.stmts.new.scopes in
     let body : inside ≡ in_body s f = body-scope s begun inside names f c.param_names-names.ensures c.in_ok-around.ensures.scopes c.in_ok-params.ensures.scopes in
-    let ending : c.end.new.self ≡ ended (around_of s) after = c.in_ok-end.ensures ∙ ap (λ a. ended a after) c.in_ok-around.ensures.around in
+    let ending : c.end.new.self ≡ ended (around_of s) after = c.end.ensures ∙ ap (λ a. ended a after) c.in_ok-around.ensures.around in
     IfOk-equal c.declare_function.result _ _ _ c.declare_function.ensures
     (function-scope s inside after c.end.new.self names f c.param_names-names.ensures body c.in_ok-stmts.ensures.scopes ending)
 

@@ -1,4 +1,4 @@
-use Rattle.std.proofs.Common.{◌≡◌, ◌+◌, ◌<◌, ◌++◌, List, [], arith, rules, length, drop, map, refl, ap, sym, ◌∙◌}
+use Rattle.std.proofs.Common.{◌≡◌, ◌<◌, ◌++◌, [], arith, rules, length, map, refl, ap, ◌∙◌}
 use Rattle.std.specs.Option.{option_map}
 use Rattle.std.proofs.lemmas.Result.{on_ok_weaker}
 use Rattle.os_ast.specs.Notes.Clauses.{parts, parts_notes, with_items, in_task}
@@ -7,10 +7,9 @@ use Rattle.os_ast.specs.Notes.Expressions.{expr_notes, value_notes, step_notes}
 use Rattle.os_ast.specs.Notes.Statements.{stmt_notes}
 use Rattle.os_ast.specs.Names.{Scope, enter, in_loop}
 use Rattle.os_ast.specs.Views.{expr_tree, change_tree, start_tree, stmt_tree, stmts_tree, clause_tree}
-use Rattle.os_ast.specs.declared.names.Owner.TheVariants as owners
 use Rattle.os_ast.specs.declared.stmt.Stmt.{the_lemmas}
-use Rattle.window_check.specs.Room.{HasRoom, stmt_weight}
-use Rattle.window_check.proofs.HasRoom.{room_in_loop, room_in_for, room_in_items}
+use Rattle.window_check.specs.Room.{stmt_weight}
+use Rattle.window_check.proofs.HasRoom.{room_in_for, room_in_items}
 use Rattle.window_check.proofs.Restored.{returned_block, returned_for, ended_task, owner_stmt, owner_start, owner_task}
 use Rattle.window_check.proofs.Steps as step
 use Rattle.window_check.proofs.Tasks.{noted-in_task, waiting-before, found-inside, found-outside}
@@ -19,9 +18,8 @@ use Rattle.window_check.proofs.statements.+stmts.Goals as goal
 pub block-returns-clause-scopes : goal.block-returns-clause-scopes
 block-returns-clause-scopes t c =
     let s = c.args.scopes.now in
-    on_ok_weaker c.leave.result
-    (λ h. h ∙ rw (c.enter-outer.ensures.outer, c.in_ok-stmts.ensures.scopes, c.enter-outer.ensures.scope) (returned_block s (stmts_tree c.args.list.now)))
     c.leave.ensures
+    ∙ rw (c.enter-outer.ensures.outer, c.in_ok-stmts.ensures.scopes, c.enter-outer.ensures.scope) (returned_block s (stmts_tree c.args.list.now))
 
 pub for_loop-stmt-requires : goal.for_loop-stmt-requires
 for_loop-stmt-requires t c =
@@ -41,12 +39,9 @@ for_loop-stmt-requires t c =
 pub for_loop-returns-clause-scopes : goal.for_loop-returns-clause-scopes
 for_loop-returns-clause-scopes t c =
     let s = c.args.scopes.now in
-    on_ok_weaker c.leave.result
-    (λ h.
-    h
-    ∙ rw (c.enter-outer.ensures.outer, c.in_ok-stmt.ensures.scopes, c.enter_loop.ensures.scope, c.in_ok-start.ensures.scopes, c.enter-outer.ensures.scope)
-    (returned_for s (start_tree c.args.head.now.start) (stmt_tree c.args.body.now)))
     c.leave.ensures
+    ∙ rw (c.enter-outer.ensures.outer, c.in_ok-stmt.ensures.scopes, c.enter_loop.ensures.scope, c.in_ok-start.ensures.scopes, c.enter-outer.ensures.scope)
+    (returned_for s (start_tree c.args.head.now.start) (stmt_tree c.args.body.now))
 
 pub for_loop-returns-clause-found : goal.for_loop-returns-clause-found
 for_loop-returns-clause-found t c =
@@ -66,9 +61,7 @@ for_loop-returns-clause-found t c =
     step.found-two f c.start.new.found c.value.new.found first second one (rw at_start at c.in_ok-value.ensures) in
     let three =
     step.found-two f c.value.new.found c.step.new.found (first ++ second) third two (rw at_start at c.in_ok-step.ensures) in
-    on_ok_weaker c.leave.result
-    (λ h. step.found-two f c.step.new.found c.stmt.new.found (first ++ second ++ third) last three (rw at_body at c.in_ok-stmt.ensures.found))
-    c.leave.ensures
+    step.found-two f c.step.new.found c.stmt.new.found (first ++ second ++ third) last three (rw at_body at c.in_ok-stmt.ensures.found)
 
 pub inner_body-captured_from-requires : goal.inner_body-captured_from-requires
 inner_body-captured_from-requires t c =
@@ -188,9 +181,7 @@ task-returns-clause-scopes t c =
     let cs = map clause_tree c.args.site.now.clauses in
     let scope =
     step.items-declared s c.begin-around.new.self c.declare.new.scopes c.in_ok-listed.listed (parts cs) c.begin-around.ensures.scope c.in_ok-listed.ensures.listed c.in_ok-declare.ensures in
-    on_ok_weaker c.end.result
-    (λ h. h ∙ rw (c.begin-around.ensures.around, c.in_ok-body.ensures.scopes, scope) (ended_task s cs (stmt_tree c.args.site.now.body)))
-    c.end.ensures
+    c.end.ensures ∙ rw (c.begin-around.ensures.around, c.in_ok-body.ensures.scopes, scope) (ended_task s cs (stmt_tree c.args.site.now.body))
 
 pub task-returns-clause-found : goal.task-returns-clause-found
 task-returns-clause-found t c =
@@ -198,8 +189,6 @@ task-returns-clause-found t c =
     let ps = parts (map clause_tree c.args.site.now.clauses) in
     let scope =
     step.items-declared s c.begin-around.new.self c.declare.new.scopes c.in_ok-listed.listed ps c.begin-around.ensures.scope c.in_ok-listed.ensures.listed c.in_ok-declare.ensures in
-    on_ok_weaker c.end.result
-    (λ h.
     step.found-task
     c.args.found.now
     c.blame.new.self
@@ -217,8 +206,7 @@ task-returns-clause-found t c =
     c.blame.ensures
     c.in_ok-listed.ensures.found
     c.in_ok-listed.ensures.listed
-    (rw scope at c.in_ok-body.ensures.found))
-    c.end.ensures
+    (rw scope at c.in_ok-body.ensures.found)
 
 pub stmt-stmt-requires : goal.stmt-stmt-requires
 stmt-stmt-requires t c =
