@@ -1,4 +1,4 @@
-use Rattle.std.proofs.Common.{◌≡◌, ◌+◌, ◌<◌, ◌++◌, List, [], arith, rules, length, drop, map, refl, ap, sym, ◌∙◌}
+use Rattle.std.proofs.Common.{◌≡◌, ◌<◌, ◌++◌, [], arith, rules, length, map, refl, ap, ◌∙◌}
 use Rattle.std.specs.Option.{option_map}
 use Rattle.std.proofs.lemmas.Result.{on_ok_weaker}
 use Rattle.os_ast.specs.Notes.Clauses.{parts, parts_notes, with_items, in_task}
@@ -7,10 +7,9 @@ use Rattle.os_ast.specs.Notes.Expressions.{expr_notes, value_notes, step_notes}
 use Rattle.os_ast.specs.Notes.Statements.{stmt_notes}
 use Rattle.os_ast.specs.Names.{Scope, enter, in_loop}
 use Rattle.os_ast.specs.Views.{expr_tree, change_tree, start_tree, stmt_tree, stmts_tree, clause_tree}
-use Rattle.os_ast.specs.declared.names.Owner.TheVariants as owners
 use Rattle.os_ast.specs.declared.stmt.Stmt.{the_lemmas}
-use Rattle.window_check.specs.Room.{HasRoom, stmt_weight}
-use Rattle.window_check.proofs.HasRoom.{room_in_loop, room_in_for, room_in_items}
+use Rattle.window_check.specs.Room.{stmt_weight}
+use Rattle.window_check.proofs.HasRoom.{room_in_for, room_in_items}
 use Rattle.window_check.proofs.Restored.{returned_block, returned_for, ended_task, owner_stmt, owner_start, owner_task}
 use Rattle.window_check.proofs.Steps as step
 use Rattle.window_check.proofs.Tasks.{noted-in_task, waiting-before, found-inside, found-outside}
