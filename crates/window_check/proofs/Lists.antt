@@ -1,17 +1,16 @@
 -- The rest of a task's clauses, one part at a time, and how many items the parts add.
-use Rattle.std.proofs.Common.{◌≡◌, ℕ, ◌+◌, ◌<◌, ◌≤◌, List, [], ◌∷◌, ◌++◌, length, get_or, drop, add-one, map, refl, subst, arith, length-append}
+use Rattle.std.proofs.Common.{◌≡◌, ℕ, ◌+◌, ◌<◌, ◌≤◌, List, [], ◌∷◌, ◌++◌, length, get_or, drop, add-one, map, subst, arith, length-append}
 use Rattle.std.proofs.Math.Seq.{drop-cons}
 use Rattle.os_ast.specs.Names.{Scope}
-use Rattle.os_ast.specs.Notes.Clauses.{Part, Item, Private, part_notes, parts}
-use Rattle.os_ast.specs.Views.{clause_item_tree, clause_tree}
+use Rattle.os_ast.specs.Notes.Clauses.{Part, Item, Private, part_notes}
+use Rattle.os_ast.specs.Views.{clause_item_tree}
 use Rattle.os_ast.specs.declared.expr.Name.{Name}
 use Rattle.os_ast.specs.declared.names.Direction.{Direction}
 use Rattle.os_ast.specs.declared.pragma.ClauseItem.{ClauseItem}
 use Rattle.window_check.specs.Findings.{Findings, noted}
 use Rattle.window_check.specs.Parts.{ListedParts, after_part, after_parts, listed_notes}
-use Rattle.window_check.proofs.Listing.{after_parts-append, listed_notes-append, listing}
+use Rattle.window_check.proofs.Listing.{after_parts-append, listed_notes-append}
 use Rattle.window_check.proofs.Noted.{noted-append}
-use Rattle.window_check.proofs.Trees.{parts-drop}
 
 pub items-drop : (d : Direction) (xs : List ClauseItem) (i : ℕ) (x : ClauseItem) → i < length xs → x ≡ get_or xs i x →
     map (Item d) (map clause_item_tree (drop i xs)) ≡ Item d (clause_item_tree x) ∷ map (Item d) (map clause_item_tree (drop (i + 1) xs))
@@ -59,6 +58,4 @@ listed-parts s l m ps rest all whole split listed h =
     let both = after_parts-append s l ps rest in
     cc both
 
-pub ruleset lists = (items-drop, privates-drop, items-part, noted-append)
-
-pub ruleset clauses = (parts-drop, items-parts, listing)
+pub ruleset lists = (privates-drop, noted-append)

@@ -1,5 +1,5 @@
 -- The parts of a statement: that there is room for each, and that what they find is what the statement finds.
-use Rattle.std.proofs.Common.{◌≡◌, ℕ, ◌+◌, ◌<◌, List, [], ◌++◌, length, get_or, drop, Option, Some, None, Box, Global, refl, ap, sym, subst, ◌∙◌, add-one, arith}
+use Rattle.std.proofs.Common.{◌≡◌, ℕ, ◌+◌, ◌<◌, List, [], ◌++◌, length, get_or, drop, Option, Some, None, Box, Global, refl, ap, sym, subst, ◌∙◌, arith}
 use Rattle.std.proofs.lemmas.List.{append-nil}
 use Rattle.os_ast.proofs.Rows.{stmt_tree-block}
 use Rattle.os_ast.specs.Meanings.{Note}
@@ -23,7 +23,6 @@ use Rattle.window_check.specs.Statements.{else_tree, noted_body}
 use Rattle.window_check.proofs.HasRoom.{room_then, room_stmt}
 use Rattle.window_check.proofs.Listing.{items-all}
 use Rattle.window_check.proofs.Noted.{noted-append, noted-codes}
-use Rattle.window_check.proofs.Restored.{owner_stmt}
 use Rattle.window_check.proofs.Tasks.{noted-in_task, blamed-in_task, noted-task}
 use Rattle.window_check.proofs.Trees.{stmts_tree-drop}
 
@@ -48,11 +47,6 @@ weight-if : (c : Expr) (a : Box Stmt Global) (other : Option (Box Stmt Global)) 
 weight-if c a None = omega arith
 weight-if c a (Some b) = refl
 
-after-if : (s : Scope) (c : Expr) (a : Box Stmt Global) (other : Option (Box Stmt Global)) →
-    after_stmt s (stmt_tree (variant.If c a other)) ≡ after_stmt (after_stmt s (stmt_tree a.value)) (else_tree other)
-after-if s c a None = refl
-after-if s c a (Some b) = refl
-
 notes-if : (s : Scope) (c : Expr) (a : Box Stmt Global) (other : Option (Box Stmt Global)) →
     stmt_notes s (stmt_tree (variant.If c a other))
     ≡ expr_notes s (expr_tree c) ++ stmt_notes s (stmt_tree a.value) ++ stmt_notes (after_stmt s (stmt_tree a.value)) (else_tree other)
@@ -71,15 +65,6 @@ pub room-other : (s t : Scope) (x : Stmt) (c : Expr) (a : Box Stmt Global) (othe
 room-other s t x c a other d is there after room =
     let both = subst (λ (n : ℕ). HasRoom s n) (ap (λ (y : Stmt). stmt_weight (stmt_tree y)) is ∙ weight-if c a other) room in
     rw (after, there) (room_stmt s (stmt_tree a.value) (stmt_weight (else_tree other)) both)
-
-pub scopes-if : (s t u : Scope) (x : Stmt) (c : Expr) (a : Box Stmt Global) (other : Option (Box Stmt Global)) (d : Stmt) →
-    x ≡ variant.If c a other → d ≡ a.value → t ≡ after_stmt s (stmt_tree d) → u ≡ after_stmt t (else_tree other) →
-    u ≡ after_stmt s (stmt_tree x)
-scopes-if s t u x c a other d is there first second =
-    second
-    ∙ ap (λ (v : Scope). after_stmt v (else_tree other)) (first ∙ ap (λ (y : Stmt). after_stmt s (stmt_tree y)) there)
-    ∙ sym (after-if s c a other)
-    ∙ ap (λ (y : Stmt). after_stmt s (stmt_tree y)) (sym is)
 
 pub found-if : (f g h k : Findings) (s t : Scope) (x : Stmt) (c : Expr) (a : Box Stmt Global) (other : Option (Box Stmt Global)) (d : Stmt) →
     x ≡ variant.If c a other → d ≡ a.value → t ≡ after_stmt s (stmt_tree d) →

@@ -1,18 +1,17 @@
 -- What is found of a task: its names wait for its end, where it is known what its captured scalars are.
-use Rattle.std.proofs.Common.{◌≡◌, ℕ, ◌+◌, ◌≤◌, Bool, true, false, List, [], ◌∷◌, ◌++◌, map, length, drop, Option, Some, None, refl, ap, sym, ◌∙◌, subst, append_assoc, length-append, arith}
+use Rattle.std.proofs.Common.{◌≡◌, ℕ, ◌≤◌, Bool, true, false, List, [], ◌∷◌, ◌++◌, map, length, drop, Option, Some, None, refl, ap, sym, ◌∙◌, append_assoc, length-append, arith}
 use Rattle.std.proofs.Math.Seq.{drop-append_seam}
 use Rattle.std.proofs.lemmas.List.{append-nil, map-append}
-use Rattle.os_ast.specs.Meanings.{Note, Fault, Means, Captures, captured, with_captured, with_slot, moved, place_in}
+use Rattle.os_ast.specs.Meanings.{Note, Fault, Means, Captures, captured, with_captured, with_slot}
 use Rattle.os_ast.specs.Names.{Scope}
 use Rattle.os_ast.specs.Notes.Clauses.{Part, parts_notes, pragma_codes, task_codes, task_notes, captured_notes, count_items, privates}
 use Rattle.os_ast.specs.Violations.{violated, resolved}
 use Rattle.os_ast.specs.declared.expr.Mark.{Mark}
-use Rattle.os_ast.specs.declared.names.Owner.{Owner}
 use Rattle.os_ast.specs.declared.names.Owner.TheVariants as owners
 use Rattle.os_ast.specs.declared.names.Resolved.{Resolved}
 use Rattle.os_ast.specs.declared.violation.Violation.{Violation}
 use Rattle.window_check.specs.Codes.{least_code}
-use Rattle.window_check.specs.Findings.{Findings, lesser, note, noted, blamed, waits, settled, settle, captured_among, is_task}
+use Rattle.window_check.specs.Findings.{Findings, lesser, note, noted, blamed, waits, settled, settle, captured_among}
 use Rattle.window_check.specs.Parts.{ListedParts, none_listed, after_parts}
 use Rattle.window_check.specs.Statements.{noted_body}
 use Rattle.window_check.specs.declared.naming.Naming.{Naming}

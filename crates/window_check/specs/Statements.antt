@@ -1,5 +1,5 @@
 -- What the parts of statements give, where the code has no tree of its own for them.
-use Rattle.std.specs.Prelude.{◌≡◌, ℕ, List, length, Option, Some, None}
+use Rattle.std.specs.Prelude.{List, length, Option, Some, None}
 use Rattle.std.specs.declared.boxed.Box.{Box}
 use Rattle.std.specs.declared.alloc.Global.{Global}
 use Rattle.os_ast.specs.Meanings.{Note, captured}

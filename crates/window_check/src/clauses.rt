@@ -81,7 +81,6 @@ fn item(
 }
 
 /// The items of a clause.
-#[tactic(auto, using(crate::proofs::Lists::lists))]
 fn items(
     scopes: &Scopes,
     found: &mut Found,
@@ -150,7 +149,7 @@ fn clause(
 }
 
 /// The clauses of a task. The answer is what they list.
-#[tactic(auto, using(crate::proofs::Lists::clauses))]
+#[tactic(auto, using(crate::proofs::Listing::listing))]
 pub(crate) fn clauses(
     alloc: Global,
     scopes: &Scopes,
