@@ -8,7 +8,7 @@ use os_parser::{ParseError, parse};
 use std::alloc::Global;
 use std::rt::Env;
 use std::{env, fs};
-use window_check::{CheckError, check};
+use window_check::{CheckError, check, marks_have_places};
 
 /// The most bytes that a text has.
 const TEXT_LIMIT: usize = 262_144;
@@ -35,6 +35,7 @@ fn judge(alloc: Global, text: &[u8]) -> Result<Answer> {
         Err(error) => return Err(error.into()),
     };
     meaning_by_tokens();
+    marks_have_places();
     match check(alloc, program) {
         Ok(checked) => Ok(Answer::Accepted {
             names: checked.names.len(),

@@ -2,8 +2,8 @@
 use Rattle.std.proofs.Common.{◌≡◌, ℕ, ◌+◌, ◌≤◌, Bool, true, false, if◌then◌else◌, List, ◌∷◌, ◌++◌, map, length, Option, refl, ap, sym, ◌∙◌, arith}
 use Rattle.os_ast.specs.Leveled.{AreAll, cons, IsItem}
 use Rattle.os_ast.specs.Meanings.{Fault}
-use Rattle.os_ast.specs.Names.{Scope, is_declared, main_id}
-use Rattle.os_ast.specs.Notes.Programs.{owner_of, param_names, in_function, in_body, after_params, params_notes, after_function, after_item, after_items, item_notes, items_notes}
+use Rattle.os_ast.specs.Names.{Scope, is_declared}
+use Rattle.os_ast.specs.Notes.Programs.{param_names, in_function, in_body, after_params, params_notes, after_item, after_items, item_notes, items_notes}
 use Rattle.os_ast.specs.Notes.Statements.{after_stmts, stmts_notes}
 use Rattle.os_ast.specs.Trees as tree
 use Rattle.os_ast.specs.Uses.{when}

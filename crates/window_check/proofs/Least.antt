@@ -1,10 +1,10 @@
 -- The least violation of those that were noted is the refusal.
-use Rattle.std.proofs.Common.{◌≡◌, ◌<◌, ◌≤◌, ◌+◌, ℕ, suc, List, [], ◌∷◌, ◌++◌, length, All, Contains, Option, Some, None, refl, ap, sym, ◌∙◌, Bool, true, false, if◌then◌else◌, ltb, arith, rules, ◌⊎◌, inl, inr, subst}
-use Rattle.std.proofs.lemmas.Bool.{ltb-true, ltb-false}
+use Rattle.std.proofs.Common.{◌≡◌, ℕ, suc, List, [], ◌∷◌, All, Contains, Option, Some, refl, ap, sym, ◌∙◌, Bool, true, false, ltb, arith, ◌⊎◌, inl, inr, subst}
+use Rattle.std.proofs.lemmas.Bool.{ltb-true}
 use Rattle.std.proofs.lemmas.Bool.Decides.{nat_tests}
 use Rattle.std.proofs.lemmas.List.Elements.{All-cons, All-nil}
 use Rattle.os_ast.specs.Meanings.{Note, Fault, Means, Captures}
-use Rattle.os_ast.specs.Violations.{violated, resolved, faults, IsBefore, earlier, same_place}
+use Rattle.os_ast.specs.Violations.{resolved, faults, IsBefore, earlier, same_place}
 use Rattle.os_ast.specs.declared.names.Resolved.{Resolved}
 use Rattle.os_ast.specs.declared.violation.Violation.{Violation}
 use Rattle.window_check.specs.Findings.{Findings, before, lesser, note, noted, known, captures}

@@ -1,5 +1,5 @@
 -- What is found of parts, one after another, and that a violation may be noted early or late.
-use Rattle.std.proofs.Common.{◌≡◌, ◌<◌, ◌≤◌, ℕ, List, [], ◌∷◌, ◌++◌, map, min, Option, Some, None, refl, ap, sym, ◌∙◌, Bool, true, false, if◌then◌else◌, arith, rules}
+use Rattle.std.proofs.Common.{◌≡◌, ℕ, List, [], ◌∷◌, ◌++◌, map, min, Option, Some, None, refl, ap, sym, ◌∙◌, Bool, true, false, arith}
 use Rattle.std.proofs.lemmas.Bool.Decides.{nat_tests}
 use Rattle.os_ast.specs.Meanings.{Note, Fault, Means, Captures}
 use Rattle.os_ast.specs.Violations.{violated}

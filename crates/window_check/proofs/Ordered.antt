@@ -1,11 +1,11 @@
 -- Names are noted in the order of their places.
-use Rattle.std.proofs.Common.{◌≡◌, ◌<◌, ◌≤◌, ◌+◌, ℕ, suc, List, [], ◌∷◌, ◌++◌, map, length, Option, Some, None, refl, ap, sym, subst, ◌∙◌, append_assoc, Bool, true, false, not, ◌&&◌, if◌then◌else◌, ℤ, arith}
+use Rattle.std.proofs.Common.{◌≡◌, ◌≤◌, ◌+◌, ℕ, suc, List, [], ◌∷◌, ◌++◌, map, length, Option, Some, None, refl, ap, sym, subst, ◌∙◌, append_assoc, Bool, true, false, not, ◌&&◌, if◌then◌else◌, ℤ, arith}
 use Rattle.std.specs.Prelude.{⊤}
 use Rattle.os_ast.specs.Marks.{HasMark, HasPlaces}
 use Rattle.os_ast.specs.Meanings.{Note, Fault, Means, Captures, captured, with_captured, meaning, meant, control_note}
 use Rattle.os_ast.specs.Names.{Scope, entity_of, lookup, enter, in_loop, is_declared}
-use Rattle.os_ast.specs.Notes.Clauses.{Part, Item, Private, parts, parts_of, part_name, part_notes, parts_notes, window_notes, join_notes, again, target_name, shape_of, task_codes, task_notes, count_items, captured_notes, privates, pragma_codes, with_items, in_task, return_codes}
-use Rattle.os_ast.specs.Notes.Declarators.{form, form_entity, scalar_entity, declarator_codes, declarator_notes, declarators_notes, after_declarator, after_start, start_notes, sized_notes, size_notes, named_size_notes, constant_notes, constant_of, bare_name, is_window}
+use Rattle.os_ast.specs.Notes.Clauses.{Part, Item, Private, parts, parts_of, part_name, part_notes, parts_notes, window_notes, again, target_name, shape_of, task_codes, count_items, captured_notes, privates, pragma_codes, with_items, in_task, return_codes}
+use Rattle.os_ast.specs.Notes.Declarators.{form, form_entity, scalar_entity, declarator_codes, declarator_notes, declarators_notes, after_declarator, after_start, start_notes, sized_notes, size_notes, constant_notes, constant_of, is_window}
 use Rattle.os_ast.specs.Notes.Expressions.{expr_notes, place_notes, args_notes, links_notes, value_notes, index_notes, change_notes, step_notes, count_args}
 use Rattle.os_ast.specs.Notes.Programs.{params_notes, after_param, param_names, item_notes, items_notes, after_item, in_function, in_body, program_notes, file}
 use Rattle.os_ast.specs.Notes.Statements.{stmt_notes, stmts_notes, after_stmt}
@@ -14,7 +14,7 @@ use Rattle.os_ast.specs.Spelling as spelling
 use Rattle.os_ast.specs.Spelling.{Piece, bare, marked, pieces, ◌⨾◌}
 use Rattle.os_ast.specs.Trees as tree
 use Rattle.os_ast.specs.Uses.{said, use_notes, value_codes, target_codes, call_codes, stream_codes, item_codes, private_codes, when}
-use Rattle.os_ast.specs.Violations.{names, resolved, resolutions}
+use Rattle.os_ast.specs.Violations.{names, resolutions}
 use Rattle.os_ast.specs.declared.expr.Mark.{Mark}
 use Rattle.os_ast.specs.declared.expr.Name.{Name}
 use Rattle.os_ast.specs.declared.names.Direction.{Direction}
@@ -23,7 +23,6 @@ use Rattle.os_ast.specs.declared.names.Entity.{Entity}
 use Rattle.os_ast.specs.declared.names.Entity.TheVariants as entity
 use Rattle.os_ast.specs.declared.names.Owner.{Owner}
 use Rattle.os_ast.specs.declared.names.Owner.TheVariants as owner
-use Rattle.os_ast.specs.declared.names.Resolved.{Resolved}
 use Rattle.os_ast.specs.declared.names.Shape.{Shape}
 use Rattle.os_ast.specs.declared.names.Shape.TheVariants as shape
 use Rattle.os_ast.specs.declared.names.What.{What}

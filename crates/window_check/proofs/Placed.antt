@@ -1,12 +1,12 @@
 -- Every token that is noted is one whose mark the tree keeps.
-use Rattle.std.proofs.Common.{◌≡◌, ◌<◌, ◌≤◌, ◌+◌, ℕ, suc, List, [], ◌∷◌, ◌++◌, map, length, Option, Some, None, refl, Bool, true, false, not, ◌&&◌, if◌then◌else◌, ℤ, arith}
+use Rattle.std.proofs.Common.{ℕ, List, [], ◌∷◌, ◌++◌, map, length, Option, Some, None, Bool, true, false, not, ◌&&◌, if◌then◌else◌, ℤ}
 use Rattle.std.specs.Prelude.{⊤}
 use Rattle.os_ast.specs.Meanings.{Note, Fault, Means, Captures, captured, with_captured, meaning, meant, control_note}
 use Rattle.os_ast.specs.Names.{Scope, entity_of, lookup, enter, in_loop, is_declared}
 use Rattle.os_ast.specs.Notes.Clauses.{Part, Item, Private, parts, parts_of, part_name, part_notes, parts_notes, window_notes, join_notes, again, target_name, shape_of, task_codes, task_notes, count_items, captured_notes, privates, pragma_codes, with_items, in_task, return_codes}
-use Rattle.os_ast.specs.Notes.Declarators.{form, form_entity, scalar_entity, declarator_codes, declarator_notes, declarators_notes, after_declarator, after_start, start_notes, sized_notes, size_notes, named_size_notes, constant_notes, constant_of, bare_name, is_window}
+use Rattle.os_ast.specs.Notes.Declarators.{form, form_entity, scalar_entity, declarator_codes, declarator_notes, declarators_notes, after_declarator, after_start, start_notes, sized_notes, size_notes, constant_notes, constant_of, is_window}
 use Rattle.os_ast.specs.Notes.Expressions.{expr_notes, place_notes, args_notes, links_notes, value_notes, index_notes, change_notes, step_notes, count_args}
-use Rattle.os_ast.specs.Notes.Programs.{params_notes, after_param, param_names, item_notes, items_notes, after_item, in_function, in_body, program_notes}
+use Rattle.os_ast.specs.Notes.Programs.{params_notes, after_param, param_names, item_notes, items_notes, after_item, in_function, in_body}
 use Rattle.os_ast.specs.Notes.Statements.{stmt_notes, stmts_notes, after_stmt}
 use Rattle.os_ast.specs.Spelling as spelling
 use Rattle.os_ast.specs.Spelling.{Piece, bare, marked, Printer, ◌⨾◌}
@@ -22,7 +22,6 @@ use Rattle.os_ast.specs.declared.names.Owner.{Owner}
 use Rattle.os_ast.specs.declared.names.Owner.TheVariants as owner
 use Rattle.os_ast.specs.declared.names.Shape.{Shape}
 use Rattle.os_ast.specs.declared.names.Shape.TheVariants as shape
-use Rattle.os_ast.specs.declared.names.What.{What}
 use Rattle.os_ast.specs.declared.program.Params.{Params}
 use Rattle.os_ast.specs.declared.program.Params.TheVariants as params_of
 use Rattle.os_lexer.specs.declared.token.Key.TheVariants as keys

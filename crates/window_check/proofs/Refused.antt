@@ -1,5 +1,5 @@
 -- What the walk over a whole program answers.
-use Rattle.std.proofs.Common.{◌≡◌, ◌<◌, ◌≤◌, ◌+◌, ℕ, suc, List, [], ◌∷◌, ◌++◌, map, length, All, Contains, Option, Some, None, refl, ap, sym, ◌∙◌, Bool, true, false, subst, arith, ◌⊎◌, inl, inr, slice_get, if◌then◌else◌, append-nil, append_assoc}
+use Rattle.std.proofs.Common.{◌≡◌, ◌<◌, ◌≤◌, ◌+◌, ℕ, suc, List, [], ◌∷◌, ◌++◌, length, All, Contains, Some, None, refl, ap, sym, ◌∙◌, Bool, true, false, subst, arith, ◌⊎◌, inl, inr, if◌then◌else◌, append-nil, append_assoc}
 use Rattle.std.proofs.lemmas.List.{length-map}
 use Rattle.std.proofs.lemmas.List.Elements.{All-cons, All-nil, All-append, Contains-append_left}
 use Rattle.std.specs.Prelude.{unwrap_or}

@@ -1,7 +1,7 @@
 -- A program declares no more than it has tokens.
-use Rattle.std.proofs.Common.{◌≡◌, ◌<◌, ◌≤◌, ◌+◌, ℕ, suc, List, [], ◌∷◌, ◌++◌, map, length, length-append, Option, Some, None, refl, Bool, true, false, arith}
+use Rattle.std.proofs.Common.{◌≤◌, ◌+◌, List, [], ◌∷◌, map, length, length-append, Option, Some, None, Bool, true, false, arith}
 use Rattle.std.proofs.lemmas.List.{length-map}
-use Rattle.os_ast.specs.Notes.Clauses.{Part, Item, Private, parts, parts_of}
+use Rattle.os_ast.specs.Notes.Clauses.{Item, Private, parts, parts_of}
 use Rattle.os_ast.specs.Notes.Programs.{param_names}
 use Rattle.os_ast.specs.Operators.{assign_mark, step_mark}
 use Rattle.os_ast.specs.Spelling as spelling

@@ -1,10 +1,9 @@
-use Rattle.std.proofs.Common.{◌≡◌, ◌≤◌, ◌+◌, ◌∙◌, ap, sym, refl, rules, length, ℕ, Some, None, arith, Fits, w32}
+use Rattle.std.proofs.Common.{◌≡◌, ◌≤◌, ◌+◌, ◌∙◌, ap, sym, length, arith}
 use Rattle.os_ast.specs.Names.{Scope}
 use Rattle.os_ast.specs.Notes.Programs.{file, program_notes, items_notes, after_items}
 use Rattle.os_ast.specs.Spelling.{spell}
 use Rattle.os_ast.specs.Trees.{ProgramTree}
 use Rattle.os_ast.specs.Views.{program_tree}
-use Rattle.os_ast.specs.Violations.{violated}
 use Rattle.window_check.specs.Findings.{Findings, nothing_found, noted}
 use Rattle.window_check.specs.Room.{HasRoom, items_weight}
 use Rattle.window_check.proofs.HasRoom.{room_less, room_items_of_file}
