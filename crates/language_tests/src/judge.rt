@@ -1,0 +1,86 @@
+//! The answer to a text, from its bytes to the checks.
+
+use os_ast::laws::meaning_by_tokens;
+use os_lexer::lex;
+use os_parser::{ParseError, parse};
+use std::alloc::Global;
+use std::process::Abort;
+use std::test::Fail;
+use window_check::{CheckError, Checked, check};
+
+/// What is said of a text.
+#[derive(Drop)]
+pub(crate) enum Judged {
+    /// Its tokens are those of no program.
+    Syntax,
+    /// It is a program that violates rules.
+    Refused { code: u8, line: u32 },
+    /// It is a program that violates none.
+    Accepted(Checked),
+}
+
+impl Judged {
+    pub(crate) fn is_syntax(&self) -> bool {
+        match self {
+            Judged::Syntax => true,
+            Judged::Refused { .. } | Judged::Accepted(_) => false,
+        }
+    }
+
+    /// The code and the line of the refusal, where there is one.
+    fn refusal(&self) -> Option<(u8, u32)> {
+        match self {
+            Judged::Refused { code, line } => Some((*code, *line)),
+            Judged::Syntax | Judged::Accepted(_) => None,
+        }
+    }
+
+    fn is_accepted(&self) -> bool {
+        match self {
+            Judged::Accepted(_) => true,
+            Judged::Syntax | Judged::Refused { .. } => false,
+        }
+    }
+}
+
+/// Judges a text of at most 262,144 bytes.
+pub(crate) fn judge(alloc: Global, text: &str) -> Result<Judged, Fail> {
+    if text.len() > 262_144 {
+        return Err(Fail::from("the text is too long"));
+    }
+    let tokens = lex(alloc, text.as_bytes())?;
+    let program = match parse(alloc, &tokens) {
+        Ok(program) => program,
+        Err(ParseError::Syntax) => return Ok(Judged::Syntax),
+        Err(error) => return Err(Fail::from(error)),
+    };
+    meaning_by_tokens();
+    match check(alloc, program) {
+        Ok(checked) => Ok(Judged::Accepted(checked)),
+        Err(CheckError::Fault { code, line }) => Ok(Judged::Refused { code, line }),
+        Err(error) => Err(Fail::from(error)),
+    }
+}
+
+/// Each text is refused by its code in its line.
+pub(crate) fn refuses(
+    rt: &impl Abort,
+    alloc: Global,
+    cases: &[(&str, u8, u32)],
+) -> Result<(), Fail> {
+    for (text, code, line) in cases {
+        let judged = judge(alloc, *text)?;
+        assert_eq!(rt; judged.refusal(), Some((*code, *line)), "{text}");
+    }
+    Ok(())
+}
+
+/// Each text is accepted.
+pub(crate) fn accepts(rt: &impl Abort, alloc: Global, texts: &[&str]) -> Result<(), Fail> {
+    for text in texts {
+        let judged = judge(alloc, *text)?;
+        assert_eq!(rt; judged.refusal(), None, "{text}");
+        assert!(rt; judged.is_accepted(), "{text}");
+    }
+    Ok(())
+}

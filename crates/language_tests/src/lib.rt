@@ -1,0 +1,18 @@
+//! Program texts, and what the language says of them: the way from a text through tokens and trees to the checks.
+//!
+//! There is nothing here but tests. Each takes a table of whole texts and compares the answer with the one that the
+//! rules of the language give, found by hand: the refusal by its code and line, or what each name means.
+#![tactic(auto)]
+
+#[cfg(test)]
+mod judge;
+#[cfg(test)]
+mod limits;
+#[cfg(test)]
+mod names;
+#[cfg(test)]
+mod refusals;
+#[cfg(test)]
+mod scopes;
+#[cfg(test)]
+mod several;

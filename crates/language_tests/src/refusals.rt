@@ -1,0 +1,813 @@
+//! Texts that violate one rule, each in each of its cases, and texts that come close to it and violate none.
+
+use crate::judge::{accepts, judge, refuses};
+use std::test::Fail;
+
+/// The least text for each of the rules that a beginner breaks.
+const COMMON: [(&str, u8, u32); 7] = [
+    (
+        "int f(int a, int a) { return a; } int main(void) { }",
+        12,
+        1,
+    ),
+    ("int f(int a) { return a; } int main(void) { f(); }", 13, 1),
+    ("int main(void) { break; }", 16, 1),
+    ("int main(void) { int w[2]; w[0] = 1; }", 24, 1),
+    (
+        "int main(void) { int s __attribute__((stream)); s = 1; }",
+        14,
+        1,
+    ),
+    ("int main(void) {\n#pragma omp task\nreturn 1;\n}", 18, 3),
+    (
+        "int main(void) {\n#pragma omp task output(osin << x)\n;\n}",
+        20,
+        2,
+    ),
+];
+
+/// A name that is used has no declaration in scope.
+const UNKNOWN: [(&str, u8, u32); 20] = [
+    ("int main(void) { x = 1; }", 10, 1),
+    ("int main(void) {\nint x;\nx = y;\n}", 10, 3),
+    ("int main(void) { x++; }", 10, 1),
+    ("int main(void) { f(); }", 10, 1),
+    (
+        "int f() {\nreturn g(1);\n}\nint g(int a) { return a; } int main(void) { }",
+        10,
+        2,
+    ),
+    ("int main(void) { main(); }", 10, 1),
+    ("int f(int a) { return f(a); } int main(void) { }", 10, 1),
+    (
+        "int f(int a) { return a + N; } const int N = 1; int main(void) { }",
+        10,
+        1,
+    ),
+    ("int main(void) { if (y) ; }", 10, 1),
+    ("int main(void) { int a; a = a ? 1 : y; }", 10, 1),
+    ("int main(void) {\nwhile (1)\nreturn -(y);\n}", 10, 3),
+    ("int f(int a) { return a; } int main(void) { f(y); }", 10, 1),
+    (
+        "int f(int i) { int a[2]; a[y] = 1; return i; } int main(void) { }",
+        10,
+        1,
+    ),
+    ("int main(void) { int w[n]; }", 10, 1),
+    (
+        "int main(void) {\nint x;\n\n#pragma omp task input(s >> x)\n;\n}",
+        10,
+        4,
+    ),
+    (
+        "int main(void) {\n#pragma omp task output(osout << y)\n;\n}",
+        10,
+        2,
+    ),
+    ("int main(void) {\n#pragma omp task input(s)\n;\n}", 10, 2),
+    (
+        "int main(void) {\n#pragma omp task firstprivate(a)\n;\n}",
+        10,
+        2,
+    ),
+    ("int main(void) {\n#pragma omp tick(s >> 1)\n}", 10, 2),
+    ("int main(void) {\n#pragma omp tick(osin >> n)\n}", 10, 2),
+];
+
+/// A name of the wrong kind.
+const KIND: [(&str, u8, u32); 36] = [
+    // a call of what is no function, or of `main`
+    ("int main(void) { int a; a(); }", 11, 1),
+    ("const int N = 1; int main(void) { N(); }", 11, 1),
+    (
+        "int f() { int a[1]; return a(); } int main(void) { }",
+        11,
+        1,
+    ),
+    (
+        "int main(void) {\nint x;\n#pragma omp task input(osin >> x)\nx();\n}",
+        11,
+        4,
+    ),
+    ("int main(void) { } int f() { return main(); }", 11, 1),
+    // a function that isn't called
+    (
+        "int f() { return 1; } int main(void) { int a; a = f; }",
+        11,
+        1,
+    ),
+    ("int f() { return 1; } int main(void) { f = 1; }", 11, 1),
+    (
+        "int f() { return 1; } int g() { return f[0]; } int main(void) { }",
+        11,
+        1,
+    ),
+    // a local array or view without index
+    ("int f() { int a[2]; return a; } int main(void) { }", 11, 1),
+    (
+        "int f() { int a[2]; a = 1; return 1; } int main(void) { }",
+        11,
+        1,
+    ),
+    (
+        "int main(void) {\nint w[2], y;\n#pragma omp task input(osin >> w[1]) output(osout << y)\ny = w;\n}",
+        11,
+        4,
+    ),
+    (
+        "int main(void) {\nint w[2];\n#pragma omp task output(osout << w[2])\nw = 1;\n}",
+        11,
+        4,
+    ),
+    // a scalar, element or constant with index
+    ("int main(void) { int a; a = a[0]; }", 11, 1),
+    (
+        "int f(int a) { a[0] = 1; return a; } int main(void) { }",
+        11,
+        1,
+    ),
+    ("int main(void) { int a; a = osin_len[0]; }", 11, 1),
+    (
+        "int main(void) {\nint x, y;\n#pragma omp task input(osin >> x) output(osout << y)\ny = x[0];\n}",
+        11,
+        4,
+    ),
+    (
+        "int main(void) {\nint y;\n#pragma omp task output(osout << y)\ny[0]++;\n}",
+        11,
+        4,
+    ),
+    (
+        "const int N = 1; int main(void) { int a; a = N[0]; }",
+        11,
+        1,
+    ),
+    // the stream of an item or tick is no stream
+    (
+        "int main(void) {\nint a, x;\n#pragma omp task input(a >> x)\n;\n}",
+        11,
+        3,
+    ),
+    (
+        "int f() { return 1; } int main(void) {\nint x;\n#pragma omp task output(f << x)\n;\n}",
+        11,
+        3,
+    ),
+    (
+        "int main(void) {\nint a;\n#pragma omp task input(a)\n;\n}",
+        11,
+        3,
+    ),
+    (
+        "int main(void) {\nint x;\n#pragma omp tick(osin_len >> 1)\n}",
+        11,
+        3,
+    ),
+    // a single stream with index
+    (
+        "int main(void) {\nint x;\n#pragma omp task input(osin[0] >> x)\n;\n}",
+        11,
+        3,
+    ),
+    (
+        "int main(void) {\nint s __attribute__((stream));\n#pragma omp tick(s[0] >> 1)\n}",
+        11,
+        3,
+    ),
+    // a stream array without index, or alone as an item
+    (
+        "int main(void) {\nint t[2] __attribute__((stream)), x;\n#pragma omp task output(t << x)\n;\n}",
+        11,
+        3,
+    ),
+    (
+        "int main(void) {\nint t[2] __attribute__((stream));\n#pragma omp tick(t >> 1)\n}",
+        11,
+        3,
+    ),
+    (
+        "int main(void) {\nint t[2] __attribute__((stream));\n#pragma omp task input(t)\n;\n}",
+        11,
+        3,
+    ),
+    // what follows `>>` or `<<` in an item is neither a scalar declared in `main` nor a window
+    (
+        "const int N = 1; int main(void) {\n#pragma omp task input(osin >> N)\n;\n}",
+        11,
+        2,
+    ),
+    (
+        "int f() { return 1; } int main(void) {\n#pragma omp task output(osout << f)\n;\n}",
+        11,
+        2,
+    ),
+    (
+        "int main(void) {\n#pragma omp task input(osin >> osin_len)\n;\n}",
+        11,
+        2,
+    ),
+    // a scalar there with a burst, a window there without
+    (
+        "int main(void) {\nint x;\n#pragma omp task input(osin >> x[1])\n;\n}",
+        11,
+        3,
+    ),
+    (
+        "int main(void) {\nint w[2];\n#pragma omp task input(osin >> w)\n;\n}",
+        11,
+        3,
+    ),
+    (
+        "int main(void) {\nint w[2];\n#pragma omp task output(osout << w)\n;\n}",
+        11,
+        3,
+    ),
+    // a `firstprivate` name is neither a scalar declared in `main` nor `osin_len`
+    (
+        "const int N = 1; int main(void) {\n#pragma omp task firstprivate(N)\n;\n}",
+        11,
+        2,
+    ),
+    (
+        "int f() { return 1; } int main(void) {\n#pragma omp task firstprivate(f)\n;\n}",
+        11,
+        2,
+    ),
+    (
+        "int main(void) {\nint a;\n#pragma omp task input(osin >> a[a])\n;\n}",
+        11,
+        3,
+    ),
+];
+
+/// A call has another number of arguments than the function has parameters.
+const ARGUMENTS: [(&str, u8, u32); 6] = [
+    ("int f() { return 1; } int main(void) { f(1); }", 13, 1),
+    (
+        "int f(void) { return 1; } int main(void) { int a = f(2); }",
+        13,
+        1,
+    ),
+    (
+        "int f(int a, int b) { return a + b; }\nint main(void) {\nint a;\na = f(1);\n}",
+        13,
+        4,
+    ),
+    (
+        "int f(int a, int b) { return a + b; } int main(void) { f(1, 2, 3); }",
+        13,
+        1,
+    ),
+    (
+        "int f(int a) { return a; } int main(void) { f(f()); }",
+        13,
+        1,
+    ),
+    (
+        "int f(int a) { return a; } int main(void) {\nint y;\n#pragma omp task output(osout << y)\ny = f();\n}",
+        13,
+        4,
+    ),
+];
+
+/// A change whose target may not be changed.
+const CHANGED: [(&str, u8, u32); 14] = [
+    // an element or view of an input item
+    (
+        "int main(void) {\nint x;\n#pragma omp task input(osin >> x)\nx = 1;\n}",
+        14,
+        4,
+    ),
+    (
+        "int main(void) {\nint x;\n#pragma omp task input(osin >> x)\n++x;\n}",
+        14,
+        4,
+    ),
+    (
+        "int main(void) {\nint s __attribute__((stream));\n#pragma omp task input(s)\ns -= 1;\n}",
+        14,
+        4,
+    ),
+    (
+        "int main(void) {\nint w[2];\n#pragma omp task input(osin >> w[1])\nw[0] = 1;\n}",
+        14,
+        4,
+    ),
+    (
+        "int main(void) {\nint w[2];\n#pragma omp task input(osin >> w[1])\nw[0]--;\n}",
+        14,
+        4,
+    ),
+    // a constant
+    ("const int N = 1; int main(void) { N = 2; }", 14, 1),
+    (
+        "const int N = 1; int f() { N++; return N; } int main(void) { }",
+        14,
+        1,
+    ),
+    // `osin_len`
+    ("int main(void) { osin_len = 1; }", 14, 1),
+    ("int main(void) { for (; ; osin_len--) ; }", 14, 1),
+    (
+        "int main(void) {\n#pragma omp task firstprivate(osin_len)\nosin_len = 2;\n}",
+        14,
+        3,
+    ),
+    // a stream that is no element there
+    ("int main(void) { osout = 1; }", 14, 1),
+    (
+        "int main(void) { int t[2] __attribute__((stream)); t[1] *= 2; }",
+        14,
+        1,
+    ),
+    (
+        "int main(void) {\nint s __attribute__((stream));\n#pragma omp task\ns = 1;\n}",
+        14,
+        4,
+    ),
+    (
+        "int main(void) {\nint s __attribute__((stream)), x;\n#pragma omp task output(s << x)\ns = 1;\n}",
+        14,
+        4,
+    ),
+];
+
+/// A size that is none.
+const SIZE: [(&str, u8, u32); 20] = [
+    // neither a number nor the name of a constant
+    (
+        "int f(int n) { int a[n]; return n; } int main(void) { }",
+        15,
+        1,
+    ),
+    (
+        "int f(int n) { int a[z]; return n; } int main(void) { }",
+        15,
+        1,
+    ),
+    (
+        "int f() { return 2; } int g() { int a[f]; return 1; } int main(void) { }",
+        15,
+        1,
+    ),
+    (
+        "int f() { int a[1 + 1]; return 1; } int main(void) { }",
+        15,
+        1,
+    ),
+    (
+        "int f() { int a[(2)]; return 1; } int main(void) { }",
+        15,
+        1,
+    ),
+    ("int f() { int a[+2]; return 1; } int main(void) { }", 15, 1),
+    (
+        "int main(void) {\nint w[2];\n#pragma omp task\n{ int a[w]; }\n}",
+        15,
+        4,
+    ),
+    (
+        "int main(void) {\nint x;\n#pragma omp task\n{ int a[x]; }\n}",
+        15,
+        4,
+    ),
+    (
+        "int main(void) { int n; int s[n] __attribute__((stream)); }",
+        15,
+        1,
+    ),
+    (
+        "int main(void) { int s[1 + 1] __attribute__((stream)); }",
+        15,
+        1,
+    ),
+    (
+        "int main(void) { int s[osin_len] __attribute__((stream)); }",
+        15,
+        1,
+    ),
+    // below 1
+    ("int f() { int a[0]; return 1; } int main(void) { }", 15, 1),
+    (
+        "const int N = 0; int f() { int a[N]; return 1; } int main(void) { }",
+        15,
+        1,
+    ),
+    (
+        "const int N = -2; int f() { int a[N]; return 1; } int main(void) { }",
+        15,
+        1,
+    ),
+    (
+        "int main(void) { int s[0] __attribute__((stream)); }",
+        15,
+        1,
+    ),
+    (
+        "const int N = -1; int main(void) { int s[N] __attribute__((stream)); }",
+        15,
+        1,
+    ),
+    // above 65,536
+    (
+        "int f() { int a[65537]; return 1; } int main(void) { }",
+        15,
+        1,
+    ),
+    (
+        "const int N = 65537; int f() { int a[N]; return 1; } int main(void) { }",
+        15,
+        1,
+    ),
+    (
+        "int main(void) { int s[65537] __attribute__((stream)); }",
+        15,
+        1,
+    ),
+    (
+        "int main(void) {\n#pragma omp task\n{ int a[2147483647]; }\n}",
+        15,
+        3,
+    ),
+];
+
+/// `break` or `continue` outside a loop of the same function or task.
+const NO_LOOP: [(&str, u8, u32); 7] = [
+    ("int f() { continue; } int main(void) { }", 16, 1),
+    ("int main(void) { for (;;) ; break; }", 16, 1),
+    (
+        "int main(void) { while (1) { }\nif (1) { continue; } }",
+        16,
+        2,
+    ),
+    (
+        "int main(void) {\nfor (;;) {\n#pragma omp task\nbreak;\n}\n}",
+        16,
+        4,
+    ),
+    (
+        "int main(void) {\nwhile (1)\n#pragma omp task\n{ continue; }\n}",
+        16,
+        4,
+    ),
+    (
+        "int main(void) {\n#pragma omp task\nfor (;;) ;\nbreak;\n}",
+        16,
+        4,
+    ),
+    (
+        "int main(void) {\n#pragma omp task\n{ { } while (1) ;\nbreak; }\n}",
+        16,
+        4,
+    ),
+];
+
+/// A pragma or a stream declaration where none may stand.
+const MISPLACED: [(&str, u8, u32); 12] = [
+    // a pragma outside `main`
+    (
+        "int f() {\n#pragma omp task\n;\n}\nint main(void) { }",
+        17,
+        2,
+    ),
+    (
+        "int f() {\n#pragma omp taskwait\n}\nint main(void) { }",
+        17,
+        2,
+    ),
+    // a pragma inside a task
+    (
+        "int main(void) {\n#pragma omp task\n#pragma omp task\n;\n}",
+        17,
+        3,
+    ),
+    (
+        "int main(void) {\n#pragma omp task\n#pragma omp taskwait\n}",
+        17,
+        3,
+    ),
+    (
+        "int main(void) {\n#pragma omp task\n{\n#pragma omp tick(osin >> 1)\n}\n}",
+        17,
+        4,
+    ),
+    (
+        "int main(void) {\n#pragma omp task\nfor (;;) if (1) ; else\n#pragma omp taskwait\n}",
+        17,
+        4,
+    ),
+    // a stream declaration anywhere but directly in the outermost block of `main`
+    (
+        "int f() { int s __attribute__((stream)); } int main(void) { }",
+        17,
+        1,
+    ),
+    (
+        "int main(void) {\n{\nint s __attribute__((stream));\n}\n}",
+        17,
+        3,
+    ),
+    (
+        "int main(void) { for (;;) { int s[2] __attribute__((stream)); } }",
+        17,
+        1,
+    ),
+    (
+        "int main(void) { while (1) { int s __attribute__((stream)); } }",
+        17,
+        1,
+    ),
+    (
+        "int main(void) {\n#pragma omp task\n{ int s __attribute__((stream)); }\n}",
+        17,
+        3,
+    ),
+    (
+        "int main(void) {\n#pragma omp task\n{ int s[3] __attribute__((stream)); }\n}",
+        17,
+        3,
+    ),
+];
+
+/// `return` in a task.
+const RETURNS: [(&str, u8, u32); 3] = [
+    (
+        "int main(void) {\nint y;\n#pragma omp task output(osout << y)\n{ y = 1;\nreturn 0; }\n}",
+        18,
+        5,
+    ),
+    (
+        "int main(void) {\n#pragma omp task\nfor (;;) { return 1; }\n}",
+        18,
+        3,
+    ),
+    (
+        "int main(void) {\n#pragma omp task\nif (1) ; else return 1;\nreturn 0;\n}",
+        18,
+        3,
+    ),
+];
+
+/// A stream is named where none may stand.
+const STREAMS: [(&str, u8, u32); 12] = [
+    ("int main(void) { int a; a = osin; }", 19, 1),
+    (
+        "int main(void) { int s __attribute__((stream)), a = s; }",
+        19,
+        1,
+    ),
+    (
+        "int main(void) { int t[2] __attribute__((stream)), a; a = t[1]; }",
+        19,
+        1,
+    ),
+    (
+        "int f(int a) { return a; } int main(void) { f(osout); }",
+        19,
+        1,
+    ),
+    ("int main(void) { int w[osin]; }", 19, 1),
+    (
+        "int main(void) {\nint y;\n#pragma omp task output(osout << y)\ny = osin;\n}",
+        19,
+        4,
+    ),
+    (
+        "int main(void) {\nint s __attribute__((stream)), x, y;\n#pragma omp task input(s >> x) output(osout << y)\ny = s;\n}",
+        19,
+        4,
+    ),
+    (
+        "int main(void) {\nint s __attribute__((stream)), y;\n#pragma omp task input(s) output(osout << y)\ny = s + osin;\n}",
+        19,
+        4,
+    ),
+    (
+        "int main(void) {\nint w[2];\n#pragma omp task input(osin >> w[osin])\n;\n}",
+        19,
+        3,
+    ),
+    (
+        "int main(void) {\nint t[2] __attribute__((stream)), x;\n#pragma omp task input(t[osin] >> x)\n;\n}",
+        19,
+        3,
+    ),
+    (
+        "int main(void) {\nint s __attribute__((stream));\n#pragma omp tick(s >> s)\n}",
+        19,
+        3,
+    ),
+    ("int main(void) { if (osin) ; }", 19, 1),
+];
+
+/// `osin` is written, or `osout` is read.
+const WRONG_END: [(&str, u8, u32); 5] = [
+    (
+        "int main(void) {\nint y;\n#pragma omp task output(osin << y)\n;\n}",
+        20,
+        3,
+    ),
+    (
+        "int main(void) {\n#pragma omp task output(osin)\n;\n}",
+        20,
+        2,
+    ),
+    (
+        "int main(void) {\nint x;\n#pragma omp task input(osout >> x)\n;\n}",
+        20,
+        3,
+    ),
+    (
+        "int main(void) {\n#pragma omp task input(osout)\n;\n}",
+        20,
+        2,
+    ),
+    ("int main(void) {\n#pragma omp tick(osout >> 1)\n}", 20, 2),
+];
+
+/// A name stands a second time in the clauses of one task.
+const LISTED_TWICE: [(&str, u8, u32); 9] = [
+    // as window
+    (
+        "int main(void) {\nint w[2];\n#pragma omp task input(osin >> w[1]) output(osout << w[1])\n;\n}",
+        21,
+        3,
+    ),
+    // as scalar
+    (
+        "int main(void) {\nint x;\n#pragma omp task input(osin >> x, osin >> x)\n;\n}",
+        21,
+        3,
+    ),
+    (
+        "int main(void) {\nint x;\n#pragma omp task output(osout << x), input(osin >> x)\n;\n}",
+        21,
+        3,
+    ),
+    // as stream alone
+    (
+        "int main(void) {\nint s __attribute__((stream));\n#pragma omp task input(s) output(s)\n;\n}",
+        21,
+        3,
+    ),
+    (
+        "int main(void) {\nint s __attribute__((stream));\n#pragma omp task input(s, s)\n;\n}",
+        21,
+        3,
+    ),
+    // as `firstprivate` name
+    (
+        "int main(void) {\nint a;\n#pragma omp task firstprivate(a, a)\n;\n}",
+        21,
+        3,
+    ),
+    (
+        "int main(void) {\nint a;\n#pragma omp task firstprivate(a) firstprivate(osin_len, a)\n;\n}",
+        21,
+        3,
+    ),
+    (
+        "int main(void) {\nint x;\n#pragma omp task input(osin >> x) firstprivate(x)\n;\n}",
+        21,
+        3,
+    ),
+    (
+        "int main(void) {\nint x;\n#pragma omp task firstprivate(x) output(osout << x)\n;\n}",
+        21,
+        3,
+    ),
+];
+
+/// There is no function `main` without parameters; the line is 1, wherever the text ends.
+const NO_MAIN: [(&str, u8, u32); 6] = [
+    ("", 23, 1),
+    ("\n\n// nothing\n", 23, 1),
+    ("int f() {\nreturn 1;\n}\n", 23, 1),
+    ("int main(int a) { a = osin_len; }", 23, 1),
+    ("const int N = 1;\nconst int main = 2;\n", 23, 1),
+    ("int f() {\nint main;\nreturn main;\n}", 23, 1),
+];
+
+/// A window is named where none may stand.
+const WINDOWS: [(&str, u8, u32); 11] = [
+    // in the control program outside an item's window
+    ("int main(void) { int w[2], a; a = w[0]; }", 24, 1),
+    ("int main(void) { int w[2], a; a = w; }", 24, 1),
+    ("int main(void) { int w[2]; w = 1; }", 24, 1),
+    ("int main(void) { int w[2]; w[1]++; }", 24, 1),
+    ("int main(void) { int w[2], v[w[0]]; }", 24, 1),
+    (
+        "int main(void) {\nint w[2], v[2];\n#pragma omp task input(osin >> v[w[0]])\n;\n}",
+        24,
+        3,
+    ),
+    (
+        "int main(void) {\nint w[2];\n#pragma omp tick(osin >> w[0])\n}",
+        24,
+        3,
+    ),
+    // in a task whose clauses don't name it
+    (
+        "int main(void) {\nint w[2], y;\n#pragma omp task output(osout << y)\ny = w[0];\n}",
+        24,
+        4,
+    ),
+    (
+        "int main(void) {\nint w[2], v[2];\n#pragma omp task input(osin >> v[1])\nw[1] = v[0];\n}",
+        24,
+        4,
+    ),
+    (
+        "int main(void) {\nint w[2];\n#pragma omp task\nwhile (w) ;\n}",
+        24,
+        4,
+    ),
+    (
+        "int main(void) {\nint w[2];\n#pragma omp task input(osin >> w[1])\n;\nw[0] = 1;\n}",
+        24,
+        5,
+    ),
+];
+
+/// Programs that come close to a violation.
+const LAWFUL: [&str; 24] = [
+    "int main() { }",
+    "int main(void) { int x = x; }",
+    "int main(void) { } int f() { return 1; }",
+    "int f() { return 1; } int g() { return f(); } int main(void) { f(); g(); }",
+    "int f(int a, int b) { return a - b; } int main(void) { f(f(1, 2), -3); }",
+    "const int N = 2; int f() { int a[N]; a[0] = N; return a[N]; } int main(void) { int w[N + 1]; }",
+    "int main(void) { int w[0]; int v[65537], u[-1], n, t[n]; }",
+    "int main(void) { for (;;) { if (1) break; else { continue; } } while (1) while (1) break; }",
+    "int main(void) {\nfor (;;)\n#pragma omp task\nwhile (1) { break; }\n}",
+    "int main(void) {\nint i;\nif (i) {\n#pragma omp taskwait\n}\nwhile (i)\n#pragma omp tick(osin >> i)\n}",
+    "int main(void) { return osin_len; }",
+    "int main(void) { { } return 1; int s __attribute__((stream)); }",
+    "int main(void) {\nint s __attribute__((stream)), x;\n#pragma omp task input(s, s >> x)\n;\n}",
+    "int main(void) {\nint s __attribute__((stream));\n#pragma omp task output(s)\ns = 1;\n}",
+    "int main(void) {\nint s __attribute__((stream)), x, y;\n#pragma omp task input(s >> x) output(s << y)\ny = x;\n}",
+    "int main(void) {\nint t[2] __attribute__((stream)), x, i;\n#pragma omp task input(t[i] >> x)\n;\n#pragma omp tick(t[1] >> i + 1)\n}",
+    "int main(void) {\nint w[2], v[2];\n#pragma omp task input(osin >> w[0]) output(osout << v[2])\n{ v[0] = w[w[1]]; v[1]++; v[v[0]] += 2; }\n}",
+    "int main(void) {\nint x;\n#pragma omp task firstprivate(x)\nx = 1;\n#pragma omp task\n{ x++; x = x + osin_len; }\n}",
+    "int main(void) {\nint a, x, w[2];\n#pragma omp task input(osin >> w[a + osin_len]) firstprivate(a, osin_len)\n;\n}",
+    "int main(void) {\nfor (int x = 0; ; )\n#pragma omp task input(osin >> x)\n;\n}",
+    "int main(void) {\n#pragma omp task input(osin) output(osout)\nosout = osin;\n}",
+    "int main(void) {\nint x;\n#pragma omp task input(osin >> x)\n;\nx = 1;\n#pragma omp task output(osout << x)\nx = 1;\n}",
+    "int main(void) {\nint x, y;\n#pragma omp task input(osin >> x, osin >> y)\n;\n}",
+    "int main(void) {\nint omp, task, tick, taskwait, input, output, firstprivate, stream;\nomp = task + tick + taskwait + input + output + firstprivate + stream;\n}",
+];
+
+#[test]
+fn each_rule_refuses_each_of_its_cases(rt: HostRuntime) -> Result<(), Fail> {
+    refuses(&rt, rt.alloc(), &COMMON)?;
+    refuses(&rt, rt.alloc(), &UNKNOWN)?;
+    refuses(&rt, rt.alloc(), &KIND)?;
+    refuses(&rt, rt.alloc(), &ARGUMENTS)?;
+    refuses(&rt, rt.alloc(), &CHANGED)?;
+    refuses(&rt, rt.alloc(), &SIZE)?;
+    refuses(&rt, rt.alloc(), &NO_LOOP)?;
+    refuses(&rt, rt.alloc(), &MISPLACED)?;
+    refuses(&rt, rt.alloc(), &RETURNS)?;
+    refuses(&rt, rt.alloc(), &STREAMS)?;
+    refuses(&rt, rt.alloc(), &WRONG_END)?;
+    refuses(&rt, rt.alloc(), &LISTED_TWICE)?;
+    refuses(&rt, rt.alloc(), &NO_MAIN)?;
+    refuses(&rt, rt.alloc(), &WINDOWS)
+}
+
+/// A program whose task is its line 6.
+const DIVISION: [&str; 2] = [
+    "int main(void) {
+    int i;
+    for (i = 0; i < osin_len; i++) {
+        int x, y;
+        #pragma omp task input(osin >> x) output(osout << y)
+        ",
+    "
+    }
+}
+",
+];
+
+/// Tasks, with their refusals.
+const TASKS: [(&str, u8, u32); 2] = [("{ x = 1; y = z; }", 14, 6), ("{ y = z; x = 1; }", 10, 6)];
+
+#[test]
+fn a_task_is_refused_in_its_line(rt: HostRuntime) -> Result<(), Fail> {
+    let [head, tail] = DIVISION;
+    for (task, code, line) in &TASKS {
+        let text = format!(in rt.alloc(); "{head}{task}{tail}")?;
+        refuses(&rt, rt.alloc(), &[(text.as_str(), *code, *line)])?;
+    }
+    let lawful = format!(in rt.alloc(); "{head}y = 100 / x;{tail}")?;
+    accepts(&rt, rt.alloc(), &[lawful.as_str()])?;
+    let no_program = format!(in rt.alloc(); "{head}y = ;{tail}")?;
+    let judged = judge(rt.alloc(), no_program.as_str())?;
+    assert!(rt; judged.is_syntax());
+    Ok(())
+}
+
+#[test]
+fn what_comes_close_is_lawful(rt: HostRuntime) -> Result<(), Fail> {
+    accepts(&rt, rt.alloc(), &LAWFUL)
+}
