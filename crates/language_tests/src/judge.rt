@@ -6,7 +6,7 @@ use os_parser::{ParseError, parse};
 use std::alloc::Global;
 use std::process::Abort;
 use std::test::Fail;
-use window_check::{CheckError, Checked, check};
+use window_check::{CheckError, Checked, check, marks_have_places};
 
 /// What is said of a text.
 #[derive(Drop)]
@@ -55,6 +55,7 @@ pub(crate) fn judge(alloc: Global, text: &str) -> Result<Judged, Fail> {
         Err(error) => return Err(Fail::from(error)),
     };
     meaning_by_tokens();
+    marks_have_places();
     match check(alloc, program) {
         Ok(checked) => Ok(Judged::Accepted(checked)),
         Err(CheckError::Fault { code, line }) => Ok(Judged::Refused { code, line }),
