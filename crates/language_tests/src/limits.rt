@@ -221,7 +221,7 @@ const SIXTY_FOUR: [Capturing<'static>; 9] = [
     ("", 64, "; for (int a64; a64; ) a64 = 1"),
 ];
 
-const SIXTY_FIVE: [Capturing<'static>; 9] = [
+const SIXTY_FIVE: [Capturing<'static>; 11] = [
     ("", 65, ""),
     ("", 70, ""),
     ("", 64, " + osin_len"),
@@ -232,6 +232,8 @@ const SIXTY_FIVE: [Capturing<'static>; 9] = [
     // names that are used wrongly count, and those in a task inside it
     ("", 64, "; a64[0] = 1"),
     ("", 64, ";\n#pragma omp task\n{ a64 = 1; }"),
+    ("", 64, ";\n#pragma omp task firstprivate(a64)\n"),
+    ("", 64, ";\n#pragma omp task input(osin >> a64)\n"),
 ];
 
 /// A program with 70 scalars, and a task in line 3.

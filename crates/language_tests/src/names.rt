@@ -188,31 +188,41 @@ const CALLS_NAMES: [(u32, What); 17] = [
 const CONSTANTS: &str = "const int SHIFT = -7;
 const int SIZE = 3;
 const int LOW = -2147483647;
+const int ZERO = -0;
 int f(int n) {
     int a[SIZE], b;
     b = a[n] + SHIFT;
     return b < LOW ? LOW : b;
 }
 int main(void) {
-    int w[SIZE];
+    int w[SIZE], z = ZERO;
+    #pragma omp task
+    { int k[SIZE]; k[ZERO] = LOW; }
 }
 ";
 
-const CONSTANTS_NAMES: [(u32, What); 14] = [
-    (24, What::Scalar(0)),
-    (28, What::Array { first: 1, size: 3 }),
-    (30, What::Constant(3)),
-    (33, What::Scalar(4)),
-    (35, What::Scalar(4)),
-    (37, What::Array { first: 1, size: 3 }),
-    (39, What::Scalar(0)),
-    (42, What::Constant(-7)),
-    (45, What::Scalar(4)),
-    (47, What::Constant(-2147483647)),
-    (49, What::Constant(-2147483647)),
-    (51, What::Scalar(4)),
-    (61, What::Window(1)),
-    (63, What::Constant(3)),
+const CONSTANTS_NAMES: [(u32, What); 21] = [
+    (31, What::Scalar(0)),
+    (35, What::Array { first: 1, size: 3 }),
+    (37, What::Constant(3)),
+    (40, What::Scalar(4)),
+    (42, What::Scalar(4)),
+    (44, What::Array { first: 1, size: 3 }),
+    (46, What::Scalar(0)),
+    (49, What::Constant(-7)),
+    (52, What::Scalar(4)),
+    (54, What::Constant(-2147483647)),
+    (56, What::Constant(-2147483647)),
+    (58, What::Scalar(4)),
+    (68, What::Window(1)),
+    (70, What::Constant(3)),
+    (73, What::Scalar(2)),
+    (75, What::Constant(0)),
+    (83, What::Array { first: 0, size: 3 }),
+    (85, What::Constant(3)),
+    (88, What::Array { first: 0, size: 3 }),
+    (90, What::Constant(0)),
+    (93, What::Constant(-2147483647)),
 ];
 
 /// A local array has as many slots as its size.
@@ -315,6 +325,54 @@ const CAPTURED_NAMES: [(u32, What); 31] = [
     (94, What::Scalar(1)),
     (98, What::Scalar(1)),
     (100, What::Scalar(4)),
+];
+
+/// What stands in clauses belongs to the control program, and what they name is hidden in the body alone.
+const CLAUSES: &str = "int main(void) {
+    int t[2] __attribute__((stream));
+    int x, y, w[8], v[8];
+    #pragma omp task input(osin >> x, t[x] >> w[x + y]) output(osout << y, t[y] << v[x]) firstprivate(osin_len)
+    { y = x + w[x]; v[y] = osin_len; { int w = x; w++; } }
+    { int x, w; x = w; }
+    x++;
+}
+";
+
+const CLAUSES_NAMES: [(u32, What); 34] = [
+    (7, What::Stream { first: 2, count: 2 }),
+    (19, What::Scalar(1)),
+    (21, What::Scalar(2)),
+    (23, What::Window(3)),
+    (28, What::Window(4)),
+    (38, What::Stream { first: 0, count: 1 }),
+    (40, What::Scalar(1)),
+    (42, What::Stream { first: 2, count: 2 }),
+    (44, What::Scalar(1)),
+    (47, What::Window(3)),
+    (49, What::Scalar(1)),
+    (51, What::Scalar(2)),
+    (56, What::Stream { first: 1, count: 1 }),
+    (58, What::Scalar(2)),
+    (60, What::Stream { first: 2, count: 2 }),
+    (62, What::Scalar(2)),
+    (65, What::Window(4)),
+    (67, What::Scalar(1)),
+    (72, What::Scalar(0)),
+    (76, What::Element(2)),
+    (78, What::Element(0)),
+    (80, What::View(1)),
+    (82, What::Element(0)),
+    (85, What::View(3)),
+    (87, What::Element(2)),
+    (90, What::Scalar(0)),
+    (94, What::Scalar(1)),
+    (96, What::Element(0)),
+    (98, What::Scalar(1)),
+    (105, What::Scalar(5)),
+    (107, What::Scalar(6)),
+    (109, What::Scalar(5)),
+    (111, What::Scalar(6)),
+    (114, What::Scalar(1)),
 ];
 
 /// Items are numbered through all clauses of their task, with a stream that stands alone among them.
@@ -480,6 +538,7 @@ fn each_name_means_what_is_declared(rt: HostRuntime) -> Result<(), Fail> {
     means(&rt, rt.alloc(), CONSTANTS, 2, &CONSTANTS_NAMES)?;
     means(&rt, rt.alloc(), ARRAYS, 2, &ARRAYS_NAMES)?;
     means(&rt, rt.alloc(), CAPTURED, 2, &CAPTURED_NAMES)?;
+    means(&rt, rt.alloc(), CLAUSES, 4, &CLAUSES_NAMES)?;
     means(&rt, rt.alloc(), ITEMS, 6, &ITEMS_NAMES)?;
     means(&rt, rt.alloc(), SHADOWS, 2, &SHADOWS_NAMES)?;
     means(&rt, rt.alloc(), LOOPS, 2, &LOOPS_NAMES)

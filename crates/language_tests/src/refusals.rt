@@ -27,7 +27,7 @@ const COMMON: [(&str, u8, u32); 7] = [
 ];
 
 /// A name that is used has no declaration in scope.
-const UNKNOWN: [(&str, u8, u32); 20] = [
+const UNKNOWN: [(&str, u8, u32); 21] = [
     ("int main(void) { x = 1; }", 10, 1),
     ("int main(void) {\nint x;\nx = y;\n}", 10, 3),
     ("int main(void) { x++; }", 10, 1),
@@ -72,6 +72,7 @@ const UNKNOWN: [(&str, u8, u32); 20] = [
     ),
     ("int main(void) {\n#pragma omp tick(s >> 1)\n}", 10, 2),
     ("int main(void) {\n#pragma omp tick(osin >> n)\n}", 10, 2),
+    ("int main(void) {\n#pragma omp task\nmain();\n}", 10, 3),
 ];
 
 /// A name of the wrong kind.
@@ -679,17 +680,27 @@ const LISTED_TWICE: [(&str, u8, u32); 9] = [
 ];
 
 /// There is no function `main` without parameters; the line is 1, wherever the text ends.
-const NO_MAIN: [(&str, u8, u32); 6] = [
+const NO_MAIN: [(&str, u8, u32); 8] = [
     ("", 23, 1),
     ("\n\n// nothing\n", 23, 1),
     ("int f() {\nreturn 1;\n}\n", 23, 1),
     ("int main(int a) { a = osin_len; }", 23, 1),
     ("const int N = 1;\nconst int main = 2;\n", 23, 1),
     ("int f() {\nint main;\nreturn main;\n}", 23, 1),
+    (
+        "int main(int a) {\n#pragma omp task input(osin >> a)\n;\n}",
+        23,
+        1,
+    ),
+    (
+        "int main(int a, int b) {\n#pragma omp task firstprivate(b)\na = b;\n}",
+        23,
+        1,
+    ),
 ];
 
 /// A window is named where none may stand.
-const WINDOWS: [(&str, u8, u32); 11] = [
+const WINDOWS: [(&str, u8, u32); 12] = [
     // in the control program outside an item's window
     ("int main(void) { int w[2], a; a = w[0]; }", 24, 1),
     ("int main(void) { int w[2], a; a = w; }", 24, 1),
@@ -703,6 +714,11 @@ const WINDOWS: [(&str, u8, u32); 11] = [
     ),
     (
         "int main(void) {\nint w[2];\n#pragma omp tick(osin >> w[0])\n}",
+        24,
+        3,
+    ),
+    (
+        "int main(void) {\nint t[2] __attribute__((stream)), w[2], y;\n#pragma omp task input(osin >> w[1], t[w[0]] >> y)\n;\n}",
         24,
         3,
     ),
@@ -730,7 +746,7 @@ const WINDOWS: [(&str, u8, u32); 11] = [
 ];
 
 /// Programs that come close to a violation.
-const LAWFUL: [&str; 24] = [
+const LAWFUL: [&str; 28] = [
     "int main() { }",
     "int main(void) { int x = x; }",
     "int main(void) { } int f() { return 1; }",
@@ -755,6 +771,10 @@ const LAWFUL: [&str; 24] = [
     "int main(void) {\nint x;\n#pragma omp task input(osin >> x)\n;\nx = 1;\n#pragma omp task output(osout << x)\nx = 1;\n}",
     "int main(void) {\nint x, y;\n#pragma omp task input(osin >> x, osin >> y)\n;\n}",
     "int main(void) {\nint omp, task, tick, taskwait, input, output, firstprivate, stream;\nomp = task + tick + taskwait + input + output + firstprivate + stream;\n}",
+    "int main(void) {\nint t[2] __attribute__((stream)), x, y;\n#pragma omp task input(osin >> x, t[x] >> y)\n;\n}",
+    "int main(void) {\nfor (;;) {\n#pragma omp task\n;\nbreak; } while (1) { for (;;) ; continue; }\n}",
+    "int f() { return 1; } int main(void) {\nint y;\n#pragma omp task output(osout << y)\n{ y = f(); f(); }\n}",
+    "int f(int a) { if (a) return 1; else ; { return 2; } } int main(void) {\n#pragma omp taskwait\n{\n#pragma omp taskwait\n}\n}",
 ];
 
 #[test]
