@@ -2,11 +2,12 @@
 
 ghost use Rattle.os_ast.specs.Marks.{HasPlaces};
 ghost use Rattle.os_ast.specs.Means.{Means};
+ghost use Rattle.os_ast.specs.Notes.Programs.{program_notes};
 ghost use Rattle.os_ast.specs.Trees.{ProgramTree};
 ghost use Rattle.os_ast.specs.Violations.{names};
 ghost use Rattle.os_lexer.specs.declared.token.Token.{Token};
 ghost use Rattle.std.specs.Prelude.{List};
-ghost use Rattle.window_check.specs.Order.{InOrder};
+ghost use Rattle.window_check.specs.Order.{InOrder, NoneWaits};
 
 use os_ast::laws::meaning_by_tokens;
 
@@ -22,3 +23,9 @@ pub fn marks_have_places()
 {
     meaning_by_tokens();
 }
+
+/// No name of a program is left whose meaning would wait for the end of a task.
+#[tactic(auto, using(crate::proofs::Known::none_waits))]
+pub fn each_name_is_known()
+    ensures { (p : ProgramTree) → NoneWaits (program_notes p) }
+{}
