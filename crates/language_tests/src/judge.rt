@@ -56,7 +56,6 @@ pub(crate) fn judge(alloc: Global, text: &str) -> Result<Judged, Fail> {
     };
     meaning_by_tokens();
     marks_have_places();
-    marks_have_places();
     match check(alloc, program) {
         Ok(checked) => Ok(Judged::Accepted(checked)),
         Err(CheckError::Fault { code, line }) => Ok(Judged::Refused { code, line }),
