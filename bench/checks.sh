@@ -13,14 +13,23 @@ runs=20
 text() {
     awk -v kind="$1" -v bytes="$2" '
     function put(piece) { printf "%s", piece; written += length(piece) }
+    # a short name for each number; none is a keyword
+    function name(i,  rest) {
+        if (i < 26) return substr(upper, i + 1, 1)
+        rest = int(i / 26) - 1
+        return substr(upper, i % 26 + 1, 1) tail(rest)
+    }
+    function tail(i) { return i < 62 ? substr(all, i + 1, 1) : substr(all, i % 62 + 1, 1) tail(int(i / 62) - 1) }
     BEGIN {
+        upper = "ABCDEFGHIJKLMNOPQRSTUVWXYZ"
+        all = upper "abcdefghijklmnopqrstuvwxyz0123456789"
         if (kind == "names") {
             # as many declared names as uses
-            count = int(bytes / 16)
-            put("int main(void) {\nint n0")
-            for (i = 1; i < count; i++) put(",n" i)
+            count = int(bytes / 8.2)
+            put("int main(void) {\nint " name(0))
+            for (i = 1; i < count; i++) put("," name(i))
             put(";\n")
-            for (i = 0; i + 1 < count && written < bytes - 20; i += 2) put("n" i "=n" (i + 1) ";\n")
+            for (i = 0; i + 1 < count; i += 2) put(name(i) "=" name(i + 1) ";")
             put("}\n")
         } else if (kind == "shadows") {
             # nested scopes that all declare one name
@@ -33,22 +42,22 @@ text() {
             put("}\n")
         } else if (kind == "tasks") {
             # tasks that capture 64 scalars each
-            put("int main(void) {\nint y,a0")
-            for (i = 1; i < 64; i++) put(",a" i)
+            put("int main(void) {\nint y")
+            for (i = 0; i < 64; i++) put("," name(i))
             put(";\n")
             while (written < bytes - 400) {
-                put("#pragma omp task output(osout << y)\ny=a0")
-                for (i = 1; i < 64; i++) put("+a" i)
+                put("#pragma omp task output(osout << y)\ny=" name(0))
+                for (i = 1; i < 64; i++) put("+" name(i))
                 put(";\n")
             }
             put("}\n")
         } else if (kind == "captures") {
             # one task that names every scalar, which is refused
-            count = int(bytes / 16)
-            put("int main(void) {\nint y,n0")
-            for (i = 1; i < count; i++) put(",n" i)
-            put(";\n#pragma omp task output(osout << y)\ny=n0")
-            for (i = count - 1; i > 0 && written < bytes - 20; i--) put("+n" i)
+            count = int(bytes / 8.2)
+            put("int main(void) {\nint y")
+            for (i = 0; i < count; i++) put("," name(i))
+            put(";\n#pragma omp task output(osout << y)\ny=" name(0))
+            for (i = count - 1; i > 0; i--) put("+" name(i))
             put(";\n}\n")
         }
     }'
