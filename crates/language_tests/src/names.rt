@@ -156,32 +156,43 @@ const BROADCAST_NAMES: [(u32, What); 36] = [
 
 /// Functions are numbered in the order of the text, and their parameters are their first slots.
 const CALLS: &str = "int one() { return 1; }
+const int TWO = 2;
 int add(int a, int b) { int c = b; return a + c; }
 int main(void) {
-    int x = add(one(), add(2, 3));
+    int x = add(one(), add(TWO, 3));
     add(x, x);
 }
 int last(int n) { return add(n, one()); }
+int after(int a, int b, int c) { last(c); return last(a - b); }
 ";
 
-const CALLS_NAMES: [(u32, What); 17] = [
-    (13, What::Scalar(0)),
-    (16, What::Scalar(1)),
-    (20, What::Scalar(2)),
+const CALLS_NAMES: [(u32, What); 26] = [
+    (19, What::Scalar(0)),
     (22, What::Scalar(1)),
-    (25, What::Scalar(0)),
-    (27, What::Scalar(2)),
-    (37, What::Scalar(1)),
-    (39, What::Function(1)),
-    (41, What::Function(0)),
+    (26, What::Scalar(2)),
+    (28, What::Scalar(1)),
+    (31, What::Scalar(0)),
+    (33, What::Scalar(2)),
+    (43, What::Scalar(1)),
     (45, What::Function(1)),
-    (53, What::Function(1)),
-    (55, What::Scalar(1)),
-    (57, What::Scalar(1)),
-    (65, What::Scalar(0)),
-    (69, What::Function(1)),
+    (47, What::Function(0)),
+    (51, What::Function(1)),
+    (53, What::Constant(2)),
+    (59, What::Function(1)),
+    (61, What::Scalar(1)),
+    (63, What::Scalar(1)),
     (71, What::Scalar(0)),
-    (73, What::Function(0)),
+    (75, What::Function(1)),
+    (77, What::Scalar(0)),
+    (79, What::Function(0)),
+    (89, What::Scalar(0)),
+    (92, What::Scalar(1)),
+    (95, What::Scalar(2)),
+    (98, What::Function(3)),
+    (100, What::Scalar(2)),
+    (104, What::Function(3)),
+    (106, What::Scalar(0)),
+    (108, What::Scalar(1)),
 ];
 
 /// Constants mean their values, as sizes too.

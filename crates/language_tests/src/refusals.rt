@@ -1,9 +1,10 @@
-//! Texts that violate one rule, each in each of its cases, and texts that come close to it and violate none.
+//! Texts that violate one rule, each in each of its cases, and texts that come close to it and violate none. Those of
+//! the limits stand in `limits`.
 
 use crate::judge::{accepts, judge, refuses};
 use std::test::Fail;
 
-/// The least text for each of the rules that a beginner breaks.
+/// Short texts, each against one rule.
 const COMMON: [(&str, u8, u32); 7] = [
     (
         "int f(int a, int a) { return a; } int main(void) { }",
@@ -746,7 +747,7 @@ const WINDOWS: [(&str, u8, u32); 12] = [
 ];
 
 /// Programs that come close to a violation.
-const LAWFUL: [&str; 28] = [
+const LAWFUL: [&str; 29] = [
     "int main() { }",
     "int main(void) { int x = x; }",
     "int main(void) { } int f() { return 1; }",
@@ -775,6 +776,7 @@ const LAWFUL: [&str; 28] = [
     "int main(void) {\nfor (;;) {\n#pragma omp task\n;\nbreak; } while (1) { for (;;) ; continue; }\n}",
     "int f() { return 1; } int main(void) {\nint y;\n#pragma omp task output(osout << y)\n{ y = f(); f(); }\n}",
     "int f(int a) { if (a) return 1; else ; { return 2; } } int main(void) {\n#pragma omp taskwait\n{\n#pragma omp taskwait\n}\n}",
+    "int main(void) {\nint s __attribute__((stream)), x;\n#pragma omp task input(s >> x) output(s)\ns = x;\n}",
 ];
 
 #[test]

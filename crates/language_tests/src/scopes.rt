@@ -5,7 +5,7 @@ use crate::judge::{accepts, refuses};
 use std::test::Fail;
 
 /// Inner declarations hide outer ones, and outer ones are seen where no inner one hides them.
-const LAWFUL: [&str; 33] = [
+const LAWFUL: [&str; 34] = [
     // the file
     "const int N = 1; int f(int N) { N = 2; return N; } int main(void) { }",
     "const int N = 1; int main(void) { int N; N = 2; }",
@@ -45,10 +45,11 @@ const LAWFUL: [&str; 33] = [
     "int main(void) {\nint osin __attribute__((stream)), y;\n#pragma omp task output(osin << y)\n;\n}",
     "const int osin = 1; int f() { return osin; } int main(void) { }",
     "int f(int osin, int osout) { int osin_len = osin; return osin_len; } int main(void) { }",
+    "int osin() { return 1; } int osin_len() { return osin(); } int main(void) { int a = osin_len; }",
 ];
 
 /// A declaration ends with its scope, and a scope has one of each name.
-const REFUSED: [(&str, u8, u32); 38] = [
+const REFUSED: [(&str, u8, u32); 41] = [
     // the file
     (
         "const int N = 1;\nconst int N = 1;\nint main(void) { }",
@@ -72,6 +73,8 @@ const REFUSED: [(&str, u8, u32); 38] = [
     ),
     ("int main(void) { }\nint main(void) { }", 12, 2),
     ("int main(void) { }\nconst int main = 1;", 12, 2),
+    ("int main(int a) { }\nint main(void) { }", 12, 2),
+    ("const int main = 1;\nint main(void) { }", 12, 2),
     // parameters and the outermost block
     (
         "int f(int a, int b,\nint a) { return b; } int main(void) { }",
@@ -173,6 +176,11 @@ const REFUSED: [(&str, u8, u32); 38] = [
         2,
     ),
     ("int main(void) { int osin; int osout,\nosin; }", 12, 2),
+    (
+        "int osin() { return 1; } int main(void) {\nosin(); }",
+        11,
+        2,
+    ),
 ];
 
 #[test]
