@@ -1,7 +1,7 @@
 //! The clauses of a task.
 
 ghost use Rattle.std.specs.Prelude.{◌≡◌, ◌+◌, ◌≤◌, ◌++◌, [], OnOk, IfOk, length, map, option_map};
-ghost use Rattle.os_ast.specs.Notes.Clauses.{Item, Private, parts, parts_of, parts_notes, part_notes, window_notes, item_name, shape_of};
+ghost use Rattle.os_ast.specs.Notes.Clauses.{Item, Private, parts, parts_of, parts_notes, part_notes, window_notes, shape_of};
 ghost use Rattle.os_ast.specs.Notes.Expressions.{index_notes};
 ghost use Rattle.os_ast.specs.Uses.{item_codes, use_notes};
 ghost use Rattle.os_ast.specs.Views.{clause_tree, clause_kind_tree, clause_item_tree, join_tree, index_tree, target_tree};
@@ -10,22 +10,12 @@ ghost use Rattle.window_check.specs.Parts.{none_listed, after_part, after_parts,
 
 use crate::expressions::{indexed, place};
 use crate::found::Found;
-use crate::parts::Listed;
+use crate::parts::{Listed, item_name};
 use crate::scopes::Scopes;
 use crate::uses::{Role, Use, used};
 use os_ast::{Clause, ClauseItem, ClauseKind, Direction, Index, Join, Name, Shape};
 use os_io::{List, Memory};
 use std::alloc::Global;
-
-/// The name that an item has in the task's body: that behind the arrow, or the stream's where it stands alone.
-fn item_name(item: &ClauseItem) -> Name
-    ensures { result ≡ item_name (target_tree item.now.stream) (option_map join_tree item.now.window) }
-{
-    match &item.window {
-        None => item.stream.name,
-        Some(join) => join.name,
-    }
-}
 
 /// Whether there is an index.
 fn shape_of(index: &Option<Index>) -> Shape
@@ -77,7 +67,7 @@ fn item(
 {
     place(scopes, found, Role::Flow(direction), &item.stream)?;
     window(scopes, found, listed, item)?;
-    listed.add_item(scopes, item_name(item).id, item.window.is_some(), direction)
+    listed.add_item(scopes, direction, item)
 }
 
 /// The items of a clause.
@@ -110,7 +100,7 @@ fn private(
 {
     found.blame(name.mark, listed.again(name));
     used(scopes, found, name, Use::Private)?;
-    listed.add_private(scopes, name.id)
+    listed.add_private(scopes, name)
 }
 
 /// The names of a `firstprivate` clause.

@@ -1,13 +1,13 @@
-ghost use Rattle.std.specs.Prelude.{◌≡◌, ◌≤◌, OnOk, length};
-ghost use Rattle.os_ast.specs.Names.{lookup, entity_of};
-ghost use Rattle.os_ast.specs.Notes.Clauses.{again};
+ghost use Rattle.std.specs.Prelude.{◌≡◌, ◌≤◌, OnOk, length, option_map};
+ghost use Rattle.os_ast.specs.Notes.Clauses.{Item, Private, again, item_name};
+ghost use Rattle.os_ast.specs.Views.{clause_item_tree, join_tree, target_tree};
 ghost use Rattle.window_check.specs.Codes.{least_code};
-ghost use Rattle.window_check.specs.Parts.{none_listed, after_names, with_item, with_private};
+ghost use Rattle.window_check.specs.Parts.{none_listed, after_names, after_part};
 
 use crate::captures::Captured;
 use crate::codes::{self, when};
 use crate::scopes::Scopes;
-use os_ast::{Direction, Entity, Name};
+use os_ast::{ClauseItem, Direction, Entity, Name};
 use os_io::{List, Memory};
 use std::alloc::Global;
 use std::collections::BTreeSet;
@@ -18,6 +18,16 @@ use std::marker::Model;
 pub(crate) struct ItemName {
     pub(crate) id: u32,
     pub(crate) entity: Entity,
+}
+
+/// The name that an item has in the task's body: that behind the arrow, or the stream's where it stands alone.
+pub(crate) fn item_name(item: &ClauseItem) -> Name
+    ensures { result ≡ item_name (target_tree item.now.stream) (option_map join_tree item.now.window) }
+{
+    match &item.window {
+        None => item.stream.name,
+        Some(join) => join.name,
+    }
 }
 
 /// What the clauses of a task list.
@@ -59,20 +69,20 @@ impl Listed {
         when(self.names.contains(&name.id), codes::LISTED_TWICE)
     }
 
-    /// One more item, by its name.
+    /// One more item, by the name that it has in the task's body.
     pub(crate) fn add_item(
         &mut self,
         scopes: &Scopes,
-        id: u32,
-        is_joined: bool,
         direction: Direction,
+        item: &ClauseItem,
     ) -> Result<(), Memory>
         requires { length self.old.items ≤ 262144 }
-        ensures { OnOk result (self.new ≡ with_item (entity_of (lookup scopes.now.entries id)) self.old id is_joined direction) }
+        ensures { OnOk result (self.new ≡ after_part scopes.now self.old (Item direction (clause_item_tree item.now))) }
     {
+        let id = item_name(item).id;
         let number = self.items.len() as u32;
         let entity = match scopes.entity(id) {
-            Some(Entity::Window(_)) if is_joined => Entity::View(number, direction),
+            Some(Entity::Window(_)) if item.window.is_some() => Entity::View(number, direction),
             _ => Entity::Element(number, direction),
         };
         self.names.insert(id)?;
@@ -80,11 +90,11 @@ impl Listed {
     }
 
     /// One more `firstprivate` name.
-    pub(crate) fn add_private(&mut self, scopes: &Scopes, id: u32) -> Result<(), Memory>
-        ensures { OnOk result (self.new ≡ with_private (entity_of (lookup scopes.now.entries id)) self.old id) }
+    pub(crate) fn add_private(&mut self, scopes: &Scopes, name: Name) -> Result<(), Memory>
+        ensures { OnOk result (self.new ≡ after_part scopes.now self.old (Private name)) }
     {
-        self.names.insert(id)?;
-        match scopes.entity(id) {
+        self.names.insert(name.id)?;
+        match scopes.entity(name.id) {
             Some(Entity::Control(slot)) => self.captured.insert(slot),
             Some(Entity::InputLength) => self.captured.insert(0),
             _ => Ok(()),
