@@ -5,6 +5,8 @@
 #![tactic(auto)]
 
 #[cfg(test)]
+mod depths;
+#[cfg(test)]
 mod judge;
 #[cfg(test)]
 mod limits;
