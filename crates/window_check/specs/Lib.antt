@@ -5,5 +5,6 @@ pub mod Room
 pub mod Order
 pub mod Parts
 pub mod Rows
+pub mod Rules
 pub mod Scopes
 pub mod Statements

@@ -31,5 +31,5 @@ mod uses;
 pub use check_error::CheckError;
 pub use checked::Checked;
 pub use checker::check;
-pub use laws::{each_name_is_known, marks_have_places, names_in_order};
+pub use laws::{each_name_is_known, marks_have_places, names_in_order, rules_of_used_names};
 pub use os_ast::{Resolved, What};
