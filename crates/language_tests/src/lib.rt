@@ -9,6 +9,10 @@ mod depths;
 #[cfg(test)]
 mod judge;
 #[cfg(test)]
+mod kinds;
+#[cfg(test)]
+mod lawful;
+#[cfg(test)]
 mod limits;
 #[cfg(test)]
 mod names;
