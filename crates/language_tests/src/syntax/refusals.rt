@@ -1,7 +1,8 @@
 //! Texts that are no programs: for each production, tokens that can't stand at each of its places.
 
-use super::{ParseError, is_program, parse};
+use super::is_program;
 use os_lexer::lex;
+use os_parser::{ParseError, parse};
 use std::test::Fail;
 
 /// What no program is, by the production that is broken.

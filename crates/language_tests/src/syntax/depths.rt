@@ -1,8 +1,9 @@
 //! How deep a program may be, and that the stack holds it.
 
-use super::{ParseError, parse, parse_expr, token};
+use super::token;
 use os_ast::depth;
 use os_lexer::{Key, Kind, Punct, lex};
+use os_parser::{ParseError, parse};
 use std::alloc::{AllocError, Global};
 use std::process::Abort;
 use std::test::Fail;
@@ -100,7 +101,6 @@ fn many_open_parentheses_are_refused(rt: HostRuntime) -> Result<(), Fail> {
     let open = token(Kind::Punct(Punct::OpenParen));
     let mut tokens = vec![in rt.alloc(); open; 262_144]?;
     assert!(rt; matches!(parse(rt.alloc(), &tokens), Err(ParseError::Syntax)));
-    assert!(rt; matches!(parse_expr(rt.alloc(), &tokens), Err(ParseError::Syntax)));
     let head = [
         Kind::Key(Key::Int),
         Kind::Name(8),
@@ -115,28 +115,6 @@ fn many_open_parentheses_are_refused(rt: HostRuntime) -> Result<(), Fail> {
     }
     assert_eq!(rt; tokens.len(), 262_144);
     assert!(rt; matches!(parse(rt.alloc(), &tokens), Err(ParseError::Syntax)));
-    Ok(())
-}
-
-/// An expression that stands alone may be as deep as a program.
-#[test]
-fn an_expression_alone_may_be_as_deep(rt: HostRuntime) -> Result<(), Fail> {
-    for (pairs, read) in [(199, true), (200, false)] {
-        let mut tokens = Vec::new(rt.alloc());
-        for _ in 0..pairs {
-            tokens.push(token(Kind::Punct(Punct::OpenParen)))?;
-        }
-        tokens.push(token(Kind::Number(1)))?;
-        for _ in 0..pairs {
-            tokens.push(token(Kind::Punct(Punct::CloseParen)))?;
-        }
-        assert!(rt; tokens.len() <= 262_144);
-        assert_eq!(rt;
-            parse_expr(rt.alloc(), &tokens).is_ok(),
-            read,
-            "{pairs} pairs"
-        );
-    }
     Ok(())
 }
 

@@ -1,9 +1,10 @@
 //! What texts are read as. The shapes were written by hand, from the grammar.
 
 use super::shown::{Source, put_program};
-use super::{ParseError, parse, parse_expr, token};
+use super::token;
 use os_ast::{Expr, Item, Level, Mark, Stmt};
 use os_lexer::{Key, Kind, Punct, lex};
+use os_parser::parse;
 use std::alloc::Global;
 use std::process::Abort;
 use std::test::Fail;
@@ -326,27 +327,5 @@ fn links_have_the_marks_of_their_operators(rt: HostRuntime) -> Result<(), Fail> 
     assert!(rt; matches!(&second.right, Expr::Number(2)));
     assert_eq!(rt; third.mark, Mark { place: 10, line: 1 });
     assert!(rt; matches!(&third.right, Expr::Number(3)));
-    Ok(())
-}
-
-#[test]
-fn an_expression_stands_alone(rt: HostRuntime) -> Result<(), Fail> {
-    let tokens = [
-        Kind::Number(1),
-        Kind::Punct(Punct::Minus),
-        Kind::Number(2),
-        Kind::Punct(Punct::Minus),
-        Kind::Number(3),
-    ]
-    .map(token);
-    match parse_expr(rt.alloc(), &tokens)? {
-        Expr::Chain(level, _, links) => {
-            assert_eq!(rt; level, Level::Sum);
-            assert_eq!(rt; links.len(), 2);
-        }
-        _ => assert!(rt; false),
-    }
-    let beginning = tokens.split_at(4).0;
-    assert!(rt; matches!(parse_expr(rt.alloc(), beginning), Err(ParseError::Syntax)));
     Ok(())
 }

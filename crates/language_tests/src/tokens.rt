@@ -1,4 +1,6 @@
-use super::lex;
+//! The tokens of texts.
+
+use os_lexer::lex;
 use std::alloc::Global;
 use std::fmt::Write;
 use std::process::Abort;

@@ -1,10 +1,12 @@
+//! What programs are, and how deep they may be: from a text through its tokens to its tree.
+
 mod depths;
 mod refusals;
 mod shapes;
 mod shown;
 
-use super::*;
 use os_lexer::{Kind, Token, lex};
+use os_parser::{ParseError, parse};
 use std::alloc::Global;
 use std::process::Abort;
 use std::test::Fail;
