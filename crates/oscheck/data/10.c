@@ -1,3 +1,3 @@
 int main(void) {
-    y = ;
+    x = 1;
 }
