@@ -158,7 +158,7 @@ write_cursor-one : (s : ℕ) (c : Claim) → is_write_to s c ≡ true → write_
 write_cursor-one s c h = ap (λ (b : Bool). sum_by (λ (d : Claim). d.horizon) (cond b (c ∷ []) [])) h ∙ (let e : 0 + c.horizon ≡ c.horizon = omega arith in e)
 
 -- of two write claims on a stream the later one begins behind the earlier one
-apart : (activations : List Activation) (s i j : ℕ) (v w : Window) → slice_get (windows activations) i ≡ Some v → slice_get (windows activations) j ≡ Some w → is_write_to s v.claim ≡ true → is_write_to s w.claim ≡ true → i < j → v.first + v.claim.horizon ≤ w.first
+pub apart : (activations : List Activation) (s i j : ℕ) (v w : Window) → slice_get (windows activations) i ≡ Some v → slice_get (windows activations) j ≡ Some w → is_write_to s v.claim ≡ true → is_write_to s w.claim ≡ true → i < j → v.first + v.claim.horizon ≤ w.first
 apart activations s i j v w v_at w_at v_writes w_writes lt =
     let cs = claims_of activations in
     let p = window_at activations i v v_at in

@@ -12,7 +12,7 @@ use Rattle.flow_core.specs.Round.{IsEnabled, inputs_in, round, rounds, meaning}
 use Rattle.flow_core.specs.Window.{Window, windows, claims_of, offset_after, is_written_by, producer}
 use Rattle.flow_core.specs.Place.{Place}
 use Rattle.flow_core.specs.There.{is_there}
-use Rattle.flow_core.specs.FirstPosition.{first_position}
+use Rattle.flow_core.specs.FirstPosition.{is_write_to, first_position}
 use Rattle.flow_core.specs.Streams.{stream_source, stream_reads, output_count, output_elements, stream_meaning}
 use Rattle.flow_core.specs.Plans.{plan_reads, plan_meaning, sink_elements}
 use Rattle.flow_core.specs.StandsFor.{StandsFor}
@@ -54,6 +54,10 @@ pub record WindowsAreInOrder (activations : List Activation) : Type 0 where
   pub stands : (a k : ℕ) (x : Activation) (c : Claim) → slice_get activations a ≡ Some x → slice_get x.claims k ≡ Some c → slice_get (windows activations) (length (claims_of (take a activations)) + k) ≡ Some (record { activation = a; claim = c; first = first_position (claims_of (take a activations) ++ take k x.claims) c; offset = offset_after (take k x.claims) c })
   pub claims : (i : ℕ) (w : Window) → slice_get (windows activations) i ≡ Some w → slice_get (claims_of activations) i ≡ Some w.claim
   pub begins : (i : ℕ) (w : Window) → slice_get (windows activations) i ≡ Some w → w.first ≡ first_position (take i (claims_of activations)) w.claim
+
+-- of two write claims on a stream the later one begins where the earlier one ends, or behind it
+abbrev pub WritersAreInOrder : Type 0
+WritersAreInOrder = (activations : List Activation) (stream i j : ℕ) (v w : Window) → slice_get (windows activations) i ≡ Some v → slice_get (windows activations) j ≡ Some w → IsTrue (is_write_to stream v.claim) → IsTrue (is_write_to stream w.claim) → i < j → v.first + v.claim.horizon ≤ w.first
 
 -- no two write claims cover one position of a stream
 abbrev pub HasOneWriter : Type 0

@@ -3,7 +3,7 @@
 
 ghost use Rattle.std.specs.Prelude.{List};
 ghost use Rattle.flow_core.specs.declared.activation.Activation.{Activation};
-ghost use Rattle.flow_core.specs.Laws.{IsSettled, KeepsOutcomes, IsFixed, OfStreams, OfPlans, MeansTheStreams, SinkIsTheOutput, HasOneWriter, WritersAreProducers, EndsSayWhatIsThere, WindowsAreInOrder, RoundsFire, IsConfluent};
+ghost use Rattle.flow_core.specs.Laws.{IsSettled, KeepsOutcomes, IsFixed, OfStreams, OfPlans, MeansTheStreams, SinkIsTheOutput, HasOneWriter, WritersAreInOrder, WritersAreProducers, EndsSayWhatIsThere, WindowsAreInOrder, RoundsFire, IsConfluent};
 
 /// A round runs what is enabled, and nothing else.
 pub fn one_round()
@@ -46,8 +46,9 @@ pub fn windows_in_order()
     ensures { (activations : List Activation) → WindowsAreInOrder activations }
 {}
 
-/// An element has one producer at most.
+/// The write claims on a stream stand behind one another, so that an element has one producer at most.
 pub fn one_writer()
+    ensures in_order { WritersAreInOrder }
     ensures one { HasOneWriter }
     ensures is_producer { WritersAreProducers }
 {}
