@@ -2,6 +2,7 @@ pub mod Absent
 pub mod Accepted
 pub mod Answered
 pub mod Bytes
+pub mod Came
 pub mod Declared
 pub mod Fits
 pub mod Laid

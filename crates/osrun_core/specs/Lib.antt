@@ -6,7 +6,6 @@ pub mod FirstPlan
 pub mod FirstProgram
 pub mod FirstReport
 pub mod JobAnswer
-pub mod JobComplete
 pub mod Line
 pub mod Loading
 pub mod Loads
