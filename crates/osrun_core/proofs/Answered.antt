@@ -64,7 +64,7 @@ module _ {F O E : Type 0} (of_files : FilesView F) (files_old files_new : F) (jo
 
   -- a status below 2 is that of a run that was delivered
   pub delivered_answer : (s : Status) → AnswersJob of_files files_old files_new job of_out out_old out_new of_report report_old report_new s → number_of s < 2
-      → (run : ProgramRun) × IsRunOfJob of_files files_old files_new job run
+      → (run : ProgramRun) × IsRunOfJob (of_files.holds files_old) (of_files.given files_new) job run
       × (of_out.taken out_new ≡ append_known (of_out.taken out_old) (written run.activations run.input run.ends))
       × (of_report.taken report_new ≡ append_known (of_report.taken report_old) (report run.activations run.input run.ends run.control))
       × (number_of s ≡ status run.ends run.control)
@@ -83,6 +83,15 @@ module _ {F O E : Type 0} (of_files : FilesView F) (files_old files_new : F) (jo
     | inr d ↦ absurd (let same : number_of s ≡ 7 = ap number_of d.0 in omega arith)
   ]
 
+  -- the status of a run comes after all files were opened
+  pub opened_answer : (s : Status) → AnswersJob of_files files_old files_new job of_out out_old out_new of_report report_old report_new s → (number_of s < 2) ⊎ (number_of s ≡ 6)
+      → of_files.opens files_new ≡ raised (of_files.opens files_old) (length (files_of job))
+  opened_answer s (inl a) is_run = a.made.opened
+  opened_answer s (inr a) is_run = elim a.refuses [
+    | inl d ↦ absurd (let large : 3 ≤ number_of (refusal_status a.refusal) = refusal_large a.refusal in let same : number_of s ≡ number_of (refusal_status a.refusal) = ap number_of d.0 in let small : number_of s ≤ 5 = d.1 in omega arith)
+    | inr d ↦ absurd (let same : number_of s ≡ 7 = ap number_of d.0 in omega arith)
+  ]
+
   -- a status of 3 to 5 is that of a refusal, whose cause stands and whose line was told
   pub refused_answer : (s : Status) → AnswersJob of_files files_old files_new job of_out out_old out_new of_report report_old report_new s → 3 ≤ number_of s → number_of s ≤ 5
       → (r : Refusal) × (number_of s ≡ number_of (refusal_status r)) × IsCauseOf of_files files_old files_new job r × Tells of_report report_old report_new (refusal_line r)
@@ -97,7 +106,7 @@ module _ {F O E : Type 0} (of_files : FilesView F) (files_old files_new : F) (jo
 
   -- 6 is the status of a run that was not delivered whole
   pub undelivered_answer : (s : Status) → AnswersJob of_files files_old files_new job of_out out_old out_new of_report report_old report_new s → number_of s ≡ 6
-      → (run : ProgramRun) × IsRunOfJob of_files files_old files_new job run
+      → (run : ProgramRun) × IsRunOfJob (of_files.holds files_old) (of_files.given files_new) job run
       × IsUndelivered of_out out_old out_new (written run.activations run.input run.ends) of_report report_old report_new (report run.activations run.input run.ends run.control)
   undelivered_answer s (inl a) six = elim a.delivers [
     | inl d ↦ absurd (let small : number_of a.own < 2 = own_small _ _ a.own a.made in let same : number_of s ≡ number_of a.own = ap number_of d.2 in omega arith)
@@ -153,7 +162,7 @@ module _ {F O E : Type 0} (of_files : FilesView F) (files_old files_new : F) (jo
       → limit_of file.subject < of_files.given files_new → (number_of s ≡ 4) ⊎ (number_of s ≡ 7)
   too_long_answer s (inl a) place file at room opened more =
       let run = a.made.is_run in
-      let same : limit_of file.subject ≡ limit_of subjects.Input = same_file job (of_files.opens files_old) place 1 file (record { subject = subjects.Input; name = job.input }) at refl room (sym opened ∙ run.opened) in
+      let same : limit_of file.subject ≡ limit_of subjects.Input = same_file job (of_files.opens files_old) place 1 file (record { subject = subjects.Input; name = job.input }) at refl room (sym opened ∙ a.made.opened) in
       absurd (omega (arith, run.input_whole, run.input_fits))
   too_long_answer s (inr a) place file at room opened more = elim a.refuses [
     | inl d ↦ subst (λ n. (n ≡ 4) ⊎ (n ≡ 7)) (sym (ap number_of d.0)) (past_limit a.refusal place file a.cause at room opened more)

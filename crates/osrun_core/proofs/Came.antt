@@ -143,8 +143,8 @@ module _ {F : Type 0} (view : FilesView F) (job : Job) where
       → IsProgramOf text p → IsRunOf p input output_bytes report_bytes (number_of own) → MakesRun view old new job output_bytes report_bytes own
   made_run old mid new text input output_bytes report_bytes p own of_text of_input same opened is_program run = record {
     run = record { activations = activations p; control = control_end.Done; input = input; ends = meaning p input };
+    opened = opened ∙ omega arith;
     is_run = record {
-      opened = opened ∙ omega arith;
       text = text;
       text_held = of_text.is_held;
       text_fits = of_text.fits;

@@ -1,8 +1,9 @@
 -- What the command does for a job.
-use Rattle.std.specs.Prelude.{◌≡◌, ℕ, List, ◌⊎◌}
+use Rattle.std.specs.Prelude.{◌≡◌, ℕ, List, length, ◌⊎◌}
+use Rattle.os_io.specs.Counts.{raised}
 use Rattle.osrun_core.specs.declared.refusal.Refusal.{Refusal}
 use Rattle.osrun_core.specs.declared.status.Status.{Status}
-use Rattle.osrun_core.specs.Command.{Job}
+use Rattle.osrun_core.specs.Command.{Job, files_of}
 use Rattle.osrun_core.specs.Delivers.{Delivers}
 use Rattle.osrun_core.specs.Loading.{FilesView, IsCauseOf}
 use Rattle.osrun_core.specs.Refuses.{Refuses}
@@ -14,8 +15,9 @@ use Rattle.osrun_core.specs.Written.{written}
 
 -- the output, the report and the status of a run of the job were made
 pub record MakesRun {F : Type 0} (view : FilesView F) (old new : F) (job : Job) (output_bytes report_bytes : List ℕ) (own : Status) : Type 0 where
+  pub opened : view.opens new ≡ raised (view.opens old) (length (files_of job))
   pub run : ProgramRun
-  pub is_run : IsRunOfJob view old new job run
+  pub is_run : IsRunOfJob (view.holds old) (view.given new) job run
   pub writes : output_bytes ≡ written run.activations run.input run.ends
   pub reports : report_bytes ≡ report run.activations run.input run.ends run.control
   pub has_status : number_of own ≡ status run.ends run.control

@@ -1,14 +1,13 @@
 -- A run of a program over an input.
-use Rattle.std.specs.Prelude.{◌≡◌, ℕ, ◌≤◌, List, length}
-use Rattle.os_io.specs.Counts.{raised}
+use Rattle.std.specs.Prelude.{◌≡◌, ℕ, ◌≤◌, List, Option, length}
 use Rattle.flow_core.specs.declared.activation.Activation.{Activation}
 use Rattle.flow_core.specs.declared.control.ControlEnd.{ControlEnd}
 use Rattle.flow_core.specs.declared.control.ControlEnd.TheVariants as control_end
 use Rattle.flow_core.specs.Outcome.{State}
 use Rattle.osrun_core.specs.declared.first_program.FirstProgram.{FirstProgram}
 use Rattle.osrun_core.specs.declared.refusal.Subject.TheVariants.{Program, Input}
-use Rattle.osrun_core.specs.Command.{Job, files_of}
-use Rattle.osrun_core.specs.Loading.{FilesView, IsHeld}
+use Rattle.osrun_core.specs.Command.{Job}
+use Rattle.osrun_core.specs.Loading.{IsHeld}
 use Rattle.osrun_core.specs.Meaning.{activations, meaning}
 use Rattle.osrun_core.specs.Program.{IsProgramOf}
 use Rattle.osrun_core.specs.Refusal.{limit_of}
@@ -29,15 +28,14 @@ pub record ProgramRun : Type 0 where
   pub input : List ℕ
   pub ends : State
 
--- Both files of the job were read whole, the first is a program, and the run is that of this program over the
--- bytes of the second.
-pub record IsRunOfJob {F : Type 0} (view : FilesView F) (old new : F) (job : Job) (run : ProgramRun) : Type 0 where
-  pub opened : view.opens new ≡ raised (view.opens old) (length (files_of job))
+-- Both files of the job were read whole, within their limits: of the second so many bytes were given. The first
+-- is a program, and the run is that of this program over the bytes of the second.
+pub record IsRunOfJob (holds : List ℕ → Option (List ℕ)) (given : ℕ) (job : Job) (run : ProgramRun) : Type 0 where
   pub text : List ℕ
-  pub text_held : IsHeld (view.holds old job.program) text
+  pub text_held : IsHeld (holds job.program) text
   pub text_fits : length text ≤ limit_of Program
-  pub input_held : IsHeld (view.holds old job.input) run.input
-  pub input_whole : view.given new ≡ length run.input
+  pub input_held : IsHeld (holds job.input) run.input
+  pub input_whole : given ≡ length run.input
   pub input_fits : length run.input ≤ limit_of Input
   pub program : FirstProgram
   pub is_program : IsProgramOf text program

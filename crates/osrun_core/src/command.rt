@@ -41,11 +41,14 @@ pub fn run_words<R: Threads + Sync, F: Files, O: Sink, E: Sink, G: Gate>(
     // 0 and 1, the headline: there is a run of the job, of which `out` took what is written, `report` took the
     // report, and the status is its status.
     ensures headline { result < 2 → IsSomeAnd (command (texts words.now)) (λ job. (run : ProgramRun)
-        × IsRunOfJob
-        (record { holds = F.holds; opens = F.opens; faults = F.faults; given = F.given }) files.old files.new job run
+        × IsRunOfJob (F.holds files.old) (F.given files.new) job run
         × (O.taken out.new ≡ append_known (O.taken out.old) (written run.activations run.input run.ends))
         × (E.taken report.new ≡ append_known (E.taken report.old) (report_of run.activations run.input run.ends run.control))
         × (result ≡ status_of run.ends run.control)) }
+
+    // 0, 1 and 6: a run was made, so all files were opened, the input last.
+    ensures all_opened { (result < 2) ⊎ (result ≡ 6) → IfSome (command (texts words.now))
+        (λ job. F.opens files.new ≡ raised (F.opens files.old) (length (files_of job))) }
 
     // 2: the words. Nothing is read where they name no job.
     ensures bad_words { result ≡ 2 → command (texts words.now) ≡ None }
@@ -75,8 +78,7 @@ pub fn run_words<R: Threads + Sync, F: Files, O: Sink, E: Sink, G: Gate>(
 
     // 6: a sink did not take all of a run.
     ensures undelivered { result ≡ 6 → IsSomeAnd (command (texts words.now)) (λ job. (run : ProgramRun)
-        × IsRunOfJob
-        (record { holds = F.holds; opens = F.opens; faults = F.faults; given = F.given }) files.old files.new job run
+        × IsRunOfJob (F.holds files.old) (F.given files.new) job run
         × IsUndelivered
         (record { taken = O.taken; faults = O.faults; empty_takes = O.empty_takes }) out.old out.new (written run.activations run.input run.ends)
         (record { taken = E.taken; faults = E.faults; empty_takes = E.empty_takes }) report.old report.new (report_of run.activations run.input run.ends run.control)) }

@@ -1,5 +1,5 @@
 use Rattle.std.proofs.Common.{sym, ◌∙◌}
-use Rattle.osrun_core.proofs.Answered.{delivered_answer, undelivered_answer, too_long_answer}
+use Rattle.osrun_core.proofs.Answered.{delivered_answer, opened_answer, undelivered_answer, too_long_answer}
 use Rattle.osrun_core.proofs.command.run_words.Goals as goal
 
 pub answer_job-requires : goal.answer_job-requires
@@ -20,3 +20,7 @@ returns-in-Some-clause-undelivered g c =
 pub returns-in-Some-clause-complete : goal.returns-in-Some-clause-complete
 returns-in-Some-clause-complete g c =
     rw (← c.in-Some.ensures, c.number-in-Some.ensures) c.answer_job.ensures.complete
+
+pub returns-in-Some-clause-all_opened : goal.returns-in-Some-clause-all_opened
+returns-in-Some-clause-all_opened g c =
+    rw (← c.in-Some.ensures, c.number-in-Some.ensures) (opened_answer _ _ _ _ _ _ _ _ _ _ _ c.answer_job.ensures.answers)
