@@ -74,7 +74,7 @@ module _ {F O E : Type 0} (of_files : FilesView F) (files_old files_new : F) (jo
       a.made.is_run,
       subst (λ bytes. of_out.taken out_new ≡ append_known (of_out.taken out_old) bytes) a.made.writes d.0,
       subst (λ bytes. of_report.taken report_new ≡ append_known (of_report.taken report_old) bytes) a.made.reports d.1,
-      ap number_of d.2 ∙ a.made.has_status
+      ap number_of d.2 ∙ a.made.has_status,
     )
     | inr d ↦ absurd (let same : number_of s ≡ 6 = ap number_of d.1 in omega arith)
   ]
@@ -114,7 +114,7 @@ module _ {F O E : Type 0} (of_files : FilesView F) (files_old files_new : F) (jo
       run,
       a.made.is_run,
       subst (λ bytes. IsUndelivered of_out out_old out_new (written run.activations run.input run.ends) of_report report_old report_new bytes) a.made.reports
-      (subst (λ bytes. IsUndelivered of_out out_old out_new bytes of_report report_old report_new a.report_bytes) a.made.writes d.0)
+          (subst (λ bytes. IsUndelivered of_out out_old out_new bytes of_report report_old report_new a.report_bytes) a.made.writes d.0),
     )
   ]
   undelivered_answer s (inr a) six = elim a.refuses [

@@ -104,10 +104,20 @@ module _ {F : Type 0} (view : FilesView F) (job : Job) where
   cause_of_text old new text (refusals.ReadFault s) opened loaded (inr h) = absurd h
   cause_of_text old new text refusals.Memory opened loaded (inr h) = tt
   cause_of_text old new text (refusals.Token code line) opened loaded (inr h) = record {
-    came = came_to_program old new opened; text = text; held = loaded.is_held; whole = loaded.whole; fits = loaded.fits; refused = h
+    came = came_to_program old new opened;
+    text = text;
+    held = loaded.is_held;
+    whole = loaded.whole;
+    fits = loaded.fits;
+    refused = h;
   }
   cause_of_text old new text refusals.NoProgram opened loaded (inr h) = record {
-    came = came_to_program old new opened; text = text; held = loaded.is_held; whole = loaded.whole; fits = loaded.fits; refused = h
+    came = came_to_program old new opened;
+    text = text;
+    held = loaded.is_held;
+    whole = loaded.whole;
+    fits = loaded.fits;
+    refused = h;
   }
 
   -- why the input could not be loaded, after the program was read

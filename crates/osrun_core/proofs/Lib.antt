@@ -11,6 +11,7 @@ pub mod Meant
 pub mod Outputs
 pub mod Parts
 pub mod Plannable
+pub mod Prefixes
 pub mod Ranges
 pub mod Repeats
 pub mod Reported

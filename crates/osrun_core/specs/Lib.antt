@@ -6,6 +6,7 @@ pub mod FirstPlan
 pub mod FirstProgram
 pub mod FirstReport
 pub mod JobAnswer
+pub mod Laws
 pub mod Line
 pub mod Loading
 pub mod Loads
