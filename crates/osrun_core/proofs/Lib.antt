@@ -3,6 +3,7 @@ pub mod Accepted
 pub mod Answered
 pub mod Bytes
 pub mod Came
+pub mod Claimed
 pub mod Declared
 pub mod Fits
 pub mod Laid
@@ -22,4 +23,3 @@ pub mod Stands
 pub mod TaskCounts
 pub mod Tasks
 pub mod Windows
-pub mod Streams

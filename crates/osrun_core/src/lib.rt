@@ -31,5 +31,5 @@ mod tell;
 
 pub use command::run_words;
 pub use gate::{Gate, NoGate};
-pub use laws::longest_prefix;
+pub use laws::{all_is_written, longest_prefix};
 pub use reader::one_reading;
