@@ -3,6 +3,7 @@
 set -u
 top=$(cd "$(dirname "${BASH_SOURCE[0]}")/.." && pwd)
 osrun=$top/osrun
+program=$top/crates/osrun/out/osrun
 "$top/build" || exit 1
 work=$(mktemp -d)
 trap 'rm -rf "$work"' EXIT
@@ -83,6 +84,20 @@ check "a full standard error" 6 04030201 ""
 status=$?
 : >"$work/report"
 check "a refusal and a full standard error" 3 "" ""
+
+# The stored run makes 39 allocations. Whichever of them fails, the status is 7 and nothing is written, but for
+# the 7th, without which the run is whole.
+compiler=$(command -v cc || command -v clang || echo "$(dirname "$(readlink -f "$(command -v rt)")")/../toolchain/bin/clang")
+"$compiler" -shared -fPIC -nostdlib -O1 -o failing_allocation.so "$top/tests/failing_allocation.c"
+for number in $(seq 1 45); do
+    LD_PRELOAD=$work/failing_allocation.so FAILING_ALLOCATION=$number "$program" run first.c in.bin >out 2>report
+    status=$?
+    if [ "$number" = 7 ] || [ "$number" -gt 39 ]; then
+        check "allocation $number fails" 0 04030201 "control done / output 4 of 4"
+    else
+        check "allocation $number fails" 7 "" ""
+    fi
+done
 
 # Where the program isn't built, or was built from another commit, the toolchain runs it, and the first line says so.
 copy=$work/copy

@@ -26,8 +26,8 @@ use Rattle.osrun_core.specs.FirstPlan.{no_task, task_at, output_first, input_fir
 use Rattle.osrun_core.specs.FirstReport.{IsByte, IsByteIfThere}
 use Rattle.osrun_core.specs.Meaning.{last_source, value_of, element_of, outputs_of, body, activations, meaning, program_ends}
 use Rattle.osrun_core.proofs.Laid.{output_at as writer_at}
+use Rattle.osrun_core.proofs.Claimed.{element-of_task}
 use Rattle.osrun_core.proofs.Meant.{outcome-task}
-use Rattle.osrun_core.proofs.Ranges.{map-map}
 use Rattle.osrun_core.proofs.Serves.{body-outputs}
 use Rattle.osrun_core.proofs.Windows.{stream_source-output, written_count-tasks}
 
@@ -109,19 +109,6 @@ byte-output p input state k j (Some inputs) rules bytes h e out =
 pub bytes-output : OfStreams IsFixed → (p : FirstProgram) (input : List ℕ) → IsFirstProgram p → ((i : ℕ) → get_or input i 0 < 256) → All IsByteIfThere (program_ends p input).output
 bytes-output fixed p input rules bytes q d h =
     let sizes = size_of p.windows in
-    let ts = p.tasks in
-    let state = meaning p input in
-    let place : ℕ → Place = λ position. record { stream = 1; position = position } in
-    let source : ℕ → Option ℤ = λ position. element state (stream_source (activations p) input (place position)) in
-    let whole : (program_ends p input).output ≡ map source (range_with_len 0 (written_count (activations p) 1)) =
-    map-map (element state) (stream_source (activations p) input) (output_places (activations p)) ∙ map-map (λ at. element state (stream_source (activations p) input at)) place (range_with_len 0 (written_count (activations p) 1)) in
-    let n = ap length whole ∙ length-map-range_with_len source 0 (written_count (activations p) 1) in
-    let w = written_count-tasks sizes ts in
-    let all = ap (sum_by (λ (t : Task). horizon sizes t.output)) (take_all (length ts) ts (omega arith)) in
-    let by = writer_at sizes ts (length ts) q (omega arith) (omega arith) in
-    let is : get_or (program_ends p input).output q d ≡ output_at state by.0 (q - output_first sizes ts by.0) =
-    ap (λ xs. get_or xs q d) whole
-    ∙ get_or-map-range_with_len source 0 (written_count (activations p) 1) q q d (omega arith) (zero-add q)
-    ∙ ap (element state) (stream_source-output sizes ts input by.0 q by.1 by.2 by.3) in
-    subst IsByteIfThere (sym is)
-    (byte-output p input state by.0 (q - output_first sizes ts by.0) (gathered (task_cells sizes ts input by.0)) rules bytes by.1 refl (outcome-task fixed sizes ts input (body p) by.0 by.1))
+    let of = element-of_task p input q d h in
+    subst IsByteIfThere (sym of.is_found)
+    (byte-output p input (meaning p input) of.task of.place (gathered (task_cells sizes p.tasks input of.task)) rules bytes of.is_task refl (outcome-task fixed sizes p.tasks input (body p) of.task of.is_task))
