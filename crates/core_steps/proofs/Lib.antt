@@ -1,0 +1,11 @@
+pub mod Sums
+pub mod Words
+pub mod Counts
+pub mod Parts
+pub mod Moves
+pub mod Splits
+pub mod Opening
+pub mod Looks
+pub mod Runs
+pub mod Starts
+pub mod Claims
