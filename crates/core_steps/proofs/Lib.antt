@@ -9,3 +9,5 @@ pub mod Looks
 pub mod Runs
 pub mod Starts
 pub mod Claims
+pub mod Finishes
+pub mod Opens
