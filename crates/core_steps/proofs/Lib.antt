@@ -11,3 +11,5 @@ pub mod Starts
 pub mod Claims
 pub mod Finishes
 pub mod Opens
+pub mod Cells
+pub mod Fits

@@ -16,7 +16,7 @@ use Rattle.core_steps.specs.declared.view.Run.{Run}
 use Rattle.core_steps.specs.declared.view.View.{View}
 use Rattle.core_steps.specs.declared.word.Word.TheVariants.{Wait}
 use Rattle.core_steps.specs.Words.{word_at, opening_words, waits, is_open, is_started, end_in}
-use Rattle.core_steps.specs.States.{CoreState, opening, runs_of, times, times_in_all, knows}
+use Rattle.core_steps.specs.States.{CoreState, IsSeat, opening, runs_of, times, times_in_all, knows}
 use Rattle.core_steps.specs.Steps.{end_of, CanSplit, after_split, CanJoin, after_join, CanClaim, after_claim, CanRead, CanStore, after_store, CanSub, after_sub, CanFinish, after_finish, CanLook, after_look, Step}
 use Rattle.core_steps.specs.Counted.{one, counted_at}
 use Rattle.core_steps.specs.IsGood.{IsGood, IsLast}
@@ -110,7 +110,7 @@ abbrev pub WaitsNoMore : Type 0
 WaitsNoMore = (known : Known) (old new : CoreState) (f : ℕ) → IsFit known → IsGood known old → Step known old new → waits (word_at old.words f) ≡ false → waits (word_at new.words f) ≡ false
 
 abbrev pub KnownWaitsNoMore : Type 0
-KnownWaitsNoMore = (known : Known) (state : CoreState) (seat : ℕ) (view : View) (f : ℕ) → IsFit known → IsGood known state → slice_get state.seats seat ≡ Some view → knows view f ≡ true → waits (word_at state.words f) ≡ false
+KnownWaitsNoMore = (known : Known) (state : CoreState) (seat : ℕ) (view : View) (f : ℕ) → IsFit known → IsGood known state → IsSeat state seat view → knows view f ≡ true → waits (word_at state.words f) ≡ false
 
 -- The frames that were claimed on a way from opening ran in an order in which each was enabled. So their
 -- outcomes are the meaning's, and where nothing more is enabled they are the meaning.

@@ -12,6 +12,7 @@
 #![tactic(auto)]
 
 mod known;
+pub mod laws;
 mod view;
 mod word;
 
