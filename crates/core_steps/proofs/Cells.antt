@@ -1,8 +1,8 @@
 -- The cells of frames that miss nothing, and those that a seat stores into.
-use Rattle.std.proofs.Common.{◌≡◌, ℕ, zero, suc, ◌+◌, ◌-◌, ◌<◌, ◌≤◌, ◌≢◌, ℤ, Bool, true, false, List, [], ◌∷◌, Option, Some, None, length, refl, sym, ap, ◌∙◌, subst, ◌⊎◌, inl, inr, arith, count_by}
+use Rattle.std.proofs.Common.{◌≡◌, ℕ, zero, suc, ◌+◌, ◌-◌, ◌<◌, ◌≤◌, ◌≢◌, ℤ, Bool, true, false, List, [], ◌∷◌, Option, Some, None, length, set, refl, sym, ap, ◌∙◌, subst, ◌⊎◌, inl, inr, arith, count_by}
 use Rattle.std.specs.Prelude.{slice_get, is_none, is_some, ◌&&◌, ◌==◌, nat_lt}
 use Rattle.std.specs.List.{range_with_len}
-use Rattle.std.proofs.lemmas.Bool.{cases_eq, and_parts, lt-ltb, le-ltb}
+use Rattle.std.proofs.lemmas.Bool.{cases_eq, and_parts, and_right, lt-ltb, le-ltb}
 use Rattle.std.proofs.lemmas.List.Sums.{sum_by-cons}
 use Rattle.flow_core.specs.declared.plan.Piece.{Piece}
 use Rattle.flow_core.specs.declared.plan.Plan.{Plan}
@@ -18,7 +18,7 @@ use Rattle.core_steps.specs.States.{CoreState, runs_of}
 use Rattle.core_steps.specs.Counted.{one, is_run_of, is_past, has_stored, counted, stored, counted_at, stored_at, is_missed, lacking}
 use Rattle.core_steps.specs.Steps.{StandsAt, CanRead, first_place}
 use Rattle.core_steps.specs.IsGood.{IsGood}
-use Rattle.core_steps.proofs.Sums.{count_by-sole}
+use Rattle.core_steps.proofs.Sums.{count_by-sole, count_by-written}
 use Rattle.core_steps.proofs.Counts.{counted-is, counted_at-is, stored_at-is, stored-is}
 use Rattle.core_steps.proofs.Runs.{run_there, running_is_taken, runs_alone, is_past-earlier, same_frame}
 use Rattle.flow_core.proofs.Sources.{piece_at-covered}
@@ -114,6 +114,15 @@ module _ (known : Known) (s : CoreState) (i : ℕ) (v : View) (r : Run) (p : Pie
       count_by-sole (has_stored p.from r.piece k) (is_run_of p.from) (runs_of s) i (Some r) (stored_runs r.piece k) there runs_it alone
       ∙ ap (λ b. one (b && r.piece == r.piece && nat_lt k r.stored)) runs_it
       ∙ ap (λ b. one (b && nat_lt k r.stored)) (same_frame r.piece)
+
+  -- one more element
+  pub stored_next : count_by (has_stored p.from r.piece r.stored) (set (runs_of s) i (Some (record r { stored = r.stored + 1 }))) ≡ 1
+  stored_next =
+      let a = count_by-written (has_stored p.from r.piece r.stored) (runs_of s) i (Some r) (Some (record r { stored = r.stored + 1 })) there in
+      let b : count_by (has_stored p.from r.piece r.stored) (runs_of s) ≡ 0 = stored_alone r.stored ∙ ap one (le-ltb r.stored r.stored (omega arith)) in
+      let d : one (has_stored p.from r.piece r.stored (Some r)) ≡ 0 = ap one (and_right (r.frame == p.from && r.piece == r.piece) (nat_lt r.stored r.stored) (le-ltb r.stored r.stored (omega arith))) in
+      let e : one (has_stored p.from r.piece r.stored (Some (record r { stored = r.stored + 1 }))) ≡ 1 = ap (λ b. one (b && r.piece == r.piece && nat_lt r.stored (r.stored + 1))) runs_it ∙ ap (λ b. one (b && nat_lt r.stored (r.stored + 1))) (same_frame r.piece) ∙ ap one (lt-ltb r.stored (r.stored + 1) (omega arith)) in
+      omega (arith, a, b, d, e)
 
   -- the cells of that piece
   pub filled_at : (sound : IsSound known.plan) (k : ℕ) → k < p.count → one (is_some (value_at s.cells (p.at + k))) ≡ one (nat_lt k r.stored)

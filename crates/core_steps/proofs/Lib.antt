@@ -13,3 +13,4 @@ pub mod Finishes
 pub mod Opens
 pub mod Cells
 pub mod Fits
+pub mod Stores
