@@ -14,3 +14,5 @@ pub mod Opens
 pub mod Cells
 pub mod Fits
 pub mod Stores
+pub mod Lowered
+pub mod Subs
