@@ -16,3 +16,5 @@ pub mod Fits
 pub mod Stores
 pub mod Lowered
 pub mod Subs
+pub mod Complete
+pub mod Steps

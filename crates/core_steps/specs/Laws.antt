@@ -103,11 +103,11 @@ IsStoredOnce = (known : Known) (state : CoreState) (way : Way known state) (c : 
 
 -- a frame that was claimed stays so: it is never Open again
 abbrev pub StartedStays : Type 0
-StartedStays = (known : Known) (old new : CoreState) (f : ℕ) → IsFit known → IsGood known old → Step known old new → is_started (word_at old.words f) ≡ true → is_started (word_at new.words f) ≡ true
+StartedStays = (known : Known) (old new : CoreState) (f : ℕ) → Step known old new → is_started (word_at old.words f) ≡ true → is_started (word_at new.words f) ≡ true
 
 -- a frame that doesn't wait never waits again, and one that a seat knows doesn't wait
 abbrev pub WaitsNoMore : Type 0
-WaitsNoMore = (known : Known) (old new : CoreState) (f : ℕ) → IsFit known → IsGood known old → Step known old new → waits (word_at old.words f) ≡ false → waits (word_at new.words f) ≡ false
+WaitsNoMore = (known : Known) (old new : CoreState) (f : ℕ) → Step known old new → waits (word_at old.words f) ≡ false → waits (word_at new.words f) ≡ false
 
 abbrev pub KnownWaitsNoMore : Type 0
 KnownWaitsNoMore = (known : Known) (state : CoreState) (seat : ℕ) (view : View) (f : ℕ) → IsFit known → IsGood known state → IsSeat state seat view → knows view f ≡ true → waits (word_at state.words f) ≡ false
