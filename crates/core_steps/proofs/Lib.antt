@@ -18,3 +18,4 @@ pub mod Lowered
 pub mod Subs
 pub mod Complete
 pub mod Steps
+pub mod Ways
