@@ -1,21 +1,19 @@
 -- The cells of frames that miss nothing, and those that a seat stores into.
-use Rattle.std.proofs.Common.{◌≡◌, ℕ, zero, suc, ◌+◌, ◌-◌, ◌<◌, ◌≤◌, ◌≢◌, ℤ, Bool, true, false, List, [], ◌∷◌, Option, Some, None, length, set, refl, sym, ap, ◌∙◌, subst, ◌⊎◌, inl, inr, arith, count_by}
+use Rattle.std.proofs.Common.{◌≡◌, ℕ, zero, suc, ◌+◌, ◌-◌, ◌<◌, ◌≤◌, ◌≢◌, ℤ, Bool, true, false, Option, Some, None, length, set, refl, sym, ap, ◌∙◌, ◌⊎◌, inl, inr, arith, count_by}
 use Rattle.std.specs.Prelude.{slice_get, is_none, is_some, ◌&&◌, ◌==◌, nat_lt}
 use Rattle.std.specs.List.{range_with_len}
 use Rattle.std.proofs.lemmas.Bool.{cases_eq, and_parts, and_right, lt-ltb, le-ltb}
 use Rattle.std.proofs.lemmas.List.Sums.{sum_by-cons}
 use Rattle.flow_core.specs.declared.plan.Piece.{Piece}
-use Rattle.flow_core.specs.declared.plan.Plan.{Plan}
 use Rattle.flow_core.specs.Element.{element}
-use Rattle.flow_core.specs.Plans.{frame_at, value_at, cell_source, cells_of}
+use Rattle.flow_core.specs.Plans.{frame_at, value_at, cell_source}
 use Rattle.flow_core.specs.IsSound.{IsSound, HasCell}
 use Rattle.core_steps.specs.declared.known.Known.{Known}
 use Rattle.core_steps.specs.declared.view.Run.{Run}
 use Rattle.core_steps.specs.declared.view.View.{View}
-use Rattle.core_steps.specs.declared.word.Word.{Word}
 use Rattle.core_steps.specs.Words.{word_at, amount, has_delivered}
 use Rattle.core_steps.specs.States.{CoreState, runs_of}
-use Rattle.core_steps.specs.Counted.{one, is_run_of, is_past, has_stored, counted, stored, counted_at, stored_at, is_missed, lacking}
+use Rattle.core_steps.specs.Counted.{one, is_run_of, is_past, has_stored, counted, counted_at, stored_at, is_missed, lacking}
 use Rattle.core_steps.specs.Steps.{StandsAt, CanRead, first_place}
 use Rattle.core_steps.specs.IsGood.{IsGood}
 use Rattle.core_steps.proofs.Sums.{count_by-sole, count_by-written}

@@ -1,25 +1,23 @@
 -- A CLAIM keeps a state good.
-use Rattle.std.proofs.Common.{◌≡◌, ℕ, zero, suc, ◌+◌, ◌-◌, ◌%◌, ◌<◌, ◌≤◌, ◌≢◌, ℤ, Bool, true, false, List, [], ◌∷◌, ◌++◌, Option, Some, None, map, length, set, refl, sym, ap, ◌∙◌, subst, ◌⊎◌, inl, inr, arith, count_by, eq-eqb}
-use Rattle.std.specs.Prelude.{slice_get, sum_by, ◌==◌, not, ◌&&◌, if◌then◌else◌}
-use Rattle.std.proofs.lemmas.Bool.{ne_eqb, cases_eq}
-use Rattle.std.proofs.lemmas.List.{length-set}
+use Rattle.std.proofs.Common.{◌≡◌, ℕ, ◌+◌, ◌<◌, ◌≢◌, Bool, true, false, List, Option, Some, None, length, set, refl, sym, ap, ◌∙◌, subst, ◌⊎◌, inl, inr, arith, count_by, eq-eqb}
+use Rattle.std.specs.Prelude.{slice_get, ◌==◌, if◌then◌else◌}
+use Rattle.std.proofs.lemmas.Bool.{ne_eqb}
 use Rattle.std.proofs.lemmas.Option.{same_Some}
 use Rattle.flow_core.specs.IsSound.{IsSound}
-use Rattle.flow_core.specs.declared.task_end.TaskEnd.{TaskEnd}
 use Rattle.core_steps.specs.declared.known.Known.{Known}
 use Rattle.core_steps.specs.declared.view.Run.{Run}
 use Rattle.core_steps.specs.declared.view.View.{View}
 use Rattle.core_steps.specs.declared.word.Word.{Word}
-use Rattle.core_steps.specs.declared.word.Word.TheVariants.{Open, Taken, Wait, Ended}
-use Rattle.core_steps.specs.Words.{word_at, opening_words, amount, waits, is_open, is_taken, is_started, has_delivered, end_in}
+use Rattle.core_steps.specs.declared.word.Word.TheVariants.{Open, Taken, Ended}
+use Rattle.core_steps.specs.Words.{word_at, amount, waits, is_open, is_taken, is_started, has_delivered}
 use Rattle.core_steps.specs.States.{CoreState, runs_of, times}
 use Rattle.core_steps.specs.Counted.{one, is_run_of, is_past, has_stored}
-use Rattle.core_steps.specs.Steps.{end_of, first_place, CanClaim, claimed, missed, after_claim, with_view}
-use Rattle.core_steps.specs.IsGood.{IsGood, IsLast, IsPlace}
-use Rattle.core_steps.proofs.Sums.{each_set, sum_by-written, sum_by-kept, count_by-written, count_by-kept}
-use Rattle.core_steps.proofs.Words.{open_is, word_at-set, word_at-set_other, word_at-kept}
+use Rattle.core_steps.specs.Steps.{first_place, CanClaim, claimed, missed, after_claim, with_view}
+use Rattle.core_steps.specs.IsGood.{IsGood, IsPlace}
+use Rattle.core_steps.proofs.Sums.{count_by-written, count_by-kept}
+use Rattle.core_steps.proofs.Words.{open_is, word_at-set, word_at-kept}
 use Rattle.core_steps.proofs.Counts.{CountsAlike, StoresAlike}
-use Rattle.core_steps.proofs.Parts.{Flows, Sits, Books, flows_of, sits_of, books_of, good_from, run_at, runs-set}
+use Rattle.core_steps.proofs.Parts.{Sits, sits_of, run_at}
 use Rattle.core_steps.proofs.Starts.{Starts, still_sits, started_keeps}
 use Rattle.core_steps.proofs.Looks.{times_push, miss_keeps}
 use Rattle.core_steps.proofs.Runs.{first_is_place, is_past-first, has_stored-none}
@@ -62,10 +60,12 @@ hit_keeps known s i v f sound g can opened = started_keeps known s i v (claimed 
     }
 
     counts : CountsAlike known.plan s.words runs words' runs'
-    counts = record { each = λ q p h.
-        let a = word_at-kept (λ w. one (has_delivered w)) s.words f Taken lt (ap (λ w. one (has_delivered w)) (sym is)) p.from in
-        let b = count_by-kept (is_past p.from q) runs i None (Some (first_place known.plan f)) there (is_past-first known.plan f q p sound h) in
-        omega (arith, a, b) }
+    counts = record {
+      each = λ q p h.
+          let a = word_at-kept (λ w. one (has_delivered w)) s.words f Taken lt (ap (λ w. one (has_delivered w)) (sym is)) p.from in
+          let b = count_by-kept (is_past p.from q) runs i None (Some (first_place known.plan f)) there (is_past-first known.plan f q p sound h) in
+          omega (arith, a, b);
+    }
 
     stores : StoresAlike known.plan runs runs'
     stores = record { each = λ q k p h. count_by-kept (has_stored p.from q k) runs i None (Some (first_place known.plan f)) there (has_stored-none (first_place known.plan f) p.from q k refl) }

@@ -1,9 +1,9 @@
 -- Nothing is left out once the last seat has looked at every frame.
-use Rattle.std.proofs.Common.{◌≡◌, ℕ, zero, suc, ◌+◌, ◌-◌, ◌*◌, ◌/◌, ◌%◌, ◌<◌, ◌≤◌, ◌≢◌, ℤ, Bool, true, false, List, [], ◌∷◌, Option, Some, None, map, length, refl, sym, ap, ◌∙◌, subst, ◌⊎◌, inl, inr, arith, count_by}
-use Rattle.std.specs.Prelude.{slice_get, sum_by, is_none, is_some, not, ◌==◌, ◌&&◌, option_and_then}
+use Rattle.std.proofs.Common.{◌≡◌, ℕ, zero, suc, ◌+◌, ◌-◌, ◌*◌, ◌/◌, ◌%◌, ◌<◌, ◌≤◌, ◌≢◌, ℤ, Bool, true, false, List, [], ◌∷◌, Option, Some, None, map, length, refl, sym, ap, ◌∙◌, ◌⊎◌, inl, inr, arith, count_by}
+use Rattle.std.specs.Prelude.{slice_get, is_none, is_some, ◌==◌, ◌&&◌, option_and_then}
 use Rattle.std.specs.Option.{option_map, option_map_or}
 use Rattle.std.specs.List.{range_with_len}
-use Rattle.std.proofs.lemmas.Bool.{cases_eq, cases_lt, ne_eqb, and_right}
+use Rattle.std.proofs.lemmas.Bool.{cases_eq, cases_lt, ne_eqb}
 use Rattle.std.proofs.lemmas.List.Sums.{sum_by-cons}
 use Rattle.std.proofs.lemmas.Nat.{mod-mul-add, div-add-mod', mod_below}
 use Rattle.std.proofs.lemmas.Option.{slice_get-map, same_Some}
@@ -14,28 +14,27 @@ use Rattle.flow_core.specs.declared.task_end.TaskEnd.{TaskEnd}
 use Rattle.flow_core.specs.declared.task_end.TaskEnd.TheVariants.{Done, Trapped, OverBudget}
 use Rattle.flow_core.specs.Outcome.{State, outcome_at, is_done}
 use Rattle.flow_core.specs.Element.{Source, given, fed, nobody, element, output_at}
-use Rattle.flow_core.specs.Plans.{frame_at, value_at, piece_at, piece_source, cell_source, cells_of, plan_reads, plan_meaning}
+use Rattle.flow_core.specs.Plans.{frame_at, value_at, piece_at, piece_source, cell_source, plan_reads, plan_meaning}
 use Rattle.flow_core.specs.Round.{gathered, inputs_in}
-use Rattle.flow_core.specs.IsSound.{IsSound, HasCell}
+use Rattle.flow_core.specs.IsSound.{IsSound}
 use Rattle.flow_core.proofs.Counting.{passing-none}
 use Rattle.flow_core.proofs.Gathering.{gathered-cons}
-use Rattle.flow_core.proofs.Rounds.{Extends, IsClosed, passes_from_closed, outcome_at_past, length-meaning}
+use Rattle.flow_core.proofs.Rounds.{Extends, IsClosed, passes_from_closed}
 use Rattle.flow_core.proofs.Sources.{fed-covered, piece_at-covered}
 use Rattle.core_steps.specs.declared.known.Known.{Known}
 use Rattle.core_steps.specs.declared.view.Run.{Run}
 use Rattle.core_steps.specs.declared.view.View.{View}
 use Rattle.core_steps.specs.declared.word.Word.{Word}
 use Rattle.core_steps.specs.declared.word.Word.TheVariants.{Wait, Open, Taken, Ended}
-use Rattle.core_steps.specs.Words.{word_at, amount, waits, is_open, is_taken, is_started, has_delivered, end_in}
+use Rattle.core_steps.specs.Words.{word_at, waits, is_open, is_taken, has_delivered, end_in}
 use Rattle.core_steps.specs.States.{CoreState, runs_of}
-use Rattle.core_steps.specs.Counted.{one, is_run_of, is_past, counted, counted_at, stored_at, is_missed, lacking}
+use Rattle.core_steps.specs.Counted.{one, is_run_of, is_past, counted_at, is_missed, lacking}
 use Rattle.core_steps.specs.Steps.{end_of}
 use Rattle.core_steps.specs.IsGood.{IsGood, IsLast}
 use Rattle.core_steps.specs.Laws.{IsMeant, IsComplete}
-use Rattle.core_steps.proofs.Words.{started_from, full_waits, one_is_false}
+use Rattle.core_steps.proofs.Words.{full_waits, one_is_false}
 use Rattle.core_steps.proofs.Counts.{counted-is, counted_at-is}
 use Rattle.core_steps.proofs.Parts.{run_at}
-use Rattle.core_steps.proofs.Runs.{run_there}
 use Rattle.core_steps.proofs.Subs.{last_is_only}
 
 -- a cell that had a value at opening is given

@@ -1,5 +1,5 @@
 -- How often pieces count, by what changed of words and runs.
-use Rattle.std.proofs.Common.{◌≡◌, ℕ, zero, suc, ◌+◌, ◌-◌, ◌<◌, ◌≤◌, ◌≢◌, ℤ, Bool, true, false, List, Option, Some, None, length, get_or, refl, sym, ap, ◌∙◌, subst, ◌⊎◌, inl, inr, arith, count_by}
+use Rattle.std.proofs.Common.{◌≡◌, ℕ, ◌+◌, ◌-◌, ◌<◌, ◌≤◌, List, Option, Some, None, get_or, refl, ap, arith, count_by}
 use Rattle.std.specs.Prelude.{slice_get, is_none, ◌&&◌, ◌==◌}
 use Rattle.std.specs.Option.{option_map_or}
 use Rattle.std.proofs.lemmas.List.Quantifiers.{position-Some}
@@ -8,11 +8,11 @@ use Rattle.flow_core.specs.declared.plan.Piece.{Piece}
 use Rattle.flow_core.specs.declared.plan.Plan.{Plan}
 use Rattle.flow_core.specs.IsSound.{IsSound, IsSoundPiece, HasCell}
 use Rattle.flow_core.specs.Plans.{frame_at, value_at, cells_of, is_covered_by, piece_at}
-use Rattle.flow_core.proofs.Sources.{piece_at-covered, test_covers}
+use Rattle.flow_core.proofs.Sources.{test_covers}
 use Rattle.core_steps.specs.declared.view.Run.{Run}
 use Rattle.core_steps.specs.declared.word.Word.{Word}
 use Rattle.core_steps.specs.Words.{word_at, has_delivered}
-use Rattle.core_steps.specs.Counted.{one, is_run_of, is_past, has_stored, counted, stored, counted_at, stored_at, is_missed, lacking}
+use Rattle.core_steps.specs.Counted.{one, is_past, has_stored, counted, stored, counted_at, stored_at, is_missed, lacking}
 use Rattle.core_steps.proofs.Sums.{count_by-same, option_map_or-same}
 
 -- the piece at a cell

@@ -1,5 +1,5 @@
 -- A FINISH keeps a state good.
-use Rattle.std.proofs.Common.{◌≡◌, ℕ, ◌+◌, ◌-◌, ◌<◌, ◌≤◌, ◌≢◌, Bool, true, false, List, Option, Some, None, length, set, refl, sym, ap, ◌∙◌, subst, ◌⊎◌, inl, inr, arith, count_by}
+use Rattle.std.proofs.Common.{◌≡◌, ℕ, ◌+◌, ◌<◌, ◌≢◌, true, false, List, Some, None, length, set, refl, sym, ap, ◌∙◌, subst, ◌⊎◌, inl, inr, arith, count_by}
 use Rattle.std.specs.Prelude.{slice_get}
 use Rattle.std.proofs.lemmas.Bool.{ne_eqb}
 use Rattle.flow_core.specs.declared.plan.Piece.{Piece}
@@ -14,9 +14,9 @@ use Rattle.core_steps.specs.declared.view.View.{View}
 use Rattle.core_steps.specs.declared.word.Word.{Word}
 use Rattle.core_steps.specs.declared.word.Word.TheVariants.{Taken, Ended}
 use Rattle.core_steps.specs.Words.{word_at, amount, waits, is_taken, is_started, has_delivered, end_in}
-use Rattle.core_steps.specs.States.{CoreState, runs_of, times}
+use Rattle.core_steps.specs.States.{CoreState, runs_of}
 use Rattle.core_steps.specs.Counted.{one, is_run_of, is_past, has_stored}
-use Rattle.core_steps.specs.Steps.{end_of, first_place, IsPastLast, CanFinish, after_finish}
+use Rattle.core_steps.specs.Steps.{first_place, CanFinish, after_finish}
 use Rattle.core_steps.specs.IsGood.{IsGood, IsPlace}
 use Rattle.core_steps.proofs.Sums.{count_by-written, count_by-kept}
 use Rattle.core_steps.proofs.Words.{word_at-set, word_at-kept}

@@ -1,7 +1,6 @@
 -- A sound plan with its meaning is fit.
-use Rattle.std.proofs.Common.{◌≡◌, ℕ, ◌<◌, ℤ, List, Option, Some, None, map, length, refl, sym, ap, ◌∙◌, subst}
+use Rattle.std.proofs.Common.{◌≡◌, ℕ, ◌<◌, ℤ, List, Option, Some, None, map, length, refl, sym, ap, ◌∙◌}
 use Rattle.std.specs.Option.{option_map}
-use Rattle.std.specs.List.{range_with_len}
 use Rattle.std.proofs.lemmas.List.{length-map}
 use Rattle.std.proofs.lemmas.List.FromFn.{length-range_with_len}
 use Rattle.std.proofs.lemmas.Option.{same_Some}
@@ -40,8 +39,8 @@ fits known outcome sound fills meant = record { plan_is_sound = sound; done_has_
     has : (f : ℕ) (o : Outcome) → f < length known.plan.frames → o.end ≡ Done → (inputs : List ℤ) × (inputs_in (plan_reads known.plan) (plan_meaning known.plan outcome) f ≡ Some inputs) × (o ≡ outcome f inputs) → length o.outputs ≡ (frame_at known.plan f).outputs
     has f o lt done (inputs, there, is) =
         let n : length inputs ≡ (frame_at known.plan f).inputs =
-            length-gathered (map (element (plan_meaning known.plan outcome)) (plan_reads known.plan f)) inputs there
-            ∙ length-map (plan_reads known.plan f) (element (plan_meaning known.plan outcome))
-            ∙ length-map (cells_of known.plan f) (cell_source known.plan)
-            ∙ length-range_with_len (frame_at known.plan f).cell (frame_at known.plan f).inputs in
+        length-gathered (map (element (plan_meaning known.plan outcome)) (plan_reads known.plan f)) inputs there
+        ∙ length-map (plan_reads known.plan f) (element (plan_meaning known.plan outcome))
+        ∙ length-map (cells_of known.plan f) (cell_source known.plan)
+        ∙ length-range_with_len (frame_at known.plan f).cell (frame_at known.plan f).inputs in
         ap (λ (o : Outcome). length o.outputs) is ∙ fills f inputs lt n (sym (ap (λ (o : Outcome). o.end) is) ∙ done)

@@ -1,6 +1,6 @@
 -- A CLAIM that misses and a LOOK keep a state good.
-use Rattle.std.proofs.Common.{◌≡◌, ℕ, zero, suc, ◌+◌, ◌-◌, ◌%◌, ◌<◌, ◌≤◌, ◌≢◌, ℤ, Bool, true, false, List, [], ◌∷◌, ◌++◌, Option, Some, None, map, length, set, refl, sym, ap, ◌∙◌, subst, ◌⊎◌, inl, inr, arith, eqb}
-use Rattle.std.specs.Prelude.{slice_get, sum_by, ◌==◌, if◌then◌else◌}
+use Rattle.std.proofs.Common.{◌≡◌, ℕ, zero, suc, ◌+◌, ◌-◌, ◌%◌, ◌<◌, ◌≤◌, Bool, true, false, List, [], ◌∷◌, ◌++◌, length, refl, sym, ap, ◌∙◌, subst, ◌⊎◌, inl, inr, arith}
+use Rattle.std.specs.Prelude.{◌==◌, if◌then◌else◌}
 use Rattle.std.proofs.lemmas.Bool.{eqb-true, cases_lt}
 use Rattle.std.proofs.lemmas.List.Sums.{sum_by_push}
 use Rattle.flow_core.specs.IsSound.{IsSound}
@@ -11,7 +11,7 @@ use Rattle.core_steps.specs.Words.{waits, is_open, is_started, word_at}
 use Rattle.core_steps.specs.States.{CoreState, IsSeat, times, knows}
 use Rattle.core_steps.specs.Counted.{one}
 use Rattle.core_steps.specs.Steps.{CanClaim, missed, lost_with, CanLook, next_look, after_look, with_view}
-use Rattle.core_steps.specs.IsGood.{IsGood, IsView, IsLast}
+use Rattle.core_steps.specs.IsGood.{IsGood, IsLast}
 use Rattle.core_steps.proofs.Words.{started_from, open_is}
 use Rattle.core_steps.proofs.Opening.{known_waits_no_more}
 use Rattle.core_steps.proofs.Parts.{Sits, sits_of, good_with_view}

@@ -1,18 +1,12 @@
 -- Steps that store and count nothing: what flows is as it was, where words and runs count alike.
-use Rattle.std.proofs.Common.{◌≡◌, ℕ, zero, suc, ◌+◌, ◌-◌, ◌%◌, ◌<◌, ◌≤◌, ◌≢◌, ℤ, Bool, true, false, List, [], ◌∷◌, ◌++◌, Option, Some, None, map, length, set, refl, sym, ap, ◌∙◌, subst, ◌⊎◌, inl, inr, arith, count_by}
-use Rattle.std.specs.Prelude.{slice_get, is_some}
-use Rattle.std.proofs.lemmas.List.{length-set}
-use Rattle.flow_core.specs.declared.plan.Plan.{Plan}
-use Rattle.flow_core.specs.declared.plan.Piece.{Piece}
+use Rattle.std.proofs.Common.{◌≡◌, ℕ, ◌<◌, ◌≢◌, ℤ, false, List, [], ◌∷◌, ◌++◌, Option, Some, None, length, set, refl, sym, ◌∙◌, ◌⊎◌, inl, inr, arith, count_by}
 use Rattle.flow_core.specs.declared.task_end.TaskEnd.{TaskEnd}
-use Rattle.flow_core.specs.Plans.{value_at}
 use Rattle.core_steps.specs.declared.known.Known.{Known}
 use Rattle.core_steps.specs.declared.view.Run.{Run}
-use Rattle.core_steps.specs.declared.view.View.{View}
 use Rattle.core_steps.specs.declared.word.Word.{Word}
 use Rattle.core_steps.specs.declared.word.Word.TheVariants.{Wait, Ended}
 use Rattle.core_steps.specs.Words.{word_at, amount, is_taken, is_started}
-use Rattle.core_steps.specs.Counted.{one, is_run_of, is_past, has_stored, counted_at, stored_at}
+use Rattle.core_steps.specs.Counted.{one, is_run_of, is_past, has_stored}
 use Rattle.core_steps.specs.Steps.{end_of}
 use Rattle.core_steps.proofs.Sums.{count_by_push}
 use Rattle.core_steps.proofs.Words.{word_at-set}

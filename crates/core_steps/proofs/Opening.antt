@@ -1,7 +1,7 @@
 -- What opening says of a frame later on.
-use Rattle.std.proofs.Common.{◌≡◌, ℕ, zero, suc, ◌+◌, ◌-◌, ◌<◌, ◌≤◌, ◌≢◌, ℤ, Bool, true, false, List, [], ◌∷◌, ◌++◌, Option, Some, None, map, length, get_or, refl, sym, ap, ◌∙◌, subst, ◌⊎◌, inl, inr, arith, count_by, cond, eq-eqb}
-use Rattle.std.specs.Prelude.{slice_get, sum_by, is_none, is_some, not, ◌&&◌, ◌||◌, ◌==◌, if◌then◌else◌}
-use Rattle.std.proofs.lemmas.Bool.{eqb-true, cases_lt, or_cases, and_parts, not_from_true}
+use Rattle.std.proofs.Common.{◌≡◌, ℕ, zero, suc, ◌+◌, ◌<◌, ◌≤◌, ◌≢◌, Bool, true, false, List, [], ◌∷◌, ◌++◌, Option, Some, length, get_or, refl, sym, ap, ◌∙◌, ◌⊎◌, inl, inr, arith, count_by, eq-eqb}
+use Rattle.std.specs.Prelude.{slice_get, is_none, not, ◌&&◌, ◌||◌, ◌==◌, if◌then◌else◌}
+use Rattle.std.proofs.lemmas.Bool.{eqb-true, cases_lt, or_cases, and_parts}
 use Rattle.std.proofs.lemmas.List.{get_or-map, get_or_append_left, get_or_push, get_or_past, length_push, length-map}
 use Rattle.std.proofs.lemmas.List.Sums.{sum_by-cons}
 use Rattle.flow_core.specs.declared.plan.FramePlan.{FramePlan}
@@ -19,7 +19,6 @@ use Rattle.core_steps.specs.Counted.{one, counted_at, is_missed, lacking}
 use Rattle.core_steps.specs.IsGood.{IsGood}
 use Rattle.core_steps.proofs.Sums.{sum_by-has}
 use Rattle.core_steps.proofs.Words.{full_waits, one_is_true}
-use Rattle.core_steps.proofs.Parts.{Sits, sits_of}
 
 -- the word of a frame at opening
 pub opening_at : (plan : Plan) (f : ℕ) → f ≤ length plan.frames → word_at (opening_words plan) f ≡ opening_word (frame_at plan f)

@@ -1,10 +1,9 @@
 -- The state at opening is good.
-use Rattle.std.proofs.Common.{◌≡◌, ℕ, ◌+◌, ◌-◌, ◌<◌, ◌≤◌, ◌≢◌, ℤ, Bool, true, false, List, [], ◌∷◌, Option, Some, None, length, refl, sym, ap, ◌∙◌, subst, ◌⊎◌, inl, inr, arith, count_by}
-use Rattle.std.specs.Prelude.{slice_get, sum_by, is_none, is_some, not, ◌&&◌, ◌==◌, if◌then◌else◌}
+use Rattle.std.proofs.Common.{◌≡◌, ℕ, ◌+◌, ◌-◌, ◌<◌, ◌≤◌, ◌≢◌, ℤ, Bool, true, false, [], ◌∷◌, Option, Some, None, length, refl, sym, ap, ◌∙◌, ◌⊎◌, inl, inr, arith, count_by}
+use Rattle.std.specs.Prelude.{slice_get, is_none, not, ◌&&◌, ◌==◌, if◌then◌else◌}
 use Rattle.std.specs.Option.{option_map_or}
 use Rattle.std.proofs.lemmas.Bool.{cases_lt}
 use Rattle.std.proofs.lemmas.List.{get_or_past}
-use Rattle.std.proofs.lemmas.Option.{same_Some}
 use Rattle.flow_core.specs.declared.plan.FramePlan.{FramePlan}
 use Rattle.flow_core.specs.declared.plan.Piece.{Piece}
 use Rattle.flow_core.specs.declared.plan.Plan.{Plan}
@@ -13,16 +12,14 @@ use Rattle.flow_core.specs.Element.{element, given}
 use Rattle.flow_core.specs.Plans.{frame_at, value_at, cells_of, missing_of, piece_at, piece_source, cell_source}
 use Rattle.flow_core.specs.IsSound.{IsSound}
 use Rattle.core_steps.specs.declared.known.Known.{Known}
-use Rattle.core_steps.specs.declared.view.Run.{Run}
-use Rattle.core_steps.specs.declared.view.View.{View}
 use Rattle.core_steps.specs.declared.word.Word.{Word}
 use Rattle.core_steps.specs.declared.word.Word.TheVariants.{Wait, Open, Taken, Ended}
 use Rattle.core_steps.specs.Words.{word_at, opening_word, opening_words, amount, waits, is_taken, is_started, has_delivered}
-use Rattle.core_steps.specs.States.{fresh, opening, runs_of, times}
-use Rattle.core_steps.specs.Counted.{one, is_run_of, is_past, has_stored, counted, stored, counted_at, stored_at, is_missed, lacking}
+use Rattle.core_steps.specs.States.{fresh, opening}
+use Rattle.core_steps.specs.Counted.{one, is_past, has_stored, counted, stored, counted_at, stored_at, is_missed, lacking}
 use Rattle.core_steps.specs.Steps.{end_of}
 use Rattle.core_steps.specs.IsGood.{IsGood}
-use Rattle.core_steps.proofs.Sums.{count_by-same, option_map_or-same, each_push}
+use Rattle.core_steps.proofs.Sums.{count_by-same, each_push}
 use Rattle.core_steps.proofs.Parts.{Flows, Sits, Books, good_from}
 use Rattle.core_steps.proofs.Opening.{opening_at, opening_length, opening_amount, opening_is_some}
 use Rattle.core_steps.proofs.Splits.{fresh_sits}

@@ -1,11 +1,10 @@
 -- A good state in three parts: what flows, what each seat's view says, and what all lists and shares come to.
-use Rattle.std.proofs.Common.{◌≡◌, ℕ, zero, suc, ◌+◌, ◌-◌, ◌%◌, ◌<◌, ◌≤◌, ◌≢◌, ℤ, Bool, true, false, List, [], ◌∷◌, Option, Some, None, map, length, set, refl, sym, ap, ◌∙◌, subst, ◌⊎◌, inl, inr, arith, count_by}
+use Rattle.std.proofs.Common.{◌≡◌, ℕ, ◌+◌, ◌-◌, ◌%◌, ◌≤◌, ◌≢◌, ℤ, true, false, List, [], Option, Some, None, map, length, set, refl, sym, ap, ◌∙◌, subst, count_by}
 use Rattle.std.specs.Prelude.{slice_get, sum_by, is_some, not, ◌&&◌, option_and_then}
 use Rattle.std.specs.Option.{option_map}
 use Rattle.std.proofs.lemmas.Option.{slice_get-map, same_Some}
 use Rattle.std.proofs.lemmas.List.{map-set}
 use Rattle.flow_core.specs.declared.outcome.Outcome.{Outcome}
-use Rattle.flow_core.specs.declared.plan.Plan.{Plan}
 use Rattle.flow_core.specs.declared.task_end.TaskEnd.{TaskEnd}
 use Rattle.flow_core.specs.declared.task_end.TaskEnd.TheVariants.{Done}
 use Rattle.flow_core.specs.Outcome.{outcome_at}
@@ -17,7 +16,7 @@ use Rattle.core_steps.specs.declared.view.View.{View}
 use Rattle.core_steps.specs.declared.word.Word.{Word}
 use Rattle.core_steps.specs.declared.word.Word.TheVariants.{Wait, Ended}
 use Rattle.core_steps.specs.Words.{word_at, opening_words, amount, waits, is_open, is_taken, is_started}
-use Rattle.core_steps.specs.States.{CoreState, runs_of, times, times_in_all}
+use Rattle.core_steps.specs.States.{CoreState, runs_of, times}
 use Rattle.core_steps.specs.Counted.{one, is_run_of, counted_at, stored_at, lacking}
 use Rattle.core_steps.specs.Steps.{end_of, first_place, with_view}
 use Rattle.core_steps.specs.IsGood.{IsGood, IsView, IsLast}

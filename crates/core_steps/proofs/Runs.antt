@@ -1,7 +1,7 @@
 -- The runs of seats, and what they say of the words.
-use Rattle.std.proofs.Common.{◌≡◌, ℕ, zero, suc, ◌+◌, ◌-◌, ◌%◌, ◌<◌, ◌≤◌, ◌≢◌, ℤ, Bool, true, false, List, [], ◌∷◌, ◌++◌, Option, Some, None, map, length, set, refl, sym, ap, ◌∙◌, subst, ◌⊎◌, inl, inr, arith, count_by, eq-eqb}
+use Rattle.std.proofs.Common.{◌≡◌, ℕ, ◌<◌, ◌≤◌, ◌≢◌, true, false, Some, length, refl, sym, ap, ◌∙◌, subst, ◌⊎◌, inl, inr, arith, count_by, eq-eqb}
 use Rattle.std.specs.Prelude.{slice_get, ◌==◌, ◌&&◌, nat_lt}
-use Rattle.std.proofs.lemmas.Bool.{eqb-true, ne_eqb, cases_eq, lt-ltb, le-ltb, and_left, and_right}
+use Rattle.std.proofs.lemmas.Bool.{ne_eqb, cases_eq, lt-ltb, le-ltb, and_left, and_right}
 use Rattle.flow_core.specs.declared.plan.Piece.{Piece}
 use Rattle.flow_core.specs.declared.plan.Plan.{Plan}
 use Rattle.flow_core.specs.IsSound.{IsSound}

@@ -1,5 +1,5 @@
 -- SPLIT and JOIN keep a state good.
-use Rattle.std.proofs.Common.{◌≡◌, ℕ, zero, suc, ◌+◌, ◌-◌, ◌%◌, ◌<◌, ◌≤◌, ◌≢◌, ℤ, Bool, true, false, List, [], ◌∷◌, ◌++◌, Option, Some, None, map, length, set, refl, sym, ap, ◌∙◌, subst, ◌⊎◌, inl, inr, arith, count_by}
+use Rattle.std.proofs.Common.{◌≡◌, ℕ, ◌+◌, ◌-◌, ◌<◌, ◌≤◌, true, false, List, [], ◌∷◌, ◌++◌, Option, Some, None, set, refl, sym, ap, ◌∙◌, subst, ◌⊎◌, inl, inr, arith}
 use Rattle.std.specs.Prelude.{slice_get, sum_by}
 use Rattle.std.proofs.lemmas.Bool.{cases_lt}
 use Rattle.std.proofs.lemmas.List.{map_push}
@@ -9,11 +9,10 @@ use Rattle.core_steps.specs.declared.view.Run.{Run}
 use Rattle.core_steps.specs.declared.view.View.{View}
 use Rattle.core_steps.specs.declared.word.Word.{Word}
 use Rattle.core_steps.specs.Words.{waits, is_started, word_at}
-use Rattle.core_steps.specs.States.{CoreState, IsSeat, fresh, runs_of, times}
-use Rattle.core_steps.specs.Steps.{CanSplit, after_split, CanJoin, joined, after_join, with_view}
-use Rattle.core_steps.specs.IsGood.{IsGood, IsView}
+use Rattle.core_steps.specs.States.{CoreState, fresh, runs_of, times}
+use Rattle.core_steps.specs.Steps.{CanSplit, after_split, CanJoin, joined, after_join}
+use Rattle.core_steps.specs.IsGood.{IsGood}
 use Rattle.core_steps.proofs.Sums.{each_set, each_push, set_again, sum_by-written, at_other}
-use Rattle.core_steps.proofs.Words.{one_is_true}
 use Rattle.core_steps.proofs.Parts.{Flows, Sits, Books, flows_of, sits_of, books_of, good_from, run_at, runs-set}
 use Rattle.core_steps.proofs.Moves.{flows_pushed}
 

@@ -1,6 +1,6 @@
 -- What every step keeps.
-use Rattle.std.proofs.Common.{◌≡◌, ℕ, ◌<◌, ◌≤◌, ◌≢◌, Bool, true, false, List, Option, Some, None, length, set, refl, sym, ap, ◌∙◌, subst, ◌⊎◌, inl, inr, arith}
-use Rattle.std.specs.Prelude.{◌==◌, if◌then◌else◌}
+use Rattle.std.proofs.Common.{◌≡◌, ℕ, ◌<◌, ◌≤◌, ◌≢◌, Bool, true, false, List, length, set, refl, sym, ap, ◌∙◌, subst, ◌⊎◌, inl, inr}
+use Rattle.std.specs.Prelude.{if◌then◌else◌}
 use Rattle.std.proofs.lemmas.Bool.{cases_eq, cases_lt}
 use Rattle.std.proofs.lemmas.List.{set_past}
 use Rattle.flow_core.specs.declared.task_end.TaskEnd.{TaskEnd}
@@ -8,8 +8,8 @@ use Rattle.core_steps.specs.declared.known.Known.{Known}
 use Rattle.core_steps.specs.declared.word.Word.{Word}
 use Rattle.core_steps.specs.declared.word.Word.TheVariants.{Wait, Open, Taken, Ended}
 use Rattle.core_steps.specs.Words.{word_at, waits, is_open, is_started, lowered}
-use Rattle.core_steps.specs.States.{CoreState, opening}
-use Rattle.core_steps.specs.Steps.{Step, split, join, claim, read, store, sub, finish, look, after_claim, claimed, missed, with_view, next_look}
+use Rattle.core_steps.specs.States.{CoreState}
+use Rattle.core_steps.specs.Steps.{Step, split, join, claim, read, store, sub, finish, look, claimed, missed, with_view, next_look}
 use Rattle.core_steps.specs.IsGood.{IsGood}
 use Rattle.core_steps.specs.Laws.{IsFit}
 use Rattle.core_steps.specs.Reached.{Way, opens, goes}

@@ -1,5 +1,5 @@
 -- A STORE keeps a state good.
-use Rattle.std.proofs.Common.{◌≡◌, ℕ, ◌+◌, ◌-◌, ◌<◌, ◌≤◌, ◌≢◌, ℤ, Bool, true, false, List, Option, Some, None, length, get_or, set, refl, sym, ap, ◌∙◌, subst, ◌⊎◌, inl, inr, arith, count_by}
+use Rattle.std.proofs.Common.{◌≡◌, ℕ, ◌+◌, ◌-◌, ◌<◌, ◌≤◌, ◌≢◌, ℤ, false, List, Option, Some, None, length, get_or, set, refl, sym, ap, ◌∙◌, subst, ◌⊎◌, inl, inr, arith, count_by}
 use Rattle.std.specs.Prelude.{slice_get, is_some, pos, ◌==◌, ◌&&◌, nat_lt, option_and_then}
 use Rattle.std.specs.Option.{option_map}
 use Rattle.std.proofs.lemmas.Bool.{cases_eq, cases_lt, lt-ltb, le-ltb, ne_eqb, and_left, and_right}
@@ -8,26 +8,24 @@ use Rattle.std.proofs.lemmas.Option.{same_Some, slice_get-get_or}
 use Rattle.flow_core.specs.declared.outcome.Outcome.{Outcome}
 use Rattle.flow_core.specs.declared.plan.Piece.{Piece}
 use Rattle.flow_core.specs.declared.plan.Plan.{Plan}
-use Rattle.flow_core.specs.declared.task_end.TaskEnd.{TaskEnd}
 use Rattle.flow_core.specs.declared.task_end.TaskEnd.TheVariants.{Done}
 use Rattle.flow_core.specs.Outcome.{outcome_at}
 use Rattle.flow_core.specs.Element.{element, fed, output_at}
 use Rattle.flow_core.specs.Plans.{frame_at, value_at, cell_source, piece_at}
-use Rattle.flow_core.specs.IsSound.{IsSound, IsSoundPiece, HasCell}
+use Rattle.flow_core.specs.IsSound.{IsSound, IsSoundPiece}
 use Rattle.flow_core.proofs.Sources.{piece_at-covered, cell_source-covered}
 use Rattle.core_steps.specs.declared.known.Known.{Known}
 use Rattle.core_steps.specs.declared.view.Run.{Run}
 use Rattle.core_steps.specs.declared.view.View.{View}
-use Rattle.core_steps.specs.declared.word.Word.{Word}
 use Rattle.core_steps.specs.Words.{word_at, has_delivered}
 use Rattle.core_steps.specs.States.{CoreState, runs_of, times}
 use Rattle.core_steps.specs.Counted.{one, is_run_of, is_past, has_stored, counted_at, stored_at}
-use Rattle.core_steps.specs.Steps.{end_of, first_place, StandsAt, IsPastLast, CanStore, after_store}
+use Rattle.core_steps.specs.Steps.{end_of, StandsAt, CanStore, after_store}
 use Rattle.core_steps.specs.IsGood.{IsGood, IsPlace}
 use Rattle.core_steps.specs.Laws.{IsFit}
 use Rattle.core_steps.proofs.Sums.{each_set, sum_by-kept, count_by-kept}
-use Rattle.core_steps.proofs.Counts.{CountsAlike, counted_at-alike, lacking-alike, counted_at-is, stored_at-is, stored_at-none, stored-is, piece_is, piece_of_frame, piece_cells}
-use Rattle.core_steps.proofs.Parts.{Flows, Sits, Books, flows_of, sits_of, books_of, good_from, runs-set}
+use Rattle.core_steps.proofs.Counts.{CountsAlike, counted_at-alike, lacking-alike, counted_at-is, stored_at-is, stored_at-none, stored-is, piece_is, piece_of_frame}
+use Rattle.core_steps.proofs.Parts.{Flows, Sits, Books, sits_of, books_of, good_from, runs-set}
 use Rattle.core_steps.proofs.Runs.{run_there}
 use Rattle.core_steps.proofs.Cells.{not_counted, stored_next, next_is_empty}
 
@@ -139,7 +137,7 @@ store_keeps known s i v r p fit g can = good_from known (after_store known s i v
         by (Some q) e =
             let (p', at_q, low, high) = piece_is known.plan c q e in
             let same : count_by (has_stored p'.from q (c - p'.at)) runs' ≡ count_by (has_stored p'.from q (c - p'.at)) (runs_of s) =
-                count_by-kept (has_stored p'.from q (c - p'.at)) (runs_of s) i (Some r) (Some next) there (stores_more r p'.from q (c - p'.at) (λ is_q is_next. n (let z : p'.at ≡ p.at = ap (λ (p : Piece). p.at) (same_Some p' p (sym at_q ∙ ap (slice_get known.plan.pieces) (sym is_q) ∙ number)) in omega (arith, z, is_next, low)))) in
+            count_by-kept (has_stored p'.from q (c - p'.at)) (runs_of s) i (Some r) (Some next) there (stores_more r p'.from q (c - p'.at) (λ is_q is_next. n (let z : p'.at ≡ p.at = ap (λ (p : Piece). p.at) (same_Some p' p (sym at_q ∙ ap (slice_get known.plan.pieces) (sym is_q) ∙ number)) in omega (arith, z, is_next, low)))) in
             stored_at-is known.plan runs' c q e ∙ stored-is known.plan runs' c q p' at_q ∙ same ∙ sym (stored_at-is known.plan (runs_of s) c q e ∙ stored-is known.plan (runs_of s) c q p' at_q)
 
     w_good_runs : (c : ℕ) → counted_at known.plan s.words runs' c ≡ counted_at known.plan s.words (runs_of s) c

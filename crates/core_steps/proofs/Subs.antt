@@ -1,16 +1,13 @@
 -- A SUB finds at least its count, and keeps a state good.
-use Rattle.std.proofs.Common.{◌≡◌, ℕ, ◌+◌, ◌-◌, ◌%◌, ◌<◌, ◌≤◌, ◌≢◌, ℤ, Bool, true, false, List, [], ◌∷◌, ◌++◌, Option, Some, None, length, set, refl, sym, ap, ◌∙◌, subst, ◌⊎◌, inl, inr, arith, count_by, eq-eqb}
-use Rattle.std.specs.Prelude.{slice_get, sum_by, is_none, is_some, not, ◌==◌, ◌&&◌, nat_lt, nat_le, if◌then◌else◌}
-use Rattle.std.proofs.lemmas.Bool.{cases_eq, cases_lt, eqb-true, lt-ltb, le-ltb, ne_eqb, and_left, and_right, and_from}
-use Rattle.std.proofs.lemmas.Bool.Decides.{nat_tests}
+use Rattle.std.proofs.Common.{◌≡◌, ℕ, ◌+◌, ◌-◌, ◌%◌, ◌<◌, ◌≤◌, ◌≢◌, Bool, true, false, List, [], ◌∷◌, ◌++◌, Option, Some, None, length, set, refl, sym, ap, ◌∙◌, subst, ◌⊎◌, inl, inr, arith, count_by, eq-eqb}
+use Rattle.std.specs.Prelude.{slice_get, is_none, not, ◌==◌, ◌&&◌, nat_lt, if◌then◌else◌}
+use Rattle.std.proofs.lemmas.Bool.{cases_eq, cases_lt, lt-ltb, le-ltb, ne_eqb, and_left, and_right}
 use Rattle.std.proofs.lemmas.List.{length-set}
 use Rattle.std.proofs.lemmas.Option.{same_Some}
 use Rattle.flow_core.specs.declared.plan.Piece.{Piece}
-use Rattle.flow_core.specs.declared.plan.Plan.{Plan}
 use Rattle.flow_core.specs.declared.task_end.TaskEnd.{TaskEnd}
-use Rattle.flow_core.specs.declared.task_end.TaskEnd.TheVariants.{Done}
 use Rattle.flow_core.specs.Plans.{frame_at, value_at, piece_at}
-use Rattle.flow_core.specs.IsSound.{IsSound, IsSoundPiece, HasCell}
+use Rattle.flow_core.specs.IsSound.{IsSound, IsSoundPiece}
 use Rattle.flow_core.proofs.Counting.{passing-same, passing-lowered}
 use Rattle.flow_core.proofs.Sources.{piece_at-covered}
 use Rattle.core_steps.specs.declared.known.Known.{Known}
@@ -18,15 +15,15 @@ use Rattle.core_steps.specs.declared.view.Run.{Run}
 use Rattle.core_steps.specs.declared.view.View.{View}
 use Rattle.core_steps.specs.declared.word.Word.{Word}
 use Rattle.core_steps.specs.declared.word.Word.TheVariants.{Wait, Ended}
-use Rattle.core_steps.specs.Words.{word_at, opening_word, opening_words, amount, waits, is_open, is_taken, is_started, has_delivered, waits_for, lowered}
+use Rattle.core_steps.specs.Words.{word_at, opening_words, amount, waits, is_open, is_taken, is_started, has_delivered, waits_for, lowered}
 use Rattle.core_steps.specs.States.{CoreState, fresh, runs_of, times}
 use Rattle.core_steps.specs.Counted.{one, is_run_of, is_past, has_stored, counted, stored, counted_at, stored_at, is_missed, lacking}
-use Rattle.core_steps.specs.Steps.{end_of, first_place, StandsAt, CanSub, subtracted, after_sub}
+use Rattle.core_steps.specs.Steps.{end_of, CanSub, subtracted, after_sub}
 use Rattle.core_steps.specs.IsGood.{IsGood, IsPlace, IsLast}
 use Rattle.core_steps.proofs.Sums.{each_set, sum_by-written, sum_by-kept, sum_by-has, count_by-written, count_by-kept, at_other, option_map_or-same}
-use Rattle.core_steps.proofs.Words.{word_at-set, word_at-set_same, word_at-set_other, word_at-kept, wait_is}
-use Rattle.core_steps.proofs.Counts.{counted-is, counted_at-is, counted_at-none, stored_at-is, stored_at-none, stored-is, piece_is, piece_of_frame, piece_cells}
-use Rattle.core_steps.proofs.Parts.{Flows, Sits, Books, flows_of, sits_of, books_of, good_from, runs-set}
+use Rattle.core_steps.proofs.Words.{word_at-set, word_at-kept, wait_is}
+use Rattle.core_steps.proofs.Counts.{counted-is, counted_at-is, stored_at-is, stored-is, piece_is, piece_of_frame, piece_cells}
+use Rattle.core_steps.proofs.Parts.{Flows, Sits, Books, sits_of, books_of, good_from, runs-set}
 use Rattle.core_steps.proofs.Moves.{set_waits_for_some}
 use Rattle.core_steps.proofs.Opening.{opening_at, opening_amount, lacking_at_most}
 use Rattle.core_steps.proofs.Looks.{times_push}
@@ -133,7 +130,7 @@ module _ (known : Known) (s : CoreState) (i : ℕ) (v : View) (r : Run) (p : Pie
   stored_at_else : (c : ℕ) → piece_at known.plan c ≢ Some r.piece → stored_at known.plan runs' c ≡ stored_at known.plan (runs_of s) c
   stored_at_else c n = option_map_or-same (stored known.plan runs' c) (stored known.plan (runs_of s) c) (piece_at known.plan c) 0
       (λ q h. option_map_or-same (λ (p : Piece). count_by (has_stored p.from q (c - p.at)) runs') (λ (p : Piece). count_by (has_stored p.from q (c - p.at)) (runs_of s)) (slice_get known.plan.pieces q) 0
-          (λ p' at. count_by-kept (has_stored p'.from q (c - p'.at)) (runs_of s) i (Some r) (Some next) there (has_stored-none next p'.from q (c - p'.at) refl ∙ sym (stored_other r p'.from q (c - p'.at) (λ e. n (h ∙ ap Some (sym e)))))))
+      (λ p' at. count_by-kept (has_stored p'.from q (c - p'.at)) (runs_of s) i (Some r) (Some next) there (has_stored-none next p'.from q (c - p'.at) refl ∙ sym (stored_other r p'.from q (c - p'.at) (λ e. n (h ∙ ap Some (sym e)))))))
 
   -- so a cell is filled as before
   carried : (c : ℕ) → counted_at known.plan words' runs' c + stored_at known.plan runs' c ≡ counted_at known.plan s.words (runs_of s) c + stored_at known.plan (runs_of s) c

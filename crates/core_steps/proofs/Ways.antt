@@ -1,21 +1,18 @@
 -- What holds along a way from opening: each cell is stored into once at most, and the frames that were
 -- claimed ran in an order in which each was enabled.
-use Rattle.std.proofs.Common.{◌≡◌, ℕ, zero, suc, ◌+◌, ◌-◌, ◌<◌, ◌≤◌, ◌≢◌, ℤ, Bool, true, false, List, [], ◌∷◌, Option, Some, None, map, length, replicate, set, refl, sym, ap, ◌∙◌, subst, ◌⊎◌, inl, inr, arith, count_by, eq-eqb}
-use Rattle.std.specs.Prelude.{slice_get, is_none, is_some, ◌==◌, ◌&&◌, nat_lt, option_and_then, if◌then◌else◌}
+use Rattle.std.proofs.Common.{◌≡◌, ℕ, ◌+◌, ◌<◌, ◌≤◌, ◌≢◌, ℤ, Bool, true, false, List, Option, Some, None, length, replicate, set, refl, sym, ap, ◌∙◌, subst, ◌⊎◌, inl, inr, arith, count_by, eq-eqb}
+use Rattle.std.specs.Prelude.{slice_get, is_none, is_some, ◌==◌, nat_lt, option_and_then, if◌then◌else◌}
 use Rattle.std.specs.Option.{option_map}
-use Rattle.std.specs.List.{range_with_len}
 use Rattle.std.proofs.lemmas.Bool.{cases_eq, cases_lt, ne_eqb, and_parts}
 use Rattle.std.proofs.lemmas.List.{set_past, get_or-set_same, get_or-set_other, get_or_default, get_or-replicate, length-set, length-replicate, same_lists}
 use Rattle.std.proofs.lemmas.List.FromFn.{get_or-map-range_with_len, length-map-range_with_len}
 use Rattle.flow_core.specs.declared.outcome.Outcome.{Outcome}
 use Rattle.flow_core.specs.declared.plan.Piece.{Piece}
-use Rattle.flow_core.specs.declared.plan.Plan.{Plan}
-use Rattle.flow_core.specs.declared.task_end.TaskEnd.{TaskEnd}
 use Rattle.flow_core.specs.Outcome.{State, outcome_at}
 use Rattle.flow_core.specs.Element.{Source, given, fed, nobody, element, output_at}
 use Rattle.flow_core.specs.Plans.{frame_at, value_at, cell_source, cells_of, plan_reads, plan_meaning}
 use Rattle.flow_core.specs.Round.{gathered, inputs_in}
-use Rattle.flow_core.specs.IsSound.{IsSound, HasCell}
+use Rattle.flow_core.specs.IsSound.{HasCell}
 use Rattle.flow_core.specs.Laws.{Reached, start, fire}
 use Rattle.flow_core.proofs.Counting.{passing-none}
 use Rattle.flow_core.proofs.Gathering.{all_gathered, gathered-weaker}
@@ -28,15 +25,14 @@ use Rattle.core_steps.specs.declared.view.Run.{Run}
 use Rattle.core_steps.specs.declared.view.View.{View}
 use Rattle.core_steps.specs.declared.word.Word.{Word}
 use Rattle.core_steps.specs.declared.word.Word.TheVariants.{Wait, Open, Taken, Ended}
-use Rattle.core_steps.specs.Words.{word_at, opening_words, amount, is_open, is_taken, is_started, has_delivered, lowered}
+use Rattle.core_steps.specs.Words.{word_at, amount, is_open, is_taken, is_started, has_delivered, lowered}
 use Rattle.core_steps.specs.States.{CoreState, runs_of, opening}
-use Rattle.core_steps.specs.Counted.{one, is_run_of, is_past, counted, counted_at, stored_at}
-use Rattle.core_steps.specs.Steps.{Step, split, join, claim, read, store, sub, finish, look, CanClaim, CanStore, CanFinish, after_split, after_join, after_claim, after_store, after_sub, after_finish, after_look, claimed, missed, with_view, next_look}
+use Rattle.core_steps.specs.Counted.{one, is_run_of, is_past, counted, counted_at}
+use Rattle.core_steps.specs.Steps.{Step, split, join, claim, read, store, sub, finish, look, CanStore, after_split, after_join, after_store, after_sub, after_finish, after_look, claimed, missed, with_view}
 use Rattle.core_steps.specs.IsGood.{IsGood}
 use Rattle.core_steps.specs.Laws.{IsFit, IsMeant, IsInOrder}
 use Rattle.core_steps.specs.Reached.{Way, opens, goes, stores_into, stores, claimed_outcomes}
-use Rattle.core_steps.proofs.Sums.{count_by-has}
-use Rattle.core_steps.proofs.Words.{open_is, word_at-set, word_at-set_other, word_at-kept, one_is_true, taken_started}
+use Rattle.core_steps.proofs.Words.{open_is, word_at-set, word_at-kept}
 use Rattle.core_steps.proofs.Opening.{count_by-fewer}
 use Rattle.core_steps.proofs.Opens.{opening_not_started}
 use Rattle.core_steps.proofs.Counts.{counted-is, counted_at-is}
@@ -167,7 +163,7 @@ module _ (known : Known) (outcome : ℕ → List ℤ → Outcome) (s : CoreState
   inputs_there : (vs : List ℤ) × (inputs_in (plan_reads known.plan) (claimed_outcomes known s) f ≡ Some vs)
   inputs_there =
       let (vs, h) = all_gathered (λ c. element (claimed_outcomes known s) (cell_source known.plan c)) (cells_of known.plan f)
-          (passing-none (λ c. is_none (element (claimed_outcomes known s) (cell_source known.plan c))) first many (λ c low high. let (x, _, there) = value_of c (low, high) in ap is_none (claimed_element c x (low, high) there))) in
+      (passing-none (λ c. is_none (element (claimed_outcomes known s) (cell_source known.plan c))) first many (λ c low high. let (x, _, there) = value_of c (low, high) in ap is_none (claimed_element c x (low, high) there))) in
       (vs, ap gathered (map_map (cell_source known.plan) (element (claimed_outcomes known s)) (cells_of known.plan f)) ∙ h)
 
   -- what is there of the claimed frames is the meaning's

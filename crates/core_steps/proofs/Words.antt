@@ -1,11 +1,10 @@
 -- What a word says, and the words after one was written.
-use Rattle.std.proofs.Common.{◌≡◌, ℕ, zero, suc, ◌+◌, ◌<◌, ◌≤◌, ◌≢◌, Bool, true, false, List, Option, Some, None, length, set, refl, sym, ap, ◌∙◌, subst, ◌⊎◌, inl, inr, arith}
+use Rattle.std.proofs.Common.{◌≡◌, ℕ, ◌<◌, ◌≤◌, ◌≢◌, Bool, true, false, List, length, set, refl, sym, ap, ◌∙◌, ◌⊎◌, inl, inr, arith}
 use Rattle.std.proofs.lemmas.Bool.{cases_eq}
 use Rattle.std.proofs.lemmas.List.{get_or-set_same, get_or-set_other}
-use Rattle.flow_core.specs.declared.task_end.TaskEnd.{TaskEnd}
 use Rattle.core_steps.specs.declared.word.Word.{Word}
 use Rattle.core_steps.specs.declared.word.Word.TheVariants.{Wait, Open, Taken, Ended}
-use Rattle.core_steps.specs.Words.{word_at, amount, waits, is_open, is_taken, is_started, has_delivered}
+use Rattle.core_steps.specs.Words.{word_at, amount, waits, is_open, is_taken, is_started}
 use Rattle.core_steps.specs.Counted.{one}
 
 -- the words after one was written

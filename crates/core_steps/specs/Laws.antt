@@ -1,5 +1,5 @@
 -- The laws of the core, as statements.
-use Rattle.std.specs.Prelude.{◌≡◌, ℕ, ℤ, ◌+◌, ◌<◌, ◌≤◌, true, false, List, Option, Some, None, is_some, length, slice_get}
+use Rattle.std.specs.Prelude.{◌≡◌, ℕ, ℤ, ◌+◌, ◌<◌, ◌≤◌, true, false, List, Some, None, is_some, length, slice_get}
 use Rattle.flow_core.specs.declared.outcome.Outcome.{Outcome}
 use Rattle.flow_core.specs.declared.plan.Piece.{Piece}
 use Rattle.flow_core.specs.declared.plan.Plan.{Plan}
@@ -16,7 +16,7 @@ use Rattle.core_steps.specs.declared.view.Run.{Run}
 use Rattle.core_steps.specs.declared.view.View.{View}
 use Rattle.core_steps.specs.declared.word.Word.TheVariants.{Wait}
 use Rattle.core_steps.specs.Words.{word_at, opening_words, waits, is_open, is_started, end_in}
-use Rattle.core_steps.specs.States.{CoreState, IsSeat, opening, runs_of, times, times_in_all, knows}
+use Rattle.core_steps.specs.States.{CoreState, IsSeat, opening, runs_of, times_in_all, knows}
 use Rattle.core_steps.specs.Steps.{end_of, CanSplit, after_split, CanJoin, after_join, CanClaim, after_claim, CanRead, CanStore, after_store, CanSub, after_sub, CanFinish, after_finish, CanLook, after_look, Step}
 use Rattle.core_steps.specs.Counted.{one, counted_at}
 use Rattle.core_steps.specs.IsGood.{IsGood, IsLast}

@@ -1,6 +1,5 @@
 -- States of the concurrent core.
 use Rattle.std.specs.Prelude.{◌≡◌, ℕ, ℤ, ◌==◌, ◌≤◌, Bool, not, ◌||◌, List, [], ◌∷◌, Option, Some, None, map, count_by, sum_by, slice_get}
-use Rattle.flow_core.specs.declared.plan.Plan.{Plan}
 use Rattle.core_steps.specs.declared.known.Known.{Known}
 use Rattle.core_steps.specs.declared.view.Run.{Run}
 use Rattle.core_steps.specs.declared.view.View.{View}

@@ -1,8 +1,33 @@
 //! Laws of the core, for the proofs of runtimes. Each is a call that does nothing and ensures its law.
+//! They hold of every sound plan and every meaning of it, of every good state, and of every seat.
 
-ghost use Rattle.core_steps.specs.Laws.{MeaningsAreFit, OpensGood, SplitKeepsGood, JoinKeepsGood, ClaimKeepsGood, FinishKeepsGood, LookKeepsGood, ReadsTheMeaning, ClaimFindsItsCells, RunsAtMostOnce, IsMadeOnce, KnownWaitsNoMore};
+ghost use Rattle.core_steps.specs.Laws.{
+  MeaningsAreFit,
+  OpensGood,
+  SplitKeepsGood,
+  JoinKeepsGood,
+  ClaimKeepsGood,
+  StoreKeepsGood,
+  SubKeepsGood,
+  FinishKeepsGood,
+  LookKeepsGood,
+  StepsKeepGood,
+  ReachedIsGood,
+  ReadsTheMeaning,
+  StoresIntoEmpty,
+  SubFindsItsCount,
+  ClaimFindsItsCells,
+  RunsAtMostOnce,
+  IsMadeOnce,
+  IsStoredOnce,
+  StartedStays,
+  WaitsNoMore,
+  KnownWaitsNoMore,
+  RunsAreConfluent,
+  LeavesNothing,
+};
 
-/// A sound plan with its meaning is fit for all the laws.
+/// A sound plan with its meaning under bodies that fill their outputs is fit for all the laws.
 pub fn meanings_are_fit()
     ensures { MeaningsAreFit }
 {}
@@ -23,33 +48,70 @@ pub fn claim_keeps_good()
     ensures { ClaimKeepsGood }
 {}
 
+/// A STORE keeps a state good, and so does a SUB.
+pub fn delivery_keeps_good()
+    ensures store { StoreKeepsGood }
+    ensures sub { SubKeepsGood }
+{}
+
 /// A FINISH keeps a state good.
 pub fn finish_keeps_good()
     ensures { FinishKeepsGood }
 {}
 
-/// A LOOK keeps a state good.
+/// A LOOK keeps a state good, whether it finds its frame Open or not.
 pub fn look_keeps_good()
     ensures { LookKeepsGood }
 {}
 
-/// A READ changes nothing and gives the meaning's element.
-pub fn reads_the_meaning()
+/// Every step keeps a state good, so every state that steps reach from opening is good.
+pub fn steps_keep_good()
+    ensures step { StepsKeepGood }
+    ensures reached { ReachedIsGood }
+{}
+
+/// A READ gives the meaning's element.
+pub fn read_gives_the_meaning()
     ensures { ReadsTheMeaning }
 {}
 
-/// Each frame runs once at most, and one that waited is made once.
-pub fn each_frame_once()
-    ensures runs { RunsAtMostOnce }
-    ensures made { IsMadeOnce }
+/// A STORE finds its cell empty.
+pub fn store_finds_empty()
+    ensures { StoresIntoEmpty }
 {}
 
-/// Where a CLAIM succeeds every cell of the frame has its element.
+/// A SUB finds a frame that waits for at least as many elements as come.
+pub fn sub_finds_its_count()
+    ensures { SubFindsItsCount }
+{}
+
+/// A CLAIM that succeeds finds every cell of its frame filled, and on every way from opening a cell is
+/// stored into once at most.
 pub fn claim_finds_its_cells()
-    ensures { ClaimFindsItsCells }
+    ensures cells { ClaimFindsItsCells }
+    ensures stored { IsStoredOnce }
 {}
 
-/// A frame that a seat knows waits no more.
-pub fn known_waits_no_more()
-    ensures { KnownWaitsNoMore }
+/// Each frame runs at most once, and is never Open again once it was claimed.
+pub fn runs_at_most_once()
+    ensures once { RunsAtMostOnce }
+    ensures stays { StartedStays }
+{}
+
+/// A frame that waited is made once. It never waits again, and a frame that a seat knows doesn't wait.
+pub fn made_once()
+    ensures once { IsMadeOnce }
+    ensures stays { WaitsNoMore }
+    ensures known { KnownWaitsNoMore }
+{}
+
+/// Whatever the order of the steps, the frames ran in an order in which each was enabled, so what they
+/// gave is the meaning's.
+pub fn confluence()
+    ensures { RunsAreConfluent }
+{}
+
+/// Where the last seat runs nothing and has looked as often as there are frames, nothing is left out.
+pub fn nothing_left()
+    ensures { LeavesNothing }
 {}
