@@ -25,6 +25,8 @@ pub record Scope : Type 0 where
   pub depth : ℕ
   pub owner : Owner
   pub loop : Bool
+  -- where it is a task's body, the slots in `main` of the scalars that the task captures
+  pub captured : List ℕ
   -- slots and elements of local arrays, of this function, task or main
   pub slots : ℕ
   pub elements : ℕ
@@ -35,7 +37,7 @@ pub record Scope : Type 0 where
 
 -- A body begins: a function's or a task's, with slots and elements of its own and in no loop.
 abbrev pub in_unit : Owner → Scope → Scope
-in_unit o s = record s { owner = o; loop = false; slots = 0; elements = 0 }
+in_unit o s = record s { owner = o; loop = false; captured = []; slots = 0; elements = 0 }
 
 -- The innermost declaration counts.
 abbrev pub lookup : List Entry → ℕ → Option Entry
@@ -69,7 +71,8 @@ leave outer inner = record inner { entries = outer.entries; depth = outer.depth;
 
 -- Behind the body of a function or a task all is as round it, but what the body took of the program stays taken.
 abbrev pub after_unit : Scope → Scope → Scope
-after_unit outer inner = record (leave outer inner) { owner = outer.owner; slots = outer.slots; elements = outer.elements }
+after_unit outer inner =
+    record (leave outer inner) { owner = outer.owner; captured = outer.captured; slots = outer.slots; elements = outer.elements }
 
 -- inside a loop
 abbrev pub in_loop : Scope → Scope
