@@ -15,6 +15,7 @@ pub mod Operators
 pub mod Parts
 pub mod Rules
 pub mod Spelling
+pub mod Stacked
 pub mod Trees
 pub mod Views
 pub mod Violations

@@ -1,11 +1,10 @@
 -- The rules, one after another by their codes, over what stands at a token. A token violates a rule where its test is
 -- true; the last rule, 23, is one for the whole program and stands with the violations.
-use Rattle.std.specs.Prelude.{ℕ, ◌<◌, ◌==◌, ◌&&◌, ◌||◌, Bool, true, false, not, ltb, List, [], ◌∷◌, ◌++◌, length, Option, Some, None, is_none, is_some}
+use Rattle.std.specs.Prelude.{ℕ, ◌==◌, ◌&&◌, ◌||◌, Bool, true, false, not, ltb, List, [], ◌∷◌, ◌++◌, length, Option, Some, None, is_none}
 use Rattle.os_ast.specs.Limits.{elements_limit, arrays_limit, streams_limit, items_limit, captured_limit}
 use Rattle.os_ast.specs.Names.{Scope, lookup, entity_of, is_declared, main_id}
 use Rattle.os_ast.specs.Notes.Declarators.{form, taken}
-use Rattle.os_ast.specs.Notes.Kinds.{Note, Used, Sized, Declared, Given, Global, Left, Returned, Pragma, Task, Listed}
-use Rattle.os_ast.specs.Parts.{is_in}
+use Rattle.os_ast.specs.Notes.Kinds.{Note, Used, Declared, Given, Global, Left, Returned, Pragma, Task, Listed}
 use Rattle.os_ast.specs.declared.names.Direction.TheVariants as direction
 use Rattle.os_ast.specs.declared.names.Entity.{Entity}
 use Rattle.os_ast.specs.declared.names.Entity.TheVariants as entity
@@ -193,12 +192,16 @@ is_wrong_end id u e = false
 
 -- 21: a name stands a second time in the clauses of a task
 abbrev pub is_listed_twice : Note → Bool
-is_listed_twice (Listed before n) = is_in n.id before
+is_listed_twice (Listed again n) = again
 is_listed_twice _ = false
 
--- 22: a task has more than 8 items, or captures more than 64 scalars
+-- more than 8 items, or more than 64 captured scalars
+abbrev pub takes_more : ℕ → ℕ → Bool
+takes_more items scalars = ltb items_limit items || ltb captured_limit scalars
+
+-- 22: a task has too many items, or captures too many scalars
 abbrev pub takes_too_much : Note → Bool
-takes_too_much (Task s m items slots) = ltb items_limit items || ltb captured_limit (length slots)
+takes_too_much (Task s m items slots) = takes_more items (length slots)
 takes_too_much _ = false
 
 -- 24: a window is named outside an item's window

@@ -1,5 +1,5 @@
 -- What clauses list is what is said of them: the names, the items and the captured scalars.
-use Rattle.std.proofs.Common.{◌≡◌, ℕ, ◌+◌, Bool, true, false, List, [], ◌∷◌, ◌++◌, length, Option, Some, None, Ordering, refl, ap, ◌∙◌, add-one, append_assoc, length-append, arith, eq-eqb, inl, inr}
+use Rattle.std.proofs.Common.{◌≡◌, ℕ, ◌+◌, Bool, true, false, List, [], ◌∷◌, ◌++◌, length, Option, Some, None, Ordering, refl, ap, sym, ◌∙◌, add-one, append_assoc, length-append, arith, eq-eqb, inl, inr}
 use Rattle.std.specs.Prelude.{◌==◌, ◌||◌, is_some}
 use Rattle.std.specs.declared.cmp.Ordering.TheVariants.{Less, Equal, Greater}
 use Rattle.std.specs.BTreeMap.{is_at}
@@ -9,13 +9,18 @@ use Rattle.std.specs.Ordering.{nat_cmp, match_ordering, is_eq}
 use Rattle.std.proofs.lemmas.Bool.{cases_order, lt-ltb, le-ltb, ne_eqb}
 use Rattle.std.proofs.lemmas.Map.Lookups.{exact_unsigned}
 use Rattle.os_ast.specs.Names.{Scope, lookup, entity_of, declare}
-use Rattle.os_ast.specs.Notes.Clauses.{Part, Item, Private, part_name, part_notes, parts_notes, window_notes, is_in, again, count_items, privates, with_items, target_name, item_name, named_entity}
-use Rattle.os_ast.specs.Uses.{when}
+use Rattle.os_ast.specs.Notes.Clauses.{part_notes, parts_notes, window_notes, shape_of, with_items, named_entity}
+use Rattle.os_ast.specs.Notes.Expressions.{place_notes, index_notes}
+use Rattle.os_ast.specs.Notes.Kinds.{Note, Used, Listed}
+use Rattle.os_ast.specs.Parts.{Part, Item, Private, part_name, is_in, count_items, target_name, item_name, private_ids}
 use Rattle.os_ast.specs.Trees as tree
-use Rattle.os_ast.specs.declared.expr.Name.{Name}
 use Rattle.os_ast.specs.declared.names.Direction.{Direction}
 use Rattle.os_ast.specs.declared.names.Entity.{Entity}
 use Rattle.os_ast.specs.declared.names.Entity.TheVariants as entity
+use Rattle.os_ast.specs.declared.names.Role.TheVariants as role
+use Rattle.os_ast.specs.declared.names.Use.TheVariants as usage
+use Rattle.os_ast.specs.declared.names.Entry.{Entry}
+use Rattle.window_check.specs.Slots.{with_slot, with_slots, control_slots}
 use Rattle.window_check.specs.declared.parts.ItemName.{ItemName}
 use Rattle.window_check.specs.Parts.{ListedParts, none_listed, inside, after_part, after_parts, listed_notes, after_names}
 
@@ -58,17 +63,16 @@ pub list_any-is_in : (id : ℕ) (names : List ℕ) → list_any (is_at (nat_cmp 
 list_any-is_in id [] = refl
 list_any-is_in id (x ∷ xs) = rw (equal-is id x, list_any-is_in id xs)
 
-again-same : (names before : List ℕ) → SameNames names before → (n : Name) → again names n ≡ again before n
-again-same names before same n = ap (λ (b : Bool). when b 21) (same n.id)
-
 window_notes-same : (s : Scope) (names before : List ℕ) → SameNames names before → (t : tree.TargetTree) (j : Option tree.JoinTree) →
     window_notes s names t j ≡ window_notes s before t j
-window_notes-same s names before same t None = rw (again-same names before same (target_name t))
-window_notes-same s names before same t (Some j) = rw (again-same names before same j.name)
+window_notes-same s names before same t None = ap (λ (b : Bool). Listed b (target_name t) ∷ []) (same (target_name t).id)
+window_notes-same s names before same t (Some j) =
+    ap (λ (b : Bool). Listed b j.name ∷ Used s j.name (usage.Joined (shape_of j.burst)) ∷ index_notes s j.burst) (same j.name.id)
 
 part_notes-same : (s : Scope) (names before : List ℕ) → SameNames names before → (p : Part) → part_notes s names p ≡ part_notes s before p
-part_notes-same s names before same (Item d i) = rw (window_notes-same s names before same i.stream i.window)
-part_notes-same s names before same (Private n) = rw (again-same names before same n)
+part_notes-same s names before same (Item d i) =
+    ap (λ (ns : List Note). place_notes s (role.Flow d) i.stream ++ ns) (window_notes-same s names before same i.stream i.window)
+part_notes-same s names before same (Private n) = ap (λ (b : Bool). Listed b n ∷ Used s n usage.Private ∷ []) (same n.id)
 
 same-more : (s : Scope) (l : ListedParts) (before : List ℕ) (p : Part) → SameNames l.names before → SameNames (after_part s l p).names ((part_name p).id ∷ before)
 same-more s l before (Item d i) same id = rw (is_in-insert_key id (item_name i.stream i.window).id l.names, same id)
@@ -131,13 +135,24 @@ items-from s inner l (Private n ∷ ps) = items-from s inner (after_part s l (Pr
 pub items-all : (s inner : Scope) (ps : List Part) → after_names inner (after_parts s none_listed ps).items ≡ with_items s inner 0 ps
 items-all s inner ps = items-from s inner none_listed ps
 
-slots-from : (s : Scope) (l : ListedParts) (ps : List Part) → (after_parts s l ps).slots ≡ privates s l.slots ps
+-- the slots of the scalars that names mean
+abbrev pub slots_named : List Entry → List ℕ → List ℕ
+slots_named es [] = []
+slots_named es (id ∷ ids) = control_slots (entity_of (lookup es id)) ++ slots_named es ids
+
+pub with_slots-append : (xs ys slots : List ℕ) → with_slots (xs ++ ys) slots ≡ with_slots ys (with_slots xs slots)
+with_slots-append [] ys slots = refl
+with_slots-append (x ∷ xs) ys slots = with_slots-append xs ys (with_slot x slots)
+
+slots-from : (s : Scope) (l : ListedParts) (ps : List Part) → (after_parts s l ps).slots ≡ with_slots (slots_named s.entries (private_ids ps)) l.slots
 slots-from s l [] = refl
 slots-from s l (Item d i ∷ ps) = slots-from s (after_part s l (Item d i)) ps
-slots-from s l (Private n ∷ ps) = slots-from s (after_part s l (Private n)) ps
+slots-from s l (Private n ∷ ps) =
+    slots-from s (after_part s l (Private n)) ps
+    ∙ sym (with_slots-append (control_slots (entity_of (lookup s.entries n.id))) (slots_named s.entries (private_ids ps)) l.slots)
 
 -- the captured scalars that `firstprivate` gave
-pub slots-all : (s : Scope) (ps : List Part) → (after_parts s none_listed ps).slots ≡ privates s [] ps
+pub slots-all : (s : Scope) (ps : List Part) → (after_parts s none_listed ps).slots ≡ with_slots (slots_named s.entries (private_ids ps)) []
 slots-all s ps = slots-from s none_listed ps
 
 count-from : (s : Scope) (l : ListedParts) (ps : List Part) → length (after_parts s l ps).items ≡ length l.items + count_items ps
@@ -159,6 +174,6 @@ pub listed_notes-append : (s : Scope) (l : ListedParts) (ps qs : List Part) →
 listed_notes-append s l [] qs = refl
 listed_notes-append s l (p ∷ ps) qs = rw (listed_notes-append s (after_part s l p) ps qs, append_assoc)
 
-pub ruleset listing = (listed_notes-all, items-all, slots-all, count-all)
+pub ruleset listing = (listed_notes-all)
 
 pub ruleset joined_parts = (after_parts-append, listed_notes-append)

@@ -4,7 +4,7 @@ use Rattle.os_ast.specs.Captured.{captured_slots}
 use Rattle.os_ast.specs.Names.{Scope, lookup, entity_of, declare, enter, in_unit}
 use Rattle.os_ast.specs.Notes.Expressions.{place_notes, index_notes}
 use Rattle.os_ast.specs.Notes.Kinds.{Note, Used, Task, Listed}
-use Rattle.os_ast.specs.Parts.{Part, Item, Private, target_name, item_name, part_name, count_items}
+use Rattle.os_ast.specs.Parts.{Part, Item, Private, target_name, item_name, part_name, count_items, is_in}
 use Rattle.os_ast.specs.Trees as tree
 use Rattle.os_ast.specs.declared.expr.Mark.{Mark}
 use Rattle.os_ast.specs.declared.names.Owner.{Owner}
@@ -23,14 +23,14 @@ shape_of (Some i) = shape.Indexed
 
 -- what stands behind the stream of an item
 abbrev pub window_notes : Scope → List ℕ → tree.TargetTree → Option tree.JoinTree → List Note
-window_notes s before stream None = Listed before (target_name stream) ∷ []
+window_notes s before stream None = Listed (is_in (target_name stream).id before) (target_name stream) ∷ []
 window_notes s before stream (Some j) =
-    Listed before j.name ∷ Used s j.name (usage.Joined (shape_of j.burst)) ∷ index_notes s j.burst
+    Listed (is_in j.name.id before) j.name ∷ Used s j.name (usage.Joined (shape_of j.burst)) ∷ index_notes s j.burst
 
 -- a part, behind parts of these names
 abbrev pub part_notes : Scope → List ℕ → Part → List Note
 part_notes s before (Item d i) = place_notes s (role.Flow d) i.stream ++ window_notes s before i.stream i.window
-part_notes s before (Private n) = Listed before n ∷ Used s n usage.Private ∷ []
+part_notes s before (Private n) = Listed (is_in n.id before) n ∷ Used s n usage.Private ∷ []
 
 -- Expressions of clauses belong to what is round the task.
 abbrev pub parts_notes : Scope → List ℕ → List Part → List Note

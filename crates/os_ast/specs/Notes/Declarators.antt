@@ -1,11 +1,10 @@
 -- Declarators: what they declare and take, and what stands in them.
-use Rattle.std.specs.Prelude.{ℕ, ◌+◌, ◌==◌, ◌&&◌, Bool, true, false, not, if◌then◌else◌, leb, List, [], ◌∷◌, ◌++◌, Option, Some, None, ℤ, pos, negsuc, unwrap_or}
+use Rattle.std.specs.Prelude.{ℕ, ◌+◌, ◌&&◌, Bool, true, false, not, if◌then◌else◌, leb, List, [], ◌∷◌, ◌++◌, Option, Some, None, ℤ, pos, negsuc, unwrap_or}
 use Rattle.os_ast.specs.Limits.{size_limit}
 use Rattle.os_ast.specs.Names.{Scope, lookup, entity_of, declare}
 use Rattle.os_ast.specs.Notes.Expressions.{expr_notes, value_notes, change_notes}
 use Rattle.os_ast.specs.Notes.Kinds.{Note, Sized, Declared}
 use Rattle.os_ast.specs.Trees as tree
-use Rattle.os_ast.specs.declared.expr.Name.{Name}
 use Rattle.os_ast.specs.declared.names.Owner.{Owner}
 use Rattle.os_ast.specs.declared.names.Owner.TheVariants as owner
 use Rattle.os_ast.specs.declared.names.Entity.{Entity}

@@ -1,5 +1,5 @@
 -- What may stand at a token of which a rule speaks, or whose name has a meaning.
-use Rattle.std.specs.Prelude.{ℕ, List}
+use Rattle.std.specs.Prelude.{ℕ, Bool, List}
 use Rattle.os_ast.specs.Names.{Scope}
 use Rattle.os_ast.specs.Trees.{DeclaratorTree}
 use Rattle.os_ast.specs.declared.expr.Mark.{Mark}
@@ -26,8 +26,8 @@ pub data Note : Type 0 where
   Pragma : Scope → Mark → Note
   -- the start of a task, with how many items it has, and the slots of the scalars that it captures
   Task : Scope → Mark → ℕ → List ℕ → Note
-  -- the name of a part of a task's clauses, behind parts of these names
-  Listed : List ℕ → Name → Note
+  -- the name of a part of a task's clauses, and whether a part before it has that name
+  Listed : Bool → Name → Note
 
 -- its token
 abbrev pub mark_of : Note → Mark
@@ -40,4 +40,4 @@ mark_of (Left s m) = m
 mark_of (Returned s m) = m
 mark_of (Pragma s m) = m
 mark_of (Task s m items slots) = m
-mark_of (Listed before n) = n.mark
+mark_of (Listed again n) = n.mark

@@ -8,7 +8,7 @@ use Rattle.std.proofs.lemmas.List.Sorted.{searched}
 use Rattle.std.proofs.lemmas.List.Sums.{position_or_len_is}
 use Rattle.std.proofs.lemmas.Map.Keys.{below_from_sorted}
 use Rattle.os_ast.specs.Meanings.{place_in}
-use Rattle.window_check.proofs.captures.place_in.Goals as goal
+use Rattle.window_check.proofs.captures.Slots.place_of.Goals as goal
 
 module _ (slots : List ℕ) (slot : ℕ) where
   ascends : IsStrictlySortedBy nat_cmp slots → (i j : ℕ) → i ≤ j → j < length slots → get_or slots i 0 ≤ get_or slots j 0
@@ -48,7 +48,11 @@ module _ (slots : List ℕ) (slot : ℕ) where
   place-searched sorted (Err i) found = place-missed i (searched slots slot (Err i) found (ascends sorted))
 
 pub returns-in-Ok : goal.returns-in-Ok
-returns-in-Ok c = sym (place-searched c.args.slots.now c.args.slot c.requires.ascending (Ok c.in-Ok.place) c.in-Ok.ensures.position)
+returns-in-Ok c =
+    rw (← c.self.view_is, ← c.as_slice.ensures)
+    (sym (place-searched c.as_slice.result.now c.args.slot (rw (sym c.as_slice.ensures) at c.self.invariant.0) (Ok c.in-Ok.place) c.in-Ok.ensures.position))
 
 pub returns-in-Err : goal.returns-in-Err
-returns-in-Err c = sym (place-searched c.args.slots.now c.args.slot c.requires.ascending (Err c.in-Err.field-0) c.in-Err.ensures.position)
+returns-in-Err c =
+    rw (← c.self.view_is, ← c.as_slice.ensures)
+    (sym (place-searched c.as_slice.result.now c.args.slot (rw (sym c.as_slice.ensures) at c.self.invariant.0) (Err c.in-Err.field-0) c.in-Err.ensures.position))
