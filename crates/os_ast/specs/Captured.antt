@@ -35,10 +35,11 @@ among ids [] = []
 among ids (c ∷ cs) = if is_in c.id ids then c ∷ among ids cs else among ids cs
 
 -- What a task with these clauses and this body captures, by what is in scope round it: the scalars of the control
--- program that `firstprivate` lists, or that the body names and doesn't declare.
+-- program that `firstprivate` lists, or that the body names and doesn't declare. The sizes of its arrays count for
+-- nothing here.
 abbrev pub captured : List Entry → List Part → tree.StmtTree → List Scalar
 captured es ps body = among (task_names ps body) (scalars es)
 
 -- their slots in the control program
-abbrev pub captured_slots : List Entry → List Part → tree.StmtTree → List ℕ
-captured_slots es ps body = map (λ c. c.slot) (captured es ps body)
+abbrev pub slots_of : List Scalar → List ℕ
+slots_of cs = map (λ c. c.slot) cs

@@ -1,5 +1,5 @@
--- The free names of a part of a program: those that it uses and doesn't declare itself, by their numbers, in the order
--- of the text.
+-- The free names of a part of a task's body: those that it uses and doesn't declare itself, by their numbers, in the
+-- order of the text.
 use Rattle.std.specs.Prelude.{ℕ, if◌then◌else◌, List, [], ◌∷◌, ◌++◌, Option, Some, None}
 use Rattle.os_ast.specs.Parts.{Part, Item, Private, parts, item_ids, private_ids, is_in}
 use Rattle.os_ast.specs.Trees as tree
@@ -63,8 +63,8 @@ abbrev pub declared_ids : List tree.DeclaratorTree → List ℕ
 declared_ids [] = []
 declared_ids (d ∷ ds) = d.name.id ∷ declared_ids ds
 
--- A name is declared before its own first value. The size of a local array is a number or names a constant, so that it
--- names no variable.
+-- A name is declared before its own first value. The size of an array isn't looked into: it is judged as a size alone,
+-- and where it is lawful it is a number or the name of a constant.
 abbrev pub declarators_names : List tree.DeclaratorTree → List ℕ
 declarators_names [] = []
 declarators_names (d ∷ ds) = without (d.name.id ∷ []) (value_names d.first ++ declarators_names ds)
@@ -97,7 +97,7 @@ stmt_ids (tree.Task m cs a) = []
 stmt_ids (tree.Tick m t arrow e) = []
 stmt_ids (tree.Taskwait m) = []
 
--- the free names of statements, those of a task's body: no array declared there is a window, so sizes add none
+-- No array that is declared in a task is a window, so no size is an expression that is evaluated.
 abbrev mutual
   pub stmt_names : tree.StmtTree → List ℕ
   stmt_names tree.StmtTree.Empty = []

@@ -18,8 +18,8 @@ osout_id = 10
 abbrev pub osin_len_id : ℕ
 osin_len_id = 11
 
--- A place of the program: what is in scope there, from the innermost declaration on, how many scopes are open,
--- whose body it is, whether a loop of that body is round it, and what is taken by the declarations before it.
+-- A place of the program: what is in scope there, from the innermost declaration on, how many scopes are open inside
+-- that of the file, whose body it is, whether a loop of that body is round it, and what is taken by the declarations before it.
 pub record Scope : Type 0 where
   pub entries : List Entry
   pub depth : ℕ
@@ -27,10 +27,10 @@ pub record Scope : Type 0 where
   pub loop : Bool
   -- where it is a task's body, the slots in `main` of the scalars that the task captures
   pub captured : List ℕ
-  -- slots and elements of local arrays, of this function, task or main
+  -- the slots of this function, task or `main`, and the elements of its local arrays
   pub slots : ℕ
   pub elements : ℕ
-  -- elements of local arrays, streams and functions of the program
+  -- of the program so far: the elements of local arrays, the streams, the functions
   pub arrays : ℕ
   pub streams : ℕ
   pub functions : ℕ

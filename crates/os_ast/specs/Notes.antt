@@ -1,4 +1,4 @@
--- What stands where: one walk over the tree, with what is in scope at each token, and with no rule in it.
+-- What is in scope where, and what stands there: over the tree, part by part, and with no rule in it.
 pub mod Clauses
 pub mod Declarators
 pub mod Expressions

@@ -1,10 +1,11 @@
 -- The rules, one after another by their codes, over what stands at a token. A token violates a rule where its test is
--- true; the last rule, 23, is one for the whole program and stands with the violations.
-use Rattle.std.specs.Prelude.{ℕ, ◌==◌, ◌&&◌, ◌||◌, Bool, true, false, not, ltb, List, [], ◌∷◌, ◌++◌, length, Option, Some, None, is_none}
-use Rattle.os_ast.specs.Limits.{elements_limit, arrays_limit, streams_limit, items_limit, captured_limit}
+-- true. 23 is a rule for the whole program, and stands with the violations.
+use Rattle.std.specs.Prelude.{ℕ, ◌==◌, ◌&&◌, ◌||◌, Bool, true, false, not, ltb, List, [], ◌∷◌, ◌++◌, length, Option, Some, None, is_none, ℤ}
+use Rattle.os_ast.specs.Limits.{is_size, elements_limit, arrays_limit, streams_limit, items_limit, captured_limit}
 use Rattle.os_ast.specs.Names.{Scope, lookup, entity_of, is_declared, main_id}
-use Rattle.os_ast.specs.Notes.Declarators.{form, taken}
+use Rattle.os_ast.specs.Notes.Declarators.{form, size_told, after_declarator}
 use Rattle.os_ast.specs.Notes.Kinds.{Note, Used, Declared, Given, Global, Left, Returned, Pragma, Task, Listed}
+use Rattle.os_ast.specs.Parts.{is_in}
 use Rattle.os_ast.specs.declared.names.Direction.TheVariants as direction
 use Rattle.os_ast.specs.declared.names.Entity.{Entity}
 use Rattle.os_ast.specs.declared.names.Entity.TheVariants as entity
@@ -127,18 +128,23 @@ abbrev pub is_changed : UseRule
 is_changed id (usage.Place role.Changed s) e = is_fixed e
 is_changed id u e = false
 
--- the size is none, or with this declarator the arrays of the function or task, those of the program or its streams pass
--- their limit, when so much is taken with it
-abbrev pub passes_limit : Scope → Form → Bool
-passes_limit s form_of.Scalar = false
-passes_limit s (form_of.Array size) = is_none size || (ltb elements_limit s.elements || ltb arrays_limit s.arrays)
-passes_limit s form_of.Window = false
-passes_limit s form_of.Stream = ltb streams_limit s.streams
-passes_limit s (form_of.Streams size) = is_none size || ltb streams_limit s.streams
+-- a local array or an array of streams whose size is neither a number nor the name of a constant, or isn't from 1 to
+-- 65,536
+abbrev pub has_no_size : Form → Option ℤ → Bool
+has_no_size (form_of.Array n) told = not (is_size told)
+has_no_size (form_of.Streams n) told = not (is_size told)
+has_no_size _ told = false
 
--- 15: a size that is none, or passes a limit
+-- in this scope the arrays of the function or task, those of the program, or its streams are too many
+abbrev pub has_too_many : Scope → Form → Bool
+has_too_many s (form_of.Array n) = ltb elements_limit s.elements || ltb arrays_limit s.arrays
+has_too_many s form_of.Stream = ltb streams_limit s.streams
+has_too_many s (form_of.Streams n) = ltb streams_limit s.streams
+has_too_many s _ = false
+
+-- 15: the size is wrong, or with this declarator a limit is passed
 abbrev pub has_wrong_size : Note → Bool
-has_wrong_size (Declared s d) = passes_limit (taken s (form s d)) (form s d)
+has_wrong_size (Declared s d) = has_no_size (form s d) (size_told s d.size) || has_too_many (after_declarator s d) (form s d)
 has_wrong_size _ = false
 
 -- 16: `break` or `continue` outside a loop of the same function or task
@@ -160,7 +166,7 @@ is_main_body owner.OfTask = false
 -- 17: a pragma outside `main` or inside a task; a stream anywhere but directly in the outermost block of `main`
 abbrev pub is_misplaced : Note → Bool
 is_misplaced (Pragma s m) = not (is_main_body s.owner)
-is_misplaced (Task s m items slots) = not (is_main_body s.owner)
+is_misplaced (Task s m items captured) = not (is_main_body s.owner)
 is_misplaced (Declared s d) = d.stream && not (is_outermost s.owner s.depth)
 is_misplaced _ = false
 
@@ -192,7 +198,7 @@ is_wrong_end id u e = false
 
 -- 21: a name stands a second time in the clauses of a task
 abbrev pub is_listed_twice : Note → Bool
-is_listed_twice (Listed again n) = again
+is_listed_twice (Listed before n) = is_in n.id before
 is_listed_twice _ = false
 
 -- more than 8 items, or more than 64 captured scalars
@@ -201,7 +207,7 @@ takes_more items scalars = ltb items_limit items || ltb captured_limit scalars
 
 -- 22: a task has too many items, or captures too many scalars
 abbrev pub takes_too_much : Note → Bool
-takes_too_much (Task s m items slots) = takes_more items (length slots)
+takes_too_much (Task s m items captured) = takes_more items (length captured)
 takes_too_much _ = false
 
 -- 24: a window is named outside an item's window
@@ -216,20 +222,37 @@ abbrev pub when : Bool → ℕ → List ℕ
 when true code = code ∷ []
 when false code = []
 
+-- a rule by its code
+pub record Rule : Type 0 where
+  pub code : ℕ
+  pub is_violated : Note → Bool
+
+abbrev rule : ℕ → (Note → Bool) → Rule
+rule code test = record { code = code; is_violated = test }
+
+-- all rules for what stands at a token
+abbrev pub rules : List Rule
+rules =
+    rule 10 is_unknown
+    ∷ rule 11 (violates is_wrong_kind)
+    ∷ rule 12 is_declared_twice
+    ∷ rule 13 (violates has_other_count)
+    ∷ rule 14 (violates is_changed)
+    ∷ rule 15 has_wrong_size
+    ∷ rule 16 is_outside_a_loop
+    ∷ rule 17 is_misplaced
+    ∷ rule 18 returns_from_a_task
+    ∷ rule 19 (violates is_misplaced_stream)
+    ∷ rule 20 (violates is_wrong_end)
+    ∷ rule 21 is_listed_twice
+    ∷ rule 22 takes_too_much
+    ∷ rule 24 (violates is_misplaced_window)
+    ∷ []
+
+abbrev pub codes_among : List Rule → Note → List ℕ
+codes_among [] n = []
+codes_among (r ∷ rs) n = when (r.is_violated n) r.code ++ codes_among rs n
+
 -- the codes of the rules that what stands at a token violates
 abbrev pub codes : Note → List ℕ
-codes n =
-    when (is_unknown n) 10
-    ++ (when (violates is_wrong_kind n) 11
-    ++ (when (is_declared_twice n) 12
-    ++ (when (violates has_other_count n) 13
-    ++ (when (violates is_changed n) 14
-    ++ (when (has_wrong_size n) 15
-    ++ (when (is_outside_a_loop n) 16
-    ++ (when (is_misplaced n) 17
-    ++ (when (returns_from_a_task n) 18
-    ++ (when (violates is_misplaced_stream n) 19
-    ++ (when (violates is_wrong_end n) 20
-    ++ (when (is_listed_twice n) 21
-    ++ (when (takes_too_much n) 22
-    ++ when (violates is_misplaced_window n) 24))))))))))))
+codes n = codes_among rules n

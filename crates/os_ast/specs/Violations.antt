@@ -1,5 +1,6 @@
 -- The violations of a program, its refusal, and what its names mean where there is none.
 use Rattle.std.specs.Prelude.{◌≡◌, ℕ, ◌+◌, ◌<◌, ◌≤◌, ◌==◌, ◌&&◌, ◌||◌, Bool, true, false, List, [], ◌∷◌, ◌++◌, length, All, Contains, if◌then◌else◌, Option, Some, None, ℤ}
+use Rattle.os_ast.specs.Captured.{slots_of}
 use Rattle.os_ast.specs.Meanings.{meaning, meaning_in, resolved}
 use Rattle.os_ast.specs.Names.{lookup, entity_of, main_id}
 use Rattle.os_ast.specs.Notes.Declarators.{constant_of, declared_entity, scalar_entity}
@@ -57,7 +58,7 @@ main_task owner.OfFunction slots = []
 main_task owner.OfTask slots = []
 
 abbrev pub captures_of : Note → List (List ℕ)
-captures_of (Task s m items slots) = main_task s.owner slots
+captures_of (Task s m items captured) = main_task s.owner (slots_of captured)
 captures_of _ = []
 
 abbrev pub captures : List Note → List (List ℕ)

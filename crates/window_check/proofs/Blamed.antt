@@ -1,19 +1,27 @@
 -- What is found of a token that is no used name: the code's steps are those of its note.
-use Rattle.std.proofs.Common.{◌≡◌, ℕ, ◌&&◌, Bool, true, false, not, List, [], ◌∷◌, ◌++◌, length, Option, Some, None, ℤ, refl, ap}
+use Rattle.std.proofs.Common.{◌≡◌, ℕ, ◌&&◌, ◌||◌, Bool, true, false, not, if◌then◌else◌, ltb, List, [], ◌∷◌, ◌++◌, length, Option, Some, None, ℤ, pos, negsuc, refl, ap, sym, ◌∙◌}
+use Rattle.std.specs.Prelude.{is_none}
+use Rattle.std.proofs.lemmas.List.{length-map}
+use Rattle.os_ast.specs.Captured.{Scalar, slots_of}
+use Rattle.os_ast.specs.Limits.{is_size, elements_limit, arrays_limit, streams_limit}
 use Rattle.os_ast.specs.Meanings.{meaning}
-use Rattle.os_ast.specs.Names.{Scope, is_declared, lookup, entity_of}
+use Rattle.os_ast.specs.Names.{Scope, declare, is_declared, lookup, entity_of}
 use Rattle.os_ast.specs.Notes.Clauses.{captured_in}
-use Rattle.os_ast.specs.Notes.Declarators.{form, taken, scalar_entity, declared_entity, constant_of}
+use Rattle.os_ast.specs.Notes.Declarators.{form, form_with, sized_form, limited, size_value, size_told, taken, after_declarator, scalar_entity, declared_entity, constant_of}
 use Rattle.os_ast.specs.Notes.Kinds.{Sized, Declared, Given, Global, Left, Returned, Pragma, Task, Listed}
-use Rattle.os_ast.specs.Rules.{when, is_main_body, is_task_body, is_outermost, passes_limit, takes_more}
-use Rattle.os_ast.specs.Trees.{DeclaratorTree}
+use Rattle.os_ast.specs.Rules.{when, is_main_body, is_task_body, is_outermost, has_no_size, has_too_many, takes_more}
+use Rattle.os_ast.specs.Trees.{DeclaratorTree, IndexTree}
 use Rattle.os_ast.specs.Violations.{constant_meaning, main_task}
 use Rattle.os_ast.specs.declared.expr.Mark.{Mark}
 use Rattle.os_ast.specs.declared.expr.Name.{Name}
+use Rattle.os_ast.specs.Parts.{is_in}
+use Rattle.os_ast.specs.declared.names.Form.{Form}
+use Rattle.os_ast.specs.declared.names.Form.TheVariants as form_of
 use Rattle.os_ast.specs.declared.names.Owner.{Owner}
 use Rattle.os_ast.specs.declared.names.Owner.TheVariants as owner
 use Rattle.window_check.specs.Codes.{least_code, lesser_code}
 use Rattle.window_check.specs.Findings.{note, blames, means, constant_found, started, started_in, least_with, pushed}
+use Rattle.window_check.specs.Sizes.{passes_limit}
 use Rattle.window_check.specs.declared.found.Found.{Found}
 use Rattle.window_check.specs.declared.found.Found.TheVariants.{Listing, Judging}
 use Rattle.window_check.specs.declared.found.Judged.{Judged}
@@ -44,9 +52,9 @@ pub blames-global : (f : Found) (s : Scope) (n : Name) → blames f n.mark (leas
 blames-global (Listing slots) s n = refl
 blames-global (Judging j) s n = recoded j n.mark (alone (is_declared s n.id) 12)
 
-pub blames-listed : (f : Found) (again : Bool) (n : Name) → blames f n.mark (least_code (when again 21)) ≡ note f (Listed again n)
-blames-listed (Listing slots) again n = refl
-blames-listed (Judging j) again n = recoded j n.mark (alone again 21)
+pub blames-listed : (f : Found) (before : List ℕ) (n : Name) → blames f n.mark (least_code (when (is_in n.id before) 21)) ≡ note f (Listed before n)
+blames-listed (Listing slots) before n = refl
+blames-listed (Judging j) before n = recoded j n.mark (alone (is_in n.id before) 21)
 
 -- a parameter
 pub means-given : (f : Found) (s : Scope) (n : Name) →
@@ -66,6 +74,39 @@ three false true false = refl
 three false false true = refl
 three false false false = refl
 
+-- the size of a declarator, as the code finds it
+limited-none : (v : Option ℤ) → is_none (limited v) ≡ not (is_size v)
+limited-none None = refl
+limited-none (Some (pos n)) = chosen (is_size (Some (pos n)))
+  where
+    chosen : (b : Bool) → is_none (if b then Some n else None) ≡ not b
+    chosen true = refl
+    chosen false = refl
+limited-none (Some (negsuc n)) = refl
+
+wrong-sized : (o : Owner) (s : Scope) (after : Scope) (v : Option ℤ) → has_no_size (sized_form o (limited v)) v || has_too_many after (sized_form o (limited v)) ≡ passes_limit after (sized_form o (limited v))
+wrong-sized owner.OfMain s after v = refl
+wrong-sized owner.OfFunction s after v = ap (λ b. b || (ltb elements_limit after.elements || ltb arrays_limit after.arrays)) (sym (limited-none v))
+wrong-sized owner.OfTask s after v = ap (λ b. b || (ltb elements_limit after.elements || ltb arrays_limit after.arrays)) (sym (limited-none v))
+
+wrong-size : (s after : Scope) (stream : Bool) (i : Option IndexTree) →
+    has_no_size (form_with s stream i) (size_told s i) || has_too_many after (form_with s stream i) ≡ passes_limit after (form_with s stream i)
+wrong-size s after false None = refl
+wrong-size s after false (Some i) = wrong-sized s.owner s after (size_value s i.value)
+wrong-size s after true None = refl
+wrong-size s after true (Some i) = ap (λ b. b || ltb streams_limit after.streams) (sym (limited-none (size_value s i.value)))
+
+-- behind a declarator as much is taken as by its form
+passes-same : (s : Scope) (d : DeclaratorTree) → passes_limit (after_declarator s d) (form s d) ≡ passes_limit (taken s (form s d)) (form s d)
+passes-same s d = same (form s d)
+  where
+    same : (f : Form) → passes_limit (declare (taken s f) d.name.id (declared_entity s d)) f ≡ passes_limit (taken s f) f
+    same form_of.Scalar = refl
+    same (form_of.Array n) = refl
+    same form_of.Window = refl
+    same form_of.Stream = refl
+    same (form_of.Streams n) = refl
+
 pub means-declared : (f : Found) (s : Scope) (d : DeclaratorTree) →
     means
     (blames f d.name.mark
@@ -75,9 +116,15 @@ pub means-declared : (f : Found) (s : Scope) (d : DeclaratorTree) →
     ≡ note f (Declared s d)
 means-declared (Listing slots) s d = refl
 means-declared (Judging j) s d =
+    let twice = is_declared s d.name.id in
+    let apart = d.stream && not (is_outermost s.owner s.depth) in
     ap
     (λ f. means f d.name.mark (meaning (declared_entity s d)))
-    (recoded j d.name.mark (three (is_declared s d.name.id) (passes_limit (taken s (form s d)) (form s d)) (d.stream && not (is_outermost s.owner s.depth))))
+    (recoded j d.name.mark
+    (three twice (passes_limit (taken s (form s d)) (form s d)) apart
+    ∙ ap
+    (λ b. least_code (when twice 12 ++ (when b 15 ++ (when apart 17 ++ []))))
+    (sym (wrong-size s (after_declarator s d) d.stream d.size ∙ passes-same s d))))
 
 -- the name of a size
 constant-sized-in : (j : Judged) (m : Mark) (v : Option ℤ) → constant_found (Judging j) m v ≡ Judging (record j { names = pushed j.names (constant_meaning m v) })
@@ -108,9 +155,13 @@ starts-in j owner.OfMain m items slots = with_task j m _ (alone (takes_more item
 starts-in j owner.OfFunction m items slots = with_task j m _ (behind (takes_more items (length slots)))
 starts-in j owner.OfTask m items slots = with_task j m _ (behind (takes_more items (length slots)))
 
-pub started-task : (f : Found) (s : Scope) (m : Mark) (items : ℕ) (slots : List ℕ) →
-    started f s.owner m items (captured_in s.owner slots) ≡ note f (Task s m items slots)
-started-task (Listing listed) s m items slots = refl
-started-task (Judging j) s m items slots = starts-in j s.owner m items slots
+pub started-task : (f : Found) (s : Scope) (m : Mark) (items : ℕ) (cs : List Scalar) →
+    started f s.owner m items (captured_in s.owner (slots_of cs)) ≡ note f (Task s m items cs)
+started-task (Listing listed) s m items cs = refl
+started-task (Judging j) s m items cs =
+    starts-in j s.owner m items (slots_of cs)
+    ∙ ap
+    (λ (n : ℕ). Judging (record j { least = least_with j.least m (least_code (when (not (is_main_body s.owner)) 17 ++ (when (takes_more items n) 22 ++ []))); captured = pushed j.captured (main_task s.owner (slots_of cs)) }))
+    (length-map cs (λ (c : Scalar). c.slot))
 
 pub ruleset blamed_notes = (blames-left, blames-returned, blames-pragma, blames-global, blames-listed, means-given)

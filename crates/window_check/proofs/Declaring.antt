@@ -5,7 +5,7 @@ use Rattle.os_ast.specs.Names.{Scope, declare, is_declared}
 use Rattle.os_ast.specs.Notes.Declarators.{form, form_entity, taken, after_declarator, sized_notes, declarator_notes}
 use Rattle.os_ast.specs.Notes.Expressions.{value_notes}
 use Rattle.os_ast.specs.Notes.Kinds.{Declared}
-use Rattle.os_ast.specs.Rules.{is_outermost, passes_limit, when}
+use Rattle.os_ast.specs.Rules.{is_outermost, when}
 use Rattle.os_ast.specs.Trees as tree
 use Rattle.os_ast.specs.declared.names.Entity.{Entity}
 use Rattle.os_ast.specs.declared.names.Form.{Form}
@@ -14,6 +14,7 @@ use Rattle.window_check.proofs.Blamed.{means-declared}
 use Rattle.window_check.proofs.Noted.{noted-append}
 use Rattle.window_check.specs.Codes.{least_code, lesser_code}
 use Rattle.window_check.specs.Findings.{note, noted, blames, means}
+use Rattle.window_check.specs.Sizes.{passes_limit}
 use Rattle.window_check.specs.declared.found.Found.{Found}
 
 pub declarator-steps : (f named size : Found) (s after declared : Scope) (d : tree.DeclaratorTree) (fm : Form) (e : Entity) (c code : Option ℕ) (w : What) →

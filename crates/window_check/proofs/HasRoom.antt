@@ -3,7 +3,7 @@ use Rattle.std.proofs.Common.{◌≡◌, ℕ, ◌+◌, ◌≤◌, ◌==◌, ◌&
 use Rattle.std.specs.Prelude.{is_some, unwrap_or}
 use Rattle.std.proofs.lemmas.List.{length-map}
 use Rattle.std.proofs.lemmas.Bool.{leb-true}
-use Rattle.os_ast.specs.Captured.{Scalar, scalars, others, scalar_of, among, captured_slots}
+use Rattle.os_ast.specs.Captured.{Scalar, scalars, others, scalar_of, among, captured, slots_of}
 use Rattle.os_ast.specs.FreeNames.{task_names}
 use Rattle.os_ast.specs.Limits.{size_limit}
 use Rattle.os_ast.specs.Names.{Scope, lookup, entity_of, declare, enter, in_loop, in_unit, leave, after_unit, behind}
@@ -245,7 +245,7 @@ among_few ids (c ∷ cs) = chosen (is_in c.id ids) (among_few ids cs)
     chosen true h = omega (arith, h)
     chosen false h = omega (arith, h)
 
-pub captured_few : (o : Owner) (es : List Entry) (ps : List Part) (a : tree.StmtTree) → length (captured_in o (captured_slots es ps a)) ≤ length es
+pub captured_few : (o : Owner) (es : List Entry) (ps : List Part) (a : tree.StmtTree) → length (captured_in o (slots_of (captured es ps a))) ≤ length es
 captured_few owner.OfMain es ps a =
     omega (arith, length-map (among (task_names ps a) (scalars es)) (λ (c : Scalar). c.slot), among_few (task_names ps a) (scalars es), scalars_few es)
 captured_few owner.OfFunction es ps a = omega arith
@@ -306,7 +306,7 @@ room_items s inner i (Private p ∷ ps) n h =
 
 pub room_in_task_body : (s : Scope) (ps : List Part) (a : tree.StmtTree) (n : ℕ) → HasRoom s (1 + (length ps + n)) → HasRoom (in_task_body s ps a) n
 room_in_task_body s ps a n h =
-    let slots = captured_in s.owner (captured_slots s.entries ps a) in
+    let slots = captured_in s.owner (slots_of (captured s.entries ps a)) in
     room_items s (in_task s slots) 0 ps n (room_in_task s slots (length ps + n) (captured_few s.owner s.entries ps a) h)
 
 mutual

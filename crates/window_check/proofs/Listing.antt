@@ -14,12 +14,19 @@ use Rattle.os_ast.specs.Notes.Expressions.{place_notes, index_notes}
 use Rattle.os_ast.specs.Notes.Kinds.{Note, Used, Listed}
 use Rattle.os_ast.specs.Parts.{Part, Item, Private, part_name, is_in, count_items, target_name, item_name, private_ids}
 use Rattle.os_ast.specs.Trees as tree
+use Rattle.os_ast.specs.declared.expr.Name.{Name}
 use Rattle.os_ast.specs.declared.names.Direction.{Direction}
 use Rattle.os_ast.specs.declared.names.Entity.{Entity}
 use Rattle.os_ast.specs.declared.names.Entity.TheVariants as entity
 use Rattle.os_ast.specs.declared.names.Role.TheVariants as role
 use Rattle.os_ast.specs.declared.names.Use.TheVariants as usage
 use Rattle.os_ast.specs.declared.names.Entry.{Entry}
+use Rattle.os_ast.specs.Rules.{when}
+use Rattle.window_check.proofs.Noted.{noted-append}
+use Rattle.window_check.specs.Codes.{least_code}
+use Rattle.window_check.specs.Findings.{note, noted, least_with}
+use Rattle.window_check.specs.declared.found.Found.{Found}
+use Rattle.window_check.specs.declared.found.Found.TheVariants.{Listing, Judging}
 use Rattle.window_check.specs.Slots.{with_slot, with_slots, control_slots}
 use Rattle.window_check.specs.declared.parts.ItemName.{ItemName}
 use Rattle.window_check.specs.Parts.{ListedParts, none_listed, inside, after_part, after_parts, listed_notes, after_names}
@@ -63,29 +70,42 @@ pub list_any-is_in : (id : ℕ) (names : List ℕ) → list_any (is_at (nat_cmp 
 list_any-is_in id [] = refl
 list_any-is_in id (x ∷ xs) = rw (equal-is id x, list_any-is_in id xs)
 
-window_notes-same : (s : Scope) (names before : List ℕ) → SameNames names before → (t : tree.TargetTree) (j : Option tree.JoinTree) →
-    window_notes s names t j ≡ window_notes s before t j
-window_notes-same s names before same t None = ap (λ (b : Bool). Listed b (target_name t) ∷ []) (same (target_name t).id)
-window_notes-same s names before same t (Some j) =
-    ap (λ (b : Bool). Listed b j.name ∷ Used s j.name (usage.Joined (shape_of j.burst)) ∷ index_notes s j.burst) (same j.name.id)
+-- what is found of a name that is listed, by the names before it
+listed-same : (f : Found) (names before : List ℕ) → SameNames names before → (n : Name) → note f (Listed names n) ≡ note f (Listed before n)
+listed-same (Listing slots) names before same n = refl
+listed-same (Judging j) names before same n =
+    ap (λ (b : Bool). Judging (record j { least = least_with j.least n.mark (least_code (when b 21 ++ [])) })) (same n.id)
 
-part_notes-same : (s : Scope) (names before : List ℕ) → SameNames names before → (p : Part) → part_notes s names p ≡ part_notes s before p
-part_notes-same s names before same (Item d i) =
-    ap (λ (ns : List Note). place_notes s (role.Flow d) i.stream ++ ns) (window_notes-same s names before same i.stream i.window)
-part_notes-same s names before same (Private n) = ap (λ (b : Bool). Listed b n ∷ Used s n usage.Private ∷ []) (same n.id)
+window-same : (f : Found) (s : Scope) (names before : List ℕ) → SameNames names before → (t : tree.TargetTree) (j : Option tree.JoinTree) →
+    noted f (window_notes s names t j) ≡ noted f (window_notes s before t j)
+window-same f s names before same t None = listed-same f names before same (target_name t)
+window-same f s names before same t (Some j) =
+    ap (λ (g : Found). noted (note g (Used s j.name (usage.Joined (shape_of j.burst)))) (index_notes s j.burst)) (listed-same f names before same j.name)
+
+part-same : (f : Found) (s : Scope) (names before : List ℕ) → SameNames names before → (p : Part) → noted f (part_notes s names p) ≡ noted f (part_notes s before p)
+part-same f s names before same (Item d i) =
+    let stream = place_notes s (role.Flow d) i.stream in
+    noted-append f stream (window_notes s names i.stream i.window)
+    ∙ window-same (noted f stream) s names before same i.stream i.window
+    ∙ sym (noted-append f stream (window_notes s before i.stream i.window))
+part-same f s names before same (Private n) = ap (λ (g : Found). note g (Used s n usage.Private)) (listed-same f names before same n)
 
 same-more : (s : Scope) (l : ListedParts) (before : List ℕ) (p : Part) → SameNames l.names before → SameNames (after_part s l p).names ((part_name p).id ∷ before)
 same-more s l before (Item d i) same id = rw (is_in-insert_key id (item_name i.stream i.window).id l.names, same id)
 same-more s l before (Private n) same id = rw (is_in-insert_key id n.id l.names, same id)
 
-listed-from : (s : Scope) (l : ListedParts) (before : List ℕ) (ps : List Part) → SameNames l.names before → listed_notes s l ps ≡ parts_notes s before ps
-listed-from s l before [] same = refl
-listed-from s l before (p ∷ ps) same =
-    rw (part_notes-same s l.names before same p, listed-from s (after_part s l p) ((part_name p).id ∷ before) ps (same-more s l before p same))
+listed-from : (f : Found) (s : Scope) (l : ListedParts) (before : List ℕ) (ps : List Part) → SameNames l.names before → noted f (listed_notes s l ps) ≡ noted f (parts_notes s before ps)
+listed-from f s l before [] same = refl
+listed-from f s l before (p ∷ ps) same =
+    let rest = listed_notes s (after_part s l p) ps in
+    noted-append f (part_notes s l.names p) rest
+    ∙ ap (λ (g : Found). noted g rest) (part-same f s l.names before same p)
+    ∙ listed-from (noted f (part_notes s before p)) s (after_part s l p) ((part_name p).id ∷ before) ps (same-more s l before p same)
+    ∙ sym (noted-append f (part_notes s before p) (parts_notes s ((part_name p).id ∷ before) ps))
 
--- the notes of parts by the names that are listed before each
-pub listed_notes-all : (s : Scope) (ps : List Part) → listed_notes s none_listed ps ≡ parts_notes s [] ps
-listed_notes-all s ps = listed-from s none_listed [] ps (λ id. refl)
+-- what is found of parts, by the names that are listed before each
+pub listed_notes-all : (f : Found) (s : Scope) (ps : List Part) → noted f (listed_notes s none_listed ps) ≡ noted f (parts_notes s [] ps)
+listed_notes-all f s ps = listed-from f s none_listed [] ps (λ id. refl)
 
 inside-named : (e : Option Entity) (item : ℕ) (d : Direction) (j : Option tree.JoinTree) →
     inside e item (is_some j) d ≡ named_entity item d j e

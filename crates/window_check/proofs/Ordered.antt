@@ -1,7 +1,7 @@
 -- Names are noted in the order of their places.
 use Rattle.std.proofs.Common.{◌≡◌, ◌≤◌, ◌+◌, ℕ, suc, List, [], ◌∷◌, ◌++◌, map, Option, Some, None, refl, ap, sym, subst, ◌∙◌, append_assoc, Bool, true, false, not, ◌&&◌, if◌then◌else◌, ℤ, arith}
 use Rattle.std.specs.Prelude.{⊤}
-use Rattle.os_ast.specs.Captured.{captured_slots}
+use Rattle.os_ast.specs.Captured.{captured}
 use Rattle.os_ast.specs.Marks.{HasMark, HasPlaces}
 use Rattle.os_ast.specs.Names.{Scope, entity_of, lookup, enter, in_loop}
 use Rattle.os_ast.specs.Notes.Clauses.{part_notes, parts_notes, window_notes, shape_of, in_task_body}
@@ -258,10 +258,10 @@ parts_notes-append s before (p ∷ ps) qs =
 
 in-join : (s : Scope) (before : List ℕ) (arrow : Punct) (t : tree.TargetTree) (w : Option tree.JoinTree) (lo : ℕ) (rest : List Piece) →
     HasFrom lo (spelling.optional (spelling.join arrow) w rest) → Passed lo (window_notes s before t w) rest
-in-join s before arrow t None lo rest h = quiet (Listed (is_in (target_name t).id before) (target_name t)) refl (silent lo rest h)
+in-join s before arrow t None lo rest h = quiet (Listed before (target_name t)) refl (silent lo rest h)
 in-join s before arrow t (Some j) lo rest h =
     opened
-    (quiet (Listed (is_in j.name.id before) j.name) refl
+    (quiet (Listed before j.name) refl
     (with_name (Used s j.name (usage.Joined (shape_of j.burst))) j.name.mark refl h.1.0 (in-index s j.burst (suc (suc lo)) rest h.1.1)))
 
 in-item : (s : Scope) (before : List ℕ) (d : Direction) (arrow : Punct) (i : tree.ClauseItemTree) (lo : ℕ) (rest : List Piece) →
@@ -285,7 +285,7 @@ in-item_list s before d arrow (i ∷ is) lo rest h =
     both one (in-items s ((part_name (Item d i)).id ∷ before) d arrow is one.to rest one.after)
 
 in-private : (s : Scope) (before : List ℕ) (n : Name) (lo : ℕ) (rest : List Piece) → HasFrom lo (spelling.name n rest) → Passed lo (part_notes s before (Private n)) rest
-in-private s before n lo rest h = quiet (Listed (is_in n.id before) n) refl (used s n usage.Private lo rest h.0 h.1)
+in-private s before n lo rest h = quiet (Listed before n) refl (used s n usage.Private lo rest h.0 h.1)
 
 in-privates : (s : Scope) (before : List ℕ) (ns : List Name) (lo : ℕ) (rest : List Piece) →
     HasFrom lo (spelling.each (λ n. spelling.punct puncts.Comma ⨾ spelling.name n) ns rest) → Passed lo (parts_notes s before (map Private ns)) rest
@@ -363,7 +363,7 @@ mutual
   in-stmt s (tree.Task m cs a) lo rest h =
       let inner = in_task_body s (parts cs) a in
       let one = opened (opened (opened (closed (in-clauses s [] cs (suc (suc (suc lo))) (spelling.token kind.PragmaEnd (spelling.stmt a rest)) h.1)))) in
-      let two = then_quiet (Task s m (count_items (parts cs)) (captured_slots s.entries (parts cs) a)) refl one in
+      let two = then_quiet (Task s m (count_items (parts cs)) (captured s.entries (parts cs) a)) refl one in
       both two (in-stmt inner a two.to rest two.after)
   in-stmt s (tree.Tick m t arrow e) lo rest h =
       let last = spelling.punct puncts.CloseParen (spelling.token kind.PragmaEnd rest) in

@@ -1,6 +1,6 @@
 -- A task, step by step: the scope of its body, what it captures, and what is found of it.
 use Rattle.std.proofs.Common.{◌≡◌, ℕ, ◌+◌, ◌≤◌, List, [], ◌∷◌, ◌++◌, length, ap, sym, subst, ◌∙◌, arith}
-use Rattle.os_ast.specs.Captured.{captured_slots}
+use Rattle.os_ast.specs.Captured.{captured, slots_of}
 use Rattle.os_ast.specs.Names.{Scope, after_unit}
 use Rattle.os_ast.specs.Notes.Clauses.{parts_notes, clauses_notes, with_items, in_task, in_task_body, captured_in}
 use Rattle.os_ast.specs.Notes.Kinds.{Task}
@@ -36,14 +36,14 @@ room-named s slots l ps items n listing is few room =
 -- what the code lists is what the task captures
 pub slots-captured : (s : Scope) (l : ListedParts) (ps : List Part) (a : tree.StmtTree) (n : ℕ) (slots privates : List ℕ) (items : List ItemName) →
     HasRoom s n → l ≡ after_parts s none_listed ps → items ≡ l.items → privates ≡ l.slots → slots ≡ listed_in s.owner s privates items a →
-    slots ≡ captured_in s.owner (captured_slots s.entries ps a)
+    slots ≡ captured_in s.owner (slots_of (captured s.entries ps a))
 slots-captured s l ps a n slots privates items room listing is given listed =
     listed
     ∙ ap (λ (xs : List ℕ). listed_in s.owner s xs items a) given
     ∙ ap (λ (xs : List ItemName). listed_in s.owner s l.slots xs a) is
     ∙ listed-captured s l ps a room.order.top room.order.stacked listing
 
-pub few-captured : (s : Scope) (ps : List Part) (a : tree.StmtTree) (slots : List ℕ) → slots ≡ captured_in s.owner (captured_slots s.entries ps a) →
+pub few-captured : (s : Scope) (ps : List Part) (a : tree.StmtTree) (slots : List ℕ) → slots ≡ captured_in s.owner (slots_of (captured s.entries ps a)) →
     length slots ≤ length s.entries
 few-captured s ps a slots is = subst (λ (xs : List ℕ). length xs ≤ length s.entries) (sym is) (captured_few s.owner s.entries ps a)
 
@@ -52,15 +52,15 @@ few-slots s n k few room = omega (arith, few, room.entries)
 
 -- the scope of the body
 pub task-scope : (s t : Scope) (l : ListedParts) (ps : List Part) (a : tree.StmtTree) (slots : List ℕ) (items : List ItemName) →
-    t ≡ s → l ≡ after_parts s none_listed ps → items ≡ l.items → slots ≡ captured_in s.owner (captured_slots s.entries ps a) →
+    t ≡ s → l ≡ after_parts s none_listed ps → items ≡ l.items → slots ≡ captured_in s.owner (slots_of (captured s.entries ps a)) →
     in_named_task t slots items ≡ in_task_body s ps a
 task-scope s t l ps a slots items same listing is given =
     ap (λ (x : Scope). in_named_task x slots items) same
     ∙ ap (λ (xs : List ℕ). in_named_task s xs items) given
-    ∙ named-scope s (captured_in s.owner (captured_slots s.entries ps a)) l ps items listing is
+    ∙ named-scope s (captured_in s.owner (slots_of (captured s.entries ps a))) l ps items listing is
 
 pub task-scopes : (s t : Scope) (l : ListedParts) (ps : List Part) (a : tree.StmtTree) (slots : List ℕ) (items : List ItemName) →
-    t ≡ s → l ≡ after_parts s none_listed ps → items ≡ l.items → slots ≡ captured_in s.owner (captured_slots s.entries ps a) →
+    t ≡ s → l ≡ after_parts s none_listed ps → items ≡ l.items → slots ≡ captured_in s.owner (slots_of (captured s.entries ps a)) →
     after_unit t (after_stmt (in_named_task t slots items) a) ≡ after_unit s (after_stmt (in_task_body s ps a) a)
 task-scopes s t l ps a slots items same listing is given =
     ap (λ (x : Scope). after_unit x (after_stmt (in_named_task t slots items) a)) same
@@ -69,11 +69,11 @@ task-scopes s t l ps a slots items same listing is given =
 -- what is found of a task
 pub task-found : (f g h : Found) (s t : Scope) (m : Mark) (o : Owner) (count : ℕ) (l : ListedParts) (ps : List Part) (a : tree.StmtTree) (given slots : List ℕ) (items : List ItemName) →
     t ≡ s → o ≡ t.owner → l ≡ after_parts s none_listed ps → items ≡ l.items → count ≡ length items →
-    given ≡ captured_in s.owner (captured_slots s.entries ps a) → slots ≡ given →
+    given ≡ captured_in s.owner (slots_of (captured s.entries ps a)) → slots ≡ given →
     g ≡ noted f (parts_notes s [] ps) → h ≡ started g o m count given →
     noted h (stmt_notes (in_named_task t slots items) a) ≡ noted f (clauses_notes s m ps a ++ stmt_notes (in_task_body s ps a) a)
-task-found f g h s t m o count l ps a given slots items same whose listing is counted captured ordered clauses starting =
-    let byname = captured_slots s.entries ps a in
+task-found f g h s t m o count l ps a given slots items same whose listing is counted named ordered clauses starting =
+    let byname = captured s.entries ps a in
     let front = noted f (parts_notes s [] ps) in
     let owned : o ≡ s.owner = whose ∙ ap (λ (x : Scope). x.owner) same in
     let number : count ≡ count_items ps =
@@ -83,9 +83,9 @@ task-found f g h s t m o count l ps a given slots items same whose listing is co
     ∙ ap (λ (x : Found). started x o m count given) clauses
     ∙ ap (λ (x : Owner). started front x m count given) owned
     ∙ ap (λ (k : ℕ). started front s.owner m k given) number
-    ∙ ap (λ (xs : List ℕ). started front s.owner m (count_items ps) xs) captured
+    ∙ ap (λ (xs : List ℕ). started front s.owner m (count_items ps) xs) named
     ∙ started-task front s m (count_items ps) byname in
     ap (λ (x : Found). noted x (stmt_notes (in_named_task t slots items) a)) start
-    ∙ ap (λ (x : Scope). noted (note front (Task s m (count_items ps) byname)) (stmt_notes x a)) (task-scope s t l ps a slots items same listing is (ordered ∙ captured))
+    ∙ ap (λ (x : Scope). noted (note front (Task s m (count_items ps) byname)) (stmt_notes x a)) (task-scope s t l ps a slots items same listing is (ordered ∙ named))
     ∙ ap (λ (x : Found). noted x (stmt_notes (in_task_body s ps a) a)) (sym (noted-append f (parts_notes s [] ps) (Task s m (count_items ps) byname ∷ [])))
     ∙ sym (noted-append f (clauses_notes s m ps a) (stmt_notes (in_task_body s ps a) a))

@@ -4,11 +4,12 @@ ghost use Rattle.os_ast.specs.Names.{Scope, lookup, entity_of, is_declared, decl
 ghost use Rattle.os_ast.specs.Notes.Clauses.{in_task};
 ghost use Rattle.os_ast.specs.Notes.Declarators.{form_entity, taken, scalar_entity, with_array, with_streams};
 ghost use Rattle.os_ast.specs.Notes.Programs.{file, round_body};
-ghost use Rattle.os_ast.specs.Rules.{passes_limit, when};
+ghost use Rattle.os_ast.specs.Rules.{when};
 ghost use Rattle.os_ast.specs.declared.names.Form.TheVariants as form_of;
 ghost use Rattle.os_ast.specs.declared.names.Owner.TheVariants as owners;
 ghost use Rattle.window_check.specs.Codes.{least_code};
 ghost use Rattle.window_check.specs.Room.{HasRoom, form_weight, room_end};
+ghost use Rattle.window_check.specs.Sizes.{passes_limit};
 ghost use Rattle.window_check.specs.Scopes.{outer_of, around_of, returned, ended, with_function, with_totals};
 
 use crate::captures::Slots;

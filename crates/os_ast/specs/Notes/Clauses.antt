@@ -1,10 +1,10 @@
 -- The clauses of tasks.
 use Rattle.std.specs.Prelude.{ℕ, suc, List, [], ◌∷◌, ◌++◌, length, Option, Some, None}
-use Rattle.os_ast.specs.Captured.{captured_slots}
+use Rattle.os_ast.specs.Captured.{captured, slots_of}
 use Rattle.os_ast.specs.Names.{Scope, lookup, entity_of, declare, enter, in_unit}
 use Rattle.os_ast.specs.Notes.Expressions.{place_notes, index_notes}
 use Rattle.os_ast.specs.Notes.Kinds.{Note, Used, Task, Listed}
-use Rattle.os_ast.specs.Parts.{Part, Item, Private, target_name, item_name, part_name, count_items, is_in}
+use Rattle.os_ast.specs.Parts.{Part, Item, Private, target_name, item_name, part_name, count_items}
 use Rattle.os_ast.specs.Trees as tree
 use Rattle.os_ast.specs.declared.expr.Mark.{Mark}
 use Rattle.os_ast.specs.declared.names.Owner.{Owner}
@@ -23,20 +23,21 @@ shape_of (Some i) = shape.Indexed
 
 -- what stands behind the stream of an item
 abbrev pub window_notes : Scope → List ℕ → tree.TargetTree → Option tree.JoinTree → List Note
-window_notes s before stream None = Listed (is_in (target_name stream).id before) (target_name stream) ∷ []
+window_notes s before stream None = Listed before (target_name stream) ∷ []
 window_notes s before stream (Some j) =
-    Listed (is_in j.name.id before) j.name ∷ Used s j.name (usage.Joined (shape_of j.burst)) ∷ index_notes s j.burst
+    Listed before j.name ∷ Used s j.name (usage.Joined (shape_of j.burst)) ∷ index_notes s j.burst
 
 -- a part, behind parts of these names
 abbrev pub part_notes : Scope → List ℕ → Part → List Note
 part_notes s before (Item d i) = place_notes s (role.Flow d) i.stream ++ window_notes s before i.stream i.window
-part_notes s before (Private n) = Listed (is_in n.id before) n ∷ Used s n usage.Private ∷ []
+part_notes s before (Private n) = Listed before n ∷ Used s n usage.Private ∷ []
 
 -- Expressions of clauses belong to what is round the task.
 abbrev pub parts_notes : Scope → List ℕ → List Part → List Note
 parts_notes s before [] = []
 parts_notes s before (p ∷ ps) = part_notes s before p ++ parts_notes s ((part_name p).id ∷ before) ps
 
+-- what an item's name is in the body, by its arrow and by what the name is round the task
 abbrev pub named_entity : ℕ → Direction → Option tree.JoinTree → Option Entity → Entity
 named_entity item d (Some j) (Some (entity.Window slot)) = entity.View item d
 named_entity item d (Some j) _ = entity.Element item d
@@ -65,8 +66,8 @@ captured_in owner.OfTask slots = []
 
 -- the scope in which a task's body stands
 abbrev pub in_task_body : Scope → List Part → tree.StmtTree → Scope
-in_task_body s ps body = with_items s (in_task s (captured_in s.owner (captured_slots s.entries ps body))) 0 ps
+in_task_body s ps body = with_items s (in_task s (captured_in s.owner (slots_of (captured s.entries ps body)))) 0 ps
 
--- the clauses of a task, and its start, which is judged behind them
+-- the clauses of a task, and its start: the order of what stands in a program says nothing but for names
 abbrev pub clauses_notes : Scope → Mark → List Part → tree.StmtTree → List Note
-clauses_notes s m ps body = parts_notes s [] ps ++ Task s m (count_items ps) (captured_slots s.entries ps body) ∷ []
+clauses_notes s m ps body = parts_notes s [] ps ++ Task s m (count_items ps) (captured s.entries ps body) ∷ []

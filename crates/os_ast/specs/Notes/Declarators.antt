@@ -1,6 +1,6 @@
 -- Declarators: what they declare and take, and what stands in them.
 use Rattle.std.specs.Prelude.{ℕ, ◌+◌, ◌&&◌, Bool, true, false, not, if◌then◌else◌, leb, List, [], ◌∷◌, ◌++◌, Option, Some, None, ℤ, pos, negsuc, unwrap_or}
-use Rattle.os_ast.specs.Limits.{size_limit}
+use Rattle.os_ast.specs.Limits.{is_size}
 use Rattle.os_ast.specs.Names.{Scope, lookup, entity_of, declare}
 use Rattle.os_ast.specs.Notes.Expressions.{expr_notes, value_notes, change_notes}
 use Rattle.os_ast.specs.Notes.Kinds.{Note, Sized, Declared}
@@ -12,26 +12,30 @@ use Rattle.os_ast.specs.declared.names.Entity.TheVariants as entity
 use Rattle.os_ast.specs.declared.names.Form.{Form}
 use Rattle.os_ast.specs.declared.names.Form.TheVariants as form_of
 
--- Sizes of local arrays and of stream arrays: a number, or the name of a constant.
-abbrev pub within_limit : ℤ → Option ℕ
-within_limit (pos n) = if leb 1 n && leb n size_limit then Some n else None
-within_limit (negsuc n) = None
-
 abbrev pub constant_of : Option Entity → Option ℤ
 constant_of (Some (entity.Constant v)) = Some v
 constant_of _ = None
 
--- the value of a size, where it has one
+-- the value of a size that is a number or the name of a constant
 abbrev pub size_value : Scope → tree.ExprTree → Option ℤ
 size_value s (tree.Number n) = Some (pos n)
 size_value s (tree.Place (tree.Variable n)) = constant_of (entity_of (lookup s.entries n.id))
 size_value s _ = None
 
+-- that of a declarator's size
+abbrev pub size_told : Scope → Option tree.IndexTree → Option ℤ
+size_told s None = None
+size_told s (Some i) = size_value s i.value
+
+-- as a number of slots or streams, where it is a size
+abbrev pub within_limit : ℤ → Option ℕ
+within_limit (pos n) = if is_size (Some (pos n)) then Some n else None
+within_limit (negsuc n) = None
+
 abbrev pub limited : Option ℤ → Option ℕ
 limited None = None
 limited (Some v) = within_limit v
 
--- the size, from 1 to the limit
 abbrev pub size_of : Scope → tree.ExprTree → Option ℕ
 size_of s e = limited (size_value s e)
 
@@ -55,7 +59,7 @@ scalar_entity owner.OfMain slot = entity.Control slot
 scalar_entity owner.OfFunction slot = entity.Scalar slot
 scalar_entity owner.OfTask slot = entity.Scalar slot
 
--- a size that is none counts as 0
+-- where the size is wrong, 0 stands for it
 abbrev pub form_entity : Scope → Form → Entity
 form_entity s form_of.Scalar = scalar_entity s.owner s.slots
 form_entity s (form_of.Array size) = entity.Array s.slots (unwrap_or size 0)

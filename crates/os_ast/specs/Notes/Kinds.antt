@@ -1,5 +1,6 @@
--- What may stand at a token of which a rule speaks, or whose name has a meaning.
-use Rattle.std.specs.Prelude.{ℕ, Bool, List}
+-- What may stand at a token of which a rule speaks, or whose name means something.
+use Rattle.std.specs.Prelude.{ℕ, List}
+use Rattle.os_ast.specs.Captured.{Scalar}
 use Rattle.os_ast.specs.Names.{Scope}
 use Rattle.os_ast.specs.Trees.{DeclaratorTree}
 use Rattle.os_ast.specs.declared.expr.Mark.{Mark}
@@ -24,10 +25,10 @@ pub data Note : Type 0 where
   Returned : Scope → Mark → Note
   -- the start of a `tick` or a `taskwait`
   Pragma : Scope → Mark → Note
-  -- the start of a task, with how many items it has, and the slots of the scalars that it captures
-  Task : Scope → Mark → ℕ → List ℕ → Note
-  -- the name of a part of a task's clauses, and whether a part before it has that name
-  Listed : Bool → Name → Note
+  -- the start of a task, with how many items it has, and the scalars that it captures
+  Task : Scope → Mark → ℕ → List Scalar → Note
+  -- the name of a part of a task's clauses, behind parts of these names
+  Listed : List ℕ → Name → Note
 
 -- its token
 abbrev pub mark_of : Note → Mark
@@ -39,5 +40,5 @@ mark_of (Global s n) = n.mark
 mark_of (Left s m) = m
 mark_of (Returned s m) = m
 mark_of (Pragma s m) = m
-mark_of (Task s m items slots) = m
-mark_of (Listed again n) = n.mark
+mark_of (Task s m items captured) = m
+mark_of (Listed before n) = n.mark
