@@ -20,4 +20,3 @@ pub mod Stands
 pub mod TaskCounts
 pub mod Tasks
 pub mod Windows
-pub mod Streams

@@ -11,7 +11,6 @@ pub mod Line
 pub mod Loading
 pub mod Loads
 pub mod Meaning
-pub mod Missing
 pub mod Names
 pub mod Program
 pub mod Reading

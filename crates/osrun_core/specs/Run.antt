@@ -5,7 +5,7 @@ use Rattle.osrun_core.specs.declared.first_program.FirstProgram.{FirstProgram}
 use Rattle.osrun_core.specs.declared.refusal.Subject.TheVariants.{Program, Input}
 use Rattle.osrun_core.specs.Command.{Job}
 use Rattle.osrun_core.specs.Loading.{FilesCall, IsHeld, IsLastOpened}
-use Rattle.osrun_core.specs.Meaning.{activations, meaning}
+use Rattle.osrun_core.specs.Meaning.{activations, program_ends}
 use Rattle.osrun_core.specs.Program.{IsProgramOf}
 use Rattle.osrun_core.specs.Refusal.{limit_of}
 use Rattle.osrun_core.specs.Report.{report, status}
@@ -13,9 +13,9 @@ use Rattle.osrun_core.specs.Written.{written}
 
 -- the output, the report and the status are those of the program's meaning over the input
 pub record IsRunOf (p : FirstProgram) (input output_bytes report_bytes : List ℕ) (status_number : ℕ) : Type 0 where
-  pub output : output_bytes ≡ written (activations p) input (meaning p input)
-  pub report : report_bytes ≡ report (activations p) input (meaning p input) control_end.Done
-  pub status : status_number ≡ status (meaning p input) control_end.Done
+  pub output : output_bytes ≡ written (program_ends p input).output
+  pub report : report_bytes ≡ report (activations p) (length input) (program_ends p input) control_end.Done
+  pub status : status_number ≡ status (program_ends p input).ends control_end.Done
 
 -- Both files were read whole, the first is a program, and the output, the report and the status are those
 -- of the program over the second.
