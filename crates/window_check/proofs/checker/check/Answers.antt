@@ -63,7 +63,7 @@ pub invariant_of-result : goal.invariant_of-result
 invariant_of-result c =
     let p = program_tree c.args.program in
     record {
-      leveled = ∣ c.requires.leveled ∣₁;
+      leveled = c.requires.leveled;
       few = c.requires.few;
       placed = c.requires.placed;
       lawful = lawful p
