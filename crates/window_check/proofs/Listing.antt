@@ -11,7 +11,7 @@ use Rattle.std.proofs.lemmas.Map.Lookups.{exact_unsigned}
 use Rattle.os_ast.specs.Names.{Scope, lookup, entity_of, declare}
 use Rattle.os_ast.specs.Notes.Clauses.{part_notes, parts_notes, window_notes, shape_of, with_items, named_entity}
 use Rattle.os_ast.specs.Notes.Expressions.{place_notes, index_notes}
-use Rattle.os_ast.specs.Notes.Kinds.{Note, Used, Listed}
+use Rattle.os_ast.specs.Notes.Kinds.{Used, Listed}
 use Rattle.os_ast.specs.Parts.{Part, Item, Private, part_name, is_in, count_items, target_name, item_name, private_ids}
 use Rattle.os_ast.specs.Trees as tree
 use Rattle.os_ast.specs.declared.expr.Name.{Name}

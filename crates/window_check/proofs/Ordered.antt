@@ -11,7 +11,7 @@ use Rattle.os_ast.specs.Notes.Kinds.{Note, Used, Sized, Declared, Given, Global,
 use Rattle.os_ast.specs.Notes.Programs.{params_notes, after_param, param_names, item_notes, items_notes, after_item, in_function, in_body, program_notes, file}
 use Rattle.os_ast.specs.Notes.Statements.{stmt_notes, stmts_notes, after_stmt}
 use Rattle.os_ast.specs.Operators.{assign_mark, step_mark}
-use Rattle.os_ast.specs.Parts.{Part, Item, Private, parts, parts_of, part_name, count_items, target_name, is_in}
+use Rattle.os_ast.specs.Parts.{Part, Item, Private, parts, parts_of, part_name, count_items, target_name}
 use Rattle.os_ast.specs.Spelling as spelling
 use Rattle.os_ast.specs.Spelling.{Piece, bare, marked, pieces, ◌⨾◌}
 use Rattle.os_ast.specs.Trees as tree
