@@ -19,3 +19,4 @@ pub mod Subs
 pub mod Complete
 pub mod Steps
 pub mod Ways
+pub mod Choices

@@ -21,6 +21,7 @@ use Rattle.core_steps.specs.Steps.{end_of, CanSplit, after_split, CanJoin, after
 use Rattle.core_steps.specs.Counted.{one, counted_at}
 use Rattle.core_steps.specs.IsGood.{IsGood, IsLast}
 use Rattle.core_steps.specs.Reached.{Way, stores, claimed_outcomes}
+use Rattle.core_steps.specs.Choices.{Choice, taken, reached_by}
 
 -- What is known of a run is fit: the plan is sound, and a frame that is Done has all its outputs.
 pub record IsFit (known : Known) : Type 0 where
@@ -130,3 +131,14 @@ pub record IsComplete (known : Known) (state : CoreState) : Type 0 where
 
 abbrev pub LeavesNothing : Type 0
 LeavesNothing = (known : Known) (outcome : ℕ → List ℤ → Outcome) (state : CoreState) (seat : ℕ) (view : View) → IsFit known → IsMeant known outcome → IsGood known state → slice_get state.seats seat ≡ Some view → IsLast known view → view.run ≡ None → length known.plan.frames ≤ view.looks → IsComplete known state
+
+-- the choices that can be taken are exactly the steps
+abbrev pub ChoicesAreSteps : Type 0
+ChoicesAreSteps = (known : Known) (state new : CoreState) (choice : Choice) → taken known state choice ≡ Some new → Step known state new
+
+abbrev pub StepsAreChoices : Type 0
+StepsAreChoices = (known : Known) (state new : CoreState) → Step known state new → (choice : Choice) × (taken known state choice ≡ Some new)
+
+-- and the states that they reach are reached by steps
+abbrev pub ChoicesAreWays : Type 0
+ChoicesAreWays = (known : Known) (state : CoreState) (choices : List Choice) → reached_by known choices ≡ Some state → Way known state

@@ -5,6 +5,8 @@ pub mod Steps
 -- Good states.
 pub mod Counted
 pub mod IsGood
+-- Steps by choice, for tables.
+pub mod Choices
 -- What holds of them.
 pub mod Reached
 pub mod Laws
