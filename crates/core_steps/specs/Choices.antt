@@ -1,7 +1,7 @@
 -- Steps by choice, for tables of states: what a state becomes where a seat makes a step of a kind, or none
 -- where it can't. A law says that these are exactly the steps.
-use Rattle.std.specs.Prelude.{ℕ, ◌+◌, ◌==◌, Bool, false, not, ◌&&◌, nat_lt, nat_le, if◌then◌else◌, List, [], ◌∷◌, Option, Some, None, is_none, length, slice_get, option_and_then}
-use Rattle.std.specs.List.{fold}
+use Rattle.std.specs.Prelude.{ℕ, ◌+◌, ◌==◌, Bool, false, not, ◌&&◌, nat_lt, nat_le, if◌then◌else◌, List, [], ◌∷◌, ◌++◌, Option, Some, None, is_none, is_some, map, length, take, count_by, slice_get, option_and_then}
+use Rattle.std.specs.List.{fold, range_with_len}
 use Rattle.std.specs.Option.{option_map_or}
 use Rattle.flow_core.specs.declared.plan.Piece.{Piece}
 use Rattle.flow_core.specs.declared.plan.Plan.{Plan}
@@ -62,3 +62,11 @@ taken known s (to_look i) = option_and_then (λ (v : View). if is_none v.run && 
 -- The state after the choices of a list, from opening, where each can be taken.
 abbrev pub reached_by : Known → List Choice → Option CoreState
 reached_by known choices = fold (λ (s : Option CoreState) (c : Choice). option_and_then (λ (t : CoreState). taken known t c) s) (Some (opening known)) choices
+
+-- The states along the choices of a list, from opening on.
+abbrev pub states_along : Known → List Choice → List (Option CoreState)
+states_along known choices = map (λ (k : ℕ). reached_by known (take k choices)) (range_with_len 0 (length choices + 1))
+
+-- How many of some choices can be taken after the first few of a list.
+abbrev pub allowed_after : Known → List Choice → List Choice → ℕ
+allowed_after known before tries = count_by (λ (c : Choice). is_some (reached_by known (before ++ c ∷ []))) tries

@@ -10,3 +10,6 @@ pub mod Choices
 -- What holds of them.
 pub mod Reached
 pub mod Laws
+-- Two plans, step by step, and steps that would break a state.
+pub mod ReaderFirst
+pub mod TwoProducers

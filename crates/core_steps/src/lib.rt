@@ -11,6 +11,7 @@
 //! gives is what the meaning has, each frame runs once, and no frame is left behind.
 #![tactic(auto)]
 
+pub mod examples;
 mod known;
 pub mod laws;
 mod view;
