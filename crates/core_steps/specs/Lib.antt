@@ -13,3 +13,4 @@ pub mod Laws
 -- Two plans, step by step, and steps that would break a state.
 pub mod ReaderFirst
 pub mod TwoProducers
+pub mod WrongSteps

@@ -23,6 +23,9 @@ ghost use Rattle.core_steps.specs.Laws.{
   StartedStays,
   WaitsNoMore,
   KnownWaitsNoMore,
+  ChoicesAreSteps,
+  StepsAreChoices,
+  ChoicesAreWays,
   RunsAreConfluent,
   LeavesNothing,
 };
@@ -114,4 +117,11 @@ pub fn confluence()
 /// Where the last seat runs nothing and has looked as often as there are frames, nothing is left out.
 pub fn nothing_left()
     ensures { LeavesNothing }
+{}
+
+/// What a seat can choose are exactly the steps, so tables of choices are tables of steps.
+pub fn choices_are_the_steps()
+    ensures step { ChoicesAreSteps }
+    ensures choice { StepsAreChoices }
+    ensures way { ChoicesAreWays }
 {}

@@ -16,6 +16,7 @@ mod known;
 pub mod laws;
 mod view;
 mod word;
+pub mod wrong_steps;
 
 pub use known::Known;
 pub use view::{Run, View};
