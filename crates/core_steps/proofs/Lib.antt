@@ -20,3 +20,4 @@ pub mod Complete
 pub mod Steps
 pub mod Ways
 pub mod Choices
+pub mod Fitting

@@ -16,7 +16,7 @@ use Rattle.core_steps.specs.declared.view.Run.{Run}
 use Rattle.core_steps.specs.declared.view.View.{View}
 use Rattle.core_steps.specs.declared.word.Word.TheVariants.{Wait}
 use Rattle.core_steps.specs.Words.{word_at, opening_words, waits, is_open, is_started, end_in}
-use Rattle.core_steps.specs.States.{CoreState, IsSeat, opening, runs_of, times_in_all, knows}
+use Rattle.core_steps.specs.States.{CoreState, IsSeat, opening, runs_of, times, times_in_all, knows}
 use Rattle.core_steps.specs.Steps.{end_of, CanSplit, after_split, CanJoin, after_join, CanClaim, after_claim, CanRead, CanStore, after_store, CanSub, after_sub, CanFinish, after_finish, CanLook, after_look, Step}
 use Rattle.core_steps.specs.Counted.{one, counted_at}
 use Rattle.core_steps.specs.IsGood.{IsGood, IsLast}
@@ -93,6 +93,13 @@ RunsAtMostOnce = (known : Known) (state : CoreState) (f : ℕ) → IsGood known 
 -- it waits no more
 abbrev pub IsMadeOnce : Type 0
 IsMadeOnce = (known : Known) (state : CoreState) (f : ℕ) → IsGood known state → waits (word_at (opening_words known.plan) f) ≡ true → waits (word_at state.words f) ≡ false → times_in_all (λ v. v.made) state f ≡ 1
+
+-- a frame that is Open stands in no ran list yet, and one that waits in no made list
+abbrev pub OpenIsNew : Type 0
+OpenIsNew = (known : Known) (state : CoreState) (seat : ℕ) (view : View) (f : ℕ) → IsGood known state → slice_get state.seats seat ≡ Some view → is_open (word_at state.words f) ≡ true → times f view.ran ≡ 0
+
+abbrev pub WaitingIsNew : Type 0
+WaitingIsNew = (known : Known) (state : CoreState) (seat : ℕ) (view : View) (f : ℕ) → IsGood known state → slice_get state.seats seat ≡ Some view → waits (word_at state.words f) ≡ true → times f view.made ≡ 0
 
 -- where a CLAIM succeeds each cell of the frame was filled at opening or its piece counts, once
 abbrev pub ClaimFindsItsCells : Type 0

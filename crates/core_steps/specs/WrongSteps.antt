@@ -14,12 +14,14 @@ use Rattle.core_steps.specs.declared.word.Word.TheVariants.{Wait, Open, Taken}
 use Rattle.core_steps.specs.States.{CoreState, fresh, opening}
 use Rattle.core_steps.specs.Steps.{claimed, after_sub, after_finish, subtracted}
 use Rattle.core_steps.specs.IsGood.{IsGood}
+use Rattle.core_steps.specs.Laws.{IsFit}
 use Rattle.core_steps.specs.Reached.{Way}
 use Rattle.core_steps.specs.ReaderFirst as reader
 use Rattle.core_steps.specs.TwoProducers as two
 
--- Steps reach a state, and what a wrong step would leave of it isn't good.
+-- Steps reach a state of a plan that is sound, and what a wrong step would leave of it isn't good.
 pub record Breaks (known : Known) (state wrong : CoreState) : Type 0 where
+  pub is_fit : IsFit known
   pub reached : Way known state
   pub is_not_good : ¬ (IsGood known wrong)
 
@@ -66,6 +68,9 @@ pairs = record {
   meaning = Some (outcome_of Done (pos 5 ∷ pos 7 ∷ [])) ∷ Some (outcome_of Done []) ∷ [];
   seats = 1;
 }
+
+abbrev pub pairs_outcome : ℕ → List ℤ → Outcome
+pairs_outcome frame inputs = if frame == 0 then outcome_of Done (pos 5 ∷ pos 7 ∷ []) else outcome_of Done []
 
 abbrev pub pairs_seat : Option Run → List ℕ → View
 pairs_seat run ran = record { about = pairs; run = run; made = []; ran = ran; missed = []; found = []; lost = []; looks = 0; shares = 1 }

@@ -18,6 +18,8 @@ ghost use Rattle.core_steps.specs.Laws.{
   SubFindsItsCount,
   ClaimFindsItsCells,
   RunsAtMostOnce,
+  OpenIsNew,
+  WaitingIsNew,
   IsMadeOnce,
   IsStoredOnce,
   StartedStays,
@@ -98,12 +100,14 @@ pub fn claim_finds_its_cells()
 /// Each frame runs at most once, and is never Open again once it was claimed.
 pub fn runs_at_most_once()
     ensures once { RunsAtMostOnce }
+    ensures new { OpenIsNew }
     ensures stays { StartedStays }
 {}
 
 /// A frame that waited is made once. It never waits again, and a frame that a seat knows doesn't wait.
 pub fn made_once()
     ensures once { IsMadeOnce }
+    ensures new { WaitingIsNew }
     ensures stays { WaitsNoMore }
     ensures known { KnownWaitsNoMore }
 {}

@@ -2,7 +2,7 @@
 //! and ensures that what the wrong step leaves isn't good.
 
 ghost use Rattle.core_steps.specs.Laws.{IsMeant};
-ghost use Rattle.core_steps.specs.WrongSteps.{SubsBeforeItStores, FinishesBeforeItGives, ClaimsWithoutLooking, CountsProducers, OpensAtTheFirstPiece, StoresOfTrapped, CountsAnOpenFrame, trapped, trapped_outcome};
+ghost use Rattle.core_steps.specs.WrongSteps.{SubsBeforeItStores, FinishesBeforeItGives, ClaimsWithoutLooking, CountsProducers, OpensAtTheFirstPiece, StoresOfTrapped, CountsAnOpenFrame, pairs, pairs_outcome, trapped, trapped_outcome};
 
 /// A SUB before the elements of its piece are stored: a cell counts that is empty.
 pub fn sub_before_store()
@@ -22,6 +22,7 @@ pub fn claim_in_two_steps()
 /// A counter of producers, and a frame that opens at the first piece of each: the word isn't the number
 /// of elements that the frame misses.
 pub fn counter_of_producers()
+    ensures meaning { IsMeant pairs pairs_outcome }
     ensures counts { CountsProducers }
     ensures opens { OpensAtTheFirstPiece }
 {}

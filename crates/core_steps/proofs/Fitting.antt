@@ -1,0 +1,50 @@
+-- The plans of the tables and of the wrong steps are sound, with meanings that fit them.
+use Rattle.std.proofs.Common.{◌≡◌, ℕ, zero, suc, ◌<◌, Some, None, length, true, false, refl, sym, ap, ◌∙◌, arith}
+use Rattle.std.proofs.lemmas.Option.{same_Some}
+use Rattle.flow_core.specs.declared.outcome.Outcome.{Outcome}
+use Rattle.flow_core.specs.declared.task_end.TaskEnd.TheVariants.{Done}
+use Rattle.flow_core.specs.Outcome.{outcome_at, is_done}
+use Rattle.flow_core.specs.Plans.{frame_at}
+use Rattle.flow_core.proofs.SoundTests.{IsSound-from_tests}
+use Rattle.core_steps.specs.declared.known.Known.{Known}
+use Rattle.core_steps.specs.Laws.{IsFit}
+use Rattle.core_steps.specs.ReaderFirst as reader
+use Rattle.core_steps.specs.TwoProducers as two
+use Rattle.core_steps.specs.WrongSteps.{pairs, trapped}
+
+-- as many outputs as an outcome that is there has
+has_length : (o p : Outcome) → Some o ≡ Some p → length p.outputs ≡ length o.outputs
+has_length o p h = ap (λ (o : Outcome). length o.outputs) (sym (same_Some o p h))
+
+reader_outputs : (f : ℕ) (o : Outcome) → f < 2 → outcome_at reader.known.meaning f ≡ Some o → o.end ≡ Done → length o.outputs ≡ (frame_at reader.known.plan f).outputs
+reader_outputs zero o lt h done = has_length _ o h
+reader_outputs (suc zero) o lt h done = has_length _ o h
+reader_outputs (suc (suc f)) o lt h done = absurd (omega arith)
+
+pub reader_fit : IsFit reader.known
+reader_fit = record { plan_is_sound = IsSound-from_tests reader.known.plan refl refl refl refl refl refl refl refl refl refl refl refl; done_has_outputs = reader_outputs }
+
+two_outputs : (f : ℕ) (o : Outcome) → f < 3 → outcome_at two.known.meaning f ≡ Some o → o.end ≡ Done → length o.outputs ≡ (frame_at two.known.plan f).outputs
+two_outputs zero o lt h done = has_length _ o h
+two_outputs (suc zero) o lt h done = has_length _ o h
+two_outputs (suc (suc zero)) o lt h done = has_length _ o h
+two_outputs (suc (suc (suc f))) o lt h done = absurd (omega arith)
+
+pub two_fit : IsFit two.known
+two_fit = record { plan_is_sound = IsSound-from_tests two.known.plan refl refl refl refl refl refl refl refl refl refl refl refl; done_has_outputs = two_outputs }
+
+pairs_outputs : (f : ℕ) (o : Outcome) → f < 2 → outcome_at pairs.meaning f ≡ Some o → o.end ≡ Done → length o.outputs ≡ (frame_at pairs.plan f).outputs
+pairs_outputs zero o lt h done = has_length _ o h
+pairs_outputs (suc zero) o lt h done = has_length _ o h
+pairs_outputs (suc (suc f)) o lt h done = absurd (omega arith)
+
+pub pairs_fit : IsFit pairs
+pairs_fit = record { plan_is_sound = IsSound-from_tests pairs.plan refl refl refl refl refl refl refl refl refl refl refl refl; done_has_outputs = pairs_outputs }
+
+trapped_outputs : (f : ℕ) (o : Outcome) → f < 2 → outcome_at trapped.meaning f ≡ Some o → o.end ≡ Done → length o.outputs ≡ (frame_at trapped.plan f).outputs
+trapped_outputs zero o lt h done = let z : None ≡ Some o = h in absurd (cc)
+trapped_outputs (suc zero) o lt h done = let z : false ≡ true = ap is_done (ap (λ (o : Outcome). o.end) (same_Some _ o h) ∙ done) in absurd (cc)
+trapped_outputs (suc (suc f)) o lt h done = absurd (omega arith)
+
+pub trapped_fit : IsFit trapped
+trapped_fit = record { plan_is_sound = IsSound-from_tests trapped.plan refl refl refl refl refl refl refl refl refl refl refl refl; done_has_outputs = trapped_outputs }
