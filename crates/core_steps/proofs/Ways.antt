@@ -28,10 +28,10 @@ use Rattle.core_steps.specs.declared.word.Word.TheVariants.{Wait, Open, Taken, E
 use Rattle.core_steps.specs.Words.{word_at, amount, is_open, is_taken, is_started, has_delivered, lowered}
 use Rattle.core_steps.specs.States.{CoreState, runs_of, opening}
 use Rattle.core_steps.specs.Counted.{one, is_run_of, is_past, counted, counted_at}
-use Rattle.core_steps.specs.Steps.{Step, split, join, claim, read, store, sub, finish, look, CanStore, after_split, after_join, after_store, after_sub, after_finish, after_look, claimed, missed, with_view}
+use Rattle.core_steps.specs.Steps.{Step, split, join, claim, read, store, sub, finish, look, CanStore, after_split, after_join, after_store, after_sub, after_finish, after_look, with_claim, with_miss, with_view}
 use Rattle.core_steps.specs.IsGood.{IsGood}
 use Rattle.core_steps.specs.Laws.{IsFit, IsMeant, IsInOrder}
-use Rattle.core_steps.specs.Reached.{Way, opens, goes, stores_into, stores, claimed_outcomes}
+use Rattle.core_steps.specs.Ways.{Way, opens, goes, stores_into, stores, claimed_outcomes}
 use Rattle.core_steps.proofs.Words.{open_is, word_at-set, word_at-kept}
 use Rattle.core_steps.proofs.Opening.{count_by-fewer}
 use Rattle.core_steps.proofs.Opens.{opening_not_started}
@@ -69,10 +69,10 @@ step_fills known old new c fit g (split seat view can) = plus_none (one (is_some
 step_fills known old new c fit g (join seat view other gone can) = plus_none (one (is_some (value_at old.cells c)))
 step_fills known old new c fit g (claim seat view frame can) = by (is_open (word_at old.words frame))
   where
-    by : (b : Bool) → one (is_some (value_at (if b then (record { words = set old.words frame Taken; cells = old.cells; seats = set old.seats seat (claimed known view frame) }) else with_view old seat (missed known view frame)).cells c)) ≡ one (is_some (value_at old.cells c)) + 0
+    by : (b : Bool) → one (is_some (value_at (if b then (record { words = set old.words frame Taken; cells = old.cells; seats = set old.seats seat (with_claim known view frame) }) else with_view old seat (with_miss known view frame)).cells c)) ≡ one (is_some (value_at old.cells c)) + 0
     by true = plus_none (one (is_some (value_at old.cells c)))
     by false = plus_none (one (is_some (value_at old.cells c)))
-step_fills known old new c fit g (read seat view cell can) = plus_none (one (is_some (value_at old.cells c)))
+step_fills known old new c fit g (read seat view run cell can) = plus_none (one (is_some (value_at old.cells c)))
 step_fills known old new c fit g (store seat view run piece can) = store_fills known old seat view run piece c fit g can
 step_fills known old new c fit g (sub seat view run piece can) = plus_none (one (is_some (value_at old.cells c)))
 step_fills known old new c fit g (finish seat view run end can) = plus_none (one (is_some (value_at old.cells c)))
@@ -236,10 +236,10 @@ step_reaches known outcome old new fit is_meant g step reached = by new step
     by t (join seat view other gone can) = same (after_join old seat view other gone) (λ f. refl)
     by t (claim seat view frame can) = choose (is_open (word_at old.words frame)) refl
       where
-        choose : (b : Bool) → is_open (word_at old.words frame) ≡ b → Reached (plan_reads known.plan) outcome (length known.plan.frames) (claimed_outcomes known (if b then (record { words = set old.words frame Taken; cells = old.cells; seats = set old.seats seat (claimed known view frame) }) else with_view old seat (missed known view frame)))
-        choose true e = fires known outcome old frame fit is_meant g can.exists (open_is (word_at old.words frame) e) (record { words = set old.words frame Taken; cells = old.cells; seats = set old.seats seat (claimed known view frame) }) refl reached
-        choose false e = same (with_view old seat (missed known view frame)) (λ f. refl)
-    by t (read seat view cell can) = reached
+        choose : (b : Bool) → is_open (word_at old.words frame) ≡ b → Reached (plan_reads known.plan) outcome (length known.plan.frames) (claimed_outcomes known (if b then (record { words = set old.words frame Taken; cells = old.cells; seats = set old.seats seat (with_claim known view frame) }) else with_view old seat (with_miss known view frame)))
+        choose true e = fires known outcome old frame fit is_meant g can.exists (open_is (word_at old.words frame) e) (record { words = set old.words frame Taken; cells = old.cells; seats = set old.seats seat (with_claim known view frame) }) refl reached
+        choose false e = same (with_view old seat (with_miss known view frame)) (λ f. refl)
+    by t (read seat view run cell can) = reached
     by t (store seat view run piece can) = same (after_store known old seat view run piece) (λ f. refl)
     by t (sub seat view run piece can) = same (after_sub old seat view run piece) (λ f. kept f (cases_lt piece.to (length old.words)))
       where

@@ -20,8 +20,8 @@ use Rattle.core_steps.specs.States.{CoreState, IsSeat, opening, runs_of, times, 
 use Rattle.core_steps.specs.Steps.{end_of, CanSplit, after_split, CanJoin, after_join, CanClaim, after_claim, CanRead, CanStore, after_store, CanSub, after_sub, CanFinish, after_finish, CanLook, after_look, Step}
 use Rattle.core_steps.specs.Counted.{one, counted_at}
 use Rattle.core_steps.specs.IsGood.{IsGood, IsLast}
-use Rattle.core_steps.specs.Reached.{Way, stores, claimed_outcomes}
-use Rattle.core_steps.specs.Choices.{Choice, taken, reached_by}
+use Rattle.core_steps.specs.Ways.{Way, stores, claimed_outcomes}
+use Rattle.core_steps.specs.Choices.{Choice, after_choice, choice_of, reached_by}
 
 -- What is known of a run is fit: the plan is sound, and a frame that is Done has all its outputs.
 pub record IsFit (known : Known) : Type 0 where
@@ -49,7 +49,7 @@ abbrev pub SplitKeepsGood : Type 0
 SplitKeepsGood = (known : Known) (state : CoreState) (seat : ℕ) (view : View) → IsFit known → IsGood known state → CanSplit state seat view → IsGood known (after_split state seat view)
 
 abbrev pub JoinKeepsGood : Type 0
-JoinKeepsGood = (known : Known) (state : CoreState) (seat : ℕ) (view : View) (other : ℕ) (taken : View) → IsFit known → IsGood known state → CanJoin state seat view other taken → IsGood known (after_join state seat view other taken)
+JoinKeepsGood = (known : Known) (state : CoreState) (seat : ℕ) (view : View) (other : ℕ) (guest : View) → IsFit known → IsGood known state → CanJoin state seat view other guest → IsGood known (after_join state seat view other guest)
 
 abbrev pub ClaimKeepsGood : Type 0
 ClaimKeepsGood = (known : Known) (state : CoreState) (seat : ℕ) (view : View) (frame : ℕ) → IsFit known → IsGood known state → CanClaim known state seat view frame → IsGood known (after_claim known state seat view frame)
@@ -75,7 +75,7 @@ ReachedIsGood = (known : Known) (state : CoreState) → IsFit known → Way know
 
 -- what a READ gives is there, and is the meaning's element
 abbrev pub ReadsTheMeaning : Type 0
-ReadsTheMeaning = (known : Known) (state : CoreState) (seat : ℕ) (view : View) (cell : ℕ) → IsFit known → IsGood known state → CanRead known state seat view cell → (value : ℤ) × (value_at state.cells cell ≡ Some value) × (element known.meaning (cell_source known.plan cell) ≡ Some value)
+ReadsTheMeaning = (known : Known) (state : CoreState) (seat : ℕ) (view : View) (run : Run) (cell : ℕ) → IsFit known → IsGood known state → CanRead known state seat view run cell → (value : ℤ) × (value_at state.cells cell ≡ Some value) × (element known.meaning (cell_source known.plan cell) ≡ Some value)
 
 -- a STORE finds its cell empty, and has a value for it
 abbrev pub StoresIntoEmpty : Type 0
@@ -139,12 +139,12 @@ pub record IsComplete (known : Known) (state : CoreState) : Type 0 where
 abbrev pub LeavesNothing : Type 0
 LeavesNothing = (known : Known) (outcome : ℕ → List ℤ → Outcome) (state : CoreState) (seat : ℕ) (view : View) → IsFit known → IsMeant known outcome → IsGood known state → slice_get state.seats seat ≡ Some view → IsLast known view → view.run ≡ None → length known.plan.frames ≤ view.looks → IsComplete known state
 
--- the choices that can be taken are exactly the steps
+-- the choices that can be taken are exactly the steps, each of its kind
 abbrev pub ChoicesAreSteps : Type 0
-ChoicesAreSteps = (known : Known) (state new : CoreState) (choice : Choice) → taken known state choice ≡ Some new → Step known state new
+ChoicesAreSteps = (known : Known) (state new : CoreState) (choice : Choice) → after_choice known state choice ≡ Some new → (step : Step known state new) × (choice_of known state new step ≡ choice)
 
 abbrev pub StepsAreChoices : Type 0
-StepsAreChoices = (known : Known) (state new : CoreState) → Step known state new → (choice : Choice) × (taken known state choice ≡ Some new)
+StepsAreChoices = (known : Known) (state new : CoreState) (step : Step known state new) → after_choice known state (choice_of known state new step) ≡ Some new
 
 -- and the states that they reach are reached by steps
 abbrev pub ChoicesAreWays : Type 0

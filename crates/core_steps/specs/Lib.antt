@@ -8,7 +8,7 @@ pub mod IsGood
 -- Steps by choice, for tables.
 pub mod Choices
 -- What holds of them.
-pub mod Reached
+pub mod Ways
 pub mod Laws
 -- Two plans, step by step, and steps that would break a state.
 pub mod ReaderFirst

@@ -12,10 +12,10 @@ use Rattle.core_steps.specs.declared.view.View.{View}
 use Rattle.core_steps.specs.declared.word.Word.{Word}
 use Rattle.core_steps.specs.declared.word.Word.TheVariants.{Wait, Open, Taken}
 use Rattle.core_steps.specs.States.{CoreState, fresh, opening}
-use Rattle.core_steps.specs.Steps.{claimed, after_sub, after_finish, subtracted}
+use Rattle.core_steps.specs.Steps.{with_claim, after_sub, after_finish, with_sub}
 use Rattle.core_steps.specs.IsGood.{IsGood}
 use Rattle.core_steps.specs.Laws.{IsFit}
-use Rattle.core_steps.specs.Reached.{Way}
+use Rattle.core_steps.specs.Ways.{Way}
 use Rattle.core_steps.specs.ReaderFirst as reader
 use Rattle.core_steps.specs.TwoProducers as two
 
@@ -48,7 +48,7 @@ FinishesBeforeItGives = Breaks reader.known giver_runs (after_finish giver_runs 
 
 -- A claim in two steps, a load and then a store: the frame may be Taken when the store comes.
 abbrev pub blind_claim : Known → CoreState → ℕ → View → ℕ → CoreState
-blind_claim known state seat view frame = record { words = slice_set state.words frame Taken; cells = state.cells; seats = slice_set state.seats seat (claimed known view frame) }
+blind_claim known state seat view frame = record { words = slice_set state.words frame Taken; cells = state.cells; seats = slice_set state.seats seat (with_claim known view frame) }
 
 abbrev pub one_producer_runs : CoreState
 one_producer_runs = two.state Taken Open (Wait 2) (Wait 1) (two.read None None) (two.seat (two.at 0 0 0) [] (0 ∷ []) 0 1 ∷ two.seat None [] [] 0 1 ∷ [])
@@ -84,7 +84,7 @@ abbrev pub first_stored : CoreState
 first_stored = record { words = Taken ∷ Wait 2 ∷ Open ∷ []; cells = Some (pos 5) ∷ None ∷ []; seats = pairs_seat (Some (record { frame = 0; piece = 0; stored = 1 })) (0 ∷ []) ∷ [] }
 
 abbrev pub opened_early : CoreState
-opened_early = record { words = Taken ∷ Open ∷ Open ∷ []; cells = Some (pos 5) ∷ None ∷ []; seats = subtracted (pairs_seat (Some (record { frame = 0; piece = 0; stored = 1 })) (0 ∷ [])) (record { frame = 0; piece = 0; stored = 1 }) 1 true ∷ [] }
+opened_early = record { words = Taken ∷ Open ∷ Open ∷ []; cells = Some (pos 5) ∷ None ∷ []; seats = with_sub (pairs_seat (Some (record { frame = 0; piece = 0; stored = 1 })) (0 ∷ [])) (record { frame = 0; piece = 0; stored = 1 }) 1 true ∷ [] }
 
 abbrev pub OpensAtTheFirstPiece : Type 0
 OpensAtTheFirstPiece = Breaks pairs first_stored opened_early

@@ -5,7 +5,7 @@ use Rattle.core_steps.proofs.Choices.{choices_are_ways}
 use Rattle.core_steps.proofs.Fitting.{pairs_fit}
 use Rattle.flow_core.specs.Plans.{cell_source}
 use Rattle.flow_core.specs.Round.{round, rounds, meaning}
-use Rattle.core_steps.specs.Reached.{opens}
+use Rattle.core_steps.specs.Ways.{opens}
 use Rattle.core_steps.proofs.wrong_steps.counter_of_producers.Goals as goal
 
 pub returns-clause-meaning : goal.returns-clause-meaning
