@@ -28,7 +28,3 @@ stores_into known old new cell (look seat view needs) = false
 abbrev pub stores : (known : Known) (state : CoreState) → ℕ → Way known state → ℕ
 stores known state cell opens = 0
 stores known state cell (goes old new way step) = stores known old cell way + one (stores_into known old new cell step)
-
--- The outcomes of the frames that were claimed.
-unfoldable pub claimed_outcomes : Known → CoreState → State
-claimed_outcomes known state = map (λ f. if is_started (word_at state.words f) then outcome_at known.meaning f else None) (range_with_len 0 (length known.plan.frames))

@@ -112,8 +112,8 @@ pub fn made_once()
     ensures known { KnownWaitsNoMore }
 {}
 
-/// Whatever the order of the steps, the frames ran in an order in which each was enabled, so what they
-/// gave is the meaning's.
+/// Whatever the order of the steps, the frames that were claimed ran in an order in which each was enabled.
+/// So what they gave is the meaning's, and where nothing more is enabled it is the meaning.
 pub fn confluence()
     ensures { RunsAreConfluent }
 {}
