@@ -140,37 +140,37 @@ choices_are_steps known s t (to_look i) h =
 
 pub steps_are_choices : (known : Known) (s t : CoreState) (step : Step known s t) → after_choice known s (choice_of known s t step) ≡ Some t
 steps_are_choices known s t (split i v can) =
-  ap (option_and_then (λ (v : View). if nat_le 2 v.shares then Some (after_split s i v) else None)) (seat_is s i v can.is_seat)
-      ∙ passed (nat_le 2 v.shares) (after_split s i v) (le-leb 2 v.shares can.has_two_shares)
+    ap (option_and_then (λ (v : View). if nat_le 2 v.shares then Some (after_split s i v) else None)) (seat_is s i v can.is_seat)
+    ∙ passed (nat_le 2 v.shares) (after_split s i v) (le-leb 2 v.shares can.has_two_shares)
 steps_are_choices known s t (join i v j w can) =
-  ap (option_and_then (λ (v : View). option_and_then (λ (w : View). if not (j == i) && is_none w.run then Some (after_join s i v j w) else None) (seat_in s j))) (seat_is s i v can.is_seat)
-      ∙ ap (option_and_then (λ (w : View). if not (j == i) && is_none w.run then Some (after_join s i v j w) else None)) (seat_is s j w can.is_other_seat)
-      ∙ passed (not (j == i) && is_none w.run) (after_join s i v j w) (and_from (not (j == i)) (is_none w.run) (ap not (ne_eqb j i can.are_two)) (ap is_none can.runs_nothing))
+    ap (option_and_then (λ (v : View). option_and_then (λ (w : View). if not (j == i) && is_none w.run then Some (after_join s i v j w) else None) (seat_in s j))) (seat_is s i v can.is_seat)
+    ∙ ap (option_and_then (λ (w : View). if not (j == i) && is_none w.run then Some (after_join s i v j w) else None)) (seat_is s j w can.is_other_seat)
+    ∙ passed (not (j == i) && is_none w.run) (after_join s i v j w) (and_from (not (j == i)) (is_none w.run) (ap not (ne_eqb j i can.are_two)) (ap is_none can.runs_nothing))
 steps_are_choices known s t (claim i v f can) =
-  ap (option_and_then (λ (v : View). if is_none v.run && nat_lt f (length known.plan.frames) then Some (after_claim known s i v f) else None)) (seat_is s i v can.is_seat)
-      ∙ passed (is_none v.run && nat_lt f (length known.plan.frames)) (after_claim known s i v f) (and_from (is_none v.run) (nat_lt f (length known.plan.frames)) (ap is_none can.runs_nothing) (lt-ltb f (length known.plan.frames) can.exists))
+    ap (option_and_then (λ (v : View). if is_none v.run && nat_lt f (length known.plan.frames) then Some (after_claim known s i v f) else None)) (seat_is s i v can.is_seat)
+    ∙ passed (is_none v.run && nat_lt f (length known.plan.frames)) (after_claim known s i v f) (and_from (is_none v.run) (nat_lt f (length known.plan.frames)) (ap is_none can.runs_nothing) (lt-ltb f (length known.plan.frames) can.exists))
 steps_are_choices known s t (read i v r c can) =
     ap (option_and_then (λ (v : View). option_and_then (λ (r : Run). if is_first_place known.plan r && is_cell_of known.plan r.frame c then Some s else None) v.run)) (seat_is s i v can.is_seat)
     ∙ ap (option_and_then (λ (r : Run). if is_first_place known.plan r && is_cell_of known.plan r.frame c then Some s else None)) can.runs
     ∙ passed (is_first_place known.plan r && is_cell_of known.plan r.frame c) s (and_from (is_first_place known.plan r) (is_cell_of known.plan r.frame c) (first_is known.plan r can.gave_nothing) (and_from (nat_le (frame_at known.plan r.frame).cell c) (nat_lt c ((frame_at known.plan r.frame).cell + (frame_at known.plan r.frame).inputs)) (le-leb (frame_at known.plan r.frame).cell c can.is_its_cell.0) (lt-ltb c ((frame_at known.plan r.frame).cell + (frame_at known.plan r.frame).inputs) can.is_its_cell.1)))
 steps_are_choices known s t (store i v r p can) =
-  ap (option_and_then (λ (v : View). option_and_then (λ (r : Run). option_and_then (λ (p : Piece). if is_meant_done known r.frame && nat_lt r.stored p.count then Some (after_store known s i v r p) else None) (own_piece known.plan r)) v.run)) (seat_is s i v can.is_seat)
-      ∙ ap (option_and_then (λ (r : Run). option_and_then (λ (p : Piece). if is_meant_done known r.frame && nat_lt r.stored p.count then Some (after_store known s i v r p) else None) (own_piece known.plan r))) can.runs
-      ∙ ap (option_and_then (λ (p : Piece). if is_meant_done known r.frame && nat_lt r.stored p.count then Some (after_store known s i v r p) else None)) (piece_is known.plan r p can.stands)
-      ∙ passed (is_meant_done known r.frame && nat_lt r.stored p.count) (after_store known s i v r p) (and_from (is_meant_done known r.frame) (nat_lt r.stored p.count) (ap (λ o. option_map_or is_done o false) can.is_done) (lt-ltb r.stored p.count can.has_more))
+    ap (option_and_then (λ (v : View). option_and_then (λ (r : Run). option_and_then (λ (p : Piece). if is_meant_done known r.frame && nat_lt r.stored p.count then Some (after_store known s i v r p) else None) (own_piece known.plan r)) v.run)) (seat_is s i v can.is_seat)
+    ∙ ap (option_and_then (λ (r : Run). option_and_then (λ (p : Piece). if is_meant_done known r.frame && nat_lt r.stored p.count then Some (after_store known s i v r p) else None) (own_piece known.plan r))) can.runs
+    ∙ ap (option_and_then (λ (p : Piece). if is_meant_done known r.frame && nat_lt r.stored p.count then Some (after_store known s i v r p) else None)) (piece_is known.plan r p can.stands)
+    ∙ passed (is_meant_done known r.frame && nat_lt r.stored p.count) (after_store known s i v r p) (and_from (is_meant_done known r.frame) (nat_lt r.stored p.count) (ap (λ o. option_map_or is_done o false) can.is_done) (lt-ltb r.stored p.count can.has_more))
 steps_are_choices known s t (sub i v r p can) =
-  ap (option_and_then (λ (v : View). option_and_then (λ (r : Run). option_and_then (λ (p : Piece). if r.stored == p.count then Some (after_sub s i v r p) else None) (own_piece known.plan r)) v.run)) (seat_is s i v can.is_seat)
-      ∙ ap (option_and_then (λ (r : Run). option_and_then (λ (p : Piece). if r.stored == p.count then Some (after_sub s i v r p) else None) (own_piece known.plan r))) can.runs
-      ∙ ap (option_and_then (λ (p : Piece). if r.stored == p.count then Some (after_sub s i v r p) else None)) (piece_is known.plan r p can.stands)
-      ∙ passed (r.stored == p.count) (after_sub s i v r p) (eq-eqb r.stored p.count can.has_stored_all)
+    ap (option_and_then (λ (v : View). option_and_then (λ (r : Run). option_and_then (λ (p : Piece). if r.stored == p.count then Some (after_sub s i v r p) else None) (own_piece known.plan r)) v.run)) (seat_is s i v can.is_seat)
+    ∙ ap (option_and_then (λ (r : Run). option_and_then (λ (p : Piece). if r.stored == p.count then Some (after_sub s i v r p) else None) (own_piece known.plan r))) can.runs
+    ∙ ap (option_and_then (λ (p : Piece). if r.stored == p.count then Some (after_sub s i v r p) else None)) (piece_is known.plan r p can.stands)
+    ∙ passed (r.stored == p.count) (after_sub s i v r p) (eq-eqb r.stored p.count can.has_stored_all)
 steps_are_choices known s t (finish i v r e can) =
-  ap (option_and_then (λ (v : View). option_and_then (λ (r : Run). option_and_then (λ (e : TaskEnd). if (if is_done e then is_behind_last known.plan r else is_first_place known.plan r) then Some (after_finish s i v r e) else None) (end_of known r.frame)) v.run)) (seat_is s i v can.is_seat)
-      ∙ ap (option_and_then (λ (r : Run). option_and_then (λ (e : TaskEnd). if (if is_done e then is_behind_last known.plan r else is_first_place known.plan r) then Some (after_finish s i v r e) else None) (end_of known r.frame))) can.runs
-      ∙ ap (option_and_then (λ (e : TaskEnd). if (if is_done e then is_behind_last known.plan r else is_first_place known.plan r) then Some (after_finish s i v r e) else None)) can.is_meant
-      ∙ passed (if is_done e then is_behind_last known.plan r else is_first_place known.plan r) (after_finish s i v r e) (may_end known s i v r e can)
+    ap (option_and_then (λ (v : View). option_and_then (λ (r : Run). option_and_then (λ (e : TaskEnd). if (if is_done e then is_behind_last known.plan r else is_first_place known.plan r) then Some (after_finish s i v r e) else None) (end_of known r.frame)) v.run)) (seat_is s i v can.is_seat)
+    ∙ ap (option_and_then (λ (r : Run). option_and_then (λ (e : TaskEnd). if (if is_done e then is_behind_last known.plan r else is_first_place known.plan r) then Some (after_finish s i v r e) else None) (end_of known r.frame))) can.runs
+    ∙ ap (option_and_then (λ (e : TaskEnd). if (if is_done e then is_behind_last known.plan r else is_first_place known.plan r) then Some (after_finish s i v r e) else None)) can.is_meant
+    ∙ passed (if is_done e then is_behind_last known.plan r else is_first_place known.plan r) (after_finish s i v r e) (may_end known s i v r e can)
 steps_are_choices known s t (look i v can) =
-  ap (option_and_then (λ (v : View). if is_none v.run && nat_le 1 (length known.plan.frames) then Some (after_look known s i v) else None)) (seat_is s i v can.is_seat)
-      ∙ passed (is_none v.run && nat_le 1 (length known.plan.frames)) (after_look known s i v) (and_from (is_none v.run) (nat_le 1 (length known.plan.frames)) (ap is_none can.runs_nothing) (le-leb 1 (length known.plan.frames) can.has_frames))
+    ap (option_and_then (λ (v : View). if is_none v.run && nat_le 1 (length known.plan.frames) then Some (after_look known s i v) else None)) (seat_is s i v can.is_seat)
+    ∙ passed (is_none v.run && nat_le 1 (length known.plan.frames)) (after_look known s i v) (and_from (is_none v.run) (nat_le 1 (length known.plan.frames)) (ap is_none can.runs_nothing) (le-leb 1 (length known.plan.frames) can.has_frames))
 
 -- the states that choices reach
 ways : (known : Known) (t : CoreState) (cs : List Choice) (o : Option CoreState) → ((s : CoreState) → o ≡ Some s → Way known s) → fold (λ (s : Option CoreState) (c : Choice). option_and_then (λ (t : CoreState). after_choice known t c) s) o cs ≡ Some t → Way known t

@@ -34,7 +34,7 @@ pub record IsView (known : Known) (view : View) : Type 0 where
 abbrev pub IsLast : Known → View → Type 0
 IsLast known view = view.shares ≡ known.seats
 
--- What holds between any two steps.
+-- What holds between any two steps. Every step keeps it as it stands, so it needs no stronger fact beside it.
 pub record IsGood (known : Known) (state : CoreState) : Type 0 where
   -- a word for each frame and the sink, the cells of the plan, and seats with their places
   pub words_of_plan : length state.words ≡ length known.plan.frames + 1

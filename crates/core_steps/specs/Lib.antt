@@ -10,7 +10,9 @@ pub mod Choices
 -- What holds of them.
 pub mod Ways
 pub mod Laws
--- Two plans, step by step, and steps that would break a state.
+-- Three plans, step by step, and steps that would break a state.
+pub mod Tables
 pub mod ReaderFirst
 pub mod TwoProducers
+pub mod MixedEnds
 pub mod WrongSteps

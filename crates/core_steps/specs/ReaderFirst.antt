@@ -1,17 +1,15 @@
 -- Two frames of which the reader was created first, step by step. Frame 0 gives one more than it reads,
 -- frame 1 gives 41, and the sink has the reader's element.
-use Rattle.std.specs.Prelude.{ℕ, ℤ, pos, ◌+ℤ◌, ◌==◌, if◌then◌else◌, List, [], ◌∷◌, Option, Some, None, map}
+use Rattle.std.specs.Prelude.{ℕ, ℤ, pos, ◌+ℤ◌, ◌==◌, if◌then◌else◌, List, [], ◌∷◌, Some, None, map}
 use Rattle.flow_core.specs.declared.outcome.Outcome.{Outcome}
 use Rattle.flow_core.specs.declared.plan.Plan.{Plan}
 use Rattle.flow_core.specs.declared.task_end.TaskEnd.TheVariants.{Done}
 use Rattle.flow_core.specs.Outcome.{outcome_of}
 use Rattle.core_steps.specs.declared.known.Known.{Known}
-use Rattle.core_steps.specs.declared.view.Run.{Run}
-use Rattle.core_steps.specs.declared.view.View.{View}
-use Rattle.core_steps.specs.declared.word.Word.{Word}
 use Rattle.core_steps.specs.declared.word.Word.TheVariants.{Wait, Open, Taken, Ended}
 use Rattle.core_steps.specs.States.{CoreState}
 use Rattle.core_steps.specs.Choices.{Choice, to_claim, to_read, to_store, to_sub, to_finish, to_look}
+use Rattle.core_steps.specs.Tables.{at, seat, state}
 
 abbrev pub plan : Plan
 plan = record {
@@ -27,37 +25,26 @@ outcome frame inputs = if frame == 0 then outcome_of Done (map (λ x. x +ℤ pos
 abbrev pub known : Known
 known = record { plan = plan; meaning = Some (outcome_of Done (pos 42 ∷ [])) ∷ Some (outcome_of Done (pos 41 ∷ [])) ∷ []; seats = 1 }
 
--- the run of a frame, at a piece with some of its elements stored
-abbrev pub at : ℕ → ℕ → ℕ → Option Run
-at frame piece stored = Some (record { frame = frame; piece = piece; stored = stored })
-
-abbrev pub seat : Option Run → (made ran missed found lost : List ℕ) → ℕ → View
-seat run made ran missed found lost looks = record { about = known; run = run; made = made; ran = ran; missed = missed; found = found; lost = lost; looks = looks; shares = 1 }
-
-abbrev pub state : (reader giver sink : Word) → (read left : Option ℤ) → View → CoreState
-state reader giver sink read left view = record { words = reader ∷ giver ∷ sink ∷ []; cells = read ∷ left ∷ []; seats = view ∷ [] }
-
 -- The frame that waits is missed, the other one is found and run, and then that which it opened. Two
 -- looks find nothing more.
 abbrev pub choices : List Choice
 choices =
-    to_claim 0 0 ∷ to_look 0 ∷ to_claim 0 1 ∷ to_store 0 ∷ to_sub 0 ∷ to_finish 0
-    ∷ to_claim 0 0 ∷ to_read 0 0 ∷ to_store 0 ∷ to_sub 0 ∷ to_finish 0 ∷ to_look 0 ∷ to_look 0 ∷ []
+    to_claim 0 0 ∷ to_look 0 ∷ to_claim 0 1 ∷ to_store 0 ∷ to_sub 0 ∷ to_finish 0 ∷ to_claim 0 0 ∷ to_read 0 0 ∷ to_store 0 ∷ to_sub 0 ∷ to_finish 0 ∷ to_look 0 ∷ to_look 0 ∷ []
 
 abbrev pub states : List CoreState
 states =
-    state (Wait 1) Open (Wait 1) None None (seat None [] [] [] [] [] 0)
-    ∷ state (Wait 1) Open (Wait 1) None None (seat None [] [] (0 ∷ []) [] [] 1)
-    ∷ state (Wait 1) Open (Wait 1) None None (seat None [] [] (0 ∷ []) (1 ∷ []) [] 1)
-    ∷ state (Wait 1) Taken (Wait 1) None None (seat (at 1 1 0) [] (1 ∷ []) (0 ∷ []) (1 ∷ []) [] 0)
-    ∷ state (Wait 1) Taken (Wait 1) (Some (pos 41)) None (seat (at 1 1 1) [] (1 ∷ []) (0 ∷ []) (1 ∷ []) [] 0)
-    ∷ state Open Taken (Wait 1) (Some (pos 41)) None (seat (at 1 2 0) (0 ∷ []) (1 ∷ []) (0 ∷ []) (1 ∷ []) [] 0)
-    ∷ state Open (Ended Done) (Wait 1) (Some (pos 41)) None (seat None (0 ∷ []) (1 ∷ []) (0 ∷ []) (1 ∷ []) [] 0)
-    ∷ state Taken (Ended Done) (Wait 1) (Some (pos 41)) None (seat (at 0 0 0) (0 ∷ []) (1 ∷ 0 ∷ []) (0 ∷ []) (1 ∷ []) [] 0)
-    ∷ state Taken (Ended Done) (Wait 1) (Some (pos 41)) None (seat (at 0 0 0) (0 ∷ []) (1 ∷ 0 ∷ []) (0 ∷ []) (1 ∷ []) [] 0)
-    ∷ state Taken (Ended Done) (Wait 1) (Some (pos 41)) (Some (pos 42)) (seat (at 0 0 1) (0 ∷ []) (1 ∷ 0 ∷ []) (0 ∷ []) (1 ∷ []) [] 0)
-    ∷ state Taken (Ended Done) Open (Some (pos 41)) (Some (pos 42)) (seat (at 0 1 0) (0 ∷ 2 ∷ []) (1 ∷ 0 ∷ []) (0 ∷ []) (1 ∷ []) [] 0)
-    ∷ state (Ended Done) (Ended Done) Open (Some (pos 41)) (Some (pos 42)) (seat None (0 ∷ 2 ∷ []) (1 ∷ 0 ∷ []) (0 ∷ []) (1 ∷ []) [] 0)
-    ∷ state (Ended Done) (Ended Done) Open (Some (pos 41)) (Some (pos 42)) (seat None (0 ∷ 2 ∷ []) (1 ∷ 0 ∷ []) (0 ∷ []) (1 ∷ []) (0 ∷ []) 1)
-    ∷ state (Ended Done) (Ended Done) Open (Some (pos 41)) (Some (pos 42)) (seat None (0 ∷ 2 ∷ []) (1 ∷ 0 ∷ []) (0 ∷ []) (1 ∷ []) (0 ∷ 1 ∷ []) 2)
+    state (Wait 1 ∷ Open ∷ Wait 1 ∷ []) (None ∷ None ∷ []) (seat known None [] [] [] [] [] 0 1 ∷ [])
+    ∷ state (Wait 1 ∷ Open ∷ Wait 1 ∷ []) (None ∷ None ∷ []) (seat known None [] [] (0 ∷ []) [] [] 1 1 ∷ [])
+    ∷ state (Wait 1 ∷ Open ∷ Wait 1 ∷ []) (None ∷ None ∷ []) (seat known None [] [] (0 ∷ []) (1 ∷ []) [] 1 1 ∷ [])
+    ∷ state (Wait 1 ∷ Taken ∷ Wait 1 ∷ []) (None ∷ None ∷ []) (seat known (at 1 1 0) [] (1 ∷ []) (0 ∷ []) (1 ∷ []) [] 0 1 ∷ [])
+    ∷ state (Wait 1 ∷ Taken ∷ Wait 1 ∷ []) (Some (pos 41) ∷ None ∷ []) (seat known (at 1 1 1) [] (1 ∷ []) (0 ∷ []) (1 ∷ []) [] 0 1 ∷ [])
+    ∷ state (Open ∷ Taken ∷ Wait 1 ∷ []) (Some (pos 41) ∷ None ∷ []) (seat known (at 1 2 0) (0 ∷ []) (1 ∷ []) (0 ∷ []) (1 ∷ []) [] 0 1 ∷ [])
+    ∷ state (Open ∷ Ended Done ∷ Wait 1 ∷ []) (Some (pos 41) ∷ None ∷ []) (seat known None (0 ∷ []) (1 ∷ []) (0 ∷ []) (1 ∷ []) [] 0 1 ∷ [])
+    ∷ state (Taken ∷ Ended Done ∷ Wait 1 ∷ []) (Some (pos 41) ∷ None ∷ []) (seat known (at 0 0 0) (0 ∷ []) (1 ∷ 0 ∷ []) (0 ∷ []) (1 ∷ []) [] 0 1 ∷ [])
+    ∷ state (Taken ∷ Ended Done ∷ Wait 1 ∷ []) (Some (pos 41) ∷ None ∷ []) (seat known (at 0 0 0) (0 ∷ []) (1 ∷ 0 ∷ []) (0 ∷ []) (1 ∷ []) [] 0 1 ∷ [])
+    ∷ state (Taken ∷ Ended Done ∷ Wait 1 ∷ []) (Some (pos 41) ∷ Some (pos 42) ∷ []) (seat known (at 0 0 1) (0 ∷ []) (1 ∷ 0 ∷ []) (0 ∷ []) (1 ∷ []) [] 0 1 ∷ [])
+    ∷ state (Taken ∷ Ended Done ∷ Open ∷ []) (Some (pos 41) ∷ Some (pos 42) ∷ []) (seat known (at 0 1 0) (0 ∷ 2 ∷ []) (1 ∷ 0 ∷ []) (0 ∷ []) (1 ∷ []) [] 0 1 ∷ [])
+    ∷ state (Ended Done ∷ Ended Done ∷ Open ∷ []) (Some (pos 41) ∷ Some (pos 42) ∷ []) (seat known None (0 ∷ 2 ∷ []) (1 ∷ 0 ∷ []) (0 ∷ []) (1 ∷ []) [] 0 1 ∷ [])
+    ∷ state (Ended Done ∷ Ended Done ∷ Open ∷ []) (Some (pos 41) ∷ Some (pos 42) ∷ []) (seat known None (0 ∷ 2 ∷ []) (1 ∷ 0 ∷ []) (0 ∷ []) (1 ∷ []) (0 ∷ []) 1 1 ∷ [])
+    ∷ state (Ended Done ∷ Ended Done ∷ Open ∷ []) (Some (pos 41) ∷ Some (pos 42) ∷ []) (seat known None (0 ∷ 2 ∷ []) (1 ∷ 0 ∷ []) (0 ∷ []) (1 ∷ []) (0 ∷ 1 ∷ []) 2 1 ∷ [])
     ∷ []

@@ -1,10 +1,12 @@
-//! Two plans step by step, as tables. Each call does nothing and ensures that its table is right.
+//! Three plans step by step, as tables. Each call does nothing and ensures that its table is right.
 
-ghost use Rattle.std.specs.Prelude.{◌≡◌, [], ◌∷◌, Some, map, take, drop};
+ghost use Rattle.std.specs.Prelude.{◌≡◌, [], ◌∷◌, Some, map, take, drop, slice_index_or};
 ghost use Rattle.core_steps.specs.Choices.{to_split, to_join, to_claim, to_read, to_store, to_sub, to_finish, to_look, states_along, allowed_after};
-ghost use Rattle.core_steps.specs.Laws.{IsFit, IsMeant};
+ghost use Rattle.core_steps.specs.States.{opening};
+ghost use Rattle.core_steps.specs.Laws.{IsFit, IsMeant, IsComplete};
 ghost use Rattle.core_steps.specs.ReaderFirst as reader;
 ghost use Rattle.core_steps.specs.TwoProducers as two;
+ghost use Rattle.core_steps.specs.MixedEnds as mixed;
 
 /// A reader that was created before the frame that gives to it, with one seat: every state from opening
 /// to the last look, and what isn't allowed on the way.
@@ -28,4 +30,17 @@ pub fn two_producers()
     ensures first_order { states_along two.known two.first_before_second ≡ map Some two.states }
     ensures other_order { drop 2 (states_along two.known two.second_before_first) ≡ map Some two.other_states }
     ensures no_join_while_one_runs { allowed_after two.known (take 8 two.first_before_second) (to_join 0 1 ∷ to_join 1 1 ∷ []) ≡ 0 }
+{}
+
+/// Frames that are Done, over budget, trapped and starved, with two seats: a piece of two elements, claims
+/// that miss in turn and out of turn, a frame that a claim loses, and seats that are cut and joined with
+/// looks and lists. At the end nothing is left out.
+pub fn mixed_ends()
+    ensures fit { IsFit mixed.known }
+    ensures meaning { IsMeant mixed.known mixed.outcome }
+    ensures states { states_along mixed.known mixed.choices ≡ map Some mixed.states }
+    ensures counts_only_a_whole_piece { allowed_after mixed.known (take 4 mixed.choices) (to_sub 0 ∷ to_finish 0 ∷ []) ≡ 0 }
+    ensures gives_nothing_over_budget { allowed_after mixed.known (take 15 mixed.choices) (to_store 1 ∷ to_sub 1 ∷ to_join 0 1 ∷ []) ≡ 0 }
+    ensures gives_nothing_of_a_trap { allowed_after mixed.known (take 20 mixed.choices) (to_store 0 ∷ to_sub 0 ∷ to_look 0 ∷ []) ≡ 0 }
+    ensures leaves_nothing { IsComplete mixed.known (slice_index_or mixed.states 25 (opening mixed.known)) }
 {}
