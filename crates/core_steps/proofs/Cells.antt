@@ -13,11 +13,11 @@ use Rattle.core_steps.specs.declared.view.Run.{Run}
 use Rattle.core_steps.specs.declared.view.View.{View}
 use Rattle.core_steps.specs.Words.{word_at, amount, has_delivered}
 use Rattle.core_steps.specs.States.{CoreState, runs_of}
-use Rattle.core_steps.specs.Counted.{one, is_run_of, is_past, has_stored, counted, counted_at, stored_at, is_missed, lacking}
+use Rattle.core_steps.specs.Counted.{one, is_run_of, is_past, has_stored, counted, counted_at, held_at, lacks_cell, lacking}
 use Rattle.core_steps.specs.Steps.{StandsAt, CanRead, first_place}
 use Rattle.core_steps.specs.IsGood.{IsGood}
 use Rattle.core_steps.proofs.Sums.{count_by-sole, count_by-written}
-use Rattle.core_steps.proofs.Counts.{counted-is, counted_at-is, stored_at-is, stored-is}
+use Rattle.core_steps.proofs.Counts.{counted-is, counted_at-is, held_at-is, held-is}
 use Rattle.core_steps.proofs.Runs.{run_there, running_is_taken, runs_alone, is_past-earlier, same_frame}
 use Rattle.flow_core.proofs.Sources.{piece_at-covered}
 
@@ -47,7 +47,7 @@ not_missed (Some v) n h = omega arith
 pub full_cell : (known : Known) (s : CoreState) (f c : ℕ) → IsGood known s → f ≤ length known.plan.frames → amount (word_at s.words f) ≡ 0 → HasCell known.plan f c → 1 ≤ one (is_some (value_at known.plan.filled c)) + counted_at known.plan s.words (runs_of s) c
 full_cell known s f c g le none has =
     let l : lacking known.plan s.words (runs_of s) f ≡ 0 = sym (g.words_count f le) ∙ none in
-    not_missed (value_at known.plan.filled c) (counted_at known.plan s.words (runs_of s) c) (none_passes (is_missed known.plan s.words (runs_of s)) (frame_at known.plan f).cell (frame_at known.plan f).inputs l c has.0 has.1)
+    not_missed (value_at known.plan.filled c) (counted_at known.plan s.words (runs_of s) c) (none_passes (lacks_cell known.plan s.words (runs_of s)) (frame_at known.plan f).cell (frame_at known.plan f).inputs l c has.0 has.1)
 
 -- so it holds the meaning's element
 pub full_value : (known : Known) (s : CoreState) (f c : ℕ) → IsGood known s → f ≤ length known.plan.frames → amount (word_at s.words f) ≡ 0 → HasCell known.plan f c → (value : ℤ) × (value_at s.cells c ≡ Some value) × (element known.meaning (cell_source known.plan c) ≡ Some value)
@@ -74,11 +74,11 @@ full_once known s f c g le none has =
     at_most false = omega arith
 
 -- what a READ gives
-pub reads : (known : Known) (s : CoreState) (i : ℕ) (v : View) (c : ℕ) → IsGood known s → CanRead known s i v c → (value : ℤ) × (value_at s.cells c ≡ Some value) × (element known.meaning (cell_source known.plan c) ≡ Some value)
-reads known s i v c g can =
+pub reads : (known : Known) (s : CoreState) (i : ℕ) (v : View) (r : Run) (c : ℕ) → IsGood known s → CanRead known s i v r c → (value : ℤ) × (value_at s.cells c ≡ Some value) × (element known.meaning (cell_source known.plan c) ≡ Some value)
+reads known s i v r c g can =
     let sees = can.is_seat.sees in
-    let place = (g.views_are_sound i v sees).runs_at_a_place (first_place known.plan can.frame) can.gave_nothing in
-    full_value known s can.frame c g (let lt = place.of_a_frame in omega (arith, lt)) (ap amount (running_is_taken known s i v (first_place known.plan can.frame) g sees can.gave_nothing)) can.is_its_cell
+    let place = (g.views_are_sound i v sees).runs_at_a_place r can.runs in
+    full_value known s r.frame c g (let lt = place.of_a_frame in omega (arith, lt)) (ap amount (running_is_taken known s i v r g sees can.runs)) can.is_its_cell
 
 -- A piece at which a seat stands doesn't count yet, and its stored elements are those of that seat.
 module _ (known : Known) (s : CoreState) (i : ℕ) (v : View) (r : Run) (p : Piece) (g : IsGood known s) (sees : slice_get s.seats i ≡ Some v) (runs : v.run ≡ Some r) (stands : StandsAt known.plan r p) where
@@ -131,7 +131,7 @@ module _ (known : Known) (s : CoreState) (i : ℕ) (v : View) (r : Run) (p : Pie
       let empty : one (is_some (value_at known.plan.filled c)) ≡ 0 = ap (λ o. one (is_some o)) (sound.pieces_spare_the_filled q c (p, stands.has_number, omega arith, omega (arith, lt))) in
       let a = g.cells_are_filled_once c in
       let b : counted_at known.plan s.words (runs_of s) c ≡ 0 = counted_at-is known.plan s.words (runs_of s) c q here ∙ not_counted in
-      let e : stored_at known.plan (runs_of s) c ≡ count_by (has_stored p.from q k) (runs_of s) = stored_at-is known.plan (runs_of s) c q here ∙ stored-is known.plan (runs_of s) c q p stands.has_number ∙ ap (λ n. count_by (has_stored p.from q n) (runs_of s)) (let z : p.at + k - p.at ≡ k = omega arith in z) in
+      let e : held_at known.plan (runs_of s) c ≡ count_by (has_stored p.from q k) (runs_of s) = held_at-is known.plan (runs_of s) c q here ∙ held-is known.plan (runs_of s) c q p stands.has_number ∙ ap (λ n. count_by (has_stored p.from q n) (runs_of s)) (let z : p.at + k - p.at ≡ k = omega arith in z) in
       let d = stored_alone k in
       omega (arith, empty, a, b, e, d)
 

@@ -12,7 +12,7 @@ use Rattle.core_steps.specs.declared.word.Word.TheVariants.{Open, Taken, Ended}
 use Rattle.core_steps.specs.Words.{word_at, amount, waits, is_open, is_taken, is_started, has_delivered}
 use Rattle.core_steps.specs.States.{CoreState, runs_of, times}
 use Rattle.core_steps.specs.Counted.{one, is_run_of, is_past, has_stored}
-use Rattle.core_steps.specs.Steps.{first_place, CanClaim, claimed, missed, after_claim, with_view}
+use Rattle.core_steps.specs.Steps.{first_place, CanClaim, with_claim, with_miss, after_claim, with_view}
 use Rattle.core_steps.specs.IsGood.{IsGood, IsPlace}
 use Rattle.core_steps.proofs.Sums.{count_by-written, count_by-kept}
 use Rattle.core_steps.proofs.Words.{open_is, word_at-set, word_at-kept}
@@ -22,8 +22,8 @@ use Rattle.core_steps.proofs.Starts.{Starts, still_sits, started_keeps}
 use Rattle.core_steps.proofs.Looks.{times_push, miss_keeps}
 use Rattle.core_steps.proofs.Runs.{first_is_place, is_past-first, has_stored-none}
 
-hit_keeps : (known : Known) (s : CoreState) (i : ℕ) (v : View) (f : ℕ) → IsSound known.plan → IsGood known s → CanClaim known s i v f → is_open (word_at s.words f) ≡ true → IsGood known (record { words = set s.words f Taken; cells = s.cells; seats = set s.seats i (claimed known v f) })
-hit_keeps known s i v f sound g can opened = started_keeps known s i v (claimed known v f) f Taken g sees starts counts stores taken refl ran refl sits
+hit_keeps : (known : Known) (s : CoreState) (i : ℕ) (v : View) (f : ℕ) → IsSound known.plan → IsGood known s → CanClaim known s i v f → is_open (word_at s.words f) ≡ true → IsGood known (record { words = set s.words f Taken; cells = s.cells; seats = set s.seats i (with_claim known v f) })
+hit_keeps known s i v f sound g can opened = started_keeps known s i v (with_claim known v f) f Taken g sees starts counts stores taken refl ran refl sits
   where
     words' : List Word
     words' = set s.words f Taken
@@ -94,10 +94,10 @@ hit_keeps known s i v f sound g can opened = started_keeps known s i v (claimed 
         let c = rises is_taken refl refl h in
         omega (arith, a, z, o, b, c)
 
-    ran : (h : ℕ) → times h (claimed known v f).ran + one (is_started (word_at s.words h)) ≡ times h v.ran + one (is_started (word_at words' h))
+    ran : (h : ℕ) → times h (with_claim known v f).ran + one (is_started (word_at s.words h)) ≡ times h v.ran + one (is_started (word_at words' h))
     ran h = let a = times_push h v.ran f in let c = rises is_started refl refl h in omega (arith, a, c)
 
-    sits : Sits known words' (claimed known v f)
+    sits : Sits known words' (with_claim known v f)
     sits =
         let old : Sits known words' v = still_sits known s.words f Taken v starts (sits_of known s g i v sees) in
         let positive = can.is_seat.is_not_spent in
@@ -116,6 +116,6 @@ hit_keeps known s i v f sound g can opened = started_keeps known s i v (claimed 
 pub claim_keeps : (known : Known) (s : CoreState) (i : ℕ) (v : View) (f : ℕ) → IsSound known.plan → IsGood known s → CanClaim known s i v f → IsGood known (after_claim known s i v f)
 claim_keeps known s i v f sound g can = by (is_open (word_at s.words f)) refl
   where
-    by : (b : Bool) → is_open (word_at s.words f) ≡ b → IsGood known (if b then (record { words = set s.words f Taken; cells = s.cells; seats = set s.seats i (claimed known v f) }) else with_view s i (missed known v f))
+    by : (b : Bool) → is_open (word_at s.words f) ≡ b → IsGood known (if b then (record { words = set s.words f Taken; cells = s.cells; seats = set s.seats i (with_claim known v f) }) else with_view s i (with_miss known v f))
     by true e = hit_keeps known s i v f sound g can e
     by false e = miss_keeps known s i v f sound g can e

@@ -28,7 +28,7 @@ use Rattle.core_steps.specs.declared.word.Word.{Word}
 use Rattle.core_steps.specs.declared.word.Word.TheVariants.{Wait, Open, Taken, Ended}
 use Rattle.core_steps.specs.Words.{word_at, waits, is_open, is_taken, has_delivered, end_in}
 use Rattle.core_steps.specs.States.{CoreState, runs_of}
-use Rattle.core_steps.specs.Counted.{one, is_run_of, is_past, counted_at, is_missed, lacking}
+use Rattle.core_steps.specs.Counted.{one, is_run_of, is_past, counted_at, lacks_cell, lacking}
 use Rattle.core_steps.specs.Steps.{end_of}
 use Rattle.core_steps.specs.IsGood.{IsGood, IsLast}
 use Rattle.core_steps.specs.Laws.{IsMeant, IsComplete}
@@ -179,7 +179,7 @@ module _ (known : Known) (outcome : ℕ → List ℤ → Outcome) (s : CoreState
           not_missed None n h = ne_eqb n 0 (λ e. let z : 1 ≤ 0 + n = h in omega (arith, e, z))
 
           none : lacking known.plan s.words (runs_of s) f ≡ 0
-          none = passing-none (is_missed known.plan s.words (runs_of s)) (frame_at known.plan f).cell (frame_at known.plan f).inputs (λ c low high.
+          none = passing-none (lacks_cell known.plan s.words (runs_of s)) (frame_at known.plan f).cell (frame_at known.plan f).inputs (λ c low high.
               let (x, there) = gathered_each (element t) (cell_source known.plan) (frame_at known.plan f).cell (frame_at known.plan f).inputs vs inputs c low high in
               not_missed (value_at known.plan.filled c) (counted_at known.plan s.words (runs_of s) c) (there_counts known s t c x sound g delivered there))
 

@@ -19,3 +19,5 @@ pub mod Subs
 pub mod Complete
 pub mod Steps
 pub mod Ways
+pub mod Choices
+pub mod Fitting

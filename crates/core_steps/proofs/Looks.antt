@@ -10,7 +10,7 @@ use Rattle.core_steps.specs.declared.word.Word.{Word}
 use Rattle.core_steps.specs.Words.{waits, is_open, is_started, word_at}
 use Rattle.core_steps.specs.States.{CoreState, IsSeat, times, knows}
 use Rattle.core_steps.specs.Counted.{one}
-use Rattle.core_steps.specs.Steps.{CanClaim, missed, lost_with, CanLook, next_look, after_look, with_view}
+use Rattle.core_steps.specs.Steps.{CanClaim, with_miss, lost_with, CanLook, next_look, after_look, with_view}
 use Rattle.core_steps.specs.IsGood.{IsGood, IsLast}
 use Rattle.core_steps.proofs.Words.{started_from, open_is}
 use Rattle.core_steps.proofs.Opening.{known_waits_no_more}
@@ -48,8 +48,8 @@ looked_more known words looks closed old zero low high below = absurd (omega ari
 looked_more known words looks closed old (suc zero) low high below = subst (λ n. is_open (word_at words (n % length known.plan.frames)) ≡ false) (let e : looks ≡ looks + 1 - 1 = omega arith in e) closed
 looked_more known words looks closed old (suc (suc k)) low high below = subst (λ n. is_open (word_at words (n % length known.plan.frames)) ≡ false) (let e : looks - suc k ≡ looks + 1 - suc (suc k) = omega arith in e) (old (suc k) (omega arith) (omega arith) (omega arith))
 
-pub miss_keeps : (known : Known) (s : CoreState) (i : ℕ) (v : View) (f : ℕ) → IsSound known.plan → IsGood known s → CanClaim known s i v f → is_open (word_at s.words f) ≡ false → IsGood known (with_view s i (missed known v f))
-miss_keeps known s i v f sound g can closed = good_with_view known s i v (missed known v f) g can.is_seat.sees refl refl refl refl sits
+pub miss_keeps : (known : Known) (s : CoreState) (i : ℕ) (v : View) (f : ℕ) → IsSound known.plan → IsGood known s → CanClaim known s i v f → is_open (word_at s.words f) ≡ false → IsGood known (with_view s i (with_miss known v f))
+miss_keeps known s i v f sound g can closed = good_with_view known s i v (with_miss known v f) g can.is_seat.sees refl refl refl refl sits
   where
     old : Sits known s.words v
     old = sits_of known s g i v can.is_seat.sees
@@ -61,7 +61,7 @@ miss_keeps known s i v f sound g can closed = good_with_view known s i v (missed
     looked false e j last low high below = old.looked j last low high below
     looked true e j last low high below = looked_more known s.words v.looks (sym (ap (λ n. is_open (word_at s.words n)) (eqb-true f (v.looks % length known.plan.frames) e)) ∙ closed) (λ j l h b. old.looked j last l h b) j low high below
 
-    sits : Sits known s.words (missed known v f)
+    sits : Sits known s.words (with_miss known v f)
     sits = record {
       sound = record { knows_the_run = old.sound.knows_the_run; spent_is_empty = λ e. absurd (omega (arith, positive, e)); runs_at_a_place = old.sound.runs_at_a_place };
       stores = old.stores;

@@ -10,7 +10,7 @@ use Rattle.core_steps.specs.Counted.{one, is_run_of, is_past, has_stored}
 use Rattle.core_steps.specs.Steps.{end_of}
 use Rattle.core_steps.proofs.Sums.{count_by_push}
 use Rattle.core_steps.proofs.Words.{word_at-set}
-use Rattle.core_steps.proofs.Counts.{CountsAlike, StoresAlike, counted_at-alike, stored_at-alike, lacking-alike}
+use Rattle.core_steps.proofs.Counts.{CountsAlike, StoresAlike, counted_at-alike, held_at-alike, lacking-alike}
 use Rattle.core_steps.proofs.Parts.{Flows}
 
 pub flows_moved : (known : Known) (words : List Word) (cells : List (Option ℤ)) (runs : List (Option Run)) (words' : List Word) (runs' : List (Option Run)) → Flows known words cells runs → length words' ≡ length words → ((g : ℕ) → amount (word_at words' g) ≡ amount (word_at words g)) → ((g : ℕ) → word_at words' g ≢ Wait 0) → CountsAlike known.plan words runs words' runs' → StoresAlike known.plan runs runs' → ((f : ℕ) → count_by (is_run_of f) runs' ≡ one (is_taken (word_at words' f))) → ((f : ℕ) (end : TaskEnd) → word_at words' f ≡ Ended end → end_of known f ≡ Some end) → is_started (word_at words' (length known.plan.frames)) ≡ false → Flows known words' cells runs'
@@ -18,7 +18,7 @@ flows_moved known words cells runs words' runs' flows lengths amounts some count
   words_of_plan = lengths ∙ flows.words_of_plan;
   cells_of_plan = flows.cells_of_plan;
   hold = flows.hold;
-  filled = λ c. let a = flows.filled c in let b = counted_at-alike known.plan words runs words' runs' counts c in let d = stored_at-alike known.plan runs runs' stores c in omega (arith, a, b, d);
+  filled = λ c. let a = flows.filled c in let b = counted_at-alike known.plan words runs words' runs' counts c in let d = held_at-alike known.plan runs runs' stores c in omega (arith, a, b, d);
   count = λ f le. amounts f ∙ flows.count f le ∙ sym (lacking-alike known.plan words runs words' runs' counts f);
   wait_for_some = some;
   taken = taken;

@@ -15,7 +15,7 @@ use Rattle.core_steps.specs.declared.word.Word.{Word}
 use Rattle.core_steps.specs.declared.word.Word.TheVariants.{Wait, Open, Taken, Ended}
 use Rattle.core_steps.specs.Words.{word_at, opening_word, opening_words, amount, waits, is_open}
 use Rattle.core_steps.specs.States.{CoreState, IsSeat, runs_of, times, has, knows}
-use Rattle.core_steps.specs.Counted.{one, counted_at, is_missed, lacking}
+use Rattle.core_steps.specs.Counted.{one, counted_at, lacks_cell, lacking}
 use Rattle.core_steps.specs.IsGood.{IsGood}
 use Rattle.core_steps.proofs.Sums.{sum_by-has}
 use Rattle.core_steps.proofs.Words.{full_waits, one_is_true}
@@ -66,7 +66,7 @@ count_by-fewer p q (x ∷ xs) implies =
 pub lacking_at_most : (plan : Plan) (words : List Word) (runs : List (Option Run)) (f : ℕ) → IsSound plan → f ≤ length plan.frames → lacking plan words runs f ≤ (frame_at plan f).wait
 lacking_at_most plan words runs f sound le =
     let w : (frame_at plan f).wait ≡ missing_of plan plan.filled f = sound.wait_counts f le in
-    let c : lacking plan words runs f ≤ missing_of plan plan.filled f = count_by-fewer (is_missed plan words runs) (λ c. is_none (value_at plan.filled c)) (cells_of plan f) (λ c h. (and_parts (is_none (value_at plan.filled c)) (counted_at plan words runs c == 0) h).0) in
+    let c : lacking plan words runs f ≤ missing_of plan plan.filled f = count_by-fewer (lacks_cell plan words runs) (λ c. is_none (value_at plan.filled c)) (cells_of plan f) (λ c h. (and_parts (is_none (value_at plan.filled c)) (counted_at plan words runs c == 0) h).0) in
     omega (arith, w, c)
 
 -- a frame that was Open at opening doesn't wait

@@ -16,7 +16,7 @@ use Rattle.core_steps.specs.declared.word.Word.{Word}
 use Rattle.core_steps.specs.declared.word.Word.TheVariants.{Wait, Open, Taken, Ended}
 use Rattle.core_steps.specs.Words.{word_at, opening_word, opening_words, amount, waits, is_taken, is_started, has_delivered}
 use Rattle.core_steps.specs.States.{fresh, opening}
-use Rattle.core_steps.specs.Counted.{one, is_past, has_stored, counted, stored, counted_at, stored_at, is_missed, lacking}
+use Rattle.core_steps.specs.Counted.{one, is_past, has_stored, counted, held, counted_at, held_at, lacks_cell, lacking}
 use Rattle.core_steps.specs.Steps.{end_of}
 use Rattle.core_steps.specs.IsGood.{IsGood}
 use Rattle.core_steps.proofs.Sums.{count_by-same, each_push}
@@ -63,8 +63,8 @@ map_or-zero f (Some x) each = each x
 none_counted : (plan : Plan) (c : ℕ) → counted_at plan (opening_words plan) (None ∷ []) c ≡ 0
 none_counted plan c = map_or-zero (counted plan (opening_words plan) (None ∷ [])) (piece_at plan c) (λ q. map_or-zero (λ (p : Piece). one (has_delivered (word_at (opening_words plan) p.from)) + count_by (is_past p.from q) (None ∷ [])) (slice_get plan.pieces q) (λ p. let a : one (has_delivered (word_at (opening_words plan) p.from)) ≡ 0 = ap one (unstarted_delivered (word_at (opening_words plan) p.from) (opening_not_started plan p.from)) in let b : count_by (is_past p.from q) (None ∷ []) ≡ 0 = refl in omega (arith, a, b)))
 
-none_stored : (plan : Plan) (c : ℕ) → stored_at plan (None ∷ []) c ≡ 0
-none_stored plan c = map_or-zero (stored plan (None ∷ []) c) (piece_at plan c) (λ q. map_or-zero (λ (p : Piece). count_by (has_stored p.from q (c - p.at)) (None ∷ [])) (slice_get plan.pieces q) (λ p. refl))
+none_stored : (plan : Plan) (c : ℕ) → held_at plan (None ∷ []) c ≡ 0
+none_stored plan c = map_or-zero (held plan (None ∷ []) c) (piece_at plan c) (λ q. map_or-zero (λ (p : Piece). count_by (has_stored p.from q (c - p.at)) (None ∷ [])) (slice_get plan.pieces q) (λ p. refl))
 
 -- what is filled holds what it was given
 given_holds : (known : Known) (c : ℕ) (value : ℤ) → value_at known.plan.filled c ≡ Some value → element known.meaning (cell_source known.plan c) ≡ Some value
@@ -90,7 +90,7 @@ opens_good known sound = good_from known (opening known) flows (each_push (Sits 
       count = λ f le.
           let a : amount (word_at (opening_words plan) f) ≡ (frame_at plan f).wait = ap amount (opening_at plan f le) ∙ opening_amount (frame_at plan f) in
           let b : (frame_at plan f).wait ≡ missing_of plan plan.filled f = sound.wait_counts f le in
-          let d : lacking plan (opening_words plan) (None ∷ []) f ≡ missing_of plan plan.filled f = count_by-same (is_missed plan (opening_words plan) (None ∷ [])) (λ c. is_none (value_at plan.filled c)) (cells_of plan f) (λ c. and_true (is_none (value_at plan.filled c)) (counted_at plan (opening_words plan) (None ∷ []) c) (none_counted plan c)) in
+          let d : lacking plan (opening_words plan) (None ∷ []) f ≡ missing_of plan plan.filled f = count_by-same (lacks_cell plan (opening_words plan) (None ∷ [])) (λ c. is_none (value_at plan.filled c)) (cells_of plan f) (λ c. and_true (is_none (value_at plan.filled c)) (counted_at plan (opening_words plan) (None ∷ []) c) (none_counted plan c)) in
           omega (arith, a, b, d);
       wait_for_some = λ f. some f (cases_lt (length plan.frames) f);
       taken = λ f. sym (ap one (unstarted_taken (word_at (opening_words plan) f) (opening_not_started plan f)));

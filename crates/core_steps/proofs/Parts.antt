@@ -17,7 +17,7 @@ use Rattle.core_steps.specs.declared.word.Word.{Word}
 use Rattle.core_steps.specs.declared.word.Word.TheVariants.{Wait, Ended}
 use Rattle.core_steps.specs.Words.{word_at, opening_words, amount, waits, is_open, is_taken, is_started}
 use Rattle.core_steps.specs.States.{CoreState, runs_of, times}
-use Rattle.core_steps.specs.Counted.{one, is_run_of, counted_at, stored_at, lacking}
+use Rattle.core_steps.specs.Counted.{one, is_run_of, counted_at, held_at, lacking}
 use Rattle.core_steps.specs.Steps.{end_of, first_place, with_view}
 use Rattle.core_steps.specs.IsGood.{IsGood, IsView, IsLast}
 use Rattle.core_steps.proofs.Sums.{each_set, set_again, sum_by-kept}
@@ -27,7 +27,7 @@ pub record Flows (known : Known) (words : List Word) (cells : List (Option ℤ))
   pub words_of_plan : length words ≡ length known.plan.frames + 1
   pub cells_of_plan : length cells ≡ length known.plan.filled
   pub hold : (c : ℕ) (value : ℤ) → value_at cells c ≡ Some value → element known.meaning (cell_source known.plan c) ≡ Some value
-  pub filled : (c : ℕ) → one (is_some (value_at cells c)) ≡ one (is_some (value_at known.plan.filled c)) + counted_at known.plan words runs c + stored_at known.plan runs c
+  pub filled : (c : ℕ) → one (is_some (value_at cells c)) ≡ one (is_some (value_at known.plan.filled c)) + counted_at known.plan words runs c + held_at known.plan runs c
   pub count : (f : ℕ) → f ≤ length known.plan.frames → amount (word_at words f) ≡ lacking known.plan words runs f
   pub wait_for_some : (f : ℕ) → word_at words f ≢ Wait 0
   pub taken : (f : ℕ) → count_by (is_run_of f) runs ≡ one (is_taken (word_at words f))

@@ -10,7 +10,7 @@ use Rattle.core_steps.specs.declared.view.View.{View}
 use Rattle.core_steps.specs.declared.word.Word.{Word}
 use Rattle.core_steps.specs.Words.{waits, is_started, word_at}
 use Rattle.core_steps.specs.States.{CoreState, fresh, runs_of, times}
-use Rattle.core_steps.specs.Steps.{CanSplit, after_split, CanJoin, joined, after_join}
+use Rattle.core_steps.specs.Steps.{CanSplit, after_split, CanJoin, with_joined, after_join}
 use Rattle.core_steps.specs.IsGood.{IsGood}
 use Rattle.core_steps.proofs.Sums.{each_set, each_push, set_again, sum_by-written, at_other}
 use Rattle.core_steps.proofs.Parts.{Flows, Sits, Books, flows_of, sits_of, books_of, good_from, run_at, runs-set}
@@ -94,7 +94,7 @@ join_keeps known s i v j w g can = good_from known (after_join s i v j w) flows
     books
   where
     both : View
-    both = joined v w
+    both = with_joined v w
 
     sees : slice_get s.seats i ≡ Some v
     sees = can.is_seat.sees

@@ -9,10 +9,10 @@ use Rattle.core_steps.specs.declared.word.Word.{Word}
 use Rattle.core_steps.specs.declared.word.Word.TheVariants.{Wait, Open, Taken, Ended}
 use Rattle.core_steps.specs.Words.{word_at, waits, is_open, is_started, lowered}
 use Rattle.core_steps.specs.States.{CoreState}
-use Rattle.core_steps.specs.Steps.{Step, split, join, claim, read, store, sub, finish, look, claimed, missed, with_view, next_look}
+use Rattle.core_steps.specs.Steps.{Step, split, join, claim, read, store, sub, finish, look, with_claim, with_miss, with_view, next_look}
 use Rattle.core_steps.specs.IsGood.{IsGood}
 use Rattle.core_steps.specs.Laws.{IsFit}
-use Rattle.core_steps.specs.Reached.{Way, opens, goes}
+use Rattle.core_steps.specs.Ways.{Way, opens, goes}
 use Rattle.core_steps.proofs.Words.{word_at-set_same, word_at-set_other}
 use Rattle.core_steps.proofs.Splits.{split_keeps, join_keeps}
 use Rattle.core_steps.proofs.Claims.{claim_keeps}
@@ -26,7 +26,7 @@ pub step_keeps : (known : Known) (old new : CoreState) → IsFit known → IsGoo
 step_keeps known old new fit g (split seat view can) = split_keeps known old seat view g can
 step_keeps known old new fit g (join seat view other taken can) = join_keeps known old seat view other taken g can
 step_keeps known old new fit g (claim seat view frame can) = claim_keeps known old seat view frame fit.plan_is_sound g can
-step_keeps known old new fit g (read seat view cell can) = g
+step_keeps known old new fit g (read seat view run cell can) = g
 step_keeps known old new fit g (store seat view run piece can) = store_keeps known old seat view run piece fit g can
 step_keeps known old new fit g (sub seat view run piece can) = sub_keeps known old seat view run piece fit.plan_is_sound g can
 step_keeps known old new fit g (finish seat view run end can) = finish_keeps known old seat view run end fit.plan_is_sound g can
@@ -54,10 +54,10 @@ stays P taken ended lower known old new f (split seat view can) h = h
 stays P taken ended lower known old new f (join seat view other gone can) h = h
 stays P taken ended lower known old new f (claim seat view frame can) h = by (is_open (word_at old.words frame))
   where
-    by : (b : Bool) → P (word_at (if b then (record { words = set old.words frame Taken; cells = old.cells; seats = set old.seats seat (claimed known view frame) }) else with_view old seat (missed known view frame)).words f)
+    by : (b : Bool) → P (word_at (if b then (record { words = set old.words frame Taken; cells = old.cells; seats = set old.seats seat (with_claim known view frame) }) else with_view old seat (with_miss known view frame)).words f)
     by true = word_keeps P old.words frame Taken f h (λ e. taken)
     by false = h
-stays P taken ended lower known old new f (read seat view cell can) h = h
+stays P taken ended lower known old new f (read seat view run cell can) h = h
 stays P taken ended lower known old new f (store seat view run piece can) h = h
 stays P taken ended lower known old new f (sub seat view run piece can) h = word_keeps P old.words piece.to (lowered piece.count (word_at old.words piece.to)) f h (λ e. lower piece.count (word_at old.words piece.to) (subst (λ k. P (word_at old.words k)) e h))
 stays P taken ended lower known old new f (finish seat view run end can) h = word_keeps P old.words run.frame (Ended end) f h (λ e. ended end)

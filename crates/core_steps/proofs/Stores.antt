@@ -19,12 +19,12 @@ use Rattle.core_steps.specs.declared.view.Run.{Run}
 use Rattle.core_steps.specs.declared.view.View.{View}
 use Rattle.core_steps.specs.Words.{word_at, has_delivered}
 use Rattle.core_steps.specs.States.{CoreState, runs_of, times}
-use Rattle.core_steps.specs.Counted.{one, is_run_of, is_past, has_stored, counted_at, stored_at}
+use Rattle.core_steps.specs.Counted.{one, is_run_of, is_past, has_stored, counted_at, held_at}
 use Rattle.core_steps.specs.Steps.{end_of, StandsAt, CanStore, after_store}
 use Rattle.core_steps.specs.IsGood.{IsGood, IsPlace}
 use Rattle.core_steps.specs.Laws.{IsFit}
 use Rattle.core_steps.proofs.Sums.{each_set, sum_by-kept, count_by-kept}
-use Rattle.core_steps.proofs.Counts.{CountsAlike, counted_at-alike, lacking-alike, counted_at-is, stored_at-is, stored_at-none, stored-is, piece_is, piece_of_frame}
+use Rattle.core_steps.proofs.Counts.{CountsAlike, counted_at-alike, lacking-alike, counted_at-is, held_at-is, held_at-none, held-is, piece_is, piece_of_frame}
 use Rattle.core_steps.proofs.Parts.{Flows, Sits, Books, sits_of, books_of, good_from, runs-set}
 use Rattle.core_steps.proofs.Runs.{run_there}
 use Rattle.core_steps.proofs.Cells.{not_counted, stored_next, next_is_empty}
@@ -129,34 +129,34 @@ store_keeps known s i v r p fit g can = good_from known (after_store known s i v
         by (inr n) = g.cells_hold_the_meaning c x (sym (get_or-set_other s.cells cell c value None n) ∙ h)
 
     -- a cell that isn't the one stored into
-    stored_else : (c : ℕ) → c ≢ cell → stored_at known.plan runs' c ≡ stored_at known.plan (runs_of s) c
+    stored_else : (c : ℕ) → c ≢ cell → held_at known.plan runs' c ≡ held_at known.plan (runs_of s) c
     stored_else c n = by (piece_at known.plan c) refl
       where
-        by : (o : Option ℕ) → piece_at known.plan c ≡ o → stored_at known.plan runs' c ≡ stored_at known.plan (runs_of s) c
-        by None e = stored_at-none known.plan runs' c e ∙ sym (stored_at-none known.plan (runs_of s) c e)
+        by : (o : Option ℕ) → piece_at known.plan c ≡ o → held_at known.plan runs' c ≡ held_at known.plan (runs_of s) c
+        by None e = held_at-none known.plan runs' c e ∙ sym (held_at-none known.plan (runs_of s) c e)
         by (Some q) e =
             let (p', at_q, low, high) = piece_is known.plan c q e in
             let same : count_by (has_stored p'.from q (c - p'.at)) runs' ≡ count_by (has_stored p'.from q (c - p'.at)) (runs_of s) =
             count_by-kept (has_stored p'.from q (c - p'.at)) (runs_of s) i (Some r) (Some next) there (stores_more r p'.from q (c - p'.at) (λ is_q is_next. n (let z : p'.at ≡ p.at = ap (λ (p : Piece). p.at) (same_Some p' p (sym at_q ∙ ap (slice_get known.plan.pieces) (sym is_q) ∙ number)) in omega (arith, z, is_next, low)))) in
-            stored_at-is known.plan runs' c q e ∙ stored-is known.plan runs' c q p' at_q ∙ same ∙ sym (stored_at-is known.plan (runs_of s) c q e ∙ stored-is known.plan (runs_of s) c q p' at_q)
+            held_at-is known.plan runs' c q e ∙ held-is known.plan runs' c q p' at_q ∙ same ∙ sym (held_at-is known.plan (runs_of s) c q e ∙ held-is known.plan (runs_of s) c q p' at_q)
 
     w_good_runs : (c : ℕ) → counted_at known.plan s.words runs' c ≡ counted_at known.plan s.words (runs_of s) c
     w_good_runs = counted_at-alike known.plan s.words (runs_of s) s.words runs' counts
 
-    filled : (c : ℕ) → one (is_some (value_at cells' c)) ≡ one (is_some (value_at known.plan.filled c)) + counted_at known.plan s.words runs' c + stored_at known.plan runs' c
+    filled : (c : ℕ) → one (is_some (value_at cells' c)) ≡ one (is_some (value_at known.plan.filled c)) + counted_at known.plan s.words runs' c + held_at known.plan runs' c
     filled c = by (cases_eq c cell)
       where
-        by : (c ≡ cell) ⊎ (c ≢ cell) → one (is_some (value_at cells' c)) ≡ one (is_some (value_at known.plan.filled c)) + counted_at known.plan s.words runs' c + stored_at known.plan runs' c
-        by (inl e) = subst (λ c. one (is_some (value_at cells' c)) ≡ one (is_some (value_at known.plan.filled c)) + counted_at known.plan s.words runs' c + stored_at known.plan runs' c) (sym e) at_cell
+        by : (c ≡ cell) ⊎ (c ≢ cell) → one (is_some (value_at cells' c)) ≡ one (is_some (value_at known.plan.filled c)) + counted_at known.plan s.words runs' c + held_at known.plan runs' c
+        by (inl e) = subst (λ c. one (is_some (value_at cells' c)) ≡ one (is_some (value_at known.plan.filled c)) + counted_at known.plan s.words runs' c + held_at known.plan runs' c) (sym e) at_cell
           where
-            at_cell : one (is_some (value_at cells' cell)) ≡ one (is_some (value_at known.plan.filled cell)) + counted_at known.plan s.words runs' cell + stored_at known.plan runs' cell
+            at_cell : one (is_some (value_at cells' cell)) ≡ one (is_some (value_at known.plan.filled cell)) + counted_at known.plan s.words runs' cell + held_at known.plan runs' cell
             at_cell =
                 let (x, has) = has_output known r p r.stored fit place.of_a_frame can.is_done can.stands more in
                 let a : one (is_some (value_at cells' cell)) ≡ 1 = ap (λ o. one (is_some o)) (get_or-set_same s.cells cell value None within ∙ has) in
                 let b : one (is_some (value_at known.plan.filled cell)) ≡ 0 = ap (λ o. one (is_some o)) (sound.pieces_spare_the_filled r.piece cell (p, number, omega arith, omega (arith, more))) in
                 let d : counted_at known.plan s.words runs' cell ≡ 0 = w_good_runs cell ∙ counted_at-is known.plan s.words (runs_of s) cell r.piece here ∙ not_counted known s i v r p g sees can.runs can.stands in
                 let k : cell - p.at ≡ r.stored = omega arith in
-                let e : stored_at known.plan runs' cell ≡ 1 = stored_at-is known.plan runs' cell r.piece here ∙ stored-is known.plan runs' cell r.piece p number ∙ ap (λ n. count_by (has_stored p.from r.piece n) runs') k ∙ stored_next known s i v r p g sees can.runs can.stands in
+                let e : held_at known.plan runs' cell ≡ 1 = held_at-is known.plan runs' cell r.piece here ∙ held-is known.plan runs' cell r.piece p number ∙ ap (λ n. count_by (has_stored p.from r.piece n) runs') k ∙ stored_next known s i v r p g sees can.runs can.stands in
                 omega (arith, a, b, d, e)
         by (inr n) =
             let a : one (is_some (value_at cells' c)) ≡ one (is_some (value_at s.cells c)) = ap (λ o. one (is_some o)) (get_or-set_other s.cells cell c value None n) in

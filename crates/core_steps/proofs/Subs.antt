@@ -17,12 +17,12 @@ use Rattle.core_steps.specs.declared.word.Word.{Word}
 use Rattle.core_steps.specs.declared.word.Word.TheVariants.{Wait, Ended}
 use Rattle.core_steps.specs.Words.{word_at, opening_words, amount, waits, is_open, is_taken, is_started, has_delivered, waits_for, lowered}
 use Rattle.core_steps.specs.States.{CoreState, fresh, runs_of, times}
-use Rattle.core_steps.specs.Counted.{one, is_run_of, is_past, has_stored, counted, stored, counted_at, stored_at, is_missed, lacking}
-use Rattle.core_steps.specs.Steps.{end_of, CanSub, subtracted, after_sub}
+use Rattle.core_steps.specs.Counted.{one, is_run_of, is_past, has_stored, counted, held, counted_at, held_at, lacks_cell, lacking}
+use Rattle.core_steps.specs.Steps.{end_of, CanSub, with_sub, after_sub}
 use Rattle.core_steps.specs.IsGood.{IsGood, IsPlace, IsLast}
 use Rattle.core_steps.proofs.Sums.{each_set, sum_by-written, sum_by-kept, sum_by-has, count_by-written, count_by-kept, at_other, option_map_or-same}
 use Rattle.core_steps.proofs.Words.{word_at-set, word_at-kept, wait_is}
-use Rattle.core_steps.proofs.Counts.{counted-is, counted_at-is, stored_at-is, stored-is, piece_is, piece_of_frame, piece_cells}
+use Rattle.core_steps.proofs.Counts.{counted-is, counted_at-is, held_at-is, held-is, piece_is, piece_of_frame, piece_cells}
 use Rattle.core_steps.proofs.Parts.{Flows, Sits, Books, sits_of, books_of, good_from, runs-set}
 use Rattle.core_steps.proofs.Moves.{set_waits_for_some}
 use Rattle.core_steps.proofs.Opening.{opening_at, opening_amount, lacking_at_most}
@@ -127,58 +127,58 @@ module _ (known : Known) (s : CoreState) (i : ℕ) (v : View) (r : Run) (p : Pie
       let d : one (has_stored p.from r.piece k (Some next)) ≡ 0 = ap one (has_stored-none next p.from r.piece k refl) in
       omega (arith, a, b, c, d)
 
-  stored_at_else : (c : ℕ) → piece_at known.plan c ≢ Some r.piece → stored_at known.plan runs' c ≡ stored_at known.plan (runs_of s) c
-  stored_at_else c n = option_map_or-same (stored known.plan runs' c) (stored known.plan (runs_of s) c) (piece_at known.plan c) 0
+  stored_at_else : (c : ℕ) → piece_at known.plan c ≢ Some r.piece → held_at known.plan runs' c ≡ held_at known.plan (runs_of s) c
+  stored_at_else c n = option_map_or-same (held known.plan runs' c) (held known.plan (runs_of s) c) (piece_at known.plan c) 0
       (λ q h. option_map_or-same (λ (p : Piece). count_by (has_stored p.from q (c - p.at)) runs') (λ (p : Piece). count_by (has_stored p.from q (c - p.at)) (runs_of s)) (slice_get known.plan.pieces q) 0
       (λ p' at. count_by-kept (has_stored p'.from q (c - p'.at)) (runs_of s) i (Some r) (Some next) there (has_stored-none next p'.from q (c - p'.at) refl ∙ sym (stored_other r p'.from q (c - p'.at) (λ e. n (h ∙ ap Some (sym e)))))))
 
   -- so a cell is filled as before
-  carried : (c : ℕ) → counted_at known.plan words' runs' c + stored_at known.plan runs' c ≡ counted_at known.plan s.words (runs_of s) c + stored_at known.plan (runs_of s) c
+  carried : (c : ℕ) → counted_at known.plan words' runs' c + held_at known.plan runs' c ≡ counted_at known.plan s.words (runs_of s) c + held_at known.plan (runs_of s) c
   carried c = by (piece_at known.plan c) refl
     where
-      at_piece : piece_at known.plan c ≡ Some r.piece → counted_at known.plan words' runs' c + stored_at known.plan runs' c ≡ counted_at known.plan s.words (runs_of s) c + stored_at known.plan (runs_of s) c
+      at_piece : piece_at known.plan c ≡ Some r.piece → counted_at known.plan words' runs' c + held_at known.plan runs' c ≡ counted_at known.plan s.words (runs_of s) c + held_at known.plan (runs_of s) c
       at_piece e =
           let w = inside c e in
           let low = w.0 in
           let high = w.1 in
           let a = counted_at-is known.plan words' runs' c r.piece e in
           let b = counted_at-is known.plan s.words (runs_of s) c r.piece e in
-          let x : stored_at known.plan runs' c ≡ 0 = stored_at-is known.plan runs' c r.piece e ∙ stored-is known.plan runs' c r.piece p number ∙ stored_now (c - p.at) in
+          let x : held_at known.plan runs' c ≡ 0 = held_at-is known.plan runs' c r.piece e ∙ held-is known.plan runs' c r.piece p number ∙ stored_now (c - p.at) in
           let all = can.has_stored_all in
-          let y : stored_at known.plan (runs_of s) c ≡ 1 = stored_at-is known.plan (runs_of s) c r.piece e ∙ stored-is known.plan (runs_of s) c r.piece p number ∙ stored_alone known s i v r p g sees can.runs can.stands (c - p.at) ∙ ap one (lt-ltb (c - p.at) r.stored (omega (arith, low, high, all))) in
+          let y : held_at known.plan (runs_of s) c ≡ 1 = held_at-is known.plan (runs_of s) c r.piece e ∙ held-is known.plan (runs_of s) c r.piece p number ∙ stored_alone known s i v r p g sees can.runs can.stands (c - p.at) ∙ ap one (lt-ltb (c - p.at) r.stored (omega (arith, low, high, all))) in
           let z = counted_now in
           let z' = counted_before in
           omega (arith, a, b, x, y, z, z')
 
-      by : (o : Option ℕ) → piece_at known.plan c ≡ o → counted_at known.plan words' runs' c + stored_at known.plan runs' c ≡ counted_at known.plan s.words (runs_of s) c + stored_at known.plan (runs_of s) c
+      by : (o : Option ℕ) → piece_at known.plan c ≡ o → counted_at known.plan words' runs' c + held_at known.plan runs' c ≡ counted_at known.plan s.words (runs_of s) c + held_at known.plan (runs_of s) c
       by None e = let n : piece_at known.plan c ≢ Some r.piece = (λ h. let z : None ≡ Some r.piece = sym e ∙ h in cc) in let a = counted_at_else c n in let b = stored_at_else c n in omega (arith, a, b)
       by (Some q) e = decide (cases_eq q r.piece)
         where
-          decide : (q ≡ r.piece) ⊎ (q ≢ r.piece) → counted_at known.plan words' runs' c + stored_at known.plan runs' c ≡ counted_at known.plan s.words (runs_of s) c + stored_at known.plan (runs_of s) c
+          decide : (q ≡ r.piece) ⊎ (q ≢ r.piece) → counted_at known.plan words' runs' c + held_at known.plan runs' c ≡ counted_at known.plan s.words (runs_of s) c + held_at known.plan (runs_of s) c
           decide (inl same) = at_piece (e ∙ ap Some same)
           decide (inr n') = let n : piece_at known.plan c ≢ Some r.piece = (λ h. n' (same_Some q r.piece (sym e ∙ h))) in let a = counted_at_else c n in let b = stored_at_else c n in omega (arith, a, b)
 
   -- the frame that the piece goes to misses that many fewer, and the others miss as many as before
-  missed_before : (c : ℕ) → p.at ≤ c → c < p.at + p.count → is_missed known.plan s.words (runs_of s) c ≡ true
+  missed_before : (c : ℕ) → p.at ≤ c → c < p.at + p.count → lacks_cell known.plan s.words (runs_of s) c ≡ true
   missed_before c low high =
       let a : counted_at known.plan s.words (runs_of s) c ≡ 0 = counted_at-is known.plan s.words (runs_of s) c r.piece (here c low high) ∙ counted_before in
       ap (λ o. is_none o && counted_at known.plan s.words (runs_of s) c == 0) (sound.pieces_spare_the_filled r.piece c (p, number, low, high)) ∙ ap (λ n. n == 0) a
 
-  missed_now : (c : ℕ) → p.at ≤ c → c < p.at + p.count → is_missed known.plan words' runs' c ≡ false
+  missed_now : (c : ℕ) → p.at ≤ c → c < p.at + p.count → lacks_cell known.plan words' runs' c ≡ false
   missed_now c low high =
       let a : counted_at known.plan words' runs' c ≡ 1 = counted_at-is known.plan words' runs' c r.piece (here c low high) ∙ counted_now in
       and_right (is_none (value_at known.plan.filled c)) (counted_at known.plan words' runs' c == 0) (ap (λ n. n == 0) a)
 
-  missed_else : (c : ℕ) → piece_at known.plan c ≢ Some r.piece → is_missed known.plan words' runs' c ≡ is_missed known.plan s.words (runs_of s) c
+  missed_else : (c : ℕ) → piece_at known.plan c ≢ Some r.piece → lacks_cell known.plan words' runs' c ≡ lacks_cell known.plan s.words (runs_of s) c
   missed_else c n = ap (λ (k : ℕ). is_none (value_at known.plan.filled c) && k == 0) (counted_at_else c n)
 
   lacks_fewer : lacking known.plan words' runs' p.to + p.count ≡ lacking known.plan s.words (runs_of s) p.to
-  lacks_fewer = passing-lowered (is_missed known.plan s.words (runs_of s)) (is_missed known.plan words' runs') (frame_at known.plan p.to).cell (frame_at known.plan p.to).inputs p.at p.count fits.fills_from_its_cells fits.fills_to_its_cells missed_before missed_now
+  lacks_fewer = passing-lowered (lacks_cell known.plan s.words (runs_of s)) (lacks_cell known.plan words' runs') (frame_at known.plan p.to).cell (frame_at known.plan p.to).inputs p.at p.count fits.fills_from_its_cells fits.fills_to_its_cells missed_before missed_now
       (λ c below. missed_else c (λ e. let w = (inside c e).0 in omega (arith, w, below)))
       (λ c above. missed_else c (λ e. let w = (inside c e).1 in omega (arith, w, above)))
 
   lacks_else : (f : ℕ) → f ≤ length known.plan.frames → f ≢ p.to → lacking known.plan words' runs' f ≡ lacking known.plan s.words (runs_of s) f
-  lacks_else f le n = passing-same (is_missed known.plan words' runs') (is_missed known.plan s.words (runs_of s)) (frame_at known.plan f).cell (frame_at known.plan f).inputs
+  lacks_else f le n = passing-same (lacks_cell known.plan words' runs') (lacks_cell known.plan s.words (runs_of s)) (frame_at known.plan f).cell (frame_at known.plan f).inputs
       (λ c low high. missed_else c (λ e. let w = inside c e in n (sound.cells_are_apart f p.to c le fits.goes_to_a_frame (low, high) (piece_cells known.plan r.piece c p sound number w.0 w.1))))
 
   counts_words : amount word ≡ lacking known.plan s.words (runs_of s) p.to
@@ -248,7 +248,7 @@ module _ (known : Known) (s : CoreState) (i : ℕ) (v : View) (r : Run) (p : Pie
       meant f end e (inr (_, now)) = g.ends_are_meant f end (sym now ∙ e)
 
   abbrev changed : View
-  changed = subtracted v r p.to (waits_for p.count (word_at s.words p.to))
+  changed = with_sub v r p.to (waits_for p.count (word_at s.words p.to))
 
   still_full : (f : ℕ) → waits (word_at s.words f) ≡ false → waits (word_at words' f) ≡ false
   still_full f h = by (word_at-set s.words p.to left f exists)

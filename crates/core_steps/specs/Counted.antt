@@ -30,21 +30,21 @@ abbrev pub counted : Plan → List Word → List (Option Run) → ℕ → ℕ
 counted plan words runs number = option_map_or (λ (p : Piece). one (has_delivered (word_at words p.from)) + count_by (is_past p.from number) runs) (slice_get plan.pieces number) 0
 
 -- How often element k of the piece of a number lies among the stored ones of the piece at which a seat stands.
-abbrev pub stored : Plan → List (Option Run) → ℕ → ℕ → ℕ
-stored plan runs cell number = option_map_or (λ (p : Piece). count_by (has_stored p.from number (cell - p.at)) runs) (slice_get plan.pieces number) 0
+abbrev pub held : Plan → List (Option Run) → ℕ → ℕ → ℕ
+held plan runs cell number = option_map_or (λ (p : Piece). count_by (has_stored p.from number (cell - p.at)) runs) (slice_get plan.pieces number) 0
 
 -- How often the piece counts that covers a cell, if any does.
 abbrev pub counted_at : Plan → List Word → List (Option Run) → ℕ → ℕ
 counted_at plan words runs cell = option_map_or (counted plan words runs) (piece_at plan cell) 0
 
 -- How often a cell lies among the stored ones of the piece at which a seat stands.
-abbrev pub stored_at : Plan → List (Option Run) → ℕ → ℕ
-stored_at plan runs cell = option_map_or (stored plan runs cell) (piece_at plan cell) 0
+abbrev pub held_at : Plan → List (Option Run) → ℕ → ℕ
+held_at plan runs cell = option_map_or (held plan runs cell) (piece_at plan cell) 0
 
 -- whether a frame misses a cell: it had no value at opening, and its piece, if any, doesn't count
-abbrev pub is_missed : Plan → List Word → List (Option Run) → ℕ → Bool
-is_missed plan words runs cell = is_none (value_at plan.filled cell) && counted_at plan words runs cell == 0
+abbrev pub lacks_cell : Plan → List Word → List (Option Run) → ℕ → Bool
+lacks_cell plan words runs cell = is_none (value_at plan.filled cell) && counted_at plan words runs cell == 0
 
 -- How many of its cells a frame misses.
 abbrev pub lacking : Plan → List Word → List (Option Run) → ℕ → ℕ
-lacking plan words runs frame = count_by (is_missed plan words runs) (cells_of plan frame)
+lacking plan words runs frame = count_by (lacks_cell plan words runs) (cells_of plan frame)

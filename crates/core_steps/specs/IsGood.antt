@@ -12,7 +12,7 @@ use Rattle.core_steps.specs.declared.view.View.{View}
 use Rattle.core_steps.specs.declared.word.Word.TheVariants.{Wait, Ended}
 use Rattle.core_steps.specs.Words.{word_at, opening_words, amount, waits, is_open, is_taken, is_started}
 use Rattle.core_steps.specs.States.{CoreState, fresh, runs_of, times, times_in_all}
-use Rattle.core_steps.specs.Counted.{one, is_run_of, counted_at, stored_at, lacking}
+use Rattle.core_steps.specs.Counted.{one, is_run_of, counted_at, held_at, lacking}
 use Rattle.core_steps.specs.Steps.{end_of, first_place, StandsAt, IsPastLast}
 
 -- A run is of a frame, and its place is one of that frame's: at a piece with at most all of its elements
@@ -34,7 +34,7 @@ pub record IsView (known : Known) (view : View) : Type 0 where
 abbrev pub IsLast : Known → View → Type 0
 IsLast known view = view.shares ≡ known.seats
 
--- What holds between any two steps.
+-- What holds between any two steps. Every step keeps it as it stands, so it needs no stronger fact beside it.
 pub record IsGood (known : Known) (state : CoreState) : Type 0 where
   -- a word for each frame and the sink, the cells of the plan, and seats with their places
   pub words_of_plan : length state.words ≡ length known.plan.frames + 1
@@ -44,7 +44,7 @@ pub record IsGood (known : Known) (state : CoreState) : Type 0 where
   pub cells_hold_the_meaning : (c : ℕ) (value : ℤ) → value_at state.cells c ≡ Some value → element known.meaning (cell_source known.plan c) ≡ Some value
   -- a cell is filled exactly where it was at opening, or its piece is counted, or it lies among the stored
   -- elements of the piece at which a seat stands; and there only one of these holds
-  pub cells_are_filled_once : (c : ℕ) → one (is_some (value_at state.cells c)) ≡ one (is_some (value_at known.plan.filled c)) + counted_at known.plan state.words (runs_of state) c + stored_at known.plan (runs_of state) c
+  pub cells_are_filled_once : (c : ℕ) → one (is_some (value_at state.cells c)) ≡ one (is_some (value_at known.plan.filled c)) + counted_at known.plan state.words (runs_of state) c + held_at known.plan (runs_of state) c
   -- a frame that waits does so for the cells that it misses, at least one; every other one misses none
   pub words_count : (f : ℕ) → f ≤ length known.plan.frames → amount (word_at state.words f) ≡ lacking known.plan state.words (runs_of state) f
   pub waits_for_some : (f : ℕ) → word_at state.words f ≢ Wait 0

@@ -52,27 +52,27 @@ after_split state seat view = record {
 }
 
 -- JOIN: a seat takes in another one that runs nothing, with its lists and shares. That one is spent.
-pub record CanJoin (state : CoreState) (seat : ℕ) (view : View) (other : ℕ) (taken : View) : Type 0 where
+pub record CanJoin (state : CoreState) (seat : ℕ) (view : View) (other : ℕ) (guest : View) : Type 0 where
   pub is_seat : IsSeat state seat view
-  pub is_other_seat : IsSeat state other taken
+  pub is_other_seat : IsSeat state other guest
   pub are_two : other ≢ seat
-  pub runs_nothing : taken.run ≡ None
+  pub runs_nothing : guest.run ≡ None
 
-abbrev pub joined : View → View → View
-joined view taken = record {
+abbrev pub with_joined : View → View → View
+with_joined view guest = record {
   about = view.about;
   run = view.run;
-  made = view.made ++ taken.made;
-  ran = view.ran ++ taken.ran;
-  missed = view.missed ++ taken.missed;
-  found = view.found ++ taken.found;
-  lost = view.lost ++ taken.lost;
+  made = view.made ++ guest.made;
+  ran = view.ran ++ guest.ran;
+  missed = view.missed ++ guest.missed;
+  found = view.found ++ guest.found;
+  lost = view.lost ++ guest.lost;
   looks = 0;
-  shares = view.shares + taken.shares;
+  shares = view.shares + guest.shares;
 }
 
 abbrev pub after_join : CoreState → ℕ → View → ℕ → View → CoreState
-after_join state seat view other taken = with_view (with_view state seat (joined view taken)) other (fresh taken.about 0)
+after_join state seat view other guest = with_view (with_view state seat (with_joined view guest)) other (fresh guest.about 0)
 
 -- a seat's lost frames with one more, where the seat knows it
 abbrev pub lost_with : View → ℕ → List ℕ
@@ -84,11 +84,11 @@ pub record CanClaim (known : Known) (state : CoreState) (seat : ℕ) (view : Vie
   pub runs_nothing : view.run ≡ None
   pub exists : frame < length known.plan.frames
 
-abbrev pub claimed : Known → View → ℕ → View
-claimed known view frame = record view { run = Some (first_place known.plan frame); ran = view.ran ++ frame ∷ []; looks = 0 }
+abbrev pub with_claim : Known → View → ℕ → View
+with_claim known view frame = record view { run = Some (first_place known.plan frame); ran = view.ran ++ frame ∷ []; looks = 0 }
 
-abbrev pub missed : Known → View → ℕ → View
-missed known view frame = record view {
+abbrev pub with_miss : Known → View → ℕ → View
+with_miss known view frame = record view {
   missed = view.missed ++ frame ∷ [];
   lost = lost_with view frame;
   looks = if frame == view.looks % length known.plan.frames then view.looks + 1 else view.looks;
@@ -97,16 +97,16 @@ missed known view frame = record view {
 abbrev pub after_claim : Known → CoreState → ℕ → View → ℕ → CoreState
 after_claim known state seat view frame =
     if is_open (word_at state.words frame)
-    then (record { words = slice_set state.words frame Taken; cells = state.cells; seats = slice_set state.seats seat (claimed known view frame) })
-    else with_view state seat (missed known view frame)
+    then (record { words = slice_set state.words frame Taken; cells = state.cells; seats = slice_set state.seats seat (with_claim known view frame) })
+    else with_view state seat (with_miss known view frame)
 
 -- READ of a cell: of the frame that the seat runs, where nothing of it was given. It gives the cell, and
 -- changes nothing.
-pub record CanRead (known : Known) (state : CoreState) (seat : ℕ) (view : View) (cell : ℕ) : Type 0 where
+pub record CanRead (known : Known) (state : CoreState) (seat : ℕ) (view : View) (run : Run) (cell : ℕ) : Type 0 where
   pub is_seat : IsSeat state seat view
-  pub frame : ℕ
-  pub gave_nothing : view.run ≡ Some (first_place known.plan frame)
-  pub is_its_cell : HasCell known.plan frame cell
+  pub runs : view.run ≡ Some run
+  pub gave_nothing : run ≡ first_place known.plan run.frame
+  pub is_its_cell : HasCell known.plan run.frame cell
 
 -- STORE: where the meaning of the running frame is Done, the next cell of the piece at which the seat
 -- stands gets the meaning's element.
@@ -132,8 +132,8 @@ pub record CanSub (known : Known) (state : CoreState) (seat : ℕ) (view : View)
   pub stands : StandsAt known.plan run piece
   pub has_stored_all : run.stored ≡ piece.count
 
-abbrev pub subtracted : View → Run → ℕ → Bool → View
-subtracted view run frame opens = record view {
+abbrev pub with_sub : View → Run → ℕ → Bool → View
+with_sub view run frame opens = record view {
   run = Some (record { frame = run.frame; piece = run.piece + 1; stored = 0 });
   made = if opens then view.made ++ frame ∷ [] else view.made;
   looks = if opens then 0 else view.looks;
@@ -143,7 +143,7 @@ abbrev pub after_sub : CoreState → ℕ → View → Run → Piece → CoreStat
 after_sub state seat view run piece = record {
   words = slice_set state.words piece.to (lowered piece.count (word_at state.words piece.to));
   cells = state.cells;
-  seats = slice_set state.seats seat (subtracted view run piece.to (waits_for piece.count (word_at state.words piece.to)));
+  seats = slice_set state.seats seat (with_sub view run piece.to (waits_for piece.count (word_at state.words piece.to)));
 }
 
 -- FINISH with the meaning's end of the running frame: where that is Done all pieces are given, and else
@@ -182,9 +182,9 @@ after_look known state seat view =
 -- A step from a state to another.
 pub data Step (known : Known) (state : CoreState) : CoreState → Type 0 where
   split : (seat : ℕ) (view : View) → CanSplit state seat view → Step known state (after_split state seat view)
-  join : (seat : ℕ) (view : View) (other : ℕ) (taken : View) → CanJoin state seat view other taken → Step known state (after_join state seat view other taken)
+  join : (seat : ℕ) (view : View) (other : ℕ) (guest : View) → CanJoin state seat view other guest → Step known state (after_join state seat view other guest)
   claim : (seat : ℕ) (view : View) (frame : ℕ) → CanClaim known state seat view frame → Step known state (after_claim known state seat view frame)
-  read : (seat : ℕ) (view : View) (cell : ℕ) → CanRead known state seat view cell → Step known state state
+  read : (seat : ℕ) (view : View) (run : Run) (cell : ℕ) → CanRead known state seat view run cell → Step known state state
   store : (seat : ℕ) (view : View) (run : Run) (piece : Piece) → CanStore known state seat view run piece → Step known state (after_store known state seat view run piece)
   sub : (seat : ℕ) (view : View) (run : Run) (piece : Piece) → CanSub known state seat view run piece → Step known state (after_sub state seat view run piece)
   finish : (seat : ℕ) (view : View) (run : Run) (end : TaskEnd) → CanFinish known state seat view run end → Step known state (after_finish state seat view run end)

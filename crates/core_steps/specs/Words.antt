@@ -7,7 +7,8 @@ use Rattle.flow_core.specs.Outcome.{is_done}
 use Rattle.core_steps.specs.declared.word.Word.{Word}
 use Rattle.core_steps.specs.declared.word.Word.TheVariants.{Wait, Open, Taken, Ended}
 
--- The word of a frame; a number without a frame counts as Open.
+-- The word of a frame. A number without a frame counts as Open: it never waited and was never claimed, so
+-- what is said of lists of frames needs no bound on their numbers.
 abbrev pub word_at : List Word → ℕ → Word
 word_at words frame = slice_index_or words frame Open
 

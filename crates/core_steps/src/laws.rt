@@ -18,11 +18,16 @@ ghost use Rattle.core_steps.specs.Laws.{
   SubFindsItsCount,
   ClaimFindsItsCells,
   RunsAtMostOnce,
+  OpenIsNew,
+  WaitingIsNew,
   IsMadeOnce,
   IsStoredOnce,
   StartedStays,
   WaitsNoMore,
   KnownWaitsNoMore,
+  ChoicesAreSteps,
+  StepsAreChoices,
+  ChoicesAreWays,
   RunsAreConfluent,
   LeavesNothing,
 };
@@ -95,18 +100,20 @@ pub fn claim_finds_its_cells()
 /// Each frame runs at most once, and is never Open again once it was claimed.
 pub fn runs_at_most_once()
     ensures once { RunsAtMostOnce }
+    ensures new { OpenIsNew }
     ensures stays { StartedStays }
 {}
 
 /// A frame that waited is made once. It never waits again, and a frame that a seat knows doesn't wait.
 pub fn made_once()
     ensures once { IsMadeOnce }
+    ensures new { WaitingIsNew }
     ensures stays { WaitsNoMore }
     ensures known { KnownWaitsNoMore }
 {}
 
-/// Whatever the order of the steps, the frames ran in an order in which each was enabled, so what they
-/// gave is the meaning's.
+/// Whatever the order of the steps, the frames that were claimed ran in an order in which each was enabled.
+/// So what they gave is the meaning's, and where nothing more is enabled it is the meaning.
 pub fn confluence()
     ensures { RunsAreConfluent }
 {}
@@ -114,4 +121,11 @@ pub fn confluence()
 /// Where the last seat runs nothing and has looked as often as there are frames, nothing is left out.
 pub fn nothing_left()
     ensures { LeavesNothing }
+{}
+
+/// What a seat can choose are exactly the steps, so tables of choices are tables of steps.
+pub fn choices_are_the_steps()
+    ensures step { ChoicesAreSteps }
+    ensures choice { StepsAreChoices }
+    ensures way { ChoicesAreWays }
 {}

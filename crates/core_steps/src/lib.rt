@@ -8,13 +8,17 @@
 //! state that words and views show is good" as its rule.
 //!
 //! `laws` has what a runtime builds on: opening is good, each step keeps a state good, what READ
-//! gives is what the meaning has, each frame runs once, and no frame is left behind.
+//! gives is what the meaning has, each frame runs once, the order of the steps doesn't matter, and
+//! no frame is left behind. `examples` has three plans step by step, and `wrong_steps` what would
+//! break a state.
 #![tactic(auto)]
 
+pub mod examples;
 mod known;
 pub mod laws;
 mod view;
 mod word;
+pub mod wrong_steps;
 
 pub use known::Known;
 pub use view::{Run, View};

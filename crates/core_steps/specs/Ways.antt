@@ -16,9 +16,9 @@ pub data Way (known : Known) : CoreState → Type 0 where
 -- whether a step is a STORE into a cell
 abbrev pub stores_into : (known : Known) (old new : CoreState) → ℕ → Step known old new → Bool
 stores_into known old new cell (split seat view needs) = false
-stores_into known old new cell (join seat view other taken needs) = false
+stores_into known old new cell (join seat view other guest needs) = false
 stores_into known old new cell (claim seat view frame needs) = false
-stores_into known old new cell (read seat view c needs) = false
+stores_into known old new cell (read seat view run c needs) = false
 stores_into known old new cell (store seat view run piece needs) = cell == piece.at + run.stored
 stores_into known old new cell (sub seat view run piece needs) = false
 stores_into known old new cell (finish seat view run end needs) = false
@@ -28,7 +28,3 @@ stores_into known old new cell (look seat view needs) = false
 abbrev pub stores : (known : Known) (state : CoreState) → ℕ → Way known state → ℕ
 stores known state cell opens = 0
 stores known state cell (goes old new way step) = stores known old cell way + one (stores_into known old new cell step)
-
--- The outcomes of the frames that were claimed.
-unfoldable pub claimed_outcomes : Known → CoreState → State
-claimed_outcomes known state = map (λ f. if is_started (word_at state.words f) then outcome_at known.meaning f else None) (range_with_len 0 (length known.plan.frames))
