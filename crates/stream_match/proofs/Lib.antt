@@ -1,0 +1,4 @@
+pub mod Pushing
+pub mod Windows
+pub mod Bounds
+pub mod Appending
