@@ -11,8 +11,10 @@
 #![tactic(auto)]
 
 mod layout;
+mod pieces;
 mod producer;
 mod span;
+mod stretch;
 
 pub use layout::Layout;
 pub use span::Span;
