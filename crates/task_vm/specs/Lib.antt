@@ -1,0 +1,2 @@
+-- What a reader believes: what a scratch has room for.
+pub mod Room
