@@ -1,9 +1,9 @@
 //! The operators that give an exact result, or trap.
 
-use crate::trap::Trap;
-
 ghost use Rattle.std.specs.Prelude.{◌≡◌};
 ghost use Rattle.c_int.specs.Operators as operator;
+
+use crate::trap::Trap;
 
 /// `a + b`
 pub fn add(a: i32, b: i32) -> Result<i32, Trap>
@@ -47,13 +47,8 @@ pub fn divide(a: i32, b: i32) -> Result<i32, Trap>
 pub fn remainder(a: i32, b: i32) -> Result<i32, Trap>
     ensures { result ≡ operator.remainder a b }
 {
-    if b == 0 {
-        return Err(Trap::DivisorZero);
-    }
-    if a == i32::MIN && b == -1 {
-        return Err(Trap::Overflow);
-    }
-    Ok(a % b)
+    divide(a, b)?;
+    fitting(i64::from(a) % i64::from(b), Trap::Overflow)
 }
 
 /// An exact result as an `int`, or else the trap.

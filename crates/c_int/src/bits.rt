@@ -1,10 +1,10 @@
 //! The operators on the 32 bits of a number, and the shifts.
 
-use crate::arithmetic::fitting;
-use crate::trap::Trap;
-
 ghost use Rattle.std.specs.Prelude.{◌≡◌};
 ghost use Rattle.c_int.specs.Operators as operator;
+
+use crate::arithmetic::fitting;
+use crate::trap::Trap;
 
 /// `a & b`
 pub fn bit_and(a: i32, b: i32) -> i32

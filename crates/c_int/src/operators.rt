@@ -1,12 +1,12 @@
 //! The operators by name.
 
+ghost use Rattle.std.specs.Prelude.{◌≡◌};
+ghost use Rattle.c_int.specs.Operators.{binary_value, unary_value};
+
 use crate::arithmetic::{add, divide, multiply, negate, remainder, subtract};
 use crate::bits::{bit_and, bit_or, bit_xor, invert, shift_left, shift_right};
 use crate::comparison::{equal, greater, greater_equal, less, less_equal, not, unequal};
 use crate::trap::Trap;
-
-ghost use Rattle.std.specs.Prelude.{◌≡◌};
-ghost use Rattle.c_int.specs.Operators.{binary_value, unary_value};
 
 /// The operators with one operand: `-` `+` `!` `~`.
 #[derive(Clone, Copy, Debug, PartialEq, Eq)]
