@@ -1,0 +1,4 @@
+pub mod Regions
+pub mod Spans
+pub mod Sound
+pub mod Straight

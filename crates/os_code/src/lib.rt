@@ -3,6 +3,7 @@
 
 mod code;
 mod instr;
+pub mod laws;
 mod site;
 mod unit;
 
