@@ -2,3 +2,5 @@ pub mod Regions
 pub mod Spans
 pub mod Sound
 pub mod Straight
+pub mod Turns
+pub mod Proceeding
