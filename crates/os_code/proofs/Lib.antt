@@ -4,3 +4,5 @@ pub mod Sound
 pub mod Straight
 pub mod Turns
 pub mod Proceeding
+pub mod Halting
+pub mod Layouts
