@@ -1,4 +1,5 @@
 pub mod Regions
+pub mod Sums
 pub mod Spans
 pub mod Sound
 pub mod Straight

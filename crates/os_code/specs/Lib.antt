@@ -10,3 +10,6 @@ pub mod Layout
 pub mod Laws
 -- What contracts see of a `Code`.
 pub mod Codes
+-- What restates private functions.
+pub mod Needs
+pub mod NeedTables
