@@ -1,3 +1,4 @@
+pub mod Lists
 pub mod Regions
 pub mod Sums
 pub mod Spans
@@ -6,4 +7,6 @@ pub mod Straight
 pub mod Turns
 pub mod Proceeding
 pub mod Halting
-pub mod Layouts
+pub mod HeightTables
+pub mod LargestSums
+pub mod Ends

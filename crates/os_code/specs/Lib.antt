@@ -6,10 +6,12 @@ pub mod Machine
 pub mod Tasks
 pub mod Control
 pub mod Chains
-pub mod Layout
+pub mod Heights
 pub mod Laws
--- What contracts see of a `Code`.
 pub mod Codes
+-- The same as functions, for computing.
+pub mod Running
+pub mod Outcomes
 -- What restates private functions.
 pub mod Needs
 pub mod NeedTables

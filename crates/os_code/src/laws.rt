@@ -1,21 +1,28 @@
 //! Laws of codes and of the machine, for the proofs of those who make a code or run it. Each is a call that does
 //! nothing and ensures its law.
 
-ghost use Rattle.os_code.specs.Laws.{LayoutsSuffice, TasksHalt, ControlHalts, RunsGoOn, StepsAddUp};
+ghost use Rattle.os_code.specs.Laws.{HeightsSuffice, RunsAreOne, TasksEnd, TaskEndsAreOne, MainEnds, MainEndsAreOne, RunsGoOn, StepsAddUp};
 
-/// A code that has a layout has heights as validity asks for them.
-pub fn layouts_suffice()
-    ensures { LayoutsSuffice }
+/// Heights that fit at each instruction show what validity says of all paths.
+pub fn heights_suffice()
+    ensures { HeightsSuffice }
 {}
 
-/// Valid codes are never stuck: a task halts within `(budget + 1) * (code length + 1)` steps.
-pub fn tasks_halt()
-    ensures { TasksHalt }
+/// From a state there is at most one run.
+pub fn runs_are_one()
+    ensures { RunsAreOne }
 {}
 
-/// Valid codes are never stuck: `main` halts within `(budget + 1) * (code length + 1)` steps.
-pub fn control_halts()
-    ensures { ControlHalts }
+/// Each activation that fits a valid code has an end, within `(budget + 1) * (code length + 1)` steps, and only one.
+pub fn tasks_end()
+    ensures there { TasksEnd }
+    ensures one { TaskEndsAreOne }
+{}
+
+/// `main` of a valid code has an end, within `(budget + 1) * (code length + 1)` steps, and only one.
+pub fn main_ends()
+    ensures there { MainEnds }
+    ensures one { MainEndsAreOne }
 {}
 
 /// A run can be made in parts.

@@ -1,2 +1,2 @@
--- What a reader believes: what a scratch has room for.
-pub mod Room
+-- What a reader believes: what a scratch has space for.
+pub mod Space

@@ -4,7 +4,7 @@ ghost use Rattle.os_code.specs.Codes.{parts};
 ghost use Rattle.os_code.specs.Laws.{HasHaltedAsTask};
 ghost use Rattle.os_code.specs.Machine.{most_steps};
 ghost use Rattle.os_code.specs.Tasks.{Fits, input_count, output_count, task_run, task_steps, task_outcome};
-ghost use Rattle.task_vm.specs.Room.{IsMadeFor};
+ghost use Rattle.task_vm.specs.Space.{IsMadeFor};
 
 use crate::scratch::Scratch;
 use flow_core::{Activation, TaskEnd};

@@ -27,16 +27,16 @@ pub struct Scratch {
 
 impl Model for Scratch {
     ghost use Rattle.std.specs.Prelude.{vec_len};
-    ghost use Rattle.task_vm.specs.Room.{Room};
+    ghost use Rattle.task_vm.specs.Space.{Space};
 
-    ghost Value = { Room };
+    ghost Value = { Space };
 
     ghost view = { λ s. record { stack = vec_len s.stack; slots = vec_len s.slots; calls = vec_len s.callers; steps = s.steps } };
 }
 
 impl Scratch {
     ghost use Rattle.os_code.specs.Codes.{parts};
-    ghost use Rattle.task_vm.specs.Room.{IsMadeFor};
+    ghost use Rattle.task_vm.specs.Space.{IsMadeFor};
 
     /// Reserves the operand stack, the slots and the calls that a code needs.
     pub fn new(alloc: Global, code: &Code) -> Result<Scratch, Memory>
