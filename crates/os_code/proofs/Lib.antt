@@ -10,3 +10,4 @@ pub mod Halting
 pub mod HeightTables
 pub mod LargestSums
 pub mod Ends
+pub mod Tables

@@ -4,12 +4,11 @@ ghost use Rattle.std.specs.Prelude.{◌≡◌, ℕ, ◌+◌, ◌<◌, ◌≤◌,
 ghost use Rattle.os_code.specs.declared.unit.Unit.{Unit as CodeUnit};
 ghost use Rattle.os_code.specs.Chains.{IsLargest};
 ghost use Rattle.os_code.specs.IsValid.{HasRegions, IsValid};
-ghost use Rattle.os_code.specs.Needs.{starts_at, most_called};
-ghost use Rattle.os_code.specs.NeedTables.{stack_in, slots_in};
+ghost use Rattle.os_code.specs.Needs.{most_called};
+ghost use Rattle.os_code.specs.NeedTables.{stack_in, slots_in, LargestFrom, IsMarked, Tells};
 
 use crate::instr::Instr;
 use crate::parts::Parts;
-use crate::unit::Unit;
 use os_io::Memory;
 use std::alloc::Global;
 
@@ -23,9 +22,7 @@ pub(crate) struct Need {
 /// Marks the places at which a unit starts.
 fn mark_starts(alloc: Global, parts: &Parts) -> Result<Vec<bool>, Memory>
     requires { HasRegions parts.now }
-    ensures length { IfOk result (λ marks. length marks.items ≡ length parts.now.instrs) }
-    ensures marks { IfOk result (λ marks. (place : ℕ) → place < length parts.now.instrs
-        → slice_index_or marks.items place false ≡ starts_at parts.now.units place) }
+    ensures { IfOk result (λ marks. IsMarked parts.now marks.items) }
 {
     let mut marks = vec![in alloc; false; parts.instrs.len()]?;
     for unit in parts.units.as_slice() {
@@ -64,4 +61,41 @@ fn most_called_of(region: &[Instr], table: &[Need]) -> Need
         }
     }
     most
+}
+
+/// What the chains from a unit need at most, where the table has the units below it.
+fn unit_need(parts: &Parts, marks: &[bool], number: usize, table: &[Need]) -> Need
+    requires valid { IsValid parts.now }
+    requires marked { IsMarked parts.now marks.now }
+    requires there { number < length parts.now.units }
+    requires known { Tells parts.now table.now number }
+    ensures stack { LargestFrom parts.now (λ (unit : CodeUnit). unit.stack) number result.stack }
+    ensures slots { LargestFrom parts.now (λ (unit : CodeUnit). unit.slots) number result.slots }
+{
+    let unit = parts.units.as_slice()[number];
+    let start = unit.start as usize;
+    let end = end_of(marks, start);
+    let called = most_called_of(&parts.instrs.as_slice()[start..end], table);
+    Need {
+        stack: u64::from(unit.stack) + called.stack,
+        slots: u64::from(unit.slots) + called.slots,
+    }
+}
+
+/// What the chains of calls of a code need at most.
+pub(crate) fn needs(alloc: Global, parts: &Parts) -> Result<Need, Memory>
+    requires { IsValid parts.now }
+    ensures stack { IfOk result (λ need. IsLargest parts.now (λ (unit : CodeUnit). unit.stack) need.stack) }
+    ensures slots { IfOk result (λ need. IsLargest parts.now (λ (unit : CodeUnit). unit.slots) need.slots) }
+{
+    let marks = mark_starts(alloc, parts)?;
+    let mut table = Vec::new(alloc);
+    let mut largest = Need { stack: 0, slots: 0 };
+    for number in 0..parts.units.len() {
+        let need = unit_need(parts, marks.as_slice(), number, table.as_slice());
+        largest.stack = largest.stack.max(need.stack);
+        largest.slots = largest.slots.max(need.slots);
+        table.push(need)?;
+    }
+    Ok(largest)
 }
