@@ -12,6 +12,7 @@ pub mod Codes
 -- The same as functions, for computing.
 pub mod Running
 pub mod Outcomes
+pub mod Checking
 -- What restates private functions.
 pub mod Needs
 pub mod NeedTables
