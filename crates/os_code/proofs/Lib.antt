@@ -11,3 +11,4 @@ pub mod HeightTables
 pub mod LargestSums
 pub mod Ends
 pub mod Tables
+pub mod Fitting
