@@ -12,3 +12,4 @@ pub mod LargestSums
 pub mod Ends
 pub mod Tables
 pub mod Fitting
+pub mod Checked
