@@ -1,11 +1,16 @@
 //! Laws of codes and of the machine, for the proofs of those who make a code or run it. Each is a call that does
 //! nothing and ensures its law.
 
-ghost use Rattle.os_code.specs.Laws.{HeightsSuffice, RunsAreOne, TasksEnd, TaskEndsAreOne, MainEnds, MainEndsAreOne, RunsGoOn, StepsAddUp};
+ghost use Rattle.os_code.specs.Laws.{HeightsSuffice, TestsSuffice, RunsAreOne, TasksEnd, TaskEndsAreOne, MainEnds, MainEndsAreOne, RunsGoOn, StepsAddUp};
 
 /// Heights that fit at each instruction show what validity says of all paths.
 pub fn heights_suffice()
     ensures { HeightsSuffice }
+{}
+
+/// What passes the test of validity, with some heights, is valid.
+pub fn tests_suffice()
+    ensures { TestsSuffice }
 {}
 
 /// From a state there is at most one run.
