@@ -1,0 +1,15 @@
+pub mod Lists
+pub mod Regions
+pub mod Sums
+pub mod Spans
+pub mod Sound
+pub mod Straight
+pub mod Turns
+pub mod Proceeding
+pub mod Halting
+pub mod HeightTables
+pub mod LargestSums
+pub mod Ends
+pub mod Tables
+pub mod Fitting
+pub mod Checked

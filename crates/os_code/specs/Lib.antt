@@ -1,0 +1,18 @@
+-- What a reader believes: the parts of a code, when they are valid, and what the machine does.
+pub mod Parts
+pub mod Effects
+pub mod IsValid
+pub mod Machine
+pub mod Tasks
+pub mod Control
+pub mod Chains
+pub mod Heights
+pub mod Laws
+pub mod Codes
+-- The same as functions, for computing.
+pub mod Running
+pub mod Outcomes
+pub mod Checking
+-- What restates private functions.
+pub mod Needs
+pub mod NeedTables

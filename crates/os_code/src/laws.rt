@@ -1,0 +1,37 @@
+//! Laws of codes and of the machine, for the proofs of those who make a code or run it. Each is a call that does
+//! nothing and ensures its law.
+
+ghost use Rattle.os_code.specs.Laws.{HeightsSuffice, TestsSuffice, RunsAreOne, TasksEnd, TaskEndsAreOne, MainEnds, MainEndsAreOne, RunsGoOn, StepsAddUp};
+
+/// Heights that fit at each instruction show what validity says of all paths.
+pub fn heights_suffice()
+    ensures { HeightsSuffice }
+{}
+
+/// What passes the test of validity, with some heights, is valid.
+pub fn tests_suffice()
+    ensures { TestsSuffice }
+{}
+
+/// From a state there is at most one run.
+pub fn runs_are_one()
+    ensures { RunsAreOne }
+{}
+
+/// Each activation that fits a valid code has an end, within `(budget + 1) * (code length + 1)` steps, and only one.
+pub fn tasks_end()
+    ensures there { TasksEnd }
+    ensures one { TaskEndsAreOne }
+{}
+
+/// `main` of a valid code has an end, within `(budget + 1) * (code length + 1)` steps, and only one.
+pub fn main_ends()
+    ensures there { MainEnds }
+    ensures one { MainEndsAreOne }
+{}
+
+/// A run can be made in parts.
+pub fn runs_go_on()
+    ensures runs { RunsGoOn }
+    ensures steps { StepsAddUp }
+{}
