@@ -1,10 +1,14 @@
 pub mod Absent
 pub mod Accepted
 pub mod Answered
+pub mod ArgumentValues
 pub mod Bytes
 pub mod Came
+pub mod CommandJobs
+pub mod CommandParses
 pub mod Declared
 pub mod Fits
+pub mod GivenNumbers
 pub mod Laid
 pub mod Lines
 pub mod Meant
@@ -18,7 +22,7 @@ pub mod Serves
 pub mod SizeLookups
 pub mod Sound
 pub mod Stands
+pub mod Streams
 pub mod TaskCounts
 pub mod Tasks
 pub mod Windows
-pub mod Streams
