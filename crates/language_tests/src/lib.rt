@@ -22,3 +22,7 @@ mod refusals;
 mod scopes;
 #[cfg(test)]
 mod several;
+#[cfg(test)]
+mod syntax;
+#[cfg(test)]
+mod tokens;

@@ -65,16 +65,16 @@ module _ {F O E : Type 0} (of_files : FilesView F) (files_old files_new : F) (jo
   -- a status below 2 is that of a run that was delivered
   pub delivered_answer : (s : Status) → AnswersJob of_files files_old files_new job of_out out_old out_new of_report report_old report_new s → number_of s < 2
       → (run : ProgramRun) × IsRunOfJob (of_files.holds files_old) (of_files.given files_new) job run
-      × (of_out.taken out_new ≡ append_known (of_out.taken out_old) (written run.activations run.input run.ends))
-      × (of_report.taken report_new ≡ append_known (of_report.taken report_old) (report run.activations run.input run.ends run.control))
-      × (number_of s ≡ status run.ends run.control)
+      × (of_out.taken out_new ≡ append_known (of_out.taken out_old) (written run.ends.output))
+      × (of_report.taken report_new ≡ append_known (of_report.taken report_old) (report run.activations (length run.input) run.ends run.control))
+      × (number_of s ≡ status run.ends.ends run.control)
   delivered_answer s (inl a) small = elim a.delivers [
     | inl d ↦ let run = a.made.run in (
       run,
       a.made.is_run,
       subst (λ bytes. of_out.taken out_new ≡ append_known (of_out.taken out_old) bytes) a.made.writes d.0,
       subst (λ bytes. of_report.taken report_new ≡ append_known (of_report.taken report_old) bytes) a.made.reports d.1,
-      ap number_of d.2 ∙ a.made.has_status
+      ap number_of d.2 ∙ a.made.has_status,
     )
     | inr d ↦ absurd (let same : number_of s ≡ 6 = ap number_of d.1 in omega arith)
   ]
@@ -107,14 +107,14 @@ module _ {F O E : Type 0} (of_files : FilesView F) (files_old files_new : F) (jo
   -- 6 is the status of a run that was not delivered whole
   pub undelivered_answer : (s : Status) → AnswersJob of_files files_old files_new job of_out out_old out_new of_report report_old report_new s → number_of s ≡ 6
       → (run : ProgramRun) × IsRunOfJob (of_files.holds files_old) (of_files.given files_new) job run
-      × IsUndelivered of_out out_old out_new (written run.activations run.input run.ends) of_report report_old report_new (report run.activations run.input run.ends run.control)
+      × IsUndelivered of_out out_old out_new (written run.ends.output) of_report report_old report_new (report run.activations (length run.input) run.ends run.control)
   undelivered_answer s (inl a) six = elim a.delivers [
     | inl d ↦ absurd (let small : number_of a.own < 2 = own_small _ _ a.own a.made in let same : number_of s ≡ number_of a.own = ap number_of d.2 in omega arith)
     | inr d ↦ let run = a.made.run in (
       run,
       a.made.is_run,
-      subst (λ bytes. IsUndelivered of_out out_old out_new (written run.activations run.input run.ends) of_report report_old report_new bytes) a.made.reports
-      (subst (λ bytes. IsUndelivered of_out out_old out_new bytes of_report report_old report_new a.report_bytes) a.made.writes d.0)
+      subst (λ bytes. IsUndelivered of_out out_old out_new (written run.ends.output) of_report report_old report_new bytes) a.made.reports
+          (subst (λ bytes. IsUndelivered of_out out_old out_new bytes of_report report_old report_new a.report_bytes) a.made.writes d.0),
     )
   ]
   undelivered_answer s (inr a) six = elim a.refuses [

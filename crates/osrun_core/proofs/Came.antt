@@ -16,7 +16,7 @@ use Rattle.osrun_core.specs.Loads.{IsLoaded, IsLoadRefusal}
 use Rattle.flow_core.specs.declared.control.ControlEnd.TheVariants as control_end
 use Rattle.osrun_core.specs.declared.status.Status.{Status}
 use Rattle.osrun_core.specs.JobAnswer.{MakesRun}
-use Rattle.osrun_core.specs.Meaning.{activations, meaning}
+use Rattle.osrun_core.specs.Meaning.{activations, program_ends}
 use Rattle.osrun_core.specs.Program.{IsProgramOf}
 use Rattle.osrun_core.specs.Run.{IsRunOf}
 use Rattle.osrun_core.specs.Status.{number_of}
@@ -104,10 +104,20 @@ module _ {F : Type 0} (view : FilesView F) (job : Job) where
   cause_of_text old new text (refusals.ReadFault s) opened loaded (inr h) = absurd h
   cause_of_text old new text refusals.Memory opened loaded (inr h) = tt
   cause_of_text old new text (refusals.Token code line) opened loaded (inr h) = record {
-    came = came_to_program old new opened; text = text; held = loaded.is_held; whole = loaded.whole; fits = loaded.fits; refused = h
+    came = came_to_program old new opened;
+    text = text;
+    held = loaded.is_held;
+    whole = loaded.whole;
+    fits = loaded.fits;
+    refused = h;
   }
   cause_of_text old new text refusals.NoProgram opened loaded (inr h) = record {
-    came = came_to_program old new opened; text = text; held = loaded.is_held; whole = loaded.whole; fits = loaded.fits; refused = h
+    came = came_to_program old new opened;
+    text = text;
+    held = loaded.is_held;
+    whole = loaded.whole;
+    fits = loaded.fits;
+    refused = h;
   }
 
   -- why the input could not be loaded, after the program was read
@@ -142,7 +152,7 @@ module _ {F : Type 0} (view : FilesView F) (job : Job) where
       → IsLoaded view mid new subjects.Input job.input input → view.holds mid ≡ view.holds old → view.opens new ≡ raised (raised (view.opens old) 1) 1
       → IsProgramOf text p → IsRunOf p input output_bytes report_bytes (number_of own) → MakesRun view old new job output_bytes report_bytes own
   made_run old mid new text input output_bytes report_bytes p own of_text of_input same opened is_program run = record {
-    run = record { activations = activations p; control = control_end.Done; input = input; ends = meaning p input };
+    run = record { activations = activations p; control = control_end.Done; input = input; ends = program_ends p input };
     opened = opened ∙ omega arith;
     is_run = record {
       text = text;

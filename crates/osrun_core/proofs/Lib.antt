@@ -4,6 +4,7 @@ pub mod Answered
 pub mod ArgumentValues
 pub mod Bytes
 pub mod Came
+pub mod Claimed
 pub mod CommandJobs
 pub mod CommandParses
 pub mod Declared
@@ -15,6 +16,7 @@ pub mod Meant
 pub mod Outputs
 pub mod Parts
 pub mod Plannable
+pub mod Prefixes
 pub mod Ranges
 pub mod Repeats
 pub mod Reported

@@ -18,9 +18,9 @@ pub record MakesRun {F : Type 0} (view : FilesView F) (old new : F) (job : Job) 
   pub opened : view.opens new ≡ raised (view.opens old) (length (files_of job))
   pub run : ProgramRun
   pub is_run : IsRunOfJob (view.holds old) (view.given new) job run
-  pub writes : output_bytes ≡ written run.activations run.input run.ends
-  pub reports : report_bytes ≡ report run.activations run.input run.ends run.control
-  pub has_status : number_of own ≡ status run.ends run.control
+  pub writes : output_bytes ≡ written run.ends.output
+  pub reports : report_bytes ≡ report run.activations (length run.input) run.ends run.control
+  pub has_status : number_of own ≡ status run.ends.ends run.control
 
 -- a run was made, and delivered as far as the sinks took it
 pub record AnswersRun {F O E : Type 0} (of_files : FilesView F) (files_old files_new : F) (job : Job)

@@ -7,11 +7,11 @@ pub mod FirstPlan
 pub mod FirstProgram
 pub mod FirstReport
 pub mod JobAnswer
+pub mod Laws
 pub mod Line
 pub mod Loading
 pub mod Loads
 pub mod Meaning
-pub mod Missing
 pub mod Parsed
 pub mod Program
 pub mod Reading

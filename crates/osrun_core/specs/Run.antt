@@ -3,12 +3,12 @@ use Rattle.std.specs.Prelude.{◌≡◌, ℕ, ◌≤◌, List, Option, length}
 use Rattle.flow_core.specs.declared.activation.Activation.{Activation}
 use Rattle.flow_core.specs.declared.control.ControlEnd.{ControlEnd}
 use Rattle.flow_core.specs.declared.control.ControlEnd.TheVariants as control_end
-use Rattle.flow_core.specs.Outcome.{State}
+use Rattle.flow_core.specs.declared.ends.Ends.{Ends}
 use Rattle.osrun_core.specs.declared.first_program.FirstProgram.{FirstProgram}
 use Rattle.osrun_core.specs.declared.refusal.Subject.TheVariants.{Program, Input}
 use Rattle.osrun_core.specs.Command.{Job}
 use Rattle.osrun_core.specs.Loading.{IsHeld}
-use Rattle.osrun_core.specs.Meaning.{activations, meaning}
+use Rattle.osrun_core.specs.Meaning.{activations, program_ends}
 use Rattle.osrun_core.specs.Program.{IsProgramOf}
 use Rattle.osrun_core.specs.Refusal.{limit_of}
 use Rattle.osrun_core.specs.Report.{report, status}
@@ -16,17 +16,17 @@ use Rattle.osrun_core.specs.Written.{written}
 
 -- the output, the report and the status are those of the program's meaning over the input
 pub record IsRunOf (p : FirstProgram) (input output_bytes report_bytes : List ℕ) (status_number : ℕ) : Type 0 where
-  pub output : output_bytes ≡ written (activations p) input (meaning p input)
-  pub report : report_bytes ≡ report (activations p) input (meaning p input) control_end.Done
-  pub status : status_number ≡ status (meaning p input) control_end.Done
+  pub output : output_bytes ≡ written (program_ends p input).output
+  pub report : report_bytes ≡ report (activations p) (length input) (program_ends p input) control_end.Done
+  pub status : status_number ≡ status (program_ends p input).ends control_end.Done
 
--- a run: the activations that the control program created and how it ended, the input, and how the
--- activations ended over it
+-- a run: the activations that the control program created and how it ended, the input, and the ends of the
+-- activations over it with the elements of the output
 pub record ProgramRun : Type 0 where
   pub activations : List Activation
   pub control : ControlEnd
   pub input : List ℕ
-  pub ends : State
+  pub ends : Ends
 
 -- Both files of the job were read whole, within their limits: of the second so many bytes were given. The first
 -- is a program, and the run is that of this program over the bytes of the second.
@@ -41,4 +41,4 @@ pub record IsRunOfJob (holds : List ℕ → Option (List ℕ)) (given : ℕ) (jo
   pub is_program : IsProgramOf text program
   pub activations_are : run.activations ≡ activations program
   pub control_is : run.control ≡ control_end.Done
-  pub ends_are : run.ends ≡ meaning program run.input
+  pub ends_are : run.ends ≡ program_ends program run.input

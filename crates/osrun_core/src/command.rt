@@ -42,9 +42,9 @@ pub fn run_words<R: Threads + Sync, F: Files, O: Sink, E: Sink, G: Gate>(
     // report, and the status is its status.
     ensures headline { result < 2 → IsSomeAnd (command (texts words.now)) (λ job. (run : ProgramRun)
         × IsRunOfJob (F.holds files.old) (F.given files.new) job run
-        × (O.taken out.new ≡ append_known (O.taken out.old) (written run.activations run.input run.ends))
-        × (E.taken report.new ≡ append_known (E.taken report.old) (report_of run.activations run.input run.ends run.control))
-        × (result ≡ status_of run.ends run.control)) }
+        × (O.taken out.new ≡ append_known (O.taken out.old) (written run.ends.output))
+        × (E.taken report.new ≡ append_known (E.taken report.old) (report_of run.activations (length run.input) run.ends run.control))
+        × (result ≡ status_of run.ends.ends run.control)) }
 
     // 0, 1 and 6: a run was made, so all files were opened, the input last.
     ensures all_opened { (result < 2) ⊎ (result ≡ 6) → IfSome (command (texts words.now))
@@ -80,8 +80,8 @@ pub fn run_words<R: Threads + Sync, F: Files, O: Sink, E: Sink, G: Gate>(
     ensures undelivered { result ≡ 6 → IsSomeAnd (command (texts words.now)) (λ job. (run : ProgramRun)
         × IsRunOfJob (F.holds files.old) (F.given files.new) job run
         × IsUndelivered
-        (record { taken = O.taken; faults = O.faults; empty_takes = O.empty_takes }) out.old out.new (written run.activations run.input run.ends)
-        (record { taken = E.taken; faults = E.faults; empty_takes = E.empty_takes }) report.old report.new (report_of run.activations run.input run.ends run.control)) }
+        (record { taken = O.taken; faults = O.faults; empty_takes = O.empty_takes }) out.old out.new (written run.ends.output)
+        (record { taken = E.taken; faults = E.faults; empty_takes = E.empty_takes }) report.old report.new (report_of run.activations (length run.input) run.ends run.control)) }
 
     // 7: want of memory, before anything is written.
     ensures memory { result ≡ 7 → report.new ≡ report.old }

@@ -16,6 +16,7 @@ mod first_program;
 mod first_program_error;
 mod gate;
 mod job;
+mod laws;
 mod load;
 mod names;
 mod plan;
@@ -31,4 +32,5 @@ mod words;
 
 pub use command::run_words;
 pub use gate::{Gate, NoGate};
+pub use laws::{all_is_written, longest_prefix};
 pub use reader::one_reading;

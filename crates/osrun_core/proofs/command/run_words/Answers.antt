@@ -3,24 +3,24 @@ use Rattle.osrun_core.proofs.Answered.{delivered_answer, opened_answer, undelive
 use Rattle.osrun_core.proofs.command.run_words.Goals as goal
 
 pub answer_job-requires : goal.answer_job-requires
-answer_job-requires g c = c.requires _ (sym c.in-Ok.ensures)
+answer_job-requires g c = c.requires _ c.in-Ok.ensures.job
 
 pub returns-in-Ok-clause-headline : goal.returns-in-Ok-clause-headline
 returns-in-Ok-clause-headline g c =
-    rw (← c.in-Ok.ensures, c.number-in-Ok.ensures) (delivered_answer _ _ _ _ _ _ _ _ _ _ _ c.answer_job.ensures.answers)
+    rw (c.in-Ok.ensures.job, c.number.ensures) (delivered_answer _ _ _ _ _ _ _ _ _ _ _ c.answer_job.ensures.answers)
 
 pub returns-in-Ok-clause-too_long_always : goal.returns-in-Ok-clause-too_long_always
 returns-in-Ok-clause-too_long_always g c =
-    rw (← c.in-Ok.ensures, c.number-in-Ok.ensures) (too_long_answer _ _ _ _ _ _ _ _ _ _ _ c.answer_job.ensures.answers)
+    rw (c.in-Ok.ensures.job, c.number.ensures) (too_long_answer _ _ _ _ _ _ _ _ _ _ _ c.answer_job.ensures.answers)
 
 pub returns-in-Ok-clause-undelivered : goal.returns-in-Ok-clause-undelivered
 returns-in-Ok-clause-undelivered g c =
-    rw (← c.in-Ok.ensures, c.number-in-Ok.ensures) (undelivered_answer _ _ _ _ _ _ _ _ _ _ _ c.answer_job.ensures.answers)
+    rw (c.in-Ok.ensures.job, c.number.ensures) (undelivered_answer _ _ _ _ _ _ _ _ _ _ _ c.answer_job.ensures.answers)
 
 pub returns-in-Ok-clause-complete : goal.returns-in-Ok-clause-complete
 returns-in-Ok-clause-complete g c =
-    rw (← c.in-Ok.ensures, c.number-in-Ok.ensures) c.answer_job.ensures.complete
+    rw (c.in-Ok.ensures.job, c.number.ensures) c.answer_job.ensures.complete
 
 pub returns-in-Ok-clause-all_opened : goal.returns-in-Ok-clause-all_opened
 returns-in-Ok-clause-all_opened g c =
-    rw (← c.in-Ok.ensures, c.number-in-Ok.ensures) (opened_answer _ _ _ _ _ _ _ _ _ _ _ c.answer_job.ensures.answers)
+    rw (c.in-Ok.ensures.job, c.number.ensures) (opened_answer _ _ _ _ _ _ _ _ _ _ _ c.answer_job.ensures.answers)

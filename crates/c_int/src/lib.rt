@@ -1,0 +1,20 @@
+//! The operators of C's `int`, which has 32 bits in two's complement.
+//!
+//! An operator gives the exact result, or one of three traps: what C leaves undefined or leaves to the
+//! implementation is decided here once, for the meaning of programs and for the machine that runs them.
+//! `specs/Operators.antt` says it over whole numbers, a line an operator; each function here gives exactly
+//! that. Lines of the program are known to the callers alone.
+#![tactic(auto)]
+
+mod arithmetic;
+mod bits;
+mod comparison;
+pub mod laws;
+mod operators;
+mod trap;
+
+pub use arithmetic::{add, divide, multiply, negate, remainder, subtract};
+pub use bits::{bit_and, bit_or, bit_xor, invert, shift_left, shift_right};
+pub use comparison::{equal, greater, greater_equal, less, less_equal, not, unequal};
+pub use operators::{Binary, Unary, apply_binary, apply_unary};
+pub use trap::Trap;
