@@ -1,14 +1,14 @@
 -- What an argument holds after a parse without fault: one value, which passed its parser.
-use Rattle.std.proofs.Common.{◌≡◌, ◌⊎◌, ◌∙◌, ◌&&◌, ◌||◌, ◌<◌, ◌≤◌, ◌==◌, ℕ, Bool, true, false, not, List, [], ◌∷◌, Option, Some, None, is_some, map, option_map, length, ap, sym, subst, refl, inl, inr, arith, rules, true≢false}
-use Rattle.std.specs.List.{All, Any, list_all, slice_index_or}
-use Rattle.std.specs.Prelude.{slice_get, unwrap_or}
+use Rattle.std.proofs.Common.{◌≡◌, ◌∙◌, ◌||◌, ◌<◌, ◌==◌, ℕ, Bool, true, false, not, List, [], ◌∷◌, Option, Some, None, is_some, map, length, ap, sym, subst, refl, inl, inr, arith, true≢false}
+use Rattle.std.specs.List.{All, list_all, slice_index_or}
+use Rattle.std.specs.Prelude.{unwrap_or}
 use Rattle.std.specs.Str.{bytes_eq}
 use Rattle.std.specs.Borrow.{Bor}
 use Rattle.std.proofs.lemmas.Slice.Eq.{bytes_eq-Decides}
 use Rattle.std.proofs.lemmas.List.Elements.{All-get_or}
-use Rattle.clap.specs.Words.{Accepts, IsParsed, Rule, Text, args_of, groups_of, first_value, matched_of, one_text, parser_of, read_as, reading_of, rule_of}
-use Rattle.clap.specs.Facts.{Entry, EntryPasses, HasReading, PassesArg, parser_of_value, unwrap_or_range}
-use Rattle.clap.specs.Walk.{action_of, is_empty, is_simple_arg}
+use Rattle.clap.specs.Words.{Accepts, IsParsed, Text, args_of, groups_of, first_value, matched_of, one_text, parser_of, read_as, reading_of, rule_of}
+use Rattle.clap.specs.Facts.{Entry, EntryPasses, PassesArg, unwrap_or_range}
+use Rattle.clap.specs.Walk.{is_empty, is_simple_arg}
 use Rattle.clap.specs.declared.builder.Arg.{Arg}
 use Rattle.clap.specs.declared.builder.ArgAction.{ArgAction}
 use Rattle.clap.specs.declared.builder.ArgAction.TheVariants.{Count, Set}
@@ -20,7 +20,6 @@ use Rattle.osrun_core.specs.Parsed.{is_count, takes_one}
 use Rattle.clap.proofs.CallerLemmas.{entry_by_id}
 use Rattle.clap.proofs.TakesLemmas.{each_rule}
 use Rattle.clap.proofs.WalkLemmas.{both}
-use Rattle.clap.proofs.SimpleLemmas.{is_nil}
 
 pub record TakesOne (test : Option ValueParser → Bool) (a : Arg) : Type 0 where
   pub parser : test a.value_parser ≡ true

@@ -1,5 +1,5 @@
 -- What a command's reader concludes from a parse without fault.
-use Rattle.std.proofs.Common.{◌≡◌, ◌∙◌, ◌≤◌, ℕ, List, [], ◌∷◌, Option, Some, None, Result, Ok, Err, ap, refl, subst, sym, arith}
+use Rattle.std.proofs.Common.{◌≡◌, ◌∙◌, ℕ, List, [], ◌∷◌, Option, Some, None, Result, Ok, Err, ap, refl, subst, sym, arith}
 use Rattle.std.specs.Prelude.{unwrap_or}
 use Rattle.std.specs.Result.{IsErrAnd}
 use Rattle.std.specs.Str.Parse.{ParsesUnsigned, digits_value, without_leading_plus}
@@ -8,7 +8,7 @@ use Rattle.clap.specs.declared.parser.matches.ArgMatches.{ArgMatches}
 use Rattle.clap.proofs.WalkLemmas.{one_text-rows}
 use Rattle.osrun_core.specs.Arguments.{Argument, name, number, option, id_of, number_in}
 use Rattle.osrun_core.specs.Command.{CommandForm, Job, app_of_form, job_by, unless}
-use Rattle.osrun_core.specs.Parsed.{IsNumber, IsNumberFor, IsNumberGiven, IsParsedBy}
+use Rattle.osrun_core.specs.Parsed.{IsNumber, IsNumberGiven, IsParsedBy}
 use Rattle.osrun_core.specs.declared.job.Job.{Job as Lent}
 use Rattle.osrun_core.specs.declared.words.words_error.WordsError.{WordsError}
 use Rattle.osrun_core.specs.declared.words.words_error.WordsError.TheVariants as errors

@@ -1,8 +1,7 @@
 -- What the parse of a simple command says, of the app that the command was made for.
-use Rattle.std.proofs.Common.{◌≡◌, ◌⊎◌, ◌∙◌, ◌&&◌, Bool, true, false, List, [], Result, Ok, Err, ap, sym, subst, refl, inl, inr}
-use Rattle.clap.specs.Words.{App, BuildsOrBreaks, BuildsTo, FailsBy, HasKind, HasMatchesOf, IsParsed, Kinds, Text, app_of, built, fault_of, found_of, has_subcommand, is_broken, is_simple, is_simple_and_free, kind_of}
-use Rattle.clap.specs.Simple.{Shape, has_simple_rules, is_buildable, is_ready, is_ready_leaf, shape_of}
-use Rattle.clap.specs.Faults.{is_free_app}
+use Rattle.std.proofs.Common.{◌≡◌, ◌⊎◌, ◌∙◌, true, false, List, [], ap, subst, inl, inr}
+use Rattle.clap.specs.Words.{App, BuildsOrBreaks, BuildsTo, HasKind, HasMatchesOf, IsParsed, Kinds, Text, app_of, built, fault_of, found_of, has_subcommand, is_broken, is_simple, is_simple_and_free, kind_of}
+use Rattle.clap.specs.Simple.{has_simple_rules, is_buildable, is_ready, shape_of}
 use Rattle.clap.specs.declared.builder.command.Command.{Command}
 use Rattle.clap.specs.declared.builder.command.Command.TheViews.{out-Command}
 use Rattle.clap.specs.declared.error.Error.{Error}

@@ -1,17 +1,17 @@
 -- What a command's own arguments hold after a parse without fault.
-use Rattle.std.proofs.Common.{◌≡◌, ◌⊎◌, ◌∙◌, ◌&&◌, ◌||◌, ◌<◌, ◌≤◌, ◌==◌, ℕ, Bool, true, false, not, zero, suc, List, [], ◌∷◌, Option, Some, None, is_some, map, option_map, length, ap, ap₂, sym, subst, refl, inl, inr, arith, rules, true≢false, eqb-true}
+use Rattle.std.proofs.Common.{◌≡◌, ◌∙◌, ◌&&◌, ◌||◌, ◌<◌, ◌==◌, ℕ, Bool, true, false, not, zero, suc, List, [], ◌∷◌, Option, Some, is_some, map, option_map, length, ap, ap₂, sym, subst, refl, inl, inr, arith, true≢false, eqb-true}
 use Rattle.std.specs.List.{All, list_all, list_any, slice_index_or}
 use Rattle.std.specs.Prelude.{find}
 use Rattle.std.specs.Str.{bytes_eq}
 use Rattle.std.specs.Borrow.{Bor}
 use Rattle.std.proofs.lemmas.Slice.Eq.{bytes_eq-Decides}
-use Rattle.clap.specs.Words.{Accepts, App, IsParsed, IsUnsignedIn, Kinds, Row, Rule, Text, app_of, args_of, built, fault_of, found_of, groups_of, has_subcommand, is_present, is_simple_and_free, items_of, matched_of, matches_of, one_text, parser_of, read_as, reading_of, rows_of, rule_of}
-use Rattle.clap.specs.Facts.{Entry, HasId, HasIn, WantsDefault}
-use Rattle.clap.specs.Faults.{check_fault, defaults_fault, entered_fault, level_fault, settle_fault, walk_fault}
+use Rattle.clap.specs.Words.{App, Kinds, Row, Rule, Text, app_of, args_of, built, fault_of, found_of, has_subcommand, is_simple_and_free, matched_of, matches_of, one_text, rule_of}
+use Rattle.clap.specs.Facts.{Entry, HasId, WantsDefault}
+use Rattle.clap.specs.Faults.{check_fault, defaults_fault, entered_fault, settle_fault, walk_fault}
 use Rattle.clap.specs.Kinds.{check_kinds, or_else}
-use Rattle.clap.specs.Simple.{Shape, argument_words, entered, names_of, shape_of}
+use Rattle.clap.specs.Simple.{argument_words, entered, names_of}
 use Rattle.clap.specs.Takes.{is_given}
-use Rattle.clap.specs.Walk.{Held as State, Names, finished, is_empty, is_simple_arg, nothing_held, settled, stop_after, texts, walk, walk_from}
+use Rattle.clap.specs.Walk.{is_empty, is_simple_arg, nothing_held, settled, stop_after, texts, walk, walk_from}
 use Rattle.clap.specs.declared.builder.Arg.{Arg}
 use Rattle.clap.specs.declared.builder.ValueParser.{ValueParser}
 use Rattle.clap.specs.declared.builder.ValueParser.TheVariants as parser
@@ -21,7 +21,7 @@ use Rattle.clap.proofs.CallerLemmas.{present_has_entry}
 use Rattle.clap.proofs.SimpleLemmas.{is_false, is_nil, plain_fields}
 use Rattle.clap.proofs.TakesLemmas.{present_row}
 use Rattle.clap.proofs.WalkLemmas.{both}
-use Rattle.osrun_core.specs.Parsed.{AreGiven, IsNumber, IsParsedBy, has_default, is_argument_of, is_number, is_number_id, is_option_of, is_required, is_required_of, is_readable, takes_one}
+use Rattle.osrun_core.specs.Parsed.{AreGiven, IsNumber, IsParsedBy, has_default, is_argument_of, is_number, is_number_id, is_option_of, is_required, is_required_of, is_readable}
 use Rattle.osrun_core.specs.Arguments.{Argument, name, number, option, simple_command}
 use Rattle.osrun_core.proofs.CommandParses.{is_plain_after, simple_of}
 use Rattle.osrun_core.proofs.ArgumentValues.{Held, held_at}

@@ -24,7 +24,6 @@ pub mod Serves
 pub mod SizeLookups
 pub mod Sound
 pub mod Stands
-pub mod Streams
 pub mod TaskCounts
 pub mod Tasks
 pub mod Windows

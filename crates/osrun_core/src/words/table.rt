@@ -4,13 +4,17 @@ use crate::words::argument::Argument;
 #[derive(Clone, Copy)]
 pub struct CommandForm<'a> {
     pub word: &'a str,
+    /// In the order in which those without a long name stand in the words.
     pub arguments: &'a [Argument<'a>],
 }
 
+/// The name of the program's file.
 pub const PROGRAM: Argument<'static> = Argument::Name { id: "PROGRAM" };
 
+/// The name of the input's file.
 pub const INPUT: Argument<'static> = Argument::Name { id: "INPUT" };
 
+/// How many workers make a run.
 pub const WORKERS: Argument<'static> = Argument::Option {
     id: "workers",
     default: "4",
@@ -18,6 +22,7 @@ pub const WORKERS: Argument<'static> = Argument::Option {
     most: 64,
 };
 
+/// How many turns each task of a run may take.
 pub const TASK_BUDGET: Argument<'static> = Argument::Option {
     id: "budget",
     default: "1000000",
@@ -25,6 +30,7 @@ pub const TASK_BUDGET: Argument<'static> = Argument::Option {
     most: 1_000_000_000,
 };
 
+/// How many turns the control program of a run may take.
 pub const CONTROL_BUDGET: Argument<'static> = Argument::Option {
     id: "control",
     default: "1000000",

@@ -1,4 +1,3 @@
-use Rattle.std.proofs.Common.{sym, ◌∙◌}
 use Rattle.osrun_core.proofs.Answered.{delivered_answer, opened_answer, undelivered_answer, too_long_answer}
 use Rattle.osrun_core.proofs.command.run_words.Goals as goal
 

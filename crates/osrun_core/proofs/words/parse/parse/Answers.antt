@@ -1,4 +1,4 @@
-use Rattle.std.proofs.Common.{◌≡◌, ◌∙◌}
+use Rattle.std.proofs.Common.{◌∙◌}
 use Rattle.osrun_core.specs.Arguments.{arguments_of}
 use Rattle.osrun_core.proofs.GivenNumbers.{table_given, table_simple}
 use Rattle.osrun_core.proofs.CommandParses.{has_fault, parsed_by}

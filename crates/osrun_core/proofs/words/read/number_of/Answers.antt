@@ -1,6 +1,5 @@
-use Rattle.std.proofs.Common.{◌≡◌, ◌∙◌, List, ℕ, Some, Result}
+use Rattle.std.proofs.Common.{◌∙◌}
 use Rattle.std.specs.Str.Parse.{ParsesUnsigned, ExplainsUnsignedError, HasUnsignedDigitsIfOk}
-use Rattle.clap.specs.Words.{ReadsOne, Text, found_of, one_text}
 use Rattle.osrun_core.specs.Arguments.{argument_of}
 use Rattle.osrun_core.proofs.CommandJobs.{number_read}
 use Rattle.osrun_core.proofs.words.read.number_of.Goals as goal

@@ -1,6 +1,6 @@
-use Rattle.std.proofs.Common.{◌≡◌, ◌∙◌, ap, refl, ℕ, Option, Some}
+use Rattle.std.proofs.Common.{◌≡◌, ℕ}
 use Rattle.clap.specs.Words.{Text}
-use Rattle.osrun_core.specs.Command.{Job, job_of, run, texts}
+use Rattle.osrun_core.specs.Command.{Job, run, texts}
 use Rattle.osrun_core.proofs.CommandJobs.{job_read, refused}
 use Rattle.osrun_core.proofs.words.read.read_run.Goals as goal
 
