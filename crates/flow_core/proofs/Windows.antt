@@ -148,7 +148,7 @@ written s p w h =
     record { on_stream = inner.0; from = grind (arith, nat_tests); to = grind (arith, nat_tests) }
 
 -- the first position of a write claim
-first_of_write : (s : ℕ) (earlier : List Claim) (c : Claim) → is_write_to s c ≡ true → first_position earlier c ≡ write_cursor s earlier
+pub first_of_write : (s : ℕ) (earlier : List Claim) (c : Claim) → is_write_to s c ≡ true → first_position earlier c ≡ write_cursor s earlier
 first_of_write s earlier c h =
     let parts = and_parts c.write (c.stream == s) h in
     ap (λ (b : Bool). cond b (write_cursor c.stream earlier) (c.skip + read_cursor c.stream earlier)) parts.0 ∙ ap (λ (t : ℕ). write_cursor t earlier) (eqb-true c.stream s parts.1)

@@ -2,7 +2,7 @@
 use Rattle.std.specs.Prelude.{ℕ, ◌+◌, Bool, ◌&&◌, false, nat_lt, nat_le, List, [], ◌++◌, Option, slice_get, slice_index_or, take, length, map, filter, sum_by, find}
 use Rattle.std.specs.Bool.{beq}
 use Rattle.std.specs.Option.{option_map_or}
-use Rattle.std.specs.List.{flat_map, range_with_len}
+use Rattle.std.specs.List.{flat_map, position, range_with_len}
 use Rattle.flow_core.specs.declared.claim.Claim.{Claim}
 use Rattle.flow_core.specs.declared.activation.Activation.{Activation}
 use Rattle.flow_core.specs.FirstPosition.{is_write_to, first_position}
@@ -70,3 +70,7 @@ is_written_by stream position window = is_write_to stream window.claim && nat_le
 -- The producer of an element: the write claim that covers its position, or none.
 abbrev pub producer : List Activation → ℕ → ℕ → Option Window
 producer activations stream position = find (is_written_by stream position) (windows activations)
+
+-- The number of its window among all of them.
+abbrev pub producer_number : List Activation → ℕ → ℕ → Option ℕ
+producer_number activations stream at = position (is_written_by stream at) (windows activations)

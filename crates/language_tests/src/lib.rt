@@ -5,6 +5,8 @@
 #![tactic(auto)]
 
 #[cfg(test)]
+mod captured;
+#[cfg(test)]
 mod depths;
 #[cfg(test)]
 mod judge;

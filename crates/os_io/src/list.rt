@@ -59,6 +59,15 @@ impl<T> List<T> {
 }
 
 impl<T: Drop> List<T> {
+    /// Takes memory for so many more items, so that adding them takes none. `Memory` leaves the list
+    /// as it was.
+    pub fn reserve(&mut self, more: usize) -> Result<(), Memory>
+        ensures { self.new ≡ self.old }
+    {
+        self.items.reserve(more)?;
+        Ok(())
+    }
+
     /// Adds an item at the end. `Memory` leaves the list as it was.
     pub fn push(&mut self, item: T) -> Result<(), Memory>
         ensures ok { OnOk result (self.new ≡ self.old ++ item ∷ []) }
@@ -77,6 +86,7 @@ mod tests {
     #[test]
     fn holds_what_is_pushed_and_written(rt: HostRuntime) -> Result<(), Fail> {
         let mut list = List::new(rt.alloc());
+        list.reserve(3)?;
         assert_eq!(rt; list.len(), 0);
         for item in [2u32, 3, 5] {
             list.push(item)?;

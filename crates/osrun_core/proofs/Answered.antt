@@ -1,25 +1,23 @@
 -- What the status of an answered job says.
-use Rattle.std.proofs.Common.{◌≡◌, ◌≢◌, ◌∙◌, ◌⊎◌, subst, ℕ, zero, suc, ◌+◌, ◌<◌, ◌≤◌, Bool, true, false, cond, List, Some, slice_get, length, sym, ap, refl, inl, inr, arith}
+use Rattle.std.proofs.Common.{◌≡◌, ◌≢◌, ◌∙◌, ◌⊎◌, subst, ℕ, ◌+◌, ◌<◌, ◌≤◌, Bool, true, false, cond, List, Some, slice_get, length, sym, ap, refl, inl, inr, arith}
 use Rattle.std.proofs.lemmas.Option.{slice_get_within}
 use Rattle.std.specs.Option.{option_map_or}
 use Rattle.std.specs.Io.KnownBytes.{append_known}
 use Rattle.os_io.specs.Counts.{last_count, raised}
 use Rattle.osrun_core.specs.declared.refusal.Refusal.{Refusal}
 use Rattle.osrun_core.specs.declared.refusal.Refusal.TheVariants as refusals
-use Rattle.osrun_core.specs.declared.refusal.Subject.{Subject}
 use Rattle.osrun_core.specs.declared.refusal.Subject.TheVariants as subjects
 use Rattle.osrun_core.specs.declared.status.Status.{Status}
 use Rattle.osrun_core.specs.declared.status.Status.TheVariants as statuses
 use Rattle.osrun_core.specs.Command.{Job, JobFile, files_of}
 use Rattle.osrun_core.specs.Delivers.{IsUndelivered}
-use Rattle.osrun_core.specs.JobAnswer.{MakesRun, AnswersRun, AnswersRefusal, AnswersJob}
-use Rattle.osrun_core.specs.Loading.{FilesView, CameTo, IsCauseOf}
+use Rattle.osrun_core.specs.JobAnswer.{MakesRun, AnswersJob}
+use Rattle.osrun_core.specs.Loading.{FilesView, IsCauseOf}
 use Rattle.osrun_core.specs.Refusal.{limit_of, refusal_line, refusal_status}
-use Rattle.osrun_core.specs.Refuses.{Refuses}
 use Rattle.osrun_core.specs.Report.{report, status}
 use Rattle.osrun_core.specs.Run.{ProgramRun, IsRunOfJob}
 use Rattle.osrun_core.specs.Status.{number_of}
-use Rattle.osrun_core.specs.Telling.{SinkView, HasTrouble, Tells}
+use Rattle.osrun_core.specs.Telling.{SinkView, Tells}
 use Rattle.osrun_core.specs.Written.{written}
 
 -- a choice between 0 and 1 is below 2

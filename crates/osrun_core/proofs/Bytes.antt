@@ -1,35 +1,30 @@
 -- The elements that a first program writes are bytes.
-use Rattle.std.proofs.Common.{◌≡◌, ℕ, ℤ, pos, zero, suc, ◌+◌, ◌<◌, ◌≤◌, Bool, true, false, cond, nat_eq, List, [], ◌∷◌, Option, Some, None, All, length, map, get_or, refl, sym, ◌∙◌, ap, subst, arith, inl, inr, zero-add, ◌-◌, sum_by}
+use Rattle.std.proofs.Common.{◌≡◌, ℕ, ℤ, pos, zero, suc, ◌+◌, ◌<◌, ◌≤◌, Bool, true, false, cond, nat_eq, List, [], ◌∷◌, Option, Some, None, All, length, get_or, refl, sym, ◌∙◌, ap, subst, arith, inl, inr, zero-add}
 use Rattle.std.specs.Prelude.{slice_get, option_and_then}
 use Rattle.std.specs.Option.{option_map, option_map_or, option_or, IfSome}
-use Rattle.std.specs.List.{range_with_len}
 use Rattle.std.proofs.lemmas.Int.{ints}
 use Rattle.std.proofs.lemmas.Bool.{cases_lt}
-use Rattle.std.proofs.lemmas.List.{get_or_past, take_all}
+use Rattle.std.proofs.lemmas.List.{get_or_past}
 use Rattle.std.proofs.lemmas.List.Elements.{All-cons, All-head, All-tail, All-nil}
 use Rattle.std.proofs.lemmas.List.FromFn.{get_or-map-range_with_len, length-map-range_with_len}
 use Rattle.std.proofs.lemmas.Option.{slice_get-get_or, slice_get_past, get_or_from_slice_get, same_Some}
-use Rattle.flow_core.specs.Element.{element, output_at}
+use Rattle.flow_core.specs.Element.{output_at}
 use Rattle.flow_core.specs.Laws.{IsFixed, OfStreams}
 use Rattle.flow_core.specs.declared.outcome.Outcome.{Outcome}
 use Rattle.flow_core.specs.Outcome.{State, outcome_at}
 use Rattle.flow_core.specs.Round.{gathered}
-use Rattle.flow_core.specs.Place.{Place, output_places, written_count}
-use Rattle.flow_core.specs.Streams.{stream_source}
 use Rattle.osrun_core.specs.declared.first_program.FirstProgram.{FirstProgram}
 use Rattle.osrun_core.specs.declared.first_program.Task.{Task}
 use Rattle.osrun_core.specs.declared.first_program.ElementCopy.{ElementCopy}
 use Rattle.osrun_core.specs.declared.first_program.Source.{Source}
 use Rattle.osrun_core.specs.declared.first_program.Source.TheVariants as source
 use Rattle.osrun_core.specs.FirstProgram.{size_of, horizon, IsSource, IsCopy, IsFirstProgram}
-use Rattle.osrun_core.specs.FirstPlan.{no_task, task_at, output_first, input_first, window_cells, task_cells}
+use Rattle.osrun_core.specs.FirstPlan.{no_task, task_at, input_first, window_cells, task_cells}
 use Rattle.osrun_core.specs.FirstReport.{IsByte, IsByteIfThere}
-use Rattle.osrun_core.specs.Meaning.{last_source, value_of, element_of, outputs_of, body, activations, meaning, program_ends}
-use Rattle.osrun_core.proofs.Laid.{output_at as writer_at}
+use Rattle.osrun_core.specs.Meaning.{last_source, value_of, element_of, outputs_of, body, meaning, program_ends}
 use Rattle.osrun_core.proofs.Claimed.{element-of_task}
 use Rattle.osrun_core.proofs.Meant.{outcome-task}
 use Rattle.osrun_core.proofs.Serves.{body-outputs}
-use Rattle.osrun_core.proofs.Windows.{stream_source-output, written_count-tasks}
 
 byte-number : (n : ℕ) → n ≤ 255 → IsByte (pos n)
 byte-number n h = (omega (arith, ints), omega (arith, ints))

@@ -1,9 +1,8 @@
 -- What reading a job's files one after the other says of the files before.
-use Rattle.std.proofs.Common.{◌≡◌, ◌∙◌, ◌⊎◌, inl, inr, ℕ, zero, suc, ◌+◌, ◌<◌, ◌≤◌, Bool, true, List, [], ◌∷◌, Option, Some, None, All, IfSome, IsTrue, slice_get, refl, sym, ap, subst, arith, length, take, max}
+use Rattle.std.proofs.Common.{◌≡◌, ◌∙◌, ◌⊎◌, inl, inr, ℕ, zero, suc, ◌+◌, ◌<◌, ◌≤◌, Bool, true, List, [], ◌∷◌, Some, All, IfSome, IsTrue, refl, sym, subst, arith, length}
 use Rattle.std.proofs.lemmas.Bool.{cases_lt}
 use Rattle.std.proofs.lemmas.List.Elements.{All-nil, All-cons, All-head, All-tail}
-use Rattle.std.proofs.lemmas.Option.{slice_get_within}
-use Rattle.os_io.specs.Counts.{HasRisen, raised, last_count}
+use Rattle.os_io.specs.Counts.{raised, last_count}
 use Rattle.osrun_core.specs.declared.first_program.FirstProgram.{FirstProgram}
 use Rattle.osrun_core.specs.declared.refusal.Refusal.{Refusal}
 use Rattle.osrun_core.specs.declared.refusal.Refusal.TheVariants as refusals
@@ -11,7 +10,7 @@ use Rattle.osrun_core.specs.declared.refusal.Subject.{Subject}
 use Rattle.osrun_core.specs.declared.refusal.Subject.TheVariants as subjects
 use Rattle.osrun_core.specs.Accepting.{IsRefusalOf}
 use Rattle.osrun_core.specs.Command.{Job, JobFile, files_of}
-use Rattle.osrun_core.specs.Loading.{FilesView, MayOpen, IsHeld, IsRead, CameTo, IsCauseOf, IsRefusedText, ReadsInOrder}
+use Rattle.osrun_core.specs.Loading.{FilesView, MayOpen, IsHeld, IsRead, CameTo, IsCauseOf, ReadsInOrder}
 use Rattle.osrun_core.specs.Loads.{IsLoaded, IsLoadRefusal}
 use Rattle.flow_core.specs.declared.control.ControlEnd.TheVariants as control_end
 use Rattle.osrun_core.specs.declared.status.Status.{Status}

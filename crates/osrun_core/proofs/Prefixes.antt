@@ -1,5 +1,5 @@
 -- The complete prefix of a list of elements.
-use Rattle.std.proofs.Common.{◌≡◌, ℕ, ℤ, zero, suc, ◌+◌, ◌<◌, ◌⊎◌, inl, inr, List, [], ◌∷◌, Option, Some, None, map, length, slice_get, refl, ap, arith}
+use Rattle.std.proofs.Common.{◌≡◌, ℕ, ℤ, zero, suc, ◌<◌, ◌⊎◌, inl, inr, List, [], ◌∷◌, Option, Some, None, map, length, slice_get, refl, ap, arith}
 use Rattle.osrun_core.specs.Laws.{IsLongestPrefix}
 use Rattle.osrun_core.specs.Written.{byte_of, complete_prefix}
 

@@ -1,0 +1,13 @@
+use Rattle.std.proofs.Common.{◌≡◌, ℕ, ℤ, Option, Some, None, Bool, true, false, [], ◌∷◌, refl, arith}
+use Rattle.std.specs.Prelude.{pos}
+use Rattle.core_steps.specs.Choices.{to_split, to_claim, to_store}
+use Rattle.core_steps.proofs.Choices.{choices_are_ways}
+use Rattle.core_steps.proofs.Fitting.{two_fit}
+use Rattle.core_steps.proofs.wrong_steps.claim_in_two_steps.Goals as goal
+
+pub returns : goal.returns
+returns c = record {
+  is_fit = two_fit;
+  reached = choices_are_ways _ _ (to_split 0 ∷ to_claim 0 0 ∷ []) refl;
+  is_not_good = λ g. let e : ◌≡◌ {A = ℕ} 2 1 = g.taken_is_run_by_one 0 in omega (arith, e);
+}

@@ -1,0 +1,13 @@
+use Rattle.std.proofs.Common.{◌≡◌, ℕ, ℤ, Option, Some, None, Bool, true, false, [], ◌∷◌, refl, arith}
+use Rattle.std.specs.Prelude.{pos}
+use Rattle.core_steps.specs.Choices.{to_split, to_claim, to_store}
+use Rattle.core_steps.proofs.Choices.{choices_are_ways}
+use Rattle.core_steps.proofs.Fitting.{reader_fit}
+use Rattle.core_steps.proofs.wrong_steps.look_that_counts_an_open_frame.Goals as goal
+
+pub returns : goal.returns
+returns c = record {
+  is_fit = reader_fit;
+  reached = choices_are_ways _ _ (to_claim 0 0 ∷ []) refl;
+  is_not_good = λ g. let e : true ≡ false = g.looks_found_none_open 0 1 _ refl refl (omega arith) (omega arith) (omega arith) in cc;
+}

@@ -1,0 +1,13 @@
+use Rattle.std.proofs.Common.{◌≡◌, ℕ, ℤ, Option, Some, None, Bool, true, false, [], ◌∷◌, refl, arith}
+use Rattle.std.specs.Prelude.{pos}
+use Rattle.core_steps.specs.Choices.{to_split, to_claim, to_store}
+use Rattle.core_steps.proofs.Choices.{choices_are_ways}
+use Rattle.core_steps.proofs.Fitting.{reader_fit}
+use Rattle.core_steps.proofs.wrong_steps.sub_before_store.Goals as goal
+
+pub returns : goal.returns
+returns c = record {
+  is_fit = reader_fit;
+  reached = choices_are_ways _ _ (to_claim 0 1 ∷ []) refl;
+  is_not_good = λ g. let e : ◌≡◌ {A = ℕ} 0 1 = g.cells_are_filled_once 0 in omega (arith, e);
+}
