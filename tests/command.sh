@@ -56,8 +56,28 @@ run run first.c
 check "too few words" 2 "" usage
 run run first.c in.bin more
 check "too many words" 2 "" usage
+run stop
+check "another first word" 2 "" usage
+run run first.c in.bin --workers 65
+check "too many workers" 2 "" usage
+run run first.c in.bin --budget x
+check "a budget that is no number" 2 "" usage
+run run --help
+check "a request for help" 2 "" usage
 run run first.c "$(printf 'in\377')"
 check "a word that isn't text" 2 "" usage
+run "$(printf 'run\377')" first.c in.bin
+check "a first word that isn't text" 2 "" usage
+run run first.c in.bin --workers "$(printf '4\377')"
+check "a number that isn't text" 2 "" usage
+
+cp first.c ./-first.c
+run run --workers 64 first.c --budget=+0005 in.bin --control 0
+check "options before, between and behind the names" 0 04030201 "control done / output 4 of 4"
+run run --workers=1 -- -first.c in.bin
+check "a name that begins with a dash" 0 04030201 "control done / output 4 of 4"
+run run -first.c in.bin
+check "a name that is read as an option" 2 "" usage
 
 run run long.c in.bin
 check "a program that is too long" 4 "" "too long program"
@@ -85,19 +105,35 @@ status=$?
 : >"$work/report"
 check "a refusal and a full standard error" 3 "" ""
 
-# The stored run makes 39 allocations. Whichever of them fails, the status is 7 and nothing is written, but for
-# the 7th, without which the run is whole.
+# Whichever allocation fails, the status is 7 and nothing is written, or the answer is that of ample memory.
 compiler=$(command -v cc || command -v clang || echo "$(dirname "$(readlink -f "$(command -v rt)")")/../toolchain/bin/clang")
 "$compiler" -shared -fPIC -nostdlib -O1 -o failing_allocation.so "$top/tests/failing_allocation.c"
-for number in $(seq 1 45); do
-    LD_PRELOAD=$work/failing_allocation.so FAILING_ALLOCATION=$number "$program" run first.c in.bin >out 2>report
+# run_without NUMBER WORD..: runs the words, and lets the allocation of that number fail.
+run_without() {
+    local number=$1
+    shift
+    LD_PRELOAD=$work/failing_allocation.so FAILING_ALLOCATION=$number "$program" "$@" >out 2>report
     status=$?
-    if [ "$number" = 7 ] || [ "$number" -gt 39 ]; then
-        check "allocation $number fails" 0 04030201 "control done / output 4 of 4"
-    else
-        check "allocation $number fails" 7 "" ""
-    fi
+    [ "$status" = 7 ] && failing=$number
+}
+failing=0
+for number in $(seq 1 250); do
+    run_without "$number" run first.c in.bin
+    case $status in
+        7) check "allocation $number of a run fails" 7 "" "" ;;
+        *) check "allocation $number of a run fails" 0 04030201 "control done / output 4 of 4" ;;
+    esac
 done
+[ "$failing" -gt 39 ] && [ "$failing" -lt 240 ] || check "the last allocation that a run needs" 7 "" "is the ${failing}th"
+failing=0
+for number in $(seq 1 150); do
+    run_without "$number" run --help
+    case $status in
+        7) check "allocation $number of bad words fails" 7 "" "" ;;
+        *) check "allocation $number of bad words fails" 2 "" usage ;;
+    esac
+done
+[ "$failing" -gt 0 ] && [ "$failing" -lt 140 ] || check "the last allocation that bad words need" 7 "" "is the ${failing}th"
 
 # Where the program isn't built, or was built from another commit, the toolchain runs it, and the first line says so.
 copy=$work/copy

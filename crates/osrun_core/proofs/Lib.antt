@@ -1,11 +1,15 @@
 pub mod Absent
 pub mod Accepted
 pub mod Answered
+pub mod ArgumentValues
 pub mod Bytes
 pub mod Came
 pub mod Claimed
+pub mod CommandJobs
+pub mod CommandParses
 pub mod Declared
 pub mod Fits
+pub mod GivenNumbers
 pub mod Laid
 pub mod Lines
 pub mod Meant

@@ -1,4 +1,5 @@
 pub mod Accepting
+pub mod Arguments
 pub mod Command
 pub mod Copies
 pub mod Delivers
@@ -11,6 +12,7 @@ pub mod Line
 pub mod Loading
 pub mod Loads
 pub mod Meaning
+pub mod Parsed
 pub mod Program
 pub mod Reading
 pub mod Refusal

@@ -88,7 +88,7 @@ IsCauseOf view old new job refusal.Memory = Unit {0}
 -- where more than k files were opened, the first k were read
 abbrev pub ReadsInOrder : {F : Type 0} → FilesView F → F → F → Job → Type 0
 ReadsInOrder view old new job =
-    (k : ℕ) → raised (view.opens old) k < view.opens new → All (IsRead (view.holds old)) (take k (files_of job))
+    (k : ℕ) → view.opens old + k < view.opens new → All (IsRead (view.holds old)) (take k (files_of job))
 
 -- the program is told and within its limit, and its text is refused
 pub record IsRejected (holds : List ℕ → Option (List ℕ)) (job : Job) : Type 0 where

@@ -15,9 +15,9 @@ ghost use Rattle.osrun_core.specs.Written.{written};
 
 use crate::answer_job::answer_job;
 use crate::gate::Gate;
-use crate::job::command;
 use crate::status::Status;
 use crate::tell::tell;
+use crate::words::{WordsError, command};
 use os_io::{Files, Sink};
 use std::alloc::Global;
 use std::thread::Threads;
@@ -105,12 +105,13 @@ pub fn run_words<R: Threads + Sync, F: Files, O: Sink, E: Sink, G: Gate>(
     ensures holds { F.holds files.new ≡ F.holds files.old }
     ensures may { F.may files.new ≡ F.may files.old }
 {
-    match command(words) {
-        None => {
+    match command(alloc, words) {
+        Ok(job) => answer_job(alloc, &job, files, out, report).number(),
+        Err(WordsError::Refused) => {
             tell(report, USAGE);
             Status::BadWords.number()
         }
-        Some(job) => answer_job(alloc, &job, files, out, report).number(),
+        Err(WordsError::Memory) => Status::NoMemory.number(),
     }
 }
 

@@ -1,23 +1,12 @@
-ghost use Rattle.std.specs.Prelude.{◌≡◌};
-ghost use Rattle.std.specs.Option.{option_map};
-ghost use Rattle.osrun_core.specs.Command.{command, texts, job_of};
-
 /// What the words ask for: a run of a program over an input. Both are names of files.
 #[derive(Clone, Copy, Debug)]
 pub struct Job<'w> {
     pub program: &'w str,
     pub input: &'w str,
-}
-
-/// The job that the words name: they are exactly `run`, a program's name and an input's name.
-pub fn command(words: &[String]) -> Option<Job<'_>>
-    ensures { option_map job_of result ≡ command (texts words.now) }
-{
-    match words {
-        [first, program, input] if first.as_str() == "run" => Some(Job {
-            program: program.as_str(),
-            input: input.as_str(),
-        }),
-        _ => None,
-    }
+    /// How many workers make the run, 1 to 64.
+    pub workers: u32,
+    /// How many turns each task may take, up to 1,000,000,000.
+    pub task_budget: u64,
+    /// How many turns the control program may take, up to 1,000,000,000.
+    pub control_budget: u64,
 }

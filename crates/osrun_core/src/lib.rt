@@ -28,6 +28,7 @@ mod run_job;
 mod sizes;
 mod status;
 mod tell;
+mod words;
 
 pub use command::run_words;
 pub use gate::{Gate, NoGate};

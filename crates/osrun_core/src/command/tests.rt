@@ -213,6 +213,22 @@ fn refuses_words(rt: HostRuntime) -> Result<(), Fail> {
 }
 
 #[test]
+fn takes_options(rt: HostRuntime) -> Result<(), Fail> {
+    let cases: [&[&str]; 4] = [
+        &["run", "p.c", "in"],
+        &["run", "--workers", "64", "p.c", "in"],
+        &["run", "p.c", "--budget=+0005", "in", "--control", "0"],
+        &["run", "--workers=1", "--", "p.c", "in"],
+    ];
+    for words in cases {
+        let left = run(&rt, words, REVERSE, &[1, 2, 3, 4], None, ALL, ALL)?;
+        assert_eq!(rt; left.status, 0, "{words:?}");
+        assert_eq!(rt; left.out.as_slice(), [4, 3, 2, 1].as_slice(), "{words:?}");
+    }
+    Ok(())
+}
+
+#[test]
 fn tells_which_file_cannot_be_read(rt: HostRuntime) -> Result<(), Fail> {
     // Each file is opened, read, and read again at its end.
     let program = "read fault program\n";

@@ -1,26 +1,25 @@
-use Rattle.std.proofs.Common.{sym}
 use Rattle.osrun_core.proofs.Answered.{delivered_answer, opened_answer, undelivered_answer, too_long_answer}
 use Rattle.osrun_core.proofs.command.run_words.Goals as goal
 
 pub answer_job-requires : goal.answer_job-requires
-answer_job-requires g c = c.requires _ (sym c.in-Some.ensures)
+answer_job-requires g c = c.requires _ c.in-Ok.ensures.job
 
-pub returns-in-Some-clause-headline : goal.returns-in-Some-clause-headline
-returns-in-Some-clause-headline g c =
-    rw (← c.in-Some.ensures, c.number-in-Some.ensures) (delivered_answer _ _ _ _ _ _ _ _ _ _ _ c.answer_job.ensures.answers)
+pub returns-in-Ok-clause-headline : goal.returns-in-Ok-clause-headline
+returns-in-Ok-clause-headline g c =
+    rw (c.in-Ok.ensures.job, c.number.ensures) (delivered_answer _ _ _ _ _ _ _ _ _ _ _ c.answer_job.ensures.answers)
 
-pub returns-in-Some-clause-too_long_always : goal.returns-in-Some-clause-too_long_always
-returns-in-Some-clause-too_long_always g c =
-    rw (← c.in-Some.ensures, c.number-in-Some.ensures) (too_long_answer _ _ _ _ _ _ _ _ _ _ _ c.answer_job.ensures.answers)
+pub returns-in-Ok-clause-too_long_always : goal.returns-in-Ok-clause-too_long_always
+returns-in-Ok-clause-too_long_always g c =
+    rw (c.in-Ok.ensures.job, c.number.ensures) (too_long_answer _ _ _ _ _ _ _ _ _ _ _ c.answer_job.ensures.answers)
 
-pub returns-in-Some-clause-undelivered : goal.returns-in-Some-clause-undelivered
-returns-in-Some-clause-undelivered g c =
-    rw (← c.in-Some.ensures, c.number-in-Some.ensures) (undelivered_answer _ _ _ _ _ _ _ _ _ _ _ c.answer_job.ensures.answers)
+pub returns-in-Ok-clause-undelivered : goal.returns-in-Ok-clause-undelivered
+returns-in-Ok-clause-undelivered g c =
+    rw (c.in-Ok.ensures.job, c.number.ensures) (undelivered_answer _ _ _ _ _ _ _ _ _ _ _ c.answer_job.ensures.answers)
 
-pub returns-in-Some-clause-complete : goal.returns-in-Some-clause-complete
-returns-in-Some-clause-complete g c =
-    rw (← c.in-Some.ensures, c.number-in-Some.ensures) c.answer_job.ensures.complete
+pub returns-in-Ok-clause-complete : goal.returns-in-Ok-clause-complete
+returns-in-Ok-clause-complete g c =
+    rw (c.in-Ok.ensures.job, c.number.ensures) c.answer_job.ensures.complete
 
-pub returns-in-Some-clause-all_opened : goal.returns-in-Some-clause-all_opened
-returns-in-Some-clause-all_opened g c =
-    rw (← c.in-Some.ensures, c.number-in-Some.ensures) (opened_answer _ _ _ _ _ _ _ _ _ _ _ c.answer_job.ensures.answers)
+pub returns-in-Ok-clause-all_opened : goal.returns-in-Ok-clause-all_opened
+returns-in-Ok-clause-all_opened g c =
+    rw (c.in-Ok.ensures.job, c.number.ensures) (opened_answer _ _ _ _ _ _ _ _ _ _ _ c.answer_job.ensures.answers)

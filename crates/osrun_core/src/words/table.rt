@@ -1,0 +1,45 @@
+use crate::words::argument::Argument;
+
+/// A command: the first word, which picks it, and what it takes.
+#[derive(Clone, Copy)]
+pub struct CommandForm<'a> {
+    pub word: &'a str,
+    /// In the order in which those without a long name stand in the words.
+    pub arguments: &'a [Argument<'a>],
+}
+
+/// The name of the program's file.
+pub const PROGRAM: Argument<'static> = Argument::Name { id: "PROGRAM" };
+
+/// The name of the input's file.
+pub const INPUT: Argument<'static> = Argument::Name { id: "INPUT" };
+
+/// How many workers make a run.
+pub const WORKERS: Argument<'static> = Argument::Option {
+    id: "workers",
+    default: "4",
+    least: 1,
+    most: 64,
+};
+
+/// How many turns each task of a run may take.
+pub const TASK_BUDGET: Argument<'static> = Argument::Option {
+    id: "budget",
+    default: "1000000",
+    least: 0,
+    most: 1_000_000_000,
+};
+
+/// How many turns the control program of a run may take.
+pub const CONTROL_BUDGET: Argument<'static> = Argument::Option {
+    id: "control",
+    default: "1000000",
+    least: 0,
+    most: 1_000_000_000,
+};
+
+/// Runs a program over an input.
+pub const RUN: CommandForm<'static> = CommandForm {
+    word: "run",
+    arguments: &[PROGRAM, INPUT, WORKERS, TASK_BUDGET, CONTROL_BUDGET],
+};
