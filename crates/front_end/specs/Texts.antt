@@ -22,7 +22,7 @@ IsNoProgram text = (tokens : List Token) × IsTokenCover text tokens × ((p : Pr
 
 -- The least violation of the program that it means has this code and line.
 abbrev pub HasLeastViolation : List ℕ → ℕ → ℕ → Type 0
-HasLeastViolation text code line = (p : ProgramTree) (place : ℕ) × IsProgramOf text p × IsRefusal p (violated place code line)
+HasLeastViolation text code line = (p : ProgramTree) × (place : ℕ) × IsProgramOf text p × IsRefusal p (violated place code line)
 
 -- What is wrong with a text: the first of its first fault, that it is no program, its least violation. The later ones
 -- need a cover, and the last one a program.
