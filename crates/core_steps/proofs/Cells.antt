@@ -14,7 +14,7 @@ use Rattle.core_steps.specs.declared.view.View.{View}
 use Rattle.core_steps.specs.Words.{word_at, amount, has_delivered}
 use Rattle.core_steps.specs.States.{CoreState, runs_of}
 use Rattle.core_steps.specs.Counted.{one, is_run_of, is_past, has_stored, counted, counted_at, held_at, lacks_cell, lacking}
-use Rattle.core_steps.specs.Steps.{StandsAt, CanRead, first_place}
+use Rattle.core_steps.specs.Steps.{StandsAt, CanRead}
 use Rattle.core_steps.specs.IsGood.{IsGood}
 use Rattle.core_steps.proofs.Sums.{count_by-sole, count_by-written}
 use Rattle.core_steps.proofs.Counts.{counted-is, counted_at-is, held_at-is, held-is}

@@ -1,5 +1,5 @@
 -- Choices that can be taken are exactly the steps.
-use Rattle.std.proofs.Common.{◌≡◌, ℕ, ◌+◌, ◌<◌, ◌≤◌, ◌≢◌, Bool, true, false, List, [], ◌∷◌, Option, Some, None, length, refl, sym, ap, ◌∙◌, subst, arith, cond, eq-eqb}
+use Rattle.std.proofs.Common.{◌≡◌, ℕ, ◌+◌, ◌≤◌, Bool, true, false, List, [], ◌∷◌, Option, Some, None, length, refl, sym, ap, ◌∙◌, subst, eq-eqb}
 use Rattle.std.specs.Prelude.{◌==◌, ◌&&◌, not, nat_lt, nat_le, is_none, if◌then◌else◌, option_and_then, slice_get}
 use Rattle.std.specs.List.{fold}
 use Rattle.std.specs.Option.{option_map_or}
@@ -11,12 +11,11 @@ use Rattle.flow_core.specs.declared.task_end.TaskEnd.{TaskEnd}
 use Rattle.flow_core.specs.declared.task_end.TaskEnd.TheVariants.{Done, Trapped, OverBudget}
 use Rattle.flow_core.specs.Outcome.{is_done}
 use Rattle.flow_core.specs.Plans.{frame_at}
-use Rattle.flow_core.specs.IsSound.{HasCell}
 use Rattle.core_steps.specs.declared.known.Known.{Known}
 use Rattle.core_steps.specs.declared.view.Run.{Run}
 use Rattle.core_steps.specs.declared.view.View.{View}
 use Rattle.core_steps.specs.States.{CoreState, IsSeat, opening}
-use Rattle.core_steps.specs.Steps.{end_of, first_place, StandsAt, IsPastLast, CanSplit, CanJoin, CanClaim, CanRead, CanStore, CanSub, CanFinish, CanLook, after_split, after_join, after_claim, after_store, after_sub, after_finish, after_look, Step, split, join, claim, read, store, sub, finish, look}
+use Rattle.core_steps.specs.Steps.{end_of, first_place, StandsAt, CanFinish, after_split, after_join, after_claim, after_store, after_sub, after_finish, after_look, Step, split, join, claim, read, store, sub, finish, look}
 use Rattle.core_steps.specs.Ways.{Way, opens, goes}
 use Rattle.core_steps.specs.Choices.{Choice, to_split, to_join, to_claim, to_read, to_store, to_sub, to_finish, to_look, seat_in, own_piece, is_first_place, is_behind_last, is_cell_of, is_meant_done, after_choice, choice_of, reached_by}
 

@@ -7,7 +7,6 @@ use Rattle.flow_core.specs.declared.task_end.TaskEnd.TheVariants.{Done, Trapped,
 use Rattle.flow_core.specs.Outcome.{outcome_at, is_done}
 use Rattle.flow_core.specs.Plans.{frame_at}
 use Rattle.flow_core.proofs.SoundTests.{IsSound-from_tests}
-use Rattle.core_steps.specs.declared.known.Known.{Known}
 use Rattle.core_steps.specs.Laws.{IsFit}
 use Rattle.core_steps.specs.ReaderFirst as reader
 use Rattle.core_steps.specs.TwoProducers as two

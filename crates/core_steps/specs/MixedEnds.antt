@@ -30,10 +30,11 @@ abbrev pub known : Known
 known = record { plan = plan; meaning = Some (outcome_of Done (pos 5 ∷ pos 7 ∷ [])) ∷ Some (outcome_of OverBudget []) ∷ Some (outcome_of (Trapped 2 5) []) ∷ None ∷ []; seats = 2 }
 
 -- The first seat misses frame 1 out of turn, runs frame 0, looks around and is cut in two. The second one
--- runs frame 1, which the first one loses by a CLAIM. The first one takes it in while it runs frame 2.
+-- looks around, misses frame 3 and runs frame 1, which the first one loses by a CLAIM. The first one takes
+-- it in while it runs frame 2.
 abbrev pub choices : List Choice
 choices =
-    to_look 0 ∷ to_claim 0 1 ∷ to_claim 0 0 ∷ to_store 0 ∷ to_store 0 ∷ to_sub 0 ∷ to_finish 0 ∷ to_look 0 ∷ to_look 0 ∷ to_split 0 ∷ to_look 1 ∷ to_claim 1 1 ∷ to_claim 0 1 ∷ to_read 1 0 ∷ to_read 1 1 ∷ to_finish 1 ∷ to_look 1 ∷ to_look 1 ∷ to_claim 0 2 ∷ to_join 0 1 ∷ to_finish 0 ∷ to_look 0 ∷ to_look 0 ∷ to_look 0 ∷ to_look 0 ∷ []
+    to_look 0 ∷ to_claim 0 1 ∷ to_claim 0 0 ∷ to_store 0 ∷ to_store 0 ∷ to_sub 0 ∷ to_finish 0 ∷ to_look 0 ∷ to_look 0 ∷ to_split 0 ∷ to_look 1 ∷ to_look 1 ∷ to_claim 1 3 ∷ to_claim 1 1 ∷ to_claim 0 1 ∷ to_read 1 0 ∷ to_read 1 1 ∷ to_finish 1 ∷ to_look 1 ∷ to_look 1 ∷ to_claim 0 2 ∷ to_join 0 1 ∷ to_finish 0 ∷ to_look 0 ∷ to_look 0 ∷ to_look 0 ∷ to_look 0 ∷ []
 
 abbrev pub states : List CoreState
 states =
@@ -49,18 +50,20 @@ states =
     ∷ state (Ended Done ∷ Open ∷ Open ∷ Wait 1 ∷ Wait 1 ∷ []) (Some (pos 5) ∷ Some (pos 7) ∷ None ∷ None ∷ []) (seat known None (1 ∷ []) (0 ∷ []) (1 ∷ []) (0 ∷ 1 ∷ []) (0 ∷ []) 1 2 ∷ [])
     ∷ state (Ended Done ∷ Open ∷ Open ∷ Wait 1 ∷ Wait 1 ∷ []) (Some (pos 5) ∷ Some (pos 7) ∷ None ∷ None ∷ []) (seat known None (1 ∷ []) (0 ∷ []) (1 ∷ []) (0 ∷ 1 ∷ []) (0 ∷ []) 0 1 ∷ seat known None [] [] [] [] [] 0 1 ∷ [])
     ∷ state (Ended Done ∷ Open ∷ Open ∷ Wait 1 ∷ Wait 1 ∷ []) (Some (pos 5) ∷ Some (pos 7) ∷ None ∷ None ∷ []) (seat known None (1 ∷ []) (0 ∷ []) (1 ∷ []) (0 ∷ 1 ∷ []) (0 ∷ []) 0 1 ∷ seat known None [] [] [] [] (0 ∷ []) 1 1 ∷ [])
-    ∷ state (Ended Done ∷ Taken ∷ Open ∷ Wait 1 ∷ Wait 1 ∷ []) (Some (pos 5) ∷ Some (pos 7) ∷ None ∷ None ∷ []) (seat known None (1 ∷ []) (0 ∷ []) (1 ∷ []) (0 ∷ 1 ∷ []) (0 ∷ []) 0 1 ∷ seat known (at 1 1 0) [] (1 ∷ []) [] [] (0 ∷ []) 0 1 ∷ [])
-    ∷ state (Ended Done ∷ Taken ∷ Open ∷ Wait 1 ∷ Wait 1 ∷ []) (Some (pos 5) ∷ Some (pos 7) ∷ None ∷ None ∷ []) (seat known None (1 ∷ []) (0 ∷ []) (1 ∷ 1 ∷ []) (0 ∷ 1 ∷ []) (0 ∷ 1 ∷ []) 0 1 ∷ seat known (at 1 1 0) [] (1 ∷ []) [] [] (0 ∷ []) 0 1 ∷ [])
-    ∷ state (Ended Done ∷ Taken ∷ Open ∷ Wait 1 ∷ Wait 1 ∷ []) (Some (pos 5) ∷ Some (pos 7) ∷ None ∷ None ∷ []) (seat known None (1 ∷ []) (0 ∷ []) (1 ∷ 1 ∷ []) (0 ∷ 1 ∷ []) (0 ∷ 1 ∷ []) 0 1 ∷ seat known (at 1 1 0) [] (1 ∷ []) [] [] (0 ∷ []) 0 1 ∷ [])
-    ∷ state (Ended Done ∷ Taken ∷ Open ∷ Wait 1 ∷ Wait 1 ∷ []) (Some (pos 5) ∷ Some (pos 7) ∷ None ∷ None ∷ []) (seat known None (1 ∷ []) (0 ∷ []) (1 ∷ 1 ∷ []) (0 ∷ 1 ∷ []) (0 ∷ 1 ∷ []) 0 1 ∷ seat known (at 1 1 0) [] (1 ∷ []) [] [] (0 ∷ []) 0 1 ∷ [])
-    ∷ state (Ended Done ∷ Ended OverBudget ∷ Open ∷ Wait 1 ∷ Wait 1 ∷ []) (Some (pos 5) ∷ Some (pos 7) ∷ None ∷ None ∷ []) (seat known None (1 ∷ []) (0 ∷ []) (1 ∷ 1 ∷ []) (0 ∷ 1 ∷ []) (0 ∷ 1 ∷ []) 0 1 ∷ seat known None [] (1 ∷ []) [] [] (0 ∷ []) 0 1 ∷ [])
-    ∷ state (Ended Done ∷ Ended OverBudget ∷ Open ∷ Wait 1 ∷ Wait 1 ∷ []) (Some (pos 5) ∷ Some (pos 7) ∷ None ∷ None ∷ []) (seat known None (1 ∷ []) (0 ∷ []) (1 ∷ 1 ∷ []) (0 ∷ 1 ∷ []) (0 ∷ 1 ∷ []) 0 1 ∷ seat known None [] (1 ∷ []) [] [] (0 ∷ 0 ∷ []) 1 1 ∷ [])
-    ∷ state (Ended Done ∷ Ended OverBudget ∷ Open ∷ Wait 1 ∷ Wait 1 ∷ []) (Some (pos 5) ∷ Some (pos 7) ∷ None ∷ None ∷ []) (seat known None (1 ∷ []) (0 ∷ []) (1 ∷ 1 ∷ []) (0 ∷ 1 ∷ []) (0 ∷ 1 ∷ []) 0 1 ∷ seat known None [] (1 ∷ []) [] [] (0 ∷ 0 ∷ []) 2 1 ∷ [])
-    ∷ state (Ended Done ∷ Ended OverBudget ∷ Taken ∷ Wait 1 ∷ Wait 1 ∷ []) (Some (pos 5) ∷ Some (pos 7) ∷ None ∷ None ∷ []) (seat known (at 2 2 0) (1 ∷ []) (0 ∷ 2 ∷ []) (1 ∷ 1 ∷ []) (0 ∷ 1 ∷ []) (0 ∷ 1 ∷ []) 0 1 ∷ seat known None [] (1 ∷ []) [] [] (0 ∷ 0 ∷ []) 2 1 ∷ [])
-    ∷ state (Ended Done ∷ Ended OverBudget ∷ Taken ∷ Wait 1 ∷ Wait 1 ∷ []) (Some (pos 5) ∷ Some (pos 7) ∷ None ∷ None ∷ []) (seat known (at 2 2 0) (1 ∷ []) (0 ∷ 2 ∷ 1 ∷ []) (1 ∷ 1 ∷ []) (0 ∷ 1 ∷ []) (0 ∷ 1 ∷ 0 ∷ 0 ∷ []) 0 2 ∷ fresh known 0 ∷ [])
-    ∷ state (Ended Done ∷ Ended OverBudget ∷ Ended (Trapped 2 5) ∷ Wait 1 ∷ Wait 1 ∷ []) (Some (pos 5) ∷ Some (pos 7) ∷ None ∷ None ∷ []) (seat known None (1 ∷ []) (0 ∷ 2 ∷ 1 ∷ []) (1 ∷ 1 ∷ []) (0 ∷ 1 ∷ []) (0 ∷ 1 ∷ 0 ∷ 0 ∷ []) 0 2 ∷ fresh known 0 ∷ [])
-    ∷ state (Ended Done ∷ Ended OverBudget ∷ Ended (Trapped 2 5) ∷ Wait 1 ∷ Wait 1 ∷ []) (Some (pos 5) ∷ Some (pos 7) ∷ None ∷ None ∷ []) (seat known None (1 ∷ []) (0 ∷ 2 ∷ 1 ∷ []) (1 ∷ 1 ∷ []) (0 ∷ 1 ∷ []) (0 ∷ 1 ∷ 0 ∷ 0 ∷ 0 ∷ []) 1 2 ∷ fresh known 0 ∷ [])
-    ∷ state (Ended Done ∷ Ended OverBudget ∷ Ended (Trapped 2 5) ∷ Wait 1 ∷ Wait 1 ∷ []) (Some (pos 5) ∷ Some (pos 7) ∷ None ∷ None ∷ []) (seat known None (1 ∷ []) (0 ∷ 2 ∷ 1 ∷ []) (1 ∷ 1 ∷ []) (0 ∷ 1 ∷ []) (0 ∷ 1 ∷ 0 ∷ 0 ∷ 0 ∷ 1 ∷ []) 2 2 ∷ fresh known 0 ∷ [])
-    ∷ state (Ended Done ∷ Ended OverBudget ∷ Ended (Trapped 2 5) ∷ Wait 1 ∷ Wait 1 ∷ []) (Some (pos 5) ∷ Some (pos 7) ∷ None ∷ None ∷ []) (seat known None (1 ∷ []) (0 ∷ 2 ∷ 1 ∷ []) (1 ∷ 1 ∷ []) (0 ∷ 1 ∷ []) (0 ∷ 1 ∷ 0 ∷ 0 ∷ 0 ∷ 1 ∷ 2 ∷ []) 3 2 ∷ fresh known 0 ∷ [])
-    ∷ state (Ended Done ∷ Ended OverBudget ∷ Ended (Trapped 2 5) ∷ Wait 1 ∷ Wait 1 ∷ []) (Some (pos 5) ∷ Some (pos 7) ∷ None ∷ None ∷ []) (seat known None (1 ∷ []) (0 ∷ 2 ∷ 1 ∷ []) (1 ∷ 1 ∷ []) (0 ∷ 1 ∷ []) (0 ∷ 1 ∷ 0 ∷ 0 ∷ 0 ∷ 1 ∷ 2 ∷ []) 4 2 ∷ fresh known 0 ∷ [])
+    ∷ state (Ended Done ∷ Open ∷ Open ∷ Wait 1 ∷ Wait 1 ∷ []) (Some (pos 5) ∷ Some (pos 7) ∷ None ∷ None ∷ []) (seat known None (1 ∷ []) (0 ∷ []) (1 ∷ []) (0 ∷ 1 ∷ []) (0 ∷ []) 0 1 ∷ seat known None [] [] [] (1 ∷ []) (0 ∷ []) 1 1 ∷ [])
+    ∷ state (Ended Done ∷ Open ∷ Open ∷ Wait 1 ∷ Wait 1 ∷ []) (Some (pos 5) ∷ Some (pos 7) ∷ None ∷ None ∷ []) (seat known None (1 ∷ []) (0 ∷ []) (1 ∷ []) (0 ∷ 1 ∷ []) (0 ∷ []) 0 1 ∷ seat known None [] [] (3 ∷ []) (1 ∷ []) (0 ∷ []) 1 1 ∷ [])
+    ∷ state (Ended Done ∷ Taken ∷ Open ∷ Wait 1 ∷ Wait 1 ∷ []) (Some (pos 5) ∷ Some (pos 7) ∷ None ∷ None ∷ []) (seat known None (1 ∷ []) (0 ∷ []) (1 ∷ []) (0 ∷ 1 ∷ []) (0 ∷ []) 0 1 ∷ seat known (at 1 1 0) [] (1 ∷ []) (3 ∷ []) (1 ∷ []) (0 ∷ []) 0 1 ∷ [])
+    ∷ state (Ended Done ∷ Taken ∷ Open ∷ Wait 1 ∷ Wait 1 ∷ []) (Some (pos 5) ∷ Some (pos 7) ∷ None ∷ None ∷ []) (seat known None (1 ∷ []) (0 ∷ []) (1 ∷ 1 ∷ []) (0 ∷ 1 ∷ []) (0 ∷ 1 ∷ []) 0 1 ∷ seat known (at 1 1 0) [] (1 ∷ []) (3 ∷ []) (1 ∷ []) (0 ∷ []) 0 1 ∷ [])
+    ∷ state (Ended Done ∷ Taken ∷ Open ∷ Wait 1 ∷ Wait 1 ∷ []) (Some (pos 5) ∷ Some (pos 7) ∷ None ∷ None ∷ []) (seat known None (1 ∷ []) (0 ∷ []) (1 ∷ 1 ∷ []) (0 ∷ 1 ∷ []) (0 ∷ 1 ∷ []) 0 1 ∷ seat known (at 1 1 0) [] (1 ∷ []) (3 ∷ []) (1 ∷ []) (0 ∷ []) 0 1 ∷ [])
+    ∷ state (Ended Done ∷ Taken ∷ Open ∷ Wait 1 ∷ Wait 1 ∷ []) (Some (pos 5) ∷ Some (pos 7) ∷ None ∷ None ∷ []) (seat known None (1 ∷ []) (0 ∷ []) (1 ∷ 1 ∷ []) (0 ∷ 1 ∷ []) (0 ∷ 1 ∷ []) 0 1 ∷ seat known (at 1 1 0) [] (1 ∷ []) (3 ∷ []) (1 ∷ []) (0 ∷ []) 0 1 ∷ [])
+    ∷ state (Ended Done ∷ Ended OverBudget ∷ Open ∷ Wait 1 ∷ Wait 1 ∷ []) (Some (pos 5) ∷ Some (pos 7) ∷ None ∷ None ∷ []) (seat known None (1 ∷ []) (0 ∷ []) (1 ∷ 1 ∷ []) (0 ∷ 1 ∷ []) (0 ∷ 1 ∷ []) 0 1 ∷ seat known None [] (1 ∷ []) (3 ∷ []) (1 ∷ []) (0 ∷ []) 0 1 ∷ [])
+    ∷ state (Ended Done ∷ Ended OverBudget ∷ Open ∷ Wait 1 ∷ Wait 1 ∷ []) (Some (pos 5) ∷ Some (pos 7) ∷ None ∷ None ∷ []) (seat known None (1 ∷ []) (0 ∷ []) (1 ∷ 1 ∷ []) (0 ∷ 1 ∷ []) (0 ∷ 1 ∷ []) 0 1 ∷ seat known None [] (1 ∷ []) (3 ∷ []) (1 ∷ []) (0 ∷ 0 ∷ []) 1 1 ∷ [])
+    ∷ state (Ended Done ∷ Ended OverBudget ∷ Open ∷ Wait 1 ∷ Wait 1 ∷ []) (Some (pos 5) ∷ Some (pos 7) ∷ None ∷ None ∷ []) (seat known None (1 ∷ []) (0 ∷ []) (1 ∷ 1 ∷ []) (0 ∷ 1 ∷ []) (0 ∷ 1 ∷ []) 0 1 ∷ seat known None [] (1 ∷ []) (3 ∷ []) (1 ∷ []) (0 ∷ 0 ∷ 1 ∷ []) 2 1 ∷ [])
+    ∷ state (Ended Done ∷ Ended OverBudget ∷ Taken ∷ Wait 1 ∷ Wait 1 ∷ []) (Some (pos 5) ∷ Some (pos 7) ∷ None ∷ None ∷ []) (seat known (at 2 2 0) (1 ∷ []) (0 ∷ 2 ∷ []) (1 ∷ 1 ∷ []) (0 ∷ 1 ∷ []) (0 ∷ 1 ∷ []) 0 1 ∷ seat known None [] (1 ∷ []) (3 ∷ []) (1 ∷ []) (0 ∷ 0 ∷ 1 ∷ []) 2 1 ∷ [])
+    ∷ state (Ended Done ∷ Ended OverBudget ∷ Taken ∷ Wait 1 ∷ Wait 1 ∷ []) (Some (pos 5) ∷ Some (pos 7) ∷ None ∷ None ∷ []) (seat known (at 2 2 0) (1 ∷ []) (0 ∷ 2 ∷ 1 ∷ []) (1 ∷ 1 ∷ 3 ∷ []) (0 ∷ 1 ∷ 1 ∷ []) (0 ∷ 1 ∷ 0 ∷ 0 ∷ 1 ∷ []) 0 2 ∷ fresh known 0 ∷ [])
+    ∷ state (Ended Done ∷ Ended OverBudget ∷ Ended (Trapped 2 5) ∷ Wait 1 ∷ Wait 1 ∷ []) (Some (pos 5) ∷ Some (pos 7) ∷ None ∷ None ∷ []) (seat known None (1 ∷ []) (0 ∷ 2 ∷ 1 ∷ []) (1 ∷ 1 ∷ 3 ∷ []) (0 ∷ 1 ∷ 1 ∷ []) (0 ∷ 1 ∷ 0 ∷ 0 ∷ 1 ∷ []) 0 2 ∷ fresh known 0 ∷ [])
+    ∷ state (Ended Done ∷ Ended OverBudget ∷ Ended (Trapped 2 5) ∷ Wait 1 ∷ Wait 1 ∷ []) (Some (pos 5) ∷ Some (pos 7) ∷ None ∷ None ∷ []) (seat known None (1 ∷ []) (0 ∷ 2 ∷ 1 ∷ []) (1 ∷ 1 ∷ 3 ∷ []) (0 ∷ 1 ∷ 1 ∷ []) (0 ∷ 1 ∷ 0 ∷ 0 ∷ 1 ∷ 0 ∷ []) 1 2 ∷ fresh known 0 ∷ [])
+    ∷ state (Ended Done ∷ Ended OverBudget ∷ Ended (Trapped 2 5) ∷ Wait 1 ∷ Wait 1 ∷ []) (Some (pos 5) ∷ Some (pos 7) ∷ None ∷ None ∷ []) (seat known None (1 ∷ []) (0 ∷ 2 ∷ 1 ∷ []) (1 ∷ 1 ∷ 3 ∷ []) (0 ∷ 1 ∷ 1 ∷ []) (0 ∷ 1 ∷ 0 ∷ 0 ∷ 1 ∷ 0 ∷ 1 ∷ []) 2 2 ∷ fresh known 0 ∷ [])
+    ∷ state (Ended Done ∷ Ended OverBudget ∷ Ended (Trapped 2 5) ∷ Wait 1 ∷ Wait 1 ∷ []) (Some (pos 5) ∷ Some (pos 7) ∷ None ∷ None ∷ []) (seat known None (1 ∷ []) (0 ∷ 2 ∷ 1 ∷ []) (1 ∷ 1 ∷ 3 ∷ []) (0 ∷ 1 ∷ 1 ∷ []) (0 ∷ 1 ∷ 0 ∷ 0 ∷ 1 ∷ 0 ∷ 1 ∷ 2 ∷ []) 3 2 ∷ fresh known 0 ∷ [])
+    ∷ state (Ended Done ∷ Ended OverBudget ∷ Ended (Trapped 2 5) ∷ Wait 1 ∷ Wait 1 ∷ []) (Some (pos 5) ∷ Some (pos 7) ∷ None ∷ None ∷ []) (seat known None (1 ∷ []) (0 ∷ 2 ∷ 1 ∷ []) (1 ∷ 1 ∷ 3 ∷ []) (0 ∷ 1 ∷ 1 ∷ []) (0 ∷ 1 ∷ 0 ∷ 0 ∷ 1 ∷ 0 ∷ 1 ∷ 2 ∷ []) 4 2 ∷ fresh known 0 ∷ [])
     ∷ []

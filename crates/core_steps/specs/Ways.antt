@@ -1,9 +1,6 @@
 -- The states that steps reach from opening, and what of the meaning they show.
-use Rattle.std.specs.Prelude.{ℕ, ◌+◌, ◌==◌, Bool, false, if◌then◌else◌, None, map, length}
-use Rattle.std.specs.List.{range_with_len}
-use Rattle.flow_core.specs.Outcome.{State, outcome_at}
+use Rattle.std.specs.Prelude.{ℕ, ◌+◌, ◌==◌, Bool, false}
 use Rattle.core_steps.specs.declared.known.Known.{Known}
-use Rattle.core_steps.specs.Words.{word_at, is_started}
 use Rattle.core_steps.specs.States.{CoreState, opening}
 use Rattle.core_steps.specs.Steps.{Step, split, join, claim, read, store, sub, finish, look}
 use Rattle.core_steps.specs.Counted.{one}

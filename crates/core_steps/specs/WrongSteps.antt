@@ -1,6 +1,6 @@
 -- Steps that would break a state. Each is made at a state that steps reach from opening, and leaves one
 -- that isn't good.
-use Rattle.std.specs.Prelude.{ℕ, ℤ, pos, ◌+◌, ◌==◌, ◌&&◌, true, if◌then◌else◌, List, [], ◌∷◌, Option, Some, None, map, length, count_by, slice_set}
+use Rattle.std.specs.Prelude.{ℕ, ℤ, pos, ◌+◌, ◌==◌, ◌&&◌, true, if◌then◌else◌, List, [], ◌∷◌, Some, None, map, length, count_by, slice_set}
 use Rattle.std.specs.List.{range_with_len, list_any}
 use Rattle.flow_core.specs.declared.outcome.Outcome.{Outcome}
 use Rattle.flow_core.specs.declared.plan.Piece.{Piece}

@@ -40,7 +40,7 @@ pub fn mixed_ends()
     ensures meaning { IsMeant mixed.known mixed.outcome }
     ensures states { states_along mixed.known mixed.choices ≡ map Some mixed.states }
     ensures counts_only_a_whole_piece { allowed_after mixed.known (take 4 mixed.choices) (to_sub 0 ∷ to_finish 0 ∷ []) ≡ 0 }
-    ensures gives_nothing_over_budget { allowed_after mixed.known (take 15 mixed.choices) (to_store 1 ∷ to_sub 1 ∷ to_join 0 1 ∷ []) ≡ 0 }
-    ensures gives_nothing_of_a_trap { allowed_after mixed.known (take 20 mixed.choices) (to_store 0 ∷ to_sub 0 ∷ to_look 0 ∷ []) ≡ 0 }
-    ensures leaves_nothing { IsComplete mixed.known (slice_index_or mixed.states 25 (opening mixed.known)) }
+    ensures gives_nothing_over_budget { allowed_after mixed.known (take 17 mixed.choices) (to_store 1 ∷ to_sub 1 ∷ to_join 0 1 ∷ []) ≡ 0 }
+    ensures gives_nothing_of_a_trap { allowed_after mixed.known (take 22 mixed.choices) (to_store 0 ∷ to_sub 0 ∷ to_look 0 ∷ []) ≡ 0 }
+    ensures leaves_nothing { IsComplete mixed.known (slice_index_or mixed.states 27 (opening mixed.known)) }
 {}

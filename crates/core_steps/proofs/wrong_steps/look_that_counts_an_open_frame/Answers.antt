@@ -1,6 +1,5 @@
-use Rattle.std.proofs.Common.{◌≡◌, ℕ, ℤ, Option, Some, None, Bool, true, false, [], ◌∷◌, refl, arith}
-use Rattle.std.specs.Prelude.{pos}
-use Rattle.core_steps.specs.Choices.{to_split, to_claim, to_store}
+use Rattle.std.proofs.Common.{◌≡◌, true, false, [], ◌∷◌, refl, arith}
+use Rattle.core_steps.specs.Choices.{to_claim}
 use Rattle.core_steps.proofs.Choices.{choices_are_ways}
 use Rattle.core_steps.proofs.Fitting.{reader_fit}
 use Rattle.core_steps.proofs.wrong_steps.look_that_counts_an_open_frame.Goals as goal

@@ -1,6 +1,6 @@
-use Rattle.std.proofs.Common.{◌≡◌, ℕ, ℤ, Option, Some, None, Bool, true, false, [], ◌∷◌, refl, arith}
+use Rattle.std.proofs.Common.{◌≡◌, Some, None, [], ◌∷◌, refl}
 use Rattle.std.specs.Prelude.{pos}
-use Rattle.core_steps.specs.Choices.{to_split, to_claim, to_store}
+use Rattle.core_steps.specs.Choices.{to_claim}
 use Rattle.core_steps.proofs.Choices.{choices_are_ways}
 use Rattle.core_steps.proofs.Fitting.{trapped_fit}
 use Rattle.flow_core.specs.Plans.{cell_source}
