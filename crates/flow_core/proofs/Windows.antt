@@ -1,21 +1,22 @@
 -- Each window by its activation and claim, and that no two write claims meet.
-use Rattle.std.proofs.Common.{◌≡◌, ℕ, zero, suc, ◌+◌, ◌-◌, ◌<◌, ◌≤◌, List, [], ◌∷◌, ◌++◌, Some, Bool, true, cond, length, get_or, take, drop, refl, sym, ap, ◌∙◌, ◌⊎◌, inl, inr, arith}
-use Rattle.std.specs.Prelude.{slice_get, filter, sum_by, IsTrue, ◌&&◌, ◌==◌, nat_le, nat_lt}
+use Rattle.std.proofs.Common.{◌≡◌, ℕ, zero, suc, ◌+◌, ◌-◌, ◌<◌, ◌≤◌, List, [], ◌∷◌, ◌++◌, Some, None, Bool, true, cond, length, get_or, take, drop, refl, sym, ap, ◌∙◌, ◌⊎◌, inl, inr, arith}
+use Rattle.std.specs.Prelude.{slice_get, filter, sum_by, IsTrue, ◌&&◌, ◌==◌, nat_le, nat_lt, option_and_then}
 use Rattle.std.specs.Option.{option_map_or}
-use Rattle.std.specs.List.{flat_map, range_with_len}
+use Rattle.std.specs.List.{flat_map, range_with_len, position_or_len}
 use Rattle.std.proofs.Math.Seq.{take-append-add, take-add}
-use Rattle.std.proofs.lemmas.Bool.{cases_order, and_parts, eqb-true}
+use Rattle.std.proofs.lemmas.Bool.{cases_lt, cases_order, and_parts, eqb-true, lt-ltb, le-ltb}
 use Rattle.std.proofs.lemmas.Bool.Decides.{nat_tests}
 use Rattle.std.proofs.lemmas.Grind.{flat_map-append}
 use Rattle.std.proofs.lemmas.List.{append-nil, append_assoc, take-append-le, take-append-drop, take_more, take_all, length-append}
 use Rattle.std.proofs.lemmas.List.Elements.{filter-append}
 use Rattle.std.proofs.lemmas.List.FromFn.{get_or-map-range_with_len, length-map-range_with_len}
 use Rattle.std.proofs.lemmas.List.Sums.{sum_by-append}
-use Rattle.std.proofs.lemmas.Option.{slice_get_within, get_or_from_slice_get, slice_get-get_or}
+use Rattle.std.proofs.lemmas.Option.{slice_get_within, get_or_from_slice_get, slice_get-get_or, slice_get_past}
+use Rattle.std.proofs.lemmas.List.Folds.{find_at}
 use Rattle.flow_core.specs.declared.claim.Claim.{Claim}
 use Rattle.flow_core.specs.declared.activation.Activation.{Activation}
 use Rattle.flow_core.specs.FirstPosition.{is_write_to, read_cursor, write_cursor, first_position}
-use Rattle.flow_core.specs.Window.{Window, window_of, windows_behind, windows_of, windows, claims_of, claims_at, claim_at, no_claim, offset_after, is_written_by, producer}
+use Rattle.flow_core.specs.Window.{Window, window_of, windows_behind, windows_of, windows, claims_of, claims_at, claim_at, no_claim, offset_after, is_written_by, producer, producer_number}
 use Rattle.flow_core.proofs.Sources.{find_only}
 use Rattle.flow_core.proofs.Stretches.{flat_map-range_more, slice_get-append_left, slice_get-append_right, stands_in, stands_at}
 
@@ -186,3 +187,17 @@ one_writer_of activations s p i j v w v_at w_at v_writes w_writes = by_order (ca
 -- the write claim that covers a position is its producer
 pub producer_of : (activations : List Activation) (stream position i : ℕ) (w : Window) → slice_get (windows activations) i ≡ Some w → IsTrue (is_written_by stream position w) → producer activations stream position ≡ Some w
 producer_of activations stream position i w at writes = find_only (is_written_by stream position) (windows activations) i w at writes (λ j v v_at v_writes. one_writer_of activations stream position j i v w v_at at v_writes writes)
+
+-- the producer is the window of its number
+pub producer_by_number : (activations : List Activation) (stream position : ℕ) → producer activations stream position ≡ option_and_then (λ number. slice_get (windows activations) number) (producer_number activations stream position)
+producer_by_number activations stream at = find_at (is_written_by stream at) all ∙ by_length (cases_lt first (length all))
+  where
+    all : List Window
+    all = windows activations
+
+    first : ℕ
+    first = position_or_len (is_written_by stream at) (windows activations)
+
+    by_length : (first < length all) ⊎ (length all ≤ first) → slice_get (windows activations) (position_or_len (is_written_by stream at) (windows activations)) ≡ option_and_then (λ number. slice_get (windows activations) number) (producer_number activations stream at)
+    by_length (inl lt) = sym (ap (λ b. option_and_then (λ number. slice_get (windows activations) number) (cond b (Some (position_or_len (is_written_by stream at) (windows activations))) None)) (lt-ltb first (length all) lt))
+    by_length (inr ge) = slice_get_past (windows activations) (position_or_len (is_written_by stream at) (windows activations)) ge ∙ sym (ap (λ b. option_and_then (λ number. slice_get (windows activations) number) (cond b (Some (position_or_len (is_written_by stream at) (windows activations))) None)) (le-ltb first (length all) ge))

@@ -1,5 +1,5 @@
 -- The laws of the meaning, as statements.
-use Rattle.std.specs.Prelude.{◌≡◌, ℕ, ℤ, ◌+◌, ◌<◌, ◌≤◌, List, ◌++◌, Some, None, is_some, slice_get, length, replicate, slice_set, take, IsTrue}
+use Rattle.std.specs.Prelude.{◌≡◌, ℕ, ℤ, ◌+◌, ◌<◌, ◌≤◌, List, ◌++◌, Some, None, is_some, slice_get, length, replicate, slice_set, take, option_and_then, IsTrue}
 use Rattle.std.specs.Option.{option_map}
 use Rattle.flow_core.specs.declared.claim.Claim.{Claim}
 use Rattle.flow_core.specs.declared.activation.Activation.{Activation}
@@ -9,7 +9,7 @@ use Rattle.flow_core.specs.declared.outcome.Outcome.{Outcome}
 use Rattle.flow_core.specs.Outcome.{State, outcome_at, ends_of}
 use Rattle.flow_core.specs.Element.{Source, element}
 use Rattle.flow_core.specs.Round.{IsEnabled, inputs_in, round, rounds, meaning}
-use Rattle.flow_core.specs.Window.{Window, windows, claims_of, offset_after, is_written_by, producer}
+use Rattle.flow_core.specs.Window.{Window, windows, claims_of, offset_after, is_written_by, producer, producer_number}
 use Rattle.flow_core.specs.Place.{Place}
 use Rattle.flow_core.specs.There.{is_there}
 use Rattle.flow_core.specs.FirstPosition.{is_write_to, first_position}
@@ -66,6 +66,10 @@ HasOneWriter = (activations : List Activation) (stream position i j : ℕ) (v w 
 -- the write claim that covers a position is its producer
 abbrev pub WritersAreProducers : Type 0
 WritersAreProducers = (activations : List Activation) (stream position i : ℕ) (w : Window) → slice_get (windows activations) i ≡ Some w → IsTrue (is_written_by stream position w) → producer activations stream position ≡ Some w
+
+-- the producer is the window of the producer's number
+abbrev pub ProducersHaveNumbers : Type 0
+ProducersHaveNumbers = (activations : List Activation) (stream position : ℕ) → producer activations stream position ≡ option_and_then (λ number. slice_get (windows activations) number) (producer_number activations stream position)
 
 -- each activation that is Done in a state has as many outputs as it claims positions for writing
 abbrev pub IsFilled : List Activation → State → Type 0

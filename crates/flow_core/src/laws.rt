@@ -3,7 +3,7 @@
 
 ghost use Rattle.std.specs.Prelude.{List};
 ghost use Rattle.flow_core.specs.declared.activation.Activation.{Activation};
-ghost use Rattle.flow_core.specs.Laws.{IsSettled, KeepsOutcomes, IsFixed, OfStreams, OfPlans, MeansTheStreams, SinkIsTheOutput, HasOneWriter, WritersAreInOrder, WritersAreProducers, EndsSayWhatIsThere, WindowsAreInOrder, RoundsFire, IsConfluent};
+ghost use Rattle.flow_core.specs.Laws.{IsSettled, KeepsOutcomes, IsFixed, OfStreams, OfPlans, MeansTheStreams, SinkIsTheOutput, HasOneWriter, WritersAreInOrder, WritersAreProducers, ProducersHaveNumbers, EndsSayWhatIsThere, WindowsAreInOrder, RoundsFire, IsConfluent};
 
 /// A round runs what is enabled, and nothing else.
 pub fn one_round()
@@ -51,6 +51,7 @@ pub fn one_writer()
     ensures in_order { WritersAreInOrder }
     ensures one { HasOneWriter }
     ensures is_producer { WritersAreProducers }
+    ensures numbered { ProducersHaveNumbers }
 {}
 
 /// The ends and the length of the input say which elements are there.

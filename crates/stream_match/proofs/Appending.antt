@@ -1,5 +1,5 @@
 -- Adding the claims of an activation, one after the other.
-use Rattle.std.proofs.Common.{◌≡◌, ℕ, zero, suc, ◌+◌, ◌-◌, ◌^◌, ◌<◌, ◌≤◌, Bool, true, false, cond, List, [], ◌∷◌, ◌++◌, All, length, take, drop, map, get_or, replicate, refl, sym, ap, ◌∙◌, subst, arith, zero-add}
+use Rattle.std.proofs.Common.{◌≡◌, ℕ, zero, suc, ◌+◌, ◌-◌, ◌^◌, ◌<◌, ◌≤◌, Bool, cond, List, [], ◌∷◌, ◌++◌, All, length, take, drop, map, get_or, replicate, refl, sym, ap, ◌∙◌, subst, arith, zero-add}
 use Rattle.std.specs.Prelude.{sum_by}
 use Rattle.std.specs.Bool.{beq}
 use Rattle.std.specs.List.{range_with_len}
@@ -11,14 +11,15 @@ use Rattle.std.proofs.lemmas.List.Sums.{sum_by-append, sum_by_more_le}
 use Rattle.flow_core.specs.declared.claim.Claim.{Claim}
 use Rattle.flow_core.specs.declared.activation.Activation.{Activation}
 use Rattle.flow_core.specs.FirstPosition.{first_position}
-use Rattle.flow_core.specs.Window.{Window, windows, windows_behind, window_of, claims_of, claim_at, no_claim, offset_after}
+use Rattle.flow_core.specs.Window.{Window, windows, window_of, claims_of, claim_at, no_claim, offset_after}
 use Rattle.flow_core.proofs.Windows.{length-windows}
 use Rattle.stream_match.specs.declared.layout.Layout.{Layout}
 use Rattle.stream_match.specs.Lawful.{IsLawfulClaim, AreLawful}
 use Rattle.stream_match.specs.Layout.{span_of, claims_in, IsOfWindows, IsLayoutOf, starts_of}
-use Rattle.stream_match.specs.Adding.{TakesMore, HasRoom, with_claim}
+use Rattle.stream_match.specs.Layout.{TakesMore}
+use Rattle.stream_match.specs.Adding.{HasRoom, with_claim}
 use Rattle.stream_match.proofs.Pushing.{map-range-same, is_of_push}
-use Rattle.stream_match.proofs.Windows.{windows-push, claims_in-windows, claims_in-append, claims_in-first, first_windows, first_windows-more, alike, alike-push, offset-alike}
+use Rattle.stream_match.proofs.Windows.{windows-push, claims_in-windows, claims_in-append, claims_in-first, first_windows, first_windows-more, alike, alike-push}
 use Rattle.stream_match.proofs.Bounds.{has_room, filtered-le, length-claims-le, lawful-front}
 
 -- the claims of one more activation

@@ -4,3 +4,14 @@ pub mod Bounds
 pub mod Appending
 pub mod Filtered
 pub mod Writers
+pub mod Walks
+pub mod Counting
+pub mod Placed
+pub mod Placing
+pub mod CellSums
+pub mod Tallies
+pub mod Laid
+pub mod Origins
+pub mod FrameSpans
+pub mod Sound
+pub mod Stands

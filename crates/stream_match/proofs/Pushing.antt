@@ -1,9 +1,9 @@
 -- What one more window does to the parts of a layout.
-use Rattle.std.proofs.Common.{◌≡◌, ◌≢◌, ℕ, zero, suc, ◌+◌, ◌<◌, ◌≤◌, Bool, true, false, cond, ◌&&◌, List, [], ◌∷◌, ◌++◌, Option, Some, length, take, map, get_or, set, refl, sym, ap, ◌∙◌, arith, ◌⊎◌, inl, inr, zero-add}
-use Rattle.std.specs.Prelude.{slice_get, filter, sum_by, not, ◌==◌}
+use Rattle.std.proofs.Common.{◌≡◌, ◌≢◌, ℕ, zero, suc, ◌+◌, ◌<◌, ◌≤◌, Bool, true, false, cond, ◌&&◌, List, [], ◌∷◌, ◌++◌, length, map, get_or, set, refl, sym, ap, ◌∙◌, arith, ◌⊎◌, inl, inr, zero-add}
+use Rattle.std.specs.Prelude.{filter, sum_by, not, ◌==◌}
 use Rattle.std.specs.Option.{option_map_or}
 use Rattle.std.specs.List.{range_with_len}
-use Rattle.std.proofs.lemmas.Bool.{cases_eq, cases_lt, eqb-true, eq-eqb}
+use Rattle.std.proofs.lemmas.Bool.{cases_eq, eqb-true, eq-eqb}
 use Rattle.std.proofs.lemmas.List.{get_or-set_same, get_or-set_other, length-set, length-append, length-map, append-nil, map-append}
 use Rattle.std.proofs.lemmas.List.Elements.{filter-append}
 use Rattle.std.proofs.lemmas.List.FromFn.{fill_by_all, length-map-range_with_len, get_or-map-range_with_len}
@@ -15,7 +15,7 @@ use Rattle.flow_core.proofs.Stretches.{slice_get-append_left, slice_get-append_r
 use Rattle.stream_match.specs.declared.span.Span.{Span}
 use Rattle.stream_match.specs.declared.layout.Layout.{Layout}
 use Rattle.stream_match.specs.Layout.{span_of, writes_at, writers_of, claims_in, IsOfWindows}
-use Rattle.stream_match.specs.Adding.{first_by, reads_after, writes_after, writers_after, with_claim}
+use Rattle.stream_match.specs.Adding.{first_by, writers_after, with_claim}
 
 -- ---- lists with an element for each number
 

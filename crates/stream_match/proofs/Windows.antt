@@ -1,22 +1,20 @@
 -- The windows of one more activation, and their claims.
-use Rattle.std.proofs.Common.{◌≡◌, ℕ, zero, suc, ◌+◌, ◌<◌, ◌≤◌, Bool, true, false, cond, List, [], ◌∷◌, ◌++◌, Option, Some, length, take, drop, map, get_or, refl, sym, ap, ◌∙◌, subst, arith, zero-add}
+use Rattle.std.proofs.Common.{◌≡◌, ℕ, zero, suc, ◌+◌, ◌<◌, ◌≤◌, Bool, true, false, cond, List, [], ◌∷◌, ◌++◌, length, take, map, get_or, refl, sym, ap, ◌∙◌, arith, zero-add}
 use Rattle.std.specs.Prelude.{slice_get, filter, sum_by}
 use Rattle.std.specs.Bool.{beq}
 use Rattle.std.specs.Option.{option_map_or}
 use Rattle.std.specs.List.{flat_map, range_with_len}
-use Rattle.std.proofs.lemmas.List.{append-nil, append_assoc, length-append, length-map, length-take, take-append-le, take_all, take_more, get_or-map, get_or-take, same_lists, map-append}
+use Rattle.std.proofs.lemmas.List.{length-append, length-map, length-take, take-append-le, take_all, get_or-map, get_or-take, same_lists, map-append}
 use Rattle.std.proofs.lemmas.List.Elements.{filter-append}
 use Rattle.std.proofs.lemmas.List.FromFn.{fill_by_all, map-range_with_len_more}
 use Rattle.std.proofs.lemmas.List.Sums.{sum_by-append}
 use Rattle.std.proofs.lemmas.Option.{slice_get-get_or, get_or_from_slice_get}
 use Rattle.flow_core.specs.declared.claim.Claim.{Claim}
 use Rattle.flow_core.specs.declared.activation.Activation.{Activation}
-use Rattle.flow_core.specs.FirstPosition.{first_position}
 use Rattle.flow_core.specs.Window.{Window, windows, windows_of, windows_behind, window_of, claims_of, claims_at, claim_at, no_claim, offset_after}
 use Rattle.flow_core.proofs.Stretches.{flat_map-range_more, slice_get-append_left, slice_get-append_right}
 use Rattle.flow_core.proofs.Windows.{window_at, length-windows}
 use Rattle.stream_match.specs.Layout.{claims_in}
-use Rattle.stream_match.proofs.Pushing.{map-range-same}
 
 -- what stands for a window where there is none
 abbrev pub no_window : Window
@@ -65,7 +63,7 @@ windows-push xs x =
 abbrev pub first_windows : ℕ → List Claim → List Claim → ℕ → List Window
 first_windows a earlier claims k = map (window_of a earlier claims) (range_with_len 0 k)
 
-map_map : {A B C : Type 0} (f : A → B) (g : B → C) (xs : List A) → map g (map f xs) ≡ map (λ x. g (f x)) xs
+pub map_map : {A B C : Type 0} (f : A → B) (g : B → C) (xs : List A) → map g (map f xs) ≡ map (λ x. g (f x)) xs
 map_map f g [] = refl
 map_map f g (x ∷ xs) = ap (λ ys. g (f x) ∷ ys) (map_map f g xs)
 

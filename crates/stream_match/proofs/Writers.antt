@@ -1,26 +1,27 @@
 -- The write spans of a stream by the windows, and who produces an element.
-use Rattle.std.proofs.Common.{◌≡◌, ℕ, zero, suc, ◌+◌, ◌^◌, ◌<◌, ◌≤◌, Bool, true, false, cond, List, [], ◌∷◌, Option, Some, None, All, length, take, map, get_or, refl, sym, ap, ◌∙◌, subst, ◌⊎◌, inl, inr, arith, zero-add}
-use Rattle.std.specs.Prelude.{slice_get, sum_by, IsTrue, ◌&&◌, ◌==◌, nat_lt, nat_le}
+use Rattle.std.proofs.Common.{◌≡◌, ℕ, ◌+◌, ◌^◌, ◌<◌, ◌≤◌, Bool, true, false, cond, List, [], Some, None, length, take, get_or, refl, sym, ap, ◌∙◌, subst, inl, inr, arith, zero-add}
+use Rattle.std.specs.Prelude.{slice_get, not, ◌&&◌, ◌==◌, nat_lt, nat_le}
 use Rattle.std.specs.Option.{option_map_or}
-use Rattle.std.specs.List.{range_with_len, position, position_or_len}
+use Rattle.std.specs.List.{range_with_len, position_or_len}
 use Rattle.std.proofs.lemmas.Bool.{and_parts, eqb-true, cases_lt, le-ltb, le-leb, lt-ltb}
-use Rattle.std.proofs.lemmas.List.{get_or-map, length-map, take_more}
-use Rattle.std.proofs.lemmas.List.FromFn.{get_or-map-range_with_len}
+use Rattle.std.proofs.lemmas.List.{get_or-map, length-map}
+use Rattle.std.proofs.lemmas.List.FromFn.{get_or-map-range_with_len, length-range_with_len}
+use Rattle.std.proofs.lemmas.List.Filters.{length-filter_both}
 use Rattle.std.proofs.lemmas.List.Sums.{position_or_len_is, sum_by_more_le}
-use Rattle.std.proofs.lemmas.Option.{slice_get-get_or, slice_get_within, get_or_from_slice_get, same_Some}
+use Rattle.std.proofs.lemmas.Option.{slice_get-get_or, slice_get_within, get_or_from_slice_get}
 use Rattle.flow_core.specs.declared.claim.Claim.{Claim}
 use Rattle.flow_core.specs.declared.activation.Activation.{Activation}
-use Rattle.flow_core.specs.FirstPosition.{is_write_to, write_cursor, first_position}
+use Rattle.flow_core.specs.FirstPosition.{is_write_to, write_cursor}
 use Rattle.flow_core.specs.Window.{Window, windows, claims_of, is_written_by, producer_number}
 use Rattle.flow_core.proofs.Sources.{position_only}
-use Rattle.flow_core.proofs.Windows.{window_at, length-windows, Writes, written, first_of_write, apart, one_writer_of}
+use Rattle.flow_core.proofs.Windows.{window_at, length-windows, written, first_of_write, apart, one_writer_of}
 use Rattle.stream_match.specs.declared.span.Span.{Span}
 use Rattle.stream_match.specs.declared.layout.Layout.{Layout}
 use Rattle.stream_match.specs.Lawful.{IsLawfulClaim, AreLawful}
-use Rattle.stream_match.specs.Layout.{span_of, writes_at, writers_of, claims_in, IsOfWindows, IsLayoutOf, IsLayout}
+use Rattle.stream_match.specs.Layout.{span_of, writes_at, writers_of, IsLayoutOf}
 use Rattle.stream_match.specs.Writers.{no_span, span_at, writers_on, writer_at, end_of, HasWriters, FirstBehind}
 use Rattle.stream_match.proofs.Windows.{no_window}
-use Rattle.stream_match.proofs.Bounds.{write_cursor-le}
+use Rattle.stream_match.proofs.Bounds.{write_cursor-le, length-claims-le}
 use Rattle.stream_match.proofs.Filtered.{Passes, filtered_each, filtered_ascends, filtered_all}
 
 -- a window by its number
@@ -89,8 +90,15 @@ module _ (layout : Layout) (activations : List Activation) (of : IsLayoutOf layo
   pub writer_is : (place : ℕ) → place < length (writers_on layout stream) → writer_at layout stream place ≡ span_of (window_number activations (number_at place))
   writer_is place lt = span_at-window layout activations of (number_at place) (number_exists place lt)
 
+  few_writers : AreLawful (length layout.writers) activations → length (writers_on layout stream) ≤ 4194304
+  few_writers lawful =
+      let all = lawful.positions_are_few in
+      let filtered = length-filter_both (writes_at stream (windows activations)) (λ n. not (writes_at stream (windows activations) n)) (λ n. refl) (range_with_len 0 (length (windows activations))) in
+      omega (arith, ap length writers-is, filtered, length-range_with_len 0 (length (windows activations)), length-windows activations, length-claims-le (length layout.writers) (claims_of activations) lawful.claims_are_lawful)
+
   pub has_writers : AreLawful (length layout.writers) activations → HasWriters layout stream
   has_writers lawful = record {
+    few = few_writers lawful;
     exist = λ place lt. let e = number_exists place lt in omega (arith, length-spans layout activations of);
     write = λ place lt. ap (λ (s : Span). s.write) (writer_is place lt) ∙ (and_parts (window_number activations (number_at place)).claim.write ((window_number activations (number_at place)).claim.stream == stream) (is_writer place lt)).0;
     on_stream = λ place lt. ap (λ (s : Span). s.stream) (writer_is place lt) ∙ eqb-true (window_number activations (number_at place)).claim.stream stream (and_parts (window_number activations (number_at place)).claim.write ((window_number activations (number_at place)).claim.stream == stream) (is_writer place lt)).1;
@@ -133,9 +141,9 @@ pub between : (layout : Layout) (stream at place : ℕ) → HasWriters layout st
 between layout stream at place has first free i lt low high = elim (cases_lt i place) [
   | inl l ↦ (let b = first.before i l in omega arith)
   | inr g ↦ elim (cases_lt place i) [
-      | inl l ↦ (let f = free (omega arith) in let o = has.in_order place i l lt in omega arith)
-      | inr g' ↦ (let same : i ≡ place = omega arith in let f = free (omega arith) in let e = ap (λ p. (writer_at layout stream p).first) same in omega arith)
-    ]
+    | inl l ↦ (let f = free (omega arith) in let o = has.in_order place i l lt in omega arith)
+    | inr g' ↦ (let same : i ≡ place = omega arith in let f = free (omega arith) in let e = ap (λ p. (writer_at layout stream p).first) same in omega arith)
+  ]
 ]
 
 -- what stands at a place among numbers

@@ -1,16 +1,7 @@
--- What adding a claim, an activation and several of them needs and does.
+-- What adding a claim needs and does.
 use Rattle.std.specs.Prelude.{◌≡◌, ℕ, ◌+◌, ◌^◌, ◌<◌, List, [], ◌∷◌, ◌++◌, length, slice_index, slice_index_or, slice_set, if◌then◌else◌}
 use Rattle.flow_core.specs.declared.claim.Claim.{Claim}
-use Rattle.flow_core.specs.declared.activation.Activation.{Activation}
 use Rattle.stream_match.specs.declared.layout.Layout.{Layout}
-use Rattle.stream_match.specs.Lawful.{AreLawful}
-use Rattle.stream_match.specs.Layout.{IsLayoutOf}
-
--- A layout takes more activations where it is that of some with which they are lawful.
-pub record TakesMore (layout : Layout) (more : List Activation) : Type 0 where
-  pub before : List Activation
-  pub is_of : IsLayoutOf layout before
-  pub lawful : AreLawful (length layout.writers) (before ++ more)
 
 -- no number of the layout passes the end of its type with one more claim
 pub record HasRoom (layout : Layout) (claim : Claim) : Type 0 where

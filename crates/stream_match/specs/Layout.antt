@@ -1,5 +1,5 @@
 -- What a layout says of activations.
-use Rattle.std.specs.Prelude.{◌≡◌, ℕ, ◌+◌, Bool, false, List, slice_get, take, map, filter, length}
+use Rattle.std.specs.Prelude.{◌≡◌, ℕ, ◌+◌, ◌≤◌, Bool, false, List, ◌++◌, slice_get, take, map, filter, length}
 use Rattle.std.specs.Option.{option_map_or}
 use Rattle.std.specs.List.{range_with_len}
 use Rattle.flow_core.specs.declared.claim.Claim.{Claim}
@@ -43,8 +43,16 @@ pub record IsLayoutOf (layout : Layout) (activations : List Activation) : Type 0
   pub of_windows : IsOfWindows layout (windows activations)
   pub starts : layout.starts ≡ starts_of activations
 
--- A layout is that of some lawful activations. Each call that takes one asks this.
+-- A layout is that of some lawful activations, over streams of which two are the input and the output. Each
+-- call that takes one asks this.
 pub record IsLayout (layout : Layout) : Type 0 where
+  pub has_output : 2 ≤ length layout.writers
   pub activations : List Activation
   pub is_of : IsLayoutOf layout activations
   pub lawful : AreLawful (length layout.writers) activations
+
+-- A layout takes more activations where it is that of some with which they are lawful.
+pub record TakesMore (layout : Layout) (more : List Activation) : Type 0 where
+  pub before : List Activation
+  pub is_of : IsLayoutOf layout before
+  pub lawful : AreLawful (length layout.writers) (before ++ more)

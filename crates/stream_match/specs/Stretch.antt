@@ -137,7 +137,7 @@ sink_of layout = record {
 }
 
 -- The plan of a layout over an input. There is one piece for each pair of a write span and a read span, or
--- the output, that overlap: so each piece is as long as it can be.
+-- the output, that have positions in common, and it carries all of these.
 pub record IsPlanOf (layout : Layout) (input : List ℕ) (plan : Plan) : Type 0 where
   pub frames : plan.frames ≡ map (frame_of layout (length input)) (range_with_len 0 (frame_count layout))
   pub sink : plan.sink ≡ sink_of layout

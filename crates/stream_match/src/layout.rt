@@ -4,7 +4,8 @@ ghost use Rattle.flow_core.specs.FirstPosition.{first_position};
 ghost use Rattle.flow_core.specs.Window.{Window, windows_behind};
 ghost use Rattle.stream_match.specs.Lawful.{AreLawful};
 ghost use Rattle.stream_match.specs.Layout.{claims_in, IsOfWindows, IsLayoutOf};
-ghost use Rattle.stream_match.specs.Adding.{TakesMore, HasRoom, with_claim};
+ghost use Rattle.stream_match.specs.Layout.{TakesMore};
+ghost use Rattle.stream_match.specs.Adding.{HasRoom, with_claim};
 
 use crate::span::Span;
 use flow_core::{Activation, Claim};

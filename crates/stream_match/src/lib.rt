@@ -10,11 +10,15 @@
 //! is theirs, and the plan is sound and stands for the activations and the input.
 #![tactic(auto)]
 
+mod cells;
+mod frames;
 mod layout;
 mod pieces;
+mod plan;
 mod producer;
 mod span;
 mod stretch;
 
 pub use layout::Layout;
+pub use plan::build;
 pub use span::Span;

@@ -17,7 +17,7 @@ impl Layout {
     {
         let place = self.first_behind(stream, position);
         let number = self.writer(stream, place)?;
-        if self.span(number).first <= position {
+        if self.span(number as usize).first <= position {
             Some(number)
         } else {
             None
@@ -35,7 +35,7 @@ impl Layout {
         let mut high = writers.len();
         while low < high {
             let middle = low + (high - low) / 2;
-            let span = self.span(writers[middle]);
+            let span = self.span(writers[middle] as usize);
             if span.first + u64::from(span.count) <= position {
                 low = middle + 1;
             } else {
@@ -50,14 +50,17 @@ impl Layout {
         requires { stream < length self.now.writers }
         ensures { result ≡ slice_get (writers_on self.now stream) place }
     {
-        self.writers.as_slice()[stream as usize].as_slice().get(place).copied()
+        self.writers.as_slice()[stream as usize]
+            .as_slice()
+            .get(place)
+            .copied()
     }
 
     /// A span by its number.
-    pub(crate) fn span(&self, number: u32) -> Span
+    pub(crate) fn span(&self, number: usize) -> Span
         requires { number < length self.now.spans }
         ensures { result ≡ span_at self.now number }
     {
-        self.spans.as_slice()[number as usize]
+        self.spans.as_slice()[number]
     }
 }

@@ -1,4 +1,4 @@
-use Rattle.std.proofs.Common.{◌≡◌, ◌∙◌, ◌+◌, ◌-◌, ◌<◌, ◌++◌, ◌∷◌, [], ℕ, true, false, cond, arith, sym, ap, subst, length, take, List}
+use Rattle.std.proofs.Common.{◌≡◌, ◌∙◌, ◌+◌, ◌-◌, ◌<◌, ◌++◌, ◌∷◌, [], true, false, cond, arith, sym, ap, subst, length, take, List}
 use Rattle.std.specs.Bool.{beq}
 use Rattle.flow_core.specs.declared.claim.Claim.{Claim}
 use Rattle.flow_core.specs.Window.{Window, claim_at}

@@ -1,4 +1,4 @@
-use Rattle.std.proofs.Common.{◌≡◌, ◌++◌, ◌-◌, List, false, true, length, take}
+use Rattle.std.proofs.Common.{◌≡◌, ◌++◌, List, false, true, length, take}
 use Rattle.flow_core.specs.Window.{Window}
 use Rattle.stream_match.specs.Layout.{claims_in, IsOfWindows}
 use Rattle.stream_match.proofs.Windows.{alike, first_windows}

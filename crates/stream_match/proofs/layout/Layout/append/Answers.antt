@@ -1,4 +1,4 @@
-use Rattle.std.proofs.Common.{◌≡◌, ◌∙◌, ◌+◌, ◌++◌, ap, subst, length, take}
+use Rattle.std.proofs.Common.{◌∙◌, ◌++◌, subst, take}
 use Rattle.stream_match.specs.Layout.{IsLayoutOf}
 use Rattle.stream_match.proofs.Appending.{takes_next, take_next}
 use Rattle.stream_match.proofs.layout.Layout.append.Goals as goal

@@ -1,4 +1,4 @@
-use Rattle.std.proofs.Common.{◌≡◌, ◌-◌, ◌<◌, ◌≤◌, ℕ, length}
+use Rattle.std.proofs.Common.{◌-◌, ◌<◌, ◌≤◌, ℕ, length}
 use Rattle.stream_match.specs.Writers.{writers_on, writer_at, end_of}
 use Rattle.stream_match.proofs.layout.Layout.first_behind.Given as goal
 

@@ -1,7 +1,7 @@
-use Rattle.std.proofs.Common.{◌≡◌, ◌∙◌, ◌≤◌, ◌<◌, Option, Some, None, ℕ, length, sym, ap, subst, arith}
-use Rattle.std.specs.Prelude.{slice_get, slice_index}
+use Rattle.std.proofs.Common.{◌≡◌, ◌∙◌, ◌≤◌, ◌<◌, Some, None, length, sym, ap, subst, arith}
+use Rattle.std.specs.Prelude.{slice_get}
 use Rattle.stream_match.specs.declared.span.Span.{Span}
-use Rattle.stream_match.specs.Writers.{HasWriters, writers_on, writer_at, span_at, end_of}
+use Rattle.stream_match.specs.Writers.{writers_on, writer_at, span_at}
 use Rattle.stream_match.proofs.Writers.{has_writers, found, not_found, between, number_place, past_places}
 use Rattle.stream_match.proofs.layout.Layout.producer.Goals as goal
 
