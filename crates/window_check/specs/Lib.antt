@@ -1,5 +1,6 @@
 -- What a reader believes: the clauses of `check` and of the laws cite these.
 pub mod CapturedByUse
+pub mod Globals
 pub mod Order
 pub mod Refusal
 pub mod Sums

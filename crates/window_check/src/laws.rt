@@ -9,13 +9,13 @@ ghost use Rattle.os_ast.specs.Names.{Scope, lookup, entity_of};
 ghost use Rattle.os_ast.specs.Notes.Clauses.{in_task_body};
 ghost use Rattle.os_ast.specs.Notes.Declarators.{after_declarator};
 ghost use Rattle.os_ast.specs.Notes.Kinds.{Note, Used};
-ghost use Rattle.os_ast.specs.Notes.Programs.{program_notes};
+ghost use Rattle.os_ast.specs.Notes.Programs.{after_items, file, in_body, program_notes};
 ghost use Rattle.os_ast.specs.Notes.Statements.{after_stmt, after_stmts, stmt_notes, stmts_notes};
 ghost use Rattle.os_ast.specs.Parts.{Part, private_ids, is_in};
 ghost use Rattle.os_ast.specs.Stacked.{Stacked, main_extent};
 ghost use Rattle.os_ast.specs.Trees as tree;
 ghost use Rattle.os_ast.specs.Trees.{ProgramTree};
-ghost use Rattle.os_ast.specs.Violations.{names, violations};
+ghost use Rattle.os_ast.specs.Violations.{names, streams, violations};
 ghost use Rattle.os_ast.specs.declared.expr.Name.{Name};
 ghost use Rattle.os_ast.specs.declared.names.Entity.{Entity};
 ghost use Rattle.os_ast.specs.declared.names.Entry.{Entry};
@@ -23,8 +23,9 @@ ghost use Rattle.os_ast.specs.declared.names.Resolved.{Resolved};
 ghost use Rattle.os_ast.specs.declared.names.Use.{Use};
 ghost use Rattle.os_ast.specs.declared.names.What.{What};
 ghost use Rattle.os_lexer.specs.declared.token.Token.{Token};
-ghost use Rattle.std.specs.Prelude.{◌≡◌, ◌||◌, ◌+◌, ◌++◌, ◌∷◌, [], ℕ, List, Contains};
+ghost use Rattle.std.specs.Prelude.{◌≡◌, ◌≤◌, ◌||◌, ◌+◌, ◌++◌, ◌∷◌, [], ℕ, List, Contains};
 ghost use Rattle.window_check.specs.CapturedByUse.{Ascends, slots_named, used_slots};
+ghost use Rattle.window_check.specs.Globals.{AreApart, IsWithin, count_functions};
 ghost use Rattle.window_check.specs.Order.{InOrder};
 ghost use Rattle.window_check.specs.Sums.{HasSizes, extent_in, stmt_slots, stmts_slots};
 ghost use Rattle.window_check.specs.Told.{AreLawful, Tells};
@@ -92,4 +93,18 @@ pub fn slots_are_summed()
         (after_stmt s a).slots ≡ s.slots + stmt_slots s.owner size a }
     ensures statements { (size : tree.ExprTree → ℕ) (s : Scope) (ss : tree.Stmts) → HasSizes size (stmts_notes s ss) →
         (after_stmts s ss).slots ≡ s.slots + stmts_slots s.owner size ss }
+{}
+
+/// Functions are numbered in the order of the text, and no two constants or functions of a lawful program have one name,
+/// so that each may be found by its name.
+pub fn functions_are_numbered()
+    ensures all { (s : Scope) (is : List tree.ItemTree) → (after_items s is).functions ≡ s.functions + count_functions is }
+    ensures inside { (s : Scope) (f : tree.FunctionTree) → (in_body s f).functions ≡ s.functions }
+    ensures apart { (p : ProgramTree) → violations p ≡ [] → AreApart [] p }
+{}
+
+/// A lawful program has at most 65,536 streams of its own, and at most 1,048,576 elements of local arrays.
+pub fn limits_are_kept()
+    ensures within { (p : ProgramTree) → violations p ≡ [] → IsWithin (after_items file p) }
+    ensures streams { (p : ProgramTree) → violations p ≡ [] → streams p ≤ 65538 }
 {}
