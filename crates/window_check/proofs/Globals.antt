@@ -1,5 +1,5 @@
 -- No two constants or functions of a lawful program have one name.
-use Rattle.std.proofs.Common.{◌≡◌, ℕ, ◌==◌, ◌||◌, Bool, true, false, if◌then◌else◌, List, [], ◌∷◌, ◌++◌, Option, Some, None, refl, sym, subst, ◌∙◌, eq-eqb}
+use Rattle.std.proofs.Common.{◌≡◌, ℕ, ◌==◌, ◌||◌, Bool, true, false, if◌then◌else◌, List, [], ◌∷◌, Some, refl, sym, subst, ◌∙◌, eq-eqb}
 use Rattle.std.specs.Prelude.{⊤}
 use Rattle.os_ast.specs.Names.{Scope, lookup, stands_at}
 use Rattle.os_ast.specs.Notes.Programs.{after_item, item_notes, items_notes, file, program_notes}
@@ -33,15 +33,17 @@ distinct-items : (s : Scope) (is : List tree.ItemTree) → s.depth ≡ 0 → IsF
 distinct-items s [] zero flat h = tt
 distinct-items s (tree.Constant c ∷ is) zero flat h =
     let after = after_item s (tree.Constant c) in
-    let own = h.0.1.1.0 in
-    (not_there s.entries c.name.id flat (subst (λ (d : ℕ). stands_at d (lookup s.entries c.name.id) ≡ false) zero own),
-    distinct-items after is zero (zero, flat) h.1)
+    let own = h.0.1.1.0 in (
+      not_there s.entries c.name.id flat (subst (λ (d : ℕ). stands_at d (lookup s.entries c.name.id) ≡ false) zero own),
+      distinct-items after is zero (zero, flat) h.1,
+    )
 distinct-items s (tree.Function f ∷ is) zero flat h =
     let after = after_item s (tree.Function f) in
     let own = h.0.1.1.0 in
-    let rest = lawful-rest (item_notes s (tree.Function f)) (items_notes after is) h in
-    (not_there s.entries f.name.id flat (subst (λ (d : ℕ). stands_at d (lookup s.entries f.name.id) ≡ false) zero own),
-    distinct-items after is zero (zero, flat) rest)
+    let rest = lawful-rest (item_notes s (tree.Function f)) (items_notes after is) h in (
+      not_there s.entries f.name.id flat (subst (λ (d : ℕ). stands_at d (lookup s.entries f.name.id) ≡ false) zero own),
+      distinct-items after is zero (zero, flat) rest,
+    )
 
 pub distinct-program : (p : tree.ProgramTree) → AreLawful (program_notes p) → AreApart [] p
 distinct-program p h = distinct-items file p refl tt h

@@ -20,7 +20,6 @@ use Rattle.os_ast.specs.declared.names.Entity.{Entity}
 use Rattle.os_ast.specs.declared.names.Entity.TheVariants as entity
 use Rattle.os_ast.specs.declared.names.Role.TheVariants as role
 use Rattle.os_ast.specs.declared.names.Use.TheVariants as usage
-use Rattle.os_ast.specs.declared.names.Entry.{Entry}
 use Rattle.os_ast.specs.Rules.{when}
 use Rattle.window_check.proofs.Noted.{noted-append}
 use Rattle.window_check.specs.Codes.{least_code}

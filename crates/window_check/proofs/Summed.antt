@@ -1,13 +1,13 @@
 -- Slots are summed over the tree, and lie above one another in scope.
 use Rattle.std.proofs.Common.{◌≡◌, ◌≤◌, ◌+◌, ℕ, Bool, true, false, List, [], ◌∷◌, ◌++◌, Option, Some, None, refl, ap, sym, subst, ◌∙◌, arith}
-use Rattle.std.specs.Prelude.{⊤, unwrap_or}
+use Rattle.std.specs.Prelude.{unwrap_or}
 use Rattle.os_ast.specs.Leveled.{IsStmt, AreStmts}
 use Rattle.os_ast.specs.Names.{Scope, enter, in_loop}
-use Rattle.os_ast.specs.Notes.Declarators.{form, form_with, sized_form, size_of, taken, form_entity, declared_entity, scalar_entity, declarator_notes, declarators_notes, sized_notes, after_declarator, after_declarators, after_start, start_notes}
+use Rattle.os_ast.specs.Notes.Declarators.{form, form_with, sized_form, size_of, taken, form_entity, declared_entity, scalar_entity, declarator_notes, declarators_notes, after_declarator, after_declarators, after_start, start_notes}
 use Rattle.os_ast.specs.Notes.Expressions.{expr_notes, value_notes, step_notes}
 use Rattle.os_ast.specs.Notes.Kinds.{Note, Used, Sized, Declared, Given, Global, Left, Returned, Pragma, Task, Listed}
 use Rattle.os_ast.specs.Notes.Statements.{after_stmt, after_stmts, stmt_notes, stmts_notes}
-use Rattle.os_ast.specs.Stacked.{Extent, Stacked, begins, ends, main_extent, unit_extent}
+use Rattle.os_ast.specs.Stacked.{Extent, Stacked, begins, ends}
 use Rattle.os_ast.specs.Trees as tree
 use Rattle.os_ast.specs.declared.names.Entity.{Entity}
 use Rattle.os_ast.specs.declared.names.Entity.TheVariants as entity

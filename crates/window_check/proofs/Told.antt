@@ -1,11 +1,11 @@
 -- The names of a program tell of each of its notes, and a lawful program keeps each rule at each of them.
 use Rattle.std.proofs.Common.{◌≡◌, ◌<◌, ℕ, zero, suc, Bool, true, false, List, [], ◌∷◌, ◌++◌, Option, Some, None, refl, ap, sym, subst, ◌∙◌, Contains, arith}
-use Rattle.std.specs.Prelude.{⊤, is_none}
+use Rattle.std.specs.Prelude.{is_none}
 use Rattle.os_ast.specs.Meanings.{meaning_in, resolved}
 use Rattle.os_ast.specs.Names.{Scope, lookup, entity_of}
 use Rattle.os_ast.specs.Notes.Kinds.{Note, Used, mark_of}
 use Rattle.os_ast.specs.Notes.Programs.{program_notes}
-use Rattle.os_ast.specs.Rules.{Rule, rules, codes, codes_among, when, is_unknown}
+use Rattle.os_ast.specs.Rules.{Rule, rules, codes, codes_among, when}
 use Rattle.os_ast.specs.Trees.{ProgramTree}
 use Rattle.os_ast.specs.Violations.{violations, no_main, faults_at, faults, names, resolutions_of, resolutions, declared_meaning}
 use Rattle.os_ast.specs.declared.expr.Mark.{Mark}
@@ -14,7 +14,6 @@ use Rattle.os_ast.specs.declared.names.Entity.{Entity}
 use Rattle.os_ast.specs.declared.names.Resolved.{Resolved}
 use Rattle.os_ast.specs.declared.names.Use.{Use}
 use Rattle.os_ast.specs.declared.names.What.{What}
-use Rattle.os_ast.specs.declared.violation.Violation.{Violation}
 use Rattle.window_check.specs.Order.{InOrder, IsBelowNext}
 use Rattle.window_check.specs.Told.{AreIn, Tells, KeepsAll, AreLawful}
 

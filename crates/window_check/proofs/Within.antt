@@ -1,11 +1,10 @@
 -- What a lawful program declares is within the limits.
-use Rattle.std.proofs.Common.{◌≡◌, ◌≤◌, ◌+◌, ◌||◌, ℕ, suc, Bool, true, false, not, List, [], ◌∷◌, ◌++◌, Option, Some, None, refl, sym, subst, ◌∙◌, arith, ltb, ltb-false, if◌then◌else◌}
-use Rattle.std.specs.Prelude.{unwrap_or}
+use Rattle.std.proofs.Common.{◌≡◌, ◌||◌, ℕ, suc, Bool, true, false, List, [], ◌∷◌, ◌++◌, refl, arith, ltb, ltb-false}
 use Rattle.os_ast.specs.Captured.{captured, slots_of}
 use Rattle.os_ast.specs.Limits.{elements_limit, arrays_limit, streams_limit}
 use Rattle.os_ast.specs.Names.{Scope, declare, enter, in_loop, in_unit}
 use Rattle.os_ast.specs.Notes.Clauses.{with_items, in_task, in_task_body, captured_in, item_entity, clauses_notes}
-use Rattle.os_ast.specs.Notes.Declarators.{form, form_with, sized_form, size_of, size_told, size_value, limited, taken, declared_entity, declarator_notes, declarators_notes, after_declarator, after_declarators, after_start, start_notes}
+use Rattle.os_ast.specs.Notes.Declarators.{form, size_told, taken, declared_entity, declarator_notes, declarators_notes, after_declarator, after_declarators, after_start, start_notes}
 use Rattle.os_ast.specs.Notes.Expressions.{expr_notes, value_notes, step_notes}
 use Rattle.os_ast.specs.Notes.Programs.{in_body, in_function, after_param, after_params, after_item, after_items, item_notes, items_notes, params_notes, round_body, owner_of, param_names}
 use Rattle.os_ast.specs.Notes.Statements.{after_stmt, after_stmts, stmt_notes, stmts_notes}

@@ -1,5 +1,5 @@
 -- What a list of names says of a part of a program, and what a lawful part is.
-use Rattle.std.specs.Prelude.{⊤, ◌≡◌, ℕ, Bool, false, List, [], ◌∷◌, Contains}
+use Rattle.std.specs.Prelude.{⊤, ◌≡◌, false, List, [], ◌∷◌, Contains}
 use Rattle.os_ast.specs.Notes.Kinds.{Note}
 use Rattle.os_ast.specs.Rules.{Rule, rules}
 use Rattle.os_ast.specs.Violations.{resolutions_of}

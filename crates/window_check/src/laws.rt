@@ -23,9 +23,10 @@ ghost use Rattle.os_ast.specs.declared.names.Resolved.{Resolved};
 ghost use Rattle.os_ast.specs.declared.names.Use.{Use};
 ghost use Rattle.os_ast.specs.declared.names.What.{What};
 ghost use Rattle.os_lexer.specs.declared.token.Token.{Token};
-ghost use Rattle.std.specs.Prelude.{◌≡◌, ◌≤◌, ◌||◌, ◌+◌, ◌++◌, ◌∷◌, [], ℕ, List, Contains};
+ghost use Rattle.std.specs.Prelude.{◌≡◌, ◌≤◌, ◌||◌, ◌+◌, ◌++◌, ◌∷◌, [], ℕ, List, Contains, map};
 ghost use Rattle.window_check.specs.CapturedByUse.{Ascends, slots_named, used_slots};
 ghost use Rattle.window_check.specs.Globals.{AreApart, IsWithin, count_functions};
+ghost use Rattle.window_check.specs.NameTokens.{program_places};
 ghost use Rattle.window_check.specs.Order.{InOrder};
 ghost use Rattle.window_check.specs.Sums.{HasSizes, extent_in, stmt_slots, stmts_slots};
 ghost use Rattle.window_check.specs.Told.{AreLawful, Tells};
@@ -107,4 +108,10 @@ pub fn functions_are_numbered()
 pub fn limits_are_kept()
     ensures within { (p : ProgramTree) → violations p ≡ [] → IsWithin (after_items file p) }
     ensures streams { (p : ProgramTree) → violations p ≡ [] → streams p ≤ 65538 }
+{}
+
+/// Every name token of a lawful program that is used or declares a variable has its entry in the names, and no other
+/// token has one: constants and functions have none where they are declared.
+pub fn names_are_the_name_tokens()
+    ensures { (p : ProgramTree) → violations p ≡ [] → map (λ r. r.place) (names p) ≡ program_places p }
 {}
