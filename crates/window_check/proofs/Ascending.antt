@@ -1,17 +1,12 @@
 -- Ascending slots: lists of them with the same members are equal, and what is collected one by one ascends.
 use Rattle.std.proofs.Common.{◌≡◌, ℕ, ◌<◌, ◌≤◌, ◌+◌, ◌==◌, ◌||◌, Bool, true, false, List, [], ◌∷◌, ◌++◌, refl, ap, sym, ◌∙◌, inl, inr, arith, eq-eqb}
-use Rattle.std.specs.Prelude.{⊤}
 use Rattle.std.specs.BTreeSet.{insert_key}
 use Rattle.std.specs.Ordering.{nat_cmp}
 use Rattle.std.proofs.lemmas.Bool.{cases_order, lt-ltb, le-ltb, ne_eqb}
 use Rattle.os_ast.specs.Parts.{is_in}
 use Rattle.window_check.proofs.Listing.{is_in-insert_key}
+use Rattle.window_check.specs.CapturedByUse.{Ascends}
 use Rattle.window_check.specs.Slots.{with_slot, with_slots}
-
--- from a number on
-abbrev pub Ascends : ℕ → List ℕ → Type 0
-Ascends lo [] = ⊤
-Ascends lo (x ∷ xs) = (lo ≤ x) × Ascends (x + 1) xs
 
 ascends_lower : (lo from : ℕ) (xs : List ℕ) → lo ≤ from → Ascends from xs → Ascends lo xs
 ascends_lower lo from [] h a = tt

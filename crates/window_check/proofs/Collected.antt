@@ -1,15 +1,17 @@
 -- What the walk over a task's body lists is what the task captures by name.
 use Rattle.std.proofs.Common.{◌≡◌, ℕ, ◌≤◌, ◌+◌, ◌==◌, ◌||◌, ◌&&◌, Bool, true, false, if◌then◌else◌, List, [], ◌∷◌, ◌++◌, map, Some, refl, ap, sym, subst, ◌∙◌, arith, eqb-true}
 use Rattle.std.proofs.lemmas.Bool.Decides.{nat_tests}
-use Rattle.os_ast.specs.Captured.{Scalar, scalar_of, others, scalars, among}
+use Rattle.os_ast.specs.Captured.{Scalar, scalar_of, others, scalars, among, captured, slots_of}
 use Rattle.os_ast.specs.Names.{lookup, entity_of}
-use Rattle.os_ast.specs.Parts.{is_in}
+use Rattle.os_ast.specs.FreeNames.{task_names}
+use Rattle.os_ast.specs.Parts.{Part, is_in}
 use Rattle.os_ast.specs.Stacked.{Stacked, main_extent}
+use Rattle.os_ast.specs.Trees.{StmtTree}
 use Rattle.os_ast.specs.declared.names.Entity.{Entity}
 use Rattle.os_ast.specs.declared.names.Entity.TheVariants as entity
 use Rattle.os_ast.specs.declared.names.Entry.{Entry}
-use Rattle.window_check.proofs.Ascending.{Ascends, same_members, ascends_with_slots, is_in-with_slots, is_in-append}
-use Rattle.window_check.proofs.Listing.{slots_named}
+use Rattle.window_check.proofs.Ascending.{same_members, ascends_with_slots, is_in-with_slots, is_in-append}
+use Rattle.window_check.specs.CapturedByUse.{Ascends, slots_named}
 use Rattle.window_check.specs.Slots.{with_slots, control_slots}
 
 -- scalars whose slots ascend, from one on and below another
@@ -219,3 +221,11 @@ collected es ids top h =
     ∙ or_false (is_in x (slots_named es ids))
     ∙ slots_named-is es ids x
     ∙ sym (among_slots ids x (scalars es)))
+
+-- Captured slots ascend strictly, and are those that the names mean.
+pub captured-ascends : (es : List Entry) (ps : List Part) (a : StmtTree) (top : ℕ) → Stacked main_extent top es → Ascends 0 (slots_of (captured es ps a))
+captured-ascends es ps a top h =
+    ascends_slots 0 (among (task_names ps a) (scalars es)) top (between_among 0 (task_names ps a) (scalars es) top (between_scalars top es h))
+
+pub collected-members : (es : List Entry) (ids : List ℕ) (x : ℕ) → is_in x (slots_of (among ids (scalars es))) ≡ is_in x (slots_named es ids)
+collected-members es ids x = among_slots ids x (scalars es) ∙ sym (slots_named-is es ids x)

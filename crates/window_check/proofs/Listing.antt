@@ -20,13 +20,13 @@ use Rattle.os_ast.specs.declared.names.Entity.{Entity}
 use Rattle.os_ast.specs.declared.names.Entity.TheVariants as entity
 use Rattle.os_ast.specs.declared.names.Role.TheVariants as role
 use Rattle.os_ast.specs.declared.names.Use.TheVariants as usage
-use Rattle.os_ast.specs.declared.names.Entry.{Entry}
 use Rattle.os_ast.specs.Rules.{when}
 use Rattle.window_check.proofs.Noted.{noted-append}
 use Rattle.window_check.specs.Codes.{least_code}
 use Rattle.window_check.specs.Findings.{note, noted, least_with}
 use Rattle.window_check.specs.declared.found.Found.{Found}
 use Rattle.window_check.specs.declared.found.Found.TheVariants.{Listing, Judging}
+use Rattle.window_check.specs.CapturedByUse.{slots_named}
 use Rattle.window_check.specs.Slots.{with_slot, with_slots, control_slots}
 use Rattle.window_check.specs.declared.parts.ItemName.{ItemName}
 use Rattle.window_check.specs.Parts.{ListedParts, none_listed, inside, after_part, after_parts, listed_notes, after_names}
@@ -154,11 +154,6 @@ items-from s inner l (Private n ∷ ps) = items-from s inner (after_part s l (Pr
 -- the scope with the names of the items
 pub items-all : (s inner : Scope) (ps : List Part) → after_names inner (after_parts s none_listed ps).items ≡ with_items s inner 0 ps
 items-all s inner ps = items-from s inner none_listed ps
-
--- the slots of the scalars that names mean
-abbrev pub slots_named : List Entry → List ℕ → List ℕ
-slots_named es [] = []
-slots_named es (id ∷ ids) = control_slots (entity_of (lookup es id)) ++ slots_named es ids
 
 pub with_slots-append : (xs ys slots : List ℕ) → with_slots (xs ++ ys) slots ≡ with_slots ys (with_slots xs slots)
 with_slots-append [] ys slots = refl

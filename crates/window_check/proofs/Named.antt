@@ -21,23 +21,20 @@ use Rattle.os_ast.specs.declared.names.Form.TheVariants as form_of
 use Rattle.os_ast.specs.declared.names.Owner.{Owner}
 use Rattle.os_ast.specs.declared.names.Owner.TheVariants as owner
 use Rattle.os_ast.specs.declared.names.Role.{Role}
-use Rattle.window_check.proofs.Collected.{collected}
-use Rattle.window_check.proofs.Listing.{slots_named, slots-all, items-all, with_slots-append}
+use Rattle.window_check.proofs.Ascending.{is_in-append}
+use Rattle.window_check.proofs.Collected.{collected, collected-members}
+use Rattle.window_check.proofs.Listing.{slots-all, items-all, with_slots-append}
 use Rattle.window_check.proofs.Restored.{owner_declarator, owner_start, owner_stmt}
 use Rattle.window_check.specs.Findings.{noted, slots_found}
 use Rattle.window_check.specs.Parts.{ListedParts, none_listed, after_parts, after_names}
+use Rattle.window_check.specs.CapturedByUse.{used_slots, slots_named}
 use Rattle.window_check.specs.Slots.{with_slots, control_slots, named_slots}
 use Rattle.window_check.specs.Statements.{in_named_task, listed_in}
 use Rattle.window_check.specs.declared.found.Found.TheVariants.{Listing}
 
--- the slots that notes name
-abbrev named_by : List Note → List ℕ
-named_by [] = []
-named_by (n ∷ ns) = named_slots n ++ named_by ns
-
-named_by-append : (xs ys : List Note) → named_by (xs ++ ys) ≡ named_by xs ++ named_by ys
-named_by-append [] ys = refl
-named_by-append (n ∷ xs) ys = ap (λ zs. named_slots n ++ zs) (named_by-append xs ys) ∙ sym (append_assoc (named_slots n) (named_by xs) (named_by ys))
+used_slots-append : (xs ys : List Note) → used_slots (xs ++ ys) ≡ used_slots xs ++ used_slots ys
+used_slots-append [] ys = refl
+used_slots-append (n ∷ xs) ys = ap (λ zs. named_slots n ++ zs) (used_slots-append xs ys) ∙ sym (append_assoc (named_slots n) (used_slots xs) (used_slots ys))
 
 slots_named-append : (es : List Entry) (xs ys : List ℕ) → slots_named es (xs ++ ys) ≡ slots_named es xs ++ slots_named es ys
 slots_named-append es [] ys = refl
@@ -46,13 +43,13 @@ slots_named-append es (id ∷ xs) ys =
     ap (λ zs. slots ++ zs) (slots_named-append es xs ys) ∙ sym (append_assoc slots (slots_named es xs) (slots_named es ys))
 
 -- two parts, one after the other
-two : (es : List Entry) (xs ys : List Note) (ids more : List ℕ) → named_by xs ≡ slots_named es ids → named_by ys ≡ slots_named es more →
-    named_by (xs ++ ys) ≡ slots_named es (ids ++ more)
+two : (es : List Entry) (xs ys : List Note) (ids more : List ℕ) → used_slots xs ≡ slots_named es ids → used_slots ys ≡ slots_named es more →
+    used_slots (xs ++ ys) ≡ slots_named es (ids ++ more)
 two es xs ys ids more a b =
-    named_by-append xs ys ∙ ap (λ zs. zs ++ named_by ys) a ∙ ap (λ zs. slots_named es ids ++ zs) b ∙ sym (slots_named-append es ids more)
+    used_slots-append xs ys ∙ ap (λ zs. zs ++ used_slots ys) a ∙ ap (λ zs. slots_named es ids ++ zs) b ∙ sym (slots_named-append es ids more)
 
 mutual
-  named-expr : (s : Scope) (e : tree.ExprTree) → named_by (expr_notes s e) ≡ slots_named s.entries (expr_names e)
+  named-expr : (s : Scope) (e : tree.ExprTree) → used_slots (expr_notes s e) ≡ slots_named s.entries (expr_names e)
   named-expr s (tree.Number n) = refl
   named-expr s (tree.Place t) = named-place s _ t
   named-expr s (tree.ExprTree.Call f args) = ap (λ zs. control_slots (entity_of (lookup s.entries f.id)) ++ zs) (named-args s args)
@@ -63,40 +60,40 @@ mutual
       two s.entries (expr_notes s c ++ expr_notes s a) (expr_notes s b) (expr_names c ++ expr_names a) (expr_names b)
       (two s.entries (expr_notes s c) (expr_notes s a) (expr_names c) (expr_names a) (named-expr s c) (named-expr s a)) (named-expr s b)
 
-  named-place : (s : Scope) (r : Role) (t : tree.TargetTree) → named_by (place_notes s r t) ≡ slots_named s.entries (target_names t)
+  named-place : (s : Scope) (r : Role) (t : tree.TargetTree) → used_slots (place_notes s r t) ≡ slots_named s.entries (target_names t)
   named-place s r (tree.Variable n) = refl
   named-place s r (tree.Element n m e) = ap (λ zs. control_slots (entity_of (lookup s.entries n.id)) ++ zs) (named-expr s e)
 
-  named-args : (s : Scope) (es : tree.Args) → named_by (args_notes s es) ≡ slots_named s.entries (args_names es)
+  named-args : (s : Scope) (es : tree.Args) → used_slots (args_notes s es) ≡ slots_named s.entries (args_names es)
   named-args s tree.no_args = refl
   named-args s (tree.arg e es) = two s.entries (expr_notes s e) (args_notes s es) (expr_names e) (args_names es) (named-expr s e) (named-args s es)
 
-  named-links : (s : Scope) (ls : tree.Links) → named_by (links_notes s ls) ≡ slots_named s.entries (links_names ls)
+  named-links : (s : Scope) (ls : tree.Links) → used_slots (links_notes s ls) ≡ slots_named s.entries (links_names ls)
   named-links s tree.no_links = refl
   named-links s (tree.link op m e rest) = two s.entries (expr_notes s e) (links_notes s rest) (expr_names e) (links_names rest) (named-expr s e) (named-links s rest)
 
-named-value : (s : Scope) (e : Option tree.ExprTree) → named_by (value_notes s e) ≡ slots_named s.entries (value_names e)
+named-value : (s : Scope) (e : Option tree.ExprTree) → used_slots (value_notes s e) ≡ slots_named s.entries (value_names e)
 named-value s None = refl
 named-value s (Some e) = named-expr s e
 
-named-index : (s : Scope) (i : Option tree.IndexTree) → named_by (index_notes s i) ≡ slots_named s.entries (index_names i)
+named-index : (s : Scope) (i : Option tree.IndexTree) → used_slots (index_notes s i) ≡ slots_named s.entries (index_names i)
 named-index s None = refl
 named-index s (Some i) = named-expr s i.value
 
-named-change : (s : Scope) (c : tree.ChangeTree) → named_by (change_notes s c) ≡ slots_named s.entries (change_names c)
+named-change : (s : Scope) (c : tree.ChangeTree) → used_slots (change_notes s c) ≡ slots_named s.entries (change_names c)
 named-change s (tree.Set t a m e) = two s.entries (place_notes s _ t) (expr_notes s e) (target_names t) (expr_names e) (named-place s _ t) (named-expr s e)
 named-change s (tree.After t step m) = named-place s _ t
 named-change s (tree.Before t step m) = named-place s _ t
 
-named-step : (s : Scope) (c : Option tree.ChangeTree) → named_by (step_notes s c) ≡ slots_named s.entries (step_names c)
+named-step : (s : Scope) (c : Option tree.ChangeTree) → used_slots (step_notes s c) ≡ slots_named s.entries (step_names c)
 named-step s None = refl
 named-step s (Some c) = named-change s c
 
-named-window : (s : Scope) (before : List ℕ) (t : tree.TargetTree) (j : Option tree.JoinTree) → named_by (window_notes s before t j) ≡ slots_named s.entries (join_names j)
+named-window : (s : Scope) (before : List ℕ) (t : tree.TargetTree) (j : Option tree.JoinTree) → used_slots (window_notes s before t j) ≡ slots_named s.entries (join_names j)
 named-window s before t None = refl
 named-window s before t (Some j) = ap (λ zs. control_slots (entity_of (lookup s.entries j.name.id)) ++ zs) (named-index s j.burst)
 
-named-parts : (s : Scope) (before : List ℕ) (ps : List Part) → named_by (parts_notes s before ps) ≡ slots_named s.entries (parts_names ps)
+named-parts : (s : Scope) (before : List ℕ) (ps : List Part) → used_slots (parts_notes s before ps) ≡ slots_named s.entries (parts_names ps)
 named-parts s before [] = refl
 named-parts s before (Item d i ∷ ps) =
     two s.entries (part_notes s before (Item d i)) (parts_notes s ((part_name (Item d i)).id ∷ before) ps) (target_names i.stream ++ join_names i.window) (parts_names ps)
@@ -184,7 +181,7 @@ hide_declarators s (d ∷ ds) h =
     (hide_declarator s d h) (hide_declarators (after_declarator s d) ds (task_declarator s d h))
 
 -- sizes name no variable of what is round the task
-size_names : (s : Scope) (e : tree.ExprTree) → named_by (size_notes s e) ≡ []
+size_names : (s : Scope) (e : tree.ExprTree) → used_slots (size_notes s e) ≡ []
 size_names s (tree.Number n) = refl
 size_names s (tree.Place (tree.Variable n)) = refl
 size_names s (tree.Place (tree.Element n m e)) = refl
@@ -194,7 +191,7 @@ size_names s (tree.Unary op m e) = refl
 size_names s (tree.Chain l first links) = refl
 size_names s (tree.Choice c a b) = refl
 
-sized_by : (s : Scope) (e : tree.ExprTree) (b : Bool) → b ≡ false → named_by (if b then expr_notes s e else size_notes s e) ≡ []
+sized_by : (s : Scope) (e : tree.ExprTree) (b : Bool) → b ≡ false → used_slots (if b then expr_notes s e else size_notes s e) ≡ []
 sized_by s e true h = absurd (cc)
 sized_by s e false h = size_names s e
 
@@ -203,22 +200,22 @@ no_window owner.OfTask stream h = refl
 no_window owner.OfFunction stream h = refl
 no_window owner.OfMain stream h = absurd (cc)
 
-sized_names : (s : Scope) (stream : Bool) (i : Option tree.IndexTree) → s.owner ≡ owner.OfTask → named_by (sized_notes s stream i) ≡ []
+sized_names : (s : Scope) (stream : Bool) (i : Option tree.IndexTree) → s.owner ≡ owner.OfTask → used_slots (sized_notes s stream i) ≡ []
 sized_names s stream None h = refl
 sized_names s stream (Some i) h = sized_by s i.value (is_window s.owner && not stream) (no_window s.owner stream h)
 
-named-declarators : (s : Scope) (ds : List tree.DeclaratorTree) → s.owner ≡ owner.OfTask → named_by (declarators_notes s ds) ≡ slots_named s.entries (declarators_names ds)
+named-declarators : (s : Scope) (ds : List tree.DeclaratorTree) → s.owner ≡ owner.OfTask → used_slots (declarators_notes s ds) ≡ slots_named s.entries (declarators_names ds)
 named-declarators s [] h = refl
 named-declarators s (d ∷ ds) h =
     let after = after_declarator s d in
     let sized = sized_notes s d.stream d.size in
     let first = value_notes after d.first in
     let more = declarators_notes after ds in
-    let behind : named_by (first ++ more) ≡ slots_named after.entries (value_names d.first ++ declarators_names ds) =
+    let behind : used_slots (first ++ more) ≡ slots_named after.entries (value_names d.first ++ declarators_names ds) =
     two after.entries first more (value_names d.first) (declarators_names ds) (named-value after d.first) (named-declarators after ds (task_declarator s d h)) in
-    ap named_by (append_assoc sized first more)
-    ∙ named_by-append sized (first ++ more)
-    ∙ ap (λ zs. zs ++ named_by (first ++ more)) (sized_names s d.stream d.size h)
+    ap used_slots (append_assoc sized first more)
+    ∙ used_slots-append sized (first ++ more)
+    ∙ ap (λ zs. zs ++ used_slots (first ++ more)) (sized_names s d.stream d.size h)
     ∙ behind
     ∙ hidden after.entries s.entries (d.name.id ∷ []) (value_names d.first ++ declarators_names ds) (hide_declarator s d h)
 
@@ -227,7 +224,7 @@ hide_start s tree.StartTree.Empty h = λ id. refl
 hide_start s (tree.StartTree.Declare ds) h = hide_declarators s ds h
 hide_start s (tree.StartTree.Change c) h = λ id. refl
 
-named-start : (s : Scope) (t : tree.StartTree) → s.owner ≡ owner.OfTask → named_by (start_notes s t) ≡ slots_named s.entries (start_names t)
+named-start : (s : Scope) (t : tree.StartTree) → s.owner ≡ owner.OfTask → used_slots (start_notes s t) ≡ slots_named s.entries (start_names t)
 named-start s tree.StartTree.Empty h = refl
 named-start s (tree.StartTree.Declare ds) h = named-declarators s ds h
 named-start s (tree.StartTree.Change c) h = named-change s c
@@ -287,7 +284,7 @@ four : (a b c d : List Note) → a ++ b ++ c ++ d ≡ a ++ (b ++ c ++ d)
 four a b c d = append_assoc (a ++ b) c d ∙ append_assoc a b (c ++ d) ∙ ap (λ zs. a ++ zs) (sym (append_assoc b c d))
 
 mutual
-  named-stmt : (s : Scope) (a : tree.StmtTree) → s.owner ≡ owner.OfTask → named_by (stmt_notes s a) ≡ slots_named s.entries (stmt_names a)
+  named-stmt : (s : Scope) (a : tree.StmtTree) → s.owner ≡ owner.OfTask → used_slots (stmt_notes s a) ≡ slots_named s.entries (stmt_names a)
   named-stmt s tree.StmtTree.Empty h = refl
   named-stmt s (tree.Block ss) h = named-stmts (enter s) ss h
   named-stmt s (tree.StmtTree.Declare ds) h = named-declarators s ds h
@@ -305,11 +302,11 @@ mutual
       let own : head.owner ≡ owner.OfTask = owner_start (enter s) start ∙ h in
       let inner = value_notes head test ++ step_notes head step ++ stmt_notes (in_loop head) a in
       let names = value_names test ++ step_names step ++ stmt_names a in
-      let inside : named_by inner ≡ slots_named head.entries names =
+      let inside : used_slots inner ≡ slots_named head.entries names =
       two head.entries (value_notes head test ++ step_notes head step) (stmt_notes (in_loop head) a) (value_names test ++ step_names step) (stmt_names a)
       (two head.entries (value_notes head test) (step_notes head step) (value_names test) (step_names step) (named-value head test) (named-step head step))
       (named-stmt (in_loop head) a own) in
-      ap named_by (four (start_notes (enter s) start) (value_notes head test) (step_notes head step) (stmt_notes (in_loop head) a))
+      ap used_slots (four (start_notes (enter s) start) (value_notes head test) (step_notes head step) (stmt_notes (in_loop head) a))
       ∙ two s.entries (start_notes (enter s) start) inner (start_names start) (without (start_ids start) names)
       (named-start (enter s) start h) (inside ∙ hidden head.entries s.entries (start_ids start) names (hide_start (enter s) start h))
   named-stmt s (tree.Break m) h = refl
@@ -320,13 +317,13 @@ mutual
       let slots = captured_in s.owner (slots_of (captured s.entries ps a)) in
       let inner = in_task_body s ps a in
       two s.entries (clauses_notes s m ps a) (stmt_notes inner a) (parts_names ps) (without (item_ids ps) (stmt_names a))
-      (named_by-append (parts_notes s [] ps) _ ∙ append-nil (named_by (parts_notes s [] ps)) ∙ named-parts s [] ps)
+      (used_slots-append (parts_notes s [] ps) _ ∙ append-nil (used_slots (parts_notes s [] ps)) ∙ named-parts s [] ps)
       (named-stmt inner a (owner_items s (in_task s slots) 0 ps)
       ∙ hidden inner.entries s.entries (item_ids ps) (stmt_names a) (hide_items s (in_task s slots) 0 ps))
   named-stmt s (tree.Tick m t arrow e) h = two s.entries (place_notes s _ t) (expr_notes s e) (target_names t) (expr_names e) (named-place s _ t) (named-expr s e)
   named-stmt s (tree.Taskwait m) h = refl
 
-  named-stmts : (s : Scope) (ss : tree.Stmts) → s.owner ≡ owner.OfTask → named_by (stmts_notes s ss) ≡ slots_named s.entries (stmts_names ss)
+  named-stmts : (s : Scope) (ss : tree.Stmts) → s.owner ≡ owner.OfTask → used_slots (stmts_notes s ss) ≡ slots_named s.entries (stmts_names ss)
   named-stmts s tree.no_stmts h = refl
   named-stmts s (tree.stmt a rest) h =
       let after = after_stmt s a in
@@ -334,9 +331,9 @@ mutual
       (named-stmts after rest (owner_stmt s a ∙ h) ∙ hidden after.entries s.entries (stmt_ids a) (stmts_names rest) (hide_stmt s a h))
 
 -- what a walk lists
-listed-all : (ns : List Note) (slots : List ℕ) → slots_found (noted (Listing slots) ns) ≡ with_slots (named_by ns) slots
+listed-all : (ns : List Note) (slots : List ℕ) → slots_found (noted (Listing slots) ns) ≡ with_slots (used_slots ns) slots
 listed-all [] slots = refl
-listed-all (n ∷ ns) slots = listed-all ns (with_slots (named_slots n) slots) ∙ sym (with_slots-append (named_slots n) (named_by ns) slots)
+listed-all (n ∷ ns) slots = listed-all ns (with_slots (named_slots n) slots) ∙ sym (with_slots-append (named_slots n) (used_slots ns) slots)
 
 listed-in : (o : Owner) (s : Scope) (l : ListedParts) (ps : List Part) (a : tree.StmtTree) (top : ℕ) → Stacked main_extent top s.entries →
     l ≡ after_parts s none_listed ps → listed_in o s l.slots l.items a ≡ captured_in o (slots_of (captured s.entries ps a))
@@ -348,10 +345,10 @@ listed-in owner.OfMain s l ps a top st is =
     let names = without (item_ids ps) (stmt_names a) in
     let scope : in_named_task s [] l.items ≡ inner = ap (λ (x : ListedParts). after_names (in_task s []) x.items) is ∙ items-all s (in_task s []) ps in
     let given : l.slots ≡ with_slots outer [] = ap (λ (x : ListedParts). x.slots) is ∙ slots-all s ps in
-    let body : named_by (stmt_notes inner a) ≡ slots_named s.entries names =
+    let body : used_slots (stmt_notes inner a) ≡ slots_named s.entries names =
     named-stmt inner a (owner_items s (in_task s []) 0 ps) ∙ hidden inner.entries s.entries (item_ids ps) (stmt_names a) (hide_items s (in_task s []) 0 ps) in
     listed-all (stmt_notes (in_named_task s [] l.items) a) l.slots
-    ∙ ap (λ (x : Scope). with_slots (named_by (stmt_notes x a)) l.slots) scope
+    ∙ ap (λ (x : Scope). with_slots (used_slots (stmt_notes x a)) l.slots) scope
     ∙ ap (λ (xs : List ℕ). with_slots xs l.slots) body
     ∙ ap (λ (xs : List ℕ). with_slots (slots_named s.entries names) xs) given
     ∙ sym (with_slots-append outer (slots_named s.entries names) [])
@@ -362,3 +359,18 @@ listed-in owner.OfMain s l ps a top st is =
 pub listed-captured : (s : Scope) (l : ListedParts) (ps : List Part) (a : tree.StmtTree) (top : ℕ) → Stacked main_extent top s.entries →
     l ≡ after_parts s none_listed ps → listed_in s.owner s l.slots l.items a ≡ captured_in s.owner (slots_of (captured s.entries ps a))
 listed-captured s l ps a top st is = listed-in s.owner s l ps a top st is
+
+-- The members of what a task captures are those that its `firstprivate` clauses name and those that its body uses.
+pub captured-members : (s : Scope) (ps : List Part) (a : tree.StmtTree) (x : ℕ) →
+    is_in x (slots_of (captured s.entries ps a))
+    ≡ (is_in x (slots_named s.entries (private_ids ps)) || is_in x (used_slots (stmt_notes (in_task_body s ps a) a)))
+captured-members s ps a x =
+    let inner = in_task_body s ps a in
+    let slots = captured_in s.owner (slots_of (captured s.entries ps a)) in
+    let names = without (item_ids ps) (stmt_names a) in
+    let body : used_slots (stmt_notes inner a) ≡ slots_named s.entries names =
+    named-stmt inner a (owner_items s (in_task s slots) 0 ps) ∙ hidden inner.entries s.entries (item_ids ps) (stmt_names a) (hide_items s (in_task s slots) 0 ps) in
+    collected-members s.entries (task_names ps a) x
+    ∙ ap (is_in x) (slots_named-append s.entries (private_ids ps) names)
+    ∙ is_in-append x (slots_named s.entries (private_ids ps)) (slots_named s.entries names)
+    ∙ ap (λ (xs : List ℕ). is_in x (slots_named s.entries (private_ids ps)) || is_in x xs) (sym body)

@@ -1,6 +1,11 @@
 -- What a reader believes: the clauses of `check` and of the laws cite these.
+pub mod CapturedByUse
+pub mod Globals
+pub mod NameTokens
 pub mod Order
 pub mod Refusal
+pub mod Sums
+pub mod Told
 -- What restates the parts of the walk for their own contracts.
 pub mod Codes
 pub mod Findings
