@@ -1,0 +1,65 @@
+-- What the functions of a program give. A function knows those that stand before it in the text.
+use Rattle.std.specs.Prelude.{ℕ, zero, suc, ◌+◌, ◌==◌, false, if◌then◌else◌, List, [], ◌∷◌, ℤ, pos}
+use Rattle.cddf_meaning.specs.Answers.{Answer, Gives, Traps, Over, Number, number}
+use Rattle.cddf_meaning.specs.File.{File}
+use Rattle.cddf_meaning.specs.Flow.{Flow, GoesOn, Breaks, Continues, Returns, Ran, Went, Ended, Trapped, OverBudget, Limited}
+use Rattle.cddf_meaning.specs.Run.{Unit, run_all}
+use Rattle.cddf_meaning.specs.State.{state_of}
+use Rattle.cddf_meaning.specs.Variables.{bind}
+use Rattle.cddf_meaning.specs.declared.variable.Binding.{Binding}
+use Rattle.cddf_meaning.specs.declared.variable.Variable.TheVariants.{Constant, Function, Scalar}
+use Rattle.os_ast.specs.Names.{constant_value}
+use Rattle.os_ast.specs.Notes.Programs.{param_names}
+use Rattle.os_ast.specs.Trees as tree
+use Rattle.os_ast.specs.declared.expr.Name.{Name}
+
+-- A body that ends without a `return` gives 0.
+abbrev pub result_of : Flow → ℤ
+result_of (Returns v) = v
+result_of GoesOn = pos 0
+result_of Breaks = pos 0
+result_of Continues = pos 0
+
+-- Functions meet no limit.
+abbrev pub returned : Ran → Answer Number
+returned (Went flow s turns) = Gives (number (result_of flow) turns)
+returned (Ended (Trapped code line) activations) = Traps code line
+returned (Ended OverBudget activations) = Over
+returned (Ended (Limited n) activations) = Over
+
+-- each parameter is a scalar with the value of its argument; there are as many arguments as parameters
+abbrev pub bind_params : List Name → List ℤ → List Binding → List Binding
+bind_params [] vs bound = bound
+bind_params (n ∷ ns) [] bound = bind_params ns [] (bind n.id (Scalar (pos 0)) bound)
+bind_params (n ∷ ns) (v ∷ vs) bound = bind_params ns vs (bind n.id (Scalar v) bound)
+
+abbrev pub in_function : File → Unit
+in_function file = record { file = file; is_control = false; tasks = [] }
+
+-- A call takes a unit behind its arguments, and runs the body with the parameters set.
+abbrev pub call_function : File → tree.FunctionTree → List ℤ → ℕ → Answer Number
+call_function file f args zero = Over
+call_function file f args (suc turns) =
+    returned (run_all (in_function file) f.body (state_of (bind_params (param_names f.params) args []) []) turns)
+
+-- The file with one more item. A constant or a function is in scope behind it.
+abbrev pub with_item : File → tree.ItemTree → File
+with_item file (tree.Constant c) =
+    record file { names = bind c.name.id (Constant (constant_value c)) file.names; count = file.count + 1 }
+with_item file (tree.Function f) = record {
+  names = bind f.name.id (Function file.count) file.names;
+  count = file.count + 1;
+  calls = λ n args turns. if n == file.count then call_function file f args turns else file.calls n args turns;
+}
+
+abbrev pub with_items : File → List tree.ItemTree → File
+with_items file [] = file
+with_items file (i ∷ is) = with_items (with_item file i) is
+
+-- No function is called that isn't there.
+abbrev pub empty_file : File
+empty_file = record { names = []; count = 0; calls = λ n args turns. Over }
+
+-- what the first items of a file declare
+abbrev pub file_of : List tree.ItemTree → File
+file_of items = with_items empty_file items
