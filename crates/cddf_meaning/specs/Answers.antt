@@ -2,23 +2,28 @@
 use Rattle.std.specs.Prelude.{ℕ, ℤ, Result, Ok, Err}
 use Rattle.c_int.specs.Operators.{trap_code}
 use Rattle.c_int.specs.declared.trap.Trap.{Trap}
+use Rattle.cddf_meaning.specs.declared.ending.Ending.{Ending}
+use Rattle.cddf_meaning.specs.declared.ending.Ending.TheVariants.{Trapped, OverBudget}
 
--- It gives something; or it ends by a trap, with its code and line; or the turns are used up.
-pub data Answer (A : Type 0) : Type 0 where
-  Gives : A → Answer A
-  Traps : (code line : ℕ) → Answer A
-  Over : Answer A
+-- It gives something; or the body ends in it: by a trap, with its code and line, or because the turns are used up.
+abbrev pub Answer : Type 0 → Type 0
+Answer A = Result A Ending
+
+abbrev pub traps : {A : Type 0} → (code line : ℕ) → Answer A
+traps code line = Err (Trapped code line)
+
+abbrev pub over : {A : Type 0} → Answer A
+over = Err OverBudget
 
 -- what comes next, where something is given
 abbrev pub and_then : {A B : Type 0} → Answer A → (A → Answer B) → Answer B
-and_then (Gives a) next = next a
-and_then (Traps code line) next = Traps code line
-and_then Over next = Over
+and_then (Ok a) next = next a
+and_then (Err ending) next = Err ending
 
 -- what an operator gives, or its trap with the line of the operator
 abbrev pub at_line : ℕ → Result ℤ Trap → Answer ℤ
-at_line line (Ok v) = Gives v
-at_line line (Err trap) = Traps (trap_code trap) line
+at_line line (Ok v) = Ok v
+at_line line (Err trap) = traps (trap_code trap) line
 
 -- a number, and the turns that are left behind it
 pub record Number : Type 0 where
@@ -29,4 +34,4 @@ abbrev pub number : ℤ → ℕ → Number
 number v turns = record { value = v; turns = turns }
 
 abbrev pub with_turns : ℕ → Answer ℤ → Answer Number
-with_turns turns a = and_then a (λ v. Gives (number v turns))
+with_turns turns a = and_then a (λ v. Ok (number v turns))

@@ -2,13 +2,14 @@
 use Rattle.std.specs.Prelude.{ℕ, suc, ◌==◌, Bool, true, false, not, ◌&&◌, ◌||◌, if◌then◌else◌, ltb, List, [], ◌∷◌, ◌++◌, take, drop, replicate, slice_get, Option, Some, None, ℤ, pos, negsuc}
 use Rattle.std.specs.List.{list_all}
 use Rattle.cddf_meaning.specs.File.{File}
-use Rattle.cddf_meaning.specs.Flow.{Ran, Went, Ended, Trapped, OverBudget, Limited}
+use Rattle.cddf_meaning.specs.Flow.{Ran, Went, Ended}
 use Rattle.cddf_meaning.specs.Functions.{in_function}
 use Rattle.cddf_meaning.specs.Program.{Main, main_of}
 use Rattle.cddf_meaning.specs.Run.{run}
 use Rattle.cddf_meaning.specs.State.{state_of}
 use Rattle.cddf_meaning.specs.Tasks.{Task, tasks_of}
 use Rattle.cddf_meaning.specs.Variables.{bind}
+use Rattle.cddf_meaning.specs.declared.ending.Ending.TheVariants.{Trapped, OverBudget, Limited}
 use Rattle.cddf_meaning.specs.declared.variable.Binding.{Binding}
 use Rattle.cddf_meaning.specs.declared.variable.Variable.TheVariants.{Scalar, Item}
 use Rattle.flow_core.specs.Outcome.{Outcome}
@@ -77,7 +78,7 @@ over_budget = record { end = end.OverBudget; outputs = [] }
 -- of the pragma. `return` stands in no task, `break` and `continue` in its loops alone, and a task meets no limit.
 abbrev pub outcome : (line : ℕ) → List Claim → Ran → Outcome
 outcome line claims (Went flow s turns) = if gives_bytes claims s.items then done (written claims s.items) else trapped 5 line
-outcome line claims (Ended (Trapped code line') activations) = trapped code line'
+outcome line claims (Ended (Trapped code at) activations) = trapped code at
 outcome line claims (Ended OverBudget activations) = over_budget
 outcome line claims (Ended (Limited n) activations) = over_budget
 

@@ -1,16 +1,18 @@
 -- What the control program creates, and how it ends.
 use Rattle.std.specs.Prelude.{ℕ, true, List, [], ◌∷◌, Option, Some, None, pos}
-use Rattle.cddf_meaning.specs.Flow.{Ending, Ran, Went, Ended, Trapped, OverBudget, Limited}
+use Rattle.cddf_meaning.specs.Flow.{Ran, Went, Ended}
 use Rattle.cddf_meaning.specs.Program.{Main, main_of}
 use Rattle.cddf_meaning.specs.Run.{Unit, run_all}
 use Rattle.cddf_meaning.specs.State.{State}
 use Rattle.cddf_meaning.specs.Tasks.{tasks_of}
 use Rattle.cddf_meaning.specs.Variables.{bind}
+use Rattle.cddf_meaning.specs.declared.ending.Ending.TheVariants.{Trapped, OverBudget, Limited}
+use Rattle.cddf_meaning.specs.declared.ending.Ending.{Ending}
 use Rattle.cddf_meaning.specs.declared.variable.Binding.{Binding}
 use Rattle.cddf_meaning.specs.declared.variable.Variable.TheVariants.{Scalar, Stream}
 use Rattle.flow_core.specs.declared.control.Control.{Control}
-use Rattle.flow_core.specs.declared.control.ControlEnd.{ControlEnd}
 use Rattle.flow_core.specs.declared.control.ControlEnd.TheVariants as end
+use Rattle.flow_core.specs.declared.control.ControlEnd.{ControlEnd}
 use Rattle.os_ast.specs.Names.{osin_id, osout_id, osin_len_id}
 use Rattle.os_ast.specs.Trees as tree
 

@@ -1,23 +1,12 @@
 -- What a statement comes to, and what follows it. C11, 6.8.
-use Rattle.std.specs.Prelude.{ℕ, List, ℤ}
-use Rattle.cddf_meaning.specs.Answers.{Answer, Gives, Traps, Over}
+use Rattle.std.specs.Prelude.{ℕ, List, Ok, Err}
+use Rattle.cddf_meaning.specs.Answers.{Answer}
 use Rattle.cddf_meaning.specs.State.{State}
 use Rattle.cddf_meaning.specs.Variables.{leave}
+use Rattle.cddf_meaning.specs.declared.ending.Ending.{Ending}
+use Rattle.cddf_meaning.specs.declared.flow.Flow.TheVariants.{GoesOn, Breaks, Continues, Returns}
+use Rattle.cddf_meaning.specs.declared.flow.Flow.{Flow}
 use Rattle.flow_core.specs.declared.activation.Activation.{Activation}
-
--- what comes behind a statement
-pub data Flow : Type 0 where
-  GoesOn : Flow
-  Breaks : Flow
-  Continues : Flow
-  Returns : ℤ → Flow
-
--- How a body ends early: by a trap, with its code and line; because it is over budget; or, in the control program, by
--- a limit.
-pub data Ending : Type 0 where
-  Trapped : (code line : ℕ) → Ending
-  OverBudget : Ending
-  Limited : ℕ → Ending
 
 -- A statement leaves a state and turns behind it, or the body ends in it. What the control program created before its
 -- end stands.
@@ -31,9 +20,8 @@ Runs = State → ℕ → Ran
 
 -- where something is given, what follows; and else the end of the body
 abbrev pub given : {A : Type 0} → Answer A → State → (A → Ran) → Ran
-given (Gives a) s next = next a
-given (Traps code line) s next = Ended (Trapped code line) s.activations
-given Over s next = Ended OverBudget s.activations
+given (Ok a) s next = next a
+given (Err ending) s next = Ended ending s.activations
 
 abbrev pub goes_on : State → ℕ → Ran
 goes_on s turns = Went GoesOn s turns
@@ -44,7 +32,7 @@ flows next (Went GoesOn s turns) = next s turns
 flows next (Went Breaks s turns) = Went Breaks s turns
 flows next (Went Continues s turns) = Went Continues s turns
 flows next (Went (Returns v) s turns) = Went (Returns v) s turns
-flows next (Ended end activations) = Ended end activations
+flows next (Ended ending activations) = Ended ending activations
 
 -- Behind the body of a loop: `continue` goes on with it, and `break` leaves it. C11, 6.8.6.2 and 6.8.6.3.
 abbrev pub loops : Runs → Ran → Ran
@@ -52,7 +40,7 @@ loops next (Went GoesOn s turns) = next s turns
 loops next (Went Breaks s turns) = Went GoesOn s turns
 loops next (Went Continues s turns) = next s turns
 loops next (Went (Returns v) s turns) = Went (Returns v) s turns
-loops next (Ended end activations) = Ended end activations
+loops next (Ended ending activations) = Ended ending activations
 
 abbrev pub left_state : State → State → State
 left_state outer inner = record inner { bound = leave outer.bound inner.bound }
@@ -60,4 +48,4 @@ left_state outer inner = record inner { bound = leave outer.bound inner.bound }
 -- behind a scope: what was declared in it is gone
 abbrev pub left_from : State → Ran → Ran
 left_from outer (Went flow inner turns) = Went flow (left_state outer inner) turns
-left_from outer (Ended end activations) = Ended end activations
+left_from outer (Ended ending activations) = Ended ending activations

@@ -1,11 +1,13 @@
 -- What the functions of a program give. A function knows those that stand before it in the text.
-use Rattle.std.specs.Prelude.{ℕ, zero, suc, ◌+◌, ◌==◌, false, if◌then◌else◌, List, [], ◌∷◌, ℤ, pos}
-use Rattle.cddf_meaning.specs.Answers.{Answer, Gives, Traps, Over, Number, number}
+use Rattle.std.specs.Prelude.{ℕ, zero, suc, ◌+◌, ◌==◌, false, if◌then◌else◌, List, [], ◌∷◌, ℤ, pos, Ok, Err}
+use Rattle.cddf_meaning.specs.Answers.{Answer, over, Number, number}
 use Rattle.cddf_meaning.specs.File.{File}
-use Rattle.cddf_meaning.specs.Flow.{Flow, GoesOn, Breaks, Continues, Returns, Ran, Went, Ended, Trapped, OverBudget, Limited}
+use Rattle.cddf_meaning.specs.Flow.{Ran, Went, Ended}
 use Rattle.cddf_meaning.specs.Run.{Unit, run_all}
 use Rattle.cddf_meaning.specs.State.{state_of}
 use Rattle.cddf_meaning.specs.Variables.{bind}
+use Rattle.cddf_meaning.specs.declared.flow.Flow.TheVariants.{GoesOn, Breaks, Continues, Returns}
+use Rattle.cddf_meaning.specs.declared.flow.Flow.{Flow}
 use Rattle.cddf_meaning.specs.declared.variable.Binding.{Binding}
 use Rattle.cddf_meaning.specs.declared.variable.Variable.TheVariants.{Constant, Function, Scalar}
 use Rattle.os_ast.specs.Names.{constant_value}
@@ -20,12 +22,9 @@ result_of GoesOn = pos 0
 result_of Breaks = pos 0
 result_of Continues = pos 0
 
--- Functions meet no limit.
 abbrev pub returned : Ran → Answer Number
-returned (Went flow s turns) = Gives (number (result_of flow) turns)
-returned (Ended (Trapped code line) activations) = Traps code line
-returned (Ended OverBudget activations) = Over
-returned (Ended (Limited n) activations) = Over
+returned (Went flow s turns) = Ok (number (result_of flow) turns)
+returned (Ended ending activations) = Err ending
 
 -- each parameter is a scalar with the value of its argument; there are as many arguments as parameters
 abbrev pub bind_params : List Name → List ℤ → List Binding → List Binding
@@ -38,7 +37,7 @@ in_function file = record { file = file; is_control = false; tasks = [] }
 
 -- A call takes a unit behind its arguments, and runs the body with the parameters set.
 abbrev pub call_function : File → tree.FunctionTree → List ℤ → ℕ → Answer Number
-call_function file f args zero = Over
+call_function file f args zero = over
 call_function file f args (suc turns) =
     returned (run_all (in_function file) f.body (state_of (bind_params (param_names f.params) args []) []) turns)
 
@@ -58,7 +57,7 @@ with_items file (i ∷ is) = with_items (with_item file i) is
 
 -- No function is called that isn't there.
 abbrev pub empty_file : File
-empty_file = record { names = []; count = 0; calls = λ n args turns. Over }
+empty_file = record { names = []; count = 0; calls = λ n args turns. over }
 
 -- what the first items of a file declare
 abbrev pub file_of : List tree.ItemTree → File

@@ -1,17 +1,17 @@
 -- The operators of the trees as operators on numbers. The line of a trap is the operator's.
-use Rattle.std.specs.Prelude.{ℕ, ℤ, pos, Option, Some, None}
+use Rattle.std.specs.Prelude.{ℕ, ℤ, pos, Option, Some, None, Ok}
 use Rattle.c_int.specs.Operators as c_int
 use Rattle.c_int.specs.declared.operators.Binary as int_binary
 use Rattle.c_int.specs.declared.operators.Binary.TheVariants as two
 use Rattle.c_int.specs.declared.operators.Unary as int_unary
 use Rattle.c_int.specs.declared.operators.Unary.TheVariants as one
-use Rattle.cddf_meaning.specs.Answers.{Answer, Gives, at_line}
-use Rattle.os_ast.specs.declared.expr.Binary.{Binary}
+use Rattle.cddf_meaning.specs.Answers.{Answer, at_line}
 use Rattle.os_ast.specs.declared.expr.Binary.TheVariants as binary
-use Rattle.os_ast.specs.declared.expr.Unary.{Unary}
+use Rattle.os_ast.specs.declared.expr.Binary.{Binary}
 use Rattle.os_ast.specs.declared.expr.Unary.TheVariants as unary
-use Rattle.os_ast.specs.declared.stmt.Step.{Step}
+use Rattle.os_ast.specs.declared.expr.Unary.{Unary}
 use Rattle.os_ast.specs.declared.stmt.Step.TheVariants as step
+use Rattle.os_ast.specs.declared.stmt.Step.{Step}
 
 abbrev pub operator_of_one : Unary → int_unary.Unary
 operator_of_one unary.Minus = one.Minus
@@ -45,7 +45,7 @@ unary_value op line a = at_line line (c_int.unary_value (operator_of_one op) a)
 
 -- an operator that is none is never asked
 abbrev pub operated : Option int_binary.Binary → ℕ → ℤ → ℤ → Answer ℤ
-operated None line a b = Gives (pos 0)
+operated None line a b = Ok (pos 0)
 operated (Some op) line a b = at_line line (c_int.binary_value op a b)
 
 abbrev pub binary_value : Binary → ℕ → ℤ → ℤ → Answer ℤ

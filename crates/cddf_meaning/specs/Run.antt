@@ -1,20 +1,22 @@
 -- What a statement does. C11, 6.8; the declarations and pragmas of the control program by the rules of streams.
-use Rattle.std.specs.Prelude.{ℕ, zero, suc, Bool, if◌then◌else◌, leb, ◌&&◌, List, [], ◌∷◌, ◌++◌, length, get_or, replicate, Option, Some, None, ℤ, pos, negsuc, unwrap_or}
+use Rattle.std.specs.Prelude.{ℕ, zero, suc, Bool, if◌then◌else◌, leb, ◌&&◌, List, [], ◌∷◌, ◌++◌, length, get_or, replicate, Option, Some, None, ℤ, pos, negsuc, unwrap_or, Ok}
 use Rattle.c_int.specs.Operators.{is_zero}
-use Rattle.cddf_meaning.specs.Answers.{Answer, Gives, Traps, and_then, Number, number, with_turns}
+use Rattle.cddf_meaning.specs.Answers.{Answer, traps, and_then, Number, number, with_turns}
 use Rattle.cddf_meaning.specs.File.{File, variable}
-use Rattle.cddf_meaning.specs.Flow.{Breaks, Continues, Returns, Went, Ended, OverBudget, Runs, given, goes_on, flows, loops, left_from}
+use Rattle.cddf_meaning.specs.Flow.{Went, Ended, Runs, given, goes_on, flows, loops, left_from}
 use Rattle.cddf_meaning.specs.Operators.{binary_value, step_operator}
 use Rattle.cddf_meaning.specs.State.{State, declared, stored, stored_at}
 use Rattle.cddf_meaning.specs.Streams.{run_task, run_tick, task_number}
 use Rattle.cddf_meaning.specs.Tasks.{Task}
 use Rattle.cddf_meaning.specs.Value.{value, values, call_value, scalar_value, elements, checked}
+use Rattle.cddf_meaning.specs.declared.ending.Ending.TheVariants.{OverBudget}
+use Rattle.cddf_meaning.specs.declared.flow.Flow.TheVariants.{Breaks, Continues, Returns}
 use Rattle.cddf_meaning.specs.declared.variable.Variable.TheVariants.{Scalar, Array, Window, Stream}
 use Rattle.os_ast.specs.Notes.Clauses.{parts}
 use Rattle.os_ast.specs.Notes.Declarators.{within_limit}
 use Rattle.os_ast.specs.Trees as tree
-use Rattle.os_ast.specs.declared.stmt.Assign.{Assign}
 use Rattle.os_ast.specs.declared.stmt.Assign.TheVariants as assign_of
+use Rattle.os_ast.specs.declared.stmt.Assign.{Assign}
 
 -- What is round a body: the items of the file before it; whether it is the control program, whose array declarations
 -- are windows; and the tasks of the program.
@@ -35,7 +37,7 @@ loop (suc most) test body step s (suc turns) =
 
 -- what is stored: the right side, or what the operator gives of the old value and the right side
 abbrev pub operated : Assign → ℕ → ℤ → ℤ → Answer ℤ
-operated assign_of.Plain line old new = Gives new
+operated assign_of.Plain line old new = Ok new
 operated (assign_of.With op) line old new = binary_value op line old new
 
 -- A change of a target: its index is evaluated and checked; then the right side is evaluated, which may know the old
@@ -76,8 +78,8 @@ run_array file id size s turns =
 
 -- The size of a window is 1 to 65,536; else it is trap 6, with the line of its `[`.
 abbrev pub window_size : ℕ → ℤ → Answer ℕ
-window_size line (pos n) = if leb 1 n && leb n 65536 then Gives n else Traps 6 line
-window_size line (negsuc n) = Traps 6 line
+window_size line (pos n) = if leb 1 n && leb n 65536 then Ok n else traps 6 line
+window_size line (negsuc n) = traps 6 line
 
 abbrev pub run_window : File → ℕ → tree.IndexTree → Runs
 run_window file id i s turns =
@@ -115,7 +117,7 @@ run_start u (tree.StartTree.Change c) s turns = run_change u.file c s turns
 
 -- Without a test a loop goes on.
 abbrev pub run_test : File → Option tree.ExprTree → State → ℕ → Answer Number
-run_test file None s turns = Gives (number (pos 1) turns)
+run_test file None s turns = Ok (number (pos 1) turns)
 run_test file (Some e) s turns = value file e s turns
 
 abbrev pub run_step : File → Option tree.ChangeTree → Runs

@@ -2,8 +2,8 @@
 use Rattle.std.specs.Prelude.{ℕ, List, [], get_or, set, Option, Some, ℤ}
 use Rattle.cddf_meaning.specs.Variables.{find, assign, bind}
 use Rattle.cddf_meaning.specs.declared.variable.Binding.{Binding}
-use Rattle.cddf_meaning.specs.declared.variable.Variable.{Variable}
 use Rattle.cddf_meaning.specs.declared.variable.Variable.TheVariants.{Scalar, Array, Item}
+use Rattle.cddf_meaning.specs.declared.variable.Variable.{Variable}
 use Rattle.flow_core.specs.declared.activation.Activation.{Activation}
 
 pub record State : Type 0 where

@@ -1,20 +1,21 @@
 -- What the control program does with streams: clause items, tasks and ticks.
-use Rattle.std.specs.Prelude.{ℕ, zero, suc, ◌+◌, ◌==◌, if◌then◌else◌, leb, List, [], ◌∷◌, ◌++◌, map, get_or, position, Option, Some, None, ℤ, pos, negsuc}
-use Rattle.cddf_meaning.specs.Answers.{Answer, Gives, Traps, and_then}
+use Rattle.std.specs.Prelude.{ℕ, zero, suc, ◌+◌, ◌==◌, if◌then◌else◌, leb, List, [], ◌∷◌, ◌++◌, map, get_or, position, Option, Some, None, ℤ, pos, negsuc, Ok}
+use Rattle.cddf_meaning.specs.Answers.{Answer, traps, and_then}
 use Rattle.cddf_meaning.specs.Claims.{read_claim, write_claim, ticked, with_skips, skips_behind_all, limit}
 use Rattle.cddf_meaning.specs.File.{File, variable}
-use Rattle.cddf_meaning.specs.Flow.{Ran, Ended, Limited, OverBudget, given, goes_on}
+use Rattle.cddf_meaning.specs.Flow.{Ran, Ended, given, goes_on}
 use Rattle.cddf_meaning.specs.State.{State}
 use Rattle.cddf_meaning.specs.Tasks.{Task}
 use Rattle.cddf_meaning.specs.Value.{value, checked, scalar_value}
-use Rattle.cddf_meaning.specs.declared.variable.Variable.{Variable}
+use Rattle.cddf_meaning.specs.declared.ending.Ending.TheVariants.{OverBudget, Limited}
 use Rattle.cddf_meaning.specs.declared.variable.Variable.TheVariants.{Window, Stream}
+use Rattle.cddf_meaning.specs.declared.variable.Variable.{Variable}
 use Rattle.flow_core.specs.declared.claim.Claim.{Claim}
 use Rattle.os_ast.specs.Notes.Clauses.{Part, Item, Private}
 use Rattle.os_ast.specs.Trees as tree
 use Rattle.os_ast.specs.declared.expr.Mark.{Mark}
-use Rattle.os_ast.specs.declared.names.Direction.{Direction}
 use Rattle.os_ast.specs.declared.names.Direction.TheVariants as direction
+use Rattle.os_ast.specs.declared.names.Direction.{Direction}
 
 -- a count, and the turns that are left behind its evaluation
 pub record Count : Type 0 where
@@ -22,7 +23,7 @@ pub record Count : Type 0 where
   pub turns : ℕ
 
 abbrev pub count_with : ℕ → ℕ → Answer Count
-count_with turns n = Gives record { count = n; turns = turns }
+count_with turns n = Ok record { count = n; turns = turns }
 
 -- The numbers of a stream or an array of streams. Nothing else stands for a stream.
 abbrev pub first_stream : Option Variable → ℕ
@@ -43,13 +44,13 @@ stream_number file (tree.Element n m e) s turns =
 
 -- A cursor moves by 0 to 65,536; else it is trap 7.
 abbrev pub cursor_move : ℕ → ℤ → Answer ℕ
-cursor_move line (pos n) = if leb n 65536 then Gives n else Traps 7 line
-cursor_move line (negsuc n) = Traps 7 line
+cursor_move line (pos n) = if leb n 65536 then Ok n else traps 7 line
+cursor_move line (negsuc n) = traps 7 line
 
 -- The burst of an output window is its horizon; else it is trap 8.
 abbrev pub output_burst : (line horizon : ℕ) → ℤ → Answer ℕ
-output_burst line horizon (pos n) = if n == horizon then Gives n else Traps 8 line
-output_burst line horizon (negsuc n) = Traps 8 line
+output_burst line horizon (pos n) = if n == horizon then Ok n else traps 8 line
+output_burst line horizon (negsuc n) = traps 8 line
 
 abbrev pub burst_of : Direction → (line horizon : ℕ) → ℤ → Answer ℕ
 burst_of direction.Reads line horizon v = cursor_move line v
@@ -70,7 +71,7 @@ claim_of direction.Reads stream horizon burst = read_claim stream horizon burst
 claim_of direction.Writes stream horizon burst = write_claim stream horizon
 
 abbrev pub claimed : Direction → (stream horizon : ℕ) → Count → Answer Claimed
-claimed d stream horizon burst = Gives record { claim = claim_of d stream horizon burst.count; turns = burst.turns }
+claimed d stream horizon burst = Ok record { claim = claim_of d stream horizon burst.count; turns = burst.turns }
 
 -- the burst of an item: 1 without one; else it is evaluated and checked, with the line of its `[`
 abbrev pub burst : File → Direction → ℕ → Option tree.IndexTree → State → ℕ → Answer Count
@@ -96,11 +97,11 @@ pub record AllClaimed : Type 0 where
 
 -- The items of a task, one after another.
 abbrev pub items_claims : File → List Part → State → ℕ → Answer AllClaimed
-items_claims file [] s turns = Gives record { claims = []; turns = turns }
+items_claims file [] s turns = Ok record { claims = []; turns = turns }
 items_claims file (Private n ∷ ps) s turns = items_claims file ps s turns
 items_claims file (Item d i ∷ ps) s turns =
     and_then (item_claim file d i s turns)
-    (λ c. and_then (items_claims file ps s c.turns) (λ cs. Gives record { claims = c.claim ∷ cs.claims; turns = cs.turns }))
+    (λ c. and_then (items_claims file ps s c.turns) (λ cs. Ok record { claims = c.claim ∷ cs.claims; turns = cs.turns }))
 
 -- the values of captured scalars
 abbrev pub captured_values : File → State → List ℕ → List ℤ
