@@ -25,13 +25,13 @@ abbrev pub at_line : ℕ → Result ℤ Trap → Answer ℤ
 at_line line (Ok v) = Ok v
 at_line line (Err trap) = traps (trap_code trap) line
 
--- a number, and the turns that are left behind it
-pub record Number : Type 0 where
-  pub value : ℤ
+-- Something, and the turns that are left behind it. A turn is a unit of the budget.
+pub record Left (A : Type 0) : Type 0 where
+  pub value : A
   pub turns : ℕ
 
-abbrev pub number : ℤ → ℕ → Number
-number v turns = record { value = v; turns = turns }
+abbrev pub left : {A : Type 0} → A → ℕ → Left A
+left v turns = record { value = v; turns = turns }
 
-abbrev pub with_turns : ℕ → Answer ℤ → Answer Number
-with_turns turns a = and_then a (λ v. Ok (number v turns))
+abbrev pub with_turns : {A : Type 0} → ℕ → Answer A → Answer (Left A)
+with_turns turns a = and_then a (λ v. Ok (left v turns))

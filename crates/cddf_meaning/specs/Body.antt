@@ -19,7 +19,7 @@ use Rattle.flow_core.specs.declared.task_end.TaskEnd.TheVariants as end
 use Rattle.os_ast.specs.Notes.Clauses as clauses
 use Rattle.os_ast.specs.Trees as tree
 
--- The captured scalars, by their names; each has its value.
+-- The captured scalars, by their names. An activation that fits its task has a value for each.
 abbrev pub bind_captured : List ℕ → List ℤ → List Binding → List Binding
 bind_captured [] vs bound = bound
 bind_captured (id ∷ ids) [] bound = bind_captured ids [] (bind id (Scalar (pos 0)) bound)
@@ -36,14 +36,15 @@ bind_items item (clauses.Private n ∷ ps) bound = bind_items item ps bound
 abbrev pub bound_round : Task → List ℤ → List Binding
 bound_round t values = bind_items 0 t.parts (bind_captured t.captured values [])
 
--- The elements of the items: an input item has the next elements of the input, an output item is 0 at first.
-abbrev pub item_elements : List Claim → List ℤ → List (List ℤ)
-item_elements [] inputs = []
-item_elements (c ∷ cs) inputs =
-    if c.write then replicate c.horizon (pos 0) ∷ item_elements cs inputs
-    else take c.horizon inputs ∷ item_elements cs (drop c.horizon inputs)
+-- The elements of the items, each as many as its claim's horizon: an input item has the next elements of the input, an
+-- output item is 0 at first. The input has the sum of the read horizons as length.
+abbrev pub item_lists : List Claim → List ℤ → List (List ℤ)
+item_lists [] inputs = []
+item_lists (c ∷ cs) inputs =
+    if c.write then replicate c.horizon (pos 0) ∷ item_lists cs inputs
+    else take c.horizon inputs ∷ item_lists cs (drop c.horizon inputs)
 
--- the elements of the output items, one item after another
+-- The elements of the output items, one item after another; each has as many as its claim's horizon.
 abbrev pub written : List Claim → List (List ℤ) → List ℤ
 written [] items = []
 written (c ∷ cs) [] = []
@@ -86,7 +87,7 @@ outcome line claims (Ended (Limited n) activations) = over_budget
 abbrev pub task_outcome : File → Task → Activation → List ℤ → ℕ → Outcome
 task_outcome file t a inputs budget =
     outcome t.mark.line a.claims
-    (run (in_function file) t.body (state_of (bound_round t a.captured) (item_elements a.claims inputs)) budget)
+    (run (in_function file) t.body (state_of (bound_round t a.captured) (item_lists a.claims inputs)) budget)
 
 -- An activation is of one of the tasks.
 abbrev pub chosen_outcome : File → Option Task → Activation → List ℤ → ℕ → Outcome

@@ -15,10 +15,11 @@ write_claim stream horizon = record { stream = stream; write = true; horizon = h
 abbrev pub ticked : List ℕ → ℕ → ℕ → List ℕ
 ticked skips stream amount = set skips stream (get_or skips stream 0 + amount)
 
--- A read claim takes what ticks took from its stream since the last read claim on it; behind it nothing is left of that.
+-- A read claim takes what ticks took from its stream since the last read claim on it.
 abbrev pub with_skip : List ℕ → Claim → Claim
 with_skip skips c = if c.write then c else record c { skip = get_or skips c.stream 0 }
 
+-- behind a read claim no tick is left on its stream
 abbrev pub skips_behind : List ℕ → Claim → List ℕ
 skips_behind skips c = if c.write then skips else set skips c.stream 0
 
@@ -27,6 +28,7 @@ abbrev pub with_skips : List ℕ → List Claim → List Claim
 with_skips skips [] = []
 with_skips skips (c ∷ cs) = with_skip skips c ∷ with_skips (skips_behind skips c) cs
 
+-- behind the claims of one activation
 abbrev pub skips_behind_all : List ℕ → List Claim → List ℕ
 skips_behind_all skips [] = skips
 skips_behind_all skips (c ∷ cs) = skips_behind_all (skips_behind skips c) cs

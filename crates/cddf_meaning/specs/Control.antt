@@ -2,9 +2,9 @@
 use Rattle.std.specs.Prelude.{ℕ, true, List, [], ◌∷◌, Option, Some, None, pos}
 use Rattle.cddf_meaning.specs.Flow.{Ran, Went, Ended}
 use Rattle.cddf_meaning.specs.Program.{Main, main_of}
-use Rattle.cddf_meaning.specs.Run.{Unit, run_all}
+use Rattle.cddf_meaning.specs.Run.{Around, run_all}
 use Rattle.cddf_meaning.specs.State.{State}
-use Rattle.cddf_meaning.specs.Tasks.{tasks_of}
+use Rattle.cddf_meaning.specs.Tasks.{sites_of, tasks_of}
 use Rattle.cddf_meaning.specs.Variables.{bind}
 use Rattle.cddf_meaning.specs.declared.ending.Ending.TheVariants.{Trapped, OverBudget, Limited}
 use Rattle.cddf_meaning.specs.declared.ending.Ending.{Ending}
@@ -26,8 +26,8 @@ abbrev pub control_of : Ran → Control
 control_of (Went flow s turns) = record { activations = s.activations; end = end.Done }
 control_of (Ended end activations) = record { activations = activations; end = control_end end }
 
-abbrev pub control_unit : Main → Unit
-control_unit m = record { file = m.file; is_control = true; tasks = tasks_of m.body }
+abbrev pub round_main : Main → Around
+round_main m = record { file = m.file; is_control = true; sites = sites_of (tasks_of m.body) }
 
 -- round the body of `main`: `osin`, which is stream 0, `osout`, which is stream 1, and `osin_len`
 abbrev pub bound_round_main : (input_len : ℕ) → List Binding
@@ -40,7 +40,7 @@ control_state input_len =
 -- A program has a function `main`.
 abbrev pub control_in : Option Main → (input_len budget : ℕ) → Control
 control_in None input_len budget = record { activations = []; end = end.Done }
-control_in (Some m) input_len budget = control_of (run_all (control_unit m) m.body (control_state input_len) budget)
+control_in (Some m) input_len budget = control_of (run_all (round_main m) m.body (control_state input_len) budget)
 
 -- the activations that the control program creates, in order, and its end
 abbrev pub control : tree.ProgramTree → (input_len budget : ℕ) → Control

@@ -1,6 +1,6 @@
 -- What a body sees of the file: the constants and functions that were declared before it.
 use Rattle.std.specs.Prelude.{ℕ, List, Option, Some, None, ℤ}
-use Rattle.cddf_meaning.specs.Answers.{Answer, Number}
+use Rattle.cddf_meaning.specs.Answers.{Answer, Left}
 use Rattle.cddf_meaning.specs.State.{State}
 use Rattle.cddf_meaning.specs.Variables.{find}
 use Rattle.cddf_meaning.specs.declared.variable.Binding.{Binding}
@@ -8,7 +8,7 @@ use Rattle.cddf_meaning.specs.declared.variable.Variable.{Variable}
 
 -- what a function gives: by its place among the items of the file, its arguments, and the turns that are left
 abbrev pub Calls : Type 0
-Calls = ℕ → List ℤ → ℕ → Answer Number
+Calls = ℕ → List ℤ → ℕ → Answer (Left ℤ)
 
 pub record File : Type 0 where
   pub names : List Binding

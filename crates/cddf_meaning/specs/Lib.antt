@@ -15,3 +15,6 @@ pub mod Functions
 pub mod Program
 pub mod Body
 pub mod Control
+-- what laws say
+pub mod Moves
+pub mod Skips

@@ -40,16 +40,18 @@ operator_of_two binary.Multiply = Some two.Multiply
 operator_of_two binary.Divide = Some two.Divide
 operator_of_two binary.Remainder = Some two.Remainder
 
+-- what an operator with one operand gives
 abbrev pub unary_value : Unary → ℕ → ℤ → Answer ℤ
 unary_value op line a = at_line line (c_int.unary_value (operator_of_one op) a)
 
--- an operator that is none is never asked
-abbrev pub operated : Option int_binary.Binary → ℕ → ℤ → ℤ → Answer ℤ
-operated None line a b = Ok (pos 0)
-operated (Some op) line a b = at_line line (c_int.binary_value op a b)
+-- An operator that is none is never asked.
+abbrev pub given_by : Option int_binary.Binary → ℕ → ℤ → ℤ → Answer ℤ
+given_by None line a b = Ok (pos 0)
+given_by (Some op) line a b = at_line line (c_int.binary_value op a b)
 
+-- what an operator with two operands gives that are both evaluated
 abbrev pub binary_value : Binary → ℕ → ℤ → ℤ → Answer ℤ
-binary_value op line a b = operated (operator_of_two op) line a b
+binary_value op line a b = given_by (operator_of_two op) line a b
 
 -- `++` adds 1, and `--` takes 1.
 abbrev pub step_operator : Step → Binary

@@ -1,6 +1,7 @@
 -- The tasks of a program, in the order of the text.
-use Rattle.std.specs.Prelude.{ℕ, true, false, not, ◌&&◌, List, [], ◌∷◌, ◌++◌, is_none}
+use Rattle.std.specs.Prelude.{ℕ, true, false, not, ◌&&◌, List, [], ◌∷◌, ◌++◌, is_none, map}
 use Rattle.cddf_meaning.specs.Captured.{Known, known, captured, wanted}
+use Rattle.cddf_meaning.specs.declared.site.Site.{Site}
 use Rattle.os_ast.specs.Names.{osin_id, osout_id, osin_len_id}
 use Rattle.os_ast.specs.Notes.Clauses.{Part, parts}
 use Rattle.os_ast.specs.Trees as tree
@@ -67,3 +68,7 @@ known_round_main = known osin_len_id true ∷ known osout_id false ∷ known osi
 -- the tasks of the control program with this body
 abbrev pub tasks_of : tree.Stmts → List Task
 tasks_of body = tasks_in_all known_round_main body
+
+-- the tasks as their pragmas find them
+abbrev pub sites_of : List Task → List Site
+sites_of tasks = map (λ (t : Task). record { place = t.mark.place; captured = t.captured }) tasks

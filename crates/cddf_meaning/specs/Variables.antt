@@ -17,6 +17,7 @@ abbrev pub assign : List Binding → ℕ → Variable → List Binding
 assign [] id v = []
 assign (b ∷ bound) id v = if b.id == id then bind b.id v bound else b ∷ assign bound id v
 
--- Behind a scope what was declared in it is gone: what was declared before it are the last of the list.
+-- Behind a scope what was declared in it is gone. What was declared before it stands at the end of the list, with the
+-- values that it has now.
 abbrev pub leave : List Binding → List Binding → List Binding
 leave outer inner = drop (length inner - length outer) inner

@@ -6,7 +6,7 @@ pub enum Variable {
     /// A constant of the file, with its value.
     Constant(i32),
     /// A function of the file, with its place among the items of the file.
-    Function(u32),
+    Function(usize),
     /// A scalar, with its value.
     Scalar(i32),
     /// A local array, with its elements.
@@ -16,7 +16,7 @@ pub enum Variable {
     /// A stream or an array of streams, by the first number and how many they are.
     Stream { first: u32, count: u32 },
     /// In a task's body the item with this number, in the order of the clauses.
-    Item(u32),
+    Item(usize),
 }
 
 /// A declaration: a name and what it stands for.
