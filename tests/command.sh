@@ -3,6 +3,8 @@
 set -u
 top=$(cd "$(dirname "${BASH_SOURCE[0]}")/.." && pwd)
 osrun=$top/osrun
+program=$top/crates/osrun/out/osrun
+"$top/build" || exit 1
 work=$(mktemp -d)
 trap 'rm -rf "$work"' EXIT
 passed=0
@@ -82,6 +84,42 @@ check "a full standard error" 6 04030201 ""
 status=$?
 : >"$work/report"
 check "a refusal and a full standard error" 3 "" ""
+
+# The stored run makes 39 allocations. Whichever of them fails, the status is 7 and nothing is written, but for
+# the 7th, without which the run is whole.
+compiler=$(command -v cc || command -v clang || echo "$(dirname "$(readlink -f "$(command -v rt)")")/../toolchain/bin/clang")
+"$compiler" -shared -fPIC -nostdlib -O1 -o failing_allocation.so "$top/tests/failing_allocation.c"
+for number in $(seq 1 45); do
+    LD_PRELOAD=$work/failing_allocation.so FAILING_ALLOCATION=$number "$program" run first.c in.bin >out 2>report
+    status=$?
+    if [ "$number" = 7 ] || [ "$number" -gt 39 ]; then
+        check "allocation $number fails" 0 04030201 "control done / output 4 of 4"
+    else
+        check "allocation $number fails" 7 "" ""
+    fi
+done
+
+# Where the program isn't built, or was built from another commit, the toolchain runs it, and the first line says so.
+copy=$work/copy
+mkdir "$copy"
+(cd "$top" && tar --exclude=out --exclude=.git -cf - .) | tar -C "$copy" -xf -
+run_copy() {
+    "$copy/osrun" "$@" >"$work/out" 2>"$work/said"
+    status=$?
+    head -n 1 "$work/said" | grep -q "hasn't proved" || status="$status, not told"
+    tail -n +2 "$work/said" >"$work/report"
+}
+run_copy run first.c short.bin
+check "a program that isn't built" 1 "" "starved 0 stream 0 position 2 producer none / control done / output 0 of 4"
+mkdir -p "$copy/crates/osrun/out"
+printf '#!/bin/sh\necho old\n' >"$copy/crates/osrun/out/osrun"
+chmod +x "$copy/crates/osrun/out/osrun"
+echo another >"$copy/crates/osrun/out/osrun.stamp"
+run_copy run "$work/first.c" "$work/in.bin"
+check "a program of another commit" 0 04030201 "control done / output 4 of 4"
+(cd "$work/folder" && PATH=/usr/bin:/bin "$copy/osrun" run ../first.c ../in.bin >"$work/out" 2>"$work/report")
+status=$?
+check "no toolchain" 69 "" "osrun: the command rt of the Rattle kit isn't here; README.md, \"Two commands\", says what it is for"
 
 echo "$passed passed, $failed failed"
 [ "$failed" = 0 ]

@@ -1,11 +1,10 @@
 -- What `%` gives where `/` gives something.
-use Rattle.std.proofs.Common.{◌≡◌, ℕ, ◌+◌, ◌<◌, ◌≤◌, ◌^◌, Bool, true, false, ltb, if◌then◌else◌, refl, ap, ◌∙◌, sym, arith, ℤ, pos, negsuc, ◌+ℤ◌, ◌-ℤ◌, ◌*ℤ◌, Result, Ok, Err, FitsSigned}
+use Rattle.std.proofs.Common.{◌≡◌, ◌<◌, ◌^◌, Bool, true, false, if◌then◌else◌, ap, arith, ℤ, pos, negsuc, ◌-ℤ◌, ◌*ℤ◌, Ok, Err}
 use Rattle.std.specs.Prelude.{int_div, int_rem}
-use Rattle.std.specs.Int.{w32}
 use Rattle.std.specs.Int.Signed.{mag, mag_rem}
 use Rattle.std.proofs.lemmas.Int.{quot-rem}
 use Rattle.std.proofs.lemmas.Bool.{lt-ltb}
-use Rattle.c_int.specs.Operators.{Operated, fitting, is_int, is_zero, quotient, remainder}
+use Rattle.c_int.specs.Operators.{fitting, is_int, is_zero, quotient, remainder}
 use Rattle.c_int.specs.declared.trap.Trap.TheVariants.{Overflow, DivisorZero}
 
 small : (z : ℤ) → mag z < 2 ^ 31 → is_int z ≡ true

@@ -9,6 +9,7 @@
 mod arithmetic;
 mod bits;
 mod comparison;
+pub mod laws;
 mod operators;
 mod trap;
 

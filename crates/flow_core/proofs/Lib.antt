@@ -6,6 +6,8 @@ pub mod Rounds
 pub mod Showing
 pub mod Running
 pub mod Examples
+pub mod Stretches
 pub mod Windows
+pub mod There
 pub mod Orders
 pub mod SoundTests

@@ -4,7 +4,8 @@ use Rattle.std.specs.Option.{option_map, option_or}
 use Rattle.std.proofs.lemmas.List.{length-replicate, get_or-replicate, get_or_past, get_or_default, same_lists}
 use Rattle.std.proofs.lemmas.List.FromFn.{get_or-map-range_with_len, length-map-range_with_len}
 use Rattle.std.proofs.lemmas.Bool.{cases_lt}
-use Rattle.flow_core.specs.Outcome.{Outcome, State, outcome_at}
+use Rattle.flow_core.specs.declared.outcome.Outcome.{Outcome}
+use Rattle.flow_core.specs.Outcome.{State, outcome_at}
 use Rattle.flow_core.specs.Element.{Source, given, fed, nobody, element, output_at}
 use Rattle.flow_core.proofs.Gathering.{gathered-weaker}
 use Rattle.flow_core.specs.Round.{gathered, inputs_in, after_round, round, rounds, meaning}

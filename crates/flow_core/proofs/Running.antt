@@ -1,6 +1,6 @@
 -- A run from its opening to its end.
 use Rattle.std.proofs.Common.{◌≡◌, ◌≢◌, ℕ, zero, suc, ◌+◌, ◌-◌, ◌<◌, ◌≤◌, ℤ, List, [], ◌∷◌, Option, Some, None, Bool, true, false, cond, map, length, get_or, set, refl, sym, ap, ◌∙◌, subst, ◌⊎◌, inl, inr, arith}
-use Rattle.std.specs.Prelude.{slice_get, is_some, is_none, option_and_then, find, count_by}
+use Rattle.std.specs.Prelude.{slice_get, is_some, is_none, option_and_then, count_by}
 use Rattle.std.specs.Option.{option_map, option_map_or}
 use Rattle.std.specs.List.{range_with_len}
 use Rattle.std.proofs.lemmas.Bool.{cases_lt, cases_eq}
@@ -13,10 +13,11 @@ use Rattle.flow_core.specs.declared.plan.Plan.{Plan}
 use Rattle.flow_core.specs.declared.board.Board.{Board}
 use Rattle.flow_core.specs.declared.task_end.TaskEnd.{TaskEnd}
 use Rattle.flow_core.specs.declared.waits.Waits.{Waits}
-use Rattle.flow_core.specs.Outcome.{Outcome, State, outcome_at, delivered, ends_of}
+use Rattle.flow_core.specs.declared.outcome.Outcome.{Outcome}
+use Rattle.flow_core.specs.Outcome.{State, outcome_at, ends_of}
 use Rattle.flow_core.specs.Element.{Source, given, fed, nobody, element, output_at}
 use Rattle.flow_core.specs.Round.{gathered}
-use Rattle.flow_core.specs.Plans.{frame_at, cells_of, value_at, cell_source, is_covered_by, plan_reads, plan_meaning, sink_elements}
+use Rattle.flow_core.specs.Plans.{frame_at, cells_of, value_at, cell_source, piece_at, plan_reads, plan_meaning, sink_elements}
 use Rattle.flow_core.specs.IsSound.{IsSound}
 use Rattle.flow_core.specs.Waits.{OpensFull, OpensMore}
 use Rattle.flow_core.specs.Counted.{IsCounted}
@@ -35,7 +36,7 @@ no_end (p ∷ ps) (suc f) = no_end ps f
 -- a cell shows its value at opening, and nothing else
 shown_at_opening : (plan : Plan) (m : State) (c : ℕ) → value_at plan.filled c ≡ shown (map (λ (p : FramePlan). None) plan.frames) m (cell_source plan c)
 unfolding cell_source
-shown_at_opening plan m c = by_value (value_at plan.filled c) (find (is_covered_by c) plan.pieces)
+shown_at_opening plan m c = by_value (value_at plan.filled c) (option_and_then (λ number. slice_get plan.pieces number) (piece_at plan c))
   where
     by_value : (o : Option ℤ) (f : Option Piece) → o ≡ shown (map (λ (p : FramePlan). None) plan.frames) m (option_map_or given o (option_map_or (λ (p : Piece). fed p.from (p.first + (c - p.at))) f nobody))
     by_value (Some v) f = refl
@@ -132,7 +133,7 @@ reaches plan outcome board turn sound run over = record { passes = λ s extends 
 
     shown_too : (s : State) → Extends s m → ((b : ℕ) (o : Outcome) → outcome_at s b ≡ Some o → is_some (end_at board.ends.items b) ≡ true) → (source : Source) (v : ℤ) → element s source ≡ Some v → shown board.ends.items m source ≡ Some v
     shown_too s extends earlier (given w) v h = h
-    shown_too s extends earlier (fed b k) v h = option_and_then_some (λ (o : Outcome). slice_get (delivered o.end o.outputs) k) (outcome_at s b) v h (λ o is at. ap (λ (t : Bool). cond t (output_at m b k) None) (earlier b o is) ∙ element-extends s m extends (fed b k) v h)
+    shown_too s extends earlier (fed b k) v h = option_and_then_some (λ (o : Outcome). slice_get o.outputs k) (outcome_at s b) v h (λ o is at. ap (λ (t : Bool). cond t (output_at m b k) None) (earlier b o is) ∙ element-extends s m extends (fed b k) v h)
     shown_too s extends earlier nobody v h = absurd (cc)
 
     by_cells : (s : State) → Extends s m → ((b : ℕ) (o : Outcome) → outcome_at s b ≡ Some o → is_some (end_at board.ends.items b) ≡ true) → (a : ℕ) (vs : List ℤ) → a < length plan.frames → gathered (map (λ c. element s (cell_source plan c)) (cells_of plan a)) ≡ Some vs → is_some (end_at board.ends.items a) ≡ true
@@ -185,7 +186,7 @@ sink_meant plan m cells ends waits sound counted shows all =
     inside c u = let exist = sound.cells_exist n (omega arith) in let len = counted.cells_of_plan in omega arith
 
     shown_fed : (g k : ℕ) (e : Option TaskEnd) → end_at ends g ≡ e → cond (is_some (end_at ends g)) (output_at m g k) None ≡ output_at m g k
-    shown_fed g k None is = ap (λ (e : Option TaskEnd). cond (is_some e) (output_at m g k) None) is ∙ sym (ap (option_and_then (λ (o : Outcome). slice_get (delivered o.end o.outputs) k)) (outcome_or_none m ends all g is))
+    shown_fed g k None is = ap (λ (e : Option TaskEnd). cond (is_some e) (output_at m g k) None) is ∙ sym (ap (option_and_then (λ (o : Outcome). slice_get o.outputs k)) (outcome_or_none m ends all g is))
     shown_fed g k (Some e) is = ap (λ (e : Option TaskEnd). cond (is_some e) (output_at m g k) None) is
 
     shown_all : (source : Source) → shown ends m source ≡ element m source

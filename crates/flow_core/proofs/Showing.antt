@@ -10,9 +10,10 @@ use Rattle.flow_core.specs.declared.plan.FramePlan.{FramePlan}
 use Rattle.flow_core.specs.declared.plan.Piece.{Piece}
 use Rattle.flow_core.specs.declared.plan.Plan.{Plan}
 use Rattle.flow_core.specs.declared.task_end.TaskEnd.{TaskEnd}
-use Rattle.flow_core.specs.declared.task_end.TaskEnd.TheVariants.{Done, Trapped, OverBudget}
+use Rattle.flow_core.specs.declared.task_end.TaskEnd.TheVariants.{Done}
 use Rattle.flow_core.specs.declared.waits.Waits.{Waits}
-use Rattle.flow_core.specs.Outcome.{Outcome, State, outcome_at, delivered}
+use Rattle.flow_core.specs.declared.outcome.Outcome.{Outcome}
+use Rattle.flow_core.specs.Outcome.{State, outcome_at}
 use Rattle.flow_core.specs.Element.{Source, given, fed, nobody, element, output_at}
 use Rattle.flow_core.specs.Round.{gathered}
 use Rattle.flow_core.specs.Plans.{frame_at, cells_of, value_at, cell_source, plan_reads, plan_meaning}
@@ -42,13 +43,8 @@ end_at-set ends f g e lt (inl same) = inl (ap (end_at (set ends f (Some e))) sam
 end_at-set ends f g e lt (inr other) = inr (get_or-set_other ends f g (Some e) None other, other)
 
 -- what a frame with an outcome gives
-output_at-outcome : (m : State) (f k : ℕ) (o : Outcome) → outcome_at m f ≡ Some o → output_at m f k ≡ slice_get (delivered o.end o.outputs) k
-output_at-outcome m f k o is = ap (option_and_then (λ (q : Outcome). slice_get (delivered q.end q.outputs) k)) is
-
-nothing_delivered : (e : TaskEnd) (outputs : List ℤ) (k : ℕ) → e ≢ Done → slice_get (delivered e outputs) k ≡ None
-nothing_delivered Done outputs k other = absurd (other refl)
-nothing_delivered (Trapped code line) outputs k other = refl
-nothing_delivered OverBudget outputs k other = refl
+output_at-outcome : (m : State) (f k : ℕ) (o : Outcome) → outcome_at m f ≡ Some o → output_at m f k ≡ slice_get o.outputs k
+output_at-outcome m f k o is = ap (option_and_then (λ (q : Outcome). slice_get q.outputs k)) is
 
 -- the ends stay the meaning's
 ends_set : (m : State) (ends : List (Option TaskEnd)) (f : ℕ) (e : TaskEnd) (o : Outcome) → f < length ends → outcome_at m f ≡ Some o → o.end ≡ e → ((g : ℕ) (d : TaskEnd) → end_at ends g ≡ Some d → option_map (λ (q : Outcome). q.end) (outcome_at m g) ≡ Some d) → (g : ℕ) (d : TaskEnd) → end_at (set ends f (Some e)) g ≡ Some d → option_map (λ (q : Outcome). q.end) (outcome_at m g) ≡ Some d
@@ -76,7 +72,7 @@ Shows-not_done plan m cells ends f e outputs shows lt other waits (o, is, o_end,
     fed_shown : (g k : ℕ) → (g ≡ f) ⊎ (g ≢ f) → shown ends m (fed g k) ≡ shown (set ends f (Some e)) m (fed g k)
     fed_shown g k (inl same) =
         let before : shown ends m (fed f k) ≡ None = ap (λ (o : Option TaskEnd). cond (is_some o) (output_at m f k) None) waits in
-        let after : shown (set ends f (Some e)) m (fed f k) ≡ None = shown-same ends m f k e lt ∙ output_at-outcome m f k o is ∙ nothing_delivered o.end o.outputs k (λ d. other (sym o_end ∙ d)) in
+        let after : shown (set ends f (Some e)) m (fed f k) ≡ None = shown-same ends m f k e lt ∙ output_at-outcome m f k o is ∙ ap (λ (xs : List ℤ). slice_get xs k) (o.only_done (λ d. other (sym o_end ∙ d))) in
         subst (λ (h : ℕ). shown ends m (fed h k) ≡ shown (set ends f (Some e)) m (fed h k)) (sym same) (before ∙ sym after)
     fed_shown g k (inr different) = sym (shown-other ends m f g k e different)
 
@@ -109,7 +105,7 @@ Shows-done plan m cells new ends f outputs sound f_lt shows (o, is, o_end, o_out
         let (number, p, p_is, low, high, from, place) = fed-covered plan c f k is_fed in
         let range = (sound.pieces_stand_together f number p (omega arith) p_is).0 from in
         let there : value_at new c ≡ slice_get outputs k = carries.filled number c p range.0 range.1 p_is low high ∙ ap (slice_get outputs) place in
-        let meant : slice_get outputs k ≡ slice_get (delivered o.end o.outputs) k = ap (λ (xs : List ℤ). slice_get xs k) (o_outputs refl ∙ ap (λ (e : TaskEnd). delivered e o.outputs) (sym o_end)) in
+        let meant : slice_get outputs k ≡ slice_get o.outputs k = ap (λ (xs : List ℤ). slice_get xs k) (o_outputs refl) in
         there ∙ meant ∙ sym (output_at-outcome m f k o is) ∙ sym (shown-same ends m f k Done lt)
 
     at_fed : (c g k : ℕ) → c < length new → cell_source plan c ≡ fed g k → (g ≡ f) ⊎ (g ≢ f) → value_at new c ≡ shown (set ends f (Some Done)) m (fed g k)

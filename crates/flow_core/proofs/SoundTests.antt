@@ -1,16 +1,18 @@
 -- Tests that show a written-out plan to be sound.
 use Rattle.std.proofs.Common.{◌≡◌, ℕ, zero, suc, ◌+◌, ◌-◌, ◌<◌, ◌≤◌, ℤ, List, [], ◌∷◌, Option, Some, None, Bool, true, false, length, set, refl, sym, ap, ◌∙◌, subst, ◌⊎◌, inl, inr, arith}
-use Rattle.std.specs.Prelude.{slice_get, is_none, ◌&&◌, ◌||◌, ◌==◌, if◌then◌else◌, IsTrue, nat_le, nat_lt, ◌↔◌}
+use Rattle.std.specs.Prelude.{slice_get, is_none, ◌&&◌, ◌||◌, ◌==◌, if◌then◌else◌, IsTrue, nat_le, nat_lt, ◌↔◌, sum_by}
 use Rattle.std.specs.Option.{option_map_or}
 use Rattle.std.proofs.lemmas.Bool.{and_parts, eq-eqb, eqb-true, le-leb, leb-true, lt-ltb, ltb-true, cases_lt}
 use Rattle.std.proofs.lemmas.Bool.Decides.{nat_tests}
 use Rattle.std.proofs.lemmas.Option.{slice_get_within}
+use Rattle.flow_core.specs.declared.plan.FramePlan.{FramePlan}
 use Rattle.flow_core.specs.declared.plan.Piece.{Piece}
 use Rattle.flow_core.specs.declared.plan.Plan.{Plan}
 use Rattle.flow_core.specs.Plans.{frame_at, value_at, missing_of}
 use Rattle.flow_core.specs.declared.task_end.TaskEnd.{TaskEnd}
 use Rattle.flow_core.specs.declared.task_end.TaskEnd.TheVariants.{Done, Trapped, OverBudget}
-use Rattle.flow_core.specs.Outcome.{Outcome}
+use Rattle.flow_core.specs.declared.outcome.Outcome.{Outcome}
+use Rattle.flow_core.specs.Outcome.{outcome_of}
 use Rattle.flow_core.specs.Serves.{Serves}
 use Rattle.flow_core.specs.IsSound.{HasCell, Covers, IsSound, IsSoundPiece}
 
@@ -62,6 +64,9 @@ piece_sound plan number p h =
     }
 
 -- the tests on frames
+abbrev pub outputs_test : Plan → ℕ → Bool
+outputs_test plan f = nat_le (frame_at plan f).outputs 4194304
+
 abbrev pub exist_test : Plan → ℕ → Bool
 exist_test plan f = nat_le ((frame_at plan f).cell + (frame_at plan f).inputs) (length plan.filled)
 
@@ -127,10 +132,12 @@ is_none-true : (o : Option ℤ) → is_none o ≡ true → o ≡ None
 is_none-true None h = refl
 is_none-true (Some v) h = absurd (cc)
 
-pub IsSound-from_tests : (plan : Plan) → nat_le (length plan.frames) 65536 ≡ true → nat_le (length plan.filled) 4194304 ≡ true → all_below (exist_test plan) (suc (length plan.frames)) ≡ true → all_below (apart_test plan) (suc (length plan.frames)) ≡ true → all_below (wait_test plan) (suc (length plan.frames)) ≡ true → all_pieces plan (piece_test plan) ≡ true → all_below (pieces_test plan) (suc (length plan.frames)) ≡ true → all_below (together_test plan) (suc (length plan.frames)) ≡ true → pairs_test plan ≡ true → spares_test plan ≡ true → IsSound plan
-IsSound-from_tests plan few cells exist apart wait sound pieces stand pairs spares = record {
+pub IsSound-from_tests : (plan : Plan) → nat_le (length plan.frames) 65536 ≡ true → nat_le (length plan.filled) 4194304 ≡ true → all_below (outputs_test plan) (suc (length plan.frames)) ≡ true → nat_le (sum_by (λ (p : FramePlan). p.outputs) plan.frames) 4194304 ≡ true → all_below (exist_test plan) (suc (length plan.frames)) ≡ true → all_below (apart_test plan) (suc (length plan.frames)) ≡ true → all_below (wait_test plan) (suc (length plan.frames)) ≡ true → all_pieces plan (piece_test plan) ≡ true → all_below (pieces_test plan) (suc (length plan.frames)) ≡ true → all_below (together_test plan) (suc (length plan.frames)) ≡ true → pairs_test plan ≡ true → spares_test plan ≡ true → IsSound plan
+IsSound-from_tests plan few cells outputs together_few exist apart wait sound pieces stand pairs spares = record {
   frames_are_few = leb-true _ _ few;
   cells_are_few = leb-true _ _ cells;
+  outputs_are_few = λ f le. leb-true _ _ (below (outputs_test plan) (suc (length plan.frames)) f outputs (omega arith));
+  all_outputs_are_few = leb-true _ _ together_few;
   cells_exist = λ f le. leb-true _ _ (below (exist_test plan) (suc (length plan.frames)) f exist (omega arith));
   cells_are_apart = λ f g c f_le g_le f_has g_has. one_frame f g c f_has g_has (either (f == g) _ (below (λ h. f == h || is_apart (frame_at plan f).cell (frame_at plan f).inputs (frame_at plan h).cell (frame_at plan h).inputs) (suc (length plan.frames)) g (below (apart_test plan) (suc (length plan.frames)) f apart (omega arith)) (omega arith)));
   wait_counts = λ f le. eqb-true _ _ (below (wait_test plan) (suc (length plan.frames)) f wait (omega arith));
@@ -172,6 +179,17 @@ code_between (Trapped c l) code line h is =
     subst (λ (k : ℕ). (1 ≤ k) × (k ≤ 8)) e (leb-true _ _ parts.0, leb-true _ _ parts.1)
 code_between OverBudget code line h is = absurd (cc)
 
+-- the parts of an outcome
+pub outcome_of-end : (e : TaskEnd) (outputs : List ℤ) → (outcome_of e outputs).end ≡ e
+outcome_of-end Done outputs = refl
+outcome_of-end (Trapped code line) outputs = refl
+outcome_of-end OverBudget outputs = refl
+
+pub outcome_of-outputs : (e : TaskEnd) (outputs : List ℤ) → e ≡ Done → (outcome_of e outputs).outputs ≡ outputs
+outcome_of-outputs Done outputs h = refl
+outcome_of-outputs (Trapped code line) outputs h = absurd (cc)
+outcome_of-outputs OverBudget outputs h = absurd (cc)
+
 -- bodies that copy their inputs or give one value, by a rule for each frame
 abbrev pub counts_test : Plan → (ℕ → Bool) → ℕ → Bool
 counts_test plan copies f = if copies f then (frame_at plan f).inputs == (frame_at plan f).outputs else (frame_at plan f).outputs == 1
@@ -180,11 +198,11 @@ outputs_fit : (b : Bool) (i o : ℕ) (inputs : List ℤ) (v : ℤ) → (if b the
 outputs_fit true i o inputs v h len = len ∙ eqb-true i o h
 outputs_fit false i o inputs v h len = sym (eqb-true o 1 h)
 
-pub Serves-from_rules : (plan : Plan) (count : ℕ) (ends : ℕ → TaskEnd) (copies : ℕ → Bool) (v : ℤ) → nat_le (length plan.frames) count ≡ true → all_below (counts_test plan copies) (length plan.frames) ≡ true → all_below (λ f. end_test (ends f)) (length plan.frames) ≡ true → Serves plan (λ f inputs. record { end = ends f; outputs = if copies f then inputs else v ∷ [] }) (λ f i o. (f < count) × IsTrue (if copies f then i == o else o == 1))
+pub Serves-from_rules : (plan : Plan) (count : ℕ) (ends : ℕ → TaskEnd) (copies : ℕ → Bool) (v : ℤ) → nat_le (length plan.frames) count ≡ true → all_below (counts_test plan copies) (length plan.frames) ≡ true → all_below (λ f. end_test (ends f)) (length plan.frames) ≡ true → Serves plan (λ f inputs. outcome_of (ends f) (if copies f then inputs else v ∷ [])) (λ f i o. (f < count) × IsTrue (if copies f then i == o else o == 1))
 Serves-from_rules plan count ends copies v few counts codes = record {
   takes_each = λ f lt. (let l = leb-true (length plan.frames) count few in omega arith, below (counts_test plan copies) (length plan.frames) f counts lt);
-  fills_outputs = λ f inputs lt len done. outputs_fit (copies f) (frame_at plan f).inputs (frame_at plan f).outputs inputs v (below (counts_test plan copies) (length plan.frames) f counts lt) len;
-  traps_have_codes = λ f inputs code line lt len is. code_between (ends f) code line (below (λ g. end_test (ends g)) (length plan.frames) f codes lt) is;
+  fills_outputs = λ f inputs lt len done. ap length (outcome_of-outputs (ends f) (if copies f then inputs else v ∷ []) (sym (outcome_of-end (ends f) (if copies f then inputs else v ∷ [])) ∙ done)) ∙ outputs_fit (copies f) (frame_at plan f).inputs (frame_at plan f).outputs inputs v (below (counts_test plan copies) (length plan.frames) f counts lt) len;
+  traps_have_codes = λ f inputs code line lt len is. code_between (ends f) code line (below (λ g. end_test (ends g)) (length plan.frames) f codes lt) (sym (outcome_of-end (ends f) (if copies f then inputs else v ∷ [])) ∙ is);
 }
 
 pub Serves-at : {outcome : ℕ → List ℤ → Outcome} {takes : ℕ → ℕ → ℕ → Type 0} (p q : Plan) → p ≡ q → Serves q outcome takes → Serves p outcome takes

@@ -1,5 +1,6 @@
 -- Sound plans.
-use Rattle.std.specs.Prelude.{◌≡◌, ℕ, ◌+◌, ◌≤◌, ◌<◌, ◌↔◌, None, Some, slice_get, length}
+use Rattle.std.specs.Prelude.{◌≡◌, ℕ, ◌+◌, ◌≤◌, ◌<◌, ◌↔◌, None, Some, slice_get, sum_by, length}
+use Rattle.flow_core.specs.declared.plan.FramePlan.{FramePlan}
 use Rattle.flow_core.specs.declared.plan.Piece.{Piece}
 use Rattle.flow_core.specs.declared.plan.Plan.{Plan}
 use Rattle.flow_core.specs.Plans.{frame_at, value_at, missing_of}
@@ -27,6 +28,8 @@ pub record IsSound (plan : Plan) : Type 0 where
   -- the limits
   pub frames_are_few : length plan.frames ≤ 65536
   pub cells_are_few : length plan.filled ≤ 4194304
+  pub outputs_are_few : (f : ℕ) → f ≤ length plan.frames → (frame_at plan f).outputs ≤ 4194304
+  pub all_outputs_are_few : sum_by (λ (p : FramePlan). p.outputs) plan.frames ≤ 4194304
   -- each frame's cells exist, and no two frames share one
   pub cells_exist : (f : ℕ) → f ≤ length plan.frames → (frame_at plan f).cell + (frame_at plan f).inputs ≤ length plan.filled
   pub cells_are_apart : (f g cell : ℕ) → f ≤ length plan.frames → g ≤ length plan.frames → HasCell plan f cell → HasCell plan g cell → f ≡ g

@@ -1,15 +1,20 @@
 -- The laws of the meaning, as statements.
-use Rattle.std.specs.Prelude.{◌≡◌, ℕ, ℤ, ◌<◌, ◌≤◌, List, Some, None, slice_get, length, replicate, slice_set, take, IsTrue}
+use Rattle.std.specs.Prelude.{◌≡◌, ℕ, ℤ, ◌+◌, ◌<◌, ◌≤◌, List, ◌++◌, Some, None, is_some, slice_get, length, replicate, slice_set, take, IsTrue}
 use Rattle.std.specs.Option.{option_map}
+use Rattle.flow_core.specs.declared.claim.Claim.{Claim}
 use Rattle.flow_core.specs.declared.activation.Activation.{Activation}
 use Rattle.flow_core.specs.declared.plan.Plan.{Plan}
-use Rattle.flow_core.specs.Outcome.{Outcome, State, outcome_at}
-use Rattle.flow_core.specs.Element.{Source}
+use Rattle.flow_core.specs.declared.task_end.TaskEnd.TheVariants.{Done}
+use Rattle.flow_core.specs.declared.outcome.Outcome.{Outcome}
+use Rattle.flow_core.specs.Outcome.{State, outcome_at, ends_of}
+use Rattle.flow_core.specs.Element.{Source, element}
 use Rattle.flow_core.specs.Round.{IsEnabled, inputs_in, round, rounds, meaning}
-use Rattle.flow_core.specs.Window.{Window, windows, claims_of, is_written_by}
-use Rattle.flow_core.specs.FirstPosition.{first_position}
-use Rattle.flow_core.specs.Streams.{stream_reads, stream_meaning}
-use Rattle.flow_core.specs.Plans.{plan_reads, plan_meaning}
+use Rattle.flow_core.specs.Window.{Window, windows, claims_of, offset_after, is_written_by, producer}
+use Rattle.flow_core.specs.Place.{Place}
+use Rattle.flow_core.specs.There.{is_there}
+use Rattle.flow_core.specs.FirstPosition.{is_write_to, first_position}
+use Rattle.flow_core.specs.Streams.{stream_source, stream_reads, output_count, output_elements, stream_meaning}
+use Rattle.flow_core.specs.Plans.{plan_reads, plan_meaning, sink_elements}
 use Rattle.flow_core.specs.StandsFor.{StandsFor}
 
 -- one more round changes nothing in a meaning
@@ -37,15 +42,38 @@ OfPlans fact = (plan : Plan) (outcome : ℕ → List ℤ → Outcome) → fact (
 abbrev pub MeansTheStreams : Type 0
 MeansTheStreams = (plan : Plan) (activations : List Activation) (input : List ℕ) (outcome : ℕ → List ℤ → Outcome) → StandsFor plan activations input → plan_meaning plan outcome ≡ stream_meaning activations input outcome
 
--- The windows are those of all claims in order, and each begins after all the claims before it.
+-- in every state the sink cells of such a plan hold the elements of the output
+abbrev pub SinkIsTheOutput : Type 0
+SinkIsTheOutput = (plan : Plan) (activations : List Activation) (input : List ℕ) (state : State) → StandsFor plan activations input → sink_elements plan state ≡ output_elements activations input state
+
+-- The windows are those of all claims in order. That of claim k of activation a stands behind those of the
+-- claims before it: the claims of the activations before a, and the first k of its own. These alone say
+-- where it begins and what its offset is.
 pub record WindowsAreInOrder (activations : List Activation) : Type 0 where
   pub one_each : length (windows activations) ≡ length (claims_of activations)
+  pub stands : (a k : ℕ) (x : Activation) (c : Claim) → slice_get activations a ≡ Some x → slice_get x.claims k ≡ Some c → slice_get (windows activations) (length (claims_of (take a activations)) + k) ≡ Some (record { activation = a; claim = c; first = first_position (claims_of (take a activations) ++ take k x.claims) c; offset = offset_after (take k x.claims) c })
   pub claims : (i : ℕ) (w : Window) → slice_get (windows activations) i ≡ Some w → slice_get (claims_of activations) i ≡ Some w.claim
   pub begins : (i : ℕ) (w : Window) → slice_get (windows activations) i ≡ Some w → w.first ≡ first_position (take i (claims_of activations)) w.claim
+
+-- of two write claims on a stream the later one begins where the earlier one ends, or behind it
+abbrev pub WritersAreInOrder : Type 0
+WritersAreInOrder = (activations : List Activation) (stream i j : ℕ) (v w : Window) → slice_get (windows activations) i ≡ Some v → slice_get (windows activations) j ≡ Some w → IsTrue (is_write_to stream v.claim) → IsTrue (is_write_to stream w.claim) → i < j → v.first + v.claim.horizon ≤ w.first
 
 -- no two write claims cover one position of a stream
 abbrev pub HasOneWriter : Type 0
 HasOneWriter = (activations : List Activation) (stream position i j : ℕ) (v w : Window) → slice_get (windows activations) i ≡ Some v → slice_get (windows activations) j ≡ Some w → IsTrue (is_written_by stream position v) → IsTrue (is_written_by stream position w) → i ≡ j
+
+-- the write claim that covers a position is its producer
+abbrev pub WritersAreProducers : Type 0
+WritersAreProducers = (activations : List Activation) (stream position i : ℕ) (w : Window) → slice_get (windows activations) i ≡ Some w → IsTrue (is_written_by stream position w) → producer activations stream position ≡ Some w
+
+-- each activation that is Done in a state has as many outputs as it claims positions for writing
+abbrev pub IsFilled : List Activation → State → Type 0
+IsFilled activations state = (a : ℕ) (x : Activation) (o : Outcome) → slice_get activations a ≡ Some x → outcome_at state a ≡ Some o → o.end ≡ Done → length o.outputs ≡ output_count x
+
+-- the ends and the length of the input say which elements are there in such a state
+abbrev pub EndsSayWhatIsThere : Type 0
+EndsSayWhatIsThere = (activations : List Activation) (input : List ℕ) (state : State) (place : Place) → IsFilled activations state → is_some (element state (stream_source activations input place)) ≡ is_there activations (length input) (ends_of state) place
 
 -- A round gives an enabled activation the outcome of its body for its inputs, and leaves the others.
 pub record RoundsFire (reads : ℕ → List Source) (body : ℕ → List ℤ → Outcome) (count : ℕ) : Type 0 where

@@ -5,7 +5,9 @@ pub mod Round
 -- What a list of activations means.
 pub mod FirstPosition
 pub mod Window
+pub mod Place
 pub mod Streams
+pub mod There
 -- The same over a plan.
 pub mod Plans
 pub mod IsSound

@@ -1,11 +1,12 @@
 -- The meaning of a plan: the same rounds, with the sources of its cells.
-use Rattle.std.specs.Prelude.{ℕ, ℤ, ◌+◌, ◌-◌, Bool, ◌&&◌, nat_le, nat_lt, List, Option, None, slice_index_or, map, length, find, count_by, is_none}
+use Rattle.std.specs.Prelude.{ℕ, ℤ, ◌+◌, ◌-◌, Bool, ◌&&◌, nat_le, nat_lt, List, Option, None, slice_index_or, map, length, count_by, is_none, slice_get, option_and_then}
 use Rattle.std.specs.Option.{option_map_or}
-use Rattle.std.specs.List.{range_with_len}
+use Rattle.std.specs.List.{range_with_len, position}
 use Rattle.flow_core.specs.declared.plan.FramePlan.{FramePlan}
 use Rattle.flow_core.specs.declared.plan.Piece.{Piece}
 use Rattle.flow_core.specs.declared.plan.Plan.{Plan}
-use Rattle.flow_core.specs.Outcome.{Outcome, State}
+use Rattle.flow_core.specs.declared.outcome.Outcome.{Outcome}
+use Rattle.flow_core.specs.Outcome.{State}
 use Rattle.flow_core.specs.Element.{Source, given, fed, nobody, element}
 use Rattle.flow_core.specs.Round.{meaning}
 
@@ -29,10 +30,14 @@ missing_of plan cells frame = count_by (λ cell. is_none (value_at cells cell)) 
 abbrev pub is_covered_by : ℕ → Piece → Bool
 is_covered_by cell piece = nat_le piece.at cell && nat_lt cell (piece.at + piece.count)
 
+-- The number of the piece that covers a cell, or none.
+abbrev pub piece_at : Plan → ℕ → Option ℕ
+piece_at plan cell = position (is_covered_by cell) plan.pieces
+
 -- The source of a cell that has no value at opening: an output element of the piece that covers it.
 abbrev pub piece_source : Plan → ℕ → Source
 piece_source plan cell =
-    option_map_or (λ (p : Piece). fed p.from (p.first + (cell - p.at))) (find (is_covered_by cell) plan.pieces) nobody
+    option_map_or (λ (p : Piece). fed p.from (p.first + (cell - p.at))) (option_and_then (λ number. slice_get plan.pieces number) (piece_at plan cell)) nobody
 
 -- The source of a cell: its value at opening, or the piece that covers it.
 unfoldable pub cell_source : Plan → ℕ → Source

@@ -2,7 +2,7 @@
 use Rattle.std.specs.Prelude.{◌≡◌, ℕ, ℤ, ◌<◌, ◌≤◌, List, length}
 use Rattle.flow_core.specs.declared.plan.Plan.{Plan}
 use Rattle.flow_core.specs.declared.task_end.TaskEnd.TheVariants.{Done, Trapped}
-use Rattle.flow_core.specs.Outcome.{Outcome}
+use Rattle.flow_core.specs.declared.outcome.Outcome.{Outcome}
 use Rattle.flow_core.specs.Plans.{frame_at}
 
 -- Bodies serve a plan where they take each frame with its numbers of inputs and outputs, give that

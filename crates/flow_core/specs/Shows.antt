@@ -4,7 +4,8 @@ use Rattle.std.specs.Option.{option_map}
 use Rattle.flow_core.specs.declared.plan.Plan.{Plan}
 use Rattle.flow_core.specs.declared.task_end.TaskEnd.{TaskEnd}
 use Rattle.flow_core.specs.declared.task_end.TaskEnd.TheVariants.{Done}
-use Rattle.flow_core.specs.Outcome.{Outcome, State, outcome_at}
+use Rattle.flow_core.specs.declared.outcome.Outcome.{Outcome}
+use Rattle.flow_core.specs.Outcome.{State, outcome_at}
 use Rattle.flow_core.specs.Element.{Source, given, fed, nobody, output_at}
 use Rattle.flow_core.specs.Plans.{value_at, cell_source}
 

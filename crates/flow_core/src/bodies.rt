@@ -1,5 +1,5 @@
 ghost use Rattle.std.specs.Prelude.{◌≡◌, ℕ, ℤ, List, length, IfOk};
-ghost use Rattle.flow_core.specs.Outcome.{Outcome};
+ghost use Rattle.flow_core.specs.declared.outcome.Outcome.{Outcome};
 
 use crate::task_end::TaskEnd;
 use os_io::Memory;

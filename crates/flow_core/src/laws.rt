@@ -3,7 +3,7 @@
 
 ghost use Rattle.std.specs.Prelude.{List};
 ghost use Rattle.flow_core.specs.declared.activation.Activation.{Activation};
-ghost use Rattle.flow_core.specs.Laws.{IsSettled, KeepsOutcomes, IsFixed, OfStreams, OfPlans, MeansTheStreams, HasOneWriter, WindowsAreInOrder, RoundsFire, IsConfluent};
+ghost use Rattle.flow_core.specs.Laws.{IsSettled, KeepsOutcomes, IsFixed, OfStreams, OfPlans, MeansTheStreams, SinkIsTheOutput, HasOneWriter, WritersAreInOrder, WritersAreProducers, EndsSayWhatIsThere, WindowsAreInOrder, RoundsFire, IsConfluent};
 
 /// A round runs what is enabled, and nothing else.
 pub fn one_round()
@@ -35,9 +35,10 @@ pub fn confluence()
     ensures plans { OfPlans IsConfluent }
 {}
 
-/// A plan means what the activations mean for which it stands.
+/// A plan means what the activations mean for which it stands, and its sink holds their output.
 pub fn plan_meaning()
-    ensures { MeansTheStreams }
+    ensures meaning { MeansTheStreams }
+    ensures sink { SinkIsTheOutput }
 {}
 
 /// Claims take their positions in order: by activation, and within one by clause.
@@ -45,7 +46,14 @@ pub fn windows_in_order()
     ensures { (activations : List Activation) → WindowsAreInOrder activations }
 {}
 
-/// An element has one producer at most.
+/// The write claims on a stream stand behind one another, so that an element has one producer at most.
 pub fn one_writer()
-    ensures { HasOneWriter }
+    ensures in_order { WritersAreInOrder }
+    ensures one { HasOneWriter }
+    ensures is_producer { WritersAreProducers }
+{}
+
+/// The ends and the length of the input say which elements are there.
+pub fn ends_say_what_is_there()
+    ensures { EndsSayWhatIsThere }
 {}

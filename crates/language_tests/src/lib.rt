@@ -5,6 +5,8 @@
 #![tactic(auto)]
 
 #[cfg(test)]
+mod captured;
+#[cfg(test)]
 mod depths;
 #[cfg(test)]
 mod judge;
@@ -22,3 +24,7 @@ mod refusals;
 mod scopes;
 #[cfg(test)]
 mod several;
+#[cfg(test)]
+mod syntax;
+#[cfg(test)]
+mod tokens;

@@ -28,7 +28,13 @@ const ITEMS_AND_SIZES: [&str; 16] = [
     "int main(void) { int s[40000] __attribute__((stream)), t __attribute__((stream)); int u[25535] __attribute__((stream)); }",
 ];
 
-const PASSED: [(&str, u8, u32); 19] = [
+const PASSED: [(&str, u8, u32); 20] = [
+    // both branches count
+    (
+        "int f() { if (1) { int a[65536]; }\nelse { int b[1]; } return 1; } int main(void) { }",
+        15,
+        2,
+    ),
     // 9 items
     (
         "int main(void) {\nint a, b, c, d, e, f, g, h, i;\n#pragma omp task output(osout << a, osout << b, osout << c, osout << d, osout << e, osout << f, osout << g, osout << h, osout << i)\n;\n}",

@@ -517,6 +517,113 @@ const LOOPS_NAMES: [(u32, What); 35] = [
     (139, What::Scalar(1)),
 ];
 
+/// A constant as the size of an array of streams.
+const SIZED: &str =
+    "const int N = 3; int main(void) { int s[N] __attribute__((stream)), x; x = N; }";
+
+const SIZED_NAMES: [(u32, What); 5] = [
+    (13, What::Stream { first: 2, count: 3 }),
+    (15, What::Constant(3)),
+    (24, What::Scalar(1)),
+    (26, What::Scalar(1)),
+    (28, What::Constant(3)),
+];
+
+/// An array that just fits, with a scalar behind it, in a function and in a task.
+const LONG: &str = "int f() { int a[65536], b; b = a[0]; return b; } int main(void) { }";
+
+const LONG_NAMES: [(u32, What); 5] = [
+    (
+        6,
+        What::Array {
+            first: 0,
+            size: 65_536,
+        },
+    ),
+    (11, What::Scalar(65_536)),
+    (13, What::Scalar(65_536)),
+    (
+        15,
+        What::Array {
+            first: 0,
+            size: 65_536,
+        },
+    ),
+    (21, What::Scalar(65_536)),
+];
+
+const LONG_IN_TASK: &str = "int main(void) {
+int x;
+#pragma omp task output(osout << x)
+{ int a[65536], b; b = a[0]; x = b; }
+}";
+
+const LONG_IN_TASK_NAMES: [(u32, What); 9] = [
+    (7, What::Scalar(1)),
+    (14, What::Stream { first: 1, count: 1 }),
+    (16, What::Scalar(1)),
+    (
+        21,
+        What::Array {
+            first: 0,
+            size: 65_536,
+        },
+    ),
+    (26, What::Scalar(65_536)),
+    (28, What::Scalar(65_536)),
+    (
+        30,
+        What::Array {
+            first: 0,
+            size: 65_536,
+        },
+    ),
+    (35, What::Element(0)),
+    (37, What::Scalar(65_536)),
+];
+
+/// Arrays in both branches, with a declaration behind them.
+const BRANCHES: &str = "int f(int p) {
+    if (p) { int a[2]; a[0] = p; } else { int b[3]; b[0] = p; }
+    int c; c = p; return c;
+}
+int main(void) { }";
+
+const BRANCHES_NAMES: [(u32, What); 12] = [
+    (4, What::Scalar(0)),
+    (9, What::Scalar(0)),
+    (13, What::Array { first: 1, size: 2 }),
+    (18, What::Array { first: 1, size: 2 }),
+    (23, What::Scalar(0)),
+    (29, What::Array { first: 3, size: 3 }),
+    (34, What::Array { first: 3, size: 3 }),
+    (39, What::Scalar(0)),
+    (43, What::Scalar(6)),
+    (45, What::Scalar(6)),
+    (47, What::Scalar(0)),
+    (50, What::Scalar(6)),
+];
+
+/// A task with an array between two declarations of `main`.
+const BETWEEN: &str = "int main(void) {
+int i;
+#pragma omp task output(osout << i)
+{ int a[5]; i = a[0]; }
+int j;
+j = 1;
+}";
+
+const BETWEEN_NAMES: [(u32, What); 8] = [
+    (7, What::Scalar(1)),
+    (14, What::Stream { first: 1, count: 1 }),
+    (16, What::Scalar(1)),
+    (21, What::Array { first: 0, size: 5 }),
+    (26, What::Element(0)),
+    (28, What::Array { first: 0, size: 5 }),
+    (35, What::Scalar(2)),
+    (37, What::Scalar(2)),
+];
+
 /// The program is accepted, with so many streams and with these names.
 fn means(
     rt: &impl Abort,
@@ -553,4 +660,13 @@ fn each_name_means_what_is_declared(rt: HostRuntime) -> Result<(), Fail> {
     means(&rt, rt.alloc(), ITEMS, 6, &ITEMS_NAMES)?;
     means(&rt, rt.alloc(), SHADOWS, 2, &SHADOWS_NAMES)?;
     means(&rt, rt.alloc(), LOOPS, 2, &LOOPS_NAMES)
+}
+
+#[test]
+fn declarations_have_slots_of_their_own(rt: HostRuntime) -> Result<(), Fail> {
+    means(&rt, rt.alloc(), SIZED, 5, &SIZED_NAMES)?;
+    means(&rt, rt.alloc(), LONG, 2, &LONG_NAMES)?;
+    means(&rt, rt.alloc(), LONG_IN_TASK, 2, &LONG_IN_TASK_NAMES)?;
+    means(&rt, rt.alloc(), BRANCHES, 2, &BRANCHES_NAMES)?;
+    means(&rt, rt.alloc(), BETWEEN, 2, &BETWEEN_NAMES)
 }

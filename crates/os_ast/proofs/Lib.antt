@@ -7,3 +7,4 @@ pub mod Leveling
 pub mod Parens
 pub mod Prints
 pub mod Rows
+pub mod Unique

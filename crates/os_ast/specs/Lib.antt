@@ -1,6 +1,8 @@
 pub mod Beginnings
+pub mod Captured
 pub mod Depth
 pub mod Examples
+pub mod FreeNames
 pub mod Kept
 pub mod Leveled
 pub mod Limits
@@ -10,8 +12,10 @@ pub mod Means
 pub mod Names
 pub mod Notes
 pub mod Operators
+pub mod Parts
+pub mod Rules
 pub mod Spelling
+pub mod Stacked
 pub mod Trees
-pub mod Uses
 pub mod Views
 pub mod Violations

@@ -18,24 +18,26 @@ osout_id = 10
 abbrev pub osin_len_id : ℕ
 osin_len_id = 11
 
--- A place of the program: what is in scope there, from the innermost declaration on, how many scopes are open,
--- whose body it is, whether a loop of that body is round it, and what is taken by the declarations before it.
+-- A place of the program: what is in scope there, from the innermost declaration on, how many scopes are open inside
+-- that of the file, whose body it is, whether a loop of that body is round it, and what is taken by the declarations before it.
 pub record Scope : Type 0 where
   pub entries : List Entry
   pub depth : ℕ
   pub owner : Owner
   pub loop : Bool
-  -- slots and elements of local arrays, of this function, task or main
+  -- where it is a task's body, the slots in `main` of the scalars that the task captures
+  pub captured : List ℕ
+  -- the slots of this function, task or `main`, and the elements of its local arrays
   pub slots : ℕ
   pub elements : ℕ
-  -- elements of local arrays, streams and functions of the program
+  -- of the program so far: the elements of local arrays, the streams, the functions
   pub arrays : ℕ
   pub streams : ℕ
   pub functions : ℕ
 
 -- A body begins: a function's or a task's, with slots and elements of its own and in no loop.
 abbrev pub in_unit : Owner → Scope → Scope
-in_unit o s = record s { owner = o; loop = false; slots = 0; elements = 0 }
+in_unit o s = record s { owner = o; loop = false; captured = []; slots = 0; elements = 0 }
 
 -- The innermost declaration counts.
 abbrev pub lookup : List Entry → ℕ → Option Entry
@@ -69,7 +71,8 @@ leave outer inner = record inner { entries = outer.entries; depth = outer.depth;
 
 -- Behind the body of a function or a task all is as round it, but what the body took of the program stays taken.
 abbrev pub after_unit : Scope → Scope → Scope
-after_unit outer inner = record (leave outer inner) { owner = outer.owner; slots = outer.slots; elements = outer.elements }
+after_unit outer inner =
+    record (leave outer inner) { owner = outer.owner; captured = outer.captured; slots = outer.slots; elements = outer.elements }
 
 -- inside a loop
 abbrev pub in_loop : Scope → Scope

@@ -1,35 +1,69 @@
 -- The violations of a program, its refusal, and what its names mean where there is none.
-use Rattle.std.specs.Prelude.{◌≡◌, ℕ, ◌+◌, ◌<◌, ◌≤◌, ◌==◌, ◌&&◌, ◌||◌, Bool, true, false, List, [], ◌∷◌, ◌++◌, length, All, Contains, if◌then◌else◌}
-use Rattle.os_ast.specs.Meanings.{Note, Fault, Means, Captures}
-use Rattle.os_ast.specs.Names.{main_id}
+use Rattle.std.specs.Prelude.{◌≡◌, ℕ, ◌+◌, ◌<◌, ◌≤◌, ◌==◌, ◌&&◌, ◌||◌, Bool, true, false, List, [], ◌∷◌, ◌++◌, length, All, Contains, if◌then◌else◌, Option, Some, None, ℤ}
+use Rattle.os_ast.specs.Captured.{slots_of}
+use Rattle.os_ast.specs.Meanings.{meaning, meaning_in, resolved}
+use Rattle.os_ast.specs.Names.{lookup, entity_of, main_id}
+use Rattle.os_ast.specs.Notes.Declarators.{constant_of, declared_entity, scalar_entity}
+use Rattle.os_ast.specs.Notes.Kinds.{Note, Used, Sized, Declared, Given, Task, mark_of}
 use Rattle.os_ast.specs.Notes.Programs.{program_notes, after_items, file, param_names}
+use Rattle.os_ast.specs.Rules.{codes}
 use Rattle.os_ast.specs.Spelling.{spell}
 use Rattle.os_ast.specs.Trees as tree
+use Rattle.os_ast.specs.declared.expr.Mark.{Mark}
+use Rattle.os_ast.specs.declared.names.Entity.{Entity}
+use Rattle.os_ast.specs.declared.names.Owner.{Owner}
+use Rattle.os_ast.specs.declared.names.Owner.TheVariants as owner
 use Rattle.os_ast.specs.declared.names.Resolved.{Resolved}
-use Rattle.os_ast.specs.declared.names.What.{What}
+use Rattle.os_ast.specs.declared.names.What.TheVariants as what
 use Rattle.os_ast.specs.declared.violation.Violation.{Violation}
 
 -- a violation by its parts
 abbrev pub violated : ℕ → ℕ → ℕ → Violation
 violated place code line = record { place = place; code = code; line = line }
 
--- the violations among notes
+-- the violations of one token
+abbrev pub faults_at : Mark → List ℕ → List Violation
+faults_at m [] = []
+faults_at m (code ∷ rest) = violated m.place code m.line ∷ faults_at m rest
+
+-- the violations of what stands in a program, or in a part of it
 abbrev pub faults : List Note → List Violation
 faults [] = []
-faults (Fault m code ∷ rest) = violated m.place code m.line ∷ faults rest
-faults (Means m w ∷ rest) = faults rest
-faults (Captures m slot ∷ rest) = faults rest
+faults (n ∷ rest) = faults_at (mark_of n) (codes n) ++ faults rest
 
--- a name token, by its place, and what it means
-abbrev pub resolved : ℕ → What → Resolved
-resolved place w = record { place = place; what = w }
+abbrev pub declared_meaning : Mark → Owner → List ℕ → Option Entity → List Resolved
+declared_meaning m o captured None = []
+declared_meaning m o captured (Some e) = resolved m.place (meaning_in o captured e) ∷ []
 
--- The names among notes. What captured scalars mean is known where their task is done, so that a program has none left.
+abbrev pub constant_meaning : Mark → Option ℤ → List Resolved
+constant_meaning m None = []
+constant_meaning m (Some v) = resolved m.place (what.Constant v) ∷ []
+
+-- what a name means that is used, or is the size of an array, or declares a variable
+abbrev pub resolutions_of : Note → List Resolved
+resolutions_of (Used s n u) = declared_meaning n.mark s.owner s.captured (entity_of (lookup s.entries n.id))
+resolutions_of (Sized s n) = constant_meaning n.mark (constant_of (entity_of (lookup s.entries n.id)))
+resolutions_of (Declared s d) = resolved d.name.mark.place (meaning (declared_entity s d)) ∷ []
+resolutions_of (Given s n) = resolved n.mark.place (meaning (scalar_entity s.owner s.slots)) ∷ []
+resolutions_of _ = []
+
 abbrev pub resolutions : List Note → List Resolved
 resolutions [] = []
-resolutions (Fault m code ∷ rest) = resolutions rest
-resolutions (Means m w ∷ rest) = resolved m.place w ∷ resolutions rest
-resolutions (Captures m slot ∷ rest) = resolutions rest
+resolutions (n ∷ rest) = resolutions_of n ++ resolutions rest
+
+-- the captured scalars of a task that stands in `main`
+abbrev pub main_task : Owner → List ℕ → List (List ℕ)
+main_task owner.OfMain slots = slots ∷ []
+main_task owner.OfFunction slots = []
+main_task owner.OfTask slots = []
+
+abbrev pub captures_of : Note → List (List ℕ)
+captures_of (Task s m items captured) = main_task s.owner (slots_of captured)
+captures_of _ = []
+
+abbrev pub captures : List Note → List (List ℕ)
+captures [] = []
+captures (n ∷ rest) = captures_of n ++ captures rest
 
 abbrev pub is_empty : {A : Type 0} → List A → Bool
 is_empty [] = true
@@ -66,6 +100,10 @@ pub record IsRefusal (p : tree.ProgramTree) (v : Violation) : Type 0 where
 -- declares a parameter, or is a declarator's name.
 abbrev pub names : tree.ProgramTree → List Resolved
 names p = resolutions (program_notes p)
+
+-- the slots in `main` of what each task captures, in the order of the text
+abbrev pub captured_by_tasks : tree.ProgramTree → List (List ℕ)
+captured_by_tasks p = captures (program_notes p)
 
 -- `osin`, `osout`, and the streams that the program declares
 abbrev pub streams : tree.ProgramTree → ℕ

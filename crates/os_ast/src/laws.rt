@@ -69,3 +69,8 @@ pub fn declarations_stay()
     ensures lists { (s : Scope) (ss : tree.Stmts) → Keeps s.entries (after_stmts s ss).entries }
     ensures blocks { (s : Scope) (ss : tree.Stmts) → (after_stmt s (tree.Block ss)).entries ≡ s.entries }
 {}
+
+/// A program is leveled in one way at most, so that this can be taken from wherever it is only known to be so.
+pub fn leveled_in_one_way()
+    ensures { (p : tree.ProgramTree) → IsProp (IsLeveled p) }
+{}

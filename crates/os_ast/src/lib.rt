@@ -21,7 +21,7 @@ mod stmt;
 mod violation;
 
 pub use expr::{Binary, Call, Expr, Index, Level, Link, Mark, Name, Target, Unary};
-pub use names::{Direction, Entity, Entry, Form, Owner, Resolved, Shape, What};
+pub use names::{Direction, Entity, Entry, Form, Owner, Resolved, Role, Shape, Use, What};
 pub use nesting::depth;
 pub use pragma::{Clause, ClauseItem, ClauseKind, Join, TaskSite, TickSite};
 pub use program::{Constant, DEPTH_LIMIT, Function, Item, Params, Program};

@@ -92,3 +92,26 @@ pub enum Form {
     Stream,
     Streams(Option<u32>),
 }
+
+/// Where a name stands, with an index or without.
+#[derive(Clone, Copy, Debug, PartialEq, Eq)]
+pub enum Role {
+    /// In an expression.
+    Value,
+    /// As the target of a change.
+    Changed,
+    /// As the stream of an item or of a tick.
+    Flow(Direction),
+}
+
+/// How a name is used.
+#[derive(Clone, Copy, Debug, PartialEq, Eq)]
+pub enum Use {
+    Place(Role, Shape),
+    /// As a function, with so many arguments.
+    Called(usize),
+    /// Behind the `>>` or `<<` of an item, with a burst or without.
+    Joined(Shape),
+    /// In a `firstprivate` clause.
+    Private,
+}

@@ -1,4 +1,4 @@
-ghost use Rattle.std.specs.Prelude.{◌≡◌, ◌<◌, ◌≤◌, ℕ, List, Option, Bool, true, length, take, IsTrue, IfOk, OnErr, MatchResult};
+ghost use Rattle.std.specs.Prelude.{◌≡◌, ◌<◌, ◌≤◌, ℕ, List, Option, Bool, true, length, take, IsTrue, IfOk, OnOk, OnErr, MatchResult};
 ghost use Rattle.std.specs.Io.KnownBytes.{prepend_known, IsAtEnd};
 ghost use Rattle.os_io.specs.Counts.{HasRisen, last_count, raised};
 
@@ -29,6 +29,7 @@ pub trait Files {
     fn open(&mut self, name: &str) -> Result<(), Failed>
         requires { IsTrue (may self.old (opens self.old) name.now) }
         ensures failed { OnErr result (HasRisen (faults self.old) (faults self.new)) }
+        ensures no_fault { OnOk result (faults self.new ≡ faults self.old) }
         ensures faults_kept { faults self.old ≤ faults self.new }
         ensures rest { MatchResult result
             (λ _. rest self.new ≡ holds self.old name.now)
@@ -42,6 +43,7 @@ pub trait Files {
     /// 0 for a buffer that isn't empty is the end of the file.
     fn read(&mut self, buf: &mut [u8]) -> Result<usize, Failed>
         ensures failed { OnErr result (HasRisen (faults self.old) (faults self.new)) }
+        ensures no_fault { OnOk result (faults self.new ≡ faults self.old) }
         ensures faults_kept { faults self.old ≤ faults self.new }
         ensures within { IfOk result (λ n. n ≤ length buf.old) }
         ensures bytes { MatchResult result

@@ -1,4 +1,6 @@
-ghost use Rattle.std.specs.Prelude.{◌≡◌};
+ghost use Rattle.std.specs.Prelude.{◌≡◌, ◌≤◌, length, Some, [], IfOk, OnOk, OnErr, MatchResult};
+ghost use Rattle.std.specs.Io.KnownBytes.{ReadConsumes};
+ghost use Rattle.os_io.specs.Counts.{HasRisen, raised};
 
 use crate::files::Files;
 use crate::refusals::Failed;
@@ -6,7 +8,7 @@ use std::io::Read;
 use std::marker::Model;
 use std::{fs, rt};
 
-/// The files of the host. What they hold is told by no clause.
+/// The files of the host. As `Files` they tell no bytes.
 #[derive(Drop)]
 pub struct HostFiles<'r, R: rt::Files> {
     rt: &'r R,
@@ -17,17 +19,22 @@ pub struct HostFiles<'r, R: rt::Files> {
 }
 
 impl<'r, R: rt::Files> Model for HostFiles<'r, R> {
-    ghost use Rattle.os_io.specs.HostCounts.{FileCounts};
+    ghost use Rattle.os_io.specs.HostStates.{HostFilesState, left_of};
 
-    ghost Value = { FileCounts };
+    ghost Value = { HostFilesState };
 
-    ghost view = { λ s. record { faults = s.faults; given = s.given; opens = s.opens } };
+    ghost view = { λ s. record {
+      faults = s.faults;
+      given = s.given;
+      opens = s.opens;
+      remaining = left_of R.File.remaining s.current;
+    } };
 }
 
 impl<'r, R: rt::Files> HostFiles<'r, R> {
     /// The files of a host, none of them current. It takes no memory.
     pub fn new(rt: &'r R) -> HostFiles<'r, R>
-        ensures { result ≡ record { faults = 0; given = 0; opens = 0 } }
+        ensures { result ≡ record { faults = 0; given = 0; opens = 0; remaining = Some [] } }
     {
         HostFiles {
             rt,
@@ -56,7 +63,16 @@ impl<'r, R: rt::Files> Files for HostFiles<'r, R> {
 
     ghost may_at_last = { λ _ _. refl };
 
-    fn open(&mut self, name: &str) -> Result<(), Failed> {
+    /// Makes one call of the host. Where that fails, the current file stays as it was.
+    fn open(&mut self, name: &str) -> Result<(), Failed>
+        ensures failed { OnErr result (HasRisen self.old.faults self.new.faults) }
+        ensures no_fault { OnOk result (self.new.faults ≡ self.old.faults) }
+        ensures faults_kept { self.old.faults ≤ self.new.faults }
+        ensures one_fault { OnErr result (self.new.faults ≡ raised self.old.faults 1) }
+        ensures given { self.new.given ≡ 0 }
+        ensures opens { self.new.opens ≡ raised self.old.opens 1 }
+        ensures kept { OnErr result (self.new.remaining ≡ self.old.remaining) }
+    {
         self.opens = self.opens.saturating_add(1);
         self.given = 0;
         match fs::open(self.rt, name) {
@@ -71,8 +87,20 @@ impl<'r, R: rt::Files> Files for HostFiles<'r, R> {
         }
     }
 
-    /// A folder can be opened, and fails here.
-    fn read(&mut self, buf: &mut [u8]) -> Result<usize, Failed> {
+    /// Makes one call of the current file and hands on its answer. A folder can be opened, and
+    /// fails here.
+    fn read(&mut self, buf: &mut [u8]) -> Result<usize, Failed>
+        ensures failed { OnErr result (HasRisen self.old.faults self.new.faults) }
+        ensures no_fault { OnOk result (self.new.faults ≡ self.old.faults) }
+        ensures faults_kept { self.old.faults ≤ self.new.faults }
+        ensures within { IfOk result (λ n. n ≤ length buf.old) }
+        ensures moved { ReadConsumes self.old.remaining self.new.remaining result buf.new }
+        ensures one_fault { OnErr result (self.new.faults ≡ raised self.old.faults 1) }
+        ensures given { MatchResult result
+            (λ n. self.new.given ≡ raised self.old.given n)
+            (λ _. self.new.given ≡ self.old.given) }
+        ensures opens { self.new.opens ≡ self.old.opens }
+    {
         let answer = match &mut self.current {
             None => Ok(0),
             Some(file) => file.read(buf),
@@ -93,6 +121,8 @@ impl<'r, R: rt::Files> Files for HostFiles<'r, R> {
 #[cfg(test)]
 mod tests {
     use super::*;
+    use std::io::{self, Write};
+    use std::os::fd::AsRawFd;
     use std::test::Fail;
 
     #[test]
@@ -100,16 +130,40 @@ mod tests {
         fs::write(&rt, "os_io_host_files", b"alpha")?;
         let mut files = HostFiles::new(&rt);
         let mut buf = [0u8; 3];
-        assert_eq!(rt; files.read(&mut buf), Ok(0), "no file is open");
         assert_eq!(rt; files.open("os_io_no_such_file"), Err(Failed));
+        assert_eq!(rt; files.read(&mut buf), Ok(0), "no file is open");
         assert_eq!(rt; files.open("os_io_host_files"), Ok(()));
         assert_eq!(rt; files.read(&mut buf), Ok(3));
         assert_eq!(rt; buf.as_slice(), b"alp".as_slice());
-        assert_eq!(rt; files.read(&mut buf), Ok(2));
-        assert_eq!(rt; files.read(&mut buf), Ok(0));
+        assert_eq!(rt; files.open("os_io_no_such_file"), Err(Failed));
+        assert_eq!(rt; files.read(&mut buf), Ok(2), "and the file stays open");
+        assert_eq!(rt; buf.as_slice(), b"hap".as_slice());
+        assert_eq!(rt; files.read(&mut buf), Ok(0), "its end");
+        assert_eq!(rt; files.open("os_io_host_files"), Ok(()));
+        assert_eq!(rt; files.read(&mut buf), Ok(3), "from its front again");
+        assert_eq!(rt; buf.as_slice(), b"alp".as_slice());
         assert_eq!(rt; files.open("."), Ok(()));
         assert_eq!(rt; files.read(&mut buf), Err(Failed), "a folder");
         fs::remove_file(&rt, "os_io_host_files")?;
+        Ok(())
+    }
+
+    // A pipe gives what was written to it so far, and not what fits.
+    #[test]
+    fn reads_a_pipe_as_it_comes(rt: HostRuntime) -> Result<(), Fail> {
+        let (reader, mut writer) = io::pipe(&rt)?;
+        let name = format!(in rt.alloc(); "/dev/fd/{}", reader.as_raw_fd())?;
+        let mut files = HostFiles::new(&rt);
+        assert_eq!(rt; files.open(&name), Ok(()));
+        let mut buf = [0u8; 4];
+        writer.write_all(b"al")?;
+        assert_eq!(rt; files.read(&mut buf), Ok(2));
+        assert_eq!(rt; &buf[..2], b"al".as_slice());
+        writer.write_all(b"pha")?;
+        assert_eq!(rt; files.read(&mut buf), Ok(3));
+        assert_eq!(rt; &buf[..3], b"pha".as_slice());
+        drop(writer);
+        assert_eq!(rt; files.read(&mut buf), Ok(0), "its end");
         Ok(())
     }
 }

@@ -1,11 +1,13 @@
-ghost use Rattle.std.specs.Prelude.{◌≡◌};
+ghost use Rattle.std.specs.Prelude.{◌≡◌, ◌≤◌, ◌<◌, ◌==◌, ◌&&◌, nat_lt, length, if◌then◌else◌, IfOk, OnOk, OnErr};
+ghost use Rattle.std.specs.Io.KnownBytes.{WriteAppends};
+ghost use Rattle.os_io.specs.Counts.{HasRisen, raised};
 
 use crate::refusals::Failed;
 use crate::sink::Sink;
 use std::io::Write;
 use std::marker::Model;
 
-/// A writer of the host, as standard output. What it takes is told by no clause.
+/// A writer of the host, as standard output. As a `Sink` it tells no bytes.
 #[derive(Drop)]
 pub struct HostSink<W: Write> {
     writer: W,
@@ -14,17 +16,21 @@ pub struct HostSink<W: Write> {
 }
 
 impl<W: Write> Model for HostSink<W> {
-    ghost use Rattle.os_io.specs.HostCounts.{SinkCounts};
+    ghost use Rattle.os_io.specs.HostStates.{HostSinkState};
 
-    ghost Value = { SinkCounts };
+    ghost Value = { HostSinkState };
 
-    ghost view = { λ s. record { faults = s.faults; empty_takes = s.empty_takes } };
+    ghost view = { λ s. record {
+      faults = s.faults;
+      empty_takes = s.empty_takes;
+      contents = W.contents s.writer;
+    } };
 }
 
 impl<W: Write> HostSink<W> {
     /// A sink over a writer. It takes no memory.
     pub fn new(writer: W) -> HostSink<W>
-        ensures { result ≡ record { faults = 0; empty_takes = 0 } }
+        ensures { result ≡ record { faults = 0; empty_takes = 0; contents = W.contents writer } }
     {
         HostSink {
             writer,
@@ -43,7 +49,24 @@ impl<W: Write> Sink for HostSink<W> {
 
     ghost taken = { λ _. None };
 
-    fn write(&mut self, piece: &[u8]) -> Result<usize, Failed> {
+    /// Makes one call of the writer and hands on its answer.
+    fn write(&mut self, piece: &[u8]) -> Result<usize, Failed>
+        ensures failed { OnErr result (HasRisen self.old.faults self.new.faults) }
+        ensures no_fault { OnOk result (self.new.faults ≡ self.old.faults) }
+        ensures faults_kept { self.old.faults ≤ self.new.faults }
+        ensures empty_takes_kept { self.old.empty_takes ≤ self.new.empty_takes }
+        ensures within { IfOk result (λ n. n ≤ length piece.now) }
+        ensures moved { WriteAppends self.old.contents self.new.contents result piece.now }
+        ensures ok { IfOk result (λ n. self.new ≡ record self.old {
+          empty_takes = if (n == 0) && nat_lt 0 (length piece.now)
+              then raised self.old.empty_takes 1 else self.old.empty_takes;
+          contents = self.new.contents;
+        }) }
+        ensures err { OnErr result (self.new ≡ record self.old {
+          faults = raised self.old.faults 1;
+          contents = self.new.contents;
+        }) }
+    {
         match self.writer.write(piece) {
             Ok(count) => {
                 if count == 0 && !piece.is_empty() {
@@ -62,8 +85,9 @@ impl<W: Write> Sink for HostSink<W> {
 #[cfg(test)]
 mod tests {
     use super::*;
-    use std::fs;
+    use crate::writing::write_whole;
     use std::test::Fail;
+    use std::{fs, io};
 
     #[test]
     fn writes_to_a_file_and_not_to_a_full_one(rt: HostRuntime) -> Result<(), Fail> {
@@ -75,6 +99,34 @@ mod tests {
         fs::remove_file(&rt, "os_io_host_sink")?;
         let mut full = HostSink::new(fs::create(&rt, "/dev/full")?);
         assert_eq!(rt; full.write(b"alpha"), Err(Failed));
+        Ok(())
+    }
+
+    /// A writer that takes one byte of each piece.
+    #[derive(Drop)]
+    struct OneByte<W: Write> {
+        writer: W,
+    }
+
+    impl<W: Write> Write for OneByte<W> {
+        fn write(&mut self, piece: &[u8]) -> io::Result<usize> {
+            self.writer.write(&piece[..piece.len().min(1)])
+        }
+
+        fn flush(&mut self) -> io::Result<()> {
+            self.writer.flush()
+        }
+    }
+
+    #[test]
+    fn writes_to_a_writer_that_takes_one_byte(rt: HostRuntime) -> Result<(), Fail> {
+        let writer = fs::create(&rt, "os_io_one_byte")?;
+        let mut sink = HostSink::new(OneByte { writer });
+        assert_eq!(rt; sink.write(b"alpha"), Ok(1));
+        assert!(rt; write_whole(&mut sink, b"lpha").is_ok());
+        let written = fs::read(&rt, "os_io_one_byte")?;
+        assert_eq!(rt; written.as_slice(), b"alpha".as_slice());
+        fs::remove_file(&rt, "os_io_one_byte")?;
         Ok(())
     }
 }

@@ -110,6 +110,7 @@ impl Files for MemFiles {
     /// Fails exactly where its number was named or no file has the name.
     fn open(&mut self, name: &str) -> Result<(), Failed>
         ensures failed { OnErr result (HasRisen self.old.faults self.new.faults) }
+        ensures no_fault { OnOk result (self.new.faults ≡ self.old.faults) }
         ensures faults_kept { self.old.faults ≤ self.new.faults }
         ensures fails { is_err result ≡ is_none (found self.old name.now) }
         ensures after { self.new ≡ after_open self.old name.now }
@@ -127,6 +128,7 @@ impl Files for MemFiles {
     /// Fails exactly where its number was named. Gives as many bytes as there are and as fit.
     fn read(&mut self, buf: &mut [u8]) -> Result<usize, Failed>
         ensures failed { OnErr result (HasRisen self.old.faults self.new.faults) }
+        ensures no_fault { OnOk result (self.new.faults ≡ self.old.faults) }
         ensures faults_kept { self.old.faults ≤ self.new.faults }
         ensures fails { is_err result ≡ fails_next self.old }
         ensures count { IfOk result (λ n. n ≡ read_count self.old (length buf.old)) }

@@ -82,6 +82,7 @@ impl Sink for MemSink {
     /// takes and as there is room for.
     fn write(&mut self, piece: &[u8]) -> Result<usize, Failed>
         ensures failed { OnErr result (HasRisen self.old.faults self.new.faults) }
+        ensures no_fault { OnOk result (self.new.faults ≡ self.old.faults) }
         ensures faults_kept { self.old.faults ≤ self.new.faults }
         ensures empty_takes_kept { self.old.empty_takes ≤ self.new.empty_takes }
         ensures fails { is_err result ≡ fails_next self.old }

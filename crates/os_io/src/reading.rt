@@ -1,7 +1,7 @@
-ghost use Rattle.std.specs.Prelude.{◌≡◌, ◌+◌, ◌^◌, ◌<◌, ◌≤◌, ◌↔◌, length, take, vec_len, IsTrue, IfSome, IfOk, IsErrOf, OnOk, OnErr, MatchResult};
+ghost use Rattle.std.specs.Prelude.{◌≡◌, ◌+◌, ◌^◌, ◌<◌, ◌≤◌, ◌↔◌, ◌≢◌, ◌⊎◌, length, take, vec_len, IsTrue, IfSome, IfOk, IsErrOf, OnOk, OnErr, MatchResult};
 ghost use Rattle.std.specs.Io.KnownBytes.{prepend_known, IsAtEnd};
 ghost use Rattle.os_io.specs.Counts.{HasRisen, raised};
-ghost use Rattle.os_io.specs.Reading.{IfWhole};
+ghost use Rattle.os_io.specs.Reading.{IfWhole, IsReadUpTo};
 
 use crate::files::Files;
 use crate::refusals::{Failed, Memory};
@@ -86,9 +86,18 @@ pub fn read_whole<F: Files>(
         IfSome (F.holds files.old name.now) (λ held. limit < length held) }
     ensures stops { F.given files.new ≤ limit + 1 }
 
+    // What is left of the file, or of the one before it where the file could not be opened.
+    ensures end { IfWhole result (λ _. IsAtEnd (F.rest files.new)) }
+    ensures left { OnOk result
+        (IsReadUpTo (F.holds files.old name.now) (F.given files.new) (F.rest files.new)) }
+    ensures left_by_error { OnErr result
+        (IsReadUpTo (F.holds files.old name.now) (F.given files.new) (F.rest files.new)
+        ⊎ ((F.given files.new ≡ 0) × (F.rest files.new ≡ F.rest files.old))) }
+
     // A failure, and what stays.
     ensures failed { IsErrOf result ReadError.Failed →
         HasRisen (F.faults files.old) (F.faults files.new) }
+    ensures no_fault { result ≢ Err ReadError.Failed → F.faults files.new ≡ F.faults files.old }
     ensures faults_kept { F.faults files.old ≤ F.faults files.new }
     ensures opens { F.opens files.new ≡ raised (F.opens files.old) 1 }
     ensures holds { F.holds files.new ≡ F.holds files.old }
@@ -108,8 +117,11 @@ fn read_rest<F: Files>(alloc: Global, files: &mut F, limit: usize) -> Result<Loa
     ensures too_long_told { result ≡ Ok Loaded.TooLong →
         IfSome (F.rest files.old) (λ rest. limit < length rest) }
     ensures stops { F.given files.new ≤ limit + 1 }
+    ensures end { IfWhole result (λ _. IsAtEnd (F.rest files.new)) }
+    ensures left { IsReadUpTo (F.rest files.old) (F.given files.new) (F.rest files.new) }
     ensures failed { IsErrOf result ReadError.Failed →
         HasRisen (F.faults files.old) (F.faults files.new) }
+    ensures no_fault { result ≢ Err ReadError.Failed → F.faults files.new ≡ F.faults files.old }
     ensures faults_kept { F.faults files.old ≤ F.faults files.new }
     ensures opens { F.opens files.new ≡ F.opens files.old }
     ensures holds { F.holds files.new ≡ F.holds files.old }
@@ -162,6 +174,7 @@ fn read_behind<F: Files>(files: &mut F, buffer: &mut [u8], filled: usize) -> Res
         (λ n. F.given files.new ≡ raised (F.given files.old) n)
         (λ _. F.given files.new ≡ F.given files.old) }
     ensures failed { OnErr result (HasRisen (F.faults files.old) (F.faults files.new)) }
+    ensures no_fault { OnOk result (F.faults files.new ≡ F.faults files.old) }
     ensures faults_kept { F.faults files.old ≤ F.faults files.new }
     ensures opens { F.opens files.new ≡ F.opens files.old }
     ensures holds { F.holds files.new ≡ F.holds files.old }

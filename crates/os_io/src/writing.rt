@@ -41,6 +41,7 @@ pub fn write_whole<S: Sink>(sink: &mut S, bytes: &[u8]) -> Result<(), WriteError
         HasRisen (S.empty_takes sink.old) (S.empty_takes sink.new) }
 
     // The counts otherwise.
+    ensures no_fault { result ≢ Err WriteError.Failed → S.faults sink.new ≡ S.faults sink.old }
     ensures not_stuck { result ≢ Err WriteError.Stuck →
         S.empty_takes sink.new ≡ S.empty_takes sink.old }
     ensures faults_kept { S.faults sink.old ≤ S.faults sink.new }

@@ -42,6 +42,3 @@ fn tokens_of(alloc: Global, text: &[u8]) -> Result<Vec<Token>, LexError>
     }
     lexer.finish()
 }
-
-#[cfg(test)]
-mod tests;

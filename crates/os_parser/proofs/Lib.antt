@@ -8,7 +8,6 @@ pub mod Sound
 pub mod SoundExprs
 pub mod Follows
 pub mod BackExprs
-pub mod Readings
 pub mod Lists
 pub mod Blocks
 pub mod Taken

@@ -2,6 +2,5 @@ pub mod Kinds
 pub mod Reading
 pub mod Operands
 pub mod Expressions
-pub mod Alone
 pub mod Beginners
 pub mod Statements

@@ -1,8 +1,7 @@
 //! Tokens to trees.
 //!
 //! `parse` reads the one program that a list of tokens means, and answers `Syntax` exactly where the tokens
-//! mean none. `one_reading` is the law that they mean at most one. `parse_expr` and `one_expression` say the
-//! same of an expression alone.
+//! mean none. `one_reading` is the law that they mean at most one.
 //!
 //! The reader goes down the grammar with one function a production, over a `Cursor`, in time linear in the
 //! tokens. Chains are read by loops, and the depth that is left is carried along, so the stack is bounded.
@@ -11,7 +10,6 @@
 //! spelled is given again.
 #![tactic(auto)]
 
-mod alone;
 mod cursor;
 mod depth;
 mod expressions;
@@ -24,9 +22,6 @@ mod reading;
 mod starts;
 mod statements;
 mod stmt;
-#[cfg(test)]
-mod tests;
 
-pub use alone::{one_expression, parse_expr};
 pub use parse_error::ParseError;
 pub use reading::{one_reading, parse};

@@ -14,7 +14,7 @@ use Rattle.osrun_core.specs.declared.first_program.Task.{Task}
 use Rattle.os_lexer.specs.declared.token.Token.{Token}
 use Rattle.osrun_core.specs.declared.first_program_error.FirstProgramError.{FirstProgramError}
 use Rattle.osrun_core.specs.declared.first_program_error.FirstProgramError.TheVariants as errors
-use Rattle.osrun_core.specs.Names as names
+use Rattle.osrun_core.specs.declared.names.TheConstants as names
 use Rattle.osrun_core.specs.FirstProgram.{kinds, spell_indexed, spell, spell_task, spell_next_window}
 use Rattle.osrun_core.specs.Reading.{Reads, Begins, BeginsDeclared, BeginsDeclaration, spell_assigned, spell_claims, spell_copies, spell_body}
 use Rattle.osrun_core.proofs.Repeats.{stuck}
@@ -59,7 +59,7 @@ declaration_read tokens rest (Err errors.Memory) e h = tt
 -- ---- the whole program
 
 abbrev head : List Kind
-head = kind.Key key.Int ∷ kind.Name names.main ∷ kind.Punct punct.OpenParen ∷ kind.Key key.Void ∷ kind.Punct punct.CloseParen ∷ kind.Punct punct.OpenBrace ∷ []
+head = kind.Key key.Int ∷ kind.Name names.MAIN ∷ kind.Punct punct.OpenParen ∷ kind.Key key.Void ∷ kind.Punct punct.CloseParen ∷ kind.Punct punct.OpenBrace ∷ []
 
 body_of_program : (all rest : List Kind) → all ≡ head ++ rest → (p : FirstProgram) → all ≡ spell p → rest ≡ spell_body p ++ []
 body_of_program all rest e p h =

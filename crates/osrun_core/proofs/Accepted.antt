@@ -1,6 +1,6 @@
 -- What the errors of the lexer and the reader say of a text.
-use Rattle.std.proofs.Common.{◌≡◌, ◌∙◌, ℕ, List, Some, refl, subst, sym}
-use Rattle.std.specs.Prelude.{Option}
+use Rattle.std.proofs.Common.{◌≡◌, ◌∙◌, ℕ, List, Some, ap, inr, refl, subst, sym}
+use Rattle.std.specs.Prelude.{Option, ◌⊎◌}
 use Rattle.os_lexer.specs.declared.fault.LexError.{LexError}
 use Rattle.os_lexer.specs.declared.fault.LexError.TheVariants as lex_error
 use Rattle.os_lexer.specs.declared.token.Token.{Token}
@@ -13,7 +13,9 @@ use Rattle.osrun_core.specs.declared.refusal.Refusal.TheVariants as refusal
 use Rattle.osrun_core.specs.FirstProgram.{IsReadingOf}
 use Rattle.osrun_core.specs.FirstProgram.{kinds}
 use Rattle.osrun_core.specs.Program.{IsProgramOf}
-use Rattle.osrun_core.specs.Loading.{IsHeld, IsFaultOrMemory}
+use Rattle.osrun_core.specs.Loading.{IsHeld}
+use Rattle.osrun_core.specs.Refusal.{refusal_status}
+use Rattle.osrun_core.specs.declared.status.Status.TheVariants as statuses
 use Rattle.osrun_core.specs.declared.refusal.Refusal.{Refusal}
 use Rattle.osrun_core.specs.Accepting.{token_refusal, syntax_refusal, IsRefusalOf}
 
@@ -32,11 +34,12 @@ syntax_memory syntax_error.Memory read tokens p same h none = refl
 
 -- a text that is told is the one that was read, and where that is a program, memory alone was wanted
 pub only_memory : (r : Refusal) (told : Option (List ℕ)) (held read text : List ℕ) (p : FirstProgram) → told ≡ Some held → IsHeld told read → text ≡ read
-    → IsProgramOf held p → ((q : FirstProgram) → IsProgramOf text q → r ≡ refusal.Memory) → IsFaultOrMemory r
+    → IsProgramOf held p → ((q : FirstProgram) → IsProgramOf text q → r ≡ refusal.Memory)
+    → (refusal_status r ≡ statuses.ReadFault) ⊎ (refusal_status r ≡ statuses.NoMemory)
 only_memory r told held read text p is_told is_read same h accepted =
     let read_held : IsHeld (Some held) read = subst (λ t. IsHeld t read) is_told is_read in
     let program : IsProgramOf text p = subst (λ t. IsProgramOf t p) (sym (same ∙ read_held)) h in
-    subst IsFaultOrMemory (sym (accepted p program)) tt
+    inr (ap refusal_status (accepted p program))
 
 -- a text whose tokens spell a program isn't refused
 pub not_refused : (text : List ℕ) (read tokens : List Token) (p : FirstProgram) (cause : Refusal) → ((code line : ℕ) → IsFirstFault text code line → ⊥)

@@ -1,124 +1,168 @@
 -- What the status of an answered job says.
-use Rattle.std.proofs.Common.{◌≡◌, ◌∙◌, subst, ℕ, ◌<◌, ◌≤◌, Bool, true, false, cond, List, sym, ap, inl, inr, arith}
-use Rattle.std.specs.Prelude.{◌⊎◌, ◌≢◌}
+use Rattle.std.proofs.Common.{◌≡◌, ◌≢◌, ◌∙◌, ◌⊎◌, subst, ℕ, ◌+◌, ◌<◌, ◌≤◌, Bool, true, false, cond, List, Some, slice_get, length, sym, ap, refl, inl, inr, arith}
+use Rattle.std.proofs.lemmas.Option.{slice_get_within}
+use Rattle.std.specs.Option.{option_map_or}
+use Rattle.std.specs.Io.KnownBytes.{append_known}
+use Rattle.os_io.specs.Counts.{last_count, raised}
 use Rattle.osrun_core.specs.declared.refusal.Refusal.{Refusal}
 use Rattle.osrun_core.specs.declared.refusal.Refusal.TheVariants as refusals
-use Rattle.osrun_core.specs.declared.refusal.Subject.{Subject}
+use Rattle.osrun_core.specs.declared.refusal.Subject.TheVariants as subjects
 use Rattle.osrun_core.specs.declared.status.Status.{Status}
 use Rattle.osrun_core.specs.declared.status.Status.TheVariants as statuses
-use Rattle.osrun_core.specs.Command.{Job}
-use Rattle.osrun_core.specs.JobAnswer.{AnswersJob, IsRunDelivered, IsRunUndelivered}
-use Rattle.osrun_core.specs.JobComplete.{IsRefusing}
-use Rattle.osrun_core.specs.Loading.{FilesCall, IsCauseOf, IsRefusedText, IsTooLong}
-use Rattle.osrun_core.specs.Refusal.{refusal_line, refusal_status}
-use Rattle.osrun_core.specs.Run.{IsRunOfJob}
+use Rattle.osrun_core.specs.Command.{Job, JobFile, files_of}
+use Rattle.osrun_core.specs.Delivers.{IsUndelivered}
+use Rattle.osrun_core.specs.JobAnswer.{MakesRun, AnswersJob}
+use Rattle.osrun_core.specs.Loading.{FilesView, IsCauseOf}
+use Rattle.osrun_core.specs.Refusal.{limit_of, refusal_line, refusal_status}
+use Rattle.osrun_core.specs.Report.{report, status}
+use Rattle.osrun_core.specs.Run.{ProgramRun, IsRunOfJob}
 use Rattle.osrun_core.specs.Status.{number_of}
-use Rattle.osrun_core.specs.Telling.{SinkCall, Tells}
+use Rattle.osrun_core.specs.Telling.{SinkView, Tells}
+use Rattle.osrun_core.specs.Written.{written}
 
 -- a choice between 0 and 1 is below 2
 choice_small : (b : Bool) (n : ℕ) → n ≡ cond b 0 1 → n < 2
 choice_small true n e = omega arith
 choice_small false n e = omega arith
 
--- the status of a run is 0 or 1
-pub own_small : (files : FilesCall) (job : Job) (output_bytes report_bytes : List ℕ) (n : ℕ) → IsRunOfJob files job output_bytes report_bytes n → n < 2
-own_small files job output_bytes report_bytes n made = choice_small _ n made.run.status
+-- the same file stands at the same place
+same_file : (job : Job) (opens n m : ℕ) (file other : JobFile) → slice_get (files_of job) n ≡ Some file → slice_get (files_of job) m ≡ Some other
+    → opens + 2 ≤ last_count → raised opens (n + 1) ≡ raised opens (m + 1) → limit_of file.subject ≡ limit_of other.subject
+same_file job opens n m file other at_n at_m room same =
+    let below_n : n < 2 = slice_get_within (files_of job) n file at_n in
+    let below_m : m < 2 = slice_get_within (files_of job) m other at_m in
+    let place : n ≡ m = omega arith in
+    let found : Some file ≡ Some other = sym at_n ∙ ap (slice_get (files_of job)) place ∙ at_m in
+    ap (λ found. option_map_or (λ (f : JobFile). limit_of f.subject) found 0) found
 
--- the cause of a refusal with status 3 is the text
-refused_cause : (files : FilesCall) (job : Job) (report : SinkCall) (r : Refusal) → number_of (refusal_status r) ≡ 3 → IsCauseOf files job r → Tells report (refusal_line r)
-    → (cause : Refusal) × IsRefusedText files job cause × Tells report (refusal_line cause)
-refused_cause files job report (refusals.Token code line) n cause told = (refusals.Token code line, cause, told)
-refused_cause files job report refusals.NoProgram n cause told = (refusals.NoProgram, cause, told)
-refused_cause files job report (refusals.TooLong subject) n cause told = absurd (omega arith)
-refused_cause files job report (refusals.ReadFault subject) n cause told = absurd (omega arith)
-refused_cause files job report refusals.Memory n cause told = absurd (omega arith)
+-- the number of a status is at most 7
+pub number_small : (s : Status) → number_of s ≤ 7
+number_small statuses.AllDone = omega arith
+number_small statuses.NotAllDone = omega arith
+number_small statuses.BadWords = omega arith
+number_small statuses.Refused = omega arith
+number_small statuses.TooLong = omega arith
+number_small statuses.ReadFault = omega arith
+number_small statuses.WriteFault = omega arith
+number_small statuses.NoMemory = omega arith
 
--- the cause of a refusal with status 4 is a file that is too long
-too_long_cause : (files : FilesCall) (job : Job) (report : SinkCall) (r : Refusal) → number_of (refusal_status r) ≡ 4 → IsCauseOf files job r → Tells report (refusal_line r)
-    → (subject : Subject) × IsTooLong files job subject × Tells report (refusal_line (refusals.TooLong subject))
-too_long_cause files job report (refusals.Token code line) n cause told = absurd (omega arith)
-too_long_cause files job report refusals.NoProgram n cause told = absurd (omega arith)
-too_long_cause files job report (refusals.TooLong subject) n cause told = (subject, cause, told)
-too_long_cause files job report (refusals.ReadFault subject) n cause told = absurd (omega arith)
-too_long_cause files job report refusals.Memory n cause told = absurd (omega arith)
-
--- no refusal has the status of a sink that did not take all
-no_refusal_six : (r : Refusal) → number_of (refusal_status r) ≡ 6 → ⊥
-no_refusal_six (refusals.Token code line) n = omega arith
-no_refusal_six refusals.NoProgram n = omega arith
-no_refusal_six (refusals.TooLong subject) n = omega arith
-no_refusal_six (refusals.ReadFault subject) n = omega arith
-no_refusal_six refusals.Memory n = omega arith
-
--- A status above 1 and other than 6 isn't that of a run, and a status below 7 isn't want of memory: it is
--- that of a refusal that was told.
-pub told_refusal : (files : FilesCall) (job : Job) (out report : SinkCall) (s : Status) → AnswersJob files job out report s → 2 ≤ number_of s → number_of s ≢ 6 → number_of s < 7
-    → (r : Refusal) × (s ≡ refusal_status r) × IsCauseOf files job r × Tells report (refusal_line r)
-told_refusal files job out report s (inl a) two six seven = elim a.delivers [
-  | inl d ↦ absurd (let small : number_of a.own < 2 = own_small files job _ _ _ a.made in let same : number_of s ≡ number_of a.own = ap number_of d.1 in omega arith)
-  | inr d ↦ absurd (six (ap number_of d.1))
-]
-told_refusal files job out report s (inr a) two six seven = elim a.refuses [
-  | inl d ↦ (a.refusal, d.0, a.cause, d.1)
-  | inr d ↦ absurd (let same : number_of s ≡ 7 = ap number_of d.0 in omega arith)
-]
-
-pub refused_answer : (files : FilesCall) (job : Job) (out report : SinkCall) (s : Status) → AnswersJob files job out report s → number_of s ≡ 3
-    → (cause : Refusal) × IsRefusedText files job cause × Tells report (refusal_line cause)
-refused_answer files job out report s a n =
-    let t = told_refusal files job out report s a (omega arith) (λ e. omega arith) (omega arith) in
-    refused_cause files job report t.0 (ap number_of (sym t.1) ∙ n) t.2 t.3
-
-pub too_long_answer : (files : FilesCall) (job : Job) (out report : SinkCall) (s : Status) → AnswersJob files job out report s → number_of s ≡ 4
-    → (subject : Subject) × IsTooLong files job subject × Tells report (refusal_line (refusals.TooLong subject))
-too_long_answer files job out report s a n =
-    let t = told_refusal files job out report s a (omega arith) (λ e. omega arith) (omega arith) in
-    too_long_cause files job report t.0 (ap number_of (sym t.1) ∙ n) t.2 t.3
-
-pub undelivered_answer : (files : FilesCall) (job : Job) (out report : SinkCall) (s : Status) → AnswersJob files job out report s → number_of s ≡ 6
-    → IsRunUndelivered files job out report
-undelivered_answer files job out report s (inl a) n = elim a.delivers [
-  | inl d ↦ absurd (let small : number_of a.own < 2 = own_small files job _ _ _ a.made in let same : number_of s ≡ number_of a.own = ap number_of d.1 in omega arith)
-  | inr d ↦ record { output_bytes = a.output_bytes; report_bytes = a.report_bytes; status_number = number_of a.own; made = a.made; undelivered = d.0 }
-]
-undelivered_answer files job out report s (inr a) n = elim a.refuses [
-  | inl d ↦ absurd (no_refusal_six a.refusal (ap number_of (sym d.0) ∙ n))
-  | inr d ↦ absurd (let same : number_of s ≡ 7 = ap number_of d.0 in omega arith)
-]
-
--- three statuses by their numbers
-pub complete_number : (s : Status) → (s ≡ statuses.AllDone) ⊎ ((s ≡ statuses.NotAllDone) ⊎ (s ≡ statuses.NoMemory)) → (number_of s < 2) ⊎ (number_of s ≡ 7)
-complete_number s (inl e) = inl (let n : number_of s ≡ 0 = ap number_of e in omega arith)
-complete_number s (inr (inl e)) = inl (let n : number_of s ≡ 1 = ap number_of e in omega arith)
-complete_number s (inr (inr e)) = inr (ap number_of e)
-
--- a refusal's status is above 1
-refusal_large : (r : Refusal) → 2 ≤ number_of (refusal_status r)
+-- a refusal's status is 3, 4, 5 or 7
+refusal_large : (r : Refusal) → 3 ≤ number_of (refusal_status r)
 refusal_large (refusals.Token code line) = omega arith
 refusal_large refusals.NoProgram = omega arith
 refusal_large (refusals.TooLong subject) = omega arith
 refusal_large (refusals.ReadFault subject) = omega arith
 refusal_large refusals.Memory = omega arith
 
--- a status below 2 is that of a run that was delivered
-pub delivered_answer : (files : FilesCall) (job : Job) (out report : SinkCall) (s : Status) → AnswersJob files job out report s → number_of s < 2
-    → IsRunDelivered files job out report (number_of s)
-delivered_answer files job out report s (inl a) small = elim a.delivers [
-  | inl d ↦ record {
-    output_bytes = a.output_bytes;
-    report_bytes = a.report_bytes;
-    made = subst (IsRunOfJob files job a.output_bytes a.report_bytes) (ap number_of (sym d.1)) a.made;
-    delivered = d.0;
-  }
-  | inr d ↦ absurd (let same : number_of s ≡ 6 = ap number_of d.1 in omega arith)
-]
-delivered_answer files job out report s (inr a) small = elim a.refuses [
-  | inl d ↦ absurd (let large : 2 ≤ number_of (refusal_status a.refusal) = refusal_large a.refusal in let same : number_of s ≡ number_of (refusal_status a.refusal) = ap number_of d.0 in omega arith)
-  | inr d ↦ absurd (let same : number_of s ≡ 7 = ap number_of d.0 in omega arith)
-]
+module _ {F O E : Type 0} (of_files : FilesView F) (files_old files_new : F) (job : Job)
+    (of_out : SinkView O) (out_old out_new : O) (of_report : SinkView E) (report_old report_new : E) where
+  -- the status of a run is 0 or 1
+  own_small : (output_bytes report_bytes : List ℕ) (own : Status) → MakesRun of_files files_old files_new job output_bytes report_bytes own → number_of own < 2
+  own_small output_bytes report_bytes own made = choice_small _ (number_of own) made.has_status
 
--- three statuses by their numbers
-pub refusing_number : (s : Status) → IsRefusing s → (number_of s ≡ 3) ⊎ ((number_of s ≡ 5) ⊎ (number_of s ≡ 7))
-refusing_number s (inl e) = inl (ap number_of e)
-refusing_number s (inr (inl e)) = inr (inl (ap number_of e))
-refusing_number s (inr (inr e)) = inr (inr (ap number_of e))
+  -- a status below 2 is that of a run that was delivered
+  pub delivered_answer : (s : Status) → AnswersJob of_files files_old files_new job of_out out_old out_new of_report report_old report_new s → number_of s < 2
+      → (run : ProgramRun) × IsRunOfJob (of_files.holds files_old) (of_files.given files_new) job run
+      × (of_out.taken out_new ≡ append_known (of_out.taken out_old) (written run.ends.output))
+      × (of_report.taken report_new ≡ append_known (of_report.taken report_old) (report run.activations (length run.input) run.ends run.control))
+      × (number_of s ≡ status run.ends.ends run.control)
+  delivered_answer s (inl a) small = elim a.delivers [
+    | inl d ↦ let run = a.made.run in (
+      run,
+      a.made.is_run,
+      subst (λ bytes. of_out.taken out_new ≡ append_known (of_out.taken out_old) bytes) a.made.writes d.0,
+      subst (λ bytes. of_report.taken report_new ≡ append_known (of_report.taken report_old) bytes) a.made.reports d.1,
+      ap number_of d.2 ∙ a.made.has_status,
+    )
+    | inr d ↦ absurd (let same : number_of s ≡ 6 = ap number_of d.1 in omega arith)
+  ]
+  delivered_answer s (inr a) small = elim a.refuses [
+    | inl d ↦ absurd (let large : 3 ≤ number_of (refusal_status a.refusal) = refusal_large a.refusal in let same : number_of s ≡ number_of (refusal_status a.refusal) = ap number_of d.0 in omega arith)
+    | inr d ↦ absurd (let same : number_of s ≡ 7 = ap number_of d.0 in omega arith)
+  ]
+
+  -- the status of a run comes after all files were opened
+  pub opened_answer : (s : Status) → AnswersJob of_files files_old files_new job of_out out_old out_new of_report report_old report_new s → (number_of s < 2) ⊎ (number_of s ≡ 6)
+      → of_files.opens files_new ≡ raised (of_files.opens files_old) (length (files_of job))
+  opened_answer s (inl a) is_run = a.made.opened
+  opened_answer s (inr a) is_run = elim a.refuses [
+    | inl d ↦ absurd (let large : 3 ≤ number_of (refusal_status a.refusal) = refusal_large a.refusal in let same : number_of s ≡ number_of (refusal_status a.refusal) = ap number_of d.0 in let small : number_of s ≤ 5 = d.1 in omega arith)
+    | inr d ↦ absurd (let same : number_of s ≡ 7 = ap number_of d.0 in omega arith)
+  ]
+
+  -- a status of 3 to 5 is that of a refusal, whose cause stands and whose line was told
+  pub refused_answer : (s : Status) → AnswersJob of_files files_old files_new job of_out out_old out_new of_report report_old report_new s → 3 ≤ number_of s → number_of s ≤ 5
+      → (r : Refusal) × (number_of s ≡ number_of (refusal_status r)) × IsCauseOf of_files files_old files_new job r × Tells of_report report_old report_new (refusal_line r)
+  refused_answer s (inl a) low high = elim a.delivers [
+    | inl d ↦ absurd (let small : number_of a.own < 2 = own_small _ _ a.own a.made in let same : number_of s ≡ number_of a.own = ap number_of d.2 in omega arith)
+    | inr d ↦ absurd (let same : number_of s ≡ 6 = ap number_of d.1 in omega arith)
+  ]
+  refused_answer s (inr a) low high = elim a.refuses [
+    | inl d ↦ (a.refusal, ap number_of d.0, a.cause, d.2)
+    | inr d ↦ absurd (let same : number_of s ≡ 7 = ap number_of d.0 in omega arith)
+  ]
+
+  -- 6 is the status of a run that was not delivered whole
+  pub undelivered_answer : (s : Status) → AnswersJob of_files files_old files_new job of_out out_old out_new of_report report_old report_new s → number_of s ≡ 6
+      → (run : ProgramRun) × IsRunOfJob (of_files.holds files_old) (of_files.given files_new) job run
+      × IsUndelivered of_out out_old out_new (written run.ends.output) of_report report_old report_new (report run.activations (length run.input) run.ends run.control)
+  undelivered_answer s (inl a) six = elim a.delivers [
+    | inl d ↦ absurd (let small : number_of a.own < 2 = own_small _ _ a.own a.made in let same : number_of s ≡ number_of a.own = ap number_of d.2 in omega arith)
+    | inr d ↦ let run = a.made.run in (
+      run,
+      a.made.is_run,
+      subst (λ bytes. IsUndelivered of_out out_old out_new (written run.ends.output) of_report report_old report_new bytes) a.made.reports
+          (subst (λ bytes. IsUndelivered of_out out_old out_new bytes of_report report_old report_new a.report_bytes) a.made.writes d.0),
+    )
+  ]
+  undelivered_answer s (inr a) six = elim a.refuses [
+    | inl d ↦ absurd (let small : number_of s ≤ 5 = d.1 in omega arith)
+    | inr d ↦ absurd (let same : number_of s ≡ 7 = ap number_of d.0 in omega arith)
+  ]
+
+  -- 7 leaves the report as it was
+  pub memory_answer : (s : Status) → AnswersJob of_files files_old files_new job of_out out_old out_new of_report report_old report_new s → number_of s ≡ 7 → report_new ≡ report_old
+  memory_answer s (inl a) seven = elim a.delivers [
+    | inl d ↦ absurd (let small : number_of a.own < 2 = own_small _ _ a.own a.made in let same : number_of s ≡ number_of a.own = ap number_of d.2 in omega arith)
+    | inr d ↦ absurd (let same : number_of s ≡ 6 = ap number_of d.1 in omega arith)
+  ]
+  memory_answer s (inr a) seven = elim a.refuses [
+    | inl d ↦ absurd (let small : number_of s ≤ 5 = d.1 in omega arith)
+    | inr d ↦ d.1
+  ]
+
+  -- a status that isn't that of a run leaves the output as it was
+  pub unwritten_answer : (s : Status) → AnswersJob of_files files_old files_new job of_out out_old out_new of_report report_old report_new s → 2 ≤ number_of s → number_of s ≢ 6 → out_new ≡ out_old
+  unwritten_answer s (inl a) large other = elim a.delivers [
+    | inl d ↦ absurd (let small : number_of a.own < 2 = own_small _ _ a.own a.made in let same : number_of s ≡ number_of a.own = ap number_of d.2 in omega arith)
+    | inr d ↦ absurd (other (ap number_of d.1))
+  ]
+  unwritten_answer s (inr a) large other = a.nothing_written
+
+  -- a file of which more than its limit was given is too long
+  past_limit : (r : Refusal) (place : ℕ) (file : JobFile) → IsCauseOf of_files files_old files_new job r → slice_get (files_of job) place ≡ Some file
+      → of_files.opens files_old + 2 ≤ last_count → of_files.opens files_new ≡ raised (of_files.opens files_old) (place + 1) → limit_of file.subject < of_files.given files_new
+      → (number_of (refusal_status r) ≡ 4) ⊎ (number_of (refusal_status r) ≡ 7)
+  past_limit (refusals.TooLong subject) place file cause at room opened more = inl refl
+  past_limit (refusals.ReadFault subject) place file cause at room opened more =
+      let same : limit_of file.subject ≡ limit_of subject = same_file job (of_files.opens files_old) place cause.came.place file (record { subject = subject; name = cause.came.name }) at cause.came.is_there room (sym opened ∙ cause.came.opened) in
+      absurd (omega (arith, cause.within))
+  past_limit (refusals.Token code line) place file cause at room opened more =
+      let same : limit_of file.subject ≡ limit_of subjects.Program = same_file job (of_files.opens files_old) place cause.came.place file (record { subject = subjects.Program; name = cause.came.name }) at cause.came.is_there room (sym opened ∙ cause.came.opened) in
+      absurd (omega (arith, cause.whole, cause.fits))
+  past_limit refusals.NoProgram place file cause at room opened more =
+      let same : limit_of file.subject ≡ limit_of subjects.Program = same_file job (of_files.opens files_old) place cause.came.place file (record { subject = subjects.Program; name = cause.came.name }) at cause.came.is_there room (sym opened ∙ cause.came.opened) in
+      absurd (omega (arith, cause.whole, cause.fits))
+  past_limit refusals.Memory place file cause at room opened more = inr refl
+
+  pub too_long_answer : (s : Status) → AnswersJob of_files files_old files_new job of_out out_old out_new of_report report_old report_new s → (place : ℕ) (file : JobFile)
+      → slice_get (files_of job) place ≡ Some file → of_files.opens files_old + 2 ≤ last_count → of_files.opens files_new ≡ raised (of_files.opens files_old) (place + 1)
+      → limit_of file.subject < of_files.given files_new → (number_of s ≡ 4) ⊎ (number_of s ≡ 7)
+  too_long_answer s (inl a) place file at room opened more =
+      let run = a.made.is_run in
+      let same : limit_of file.subject ≡ limit_of subjects.Input = same_file job (of_files.opens files_old) place 1 file (record { subject = subjects.Input; name = job.input }) at refl room (sym opened ∙ a.made.opened) in
+      absurd (omega (arith, run.input_whole, run.input_fits))
+  too_long_answer s (inr a) place file at room opened more = elim a.refuses [
+    | inl d ↦ subst (λ n. (n ≡ 4) ⊎ (n ≡ 7)) (sym (ap number_of d.0)) (past_limit a.refusal place file a.cause at room opened more)
+    | inr d ↦ inr (ap number_of d.0)
+  ]

@@ -1,32 +1,30 @@
 -- The elements that a first program writes are bytes.
-use Rattle.std.proofs.Common.{◌≡◌, ℕ, ℤ, pos, zero, suc, ◌+◌, ◌<◌, ◌≤◌, Bool, true, false, cond, nat_eq, List, [], ◌∷◌, Option, Some, None, All, length, get_or, refl, sym, ◌∙◌, ap, subst, arith, inl, inr, zero-add, ◌-◌, sum_by}
+use Rattle.std.proofs.Common.{◌≡◌, ℕ, ℤ, pos, zero, suc, ◌+◌, ◌<◌, ◌≤◌, Bool, true, false, cond, nat_eq, List, [], ◌∷◌, Option, Some, None, All, length, get_or, refl, sym, ◌∙◌, ap, subst, arith, inl, inr, zero-add}
 use Rattle.std.specs.Prelude.{slice_get, option_and_then}
 use Rattle.std.specs.Option.{option_map, option_map_or, option_or, IfSome}
 use Rattle.std.proofs.lemmas.Int.{ints}
 use Rattle.std.proofs.lemmas.Bool.{cases_lt}
-use Rattle.std.proofs.lemmas.List.{get_or_past, take_all}
+use Rattle.std.proofs.lemmas.List.{get_or_past}
 use Rattle.std.proofs.lemmas.List.Elements.{All-cons, All-head, All-tail, All-nil}
 use Rattle.std.proofs.lemmas.List.FromFn.{get_or-map-range_with_len, length-map-range_with_len}
 use Rattle.std.proofs.lemmas.Option.{slice_get-get_or, slice_get_past, get_or_from_slice_get, same_Some}
-use Rattle.flow_core.specs.Element.{element, output_at}
+use Rattle.flow_core.specs.Element.{output_at}
 use Rattle.flow_core.specs.Laws.{IsFixed, OfStreams}
-use Rattle.flow_core.specs.Outcome.{Outcome, State, outcome_at, delivered}
+use Rattle.flow_core.specs.declared.outcome.Outcome.{Outcome}
+use Rattle.flow_core.specs.Outcome.{State, outcome_at}
 use Rattle.flow_core.specs.Round.{gathered}
-use Rattle.flow_core.specs.Streams.{stream_source, written_count}
 use Rattle.osrun_core.specs.declared.first_program.FirstProgram.{FirstProgram}
 use Rattle.osrun_core.specs.declared.first_program.Task.{Task}
 use Rattle.osrun_core.specs.declared.first_program.ElementCopy.{ElementCopy}
 use Rattle.osrun_core.specs.declared.first_program.Source.{Source}
 use Rattle.osrun_core.specs.declared.first_program.Source.TheVariants as source
 use Rattle.osrun_core.specs.FirstProgram.{size_of, horizon, IsSource, IsCopy, IsFirstProgram}
-use Rattle.osrun_core.specs.FirstPlan.{no_task, task_at, output_first, input_first, window_cells, task_cells}
+use Rattle.osrun_core.specs.FirstPlan.{no_task, task_at, input_first, window_cells, task_cells}
 use Rattle.osrun_core.specs.FirstReport.{IsByte, IsByteIfThere}
-use Rattle.osrun_core.specs.Meaning.{last_source, value_of, element_of, outputs_of, body, activations, meaning}
-use Rattle.osrun_core.specs.Written.{output_elements}
-use Rattle.osrun_core.proofs.Laid.{output_at as writer_at}
+use Rattle.osrun_core.specs.Meaning.{last_source, value_of, element_of, outputs_of, body, meaning, program_ends}
+use Rattle.osrun_core.proofs.Claimed.{element-of_task}
 use Rattle.osrun_core.proofs.Meant.{outcome-task}
 use Rattle.osrun_core.proofs.Serves.{body-outputs}
-use Rattle.osrun_core.proofs.Windows.{stream_source-output, written_count-tasks}
 
 byte-number : (n : ℕ) → n ≤ 255 → IsByte (pos n)
 byte-number n h = (omega (arith, ints), omega (arith, ints))
@@ -92,29 +90,20 @@ byte-outputs sizes t inputs size j bytes rules =
 byte-output : (p : FirstProgram) (input : List ℕ) (state : State) (k j : ℕ) (inputs : Option (List ℤ)) → IsFirstProgram p → ((i : ℕ) → get_or input i 0 < 256) → k < length p.tasks
     → gathered (task_cells (size_of p.windows) p.tasks input k) ≡ inputs → outcome_at state k ≡ option_map (body p k) inputs → IsByteIfThere (output_at state k j)
 byte-output p input state k j None rules bytes h e out =
-    subst IsByteIfThere (sym (ap (λ o. option_and_then (λ (o : Outcome). slice_get (delivered o.end o.outputs) j) o) out)) tt
+    subst IsByteIfThere (sym (ap (λ o. option_and_then (λ (o : Outcome). slice_get o.outputs j) o) out)) tt
 byte-output p input state k j (Some inputs) rules bytes h e out =
     let sizes = size_of p.windows in
     let t = task_at p.tasks k in
     subst IsByteIfThere
-    (sym (ap (λ o. option_and_then (λ (o : Outcome). slice_get (delivered o.end o.outputs) j) o) out ∙ ap (λ xs. slice_get xs j) (body-outputs p k inputs h)))
+    (sym (ap (λ o. option_and_then (λ (o : Outcome). slice_get o.outputs j) o) out ∙ ap (λ xs. slice_get xs j) (body-outputs p k inputs h)))
     (byte-outputs sizes t inputs (horizon sizes t.output) j
     (bytes-window input (input_first p.tasks k) (horizon sizes t.input) inputs bytes e)
     (rules.tasks k no_task h).copies)
 
 -- every element of the output is a byte, where it is there
-pub bytes-output : OfStreams IsFixed → (p : FirstProgram) (input : List ℕ) → IsFirstProgram p → ((i : ℕ) → get_or input i 0 < 256) → All IsByteIfThere (output_elements (activations p) input (meaning p input))
+pub bytes-output : OfStreams IsFixed → (p : FirstProgram) (input : List ℕ) → IsFirstProgram p → ((i : ℕ) → get_or input i 0 < 256) → All IsByteIfThere (program_ends p input).output
 bytes-output fixed p input rules bytes q d h =
     let sizes = size_of p.windows in
-    let ts = p.tasks in
-    let state = meaning p input in
-    let source : ℕ → Option ℤ = λ position. element state (stream_source (activations p) input 1 position) in
-    let n = length-map-range_with_len source 0 (written_count (activations p) 1) in
-    let w = written_count-tasks sizes ts in
-    let all = ap (sum_by (λ (t : Task). horizon sizes t.output)) (take_all (length ts) ts (omega arith)) in
-    let by = writer_at sizes ts (length ts) q (omega arith) (omega arith) in
-    let is : get_or (output_elements (activations p) input state) q d ≡ output_at state by.0 (q - output_first sizes ts by.0) =
-    get_or-map-range_with_len source 0 (written_count (activations p) 1) q q d (omega arith) (zero-add q)
-    ∙ ap (element state) (stream_source-output sizes ts input by.0 q by.1 by.2 by.3) in
-    subst IsByteIfThere (sym is)
-    (byte-output p input state by.0 (q - output_first sizes ts by.0) (gathered (task_cells sizes ts input by.0)) rules bytes by.1 refl (outcome-task fixed sizes ts input (body p) by.0 by.1))
+    let of = element-of_task p input q d h in
+    subst IsByteIfThere (sym of.is_found)
+    (byte-output p input (meaning p input) of.task of.place (gathered (task_cells sizes p.tasks input of.task)) rules bytes of.is_task refl (outcome-task fixed sizes p.tasks input (body p) of.task of.is_task))

@@ -2,6 +2,8 @@ pub mod Absent
 pub mod Accepted
 pub mod Answered
 pub mod Bytes
+pub mod Came
+pub mod Claimed
 pub mod Declared
 pub mod Fits
 pub mod Laid
@@ -10,6 +12,7 @@ pub mod Meant
 pub mod Outputs
 pub mod Parts
 pub mod Plannable
+pub mod Prefixes
 pub mod Ranges
 pub mod Repeats
 pub mod Reported
@@ -20,4 +23,3 @@ pub mod Stands
 pub mod TaskCounts
 pub mod Tasks
 pub mod Windows
-pub mod Streams

@@ -1,9 +1,14 @@
 -- Lists over ranges of numbers, and the cells that a range names.
-use Rattle.std.proofs.Common.{◌≡◌, ℕ, ℤ, zero, suc, ◌+◌, ◌<◌, ◌≤◌, Bool, true, false, cond, List, [], ◌∷◌, ◌++◌, Option, Some, None, length, take, map, replicate, count_by, sum_by, is_none, find, refl, sym, ◌∙◌, ap, arith, zero-add, add-zero, inl, inr}
+use Rattle.std.proofs.Common.{◌≡◌, ℕ, ℤ, zero, suc, ◌+◌, ◌<◌, ◌≤◌, Bool, true, false, cond, List, [], ◌∷◌, ◌++◌, Option, Some, None, length, take, map, replicate, count_by, sum_by, is_none, find, ltb, refl, sym, ◌∙◌, ap, arith, zero-add, add-zero, inl, inr}
 use Rattle.std.specs.List.{range_with_len, flat_map}
+use Rattle.std.specs.Option.{option_or}
+use Rattle.std.proofs.lemmas.List.Folds.{find-append}
 use Rattle.std.proofs.lemmas.List.{append_assoc, get_or_at, length_push, take-take}
 use Rattle.std.proofs.lemmas.List.Sums.{sum_by-cons, sum_by-take-le}
-use Rattle.std.proofs.lemmas.Bool.{cases_eq}
+use Rattle.std.proofs.lemmas.Bool.{cases_eq, lt-ltb, le-ltb}
+use Rattle.std.specs.List.{position, position_or_len}
+use Rattle.std.proofs.lemmas.List.FromFn.{get_or-map-range_with_len, length-map-range_with_len}
+use Rattle.std.proofs.lemmas.List.Sums.{position_or_len_is}
 use Rattle.flow_core.specs.Plans.{value_at}
 
 -- two functions that agree on a range give the same list
@@ -53,12 +58,6 @@ count-replicate (suc n) =
     let h = count-replicate n in
     e ∙ ap (λ m. 1 + m) h ∙ omega arith
 
--- nothing is found where no image passes
-pub find-range-none : {X : Type 0} (p : X → Bool) (f : ℕ → X) (a n : ℕ) → ((k : ℕ) → p (f k) ≡ false) → find p (map f (range_with_len a n)) ≡ None
-find-range-none p f a zero h = refl
-find-range-none p f a (suc n) h =
-    ap (λ b. cond b (Some (f a)) (find p (map f (range_with_len (a + 1) n)))) (h a) ∙ find-range-none p f (a + 1) n h
-
 -- the first image that passes is found
 pub find-range : {X : Type 0} (p : X → Bool) (f : ℕ → X) (a n k : ℕ) → a ≤ k → k < a + n → p (f k) ≡ true → ((j : ℕ) → a ≤ j → j < k → p (f j) ≡ false)
     → find p (map f (range_with_len a n)) ≡ Some (f k)
@@ -96,3 +95,37 @@ flat_map-range-same f g a zero h = refl
 flat_map-range-same f g a (suc n) h =
     ap (λ xs. xs ++ flat_map f (range_with_len (a + 1) n)) (h a (omega arith) (omega arith))
     ∙ ap (λ ys. g a ++ ys) (flat_map-range-same f g (a + 1) n (λ k l u. h k (omega arith) (omega arith)))
+
+-- the first image that passes, by its number
+pub position-range-none : {X : Type 0} (p : X → Bool) (f : ℕ → X) (a n : ℕ) → ((k : ℕ) → p (f k) ≡ false) → position p (map f (range_with_len a n)) ≡ None
+position-range-none p f a n h =
+    let l = length-map-range_with_len f a n in
+    let e : position_or_len p (map f (range_with_len a n)) ≡ length (map f (range_with_len a n)) = position_or_len_is p (map f (range_with_len a n)) (length (map f (range_with_len a n))) (f a) (omega arith)
+    (λ k lt. ap p (get_or-map-range_with_len f a n k (a + k) (f a) (omega arith) refl) ∙ h (a + k)) (λ lt. absurd (omega arith)) in
+    ap (λ i. cond (ltb i (length (map f (range_with_len a n)))) (Some i) None) e ∙ ap (λ b. cond b (Some (length (map f (range_with_len a n)))) None) (le-ltb _ _ (omega arith))
+
+pub position-range : {X : Type 0} (p : X → Bool) (f : ℕ → X) (n k : ℕ) → k < n → p (f k) ≡ true → ((j : ℕ) → j < k → p (f j) ≡ false) → position p (map f (range_with_len 0 n)) ≡ Some k
+position-range p f n k below passes earlier =
+    let l = length-map-range_with_len f 0 n in
+    let e : position_or_len p (map f (range_with_len 0 n)) ≡ k = position_or_len_is p (map f (range_with_len 0 n)) k (f 0) (omega arith)
+    (λ j lt. ap p (get_or-map-range_with_len f 0 n j j (f 0) (omega arith) (zero-add j)) ∙ earlier j lt) (λ lt. ap p (get_or-map-range_with_len f 0 n k k (f 0) below (zero-add k)) ∙ passes) in
+    ap (λ i. cond (ltb i (length (map f (range_with_len 0 n)))) (Some i) None) e ∙ ap (λ b. cond b (Some k) None) (lt-ltb k (length (map f (range_with_len 0 n))) (omega arith))
+
+-- ---- searches through parts
+
+-- nothing is found where no part has it
+pub find-parts-none : {X : Type 0} (test : X → Bool) (f : ℕ → List X) (a n : ℕ) → ((k : ℕ) → a ≤ k → k < a + n → find test (f k) ≡ None) → find test (flat_map f (range_with_len a n)) ≡ None
+find-parts-none test f a zero h = refl
+find-parts-none test f a (suc n) h =
+    find-append test (f a) (flat_map f (range_with_len (a + 1) n))
+    ∙ ap (λ o. option_or o (find test (flat_map f (range_with_len (a + 1) n)))) (h a (omega arith) (omega arith))
+    ∙ find-parts-none test f (a + 1) n (λ k l u. h k (omega arith) (omega arith))
+
+-- what the first part that has it gives is found
+pub find-parts : {X : Type 0} (test : X → Bool) (f : ℕ → List X) (a n k : ℕ) (x : X) → a ≤ k → k < a + n → find test (f k) ≡ Some x → ((j : ℕ) → a ≤ j → j < k → find test (f j) ≡ None) → find test (flat_map f (range_with_len a n)) ≡ Some x
+find-parts test f a zero k x from below here earlier = absurd (omega arith)
+find-parts test f a (suc n) k x from below here earlier = find-append test (f a) (flat_map f (range_with_len (a + 1) n)) ∙ elim (cases_eq a k) [
+  | inl e ↦ ap (λ o. option_or o (find test (flat_map f (range_with_len (a + 1) n)))) (ap (λ j. find test (f j)) e ∙ here)
+  | inr d ↦ ap (λ o. option_or o (find test (flat_map f (range_with_len (a + 1) n)))) (earlier a (omega arith) (omega arith))
+      ∙ find-parts test f (a + 1) n k x (omega arith) (omega arith) here (λ j l u. earlier j (omega arith) u)
+]

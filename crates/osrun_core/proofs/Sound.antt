@@ -1,5 +1,6 @@
 -- The plan of tasks is sound.
-use Rattle.std.proofs.Common.{◌≡◌, ℕ, ◌+◌, ◌<◌, ◌≤◌, ◌↔◌, ◌⊎◌, List, Option, Some, None, length, count_by, is_none, refl, sym, ◌∙◌, ap, subst, arith, inl, inr}
+use Rattle.std.proofs.Common.{◌≡◌, ℕ, zero, suc, ◌+◌, ◌<◌, ◌≤◌, ◌↔◌, ◌⊎◌, List, Option, Some, None, length, count_by, is_none, refl, sym, ◌∙◌, ap, subst, arith, inl, inr, sum_by, zero-add}
+use Rattle.std.proofs.lemmas.List.FromFn.{sum_by-map-range_with_len_more}
 use Rattle.std.specs.Prelude.{slice_get}
 use Rattle.std.specs.List.{range_with_len}
 use Rattle.std.proofs.lemmas.Bool.{cases_eq, cases_order}
@@ -10,10 +11,10 @@ use Rattle.flow_core.specs.Plans.{frame_at, cells_of, value_at}
 use Rattle.flow_core.specs.IsSound.{HasCell, Covers, IsSoundPiece, IsSound}
 use Rattle.osrun_core.specs.declared.first_program.Task.{Task}
 use Rattle.osrun_core.specs.FirstProgram.{horizon}
-use Rattle.osrun_core.specs.FirstPlan.{no_task, task_at, output_first, first_cell, ArePlannable, IsPlanOf, frame_of, piece_of}
+use Rattle.osrun_core.specs.FirstPlan.{no_task, task_at, output_first, first_cell, ArePlannable, IsPlanOf, frame_of, frames_of, piece_of}
 use Rattle.osrun_core.proofs.Ranges.{count-map, count-replicate}
 use Rattle.osrun_core.proofs.Tasks.{cells-le}
-use Rattle.osrun_core.proofs.Laid.{sink_of, first_cell-apart, output_first-apart, length-frames, length-pieces, length-filled, frame_at-task, frame_at-sink, frame_cell, piece_at, values-task, values-sink, value-sink}
+use Rattle.osrun_core.proofs.Laid.{sink_of, output_first-next, first_cell-apart, output_first-apart, length-frames, length-pieces, length-filled, frame_at-task, frame_at-sink, frame_cell, piece_at, values-task, values-sink, value-sink}
 
 module _ (sizes : ℕ → Option ℕ) (ts : List Task) (input : List ℕ) (plan : Plan) (plannable : ArePlannable sizes ts) (laid : IsPlanOf sizes ts input plan) where
   -- a frame is a task's or the sink
@@ -24,6 +25,23 @@ module _ (sizes : ℕ → Option ℕ) (ts : List Task) (input : List ℕ) (plan 
         | inl e ↦ inr (e, frame_at-sink sizes ts input plan laid f e)
         | inr d ↦ (let l : f < length ts = omega arith in inl (l, frame_at-task sizes ts input plan laid f l))
       ]
+
+  outputs_are_few : (f : ℕ) → f ≤ length plan.frames → (frame_at plan f).outputs ≤ 4194304
+  outputs_are_few f h = elim (frame_cases f h) [
+    | inl t ↦ (let b = cells-le sizes ts 0 (f + 1) plannable in let n = output_first-next sizes ts f t.0 in
+        subst (λ (x : FramePlan). x.outputs ≤ 4194304) (sym t.1) (omega arith))
+    | inr s ↦ subst (λ (x : FramePlan). x.outputs ≤ 4194304) (sym s.1) (omega arith)
+  ]
+
+  -- the outputs of the first frames
+  outputs_sum : (k : ℕ) → k ≤ length ts → sum_by (λ (x : FramePlan). x.outputs) (frames_of sizes ts input k) ≡ output_first sizes ts k
+  outputs_sum zero h = refl
+  outputs_sum (suc k) h =
+      let e : suc k ≡ k + 1 = omega arith in
+      ap (λ n. sum_by (λ (x : FramePlan). x.outputs) (frames_of sizes ts input n)) e
+      ∙ sum_by-map-range_with_len_more (λ (x : FramePlan). x.outputs) (frame_of sizes ts input) 0 k k (zero-add k)
+      ∙ ap (λ n. n + horizon sizes (task_at ts k).output) (outputs_sum k (omega arith))
+      ∙ sym (ap (output_first sizes ts) e ∙ output_first-next sizes ts k (omega arith))
 
   cells_exist : (f : ℕ) → f ≤ length plan.frames → (frame_at plan f).cell + (frame_at plan f).inputs ≤ length plan.filled
   cells_exist f h =
@@ -138,6 +156,8 @@ module _ (sizes : ℕ → Option ℕ) (ts : List Task) (input : List ℕ) (plan 
       record {
         frames_are_few = omega arith;
         cells_are_few = omega arith;
+        outputs_are_few = outputs_are_few;
+        all_outputs_are_few = let e = ap (sum_by (λ (x : FramePlan). x.outputs)) laid.frames ∙ outputs_sum (length ts) (omega arith) in omega arith;
         cells_exist = cells_exist;
         cells_are_apart = cells_are_apart;
         wait_counts = wait_counts;

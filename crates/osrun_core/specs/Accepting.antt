@@ -1,7 +1,6 @@
 -- What accepting a text answers.
-use Rattle.std.specs.Prelude.{◌≡◌, ℕ, List, Result, Ok, Err}
+use Rattle.std.specs.Prelude.{ℕ, List}
 use Rattle.os_lexer.specs.Cover.{IsFirstFault}
-use Rattle.osrun_core.specs.declared.first_program.FirstProgram.{FirstProgram}
 use Rattle.osrun_core.specs.declared.refusal.Refusal.{Refusal}
 use Rattle.osrun_core.specs.declared.refusal.Refusal.TheVariants as refusal
 use Rattle.os_lexer.specs.declared.fault.LexError.{LexError}
@@ -29,16 +28,3 @@ IsRefusalOf text refusal.NoProgram = IsNoProgram text
 IsRefusalOf text (refusal.TooLong subject) = ⊥
 IsRefusalOf text (refusal.ReadFault subject) = ⊥
 IsRefusalOf text refusal.Memory = ⊥
-
--- the text is refused so, or memory could not be had
-abbrev pub IsTextRefusal : List ℕ → Refusal → Type 0
-IsTextRefusal text (refusal.Token code line_number) = IsRefusalOf text (refusal.Token code line_number)
-IsTextRefusal text refusal.NoProgram = IsRefusalOf text refusal.NoProgram
-IsTextRefusal text (refusal.TooLong subject) = ⊥
-IsTextRefusal text (refusal.ReadFault subject) = ⊥
-IsTextRefusal text refusal.Memory = Unit {0}
-
--- a program is answered, unless memory ran out
-abbrev pub IsAcceptedUnlessMemory : Result FirstProgram Refusal → Type 0
-IsAcceptedUnlessMemory (Ok p) = Unit {0}
-IsAcceptedUnlessMemory (Err e) = e ≡ refusal.Memory

@@ -1,22 +1,18 @@
 -- How a run is delivered.
-use Rattle.std.specs.Prelude.{◌≡◌, ℕ, List, ◌⊎◌}
+use Rattle.std.specs.Prelude.{◌≡◌, List, ℕ, ◌⊎◌}
 use Rattle.osrun_core.specs.declared.status.Status.{Status}
 use Rattle.osrun_core.specs.declared.status.Status.TheVariants.{WriteFault}
-use Rattle.osrun_core.specs.Telling.{SinkCall, Took, TookNothing, IsCutShort}
+use Rattle.osrun_core.specs.Telling.{SinkView, Took, IsCutShort}
 
--- the output and the report were taken whole
-pub record IsDelivered (output_bytes report_bytes : List ℕ) (out report : SinkCall) : Type 0 where
-  pub written : Took out output_bytes
-  pub reported : Took report report_bytes
-
--- Either the output was cut short and nothing was reported, or the output was written and the report was cut
--- short, for a cause of the sink that did not take all.
-abbrev pub IsUndelivered : List ℕ → List ℕ → SinkCall → SinkCall → Type 0
-IsUndelivered output_bytes report_bytes out report =
-    (IsCutShort out output_bytes × TookNothing report) ⊎ (Took out output_bytes × IsCutShort report report_bytes)
+-- Either the output was cut short and the report is as it was, or the output was written and the report was
+-- cut short, for a cause of the sink that did not take all.
+abbrev pub IsUndelivered : {O E : Type 0} → SinkView O → O → O → List ℕ → SinkView E → E → E → List ℕ → Type 0
+IsUndelivered of_out out_old out_new output_bytes of_report report_old report_new report_bytes =
+    (IsCutShort of_out out_old out_new output_bytes × (report_new ≡ report_old))
+    ⊎ (Took of_out out_old out_new output_bytes × IsCutShort of_report report_old report_new report_bytes)
 
 -- all was delivered and the run's own status is answered, or not all was delivered
-abbrev pub Delivers : List ℕ → List ℕ → SinkCall → SinkCall → Status → Status → Type 0
-Delivers output_bytes report_bytes out report own answered =
-    (IsDelivered output_bytes report_bytes out report × (answered ≡ own))
-    ⊎ (IsUndelivered output_bytes report_bytes out report × (answered ≡ WriteFault))
+abbrev pub Delivers : {O E : Type 0} → SinkView O → O → O → List ℕ → SinkView E → E → E → List ℕ → Status → Status → Type 0
+Delivers of_out out_old out_new output_bytes of_report report_old report_new report_bytes own answered =
+    (Took of_out out_old out_new output_bytes × Took of_report report_old report_new report_bytes × (answered ≡ own))
+    ⊎ (IsUndelivered of_out out_old out_new output_bytes of_report report_old report_new report_bytes × (answered ≡ WriteFault))

@@ -6,7 +6,7 @@ use Rattle.os_lexer.specs.declared.token.Kind.{Kind}
 use Rattle.os_lexer.specs.declared.token.Kind.TheVariants as kind
 use Rattle.os_lexer.specs.declared.token.Key.TheVariants as key
 use Rattle.os_lexer.specs.declared.token.Punct.TheVariants as punct
-use Rattle.osrun_core.specs.Names as names
+use Rattle.osrun_core.specs.declared.names.TheConstants as names
 use Rattle.osrun_core.specs.declared.first_program.FirstProgram.{FirstProgram}
 use Rattle.osrun_core.specs.declared.first_program.Window.{Window}
 use Rattle.osrun_core.specs.declared.first_program.Task.{Task}
@@ -43,19 +43,19 @@ spell_copy c =
 -- input = "input" "(" "osin" ">>" name "[" number "]" ")"
 abbrev pub spell_input : ℕ → ℕ → List Kind
 spell_input name burst =
-    (kind.Name names.input ∷ kind.Punct punct.OpenParen ∷ kind.Name names.osin ∷ kind.Punct punct.ShiftRight ∷ [])
+    (kind.Name names.INPUT ∷ kind.Punct punct.OpenParen ∷ kind.Name names.OSIN ∷ kind.Punct punct.ShiftRight ∷ [])
     ++ (spell_indexed name burst ++ (kind.Punct punct.CloseParen ∷ []))
 
 -- output = "output" "(" "osout" "<<" name "[" number "]" ")"
 abbrev pub spell_output : ℕ → ℕ → List Kind
 spell_output name burst =
-    (kind.Name names.output ∷ kind.Punct punct.OpenParen ∷ kind.Name names.osout ∷ kind.Punct punct.ShiftLeft ∷ [])
+    (kind.Name names.OUTPUT ∷ kind.Punct punct.OpenParen ∷ kind.Name names.OSOUT ∷ kind.Punct punct.ShiftLeft ∷ [])
     ++ (spell_indexed name burst ++ (kind.Punct punct.CloseParen ∷ []))
 
 -- task = PragmaStart "omp" "task" input output PragmaEnd "{" { copy } "}"
 abbrev pub spell_task : Task → List Kind
 spell_task t =
-    (kind.PragmaStart ∷ kind.Name names.omp ∷ kind.Name names.task ∷ [])
+    (kind.PragmaStart ∷ kind.Name names.OMP ∷ kind.Name names.TASK ∷ [])
     ++ (spell_input t.input t.input_burst
     ++ (spell_output t.output t.output_burst
     ++ ((kind.PragmaEnd ∷ kind.Punct punct.OpenBrace ∷ [])
@@ -78,7 +78,7 @@ spell_windows (w ∷ ws) =
 -- first = "int" "main" "(" "void" ")" "{" declaration { task } "}"
 abbrev pub spell : FirstProgram → List Kind
 spell p =
-    (kind.Key key.Int ∷ kind.Name names.main ∷ kind.Punct punct.OpenParen ∷ kind.Key key.Void ∷ kind.Punct punct.CloseParen ∷ kind.Punct punct.OpenBrace ∷ [])
+    (kind.Key key.Int ∷ kind.Name names.MAIN ∷ kind.Punct punct.OpenParen ∷ kind.Key key.Void ∷ kind.Punct punct.CloseParen ∷ kind.Punct punct.OpenBrace ∷ [])
     ++ (spell_windows p.windows ++ (flat_map spell_task p.tasks ++ (kind.Punct punct.CloseBrace ∷ [])))
 
 -- ---- the rules
@@ -98,9 +98,9 @@ horizons sizes t = horizon sizes t.input + horizon sizes t.output
 
 -- a window may be declared so
 pub record IsWindow (w : Window) : Type 0 where
-  pub not_osin : w.name ≢ names.osin
-  pub not_osout : w.name ≢ names.osout
-  pub not_osin_len : w.name ≢ names.osin_len
+  pub not_osin : w.name ≢ names.OSIN
+  pub not_osout : w.name ≢ names.OSOUT
+  pub not_osin_len : w.name ≢ names.OSIN_LEN
   pub smallest : 1 ≤ w.size
   pub largest : w.size ≤ 65536
 

@@ -1,13 +1,12 @@
 -- The output and the report of a first program, by sums over its tasks. It serves the proofs of the code
 -- that writes them: what they promise is the output, the report and the status of the run.
-use Rattle.std.specs.Prelude.{ℕ, ℤ, pos, ◌≤ℤ◌, ◌++◌, Bool, false, List, [], Option, Some, None, is_none, codes, max, slice_index_or, if◌then◌else◌}
+use Rattle.std.specs.Prelude.{ℕ, ℤ, pos, ◌≤ℤ◌, ◌++◌, List, [], Option, Some, None, is_none, codes, max, slice_index_or, if◌then◌else◌}
 use Rattle.std.specs.List.{range_with_len, flat_map}
 use Rattle.std.specs.Fmt.{decimal}
 use Rattle.flow_core.specs.declared.task_end.TaskEnd.{TaskEnd}
 use Rattle.osrun_core.specs.declared.first_program.Task.{Task}
 use Rattle.osrun_core.specs.FirstPlan.{input_first}
 use Rattle.osrun_core.specs.Line.{line}
-use Rattle.osrun_core.specs.Report.{is_done_end}
 
 -- an element that is a byte
 abbrev pub IsByte : ℤ → Type 0
@@ -17,11 +16,6 @@ IsByte value = (pos 0 ≤ℤ value) × (value ≤ℤ pos 255)
 abbrev pub IsByteIfThere : Option ℤ → Type 0
 IsByteIfThere None = Unit {0}
 IsByteIfThere (Some value) = IsByte value
-
--- whether an activation with this end, or none, is Done
-abbrev pub has_done : Option TaskEnd → Bool
-has_done None = false
-has_done (Some end) = is_done_end end
 
 -- the line of a starved activation whose first missing element is at this position of the input
 abbrev pub starved_at : ℕ → ℕ → List ℕ

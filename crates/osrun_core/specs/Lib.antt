@@ -6,13 +6,11 @@ pub mod FirstPlan
 pub mod FirstProgram
 pub mod FirstReport
 pub mod JobAnswer
-pub mod JobComplete
+pub mod Laws
 pub mod Line
 pub mod Loading
 pub mod Loads
 pub mod Meaning
-pub mod Missing
-pub mod Names
 pub mod Program
 pub mod Reading
 pub mod Refusal

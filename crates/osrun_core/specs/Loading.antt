@@ -1,102 +1,99 @@
--- What a run finds in its two files.
-use Rattle.std.specs.Prelude.{◌≡◌, ℕ, ◌+◌, ◌<◌, ◌≤◌, Bool, List, Option, Some, IfSome, IsTrue, length}
+-- What a job finds in its files, which are read one after the other.
+use Rattle.std.specs.Prelude.{◌≡◌, ℕ, ◌+◌, ◌<◌, ◌≤◌, Bool, List, Option, Some, All, IfSome, IsTrue, length, max, slice_get, take}
 use Rattle.os_io.specs.Counts.{HasRisen, raised, last_count}
+use Rattle.osrun_core.specs.declared.first_program.FirstProgram.{FirstProgram}
 use Rattle.osrun_core.specs.declared.refusal.Subject.{Subject}
-use Rattle.osrun_core.specs.declared.refusal.Subject.TheVariants.{Program, Input}
+use Rattle.osrun_core.specs.declared.refusal.Subject.TheVariants as subjects
 use Rattle.osrun_core.specs.declared.refusal.Refusal.{Refusal}
 use Rattle.osrun_core.specs.declared.refusal.Refusal.TheVariants as refusal
 use Rattle.osrun_core.specs.Accepting.{IsRefusalOf}
-use Rattle.osrun_core.specs.Command.{Job}
-use Rattle.osrun_core.specs.Refusal.{limit_of, opens_of}
+use Rattle.osrun_core.specs.Command.{Job, JobFile, files_of}
+use Rattle.osrun_core.specs.Program.{IsProgramOf}
+use Rattle.osrun_core.specs.Refusal.{limit_of}
 
--- each opening that the job makes is allowed: the program's is the next one, the input's comes after it
-pub record MayOpen (may : ℕ → List ℕ → Bool) (opens : ℕ) (job : Job) : Type 0 where
-  pub program : IsTrue (may opens job.program)
-  pub input : opens < last_count → IsTrue (may (opens + 1) job.input)
+-- What shows files at a moment, each part by its name: what each name holds where that is told, the numbers
+-- of openings and of faults, and how many bytes were given since the last opening.
+pub record FilesView (F : Type 0) : Type 0 where
+  pub holds : F → List ℕ → Option (List ℕ)
+  pub opens : F → ℕ
+  pub faults : F → ℕ
+  pub given : F → ℕ
 
--- the name of a job's file
-abbrev pub name_of : Job → Subject → List ℕ
-name_of job Program = job.program
-name_of job Input = job.input
+-- each opening that a job makes is allowed: the k-th file's at the number of openings so far plus k, as far as
+-- that isn't past the last value of the count
+abbrev pub MayOpen : (ℕ → List ℕ → Bool) → ℕ → List JobFile → Type 0
+MayOpen may opens files =
+    (k : ℕ) (file : JobFile) → slice_get files k ≡ Some file → opens + k ≤ max opens last_count → IsTrue (may (opens + k) file.name)
 
 -- the bytes are those that are held, where that is told
 abbrev pub IsHeld : Option (List ℕ) → List ℕ → Type 0
 IsHeld held bytes = IfSome held (λ told. bytes ≡ told)
 
--- What files show before and after a call that reads some of them: what each name holds where that is told,
--- the numbers of openings and of faults, and in the end how many bytes were given since the last opening.
-pub record FilesCall : Type 0 where
-  pub holds : List ℕ → Option (List ℕ)
-  pub opens_before : ℕ
-  pub opens_after : ℕ
-  pub faults_before : ℕ
-  pub faults_after : ℕ
-  pub given : ℕ
+-- bytes that serve as such a file: those of the program are a program
+abbrev pub Serves : Subject → List ℕ → Type 0
+Serves subjects.Program bytes = (p : FirstProgram) × IsProgramOf bytes p
+Serves subjects.Input bytes = Unit {0}
 
--- what files show before and after a call, by the functions that show it
-abbrev pub files_call : {F : Type 0} → (F → List ℕ → Option (List ℕ)) → (F → ℕ) → (F → ℕ) → (F → ℕ) → F → F → FilesCall
-files_call holds opens faults given before after = record {
-  holds = holds before;
-  opens_before = opens before;
-  opens_after = opens after;
-  faults_before = faults before;
-  faults_after = faults after;
-  given = given after;
-}
+-- the file was read whole, within its limit, and serves
+pub record IsRead (holds : List ℕ → Option (List ℕ)) (file : JobFile) : Type 0 where
+  pub bytes : List ℕ
+  pub is_held : IsHeld (holds file.name) bytes
+  pub fits : length bytes ≤ limit_of file.subject
+  pub serves : Serves file.subject bytes
 
--- the file was opened last
-abbrev pub IsLastOpened : FilesCall → Subject → Type 0
-IsLastOpened call subject = call.opens_after ≡ raised call.opens_before (opens_of subject)
+-- the file is told, is within its limit, and serves
+pub record IsReadable (holds : List ℕ → Option (List ℕ)) (file : JobFile) : Type 0 where
+  pub bytes : List ℕ
+  pub told : holds file.name ≡ Some bytes
+  pub fits : length bytes ≤ limit_of file.subject
+  pub serves : Serves file.subject bytes
+
+-- the job came to this file, which it opened last, after it had read those before it
+pub record CameTo {F : Type 0} (view : FilesView F) (old new : F) (job : Job) (subject : Subject) : Type 0 where
+  pub name : List ℕ
+  pub place : ℕ
+  pub is_there : slice_get (files_of job) place ≡ Some (record { subject = subject; name = name })
+  pub earlier : All (IsRead (view.holds old)) (take place (files_of job))
+  pub opened : view.opens new ≡ raised (view.opens old) (place + 1)
 
 -- the file is too long: more bytes than its limit were given
-pub record IsTooLong (call : FilesCall) (job : Job) (subject : Subject) : Type 0 where
-  pub opened : IsLastOpened call subject
-  pub too_many : limit_of subject < call.given
-  pub held : IfSome (call.holds (name_of job subject)) (λ told. limit_of subject < length told)
+pub record IsTooLong {F : Type 0} (view : FilesView F) (old new : F) (job : Job) (subject : Subject) : Type 0 where
+  pub came : CameTo view old new job subject
+  pub too_many : limit_of subject < view.given new
+  pub held : IfSome (view.holds old came.name) (λ told. limit_of subject < length told)
 
 -- the file could not be read: the files counted a fault
-pub record IsUnread (call : FilesCall) (subject : Subject) : Type 0 where
-  pub opened : IsLastOpened call subject
-  pub within : call.given ≤ limit_of subject
-  pub fault : HasRisen call.faults_before call.faults_after
+pub record IsUnread {F : Type 0} (view : FilesView F) (old new : F) (job : Job) (subject : Subject) : Type 0 where
+  pub came : CameTo view old new job subject
+  pub within : view.given new ≤ limit_of subject
+  pub fault : HasRisen (view.faults old) (view.faults new)
 
 -- the program was read whole, and its text is refused so
-pub record IsRefusedText (call : FilesCall) (job : Job) (r : Refusal) : Type 0 where
-  pub opened : IsLastOpened call Program
-  pub within : call.given ≤ limit_of Program
+pub record IsRefusedText {F : Type 0} (view : FilesView F) (old new : F) (job : Job) (r : Refusal) : Type 0 where
+  pub came : CameTo view old new job subjects.Program
   pub text : List ℕ
-  pub held : IsHeld (call.holds job.program) text
-  pub fits : length text ≤ limit_of Program
+  pub held : IsHeld (view.holds old came.name) text
+  pub whole : view.given new ≡ length text
+  pub fits : length text ≤ limit_of subjects.Program
   pub refused : IsRefusalOf text r
 
 -- the cause of a refusal of a job; want of memory has none
-abbrev pub IsCauseOf : FilesCall → Job → Refusal → Type 0
-IsCauseOf call job (refusal.Token code line_number) = IsRefusedText call job (refusal.Token code line_number)
-IsCauseOf call job refusal.NoProgram = IsRefusedText call job refusal.NoProgram
-IsCauseOf call job (refusal.TooLong subject) = IsTooLong call job subject
-IsCauseOf call job (refusal.ReadFault subject) = IsUnread call subject
-IsCauseOf call job refusal.Memory = Unit {0}
+abbrev pub IsCauseOf : {F : Type 0} → FilesView F → F → F → Job → Refusal → Type 0
+IsCauseOf view old new job (refusal.Token code line_number) = IsRefusedText view old new job (refusal.Token code line_number)
+IsCauseOf view old new job refusal.NoProgram = IsRefusedText view old new job refusal.NoProgram
+IsCauseOf view old new job (refusal.TooLong subject) = IsTooLong view old new job subject
+IsCauseOf view old new job (refusal.ReadFault subject) = IsUnread view old new job subject
+IsCauseOf view old new job refusal.Memory = Unit {0}
 
--- only a fault of the files, or want of memory
-abbrev pub IsFaultOrMemory : Refusal → Type 0
-IsFaultOrMemory (refusal.Token code line_number) = ⊥
-IsFaultOrMemory refusal.NoProgram = ⊥
-IsFaultOrMemory (refusal.TooLong subject) = ⊥
-IsFaultOrMemory (refusal.ReadFault subject) = Unit {0}
-IsFaultOrMemory refusal.Memory = Unit {0}
-
--- any refusal but that of a file that is too long
-abbrev pub IsNotTooLong : Refusal → Type 0
-IsNotTooLong (refusal.Token code line_number) = Unit {0}
-IsNotTooLong refusal.NoProgram = Unit {0}
-IsNotTooLong (refusal.TooLong subject) = ⊥
-IsNotTooLong (refusal.ReadFault subject) = Unit {0}
-IsNotTooLong refusal.Memory = Unit {0}
+-- where more than k files were opened, the first k were read
+abbrev pub ReadsInOrder : {F : Type 0} → FilesView F → F → F → Job → Type 0
+ReadsInOrder view old new job =
+    (k : ℕ) → raised (view.opens old) k < view.opens new → All (IsRead (view.holds old)) (take k (files_of job))
 
 -- the program is told and within its limit, and its text is refused
 pub record IsRejected (holds : List ℕ → Option (List ℕ)) (job : Job) : Type 0 where
   pub text : List ℕ
   pub held : holds job.program ≡ Some text
-  pub fits : length text ≤ limit_of Program
+  pub fits : length text ≤ limit_of subjects.Program
   pub cause : Refusal
   pub refused : IsRefusalOf text cause

@@ -3,9 +3,11 @@ use Rattle.std.specs.Prelude.{ℕ, ℤ, pos, ◌+◌, nat_eq, List, [], ◌∷�
 use Rattle.std.specs.Option.{option_or, option_map_or}
 use Rattle.std.specs.List.{range_with_len}
 use Rattle.flow_core.specs.declared.activation.Activation.{Activation}
+use Rattle.flow_core.specs.declared.ends.Ends.{Ends}
 use Rattle.flow_core.specs.declared.task_end.TaskEnd.TheVariants as task_end
-use Rattle.flow_core.specs.Outcome.{Outcome, State}
-use Rattle.flow_core.specs.Streams.{stream_meaning}
+use Rattle.flow_core.specs.declared.outcome.Outcome.{Outcome}
+use Rattle.flow_core.specs.Outcome.{outcome_of, State}
+use Rattle.flow_core.specs.Streams.{stream_meaning, stream_ends}
 use Rattle.osrun_core.specs.declared.first_program.FirstProgram.{FirstProgram}
 use Rattle.osrun_core.specs.declared.first_program.Task.{Task}
 use Rattle.osrun_core.specs.declared.first_program.ElementCopy.{ElementCopy}
@@ -35,10 +37,8 @@ outputs_of copies window size = map (element_of copies window) (range_with_len 0
 
 -- the end of the body of the activation with this number, over the elements of its input window
 abbrev pub body : FirstProgram → ℕ → List ℤ → Outcome
-body p a inputs = record {
-  end = task_end.Done;
-  outputs = option_map_or (λ (t : Task). outputs_of t.copies inputs (horizon (size_of p.windows) t.output)) (slice_get p.tasks a) [];
-}
+body p a inputs = outcome_of task_end.Done
+    (option_map_or (λ (t : Task). outputs_of t.copies inputs (horizon (size_of p.windows) t.output)) (slice_get p.tasks a) [])
 
 -- ---- the control program
 
@@ -63,3 +63,7 @@ activations p = activations_from (size_of p.windows) 0 p.tasks
 -- the data-flow meaning of the program over an input: how each activation ends, if it does
 abbrev pub meaning : FirstProgram → List ℕ → State
 meaning p input = stream_meaning (activations p) input (body p)
+
+-- what the program comes to over an input: the ends of its activations, and the elements of its output
+abbrev pub program_ends : FirstProgram → List ℕ → Ends
+program_ends p input = stream_ends (activations p) input (meaning p input)

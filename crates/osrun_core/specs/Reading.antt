@@ -14,7 +14,7 @@ use Rattle.osrun_core.specs.declared.first_program.FirstProgram.{FirstProgram}
 use Rattle.osrun_core.specs.declared.first_program.Task.{Task}
 use Rattle.osrun_core.specs.declared.first_program.ElementCopy.{ElementCopy}
 use Rattle.osrun_core.specs.declared.first_program.Source.{Source}
-use Rattle.osrun_core.specs.Names as names
+use Rattle.osrun_core.specs.declared.names.TheConstants as names
 use Rattle.osrun_core.specs.FirstProgram.{kinds, spell_source, spell_copy, spell_input, spell_output, spell_task, spell_next_window, spell_windows}
 
 -- the kinds begin with the spelling of x, and go on with rest
@@ -36,7 +36,7 @@ spell_tasks ts = flat_map spell_task ts ++ (kind.Punct punct.CloseBrace ∷ [])
 -- the front of a task: PragmaStart "omp" "task" input output PragmaEnd "{"
 abbrev pub spell_claims : (ℕ × ℕ) × (ℕ × ℕ) → List Kind
 spell_claims c =
-    (kind.PragmaStart ∷ kind.Name names.omp ∷ kind.Name names.task ∷ [])
+    (kind.PragmaStart ∷ kind.Name names.OMP ∷ kind.Name names.TASK ∷ [])
     ++ (spell_input c.0.0 c.0.1 ++ (spell_output c.1.0 c.1.1 ++ (kind.PragmaEnd ∷ kind.Punct punct.OpenBrace ∷ [])))
 
 -- { "," decl } ";"

@@ -14,11 +14,6 @@ abbrev pub limit_of : Subject → ℕ
 limit_of Program = 262144
 limit_of Input = 4194304
 
--- how many files are opened up to and with this one
-abbrev pub opens_of : Subject → ℕ
-opens_of Program = 1
-opens_of Input = 2
-
 abbrev pub subject_name : Subject → List ℕ
 subject_name Program = codes "program"
 subject_name Input = codes "input"

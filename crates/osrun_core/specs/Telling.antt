@@ -4,45 +4,27 @@ use Rattle.std.specs.Io.KnownBytes.{append_known}
 use Rattle.os_io.specs.Counts.{HasRisen}
 use Rattle.os_io.specs.Writing.{TookProperPrefix}
 
--- What a sink shows before and after a call: its bytes where they are told, its numbers of faults and of
--- calls that took nothing of a piece that wasn't empty.
-pub record SinkCall : Type 0 where
-  pub taken_before : Option (List ℕ)
-  pub taken_after : Option (List ℕ)
-  pub faults_before : ℕ
-  pub faults_after : ℕ
-  pub empty_takes_before : ℕ
-  pub empty_takes_after : ℕ
-
--- what a sink shows before and after a call, by the functions that show it
-abbrev pub sink_call : {S : Type 0} → (S → Option (List ℕ)) → (S → ℕ) → (S → ℕ) → S → S → SinkCall
-sink_call taken faults empty_takes before after = record {
-  taken_before = taken before;
-  taken_after = taken after;
-  faults_before = faults before;
-  faults_after = faults after;
-  empty_takes_before = empty_takes before;
-  empty_takes_after = empty_takes after;
-}
+-- What shows a sink at a moment, each part by its name: its bytes where they are told, and its numbers of
+-- faults and of calls that took nothing of a piece that wasn't empty.
+pub record SinkView (S : Type 0) : Type 0 where
+  pub taken : S → Option (List ℕ)
+  pub faults : S → ℕ
+  pub empty_takes : S → ℕ
 
 -- the sink took the whole text and nothing else
-abbrev pub Took : SinkCall → List ℕ → Type 0
-Took call text = call.taken_after ≡ append_known call.taken_before text
-
--- the sink took nothing
-abbrev pub TookNothing : SinkCall → Type 0
-TookNothing call = call.taken_after ≡ call.taken_before
+abbrev pub Took : {S : Type 0} → SinkView S → S → S → List ℕ → Type 0
+Took view old new text = view.taken new ≡ append_known (view.taken old) text
 
 -- the sink failed, or it took nothing of a piece that wasn't empty
-abbrev pub HasTrouble : SinkCall → Type 0
-HasTrouble call =
-    HasRisen call.faults_before call.faults_after ⊎ HasRisen call.empty_takes_before call.empty_takes_after
+abbrev pub HasTrouble : {S : Type 0} → SinkView S → S → S → Type 0
+HasTrouble view old new =
+    HasRisen (view.faults old) (view.faults new) ⊎ HasRisen (view.empty_takes old) (view.empty_takes new)
 
 -- the sink took a front of the text and not all of it, for a cause of its own
-pub record IsCutShort (call : SinkCall) (text : List ℕ) : Type 0 where
-  pub front : TookProperPrefix call.taken_before call.taken_after text
-  pub trouble : HasTrouble call
+pub record IsCutShort {S : Type 0} (view : SinkView S) (old new : S) (text : List ℕ) : Type 0 where
+  pub front : TookProperPrefix (view.taken old) (view.taken new) text
+  pub trouble : HasTrouble view old new
 
 -- the sink took the text, or a front of it for a cause of its own
-abbrev pub Tells : SinkCall → List ℕ → Type 0
-Tells call text = Took call text ⊎ IsCutShort call text
+abbrev pub Tells : {S : Type 0} → SinkView S → S → S → List ℕ → Type 0
+Tells view old new text = Took view old new text ⊎ IsCutShort view old new text

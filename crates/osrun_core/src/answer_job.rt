@@ -1,9 +1,10 @@
-ghost use Rattle.std.specs.Prelude.{◌≡◌, ◌≤◌};
-ghost use Rattle.osrun_core.specs.Command.{job_of};
-ghost use Rattle.osrun_core.specs.Loading.{MayOpen, IsRejected, files_call};
-ghost use Rattle.osrun_core.specs.Telling.{sink_call};
+ghost use Rattle.std.specs.Prelude.{◌≡◌, ◌<◌, ◌≤◌, ◌⊎◌, All};
+ghost use Rattle.os_io.specs.Counts.{HasRisen};
+ghost use Rattle.osrun_core.specs.Command.{files_of, job_of};
 ghost use Rattle.osrun_core.specs.JobAnswer.{AnswersJob};
-ghost use Rattle.osrun_core.specs.JobComplete.{IsComplete, IsRefusing};
+ghost use Rattle.osrun_core.specs.Loading.{MayOpen, IsReadable, IsRejected, ReadsInOrder};
+ghost use Rattle.osrun_core.specs.Status.{number_of};
+ghost use Rattle.osrun_core.specs.Telling.{HasTrouble};
 
 use crate::deliver::deliver;
 use crate::job::Job;
@@ -21,14 +22,20 @@ pub fn answer_job<F: Files, O: Sink, E: Sink>(
     out: &mut O,
     report: &mut E,
 ) -> Status
-    requires { MayOpen (F.may files.old) (F.opens files.old) (job_of job.now) }
-    ensures answers { AnswersJob (files_call F.holds F.opens F.faults F.given files.old files.new) (job_of job.now)
-        (sink_call O.taken O.faults O.empty_takes out.old out.new)
-        (sink_call E.taken E.faults E.empty_takes report.old report.new) result }
-    ensures complete { IsComplete (files_call F.holds F.opens F.faults F.given files.old files.new) (job_of job.now)
-        (sink_call O.taken O.faults O.empty_takes out.old out.new)
-        (sink_call E.taken E.faults E.empty_takes report.old report.new) result }
-    ensures rejected { IsRejected (F.holds files.old) (job_of job.now) → IsRefusing result }
+    requires { MayOpen (F.may files.old) (F.opens files.old) (files_of (job_of job.now)) }
+    ensures answers { AnswersJob
+        (record { holds = F.holds; opens = F.opens; faults = F.faults; given = F.given }) files.old files.new (job_of job.now)
+        (record { taken = O.taken; faults = O.faults; empty_takes = O.empty_takes }) out.old out.new
+        (record { taken = E.taken; faults = E.faults; empty_takes = E.empty_takes }) report.old report.new result }
+    ensures complete { All (IsReadable (F.holds files.old)) (files_of (job_of job.now))
+        → (HasRisen (F.faults files.old) (F.faults files.new) → ⊥)
+        → (HasTrouble (record { taken = O.taken; faults = O.faults; empty_takes = O.empty_takes }) out.old out.new → ⊥)
+        → (HasTrouble (record { taken = E.taken; faults = E.faults; empty_takes = E.empty_takes }) report.old report.new → ⊥)
+        → (number_of result < 2) ⊎ (number_of result ≡ 7) }
+    ensures rejected { IsRejected (F.holds files.old) (job_of job.now)
+        → (number_of result ≡ 3) ⊎ ((number_of result ≡ 5) ⊎ (number_of result ≡ 7)) }
+    ensures in_order { ReadsInOrder
+        (record { holds = F.holds; opens = F.opens; faults = F.faults; given = F.given }) files.old files.new (job_of job.now) }
     ensures faults_kept { F.faults files.old ≤ F.faults files.new }
     ensures holds { F.holds files.new ≡ F.holds files.old }
     ensures may { F.may files.new ≡ F.may files.old }

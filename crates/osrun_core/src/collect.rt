@@ -1,14 +1,13 @@
 ghost use Rattle.std.specs.Prelude.{◌≡◌, ◌≤◌, ◌<◌, ◌^◌, ◌++◌, All, IfOk, OnOk, length, map, string_bytes, if◌then◌else◌};
 ghost use Rattle.std.specs.List.{list_all};
-ghost use Rattle.flow_core.specs.Outcome.{ends_of};
 ghost use Rattle.osrun_core.specs.FirstProgram.{IsFirstProgram};
-ghost use Rattle.osrun_core.specs.FirstReport.{IsByte, IsByteIfThere, has_done, starved_at, task_lines};
-ghost use Rattle.osrun_core.specs.Meaning.{activations, meaning};
-ghost use Rattle.osrun_core.specs.Report.{control_line, output_line};
+ghost use Rattle.osrun_core.specs.FirstReport.{IsByte, IsByteIfThere, starved_at, task_lines};
+ghost use Rattle.osrun_core.specs.Meaning.{program_ends};
+ghost use Rattle.osrun_core.specs.Report.{control_line, has_done, output_line};
 ghost use Rattle.flow_core.specs.declared.control.ControlEnd.TheVariants as control_end;
 ghost use Rattle.osrun_core.specs.Run.{IsRunOf};
 ghost use Rattle.osrun_core.specs.Status.{number_of};
-ghost use Rattle.osrun_core.specs.Written.{byte_of, complete_prefix, output_elements};
+ghost use Rattle.osrun_core.specs.Written.{byte_of, complete_prefix, written};
 
 use crate::first_program::{FirstProgram, Task};
 use crate::run::Run;
@@ -26,8 +25,7 @@ pub(crate) fn collect(
 ) -> Result<Run, Memory>
     requires first { IsFirstProgram program.now }
     requires few { length program.now.tasks ≤ 65536 }
-    requires ends { ends.now.ends ≡ ends_of (meaning program.now input.now) }
-    requires output { ends.now.output ≡ output_elements (activations program.now) input.now (meaning program.now input.now) }
+    requires meant { ends.now ≡ program_ends program.now input.now }
     ensures { IfOk result (λ run. IsRunOf program.now input.now run.output.items (string_bytes run.report) (number_of run.status)) }
 {
     laws::fixed_point();
@@ -52,7 +50,7 @@ pub(crate) fn collect(
 /// The bytes before the first element that isn't there.
 fn output_bytes(alloc: Global, elements: &[Option<i32>]) -> Result<Vec<u8>, Memory>
     requires { All IsByteIfThere elements.now }
-    ensures { IfOk result (λ bytes. bytes.items ≡ map byte_of (complete_prefix elements.now)) }
+    ensures { IfOk result (λ bytes. bytes.items ≡ written elements.now) }
 {
     let mut bytes = Vec::new(alloc);
     for element in elements {

@@ -1,16 +1,17 @@
-ghost use Rattle.std.specs.Prelude.{◌≡◌, ◌<◌, ◌≤◌, ◌+◌, ◌⊎◌, ◌↔◌, ◌≢◌, None, IfSome, IsSomeAnd};
+ghost use Rattle.std.specs.Prelude.{◌≡◌, ◌<◌, ◌≤◌, ◌+◌, ◌⊎◌, ◌≢◌, ℕ, All, None, Some, IfSome, IsSomeAnd, length, slice_get};
+ghost use Rattle.std.specs.Io.KnownBytes.{append_known};
 ghost use Rattle.std.specs.Option.{ForSome};
-ghost use Rattle.os_io.specs.Counts.{last_count};
-ghost use Rattle.osrun_core.specs.declared.refusal.Subject.{Subject};
+ghost use Rattle.os_io.specs.Counts.{HasRisen, last_count, raised};
 ghost use Rattle.osrun_core.specs.declared.refusal.Refusal.{Refusal as Cause};
-ghost use Rattle.osrun_core.specs.declared.refusal.Refusal.TheVariants as refusals;
-ghost use Rattle.osrun_core.specs.Command.{command, texts};
-ghost use Rattle.osrun_core.specs.JobAnswer.{IsRunDelivered, IsRunUndelivered};
-ghost use Rattle.osrun_core.specs.JobComplete.{IsUntroubled};
-ghost use Rattle.osrun_core.specs.Loading.{MayOpen, IsTooLong, IsUnread, IsRefusedText, IsRejected, IsLastOpened, files_call};
-ghost use Rattle.osrun_core.specs.Refusal.{limit_of, refusal_line, usage_line};
-ghost use Rattle.osrun_core.specs.Run.{IsRunnable};
-ghost use Rattle.osrun_core.specs.Telling.{Tells, TookNothing, sink_call};
+ghost use Rattle.osrun_core.specs.Command.{JobFile, command, files_of, texts};
+ghost use Rattle.osrun_core.specs.Delivers.{IsUndelivered};
+ghost use Rattle.osrun_core.specs.Loading.{MayOpen, IsCauseOf, IsReadable, IsRejected, ReadsInOrder};
+ghost use Rattle.osrun_core.specs.Refusal.{limit_of, refusal_line, refusal_status, usage_line};
+ghost use Rattle.osrun_core.specs.Report.{report as report_of, status as status_of};
+ghost use Rattle.osrun_core.specs.Run.{ProgramRun, IsRunOfJob};
+ghost use Rattle.osrun_core.specs.Status.{number_of};
+ghost use Rattle.osrun_core.specs.Telling.{Tells, HasTrouble};
+ghost use Rattle.osrun_core.specs.Written.{written};
 
 use crate::answer_job::answer_job;
 use crate::gate::Gate;
@@ -34,58 +35,69 @@ pub fn run_words<R: Threads + Sync, F: Files, O: Sink, E: Sink, G: Gate>(
     report: &mut E,
     _gate: &G,
 ) -> u8
-    requires { ForSome (command (texts words.now)) (MayOpen (F.may files.old) (F.opens files.old)) }
+    requires { ForSome (command (texts words.now))
+        (λ job. MayOpen (F.may files.old) (F.opens files.old) (files_of job)) }
 
-    // 0 and 1, the headline: the output and the report are those of the program's meaning over the input,
-    // nothing else is written, and the status is that of the run.
-    ensures headline { result < 2 → IsSomeAnd (command (texts words.now)) (λ job. IsRunDelivered
-        (files_call F.holds F.opens F.faults F.given files.old files.new) job
-        (sink_call O.taken O.faults O.empty_takes out.old out.new)
-        (sink_call E.taken E.faults E.empty_takes report.old report.new) result) }
+    // 0 and 1, the headline: there is a run of the job, of which `out` took what is written, `report` took the
+    // report, and the status is its status.
+    ensures headline { result < 2 → IsSomeAnd (command (texts words.now)) (λ job. (run : ProgramRun)
+        × IsRunOfJob (F.holds files.old) (F.given files.new) job run
+        × (O.taken out.new ≡ append_known (O.taken out.old) (written run.ends.output))
+        × (E.taken report.new ≡ append_known (E.taken report.old) (report_of run.activations (length run.input) run.ends run.control))
+        × (result ≡ status_of run.ends.ends run.control)) }
 
-    // 2: the words, and no file is opened.
-    ensures bad_words { (result ≡ 2) ↔ (command (texts words.now) ≡ None) }
-    ensures usage { result ≡ 2 → Tells (sink_call E.taken E.faults E.empty_takes report.old report.new) usage_line }
-    ensures nothing_opened { result ≡ 2 → F.opens files.new ≡ F.opens files.old }
+    // 0, 1 and 6: a run was made, so all files were opened, the input last.
+    ensures all_opened { (result < 2) ⊎ (result ≡ 6) → IfSome (command (texts words.now))
+        (λ job. F.opens files.new ≡ raised (F.opens files.old) (length (files_of job))) }
 
-    // 3: the text.
-    ensures refused { result ≡ 3 → IsSomeAnd (command (texts words.now)) (λ job. (cause : Cause)
-        × IsRefusedText (files_call F.holds F.opens F.faults F.given files.old files.new) job cause
-        × Tells (sink_call E.taken E.faults E.empty_takes report.old report.new) (refusal_line cause)) }
+    // 2: the words. Nothing is read where they name no job.
+    ensures bad_words { result ≡ 2 → command (texts words.now) ≡ None }
+    ensures bad_words_always { command (texts words.now) ≡ None → (result ≡ 2) ⊎ (result ≡ 7) }
+    ensures nothing_read { command (texts words.now) ≡ None → files.new ≡ files.old }
+    ensures usage { result ≡ 2 → Tells
+        (record { taken = E.taken; faults = E.faults; empty_takes = E.empty_takes }) report.old report.new usage_line }
 
+    // 3, 4 and 5: a refusal, whose cause stands and whose line is told.
+    ensures refused { 3 ≤ result → result ≤ 5 → IsSomeAnd (command (texts words.now)) (λ job. (refusal : Cause)
+        × (result ≡ number_of (refusal_status refusal))
+        × IsCauseOf
+        (record { holds = F.holds; opens = F.opens; faults = F.faults; given = F.given }) files.old files.new job refusal
+        × Tells
+        (record { taken = E.taken; faults = E.faults; empty_takes = E.empty_takes }) report.old report.new (refusal_line refusal)) }
+
+    // 3: a text that is refused always is.
     ensures refused_always { IfSome (command (texts words.now)) (λ job. IsRejected (F.holds files.old) job
         → (result ≡ 3) ⊎ ((result ≡ 5) ⊎ (result ≡ 7))) }
 
-    // 4: a file that is too long, which is named.
-    ensures too_long { result ≡ 4 → IsSomeAnd (command (texts words.now)) (λ job. (subject : Subject)
-        × IsTooLong (files_call F.holds F.opens F.faults F.given files.old files.new) job subject
-        × Tells (sink_call E.taken E.faults E.empty_takes report.old report.new) (refusal_line (refusals.TooLong subject))) }
-    ensures too_long_always { (subject : Subject) → F.opens files.old + 2 ≤ last_count
-        → IsLastOpened (files_call F.holds F.opens F.faults F.given files.old files.new) subject
-        → limit_of subject < F.given files.new → (result ≡ 4) ⊎ (result ≡ 7) }
+    // 4: a file of which more than its limit was given always is too long.
+    ensures too_long_always { IfSome (command (texts words.now)) (λ job. (place : ℕ) (file : JobFile)
+        → slice_get (files_of job) place ≡ Some file
+        → F.opens files.old + length (files_of job) ≤ last_count
+        → F.opens files.new ≡ raised (F.opens files.old) (place + 1)
+        → limit_of file.subject < F.given files.new → (result ≡ 4) ⊎ (result ≡ 7)) }
 
-    // 5: a file that can't be read, which is named.
-    ensures read_fault { result ≡ 5 → (subject : Subject)
-        × IsUnread (files_call F.holds F.opens F.faults F.given files.old files.new) subject
-        × Tells (sink_call E.taken E.faults E.empty_takes report.old report.new) (refusal_line (refusals.ReadFault subject)) }
-
-    // 6: a sink that did not take all.
-    ensures undelivered { result ≡ 6 → IsSomeAnd (command (texts words.now)) (λ job. IsRunUndelivered
-        (files_call F.holds F.opens F.faults F.given files.old files.new) job
-        (sink_call O.taken O.faults O.empty_takes out.old out.new)
-        (sink_call E.taken E.faults E.empty_takes report.old report.new)) }
+    // 6: a sink did not take all of a run.
+    ensures undelivered { result ≡ 6 → IsSomeAnd (command (texts words.now)) (λ job. (run : ProgramRun)
+        × IsRunOfJob (F.holds files.old) (F.given files.new) job run
+        × IsUndelivered
+        (record { taken = O.taken; faults = O.faults; empty_takes = O.empty_takes }) out.old out.new (written run.ends.output)
+        (record { taken = E.taken; faults = E.faults; empty_takes = E.empty_takes }) report.old report.new (report_of run.activations (length run.input) run.ends run.control)) }
 
     // 7: want of memory, before anything is written.
-    ensures memory { result ≡ 7 → TookNothing (sink_call E.taken E.faults E.empty_takes report.old report.new) }
-    ensures nothing_written { (2 ≤ result) → (result ≢ 6) → TookNothing (sink_call O.taken O.faults O.empty_takes out.old out.new) }
+    ensures memory { result ≡ 7 → report.new ≡ report.old }
+    ensures nothing_written { 2 ≤ result → result ≢ 6 → out.new ≡ out.old }
     ensures statuses { result ≤ 7 }
 
-    // Completeness: where both files are told and within their limits, the first is a program, and nothing
-    // fails, the run is made and delivered, unless memory runs out.
-    ensures complete { IfSome (command (texts words.now)) (λ job. IsRunnable (F.holds files.old) job
-        → IsUntroubled (files_call F.holds F.opens F.faults F.given files.old files.new)
-        (sink_call O.taken O.faults O.empty_takes out.old out.new)
-        (sink_call E.taken E.faults E.empty_takes report.old report.new)
+    // With any status: a file is opened only after those before it were read.
+    ensures in_order { IfSome (command (texts words.now)) (λ job. ReadsInOrder
+        (record { holds = F.holds; opens = F.opens; faults = F.faults; given = F.given }) files.old files.new job) }
+
+    // Completeness: where all files are told, within their limits, and serve, and nothing fails, the run is
+    // made and delivered, unless memory runs out.
+    ensures complete { IfSome (command (texts words.now)) (λ job. All (IsReadable (F.holds files.old)) (files_of job)
+        → (HasRisen (F.faults files.old) (F.faults files.new) → ⊥)
+        → (HasTrouble (record { taken = O.taken; faults = O.faults; empty_takes = O.empty_takes }) out.old out.new → ⊥)
+        → (HasTrouble (record { taken = E.taken; faults = E.faults; empty_takes = E.empty_takes }) report.old report.new → ⊥)
         → (result < 2) ⊎ (result ≡ 7)) }
 
     // What stays.

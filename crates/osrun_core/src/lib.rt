@@ -16,6 +16,7 @@ mod first_program;
 mod first_program_error;
 mod gate;
 mod job;
+mod laws;
 mod load;
 mod names;
 mod plan;
@@ -30,4 +31,5 @@ mod tell;
 
 pub use command::run_words;
 pub use gate::{Gate, NoGate};
+pub use laws::{all_is_written, longest_prefix};
 pub use reader::one_reading;

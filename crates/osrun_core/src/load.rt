@@ -14,8 +14,10 @@ pub fn load<F: Files>(
     subject: Subject,
 ) -> Result<Vec<u8>, Refusal>
     requires { IsTrue (F.may files.old (F.opens files.old) name.now) }
-    ensures loaded { IfOk result (λ bytes. IsLoaded subject (F.given files.new) (F.holds files.old name.now) bytes.items) }
-    ensures refused { IfErr result (IsLoadRefusal subject (F.given files.new) (F.faults files.old) (F.faults files.new) (F.holds files.old name.now)) }
+    ensures loaded { IfOk result (λ bytes. IsLoaded
+        (record { holds = F.holds; opens = F.opens; faults = F.faults; given = F.given }) files.old files.new subject name.now bytes.items) }
+    ensures refused { IfErr result (IsLoadRefusal
+        (record { holds = F.holds; opens = F.opens; faults = F.faults; given = F.given }) files.old files.new subject name.now) }
     ensures faults_kept { F.faults files.old ≤ F.faults files.new }
     ensures opens { F.opens files.new ≡ raised (F.opens files.old) 1 }
     ensures holds { F.holds files.new ≡ F.holds files.old }

@@ -1,8 +1,9 @@
-ghost use Rattle.std.specs.Prelude.{◌≡◌, ◌≤◌, IfOk, IfErr, MatchResult, string_bytes};
-ghost use Rattle.osrun_core.specs.Command.{job_of};
-ghost use Rattle.osrun_core.specs.Loading.{MayOpen, IsCauseOf, IsFaultOrMemory, IsNotTooLong, IsRejected, files_call};
-ghost use Rattle.osrun_core.specs.Run.{IsRunOfJob, IsRunnable};
-ghost use Rattle.osrun_core.specs.Status.{number_of};
+ghost use Rattle.std.specs.Prelude.{◌≡◌, ◌≢◌, ◌≤◌, ◌⊎◌, All, IfOk, IfErr, MatchResult, string_bytes};
+ghost use Rattle.osrun_core.specs.declared.status.Status.TheVariants.{TooLong, ReadFault, NoMemory};
+ghost use Rattle.osrun_core.specs.Command.{files_of, job_of};
+ghost use Rattle.osrun_core.specs.JobAnswer.{MakesRun};
+ghost use Rattle.osrun_core.specs.Loading.{MayOpen, IsCauseOf, IsReadable, IsRejected, ReadsInOrder};
+ghost use Rattle.osrun_core.specs.Refusal.{refusal_status};
 
 use crate::accept::accept;
 use crate::job::Job;
@@ -14,12 +15,18 @@ use std::alloc::Global;
 
 /// Makes the run that a job asks for. Nothing is written yet.
 pub fn run_job<F: Files>(alloc: Global, files: &mut F, job: &Job<'_>) -> Result<Run, Refusal>
-    requires { MayOpen (F.may files.old) (F.opens files.old) (job_of job.now) }
-    ensures run { IfOk result (λ run. IsRunOfJob (files_call F.holds F.opens F.faults F.given files.old files.new) (job_of job.now)
-        run.output.items (string_bytes run.report) (number_of run.status)) }
-    ensures refused { IfErr result (IsCauseOf (files_call F.holds F.opens F.faults F.given files.old files.new) (job_of job.now)) }
-    ensures complete { IsRunnable (F.holds files.old) (job_of job.now) → IfErr result IsFaultOrMemory }
-    ensures rejected { IsRejected (F.holds files.old) (job_of job.now) → MatchResult result (λ _. ⊥) IsNotTooLong }
+    requires { MayOpen (F.may files.old) (F.opens files.old) (files_of (job_of job.now)) }
+    ensures run { IfOk result (λ run. MakesRun
+        (record { holds = F.holds; opens = F.opens; faults = F.faults; given = F.given }) files.old files.new (job_of job.now)
+        run.output.items (string_bytes run.report) run.status) }
+    ensures refused { IfErr result (IsCauseOf
+        (record { holds = F.holds; opens = F.opens; faults = F.faults; given = F.given }) files.old files.new (job_of job.now)) }
+    ensures complete { All (IsReadable (F.holds files.old)) (files_of (job_of job.now)) →
+        IfErr result (λ r. (refusal_status r ≡ ReadFault) ⊎ (refusal_status r ≡ NoMemory)) }
+    ensures rejected { IsRejected (F.holds files.old) (job_of job.now) →
+        MatchResult result (λ _. ⊥) (λ r. refusal_status r ≢ TooLong) }
+    ensures in_order { ReadsInOrder
+        (record { holds = F.holds; opens = F.opens; faults = F.faults; given = F.given }) files.old files.new (job_of job.now) }
     ensures faults_kept { F.faults files.old ≤ F.faults files.new }
     ensures holds { F.holds files.new ≡ F.holds files.old }
     ensures may { F.may files.new ≡ F.may files.old }

@@ -1,6 +1,6 @@
 ghost use Rattle.std.specs.Prelude.{◌≡◌, IfOk, string_bytes};
 ghost use Rattle.osrun_core.specs.Refusal.{refusal_line, refusal_status};
-ghost use Rattle.osrun_core.specs.Telling.{Tells, sink_call};
+ghost use Rattle.osrun_core.specs.Telling.{Tells};
 ghost use Rattle.osrun_core.specs.Refuses.{Refuses};
 
 use crate::refusal::{Refusal, Subject};
@@ -10,7 +10,8 @@ use std::alloc::{AllocError, Global};
 
 /// Writes a line. Where the sink fails, a front of the line was written.
 pub fn tell<S: Sink>(sink: &mut S, text: &[u8])
-    ensures { Tells (sink_call S.taken S.faults S.empty_takes sink.old sink.new) text.now }
+    ensures { Tells
+        (record { taken = S.taken; faults = S.faults; empty_takes = S.empty_takes }) sink.old sink.new text.now }
 {
     let _ = write_whole(sink, text);
 }
@@ -51,7 +52,8 @@ fn status_of(refusal: &Refusal) -> Status
 
 /// Tells a refusal of a job, and answers its status. The status stays where the sink fails.
 pub fn refuse<S: Sink>(alloc: Global, sink: &mut S, refusal: &Refusal) -> Status
-    ensures { Refuses refusal.now (sink_call S.taken S.faults S.empty_takes sink.old sink.new) result }
+    ensures { Refuses
+        (record { taken = S.taken; faults = S.faults; empty_takes = S.empty_takes }) sink.old sink.new refusal.now result }
 {
     if let Refusal::Memory = refusal {
         return Status::NoMemory;

@@ -1,49 +1,35 @@
 -- A function step by step, and the items of a program one after another.
-use Rattle.std.proofs.Common.{◌≡◌, ℕ, ◌+◌, ◌≤◌, Bool, true, false, if◌then◌else◌, List, ◌∷◌, ◌++◌, map, length, Option, refl, ap, sym, ◌∙◌, arith}
+use Rattle.std.proofs.Common.{◌≡◌, ◌+◌, ◌≤◌, List, ◌∷◌, length, refl, ap, sym, ◌∙◌, arith}
 use Rattle.os_ast.specs.Leveled.{AreAll, cons, IsItem}
-use Rattle.os_ast.specs.Meanings.{Fault}
 use Rattle.os_ast.specs.Names.{Scope, is_declared}
+use Rattle.os_ast.specs.Notes.Kinds.{Global}
 use Rattle.os_ast.specs.Notes.Programs.{param_names, in_function, in_body, after_params, params_notes, after_item, after_items, item_notes, items_notes}
 use Rattle.os_ast.specs.Notes.Statements.{after_stmts, stmts_notes}
 use Rattle.os_ast.specs.Trees as tree
-use Rattle.os_ast.specs.Uses.{when}
+use Rattle.os_ast.specs.Rules.{when}
 use Rattle.os_ast.specs.declared.expr.Name.{Name}
 use Rattle.os_ast.specs.declared.names.Owner.TheVariants as owner
-use Rattle.window_check.proofs.HasRoom.{room_less, room_stmts, room_in_body, room_item}
+use Rattle.window_check.proofs.HasRoom.{room_less, room_stmts, room_in_body, room_item, owner_item}
 use Rattle.window_check.proofs.Loops.{noted-loop}
-use Rattle.window_check.proofs.Noted.{noted-append, noted-codes-append}
-use Rattle.window_check.proofs.Restored.{ended_function, owner_in_body}
-use Rattle.window_check.proofs.Tasks.{noted-in_task, blamed-in_task}
+use Rattle.window_check.proofs.Blamed.{blames-global}
+use Rattle.window_check.proofs.Noted.{noted-append}
+use Rattle.window_check.proofs.Restored.{ended_function}
 use Rattle.window_check.specs.Codes.{least_code}
-use Rattle.window_check.specs.Findings.{Findings, blamed, noted, is_task}
-use Rattle.window_check.specs.Room.{HasRoom, stmts_weight, item_weight, items_weight}
+use Rattle.window_check.specs.Findings.{note, noted, blames}
+use Rattle.window_check.specs.declared.found.Found.{Found}
+use Rattle.window_check.specs.Room.{HasRoom, stmts_weight, item_weight, items_weight, room_end}
 use Rattle.window_check.specs.Scopes.{around_of, ended, with_function}
 
 pub body-scope : (s begun inside : Scope) (names : List Name) (f : tree.FunctionTree) → names ≡ param_names f.params → begun ≡ in_function s f.name.id → inside ≡ after_params begun names → inside ≡ in_body s f
 body-scope s begun inside names f params begin given = rw (given, begin, params)
 
-no_task_by : (b : Bool) → is_task (if b then owner.OfMain else owner.OfFunction) ≡ false
-no_task_by true = refl
-no_task_by false = refl
-
--- a function's body is no task's
-pub body-no_task : (s begun inside : Scope) (names : List Name) (f : tree.FunctionTree) (found blame given : Findings) (code : Option ℕ) →
-    inside ≡ in_body s f → found.in_task ≡ false → blame ≡ blamed found f.name.mark code → given ≡ noted blame (params_notes begun names) →
-    given.in_task ≡ is_task inside.owner
-body-no_task s begun inside names f found blame given code body idle blaming giving =
-    rw (giving, blaming, body)
-    (noted-in_task (blamed found f.name.mark code) (params_notes begun names)
-    ∙ blamed-in_task found f.name.mark code
-    ∙ idle
-    ∙ sym (ap is_task (owner_in_body s f) ∙ no_task_by _))
-
 -- the counts have room for the function itself
-pub function-room : (s inside after end : Scope) (f : tree.FunctionTree) → HasRoom s (item_weight (tree.Function f)) →
-    inside ≡ in_body s f → after ≡ after_stmts inside f.body → end ≡ ended (around_of s) after → end.functions + 1 ≤ 262144
-function-room s inside after end f room body stmts ending =
+pub function-room : (s inside after end : Scope) (f : tree.FunctionTree) → s.owner ≡ owner.OfFunction → HasRoom s (item_weight (tree.Function f)) →
+    inside ≡ in_body s f → after ≡ after_stmts inside f.body → end ≡ ended (around_of s) after → end.functions + 1 ≤ room_end
+function-room s inside after end f is room body stmts ending =
     let l = length (param_names f.params) in
     let w = stmts_weight f.body in
-    let behind = room_stmts (in_body s f) f.body 1 (room_in_body s f (w + 1) (room_less s (3 + l + w) (2 + l + (w + 1)) room (omega arith))) in
+    let behind = room_stmts (in_body s f) f.body 1 (room_in_body s f (w + 1) is (room_less s (6 + l + w) (4 + l + (w + 1)) room (omega arith))) in
     rw (ending, stmts, body) behind.functions
 
 pub function-scope : (s inside after end : Scope) (names : List Name) (f : tree.FunctionTree) → names ≡ param_names f.params →
@@ -52,24 +38,23 @@ pub function-scope : (s inside after end : Scope) (names : List Name) (f : tree.
 function-scope s inside after end names f params body stmts ending =
     rw (ending, stmts, body, params) (ap (λ (e : Scope). with_function e f.name.id (length (param_names f.params))) (ended_function s f))
 
-pub function-found : (f blame given found : Findings) (s begun inside : Scope) (names : List Name) (t : tree.FunctionTree) →
+pub function-found : (f blame given found : Found) (s begun inside : Scope) (names : List Name) (t : tree.FunctionTree) →
     names ≡ param_names t.params → begun ≡ in_function s t.name.id → inside ≡ in_body s t →
-    blame ≡ blamed f t.name.mark (least_code (when (is_declared s t.name.id) 12)) → given ≡ noted blame (params_notes begun names) →
+    blame ≡ blames f t.name.mark (least_code (when (is_declared s t.name.id) 12)) → given ≡ noted blame (params_notes begun names) →
     found ≡ noted given (stmts_notes inside t.body) → found ≡ noted f (item_notes s (tree.Function t))
 function-found f blame given found s begun inside names t params begin body blaming giving finding =
-    let codes = when (is_declared s t.name.id) 12 in
     let ps = params_notes (in_function s t.name.id) (param_names t.params) in
     let ss = stmts_notes (in_body s t) t.body in
     rw (finding, giving, blaming, body, begin, params)
-    (sym (noted-append f (map (Fault t.name.mark) codes ++ ps) ss ∙ ap (λ (g : Findings). noted g ss) (noted-codes-append f t.name.mark codes ps)))
+    (ap (λ (g : Found). noted (noted g ps) ss) (blames-global f s t.name) ∙ sym (noted-append (note f (Global s t.name)) ps ss))
 
 -- an item, and those behind it
 pub items_room-first : (s : Scope) (is rest : List tree.ItemTree) (i : tree.ItemTree) → is ≡ i ∷ rest → HasRoom s (items_weight is) → HasRoom s (item_weight i)
 items_room-first s is rest i split room = room_less s (items_weight (i ∷ rest)) (item_weight i) (rw split at room) (omega arith)
 
-pub items_room-rest : (s after : Scope) (is rest : List tree.ItemTree) (i : tree.ItemTree) → is ≡ i ∷ rest → HasRoom s (items_weight is) →
+pub items_room-rest : (s after : Scope) (is rest : List tree.ItemTree) (i : tree.ItemTree) → is ≡ i ∷ rest → s.owner ≡ owner.OfFunction → HasRoom s (items_weight is) →
     after ≡ after_item s i → HasRoom after (items_weight rest)
-items_room-rest s after is rest i split room step = rw step (room_item s i (items_weight rest) (rw split at room))
+items_room-rest s after is rest i split o room step = rw step (room_item s i (items_weight rest) o (rw split at room))
 
 leveled_first : {i : tree.ItemTree} {rest : List tree.ItemTree} → AreAll IsItem (i ∷ rest) → IsItem i
 leveled_first (cons h k) = h
@@ -87,12 +72,12 @@ pub items_scopes-rest : (s after end : Scope) (is rest : List tree.ItemTree) (i 
     after_items s is ≡ end → after ≡ after_item s i → after_items after rest ≡ end
 items_scopes-rest s after end is rest i split sofar step = rw step (rw split at sofar)
 
-pub items_found-rest : (s after : Scope) (f found end : Findings) (is rest : List tree.ItemTree) (i : tree.ItemTree) → is ≡ i ∷ rest →
+pub items_found-rest : (s after : Scope) (f found end : Found) (is rest : List tree.ItemTree) (i : tree.ItemTree) → is ≡ i ∷ rest →
     noted f (items_notes s is) ≡ end → after ≡ after_item s i → found ≡ noted f (item_notes s i) → noted found (items_notes after rest) ≡ end
 items_found-rest s after f found end is rest i split sofar step noting =
     rw step
     (noted-loop f found (items_notes s (i ∷ rest)) (item_notes s i) (items_notes (after_item s i) rest) refl noting
     ∙ rw split at sofar)
 
-pub items_no_task-rest : (s : Scope) (f found : Findings) (i : tree.ItemTree) → f.in_task ≡ false → found ≡ noted f (item_notes s i) → found.in_task ≡ false
-items_no_task-rest s f found i idle noting = rw noting (noted-in_task f (item_notes s i) ∙ idle)
+pub items_owner-rest : (s after : Scope) (i : tree.ItemTree) → s.owner ≡ owner.OfFunction → after ≡ after_item s i → after.owner ≡ owner.OfFunction
+items_owner-rest s after i is step = rw step (owner_item s i ∙ is)

@@ -1,34 +1,57 @@
 -- The least violation of those that were noted is the refusal.
-use Rattle.std.proofs.Common.{◌≡◌, ℕ, suc, List, [], ◌∷◌, All, Contains, Option, Some, refl, ap, sym, ◌∙◌, Bool, true, false, ltb, arith, ◌⊎◌, inl, inr, subst}
+use Rattle.std.proofs.Common.{◌≡◌, ℕ, suc, List, [], ◌∷◌, ◌++◌, min, All, Contains, Option, Some, None, refl, ap, sym, ◌∙◌, Bool, true, false, ltb, arith, ◌⊎◌, inl, inr, subst}
 use Rattle.std.proofs.lemmas.Bool.{ltb-true}
 use Rattle.std.proofs.lemmas.Bool.Decides.{nat_tests}
 use Rattle.std.proofs.lemmas.List.Elements.{All-cons, All-nil}
-use Rattle.os_ast.specs.Meanings.{Note, Fault, Means, Captures}
-use Rattle.os_ast.specs.Violations.{resolved, faults, IsBefore, earlier, same_place}
-use Rattle.os_ast.specs.declared.names.Resolved.{Resolved}
+use Rattle.os_ast.specs.Notes.Kinds.{Note, mark_of}
+use Rattle.os_ast.specs.Rules.{codes}
+use Rattle.os_ast.specs.Violations.{violated, faults_at, faults, IsBefore, earlier, same_place}
+use Rattle.os_ast.specs.declared.expr.Mark.{Mark}
 use Rattle.os_ast.specs.declared.violation.Violation.{Violation}
-use Rattle.window_check.specs.Findings.{Findings, before, lesser, note, noted, known, captures}
+use Rattle.window_check.specs.Codes.{least_code, lesser_code}
+use Rattle.window_check.specs.Findings.{before, lesser, least_with, judged, noted}
+use Rattle.window_check.specs.declared.found.Found.TheVariants.{Judging}
+use Rattle.window_check.specs.declared.found.Judged.{Judged}
 
 abbrev pub least_of : Option Violation → List Violation → Option Violation
 least_of o [] = o
 least_of o (v ∷ vs) = least_of (Some (lesser o v)) vs
 
-known-least : (f : Findings) (r : Resolved) (b : Bool) → f.in_task ≡ b → (known f r).least ≡ f.least
-known-least f r true e = rw e refl
-known-least f r false e = rw e refl
+-- one token that violates two rules
+lesser-codes : (least : Option Violation) (p c d l : ℕ) → lesser (Some (lesser least (violated p c l))) (violated p d l) ≡ lesser least (violated p (min c d) l)
+lesser-codes None p c d l = grind (arith, nat_tests)
+lesser-codes (Some u) p c d l = grind (arith, nat_tests)
 
-captures-least : (f : Findings) (place slot : ℕ) (b : Bool) → f.in_task ≡ b → (captures f place slot).least ≡ f.least
-captures-least f place slot true e = rw e refl
-captures-least f place slot false e = rw e refl
+blamed-again : (least : Option Violation) (m : Mark) (c : ℕ) (d : Option ℕ) →
+    least_with (Some (lesser least (violated m.place c m.line))) m d ≡ least_with least m (lesser_code (Some c) d)
+blamed-again least m c None = refl
+blamed-again least m c (Some d) = ap Some (lesser-codes least m.place c d m.line)
+
+-- one token that violates several
+least_at : (least : Option Violation) (m : Mark) (cs : List ℕ) → least_of least (faults_at m cs) ≡ least_with least m (least_code cs)
+least_at least m [] = refl
+least_at least m (c ∷ cs) = least_at (Some (lesser least (violated m.place c m.line))) m cs ∙ blamed-again least m c (least_code cs)
+
+least_of-append : (least : Option Violation) (vs ws : List Violation) → least_of least (vs ++ ws) ≡ least_of (least_of least vs) ws
+least_of-append least [] ws = refl
+least_of-append least (v ∷ vs) ws = least_of-append (Some (lesser least v)) vs ws
+
+-- what is found of notes by a walk that judges
+abbrev pub judged_all : Judged → List Note → Judged
+judged_all j [] = j
+judged_all j (n ∷ ns) = judged_all (judged j n) ns
+
+pub noted-judging : (j : Judged) (ns : List Note) → noted (Judging j) ns ≡ Judging (judged_all j ns)
+noted-judging j [] = refl
+noted-judging j (n ∷ ns) = noted-judging (judged j n) ns
 
 -- the least violation is that of the faults
-pub noted-least : (f : Findings) (ns : List Note) → (noted f ns).least ≡ least_of f.least (faults ns)
-noted-least f [] = refl
-noted-least f (Fault m c ∷ ns) = noted-least (note f (Fault m c)) ns
-noted-least f (Means m w ∷ ns) =
-    noted-least (note f (Means m w)) ns ∙ ap (λ o. least_of o (faults ns)) (known-least f (resolved m.place w) f.in_task refl)
-noted-least f (Captures m slot ∷ ns) =
-    noted-least (note f (Captures m slot)) ns ∙ ap (λ o. least_of o (faults ns)) (captures-least f m.place slot f.in_task refl)
+pub noted-least : (j : Judged) (ns : List Note) → (judged_all j ns).least ≡ least_of j.least (faults ns)
+noted-least j [] = refl
+noted-least j (n ∷ ns) =
+    noted-least (judged j n) ns
+    ∙ ap (λ o. least_of o (faults ns)) (sym (least_at j.least (mark_of n) (codes n)))
+    ∙ sym (least_of-append j.least (faults_at (mark_of n) (codes n)) (faults ns))
 
 -- the least of one violation and others
 abbrev pub least_among : Violation → List Violation → Violation

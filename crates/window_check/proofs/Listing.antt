@@ -1,5 +1,5 @@
 -- What clauses list is what is said of them: the names, the items and the captured scalars.
-use Rattle.std.proofs.Common.{◌≡◌, ℕ, ◌+◌, Bool, true, false, List, [], ◌∷◌, ◌++◌, length, Option, Some, None, Ordering, refl, ap, ◌∙◌, add-one, append_assoc, length-append, arith, eq-eqb, inl, inr}
+use Rattle.std.proofs.Common.{◌≡◌, ℕ, ◌+◌, Bool, true, false, List, [], ◌∷◌, ◌++◌, length, Option, Some, None, Ordering, refl, ap, sym, ◌∙◌, add-one, append_assoc, length-append, arith, eq-eqb, inl, inr}
 use Rattle.std.specs.Prelude.{◌==◌, ◌||◌, is_some}
 use Rattle.std.specs.declared.cmp.Ordering.TheVariants.{Less, Equal, Greater}
 use Rattle.std.specs.BTreeMap.{is_at}
@@ -9,13 +9,25 @@ use Rattle.std.specs.Ordering.{nat_cmp, match_ordering, is_eq}
 use Rattle.std.proofs.lemmas.Bool.{cases_order, lt-ltb, le-ltb, ne_eqb}
 use Rattle.std.proofs.lemmas.Map.Lookups.{exact_unsigned}
 use Rattle.os_ast.specs.Names.{Scope, lookup, entity_of, declare}
-use Rattle.os_ast.specs.Notes.Clauses.{Part, Item, Private, part_name, part_notes, parts_notes, window_notes, is_in, again, count_items, privates, with_items, target_name, item_name, named_entity}
-use Rattle.os_ast.specs.Uses.{when}
+use Rattle.os_ast.specs.Notes.Clauses.{part_notes, parts_notes, window_notes, shape_of, with_items, named_entity}
+use Rattle.os_ast.specs.Notes.Expressions.{place_notes, index_notes}
+use Rattle.os_ast.specs.Notes.Kinds.{Used, Listed}
+use Rattle.os_ast.specs.Parts.{Part, Item, Private, part_name, is_in, count_items, target_name, item_name, private_ids}
 use Rattle.os_ast.specs.Trees as tree
 use Rattle.os_ast.specs.declared.expr.Name.{Name}
 use Rattle.os_ast.specs.declared.names.Direction.{Direction}
 use Rattle.os_ast.specs.declared.names.Entity.{Entity}
 use Rattle.os_ast.specs.declared.names.Entity.TheVariants as entity
+use Rattle.os_ast.specs.declared.names.Role.TheVariants as role
+use Rattle.os_ast.specs.declared.names.Use.TheVariants as usage
+use Rattle.os_ast.specs.declared.names.Entry.{Entry}
+use Rattle.os_ast.specs.Rules.{when}
+use Rattle.window_check.proofs.Noted.{noted-append}
+use Rattle.window_check.specs.Codes.{least_code}
+use Rattle.window_check.specs.Findings.{note, noted, least_with}
+use Rattle.window_check.specs.declared.found.Found.{Found}
+use Rattle.window_check.specs.declared.found.Found.TheVariants.{Listing, Judging}
+use Rattle.window_check.specs.Slots.{with_slot, with_slots, control_slots}
 use Rattle.window_check.specs.declared.parts.ItemName.{ItemName}
 use Rattle.window_check.specs.Parts.{ListedParts, none_listed, inside, after_part, after_parts, listed_notes, after_names}
 
@@ -58,30 +70,42 @@ pub list_any-is_in : (id : ℕ) (names : List ℕ) → list_any (is_at (nat_cmp 
 list_any-is_in id [] = refl
 list_any-is_in id (x ∷ xs) = rw (equal-is id x, list_any-is_in id xs)
 
-again-same : (names before : List ℕ) → SameNames names before → (n : Name) → again names n ≡ again before n
-again-same names before same n = ap (λ (b : Bool). when b 21) (same n.id)
+-- what is found of a name that is listed, by the names before it
+listed-same : (f : Found) (names before : List ℕ) → SameNames names before → (n : Name) → note f (Listed names n) ≡ note f (Listed before n)
+listed-same (Listing slots) names before same n = refl
+listed-same (Judging j) names before same n =
+    ap (λ (b : Bool). Judging (record j { least = least_with j.least n.mark (least_code (when b 21 ++ [])) })) (same n.id)
 
-window_notes-same : (s : Scope) (names before : List ℕ) → SameNames names before → (t : tree.TargetTree) (j : Option tree.JoinTree) →
-    window_notes s names t j ≡ window_notes s before t j
-window_notes-same s names before same t None = rw (again-same names before same (target_name t))
-window_notes-same s names before same t (Some j) = rw (again-same names before same j.name)
+window-same : (f : Found) (s : Scope) (names before : List ℕ) → SameNames names before → (t : tree.TargetTree) (j : Option tree.JoinTree) →
+    noted f (window_notes s names t j) ≡ noted f (window_notes s before t j)
+window-same f s names before same t None = listed-same f names before same (target_name t)
+window-same f s names before same t (Some j) =
+    ap (λ (g : Found). noted (note g (Used s j.name (usage.Joined (shape_of j.burst)))) (index_notes s j.burst)) (listed-same f names before same j.name)
 
-part_notes-same : (s : Scope) (names before : List ℕ) → SameNames names before → (p : Part) → part_notes s names p ≡ part_notes s before p
-part_notes-same s names before same (Item d i) = rw (window_notes-same s names before same i.stream i.window)
-part_notes-same s names before same (Private n) = rw (again-same names before same n)
+part-same : (f : Found) (s : Scope) (names before : List ℕ) → SameNames names before → (p : Part) → noted f (part_notes s names p) ≡ noted f (part_notes s before p)
+part-same f s names before same (Item d i) =
+    let stream = place_notes s (role.Flow d) i.stream in
+    noted-append f stream (window_notes s names i.stream i.window)
+    ∙ window-same (noted f stream) s names before same i.stream i.window
+    ∙ sym (noted-append f stream (window_notes s before i.stream i.window))
+part-same f s names before same (Private n) = ap (λ (g : Found). note g (Used s n usage.Private)) (listed-same f names before same n)
 
 same-more : (s : Scope) (l : ListedParts) (before : List ℕ) (p : Part) → SameNames l.names before → SameNames (after_part s l p).names ((part_name p).id ∷ before)
 same-more s l before (Item d i) same id = rw (is_in-insert_key id (item_name i.stream i.window).id l.names, same id)
 same-more s l before (Private n) same id = rw (is_in-insert_key id n.id l.names, same id)
 
-listed-from : (s : Scope) (l : ListedParts) (before : List ℕ) (ps : List Part) → SameNames l.names before → listed_notes s l ps ≡ parts_notes s before ps
-listed-from s l before [] same = refl
-listed-from s l before (p ∷ ps) same =
-    rw (part_notes-same s l.names before same p, listed-from s (after_part s l p) ((part_name p).id ∷ before) ps (same-more s l before p same))
+listed-from : (f : Found) (s : Scope) (l : ListedParts) (before : List ℕ) (ps : List Part) → SameNames l.names before → noted f (listed_notes s l ps) ≡ noted f (parts_notes s before ps)
+listed-from f s l before [] same = refl
+listed-from f s l before (p ∷ ps) same =
+    let rest = listed_notes s (after_part s l p) ps in
+    noted-append f (part_notes s l.names p) rest
+    ∙ ap (λ (g : Found). noted g rest) (part-same f s l.names before same p)
+    ∙ listed-from (noted f (part_notes s before p)) s (after_part s l p) ((part_name p).id ∷ before) ps (same-more s l before p same)
+    ∙ sym (noted-append f (part_notes s before p) (parts_notes s ((part_name p).id ∷ before) ps))
 
--- the notes of parts by the names that are listed before each
-pub listed_notes-all : (s : Scope) (ps : List Part) → listed_notes s none_listed ps ≡ parts_notes s [] ps
-listed_notes-all s ps = listed-from s none_listed [] ps (λ id. refl)
+-- what is found of parts, by the names that are listed before each
+pub listed_notes-all : (f : Found) (s : Scope) (ps : List Part) → noted f (listed_notes s none_listed ps) ≡ noted f (parts_notes s [] ps)
+listed_notes-all f s ps = listed-from f s none_listed [] ps (λ id. refl)
 
 inside-named : (e : Option Entity) (item : ℕ) (d : Direction) (j : Option tree.JoinTree) →
     inside e item (is_some j) d ≡ named_entity item d j e
@@ -131,13 +155,24 @@ items-from s inner l (Private n ∷ ps) = items-from s inner (after_part s l (Pr
 pub items-all : (s inner : Scope) (ps : List Part) → after_names inner (after_parts s none_listed ps).items ≡ with_items s inner 0 ps
 items-all s inner ps = items-from s inner none_listed ps
 
-slots-from : (s : Scope) (l : ListedParts) (ps : List Part) → (after_parts s l ps).slots ≡ privates s l.slots ps
+-- the slots of the scalars that names mean
+abbrev pub slots_named : List Entry → List ℕ → List ℕ
+slots_named es [] = []
+slots_named es (id ∷ ids) = control_slots (entity_of (lookup es id)) ++ slots_named es ids
+
+pub with_slots-append : (xs ys slots : List ℕ) → with_slots (xs ++ ys) slots ≡ with_slots ys (with_slots xs slots)
+with_slots-append [] ys slots = refl
+with_slots-append (x ∷ xs) ys slots = with_slots-append xs ys (with_slot x slots)
+
+slots-from : (s : Scope) (l : ListedParts) (ps : List Part) → (after_parts s l ps).slots ≡ with_slots (slots_named s.entries (private_ids ps)) l.slots
 slots-from s l [] = refl
 slots-from s l (Item d i ∷ ps) = slots-from s (after_part s l (Item d i)) ps
-slots-from s l (Private n ∷ ps) = slots-from s (after_part s l (Private n)) ps
+slots-from s l (Private n ∷ ps) =
+    slots-from s (after_part s l (Private n)) ps
+    ∙ sym (with_slots-append (control_slots (entity_of (lookup s.entries n.id))) (slots_named s.entries (private_ids ps)) l.slots)
 
 -- the captured scalars that `firstprivate` gave
-pub slots-all : (s : Scope) (ps : List Part) → (after_parts s none_listed ps).slots ≡ privates s [] ps
+pub slots-all : (s : Scope) (ps : List Part) → (after_parts s none_listed ps).slots ≡ with_slots (slots_named s.entries (private_ids ps)) []
 slots-all s ps = slots-from s none_listed ps
 
 count-from : (s : Scope) (l : ListedParts) (ps : List Part) → length (after_parts s l ps).items ≡ length l.items + count_items ps
@@ -159,6 +194,6 @@ pub listed_notes-append : (s : Scope) (l : ListedParts) (ps qs : List Part) →
 listed_notes-append s l [] qs = refl
 listed_notes-append s l (p ∷ ps) qs = rw (listed_notes-append s (after_part s l p) ps qs, append_assoc)
 
-pub ruleset listing = (listed_notes-all, items-all, slots-all, count-all)
+pub ruleset listing = (listed_notes-all)
 
 pub ruleset joined_parts = (after_parts-append, listed_notes-append)

@@ -2,12 +2,14 @@
 use Rattle.std.proofs.Common.{◌≡◌, ℕ, ◌+◌, ◌<◌, ◌≤◌, List, [], ◌∷◌, ◌++◌, length, get_or, drop, add-one, map, subst, arith, length-append}
 use Rattle.std.proofs.Math.Seq.{drop-cons}
 use Rattle.os_ast.specs.Names.{Scope}
-use Rattle.os_ast.specs.Notes.Clauses.{Part, Item, Private, part_notes}
+use Rattle.os_ast.specs.Notes.Clauses.{part_notes}
+use Rattle.os_ast.specs.Parts.{Part, Item, Private}
 use Rattle.os_ast.specs.Views.{clause_item_tree}
 use Rattle.os_ast.specs.declared.expr.Name.{Name}
 use Rattle.os_ast.specs.declared.names.Direction.{Direction}
 use Rattle.os_ast.specs.declared.pragma.ClauseItem.{ClauseItem}
-use Rattle.window_check.specs.Findings.{Findings, noted}
+use Rattle.window_check.specs.Findings.{noted}
+use Rattle.window_check.specs.declared.found.Found.{Found}
 use Rattle.window_check.specs.Parts.{ListedParts, after_part, after_parts, listed_notes}
 use Rattle.window_check.proofs.Listing.{after_parts-append, listed_notes-append}
 use Rattle.window_check.proofs.Noted.{noted-append}
@@ -30,7 +32,7 @@ items-parts s l [] = omega arith
 items-parts s l (p ∷ ps) = omega (arith, items-part s l p, items-parts s (after_part s l p) ps)
 
 -- what is found of a part, and of the parts after it
-pub found-part : (s : Scope) (f g : Findings) (l m : ListedParts) (p : Part) (rest all : List Part) (whole : Findings) →
+pub found-part : (s : Scope) (f g : Found) (l m : ListedParts) (p : Part) (rest all : List Part) (whole : Found) →
     all ≡ p ∷ rest → g ≡ noted f (part_notes s l.names p) → m ≡ after_part s l p →
     noted f (listed_notes s l all) ≡ whole → noted g (listed_notes s m rest) ≡ whole
 found-part s f g l m p rest all whole split found listed h =
@@ -39,7 +41,7 @@ found-part s f g l m p rest all whole split found listed h =
     rw (found, listed) (cc (both, these))
 
 -- what is found of the parts of a clause, and of the parts after them
-pub found-parts : (s : Scope) (f g : Findings) (l m : ListedParts) (ps rest all : List Part) (whole : Findings) →
+pub found-parts : (s : Scope) (f g : Found) (l m : ListedParts) (ps rest all : List Part) (whole : Found) →
     all ≡ ps ++ rest → g ≡ noted f (listed_notes s l ps) → m ≡ after_parts s l ps →
     noted f (listed_notes s l all) ≡ whole → noted g (listed_notes s m rest) ≡ whole
 found-parts s f g l m ps rest all whole split found listed h =

@@ -1,31 +1,31 @@
 -- Names are noted in the order of their places.
-use Rattle.std.proofs.Common.{◌≡◌, ◌≤◌, ◌+◌, ℕ, suc, List, [], ◌∷◌, ◌++◌, map, length, Option, Some, None, refl, ap, sym, subst, ◌∙◌, append_assoc, Bool, true, false, not, ◌&&◌, if◌then◌else◌, ℤ, arith}
+use Rattle.std.proofs.Common.{◌≡◌, ◌≤◌, ◌+◌, ℕ, suc, List, [], ◌∷◌, ◌++◌, map, Option, Some, None, refl, ap, sym, subst, ◌∙◌, append_assoc, Bool, true, false, not, ◌&&◌, if◌then◌else◌, ℤ, arith}
 use Rattle.std.specs.Prelude.{⊤}
+use Rattle.os_ast.specs.Captured.{captured}
 use Rattle.os_ast.specs.Marks.{HasMark, HasPlaces}
-use Rattle.os_ast.specs.Meanings.{Note, Fault, Means, Captures, captured, with_captured, meaning, meant, control_note}
-use Rattle.os_ast.specs.Names.{Scope, entity_of, lookup, enter, in_loop, is_declared}
-use Rattle.os_ast.specs.Notes.Clauses.{Part, Item, Private, parts, parts_of, part_name, part_notes, parts_notes, window_notes, again, target_name, shape_of, task_codes, count_items, captured_notes, privates, pragma_codes, with_items, in_task, return_codes}
-use Rattle.os_ast.specs.Notes.Declarators.{form, form_entity, scalar_entity, declarator_codes, declarator_notes, declarators_notes, after_declarator, after_start, start_notes, sized_notes, size_notes, constant_notes, constant_of, is_window}
+use Rattle.os_ast.specs.Names.{Scope, entity_of, lookup, enter, in_loop}
+use Rattle.os_ast.specs.Notes.Clauses.{part_notes, parts_notes, window_notes, shape_of, in_task_body}
+use Rattle.os_ast.specs.Notes.Declarators.{declarator_notes, declarators_notes, after_declarator, after_start, start_notes, sized_notes, size_notes, constant_of, is_window}
 use Rattle.os_ast.specs.Notes.Expressions.{expr_notes, place_notes, args_notes, links_notes, value_notes, index_notes, change_notes, step_notes, count_args}
+use Rattle.os_ast.specs.Notes.Kinds.{Note, Used, Sized, Declared, Given, Global, Left, Returned, Pragma, Task, Listed}
 use Rattle.os_ast.specs.Notes.Programs.{params_notes, after_param, param_names, item_notes, items_notes, after_item, in_function, in_body, program_notes, file}
 use Rattle.os_ast.specs.Notes.Statements.{stmt_notes, stmts_notes, after_stmt}
 use Rattle.os_ast.specs.Operators.{assign_mark, step_mark}
+use Rattle.os_ast.specs.Parts.{Part, Item, Private, parts, parts_of, part_name, count_items, target_name}
 use Rattle.os_ast.specs.Spelling as spelling
 use Rattle.os_ast.specs.Spelling.{Piece, bare, marked, pieces, ◌⨾◌}
 use Rattle.os_ast.specs.Trees as tree
-use Rattle.os_ast.specs.Uses.{said, use_notes, value_codes, target_codes, call_codes, stream_codes, item_codes, private_codes, when}
-use Rattle.os_ast.specs.Violations.{names, resolutions}
+use Rattle.os_ast.specs.Violations.{names, resolutions, declared_meaning, constant_meaning}
 use Rattle.os_ast.specs.declared.expr.Mark.{Mark}
 use Rattle.os_ast.specs.declared.expr.Name.{Name}
 use Rattle.os_ast.specs.declared.names.Direction.{Direction}
 use Rattle.os_ast.specs.declared.names.Direction.TheVariants as direction
 use Rattle.os_ast.specs.declared.names.Entity.{Entity}
-use Rattle.os_ast.specs.declared.names.Entity.TheVariants as entity
-use Rattle.os_ast.specs.declared.names.Owner.{Owner}
-use Rattle.os_ast.specs.declared.names.Owner.TheVariants as owner
-use Rattle.os_ast.specs.declared.names.Shape.{Shape}
+use Rattle.os_ast.specs.declared.names.Role.{Role}
+use Rattle.os_ast.specs.declared.names.Role.TheVariants as role
 use Rattle.os_ast.specs.declared.names.Shape.TheVariants as shape
-use Rattle.os_ast.specs.declared.names.What.{What}
+use Rattle.os_ast.specs.declared.names.Use.{Use}
+use Rattle.os_ast.specs.declared.names.Use.TheVariants as usage
 use Rattle.os_ast.specs.declared.program.Params.{Params}
 use Rattle.os_ast.specs.declared.program.Params.TheVariants as params_of
 use Rattle.os_lexer.specs.declared.token.Key.TheVariants as keys
@@ -41,35 +41,48 @@ HasFrom lo [] = ⊤
 HasFrom lo (bare k ∷ ps) = HasFrom (suc lo) ps
 HasFrom lo (marked k m ∷ ps) = (m.place ≡ lo) × HasFrom (suc lo) ps
 
--- the names among notes ascend, from one place on and below another
-abbrev pub Ascend : ℕ → List Note → ℕ → Type 0
+-- the token of a name that has a meaning; of every other one none
+abbrev pub name_mark : Note → List Mark
+name_mark (Used s n u) = n.mark ∷ []
+name_mark (Sized s n) = n.mark ∷ []
+name_mark (Declared s d) = d.name.mark ∷ []
+name_mark (Given s n) = n.mark ∷ []
+name_mark _ = []
+
+abbrev pub name_marks : List Note → List Mark
+name_marks [] = []
+name_marks (n ∷ ns) = name_mark n ++ name_marks ns
+
+name_marks-append : (xs ys : List Note) → name_marks (xs ++ ys) ≡ name_marks xs ++ name_marks ys
+name_marks-append [] ys = refl
+name_marks-append (n ∷ xs) ys =
+    ap (λ ms. name_mark n ++ ms) (name_marks-append xs ys) ∙ sym (append_assoc (name_mark n) (name_marks xs) (name_marks ys))
+
+-- tokens ascend, from one place on and below another
+abbrev pub Ascend : ℕ → List Mark → ℕ → Type 0
 Ascend lo [] hi = lo ≤ hi
-Ascend lo (Fault m c ∷ ns) hi = Ascend lo ns hi
-Ascend lo (Means m w ∷ ns) hi = (lo ≤ m.place) × Ascend (suc m.place) ns hi
-Ascend lo (Captures m slot ∷ ns) hi = (lo ≤ m.place) × Ascend (suc m.place) ns hi
+Ascend lo (m ∷ ms) hi = (lo ≤ m.place) × Ascend (suc m.place) ms hi
 
-ascend-lower : (lo from : ℕ) (ns : List Note) (hi : ℕ) → lo ≤ from → Ascend from ns hi → Ascend lo ns hi
+ascend-lower : (lo from : ℕ) (ms : List Mark) (hi : ℕ) → lo ≤ from → Ascend from ms hi → Ascend lo ms hi
 ascend-lower lo from [] hi h a = omega (arith, h, a)
-ascend-lower lo from (Fault m c ∷ ns) hi h a = ascend-lower lo from ns hi h a
-ascend-lower lo from (Means m w ∷ ns) hi h a = (omega (arith, h, a.0), a.1)
-ascend-lower lo from (Captures m slot ∷ ns) hi h a = (omega (arith, h, a.0), a.1)
+ascend-lower lo from (m ∷ ms) hi h a = (omega (arith, h, a.0), a.1)
 
-ascend-append : (lo : ℕ) (xs : List Note) (mid : ℕ) (ys : List Note) (hi : ℕ) → Ascend lo xs mid → Ascend mid ys hi → Ascend lo (xs ++ ys) hi
-ascend-append lo [] mid ys hi a b = ascend-lower lo mid ys hi a b
-ascend-append lo (Fault m c ∷ xs) mid ys hi a b = ascend-append lo xs mid ys hi a b
-ascend-append lo (Means m w ∷ xs) mid ys hi a b = (a.0, ascend-append (suc m.place) xs mid ys hi a.1 b)
-ascend-append lo (Captures m slot ∷ xs) mid ys hi a b = (a.0, ascend-append (suc m.place) xs mid ys hi a.1 b)
+ascend-append : (lo : ℕ) (ms : List Mark) (mid : ℕ) (qs : List Mark) (hi : ℕ) → Ascend lo ms mid → Ascend mid qs hi → Ascend lo (ms ++ qs) hi
+ascend-append lo [] mid qs hi a b = ascend-lower lo mid qs hi a b
+ascend-append lo (m ∷ ms) mid qs hi a b = (a.0, ascend-append (suc m.place) ms mid qs hi a.1 b)
 
-ascend-higher : (lo : ℕ) (ns : List Note) (mid hi : ℕ) → mid ≤ hi → Ascend lo ns mid → Ascend lo ns hi
+ascend-higher : (lo : ℕ) (ms : List Mark) (mid hi : ℕ) → mid ≤ hi → Ascend lo ms mid → Ascend lo ms hi
 ascend-higher lo [] mid hi h a = omega (arith, h, a)
-ascend-higher lo (Fault m c ∷ ns) mid hi h a = ascend-higher lo ns mid hi h a
-ascend-higher lo (Means m w ∷ ns) mid hi h a = (a.0, ascend-higher (suc m.place) ns mid hi h a.1)
-ascend-higher lo (Captures m slot ∷ ns) mid hi h a = (a.0, ascend-higher (suc m.place) ns mid hi h a.1)
+ascend-higher lo (m ∷ ms) mid hi h a = (a.0, ascend-higher (suc m.place) ms mid hi h a.1)
 
--- the notes of a part ascend, and what follows it has its places
+ascend-none : (lo : ℕ) (ms : List Mark) (hi : ℕ) → Ascend lo ms hi → lo ≤ hi
+ascend-none lo [] hi a = a
+ascend-none lo (m ∷ ms) hi a = omega (arith, a.0, ascend-none (suc m.place) ms hi a.1)
+
+-- the names of a part ascend, and what follows it has its places
 record Passed (lo : ℕ) (ns : List Note) (rest : List Piece) : Type 0 where
   to : ℕ
-  order : Ascend lo ns to
+  order : Ascend lo (name_marks ns) to
   after : HasFrom to rest
 
 -- a part without names
@@ -78,72 +91,47 @@ silent lo rest h = record { to = lo; order = omega arith; after = h }
 
 -- a token before a part, and behind it
 opened : {lo : ℕ} {ns : List Note} {rest : List Piece} → Passed (suc lo) ns rest → Passed lo ns rest
-opened {lo} {ns} {rest} p = record { to = p.to; order = ascend-lower lo (suc lo) ns p.to (omega arith) p.order; after = p.after }
+opened {lo} {ns} {rest} p = record { to = p.to; order = ascend-lower lo (suc lo) (name_marks ns) p.to (omega arith) p.order; after = p.after }
 
 closed : {lo : ℕ} {ns : List Note} {k : Kind} {rest : List Piece} → Passed lo ns (bare k ∷ rest) → Passed lo ns rest
-closed {lo} {ns} {k} {rest} p = record { to = suc p.to; order = ascend-higher lo ns p.to (suc p.to) (omega arith) p.order; after = p.after }
+closed {lo} {ns} {k} {rest} p = record { to = suc p.to; order = ascend-higher lo (name_marks ns) p.to (suc p.to) (omega arith) p.order; after = p.after }
 
 closed_mark : {lo : ℕ} {ns : List Note} {k : Kind} {m : Mark} {rest : List Piece} → Passed lo ns (marked k m ∷ rest) → Passed lo ns rest
-closed_mark {lo} {ns} {k} {m} {rest} p = record { to = suc p.to; order = ascend-higher lo ns p.to (suc p.to) (omega arith) p.order; after = p.after.1 }
+closed_mark {lo} {ns} {k} {m} {rest} p = record { to = suc p.to; order = ascend-higher lo (name_marks ns) p.to (suc p.to) (omega arith) p.order; after = p.after.1 }
 
 -- one part after another
 both : {lo : ℕ} {xs ys : List Note} {ps rest : List Piece} (one : Passed lo xs ps) → Passed one.to ys rest → Passed lo (xs ++ ys) rest
-both {lo} {xs} {ys} {ps} {rest} one two = record { to = two.to; order = ascend-append lo xs one.to ys two.to one.order two.order; after = two.after }
+both {lo} {xs} {ys} {ps} {rest} one two = record {
+  to = two.to;
+  order = subst (λ ms. Ascend lo ms two.to) (sym (name_marks-append xs ys)) (ascend-append lo (name_marks xs) one.to (name_marks ys) two.to one.order two.order);
+  after = two.after;
+}
 
 -- tokens without names behind a part
 silently : {lo : ℕ} {ns : List Note} {ps rest : List Piece} (p : Passed lo ns ps) → Passed p.to [] rest → Passed lo ns rest
-silently {lo} {ns} {ps} {rest} p q = record { to = q.to; order = ascend-higher lo ns p.to q.to q.order p.order; after = q.after }
+silently {lo} {ns} {ps} {rest} p q = record { to = q.to; order = ascend-higher lo (name_marks ns) p.to q.to q.order p.order; after = q.after }
 
-ascend-none : (lo : ℕ) (ns : List Note) (hi : ℕ) → Ascend lo ns hi → lo ≤ hi
-ascend-none lo [] hi a = a
-ascend-none lo (Fault m c ∷ ns) hi a = ascend-none lo ns hi a
-ascend-none lo (Means m w ∷ ns) hi a = omega (arith, a.0, ascend-none (suc m.place) ns hi a.1)
-ascend-none lo (Captures m slot ∷ ns) hi a = omega (arith, a.0, ascend-none (suc m.place) ns hi a.1)
+-- a note of no name
+quiet : {lo : ℕ} (n : Note) {ns : List Note} {rest : List Piece} → name_mark n ≡ [] → Passed lo ns rest → Passed lo (n ∷ ns) rest
+quiet {lo} n {ns} {rest} none p = record { to = p.to; order = subst (λ ms. Ascend lo (ms ++ name_marks ns) p.to) (sym none) p.order; after = p.after }
 
--- violations are no names
-ascend-blamed : (lo : ℕ) (m : Mark) (codes : List ℕ) (ns : List Note) (hi : ℕ) → Ascend lo ns hi → Ascend lo (map (Fault m) codes ++ ns) hi
-ascend-blamed lo m [] ns hi a = a
-ascend-blamed lo m (c ∷ cs) ns hi a = ascend-blamed lo m cs ns hi a
+-- a name
+with_name : {lo : ℕ} (n : Note) (m : Mark) {ns : List Note} {rest : List Piece} → name_mark n ≡ m ∷ [] → m.place ≡ lo → Passed (suc lo) ns rest → Passed lo (n ∷ ns) rest
+with_name {lo} n m {ns} {rest} is h p = record {
+  to = p.to;
+  order = subst (λ ms. Ascend lo (ms ++ name_marks ns) p.to) (sym is) (omega (arith, h), ascend-lower (suc m.place) (suc lo) (name_marks ns) p.to (omega (arith, h)) p.order);
+  after = p.after;
+}
 
-blames : (lo : ℕ) (m : Mark) (codes : List ℕ) (ns : List Note) (rest : List Piece) → Passed lo ns rest → Passed lo (map (Fault m) codes ++ ns) rest
-blames lo m codes ns rest p = record { to = p.to; order = ascend-blamed lo m codes ns p.to p.order; after = p.after }
-
-only_blames : (lo : ℕ) (m : Mark) (codes : List ℕ) (rest : List Piece) → HasFrom lo rest → Passed lo (map (Fault m) codes) rest
-only_blames lo m [] rest h = silent lo rest h
-only_blames lo m (c ∷ cs) rest h = let q = only_blames lo m cs rest h in record { to = q.to; order = q.order; after = q.after }
-
-control : (o : Owner) (m : Mark) (slot lo : ℕ) → m.place ≡ lo → Ascend lo (control_note o m slot ∷ []) (suc lo)
-control owner.OfTask m slot lo h = (omega (arith, h), omega (arith, h))
-control owner.OfMain m slot lo h = (omega (arith, h), omega (arith, h))
-control owner.OfFunction m slot lo h = (omega (arith, h), omega (arith, h))
-
-meant-one : (o : Owner) (m : Mark) (e : Entity) (lo : ℕ) → m.place ≡ lo → Ascend lo (meant o m e ∷ []) (suc lo)
-meant-one o m (entity.Control slot) lo h = control o m slot lo h
-meant-one o m entity.InputLength lo h = control o m 0 lo h
-meant-one o m (entity.Constant v) lo h = (omega (arith, h), omega (arith, h))
-meant-one o m (entity.Function number params) lo h = (omega (arith, h), omega (arith, h))
-meant-one o m (entity.Scalar slot) lo h = (omega (arith, h), omega (arith, h))
-meant-one o m (entity.Array first size) lo h = (omega (arith, h), omega (arith, h))
-meant-one o m (entity.Window slot) lo h = (omega (arith, h), omega (arith, h))
-meant-one o m (entity.Stream number) lo h = (omega (arith, h), omega (arith, h))
-meant-one o m (entity.Streams first count) lo h = (omega (arith, h), omega (arith, h))
-meant-one o m (entity.Element item d) lo h = (omega (arith, h), omega (arith, h))
-meant-one o m (entity.View item d) lo h = (omega (arith, h), omega (arith, h))
-
-said-one : (o : Owner) (m : Mark) (codes : Entity → List ℕ) (e : Option Entity) (lo : ℕ) (rest : List Piece) → m.place ≡ lo → HasFrom (suc lo) rest → Passed lo (said o m codes e) rest
-said-one o m codes None lo rest h a = record { to = suc lo; order = omega arith; after = a }
-said-one o m codes (Some e) lo rest h a = blames lo m (codes e) (meant o m e ∷ []) rest (record { to = suc lo; order = meant-one o m e lo h; after = a })
-
-used : (s : Scope) (n : Name) (codes : Entity → List ℕ) (lo : ℕ) (rest : List Piece) → n.mark.place ≡ lo → HasFrom (suc lo) rest → Passed lo (use_notes s n codes) rest
-used s n codes lo rest h a = said-one s.owner n.mark codes (entity_of (lookup s.entries n.id)) lo rest h a
+used : (s : Scope) (n : Name) (u : Use) (lo : ℕ) (rest : List Piece) → n.mark.place ≡ lo → HasFrom (suc lo) rest → Passed lo (Used s n u ∷ []) rest
+used s n u lo rest h a = with_name (Used s n u) n.mark refl h (silent (suc lo) rest a)
 
 mutual
   in-expr : (s : Scope) (e : tree.ExprTree) (lo : ℕ) (rest : List Piece) → HasFrom lo (spelling.expr e rest) → Passed lo (expr_notes s e) rest
   in-expr s (tree.Number n) lo rest h = opened (silent (suc lo) rest h)
-  in-expr s (tree.Place t) lo rest h = in-place s value_codes t lo rest h
+  in-expr s (tree.Place t) lo rest h = in-place s role.Value t lo rest h
   in-expr s (tree.ExprTree.Call f es) lo rest h =
-      let one = closed (used s f (call_codes f.id (count_args es)) lo (spelling.punct puncts.OpenParen (spelling.args es (spelling.punct puncts.CloseParen rest))) h.0 h.1) in
-      closed (both one (in-args s es one.to (spelling.punct puncts.CloseParen rest) one.after))
+      closed (with_name (Used s f (usage.Called (count_args es))) f.mark refl h.0 (opened (in-args s es (suc (suc lo)) (spelling.punct puncts.CloseParen rest) h.1)))
   in-expr s (tree.Paren e) lo rest h = opened (closed (in-expr s e (suc lo) (spelling.punct puncts.CloseParen rest) h))
   in-expr s (tree.Unary op m e) lo rest h = opened (in-expr s e (suc lo) rest h.1)
   in-expr s (tree.Chain l first links) lo rest h =
@@ -156,12 +144,11 @@ mutual
       let two = closed (both one (in-expr s a one.to (spelling.punct puncts.Colon last) one.after)) in
       both two (in-expr s b two.to rest two.after)
 
-  in-place : (s : Scope) (codes : Shape → Entity → List ℕ) (t : tree.TargetTree) (lo : ℕ) (rest : List Piece) → HasFrom lo (spelling.target t rest) → Passed lo (place_notes s codes t) rest
-  in-place s codes (tree.Variable n) lo rest h = used s n (codes shape.Bare) lo rest h.0 h.1
-  in-place s codes (tree.Element n m e) lo rest h =
-      let inner = spelling.expr e (spelling.punct puncts.CloseBracket rest) in
-      let one = closed_mark (used s n (codes shape.Indexed) lo (spelling.punct_at puncts.OpenBracket m inner) h.0 h.1) in
-      closed (both one (in-expr s e one.to (spelling.punct puncts.CloseBracket rest) one.after))
+  in-place : (s : Scope) (r : Role) (t : tree.TargetTree) (lo : ℕ) (rest : List Piece) → HasFrom lo (spelling.target t rest) → Passed lo (place_notes s r t) rest
+  in-place s r (tree.Variable n) lo rest h = used s n (usage.Place r shape.Bare) lo rest h.0 h.1
+  in-place s r (tree.Element n m e) lo rest h =
+      closed
+      (with_name (Used s n (usage.Place r shape.Indexed)) n.mark refl h.0 (opened (in-expr s e (suc (suc lo)) (spelling.punct puncts.CloseBracket rest) h.1.1)))
 
   in-args : (s : Scope) (es : tree.Args) (lo : ℕ) (rest : List Piece) → HasFrom lo (spelling.args es rest) → Passed lo (args_notes s es) rest
   in-args s tree.no_args lo rest h = silent lo rest h
@@ -195,25 +182,21 @@ in-index s (Some i) lo rest h = opened (closed (in-expr s i.value (suc lo) (spel
 
 in-change : (s : Scope) (c : tree.ChangeTree) (lo : ℕ) (rest : List Piece) → HasFrom lo (spelling.change c rest) → Passed lo (change_notes s c) rest
 in-change s (tree.Set t a m e) lo rest h =
-    let one = closed_mark (in-place s target_codes t lo (spelling.punct_at (assign_mark a) m (spelling.expr e rest)) h) in
+    let one = closed_mark (in-place s role.Changed t lo (spelling.punct_at (assign_mark a) m (spelling.expr e rest)) h) in
     both one (in-expr s e one.to rest one.after)
-in-change s (tree.After t step m) lo rest h = closed_mark (in-place s target_codes t lo (spelling.punct_at (step_mark step) m rest) h)
-in-change s (tree.Before t step m) lo rest h = opened (in-place s target_codes t (suc lo) rest h.1)
+in-change s (tree.After t step m) lo rest h = closed_mark (in-place s role.Changed t lo (spelling.punct_at (step_mark step) m rest) h)
+in-change s (tree.Before t step m) lo rest h = opened (in-place s role.Changed t (suc lo) rest h.1)
 
 in-step : (s : Scope) (c : Option tree.ChangeTree) (lo : ℕ) (rest : List Piece) → HasFrom lo (spelling.optional spelling.change c rest) → Passed lo (step_notes s c) rest
 in-step s None lo rest h = silent lo rest h
 in-step s (Some c) lo rest h = in-change s c lo rest h
 
 -- sizes: the name of a constant, or nothing, of an expression
-in-constant : (m : Mark) (v : Option ℤ) (lo : ℕ) (rest : List Piece) → m.place ≡ lo → HasFrom (suc lo) rest → Passed lo (constant_notes m v) rest
-in-constant m None lo rest h a = opened (silent (suc lo) rest a)
-in-constant m (Some v) lo rest h a = record { to = suc lo; order = (omega (arith, h), omega (arith, h)); after = a }
-
 unnamed : {lo : ℕ} {ns : List Note} {rest : List Piece} → Passed lo ns rest → Passed lo [] rest
-unnamed {lo} {ns} {rest} p = record { to = p.to; order = ascend-none lo ns p.to p.order; after = p.after }
+unnamed {lo} {ns} {rest} p = record { to = p.to; order = ascend-none lo (name_marks ns) p.to p.order; after = p.after }
 
 in-size_name : (s : Scope) (e : tree.ExprTree) (lo : ℕ) (rest : List Piece) → HasFrom lo (spelling.expr e rest) → Passed lo (size_notes s e) rest
-in-size_name s (tree.Place (tree.Variable n)) lo rest h = in-constant n.mark (constant_of (entity_of (lookup s.entries n.id))) lo rest h.0 h.1
+in-size_name s (tree.Place (tree.Variable n)) lo rest h = with_name (Sized s n) n.mark refl h.0 (silent (suc lo) rest h.1)
 in-size_name s (tree.Place (tree.Element n m e)) lo rest h = unnamed (in-expr s (tree.Place (tree.Element n m e)) lo rest h)
 in-size_name s (tree.Number n) lo rest h = unnamed (in-expr s (tree.Number n) lo rest h)
 in-size_name s (tree.ExprTree.Call f es) lo rest h = unnamed (in-expr s (tree.ExprTree.Call f es) lo rest h)
@@ -234,19 +217,11 @@ in-attribute : (stream : Bool) (lo : ℕ) (rest : List Piece) → HasFrom lo (sp
 in-attribute false lo rest h = silent lo rest h
 in-attribute true lo rest h = opened (opened (opened (opened (opened (opened (silent (suc (suc (suc (suc (suc (suc lo)))))) rest h))))))
 
--- the name that a declarator declares
-declares : (m : Mark) (w : What) (lo : ℕ) (rest : List Piece) → m.place ≡ lo → HasFrom (suc lo) rest → Passed lo (Means m w ∷ []) rest
-declares m w lo rest h a = record { to = suc lo; order = (omega (arith, h), omega (arith, h)); after = a }
-
-with_meaning : {lo : ℕ} (m : Mark) (w : What) {ns : List Note} {rest : List Piece} → m.place ≡ lo → Passed (suc lo) ns rest → Passed lo (Means m w ∷ ns) rest
-with_meaning {lo} m w {ns} {rest} h p = record { to = p.to; order = (omega (arith, h), ascend-lower (suc m.place) (suc lo) ns p.to (omega (arith, h)) p.order); after = p.after }
-
 in-declarator : (s : Scope) (d : tree.DeclaratorTree) (lo : ℕ) (rest : List Piece) → HasFrom lo (spelling.declarator d rest) → Passed lo (declarator_notes s d) rest
 in-declarator s d lo rest h =
     let last = spelling.optional spelling.first_value d.first rest in
     let size = in-sized s d.stream d.size (suc lo) (spelling.attribute d.stream last) h.1 in
-    let named = blames lo d.name.mark (declarator_codes s d) (Means d.name.mark (meaning (form_entity s (form s d))) ∷ sized_notes s d.stream d.size) (spelling.attribute d.stream last)
-    (with_meaning d.name.mark (meaning (form_entity s (form s d))) h.0 size) in
+    let named = with_name (Declared s d) d.name.mark refl h.0 size in
     let stream = silently named (in-attribute d.stream named.to last named.after) in
     both stream (in-first (after_declarator s d) d.first stream.to rest stream.after)
 
@@ -283,17 +258,16 @@ parts_notes-append s before (p ∷ ps) qs =
 
 in-join : (s : Scope) (before : List ℕ) (arrow : Punct) (t : tree.TargetTree) (w : Option tree.JoinTree) (lo : ℕ) (rest : List Piece) →
     HasFrom lo (spelling.optional (spelling.join arrow) w rest) → Passed lo (window_notes s before t w) rest
-in-join s before arrow t None lo rest h = only_blames lo (target_name t).mark (again before (target_name t)) rest h
+in-join s before arrow t None lo rest h = quiet (Listed before (target_name t)) refl (silent lo rest h)
 in-join s before arrow t (Some j) lo rest h =
-    let more = spelling.optional spelling.index j.burst rest in
-    let one = opened (blames (suc lo) j.name.mark (again before j.name) (use_notes s j.name (item_codes (shape_of j.burst))) more
-    (used s j.name (item_codes (shape_of j.burst)) (suc lo) more h.1.0 h.1.1)) in
-    both one (in-index s j.burst one.to rest one.after)
+    opened
+    (quiet (Listed before j.name) refl
+    (with_name (Used s j.name (usage.Joined (shape_of j.burst))) j.name.mark refl h.1.0 (in-index s j.burst (suc (suc lo)) rest h.1.1)))
 
 in-item : (s : Scope) (before : List ℕ) (d : Direction) (arrow : Punct) (i : tree.ClauseItemTree) (lo : ℕ) (rest : List Piece) →
     HasFrom lo (spelling.clause_item arrow i rest) → Passed lo (part_notes s before (Item d i)) rest
 in-item s before d arrow i lo rest h =
-    let one = in-place s (stream_codes d) i.stream lo (spelling.optional (spelling.join arrow) i.window rest) h in
+    let one = in-place s (role.Flow d) i.stream lo (spelling.optional (spelling.join arrow) i.window rest) h in
     both one (in-join s before arrow i.stream i.window one.to rest one.after)
 
 in-items : (s : Scope) (before : List ℕ) (d : Direction) (arrow : Punct) (is : List tree.ClauseItemTree) (lo : ℕ) (rest : List Piece) →
@@ -311,7 +285,7 @@ in-item_list s before d arrow (i ∷ is) lo rest h =
     both one (in-items s ((part_name (Item d i)).id ∷ before) d arrow is one.to rest one.after)
 
 in-private : (s : Scope) (before : List ℕ) (n : Name) (lo : ℕ) (rest : List Piece) → HasFrom lo (spelling.name n rest) → Passed lo (part_notes s before (Private n)) rest
-in-private s before n lo rest h = blames lo n.mark (again before n) (use_notes s n private_codes) rest (used s n private_codes lo rest h.0 h.1)
+in-private s before n lo rest h = quiet (Listed before n) refl (used s n usage.Private lo rest h.0 h.1)
 
 in-privates : (s : Scope) (before : List ℕ) (ns : List Name) (lo : ℕ) (rest : List Piece) →
     HasFrom lo (spelling.each (λ n. spelling.punct puncts.Comma ⨾ spelling.name n) ns rest) → Passed lo (parts_notes s before (map Private ns)) rest
@@ -350,20 +324,9 @@ in-clauses s before (c ∷ cs) lo rest h =
     subst (λ ns. Passed lo ns rest) (sym (parts_notes-append s before (parts_of c.kind) (parts cs)))
     (both one (in-clauses s (names_after before (parts_of c.kind)) cs one.to rest one.after))
 
--- tasks
-in-with_captured : (slots : List ℕ) (lo : ℕ) (ns : List Note) (hi : ℕ) → Ascend lo ns hi → Ascend lo (map (with_captured slots) ns) hi
-in-with_captured slots lo [] hi a = a
-in-with_captured slots lo (Fault m c ∷ ns) hi a = in-with_captured slots lo ns hi a
-in-with_captured slots lo (Means m w ∷ ns) hi a = (a.0, in-with_captured slots (suc m.place) ns hi a.1)
-in-with_captured slots lo (Captures m slot ∷ ns) hi a = (a.0, in-with_captured slots (suc m.place) ns hi a.1)
-
-in-captured : (o : Owner) (slots : List ℕ) (lo : ℕ) (ns : List Note) (hi : ℕ) → Ascend lo ns hi → Ascend lo (captured_notes o slots ns) hi
-in-captured owner.OfTask slots lo ns hi a = a
-in-captured owner.OfMain slots lo ns hi a = in-with_captured slots lo ns hi a
-in-captured owner.OfFunction slots lo ns hi a = in-with_captured slots lo ns hi a
-
-captured-passed : {lo : ℕ} {ns : List Note} {rest : List Piece} (o : Owner) (slots : List ℕ) → Passed lo ns rest → Passed lo (captured_notes o slots ns) rest
-captured-passed {lo} {ns} {rest} o slots p = record { to = p.to; order = in-captured o slots lo ns p.to p.order; after = p.after }
+-- a note of no name behind a part
+then_quiet : {lo : ℕ} {ns : List Note} {rest : List Piece} (n : Note) → name_mark n ≡ [] → Passed lo ns rest → Passed lo (ns ++ n ∷ []) rest
+then_quiet {lo} {ns} {rest} n none p = both p (quiet n none (silent p.to rest p.after))
 
 mutual
   in-stmt : (s : Scope) (a : tree.StmtTree) (lo : ℕ) (rest : List Piece) → HasFrom lo (spelling.stmt a rest) → Passed lo (stmt_notes s a) rest
@@ -394,23 +357,19 @@ mutual
       let two = closed (both one (in-value head test one.to (spelling.punct puncts.Semicolon last) one.after)) in
       let three = closed (both two (in-step head step two.to (spelling.punct puncts.CloseParen (spelling.stmt a rest)) two.after)) in
       both three (in-stmt (in_loop head) a three.to rest three.after)
-  in-stmt s (tree.Break m) lo rest h = opened (opened (only_blames (suc (suc lo)) m (when (not s.loop) 16) rest h.1))
-  in-stmt s (tree.Continue m) lo rest h = opened (opened (only_blames (suc (suc lo)) m (when (not s.loop) 16) rest h.1))
-  in-stmt s (tree.Return m e) lo rest h =
-      blames lo m (return_codes s.owner) (expr_notes s e) rest (opened (closed (in-expr s e (suc lo) (spelling.punct puncts.Semicolon rest) h.1)))
+  in-stmt s (tree.Break m) lo rest h = quiet (Left s m) refl (opened (opened (silent (suc (suc lo)) rest h.1)))
+  in-stmt s (tree.Continue m) lo rest h = quiet (Left s m) refl (opened (opened (silent (suc (suc lo)) rest h.1)))
+  in-stmt s (tree.Return m e) lo rest h = quiet (Returned s m) refl (opened (closed (in-expr s e (suc lo) (spelling.punct puncts.Semicolon rest) h.1)))
   in-stmt s (tree.Task m cs a) lo rest h =
-      let body = stmt_notes (with_items s (in_task s) 0 (parts cs)) a in
-      let slots = captured (privates s [] (parts cs)) body in
+      let inner = in_task_body s (parts cs) a in
       let one = opened (opened (opened (closed (in-clauses s [] cs (suc (suc (suc lo))) (spelling.token kind.PragmaEnd (spelling.stmt a rest)) h.1)))) in
-      let codes = pragma_codes s.owner ++ task_codes (count_items (parts cs)) (length slots) in
-      let two = blames lo m codes (parts_notes s [] (parts cs)) (spelling.stmt a rest) one in
-      both two (captured-passed s.owner slots (in-stmt (with_items s (in_task s) 0 (parts cs)) a two.to rest two.after))
+      let two = then_quiet (Task s m (count_items (parts cs)) (captured s.entries (parts cs) a)) refl one in
+      both two (in-stmt inner a two.to rest two.after)
   in-stmt s (tree.Tick m t arrow e) lo rest h =
       let last = spelling.punct puncts.CloseParen (spelling.token kind.PragmaEnd rest) in
-      let one = opened (opened (opened (opened (closed_mark (in-place s (stream_codes direction.Reads) t (suc (suc (suc (suc lo)))) (spelling.punct_at puncts.ShiftRight arrow (spelling.expr e last)) h.1))))) in
-      let two = blames lo m (pragma_codes s.owner) (place_notes s (stream_codes direction.Reads) t) (spelling.expr e last) one in
-      closed (closed (both two (in-expr s e two.to last two.after)))
-  in-stmt s (tree.Taskwait m) lo rest h = opened (opened (opened (opened (only_blames (suc (suc (suc (suc lo)))) m (pragma_codes s.owner) rest h.1))))
+      let one = opened (opened (opened (opened (closed_mark (in-place s (role.Flow direction.Reads) t (suc (suc (suc (suc lo)))) (spelling.punct_at puncts.ShiftRight arrow (spelling.expr e last)) h.1))))) in
+      closed (closed (quiet (Pragma s m) refl (both one (in-expr s e one.to last one.after))))
+  in-stmt s (tree.Taskwait m) lo rest h = quiet (Pragma s m) refl (opened (opened (opened (opened (silent (suc (suc (suc (suc lo)))) rest h.1)))))
 
   in-stmts : (s : Scope) (ss : tree.Stmts) (lo : ℕ) (rest : List Piece) → HasFrom lo (spelling.stmts ss rest) → Passed lo (stmts_notes s ss) rest
   in-stmts s tree.no_stmts lo rest h = silent lo rest h
@@ -419,22 +378,16 @@ mutual
       both one (in-stmts (after_stmt s a) ss one.to rest one.after)
 
 -- functions and programs
-in-param : (s : Scope) (n : Name) (ns : List Note) (lo : ℕ) (rest : List Piece) → n.mark.place ≡ lo → Passed (suc lo) ns rest →
-    Passed lo (map (Fault n.mark) (when (is_declared s n.id) 12) ++ Means n.mark (meaning (scalar_entity s.owner s.slots)) ∷ ns) rest
-in-param s n ns lo rest h p =
-    blames lo n.mark (when (is_declared s n.id) 12) (Means n.mark (meaning (scalar_entity s.owner s.slots)) ∷ ns) rest
-    (with_meaning n.mark (meaning (scalar_entity s.owner s.slots)) h p)
-
 in-params : (s : Scope) (ns : List Name) (lo : ℕ) (rest : List Piece) →
     HasFrom lo (spelling.each (λ n. spelling.punct puncts.Comma ⨾ (spelling.key keys.Int ⨾ spelling.name n)) ns rest) → Passed lo (params_notes s ns) rest
 in-params s [] lo rest h = silent lo rest h
-in-params s (n ∷ ns) lo rest h = opened (opened (in-param s n (params_notes (after_param s n) ns) (suc (suc lo)) rest h.0 (in-params (after_param s n) ns (suc (suc (suc lo))) rest h.1)))
+in-params s (n ∷ ns) lo rest h = opened (opened (with_name (Given s n) n.mark refl h.0 (in-params (after_param s n) ns (suc (suc (suc lo))) rest h.1)))
 
 in-param_list : (s : Scope) (ps : Params) (lo : ℕ) (rest : List Piece) → HasFrom lo (spelling.params ps rest) → Passed lo (params_notes s (param_names ps)) rest
 in-param_list s params_of.Empty lo rest h = silent lo rest h
 in-param_list s params_of.Void lo rest h = opened (silent (suc lo) rest h)
 in-param_list s (params_of.Names []) lo rest h = silent lo rest h
-in-param_list s (params_of.Names (n ∷ ns)) lo rest h = opened (in-param s n (params_notes (after_param s n) ns) (suc lo) rest h.0 (in-params (after_param s n) ns (suc (suc lo)) rest h.1))
+in-param_list s (params_of.Names (n ∷ ns)) lo rest h = opened (with_name (Given s n) n.mark refl h.0 (in-params (after_param s n) ns (suc (suc lo)) rest h.1))
 
 in-sign : (minus : Bool) (lo : ℕ) (rest : List Piece) → HasFrom lo (spelling.sign minus rest) → Passed lo [] rest
 in-sign false lo rest h = silent lo rest h
@@ -442,13 +395,14 @@ in-sign true lo rest h = opened (silent (suc lo) rest h)
 
 in-programs_item : (s : Scope) (i : tree.ItemTree) (lo : ℕ) (rest : List Piece) → HasFrom lo (spelling.item i rest) → Passed lo (item_notes s i) rest
 in-programs_item s (tree.Constant c) lo rest h =
-    let named = opened (opened (opened (closed (only_blames (suc (suc (suc lo))) c.name.mark (when (is_declared s c.name.id) 12) (spelling.punct puncts.Set (spelling.sign c.minus (spelling.number c.size (spelling.punct puncts.Semicolon rest)))) h.1)))) in
-    closed (closed (silently named (in-sign c.minus named.to (spelling.number c.size (spelling.punct puncts.Semicolon rest)) named.after)))
+    let number = spelling.number c.size (spelling.punct puncts.Semicolon rest) in
+    let named = quiet (Global s c.name) refl (opened (opened (opened (closed (silent (suc (suc (suc lo))) (spelling.punct puncts.Set (spelling.sign c.minus number)) h.1))))) in
+    closed (closed (silently named (in-sign c.minus named.to number named.after)))
 in-programs_item s (tree.Function f) lo rest h =
     let body = spelling.stmts f.body (spelling.punct puncts.CloseBrace rest) in
     let behind = spelling.punct puncts.CloseParen (spelling.punct puncts.OpenBrace body) in
     let one = opened (opened (opened (closed (closed (in-param_list (in_function s f.name.id) f.params (suc (suc (suc lo))) behind h.1))))) in
-    let two = blames lo f.name.mark (when (is_declared s f.name.id) 12) (params_notes (in_function s f.name.id) (param_names f.params)) body one in
+    let two = quiet (Global s f.name) refl one in
     closed (both two (in-stmts (in_body s f) f.body two.to (spelling.punct puncts.CloseBrace rest) two.after))
 
 in-program : (s : Scope) (is : List tree.ItemTree) (lo : ℕ) (rest : List Piece) → HasFrom lo (spelling.each spelling.item is rest) → Passed lo (items_notes s is) rest
@@ -463,17 +417,49 @@ has-from [] from f = tt
 has-from (bare k ∷ ps) from f = has-from ps (suc from) (λ i m is. omega (arith, f (suc i) m is))
 has-from (marked k m ∷ ps) from f = (omega (arith, f 0 m (k, refl)), has-from ps (suc from) (λ i q is. omega (arith, f (suc i) q is)))
 
-below_next : (place : ℕ) (ns : List Note) (hi : ℕ) → Ascend (suc place) ns hi → IsBelowNext place (resolutions ns)
+below_next : (place : ℕ) (ns : List Note) (hi : ℕ) → Ascend (suc place) (name_marks ns) hi → IsBelowNext place (resolutions ns)
 below_next place [] hi a = tt
-below_next place (Fault m c ∷ ns) hi a = below_next place ns hi a
-below_next place (Means m w ∷ ns) hi a = (omega (arith, a.0), below_next m.place ns hi a.1)
-below_next place (Captures m slot ∷ ns) hi a = below_next place ns hi (ascend-lower (suc place) (suc m.place) ns hi (omega (arith, a.0)) a.1)
+below_next place (Used s n u ∷ ns) hi a =
+    below_found (entity_of (lookup s.entries n.id)) (below_next place ns hi (ascend-lower (suc place) (suc n.mark.place) (name_marks ns) hi (omega (arith, a.0)) a.1)) (below_next n.mark.place ns hi a.1)
+  where
+    below_found : (d : Option Entity) → IsBelowNext place (resolutions ns) → IsBelowNext n.mark.place (resolutions ns) → IsBelowNext place (declared_meaning n.mark s.owner s.captured d ++ resolutions ns)
+    below_found None h k = h
+    below_found (Some e) h k = (omega (arith, a.0), k)
+below_next place (Sized s n ∷ ns) hi a =
+    below_found (constant_of (entity_of (lookup s.entries n.id))) (below_next place ns hi (ascend-lower (suc place) (suc n.mark.place) (name_marks ns) hi (omega (arith, a.0)) a.1)) (below_next n.mark.place ns hi a.1)
+  where
+    below_found : (v : Option ℤ) → IsBelowNext place (resolutions ns) → IsBelowNext n.mark.place (resolutions ns) → IsBelowNext place (constant_meaning n.mark v ++ resolutions ns)
+    below_found None h k = h
+    below_found (Some v) h k = (omega (arith, a.0), k)
+below_next place (Declared s d ∷ ns) hi a = (omega (arith, a.0), below_next d.name.mark.place ns hi a.1)
+below_next place (Given s n ∷ ns) hi a = (omega (arith, a.0), below_next n.mark.place ns hi a.1)
+below_next place (Global s n ∷ ns) hi a = below_next place ns hi a
+below_next place (Left s m ∷ ns) hi a = below_next place ns hi a
+below_next place (Returned s m ∷ ns) hi a = below_next place ns hi a
+below_next place (Pragma s m ∷ ns) hi a = below_next place ns hi a
+below_next place (Task s m items slots ∷ ns) hi a = below_next place ns hi a
+below_next place (Listed again n ∷ ns) hi a = below_next place ns hi a
 
-in_order : (lo : ℕ) (ns : List Note) (hi : ℕ) → Ascend lo ns hi → InOrder (resolutions ns)
+in_order : (lo : ℕ) (ns : List Note) (hi : ℕ) → Ascend lo (name_marks ns) hi → InOrder (resolutions ns)
 in_order lo [] hi a = tt
-in_order lo (Fault m c ∷ ns) hi a = in_order lo ns hi a
-in_order lo (Means m w ∷ ns) hi a = below_next m.place ns hi a.1
-in_order lo (Captures m slot ∷ ns) hi a = in_order (suc m.place) ns hi a.1
+in_order lo (Used s n u ∷ ns) hi a = order_found (entity_of (lookup s.entries n.id)) (in_order (suc n.mark.place) ns hi a.1)
+  where
+    order_found : (d : Option Entity) → InOrder (resolutions ns) → InOrder (declared_meaning n.mark s.owner s.captured d ++ resolutions ns)
+    order_found None h = h
+    order_found (Some e) h = below_next n.mark.place ns hi a.1
+in_order lo (Sized s n ∷ ns) hi a = order_found (constant_of (entity_of (lookup s.entries n.id))) (in_order (suc n.mark.place) ns hi a.1)
+  where
+    order_found : (v : Option ℤ) → InOrder (resolutions ns) → InOrder (constant_meaning n.mark v ++ resolutions ns)
+    order_found None h = h
+    order_found (Some v) h = below_next n.mark.place ns hi a.1
+in_order lo (Declared s d ∷ ns) hi a = below_next d.name.mark.place ns hi a.1
+in_order lo (Given s n ∷ ns) hi a = below_next n.mark.place ns hi a.1
+in_order lo (Global s n ∷ ns) hi a = in_order lo ns hi a
+in_order lo (Left s m ∷ ns) hi a = in_order lo ns hi a
+in_order lo (Returned s m ∷ ns) hi a = in_order lo ns hi a
+in_order lo (Pragma s m ∷ ns) hi a = in_order lo ns hi a
+in_order lo (Task s m items slots ∷ ns) hi a = in_order lo ns hi a
+in_order lo (Listed again n ∷ ns) hi a = in_order lo ns hi a
 
 pub names_in_order : (p : tree.ProgramTree) → HasPlaces p → InOrder (names p)
 names_in_order p h =

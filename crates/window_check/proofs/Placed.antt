@@ -1,27 +1,23 @@
 -- Every token that is noted is one whose mark the tree keeps.
-use Rattle.std.proofs.Common.{ℕ, List, [], ◌∷◌, ◌++◌, map, length, Option, Some, None, Bool, true, false, not, ◌&&◌, if◌then◌else◌, ℤ}
+use Rattle.std.proofs.Common.{ℕ, List, [], ◌∷◌, ◌++◌, map, Option, Some, None, Bool, true, false, not, ◌&&◌, if◌then◌else◌}
 use Rattle.std.specs.Prelude.{⊤}
-use Rattle.os_ast.specs.Meanings.{Note, Fault, Means, Captures, captured, with_captured, meaning, meant, control_note}
-use Rattle.os_ast.specs.Names.{Scope, entity_of, lookup, enter, in_loop, is_declared}
-use Rattle.os_ast.specs.Notes.Clauses.{Part, Item, Private, parts, parts_of, part_name, part_notes, parts_notes, window_notes, join_notes, again, target_name, shape_of, task_codes, task_notes, count_items, captured_notes, privates, pragma_codes, with_items, in_task, return_codes}
-use Rattle.os_ast.specs.Notes.Declarators.{form, form_entity, scalar_entity, declarator_codes, declarator_notes, declarators_notes, after_declarator, after_start, start_notes, sized_notes, size_notes, constant_notes, constant_of, is_window}
-use Rattle.os_ast.specs.Notes.Expressions.{expr_notes, place_notes, args_notes, links_notes, value_notes, index_notes, change_notes, step_notes, count_args}
+use Rattle.os_ast.specs.Names.{Scope, enter, in_loop}
+use Rattle.os_ast.specs.Notes.Clauses.{part_notes, parts_notes, window_notes, clauses_notes, in_task_body}
+use Rattle.os_ast.specs.Notes.Declarators.{declarator_notes, declarators_notes, after_declarator, after_start, start_notes, sized_notes, size_notes, is_window}
+use Rattle.os_ast.specs.Notes.Expressions.{expr_notes, place_notes, args_notes, links_notes, value_notes, index_notes, change_notes, step_notes}
+use Rattle.os_ast.specs.Notes.Kinds.{Note, mark_of}
 use Rattle.os_ast.specs.Notes.Programs.{params_notes, after_param, param_names, item_notes, items_notes, after_item, in_function, in_body}
 use Rattle.os_ast.specs.Notes.Statements.{stmt_notes, stmts_notes, after_stmt}
+use Rattle.os_ast.specs.Parts.{Part, Item, Private, parts, parts_of, part_name, target_name}
 use Rattle.os_ast.specs.Spelling as spelling
-use Rattle.os_ast.specs.Spelling.{Piece, bare, marked, Printer, ◌⨾◌}
+use Rattle.os_ast.specs.Spelling.{Piece, bare, marked, ◌⨾◌}
 use Rattle.os_ast.specs.Trees as tree
-use Rattle.os_ast.specs.Uses.{said, use_notes, value_codes, target_codes, call_codes, stream_codes, item_codes, private_codes, when}
 use Rattle.os_ast.specs.declared.expr.Mark.{Mark}
 use Rattle.os_ast.specs.declared.expr.Name.{Name}
 use Rattle.os_ast.specs.declared.names.Direction.{Direction}
 use Rattle.os_ast.specs.declared.names.Direction.TheVariants as direction
-use Rattle.os_ast.specs.declared.names.Entity.{Entity}
-use Rattle.os_ast.specs.declared.names.Entity.TheVariants as entity
-use Rattle.os_ast.specs.declared.names.Owner.{Owner}
-use Rattle.os_ast.specs.declared.names.Owner.TheVariants as owner
-use Rattle.os_ast.specs.declared.names.Shape.{Shape}
-use Rattle.os_ast.specs.declared.names.Shape.TheVariants as shape
+use Rattle.os_ast.specs.declared.names.Role.{Role}
+use Rattle.os_ast.specs.declared.names.Role.TheVariants as role
 use Rattle.os_ast.specs.declared.program.Params.{Params}
 use Rattle.os_ast.specs.declared.program.Params.TheVariants as params_of
 use Rattle.os_lexer.specs.declared.token.Key.TheVariants as keys
@@ -37,52 +33,17 @@ HasKept P (marked k m ∷ ps) = P m × HasKept P ps
 -- each token of the notes has it
 abbrev pub AreOf : (Mark → Type 0) → List Note → Type 0
 AreOf P [] = ⊤
-AreOf P (Fault m c ∷ ns) = P m × AreOf P ns
-AreOf P (Means m w ∷ ns) = P m × AreOf P ns
-AreOf P (Captures m slot ∷ ns) = P m × AreOf P ns
+AreOf P (n ∷ ns) = P (mark_of n) × AreOf P ns
 
 of-append : (P : Mark → Type 0) (xs ys : List Note) → AreOf P xs → AreOf P ys → AreOf P (xs ++ ys)
 of-append P [] ys a b = b
-of-append P (Fault m c ∷ xs) ys a b = (a.0, of-append P xs ys a.1 b)
-of-append P (Means m w ∷ xs) ys a b = (a.0, of-append P xs ys a.1 b)
-of-append P (Captures m slot ∷ xs) ys a b = (a.0, of-append P xs ys a.1 b)
-
-of-codes : (P : Mark → Type 0) (m : Mark) (codes : List ℕ) → P m → AreOf P (map (Fault m) codes)
-of-codes P m [] h = tt
-of-codes P m (c ∷ cs) h = (h, of-codes P m cs h)
-
-of-control : (P : Mark → Type 0) (o : Owner) (m : Mark) (slot : ℕ) → P m → AreOf P (control_note o m slot ∷ [])
-of-control P owner.OfTask m slot h = (h, tt)
-of-control P owner.OfMain m slot h = (h, tt)
-of-control P owner.OfFunction m slot h = (h, tt)
-
-of-meant : (P : Mark → Type 0) (o : Owner) (m : Mark) (e : Entity) → P m → AreOf P (meant o m e ∷ [])
-of-meant P o m (entity.Control slot) h = of-control P o m slot h
-of-meant P o m entity.InputLength h = of-control P o m 0 h
-of-meant P o m (entity.Constant v) h = (h, tt)
-of-meant P o m (entity.Function number params) h = (h, tt)
-of-meant P o m (entity.Scalar slot) h = (h, tt)
-of-meant P o m (entity.Array first size) h = (h, tt)
-of-meant P o m (entity.Window slot) h = (h, tt)
-of-meant P o m (entity.Stream number) h = (h, tt)
-of-meant P o m (entity.Streams first count) h = (h, tt)
-of-meant P o m (entity.Element item d) h = (h, tt)
-of-meant P o m (entity.View item d) h = (h, tt)
-
-of-said : (P : Mark → Type 0) (o : Owner) (m : Mark) (codes : Entity → List ℕ) (e : Option Entity) → P m → AreOf P (said o m codes e)
-of-said P o m codes None h = (h, tt)
-of-said P o m codes (Some e) h = of-append P (map (Fault m) (codes e)) (meant o m e ∷ []) (of-codes P m (codes e) h) (of-meant P o m e h)
-
-of-use : (P : Mark → Type 0) (s : Scope) (n : Name) (codes : Entity → List ℕ) → P n.mark → AreOf P (use_notes s n codes)
-of-use P s n codes h = of-said P s.owner n.mark codes (entity_of (lookup s.entries n.id)) h
+of-append P (n ∷ xs) ys a b = (a.0, of-append P xs ys a.1 b)
 
 mutual
   of-expr : (P : Mark → Type 0) (s : Scope) (e : tree.ExprTree) (rest : List Piece) → HasKept P (spelling.expr e rest) → AreOf P (expr_notes s e) × HasKept P rest
   of-expr P s (tree.Number n) rest h = (tt, h)
-  of-expr P s (tree.Place t) rest h = of-place P s value_codes t rest h
-  of-expr P s (tree.ExprTree.Call f es) rest h =
-      let more = of-args P s es _ h.1 in
-      (of-append P (use_notes s f (call_codes f.id (count_args es))) (args_notes s es) (of-use P s f (call_codes f.id (count_args es)) h.0) more.0, more.1)
+  of-expr P s (tree.Place t) rest h = of-place P s role.Value t rest h
+  of-expr P s (tree.ExprTree.Call f es) rest h = let more = of-args P s es _ h.1 in ((h.0, more.0), more.1)
   of-expr P s (tree.Paren e) rest h = of-expr P s e _ h
   of-expr P s (tree.Unary op m e) rest h = of-expr P s e rest h.1
   of-expr P s (tree.Chain l first links) rest h =
@@ -95,11 +56,9 @@ mutual
       let three = of-expr P s b rest two.1 in
       (of-append P (expr_notes s c ++ expr_notes s a) (expr_notes s b) (of-append P (expr_notes s c) (expr_notes s a) one.0 two.0) three.0, three.1)
 
-  of-place : (P : Mark → Type 0) (s : Scope) (codes : Shape → Entity → List ℕ) (t : tree.TargetTree) (rest : List Piece) → HasKept P (spelling.target t rest) → AreOf P (place_notes s codes t) × HasKept P rest
-  of-place P s codes (tree.Variable n) rest h = (of-use P s n (codes shape.Bare) h.0, h.1)
-  of-place P s codes (tree.Element n m e) rest h =
-      let more = of-expr P s e _ h.1.1 in
-      (of-append P (use_notes s n (codes shape.Indexed)) (expr_notes s e) (of-use P s n (codes shape.Indexed) h.0) more.0, more.1)
+  of-place : (P : Mark → Type 0) (s : Scope) (r : Role) (t : tree.TargetTree) (rest : List Piece) → HasKept P (spelling.target t rest) → AreOf P (place_notes s r t) × HasKept P rest
+  of-place P s r (tree.Variable n) rest h = ((h.0, tt), h.1)
+  of-place P s r (tree.Element n m e) rest h = let more = of-expr P s e _ h.1.1 in ((h.0, more.0), more.1)
 
   of-args : (P : Mark → Type 0) (s : Scope) (es : tree.Args) (rest : List Piece) → HasKept P (spelling.args es rest) → AreOf P (args_notes s es) × HasKept P rest
   of-args P s tree.no_args rest h = (tt, h)
@@ -136,23 +95,18 @@ of-index P s (Some i) rest h = of-expr P s i.value _ h.1
 
 of-change : (P : Mark → Type 0) (s : Scope) (c : tree.ChangeTree) (rest : List Piece) → HasKept P (spelling.change c rest) → AreOf P (change_notes s c) × HasKept P rest
 of-change P s (tree.Set t a m e) rest h =
-    let one = of-place P s target_codes t _ h in
+    let one = of-place P s role.Changed t _ h in
     let two = of-expr P s e rest one.1.1 in
-    (of-append P (place_notes s target_codes t) (expr_notes s e) one.0 two.0, two.1)
-of-change P s (tree.After t step m) rest h = let one = of-place P s target_codes t _ h in (one.0, one.1.1)
-of-change P s (tree.Before t step m) rest h = of-place P s target_codes t rest h.1
+    (of-append P (place_notes s role.Changed t) (expr_notes s e) one.0 two.0, two.1)
+of-change P s (tree.After t step m) rest h = let one = of-place P s role.Changed t _ h in (one.0, one.1.1)
+of-change P s (tree.Before t step m) rest h = of-place P s role.Changed t rest h.1
 
 of-step : (P : Mark → Type 0) (s : Scope) (c : Option tree.ChangeTree) (rest : List Piece) → HasKept P (spelling.optional spelling.change c rest) → AreOf P (step_notes s c) × HasKept P rest
 of-step P s None rest h = (tt, h)
 of-step P s (Some c) rest h = of-change P s c rest h
 
--- the names of constants as sizes
-of-constant : (P : Mark → Type 0) (m : Mark) (v : Option ℤ) → P m → AreOf P (constant_notes m v)
-of-constant P m None h = tt
-of-constant P m (Some v) h = (h, tt)
-
 of-size_name : (P : Mark → Type 0) (s : Scope) (e : tree.ExprTree) (rest : List Piece) → HasKept P (spelling.expr e rest) → AreOf P (size_notes s e)
-of-size_name P s (tree.Place (tree.Variable n)) rest h = of-constant P n.mark (constant_of (entity_of (lookup s.entries n.id))) h.0
+of-size_name P s (tree.Place (tree.Variable n)) rest h = (h.0, tt)
 of-size_name P s (tree.Place (tree.Element n m e)) rest h = tt
 of-size_name P s (tree.Number n) rest h = tt
 of-size_name P s (tree.ExprTree.Call f es) rest h = tt
@@ -173,19 +127,11 @@ of-attribute : (P : Mark → Type 0) (stream : Bool) (rest : List Piece) → Has
 of-attribute P false rest h = h
 of-attribute P true rest h = h
 
-of-declared : (P : Mark → Type 0) (s : Scope) (d : tree.DeclaratorTree) → P d.name.mark → AreOf P (sized_notes s d.stream d.size) → AreOf P (value_notes (after_declarator s d) d.first) → AreOf P (declarator_notes s d)
-of-declared P s d h a b =
-    of-append P (map (Fault d.name.mark) (declarator_codes s d) ++ Means d.name.mark (meaning (form_entity s (form s d))) ∷ sized_notes s d.stream d.size)
-    (value_notes (after_declarator s d) d.first)
-    (of-append P (map (Fault d.name.mark) (declarator_codes s d)) (Means d.name.mark (meaning (form_entity s (form s d))) ∷ sized_notes s d.stream d.size)
-    (of-codes P d.name.mark (declarator_codes s d) h) (h, a))
-    b
-
 of-declarator : (P : Mark → Type 0) (s : Scope) (d : tree.DeclaratorTree) (rest : List Piece) → HasKept P (spelling.declarator d rest) → AreOf P (declarator_notes s d) × HasKept P rest
 of-declarator P s d rest h =
     let two = of-sized P s d.stream d.size _ h.1 in
     let three = of-first P (after_declarator s d) d.first rest (of-attribute P d.stream _ two.1) in
-    (of-declared P s d h.0 two.0 three.0, three.1)
+    ((h.0, of-append P (sized_notes s d.stream d.size) (value_notes (after_declarator s d) d.first) two.0 three.0), three.1)
 
 of-declarators : (P : Mark → Type 0) (s : Scope) (ds : List tree.DeclaratorTree) (rest : List Piece) → HasKept P (spelling.each (λ d. spelling.punct puncts.Comma ⨾ spelling.declarator d) ds rest) → AreOf P (declarators_notes s ds) × HasKept P rest
 of-declarators P s [] rest h = (tt, h)
@@ -224,23 +170,17 @@ of-target_name : (P : Mark → Type 0) (t : tree.TargetTree) (rest : List Piece)
 of-target_name P (tree.Variable n) rest h = h.0
 of-target_name P (tree.Element n m e) rest h = h.0
 
-of-join : (P : Mark → Type 0) (s : Scope) (before : List ℕ) (j : tree.JoinTree) → P j.name.mark → AreOf P (index_notes s j.burst) → AreOf P (join_notes s before j)
-of-join P s before j h a =
-    of-append P (map (Fault j.name.mark) (again before j.name) ++ use_notes s j.name (item_codes (shape_of j.burst))) (index_notes s j.burst)
-    (of-append P (map (Fault j.name.mark) (again before j.name)) (use_notes s j.name (item_codes (shape_of j.burst)))
-    (of-codes P j.name.mark (again before j.name) h) (of-use P s j.name (item_codes (shape_of j.burst)) h)) a
-
 of-window : (P : Mark → Type 0) (s : Scope) (arrow : Punct) (t : tree.TargetTree) (w : Option tree.JoinTree) (rest : List Piece) → P (target_name t).mark →
     HasKept P (spelling.optional (spelling.join arrow) w rest) → ((before : List ℕ) → AreOf P (window_notes s before t w)) × HasKept P rest
-of-window P s arrow t None rest m h = (λ before. of-codes P (target_name t).mark (again before (target_name t)) m, h)
-of-window P s arrow t (Some j) rest m h = let i = of-index P s j.burst rest h.1.1 in (λ before. of-join P s before j h.1.0 i.0, i.1)
+of-window P s arrow t None rest m h = (λ before. (m, tt), h)
+of-window P s arrow t (Some j) rest m h = let i = of-index P s j.burst rest h.1.1 in (λ before. (h.1.0, (h.1.0, i.0)), i.1)
 
 of-item : (P : Mark → Type 0) (s : Scope) (d : Direction) (arrow : Punct) (i : tree.ClauseItemTree) (rest : List Piece) → HasKept P (spelling.clause_item arrow i rest) →
     ((before : List ℕ) → AreOf P (part_notes s before (Item d i))) × HasKept P rest
 of-item P s d arrow i rest h =
-    let one = of-place P s (stream_codes d) i.stream _ h in
+    let one = of-place P s (role.Flow d) i.stream _ h in
     let two = of-window P s arrow i.stream i.window rest (of-target_name P i.stream _ h) one.1 in
-    (λ before. of-append P (place_notes s (stream_codes d) i.stream) (window_notes s before i.stream i.window) one.0 (two.0 before), two.1)
+    (λ before. of-append P (place_notes s (role.Flow d) i.stream) (window_notes s before i.stream i.window) one.0 (two.0 before), two.1)
 
 of-items : (P : Mark → Type 0) (s : Scope) (d : Direction) (arrow : Punct) (is : List tree.ClauseItemTree) (rest : List Piece) →
     HasKept P (spelling.each (λ i. spelling.punct puncts.Comma ⨾ spelling.clause_item arrow i) is rest) → ArePlaced P s (map (Item d) is) × HasKept P rest
@@ -259,8 +199,7 @@ of-item_list P s d arrow (i ∷ is) rest h =
     ((one.0, more.0), more.1)
 
 of-private : (P : Mark → Type 0) (s : Scope) (n : Name) (before : List ℕ) → P n.mark → AreOf P (part_notes s before (Private n))
-of-private P s n before h =
-    of-append P (map (Fault n.mark) (again before n)) (use_notes s n private_codes) (of-codes P n.mark (again before n) h) (of-use P s n private_codes h)
+of-private P s n before h = (h, (h, tt))
 
 of-privates : (P : Mark → Type 0) (s : Scope) (ns : List Name) (rest : List Piece) →
     HasKept P (spelling.each (λ n. spelling.punct puncts.Comma ⨾ spelling.name n) ns rest) → ArePlaced P s (map Private ns) × HasKept P rest
@@ -288,25 +227,8 @@ of-clauses P s (c ∷ cs) rest h =
     let more = of-clauses P s cs rest one.1 in
     (placed-append P s (parts_of c.kind) (parts cs) one.0 more.0, more.1)
 
--- tasks
-of-with_captured : (P : Mark → Type 0) (slots : List ℕ) (ns : List Note) → AreOf P ns → AreOf P (map (with_captured slots) ns)
-of-with_captured P slots [] h = tt
-of-with_captured P slots (Fault m c ∷ ns) h = (h.0, of-with_captured P slots ns h.1)
-of-with_captured P slots (Means m w ∷ ns) h = (h.0, of-with_captured P slots ns h.1)
-of-with_captured P slots (Captures m slot ∷ ns) h = (h.0, of-with_captured P slots ns h.1)
-
-of-captured : (P : Mark → Type 0) (o : Owner) (slots : List ℕ) (ns : List Note) → AreOf P ns → AreOf P (captured_notes o slots ns)
-of-captured P owner.OfTask slots ns h = h
-of-captured P owner.OfMain slots ns h = of-with_captured P slots ns h
-of-captured P owner.OfFunction slots ns h = of-with_captured P slots ns h
-
-of-task : (P : Mark → Type 0) (s : Scope) (m : Mark) (ps : List Part) (body : List Note) → P m → ArePlaced P s ps → AreOf P body → AreOf P (task_notes s m ps body)
-of-task P s m ps body h a b =
-    let slots = captured (privates s [] ps) body in
-    let codes = pragma_codes s.owner ++ task_codes (count_items ps) (length slots) in
-    of-append P (map (Fault m) codes ++ parts_notes s [] ps) (captured_notes s.owner slots body)
-    (of-append P (map (Fault m) codes) (parts_notes s [] ps) (of-codes P m codes h) (of-parts P s [] ps a))
-    (of-captured P s.owner slots body b)
+of-task : (P : Mark → Type 0) (s : Scope) (m : Mark) (ps : List Part) (a : tree.StmtTree) → P m → ArePlaced P s ps → AreOf P (clauses_notes s m ps a)
+of-task P s m ps a h is = of-append P (parts_notes s [] ps) _ (of-parts P s [] ps is) (h, tt)
 
 mutual
   of-stmt : (P : Mark → Type 0) (s : Scope) (a : tree.StmtTree) (rest : List Piece) → HasKept P (spelling.stmt a rest) → AreOf P (stmt_notes s a) × HasKept P rest
@@ -339,23 +261,19 @@ mutual
             (of-append P (start_notes (enter s) start) (value_notes head test) one.0 two.0) three.0) four.0,
         four.1,
       )
-  of-stmt P s (tree.Break m) rest h = (of-codes P m (when (not s.loop) 16) h.0, h.1)
-  of-stmt P s (tree.Continue m) rest h = (of-codes P m (when (not s.loop) 16) h.0, h.1)
-  of-stmt P s (tree.Return m e) rest h =
-      let one = of-expr P s e _ h.1 in
-      (of-append P (map (Fault m) (return_codes s.owner)) (expr_notes s e) (of-codes P m (return_codes s.owner) h.0) one.0, one.1)
+  of-stmt P s (tree.Break m) rest h = ((h.0, tt), h.1)
+  of-stmt P s (tree.Continue m) rest h = ((h.0, tt), h.1)
+  of-stmt P s (tree.Return m e) rest h = let one = of-expr P s e _ h.1 in ((h.0, one.0), one.1)
   of-stmt P s (tree.Task m cs a) rest h =
+      let inner = in_task_body s (parts cs) a in
       let one = of-clauses P s cs _ h.1 in
-      let two = of-stmt P (with_items s (in_task s) 0 (parts cs)) a rest one.1 in
-      (of-task P s m (parts cs) (stmt_notes (with_items s (in_task s) 0 (parts cs)) a) h.0 one.0 two.0, two.1)
+      let two = of-stmt P inner a rest one.1 in
+      (of-append P (clauses_notes s m (parts cs) a) (stmt_notes inner a) (of-task P s m (parts cs) a h.0 one.0) two.0, two.1)
   of-stmt P s (tree.Tick m t arrow e) rest h =
-      let one = of-place P s (stream_codes direction.Reads) t _ h.1 in
-      let two = of-expr P s e _ one.1.1 in (
-        of-append P (map (Fault m) (pragma_codes s.owner) ++ place_notes s (stream_codes direction.Reads) t) (expr_notes s e)
-            (of-append P (map (Fault m) (pragma_codes s.owner)) (place_notes s (stream_codes direction.Reads) t) (of-codes P m (pragma_codes s.owner) h.0) one.0) two.0,
-        two.1,
-      )
-  of-stmt P s (tree.Taskwait m) rest h = (of-codes P m (pragma_codes s.owner) h.0, h.1)
+      let one = of-place P s (role.Flow direction.Reads) t _ h.1 in
+      let two = of-expr P s e _ one.1.1 in
+      ((h.0, of-append P (place_notes s (role.Flow direction.Reads) t) (expr_notes s e) one.0 two.0), two.1)
+  of-stmt P s (tree.Taskwait m) rest h = ((h.0, tt), h.1)
 
   of-stmts : (P : Mark → Type 0) (s : Scope) (ss : tree.Stmts) (rest : List Piece) → HasKept P (spelling.stmts ss rest) → AreOf P (stmts_notes s ss) × HasKept P rest
   of-stmts P s tree.no_stmts rest h = (tt, h)
@@ -365,18 +283,12 @@ mutual
       (of-append P (stmt_notes s a) (stmts_notes (after_stmt s a) ss) one.0 more.0, more.1)
 
 -- functions and programs
-of-param : (P : Mark → Type 0) (s : Scope) (n : Name) (ns : List Note) → P n.mark → AreOf P ns →
-    AreOf P (map (Fault n.mark) (when (is_declared s n.id) 12) ++ Means n.mark (meaning (scalar_entity s.owner s.slots)) ∷ ns)
-of-param P s n ns h a =
-    of-append P (map (Fault n.mark) (when (is_declared s n.id) 12)) (Means n.mark (meaning (scalar_entity s.owner s.slots)) ∷ ns)
-    (of-codes P n.mark (when (is_declared s n.id) 12) h) (h, a)
-
 of-params : (P : Mark → Type 0) (s : Scope) (ns : List Name) (rest : List Piece) →
     HasKept P (spelling.each (λ n. spelling.punct puncts.Comma ⨾ (spelling.key keys.Int ⨾ spelling.name n)) ns rest) → AreOf P (params_notes s ns) × HasKept P rest
 of-params P s [] rest h = (tt, h)
 of-params P s (n ∷ ns) rest h =
     let more = of-params P (after_param s n) ns rest h.1 in
-    (of-param P s n (params_notes (after_param s n) ns) h.0 more.0, more.1)
+    ((h.0, more.0), more.1)
 
 of-param_list : (P : Mark → Type 0) (s : Scope) (ps : Params) (rest : List Piece) → HasKept P (spelling.params ps rest) → AreOf P (params_notes s (param_names ps)) × HasKept P rest
 of-param_list P s params_of.Empty rest h = (tt, h)
@@ -384,22 +296,18 @@ of-param_list P s params_of.Void rest h = (tt, h)
 of-param_list P s (params_of.Names []) rest h = (tt, h)
 of-param_list P s (params_of.Names (n ∷ ns)) rest h =
     let more = of-params P (after_param s n) ns rest h.1 in
-    (of-param P s n (params_notes (after_param s n) ns) h.0 more.0, more.1)
+    ((h.0, more.0), more.1)
 
 of-sign : (P : Mark → Type 0) (minus : Bool) (rest : List Piece) → HasKept P (spelling.sign minus rest) → HasKept P rest
 of-sign P false rest h = h
 of-sign P true rest h = h
 
 of-programs_item : (P : Mark → Type 0) (s : Scope) (i : tree.ItemTree) (rest : List Piece) → HasKept P (spelling.item i rest) → AreOf P (item_notes s i) × HasKept P rest
-of-programs_item P s (tree.Constant c) rest h = (of-codes P c.name.mark (when (is_declared s c.name.id) 12) h.0, of-sign P c.minus _ h.1)
+of-programs_item P s (tree.Constant c) rest h = ((h.0, tt), of-sign P c.minus _ h.1)
 of-programs_item P s (tree.Function f) rest h =
     let one = of-param_list P (in_function s f.name.id) f.params _ h.1 in
-    let two = of-stmts P (in_body s f) f.body _ one.1 in (
-      of-append P (map (Fault f.name.mark) (when (is_declared s f.name.id) 12) ++ params_notes (in_function s f.name.id) (param_names f.params)) (stmts_notes (in_body s f) f.body)
-          (of-append P (map (Fault f.name.mark) (when (is_declared s f.name.id) 12)) (params_notes (in_function s f.name.id) (param_names f.params))
-          (of-codes P f.name.mark (when (is_declared s f.name.id) 12) h.0) one.0) two.0,
-      two.1,
-    )
+    let two = of-stmts P (in_body s f) f.body _ one.1 in
+    ((h.0, of-append P (params_notes (in_function s f.name.id) (param_names f.params)) (stmts_notes (in_body s f) f.body) one.0 two.0), two.1)
 
 pub of-program : (P : Mark → Type 0) (s : Scope) (is : List tree.ItemTree) (rest : List Piece) → HasKept P (spelling.each spelling.item is rest) → AreOf P (items_notes s is) × HasKept P rest
 of-program P s [] rest h = (tt, h)

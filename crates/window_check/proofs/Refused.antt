@@ -1,19 +1,21 @@
 -- What the walk over a whole program answers.
-use Rattle.std.proofs.Common.{◌≡◌, ◌<◌, ◌≤◌, ◌+◌, ℕ, suc, List, [], ◌∷◌, ◌++◌, length, All, Contains, Some, None, refl, ap, sym, ◌∙◌, Bool, true, false, subst, arith, ◌⊎◌, inl, inr, if◌then◌else◌, append-nil, append_assoc}
+use Rattle.std.proofs.Common.{◌≡◌, ◌<◌, ◌≤◌, ◌+◌, ℕ, suc, List, [], ◌∷◌, ◌++◌, length, All, Contains, Some, None, refl, ap, sym, ◌∙◌, Bool, true, false, subst, arith, ◌⊎◌, inl, inr, append-nil, append_assoc}
 use Rattle.std.proofs.lemmas.List.{length-map}
 use Rattle.std.proofs.lemmas.List.Elements.{All-cons, All-nil, All-append, Contains-append_left}
 use Rattle.std.specs.Prelude.{unwrap_or}
 use Rattle.os_ast.specs.Marks.{HasMark, HasPlaces}
-use Rattle.os_ast.specs.Meanings.{Note, Fault, Means, Captures}
+use Rattle.os_ast.specs.Notes.Kinds.{Note, mark_of}
 use Rattle.os_ast.specs.Notes.Programs.{program_notes, file}
+use Rattle.os_ast.specs.Rules.{codes}
 use Rattle.os_ast.specs.Spelling.{Piece, bare, marked, kind_of, pieces, spell}
 use Rattle.os_ast.specs.Trees as tree
-use Rattle.os_ast.specs.Violations.{violated, resolved, resolutions, faults, has_main, no_main, violations, names, IsBefore, earlier, same_place, IsRefusal}
+use Rattle.os_ast.specs.Violations.{violated, faults_at, faults, resolutions_of, resolutions, captures_of, captures, captured_by_tasks, has_main, no_main, violations, names, IsBefore, earlier, same_place, IsRefusal}
 use Rattle.os_ast.specs.declared.expr.Mark.{Mark}
-use Rattle.os_ast.specs.declared.names.Resolved.{Resolved}
 use Rattle.os_ast.specs.declared.violation.Violation.{Violation}
-use Rattle.window_check.specs.Findings.{Findings, nothing_found, note, noted, known, captures}
-use Rattle.window_check.proofs.Least.{least_of, least_among, least_of-some, noted-least, least-first, least-others, least-among, contains-tail}
+use Rattle.window_check.specs.Findings.{nothing_found, noted, judged, judged_in, pushed}
+use Rattle.window_check.specs.declared.found.Found.TheVariants.{Judging}
+use Rattle.window_check.specs.declared.found.Judged.{Judged}
+use Rattle.window_check.proofs.Least.{least_of, least_among, least_of-some, judged_all, noted-judging, noted-least, least-first, least-others, least-among, contains-tail}
 use Rattle.window_check.proofs.Placed.{HasKept, AreOf, of-program}
 
 -- each mark is below the number of tokens
@@ -22,11 +24,14 @@ below-length [] from n h f = tt
 below-length (bare k ∷ ps) from n h f = below-length ps (suc from) n (omega (arith, h)) (λ i m is. omega (arith, f (suc i) m is))
 below-length (marked k m ∷ ps) from n h f = (omega (arith, h, f 0 m (k, refl)), below-length ps (suc from) n (omega (arith, h)) (λ i q is. omega (arith, f (suc i) q is)))
 
+faults_at-below : (n : ℕ) (m : Mark) (cs : List ℕ) → m.place < n → All (λ v. v.place < n) (faults_at m cs)
+faults_at-below n m [] h = All-nil (λ v. v.place < n)
+faults_at-below n m (c ∷ cs) h = All-cons (λ v. v.place < n) (violated m.place c m.line) (faults_at m cs) h (faults_at-below n m cs h)
+
 faults-below : (n : ℕ) (ns : List Note) → AreOf (λ m. m.place < n) ns → All (λ v. v.place < n) (faults ns)
 faults-below n [] h = All-nil (λ v. v.place < n)
-faults-below n (Fault m c ∷ ns) h = All-cons (λ v. v.place < n) (violated m.place c m.line) (faults ns) h.0 (faults-below n ns h.1)
-faults-below n (Means m w ∷ ns) h = faults-below n ns h.1
-faults-below n (Captures m slot ∷ ns) h = faults-below n ns h.1
+faults-below n (x ∷ ns) h =
+    All-append (λ v. v.place < n) (faults_at (mark_of x) (codes x)) (faults ns) (faults_at-below n (mark_of x) (codes x) h.0) (faults-below n ns h.1)
 
 all-below : (p : tree.ProgramTree) → HasPlaces p → All (λ v. v.place < length (spell p)) (faults (program_notes p))
 all-below p h =
@@ -64,21 +69,31 @@ before-end p v false e h = rw e (All-cons (IsBefore v) (violated (length (spell 
 among-below : (n : ℕ) (vs : List Violation) (v : Violation) → All (λ v. v.place < n) vs → Contains vs v → v.place < n
 among-below n vs v a (k, h, e) = subst (λ (v : Violation). v.place < n) e (a k v h)
 
+-- what the walk over a program gives
+abbrev pub all_judged : tree.ProgramTree → Judged
+all_judged p = judged_in (noted (Judging nothing_found) (program_notes p))
+
+all-judged : (p : tree.ProgramTree) → all_judged p ≡ judged_all nothing_found (program_notes p)
+all-judged p = ap judged_in (noted-judging nothing_found (program_notes p))
+
+all-least : (p : tree.ProgramTree) → least_of None (faults (program_notes p)) ≡ (all_judged p).least
+all-least p = sym (ap (λ (j : Judged). j.least) (all-judged p) ∙ noted-least nothing_found (program_notes p))
+
 -- what the walk found is the refusal
-pub refused : (p : tree.ProgramTree) (v : Violation) → HasPlaces p → (noted nothing_found (program_notes p)).least ≡ Some v → IsRefusal p v
+pub refused : (p : tree.ProgramTree) (v : Violation) → HasPlaces p → (all_judged p).least ≡ Some v → IsRefusal p v
 refused p v h is =
-    let found = least-some (faults (program_notes p)) v (sym (noted-least nothing_found (program_notes p)) ∙ is) in
+    let found = least-some (faults (program_notes p)) v (all-least p ∙ is) in
     let below = among-below (length (spell p)) (faults (program_notes p)) v (all-below p h) found.among in
     record {
       among = Contains-append_left (faults (program_notes p)) (no_main p) v found.among;
       least = All-append (IsBefore v) (faults (program_notes p)) (no_main p) found.least (before-end p v (has_main p) refl below);
     }
 
-no_faults : (p : tree.ProgramTree) → (noted nothing_found (program_notes p)).least ≡ None → faults (program_notes p) ≡ []
-no_faults p is = least-none (faults (program_notes p)) (sym (noted-least nothing_found (program_notes p)) ∙ is)
+no_faults : (p : tree.ProgramTree) → (all_judged p).least ≡ None → faults (program_notes p) ≡ []
+no_faults p is = least-none (faults (program_notes p)) (all-least p ∙ is)
 
 -- nothing was found, and there is no `main`
-pub refused-end : (p : tree.ProgramTree) → (noted nothing_found (program_notes p)).least ≡ None → has_main p ≡ false → IsRefusal p (violated (length (spell p)) 23 1)
+pub refused-end : (p : tree.ProgramTree) → (all_judged p).least ≡ None → has_main p ≡ false → IsRefusal p (violated (length (spell p)) 23 1)
 refused-end p is e =
     let v = violated (length (spell p)) 23 1 in
     let all : violations p ≡ v ∷ [] = rw (no_faults p is, e) refl in
@@ -88,32 +103,29 @@ refused-end p is e =
     }
 
 -- nothing was found, and there is a `main`
-pub lawful : (p : tree.ProgramTree) → (noted nothing_found (program_notes p)).least ≡ None → has_main p ≡ true → violations p ≡ []
+pub lawful : (p : tree.ProgramTree) → (all_judged p).least ≡ None → has_main p ≡ true → violations p ≡ []
 lawful p is e = rw (no_faults p is, e) refl
 
--- the names that were found outside tasks
-known-names : (f : Findings) (r : Resolved) → f.in_task ≡ false → (known f r).names ≡ f.names ++ r ∷ []
-known-names f r e = rw e refl
+pushed-all : {A : Type 0} (xs ys : List A) → pushed xs ys ≡ xs ++ ys
+pushed-all xs [] = sym (append-nil xs)
+pushed-all xs (y ∷ ys) = pushed-all (xs ++ y ∷ []) ys ∙ append_assoc xs (y ∷ []) ys
 
-known-task : (f : Findings) (r : Resolved) (b : Bool) → f.in_task ≡ b → (known f r).in_task ≡ b
-known-task f r true e = rw e refl
-known-task f r false e = rw e refl
+judged-names : (j : Judged) (ns : List Note) → (judged_all j ns).names ≡ j.names ++ resolutions ns
+judged-names j [] = sym (append-nil j.names)
+judged-names j (n ∷ ns) =
+    judged-names (judged j n) ns
+    ∙ ap (λ xs. xs ++ resolutions ns) (pushed-all j.names (resolutions_of n))
+    ∙ append_assoc j.names (resolutions_of n) (resolutions ns)
 
-otherwise : {A : Type 0} (b : Bool) (x y : A) → b ≡ false → (if b then x else y) ≡ y
-otherwise true x y e = absurd (cc)
-otherwise false x y e = refl
+judged-captured : (j : Judged) (ns : List Note) → (judged_all j ns).captured ≡ j.captured ++ captures ns
+judged-captured j [] = sym (append-nil j.captured)
+judged-captured j (n ∷ ns) =
+    judged-captured (judged j n) ns
+    ∙ ap (λ xs. xs ++ captures ns) (pushed-all j.captured (captures_of n))
+    ∙ append_assoc j.captured (captures_of n) (captures ns)
 
-uncaptured : (f : Findings) (place slot : ℕ) → f.in_task ≡ false → captures f place slot ≡ f
-uncaptured f place slot e = otherwise f.in_task _ f e
+pub found-names : (p : tree.ProgramTree) → (all_judged p).names ≡ names p
+found-names p = ap (λ (j : Judged). j.names) (all-judged p) ∙ judged-names nothing_found (program_notes p)
 
-pub noted-names : (f : Findings) (ns : List Note) → f.in_task ≡ false → (noted f ns).names ≡ f.names ++ resolutions ns
-noted-names f [] e = sym (append-nil f.names)
-noted-names f (Fault m c ∷ ns) e = noted-names (note f (Fault m c)) ns e
-noted-names f (Means m w ∷ ns) e =
-    let r = resolved m.place w in
-    noted-names (note f (Means m w)) ns (known-task f r false e)
-    ∙ (ap (λ xs. xs ++ resolutions ns) (known-names f r e) ∙ append_assoc f.names (r ∷ []) (resolutions ns))
-noted-names f (Captures m slot ∷ ns) e = ap (λ (g : Findings). (noted g ns).names) (uncaptured f m.place slot e) ∙ noted-names f ns e
-
-pub found-names : (p : tree.ProgramTree) → (noted nothing_found (program_notes p)).names ≡ names p
-found-names p = noted-names nothing_found (program_notes p) refl
+pub found-captured : (p : tree.ProgramTree) → (all_judged p).captured ≡ captured_by_tasks p
+found-captured p = ap (λ (j : Judged). j.captured) (all-judged p) ∙ judged-captured nothing_found (program_notes p)

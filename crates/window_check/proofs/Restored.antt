@@ -3,7 +3,7 @@ use Rattle.std.proofs.Common.{◌≡◌, ℕ, ◌-◌, ◌≤◌, suc, List, [],
 use Rattle.os_ast.proofs.Kept.{keeps-declarators, keeps-stmt, keeps-stmts}
 use Rattle.os_ast.specs.Kept.{Keeps, same, more}
 use Rattle.os_ast.specs.Names.{Scope, declare, enter, in_loop, in_unit, leave, after_unit}
-use Rattle.os_ast.specs.Notes.Clauses.{Part, Item, Private, parts, with_items, in_task, item_name, item_entity}
+use Rattle.os_ast.specs.Notes.Clauses.{in_task}
 use Rattle.os_ast.specs.Notes.Declarators.{form, taken, after_declarator, after_declarators, after_start}
 use Rattle.os_ast.specs.Notes.Programs.{in_body, in_function, after_param, after_params, round_body, owner_of, param_names}
 use Rattle.os_ast.specs.Notes.Statements.{after_stmt, after_stmts}
@@ -14,7 +14,10 @@ use Rattle.os_ast.specs.declared.names.Form.{Form}
 use Rattle.os_ast.specs.declared.names.Form.TheVariants as form_of
 use Rattle.os_ast.specs.declared.names.Owner.{Owner}
 use Rattle.os_ast.specs.declared.names.Owner.TheVariants as owner
+use Rattle.window_check.specs.Parts.{after_names}
 use Rattle.window_check.specs.Scopes.{outer_of, around_of, returned, ended}
+use Rattle.window_check.specs.Statements.{in_named_task}
+use Rattle.window_check.specs.declared.parts.ItemName.{ItemName}
 
 keeps-then : {a b c : List Entry} → Keeps a b → Keeps b c → Keeps a c
 keeps-then h same = h
@@ -41,7 +44,7 @@ returned_leave s inner k =
 pub ended_unit : (s inner : Scope) → Keeps s.entries inner.entries → ended (around_of s) inner ≡ after_unit s inner
 ended_unit s inner k =
     ap
-    (λ (es : List Entry). record inner { entries = es; depth = s.depth; loop = s.loop; owner = s.owner; slots = s.slots; elements = s.elements })
+    (λ (es : List Entry). record inner { entries = es; depth = s.depth; loop = s.loop; owner = s.owner; captured = s.captured; slots = s.slots; elements = s.elements })
     (drop_kept s.entries inner.entries k)
 
 -- a block
@@ -60,19 +63,18 @@ returned_for s start a =
     let head = after_start (enter s) start in
     returned_leave s (after_stmt (in_loop head) a) (keeps-then (keeps_start (enter s) start) (keeps-stmt (in_loop head) a))
 
-keeps_items : (s inner : Scope) (n : ℕ) (ps : List Part) → Keeps inner.entries (with_items s inner n ps).entries
-keeps_items s inner n [] = same
-keeps_items s inner n (Item d i ∷ ps) =
-    let named = declare inner (item_name i.stream i.window).id (item_entity s n d i) in
-    keeps-then {a = inner.entries} {b = named.entries} (more same) (keeps_items s named (suc n) ps)
-keeps_items s inner n (Private p ∷ ps) = keeps_items s inner n ps
+keeps_names : (s : Scope) (is : List ItemName) → Keeps s.entries (after_names s is).entries
+keeps_names s [] = same
+keeps_names s (i ∷ is) =
+    let named = declare s i.id i.entity in
+    keeps-then {a = s.entries} {b = named.entries} (more same) (keeps_names named is)
 
 -- a task
-pub ended_task : (s : Scope) (cs : List tree.ClauseTree) (a : tree.StmtTree) →
-    ended (around_of s) (after_stmt (with_items s (in_task s) 0 (parts cs)) a) ≡ after_unit s (after_stmt (with_items s (in_task s) 0 (parts cs)) a)
-ended_task s cs a =
-    let inner = with_items s (in_task s) 0 (parts cs) in
-    ended_unit s (after_stmt inner a) (keeps-then (keeps_items s (in_task s) 0 (parts cs)) (keeps-stmt inner a))
+pub ended_task : (s : Scope) (slots : List ℕ) (is : List ItemName) (a : tree.StmtTree) →
+    ended (around_of s) (after_stmt (in_named_task s slots is) a) ≡ after_unit s (after_stmt (in_named_task s slots is) a)
+ended_task s slots is a =
+    let inner = in_named_task s slots is in
+    ended_unit s (after_stmt inner a) (keeps-then (keeps_names (in_task s slots) is) (keeps-stmt inner a))
 
 keeps_params : (s : Scope) (ns : List Name) → Keeps s.entries (after_params s ns).entries
 keeps_params s [] = same
@@ -114,16 +116,6 @@ pub owner_start : (s : Scope) (start : tree.StartTree) → (after_start s start)
 owner_start s tree.StartTree.Empty = refl
 owner_start s (tree.StartTree.Declare ds) = owner_declarators s ds
 owner_start s (tree.StartTree.Change c) = refl
-
--- the names of a task's items
-pub owner_items : (s inner : Scope) (n : ℕ) (ps : List Part) → (with_items s inner n ps).owner ≡ inner.owner
-owner_items s inner n [] = refl
-owner_items s inner n (Item d i ∷ ps) =
-    owner_items s (declare inner (item_name i.stream i.window).id (item_entity s n d i)) (suc n) ps
-owner_items s inner n (Private p ∷ ps) = owner_items s inner n ps
-
-pub owner_task : (s : Scope) (ps : List Part) → (with_items s (in_task s) 0 ps).owner ≡ owner.OfTask
-owner_task s ps = owner_items s (in_task s) 0 ps
 
 mutual
   pub owner_stmt : (s : Scope) (a : tree.StmtTree) → (after_stmt s a).owner ≡ s.owner

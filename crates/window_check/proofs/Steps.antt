@@ -1,38 +1,27 @@
 -- The parts of a statement: that there is room for each, and that what they find is what the statement finds.
-use Rattle.std.proofs.Common.{◌≡◌, ℕ, ◌+◌, ◌<◌, List, [], ◌++◌, length, get_or, drop, Option, Some, None, Box, Global, refl, ap, sym, subst, ◌∙◌, arith}
+use Rattle.std.proofs.Common.{◌≡◌, ℕ, ◌+◌, ◌<◌, List, ◌++◌, length, get_or, drop, Option, Some, None, Box, Global, refl, ap, sym, subst, ◌∙◌, arith}
 use Rattle.std.proofs.lemmas.List.{append-nil}
 use Rattle.os_ast.proofs.Rows.{stmt_tree-block}
-use Rattle.os_ast.specs.Meanings.{Note}
-use Rattle.os_ast.specs.Names.{Scope, enter, in_loop, in_unit}
-use Rattle.os_ast.specs.Notes.Clauses.{Part, parts_notes, pragma_codes, task_notes, with_items}
+use Rattle.os_ast.specs.Names.{Scope, in_loop}
 use Rattle.os_ast.specs.Notes.Expressions.{expr_notes}
+use Rattle.os_ast.specs.Notes.Kinds.{Note}
 use Rattle.os_ast.specs.Notes.Statements.{after_stmt, after_stmts, stmt_notes, stmts_notes}
 use Rattle.os_ast.specs.Trees as tree
 use Rattle.os_ast.specs.Views.{expr_tree, stmt_tree, stmts_tree}
 use Rattle.os_ast.specs.declared.expr.Expr.{Expr}
-use Rattle.os_ast.specs.declared.expr.Mark.{Mark}
-use Rattle.os_ast.specs.declared.names.Owner.{Owner}
-use Rattle.os_ast.specs.declared.names.Owner.TheVariants as owners
 use Rattle.os_ast.specs.declared.stmt.Stmt.{Stmt}
 use Rattle.os_ast.specs.declared.stmt.Stmt.TheVariants as variant
-use Rattle.window_check.specs.Codes.{least_code}
-use Rattle.window_check.specs.Findings.{Findings, noted, blamed, is_task}
-use Rattle.window_check.specs.Parts.{ListedParts, none_listed, after_parts, after_names}
+use Rattle.window_check.specs.Findings.{noted}
 use Rattle.window_check.specs.Room.{HasRoom, stmt_weight, stmts_weight}
-use Rattle.window_check.specs.Statements.{else_tree, noted_body}
+use Rattle.window_check.specs.Statements.{else_tree}
+use Rattle.window_check.specs.declared.found.Found.{Found}
 use Rattle.window_check.proofs.HasRoom.{room_then, room_stmt}
-use Rattle.window_check.proofs.Listing.{items-all}
-use Rattle.window_check.proofs.Noted.{noted-append, noted-codes}
-use Rattle.window_check.proofs.Tasks.{noted-in_task, blamed-in_task, noted-task}
+use Rattle.window_check.proofs.Noted.{noted-append}
 use Rattle.window_check.proofs.Trees.{stmts_tree-drop}
 
 -- what is found of two parts
-pub found-two : (f g h : Findings) (a b : List Note) → g ≡ noted f a → h ≡ noted g b → h ≡ noted f (a ++ b)
-found-two f g h a b first second = second ∙ ap (λ (k : Findings). noted k b) first ∙ sym (noted-append f a b)
-
--- whether a task is at hand, behind a part
-pub task-after : (f g : Findings) (o p : Owner) (a : List Note) → f.in_task ≡ is_task o → g ≡ noted f a → p ≡ o → g.in_task ≡ is_task p
-task-after f g o p a task found same = rw (found, same) (noted-in_task f a ∙ task)
+pub found-two : (f g h : Found) (a b : List Note) → g ≡ noted f a → h ≡ noted g b → h ≡ noted f (a ++ b)
+found-two f g h a b first second = second ∙ ap (λ (k : Found). noted k b) first ∙ sym (noted-append f a b)
 
 -- a statement that has room is this one
 pub room-same : (s : Scope) (a b : tree.StmtTree) → a ≡ b → HasRoom s (stmt_weight a) → HasRoom s (stmt_weight b)
@@ -66,7 +55,7 @@ room-other s t x c a other d is there after room =
     let both = subst (λ (n : ℕ). HasRoom s n) (ap (λ (y : Stmt). stmt_weight (stmt_tree y)) is ∙ weight-if c a other) room in
     rw (after, there) (room_stmt s (stmt_tree a.value) (stmt_weight (else_tree other)) both)
 
-pub found-if : (f g h k : Findings) (s t : Scope) (x : Stmt) (c : Expr) (a : Box Stmt Global) (other : Option (Box Stmt Global)) (d : Stmt) →
+pub found-if : (f g h k : Found) (s t : Scope) (x : Stmt) (c : Expr) (a : Box Stmt Global) (other : Option (Box Stmt Global)) (d : Stmt) →
     x ≡ variant.If c a other → d ≡ a.value → t ≡ after_stmt s (stmt_tree d) →
     g ≡ noted f (expr_notes s (expr_tree c)) → h ≡ noted g (stmt_notes s (stmt_tree d)) → k ≡ noted h (stmt_notes t (else_tree other)) →
     k ≡ noted f (stmt_notes s (stmt_tree x))
@@ -81,7 +70,7 @@ found-if f g h k s t x c a other d is there after first second third =
     ∙ ap (noted f) (sym (notes-if s c a other) ∙ ap (λ (y : Stmt). stmt_notes s (stmt_tree y)) (sym is))
 
 -- `while`
-pub found-while : (f g h : Findings) (s : Scope) (x : Stmt) (c : Expr) (a : Box Stmt Global) (d : Stmt) → x ≡ variant.While c a → d ≡ a.value →
+pub found-while : (f g h : Found) (s : Scope) (x : Stmt) (c : Expr) (a : Box Stmt Global) (d : Stmt) → x ≡ variant.While c a → d ≡ a.value →
     g ≡ noted f (expr_notes s (expr_tree c)) → h ≡ noted g (stmt_notes (in_loop s) (stmt_tree d)) → h ≡ noted f (stmt_notes s (stmt_tree x))
 found-while f g h s x c a d is there first second =
     let second_is : h ≡ noted g (stmt_notes (in_loop s) (stmt_tree a.value)) =
@@ -114,7 +103,7 @@ pub scopes-rest : (s t end : Scope) (ss : List Stmt) (i : ℕ) (a : Stmt) → i 
 scopes-rest s t end ss i a h is after sofar =
     rw after (subst (λ (x : tree.Stmts). after_stmts s x ≡ end) (stmts_tree-drop ss i a h is) sofar)
 
-pub found-rest : (f g end : Findings) (s t : Scope) (ss : List Stmt) (i : ℕ) (a : Stmt) → i < length ss → a ≡ get_or ss i a →
+pub found-rest : (f g end : Found) (s t : Scope) (ss : List Stmt) (i : ℕ) (a : Stmt) → i < length ss → a ≡ get_or ss i a →
     t ≡ after_stmt s (stmt_tree a) → g ≡ noted f (stmt_notes s (stmt_tree a)) →
     noted f (stmts_notes s (stmts_tree (drop i ss))) ≡ end → noted g (stmts_notes t (stmts_tree (drop (i + 1) ss))) ≡ end
 found-rest f g end s t ss i a h is after noting sofar =
@@ -122,23 +111,3 @@ found-rest f g end s t ss i a h is after noting sofar =
     rw (after, noting)
     (sym (noted-append f (stmt_notes s (stmt_tree a)) rest)
     ∙ subst (λ (x : tree.Stmts). noted f (stmts_notes s x) ≡ end) (stmts_tree-drop ss i a h is) sofar)
-
--- the scope round a task's body
-pub items-declared : (s t u : Scope) (l : ListedParts) (ps : List Part) → t ≡ enter (in_unit owners.OfTask s) → l ≡ after_parts s none_listed ps →
-    u ≡ after_names t l.items → u ≡ with_items s (enter (in_unit owners.OfTask s)) 0 ps
-items-declared s t u l ps beginning listing declaring =
-    declaring ∙ rw (beginning, listing) (items-all s (enter (in_unit owners.OfTask s)) ps)
-
--- whether a task is at hand, behind the clauses of a task
-pub task-before : (f g h : Findings) (o p : Owner) (m : Mark) (code : Option ℕ) (given : List Note) → f.in_task ≡ is_task o → p ≡ o →
-    g ≡ blamed f m code → h ≡ noted g given → h.in_task ≡ is_task p
-task-before f g h o p m code given task same blaming noting = rw (noting, blaming, same) (noted-in_task (blamed f m code) given ∙ blamed-in_task f m code ∙ task)
-
--- what is found of a task
-pub found-task : (f g h k : Findings) (s : Scope) (m : Mark) (o : Owner) (code : Option ℕ) (l : ListedParts) (ps : List Part) (body : List Note) →
-    o ≡ s.owner → code ≡ least_code (pragma_codes o) → g ≡ blamed f m code → h ≡ noted g (parts_notes s [] ps) → l ≡ after_parts s none_listed ps →
-    k ≡ noted_body h o m l body → k ≡ noted f (task_notes s m ps body)
-found-task f g h k s m o code l ps body same is_code blaming noting listing last =
-    last ∙ rw (noting, blaming, is_code, listing, same) (sym (noted-task f s m ps body))
-
-pub ruleset noting = (noted-append, noted-codes)

@@ -4,7 +4,7 @@ use Rattle.std.proofs.Math.Seq.{drop-cons}
 use Rattle.os_ast.proofs.Rows.{stmt_tree-block}
 use Rattle.os_ast.specs.Trees as tree
 use Rattle.os_ast.specs.Names.{Scope}
-use Rattle.os_ast.specs.Notes.Clauses.{parts, parts_of}
+use Rattle.os_ast.specs.Parts.{parts, parts_of}
 use Rattle.os_ast.specs.Notes.Declarators.{after_declarator, after_declarators, declarator_notes, declarators_notes}
 use Rattle.os_ast.specs.Notes.Expressions.{count_args}
 use Rattle.os_ast.specs.Notes.Statements.{after_stmt, after_stmts, stmt_notes, stmts_notes}
@@ -52,7 +52,7 @@ after_stmts-drop s ss i a h is = rw (drop-cons ss i a h, ← is, add-one)
 pub declarators_notes-drop : (s : Scope) (ds : List Declarator) (i : ℕ) (d : Declarator) → i < length ds → d ≡ get_or ds i d →
     declarators_notes s (map declarator_tree (drop i ds))
     ≡ declarator_notes s (declarator_tree d) ++ declarators_notes (after_declarator s (declarator_tree d)) (map declarator_tree (drop (i + 1) ds))
-declarators_notes-drop s ds i d h is = rw (drop-cons ds i d h, ← is, add-one)
+declarators_notes-drop s ds i d h is = ap (declarators_notes s) (map-drop declarator_tree ds i d h is)
 
 pub after_declarators-drop : (s : Scope) (ds : List Declarator) (i : ℕ) (d : Declarator) → i < length ds → d ≡ get_or ds i d →
     after_declarators s (map declarator_tree (drop i ds)) ≡ after_declarators (after_declarator s (declarator_tree d)) (map declarator_tree (drop (i + 1) ds))

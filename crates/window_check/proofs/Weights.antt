@@ -1,7 +1,9 @@
--- A program declares no more than it has tokens.
-use Rattle.std.proofs.Common.{◌≤◌, ◌+◌, List, [], ◌∷◌, map, length, length-append, Option, Some, None, Bool, true, false, arith}
+-- What a program declares is little for its tokens: each makes room for 16,383.
+use Rattle.std.proofs.Common.{◌≤◌, ◌+◌, ◌*◌, if◌then◌else◌, List, [], ◌∷◌, map, length, length-append, Option, Some, None, Bool, true, false, arith}
+use Rattle.std.specs.Prelude.{is_some}
 use Rattle.std.proofs.lemmas.List.{length-map}
-use Rattle.os_ast.specs.Notes.Clauses.{Item, Private, parts, parts_of}
+use Rattle.os_ast.specs.Limits.{size_limit}
+use Rattle.os_ast.specs.Parts.{Item, Private, parts, parts_of}
 use Rattle.os_ast.specs.Notes.Programs.{param_names}
 use Rattle.os_ast.specs.Operators.{assign_mark, step_mark}
 use Rattle.os_ast.specs.Spelling as spelling
@@ -16,10 +18,10 @@ use Rattle.os_lexer.specs.declared.token.Key.TheVariants as keys
 use Rattle.os_lexer.specs.declared.token.Kind.TheVariants as kind
 use Rattle.os_lexer.specs.declared.token.Punct.{Punct}
 use Rattle.os_lexer.specs.declared.token.Punct.TheVariants as puncts
-use Rattle.window_check.specs.Room.{start_weight, stmt_weight, stmts_weight, item_weight, items_weight}
+use Rattle.window_check.specs.Room.{declarator_weight, declarators_weight, start_weight, stmt_weight, stmts_weight, item_weight, items_weight}
 
 mutual
-  long-expr : (e : tree.ExprTree) (rest : List Piece) → length rest ≤ length (spelling.expr e rest)
+  long-expr : (e : tree.ExprTree) (rest : List Piece) → 1 + length rest ≤ length (spelling.expr e rest)
   long-expr (tree.Number n) rest = omega arith
   long-expr (tree.Place t) rest = long-target t rest
   long-expr (tree.ExprTree.Call f es) rest = omega (arith, long-args es (spelling.punct puncts.CloseParen rest))
@@ -31,7 +33,7 @@ mutual
       let middle = spelling.expr a (spelling.punct puncts.Colon last) in
       omega (arith, long-expr b rest, long-expr a (spelling.punct puncts.Colon last), long-expr c (spelling.punct puncts.Question middle))
 
-  long-target : (t : tree.TargetTree) (rest : List Piece) → length rest ≤ length (spelling.target t rest)
+  long-target : (t : tree.TargetTree) (rest : List Piece) → 1 + length rest ≤ length (spelling.target t rest)
   long-target (tree.Variable n) rest = omega arith
   long-target (tree.Element n m e) rest = omega (arith, long-expr e (spelling.punct puncts.CloseBracket rest))
 
@@ -49,7 +51,7 @@ mutual
 
 long-value : (e : Option tree.ExprTree) (rest : List Piece) → length rest ≤ length (spelling.optional spelling.expr e rest)
 long-value None rest = omega arith
-long-value (Some e) rest = long-expr e rest
+long-value (Some e) rest = omega (arith, long-expr e rest)
 
 long-first : (e : Option tree.ExprTree) (rest : List Piece) → length rest ≤ length (spelling.optional spelling.first_value e rest)
 long-first None rest = omega arith
@@ -73,25 +75,35 @@ long-attribute : (stream : Bool) (rest : List Piece) → length rest ≤ length 
 long-attribute false rest = omega arith
 long-attribute true rest = omega arith
 
-long-declarator : (d : tree.DeclaratorTree) (rest : List Piece) → 1 + length rest ≤ length (spelling.declarator d rest)
+-- a size takes three tokens at least, and the name and what stands before it two
+long-size : (i : Option tree.IndexTree) (rest : List Piece) → (if is_some i then 3 else 0) + length rest ≤ length (spelling.optional spelling.index i rest)
+long-size None rest = omega arith
+long-size (Some i) rest = omega (arith, long-expr i.value (spelling.punct puncts.CloseBracket rest))
+
+sized-tokens : (i : Option tree.IndexTree) → (if is_some i then size_limit else 1) ≤ 16383 * (2 + (if is_some i then 3 else 0))
+sized-tokens None = omega arith
+sized-tokens (Some i) = omega arith
+
+long-declarator : (d : tree.DeclaratorTree) (rest : List Piece) → declarator_weight d + 16383 * length rest ≤ 16383 * (1 + length (spelling.declarator d rest))
 long-declarator d rest =
     let last = spelling.optional spelling.first_value d.first rest in
     let middle = spelling.attribute d.stream last in
-    omega (arith, long-first d.first rest, long-attribute d.stream last, long-index d.size middle)
+    omega (arith, sized-tokens d.size, long-first d.first rest, long-attribute d.stream last, long-size d.size middle)
 
-long-declarators : (ds : List tree.DeclaratorTree) (rest : List Piece) → length ds + length rest ≤ length (spelling.each (λ d. spelling.punct puncts.Comma ⨾ spelling.declarator d) ds rest)
+long-declarators : (ds : List tree.DeclaratorTree) (rest : List Piece) → declarators_weight ds + 16383 * length rest ≤ 16383 * length (spelling.each (λ d. spelling.punct puncts.Comma ⨾ spelling.declarator d) ds rest)
 long-declarators [] rest = omega arith
 long-declarators (d ∷ ds) rest =
     let more = spelling.each (λ d. spelling.punct puncts.Comma ⨾ spelling.declarator d) ds rest in
     omega (arith, long-declarators ds rest, long-declarator d more)
 
-long-listed : (ds : List tree.DeclaratorTree) (rest : List Piece) → length ds + length rest ≤ length (spelling.listed spelling.declarator ds rest)
+-- with the token before the first
+long-listed : (ds : List tree.DeclaratorTree) (rest : List Piece) → declarators_weight ds + 16383 * length rest ≤ 16383 * (1 + length (spelling.listed spelling.declarator ds rest))
 long-listed [] rest = omega arith
 long-listed (d ∷ ds) rest =
     let more = spelling.each (λ d. spelling.punct puncts.Comma ⨾ spelling.declarator d) ds rest in
     omega (arith, long-declarators ds rest, long-declarator d more)
 
-long-start : (s : tree.StartTree) (rest : List Piece) → start_weight s + length rest ≤ length (spelling.start s rest)
+long-start : (s : tree.StartTree) (rest : List Piece) → start_weight s + 16383 * length rest ≤ 16383 * length (spelling.start s rest)
 long-start tree.StartTree.Empty rest = omega arith
 long-start (tree.StartTree.Declare ds) rest = omega (arith, long-listed ds (spelling.punct puncts.Semicolon rest))
 long-start (tree.StartTree.Change c) rest = omega (arith, long-change c (spelling.punct puncts.Semicolon rest))
@@ -147,7 +159,7 @@ long-clauses (c ∷ cs) rest =
     omega (arith, long-clauses cs rest, long-kind c.kind more, long-comma c.comma (spelling.clause_kind c.kind more), length-append (parts_of c.kind) (parts cs))
 
 mutual
-  long-stmt : (a : tree.StmtTree) (rest : List Piece) → stmt_weight a + length rest ≤ length (spelling.stmt a rest)
+  long-stmt : (a : tree.StmtTree) (rest : List Piece) → stmt_weight a + 16383 * length rest ≤ 16383 * length (spelling.stmt a rest)
   long-stmt tree.StmtTree.Empty rest = omega arith
   long-stmt (tree.Block ss) rest = omega (arith, long-stmts ss (spelling.punct puncts.CloseBrace rest))
   long-stmt (tree.StmtTree.Declare ds) rest = omega (arith, long-listed ds (spelling.punct puncts.Semicolon rest))
@@ -179,7 +191,7 @@ mutual
       omega (arith, long-expr e last, long-target t (spelling.punct_at puncts.ShiftRight arrow (spelling.expr e last)))
   long-stmt (tree.Taskwait m) rest = omega arith
 
-  long-stmts : (ss : tree.Stmts) (rest : List Piece) → stmts_weight ss + length rest ≤ length (spelling.stmts ss rest)
+  long-stmts : (ss : tree.Stmts) (rest : List Piece) → stmts_weight ss + 16383 * length rest ≤ 16383 * length (spelling.stmts ss rest)
   long-stmts tree.no_stmts rest = omega arith
   long-stmts (tree.stmt a ss) rest = omega (arith, long-stmts ss rest, long-stmt a (spelling.stmts ss rest))
 
@@ -197,16 +209,16 @@ long-sign : (minus : Bool) (rest : List Piece) → length rest ≤ length (spell
 long-sign false rest = omega arith
 long-sign true rest = omega arith
 
-long-programs_item : (i : tree.ItemTree) (rest : List Piece) → item_weight i + length rest ≤ length (spelling.item i rest)
+long-programs_item : (i : tree.ItemTree) (rest : List Piece) → item_weight i + 16383 * length rest ≤ 16383 * length (spelling.item i rest)
 long-programs_item (tree.Constant c) rest = omega (arith, long-sign c.minus (spelling.number c.size (spelling.punct puncts.Semicolon rest)))
 long-programs_item (tree.Function f) rest =
     let body = spelling.stmts f.body (spelling.punct puncts.CloseBrace rest) in
     omega (arith, long-stmts f.body (spelling.punct puncts.CloseBrace rest), long-params f.params (spelling.punct puncts.CloseParen (spelling.punct puncts.OpenBrace body)))
 
-long-program : (is : List tree.ItemTree) (rest : List Piece) → items_weight is + length rest ≤ length (spelling.each spelling.item is rest)
+long-program : (is : List tree.ItemTree) (rest : List Piece) → items_weight is + 16383 * length rest ≤ 16383 * length (spelling.each spelling.item is rest)
 long-program [] rest = omega arith
 long-program (i ∷ is) rest = omega (arith, long-program is rest, long-programs_item i (spelling.each spelling.item is rest))
 
--- a program's weight is at most the number of its tokens
-pub weight-spell : (p : tree.ProgramTree) → items_weight p ≤ length (spelling.spell p)
+-- a program's weight by the number of its tokens
+pub weight-spell : (p : tree.ProgramTree) → items_weight p ≤ 16383 * length (spelling.spell p)
 weight-spell p = omega (arith, long-program p [], length-map (spelling.pieces p) spelling.kind_of)

@@ -1,25 +1,23 @@
--- What a walk over a program has found so far, note by note.
-use Rattle.std.specs.Prelude.{ℕ, ◌==◌, ◌||◌, ◌&&◌, ltb, Bool, true, false, if◌then◌else◌, List, [], ◌∷◌, ◌++◌, map, length, Option, Some, None}
-use Rattle.os_ast.specs.Meanings.{Note, Fault, Means, Captures, moved, place_in, with_slot}
-use Rattle.os_ast.specs.Violations.{violated, resolved}
+-- What a walk over a program has found so far, token by token.
+use Rattle.std.specs.Prelude.{ℕ, ◌==◌, ◌||◌, ◌&&◌, ltb, Bool, if◌then◌else◌, List, [], ◌∷◌, ◌++◌, length, Option, Some, None, ℤ}
+use Rattle.os_ast.specs.Meanings.{resolved}
+use Rattle.os_ast.specs.Notes.Kinds.{Note, mark_of}
+use Rattle.os_ast.specs.Rules.{codes, when, takes_more}
+use Rattle.os_ast.specs.Violations.{violated, resolutions_of, captures_of, main_task}
 use Rattle.os_ast.specs.declared.expr.Mark.{Mark}
 use Rattle.os_ast.specs.declared.names.Owner.{Owner}
 use Rattle.os_ast.specs.declared.names.Owner.TheVariants as owner
-use Rattle.os_ast.specs.declared.names.Resolved.{Resolved}
+use Rattle.os_ast.specs.declared.names.What.{What}
 use Rattle.os_ast.specs.declared.names.What.TheVariants as what
 use Rattle.os_ast.specs.declared.violation.Violation.{Violation}
-use Rattle.window_check.specs.declared.naming.Naming.{Naming}
-use Rattle.window_check.specs.declared.naming.Naming.TheVariants as naming
+use Rattle.window_check.specs.Codes.{least_code}
+use Rattle.window_check.specs.Slots.{with_slots, named_slots}
+use Rattle.window_check.specs.declared.found.Found.{Found}
+use Rattle.window_check.specs.declared.found.Found.TheVariants.{Listing, Judging}
+use Rattle.window_check.specs.declared.found.Judged.{Judged}
 
--- The least violation, the names whose meaning is known, and those of the task at hand, which wait for its end.
-pub record Findings : Type 0 where
-  pub least : Option Violation
-  pub names : List Resolved
-  pub waiting : List Naming
-  pub in_task : Bool
-
-abbrev pub nothing_found : Findings
-nothing_found = record { least = None; names = []; waiting = []; in_task = false }
+abbrev pub nothing_found : Judged
+nothing_found = record { least = None; names = []; captured = [] }
 
 -- by place, then by code, then by line
 abbrev pub before : Violation → Violation → Bool
@@ -29,48 +27,73 @@ abbrev pub lesser : Option Violation → Violation → Violation
 lesser None v = v
 lesser (Some least) v = if before v least then v else least
 
--- a name with a known meaning: it waits where a task is at hand, since its slot may move
-abbrev pub known : Findings → Resolved → Findings
-known f r = if f.in_task then record f { waiting = f.waiting ++ naming.Known r ∷ [] } else record f { names = f.names ++ r ∷ [] }
+-- with a violation of a token, where there is a code
+abbrev pub least_with : Option Violation → Mark → Option ℕ → Option Violation
+least_with least m None = least
+least_with least m (Some code) = Some (lesser least (violated m.place code m.line))
 
--- a scalar that the task at hand captures
-abbrev pub captures : Findings → ℕ → ℕ → Findings
-captures f place slot = if f.in_task then record f { waiting = f.waiting ++ naming.Captured place slot ∷ [] } else f
+-- items at the end of a list
+abbrev pub pushed : {A : Type 0} → List A → List A → List A
+pushed xs [] = xs
+pushed xs (y ∷ ys) = pushed (xs ++ y ∷ []) ys
 
-abbrev pub note : Findings → Note → Findings
-note f (Fault m code) = record f { least = Some (lesser f.least (violated m.place code m.line)) }
-note f (Means m w) = known f (resolved m.place w)
-note f (Captures m slot) = captures f m.place slot
+-- what stands at one more token is judged
+abbrev pub judged : Judged → Note → Judged
+judged j n = record {
+  least = least_with j.least (mark_of n) (least_code (codes n));
+  names = pushed j.names (resolutions_of n);
+  captured = pushed j.captured (captures_of n);
+}
 
-abbrev pub noted : Findings → List Note → Findings
+-- or what it names is listed
+abbrev pub note : Found → Note → Found
+note (Listing slots) n = Listing (with_slots (named_slots n) slots)
+note (Judging j) n = Judging (judged j n)
+
+abbrev pub noted : Found → List Note → Found
 noted f [] = f
 noted f (n ∷ ns) = noted (note f n) ns
 
--- a violation where there is one
-abbrev pub blamed : Findings → Mark → Option ℕ → Findings
-blamed f m None = f
-blamed f m (Some code) = note f (Fault m code)
+-- the steps of this: a violation, where there is a code
+abbrev pub blamed : Judged → Mark → Option ℕ → Judged
+blamed j m code = record j { least = least_with j.least m code }
 
--- a task begins, whose names wait
-abbrev pub waits : Findings → Findings
-waits f = record f { waiting = []; in_task = true }
+abbrev pub blames : Found → Mark → Option ℕ → Found
+blames (Listing slots) m code = Listing slots
+blames (Judging j) m code = Judging (blamed j m code)
 
--- What a name of a task means, where the slots of the captured scalars are known.
-abbrev pub settled : List ℕ → Naming → Resolved
-settled slots (naming.Known r) = resolved r.place (moved (length slots) r.what)
-settled slots (naming.Captured place slot) = resolved place (what.Scalar (place_in slots slot))
+-- what a name means
+abbrev pub named : Judged → Mark → What → Judged
+named j m w = record j { names = j.names ++ resolved m.place w ∷ [] }
 
--- the task ends
-abbrev pub settle : List ℕ → Findings → Findings
-settle slots f = record f { names = f.names ++ map (settled slots) f.waiting; waiting = []; in_task = false }
+abbrev pub means : Found → Mark → What → Found
+means (Listing slots) m w = Listing slots
+means (Judging j) m w = Judging (named j m w)
 
--- the captured scalars among names, with those of a list
-abbrev pub captured_among : List ℕ → List Naming → List ℕ
-captured_among slots [] = slots
-captured_among slots (naming.Known r ∷ ns) = captured_among slots ns
-captured_among slots (naming.Captured place slot ∷ ns) = captured_among (with_slot slot slots) ns
+-- the value of a constant, where a name is one's
+abbrev pub constant_found : Found → Mark → Option ℤ → Found
+constant_found f m None = f
+constant_found f m (Some v) = means f m (what.Constant v)
 
-abbrev pub is_task : Owner → Bool
-is_task owner.OfTask = true
-is_task owner.OfMain = false
-is_task owner.OfFunction = false
+-- the start of a task: elsewhere than in `main` none may stand
+abbrev pub task_codes : Owner → ℕ → List ℕ → List ℕ
+task_codes owner.OfMain items slots = when (takes_more items (length slots)) 22
+task_codes owner.OfFunction items slots = 17 ∷ []
+task_codes owner.OfTask items slots = 17 ∷ []
+
+abbrev pub started_in : Judged → Owner → Mark → ℕ → List ℕ → Judged
+started_in j o m items slots = record (blamed j m (least_code (task_codes o items slots))) { captured = pushed j.captured (main_task o slots) }
+
+abbrev pub started : Found → Owner → Mark → ℕ → List ℕ → Found
+started (Listing listed) o m items slots = Listing listed
+started (Judging j) o m items slots = Judging (started_in j o m items slots)
+
+-- the slots that were listed
+abbrev pub slots_found : Found → List ℕ
+slots_found (Listing slots) = slots
+slots_found (Judging j) = []
+
+-- what was judged
+abbrev pub judged_in : Found → Judged
+judged_in (Listing slots) = nothing_found
+judged_in (Judging j) = j

@@ -2,12 +2,14 @@
 use Rattle.std.specs.Prelude.{ℕ, Bool, true, false, List, [], ◌∷◌, ◌++◌, length, Option, Some, is_some}
 use Rattle.std.specs.BTreeSet.{insert_key}
 use Rattle.std.specs.Ordering.{nat_cmp}
-use Rattle.os_ast.specs.Meanings.{Note}
 use Rattle.os_ast.specs.Names.{Scope, lookup, entity_of, declare}
-use Rattle.os_ast.specs.Notes.Clauses.{Part, Item, Private, item_name, part_notes, private_slots}
+use Rattle.os_ast.specs.Notes.Clauses.{part_notes}
+use Rattle.os_ast.specs.Notes.Kinds.{Note}
+use Rattle.os_ast.specs.Parts.{Part, Item, Private, item_name}
 use Rattle.os_ast.specs.declared.names.Direction.{Direction}
 use Rattle.os_ast.specs.declared.names.Entity.{Entity}
 use Rattle.os_ast.specs.declared.names.Entity.TheVariants as entity
+use Rattle.window_check.specs.Slots.{with_slots, control_slots}
 use Rattle.window_check.specs.declared.parts.ItemName.{ItemName}
 
 -- the names that stood in the clauses, the items in their order, and the captured scalars that `firstprivate` gave
@@ -32,7 +34,7 @@ with_item e l id joined d = record l {
 }
 
 abbrev pub with_private : Option Entity → ListedParts → ℕ → ListedParts
-with_private e l id = record l { names = insert_key nat_cmp l.names id; slots = private_slots e l.slots }
+with_private e l id = record l { names = insert_key nat_cmp l.names id; slots = with_slots (control_slots e) l.slots }
 
 abbrev pub after_part : Scope → ListedParts → Part → ListedParts
 after_part s l (Item d i) =

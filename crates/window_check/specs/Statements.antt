@@ -1,25 +1,32 @@
--- What the parts of statements give, where the code has no tree of its own for them.
-use Rattle.std.specs.Prelude.{List, length, Option, Some, None}
+-- Parts of statements for which the code has no tree of its own.
+use Rattle.std.specs.Prelude.{List, [], Option, Some, None}
 use Rattle.std.specs.declared.boxed.Box.{Box}
 use Rattle.std.specs.declared.alloc.Global.{Global}
-use Rattle.os_ast.specs.Meanings.{Note, captured}
-use Rattle.os_ast.specs.Notes.Clauses.{task_codes, captured_notes}
+use Rattle.std.specs.Prelude.{ℕ}
+use Rattle.os_ast.specs.Names.{Scope}
+use Rattle.os_ast.specs.Notes.Clauses.{in_task}
+use Rattle.os_ast.specs.Notes.Statements.{stmt_notes}
 use Rattle.os_ast.specs.Trees as tree
 use Rattle.os_ast.specs.Views.{stmt_tree}
-use Rattle.os_ast.specs.declared.expr.Mark.{Mark}
 use Rattle.os_ast.specs.declared.names.Owner.{Owner}
+use Rattle.os_ast.specs.declared.names.Owner.TheVariants as owner
 use Rattle.os_ast.specs.declared.stmt.Stmt.{Stmt}
-use Rattle.window_check.specs.Codes.{least_code}
-use Rattle.window_check.specs.Findings.{Findings, noted, blamed}
-use Rattle.window_check.specs.Parts.{ListedParts}
+use Rattle.window_check.specs.Findings.{noted, slots_found}
+use Rattle.window_check.specs.Parts.{after_names}
+use Rattle.window_check.specs.declared.found.Found.TheVariants.{Listing}
+use Rattle.window_check.specs.declared.parts.ItemName.{ItemName}
 
 -- what stands behind `else`: where there is none, it is as if nothing stood there
 abbrev pub else_tree : Option (Box Stmt Global) → tree.StmtTree
 else_tree None = tree.StmtTree.Empty
 else_tree (Some b) = stmt_tree b.value
 
--- what is found in a task's body, and of the task where its body is done
-abbrev pub noted_body : Findings → Owner → Mark → ListedParts → List Note → Findings
-noted_body f o m l body =
-    let slots = captured l.slots body in
-    blamed (noted f (captured_notes o slots body)) m (least_code (task_codes (length l.items) (length slots)))
+-- the scope of a task's body, where it captures these scalars and its clauses give these names
+abbrev pub in_named_task : Scope → List ℕ → List ItemName → Scope
+in_named_task s slots items = after_names (in_task s slots) items
+
+-- the scalars of `main` that the body names, with others; none, where the task doesn't stand in `main`
+abbrev pub listed_in : Owner → Scope → List ℕ → List ItemName → tree.StmtTree → List ℕ
+listed_in owner.OfMain s others items body = slots_found (noted (Listing others) (stmt_notes (in_named_task s [] items) body))
+listed_in owner.OfFunction s others items body = []
+listed_in owner.OfTask s others items body = []

@@ -1,34 +1,32 @@
-//! The scalars that a task captures, and what the names of the task mean then.
+//! The scalars that a task captures, by their slots in the control program.
 
-ghost use Rattle.std.specs.Prelude.{◌≡◌, ◌<◌, ◌≤◌, ◌^◌, [], ◌∷◌, OnOk, IfOk, length, All};
+ghost use Rattle.std.specs.Prelude.{◌≡◌, ◌<◌, ◌≤◌, ◌^◌, [], All, OnOk, IfOk, length};
 ghost use Rattle.std.specs.List.Sorted.{IsStrictlySortedBy};
 ghost use Rattle.std.specs.Ordering.{nat_cmp};
-ghost use Rattle.os_ast.specs.Meanings.{moved, place_in, with_slot};
-ghost use Rattle.window_check.specs.Findings.{settled, captured_among};
-ghost use Rattle.window_check.specs.Room.{IsSmallWhat, IsSmallNaming, slots_end};
+ghost use Rattle.os_ast.specs.Meanings.{meaning_in_task, place_in};
+ghost use Rattle.window_check.specs.Slots.{with_slot, with_slots, control_slots};
 
-use crate::naming::Naming;
-use os_ast::{Resolved, What};
-use os_io::Memory;
+use crate::meanings::meaning;
+use os_ast::{Entity, What};
+use os_io::{List, Memory};
 use std::alloc::Global;
 use std::collections::BTreeSet;
 use std::marker::Model;
 
-/// The scalars that a task captures, by their slots in the control program.
+/// The scalars that a task captures.
 #[derive(Drop)]
 pub(crate) struct Captured {
     slots: BTreeSet<u32>,
 }
 
 impl Model for Captured {
-    ghost use Rattle.std.specs.Prelude.{ℕ, ◌<◌, List, All};
-    ghost use Rattle.window_check.specs.Room.{slots_end};
+    ghost use Rattle.std.specs.Prelude.{ℕ, ◌<◌, ◌^◌, List, All};
 
     ghost Value = { List ℕ };
 
     ghost view = { λ c. c.slots.keys };
 
-    ghost invariant = { λ c. All (λ s. s < slots_end) c.slots.keys };
+    ghost invariant = { λ c. All (λ s. s < 2 ^ 32) c.slots.keys };
 }
 
 impl Captured {
@@ -48,89 +46,115 @@ impl Captured {
         self.slots.len()
     }
 
-    /// One more, where it isn't there.
-    pub(crate) fn insert(&mut self, slot: u32) -> Result<(), Memory>
-        requires { slot < slots_end }
+    fn insert(&mut self, slot: u32) -> Result<(), Memory>
         ensures { OnOk result (self.new ≡ with_slot slot self.old) }
     {
         self.slots.insert(slot)?;
         Ok(())
     }
 
-    /// Adds the scalars that these names captured.
-    pub(crate) fn add(&mut self, names: &[Naming]) -> Result<(), Memory>
-        requires { All IsSmallNaming names.now }
-        ensures { OnOk result (self.new ≡ captured_among self.old names.now) }
+    /// One more, where the name is declared as a scalar of the control program.
+    pub(crate) fn add(&mut self, entity: Option<Entity>) -> Result<(), Memory>
+        ensures { OnOk result (self.new ≡ with_slots (control_slots entity) self.old) }
     {
-        for naming in names {
-            self.add_one(*naming)?;
-        }
-        Ok(())
-    }
-
-    fn add_one(&mut self, naming: Naming) -> Result<(), Memory>
-        requires { IsSmallNaming naming }
-        ensures { OnOk result (self.new ≡ captured_among self.old (naming ∷ [])) }
-    {
-        match naming {
-            Naming::Known(_) => Ok(()),
-            Naming::Captured(_, slot) => self.insert(slot),
+        match entity {
+            Some(Entity::Control(slot)) => self.insert(slot),
+            Some(Entity::InputLength) => self.insert(0),
+            _ => Ok(()),
         }
     }
 
     /// Their slots in ascending order.
-    pub(crate) fn in_order(&self, alloc: Global) -> Result<Vec<u32>, Memory>
-        ensures same { IfOk result (λ ordered. ordered.items ≡ self.now) }
-        ensures ascending { IfOk result (λ ordered. IsStrictlySortedBy nat_cmp ordered.items) }
-        ensures small { IfOk result (λ ordered. All (λ s. s < slots_end) ordered.items) }
+    pub(crate) fn in_order(&self, alloc: Global) -> Result<List<u32>, Memory>
+        ensures same { IfOk result (λ ordered. ordered ≡ self.now) }
+        ensures ascending { IfOk result (λ ordered. IsStrictlySortedBy nat_cmp ordered) }
+        ensures few { IfOk result (λ ordered. length ordered ≤ 2 ^ 32) }
+    {
+        let slots = self.collected(alloc)?;
+        listed(alloc, slots.as_slice())
+    }
+
+    fn collected(&self, alloc: Global) -> Result<Vec<u32>, Memory>
+        ensures same { IfOk result (λ slots. slots.items ≡ self.now) }
+        ensures ascending { IfOk result (λ slots. IsStrictlySortedBy nat_cmp slots.items) }
+        ensures small { IfOk result (λ slots. All (λ s. s < 2 ^ 32) slots.items) }
     {
         Ok(self.slots.iter().copied().collect(alloc)?)
     }
 }
 
-/// What a name of the task means that captures scalars with these slots.
-pub(crate) fn settled(slots: &[u32], naming: Naming) -> Resolved
-    requires ascending { IsStrictlySortedBy nat_cmp slots.now }
-    requires small { All (λ s. s < slots_end) slots.now }
-    requires small_name { IsSmallNaming naming }
-    ensures { result ≡ settled slots.now naming }
+fn listed(alloc: Global, slots: &[u32]) -> Result<List<u32>, Memory>
+    ensures { IfOk result (λ all. all ≡ slots.now) }
 {
-    match naming {
-        Naming::Known(resolved) => Resolved {
-            place: resolved.place,
-            what: moved(slots.len() as u32, resolved.what),
-        },
-        Naming::Captured(place, slot) => Resolved {
-            place,
-            what: What::Scalar(place_in(slots, slot)),
-        },
+    let mut all = List::new(alloc);
+    for slot in slots {
+        all.push(*slot)?;
     }
+    Ok(all)
 }
 
-/// What a name means where so many slots come before those of the task.
-fn moved(count: u32, what: What) -> What
-    requires count { count ≤ slots_end }
-    requires small { IsSmallWhat what }
-    ensures { result ≡ moved count what }
-{
-    match what {
-        What::Scalar(slot) => What::Scalar(count + slot),
-        What::Array { first, size } => What::Array {
-            first: count + first,
-            size,
-        },
-        other => other,
-    }
+/// The slots of a task's captured scalars, ascending.
+#[derive(Drop)]
+pub(crate) struct Slots {
+    slots: List<u32>,
 }
 
-/// How many of the slots come before this one; 0 where it isn't among them.
-fn place_in(slots: &[u32], slot: u32) -> u32
-    requires ascending { IsStrictlySortedBy nat_cmp slots.now }
-    requires few { length slots.now < 2 ^ 32 }
-    ensures { result ≡ place_in slots.now slot }
-{
-    match slots.binary_search(&slot) {
-        Ok(place) => place as u32,
-        Err(_) => 0,
+impl Model for Slots {
+    ghost use Rattle.std.specs.Prelude.{ℕ, ◌≤◌, ◌^◌, List, length};
+    ghost use Rattle.std.specs.List.Sorted.{IsStrictlySortedBy};
+    ghost use Rattle.std.specs.Ordering.{nat_cmp};
+
+    ghost Value = { List ℕ };
+
+    ghost view = { λ s. s.slots };
+
+    ghost invariant = { λ s. IsStrictlySortedBy nat_cmp s.slots × (length s.slots ≤ 2 ^ 32) };
+}
+
+impl Slots {
+    /// None.
+    pub(crate) fn none(alloc: Global) -> Slots
+        ensures { result ≡ [] }
+    {
+        Slots {
+            slots: List::new(alloc),
+        }
+    }
+
+    /// These.
+    pub(crate) fn new(slots: List<u32>) -> Slots
+        requires ascending { IsStrictlySortedBy nat_cmp slots }
+        requires few { length slots ≤ 2 ^ 32 }
+        ensures { result ≡ slots }
+    {
+        Slots { slots }
+    }
+
+    /// How many they are.
+    pub(crate) fn len(&self) -> usize
+        ensures { result ≡ length self.now }
+    {
+        self.slots.len()
+    }
+
+    /// What a name means in the task that is declared as this.
+    pub(crate) fn meaning(&self, entity: Entity) -> What
+        ensures { result ≡ meaning_in_task self.now entity }
+    {
+        match entity {
+            Entity::Control(slot) => What::Scalar(self.place_of(slot)),
+            Entity::InputLength => What::Scalar(self.place_of(0)),
+            other => meaning(other),
+        }
+    }
+
+    /// How many of the slots come before this one; 0 where it isn't among them.
+    fn place_of(&self, slot: u32) -> u32
+        ensures { result ≡ place_in self.now slot }
+    {
+        match self.slots.as_slice().binary_search(&slot) {
+            Ok(place) => place as u32,
+            Err(_) => 0,
+        }
     }
 }

@@ -1,18 +1,36 @@
-ghost use Rattle.std.specs.Prelude.{◌≡◌, ◌≤◌, length, IfOk, IfErr};
-ghost use Rattle.os_ast.specs.Leveled.{IsLeveled};
+ghost use Rattle.std.specs.Prelude.{◌≡◌, ◌≤◌, length, map, IfOk, IfErr, OnOk};
+ghost use Rattle.os_ast.specs.Leveled.{AreAll, IsItem, IsLeveled};
 ghost use Rattle.os_ast.specs.Marks.{HasPlaces};
+ghost use Rattle.os_ast.specs.Notes.Programs.{file, after_items, program_notes};
 ghost use Rattle.os_ast.specs.Spelling.{spell};
 ghost use Rattle.os_ast.specs.Views.{program_tree};
+ghost use Rattle.window_check.specs.Findings.{nothing_found, noted, judged_in};
 ghost use Rattle.window_check.specs.Refusal.{IsAnswer};
+ghost use Rattle.window_check.specs.Room.{HasRoom, items_weight};
+ghost use Rattle.window_check.specs.declared.found.Found.TheVariants as findings;
 
 use crate::check_error::CheckError;
 use crate::checked::Checked;
 use crate::codes;
-use crate::found::Found;
+use crate::found::{Found, Judged};
 use crate::functions::{has_main, items};
 use crate::scopes::Scopes;
 use os_ast::Program;
+use os_io::Memory;
 use std::alloc::Global;
+
+/// What a walk over a program finds, where nothing is in scope yet.
+fn judge(alloc: Global, scopes: &mut Scopes, program: &Program) -> Result<Judged, Memory>
+    requires leveled { AreAll IsItem (program_tree program.now) }
+    requires room { HasRoom file (items_weight (program_tree program.now)) }
+    requires begun { scopes.old ≡ file }
+    ensures scopes { OnOk result (scopes.new ≡ after_items file (program_tree program.now)) }
+    ensures judged { IfOk result (λ judged. judged ≡ judged_in (noted (findings.Judging nothing_found) (program_notes (program_tree program.now)))) }
+{
+    let mut found = Found::Judging(Judged::new(alloc));
+    items(alloc, scopes, &mut found, &program.items)?;
+    Ok(found.into_judged(alloc))
+}
 
 /// Judges a program by the rules for names and declarations, and finds what each name means.
 ///
@@ -30,9 +48,8 @@ pub fn check(alloc: Global, program: Program) -> Result<Checked, CheckError>
     ensures refused { IfErr result (IsAnswer (program_tree program)) }
 {
     let mut scopes = Scopes::new(alloc);
-    let mut found = Found::new(alloc);
-    items(alloc, &mut scopes, &mut found, &program.items)?;
-    let (least, names) = found.into_parts();
+    let judged = judge(alloc, &mut scopes, &program)?;
+    let (least, names, captured) = judged.into_parts();
     if let Some(violation) = least {
         return Err(CheckError::Fault {
             code: violation.code,
@@ -48,6 +65,7 @@ pub fn check(alloc: Global, program: Program) -> Result<Checked, CheckError>
     Ok(Checked {
         program,
         names,
+        captured,
         streams: 2 + scopes.streams(),
     })
 }

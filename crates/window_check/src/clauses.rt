@@ -1,19 +1,22 @@
 //! The clauses of a task.
 
-ghost use Rattle.std.specs.Prelude.{◌≡◌, ◌+◌, ◌≤◌, ◌++◌, [], OnOk, IfOk, length, map, option_map};
-ghost use Rattle.os_ast.specs.Notes.Clauses.{Item, Private, parts, parts_of, parts_notes, part_notes, window_notes, shape_of};
+ghost use Rattle.std.specs.Prelude.{◌≡◌, ◌+◌, ◌≤◌, ◌∷◌, [], OnOk, IfOk, length, map, option_map};
+ghost use Rattle.os_ast.specs.Notes.Clauses.{parts_notes, part_notes, window_notes, shape_of};
 ghost use Rattle.os_ast.specs.Notes.Expressions.{index_notes};
-ghost use Rattle.os_ast.specs.Uses.{item_codes, use_notes};
+ghost use Rattle.os_ast.specs.Notes.Kinds.{Used};
+ghost use Rattle.os_ast.specs.Parts.{Item, Private, parts, parts_of};
 ghost use Rattle.os_ast.specs.Views.{clause_tree, clause_kind_tree, clause_item_tree, join_tree, index_tree, target_tree};
+ghost use Rattle.os_ast.specs.declared.names.Use.TheVariants as usage;
 ghost use Rattle.window_check.specs.Findings.{noted};
 ghost use Rattle.window_check.specs.Parts.{none_listed, after_part, after_parts, listed_notes};
+ghost use Rattle.window_check.specs.Room.{room_end};
 
 use crate::expressions::{indexed, place};
 use crate::found::Found;
 use crate::parts::{Listed, item_name};
 use crate::scopes::Scopes;
-use crate::uses::{Role, Use, used};
-use os_ast::{Clause, ClauseItem, ClauseKind, Direction, Index, Join, Name, Shape};
+use crate::uses::used;
+use os_ast::{Clause, ClauseItem, ClauseKind, Direction, Index, Join, Name, Role, Shape, Use};
 use os_io::{List, Memory};
 use std::alloc::Global;
 
@@ -29,7 +32,7 @@ fn shape_of(index: &Option<Index>) -> Shape
 
 /// What stands behind the arrow of an item.
 fn joined(scopes: &Scopes, found: &mut Found, join: &Join) -> Result<(), Memory>
-    ensures { OnOk result (found.new ≡ noted found.old (use_notes scopes.now join.now.name (item_codes (shape_of (option_map index_tree join.now.burst))) ++ index_notes scopes.now (option_map index_tree join.now.burst))) }
+    ensures { OnOk result (found.new ≡ noted found.old (Used scopes.now join.now.name (usage.Joined (shape_of (option_map index_tree join.now.burst))) ∷ index_notes scopes.now (option_map index_tree join.now.burst))) }
 {
     used(scopes, found, join.name, Use::Joined(shape_of(&join.burst)))?;
     indexed(scopes, found, &join.burst)
@@ -61,7 +64,7 @@ fn item(
     direction: Direction,
     item: &ClauseItem,
 ) -> Result<(), Memory>
-    requires { length listed.old.items ≤ 262144 }
+    requires { length listed.old.items ≤ room_end }
     ensures found { OnOk result (found.new ≡ noted found.old (part_notes scopes.now listed.old.names (Item direction (clause_item_tree item.now)))) }
     ensures listed { OnOk result (listed.new ≡ after_part scopes.now listed.old (Item direction (clause_item_tree item.now))) }
 {
@@ -78,7 +81,7 @@ fn items(
     direction: Direction,
     items: &List<ClauseItem>,
 ) -> Result<(), Memory>
-    requires { length listed.old.items + length items.now ≤ 262144 }
+    requires { length listed.old.items + length items.now ≤ room_end }
     ensures found { OnOk result (found.new ≡ noted found.old (listed_notes scopes.now listed.old (map (Item direction) (map clause_item_tree items.now)))) }
     ensures listed { OnOk result (listed.new ≡ after_parts scopes.now listed.old (map (Item direction) (map clause_item_tree items.now))) }
 {
@@ -127,7 +130,7 @@ fn clause(
     listed: &mut Listed,
     clause: &Clause,
 ) -> Result<(), Memory>
-    requires { length listed.old.items + length (parts_of (clause_kind_tree clause.now.kind)) ≤ 262144 }
+    requires { length listed.old.items + length (parts_of (clause_kind_tree clause.now.kind)) ≤ room_end }
     ensures found { OnOk result (found.new ≡ noted found.old (listed_notes scopes.now listed.old (parts_of (clause_kind_tree clause.now.kind)))) }
     ensures listed { OnOk result (listed.new ≡ after_parts scopes.now listed.old (parts_of (clause_kind_tree clause.now.kind))) }
 {
@@ -146,7 +149,7 @@ pub(crate) fn clauses(
     found: &mut Found,
     clauses: &List<Clause>,
 ) -> Result<Listed, Memory>
-    requires { length (parts (map clause_tree clauses.now)) ≤ 262144 }
+    requires { length (parts (map clause_tree clauses.now)) ≤ room_end }
     ensures found { OnOk result (found.new ≡ noted found.old (parts_notes scopes.now [] (parts (map clause_tree clauses.now)))) }
     ensures listed { IfOk result (λ listed. listed ≡ after_parts scopes.now none_listed (parts (map clause_tree clauses.now))) }
 {

@@ -1,7 +1,7 @@
 //! The codes of the rules, and the lesser of two.
 
 ghost use Rattle.std.specs.Prelude.{◌≡◌};
-ghost use Rattle.os_ast.specs.Uses.{when};
+ghost use Rattle.os_ast.specs.Rules.{when};
 ghost use Rattle.window_check.specs.Codes.{least_code, lesser_code};
 
 /// A name that is used has no declaration in scope.

@@ -1,17 +1,18 @@
 //! Declarators: what they declare and take, and which rules they violate.
 
-ghost use Rattle.std.specs.Prelude.{◌≡◌, ◌&&◌, not, OnOk, length, map, option_map};
-ghost use Rattle.os_ast.specs.Notes.Declarators.{form, sized_form, is_outermost, is_window, sized_notes, declarator_notes, declarators_notes, after_declarator, after_declarators, after_start, start_notes};
+ghost use Rattle.std.specs.Prelude.{◌≡◌, ◌&&◌, not, OnOk, map, option_map};
+ghost use Rattle.os_ast.specs.Notes.Declarators.{form, sized_form, is_window, sized_notes, declarator_notes, declarators_notes, after_declarator, after_declarators, after_start, start_notes};
 ghost use Rattle.os_ast.specs.Names.{is_declared};
-ghost use Rattle.os_ast.specs.Uses.{when};
+ghost use Rattle.os_ast.specs.Rules.{is_outermost, when};
 ghost use Rattle.os_ast.specs.Views.{declarator_tree, index_tree, start_tree};
 ghost use Rattle.window_check.specs.Codes.{least_code, lesser_code};
 ghost use Rattle.window_check.specs.Findings.{noted};
-ghost use Rattle.window_check.specs.Room.{HasRoom, FormFits, start_weight};
+ghost use Rattle.window_check.specs.Room.{HasRoom, declarator_weight, declarators_weight, start_weight};
 
 use crate::codes::{self, lesser, when};
 use crate::expressions::{change, expr, value};
-use crate::found::{Found, meaning};
+use crate::found::Found;
+use crate::meanings::meaning;
 use crate::scopes::Scopes;
 use crate::sizes::{size_name, size_of};
 use os_ast::{Declarator, Form, Index, Owner, Start};
@@ -29,8 +30,7 @@ fn sized_form(owner: Owner, size: Option<u32>) -> Form
 
 /// What a declarator declares.
 fn form(scopes: &Scopes, declarator: &Declarator) -> Form
-    ensures form { result ≡ form scopes.now (declarator_tree declarator.now) }
-    ensures fits { FormFits result }
+    ensures { result ≡ form scopes.now (declarator_tree declarator.now) }
 {
     match &declarator.size {
         None if declarator.stream => Form::Stream,
@@ -96,15 +96,14 @@ fn declarator_code(scopes: &Scopes, declarator: &Declarator, size: Option<u8>) -
 
 /// One declarator.
 fn declarator(scopes: &mut Scopes, found: &mut Found, declarator: &Declarator) -> Result<(), Memory>
-    requires { HasRoom scopes.old 1 }
+    requires { HasRoom scopes.old (declarator_weight (declarator_tree declarator.now)) }
     ensures scopes { OnOk result (scopes.new ≡ after_declarator scopes.old (declarator_tree declarator.now)) }
     ensures found { OnOk result (found.new ≡ noted found.old (declarator_notes scopes.old (declarator_tree declarator.now))) }
 {
     let form = form(scopes, declarator);
     let entity = scopes.form_entity(form);
     let code = declarator_code(scopes, declarator, scopes.code_with(form));
-    found.blame(declarator.name.mark, code);
-    found.name(declarator.name.mark, meaning(entity))?;
+    found.declare(declarator.name.mark, code, meaning(entity))?;
     sized(scopes, found, declarator.stream, &declarator.size)?;
     scopes.take(form);
     scopes.declare(declarator.name.id, entity)?;
@@ -117,7 +116,7 @@ pub(crate) fn declarators(
     found: &mut Found,
     declarators: &List<Declarator>,
 ) -> Result<(), Memory>
-    requires { HasRoom scopes.old (length declarators.now) }
+    requires { HasRoom scopes.old (declarators_weight (map declarator_tree declarators.now)) }
     ensures scopes { OnOk result (scopes.new ≡ after_declarators scopes.old (map declarator_tree declarators.now)) }
     ensures found { OnOk result (found.new ≡ noted found.old (declarators_notes scopes.old (map declarator_tree declarators.now))) }
 {

@@ -4,13 +4,12 @@ ghost use Rattle.std.specs.Prelude.{◌≡◌, OnOk, option_map};
 ghost use Rattle.os_ast.specs.Notes.Expressions.{expr_notes, place_notes, args_notes, links_notes, value_notes, index_notes, change_notes, step_notes};
 ghost use Rattle.os_ast.specs.Trees as tree;
 ghost use Rattle.os_ast.specs.Views.{expr_tree, target_tree, args_tree, links_tree, index_tree, change_tree};
-ghost use Rattle.window_check.specs.Codes.{role_codes};
 ghost use Rattle.window_check.specs.Findings.{noted};
 
 use crate::found::Found;
 use crate::scopes::Scopes;
-use crate::uses::{Role, Use, used};
-use os_ast::{Call, Change, Expr, Index, Link, Shape, Target};
+use crate::uses::used;
+use os_ast::{Call, Change, Expr, Index, Link, Role, Shape, Target, Use};
 use os_io::{List, Memory};
 
 /// An expression.
@@ -46,7 +45,7 @@ pub(crate) fn place(
     role: Role,
     target: &Target,
 ) -> Result<(), Memory>
-    ensures { OnOk result (found.new ≡ noted found.old (place_notes scopes.now (role_codes role) (target_tree target.now))) }
+    ensures { OnOk result (found.new ≡ noted found.old (place_notes scopes.now role (target_tree target.now))) }
 {
     match &target.index {
         None => used(scopes, found, target.name, Use::Place(role, Shape::Bare)),

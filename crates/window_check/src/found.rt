@@ -1,36 +1,34 @@
-ghost use Rattle.std.specs.Prelude.{◌≡◌, ◌<◌, ◌≤◌, ◌++◌, [], false, OnOk, All, length, drop, map};
-ghost use Rattle.std.specs.List.Sorted.{IsStrictlySortedBy};
-ghost use Rattle.std.specs.Ordering.{nat_cmp};
-ghost use Rattle.os_ast.specs.Meanings.{Means, meaning, meant, control_note};
-ghost use Rattle.window_check.specs.Findings.{nothing_found, before, lesser, captures, note, blamed, waits, settle, settled, captured_among};
-ghost use Rattle.window_check.specs.Room.{IsSmall, IsSmallNaming, IsSmallWhat, slots_end};
+ghost use Rattle.std.specs.Prelude.{◌≡◌, OnOk};
+ghost use Rattle.window_check.specs.Findings.{nothing_found, before, lesser, blames, blamed, means, named, constant_found, started, started_in, slots_found, judged_in};
+ghost use Rattle.os_ast.specs.Rules.{when, takes_more};
+ghost use Rattle.window_check.specs.Codes.{least_code};
 
-use crate::captures::{Captured, settled};
-use crate::naming::Naming;
-use os_ast::{Entity, Mark, Owner, Resolved, Violation, What};
+use crate::captures::Captured;
+use crate::codes::{self, when};
+use os_ast::{Mark, Owner, Resolved, Violation, What};
 use os_io::{List, Memory};
 use std::alloc::Global;
-use std::marker::Model;
 
-/// What the walk has found so far: the least violation, and the names.
+/// The most items of a task.
+const ITEMS_LIMIT: usize = 8;
+/// The most scalars that a task captures.
+const CAPTURED_LIMIT: usize = 64;
+
+/// What a walk over a part of a program finds.
 #[derive(Drop)]
-pub(crate) struct Found {
-    least: Option<Violation>,
-    names: List<Resolved>,
-    waiting: List<Naming>,
-    in_task: bool,
+pub(crate) enum Found {
+    /// The scalars of the control program that the part names.
+    Listing(Captured),
+    /// What the rules and the names say of it.
+    Judging(Judged),
 }
 
-impl Model for Found {
-    ghost use Rattle.std.specs.Prelude.{◌≡◌, [], false, All};
-    ghost use Rattle.window_check.specs.Findings.{Findings};
-    ghost use Rattle.window_check.specs.Room.{IsSmallNaming};
-
-    ghost Value = { Findings };
-
-    ghost view = { λ f. record { least = f.least; names = f.names; waiting = f.waiting; in_task = f.in_task } };
-
-    ghost invariant = { λ f. All IsSmallNaming f.waiting × (f.in_task ≡ false → f.waiting ≡ []) };
+/// The least violation so far, what each name means, and what each task captures.
+#[derive(Drop)]
+pub(crate) struct Judged {
+    least: Option<Violation>,
+    names: List<Resolved>,
+    captured: List<List<u32>>,
 }
 
 /// Whether a violation comes before another: by place, then by code, then by line.
@@ -54,38 +52,30 @@ fn lesser(least: Option<Violation>, violation: Violation) -> Violation
     }
 }
 
-impl Found {
+impl Judged {
     /// Nothing is found yet.
-    pub(crate) fn new(alloc: Global) -> Found
+    pub(crate) fn new(alloc: Global) -> Judged
         ensures { result ≡ nothing_found }
     {
-        Found {
+        Judged {
             least: None,
             names: List::new(alloc),
-            waiting: List::new(alloc),
-            in_task: false,
+            captured: List::new(alloc),
         }
     }
 
-    /// The least violation, and the names, which are those of a program where there is no violation.
-    pub(crate) fn into_parts(self) -> (Option<Violation>, List<Resolved>)
+    /// The least violation, the names, and what the tasks capture.
+    pub(crate) fn into_parts(self) -> (Option<Violation>, List<Resolved>, List<List<u32>>)
         ensures least { result.0 ≡ self.least }
         ensures names { result.1 ≡ self.names }
+        ensures captured { result.2 ≡ self.captured }
     {
-        let Found {
+        let Judged {
             least,
             names,
-            waiting: _,
-            in_task: _,
+            captured,
         } = self;
-        (least, names)
-    }
-
-    /// The number of names that wait for the end of the task at hand.
-    pub(crate) fn waiting(&self) -> usize
-        ensures { result ≡ length self.now.waiting }
-    {
-        self.waiting.len()
+        (least, names, captured)
     }
 
     /// A token violates a rule, where there is a code.
@@ -104,116 +94,121 @@ impl Found {
 
     /// A name means this.
     pub(crate) fn name(&mut self, mark: Mark, what: What) -> Result<(), Memory>
-        requires { IsSmallWhat what }
-        ensures { OnOk result (self.new ≡ note self.old (Means mark what)) }
+        ensures { OnOk result (self.new ≡ named self.old mark what) }
     {
-        let resolved = Resolved {
+        self.names.push(Resolved {
             place: mark.place,
             what,
-        };
-        if self.in_task {
-            self.waiting.push(Naming::Known(resolved))?;
-        } else {
-            self.names.push(resolved)?;
-        }
-        Ok(())
+        })
     }
 
-    /// A name is a scalar of the control program with this slot there, which a task captures.
-    fn capture(&mut self, mark: Mark, slot: u32) -> Result<(), Memory>
-        requires { slot < slots_end }
-        ensures { OnOk result (self.new ≡ captures self.old mark.place slot) }
-    {
-        if self.in_task {
-            self.waiting.push(Naming::Captured(mark.place, slot))?;
-        }
-        Ok(())
-    }
-
-    /// A name is used that is declared as this, in a body of this owner.
-    pub(crate) fn used(&mut self, owner: Owner, mark: Mark, entity: Entity) -> Result<(), Memory>
-        requires { IsSmall entity }
-        ensures { OnOk result (self.new ≡ note self.old (meant owner mark entity)) }
-    {
-        match entity {
-            Entity::Control(slot) => self.control(owner, mark, slot),
-            Entity::InputLength => self.control(owner, mark, 0),
-            other => self.name(mark, meaning(other)),
-        }
-    }
-
-    /// A scalar of the control program is used.
-    fn control(&mut self, owner: Owner, mark: Mark, slot: u32) -> Result<(), Memory>
-        requires { slot < slots_end }
-        ensures { OnOk result (self.new ≡ note self.old (control_note owner mark slot)) }
+    /// A task starts in `main`, which captures these scalars, or elsewhere, where none may stand.
+    fn task(
+        &mut self,
+        alloc: Global,
+        owner: Owner,
+        mark: Mark,
+        items: usize,
+        captured: &Captured,
+    ) -> Result<(), Memory>
+        ensures { OnOk result (self.new ≡ started_in self.old owner mark items captured.now) }
     {
         match owner {
-            Owner::OfTask => self.capture(mark, slot),
-            Owner::OfMain | Owner::OfFunction => self.name(mark, What::Scalar(slot)),
+            Owner::OfMain => {
+                self.blame(mark, task_code(items, captured.len()));
+                let slots = captured.in_order(alloc)?;
+                self.captured.push(slots)
+            }
+            Owner::OfFunction | Owner::OfTask => {
+                self.blame(mark, Some(codes::MISPLACED));
+                Ok(())
+            }
+        }
+    }
+}
+
+impl Found {
+    /// A token violates a rule, where there is a code.
+    pub(crate) fn blame(&mut self, mark: Mark, code: Option<u8>)
+        ensures { self.new ≡ blames self.old mark code }
+    {
+        match self {
+            Found::Listing(_) => {}
+            Found::Judging(judged) => judged.blame(mark, code),
         }
     }
 
-    /// A task begins that stands in no other one: its names wait for its end.
-    pub(crate) fn begin_task(&mut self, alloc: Global)
-        ensures waits { self.new ≡ waits self.old }
-        ensures idle { self.old.in_task ≡ false → self.old.waiting ≡ [] }
+    fn name(&mut self, mark: Mark, what: What) -> Result<(), Memory>
+        ensures { OnOk result (self.new ≡ means self.old mark what) }
     {
-        self.waiting = List::new(alloc);
-        self.in_task = true;
+        match self {
+            Found::Listing(_) => Ok(()),
+            Found::Judging(judged) => judged.name(mark, what),
+        }
     }
 
-    /// Adds the scalars that names captured, from one of those that wait on.
-    pub(crate) fn captured_from(&self, first: usize, captured: &mut Captured) -> Result<(), Memory>
-        requires { first ≤ length self.now.waiting }
-        ensures { OnOk result (captured.new ≡ captured_among captured.old (drop first self.now.waiting)) }
+    /// A name is declared, which violates a rule where there is a code, and means this.
+    pub(crate) fn declare(&mut self, mark: Mark, code: Option<u8>, what: What) -> Result<(), Memory>
+        ensures { OnOk result (self.new ≡ means (blames self.old mark code) mark what) }
     {
-        captured.add(&self.waiting.as_slice()[first..])
+        self.blame(mark, code);
+        self.name(mark, what)
     }
 
-    /// The task ends, and its captured scalars are known.
-    pub(crate) fn end_task(&mut self, alloc: Global, captured: &Captured) -> Result<(), Memory>
-        ensures { OnOk result (self.new ≡ settle captured.now self.old) }
+    /// A name stands as a size, and is that of a constant where there is a value.
+    pub(crate) fn constant(&mut self, mark: Mark, value: Option<i32>) -> Result<(), Memory>
+        ensures { OnOk result (self.new ≡ constant_found self.old mark value) }
     {
-        let slots = captured.in_order(alloc)?;
-        add_settled(&mut self.names, slots.as_slice(), self.waiting.as_slice())?;
-        self.waiting = List::new(alloc);
-        self.in_task = false;
-        Ok(())
+        match value {
+            None => Ok(()),
+            Some(value) => self.name(mark, What::Constant(value)),
+        }
+    }
+
+    /// A task starts in a body of this owner, with so many items, and captures these scalars.
+    pub(crate) fn task(
+        &mut self,
+        alloc: Global,
+        owner: Owner,
+        mark: Mark,
+        items: usize,
+        captured: &Captured,
+    ) -> Result<(), Memory>
+        ensures { OnOk result (self.new ≡ started self.old owner mark items captured.now) }
+    {
+        match self {
+            Found::Listing(_) => Ok(()),
+            Found::Judging(judged) => judged.task(alloc, owner, mark, items, captured),
+        }
+    }
+
+    /// The scalars that were listed; none, where the walk judged.
+    pub(crate) fn into_listed(self, alloc: Global) -> Captured
+        ensures { result ≡ slots_found self }
+    {
+        match self {
+            Found::Listing(captured) => captured,
+            Found::Judging(_) => Captured::new(alloc),
+        }
+    }
+
+    /// What was judged; nothing, where the walk listed.
+    pub(crate) fn into_judged(self, alloc: Global) -> Judged
+        ensures { result ≡ judged_in self }
+    {
+        match self {
+            Found::Listing(_) => Judged::new(alloc),
+            Found::Judging(judged) => judged,
+        }
     }
 }
 
-/// Adds what names of a task mean that captures scalars with these slots.
-fn add_settled(names: &mut List<Resolved>, slots: &[u32], waiting: &[Naming]) -> Result<(), Memory>
-    requires ascending { IsStrictlySortedBy nat_cmp slots.now }
-    requires small { All (λ s. s < slots_end) slots.now }
-    requires small_names { All IsSmallNaming waiting.now }
-    ensures { OnOk result (names.new ≡ names.old ++ map (settled slots.now) waiting.now) }
+/// A task has more items than it may have, or captures more scalars.
+fn task_code(items: usize, scalars: usize) -> Option<u8>
+    ensures { result ≡ least_code (when (takes_more items scalars) 22) }
 {
-    for naming in waiting {
-        names.push(settled(slots, *naming))?;
-    }
-    Ok(())
-}
-
-/// What a declaration means.
-pub(crate) fn meaning(entity: Entity) -> What
-    requires { IsSmall entity }
-    ensures meaning { result ≡ meaning entity }
-    ensures small { IsSmallWhat result }
-{
-    match entity {
-        Entity::Constant(value) => What::Constant(value),
-        Entity::Function(number, _) => What::Function(number),
-        Entity::Scalar(slot) | Entity::Control(slot) => What::Scalar(slot),
-        Entity::InputLength => What::Scalar(0),
-        Entity::Array(first, size) => What::Array { first, size },
-        Entity::Window(slot) => What::Window(slot),
-        Entity::Stream(number) => What::Stream {
-            first: number,
-            count: 1,
-        },
-        Entity::Streams(first, count) => What::Stream { first, count },
-        Entity::Element(item, _) => What::Element(item),
-        Entity::View(item, _) => What::View(item),
-    }
+    when(
+        ITEMS_LIMIT < items || CAPTURED_LIMIT < scalars,
+        codes::TASK_LIMIT,
+    )
 }

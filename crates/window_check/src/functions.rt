@@ -1,19 +1,24 @@
 //! Constants, functions and the items of a program.
 
-ghost use Rattle.std.specs.Prelude.{◌≡◌, ◌≤◌, ◌<◌, ◌+◌, ◌^◌, [], ◌∷◌, false, OnOk, IfOk, length, map};
+ghost use Rattle.std.specs.Prelude.{◌≡◌, ◌≤◌, ◌<◌, ◌+◌, ◌^◌, OnOk, IfOk, length, map};
 ghost use Rattle.os_ast.specs.Leveled.{IsItem, AreAll};
-ghost use Rattle.os_ast.specs.Names.{constant_value};
+ghost use Rattle.os_ast.specs.Names.{constant_value, is_declared};
+ghost use Rattle.os_ast.specs.Rules.{when};
+ghost use Rattle.window_check.specs.Codes.{least_code};
+ghost use Rattle.os_ast.specs.Notes.Kinds.{Given};
 ghost use Rattle.os_ast.specs.Notes.Programs.{owner_of, param_names, after_param, after_params, params_notes, after_item, item_notes, after_items, items_notes, in_function};
 ghost use Rattle.os_ast.specs.Trees as tree;
 ghost use Rattle.os_ast.specs.Views.{item_tree};
 ghost use Rattle.os_ast.specs.Violations.{is_main, has_main};
+ghost use Rattle.os_ast.specs.declared.names.Owner.TheVariants as owners;
 ghost use Rattle.os_ast.specs.declared.program.Item.TheVariants as variant;
-ghost use Rattle.window_check.specs.Findings.{noted};
-ghost use Rattle.window_check.specs.Room.{HasRoom, item_weight, items_weight};
+ghost use Rattle.window_check.specs.Findings.{note, noted};
+ghost use Rattle.window_check.specs.Room.{HasRoom, item_weight, items_weight, room_end};
 ghost use Rattle.window_check.specs.Scopes.{around_of};
 
 use crate::codes::{self, when};
-use crate::found::{Found, meaning};
+use crate::found::Found;
+use crate::meanings::meaning;
 use crate::scopes::{Around, MAIN, Scopes};
 use crate::statements::stmts;
 use os_ast::{Constant, Entity, Form, Function, Item, Name, Owner, Params};
@@ -50,18 +55,22 @@ fn param_names(params: &Params) -> &[Name]
     }
 }
 
+/// A name is declared a second time in one scope.
+fn twice(scopes: &Scopes, name: Name) -> Option<u8>
+    ensures { result ≡ least_code (when (is_declared scopes.now name.id) 12) }
+{
+    when(scopes.is_declared(name.id), codes::DECLARED_TWICE)
+}
+
 /// A parameter.
+#[tactic(auto, using(crate::proofs::Blamed::blamed_notes))]
 fn param(scopes: &mut Scopes, found: &mut Found, name: Name) -> Result<(), Memory>
     requires { HasRoom scopes.old 1 }
     ensures scopes { OnOk result (scopes.new ≡ after_param scopes.old name) }
-    ensures found { OnOk result (found.new ≡ noted found.old (params_notes scopes.old (name ∷ []))) }
+    ensures found { OnOk result (found.new ≡ note found.old (Given scopes.old name)) }
 {
-    found.blame(
-        name.mark,
-        when(scopes.is_declared(name.id), codes::DECLARED_TWICE),
-    );
     let entity = scopes.scalar();
-    found.name(name.mark, meaning(entity))?;
+    found.declare(name.mark, twice(scopes, name), meaning(entity))?;
     scopes.take(Form::Scalar);
     scopes.declare(name.id, entity)
 }
@@ -79,27 +88,25 @@ fn params(scopes: &mut Scopes, found: &mut Found, names: &[Name]) -> Result<(), 
 }
 
 /// A constant.
+#[tactic(auto, using(crate::proofs::Blamed::blamed_notes))]
 fn constant(scopes: &mut Scopes, found: &mut Found, constant: &Constant) -> Result<(), Memory>
     requires { constant.now.size < 2 ^ 31 }
     ensures scopes { OnOk result (scopes.new ≡ after_item scopes.old (tree.Constant constant.now)) }
     ensures found { OnOk result (found.new ≡ noted found.old (item_notes scopes.old (tree.Constant constant.now))) }
 {
     let name = constant.name;
-    found.blame(
-        name.mark,
-        when(scopes.is_declared(name.id), codes::DECLARED_TWICE),
-    );
+    found.blame(name.mark, twice(scopes, name));
     scopes.declare(name.id, Entity::Constant(constant_value(constant)))
 }
 
 /// The scopes of a function begin: the one round the body of `main`, and that of the parameters and the body.
-fn begin_function(scopes: &mut Scopes, id: u32) -> Result<Around, Memory>
-    requires { scopes.old.depth + 2 ≤ 262144 }
+fn begin_function(alloc: Global, scopes: &mut Scopes, id: u32) -> Result<Around, Memory>
+    requires { scopes.old.depth + 2 ≤ room_end }
     ensures scopes { OnOk result (scopes.new ≡ in_function scopes.old id) }
     ensures around { IfOk result (λ around. around ≡ around_of scopes.old) }
 {
     let owner = owner_of(id);
-    let around = scopes.begin(owner);
+    let around = scopes.begin(alloc, owner);
     scopes.declare_round(owner)?;
     scopes.enter();
     Ok(around)
@@ -113,17 +120,14 @@ fn function(
     function: &Function,
 ) -> Result<(), Memory>
     requires room { HasRoom scopes.old (item_weight (item_tree (variant.Function function.now))) }
-    requires task { found.old.in_task ≡ false }
+    requires outside { scopes.old.owner ≡ owners.OfFunction }
     ensures scopes { OnOk result (scopes.new ≡ after_item scopes.old (item_tree (variant.Function function.now))) }
     ensures found { OnOk result (found.new ≡ noted found.old (item_notes scopes.old (item_tree (variant.Function function.now)))) }
 {
     let name = function.name;
     let names = param_names(&function.params);
-    found.blame(
-        name.mark,
-        when(scopes.is_declared(name.id), codes::DECLARED_TWICE),
-    );
-    let around = begin_function(scopes, name.id)?;
+    found.blame(name.mark, twice(scopes, name));
+    let around = begin_function(alloc, scopes, name.id)?;
     params(scopes, found, names)?;
     stmts(alloc, scopes, found, &function.body)?;
     scopes.end(around);
@@ -133,7 +137,7 @@ fn function(
 /// A constant or a function.
 fn item(alloc: Global, scopes: &mut Scopes, found: &mut Found, item: &Item) -> Result<(), Memory>
     requires room { HasRoom scopes.old (item_weight (item_tree item.now)) }
-    requires task { found.old.in_task ≡ false }
+    requires outside { scopes.old.owner ≡ owners.OfFunction }
     requires leveled { IsItem (item_tree item.now) }
     ensures scopes { OnOk result (scopes.new ≡ after_item scopes.old (item_tree item.now)) }
     ensures found { OnOk result (found.new ≡ noted found.old (item_notes scopes.old (item_tree item.now))) }
@@ -152,7 +156,7 @@ pub(crate) fn items(
     items: &List<Item>,
 ) -> Result<(), Memory>
     requires room { HasRoom scopes.old (items_weight (map item_tree items.now)) }
-    requires task { found.old.in_task ≡ false }
+    requires outside { scopes.old.owner ≡ owners.OfFunction }
     requires leveled { AreAll IsItem (map item_tree items.now) }
     ensures scopes { OnOk result (scopes.new ≡ after_items scopes.old (map item_tree items.now)) }
     ensures found { OnOk result (found.new ≡ noted found.old (items_notes scopes.old (map item_tree items.now))) }

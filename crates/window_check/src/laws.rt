@@ -2,16 +2,11 @@
 
 ghost use Rattle.os_ast.specs.Marks.{HasPlaces};
 ghost use Rattle.os_ast.specs.Means.{Means};
-ghost use Rattle.os_ast.specs.Notes.Programs.{program_notes};
 ghost use Rattle.os_ast.specs.Trees.{ProgramTree};
 ghost use Rattle.os_ast.specs.Violations.{names};
 ghost use Rattle.os_lexer.specs.declared.token.Token.{Token};
-ghost use Rattle.std.specs.Prelude.{◌≡◌, ℕ, List};
-ghost use Rattle.os_ast.specs.declared.names.Entity.{Entity};
-ghost use Rattle.window_check.specs.Codes.{use_codes};
-ghost use Rattle.window_check.specs.Rules.{violated_codes};
-ghost use Rattle.window_check.specs.declared.uses.Use.{Use};
-ghost use Rattle.window_check.specs.Order.{InOrder, NoneWaits};
+ghost use Rattle.std.specs.Prelude.{List};
+ghost use Rattle.window_check.specs.Order.{InOrder};
 
 use os_ast::laws::meaning_by_tokens;
 
@@ -27,15 +22,3 @@ pub fn marks_have_places()
 {
     meaning_by_tokens();
 }
-
-/// No name of a program is left whose meaning would wait for the end of a task.
-#[tactic(auto, using(crate::proofs::Known::none_waits))]
-pub fn each_name_is_known()
-    ensures { (p : ProgramTree) → NoneWaits (program_notes p) }
-{}
-
-/// The codes that the definitions give for a used name, use by use, are those of the rules, told code by code.
-#[tactic(auto, using(crate::proofs::ByCode::by_code))]
-pub fn rules_of_used_names()
-    ensures { (id : ℕ) (u : Use) (e : Entity) → use_codes id u e ≡ violated_codes id u e }
-{}

@@ -6,7 +6,8 @@
 //!
 //! The walk goes over the program once, in the order of the text. `Scopes` is what is in scope at a place, and
 //! `Found` is what was found so far; each function of the walk says of these two what the definitions say of its
-//! part of the tree. It never stops early: a task's first token is judged where the task is done.
+//! part of the tree. It never stops early. The body of a task in `main` is walked twice: what it names of `main` is
+//! listed first, since that decides what its names mean.
 #![tactic(auto)]
 
 mod captures;
@@ -21,7 +22,7 @@ mod expressions;
 mod found;
 mod functions;
 mod laws;
-mod naming;
+mod meanings;
 mod parts;
 mod scopes;
 mod sizes;
@@ -31,5 +32,5 @@ mod uses;
 pub use check_error::CheckError;
 pub use checked::Checked;
 pub use checker::check;
-pub use laws::{each_name_is_known, marks_have_places, names_in_order, rules_of_used_names};
+pub use laws::{marks_have_places, names_in_order};
 pub use os_ast::{Resolved, What};

@@ -1,8 +1,10 @@
 ghost use Rattle.std.specs.Prelude.{◌≡◌, ◌≤◌, OnOk, length, option_map};
-ghost use Rattle.os_ast.specs.Notes.Clauses.{Item, Private, again, item_name};
+ghost use Rattle.os_ast.specs.Parts.{Item, Private, item_name, is_in};
+ghost use Rattle.os_ast.specs.Rules.{when};
 ghost use Rattle.os_ast.specs.Views.{clause_item_tree, join_tree, target_tree};
 ghost use Rattle.window_check.specs.Codes.{least_code};
 ghost use Rattle.window_check.specs.Parts.{none_listed, after_names, after_part};
+ghost use Rattle.window_check.specs.Room.{room_end};
 
 use crate::captures::Captured;
 use crate::codes::{self, when};
@@ -39,15 +41,11 @@ pub(crate) struct Listed {
 }
 
 impl Model for Listed {
-    ghost use Rattle.std.specs.Prelude.{All};
     ghost use Rattle.window_check.specs.Parts.{ListedParts};
-    ghost use Rattle.window_check.specs.Room.{IsSmall};
 
     ghost Value = { ListedParts };
 
     ghost view = { λ l. record { names = l.names.keys; items = l.items; slots = l.captured } };
-
-    ghost invariant = { λ l. All (λ i. IsSmall i.entity) l.items };
 }
 
 impl Listed {
@@ -64,7 +62,7 @@ impl Listed {
 
     /// The code of a name that is listed already.
     pub(crate) fn again(&self, name: Name) -> Option<u8>
-        ensures { result ≡ least_code (again self.now.names name) }
+        ensures { result ≡ least_code (when (is_in name.id self.now.names) 21) }
     {
         when(self.names.contains(&name.id), codes::LISTED_TWICE)
     }
@@ -76,7 +74,7 @@ impl Listed {
         direction: Direction,
         item: &ClauseItem,
     ) -> Result<(), Memory>
-        requires { length self.old.items ≤ 262144 }
+        requires { length self.old.items ≤ room_end }
         ensures { OnOk result (self.new ≡ after_part scopes.now self.old (Item direction (clause_item_tree item.now))) }
     {
         let id = item_name(item).id;
@@ -94,26 +92,12 @@ impl Listed {
         ensures { OnOk result (self.new ≡ after_part scopes.now self.old (Private name)) }
     {
         self.names.insert(name.id)?;
-        match scopes.entity(name.id) {
-            Some(Entity::Control(slot)) => self.captured.insert(slot),
-            Some(Entity::InputLength) => self.captured.insert(0),
-            _ => Ok(()),
-        }
+        self.captured.add(scopes.entity(name.id))
     }
 
-    /// Declares the names of the items.
-    pub(crate) fn declare(&self, scopes: &mut Scopes) -> Result<(), Memory>
-        ensures { OnOk result (scopes.new ≡ after_names scopes.old self.now.items) }
-    {
-        for item in self.items.as_slice() {
-            scopes.declare(item.id, item.entity)?;
-        }
-        Ok(())
-    }
-
-    /// The number of items, and the captured scalars that `firstprivate` gave.
-    pub(crate) fn into_parts(self) -> (usize, Captured)
-        ensures items { result.0 ≡ length self.items }
+    /// The items, and the captured scalars that `firstprivate` gave.
+    pub(crate) fn into_parts(self) -> (List<ItemName>, Captured)
+        ensures items { result.0 ≡ self.items }
         ensures captured { result.1 ≡ self.slots }
     {
         let Listed {
@@ -121,6 +105,16 @@ impl Listed {
             items,
             captured,
         } = self;
-        (items.len(), captured)
+        (items, captured)
     }
+}
+
+/// Declares the names of items.
+pub(crate) fn declare_items(scopes: &mut Scopes, items: &List<ItemName>) -> Result<(), Memory>
+    ensures { OnOk result (scopes.new ≡ after_names scopes.old items.now) }
+{
+    for item in items.as_slice() {
+        scopes.declare(item.id, item.entity)?;
+    }
+    Ok(())
 }

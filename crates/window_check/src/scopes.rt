@@ -1,20 +1,26 @@
-ghost use Rattle.std.specs.Prelude.{◌≡◌, ◌+◌, ◌<◌, ◌≤◌, ◌^◌, OnOk, IfSome};
-ghost use Rattle.os_ast.specs.Limits.{size_limit};
+ghost use Rattle.std.specs.Prelude.{◌≡◌, ◌+◌, ◌≤◌, OnOk, length};
+ghost use Rattle.os_ast.specs.Meanings.{meaning_in};
 ghost use Rattle.os_ast.specs.Names.{Scope, lookup, entity_of, is_declared, declare, enter, in_loop, in_unit};
-ghost use Rattle.os_ast.specs.Notes.Declarators.{form_entity, form_codes, taken, scalar_entity, counted, with_array, with_streams};
+ghost use Rattle.os_ast.specs.Notes.Clauses.{in_task};
+ghost use Rattle.os_ast.specs.Notes.Declarators.{form_entity, taken, scalar_entity, with_array, with_streams};
 ghost use Rattle.os_ast.specs.Notes.Programs.{file, round_body};
+ghost use Rattle.os_ast.specs.Rules.{when};
 ghost use Rattle.os_ast.specs.declared.names.Form.TheVariants as form_of;
 ghost use Rattle.os_ast.specs.declared.names.Owner.TheVariants as owners;
 ghost use Rattle.window_check.specs.Codes.{least_code};
-ghost use Rattle.window_check.specs.Room.{HasRoom, FormFits, IsSmall, slots_end};
-ghost use Rattle.window_check.specs.Scopes.{outer_of, around_of, returned, ended, with_function};
+ghost use Rattle.window_check.specs.Room.{HasRoom, form_weight, room_end};
+ghost use Rattle.window_check.specs.Sizes.{passes_limit};
+ghost use Rattle.window_check.specs.Scopes.{outer_of, around_of, returned, ended, with_function, with_totals};
 
+use crate::captures::Slots;
 use crate::codes::{self, when};
 use crate::declared::Declared;
-use os_ast::{Entity, Entry, Form, Owner};
+use crate::meanings::meaning;
+use os_ast::{Entity, Entry, Form, Owner, What};
 use os_io::Memory;
 use std::alloc::Global;
 use std::marker::Model;
+use std::mem;
 
 /// The number of the name `main`.
 pub(crate) const MAIN: u32 = 8;
@@ -39,6 +45,7 @@ pub(crate) struct Scopes {
     depth: u32,
     owner: Owner,
     in_loop: bool,
+    captured: Slots,
     slots: u32,
     elements: u32,
     arrays: u32,
@@ -47,9 +54,7 @@ pub(crate) struct Scopes {
 }
 
 impl Model for Scopes {
-    ghost use Rattle.std.specs.Prelude.{All};
     ghost use Rattle.os_ast.specs.Names.{Scope};
-    ghost use Rattle.window_check.specs.Room.{IsSmall};
 
     ghost Value = { Scope };
 
@@ -58,14 +63,13 @@ impl Model for Scopes {
       depth = s.depth;
       owner = s.owner;
       loop = s.in_loop;
+      captured = s.captured;
       slots = s.slots;
       elements = s.elements;
       arrays = s.arrays;
       streams = s.streams;
       functions = s.functions;
     } };
-
-    ghost invariant = { λ s. All (λ e. IsSmall e.entity) s.declared };
 }
 
 /// What leaving a scope restores.
@@ -77,12 +81,21 @@ pub(crate) struct Outer {
 }
 
 /// What the end of a function's or a task's body restores.
-#[derive(Clone, Copy)]
+#[derive(Drop)]
 pub(crate) struct Around {
     outer: Outer,
     owner: Owner,
+    captured: Slots,
     slots: u32,
     elements: u32,
+}
+
+/// What a walk over a body takes of the whole program.
+#[derive(Clone, Copy)]
+pub(crate) struct Totals {
+    arrays: u32,
+    streams: u32,
+    functions: u32,
 }
 
 impl Scopes {
@@ -95,6 +108,7 @@ impl Scopes {
             depth: 0,
             owner: Owner::OfFunction,
             in_loop: false,
+            captured: Slots::none(alloc),
             slots: 0,
             elements: 0,
             arrays: 0,
@@ -124,7 +138,7 @@ impl Scopes {
         self.depth
     }
 
-    /// How many streams the program declared so far; one more than the limit stands for all that is more.
+    /// How many streams the program declared so far.
     pub(crate) fn streams(&self) -> u32
         ensures { result ≡ self.now.streams }
     {
@@ -133,11 +147,20 @@ impl Scopes {
 
     /// What a name is declared as: the innermost declaration counts.
     pub(crate) fn entity(&self, id: u32) -> Option<Entity>
-        ensures entity { result ≡ entity_of (lookup self.now.entries id) }
-        ensures small { IfSome result IsSmall }
+        ensures { result ≡ entity_of (lookup self.now.entries id) }
     {
         let entry = self.declared.entry(id)?;
         Some(entry.entity)
+    }
+
+    /// What a name means here that is declared as this.
+    pub(crate) fn meaning(&self, entity: Entity) -> What
+        ensures { result ≡ meaning_in self.now.owner self.now.captured entity }
+    {
+        match self.owner {
+            Owner::OfTask => self.captured.meaning(entity),
+            Owner::OfMain | Owner::OfFunction => meaning(entity),
+        }
     }
 
     /// Whether a name is declared already in the innermost scope.
@@ -152,7 +175,6 @@ impl Scopes {
 
     /// One more declaration in the innermost scope.
     pub(crate) fn declare(&mut self, id: u32, entity: Entity) -> Result<(), Memory>
-        requires { IsSmall entity }
         ensures { OnOk result (self.new ≡ declare self.old id entity) }
     {
         self.declared.declare(Entry {
@@ -164,7 +186,7 @@ impl Scopes {
 
     /// A new innermost scope. The answer is what leaving it restores.
     pub(crate) fn enter(&mut self) -> Outer
-        requires { self.old.depth + 1 ≤ 262144 }
+        requires { self.old.depth + 1 ≤ room_end }
         ensures scope { self.new ≡ enter self.old }
         ensures outer { result ≡ outer_of self.old }
     {
@@ -203,10 +225,29 @@ impl Scopes {
         self.in_loop = before;
     }
 
-    /// The body of a function, a task or `main` begins, with a new scope. The answer is what its end restores.
-    pub(crate) fn begin(&mut self, owner: Owner) -> Around
-        requires { self.old.depth + 1 ≤ 262144 }
+    /// The body of a function or of `main` begins, with a new scope. The answer is what its end restores.
+    pub(crate) fn begin(&mut self, alloc: Global, owner: Owner) -> Around
+        requires { self.old.depth + 1 ≤ room_end }
         ensures scope { self.new ≡ enter (in_unit owner self.old) }
+        ensures around { result ≡ around_of self.old }
+    {
+        self.begin_with(owner, Slots::none(alloc), 0)
+    }
+
+    /// The body of a task begins, with a new scope: the scalars that it captures have its first slots.
+    pub(crate) fn begin_task(&mut self, captured: Slots) -> Around
+        requires depth { self.old.depth + 1 ≤ room_end }
+        requires few { length captured ≤ room_end }
+        ensures scope { self.new ≡ in_task self.old captured }
+        ensures around { result ≡ around_of self.old }
+    {
+        let slots = captured.len() as u32;
+        self.begin_with(Owner::OfTask, captured, slots)
+    }
+
+    fn begin_with(&mut self, owner: Owner, captured: Slots, slots: u32) -> Around
+        requires { self.old.depth + 1 ≤ room_end }
+        ensures scope { self.new ≡ enter (record (in_unit owner self.old) { captured = captured; slots = slots }) }
         ensures around { result ≡ around_of self.old }
     {
         let around = Around {
@@ -216,13 +257,14 @@ impl Scopes {
                 in_loop: self.in_loop,
             },
             owner: self.owner,
+            captured: mem::replace(&mut self.captured, captured),
             slots: self.slots,
             elements: self.elements,
         };
         self.depth += 1;
         self.owner = owner;
         self.in_loop = false;
-        self.slots = 0;
+        self.slots = slots;
         self.elements = 0;
         around
     }
@@ -231,17 +273,43 @@ impl Scopes {
     pub(crate) fn end(&mut self, around: Around)
         ensures { self.new ≡ ended around self.old }
     {
-        self.leave(around.outer);
-        self.owner = around.owner;
-        self.slots = around.slots;
-        self.elements = around.elements;
+        let Around {
+            outer,
+            owner,
+            captured,
+            slots,
+            elements,
+        } = around;
+        self.leave(outer);
+        self.owner = owner;
+        self.captured = captured;
+        self.slots = slots;
+        self.elements = elements;
+    }
+
+    /// What was taken of the program so far.
+    pub(crate) fn totals(&self) -> Totals
+        ensures { self.now ≡ with_totals result self.now }
+    {
+        Totals {
+            arrays: self.arrays,
+            streams: self.streams,
+            functions: self.functions,
+        }
+    }
+
+    /// So much was taken of the program, and no more.
+    pub(crate) fn set_totals(&mut self, totals: Totals)
+        ensures { self.new ≡ with_totals totals self.old }
+    {
+        self.arrays = totals.arrays;
+        self.streams = totals.streams;
+        self.functions = totals.functions;
     }
 
     /// What a scalar is that is declared next.
     pub(crate) fn scalar(&self) -> Entity
-        requires { self.now.slots < slots_end }
-        ensures entity { result ≡ scalar_entity self.now.owner self.now.slots }
-        ensures small { IsSmall result }
+        ensures { result ≡ scalar_entity self.now.owner self.now.slots }
     {
         match self.owner {
             Owner::OfMain => Entity::Control(self.slots),
@@ -251,9 +319,8 @@ impl Scopes {
 
     /// What a name is that is declared next in this form.
     pub(crate) fn form_entity(&self, form: Form) -> Entity
-        requires room { HasRoom self.now 1 }
-        ensures entity { result ≡ form_entity self.now form }
-        ensures small { IsSmall result }
+        requires { HasRoom self.now (form_weight form) }
+        ensures { result ≡ form_entity self.now form }
     {
         match form {
             Form::Scalar => self.scalar(),
@@ -266,75 +333,53 @@ impl Scopes {
 
     /// Takes what a declarator of this form takes.
     pub(crate) fn take(&mut self, form: Form)
-        requires room { HasRoom self.old 1 }
-        requires size { FormFits form }
+        requires { HasRoom self.old (form_weight form) }
         ensures { self.new ≡ taken self.old form }
     {
         match form {
             Form::Scalar | Form::Window => self.slots += 1,
             Form::Array(size) => self.take_array(size.unwrap_or(0)),
-            Form::Stream => self.take_streams(1),
-            Form::Streams(size) => self.take_streams(size.unwrap_or(0)),
+            Form::Stream => self.streams += 1,
+            Form::Streams(size) => self.streams += size.unwrap_or(0),
         }
     }
 
     fn take_array(&mut self, size: u32)
-        requires room { HasRoom self.old 1 }
-        requires size { size ≤ size_limit }
+        requires { HasRoom self.old size }
         ensures { self.new ≡ with_array self.old size }
     {
-        if self.elements + size <= ELEMENTS_LIMIT {
-            self.slots += size;
-        }
-        self.elements = counted(ELEMENTS_LIMIT, self.elements + size);
-        self.arrays = counted(ARRAYS_LIMIT, self.arrays + size);
+        self.slots += size;
+        self.elements += size;
+        self.arrays += size;
     }
 
-    fn take_streams(&mut self, count: u32)
-        requires room { HasRoom self.old 1 }
-        requires count { count ≤ size_limit }
-        ensures { self.new ≡ with_streams self.old count }
-    {
-        self.streams = counted(STREAMS_LIMIT, self.streams + count);
-    }
-
-    /// The code of a declarator of this form whose size is none, or passes a limit with what was taken before it.
+    /// The code of a declarator of this form, whose size is none, or passes a limit with what was taken before it.
     pub(crate) fn code_with(&self, form: Form) -> Option<u8>
-        requires room { HasRoom self.now 1 }
-        requires size { FormFits form }
-        ensures { result ≡ least_code (form_codes (taken self.now form) form) }
+        requires { HasRoom self.now (form_weight form) }
+        ensures { result ≡ least_code (when (passes_limit (taken self.now form) form) 15) }
+    {
+        when(self.passes_limit(form), codes::SIZE)
+    }
+
+    fn passes_limit(&self, form: Form) -> bool
+        requires { HasRoom self.now (form_weight form) }
+        ensures { result ≡ passes_limit (taken self.now form) form }
     {
         match form {
-            Form::Scalar | Form::Window => None,
-            Form::Array(size) => self.array_code(size),
-            Form::Stream => when(STREAMS_LIMIT <= self.streams, codes::SIZE),
-            Form::Streams(size) => self.streams_code(size),
+            Form::Scalar | Form::Window => false,
+            Form::Array(None) | Form::Streams(None) => true,
+            Form::Array(Some(size)) => self.arrays_pass(size),
+            Form::Stream => STREAMS_LIMIT < self.streams + 1,
+            Form::Streams(Some(count)) => STREAMS_LIMIT < self.streams + count,
         }
     }
 
-    fn array_code(&self, size: Option<u32>) -> Option<u8>
-        requires room { HasRoom self.now 1 }
-        requires size { FormFits (form_of.Array size) }
-        ensures { result ≡ least_code (form_codes (taken self.now (form_of.Array size)) (form_of.Array size)) }
+    /// With a local array of this size the arrays of the function or task, or those of the program, pass their limit.
+    fn arrays_pass(&self, size: u32) -> bool
+        requires { HasRoom self.now size }
+        ensures { result ≡ passes_limit (taken self.now (form_of.Array (Some size))) (form_of.Array (Some size)) }
     {
-        let Some(size) = size else {
-            return Some(codes::SIZE);
-        };
-        when(
-            ELEMENTS_LIMIT < self.elements + size || ARRAYS_LIMIT < self.arrays + size,
-            codes::SIZE,
-        )
-    }
-
-    fn streams_code(&self, size: Option<u32>) -> Option<u8>
-        requires room { HasRoom self.now 1 }
-        requires size { FormFits (form_of.Streams size) }
-        ensures { result ≡ least_code (form_codes (taken self.now (form_of.Streams size)) (form_of.Streams size)) }
-    {
-        let Some(size) = size else {
-            return Some(codes::SIZE);
-        };
-        when(STREAMS_LIMIT < self.streams + size, codes::SIZE)
+        ELEMENTS_LIMIT < self.elements + size || ARRAYS_LIMIT < self.arrays + size
     }
 
     /// What the scope round a function's body declares: that of `main` has `osin`, `osout` and `osin_len`.
@@ -359,19 +404,11 @@ impl Scopes {
 
     /// One more function of the program, with so many parameters.
     pub(crate) fn declare_function(&mut self, id: u32, params: u32) -> Result<(), Memory>
-        requires { self.old.functions + 1 ≤ 262144 }
+        requires { self.old.functions + 1 ≤ room_end }
         ensures { OnOk result (self.new ≡ with_function self.old id params) }
     {
         let number = self.functions;
         self.functions += 1;
         self.declare(id, Entity::Function(number, params))
     }
-}
-
-/// A count of what has a limit: one past the limit stands for all that is more.
-fn counted(limit: u32, count: u32) -> u32
-    requires { limit < 2 ^ 31 }
-    ensures { result ≡ counted limit count }
-{
-    count.min(limit + 1)
 }

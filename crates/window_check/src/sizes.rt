@@ -1,14 +1,14 @@
 //! The sizes of local arrays and of stream arrays.
 
-ghost use Rattle.std.specs.Prelude.{◌≡◌, ◌≤◌, OnOk, IfSome};
-ghost use Rattle.os_ast.specs.Limits.{size_limit};
-ghost use Rattle.os_ast.specs.Notes.Declarators.{within_limit, constant_of, bare_name, size_value, size_of, size_notes};
+ghost use Rattle.std.specs.Prelude.{◌≡◌, OnOk};
+ghost use Rattle.os_ast.specs.Notes.Declarators.{within_limit, constant_of, size_value, size_of, size_notes};
 ghost use Rattle.os_ast.specs.Views.{expr_tree};
 ghost use Rattle.window_check.specs.Findings.{noted};
+ghost use Rattle.window_check.specs.Sizes.{bare_name};
 
 use crate::found::Found;
 use crate::scopes::Scopes;
-use os_ast::{Entity, Expr, Name, Target, What};
+use os_ast::{Entity, Expr, Name, Target};
 use os_io::Memory;
 
 /// The most elements that a local array has, and the most streams of a stream array.
@@ -59,22 +59,19 @@ fn size_value(scopes: &Scopes, size: &Expr) -> Option<i64>
 
 /// A size, where it is a number or the name of a constant and from 1 to the limit.
 pub(crate) fn size_of(scopes: &Scopes, size: &Expr) -> Option<u32>
-    ensures size { result ≡ size_of scopes.now (expr_tree size.now) }
-    ensures within { IfSome result (λ n. n ≤ size_limit) }
+    ensures { result ≡ size_of scopes.now (expr_tree size.now) }
 {
     let value = size_value(scopes, size)?;
     within_limit(value)
 }
 
-/// The name of a constant as size; a size that is none is judged by its rule alone.
+/// The name that a size is; any other expression there isn't looked into.
+#[tactic(auto, using(crate::proofs::Used::sizes))]
 pub(crate) fn size_name(scopes: &Scopes, found: &mut Found, size: &Expr) -> Result<(), Memory>
     ensures { OnOk result (found.new ≡ noted found.old (size_notes scopes.now (expr_tree size.now))) }
 {
     let Some(name) = bare_name(size) else {
         return Ok(());
     };
-    match constant_of(scopes.entity(name.id)) {
-        Some(value) => found.name(name.mark, What::Constant(value)),
-        None => Ok(()),
-    }
+    found.constant(name.mark, constant_of(scopes.entity(name.id)))
 }

@@ -1,37 +1,34 @@
 //! Statements and declarations.
 
-ghost use Rattle.std.specs.Prelude.{◌≡◌, ◌+◌, true, false, OnOk, length, map, option_map};
-ghost use Rattle.os_ast.specs.Names.{behind, in_loop};
-ghost use Rattle.os_ast.specs.Notes.Clauses.{parts, pragma_codes, return_codes, task_codes};
+ghost use Rattle.std.specs.Prelude.{◌≡◌, ◌+◌, ◌≤◌, [], OnOk, IfOk, length, map, option_map};
+ghost use Rattle.os_ast.specs.Names.{after_unit, behind, in_loop};
 ghost use Rattle.os_ast.specs.Notes.Statements.{after_stmt, after_stmts, stmt_notes, stmts_notes};
+ghost use Rattle.os_ast.specs.Parts.{parts};
+ghost use Rattle.os_ast.specs.Rules.{is_main_body, is_task_body, when};
 ghost use Rattle.os_ast.specs.Trees as tree;
 ghost use Rattle.os_ast.specs.Views.{expr_tree, target_tree, change_tree, clause_tree, start_tree, stmt_tree, stmts_tree};
+ghost use Rattle.std.specs.Prelude.{not};
 ghost use Rattle.window_check.specs.Codes.{least_code};
-ghost use Rattle.window_check.specs.Findings.{noted, is_task};
-ghost use Rattle.window_check.specs.Room.{HasRoom, stmt_weight, stmts_weight, start_weight};
-ghost use Rattle.window_check.specs.Statements.{else_tree, noted_body};
+ghost use Rattle.window_check.specs.Findings.{noted};
+ghost use Rattle.window_check.specs.Room.{HasRoom, stmt_weight, stmts_weight, start_weight, room_end};
+ghost use Rattle.window_check.specs.Statements.{else_tree, in_named_task, listed_in};
 ghost use Rattle.os_ast.specs.declared.names.Owner.TheVariants as owners;
 
+use crate::captures::{Captured, Slots};
 use crate::clauses::clauses;
 use crate::codes::{self, when};
 use crate::declarators::{declarators, start};
 use crate::expressions::{called, change, expr, place, step, value};
 use crate::found::Found;
-use crate::parts::Listed;
+use crate::parts::{ItemName, declare_items};
 use crate::scopes::Scopes;
-use crate::uses::Role;
-use os_ast::{Direction, Expr, Head, Owner, Stmt, TaskSite, TickSite};
+use os_ast::{Direction, Head, Owner, Role, Stmt, TaskSite, TickSite};
 use os_io::{List, Memory};
 use std::alloc::Global;
 
-/// The most items of a task.
-const ITEMS_LIMIT: usize = 8;
-/// The most scalars that a task captures.
-const CAPTURED_LIMIT: usize = 64;
-
 /// A pragma stands outside `main` or inside a task.
 fn pragma_code(owner: Owner) -> Option<u8>
-    ensures { result ≡ least_code (pragma_codes owner) }
+    ensures { result ≡ least_code (when (not (is_main_body owner)) 17) }
 {
     match owner {
         Owner::OfMain => None,
@@ -41,7 +38,7 @@ fn pragma_code(owner: Owner) -> Option<u8>
 
 /// `return` stands in a task.
 fn return_code(owner: Owner) -> Option<u8>
-    ensures { result ≡ least_code (return_codes owner) }
+    ensures { result ≡ least_code (when (is_task_body owner) 18) }
 {
     match owner {
         Owner::OfTask => Some(codes::RETURN_IN_TASK),
@@ -49,21 +46,10 @@ fn return_code(owner: Owner) -> Option<u8>
     }
 }
 
-/// A task has more items than it may have, or captures more scalars.
-fn task_code(items: usize, scalars: usize) -> Option<u8>
-    ensures { result ≡ least_code (task_codes items scalars) }
-{
-    when(
-        ITEMS_LIMIT < items || CAPTURED_LIMIT < scalars,
-        codes::TASK_LIMIT,
-    )
-}
-
 /// A statement or a declaration.
 #[cycle(stmts)]
 fn stmt(alloc: Global, scopes: &mut Scopes, found: &mut Found, stmt: &Stmt) -> Result<(), Memory>
-    requires room { HasRoom scopes.old (stmt_weight (stmt_tree stmt.now)) }
-    requires task { found.old.in_task ≡ is_task scopes.old.owner }
+    requires { HasRoom scopes.old (stmt_weight (stmt_tree stmt.now)) }
     ensures scopes { OnOk result (scopes.new ≡ after_stmt scopes.old (stmt_tree stmt.now)) }
     ensures found { OnOk result (found.new ≡ noted found.old (stmt_notes scopes.old (stmt_tree stmt.now))) }
 {
@@ -108,8 +94,7 @@ pub(crate) fn stmts(
     found: &mut Found,
     stmts: &List<Stmt>,
 ) -> Result<(), Memory>
-    requires room { HasRoom scopes.old (stmts_weight (stmts_tree stmts.now)) }
-    requires task { found.old.in_task ≡ is_task scopes.old.owner }
+    requires { HasRoom scopes.old (stmts_weight (stmts_tree stmts.now)) }
     ensures scopes { OnOk result (scopes.new ≡ after_stmts scopes.old (stmts_tree stmts.now)) }
     ensures found { OnOk result (found.new ≡ noted found.old (stmts_notes scopes.old (stmts_tree stmts.now))) }
 {
@@ -127,8 +112,7 @@ fn block(
     found: &mut Found,
     list: &List<Stmt>,
 ) -> Result<(), Memory>
-    requires room { HasRoom scopes.old (stmt_weight (tree.Block (stmts_tree list.now))) }
-    requires task { found.old.in_task ≡ is_task scopes.old.owner }
+    requires { HasRoom scopes.old (stmt_weight (tree.Block (stmts_tree list.now))) }
     ensures scopes { OnOk result (scopes.new ≡ after_stmt scopes.old (tree.Block (stmts_tree list.now))) }
     ensures found { OnOk result (found.new ≡ noted found.old (stmt_notes scopes.old (tree.Block (stmts_tree list.now)))) }
 {
@@ -146,8 +130,7 @@ fn otherwise(
     found: &mut Found,
     second: &Option<Box<Stmt>>,
 ) -> Result<(), Memory>
-    requires room { HasRoom scopes.old (stmt_weight (else_tree second.now)) }
-    requires task { found.old.in_task ≡ is_task scopes.old.owner }
+    requires { HasRoom scopes.old (stmt_weight (else_tree second.now)) }
     ensures scopes { OnOk result (scopes.new ≡ after_stmt scopes.old (else_tree second.now)) }
     ensures found { OnOk result (found.new ≡ noted found.old (stmt_notes scopes.old (else_tree second.now))) }
 {
@@ -165,8 +148,7 @@ fn repeated(
     found: &mut Found,
     body: &Stmt,
 ) -> Result<(), Memory>
-    requires room { HasRoom scopes.old (stmt_weight (stmt_tree body.now)) }
-    requires task { found.old.in_task ≡ is_task scopes.old.owner }
+    requires { HasRoom scopes.old (stmt_weight (stmt_tree body.now)) }
     ensures scopes { OnOk result (scopes.new ≡ behind scopes.old (after_stmt (in_loop scopes.old) (stmt_tree body.now))) }
     ensures found { OnOk result (found.new ≡ noted found.old (stmt_notes (in_loop scopes.old) (stmt_tree body.now))) }
 {
@@ -185,8 +167,7 @@ fn for_loop(
     head: &Head,
     body: &Stmt,
 ) -> Result<(), Memory>
-    requires room { HasRoom scopes.old (1 + start_weight (start_tree head.now.start) + stmt_weight (stmt_tree body.now)) }
-    requires task { found.old.in_task ≡ is_task scopes.old.owner }
+    requires { HasRoom scopes.old (1 + start_weight (start_tree head.now.start) + stmt_weight (stmt_tree body.now)) }
     ensures scopes { OnOk result (scopes.new ≡ after_stmt scopes.old (tree.For (start_tree head.now.start) (option_map expr_tree head.now.test) (option_map change_tree head.now.step) (stmt_tree body.now))) }
     ensures found { OnOk result (found.new ≡ noted found.old (stmt_notes scopes.old (tree.For (start_tree head.now.start) (option_map expr_tree head.now.test) (option_map change_tree head.now.step) (stmt_tree body.now)))) }
 {
@@ -201,7 +182,7 @@ fn for_loop(
 }
 
 /// A tick.
-#[tactic(auto, using(crate::proofs::Steps::noting))]
+#[tactic(auto, using(crate::proofs::Blamed::blamed_notes))]
 fn tick(scopes: &Scopes, found: &mut Found, site: &TickSite) -> Result<(), Memory>
     ensures { OnOk result (found.new ≡ noted found.old (stmt_notes scopes.now (tree.Tick site.now.mark (target_tree site.now.stream) site.now.arrow (expr_tree site.now.amount)))) }
 {
@@ -218,85 +199,78 @@ fn task(
     found: &mut Found,
     site: &TaskSite,
 ) -> Result<(), Memory>
-    requires room { HasRoom scopes.old (1 + length (parts (map clause_tree site.now.clauses)) + stmt_weight (stmt_tree site.now.body)) }
-    requires task { found.old.in_task ≡ is_task scopes.old.owner }
+    requires { HasRoom scopes.old (1 + length (parts (map clause_tree site.now.clauses)) + stmt_weight (stmt_tree site.now.body)) }
     ensures scopes { OnOk result (scopes.new ≡ after_stmt scopes.old (tree.Task site.now.mark (map clause_tree site.now.clauses) (stmt_tree site.now.body))) }
     ensures found { OnOk result (found.new ≡ noted found.old (stmt_notes scopes.old (tree.Task site.now.mark (map clause_tree site.now.clauses) (stmt_tree site.now.body)))) }
 {
-    let owner = scopes.owner();
-    found.blame(site.mark, pragma_code(owner));
-    let listed = clauses(alloc, scopes, found, &site.clauses)?;
-    let around = scopes.begin(Owner::OfTask);
-    listed.declare(scopes)?;
-    body(alloc, scopes, found, owner, site, listed)?;
-    scopes.end(around);
-    Ok(())
+    let (items, privates) = clauses(alloc, scopes, found, &site.clauses)?.into_parts();
+    let captured = captured(alloc, scopes, &site.body, &items, privates)?;
+    found.task(alloc, scopes.owner(), site.mark, items.len(), &captured)?;
+    let slots = captured.in_order(alloc)?;
+    body(alloc, scopes, found, &site.body, &items, Slots::new(slots))
 }
 
-/// The body of a task that stands in a body of this owner, where its clauses list this.
+/// What a task captures with this body, these items and these `firstprivate` scalars: none, where it doesn't stand in
+/// `main`.
+#[cycle(stmts)]
+fn captured(
+    alloc: Global,
+    scopes: &mut Scopes,
+    body: &Stmt,
+    items: &List<ItemName>,
+    privates: Captured,
+) -> Result<Captured, Memory>
+    requires room { HasRoom (in_named_task scopes.old [] items.now) (stmt_weight (stmt_tree body.now)) }
+    requires depth { scopes.old.depth + 1 ≤ room_end }
+    ensures scopes { OnOk result (scopes.new ≡ scopes.old) }
+    ensures captured { IfOk result (λ slots. slots ≡ listed_in scopes.old.owner scopes.old privates items.now (stmt_tree body.now)) }
+{
+    match scopes.owner() {
+        Owner::OfMain => listed(alloc, scopes, body, items, privates),
+        Owner::OfFunction | Owner::OfTask => Ok(Captured::new(alloc)),
+    }
+}
+
+/// The scalars of `main` that a body names, with others: a walk over the body lists them, and leaves no other trace.
+#[cycle(stmts)]
+fn listed(
+    alloc: Global,
+    scopes: &mut Scopes,
+    stmt: &Stmt,
+    items: &List<ItemName>,
+    others: Captured,
+) -> Result<Captured, Memory>
+    requires room { HasRoom (in_named_task scopes.old [] items.now) (stmt_weight (stmt_tree stmt.now)) }
+    requires depth { scopes.old.depth + 1 ≤ room_end }
+    ensures scopes { OnOk result (scopes.new ≡ scopes.old) }
+    ensures captured { IfOk result (λ slots. slots ≡ listed_in owners.OfMain scopes.old others items.now (stmt_tree stmt.now)) }
+{
+    let totals = scopes.totals();
+    let mut found = Found::Listing(others);
+    body(alloc, scopes, &mut found, stmt, items, Slots::none(alloc))?;
+    scopes.set_totals(totals);
+    Ok(found.into_listed(alloc))
+}
+
+/// The body of a task, which captures these scalars.
 #[cycle(stmts)]
 fn body(
     alloc: Global,
     scopes: &mut Scopes,
     found: &mut Found,
-    owner: Owner,
-    site: &TaskSite,
-    listed: Listed,
+    body: &Stmt,
+    items: &List<ItemName>,
+    captured: Slots,
 ) -> Result<(), Memory>
-    requires room { HasRoom scopes.old (stmt_weight (stmt_tree site.now.body)) }
-    requires inside { scopes.old.owner ≡ owners.OfTask }
-    requires task { found.old.in_task ≡ is_task owner }
-    ensures scopes { OnOk result (scopes.new ≡ after_stmt scopes.old (stmt_tree site.now.body)) }
-    ensures found { OnOk result (found.new ≡ noted_body found.old owner site.now.mark listed (stmt_notes scopes.old (stmt_tree site.now.body))) }
+    requires room { HasRoom (in_named_task scopes.old captured items.now) (stmt_weight (stmt_tree body.now)) }
+    requires depth { scopes.old.depth + 1 ≤ room_end }
+    requires few { length captured ≤ room_end }
+    ensures scopes { OnOk result (scopes.new ≡ after_unit scopes.old (after_stmt (in_named_task scopes.old captured items.now) (stmt_tree body.now))) }
+    ensures found { OnOk result (found.new ≡ noted found.old (stmt_notes (in_named_task scopes.old captured items.now) (stmt_tree body.now))) }
 {
-    match owner {
-        Owner::OfTask => inner_body(alloc, scopes, found, site, listed),
-        Owner::OfMain | Owner::OfFunction => outer_body(alloc, scopes, found, site, listed),
-    }
-}
-
-/// The body of a task in another task: what its names mean is known where the outer one ends.
-#[cycle(stmts)]
-fn inner_body(
-    alloc: Global,
-    scopes: &mut Scopes,
-    found: &mut Found,
-    site: &TaskSite,
-    listed: Listed,
-) -> Result<(), Memory>
-    requires room { HasRoom scopes.old (stmt_weight (stmt_tree site.now.body)) }
-    requires inside { scopes.old.owner ≡ owners.OfTask }
-    requires task { found.old.in_task ≡ true }
-    ensures scopes { OnOk result (scopes.new ≡ after_stmt scopes.old (stmt_tree site.now.body)) }
-    ensures found { OnOk result (found.new ≡ noted_body found.old owners.OfTask site.now.mark listed (stmt_notes scopes.old (stmt_tree site.now.body))) }
-{
-    let first = found.waiting();
-    stmt(alloc, scopes, found, &site.body)?;
-    let (items, mut captured) = listed.into_parts();
-    found.captured_from(first, &mut captured)?;
-    found.blame(site.mark, task_code(items, captured.len()));
+    let around = scopes.begin_task(captured);
+    declare_items(scopes, items)?;
+    stmt(alloc, scopes, found, body)?;
+    scopes.end(around);
     Ok(())
-}
-
-/// The body of a task that stands in no other one.
-#[cycle(stmts)]
-fn outer_body(
-    alloc: Global,
-    scopes: &mut Scopes,
-    found: &mut Found,
-    site: &TaskSite,
-    listed: Listed,
-) -> Result<(), Memory>
-    requires room { HasRoom scopes.old (stmt_weight (stmt_tree site.now.body)) }
-    requires inside { scopes.old.owner ≡ owners.OfTask }
-    requires task { found.old.in_task ≡ false }
-    ensures scopes { OnOk result (scopes.new ≡ after_stmt scopes.old (stmt_tree site.now.body)) }
-    ensures found { OnOk result (found.new ≡ noted_body found.old owners.OfMain site.now.mark listed (stmt_notes scopes.old (stmt_tree site.now.body))) }
-{
-    found.begin_task(alloc);
-    stmt(alloc, scopes, found, &site.body)?;
-    let (items, mut captured) = listed.into_parts();
-    found.captured_from(0, &mut captured)?;
-    found.blame(site.mark, task_code(items, captured.len()));
-    found.end_task(alloc, &captured)
 }

@@ -1,38 +1,17 @@
 //! Names that are used: which rules they violate, and what they mean.
 
 ghost use Rattle.std.specs.Prelude.{◌≡◌, OnOk};
-ghost use Rattle.os_ast.specs.Uses.{no_index, one_index, only_read, value_codes, target_codes, call_codes, end_codes, stream_codes, item_codes, private_codes, use_notes};
-ghost use Rattle.window_check.specs.Codes.{least_code, role_codes, use_codes};
-ghost use Rattle.window_check.specs.Findings.{noted};
+ghost use Rattle.os_ast.specs.Names.{lookup, entity_of};
+ghost use Rattle.os_ast.specs.Notes.Kinds.{Used};
+ghost use Rattle.window_check.specs.Codes.{least_code};
+ghost use Rattle.window_check.specs.Findings.{note, judged};
+ghost use Rattle.window_check.specs.Uses.{no_index, one_index, only_read, value_codes, target_codes, call_codes, end_codes, stream_codes, item_codes, private_codes, role_codes, use_codes};
 
 use crate::codes::{self, lesser, when};
-use crate::found::Found;
+use crate::found::{Found, Judged};
 use crate::scopes::{MAIN, Scopes};
-use os_ast::{Direction, Entity, Name, Shape};
+use os_ast::{Direction, Entity, Name, Role, Shape, Use};
 use os_io::Memory;
-
-/// Where a name stands, with an index or without.
-#[derive(Clone, Copy, Debug, PartialEq, Eq)]
-pub(crate) enum Role {
-    /// In an expression.
-    Value,
-    /// As the target of a change.
-    Changed,
-    /// As the stream of an item or of a tick.
-    Flow(Direction),
-}
-
-/// How a name is used.
-#[derive(Clone, Copy, Debug, PartialEq, Eq)]
-pub(crate) enum Use {
-    Place(Role, Shape),
-    /// As a function, with so many arguments.
-    Called(usize),
-    /// Behind the `>>` or `<<` of an item, with a burst or without.
-    Joined(Shape),
-    /// In a `firstprivate` clause.
-    Private,
-}
 
 /// Something that isn't an array stands with an index.
 fn no_index(shape: Shape) -> Option<u8>
@@ -179,17 +158,29 @@ fn use_code(id: u32, usage: Use, entity: Entity) -> Option<u8>
 }
 
 /// A name is used.
+#[tactic(auto, using(crate::proofs::Used::uses))]
 pub(crate) fn used(scopes: &Scopes, found: &mut Found, name: Name, usage: Use) -> Result<(), Memory>
-    ensures { OnOk result (found.new ≡ noted found.old (use_notes scopes.now name (use_codes name.id usage))) }
+    ensures { OnOk result (found.new ≡ note found.old (Used scopes.now name usage)) }
+{
+    match found {
+        Found::Listing(captured) => captured.add(scopes.entity(name.id)),
+        Found::Judging(judged) => judge(scopes, judged, name, usage),
+    }
+}
+
+/// The rules and the meaning of a used name.
+#[tactic(auto, using(crate::proofs::Used::uses))]
+fn judge(scopes: &Scopes, all: &mut Judged, name: Name, usage: Use) -> Result<(), Memory>
+    ensures { OnOk result (all.new ≡ judged all.old (Used scopes.now name usage)) }
 {
     match scopes.entity(name.id) {
         None => {
-            found.blame(name.mark, Some(codes::UNKNOWN));
+            all.blame(name.mark, Some(codes::UNKNOWN));
             Ok(())
         }
         Some(entity) => {
-            found.blame(name.mark, use_code(name.id, usage, entity));
-            found.used(scopes.owner(), name.mark, entity)
+            all.blame(name.mark, use_code(name.id, usage, entity));
+            all.name(name.mark, scopes.meaning(entity))
         }
     }
 }

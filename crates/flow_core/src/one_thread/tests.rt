@@ -1,5 +1,6 @@
 ghost use Rattle.std.specs.Prelude.{◌≡◌, ◌+◌, ◌<◌, ◌==◌, [], ◌∷◌, ℕ, pos, false, IsTrue, IfOk, ⊤, if◌then◌else◌, length, slice_index_or};
 ghost use Rattle.flow_core.specs.declared.task_end.TaskEnd.TheVariants.{Done};
+ghost use Rattle.flow_core.specs.Outcome.{outcome_of};
 
 use super::*;
 use crate::board::list_of;
@@ -22,7 +23,7 @@ struct Table<'a> {
 impl<'a> Bodies for Table<'a> {
     type Scratch = ();
 
-    ghost outcome = { λ s f inputs. let rule = slice_index_or s.rules.now f (record { end = Done; copies = false }) in record { end = rule.end; outputs = if rule.copies then inputs else pos 41 ∷ [] } };
+    ghost outcome = { λ s f inputs. let rule = slice_index_or s.rules.now f (record { end = Done; copies = false }) in outcome_of rule.end (if rule.copies then inputs else pos 41 ∷ []) };
 
     ghost takes = { λ s f i o. (f < length s.rules.now) × IsTrue (if (slice_index_or s.rules.now f (record { end = Done; copies = false })).copies then i == o else o == 1) };
 

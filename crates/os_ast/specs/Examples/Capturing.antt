@@ -12,7 +12,7 @@ use Rattle.std.specs.Prelude.{List, false, [], ◌∷◌, None}
 use Rattle.os_ast.specs.Examples.{mark, named, variable, joined, block}
 use Rattle.os_ast.specs.Trees as tree
 use Rattle.os_ast.specs.declared.names.What.TheVariants as what
-use Rattle.os_ast.specs.Violations.{resolved}
+use Rattle.os_ast.specs.Meanings.{resolved}
 use Rattle.os_ast.specs.declared.names.Resolved.{Resolved}
 use Rattle.os_ast.specs.declared.expr.Binary.TheVariants as op
 use Rattle.os_ast.specs.declared.expr.Level.TheVariants as level

@@ -1,7 +1,7 @@
 -- What the names of the program with a window of three elements mean.
 use Rattle.std.specs.Prelude.{List, [], ◌∷◌}
 use Rattle.os_ast.specs.declared.names.What.TheVariants as what
-use Rattle.os_ast.specs.Violations.{resolved}
+use Rattle.os_ast.specs.Meanings.{resolved}
 use Rattle.os_ast.specs.declared.names.Resolved.{Resolved}
 
 -- what each name means, by its place

@@ -1,12 +1,12 @@
 -- Names in expressions and changes.
-use Rattle.std.specs.Prelude.{ℕ, suc, List, [], ◌++◌, Option, Some, None}
-use Rattle.os_ast.specs.Meanings.{Note}
+use Rattle.std.specs.Prelude.{ℕ, suc, List, [], ◌∷◌, ◌++◌, Option, Some, None}
 use Rattle.os_ast.specs.Names.{Scope}
+use Rattle.os_ast.specs.Notes.Kinds.{Note, Used}
 use Rattle.os_ast.specs.Trees as tree
-use Rattle.os_ast.specs.Uses.{value_codes, target_codes, call_codes, use_notes}
-use Rattle.os_ast.specs.declared.names.Entity.{Entity}
-use Rattle.os_ast.specs.declared.names.Shape.{Shape}
+use Rattle.os_ast.specs.declared.names.Role.{Role}
+use Rattle.os_ast.specs.declared.names.Role.TheVariants as role
 use Rattle.os_ast.specs.declared.names.Shape.TheVariants as shape
+use Rattle.os_ast.specs.declared.names.Use.TheVariants as usage
 
 -- how many arguments a call has
 abbrev pub count_args : tree.Args → ℕ
@@ -17,17 +17,17 @@ count_args (tree.arg e es) = suc (count_args es)
 abbrev mutual
   pub expr_notes : Scope → tree.ExprTree → List Note
   expr_notes s (tree.Number n) = []
-  expr_notes s (tree.Place t) = place_notes s value_codes t
-  expr_notes s (tree.ExprTree.Call f args) = use_notes s f (call_codes f.id (count_args args)) ++ args_notes s args
+  expr_notes s (tree.Place t) = place_notes s role.Value t
+  expr_notes s (tree.ExprTree.Call f args) = Used s f (usage.Called (count_args args)) ∷ args_notes s args
   expr_notes s (tree.Paren e) = expr_notes s e
   expr_notes s (tree.Unary op m e) = expr_notes s e
   expr_notes s (tree.Chain l first links) = expr_notes s first ++ links_notes s links
   expr_notes s (tree.Choice c a b) = expr_notes s c ++ expr_notes s a ++ expr_notes s b
 
-  -- a name, with an index or without, by the codes of where it stands
-  pub place_notes : Scope → (Shape → Entity → List ℕ) → tree.TargetTree → List Note
-  place_notes s codes (tree.Variable n) = use_notes s n (codes shape.Bare)
-  place_notes s codes (tree.Element n m e) = use_notes s n (codes shape.Indexed) ++ expr_notes s e
+  -- a name, with an index or without, by where it stands
+  pub place_notes : Scope → Role → tree.TargetTree → List Note
+  place_notes s r (tree.Variable n) = Used s n (usage.Place r shape.Bare) ∷ []
+  place_notes s r (tree.Element n m e) = Used s n (usage.Place r shape.Indexed) ∷ expr_notes s e
 
   pub args_notes : Scope → tree.Args → List Note
   args_notes s tree.no_args = []
@@ -46,9 +46,9 @@ index_notes s None = []
 index_notes s (Some i) = expr_notes s i.value
 
 abbrev pub change_notes : Scope → tree.ChangeTree → List Note
-change_notes s (tree.Set t a m e) = place_notes s target_codes t ++ expr_notes s e
-change_notes s (tree.After t step m) = place_notes s target_codes t
-change_notes s (tree.Before t step m) = place_notes s target_codes t
+change_notes s (tree.Set t a m e) = place_notes s role.Changed t ++ expr_notes s e
+change_notes s (tree.After t step m) = place_notes s role.Changed t
+change_notes s (tree.Before t step m) = place_notes s role.Changed t
 
 abbrev pub step_notes : Scope → Option tree.ChangeTree → List Note
 step_notes s None = []

@@ -1,11 +1,10 @@
--- Functions, constants and whole programs.
-use Rattle.std.specs.Prelude.{ℕ, ◌+◌, ◌==◌, false, if◌then◌else◌, List, [], ◌∷◌, ◌++◌, map, length}
-use Rattle.os_ast.specs.Meanings.{Note, Fault, Means, meaning}
-use Rattle.os_ast.specs.Names.{Scope, declare, enter, in_unit, after_unit, is_declared, constant_value, main_id, osin_id, osout_id, osin_len_id}
+-- Functions, constants and whole programs: what is in scope in them and after them, and what stands in them.
+use Rattle.std.specs.Prelude.{ℕ, ◌+◌, ◌==◌, false, if◌then◌else◌, List, [], ◌∷◌, ◌++◌, length}
+use Rattle.os_ast.specs.Names.{Scope, declare, enter, in_unit, after_unit, constant_value, main_id, osin_id, osout_id, osin_len_id}
 use Rattle.os_ast.specs.Notes.Declarators.{scalar_entity}
+use Rattle.os_ast.specs.Notes.Kinds.{Note, Given, Global}
 use Rattle.os_ast.specs.Notes.Statements.{after_stmts, stmts_notes}
 use Rattle.os_ast.specs.Trees as tree
-use Rattle.os_ast.specs.Uses.{when}
 use Rattle.os_ast.specs.declared.expr.Name.{Name}
 use Rattle.os_ast.specs.declared.program.Params.TheVariants as params_of
 use Rattle.os_ast.specs.declared.program.Params.{Params}
@@ -42,10 +41,7 @@ after_params s (n ∷ ns) = after_params (after_param s n) ns
 
 abbrev pub params_notes : Scope → List Name → List Note
 params_notes s [] = []
-params_notes s (n ∷ ns) =
-    map (Fault n.mark) (when (is_declared s n.id) 12)
-    ++ Means n.mark (meaning (scalar_entity s.owner s.slots))
-    ∷ params_notes (after_param s n) ns
+params_notes s (n ∷ ns) = Given s n ∷ params_notes (after_param s n) ns
 
 -- A function is in scope from its body's end.
 abbrev pub after_function : Scope → Scope → tree.FunctionTree → Scope
@@ -61,10 +57,10 @@ after_item s (tree.Constant c) = declare s c.name.id (entity.Constant (constant_
 after_item s (tree.Function f) = after_function s (after_stmts (in_body s f) f.body) f
 
 abbrev pub item_notes : Scope → tree.ItemTree → List Note
-item_notes s (tree.Constant c) = map (Fault c.name.mark) (when (is_declared s c.name.id) 12)
+item_notes s (tree.Constant c) = Global s c.name ∷ []
 item_notes s (tree.Function f) =
-    map (Fault f.name.mark) (when (is_declared s f.name.id) 12)
-    ++ params_notes (in_function s f.name.id) (param_names f.params)
+    Global s f.name
+    ∷ params_notes (in_function s f.name.id) (param_names f.params)
     ++ stmts_notes (in_body s f) f.body
 
 abbrev pub after_items : Scope → List tree.ItemTree → Scope
@@ -75,10 +71,10 @@ abbrev pub items_notes : Scope → List tree.ItemTree → List Note
 items_notes s [] = []
 items_notes s (i ∷ is) = item_notes s i ++ items_notes (after_item s i) is
 
--- the scope of the file, before its first item
+-- the scope of the file, before its first item; it is no part of `main`
 abbrev pub file : Scope
-file = record { entries = []; depth = 0; owner = owner.OfFunction; loop = false; slots = 0; elements = 0; arrays = 0; streams = 0; functions = 0 }
+file = record { entries = []; depth = 0; owner = owner.OfFunction; loop = false; captured = []; slots = 0; elements = 0; arrays = 0; streams = 0; functions = 0 }
 
--- what is to be said of a program's tokens
+-- what stands at a program's tokens
 abbrev pub program_notes : tree.ProgramTree → List Note
 program_notes p = items_notes file p

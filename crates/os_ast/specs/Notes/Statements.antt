@@ -1,15 +1,17 @@
--- Statements, and what is in scope after each.
-use Rattle.std.specs.Prelude.{not, List, [], ◌++◌, map}
-use Rattle.os_ast.specs.Meanings.{Note, Fault}
+-- Statements, what is in scope after each, and what stands in them.
+use Rattle.std.specs.Prelude.{List, [], ◌∷◌, ◌++◌}
 use Rattle.os_ast.specs.Names.{Scope, enter, leave, after_unit, in_loop, behind}
-use Rattle.os_ast.specs.Notes.Clauses.{parts, with_items, in_task, task_notes, pragma_codes, return_codes}
+use Rattle.os_ast.specs.Notes.Clauses.{in_task_body, clauses_notes}
 use Rattle.os_ast.specs.Notes.Declarators.{after_declarators, declarators_notes, after_start, start_notes}
 use Rattle.os_ast.specs.Notes.Expressions.{count_args, expr_notes, place_notes, args_notes, value_notes, change_notes, step_notes}
+use Rattle.os_ast.specs.Notes.Kinds.{Note, Used, Left, Returned, Pragma}
+use Rattle.os_ast.specs.Parts.{parts}
 use Rattle.os_ast.specs.Trees as tree
-use Rattle.os_ast.specs.Uses.{call_codes, stream_codes, use_notes, when}
 use Rattle.os_ast.specs.declared.names.Direction.TheVariants as direction
+use Rattle.os_ast.specs.declared.names.Role.TheVariants as role
+use Rattle.os_ast.specs.declared.names.Use.TheVariants as usage
 
--- Statements: what is in scope after each, and its notes.
+-- what is in scope after a statement
 abbrev mutual
   pub after_stmt : Scope → tree.StmtTree → Scope
   after_stmt s tree.StmtTree.Empty = s
@@ -24,7 +26,7 @@ abbrev mutual
   after_stmt s (tree.Break m) = s
   after_stmt s (tree.Continue m) = s
   after_stmt s (tree.Return m e) = s
-  after_stmt s (tree.Task m cs a) = after_unit s (after_stmt (with_items s (in_task s) 0 (parts cs)) a)
+  after_stmt s (tree.Task m cs a) = after_unit s (after_stmt (in_task_body s (parts cs) a) a)
   after_stmt s (tree.Tick m t arrow e) = s
   after_stmt s (tree.Taskwait m) = s
 
@@ -38,21 +40,19 @@ abbrev mutual
   stmt_notes s (tree.Block ss) = stmts_notes (enter s) ss
   stmt_notes s (tree.StmtTree.Declare ds) = declarators_notes s ds
   stmt_notes s (tree.StmtTree.Change c) = change_notes s c
-  stmt_notes s (tree.StmtTree.Call f args) = use_notes s f (call_codes f.id (count_args args)) ++ args_notes s args
+  stmt_notes s (tree.StmtTree.Call f args) = Used s f (usage.Called (count_args args)) ∷ args_notes s args
   stmt_notes s (tree.If c a) = expr_notes s c ++ stmt_notes s a
   stmt_notes s (tree.IfElse c a b) = expr_notes s c ++ stmt_notes s a ++ stmt_notes (after_stmt s a) b
   stmt_notes s (tree.While c a) = expr_notes s c ++ stmt_notes (in_loop s) a
   stmt_notes s (tree.For start test step a) =
       let head = after_start (enter s) start in
       start_notes (enter s) start ++ value_notes head test ++ step_notes head step ++ stmt_notes (in_loop head) a
-  -- 16: outside a loop of the same function or task
-  stmt_notes s (tree.Break m) = map (Fault m) (when (not s.loop) 16)
-  stmt_notes s (tree.Continue m) = map (Fault m) (when (not s.loop) 16)
-  stmt_notes s (tree.Return m e) = map (Fault m) (return_codes s.owner) ++ expr_notes s e
-  stmt_notes s (tree.Task m cs a) = task_notes s m (parts cs) (stmt_notes (with_items s (in_task s) 0 (parts cs)) a)
-  stmt_notes s (tree.Tick m t arrow e) =
-      map (Fault m) (pragma_codes s.owner) ++ place_notes s (stream_codes direction.Reads) t ++ expr_notes s e
-  stmt_notes s (tree.Taskwait m) = map (Fault m) (pragma_codes s.owner)
+  stmt_notes s (tree.Break m) = Left s m ∷ []
+  stmt_notes s (tree.Continue m) = Left s m ∷ []
+  stmt_notes s (tree.Return m e) = Returned s m ∷ expr_notes s e
+  stmt_notes s (tree.Task m cs a) = clauses_notes s m (parts cs) a ++ stmt_notes (in_task_body s (parts cs) a) a
+  stmt_notes s (tree.Tick m t arrow e) = Pragma s m ∷ place_notes s (role.Flow direction.Reads) t ++ expr_notes s e
+  stmt_notes s (tree.Taskwait m) = Pragma s m ∷ []
 
   pub stmts_notes : Scope → tree.Stmts → List Note
   stmts_notes s tree.no_stmts = []

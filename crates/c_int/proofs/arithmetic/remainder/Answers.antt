@@ -1,4 +1,4 @@
-use Rattle.std.proofs.Common.{rules, ◌≡◌, arith, sym, ◌∙◌, ap, w32, w64, to_z, of_z}
+use Rattle.std.proofs.Common.{sym, ◌∙◌, ap, w32, w64, to_z, of_z}
 use Rattle.std.specs.Prelude.{int_rem}
 use Rattle.std.proofs.lemmas.Int.{rem_is, to_z-of_z}
 use Rattle.c_int.specs.Operators as operator

@@ -1,5 +1,11 @@
-use Rattle.flow_core.proofs.Windows.{one_writer_of}
+use Rattle.flow_core.proofs.Windows.{apart, one_writer_of, producer_of}
 use Rattle.flow_core.proofs.laws.one_writer.Goals as goal
 
-pub returns : goal.returns
-returns c = one_writer_of
+pub returns-clause-one : goal.returns-clause-one
+returns-clause-one c = one_writer_of
+
+pub returns-clause-is_producer : goal.returns-clause-is_producer
+returns-clause-is_producer c = producer_of
+
+pub returns-clause-in_order : goal.returns-clause-in_order
+returns-clause-in_order c = apart

@@ -9,7 +9,7 @@ invariant-loop-buffer g l = record {
   within : vec_len l.buffer ≤ l.limit + 1;
   bytes : g.F.Files.rest l.initial.files ≡ prepend_known (take l.filled l.buffer.items) (g.F.Files.rest l.files);
   given : g.F.Files.given l.files ≡ l.filled;
-  faults_kept : g.F.Files.faults l.initial.files ≤ g.F.Files.faults l.files;
+  no_fault : g.F.Files.faults l.files ≡ g.F.Files.faults l.initial.files;
   opens : g.F.Files.opens l.files ≡ g.F.Files.opens l.initial.files;
   holds : g.F.Files.holds l.files ≡ g.F.Files.holds l.initial.files;
   may : g.F.Files.may l.files ≡ g.F.Files.may l.initial.files;

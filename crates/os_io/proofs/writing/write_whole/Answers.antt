@@ -9,6 +9,6 @@ loop-written-preserved g c =
     record {
       within = grind (arith, common_steps);
       taken = cc (piece, c.in_ok-count.ensures.taken, c.loop-written.invariant.taken);
-      faults_kept = omega arith;
+      no_fault = grind (arith, common_steps);
       empty_takes = grind (arith, common_steps);
     }

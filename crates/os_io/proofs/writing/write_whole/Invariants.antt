@@ -6,7 +6,7 @@ abbrev pub invariant-loop-written : goal.invariant-loop-written
 invariant-loop-written g l = record {
   within : l.written ≤ length l.bytes;
   taken : g.S.Sink.taken l.sink ≡ append_known (g.S.Sink.taken l.initial.sink) (take l.written l.bytes);
-  faults_kept : g.S.Sink.faults l.initial.sink ≤ g.S.Sink.faults l.sink;
+  no_fault : g.S.Sink.faults l.sink ≡ g.S.Sink.faults l.initial.sink;
   empty_takes : g.S.Sink.empty_takes l.sink ≡ g.S.Sink.empty_takes l.initial.sink;
 }
 

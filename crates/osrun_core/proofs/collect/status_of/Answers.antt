@@ -2,7 +2,7 @@ use Rattle.std.proofs.Common.{◌≡◌, cond, sym, ◌∙◌, ap, rules, tests}
 use Rattle.std.specs.List.{list_all}
 use Rattle.std.proofs.lemmas.Iterator.{YieldsList-from_slice}
 use Rattle.std.proofs.lemmas.Iterator.Search.{all_from_yields_List}
-use Rattle.osrun_core.specs.FirstReport.{has_done}
+use Rattle.osrun_core.specs.Report.{has_done}
 use Rattle.osrun_core.proofs.collect.status_of.Goals as goal
 
 pub returns-then-all : goal.returns-then-all

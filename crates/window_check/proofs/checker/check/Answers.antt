@@ -1,13 +1,14 @@
-use Rattle.std.proofs.Common.{◌≡◌, ◌≤◌, ◌+◌, ◌∙◌, ap, sym, length, arith}
+use Rattle.std.proofs.Common.{◌≡◌, ◌≤◌, ◌+◌, ◌∙◌, ap, sym, length, Option, arith, refl}
 use Rattle.os_ast.specs.Names.{Scope}
-use Rattle.os_ast.specs.Notes.Programs.{file, program_notes, items_notes, after_items}
+use Rattle.os_ast.specs.Notes.Programs.{file, after_items}
 use Rattle.os_ast.specs.Spelling.{spell}
 use Rattle.os_ast.specs.Trees.{ProgramTree}
 use Rattle.os_ast.specs.Views.{program_tree}
-use Rattle.window_check.specs.Findings.{Findings, nothing_found, noted}
-use Rattle.window_check.specs.Room.{HasRoom, items_weight}
+use Rattle.os_ast.specs.declared.violation.Violation.{Violation}
+use Rattle.window_check.specs.Room.{HasRoom, items_weight, room_end}
+use Rattle.window_check.specs.declared.found.Judged.{Judged}
 use Rattle.window_check.proofs.HasRoom.{room_less, room_items_of_file}
-use Rattle.window_check.proofs.Refused.{refused, refused-end, lawful, found-names}
+use Rattle.window_check.proofs.Refused.{all_judged, refused, refused-end, lawful, found-names, found-captured}
 use Rattle.window_check.proofs.Weights.{weight-spell}
 use Rattle.window_check.proofs.checker.check.Goals as goal
 
@@ -17,61 +18,58 @@ room p few = record {
   slots = omega (arith, weight-spell p, few);
   depth = omega (arith, weight-spell p, few);
   functions = omega (arith, weight-spell p, few);
-  elements = omega arith;
-  arrays = omega arith;
-  streams = omega arith;
+  elements = omega (arith, weight-spell p, few);
+  arrays = omega (arith, weight-spell p, few);
+  streams = omega (arith, weight-spell p, few);
+  entries = omega (arith, weight-spell p, few);
+  order = record { top = 0; stacked = tt; below = λ is. omega arith; outside = λ is. refl };
 }
 
 -- how many streams it has
-few_streams : (p : ProgramTree) → length (spell p) ≤ 262144 → (after_items file p).streams ≤ 65537
-few_streams p few = (room_items_of_file file p 0 (room_less file (items_weight p) (items_weight p + 0) (room p few) (omega arith))).streams
+few_streams : (p : ProgramTree) → length (spell p) ≤ 262144 → (after_items file p).streams ≤ room_end
+few_streams p few =
+    omega (arith, (room_items_of_file file p 0 refl (room_less file (items_weight p) (items_weight p + 0) (room p few) (omega arith))).streams)
 
-pub items-requires-clause-room : goal.items-requires-clause-room
-items-requires-clause-room c = rw c.new-scopes.ensures (room (program_tree c.args.program) c.requires.few)
+pub judge-requires-clause-room : goal.judge-requires-clause-room
+judge-requires-clause-room c = room (program_tree c.args.program) c.requires.few
 
--- what was found is what is to be noted of the program
-noted_of : (p : ProgramTree) (s : Scope) (f g : Findings) → s ≡ file → f ≡ nothing_found → g ≡ noted f (items_notes s p) → g ≡ noted nothing_found (program_notes p)
-noted_of p s f g a b e = e ∙ (ap (λ (s : Scope). noted f (items_notes s p)) a ∙ ap (λ (f : Findings). noted f (program_notes p)) b)
+-- what the walk found, by the parts of it that were taken out
+found_least : (p : ProgramTree) (j : Judged) (least : Option Violation) → j ≡ all_judged p → least ≡ j.least → (all_judged p).least ≡ least
+found_least p j least is same = sym (same ∙ ap (λ (j : Judged). j.least) is)
 
 pub returns-in-Some-clause-refused : goal.returns-in-Some-clause-refused
 returns-in-Some-clause-refused c =
-    let p = program_tree c.args.program in
-    let found = noted_of p c.new-scopes.result c.new-found.result c.items.new.found c.new-scopes.ensures c.new-found.ensures c.in_ok-items.ensures.found in (
+    let p = program_tree c.args.program in (
       c.in-Some.violation.place,
       refused p c.in-Some.violation c.requires.placed
-          (sym (ap (λ (f : Findings). f.least) found) ∙ (sym c.into_parts-least.ensures.least ∙ c.in-Some.is)),
+          (found_least p c.in_ok-judged.judged c.into_parts-least.result.0 c.in_ok-judged.ensures.judged c.into_parts-least.ensures.least ∙ c.in-Some.is),
     )
 
 pub returns-then-not-has_main-clause-refused : goal.returns-then-not-has_main-clause-refused
 returns-then-not-has_main-clause-refused c =
-    let p = program_tree c.args.program in
-    let found = noted_of p c.new-scopes.result c.new-found.result c.items.new.found c.new-scopes.ensures c.new-found.ensures c.in_ok-items.ensures.found in (
+    let p = program_tree c.args.program in (
       length (spell p),
       refused-end p
-          (sym (ap (λ (f : Findings). f.least) found) ∙ (sym c.into_parts-least.ensures.least ∙ c.in_default.is))
+          (found_least p c.in_ok-judged.judged c.into_parts-least.result.0 c.in_ok-judged.ensures.judged c.into_parts-least.ensures.least ∙ c.in_default.is)
           (sym c.has_main.ensures ∙ c.if-not-has_main.true),
     )
-
--- how many streams were counted
-streams_of : (p : ProgramTree) (s t : Scope) → s ≡ file → t ≡ after_items s p → t.streams ≡ (after_items file p).streams
-streams_of p s t a b = ap (λ (s : Scope). s.streams) (b ∙ ap (λ (s : Scope). after_items s p) a)
 
 pub overflow_add-result : goal.overflow_add-result
 overflow_add-result c =
     let p = program_tree c.args.program in
-    omega (arith, few_streams p c.requires.few, c.streams.ensures, streams_of p c.new-scopes.result c.items.new.scopes c.new-scopes.ensures c.in_ok-items.ensures.scopes)
+    omega (arith, few_streams p c.requires.few, c.streams.ensures, ap (λ (s : Scope). s.streams) c.in_ok-judged.ensures.scopes)
 
 pub invariant_of-result : goal.invariant_of-result
 invariant_of-result c =
     let p = program_tree c.args.program in
-    let found = noted_of p c.new-scopes.result c.new-found.result c.items.new.found c.new-scopes.ensures c.new-found.ensures c.in_ok-items.ensures.found in
     record {
-      leveled = ∣ c.requires.leveled ∣₁;
+      leveled = c.requires.leveled;
       few = c.requires.few;
       placed = c.requires.placed;
       lawful = lawful p
-          (sym (ap (λ (f : Findings). f.least) found) ∙ (sym c.into_parts-least.ensures.least ∙ c.in_default.is))
+          (found_least p c.in_ok-judged.judged c.into_parts-least.result.0 c.in_ok-judged.ensures.judged c.into_parts-least.ensures.least ∙ c.in_default.is)
           (sym c.has_main.ensures ∙ c.if-not-has_main.false);
-      named = c.into_parts-least.ensures.names ∙ (ap (λ (f : Findings). f.names) found ∙ found-names p);
-      counted = ap (λ n. 2 + n) (c.streams.ensures ∙ streams_of p c.new-scopes.result c.items.new.scopes c.new-scopes.ensures c.in_ok-items.ensures.scopes);
+      named = c.into_parts-least.ensures.names ∙ (ap (λ (j : Judged). j.names) c.in_ok-judged.ensures.judged ∙ found-names p);
+      captures = c.into_parts-least.ensures.captured ∙ (ap (λ (j : Judged). j.captured) c.in_ok-judged.ensures.judged ∙ found-captured p);
+      counted = ap (λ n. 2 + n) (c.streams.ensures ∙ ap (λ (s : Scope). s.streams) c.in_ok-judged.ensures.scopes);
     }

@@ -1,5 +1,5 @@
 use Rattle.std.proofs.Common.{List, ◌+◌, arith, drop, map, length, length-append, ap}
-use Rattle.os_ast.specs.Notes.Clauses.{Part, parts, parts_of}
+use Rattle.os_ast.specs.Parts.{Part, parts, parts_of}
 use Rattle.os_ast.specs.Views.{clause_kind_tree, clause_tree}
 use Rattle.window_check.specs.Parts.{ListedParts}
 use Rattle.window_check.proofs.Lists.{items-parts, found-parts, listed-parts}

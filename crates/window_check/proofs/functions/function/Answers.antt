@@ -1,38 +1,25 @@
-use Rattle.std.proofs.Common.{◌≡◌, ◌∙◌, Bool, ap}
+use Rattle.std.proofs.Common.{◌≡◌, ◌∙◌, ap}
 use Rattle.std.proofs.lemmas.Result.{IfOk-equal, on_ok_weaker}
-use Rattle.os_ast.specs.Names.{is_declared}
 use Rattle.os_ast.specs.Notes.Programs.{in_body}
 use Rattle.os_ast.specs.Trees as tree
-use Rattle.os_ast.specs.Uses.{when}
 use Rattle.os_ast.specs.Views.{stmts_tree}
 use Rattle.os_ast.specs.declared.program.Function.{Function}
-use Rattle.window_check.proofs.Bodies.{body-scope, body-no_task, function-room, function-scope, function-found}
+use Rattle.window_check.proofs.Bodies.{body-scope, function-room, function-scope, function-found}
 use Rattle.window_check.proofs.HasRoom.{room_for_body}
-use Rattle.window_check.specs.Codes.{least_code}
-use Rattle.window_check.specs.Findings.{blamed}
+use Rattle.window_check.specs.Findings.{blames}
 use Rattle.window_check.specs.Scopes.{around_of, ended}
 use Rattle.window_check.proofs.functions.function.Goals as goal
 
 abbrev viewed : Function → tree.FunctionTree
 viewed f = record { name = f.name; params = f.params; body = stmts_tree f.body }
 
-pub stmts-requires-clause-room : goal.stmts-requires-clause-room
-stmts-requires-clause-room c =
+pub stmts-requires : goal.stmts-requires
+stmts-requires c =
     let s = c.args.scopes.now in
     let f = viewed c.args.function.now in
     let body : c.params.new.scopes ≡ in_body s f =
     body-scope s c.begin_function.new.scopes c.params.new.scopes c.param_names-names.result.now f c.param_names-names.ensures c.in_ok-around.ensures.scopes c.in_ok-params.ensures.scopes in
-    rw body (room_for_body s f c.requires.room)
-
-pub stmts-requires-clause-task : goal.stmts-requires-clause-task
-stmts-requires-clause-task c =
-    let s = c.args.scopes.now in
-    let f = viewed c.args.function.now in
-    let names = c.param_names-names.result.now in
-    let begun = c.begin_function.new.scopes in
-    let inside = c.params.new.scopes in
-    let body : inside ≡ in_body s f = body-scope s begun inside names f c.param_names-names.ensures c.in_ok-around.ensures.scopes c.in_ok-params.ensures.scopes in
-    body-no_task s begun inside names f c.args.found.now c.blame.new.self c.params.new.found c.when.result body c.requires.task c.blame.ensures c.in_ok-params.ensures.found
+    rw body (room_for_body s f c.requires.outside c.requires.room)
 
 pub declare_function-requires : goal.declare_function-requires
 declare_function-requires c =
@@ -44,7 +31,7 @@ declare_function-requires c =
     let after = c.stmts.new.scopes in
     let body : inside ≡ in_body s f = body-scope s begun inside names f c.param_names-names.ensures c.in_ok-around.ensures.scopes c.in_ok-params.ensures.scopes in
     let ending : c.end.new.self ≡ ended (around_of s) after = c.end.ensures ∙ ap (λ a. ended a after) c.in_ok-around.ensures.around in
-    function-room s inside after c.end.new.self f c.requires.room body c.in_ok-stmts.ensures.scopes ending
+    function-room s inside after c.end.new.self f c.requires.outside c.requires.room body c.in_ok-stmts.ensures.scopes ending
 
 pub returns-clause-scopes : goal.returns-clause-scopes
 returns-clause-scopes c =
@@ -67,8 +54,7 @@ returns-clause-found c =
     let begun = c.begin_function.new.scopes in
     let inside = c.params.new.scopes in
     let body : inside ≡ in_body s f = body-scope s begun inside names f c.param_names-names.ensures c.in_ok-around.ensures.scopes c.in_ok-params.ensures.scopes in
-    let code : c.when.result ≡ least_code (when (is_declared s f.name.id) 12) = c.when.ensures ∙ ap (λ (b : Bool). least_code (when b 12)) c.is_declared.ensures in
-    let blaming = c.blame.ensures ∙ ap (blamed c.args.found.now f.name.mark) code in
+    let blaming = c.blame.ensures ∙ ap (blames c.args.found.now f.name.mark) c.twice.ensures in
     let found = function-found c.args.found.now c.blame.new.self c.params.new.found c.stmts.new.found s begun inside names f
     c.param_names-names.ensures c.in_ok-around.ensures.scopes body blaming c.in_ok-params.ensures.found c.in_ok-stmts.ensures.found in
     on_ok_weaker c.declare_function.result (λ _. found) c.declare_function.ensures

@@ -1,6 +1,6 @@
 use Rattle.std.proofs.Common.{◌<◌, ◌+◌, ◌≡◌, ◌∷◌, length, get_or, drop, map, ap, arith}
 use Rattle.os_ast.specs.Views.{item_tree}
-use Rattle.window_check.proofs.Bodies.{items_room-first, items_room-rest, items_leveled-first, items_leveled-rest, items_scopes-rest, items_found-rest, items_no_task-rest}
+use Rattle.window_check.proofs.Bodies.{items_room-first, items_room-rest, items_leveled-first, items_leveled-rest, items_scopes-rest, items_found-rest, items_owner-rest}
 use Rattle.window_check.proofs.Trees.{map-drop}
 use Rattle.window_check.proofs.functions.items.Goals as goal
 
@@ -34,8 +34,8 @@ loop-next-preserved c =
     let before = c.loop-next.invariant in
     let step = c.in_ok-item.ensures in
     record {
-      room = items_room-rest s c.item.new.scopes _ _ (item_tree x) split before.room step.scopes;
-      task = items_no_task-rest s c.loop-next.found c.item.new.found (item_tree x) before.task step.found;
+      room = items_room-rest s c.item.new.scopes _ _ (item_tree x) split before.outside before.room step.scopes;
+      outside = items_owner-rest s c.item.new.scopes (item_tree x) before.outside step.scopes;
       leveled = items_leveled-rest _ _ (item_tree x) split before.leveled;
       scopes = items_scopes-rest s c.item.new.scopes _ _ _ (item_tree x) split before.scopes step.scopes;
       found = items_found-rest s c.item.new.scopes c.loop-next.found c.item.new.found _ _ _ (item_tree x) split before.found step.scopes step.found;

@@ -1,18 +1,20 @@
-use Rattle.std.proofs.Common.{◌≡◌, ◌<◌, ◌++◌, [], arith, rules, length, map, refl, ap, ◌∙◌}
+use Rattle.std.proofs.Common.{◌≡◌, ◌<◌, ◌++◌, [], arith, rules, length, map, ap, ◌∙◌}
 use Rattle.std.specs.Option.{option_map}
-use Rattle.std.proofs.lemmas.Result.{on_ok_weaker}
-use Rattle.os_ast.specs.Notes.Clauses.{parts, parts_notes, with_items, in_task}
+use Rattle.std.proofs.lemmas.Result.{on_ok_weaker, IfOk-equal}
 use Rattle.os_ast.specs.Notes.Declarators.{after_start, start_notes}
-use Rattle.os_ast.specs.Notes.Expressions.{expr_notes, value_notes, step_notes}
+use Rattle.os_ast.specs.Notes.Expressions.{value_notes, step_notes}
 use Rattle.os_ast.specs.Notes.Statements.{stmt_notes}
 use Rattle.os_ast.specs.Names.{Scope, enter, in_loop}
+use Rattle.os_ast.specs.Parts.{parts}
 use Rattle.os_ast.specs.Views.{expr_tree, change_tree, start_tree, stmt_tree, stmts_tree, clause_tree}
 use Rattle.os_ast.specs.declared.stmt.Stmt.{the_lemmas}
 use Rattle.window_check.specs.Room.{stmt_weight}
-use Rattle.window_check.proofs.HasRoom.{room_in_for, room_in_items}
-use Rattle.window_check.proofs.Restored.{returned_block, returned_for, ended_task, owner_stmt, owner_start, owner_task}
+use Rattle.window_check.proofs.HasRoom.{room_in_for}
+use Rattle.window_check.proofs.Restored.{returned_block, returned_for, ended_task}
 use Rattle.window_check.proofs.Steps as step
-use Rattle.window_check.proofs.Tasks.{noted-in_task, waiting-before, found-inside, found-outside}
+use Rattle.window_check.proofs.Tasks.{room-named, slots-captured, few-captured, few-slots, task-scopes, task-found}
+use Rattle.window_check.specs.Parts.{after_names}
+use Rattle.window_check.specs.Statements.{in_named_task}
 use Rattle.window_check.proofs.statements.+stmts.Goals as goal
 
 pub block-returns-clause-scopes : goal.block-returns-clause-scopes
@@ -24,17 +26,11 @@ block-returns-clause-scopes t c =
 pub for_loop-stmt-requires : goal.for_loop-stmt-requires
 for_loop-stmt-requires t c =
     let s = c.args.scopes.now in
-    let f = c.args.found.now in
     let start = start_tree c.args.head.now.start in
     let head = after_start (enter s) start in
     let scope : c.enter_loop.new.self ≡ in_loop head =
-    c.enter_loop.ensures.scope ∙ ap in_loop (c.in_ok-start.ensures.scopes ∙ ap (λ (x : Scope). after_start x start) c.enter-outer.ensures.scope) in (
-      search (rules, the_lemmas),
-      (
-        rw scope (room_in_for s start (stmt_weight (stmt_tree c.args.body.now)) c.requires.room),
-        rw (scope, c.in_ok-step.ensures, c.in_ok-value.ensures, c.in_ok-start.ensures.found, noted-in_task, noted-in_task, noted-in_task, owner_start) c.requires.task,
-      ),
-    )
+    c.enter_loop.ensures.scope ∙ ap in_loop (c.in_ok-start.ensures.scopes ∙ ap (λ (x : Scope). after_start x start) c.enter-outer.ensures.scope) in
+    (search (rules, the_lemmas), rw scope (room_in_for s start (stmt_weight (stmt_tree c.args.body.now)) c.requires))
 
 pub for_loop-returns-clause-scopes : goal.for_loop-returns-clause-scopes
 for_loop-returns-clause-scopes t c =
@@ -63,69 +59,10 @@ for_loop-returns-clause-found t c =
     step.found-two f c.value.new.found c.step.new.found (first ++ second) third two (rw at_start at c.in_ok-step.ensures) in
     step.found-two f c.step.new.found c.stmt.new.found (first ++ second ++ third) last three (rw at_body at c.in_ok-stmt.ensures.found)
 
-pub inner_body-captured_from-requires : goal.inner_body-captured_from-requires
-inner_body-captured_from-requires t c =
-    rw (c.waiting-first.ensures, c.in_ok-stmt.ensures.found)
-    (waiting-before c.args.found.now (stmt_notes c.args.scopes.now (stmt_tree c.args.site.now.body)) c.requires.task)
-
-pub inner_body-returns-clause-found : goal.inner_body-returns-clause-found
-inner_body-returns-clause-found t c =
-    found-inside
-    c.args.found.now
-    c.stmt.new.found
-    c.blame.new.self
-    c.args.site.now.mark
-    c.args.listed
-    (stmt_notes c.args.scopes.now (stmt_tree c.args.site.now.body))
-    c.waiting-first.result
-    c.into_parts-items.result.0
-    c.len.result
-    c.into_parts-items.result.1
-    c.captured_from.new.captured
-    c.task_code.result
-    c.requires.task
-    c.waiting-first.ensures
-    c.in_ok-stmt.ensures.found
-    c.into_parts-items.ensures.items
-    c.into_parts-items.ensures.captured
-    c.in_ok-captured_from.ensures
-    c.len.ensures
-    c.task_code.ensures
-    c.blame.ensures
-
-pub outer_body-returns-clause-found : goal.outer_body-returns-clause-found
-outer_body-returns-clause-found t c =
-    on_ok_weaker c.end_task.result
-    (found-outside
-    c.args.found.now
-    c.begin_task.new.self
-    c.stmt.new.found
-    c.blame.new.self
-    c.end_task.new.self
-    c.args.site.now.mark
-    c.args.listed
-    (stmt_notes c.args.scopes.now (stmt_tree c.args.site.now.body))
-    c.into_parts-items.result.0
-    c.len.result
-    c.into_parts-items.result.1
-    c.captured_from.new.captured
-    c.task_code.result
-    c.requires.task
-    (c.begin_task.ensures.idle c.requires.task)
-    c.begin_task.ensures.waits
-    c.in_ok-stmt.ensures.found
-    c.into_parts-items.ensures.items
-    c.into_parts-items.ensures.captured
-    c.in_ok-captured_from.ensures
-    c.len.ensures
-    c.task_code.ensures
-    c.blame.ensures)
-    c.end_task.ensures
-
 pub stmt-block-requires : goal.stmt-block-requires
 stmt-block-requires t c =
     let same = step.block-is c.args.stmt.now c.in-Block.list c.in-Block.is in
-    (search (rules, the_lemmas), (step.room-same c.args.scopes.now (stmt_tree c.args.stmt.now) _ same c.requires.room, c.requires.task))
+    (search (rules, the_lemmas), step.room-same c.args.scopes.now (stmt_tree c.args.stmt.now) _ same c.requires)
 
 pub stmt-returns-in-Block-clause-scopes : goal.stmt-returns-in-Block-clause-scopes
 stmt-returns-in-Block-clause-scopes t c =
@@ -139,10 +76,7 @@ pub stmts-stmt-requires : goal.stmts-stmt-requires
 stmts-stmt-requires t c =
     let same = c.as_slice-next-items.ensures in (
       search (rules, the_lemmas),
-      (
-        step.room-next c.loop-next.scopes c.args.stmts.now c.loop-next.next-index c.next-item.result (omega (arith, ap length same)) (rw same at c.next-item.is) c.loop-next.invariant.room,
-        c.loop-next.invariant.task,
-      ),
+      step.room-next c.loop-next.scopes c.args.stmts.now c.loop-next.next-index c.next-item.result (omega (arith, ap length same)) (rw same at c.next-item.is) c.loop-next.invariant.room,
     )
 
 pub stmts-loop-next-preserved : goal.stmts-loop-next-preserved
@@ -150,99 +84,28 @@ stmts-loop-next-preserved t c =
     let same = c.as_slice-next-items.ensures in
     let h : c.loop-next.next-index < length c.args.stmts.now = omega (arith, ap length same) in
     let is = rw same at c.next-item.is in
-    let a = stmt_tree c.next-item.result in
     let s = c.loop-next.scopes in
     record {
       room = step.room-rest s c.stmt.new.scopes c.args.stmts.now c.loop-next.next-index c.next-item.result h is c.in_ok-stmt.ensures.scopes c.loop-next.invariant.room;
-      task = step.task-after c.loop-next.found c.stmt.new.found s.owner c.stmt.new.scopes.owner (stmt_notes s a) c.loop-next.invariant.task c.in_ok-stmt.ensures.found (rw c.in_ok-stmt.ensures.scopes (owner_stmt s a));
       scopes = step.scopes-rest s c.stmt.new.scopes _ c.args.stmts.now c.loop-next.next-index c.next-item.result h is c.in_ok-stmt.ensures.scopes c.loop-next.invariant.scopes;
       found = step.found-rest c.loop-next.found c.stmt.new.found _ s c.stmt.new.scopes c.args.stmts.now c.loop-next.next-index c.next-item.result h is c.in_ok-stmt.ensures.scopes c.in_ok-stmt.ensures.found c.loop-next.invariant.found;
     }
 
-pub task-body-requires : goal.task-body-requires
-task-body-requires t c =
-    let s = c.args.scopes.now in
-    let ps = parts (map clause_tree c.args.site.now.clauses) in
-    let scope =
-    step.items-declared s c.begin-around.new.self c.declare.new.scopes c.in_ok-listed.listed ps c.begin-around.ensures.scope c.in_ok-listed.ensures.listed c.in_ok-declare.ensures in (
-      search (rules, the_lemmas),
-      (
-        rw scope (room_in_items s ps (stmt_weight (stmt_tree c.args.site.now.body)) c.requires.room),
-        (
-          rw scope (owner_task s ps),
-          step.task-before c.args.found.now c.blame.new.self c.clauses.new.found s.owner c.owner-owner.result c.args.site.now.mark c.pragma_code.result (parts_notes s [] ps) c.requires.task c.owner-owner.ensures c.blame.ensures c.in_ok-listed.ensures.found,
-        ),
-      ),
-    )
-
-pub task-returns-clause-scopes : goal.task-returns-clause-scopes
-task-returns-clause-scopes t c =
-    let s = c.args.scopes.now in
-    let cs = map clause_tree c.args.site.now.clauses in
-    let scope =
-    step.items-declared s c.begin-around.new.self c.declare.new.scopes c.in_ok-listed.listed (parts cs) c.begin-around.ensures.scope c.in_ok-listed.ensures.listed c.in_ok-declare.ensures in
-    c.end.ensures ∙ rw (c.begin-around.ensures.around, c.in_ok-body.ensures.scopes, scope) (ended_task s cs (stmt_tree c.args.site.now.body))
-
-pub task-returns-clause-found : goal.task-returns-clause-found
-task-returns-clause-found t c =
-    let s = c.args.scopes.now in
-    let ps = parts (map clause_tree c.args.site.now.clauses) in
-    let scope =
-    step.items-declared s c.begin-around.new.self c.declare.new.scopes c.in_ok-listed.listed ps c.begin-around.ensures.scope c.in_ok-listed.ensures.listed c.in_ok-declare.ensures in
-    step.found-task
-    c.args.found.now
-    c.blame.new.self
-    c.clauses.new.found
-    c.body.new.found
-    s
-    c.args.site.now.mark
-    c.owner-owner.result
-    c.pragma_code.result
-    c.in_ok-listed.listed
-    ps
-    (stmt_notes (with_items s (in_task s) 0 ps) (stmt_tree c.args.site.now.body))
-    c.owner-owner.ensures
-    c.pragma_code.ensures
-    c.blame.ensures
-    c.in_ok-listed.ensures.found
-    c.in_ok-listed.ensures.listed
-    (rw scope at c.in_ok-body.ensures.found)
-
 pub stmt-stmt-requires : goal.stmt-stmt-requires
 stmt-stmt-requires t c =
-    let s = c.args.scopes.now in (
-      search (rules, the_lemmas),
-      (
-        step.room-first s c.args.stmt.now c.in-If.condition c.in-If.first c.in-If.second c.deref.result.now c.in-If.is c.deref.ensures c.requires.room,
-        step.task-after c.args.found.now c.expr.new.found s.owner s.owner (expr_notes s (expr_tree c.in-If.condition)) c.requires.task c.in_ok-expr-in-If.ensures refl,
-      ),
-    )
+    (search (rules, the_lemmas), step.room-first c.args.scopes.now c.args.stmt.now c.in-If.condition c.in-If.first c.in-If.second c.deref.result.now c.in-If.is c.deref.ensures c.requires)
 
 pub stmt-otherwise-requires : goal.stmt-otherwise-requires
-stmt-otherwise-requires t c =
-    let s = c.args.scopes.now in
-    let a = stmt_tree c.deref.result.now in
-    let condition = expr_notes s (expr_tree c.in-If.condition) in
-    let both =
-    step.found-two c.args.found.now c.expr.new.found c.stmt.new.found condition (stmt_notes s a) c.in_ok-expr-in-If.ensures c.in_ok-stmt-in-If.ensures.found in (
-      search (rules, the_lemmas),
-      (
-        step.room-other s c.stmt.new.scopes c.args.stmt.now c.in-If.condition c.in-If.first c.in-If.second c.deref.result.now c.in-If.is c.deref.ensures c.in_ok-stmt-in-If.ensures.scopes c.requires.room,
-        step.task-after c.args.found.now c.stmt.new.found s.owner c.stmt.new.scopes.owner (condition ++ stmt_notes s a) c.requires.task both (rw c.in_ok-stmt-in-If.ensures.scopes (owner_stmt s a)),
-      ),
-    )
+stmt-otherwise-requires t c = (
+  search (rules, the_lemmas),
+  step.room-other c.args.scopes.now c.stmt.new.scopes c.args.stmt.now c.in-If.condition c.in-If.first c.in-If.second c.deref.result.now c.in-If.is c.deref.ensures c.in_ok-stmt-in-If.ensures.scopes c.requires,
+)
 
 pub stmt-repeated-requires : goal.stmt-repeated-requires
 stmt-repeated-requires t c =
-    let s = c.args.scopes.now in
     let same =
-    step.while-is c.args.stmt.now c.in-While.condition c.in-While.body c.deref-in-While.result.now c.in-While.is c.deref-in-While.ensures in (
-      search (rules, the_lemmas),
-      (
-        step.room-same s (stmt_tree c.args.stmt.now) _ same c.requires.room,
-        step.task-after c.args.found.now c.expr-in-While.new.found s.owner s.owner (expr_notes s (expr_tree c.in-While.condition)) c.requires.task c.in_ok-expr-in-While.ensures refl,
-      ),
-    )
+    step.while-is c.args.stmt.now c.in-While.condition c.in-While.body c.deref-in-While.result.now c.in-While.is c.deref-in-While.ensures in
+    (search (rules, the_lemmas), step.room-same c.args.scopes.now (stmt_tree c.args.stmt.now) _ same c.requires)
 
 pub stmt-returns-in_ok-stmt-in-If-clause-found : goal.stmt-returns-in_ok-stmt-in-If-clause-found
 stmt-returns-in_ok-stmt-in-If-clause-found t c =
@@ -255,3 +118,74 @@ stmt-returns-in_ok-expr-in-While-clause-found t c =
     on_ok_weaker c.repeated.result
     (step.found-while c.args.found.now c.expr-in-While.new.found c.repeated.new.found c.args.scopes.now c.args.stmt.now c.in-While.condition c.in-While.body c.deref-in-While.result.now c.in-While.is c.deref-in-While.ensures c.in_ok-expr-in-While.ensures)
     c.repeated.ensures.found
+
+pub body-stmt-requires : goal.body-stmt-requires
+body-stmt-requires t c =
+    let scope : c.declare_items.new.scopes ≡ in_named_task c.args.scopes.now c.args.captured c.args.items.now =
+    c.in_ok-declare_items.ensures ∙ ap (λ (x : Scope). after_names x c.args.items.now) c.begin_task-around.ensures.scope in
+    (search (rules, the_lemmas), rw scope c.requires.room)
+
+pub body-returns-clause-scopes : goal.body-returns-clause-scopes
+body-returns-clause-scopes t c =
+    let scope : c.declare_items.new.scopes ≡ in_named_task c.args.scopes.now c.args.captured c.args.items.now =
+    c.in_ok-declare_items.ensures ∙ ap (λ (x : Scope). after_names x c.args.items.now) c.begin_task-around.ensures.scope in
+    c.end.ensures
+    ∙ rw (c.begin_task-around.ensures.around, c.in_ok-stmt.ensures.scopes, scope)
+    (ended_task c.args.scopes.now c.args.captured c.args.items.now (stmt_tree c.args.body.now))
+
+pub task-captured-requires : goal.task-captured-requires
+task-captured-requires t c =
+    let s = c.args.scopes.now in
+    let ps = parts (map clause_tree c.args.site.now.clauses) in
+    let w = stmt_weight (stmt_tree c.args.site.now.body) in (
+      search (rules, the_lemmas),
+      (
+        room-named s [] c.in_ok-clauses.field-0 ps c.into_parts-items.result.0 w c.in_ok-clauses.ensures.listed c.into_parts-items.ensures.items (omega arith) c.requires,
+        omega (arith, c.requires.depth),
+      ),
+    )
+
+pub task-body-requires : goal.task-body-requires
+task-body-requires t c =
+    let s = c.args.scopes.now in
+    let ps = parts (map clause_tree c.args.site.now.clauses) in
+    let a = stmt_tree c.args.site.now.body in
+    let l = c.in_ok-clauses.field-0 in
+    let items = c.into_parts-items.result.0 in
+    let given =
+    slots-captured s l ps a _ c.in_ok-captured.captured c.into_parts-items.result.1 items c.requires c.in_ok-clauses.ensures.listed c.into_parts-items.ensures.items c.into_parts-items.ensures.captured c.in_ok-captured.ensures.captured in
+    let few = few-captured s ps a c.new.result (c.new.ensures ∙ c.in_ok-slots.ensures.same ∙ given) in (
+      search (rules, the_lemmas),
+      rw c.in_ok-captured.ensures.scopes (
+        room-named s c.new.result l ps items (stmt_weight a) c.in_ok-clauses.ensures.listed c.into_parts-items.ensures.items few c.requires,
+        (omega (arith, c.requires.depth), few-slots s _ (length c.new.result) few c.requires),
+      ),
+    )
+
+pub task-returns-clause-scopes : goal.task-returns-clause-scopes
+task-returns-clause-scopes t c =
+    let s = c.args.scopes.now in
+    let ps = parts (map clause_tree c.args.site.now.clauses) in
+    let a = stmt_tree c.args.site.now.body in
+    let l = c.in_ok-clauses.field-0 in
+    let items = c.into_parts-items.result.0 in
+    let given =
+    slots-captured s l ps a _ c.in_ok-captured.captured c.into_parts-items.result.1 items c.requires c.in_ok-clauses.ensures.listed c.into_parts-items.ensures.items c.into_parts-items.ensures.captured c.in_ok-captured.ensures.captured in
+    IfOk-equal c.body.result _ _ _ c.body.ensures.scopes
+    (task-scopes s c.captured.new.scopes l ps a c.new.result items c.in_ok-captured.ensures.scopes c.in_ok-clauses.ensures.listed c.into_parts-items.ensures.items
+    (c.new.ensures ∙ c.in_ok-slots.ensures.same ∙ given))
+
+pub task-returns-clause-found : goal.task-returns-clause-found
+task-returns-clause-found t c =
+    let s = c.args.scopes.now in
+    let ps = parts (map clause_tree c.args.site.now.clauses) in
+    let a = stmt_tree c.args.site.now.body in
+    let l = c.in_ok-clauses.field-0 in
+    let items = c.into_parts-items.result.0 in
+    let given =
+    slots-captured s l ps a _ c.in_ok-captured.captured c.into_parts-items.result.1 items c.requires c.in_ok-clauses.ensures.listed c.into_parts-items.ensures.items c.into_parts-items.ensures.captured c.in_ok-captured.ensures.captured in
+    IfOk-equal c.body.result _ _ _ c.body.ensures.found
+    (task-found c.args.found.now c.clauses.new.found c.task.new.self s c.captured.new.scopes c.args.site.now.mark c.owner.result c.len.result l ps a
+    c.in_ok-captured.captured c.new.result items
+    c.in_ok-captured.ensures.scopes c.owner.ensures c.in_ok-clauses.ensures.listed c.into_parts-items.ensures.items c.len.ensures
+    given (c.new.ensures ∙ c.in_ok-slots.ensures.same) c.in_ok-clauses.ensures.found c.in_ok-task.ensures)

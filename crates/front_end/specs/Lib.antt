@@ -1,0 +1,2 @@
+-- what a reader believes
+pub mod Texts

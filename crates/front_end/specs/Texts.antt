@@ -1,0 +1,56 @@
+-- What a text means, and what is wrong with one that isn't accepted.
+use Rattle.std.specs.Prelude.{◌≡◌, ⊤, ℕ, List, [], Result, Ok, Err}
+use Rattle.front_end.specs.declared.text_error.TextError.{TextError}
+use Rattle.front_end.specs.declared.text_error.TextError.TheVariants as errors
+use Rattle.os_ast.specs.Means.{Means}
+use Rattle.os_ast.specs.Trees.{ProgramTree}
+use Rattle.os_ast.specs.Violations.{violations, violated, IsRefusal}
+use Rattle.os_lexer.specs.Cover.{IsTokenCover, IsFirstFault}
+use Rattle.os_lexer.specs.declared.token.Token.{Token}
+
+-- The text means the program: the tokens of its cover do.
+abbrev pub IsProgramOf : List ℕ → ProgramTree → Type 0
+IsProgramOf text p = (tokens : List Token) × IsTokenCover text tokens × Means tokens p
+
+-- A text is accepted as a program where it means the program, and that violates no rule.
+abbrev pub IsAccepted : List ℕ → ProgramTree → Type 0
+IsAccepted text p = IsProgramOf text p × (violations p ≡ [])
+
+-- Its cover means no program.
+abbrev pub IsNoProgram : List ℕ → Type 0
+IsNoProgram text = (tokens : List Token) × IsTokenCover text tokens × ((p : ProgramTree) → Means tokens p → ⊥)
+
+-- The least violation of the program that it means has this code and line.
+abbrev pub HasLeastViolation : List ℕ → ℕ → ℕ → Type 0
+HasLeastViolation text code line = (p : ProgramTree) (place : ℕ) × IsProgramOf text p × IsRefusal p (violated place code line)
+
+-- What is wrong with a text: the first of its first fault, that it is no program, its least violation. The later ones
+-- need a cover, and the last one a program.
+pub data IsRefused (text : List ℕ) : TextError → Type 0 where
+  has_fault : {code line : ℕ} → IsFirstFault text code line → IsRefused text (errors.Refused code line)
+  is_no_program : IsNoProgram text → IsRefused text errors.Syntax
+  has_violation : {code line : ℕ} → HasLeastViolation text code line → IsRefused text (errors.Refused code line)
+
+-- an error says what is wrong, or that memory ran out
+abbrev pub IsTrueOf : List ℕ → TextError → Type 0
+IsTrueOf text (errors.Refused code line) = IsRefused text (errors.Refused code line)
+IsTrueOf text errors.Syntax = IsRefused text errors.Syntax
+IsTrueOf text errors.Memory = ⊤
+
+-- the code of what is wrong
+abbrev pub code_of : TextError → ℕ
+code_of (errors.Refused code line) = code
+code_of errors.Syntax = 4
+code_of errors.Memory = 0
+
+-- a text is accepted as one program
+abbrev pub OneProgram : Type 0
+OneProgram = (text : List ℕ) (p q : ProgramTree) → IsAccepted text p → IsAccepted text q → p ≡ q
+
+-- no text is accepted and refused
+abbrev pub NeverBoth : Type 0
+NeverBoth = (text : List ℕ) (p : ProgramTree) (e : TextError) → IsAccepted text p → IsRefused text e → ⊥
+
+-- a text is refused by one code
+abbrev pub OneCode : Type 0
+OneCode = (text : List ℕ) (e f : TextError) → IsRefused text e → IsRefused text f → code_of e ≡ code_of f

@@ -1,0 +1,15 @@
+//! From a text's bytes to a checked program, in one call.
+//!
+//! `read_program` is the way through tokens, tree and checks. It gives the program that the text means, where the text
+//! means one that violates no rule; and else what is wrong with the text: its first fault, that it is no program, or
+//! its least violation. Each answer comes exactly where it is right, unless memory runs out.
+//!
+//! `specs/Texts.antt` says what a text means and what is wrong with it, over the token cover, the program of a token
+//! list and the violations of the crates below.
+#![tactic(auto)]
+
+mod reading;
+mod text_error;
+
+pub use reading::{one_answer, read_program};
+pub use text_error::TextError;

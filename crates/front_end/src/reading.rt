@@ -1,0 +1,58 @@
+ghost use Rattle.std.specs.Prelude.{◌≤◌, length, IfOk, IfErr};
+ghost use Rattle.front_end.specs.Texts.{IsAccepted, IsTrueOf, NeverBoth, OneCode, OneProgram};
+ghost use Rattle.os_ast.specs.Views.{program_tree};
+ghost use Rattle.os_lexer.specs.Cover.{IsTokenCover};
+
+use crate::text_error::TextError;
+use os_ast::laws::meaning_by_tokens;
+use os_lexer::{LexError, Token, lex, one_cover};
+use os_parser::{ParseError, one_reading, parse};
+use std::alloc::Global;
+use window_check::{CheckError, Checked, check, marks_have_places};
+
+/// The program that a text means, checked. A text has at most 262,144 bytes.
+pub fn read_program(alloc: Global, text: &[u8]) -> Result<Checked, TextError>
+    requires { length text.now ≤ 262144 }
+    ensures accepted { IfOk result (λ checked. IsAccepted text.now (program_tree checked.program)) }
+    ensures refused { IfErr result (IsTrueOf text.now) }
+{
+    match lex(alloc, text) {
+        Ok(tokens) => read_tokens(alloc, text, &tokens),
+        Err(LexError::BadByte { line }) => Err(TextError::Refused { code: 1, line }),
+        Err(LexError::OpenComment { line }) => Err(TextError::Refused { code: 2, line }),
+        Err(LexError::BigNumber { line }) => Err(TextError::Refused { code: 3, line }),
+        Err(LexError::Memory) => Err(TextError::Memory),
+    }
+}
+
+/// The same from the tokens of a text on.
+fn read_tokens(alloc: Global, text: &[u8], tokens: &[Token]) -> Result<Checked, TextError>
+    requires cover { IsTokenCover text.now tokens.now }
+    requires few { length tokens.now ≤ 262144 }
+    ensures accepted { IfOk result (λ checked. IsAccepted text.now (program_tree checked.program)) }
+    ensures refused { IfErr result (IsTrueOf text.now) }
+{
+    let program = match parse(alloc, tokens) {
+        Ok(program) => program,
+        Err(ParseError::Syntax) => return Err(TextError::Syntax),
+        Err(ParseError::Memory) => return Err(TextError::Memory),
+    };
+    meaning_by_tokens();
+    marks_have_places();
+    match check(alloc, program) {
+        Ok(checked) => Ok(checked),
+        Err(CheckError::Fault { code, line }) => Err(TextError::Refused { code, line }),
+        Err(CheckError::Memory) => Err(TextError::Memory),
+    }
+}
+
+/// A text is accepted as one program or refused by one code, and never both: so each answer of `read_program` comes
+/// wherever it is right, unless memory runs out. This is a law: it takes nothing and does nothing.
+pub fn one_answer()
+    ensures program { OneProgram }
+    ensures never_both { NeverBoth }
+    ensures code { OneCode }
+{
+    one_cover();
+    one_reading();
+}

@@ -1,0 +1,44 @@
+-- What may stand at a token of which a rule speaks, or whose name means something.
+use Rattle.std.specs.Prelude.{ℕ, List}
+use Rattle.os_ast.specs.Captured.{Scalar}
+use Rattle.os_ast.specs.Names.{Scope}
+use Rattle.os_ast.specs.Trees.{DeclaratorTree}
+use Rattle.os_ast.specs.declared.expr.Mark.{Mark}
+use Rattle.os_ast.specs.declared.expr.Name.{Name}
+use Rattle.os_ast.specs.declared.names.Use.{Use}
+
+-- each with the scope in which it stands
+pub data Note : Type 0 where
+  -- a name that is used
+  Used : Scope → Name → Use → Note
+  -- a name that is the size of a local array or of an array of streams
+  Sized : Scope → Name → Note
+  -- the name of a declarator
+  Declared : Scope → DeclaratorTree → Note
+  -- the name of a parameter
+  Given : Scope → Name → Note
+  -- the name of a constant or of a function, where it is declared
+  Global : Scope → Name → Note
+  -- `break` or `continue`
+  Left : Scope → Mark → Note
+  -- `return`
+  Returned : Scope → Mark → Note
+  -- the start of a `tick` or a `taskwait`
+  Pragma : Scope → Mark → Note
+  -- the start of a task, with how many items it has, and the scalars that it captures
+  Task : Scope → Mark → ℕ → List Scalar → Note
+  -- the name of a part of a task's clauses, behind parts of these names
+  Listed : List ℕ → Name → Note
+
+-- its token
+abbrev pub mark_of : Note → Mark
+mark_of (Used s n u) = n.mark
+mark_of (Sized s n) = n.mark
+mark_of (Declared s d) = d.name.mark
+mark_of (Given s n) = n.mark
+mark_of (Global s n) = n.mark
+mark_of (Left s m) = m
+mark_of (Returned s m) = m
+mark_of (Pragma s m) = m
+mark_of (Task s m items captured) = m
+mark_of (Listed before n) = n.mark

@@ -1,0 +1,258 @@
+-- The rules, one after another by their codes, over what stands at a token. A token violates a rule where its test is
+-- true. 23 is a rule for the whole program, and stands with the violations.
+use Rattle.std.specs.Prelude.{ℕ, ◌==◌, ◌&&◌, ◌||◌, Bool, true, false, not, ltb, List, [], ◌∷◌, ◌++◌, length, Option, Some, None, is_none, ℤ}
+use Rattle.os_ast.specs.Limits.{is_size, elements_limit, arrays_limit, streams_limit, items_limit, captured_limit}
+use Rattle.os_ast.specs.Names.{Scope, lookup, entity_of, is_declared, main_id}
+use Rattle.os_ast.specs.Notes.Declarators.{form, size_told, after_declarator}
+use Rattle.os_ast.specs.Notes.Kinds.{Note, Used, Declared, Given, Global, Left, Returned, Pragma, Task, Listed}
+use Rattle.os_ast.specs.Parts.{is_in}
+use Rattle.os_ast.specs.declared.names.Direction.TheVariants as direction
+use Rattle.os_ast.specs.declared.names.Entity.{Entity}
+use Rattle.os_ast.specs.declared.names.Entity.TheVariants as entity
+use Rattle.os_ast.specs.declared.names.Form.{Form}
+use Rattle.os_ast.specs.declared.names.Form.TheVariants as form_of
+use Rattle.os_ast.specs.declared.names.Owner.{Owner}
+use Rattle.os_ast.specs.declared.names.Owner.TheVariants as owner
+use Rattle.os_ast.specs.declared.names.Role.TheVariants as role
+use Rattle.os_ast.specs.declared.names.Shape.{Shape}
+use Rattle.os_ast.specs.declared.names.Shape.TheVariants as shape
+use Rattle.os_ast.specs.declared.names.Use.{Use}
+use Rattle.os_ast.specs.declared.names.Use.TheVariants as usage
+
+-- a rule for the used names that are declared, by the name's number, how it is used, and what it is declared as
+abbrev pub UseRule : Type 0
+UseRule = ℕ → Use → Entity → Bool
+
+abbrev pub if_declared : (Entity → Bool) → Option Entity → Bool
+if_declared test None = false
+if_declared test (Some e) = test e
+
+-- what stands at a token is a used name, which violates such a rule
+abbrev pub violates : UseRule → Note → Bool
+violates rule (Used s n u) = if_declared (rule n.id u) (entity_of (lookup s.entries n.id))
+violates rule _ = false
+
+-- 10: a name that is used has no declaration in scope
+abbrev pub is_unknown : Note → Bool
+is_unknown (Used s n u) = is_none (entity_of (lookup s.entries n.id))
+is_unknown _ = false
+
+abbrev pub has_index : Shape → Bool
+has_index shape.Bare = false
+has_index shape.Indexed = true
+
+-- a scalar, an element, a constant, `osin_len` or a single stream
+abbrev pub is_single : Entity → Bool
+is_single (entity.Constant v) = true
+is_single (entity.Scalar slot) = true
+is_single (entity.Control slot) = true
+is_single entity.InputLength = true
+is_single (entity.Element item d) = true
+is_single (entity.Stream number) = true
+is_single _ = false
+
+-- a local array, a view or an array of streams
+abbrev pub is_array : Entity → Bool
+is_array (entity.Array first size) = true
+is_array (entity.View item d) = true
+is_array (entity.Streams first count) = true
+is_array _ = false
+
+abbrev pub is_function : Entity → Bool
+is_function (entity.Function number params) = true
+is_function _ = false
+
+abbrev pub is_stream : Entity → Bool
+is_stream (entity.Stream number) = true
+is_stream (entity.Streams first count) = true
+is_stream _ = false
+
+abbrev pub is_a_window : Entity → Bool
+is_a_window (entity.Window slot) = true
+is_a_window _ = false
+
+-- a scalar that is declared in the control program
+abbrev pub is_control : Entity → Bool
+is_control (entity.Control slot) = true
+is_control _ = false
+
+abbrev pub is_input_length : Entity → Bool
+is_input_length entity.InputLength = true
+is_input_length _ = false
+
+-- something that is no array with an index, or an array without
+abbrev pub has_wrong_shape : Shape → Entity → Bool
+has_wrong_shape s e = (is_single e && has_index s) || (is_array e && not (has_index s))
+
+-- 11: a name of the wrong kind
+abbrev pub is_wrong_kind : UseRule
+-- a function that isn't called; a local array, a view or an array of streams without an index; a scalar, an element, a
+-- constant or a single stream with one
+is_wrong_kind id (usage.Place role.Value s) e = is_function e || has_wrong_shape s e
+is_wrong_kind id (usage.Place role.Changed s) e = is_function e || has_wrong_shape s e
+-- the stream of an item or a tick is no stream, or has an index where it is single, or none where it is an array
+is_wrong_kind id (usage.Place (role.Flow d) s) e = not (is_stream e) || has_wrong_shape s e
+-- a call of what is no function, or of `main`
+is_wrong_kind id (usage.Called args) e = not (is_function e) || (id == main_id)
+-- what stands behind an arrow is neither a scalar of the control program nor a window; there a scalar has a burst, or a
+-- window has none
+is_wrong_kind id (usage.Joined s) e =
+    (not (is_control e) && not (is_a_window e)) || (is_control e && has_index s) || (is_a_window e && not (has_index s))
+-- a `firstprivate` name is neither a scalar of the control program nor `osin_len`
+is_wrong_kind id usage.Private e = not (is_control e) && not (is_input_length e)
+
+-- 12: a name is declared a second time in one scope
+abbrev pub is_declared_twice : Note → Bool
+is_declared_twice (Declared s d) = is_declared s d.name.id
+is_declared_twice (Given s n) = is_declared s n.id
+is_declared_twice (Global s n) = is_declared s n.id
+is_declared_twice _ = false
+
+-- 13: a call has another number of arguments than the function has parameters
+abbrev pub has_other_count : UseRule
+has_other_count id (usage.Called args) (entity.Function number params) = not (args == params)
+has_other_count id u e = false
+
+-- an element or a view of an input item, a constant, `osin_len`, or a stream that is no element there
+abbrev pub is_fixed : Entity → Bool
+is_fixed (entity.Constant v) = true
+is_fixed entity.InputLength = true
+is_fixed (entity.Stream number) = true
+is_fixed (entity.Streams first count) = true
+is_fixed (entity.Element item direction.Reads) = true
+is_fixed (entity.View item direction.Reads) = true
+is_fixed _ = false
+
+-- 14: a change of what may not be changed
+abbrev pub is_changed : UseRule
+is_changed id (usage.Place role.Changed s) e = is_fixed e
+is_changed id u e = false
+
+-- a local array or an array of streams whose size is neither a number nor the name of a constant, or isn't from 1 to
+-- 65,536
+abbrev pub has_no_size : Form → Option ℤ → Bool
+has_no_size (form_of.Array n) told = not (is_size told)
+has_no_size (form_of.Streams n) told = not (is_size told)
+has_no_size _ told = false
+
+-- in this scope the arrays of the function or task, those of the program, or its streams are too many
+abbrev pub has_too_many : Scope → Form → Bool
+has_too_many s (form_of.Array n) = ltb elements_limit s.elements || ltb arrays_limit s.arrays
+has_too_many s form_of.Stream = ltb streams_limit s.streams
+has_too_many s (form_of.Streams n) = ltb streams_limit s.streams
+has_too_many s _ = false
+
+-- 15: the size is wrong, or with this declarator a limit is passed
+abbrev pub has_wrong_size : Note → Bool
+has_wrong_size (Declared s d) = has_no_size (form s d) (size_told s d.size) || has_too_many (after_declarator s d) (form s d)
+has_wrong_size _ = false
+
+-- 16: `break` or `continue` outside a loop of the same function or task
+abbrev pub is_outside_a_loop : Note → Bool
+is_outside_a_loop (Left s m) = not s.loop
+is_outside_a_loop _ = false
+
+-- directly in the outermost block of `main`, whose scope stands in the one that holds `osin`, in that of the file
+abbrev pub is_outermost : Owner → ℕ → Bool
+is_outermost owner.OfMain depth = depth == 2
+is_outermost owner.OfFunction depth = false
+is_outermost owner.OfTask depth = false
+
+abbrev pub is_main_body : Owner → Bool
+is_main_body owner.OfMain = true
+is_main_body owner.OfFunction = false
+is_main_body owner.OfTask = false
+
+-- 17: a pragma outside `main` or inside a task; a stream anywhere but directly in the outermost block of `main`
+abbrev pub is_misplaced : Note → Bool
+is_misplaced (Pragma s m) = not (is_main_body s.owner)
+is_misplaced (Task s m items captured) = not (is_main_body s.owner)
+is_misplaced (Declared s d) = d.stream && not (is_outermost s.owner s.depth)
+is_misplaced _ = false
+
+abbrev pub is_task_body : Owner → Bool
+is_task_body owner.OfTask = true
+is_task_body owner.OfMain = false
+is_task_body owner.OfFunction = false
+
+-- 18: `return` in a task
+abbrev pub returns_from_a_task : Note → Bool
+returns_from_a_task (Returned s m) = is_task_body s.owner
+returns_from_a_task _ = false
+
+-- 19: a stream is named where it is neither that of an item or a tick nor changed, which is 14
+abbrev pub is_misplaced_stream : UseRule
+is_misplaced_stream id (usage.Place role.Value s) e = is_stream e
+is_misplaced_stream id (usage.Place role.Changed s) e = false
+is_misplaced_stream id (usage.Place (role.Flow d) s) e = false
+is_misplaced_stream id (usage.Called args) e = is_stream e
+is_misplaced_stream id (usage.Joined s) e = is_stream e
+is_misplaced_stream id usage.Private e = is_stream e
+
+-- 20: `osin`, which is stream 0, as the stream of an output item; `osout`, which is stream 1, as that of an input item
+-- or a tick
+abbrev pub is_wrong_end : UseRule
+is_wrong_end id (usage.Place (role.Flow direction.Writes) s) (entity.Stream number) = number == 0
+is_wrong_end id (usage.Place (role.Flow direction.Reads) s) (entity.Stream number) = number == 1
+is_wrong_end id u e = false
+
+-- 21: a name stands a second time in the clauses of a task
+abbrev pub is_listed_twice : Note → Bool
+is_listed_twice (Listed before n) = is_in n.id before
+is_listed_twice _ = false
+
+-- more than 8 items, or more than 64 captured scalars
+abbrev pub takes_more : ℕ → ℕ → Bool
+takes_more items scalars = ltb items_limit items || ltb captured_limit scalars
+
+-- 22: a task has too many items, or captures too many scalars
+abbrev pub takes_too_much : Note → Bool
+takes_too_much (Task s m items captured) = takes_more items (length captured)
+takes_too_much _ = false
+
+-- 24: a window is named outside an item's window
+abbrev pub is_misplaced_window : UseRule
+is_misplaced_window id (usage.Place r s) e = is_a_window e
+is_misplaced_window id (usage.Called args) e = is_a_window e
+is_misplaced_window id (usage.Joined s) e = false
+is_misplaced_window id usage.Private e = is_a_window e
+
+-- the code, where the rule is violated
+abbrev pub when : Bool → ℕ → List ℕ
+when true code = code ∷ []
+when false code = []
+
+-- a rule by its code
+pub record Rule : Type 0 where
+  pub code : ℕ
+  pub is_violated : Note → Bool
+
+abbrev rule : ℕ → (Note → Bool) → Rule
+rule code test = record { code = code; is_violated = test }
+
+-- all rules for what stands at a token
+abbrev pub rules : List Rule
+rules =
+    rule 10 is_unknown
+    ∷ rule 11 (violates is_wrong_kind)
+    ∷ rule 12 is_declared_twice
+    ∷ rule 13 (violates has_other_count)
+    ∷ rule 14 (violates is_changed)
+    ∷ rule 15 has_wrong_size
+    ∷ rule 16 is_outside_a_loop
+    ∷ rule 17 is_misplaced
+    ∷ rule 18 returns_from_a_task
+    ∷ rule 19 (violates is_misplaced_stream)
+    ∷ rule 20 (violates is_wrong_end)
+    ∷ rule 21 is_listed_twice
+    ∷ rule 22 takes_too_much
+    ∷ rule 24 (violates is_misplaced_window)
+    ∷ []
+
+abbrev pub codes_among : List Rule → Note → List ℕ
+codes_among [] n = []
+codes_among (r ∷ rs) n = when (r.is_violated n) r.code ++ codes_among rs n
+
+-- the codes of the rules that what stands at a token violates
+abbrev pub codes : Note → List ℕ
+codes n = codes_among rules n

@@ -1,0 +1,6 @@
+int f(void) {
+    int a[2];
+    a = 1;
+    return 0;
+}
+int main(void) { }

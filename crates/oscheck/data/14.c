@@ -1,0 +1,3 @@
+int main(void) {
+    osin_len = 1;
+}

@@ -1,0 +1,3 @@
+int main(void) {
+    { int s __attribute__((stream)); }
+}

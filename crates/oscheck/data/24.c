@@ -1,0 +1,4 @@
+int main(void) {
+    int w[2];
+    w[0] = 1;
+}

@@ -1,0 +1,28 @@
+/* Lets one allocation of a program fail: the one whose number the variable FAILING_ALLOCATION names, counted from 1.
+ * It is loaded before the C library, and hands every other call on to it. A block that is made longer counts too.
+ * It includes nothing, so that a compiler without headers builds it. */
+typedef unsigned long size;
+
+extern void *dlsym(void *library, const char *name);
+extern char *getenv(const char *name);
+extern unsigned long strtoul(const char *text, char **end, int base);
+
+#define NEXT_LIBRARY ((void *)-1l)
+
+static unsigned long made;
+
+static int fails(void) {
+    const char *failing = getenv("FAILING_ALLOCATION");
+    made += 1;
+    return failing != 0 && strtoul(failing, 0, 10) == made;
+}
+
+void *malloc(size bytes) {
+    void *(*next)(size) = (void *(*)(size))dlsym(NEXT_LIBRARY, "malloc");
+    return fails() ? 0 : next(bytes);
+}
+
+void *realloc(void *block, size bytes) {
+    void *(*next)(void *, size) = (void *(*)(void *, size))dlsym(NEXT_LIBRARY, "realloc");
+    return fails() ? 0 : next(block, bytes);
+}
