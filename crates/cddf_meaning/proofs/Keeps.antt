@@ -19,8 +19,8 @@ use Rattle.cddf_meaning.specs.declared.flow.Flow.TheVariants.{GoesOn, Breaks, Co
 use Rattle.cddf_meaning.specs.declared.site.Site.{Site}
 use Rattle.cddf_meaning.specs.declared.variable.Variable.{Variable}
 use Rattle.cddf_meaning.specs.declared.variable.Variable.TheVariants.{Constant, Function, Scalar, Array, Window, Stream, Item}
-use Rattle.os_ast.specs.Notes.Clauses as clause
-use Rattle.os_ast.specs.Notes.Clauses.{parts}
+use Rattle.os_ast.specs.Parts as clause
+use Rattle.os_ast.specs.Parts.{parts}
 use Rattle.os_ast.specs.Trees as tree
 use Rattle.os_ast.specs.declared.expr.Mark.{Mark}
 use Rattle.os_ast.specs.declared.names.Direction.{Direction}

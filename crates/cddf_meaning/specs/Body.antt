@@ -7,16 +7,17 @@ use Rattle.cddf_meaning.specs.Functions.{in_function}
 use Rattle.cddf_meaning.specs.Program.{Main, main_of}
 use Rattle.cddf_meaning.specs.Run.{run}
 use Rattle.cddf_meaning.specs.State.{state_of}
-use Rattle.cddf_meaning.specs.Tasks.{Task, tasks_of}
+use Rattle.cddf_meaning.specs.Tasks.{Task}
 use Rattle.cddf_meaning.specs.Variables.{bind}
 use Rattle.cddf_meaning.specs.declared.ending.Ending.TheVariants.{Trapped, OverBudget, Limited}
 use Rattle.cddf_meaning.specs.declared.variable.Binding.{Binding}
 use Rattle.cddf_meaning.specs.declared.variable.Variable.TheVariants.{Scalar, Item}
-use Rattle.flow_core.specs.Outcome.{Outcome}
+use Rattle.flow_core.specs.Outcome.{outcome_of}
 use Rattle.flow_core.specs.declared.activation.Activation.{Activation}
 use Rattle.flow_core.specs.declared.claim.Claim.{Claim}
+use Rattle.flow_core.specs.declared.outcome.Outcome.{Outcome}
 use Rattle.flow_core.specs.declared.task_end.TaskEnd.TheVariants as end
-use Rattle.os_ast.specs.Notes.Clauses as clauses
+use Rattle.os_ast.specs.Parts as clauses
 use Rattle.os_ast.specs.Trees as tree
 
 -- The captured scalars, by their names. An activation that fits its task has a value for each.
@@ -66,14 +67,14 @@ gives_bytes (c ∷ cs) [] = true
 gives_bytes (c ∷ cs) (vs ∷ items) = (not (writes_output c) || list_all is_byte vs) && gives_bytes cs items
 
 abbrev pub done : List ℤ → Outcome
-done outputs = record { end = end.Done; outputs = outputs }
+done outputs = outcome_of end.Done outputs
 
 -- A body that doesn't end normally writes nothing.
 abbrev pub trapped : (code line : ℕ) → Outcome
-trapped code line = record { end = end.Trapped code line; outputs = [] }
+trapped code line = outcome_of (end.Trapped code line) []
 
 abbrev pub over_budget : Outcome
-over_budget = record { end = end.OverBudget; outputs = [] }
+over_budget = outcome_of end.OverBudget []
 
 -- A body that ended normally is done where each element that goes to `osout` is a byte; else it is trap 5, with the line
 -- of the pragma. `return` stands in no task, `break` and `continue` in its loops alone, and a task meets no limit.
@@ -97,7 +98,7 @@ chosen_outcome file (Some t) a inputs budget = task_outcome file t a inputs budg
 -- A program has a function `main`.
 abbrev pub outcome_in : Option Main → Activation → List ℤ → ℕ → Outcome
 outcome_in None a inputs budget = done []
-outcome_in (Some m) a inputs budget = chosen_outcome m.file (slice_get (tasks_of m.body) a.site) a inputs budget
+outcome_in (Some m) a inputs budget = chosen_outcome m.file (slice_get m.tasks a.site) a inputs budget
 
 -- How an activation ends for its inputs, which are those of its input windows in clause order, and what it writes.
 abbrev pub body : tree.ProgramTree → Activation → List ℤ → ℕ → Outcome

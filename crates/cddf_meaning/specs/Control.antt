@@ -4,7 +4,7 @@ use Rattle.cddf_meaning.specs.Flow.{Ran, Went, Ended}
 use Rattle.cddf_meaning.specs.Program.{Main, main_of}
 use Rattle.cddf_meaning.specs.Run.{Around, run_all}
 use Rattle.cddf_meaning.specs.State.{State}
-use Rattle.cddf_meaning.specs.Tasks.{sites_of, tasks_of}
+use Rattle.cddf_meaning.specs.Tasks.{sites_of}
 use Rattle.cddf_meaning.specs.Variables.{bind}
 use Rattle.cddf_meaning.specs.declared.ending.Ending.TheVariants.{Trapped, OverBudget, Limited}
 use Rattle.cddf_meaning.specs.declared.ending.Ending.{Ending}
@@ -27,7 +27,7 @@ control_of (Went flow s turns) = record { activations = s.activations; end = end
 control_of (Ended end activations) = record { activations = activations; end = control_end end }
 
 abbrev pub round_main : Main → Around
-round_main m = record { file = m.file; is_control = true; sites = sites_of (tasks_of m.body) }
+round_main m = record { file = m.file; is_control = true; sites = sites_of m.tasks }
 
 -- round the body of `main`: `osin`, which is stream 0, `osout`, which is stream 1, and `osin_len`
 abbrev pub bound_round_main : (input_len : ℕ) → List Binding

@@ -7,7 +7,6 @@ pub mod File
 pub mod Value
 pub mod Flow
 pub mod Claims
-pub mod Captured
 pub mod Tasks
 pub mod Streams
 pub mod Run
@@ -15,6 +14,7 @@ pub mod Functions
 pub mod Program
 pub mod Body
 pub mod Control
--- what laws say
+-- what laws and examples say
+pub mod Examples
 pub mod Moves
 pub mod Skips

@@ -15,7 +15,7 @@ use Rattle.cddf_meaning.specs.Value.{value, values, call_value, scalar_value, el
 use Rattle.cddf_meaning.specs.declared.ending.Ending.TheVariants.{OverBudget}
 use Rattle.cddf_meaning.specs.declared.flow.Flow.TheVariants.{Breaks, Continues, Returns}
 use Rattle.cddf_meaning.specs.declared.variable.Variable.TheVariants.{Scalar, Array, Window, Stream}
-use Rattle.os_ast.specs.Notes.Clauses.{parts}
+use Rattle.os_ast.specs.Parts.{parts}
 use Rattle.os_ast.specs.Notes.Declarators.{within_limit}
 use Rattle.os_ast.specs.Trees as tree
 use Rattle.os_ast.specs.declared.stmt.Assign.TheVariants as assign_of

@@ -12,6 +12,7 @@
 
 mod aim;
 mod ending;
+pub mod examples;
 mod flow;
 pub mod laws;
 mod site;
