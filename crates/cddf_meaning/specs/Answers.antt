@@ -1,0 +1,37 @@
+-- What an evaluation comes to.
+use Rattle.std.specs.Prelude.{ℕ, ℤ, Result, Ok, Err}
+use Rattle.c_int.specs.Operators.{trap_code}
+use Rattle.c_int.specs.declared.trap.Trap.{Trap}
+use Rattle.cddf_meaning.specs.declared.ending.Ending.{Ending}
+use Rattle.cddf_meaning.specs.declared.ending.Ending.TheVariants.{Trapped, OverBudget}
+
+-- It gives something; or the body ends in it: by a trap, with its code and line, or because the turns are used up.
+abbrev pub Answer : Type 0 → Type 0
+Answer A = Result A Ending
+
+abbrev pub traps : {A : Type 0} → (code line : ℕ) → Answer A
+traps code line = Err (Trapped code line)
+
+abbrev pub over : {A : Type 0} → Answer A
+over = Err OverBudget
+
+-- what comes next, where something is given
+abbrev pub and_then : {A B : Type 0} → Answer A → (A → Answer B) → Answer B
+and_then (Ok a) next = next a
+and_then (Err ending) next = Err ending
+
+-- what an operator gives, or its trap with the line of the operator
+abbrev pub at_line : ℕ → Result ℤ Trap → Answer ℤ
+at_line line (Ok v) = Ok v
+at_line line (Err trap) = traps (trap_code trap) line
+
+-- Something, and the turns that are left behind it. A turn is a unit of the budget.
+pub record Left (A : Type 0) : Type 0 where
+  pub value : A
+  pub turns : ℕ
+
+abbrev pub left : {A : Type 0} → A → ℕ → Left A
+left v turns = record { value = v; turns = turns }
+
+abbrev pub with_turns : {A : Type 0} → ℕ → Answer A → Answer (Left A)
+with_turns turns a = and_then a (λ v. Ok (left v turns))

@@ -1,0 +1,105 @@
+-- What a task's body makes of its captured scalars and its input windows.
+use Rattle.std.specs.Prelude.{ℕ, suc, ◌==◌, Bool, true, false, not, ◌&&◌, ◌||◌, if◌then◌else◌, ltb, List, [], ◌∷◌, ◌++◌, take, drop, replicate, slice_get, Option, Some, None, ℤ, pos, negsuc}
+use Rattle.std.specs.List.{list_all}
+use Rattle.cddf_meaning.specs.File.{File}
+use Rattle.cddf_meaning.specs.Flow.{Ran, Went, Ended}
+use Rattle.cddf_meaning.specs.Functions.{in_function}
+use Rattle.cddf_meaning.specs.Program.{Main, main_of}
+use Rattle.cddf_meaning.specs.Run.{run}
+use Rattle.cddf_meaning.specs.State.{state_of}
+use Rattle.cddf_meaning.specs.Tasks.{Task}
+use Rattle.cddf_meaning.specs.Variables.{bind}
+use Rattle.cddf_meaning.specs.declared.ending.Ending.TheVariants.{Trapped, OverBudget, Limited}
+use Rattle.cddf_meaning.specs.declared.variable.Binding.{Binding}
+use Rattle.cddf_meaning.specs.declared.variable.Variable.TheVariants.{Scalar, Item}
+use Rattle.flow_core.specs.Outcome.{outcome_of}
+use Rattle.flow_core.specs.declared.activation.Activation.{Activation}
+use Rattle.flow_core.specs.declared.claim.Claim.{Claim}
+use Rattle.flow_core.specs.declared.outcome.Outcome.{Outcome}
+use Rattle.flow_core.specs.declared.task_end.TaskEnd.TheVariants as end
+use Rattle.os_ast.specs.Parts as clauses
+use Rattle.os_ast.specs.Trees as tree
+
+-- The captured scalars, by their names. An activation that fits its task has a value for each.
+abbrev pub bind_captured : List ℕ → List ℤ → List Binding → List Binding
+bind_captured [] vs bound = bound
+bind_captured (id ∷ ids) [] bound = bind_captured ids [] (bind id (Scalar (pos 0)) bound)
+bind_captured (id ∷ ids) (v ∷ vs) bound = bind_captured ids vs (bind id (Scalar v) bound)
+
+-- The names of the items, by their numbers in the order of the clauses.
+abbrev pub bind_items : ℕ → List clauses.Part → List Binding → List Binding
+bind_items item [] bound = bound
+bind_items item (clauses.Item d i ∷ ps) bound =
+    bind_items (suc item) ps (bind (clauses.item_name i.stream i.window).id (Item item) bound)
+bind_items item (clauses.Private n ∷ ps) bound = bind_items item ps bound
+
+-- the declarations round the body of a task
+abbrev pub bound_round : Task → List ℤ → List Binding
+bound_round t values = bind_items 0 t.parts (bind_captured t.captured values [])
+
+-- The elements of the items, each as many as its claim's horizon: an input item has the next elements of the input, an
+-- output item is 0 at first. The input has the sum of the read horizons as length.
+abbrev pub item_lists : List Claim → List ℤ → List (List ℤ)
+item_lists [] inputs = []
+item_lists (c ∷ cs) inputs =
+    if c.write then replicate c.horizon (pos 0) ∷ item_lists cs inputs
+    else take c.horizon inputs ∷ item_lists cs (drop c.horizon inputs)
+
+-- The elements of the output items, one item after another; each has as many as its claim's horizon.
+abbrev pub written : List Claim → List (List ℤ) → List ℤ
+written [] items = []
+written (c ∷ cs) [] = []
+written (c ∷ cs) (vs ∷ items) = if c.write then vs ++ written cs items else written cs items
+
+-- an element that can be written as a byte
+abbrev pub is_byte : ℤ → Bool
+is_byte (pos n) = ltb n 256
+is_byte (negsuc n) = false
+
+-- whether a claim writes to `osout`, which is stream 1
+abbrev pub writes_output : Claim → Bool
+writes_output c = c.write && (c.stream == 1)
+
+-- whether every element that goes to `osout` is a byte
+abbrev pub gives_bytes : List Claim → List (List ℤ) → Bool
+gives_bytes [] items = true
+gives_bytes (c ∷ cs) [] = true
+gives_bytes (c ∷ cs) (vs ∷ items) = (not (writes_output c) || list_all is_byte vs) && gives_bytes cs items
+
+abbrev pub done : List ℤ → Outcome
+done outputs = outcome_of end.Done outputs
+
+-- A body that doesn't end normally writes nothing.
+abbrev pub trapped : (code line : ℕ) → Outcome
+trapped code line = outcome_of (end.Trapped code line) []
+
+abbrev pub over_budget : Outcome
+over_budget = outcome_of end.OverBudget []
+
+-- A body that ended normally is done where each element that goes to `osout` is a byte; else it is trap 5, with the line
+-- of the pragma. `return` stands in no task, `break` and `continue` in its loops alone, and a task meets no limit.
+abbrev pub outcome : (line : ℕ) → List Claim → Ran → Outcome
+outcome line claims (Went flow s turns) = if gives_bytes claims s.items then done (written claims s.items) else trapped 5 line
+outcome line claims (Ended (Trapped code at) activations) = trapped code at
+outcome line claims (Ended OverBudget activations) = over_budget
+outcome line claims (Ended (Limited n) activations) = over_budget
+
+-- the body of a task, behind these items of the file
+abbrev pub task_outcome : File → Task → Activation → List ℤ → ℕ → Outcome
+task_outcome file t a inputs budget =
+    outcome t.mark.line a.claims
+    (run (in_function file) t.body (state_of (bound_round t a.captured) (item_lists a.claims inputs)) budget)
+
+-- An activation is of one of the tasks.
+abbrev pub chosen_outcome : File → Option Task → Activation → List ℤ → ℕ → Outcome
+chosen_outcome file None a inputs budget = done []
+chosen_outcome file (Some t) a inputs budget = task_outcome file t a inputs budget
+
+-- A program has a function `main`.
+abbrev pub outcome_in : Option Main → Activation → List ℤ → ℕ → Outcome
+outcome_in None a inputs budget = done []
+outcome_in (Some m) a inputs budget = chosen_outcome m.file (slice_get m.tasks a.site) a inputs budget
+
+-- How an activation ends for its inputs, which are those of its input windows in clause order, and what it writes.
+abbrev pub body : tree.ProgramTree → Activation → List ℤ → ℕ → Outcome
+body program a inputs budget = outcome_in (main_of program) a inputs budget

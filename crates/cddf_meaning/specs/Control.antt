@@ -1,0 +1,47 @@
+-- What the control program creates, and how it ends.
+use Rattle.std.specs.Prelude.{ℕ, true, List, [], ◌∷◌, Option, Some, None, pos}
+use Rattle.cddf_meaning.specs.Flow.{Ran, Went, Ended}
+use Rattle.cddf_meaning.specs.Program.{Main, main_of}
+use Rattle.cddf_meaning.specs.Run.{Around, run_all}
+use Rattle.cddf_meaning.specs.State.{State}
+use Rattle.cddf_meaning.specs.Tasks.{sites_of}
+use Rattle.cddf_meaning.specs.Variables.{bind}
+use Rattle.cddf_meaning.specs.declared.ending.Ending.TheVariants.{Trapped, OverBudget, Limited}
+use Rattle.cddf_meaning.specs.declared.ending.Ending.{Ending}
+use Rattle.cddf_meaning.specs.declared.variable.Binding.{Binding}
+use Rattle.cddf_meaning.specs.declared.variable.Variable.TheVariants.{Scalar, Stream}
+use Rattle.flow_core.specs.declared.control.Control.{Control}
+use Rattle.flow_core.specs.declared.control.ControlEnd.TheVariants as end
+use Rattle.flow_core.specs.declared.control.ControlEnd.{ControlEnd}
+use Rattle.os_ast.specs.Names.{osin_id, osout_id, osin_len_id}
+use Rattle.os_ast.specs.Trees as tree
+
+abbrev pub control_end : Ending → ControlEnd
+control_end (Trapped code line) = end.Trapped code line
+control_end OverBudget = end.OverBudget
+control_end (Limited n) = end.Limit n
+
+-- `return` ends the control program too.
+abbrev pub control_of : Ran → Control
+control_of (Went flow s turns) = record { activations = s.activations; end = end.Done }
+control_of (Ended end activations) = record { activations = activations; end = control_end end }
+
+abbrev pub round_main : Main → Around
+round_main m = record { file = m.file; is_control = true; sites = sites_of m.tasks }
+
+-- round the body of `main`: `osin`, which is stream 0, `osout`, which is stream 1, and `osin_len`
+abbrev pub bound_round_main : (input_len : ℕ) → List Binding
+bound_round_main input_len = bind osin_len_id (Scalar (pos input_len)) (bind osout_id (Stream 1 1) (bind osin_id (Stream 0 1) []))
+
+abbrev pub control_state : (input_len : ℕ) → State
+control_state input_len =
+    record { bound = bound_round_main input_len; items = []; activations = []; skips = 0 ∷ 0 ∷ [] }
+
+-- A program has a function `main`.
+abbrev pub control_in : Option Main → (input_len budget : ℕ) → Control
+control_in None input_len budget = record { activations = []; end = end.Done }
+control_in (Some m) input_len budget = control_of (run_all (round_main m) m.body (control_state input_len) budget)
+
+-- the activations that the control program creates, in order, and its end
+abbrev pub control : tree.ProgramTree → (input_len budget : ℕ) → Control
+control program input_len budget = control_in (main_of program) input_len budget

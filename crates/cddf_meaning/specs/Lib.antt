@@ -1,0 +1,20 @@
+-- what a reader believes
+pub mod Answers
+pub mod Operators
+pub mod Variables
+pub mod State
+pub mod File
+pub mod Value
+pub mod Flow
+pub mod Claims
+pub mod Tasks
+pub mod Streams
+pub mod Run
+pub mod Functions
+pub mod Program
+pub mod Body
+pub mod Control
+-- what laws and examples say
+pub mod Examples
+pub mod Moves
+pub mod Skips

@@ -1,0 +1,59 @@
+-- The operators of the trees as operators on numbers. The line of a trap is the operator's.
+use Rattle.std.specs.Prelude.{ℕ, ℤ, pos, Option, Some, None, Ok}
+use Rattle.c_int.specs.Operators as c_int
+use Rattle.c_int.specs.declared.operators.Binary as int_binary
+use Rattle.c_int.specs.declared.operators.Binary.TheVariants as two
+use Rattle.c_int.specs.declared.operators.Unary as int_unary
+use Rattle.c_int.specs.declared.operators.Unary.TheVariants as one
+use Rattle.cddf_meaning.specs.Answers.{Answer, at_line}
+use Rattle.os_ast.specs.declared.expr.Binary.TheVariants as binary
+use Rattle.os_ast.specs.declared.expr.Binary.{Binary}
+use Rattle.os_ast.specs.declared.expr.Unary.TheVariants as unary
+use Rattle.os_ast.specs.declared.expr.Unary.{Unary}
+use Rattle.os_ast.specs.declared.stmt.Step.TheVariants as step
+use Rattle.os_ast.specs.declared.stmt.Step.{Step}
+
+abbrev pub operator_of_one : Unary → int_unary.Unary
+operator_of_one unary.Minus = one.Minus
+operator_of_one unary.Plus = one.Plus
+operator_of_one unary.Not = one.Not
+operator_of_one unary.Invert = one.Invert
+
+-- `&&` and `||` are none: they evaluate their right side only where they need it.
+abbrev pub operator_of_two : Binary → Option int_binary.Binary
+operator_of_two binary.Or = None
+operator_of_two binary.And = None
+operator_of_two binary.BitOr = Some two.BitOr
+operator_of_two binary.BitXor = Some two.BitXor
+operator_of_two binary.BitAnd = Some two.BitAnd
+operator_of_two binary.Equal = Some two.Equal
+operator_of_two binary.Unequal = Some two.Unequal
+operator_of_two binary.Less = Some two.Less
+operator_of_two binary.LessEqual = Some two.LessEqual
+operator_of_two binary.Greater = Some two.Greater
+operator_of_two binary.GreaterEqual = Some two.GreaterEqual
+operator_of_two binary.ShiftLeft = Some two.ShiftLeft
+operator_of_two binary.ShiftRight = Some two.ShiftRight
+operator_of_two binary.Add = Some two.Add
+operator_of_two binary.Subtract = Some two.Subtract
+operator_of_two binary.Multiply = Some two.Multiply
+operator_of_two binary.Divide = Some two.Divide
+operator_of_two binary.Remainder = Some two.Remainder
+
+-- what an operator with one operand gives
+abbrev pub unary_value : Unary → ℕ → ℤ → Answer ℤ
+unary_value op line a = at_line line (c_int.unary_value (operator_of_one op) a)
+
+-- An operator that is none is never asked.
+abbrev pub given_by : Option int_binary.Binary → ℕ → ℤ → ℤ → Answer ℤ
+given_by None line a b = Ok (pos 0)
+given_by (Some op) line a b = at_line line (c_int.binary_value op a b)
+
+-- what an operator with two operands gives that are both evaluated
+abbrev pub binary_value : Binary → ℕ → ℤ → ℤ → Answer ℤ
+binary_value op line a b = given_by (operator_of_two op) line a b
+
+-- `++` adds 1, and `--` takes 1.
+abbrev pub step_operator : Step → Binary
+step_operator step.Up = binary.Add
+step_operator step.Down = binary.Subtract

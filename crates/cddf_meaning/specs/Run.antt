@@ -1,0 +1,174 @@
+-- What a statement does. C11, 6.8; the declarations and pragmas of the control program by the rules of streams.
+use Rattle.std.specs.Prelude.{ℕ, zero, suc, Bool, if◌then◌else◌, leb, ◌&&◌, List, [], ◌∷◌, ◌++◌, length, get_or, replicate, Option, Some, None, ℤ, pos, negsuc, unwrap_or, Ok}
+use Rattle.c_int.specs.Operators.{is_zero}
+use Rattle.cddf_meaning.specs.Answers.{Answer, traps, and_then, Left, left, with_turns}
+use Rattle.cddf_meaning.specs.File.{File, variable}
+use Rattle.cddf_meaning.specs.Flow.{Went, Ended, Runs, given, goes_on, flows, loops, left_from}
+use Rattle.cddf_meaning.specs.Operators.{binary_value, step_operator}
+use Rattle.cddf_meaning.specs.State.{State, declared, stored, stored_at}
+use Rattle.cddf_meaning.specs.Streams.{run_task, run_tick, task_number}
+use Rattle.cddf_meaning.specs.declared.site.Site.{Site}
+use Rattle.cddf_meaning.specs.declared.aim.Aim.{Aim}
+use Rattle.cddf_meaning.specs.declared.aim.Aim.TheVariants.{Name, Element}
+use Rattle.cddf_meaning.specs.Variables.{find}
+use Rattle.cddf_meaning.specs.Value.{value, values, call_value, scalar_value, elements, checked}
+use Rattle.cddf_meaning.specs.declared.ending.Ending.TheVariants.{OverBudget}
+use Rattle.cddf_meaning.specs.declared.flow.Flow.TheVariants.{Breaks, Continues, Returns}
+use Rattle.cddf_meaning.specs.declared.variable.Variable.TheVariants.{Scalar, Array, Window, Stream}
+use Rattle.os_ast.specs.Parts.{parts}
+use Rattle.os_ast.specs.Notes.Declarators.{within_limit}
+use Rattle.os_ast.specs.Trees as tree
+use Rattle.os_ast.specs.declared.stmt.Assign.TheVariants as assign_of
+use Rattle.os_ast.specs.declared.stmt.Assign.{Assign}
+
+-- What is round a body: the items of the file before it; whether it is the control program, whose array declarations
+-- are windows; and the tasks of the program.
+pub record Around : Type 0 where
+  pub file : File
+  pub is_control : Bool
+  pub sites : List Site
+
+-- A loop takes a unit, evaluates its condition, and runs its body and its step, over and over. C11, 6.8.5. Each time it
+-- takes a unit, so that `most` never runs out before the turns, where it is as large as they are at first.
+abbrev pub loop : ℕ → (State → ℕ → Answer (Left ℤ)) → Runs → Runs → Runs
+loop most test body step s zero = Ended OverBudget s.activations
+loop zero test body step s (suc turns) = Ended OverBudget s.activations
+loop (suc most) test body step s (suc turns) =
+    given (test s turns) s
+    (λ n. if is_zero n.value then goes_on s n.turns
+    else loops (λ s turns. flows (loop most test body step) (step s turns)) (body s n.turns))
+
+-- what is stored: the right side, or what the operator gives of the old value and the right side
+abbrev pub assigned : Assign → ℕ → ℤ → ℤ → Answer ℤ
+assigned assign_of.Plain line old new = Ok new
+assigned (assign_of.With op) line old new = binary_value op line old new
+
+-- The target of a change: its index is evaluated, and checked with the line of its `[`.
+abbrev pub aim_at : File → tree.TargetTree → State → ℕ → Answer (Left Aim)
+aim_at file (tree.Variable n) s turns = Ok (left (Name n.id) turns)
+aim_at file (tree.Element n m e) s turns =
+    and_then (value file e s turns)
+    (λ i. and_then (checked (length (elements s (find s.bound n.id))) m.line i.value) (λ k. Ok (left (Element n.id k) i.turns)))
+
+abbrev pub old_value : File → State → Aim → ℤ
+old_value file s (Name id) = scalar_value s (variable file s id)
+old_value file s (Element id k) = get_or (elements s (find s.bound id)) k (pos 0)
+
+abbrev pub written : State → Aim → ℤ → State
+written s (Name id) v = stored s id v
+written s (Element id k) v = stored_at s id k v
+
+-- A change: the target; then what is stored, which may be made of the old value; then it is stored. Expressions change
+-- no name, so that it makes no difference when the old value is read.
+abbrev pub changed : File → tree.TargetTree → (ℤ → State → ℕ → Answer (Left ℤ)) → Runs
+changed file t right s turns =
+    given (aim_at file t s turns) s
+    (λ a. given (right (old_value file s a.value) s a.turns) s (λ v. goes_on (written s a.value v.value) v.turns))
+
+-- `x op= e` operates as `x op e`; `++` and `--` add or take 1. The line of a trap is the operator's. C11, 6.5.16,
+-- 6.5.2.4 and 6.5.3.1.
+abbrev pub run_change : File → tree.ChangeTree → Runs
+run_change file (tree.Set t a m e) =
+    changed file t (λ old s turns. and_then (value file e s turns) (λ n. with_turns n.turns (assigned a m.line old n.value)))
+run_change file (tree.After t p m) = changed file t (λ old s turns. with_turns turns (binary_value (step_operator p) m.line old (pos 1)))
+run_change file (tree.Before t p m) = changed file t (λ old s turns. with_turns turns (binary_value (step_operator p) m.line old (pos 1)))
+
+-- A scalar is 0 from its declarator on, also while its own first value is evaluated.
+abbrev pub run_scalar : File → ℕ → Option tree.ExprTree → Runs
+run_scalar file id None s turns = goes_on (declared id (Scalar (pos 0)) s) turns
+run_scalar file id (Some e) s turns =
+    let inner = declared id (Scalar (pos 0)) s in
+    given (value file e inner turns) inner (λ n. goes_on (stored inner id n.value) n.turns)
+
+-- The size of a local array or of a stream array is a number or a constant from 1 to 65,536.
+abbrev pub array_size : ℤ → ℕ
+array_size v = unwrap_or (within_limit v) 0
+
+-- A local array has as many zeros as its size.
+abbrev pub run_array : File → ℕ → tree.ExprTree → Runs
+run_array file id size s turns =
+    given (value file size s turns) s (λ n. goes_on (declared id (Array (replicate (array_size n.value) (pos 0))) s) n.turns)
+
+-- The size of a window is 1 to 65,536; else it is trap 6, with the line of its `[`.
+abbrev pub window_size : ℕ → ℤ → Answer ℕ
+window_size line (pos n) = if leb 1 n && leb n 65536 then Ok n else traps 6 line
+window_size line (negsuc n) = traps 6 line
+
+abbrev pub run_window : File → ℕ → tree.IndexTree → Runs
+run_window file id i s turns =
+    given (value file i.value s turns) s
+    (λ n. given (window_size i.mark.line n.value) s (λ horizon. goes_on (declared id (Window horizon) s) n.turns))
+
+-- Streams are numbered in the order of the text, behind `osin` and `osout`: there is a skip for each stream so far.
+abbrev pub with_streams : ℕ → ℕ → State → State
+with_streams id count s =
+    record (declared id (Stream (length s.skips) count) s) { skips = s.skips ++ replicate count 0 }
+
+abbrev pub run_streams : File → ℕ → Option tree.IndexTree → Runs
+run_streams file id None s turns = goes_on (with_streams id 1 s) turns
+run_streams file id (Some i) s turns = given (value file i.value s turns) s (λ n. goes_on (with_streams id (array_size n.value) s) n.turns)
+
+-- an array of the control program is a window, every other is a local array
+abbrev pub run_sized : Around → ℕ → tree.IndexTree → Runs
+run_sized u id i = if u.is_control then run_window u.file id i else run_array u.file id i.value
+
+abbrev pub run_unsized_or : Around → tree.DeclaratorTree → Option tree.IndexTree → Runs
+run_unsized_or u d None = run_scalar u.file d.name.id d.first
+run_unsized_or u d (Some i) = run_sized u d.name.id i
+
+-- A declaration sets its variable each time that it is executed. C11, 6.7.9. Streams are declared once, directly in the
+-- outermost block of `main`.
+abbrev pub run_declarator : Around → tree.DeclaratorTree → Runs
+run_declarator u d = if d.stream then run_streams u.file d.name.id d.size else run_unsized_or u d d.size
+
+-- the declarators of a declaration, one after another
+abbrev pub run_declarators : Around → List tree.DeclaratorTree → Runs
+run_declarators u [] s turns = goes_on s turns
+run_declarators u (d ∷ ds) s turns = flows (run_declarators u ds) (run_declarator u d s turns)
+
+-- what stands before the first `;` of a `for`
+abbrev pub run_start : Around → tree.StartTree → Runs
+run_start u tree.StartTree.Empty s turns = goes_on s turns
+run_start u (tree.StartTree.Declare ds) s turns = run_declarators u ds s turns
+run_start u (tree.StartTree.Change c) s turns = run_change u.file c s turns
+
+-- Without a test a loop goes on.
+abbrev pub run_test : File → Option tree.ExprTree → State → ℕ → Answer (Left ℤ)
+run_test file None s turns = Ok (left (pos 1) turns)
+run_test file (Some e) s turns = value file e s turns
+
+-- what stands behind the second `;` of a `for`
+abbrev pub run_step : File → Option tree.ChangeTree → Runs
+run_step file None s turns = goes_on s turns
+run_step file (Some c) s turns = run_change file c s turns
+
+-- A statement. `if`, blocks, loops, jumps: C11, 6.8.2 to 6.8.6. A tick or a task stands in the control program alone.
+abbrev mutual
+  pub run : Around → tree.StmtTree → Runs
+  run u tree.StmtTree.Empty s turns = goes_on s turns
+  run u (tree.Block ss) s turns = left_from s (run_all u ss s turns)
+  run u (tree.StmtTree.Declare ds) s turns = run_declarators u ds s turns
+  run u (tree.StmtTree.Change c) s turns = run_change u.file c s turns
+  run u (tree.StmtTree.Call f args) s turns =
+      given (and_then (values u.file args s turns) (call_value u.file.calls (variable u.file s f.id))) s (λ n. goes_on s n.turns)
+  run u (tree.If c a) s turns =
+      given (value u.file c s turns) s (λ n. if is_zero n.value then goes_on s n.turns else run u a s n.turns)
+  run u (tree.IfElse c a b) s turns =
+      given (value u.file c s turns) s (λ n. if is_zero n.value then run u b s n.turns else run u a s n.turns)
+  run u (tree.While c a) s turns = loop turns (value u.file c) (run u a) goes_on s turns
+  run u (tree.For start test step a) s turns =
+      left_from s
+      (flows (λ inner left. loop left (run_test u.file test) (run u a) (run_step u.file step) inner left)
+      (run_start u start s turns))
+  run u (tree.Break m) s turns = Went Breaks s turns
+  run u (tree.Continue m) s turns = Went Continues s turns
+  run u (tree.Return m e) s turns = given (value u.file e s turns) s (λ n. Went (Returns n.value) s n.turns)
+  run u (tree.Task m cs a) s turns = run_task u.file u.sites (task_number u.sites m) (parts cs) s turns
+  run u (tree.Tick m t arrow e) s turns = run_tick u.file t arrow e s turns
+  -- The control program reads no element, so there is nothing to wait for.
+  run u (tree.Taskwait m) s turns = goes_on s turns
+
+  -- the statements and declarations of a block, one after another, until one leaves it
+  pub run_all : Around → tree.Stmts → Runs
+  run_all u tree.no_stmts s turns = goes_on s turns
+  run_all u (tree.stmt a rest) s turns = flows (run_all u rest) (run u a s turns)

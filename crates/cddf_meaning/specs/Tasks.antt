@@ -1,0 +1,56 @@
+-- The tasks of a program, in the order of the text.
+use Rattle.std.specs.Prelude.{ℕ, List, [], ◌∷◌, ◌++◌, map}
+use Rattle.cddf_meaning.specs.declared.site.Site.{Site}
+use Rattle.os_ast.specs.Captured.{Scalar, captured}
+use Rattle.os_ast.specs.Names.{Scope, enter, in_loop}
+use Rattle.os_ast.specs.Notes.Declarators.{after_start}
+use Rattle.os_ast.specs.Notes.Statements.{after_stmt}
+use Rattle.os_ast.specs.Parts.{Part, parts}
+use Rattle.os_ast.specs.Trees as tree
+use Rattle.os_ast.specs.declared.expr.Mark.{Mark}
+
+-- a task, with the names of the scalars that it captures, in the order of their declarations
+pub record Task : Type 0 where
+  -- its PragmaStart
+  pub mark : Mark
+  -- its items and `firstprivate` names, in the order of its clauses
+  pub parts : List Part
+  pub body : tree.StmtTree
+  pub captured : List ℕ
+
+-- a task where this is in scope
+abbrev pub task_at : Scope → Mark → List tree.ClauseTree → tree.StmtTree → Task
+task_at s m cs body = record {
+  mark = m;
+  parts = parts cs;
+  body = body;
+  captured = map (λ (c : Scalar). c.id) (captured s.entries (parts cs) body);
+}
+
+-- The tasks in a statement, where this is in scope. No task stands in a task.
+abbrev mutual
+  pub tasks_in : Scope → tree.StmtTree → List Task
+  tasks_in s tree.StmtTree.Empty = []
+  tasks_in s (tree.Block ss) = tasks_in_all (enter s) ss
+  tasks_in s (tree.StmtTree.Declare ds) = []
+  tasks_in s (tree.StmtTree.Change c) = []
+  tasks_in s (tree.StmtTree.Call f args) = []
+  tasks_in s (tree.If c a) = tasks_in s a
+  tasks_in s (tree.IfElse c a b) = tasks_in s a ++ tasks_in (after_stmt s a) b
+  tasks_in s (tree.While c a) = tasks_in (in_loop s) a
+  tasks_in s (tree.For start test step a) = tasks_in (in_loop (after_start (enter s) start)) a
+  tasks_in s (tree.Break m) = []
+  tasks_in s (tree.Continue m) = []
+  tasks_in s (tree.Return m e) = []
+  tasks_in s (tree.Task m cs a) = task_at s m cs a ∷ []
+  tasks_in s (tree.Tick m t arrow e) = []
+  tasks_in s (tree.Taskwait m) = []
+
+  -- the tasks in the statements of a block
+  pub tasks_in_all : Scope → tree.Stmts → List Task
+  tasks_in_all s tree.no_stmts = []
+  tasks_in_all s (tree.stmt a rest) = tasks_in s a ++ tasks_in_all (after_stmt s a) rest
+
+-- the tasks as their pragmas find them
+abbrev pub sites_of : List Task → List Site
+sites_of tasks = map (λ (t : Task). record { place = t.mark.place; captured = t.captured }) tasks

@@ -1,0 +1,52 @@
+//! Laws that show what the definitions of `specs/` mean. They take nothing and do nothing.
+//!
+//! That an expression changes no name, and that the claims of the control program don't depend on what bodies do, is
+//! seen in the types: `value` gives no state, and `control` takes no body.
+
+ghost use Rattle.std.specs.Prelude.{◌≡◌, ◌<◌, ◌≤◌, ℕ, ℤ, List, get_or, length};
+ghost use Rattle.cddf_meaning.specs.Answers.{Answer, Left};
+ghost use Rattle.cddf_meaning.specs.Body.{task_outcome};
+ghost use Rattle.cddf_meaning.specs.Flow.{Runs};
+ghost use Rattle.cddf_meaning.specs.Functions.{file_of};
+ghost use Rattle.cddf_meaning.specs.Moves.{Falls, Keeps, read_horizons, written_horizons};
+ghost use Rattle.cddf_meaning.specs.Run.{Around, loop, run};
+ghost use Rattle.cddf_meaning.specs.Skips.{Move, since_read, skips_of};
+ghost use Rattle.cddf_meaning.specs.State.{State};
+ghost use Rattle.cddf_meaning.specs.Tasks.{Task};
+ghost use Rattle.cddf_meaning.specs.Value.{value};
+ghost use Rattle.flow_core.specs.declared.activation.Activation.{Activation};
+ghost use Rattle.flow_core.specs.declared.task_end.TaskEnd.TheVariants as ends;
+ghost use Rattle.os_ast.specs.Trees as tree;
+
+/// Turns never grow: not in an expression, and not in a statement, which also keeps the length of each item's list.
+pub fn turns_never_grow()
+    ensures expressions { (items : List tree.ItemTree) (e : tree.ExprTree) (s : State) (turns : ℕ) →
+        Falls turns (value (file_of items) e s turns) }
+    ensures statements { (items : List tree.ItemTree) (u : Around) (a : tree.StmtTree) (s : State) (turns : ℕ) →
+        u.file ≡ file_of items → Keeps s turns (run u a s turns) }
+{}
+
+/// A loop is over budget where its turns are used up, and nowhere else: it is the same for every count that is at
+/// least its turns.
+pub fn loops_end_by_turns_alone()
+    ensures { (most other : ℕ) (test : State → ℕ → Answer (Left ℤ)) (body step : Runs) (s : State) (turns : ℕ) →
+        ((s : State) (turns : ℕ) → Falls turns (test s turns)) →
+        ((s : State) (turns : ℕ) → Keeps s turns (body s turns)) →
+        ((s : State) (turns : ℕ) → Keeps s turns (step s turns)) →
+        turns ≤ most → turns ≤ other →
+        loop most test body step s turns ≡ loop other test body step s turns }
+{}
+
+/// A skip is the sum of the ticks on its stream since the last read claim on it.
+pub fn skips_are_sums()
+    ensures { (streams stream : ℕ) (moves : List Move) → stream < streams →
+        get_or (skips_of streams moves) stream 0 ≡ since_read stream moves }
+{}
+
+/// A task that is done wrote as many elements as its write claims have horizons.
+pub fn outputs_have_their_horizons()
+    ensures { (items : List tree.ItemTree) (t : Task) (a : Activation) (inputs : List ℤ) (budget : ℕ) →
+        read_horizons a.claims ≤ length inputs →
+        (task_outcome (file_of items) t a inputs budget).end ≡ ends.Done →
+        length (task_outcome (file_of items) t a inputs budget).outputs ≡ written_horizons a.claims }
+{}

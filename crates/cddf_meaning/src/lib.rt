@@ -1,0 +1,25 @@
+//! What a program means: its task bodies and its control program.
+//!
+//! The definitions stand in `specs/`, one notion a file, over the trees without boxes. `Answers` is what an evaluation
+//! comes to; `Variables`, `State` and `File` are what names stand for; `Value` and `Run` are big steps of expressions and
+//! statements, by name; `Functions` ties the calls to the items before a function. `Streams` and `Claims` are what the
+//! control program does with streams. `Body` is the end of an activation for its inputs, with what it writes, and
+//! `Control` the activations that the control program creates, and its end.
+//!
+//! A definition is total over every tree. Where no program that keeps the rules comes, it says something, and a comment
+//! says so. `laws` shows that the definitions are the ones that were meant.
+#![tactic(auto)]
+
+mod aim;
+mod ending;
+pub mod examples;
+mod flow;
+pub mod laws;
+mod site;
+mod variable;
+
+pub use aim::Aim;
+pub use ending::Ending;
+pub use flow::Flow;
+pub use site::Site;
+pub use variable::{Binding, Variable};
