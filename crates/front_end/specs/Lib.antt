@@ -1,2 +1,4 @@
 -- what a reader believes
 pub mod Texts
+-- what restates private functions
+pub mod Told

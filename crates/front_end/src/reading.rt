@@ -3,12 +3,12 @@ ghost use Rattle.front_end.specs.Texts.{IsAccepted, IsTrueOf, NeverBoth, OneCode
 ghost use Rattle.os_ast.specs.Views.{program_tree};
 ghost use Rattle.os_lexer.specs.Cover.{IsTokenCover};
 
-use crate::text_error::TextError;
+use crate::text_error::{TextError, fault_error, syntax_error, violation_error};
 use os_ast::laws::meaning_by_tokens;
-use os_lexer::{LexError, Token, lex, one_cover};
-use os_parser::{ParseError, one_reading, parse};
+use os_lexer::{Token, lex, one_cover};
+use os_parser::{one_reading, parse};
 use std::alloc::Global;
-use window_check::{CheckError, Checked, check, marks_have_places};
+use window_check::{Checked, check, marks_have_places};
 
 /// The program that a text means, checked. A text has at most 262,144 bytes.
 pub fn read_program(alloc: Global, text: &[u8]) -> Result<Checked, TextError>
@@ -18,10 +18,7 @@ pub fn read_program(alloc: Global, text: &[u8]) -> Result<Checked, TextError>
 {
     match lex(alloc, text) {
         Ok(tokens) => read_tokens(alloc, text, &tokens),
-        Err(LexError::BadByte { line }) => Err(TextError::Refused { code: 1, line }),
-        Err(LexError::OpenComment { line }) => Err(TextError::Refused { code: 2, line }),
-        Err(LexError::BigNumber { line }) => Err(TextError::Refused { code: 3, line }),
-        Err(LexError::Memory) => Err(TextError::Memory),
+        Err(error) => Err(fault_error(error)),
     }
 }
 
@@ -34,15 +31,13 @@ fn read_tokens(alloc: Global, text: &[u8], tokens: &[Token]) -> Result<Checked, 
 {
     let program = match parse(alloc, tokens) {
         Ok(program) => program,
-        Err(ParseError::Syntax) => return Err(TextError::Syntax),
-        Err(ParseError::Memory) => return Err(TextError::Memory),
+        Err(error) => return Err(syntax_error(error)),
     };
     meaning_by_tokens();
     marks_have_places();
     match check(alloc, program) {
         Ok(checked) => Ok(checked),
-        Err(CheckError::Fault { code, line }) => Err(TextError::Refused { code, line }),
-        Err(CheckError::Memory) => Err(TextError::Memory),
+        Err(error) => Err(violation_error(error)),
     }
 }
 

@@ -1,5 +1,5 @@
 ghost use Rattle.std.specs.Prelude.{◌≡◌};
-ghost use Rattle.front_end.specs.declared.text_error.TextError.TheVariants as errors;
+ghost use Rattle.front_end.specs.Told.{told_fault, told_syntax, told_violation};
 
 use os_lexer::LexError;
 use os_parser::ParseError;
@@ -18,4 +18,36 @@ pub enum TextError {
     /// Memory could not be had. This says nothing of the text.
     #[error("memory could not be had")]
     Memory,
+}
+
+/// What the first fault of a text is told as.
+pub(crate) fn fault_error(error: LexError) -> TextError
+    ensures { result ≡ told_fault error }
+{
+    match error {
+        LexError::BadByte { line } => TextError::Refused { code: 1, line },
+        LexError::OpenComment { line } => TextError::Refused { code: 2, line },
+        LexError::BigNumber { line } => TextError::Refused { code: 3, line },
+        LexError::Memory => TextError::Memory,
+    }
+}
+
+/// What is told where the tokens are those of no program.
+pub(crate) fn syntax_error(error: ParseError) -> TextError
+    ensures { result ≡ told_syntax error }
+{
+    match error {
+        ParseError::Syntax => TextError::Syntax,
+        ParseError::Memory => TextError::Memory,
+    }
+}
+
+/// What the least violation of a program is told as.
+pub(crate) fn violation_error(error: CheckError) -> TextError
+    ensures { result ≡ told_violation error }
+{
+    match error {
+        CheckError::Fault { code, line } => TextError::Refused { code, line },
+        CheckError::Memory => TextError::Memory,
+    }
 }

@@ -47,8 +47,14 @@ enum Wrong {
 impl From<TextError> for Wrong {
     fn from(error: TextError) -> Wrong {
         match error {
-            TextError::Refused { code, line } => Wrong::Code { code, line: Some(line) },
-            TextError::Syntax => Wrong::Code { code: NO_PROGRAM, line: None },
+            TextError::Refused { code, line } => Wrong::Code {
+                code,
+                line: Some(line),
+            },
+            TextError::Syntax => Wrong::Code {
+                code: NO_PROGRAM,
+                line: None,
+            },
             TextError::Memory => Wrong::Unread,
         }
     }

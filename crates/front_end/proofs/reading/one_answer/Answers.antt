@@ -1,0 +1,13 @@
+use Rattle.front_end.proofs.Answers as answers
+use Rattle.front_end.proofs.reading.one_answer.Goals as goal
+
+pub returns-clause-program : goal.returns-clause-program
+returns-clause-program c = answers.one_program c.one_cover.ensures.one_cover c.one_reading.ensures
+
+pub returns-clause-never_both : goal.returns-clause-never_both
+returns-clause-never_both c =
+    answers.never_both c.one_cover.ensures.one_cover c.one_cover.ensures.never_both c.one_reading.ensures
+
+pub returns-clause-code : goal.returns-clause-code
+returns-clause-code c =
+    answers.one_code c.one_cover.ensures.one_cover c.one_cover.ensures.one_fault c.one_cover.ensures.never_both c.one_reading.ensures

@@ -1,0 +1,26 @@
+-- What an error of each stop is told as.
+use Rattle.front_end.specs.declared.text_error.TextError.{TextError}
+use Rattle.front_end.specs.declared.text_error.TextError.TheVariants as errors
+use Rattle.os_lexer.specs.declared.fault.LexError.{LexError}
+use Rattle.os_lexer.specs.declared.fault.LexError.TheVariants as lex
+use Rattle.os_parser.specs.declared.parse_error.ParseError.{ParseError}
+use Rattle.os_parser.specs.declared.parse_error.ParseError.TheVariants as parse
+use Rattle.window_check.specs.declared.check_error.CheckError.{CheckError}
+use Rattle.window_check.specs.declared.check_error.CheckError.TheVariants as check
+
+-- the first fault of a text
+abbrev pub told_fault : LexError → TextError
+told_fault (lex.BadByte line) = errors.Refused 1 line
+told_fault (lex.OpenComment line) = errors.Refused 2 line
+told_fault (lex.BigNumber line) = errors.Refused 3 line
+told_fault lex.Memory = errors.Memory
+
+-- tokens of no program
+abbrev pub told_syntax : ParseError → TextError
+told_syntax parse.Syntax = errors.Syntax
+told_syntax parse.Memory = errors.Memory
+
+-- the least violation
+abbrev pub told_violation : CheckError → TextError
+told_violation (check.Fault code line) = errors.Refused code line
+told_violation check.Memory = errors.Memory
