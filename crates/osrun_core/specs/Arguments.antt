@@ -38,7 +38,7 @@ abbrev pub simple_command : Text → List Argument → App
 simple_command word arguments =
     record (new_app word) { top = record (new_app word).top { rules = map rule_for arguments } }
 
--- ---- what the matches of a simple command give an argument
+-- ---- what the matches of a simple command give an argument: where the words have no fault, a value is there
 
 -- the name: its first value
 abbrev pub name_in : List Row → Text → Text

@@ -46,7 +46,7 @@ task_budget = option (codes "budget") (codes "1000000") 0 1000000000
 abbrev pub control_budget : Argument
 control_budget = option (codes "control") (codes "1000000") 0 1000000000
 
--- `run PROGRAM INPUT`
+-- `run PROGRAM INPUT [--workers N] [--budget N] [--control N]`
 abbrev pub run : CommandForm
 run = record {
   word = codes "run";

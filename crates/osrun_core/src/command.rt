@@ -65,11 +65,13 @@ pub fn run_words<R: Threads + Sync, F: Files, O: Sink, E: Sink, G: Gate>(
         × Tells
         (record { taken = E.taken; faults = E.faults; empty_takes = E.empty_takes }) report.old report.new (refusal_line refusal)) }
 
-    // 3: a text that is refused always is.
+    // 3: where the program is told and within its limit, and its text is refused, the status is 3, unless a
+    // read failed (5) or memory ran out (7).
     ensures refused_always { IfSome (command (texts words.now)) (λ job. IsRejected (F.holds files.old) job
         → (result ≡ 3) ⊎ ((result ≡ 5) ⊎ (result ≡ 7))) }
 
-    // 4: a file of which more than its limit was given always is too long.
+    // 4: where more than the limit of the file that was opened last was given, the status is 4, unless memory
+    // ran out (7).
     ensures too_long_always { IfSome (command (texts words.now)) (λ job. (place : ℕ) (file : JobFile)
         → slice_get (files_of job) place ≡ Some file
         → F.opens files.old + length (files_of job) ≤ last_count
