@@ -13,3 +13,4 @@ pub mod Ends
 pub mod Tables
 pub mod Fitting
 pub mod Checked
+pub mod Computed

@@ -1,6 +1,8 @@
 //! Laws of codes and of the machine, for the proofs of those who make a code or run it. Each is a call that does
 //! nothing and ensures its law.
 
+ghost use Rattle.os_code.specs.ControlExamples.{ControlExamples};
+ghost use Rattle.os_code.specs.Examples.{Examples};
 ghost use Rattle.os_code.specs.Laws.{HeightsSuffice, TestsSuffice, RunsAreOne, TasksEnd, TaskEndsAreOne, MainEnds, MainEndsAreOne, RunsGoOn, StepsAddUp};
 
 /// Heights that fit at each instruction show what validity says of all paths.
@@ -34,4 +36,10 @@ pub fn main_ends()
 pub fn runs_go_on()
     ensures runs { RunsGoOn }
     ensures steps { StepsAddUp }
+{}
+
+/// Codes written out do what was worked out for them by hand.
+pub fn examples()
+    ensures tasks { Examples }
+    ensures control { ControlExamples }
 {}
