@@ -14,3 +14,4 @@ pub mod Tables
 pub mod Fitting
 pub mod Checked
 pub mod Computed
+pub mod Refused

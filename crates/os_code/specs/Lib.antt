@@ -16,6 +16,7 @@ pub mod Checking
 -- Codes written out.
 pub mod Examples
 pub mod ControlExamples
+pub mod Refusals
 -- What restates private functions.
 pub mod Needs
 pub mod NeedTables

@@ -4,6 +4,7 @@
 ghost use Rattle.os_code.specs.ControlExamples.{ControlExamples};
 ghost use Rattle.os_code.specs.Examples.{Examples};
 ghost use Rattle.os_code.specs.Laws.{HeightsSuffice, TestsSuffice, RunsAreOne, TasksEnd, TaskEndsAreOne, MainEnds, MainEndsAreOne, RunsGoOn, StepsAddUp};
+ghost use Rattle.os_code.specs.Refusals.{Refusals};
 
 /// Heights that fit at each instruction show what validity says of all paths.
 pub fn heights_suffice()
@@ -38,8 +39,10 @@ pub fn runs_go_on()
     ensures steps { StepsAddUp }
 {}
 
-/// Codes written out do what was worked out for them by hand.
+/// Codes written out do what was worked out for them by hand, and validity refuses those that break a sentence of it
+/// by one number.
 pub fn examples()
     ensures tasks { Examples }
     ensures control { ControlExamples }
+    ensures refusals { Refusals }
 {}
