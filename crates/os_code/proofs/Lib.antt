@@ -15,3 +15,4 @@ pub mod Fitting
 pub mod Checked
 pub mod Computed
 pub mod Refused
+pub mod Keeping
