@@ -16,3 +16,5 @@ pub mod Checked
 pub mod Computed
 pub mod Refused
 pub mod Keeping
+pub mod Proper
+pub mod Small

@@ -3,7 +3,7 @@
 
 ghost use Rattle.os_code.specs.ControlExamples.{ControlExamples};
 ghost use Rattle.os_code.specs.Examples.{Examples};
-ghost use Rattle.os_code.specs.Laws.{HeightsSuffice, TestsSuffice, RunsAreOne, TasksEnd, TaskEndsAreOne, MainEnds, MainEndsAreOne, RunsGoOn, StepsAddUp};
+ghost use Rattle.os_code.specs.Laws.{HeightsSuffice, TestsSuffice, RunsAreOne, TasksEnd, TaskEndsAreOne, TaskEndsAreProper, MainEnds, MainEndsAreOne, StepsAreSmall, RunsGoOn, StepsAddUp};
 ghost use Rattle.os_code.specs.Refusals.{Refusals};
 
 /// Heights that fit at each instruction show what validity says of all paths.
@@ -21,16 +21,23 @@ pub fn runs_are_one()
     ensures { RunsAreOne }
 {}
 
-/// Each activation that fits a valid code has an end, within `(budget + 1) * (code length + 1)` steps, and only one.
+/// Each activation that fits a valid code has an end, within `(budget + 1) * (code length + 1)` steps, and only one: it
+/// traps with the codes 1 to 5 alone, and done it has the outputs that its claims ask for.
 pub fn tasks_end()
     ensures there { TasksEnd }
     ensures one { TaskEndsAreOne }
+    ensures proper { TaskEndsAreProper }
 {}
 
 /// `main` of a valid code has an end, within `(budget + 1) * (code length + 1)` steps, and only one.
 pub fn main_ends()
     ensures there { MainEnds }
     ensures one { MainEndsAreOne }
+{}
+
+/// A step writes one slot, or at most as many as the largest unit has.
+pub fn steps_are_small()
+    ensures { StepsAreSmall }
 {}
 
 /// A run can be made in parts.
