@@ -13,3 +13,8 @@ pub mod Ends
 pub mod Tables
 pub mod Fitting
 pub mod Checked
+pub mod Computed
+pub mod Refused
+pub mod Keeping
+pub mod Proper
+pub mod Small

@@ -13,6 +13,10 @@ pub mod Codes
 pub mod Running
 pub mod Outcomes
 pub mod Checking
+-- Codes written out.
+pub mod Examples
+pub mod ControlExamples
+pub mod Refusals
 -- What restates private functions.
 pub mod Needs
 pub mod NeedTables

@@ -1,7 +1,10 @@
 //! Laws of codes and of the machine, for the proofs of those who make a code or run it. Each is a call that does
 //! nothing and ensures its law.
 
-ghost use Rattle.os_code.specs.Laws.{HeightsSuffice, TestsSuffice, RunsAreOne, TasksEnd, TaskEndsAreOne, MainEnds, MainEndsAreOne, RunsGoOn, StepsAddUp};
+ghost use Rattle.os_code.specs.ControlExamples.{ControlExamples};
+ghost use Rattle.os_code.specs.Examples.{Examples};
+ghost use Rattle.os_code.specs.Laws.{HeightsSuffice, TestsSuffice, RunsAreOne, TasksEnd, TaskEndsAreOne, TaskEndsAreProper, MainEnds, MainEndsAreOne, StepsAreSmall, RunsGoOn, StepsAddUp};
+ghost use Rattle.os_code.specs.Refusals.{Refusals};
 
 /// Heights that fit at each instruction show what validity says of all paths.
 pub fn heights_suffice()
@@ -18,10 +21,12 @@ pub fn runs_are_one()
     ensures { RunsAreOne }
 {}
 
-/// Each activation that fits a valid code has an end, within `(budget + 1) * (code length + 1)` steps, and only one.
+/// Each activation that fits a valid code has an end, within `(budget + 1) * (code length + 1)` steps, and only one: it
+/// traps with the codes 1 to 5 alone, and done it has the outputs that its claims ask for.
 pub fn tasks_end()
     ensures there { TasksEnd }
     ensures one { TaskEndsAreOne }
+    ensures proper { TaskEndsAreProper }
 {}
 
 /// `main` of a valid code has an end, within `(budget + 1) * (code length + 1)` steps, and only one.
@@ -30,8 +35,21 @@ pub fn main_ends()
     ensures one { MainEndsAreOne }
 {}
 
+/// A step writes one slot, or at most as many as the largest unit has.
+pub fn steps_are_small()
+    ensures { StepsAreSmall }
+{}
+
 /// A run can be made in parts.
 pub fn runs_go_on()
     ensures runs { RunsGoOn }
     ensures steps { StepsAddUp }
+{}
+
+/// Codes written out do what was worked out for them by hand, and validity refuses those that break a sentence of it
+/// by one number.
+pub fn examples()
+    ensures tasks { Examples }
+    ensures control { ControlExamples }
+    ensures refusals { Refusals }
 {}
