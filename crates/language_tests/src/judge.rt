@@ -1,12 +1,10 @@
 //! The answer to a text, from its bytes to the checks.
 
-use os_ast::laws::meaning_by_tokens;
-use os_lexer::lex;
-use os_parser::{ParseError, parse};
+use front_end::{TextError, read_program};
 use std::alloc::Global;
 use std::process::Abort;
 use std::test::Fail;
-use window_check::{CheckError, Checked, check, marks_have_places};
+use window_check::Checked;
 
 /// What is said of a text.
 #[derive(Drop)]
@@ -48,17 +46,10 @@ pub(crate) fn judge(alloc: Global, text: &str) -> Result<Judged, Fail> {
     if text.len() > 262_144 {
         return Err(Fail::from("the text is too long"));
     }
-    let tokens = lex(alloc, text.as_bytes())?;
-    let program = match parse(alloc, &tokens) {
-        Ok(program) => program,
-        Err(ParseError::Syntax) => return Ok(Judged::Syntax),
-        Err(error) => return Err(Fail::from(error)),
-    };
-    meaning_by_tokens();
-    marks_have_places();
-    match check(alloc, program) {
+    match read_program(alloc, text.as_bytes()) {
         Ok(checked) => Ok(Judged::Accepted(checked)),
-        Err(CheckError::Fault { code, line }) => Ok(Judged::Refused { code, line }),
+        Err(TextError::Syntax) => Ok(Judged::Syntax),
+        Err(TextError::Refused { code, line }) => Ok(Judged::Refused { code, line }),
         Err(error) => Err(Fail::from(error)),
     }
 }
