@@ -5,8 +5,8 @@ set -eu
 top=$(cd "$(dirname "${BASH_SOURCE[0]}")/.." && pwd)
 work=$(mktemp -d)
 trap 'rm -rf "$work"' EXIT
-(cd "$top/crates/check_text" && rt run) >/dev/null 2>&1 || true
-check_text=$top/crates/check_text/out/check_text
+(cd "$top/crates/oscheck" && rt run </dev/null) >/dev/null 2>&1 || true
+oscheck=$top/crates/oscheck/out/oscheck
 runs=20
 
 # text KIND BYTES: a program of about so many bytes.
@@ -67,7 +67,7 @@ milliseconds() {
     local start end
     start=$(date +%s%N)
     for _ in $(seq "$runs"); do
-        "$check_text" "$1" >/dev/null
+        "$oscheck" "$1" >/dev/null
     done
     end=$(date +%s%N)
     awk -v t=$((end - start)) -v n="$runs" 'BEGIN { printf "%.3f", t / n / 1000000 }'

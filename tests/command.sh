@@ -135,6 +135,12 @@ check "a run makes fewer allocations" 0 04030201 "control done / output 4 of 4"
 run_without 100 run --help
 check "bad words make fewer allocations" 2 "" usage
 
+# The program that judges files.
+: >"$work/out"
+"$top/oscheck" first.c empty.c none.c >"$work/report" 2>&1
+status=$?
+check "files that are judged" 2 "" "first.c: accepted / empty.c:1: error 23: no function main without parameters: write int main(void) / none.c: can't be read"
+
 # Where the program isn't built, or was built from another commit, the toolchain runs it, and the first line says so.
 copy=$work/copy
 mkdir "$copy"

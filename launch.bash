@@ -1,0 +1,69 @@
+# Runs a program of the repository with the words given: the proved program, where ./build left it for the commit that is
+# checked out. Elsewhere the same program runs by the toolchain with run-time checks, and a line on standard error says so.
+# Statuses of its own: 69 where the toolchain is missing, 70 where it couldn't run the program.
+# It is read by ./osrun and ./oscheck, which set `top`, the top of the repository, and `name`, the program.
+program=$top/crates/$name/out/$name
+
+# The commit that is checked out: a build leaves it beside the program as its stamp.
+commit_of() {
+    local head='' id=''
+    [ -f "$top/.git/HEAD" ] && read -r head <"$top/.git/HEAD"
+    case $head in
+        'ref: '*) [ -f "$top/.git/${head#ref: }" ] && read -r id <"$top/.git/${head#ref: }" ;;
+        *) id=$head ;;
+    esac
+    [ -n "$id" ] || id=$(git -C "$top" rev-parse HEAD 2>/dev/null)
+    printf '%s' "${id:-none}"
+}
+
+if [ -f "$program.stamp" ] && read -r stamp <"$program.stamp" && [ "$stamp" = "$(commit_of)" ]; then
+    exec "$program" "$@"
+fi
+
+if ! command -v rt >/dev/null; then
+    echo "$name: the command rt of the Rattle kit isn't here; README.md, \"Two commands\", says what it is for" >&2
+    exit 69
+fi
+echo "$name: this machine hasn't proved the program yet: it runs by the toolchain with run-time checks, slowly; ./build proves and builds it" >&2
+
+# The toolchain runs it in a folder of its own, with a copy of each file that a word names: under its own name where that
+# stays below the folder, and else under another one. The value of an option names none.
+files=()
+words=()
+names=()
+before=''
+for word in "$@"; do
+    copy=$word
+    case $before in --*=*) before='' ;; esac
+    if [ "${before#--}" = "$before" ] && [ -f "$word" ] && [ -r "$word" ]; then
+        case $word in
+            /* | ../* | */../* | program* | stdin* | stdout* | stderr*)
+                copy=file${#words[@]}
+                names+=(-e "s|^$copy:|$word:|")
+                ;;
+        esac
+        files+=(--data "$copy=$(readlink -f "$word")")
+    fi
+    words+=("$copy")
+    before=$word
+done
+said=$(mktemp)
+trap 'rm -f "$said"' EXIT
+try() {
+    (cd "$top/crates/$name" && rt try "${files[@]}" -- "${words[@]}") 2>"$said"
+}
+# oscheck tells names, osrun bytes alone.
+if [ "$name" = oscheck ] && [ "${#names[@]}" != 0 ]; then
+    try | sed "${names[@]}"
+    status=${PIPESTATUS[0]}
+else
+    try
+    status=$?
+fi
+# Its last lines are the toolchain's: the program's report stands before them.
+if ! tail -n 1 "$said" | grep -q '^run=ended '; then
+    cat "$said" >&2
+    exit 70
+fi
+grep -v -e '^checked: ' -e '^run=ended ' "$said" >&2
+exit "$status"
