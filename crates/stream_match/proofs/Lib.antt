@@ -15,3 +15,4 @@ pub mod Origins
 pub mod FrameSpans
 pub mod Sound
 pub mod Stands
+pub mod LawfulTests

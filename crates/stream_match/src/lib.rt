@@ -18,6 +18,8 @@ mod plan;
 mod producer;
 mod span;
 mod stretch;
+#[cfg(test)]
+mod tests;
 
 pub use layout::Layout;
 pub use plan::build;
