@@ -24,7 +24,7 @@ use Rattle.os_parser.specs.Beginners.{change_sign, stmt_start}
 use Rattle.os_parser.specs.Expressions.{Readers, expr_on, layer, below}
 use Rattle.os_parser.specs.Kinds.{same}
 use Rattle.os_parser.specs.Reading.{Reader, got, begins}
-use Rattle.os_parser.specs.Statements.{name, target, head_declare, change_of, before, change, ended, start, test, step}
+use Rattle.os_parser.specs.Statements.{name, target, head_declare, change_of, before, change, ended, start, head_test, step}
 use Rattle.os_parser.specs.declared.starts.ChangeSign.TheVariants as signs
 use Rattle.os_parser.specs.declared.starts.StmtStart.TheVariants as starts
 use Rattle.os_parser.proofs.Follows.{Stops, stops-more, grows}
@@ -231,19 +231,19 @@ can-end l can.CanBeginExpr.plus = refl
 can-end l can.CanBeginExpr.not = refl
 can-end l can.CanBeginExpr.invert = refl
 
-test-none : (r : Readers) (ps : List Piece) (ts : List Placed) → Plain (kind.Punct puncts.Semicolon) ps ts → Back (test r) None ps ts
-unfolding test
+test-none : (r : Readers) (ps : List Piece) (ts : List Placed) → Plain (kind.Punct puncts.Semicolon) ps ts → Back (head_test r) None ps ts
+unfolding head_test
 test-none r ps ts t =
     let size = ap length t.head in
     record { rest = t.rest; read = rw t.head refl; fits = t.fits; within = omega arith }
 
 test-some : (c : ℕ) (e : ExprTree) (ps : List Piece) (ts : List Placed) → begins (kind.Punct puncts.Semicolon) ts ≡ false →
-    Back (λ us. ended (expr_on (below c) us) Some) (Some e) ps ts → Back (test (layer (below c))) (Some e) ps ts
-unfolding test
+    Back (λ us. ended (expr_on (below c) us) Some) (Some e) ps ts → Back (head_test (layer (below c))) (Some e) ps ts
+unfolding head_test
 test-some c e ps ts off b = record { rest = b.rest; read = rw off b.read; fits = b.fits; within = b.within }
 
 pub back-test : (c : ℕ) {e : Option ExprTree} (ps : List Piece) (ts : List Placed) → IsOptional IsExpr e → value_depth e ≤ suc c →
-    Fit (spelling.optional spelling.expr e (bare (kind.Punct puncts.Semicolon) ∷ ps)) ts → Back (test (layer (below c))) e ps ts
+    Fit (spelling.optional spelling.expr e (bare (kind.Punct puncts.Semicolon) ∷ ps)) ts → Back (head_test (layer (below c))) e ps ts
 back-test c ps ts leveled.IsOptional.absent h f = test-none (layer (below c)) ps ts (plain-back f)
 back-test c ps ts (leveled.IsOptional.present {x} is) h f =
     test-some c x ps ts (begins-not (kind.Punct puncts.Semicolon) _ ts (expr-begins x _) can-end f)

@@ -23,7 +23,7 @@ use Rattle.os_parser.specs.Beginners.{stmt_start, stmt_at}
 use Rattle.os_parser.specs.Expressions.{args, expr_on, layer, below}
 use Rattle.os_parser.specs.Kinds.{same}
 use Rattle.os_parser.specs.Reading.{got, begins}
-use Rattle.os_parser.specs.Statements.{Inner, inner, before, ended, named_stmt, block, condition, if_stmt, while_stmt, start, test, step, for_stmt, return_stmt, clauses, task, target, tick, taskwait, pragma, stmt_by, stmt_on}
+use Rattle.os_parser.specs.Statements.{Inner, inner, before, ended, named_stmt, block, condition, if_stmt, while_stmt, start, head_test, step, for_stmt, return_stmt, clauses, task, target, tick, taskwait, pragma, stmt_by, stmt_on}
 use Rattle.os_parser.specs.declared.starts.StmtStart.{StmtStart}
 use Rattle.os_parser.specs.declared.starts.StmtStart.TheVariants as starts
 use Rattle.os_parser.proofs.Depths.{readers_of-inner}
@@ -175,7 +175,7 @@ while-back c e a ps p0 p1 ts t x y =
 
 pub for-back : (c : ℕ) (st : StartTree) (e : Option ExprTree) (ch : Option ChangeTree) (a : StmtTree) (ps p0 p1 p2 p3 p4 : List Piece) (ts : List Placed) →
     (t : Plain (kind.Key keys.For) p0 ts) → (o : Plain (kind.Punct puncts.OpenParen) p1 t.rest) → (x : Back (start (below (suc c))) st p2 o.rest) →
-    (y : Back (test (layer (below c))) e p3 x.rest) → (z : Back (step (below (suc c))) ch p4 y.rest) → Back (stmt_on (inner c)) a ps z.rest →
+    (y : Back (head_test (layer (below c))) e p3 x.rest) → (z : Back (step (below (suc c))) ch p4 y.rest) → Back (stmt_on (inner c)) a ps z.rest →
     Back (stmt_by starts.For (inner (suc c))) (tree.For st e ch a) ps ts
 unfolding stmt_by for_stmt inner below
 for-back c st e ch a ps p0 p1 p2 p3 p4 ts t o x y z w =

@@ -26,7 +26,7 @@ use Rattle.os_lexer.specs.declared.token.Punct.TheVariants as puncts
 use Rattle.os_parser.specs.Beginners.{stmt_start, punct_stmt, key_stmt}
 use Rattle.os_parser.specs.Expressions.{Readers, args, target_of, below}
 use Rattle.os_parser.specs.Reading.{Read, Reader, got, fails, after, mark_at, begins, expect}
-use Rattle.os_parser.specs.Statements.{Inner, deep, readers_of, inner, inner_item, list_of, name, target, declare, head_declare, change, change_begun, change_of, before, named_stmt, block_item, stmts, block, condition, if_stmt, while_stmt, start, test, step, for_stmt, return_stmt, clauses, task, tick, taskwait, pragma, stmt_by, stmt_on, param, params, function, number, minus, constant, item, is_more, program, number_by}
+use Rattle.os_parser.specs.Statements.{Inner, deep, readers_of, inner, inner_item, list_of, name, target, declare, head_declare, change, change_begun, change_of, before, named_stmt, block_item, stmts, block, condition, if_stmt, while_stmt, start, head_test, step, for_stmt, return_stmt, clauses, task, tick, taskwait, pragma, stmt_by, stmt_on, param, params, function, number, minus, constant, item, is_more, program, number_by}
 use Rattle.os_parser.specs.declared.starts.StmtStart.{StmtStart}
 use Rattle.os_parser.specs.declared.starts.StmtStart.TheVariants as starts
 use Rattle.os_parser.proofs.SameKinds.{same-self}
@@ -234,8 +234,8 @@ start-sound d b ts h =
     record { leveled = leveled.IsStart.change rc.leveled; shallow = rc.shallow; takes = λ ps g. rc.takes _ (semicolon ps g) })))
 
 test-sound : (d : ℕ) (r : Readers) (ts : List Placed) → SoundReaders d r →
-    Sound (ReadPart (IsOptional IsExpr) value_depth (λ e. spelling.optional spelling.expr e ⨾ spelling.punct puncts.Semicolon) d ts) (test r ts)
-unfolding test
+    Sound (ReadPart (IsOptional IsExpr) value_depth (λ e. spelling.optional spelling.expr e ⨾ spelling.punct puncts.Semicolon) d ts) (head_test r ts)
+unfolding head_test
 test-sound d r ts s =
     sound-if _ (begins (kind.Punct puncts.Semicolon) ts) _ _
     (λ semicolon. record { leveled = leveled.IsOptional.absent; shallow = omega arith; takes = λ ps g. begins-bare (kind.Punct puncts.Semicolon) ts semicolon ps g })
@@ -258,7 +258,7 @@ unfolding for_stmt
 for-sound d s ts h word =
     sound-deep _ d s ts _ h (λ r i. sound-then _ _ (expect (kind.Punct puncts.OpenParen) (after ts)) _ (expect-sound _ (after ts)) (λ _ t1 opens.
     sound-then _ _ (start (Some r.readers) t1) _ (start-sound d (Some r.readers) t1 i.readers) (λ st t2 rs.
-    sound-then _ _ (test r.readers t2) _ (test-sound d r.readers t2 i.readers) (λ e t3 re.
+    sound-then _ _ (head_test r.readers t2) _ (test-sound d r.readers t2 i.readers) (λ e t3 re.
     sound-then _ _ (step (Some r.readers) t3) _ (step-sound d (Some r.readers) t3 i.readers) (λ c t4 rc.
     sound-then _ _ (r.stmt t4) _ (i.stmt t4) (λ x t5 rx.
     record {

@@ -187,8 +187,8 @@ start b ts =
     else ended (change b ts) tree.StartTree.Change
 
 -- [ expr ] ";"
-unfoldable pub test : Readers → Reader (Option ExprTree)
-test r ts = if begins (kind.Punct puncts.Semicolon) ts then got None (after ts) else ended (r.expr ts) Some
+unfoldable pub head_test : Readers → Reader (Option ExprTree)
+head_test r ts = if begins (kind.Punct puncts.Semicolon) ts then got None (after ts) else ended (r.expr ts) Some
 
 -- [ change ] ")"
 unfoldable pub step : Option Readers → Reader (Option ChangeTree)
@@ -200,7 +200,7 @@ step b ts =
 unfoldable pub for_stmt : Option Inner → Reader StmtTree
 for_stmt s ts =
     deep s ts (λ r. expect (kind.Punct puncts.OpenParen) (after ts) >>= λ _ t1. start (Some r.readers) t1 >>= λ st t2.
-    test r.readers t2 >>= λ e t3. step (Some r.readers) t3 >>= λ c t4. r.stmt t4 >>= λ x t5. got (tree.For st e c x) t5)
+    head_test r.readers t2 >>= λ e t3. step (Some r.readers) t3 >>= λ c t4. r.stmt t4 >>= λ x t5. got (tree.For st e c x) t5)
 
 -- "return" expr ";"
 unfoldable pub return_stmt : Option Readers → Reader StmtTree

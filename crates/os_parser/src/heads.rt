@@ -4,7 +4,7 @@ ghost use Rattle.std.specs.Prelude.{◌≡◌, ◌+◌, ◌-◌, ◌≤◌, ◌<
 ghost use Rattle.os_ast.specs.Views.{expr_tree, declarator_tree, change_tree, start_tree};
 ghost use Rattle.os_parser.specs.Expressions.{below, layer};
 ghost use Rattle.os_parser.specs.Reading.{Gives};
-ghost use Rattle.os_parser.specs.Statements.{condition, start, test, step, change, head_declare};
+ghost use Rattle.os_parser.specs.Statements.{condition, start, head_test, step, change, head_declare};
 
 use crate::cursor::Cursor;
 use crate::expressions::expr;
@@ -50,13 +50,13 @@ pub(crate) fn start(alloc: Global, cursor: &mut Cursor<'_>, depth: u32) -> Resul
 }
 
 /// `[ expr ] ";"`, in the middle of the head of a `for`.
-#[tactic(auto, unfolding(crate::specs::Statements::test))]
+#[tactic(auto, unfolding(crate::specs::Statements::head_test))]
 pub(crate) fn test(
     alloc: Global,
     cursor: &mut Cursor<'_>,
     depth: u32,
 ) -> Result<Option<Expr>, ParseError>
-    ensures gives { Gives (λ e. option_map expr_tree e) result cursor.new (test (layer (below depth)) cursor.old) }
+    ensures gives { Gives (λ e. option_map expr_tree e) result cursor.new (head_test (layer (below depth)) cursor.old) }
     ensures within { length cursor.new ≤ length cursor.old }
 {
     if cursor.is_at(Kind::Punct(Punct::Semicolon)) {
