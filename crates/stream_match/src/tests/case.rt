@@ -1,6 +1,8 @@
-use crate::tests::lawful::layout_of;
+use crate::tests::lawful::lawful_layout;
 use crate::{Layout, Span, build};
-use flow_core::{Claim, FramePlan, Piece, Plan};
+use flow_core::{Activation, Claim, FramePlan, Piece, Plan};
+use os_io::{List, Memory};
+use std::alloc::Global;
 use std::process::Abort;
 use std::test::Fail;
 
@@ -32,7 +34,12 @@ impl<'a> Case<'a> {
         assert!(rt; self.input.len() <= 4_194_304);
         assert!(rt; self.writers.len() <= 65_538);
         let streams = self.writers.len() as u32;
-        let layout = layout_of(rt, streams, self.input.len() as u32, self.tasks)?;
+        let input_len = self.input.len() as u32;
+        let activations = activations_of(rt.alloc(), self.tasks)?;
+        let Some(layout) = lawful_layout(rt.alloc(), streams, input_len, activations.as_slice())?
+        else {
+            return Err(Fail::from("the activations aren't lawful"));
+        };
         self.has_layout(rt, &layout)?;
         for (stream, position, producer) in self.producers {
             assert!(rt; *stream < streams);
@@ -77,6 +84,23 @@ impl<'a> Case<'a> {
         }
         Ok(())
     }
+}
+
+/// Activations with these claims.
+fn activations_of(alloc: Global, tasks: &[&[Claim]]) -> Result<Vec<Activation>, Memory> {
+    let mut activations = Vec::new(alloc);
+    for task in tasks {
+        let mut claims = List::new(alloc);
+        for claim in *task {
+            claims.push(*claim)?;
+        }
+        activations.push(Activation {
+            site: 0,
+            captured: List::new(alloc),
+            claims,
+        })?;
+    }
+    Ok(activations)
 }
 
 /// A read claim by its stream, horizon, burst and skip.

@@ -1,4 +1,4 @@
-ghost use Rattle.std.specs.Prelude.{◌≡◌, ◌+◌, ◌-◌, ◌^◌, ◌≤◌, All, IfOk, length, min, sum_by, true};
+ghost use Rattle.std.specs.Prelude.{◌≡◌, ◌+◌, ◌-◌, ◌^◌, ◌≤◌, All, IfOk, IfSome, length, min, sum_by, true};
 ghost use Rattle.flow_core.specs.declared.claim.Claim.{Claim};
 ghost use Rattle.flow_core.specs.Window.{claims_of};
 ghost use Rattle.stream_match.specs.Lawful.{IsLawfulClaim, AreLawful};
@@ -6,30 +6,31 @@ ghost use Rattle.stream_match.specs.Layout.{IsLayout};
 
 use crate::Layout;
 use flow_core::{Activation, Claim};
-use os_io::{List, Memory};
+use os_io::Memory;
 use std::alloc::Global;
-use std::process::Abort;
-use std::test::Fail;
 
-/// The layout of activations with these claims. The test fails where they aren't lawful.
-pub(crate) fn layout_of(
-    rt: &(impl AllocGlobal + Abort),
+/// The layout of activations, or none where they aren't lawful.
+pub(crate) fn lawful_layout(
+    alloc: Global,
     streams: u32,
     input_len: u32,
-    tasks: &[&[Claim]],
-) -> Result<Layout, Fail>
-    ensures layout { IfOk result IsLayout }
-    ensures streams { IfOk result (λ l. length l.writers ≡ streams) }
-    ensures input { IfOk result (λ l. l.input_len ≡ input_len) }
+    activations: &[Activation],
+) -> Result<Option<Layout>, Memory>
+    ensures layout { IfOk result (λ found. IfSome found IsLayout) }
+    ensures streams { IfOk result (λ found. IfSome found (λ l. length l.writers ≡ streams)) }
+    ensures input { IfOk result (λ found. IfSome found (λ l. l.input_len ≡ input_len)) }
 {
-    let activations = activations_of(rt.alloc(), tasks)?;
-    let claims = claims_in(rt.alloc(), activations.as_slice())?;
-    assert!(rt; streams >= 2);
-    assert!(rt; activations.len() <= 65_536);
-    assert!(rt; are_lawful(streams, claims.as_slice()));
-    assert!(rt; positions_in(claims.as_slice()) <= 4_194_304);
-    assert!(rt; moves_in(claims.as_slice()) < 1 << 62);
-    Ok(laid_out(rt.alloc(), streams, input_len, activations.as_slice())?)
+    let claims = claims_in(alloc, activations)?;
+    if streams < 2 || activations.len() > 65_536 {
+        return Ok(None);
+    }
+    if !are_lawful(streams, claims.as_slice()) {
+        return Ok(None);
+    }
+    if positions_in(claims.as_slice()) > 4_194_304 || moves_in(claims.as_slice()) >= 1 << 62 {
+        return Ok(None);
+    }
+    Ok(Some(laid_out(alloc, streams, input_len, activations)?))
 }
 
 /// The layout of lawful activations.
@@ -48,23 +49,6 @@ fn laid_out(
     let mut layout = Layout::new(alloc, streams, input_len)?;
     layout.append(activations)?;
     Ok(layout)
-}
-
-/// Activations with these claims.
-fn activations_of(alloc: Global, tasks: &[&[Claim]]) -> Result<Vec<Activation>, Memory> {
-    let mut activations = Vec::new(alloc);
-    for task in tasks {
-        let mut claims = List::new(alloc);
-        for claim in *task {
-            claims.push(*claim)?;
-        }
-        activations.push(Activation {
-            site: 0,
-            captured: List::new(alloc),
-            claims,
-        })?;
-    }
-    Ok(activations)
 }
 
 /// All claims of activations.
