@@ -15,4 +15,3 @@ pub mod Origins
 pub mod FrameSpans
 pub mod Sound
 pub mod Stands
-pub mod LawfulTests

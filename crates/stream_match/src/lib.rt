@@ -7,11 +7,13 @@
 //! input: each frame's cells, and pieces that carry output elements into them, each as long as it can be.
 //!
 //! Its promise is `flow_core`'s meaning of the activations: the spans are their windows, the producer
-//! is theirs, and the plan is sound and stands for the activations and the input.
+//! is theirs, and the plan is sound and stands for the activations and the input. That a layout made in
+//! parts is the one made at once stands in `laws`.
 #![tactic(auto)]
 
 mod cells;
 mod frames;
+pub mod laws;
 mod layout;
 mod pieces;
 mod plan;

@@ -1,0 +1,35 @@
+#!/usr/bin/env bash
+# How the time of laying out and planning activations grows with their number, as a table: for each kind and each
+# number of activations the cells and pieces of the plan, the milliseconds of the quickest of five times, the test of
+# the conditions included, and how many times those of half the number. The program for it is proved and built in a
+# copy of the crates below; it tests the conditions as the tests of stream_match do.
+set -eu
+top=$(cd "$(dirname "${BASH_SOURCE[0]}")/.." && pwd)
+work=$(mktemp -d)
+trap 'rm -rf "$work"' EXIT
+mkdir "$work/crates"
+cp -r "$top/crates/os_io" "$top/crates/flow_core" "$top/crates/stream_match" "$work/crates"
+grep -E '^(os_io|flow_core|stream_match):' "$top/crates.txt" >"$work/crates.txt"
+echo 'positions: stream_match flow_core os_io' >>"$work/crates.txt"
+
+positions=$work/crates/positions
+mkdir -p "$positions/src"
+cp "$top/bench/positions/main.rt" "$positions/src"
+sed 's/crate::Layout/stream_match::Layout/' "$top/crates/stream_match/src/tests/lawful.rt" >"$positions/src/lawful.rt"
+mkdir "$positions/proofs"
+cp -r "$top/crates/stream_match/proofs/tests/lawful" "$positions/proofs"
+find "$positions/proofs" -name '*.antt' \
+    -exec sed -i 's/stream_match\.proofs\.tests\.lawful/positions.proofs.lawful/' {} +
+(cd "$positions" && rt run -- ones 1) >"$work/log" 2>&1 || { cat "$work/log" >&2; exit 1; }
+
+printf '%-10s %8s %8s %8s %10s %6s\n' kind number cells pieces ms ratio
+for kind in ones windows overlaps streams writers reader; do
+    before=
+    for number in 4096 8192 16384 32768 65536; do
+        read -r cells pieces now < <("$positions/out/positions" "$kind" "$number" | sort -n -k3 | head -n 1)
+        ratio=$(awk -v a="${before:-0}" -v b="$now" 'BEGIN { if (a > 0) printf "%.2f", b / a; else printf "-" }')
+        printf '%-10s %8s %8s %8s %10s %6s\n' "$kind" "$number" "$cells" "$pieces" \
+            "$(awk -v t="$now" 'BEGIN { printf "%.3f", t / 1000 }')" "$ratio"
+        before=$now
+    done
+done
