@@ -14,7 +14,7 @@ echo 'positions: stream_match flow_core os_io' >>"$work/crates.txt"
 
 positions=$work/crates/positions
 mkdir -p "$positions/src"
-cp "$top/bench/positions/main.rt" "$positions/src"
+cp "$top/bench/positions.program" "$positions/src/main.rt"
 sed 's/crate::Layout/stream_match::Layout/' "$top/crates/stream_match/src/tests/lawful.rt" >"$positions/src/lawful.rt"
 mkdir "$positions/proofs"
 cp -r "$top/crates/stream_match/proofs/tests/lawful" "$positions/proofs"
