@@ -4,19 +4,18 @@
 # It is read by ./osrun and ./oscheck, which set `top`, the top of the repository, and `name`, the program.
 program=$top/crates/$name/out/$name
 
-# The commit that is checked out: a build leaves it beside the program as its stamp.
-commit_of() {
-    local head='' id=''
-    [ -f "$top/.git/HEAD" ] && read -r head <"$top/.git/HEAD"
-    case $head in
-        'ref: '*) [ -f "$top/.git/${head#ref: }" ] && read -r id <"$top/.git/${head#ref: }" ;;
-        *) id=$head ;;
-    esac
-    [ -n "$id" ] || id=$(git -C "$top" rev-parse HEAD 2>/dev/null)
-    printf '%s' "${id:-none}"
-}
+# The commit that is checked out: a build leaves it beside the program as its stamp. Where it stands in no file of its own,
+# git tells it.
+head=''
+commit=''
+[ -f "$top/.git/HEAD" ] && read -r head <"$top/.git/HEAD"
+case $head in
+    'ref: '*) [ -f "$top/.git/${head#ref: }" ] && read -r commit <"$top/.git/${head#ref: }" ;;
+    *) commit=$head ;;
+esac
+[ -n "$commit" ] || commit=$(git -C "$top" rev-parse HEAD 2>/dev/null)
 
-if [ -f "$program.stamp" ] && read -r stamp <"$program.stamp" && [ "$stamp" = "$(commit_of)" ]; then
+if [ -f "$program.stamp" ] && read -r stamp <"$program.stamp" && [ "$stamp" = "${commit:-none}" ]; then
     exec "$program" "$@"
 fi
 
