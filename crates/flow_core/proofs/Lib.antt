@@ -11,3 +11,4 @@ pub mod Windows
 pub mod There
 pub mod Orders
 pub mod SoundTests
+pub mod Seats

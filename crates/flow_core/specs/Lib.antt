@@ -14,6 +14,8 @@ pub mod IsSound
 pub mod StandsFor
 pub mod Serves
 pub mod Laws
+-- The concurrent core.
+pub mod Concurrent
 -- Where a run of a plan stands.
 pub mod Waits
 pub mod Counted

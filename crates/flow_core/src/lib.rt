@@ -9,7 +9,8 @@
 //!
 //! `execute_one` runs a plan on one thread. Its promise is the plan's meaning, exactly: the end of
 //! each frame and the element of each sink cell, and none where the meaning has none. The laws that
-//! other runtimes build on stand in `laws`.
+//! other runtimes build on stand in `laws`. `concurrent` has the core of a runtime whose workers run a
+//! plan side by side: its states, its steps, and what they keep.
 #![tactic(auto)]
 
 mod activation;
@@ -17,6 +18,7 @@ mod board;
 mod bodies;
 mod cells;
 mod claim;
+pub mod concurrent;
 mod control;
 mod ends;
 pub mod laws;

@@ -1,5 +1,0 @@
-use Rattle.core_steps.proofs.Subs.{finds_count}
-use Rattle.core_steps.proofs.laws.sub_finds_its_count.Goals as goal
-
-pub returns : goal.returns
-returns c = λ known state seat view run piece fit. finds_count known state seat view run piece fit.plan_is_sound
