@@ -70,13 +70,26 @@ module _ {F O E : Type 0} (of_files : FilesView F) (files_old files_new : F) (jo
     | inl d ↦ let run = a.made.run in (
       run,
       a.made.is_run,
-      subst (λ bytes. of_out.taken out_new ≡ append_known (of_out.taken out_old) bytes) a.made.writes d.0,
-      subst (λ bytes. of_report.taken report_new ≡ append_known (of_report.taken report_old) bytes) a.made.reports d.1,
+      subst (λ bytes. of_out.taken out_new ≡ append_known (of_out.taken out_old) bytes) a.made.writes d.0.0,
+      subst (λ bytes. of_report.taken report_new ≡ append_known (of_report.taken report_old) bytes) a.made.reports d.1.0,
       ap number_of d.2 ∙ a.made.has_status,
     )
     | inr d ↦ absurd (let same : number_of s ≡ 6 = ap number_of d.1 in omega arith)
   ]
   delivered_answer s (inr a) small = elim a.refuses [
+    | inl d ↦ absurd (let large : 3 ≤ number_of (refusal_status a.refusal) = refusal_large a.refusal in let same : number_of s ≡ number_of (refusal_status a.refusal) = ap number_of d.0 in omega arith)
+    | inr d ↦ absurd (let same : number_of s ≡ 7 = ap number_of d.0 in omega arith)
+  ]
+
+  -- a status below 2 leaves the sinks' counts as they were
+  pub untroubled_answer : (s : Status) → AnswersJob of_files files_old files_new job of_out out_old out_new of_report report_old report_new s → number_of s < 2
+      → (of_out.faults out_new ≡ of_out.faults out_old) × (of_out.empty_takes out_new ≡ of_out.empty_takes out_old)
+      × (of_report.faults report_new ≡ of_report.faults report_old) × (of_report.empty_takes report_new ≡ of_report.empty_takes report_old)
+  untroubled_answer s (inl a) small = elim a.delivers [
+    | inl d ↦ (d.0.1, d.0.2, d.1.1, d.1.2)
+    | inr d ↦ absurd (let same : number_of s ≡ 6 = ap number_of d.1 in omega arith)
+  ]
+  untroubled_answer s (inr a) small = elim a.refuses [
     | inl d ↦ absurd (let large : 3 ≤ number_of (refusal_status a.refusal) = refusal_large a.refusal in let same : number_of s ≡ number_of (refusal_status a.refusal) = ap number_of d.0 in omega arith)
     | inr d ↦ absurd (let same : number_of s ≡ 7 = ap number_of d.0 in omega arith)
   ]

@@ -56,10 +56,10 @@ pub record CameTo {F : Type 0} (view : FilesView F) (old new : F) (job : Job) (s
   pub earlier : All (IsRead (view.holds old)) (take place (files_of job))
   pub opened : view.opens new ≡ raised (view.opens old) (place + 1)
 
--- the file is too long: more bytes than its limit were given
+-- the file is too long: one byte more than its limit was given, and no more was asked for
 pub record IsTooLong {F : Type 0} (view : FilesView F) (old new : F) (job : Job) (subject : Subject) : Type 0 where
   pub came : CameTo view old new job subject
-  pub too_many : limit_of subject < view.given new
+  pub too_many : view.given new ≡ limit_of subject + 1
   pub held : IfSome (view.holds old came.name) (λ told. limit_of subject < length told)
 
 -- the file could not be read: the files counted a fault

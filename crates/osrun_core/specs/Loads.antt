@@ -1,5 +1,5 @@
 -- What reading one file answers.
-use Rattle.std.specs.Prelude.{◌≡◌, ℕ, ◌<◌, ◌≤◌, List, IfSome, length}
+use Rattle.std.specs.Prelude.{◌≡◌, ℕ, ◌+◌, ◌<◌, ◌≤◌, List, IfSome, length}
 use Rattle.os_io.specs.Counts.{HasRisen}
 use Rattle.osrun_core.specs.declared.refusal.Subject.{Subject}
 use Rattle.osrun_core.specs.declared.refusal.Refusal.{Refusal}
@@ -16,7 +16,7 @@ pub record IsLoaded {F : Type 0} (view : FilesView F) (old new : F) (subject : S
 -- the file is too long, or could not be read, or memory could not be had
 abbrev pub IsLoadRefusal : {F : Type 0} → FilesView F → F → F → Subject → List ℕ → Refusal → Type 0
 IsLoadRefusal view old new subject name (refusal.TooLong s) =
-    (s ≡ subject) × (limit_of subject < view.given new) × IfSome (view.holds old name) (λ told. limit_of subject < length told)
+    (s ≡ subject) × (view.given new ≡ limit_of subject + 1) × IfSome (view.holds old name) (λ told. limit_of subject < length told)
 IsLoadRefusal view old new subject name (refusal.ReadFault s) =
     (s ≡ subject) × (view.given new ≤ limit_of subject) × HasRisen (view.faults old) (view.faults new)
 IsLoadRefusal view old new subject name refusal.Memory = Unit {0}

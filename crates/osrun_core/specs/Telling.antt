@@ -11,9 +11,10 @@ pub record SinkView (S : Type 0) : Type 0 where
   pub faults : S → ℕ
   pub empty_takes : S → ℕ
 
--- the sink took the whole text and nothing else
+-- the sink took the whole text and nothing else, without a fault, and something of each piece
 abbrev pub Took : {S : Type 0} → SinkView S → S → S → List ℕ → Type 0
-Took view old new text = view.taken new ≡ append_known (view.taken old) text
+Took view old new text =
+    (view.taken new ≡ append_known (view.taken old) text) × (view.faults new ≡ view.faults old) × (view.empty_takes new ≡ view.empty_takes old)
 
 -- the sink failed, or it took nothing of a piece that wasn't empty
 abbrev pub HasTrouble : {S : Type 0} → SinkView S → S → S → Type 0

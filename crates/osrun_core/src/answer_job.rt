@@ -1,4 +1,4 @@
-ghost use Rattle.std.specs.Prelude.{◌≡◌, ◌<◌, ◌≤◌, ◌⊎◌, All};
+ghost use Rattle.std.specs.Prelude.{◌≡◌, ◌≢◌, ◌<◌, ◌≤◌, ◌⊎◌, All};
 ghost use Rattle.os_io.specs.Counts.{HasRisen};
 ghost use Rattle.osrun_core.specs.Command.{files_of, job_of};
 ghost use Rattle.osrun_core.specs.JobAnswer.{AnswersJob};
@@ -36,6 +36,7 @@ pub fn answer_job<F: Files, O: Sink, E: Sink>(
         → (number_of result ≡ 3) ⊎ ((number_of result ≡ 5) ⊎ (number_of result ≡ 7)) }
     ensures in_order { ReadsInOrder
         (record { holds = F.holds; opens = F.opens; faults = F.faults; given = F.given }) files.old files.new (job_of job.now) }
+    ensures no_fault { number_of result ≢ 5 → number_of result ≢ 7 → F.faults files.new ≡ F.faults files.old }
     ensures faults_kept { F.faults files.old ≤ F.faults files.new }
     ensures holds { F.holds files.new ≡ F.holds files.old }
     ensures may { F.may files.new ≡ F.may files.old }

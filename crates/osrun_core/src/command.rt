@@ -102,6 +102,11 @@ pub fn run_words<R: Threads + Sync, F: Files, O: Sink, E: Sink, G: Gate>(
         → (HasTrouble (record { taken = E.taken; faults = E.faults; empty_takes = E.empty_takes }) report.old report.new → ⊥)
         → (result < 2) ⊎ (result ≡ 7)) }
 
+    // The counts where nothing failed: no call was made again behind a fault.
+    ensures no_read_fault { result ≢ 5 → result ≢ 7 → F.faults files.new ≡ F.faults files.old }
+    ensures no_write_fault { result < 2 → (O.faults out.new ≡ O.faults out.old) × (O.empty_takes out.new ≡ O.empty_takes out.old)
+        × (E.faults report.new ≡ E.faults report.old) × (E.empty_takes report.new ≡ E.empty_takes report.old) }
+
     // What stays.
     ensures faults_kept { F.faults files.old ≤ F.faults files.new }
     ensures holds { F.holds files.new ≡ F.holds files.old }

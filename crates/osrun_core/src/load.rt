@@ -1,6 +1,8 @@
-ghost use Rattle.std.specs.Prelude.{◌≡◌, ◌≤◌, IsTrue, IfOk, IfErr};
+ghost use Rattle.std.specs.Prelude.{◌≡◌, ◌≢◌, ◌≤◌, IsTrue, IfOk, IfErr, MatchResult};
 ghost use Rattle.os_io.specs.Counts.{raised};
+ghost use Rattle.osrun_core.specs.declared.status.Status.TheVariants.{ReadFault};
 ghost use Rattle.osrun_core.specs.Loads.{IsLoaded, IsLoadRefusal};
+ghost use Rattle.osrun_core.specs.Refusal.{refusal_status};
 
 use crate::refusal::{Refusal, Subject};
 use os_io::{Files, Loaded, ReadError, read_whole};
@@ -18,6 +20,8 @@ pub fn load<F: Files>(
         (record { holds = F.holds; opens = F.opens; faults = F.faults; given = F.given }) files.old files.new subject name.now bytes.items) }
     ensures refused { IfErr result (IsLoadRefusal
         (record { holds = F.holds; opens = F.opens; faults = F.faults; given = F.given }) files.old files.new subject name.now) }
+    ensures no_fault { MatchResult result (λ _. F.faults files.new ≡ F.faults files.old)
+        (λ r. refusal_status r ≢ ReadFault → F.faults files.new ≡ F.faults files.old) }
     ensures faults_kept { F.faults files.old ≤ F.faults files.new }
     ensures opens { F.opens files.new ≡ raised (F.opens files.old) 1 }
     ensures holds { F.holds files.new ≡ F.holds files.old }

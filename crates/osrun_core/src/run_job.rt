@@ -27,6 +27,8 @@ pub fn run_job<F: Files>(alloc: Global, files: &mut F, job: &Job<'_>) -> Result<
         MatchResult result (λ _. ⊥) (λ r. refusal_status r ≢ TooLong) }
     ensures in_order { ReadsInOrder
         (record { holds = F.holds; opens = F.opens; faults = F.faults; given = F.given }) files.old files.new (job_of job.now) }
+    ensures no_fault { MatchResult result (λ _. F.faults files.new ≡ F.faults files.old)
+        (λ r. refusal_status r ≢ ReadFault → F.faults files.new ≡ F.faults files.old) }
     ensures faults_kept { F.faults files.old ≤ F.faults files.new }
     ensures holds { F.holds files.new ≡ F.holds files.old }
     ensures may { F.may files.new ≡ F.may files.old }

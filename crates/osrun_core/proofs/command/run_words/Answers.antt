@@ -1,4 +1,4 @@
-use Rattle.osrun_core.proofs.Answered.{delivered_answer, opened_answer, undelivered_answer, too_long_answer}
+use Rattle.osrun_core.proofs.Answered.{untroubled_answer, delivered_answer, opened_answer, refused_answer, undelivered_answer, too_long_answer}
 use Rattle.osrun_core.proofs.command.run_words.Goals as goal
 
 pub answer_job-requires : goal.answer_job-requires
@@ -7,6 +7,14 @@ answer_job-requires g c = c.requires _ c.in-Ok.ensures.job
 pub returns-in-Ok-clause-headline : goal.returns-in-Ok-clause-headline
 returns-in-Ok-clause-headline g c =
     rw (c.in-Ok.ensures.job, c.number.ensures) (delivered_answer _ _ _ _ _ _ _ _ _ _ _ c.answer_job.ensures.answers)
+
+pub returns-in-Ok-clause-no_write_fault : goal.returns-in-Ok-clause-no_write_fault
+returns-in-Ok-clause-no_write_fault g c =
+    rw c.number.ensures (untroubled_answer _ _ _ _ _ _ _ _ _ _ _ c.answer_job.ensures.answers)
+
+pub returns-in-Ok-clause-refused : goal.returns-in-Ok-clause-refused
+returns-in-Ok-clause-refused g c =
+    rw (c.in-Ok.ensures.job, c.number.ensures) (refused_answer _ _ _ _ _ _ _ _ _ _ _ c.answer_job.ensures.answers)
 
 pub returns-in-Ok-clause-too_long_always : goal.returns-in-Ok-clause-too_long_always
 returns-in-Ok-clause-too_long_always g c =
