@@ -15,17 +15,21 @@ use crate::waits::Waits;
 use os_io::{List, Memory};
 use std::alloc::Global;
 
-/// Where a run of a plan stands.
-#[derive(Drop)]
-pub(crate) struct Board {
-    pub(crate) cells: Vec<Option<i32>>,
-    pub(crate) waits: Waits,
-    pub(crate) ends: Vec<Option<TaskEnd>>,
+/// Where a run of a plan stands: what a runtime reads its frames' inputs from, and delivers their ends
+/// and outputs to. `open` takes all the memory of a run, and `take` needs none.
+#[derive(Debug, Drop)]
+pub struct Board {
+    /// The value of each cell so far, or none.
+    pub cells: Vec<Option<i32>>,
+    /// What each frame still misses, and the frames that may run.
+    pub waits: Waits,
+    /// The end of each frame so far, or none.
+    pub ends: Vec<Option<TaskEnd>>,
 }
 
 impl Board {
     /// The board of a plan before anything ran.
-    pub(crate) fn open(alloc: Global, plan: &Plan) -> Result<Board, Memory>
+    pub fn open(alloc: Global, plan: &Plan) -> Result<Board, Memory>
         requires { IsSound plan.now }
         ensures counted { IfOk result (λ b. IsCounted plan.now b.cells.items b.waits) }
         ensures filled { IfOk result (λ b. b.cells.items ≡ plan.now.filled) }
@@ -33,6 +37,7 @@ impl Board {
     {
         let cells = Vec::from_slice(alloc, plan.filled.as_slice())?;
         let mut waits = Waits::new(alloc);
+        waits.opened.reserve(plan.frames.len())?;
         let mut ends = Vec::new(alloc);
         for frame in plan.frames.as_slice() {
             waits.add(frame.wait)?;
@@ -57,7 +62,7 @@ impl Board {
     }
 
     /// Takes the end of a frame, with its outputs where it is `Done`.
-    pub(crate) fn take(
+    pub fn take(
         &mut self,
         plan: &Plan,
         frame: u32,

@@ -20,7 +20,7 @@ pub(crate) fn fill(cells: &mut Vec<Option<i32>>, at: usize, values: &[i32])
 }
 
 /// Puts the values of cells, which are all there, into a buffer in place of what it holds.
-pub(crate) fn gather(cells: &[Option<i32>], into: &mut Vec<i32>) -> Result<(), Memory>
+pub fn gather(cells: &[Option<i32>], into: &mut Vec<i32>) -> Result<(), Memory>
     requires { IsSome (gathered cells.now) }
     ensures { OnOk result (gathered cells.now ≡ Some into.new.items) }
 {

@@ -8,9 +8,10 @@
 //! carry output elements into them.
 //!
 //! `execute_one` runs a plan on one thread. Its promise is the plan's meaning, exactly: the end of
-//! each frame and the element of each sink cell, and none where the meaning has none. The laws that
-//! other runtimes build on stand in `laws`. `concurrent` has the core of a runtime whose workers run a
-//! plan side by side: its states, its steps, and what they keep.
+//! each frame and the element of each sink cell, and none where the meaning has none. Other runtimes
+//! build on the laws in `laws`, and on `Board`, which has the cells of a run and what each frame misses.
+//! `concurrent` has the core of a runtime whose workers run a plan side by side: its states, its steps,
+//! and what they keep.
 #![tactic(auto)]
 
 mod activation;
@@ -29,7 +30,9 @@ mod task_end;
 mod waits;
 
 pub use activation::Activation;
+pub use board::Board;
 pub use bodies::Bodies;
+pub use cells::gather;
 pub use claim::Claim;
 pub use control::{Control, ControlEnd};
 pub use ends::Ends;
@@ -37,3 +40,4 @@ pub use one_thread::execute_one;
 pub use outcome::Outcome;
 pub use plan::{FramePlan, Piece, Plan};
 pub use task_end::TaskEnd;
+pub use waits::Waits;

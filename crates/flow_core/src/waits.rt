@@ -6,10 +6,10 @@ use std::alloc::Global;
 
 /// How many elements each frame misses, and the frames that miss none, in the order in which they
 /// came to it.
-#[derive(Drop)]
-pub(crate) struct Waits {
-    pub(crate) missing: Vec<u32>,
-    pub(crate) opened: Vec<u32>,
+#[derive(Debug, Drop)]
+pub struct Waits {
+    pub missing: Vec<u32>,
+    pub opened: Vec<u32>,
 }
 
 impl Waits {
