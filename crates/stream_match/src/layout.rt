@@ -46,6 +46,9 @@ impl Layout {
             input_len,
         };
         layout.starts.push(0)?;
+        layout.writers.reserve(streams as usize)?;
+        layout.reads.reserve(streams as usize)?;
+        layout.writes.reserve(streams as usize)?;
         for _ in 0..streams {
             layout.writers.push(List::new(alloc))?;
             layout.reads.push(0)?;
@@ -56,6 +59,25 @@ impl Layout {
 
     /// Adds the next activations. After `Memory` the layout may hold anything, and is to be given up.
     pub fn append(&mut self, activations: &[Activation]) -> Result<(), Memory>
+        requires { TakesMore self.old activations.now }
+        ensures added { OnOk result ((before : List Activation) → IsLayoutOf self.old before → IsLayoutOf self.new (before ++ activations.now)) }
+        ensures streams { OnOk result (length self.new.writers ≡ length self.old.writers) }
+        ensures input { OnOk result (self.new.input_len ≡ self.old.input_len) }
+    {
+        self.make_room(activations)?;
+        self.add_all(activations)
+    }
+
+    /// Takes the memory for the next activations at once.
+    fn make_room(&mut self, activations: &[Activation]) -> Result<(), Memory>
+        ensures { self.new ≡ self.old }
+    {
+        self.spans.reserve(claims_of(activations))?;
+        self.starts.reserve(activations.len())
+    }
+
+    /// Adds the next activations, one by one.
+    fn add_all(&mut self, activations: &[Activation]) -> Result<(), Memory>
         requires { TakesMore self.old activations.now }
         ensures added { OnOk result ((before : List Activation) → IsLayoutOf self.old before → IsLayoutOf self.new (before ++ activations.now)) }
         ensures streams { OnOk result (length self.new.writers ≡ length self.old.writers) }
@@ -117,6 +139,15 @@ impl Layout {
         })?;
         Ok(())
     }
+}
+
+/// How many claims the activations have, as far as a `usize` goes.
+fn claims_of(activations: &[Activation]) -> usize {
+    let mut claims: usize = 0;
+    for activation in activations {
+        claims = claims.saturating_add(activation.claims.len());
+    }
+    claims
 }
 
 /// Sets a cursor.

@@ -1,7 +1,7 @@
 use Rattle.std.proofs.Common.{◌≡◌, ◌++◌, List, length, take}
 use Rattle.flow_core.specs.declared.activation.Activation.{Activation}
 use Rattle.stream_match.specs.Layout.{IsLayoutOf}
-use Rattle.stream_match.proofs.layout.Layout.append.Given as goal
+use Rattle.stream_match.proofs.layout.Layout.add_all.Given as goal
 
 -- the activations so far were added
 abbrev pub invariant-loop-activation : goal.invariant-loop-activation

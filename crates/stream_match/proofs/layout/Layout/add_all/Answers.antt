@@ -1,7 +1,7 @@
 use Rattle.std.proofs.Common.{◌∙◌, ◌++◌, subst, take}
 use Rattle.stream_match.specs.Layout.{IsLayoutOf}
 use Rattle.stream_match.proofs.Appending.{takes_next, take_next}
-use Rattle.stream_match.proofs.layout.Layout.append.Goals as goal
+use Rattle.stream_match.proofs.layout.Layout.add_all.Goals as goal
 
 pub add-requires : goal.add-requires
 add-requires c =
