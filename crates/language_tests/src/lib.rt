@@ -11,6 +11,8 @@ mod depths;
 #[cfg(test)]
 mod judge;
 #[cfg(test)]
+mod kernel_texts;
+#[cfg(test)]
 mod kinds;
 #[cfg(test)]
 mod lawful;

@@ -1,0 +1,2 @@
+-- What a reader believes.
+pub mod Generated
