@@ -1,0 +1,4 @@
+pub mod Following
+pub mod Facts
+pub mod Stacks
+pub mod Moving

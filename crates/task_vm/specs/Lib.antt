@@ -1,0 +1,5 @@
+-- What a reader believes: what a scratch has space for.
+pub mod Space
+-- What restates private functions.
+pub mod Rows
+pub mod Halting
