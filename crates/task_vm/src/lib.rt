@@ -6,6 +6,7 @@
 //! longest chains of calls of a code need, and a scratch serves one run after another, whatever their ends.
 #![tactic(auto)]
 
+mod registers;
 mod rows;
 mod running;
 mod scratch;

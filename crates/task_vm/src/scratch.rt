@@ -1,20 +1,10 @@
 ghost use Rattle.std.specs.Prelude.{◌≡◌, IfOk};
 
+use crate::registers::Caller;
 use os_code::Code;
 use os_io::Memory;
 use std::alloc::Global;
 use std::marker::Model;
-
-/// What a call goes back to.
-#[derive(Clone, Copy, Debug, PartialEq, Eq)]
-pub(crate) struct Caller {
-    /// The place behind the call.
-    pub place: u32,
-    /// Where the caller's operands begin.
-    pub operands: u32,
-    /// Where the caller's slots begin.
-    pub slots: u32,
-}
 
 /// The working room of `run_task`: made once for a code, and good for every run of it.
 #[derive(Debug, Drop)]
