@@ -1,4 +1,8 @@
+pub mod Stacks
 pub mod Following
 pub mod Facts
-pub mod Stacks
 pub mod Moving
+pub mod Held
+pub mod Arms
+pub mod Items
+pub mod Elements
