@@ -6,3 +6,5 @@ pub mod Held
 pub mod Arms
 pub mod Items
 pub mod Elements
+pub mod Calls
+pub mod Starting
