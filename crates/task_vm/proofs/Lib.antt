@@ -8,3 +8,5 @@ pub mod Items
 pub mod Elements
 pub mod Calls
 pub mod Starting
+pub mod Looping
+pub mod Ending

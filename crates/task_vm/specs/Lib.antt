@@ -4,3 +4,4 @@ pub mod Space
 pub mod Room
 pub mod Rows
 pub mod Halting
+pub mod Ending

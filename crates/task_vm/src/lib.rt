@@ -10,5 +10,7 @@ mod registers;
 mod rows;
 mod running;
 mod scratch;
+mod task;
 
 pub use scratch::Scratch;
+pub use task::run_task;

@@ -9,10 +9,10 @@ use std::marker::Model;
 /// The working room of `run_task`: made once for a code, and good for every run of it.
 #[derive(Debug, Drop)]
 pub struct Scratch {
-    stack: Vec<i32>,
-    slots: Vec<i32>,
-    callers: Vec<Caller>,
-    steps: u64,
+    pub(crate) stack: Vec<i32>,
+    pub(crate) slots: Vec<i32>,
+    pub(crate) callers: Vec<Caller>,
+    pub(crate) steps: u64,
 }
 
 impl Model for Scratch {
