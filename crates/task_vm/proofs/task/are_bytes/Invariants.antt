@@ -1,4 +1,4 @@
-use Rattle.std.proofs.Common.{◌≡◌, length, drop}
+use Rattle.std.proofs.Common.{◌≡◌, drop}
 use Rattle.std.specs.List.{list_all}
 use Rattle.os_code.specs.Tasks.{is_byte}
 use Rattle.task_vm.proofs.task.are_bytes.Given as goal

@@ -1,10 +1,9 @@
-use Rattle.std.proofs.Common.{◌≡◌, ℕ, ◌+◌, ◌≤◌, length, List, refl, sym, ap, subst, ◌∙◌, arith}
+use Rattle.std.proofs.Common.{length, List, sym, ap, ◌∙◌, arith}
 use Rattle.flow_core.specs.declared.claim.Claim.{Claim}
-use Rattle.flow_core.specs.declared.task_end.TaskEnd.{TaskEnd}
 use Rattle.os_code.specs.Codes.{parts_of}
 use Rattle.task_vm.specs.Ending.{end_of, all_bytes_from}
 use Rattle.task_vm.specs.Space.{Space}
-use Rattle.task_vm.proofs.Ending.{Ending, ending}
+use Rattle.task_vm.proofs.Ending.{ending}
 use Rattle.task_vm.proofs.Starting.{captured, slots-fit, slots-ready}
 use Rattle.task_vm.proofs.task.run_task.Goals as goal
 

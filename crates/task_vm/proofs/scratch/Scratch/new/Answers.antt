@@ -1,7 +1,5 @@
-use Rattle.std.proofs.Common.{◌≤◌, List, ℕ, length, arith}
-use Rattle.os_code.specs.Chains.{IsChain, chain_need}
+use Rattle.std.proofs.Common.{arith}
 use Rattle.os_code.specs.Codes.{parts_of}
-use Rattle.os_code.specs.declared.unit.Unit.{Unit as CodeUnit}
 use Rattle.os_code.proofs.Fitting.{chain-few}
 use Rattle.task_vm.proofs.scratch.Scratch.new.Goals as goal
 
