@@ -14,3 +14,6 @@ mod task;
 
 pub use scratch::Scratch;
 pub use task::run_task;
+
+#[cfg(test)]
+mod tests;
