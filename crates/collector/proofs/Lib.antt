@@ -1,0 +1,6 @@
+pub mod Buffered
+pub mod Prefixes
+pub mod Searches
+pub mod Producers
+pub mod ReadPlaces
+pub mod Reported

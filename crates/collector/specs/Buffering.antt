@@ -1,5 +1,5 @@
 -- What a sink takes of a text that goes through a line buffer.
-use Rattle.std.specs.Prelude.{◌≡◌, ◌≢◌, ◌≤◌, ℕ, List, ◌++◌, Option, Result, Ok, Err}
+use Rattle.std.specs.Prelude.{◌≡◌, ◌≢◌, ◌≤◌, ℕ, List, ◌++◌, Option, Result, OnOk, IfErr}
 use Rattle.std.specs.Io.KnownBytes.{append_known}
 use Rattle.os_io.specs.Counts.{HasRisen}
 use Rattle.os_io.specs.Writing.{TookProperPrefix}
@@ -20,9 +20,10 @@ pub record WentOn {S : Type 0} (view : SinkView S) (old new : S) (held kept text
   pub no_fault : view.faults new ≡ view.faults old
   pub not_stuck : view.empty_takes new ≡ view.empty_takes old
 
--- A text was cut short: the sink took a front of it and not all, for a cause of its own.
-pub record IsCutShort {S : Type 0} (view : SinkView S) (old new : S) (text : List ℕ) (error : WriteError) : Type 0 where
-  pub front : TookProperPrefix (view.taken old) (view.taken new) text
+-- A text was cut short: the sink took a front of what was held and of the text, and not all, for a cause of
+-- its own.
+pub record IsCutShort {S : Type 0} (view : SinkView S) (old new : S) (held text : List ℕ) (error : WriteError) : Type 0 where
+  pub front : TookProperPrefix (view.taken old) (view.taken new) (held ++ text)
   pub failed : error ≡ Failed → HasRisen (view.faults old) (view.faults new)
   pub stuck : error ≡ Stuck → HasRisen (view.empty_takes old) (view.empty_takes new)
   pub no_fault : error ≢ Failed → view.faults new ≡ view.faults old
@@ -31,6 +32,6 @@ pub record IsCutShort {S : Type 0} (view : SinkView S) (old new : S) (text : Lis
   pub empty_takes_kept : view.empty_takes old ≤ view.empty_takes new
 
 -- A text goes on, or is cut short.
-abbrev pub GoesOn : {S T : Type 0} → SinkView S → S → S → List ℕ → List ℕ → List ℕ → Result T WriteError → Type 0
-GoesOn view old new held kept text (Ok done) = WentOn view old new held kept text
-GoesOn view old new held kept text (Err error) = IsCutShort view old new (held ++ text) error
+pub record GoesOn {S T : Type 0} (view : SinkView S) (old new : S) (held kept text : List ℕ) (result : Result T WriteError) : Type 0 where
+  pub ok : OnOk result (WentOn view old new held kept text)
+  pub err : IfErr result (λ error. IsCutShort view old new held text error)

@@ -7,12 +7,13 @@ use Rattle.flow_core.specs.Place.{Place, places_from}
 use Rattle.flow_core.specs.There.{is_there}
 use Rattle.stream_match.specs.declared.layout.Layout.{Layout}
 use Rattle.stream_match.specs.declared.span.Span.{Span}
+use Rattle.stream_match.specs.Stretch.{read_count}
 use Rattle.collector.specs.declared.missing.Gap.{Gap}
 
--- a span on a stream of a layout, whose end fits its type
+-- a span on a stream of a layout, and the end of what it reads fits its type
 pub record IsSpanIn (layout : Layout) (span : Span) : Type 0 where
   pub stream_exists : span.stream < length layout.writers
-  pub ends : span.first + span.count < 2 ^ 63
+  pub ends : span.first + read_count span < 2 ^ 63
 
 -- the place of a gap
 abbrev pub place_of : Gap → Place

@@ -22,8 +22,8 @@ impl LineBuffer {
         ensures { GoesOn (record { taken = S.taken; faults = S.faults; empty_takes = S.empty_takes })
             sink.old sink.new self.old self.new (starved_line ends.now.ends frame missing) result }
     {
-        self.field(sink, b"starved ", u64::from(frame))?;
-        self.field(sink, b" stream ", u64::from(missing.stream))?;
+        self.field(sink, b"starved ", frame as u64)?;
+        self.field(sink, b" stream ", missing.stream as u64)?;
         self.field(sink, b" position ", missing.position)?;
         self.text(sink, b" producer ")?;
         self.producer(sink, ends, missing.producer)?;
@@ -42,7 +42,7 @@ impl LineBuffer {
     {
         match producer {
             Some(frame) => {
-                self.number(sink, u64::from(frame))?;
+                self.number(sink, frame as u64)?;
                 self.text(sink, ending(end_of(ends, frame)))
             }
             None => self.text(sink, b"none"),
@@ -62,11 +62,11 @@ impl LineBuffer {
         match end {
             TaskEnd::Done => Ok(()),
             TaskEnd::Trapped { code, line } => {
-                self.field(sink, b"trapped ", u64::from(frame))?;
+                self.field(sink, b"trapped ", frame as u64)?;
                 self.trap(sink, code, line)
             }
             TaskEnd::OverBudget => {
-                self.field(sink, b"over-budget ", u64::from(frame))?;
+                self.field(sink, b"over-budget ", frame as u64)?;
                 self.text(sink, b"\n")
             }
         }
@@ -77,8 +77,8 @@ impl LineBuffer {
         ensures { GoesOn (record { taken = S.taken; faults = S.faults; empty_takes = S.empty_takes })
             sink.old sink.new self.old self.new (line (codes " code " ++ decimal code ++ codes " line " ++ decimal line_number)) result }
     {
-        self.field(sink, b" code ", u64::from(code))?;
-        self.field(sink, b" line ", u64::from(line_number))?;
+        self.field(sink, b" code ", code as u64)?;
+        self.field(sink, b" line ", line_number as u64)?;
         self.text(sink, b"\n")
     }
 
@@ -99,7 +99,7 @@ impl LineBuffer {
             }
             ControlEnd::OverBudget => self.text(sink, b"control over-budget\n"),
             ControlEnd::Limit(limit) => {
-                self.field(sink, b"control limit ", u64::from(limit))?;
+                self.field(sink, b"control limit ", limit as u64)?;
                 self.text(sink, b"\n")
             }
         }

@@ -1,11 +1,11 @@
-ghost use Rattle.std.specs.Prelude.{◌≡◌, ◌<◌, ◌≤◌, ◌-◌, None, All, List, length, find, slice_index_or};
+ghost use Rattle.std.specs.Prelude.{◌≡◌, ◌<◌, ◌≤◌, ◌-◌, None, false, All, IfSome, List, drop, find, length, slice_get, slice_index_or, take};
 ghost use Rattle.std.specs.List.{flat_map, range_with_len};
 ghost use Rattle.std.specs.Option.{option_map};
 ghost use Rattle.flow_core.specs.declared.activation.Activation.{Activation};
 ghost use Rattle.flow_core.specs.Outcome.{is_done_at};
 ghost use Rattle.flow_core.specs.Window.{producer};
 ghost use Rattle.stream_match.specs.Layout.{IsLayout, IsLayoutOf, span_of};
-ghost use Rattle.stream_match.specs.Stretch.{frame_count};
+ghost use Rattle.stream_match.specs.Stretch.{frame_count, spans_of, start_of};
 ghost use Rattle.collector.specs.Missing.{missing};
 ghost use Rattle.collector.specs.Walking.{IsSpanIn, Reaches, is_gap, is_missing, first_gap, place_of, read_places};
 
@@ -37,10 +37,7 @@ pub fn first_missing(layout: &Layout, ends: &Ends, frame: u32) -> Option<Missing
     ensures missing { (activations : List Activation) → IsLayoutOf layout.now activations
         → result ≡ missing activations layout.now.input_len ends.now.ends frame }
 {
-    let starts = layout.starts.as_slice();
-    let first = starts[frame as usize] as usize;
-    let end = starts[frame as usize + 1] as usize;
-    let gap = missing_among(layout, ends, &layout.spans.as_slice()[first..end])?;
+    let gap = missing_among(layout, ends, spans_of(layout, frame))?;
     Some(Missing {
         stream: gap.stream,
         position: gap.position,
@@ -48,11 +45,40 @@ pub fn first_missing(layout: &Layout, ends: &Ends, frame: u32) -> Option<Missing
     })
 }
 
+/// The spans of an activation.
+fn spans_of(layout: &Layout, frame: u32) -> &[Span]
+    requires layout { IsLayout layout.now }
+    requires exists { frame < frame_count layout.now }
+    ensures { result.now ≡ spans_of layout.now frame }
+{
+    let first = start(layout, frame as usize);
+    let end = start(layout, frame as usize + 1);
+    part(layout, first, end)
+}
+
+/// Where the spans of an activation begin.
+fn start(layout: &Layout, frame: usize) -> usize
+    requires { frame < length layout.now.starts }
+    ensures { result ≡ start_of layout.now frame }
+{
+    layout.starts.as_slice()[frame] as usize
+}
+
+/// The spans from one number up to another.
+fn part(layout: &Layout, first: usize, end: usize) -> &[Span]
+    requires ordered { first ≤ end }
+    requires within { end ≤ length layout.now.spans }
+    ensures { result.now ≡ take (end - first) (drop first layout.now.spans) }
+{
+    &layout.spans.as_slice()[first..end]
+}
+
 /// The first position that spans read whose element isn't there.
 fn missing_among(layout: &Layout, ends: &Ends, spans: &[Span]) -> Option<Gap>
     requires layout { IsLayout layout.now }
     requires spans { All (IsSpanIn layout.now) spans.now }
-    ensures { (activations : List Activation) → IsLayoutOf layout.now activations
+    ensures exists { IfSome result (λ gap. gap.stream < length layout.now.writers) }
+    ensures missing { (activations : List Activation) → IsLayoutOf layout.now activations
         → option_map place_of result ≡ find (is_missing activations layout.now.input_len ends.now.ends) (flat_map read_places spans.now) }
 {
     for span in spans {
@@ -72,6 +98,7 @@ fn missing_among(layout: &Layout, ends: &Ends, spans: &[Span]) -> Option<Gap>
 fn missing_position(layout: &Layout, ends: &Ends, span: Span) -> Option<u64>
     requires layout { IsLayout layout.now }
     requires span { IsSpanIn layout.now span }
+    requires reads { span.write ≡ false }
     ensures { (activations : List Activation) → IsLayoutOf layout.now activations
         → result ≡ first_gap activations layout.now.input_len ends.now.ends span.stream span.first span.count }
 {
@@ -138,6 +165,13 @@ fn producer(layout: &Layout, stream: u32, position: u64) -> Option<Span>
         → result ≡ option_map span_of (producer activations stream position) }
 {
     let number = layout.producer(stream, position)?;
+    span(layout, number)
+}
+
+/// A span by its number.
+fn span(layout: &Layout, number: u32) -> Option<Span>
+    ensures { result ≡ slice_get layout.now.spans number }
+{
     layout.spans.as_slice().get(number as usize).copied()
 }
 
