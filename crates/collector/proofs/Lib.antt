@@ -4,3 +4,5 @@ pub mod Searches
 pub mod Producers
 pub mod ReadPlaces
 pub mod Reported
+pub mod Firsts
+pub mod Covering
