@@ -1,6 +1,13 @@
+pub mod Claiming
 pub mod Enough
 pub mod Falls
 pub mod Files
+pub mod Horizons
 pub mod Keeps
+pub mod Lighter
+pub mod Looping
+pub mod Places
+pub mod Reached
+pub mod Stopping
 pub mod Sums
 pub mod Written

@@ -18,3 +18,9 @@ pub mod Control
 pub mod Examples
 pub mod Moves
 pub mod Skips
+-- what restates private functions
+pub mod Places
+pub mod Seen
+pub mod Stops
+pub mod Units
+pub mod Weights

@@ -11,11 +11,22 @@
 #![tactic(auto)]
 
 mod aim;
+mod changes;
 mod ending;
 pub mod examples;
 mod flow;
+mod functions;
 pub mod laws;
+mod names;
+mod operators;
+mod run;
 mod site;
+mod sites;
+mod state;
+mod stop;
+mod streams;
+mod unit;
+mod value;
 mod variable;
 
 pub use aim::Aim;
