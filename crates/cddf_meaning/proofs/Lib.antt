@@ -1,11 +1,17 @@
+pub mod Bound
 pub mod Claiming
 pub mod Enough
 pub mod Falls
 pub mod Files
+pub mod Finding
+pub mod HasNames
 pub mod Horizons
 pub mod Keeps
 pub mod Lighter
 pub mod Looping
+pub mod Mains
+pub mod Numbered
+pub mod Outputs
 pub mod Places
 pub mod Reached
 pub mod Stopping

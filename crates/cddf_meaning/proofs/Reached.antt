@@ -17,7 +17,7 @@ use Rattle.os_ast.specs.Trees as tree
 use Rattle.os_ast.specs.Views.{item_tree, stmts_tree}
 use Rattle.os_ast.specs.declared.program.Item.{Item}
 
-with_items-last : (file : File) (items : List tree.ItemTree) (i : tree.ItemTree) →
+pub with_items-last : (file : File) (items : List tree.ItemTree) (i : tree.ItemTree) →
     with_items file (items ++ i ∷ []) ≡ with_item (with_items file items) i
 with_items-last file [] i = refl
 with_items-last file (x ∷ xs) i = with_items-last (with_item file x) xs i
@@ -26,12 +26,12 @@ count-with_items : (file : File) (items : List tree.ItemTree) → (with_items fi
 count-with_items file [] = omega arith
 count-with_items file (x ∷ xs) = count-with_items (with_item file x) xs ∙ omega arith
 
-take-last : {A : Type 0} → (xs : List A) (i : ℕ) (x : A) → i < length xs → x ≡ get_or xs i x → take (suc i) xs ≡ take i xs ++ x ∷ []
+pub take-last : {A : Type 0} → (xs : List A) (i : ℕ) (x : A) → i < length xs → x ≡ get_or xs i x → take (suc i) xs ≡ take i xs ++ x ∷ []
 take-last [] i x inside is = search (inside, arith)
 take-last (y ∷ ys) zero x inside is = ap (λ z. z ∷ []) (sym is)
 take-last (y ∷ ys) (suc i) x inside is = ap (λ zs. y ∷ zs) (take-last ys i x (omega (arith, inside)) is)
 
-get_or-tree : (items : List Item) (i : ℕ) (x : Item) → x ≡ get_or items i x → item_tree x ≡ get_or (map item_tree items) i (item_tree x)
+pub get_or-tree : (items : List Item) (i : ℕ) (x : Item) → x ≡ get_or items i x → item_tree x ≡ get_or (map item_tree items) i (item_tree x)
 get_or-tree items i x is = ap item_tree is ∙ sym (get_or-map item_tree items i x)
 
 -- the file behind one item more
@@ -110,7 +110,7 @@ pub calls-at : (items : List tree.ItemTree) (n : ℕ) (args : List ℤ) (turns :
     (file_of items).calls n args turns ≡ called_by (file_of (take n items)) (function_of (slice_get items n)) args turns
 calls-at items n args turns = ap (λ k. (file_of items).calls k args turns) (omega arith) ∙ calls-high empty_file items n args turns (λ n h. refl)
 
-map-take-tree : (n : ℕ) (items : List Item) → map item_tree (take n items) ≡ take n (map item_tree items)
+pub map-take-tree : (n : ℕ) (items : List Item) → map item_tree (take n items) ≡ take n (map item_tree items)
 map-take-tree zero items = refl
 map-take-tree (suc n) [] = refl
 map-take-tree (suc n) (x ∷ xs) = ap (λ ts. item_tree x ∷ ts) (map-take-tree n xs)

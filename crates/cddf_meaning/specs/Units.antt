@@ -1,5 +1,5 @@
 -- What the functions of the program take, as the definitions see it.
-use Rattle.std.specs.Prelude.{ℕ, ◌+◌, List, [], ◌∷◌, ◌++◌, Option, Some, None, Ok, ℤ, map, option_map, is_some}
+use Rattle.std.specs.Prelude.{ℕ, ◌+◌, List, [], ◌∷◌, ◌++◌, Option, Some, None, Ok, ℤ, true, map, option_map, is_some}
 use Rattle.std.specs.Option.{option_copied}
 use Rattle.cddf_meaning.specs.Answers.{Answer, Left, and_then, left, over}
 use Rattle.cddf_meaning.specs.Claims.{with_skips, skips_behind_all}
@@ -32,6 +32,10 @@ unit_in items control = record { file = file_of (map item_tree items); is_contro
 
 abbrev pub unit_of : unit.Unit → Around
 unit_of u = unit_in u.file.now (option_copied u.control)
+
+-- round the body of `main`
+abbrev pub round_sites : List tree.ItemTree → List Site → Around
+round_sites items sites = record { file = file_of items; is_control = true; sites = sites }
 
 -- a call of the name with these arguments
 abbrev pub called : File → ℕ → tree.Args → State → ℕ → Answer (Left ℤ)

@@ -44,7 +44,7 @@ fn result_of(flow: Flow) -> i32
     }
 }
 
-fn param_names(params: &Params) -> &[Name]
+pub(crate) fn param_names(params: &Params) -> &[Name]
     ensures { result.now ≡ param_names params.now }
 {
     match params {

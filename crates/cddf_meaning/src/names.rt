@@ -43,7 +43,7 @@ fn constant_value(constant: &Constant) -> Result<i32, Stop>
     Ok(if constant.minus { -size } else { size })
 }
 
-fn item_id(item: &Item) -> u32
+pub(crate) fn item_id(item: &Item) -> u32
     ensures { result ≡ item_id (item_tree item.now) }
 {
     match item {

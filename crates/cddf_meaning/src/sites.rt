@@ -1,7 +1,10 @@
 //! The tasks of the control program, as their pragmas find them.
 
-ghost use Rattle.std.specs.Prelude.{◌≡◌, ◌==◌, [], get_or, map, position};
+ghost use Rattle.std.specs.Prelude.{◌≡◌, ◌++◌, ◌==◌, [], ◌∷◌, IfOk, OnErr, OnOk, get_or, map, position};
+ghost use Rattle.cddf_meaning.specs.Sought.{task_of};
+ghost use Rattle.cddf_meaning.specs.Tasks.{sites_of};
 
+use crate::found::Found;
 use crate::site::Site;
 use os_io::{List, Memory};
 use std::alloc::Global;
@@ -29,6 +32,28 @@ impl Model for Sites {
 }
 
 impl Sites {
+    /// No task.
+    fn new(alloc: Global) -> Sites
+        ensures { result ≡ [] }
+    {
+        Sites {
+            sites: Vec::new(alloc),
+            numbers: BTreeMap::new(alloc),
+        }
+    }
+
+    /// One more task. `Memory` leaves them as they were.
+    fn push(&mut self, site: Site) -> Result<(), Memory>
+        ensures ok { OnOk result (self.new ≡ self.old ++ site ∷ []) }
+        ensures err { OnErr result (self.new ≡ self.old) }
+    {
+        self.sites.reserve(1)?;
+        let number = self.number(site.place).unwrap_or(self.sites.len());
+        self.numbers.insert(site.place, number)?;
+        self.sites.push_reserved(site);
+        Ok(())
+    }
+
     /// The number of the task with its PragmaStart at this place.
     pub(crate) fn number(&self, place: u32) -> Option<usize>
         ensures { result ≡ position (λ t. t.place == place) self.now }
@@ -45,4 +70,29 @@ impl Sites {
             None => &[],
         }
     }
+}
+
+/// The same names once more.
+fn copied(alloc: Global, ids: &[u32]) -> Result<List<u32>, Memory>
+    ensures { IfOk result (λ copy. copy ≡ ids.now) }
+{
+    let mut copy = List::new(alloc);
+    for id in ids {
+        copy.push(*id)?;
+    }
+    Ok(copy)
+}
+
+/// The tasks of a program as their pragmas find them.
+pub(crate) fn sites_of(alloc: Global, tasks: &[Found<'_>]) -> Result<Sites, Memory>
+    ensures { IfOk result (λ sites. sites ≡ sites_of (map task_of tasks.now)) }
+{
+    let mut sites = Sites::new(alloc);
+    for task in tasks {
+        sites.push(Site {
+            place: task.site.mark.place,
+            captured: copied(alloc, task.captured.as_slice())?,
+        })?;
+    }
+    Ok(sites)
 }

@@ -198,6 +198,20 @@ impl State {
         }
     }
 
+    /// The elements of the items, each item by its number.
+    pub(crate) fn items(&self) -> &[List<i32>]
+        ensures { result.now ≡ self.now.items }
+    {
+        self.items.as_slice()
+    }
+
+    /// The activations that were created.
+    pub(crate) fn into_activations(self) -> List<Activation>
+        ensures { result ≡ self.activations }
+    {
+        self.activations
+    }
+
     /// The elements of an item.
     fn item_elements(&self, item: usize) -> &[i32]
         ensures { result.now ≡ states.item_elements self.now item }
