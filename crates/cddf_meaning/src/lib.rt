@@ -11,14 +11,33 @@
 #![tactic(auto)]
 
 mod aim;
+mod body;
+mod changes;
+mod control;
 mod ending;
 pub mod examples;
 mod flow;
+mod found;
+mod functions;
+mod known;
 pub mod laws;
+mod names;
+mod naming;
+mod operators;
+mod run;
 mod site;
+mod sites;
+mod state;
+mod stop;
+mod streams;
+mod tasks;
+mod unit;
+mod value;
 mod variable;
 
 pub use aim::Aim;
+pub use body::plain_body;
+pub use control::plain_control;
 pub use ending::Ending;
 pub use flow::Flow;
 pub use site::Site;
