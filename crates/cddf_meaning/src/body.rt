@@ -253,9 +253,10 @@ fn run_body(
 /// How an activation ends for its inputs, and the elements that it writes: those of its output items, in the order of
 /// the clauses. Where it isn't done it writes nothing.
 ///
-/// The inputs are the elements of the activation's input items, one item after another. The program keeps the rules; an
-/// activation of a task that it doesn't have is done and writes nothing. The budget is that of one activation, in units.
-/// It is slow, and for tests: each name is looked up among all that are in scope.
+/// The program violates no rule, and the activation fits one of its tasks: by its number, by a value for each captured
+/// scalar, and by a claim for each item. The inputs are the elements of its input items, one item after another, as many
+/// as the horizons of its read claims add up to. The budget is that of one activation, in units. `Memory` is the one
+/// error; it says nothing of the program. The call is slow, and for tests.
 pub fn plain_body(
     alloc: Global,
     program: &Program,

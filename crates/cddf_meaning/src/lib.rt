@@ -8,6 +8,10 @@
 //!
 //! A definition is total over every tree. Where no program that keeps the rules comes, it says something, and a comment
 //! says so. `laws` shows that the definitions are the ones that were meant.
+//!
+//! `plain_body` and `plain_control` compute them. They walk the tree and look each name up among all that are in scope, so
+//! they are for tests. Their parts: `tasks` finds `main` and its tasks, `naming` what a task takes from round it, `state`
+//! is what a body works on, and `value`, `changes`, `run`, `functions` and `streams` are one recursion over the trees.
 #![tactic(auto)]
 
 mod aim;
