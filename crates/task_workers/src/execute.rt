@@ -6,17 +6,18 @@ ghost use Rattle.flow_core.specs.Serves.{Serves};
 
 use crate::gate::Gate;
 use crate::results::Results;
-use crate::rounds::{run_rounds, worth};
+use crate::rounds::run_rounds;
 use crate::worker::hire;
 use flow_core::{Board, Bodies, Ends, Plan};
 use os_io::{List, Memory};
 use std::alloc::Global;
 use std::thread::Threads;
 
-/// Runs a plan round by round on so many workers, 1 to 64: the frames of a round that may run are
-/// given to the workers by halves of their list, in threads where they are worth one, and what they
-/// came to is delivered before the next round. It takes all its memory before the first round, but
-/// what the threads take; where no thread can be made, the caller does the work.
+/// Runs a plan round by round on so many workers, 1 to 64. The frames of a round that may run are given
+/// to the workers by halves of their list, and what they came to is delivered before the next round.
+/// A round of few frames gets few of the workers, and one of a single frame starts no thread; where no
+/// thread can be made, the caller does the work. All memory but that of threads is taken before the
+/// first round.
 ///
 /// The gate is called with the number of the worker, from 0 on, and the frame before each frame runs.
 pub fn execute_rounds<R: Threads + Sync, B: Bodies, G: Gate>(
@@ -43,7 +44,7 @@ pub fn execute_rounds<R: Threads + Sync, B: Bodies, G: Gate>(
         output: list_with_room(alloc, plan.sink.inputs as usize)?,
     };
     let mut results = Results::new(alloc, plan)?;
-    let mut hired = hire(alloc, plan, bodies, worth(frames, workers as usize))?;
+    let mut hired = hire(alloc, plan, bodies, frames.clamp(1, workers as usize))?;
     let mut board = Board::open(alloc, plan)?;
     run_rounds(
         rt,

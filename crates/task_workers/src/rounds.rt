@@ -15,15 +15,22 @@ use flow_core::{Board, Bodies, Plan, TaskEnd};
 use os_io::Memory;
 use std::thread::Threads;
 
-/// How many frames of a round are worth a thread.
-const FRAMES_A_THREAD: usize = 64;
+/// How many frames are worth a thread, however short they are.
+const FRAMES_A_THREAD: usize = 512;
 
-/// How many of the workers a round of so many frames is worth.
-pub(crate) fn worth(frames: usize, workers: usize) -> usize
-    requires { 1 ≤ workers }
+/// How many threads a run may start for fewer frames than that, since frames may be long ones.
+const THREADS_ON_TRIAL: usize = 256;
+
+/// How many of the workers a round of so many frames gets: those that the frames are worth, and of the
+/// others one for each frame, as long as there are threads left to try.
+fn workers_for(frames: usize, workers: usize, on_trial: &mut usize) -> usize
+    requires { (1 ≤ frames) × (1 ≤ workers) }
     ensures { (1 ≤ result) × (result ≤ workers) }
 {
-    (frames / FRAMES_A_THREAD).clamp(1, workers)
+    let sure = (frames / FRAMES_A_THREAD).clamp(1, workers);
+    let tried = (frames.min(workers) - sure).min(*on_trial);
+    *on_trial -= tried;
+    sure + tried
 }
 
 /// Delivers what the frames that were opened from a turn on came to, in their order.
@@ -75,10 +82,12 @@ fn run_opened<R: Threads + Sync, B: Bodies<Scratch = S>, G: Gate, S: Send + Drop
     ends: &mut [TaskEnd],
     outputs: &mut [i32],
     workers: &mut [Worker<S>],
+    on_trial: &mut usize,
 ) -> Result<(), Memory>
     requires sound { IsSound plan.now }
     requires served { Serves plan.now (B.outcome bodies.now) (B.takes bodies.now) }
     requires begins { IsRun plan.now (plan_meaning plan.now (B.outcome bodies.now)) board.now turn }
+    requires some_open { turn < length board.now.waits.opened.items }
     requires end_each { turn + length ends.old ≡ length board.now.waits.opened.items }
     requires room { length outputs.old ≡ room_of plan.now (drop turn board.now.waits.opened.items) }
     requires few { room_of plan.now (drop turn board.now.waits.opened.items) ≤ 4194304 }
@@ -90,7 +99,8 @@ fn run_opened<R: Threads + Sync, B: Bodies<Scratch = S>, G: Gate, S: Send + Drop
     ensures fitting { All (λ w. B.fits bodies.now w.scratch) workers.new }
 {
     let frames = opened_from(board, turn);
-    let (some, _) = workers.split_at_mut(worth(frames.len(), workers.len()));
+    let count = workers_for(frames.len(), workers.len(), on_trial);
+    let (some, _) = workers.split_at_mut(count);
     run_by(rt, plan, bodies, board, gate, frames, ends, outputs, some)
 }
 
@@ -106,6 +116,7 @@ fn run_round<R: Threads + Sync, B: Bodies<Scratch = S>, G: Gate, S: Send + Drop>
     ends: &mut [TaskEnd],
     outputs: &mut [i32],
     workers: &mut [Worker<S>],
+    on_trial: &mut usize,
 ) -> Result<usize, Memory>
     requires sound { IsSound plan.now }
     requires served { Serves plan.now (B.outcome bodies.now) (B.takes bodies.now) }
@@ -126,7 +137,9 @@ fn run_round<R: Threads + Sync, B: Bodies<Scratch = S>, G: Gate, S: Send + Drop>
     let room = outputs_of(plan, opened_from(board, turn));
     let (ends, _) = ends.split_at_mut(next - turn);
     let (outputs, _) = outputs.split_at_mut(room);
-    run_opened(rt, plan, bodies, board, gate, turn, ends, outputs, workers)?;
+    run_opened(
+        rt, plan, bodies, board, gate, turn, ends, outputs, workers, on_trial,
+    )?;
     deliver(board, plan, turn, ends, outputs)?;
     Ok(next)
 }
@@ -152,9 +165,21 @@ pub(crate) fn run_rounds<R: Threads + Sync, B: Bodies<Scratch = S>, G: Gate, S: 
     ensures { OnOk result (IsRun plan.now (plan_meaning plan.now (B.outcome bodies.now))
         board.new (length board.new.waits.opened.items)) }
 {
+    let mut on_trial = THREADS_ON_TRIAL;
     let mut turn = 0;
     while turn < board.waits.opened.len() {
-        turn = run_round(rt, plan, bodies, gate, board, turn, ends, outputs, workers)?;
+        turn = run_round(
+            rt,
+            plan,
+            bodies,
+            gate,
+            board,
+            turn,
+            ends,
+            outputs,
+            workers,
+            &mut on_trial,
+        )?;
     }
     Ok(())
 }
