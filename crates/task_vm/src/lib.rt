@@ -4,9 +4,11 @@
 //! exactly: the end with its code and line, the outputs of a task that is done, and the number of steps, which
 //! `Scratch::steps` tells and which the budget bounds. It takes no memory: `Scratch::new` reserves once what the
 //! longest chains of calls of a code need, and a scratch serves one run after another, whatever their ends.
+//!
+//! `registers` has what each instruction does with the machine's lists: any loop over a code is made of it.
 #![tactic(auto)]
 
-mod registers;
+pub mod registers;
 mod rows;
 mod running;
 mod scratch;

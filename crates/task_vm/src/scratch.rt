@@ -39,7 +39,8 @@ impl Scratch {
             callers: vec![in alloc; Caller {
                 place: 0,
                 operands: 0,
-                slots: 0
+                slots: 0,
+                end: 0
             }; code.units.len()]?,
             steps: 0,
         })
