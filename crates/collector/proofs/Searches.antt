@@ -31,12 +31,6 @@ stop p at end within passes =
     let all : end - at ≡ suc n = omega arith in
     ap (λ m. find p (range_with_len at m)) all ∙ ap (λ b. cond b (Some at) (find p (range_with_len (at + 1) n))) passes
 
--- at the end nothing is found
-pub over : (p : ℕ → Bool) (at end : ℕ) → end ≤ at → find p (range_with_len at (end - at)) ≡ None
-over p at end past =
-    let none : end - at ≡ 0 = omega arith in
-    ap (λ m. find p (range_with_len at m)) none
-
 -- the first one from a bound on passes
 pub from_bound : (p : ℕ → Bool) (first count bound : ℕ) → ((k : ℕ) → k < bound → p k ≡ false) → p (max first bound) ≡ true → max first bound < first + count → find p (range_with_len first count) ≡ Some (max first bound)
 from_bound p first count bound below passes within =

@@ -4,7 +4,7 @@ pub mod Missing
 pub mod Line
 pub mod Report
 pub mod Status
--- When ends can be reported, and the laws.
+-- The states whose output is written, and the laws.
 pub mod Reported
 pub mod Laws
 -- What restates private functions: the search for what is missing, how a text goes through the line buffer.
