@@ -1,0 +1,2 @@
+-- Bodies that tests of runs have.
+pub mod Lasts

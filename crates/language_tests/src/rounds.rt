@@ -1,0 +1,313 @@
+//! Runs of plans on several workers: the same ends and output elements as on one thread, and those that
+//! a count by hand gives.
+ghost use Rattle.flow_core.specs.IsSound.{IsSound};
+
+mod lasts;
+mod lawful;
+
+use crate::rounds::lasts::Lasts;
+use crate::rounds::lawful::lawful_layout;
+use flow_core::{Activation, Claim, Ends, Plan, TaskEnd, execute_one};
+use os_io::{List, Memory};
+use std::alloc::Global;
+use std::process::Abort;
+use std::sync::atomic::{AtomicU32, Ordering};
+use std::test::Fail;
+use std::thread::Threads;
+use stream_match::build;
+use task_workers::{Gate, execute_rounds};
+
+/// How activations stand to one another.
+#[derive(Clone, Copy, Debug)]
+enum Shape {
+    /// Each reads three elements of the input, and moves on by one.
+    Windows,
+    /// Each reads what the one before wrote.
+    Chain,
+    /// The first one writes what all others read, and the last one reads what they write.
+    Fan,
+    /// The first two wait for each other.
+    Cycle,
+    /// Each of the second half reads what one of the first half wrote.
+    Layers,
+    /// Each reads an element of the input.
+    Single,
+}
+
+/// A run with what a count by hand gives: how many activations end so, and elements of the output.
+struct Case<'a> {
+    shape: Shape,
+    activations: u32,
+    input: usize,
+    some_fail: bool,
+    done: u32,
+    trapped: u32,
+    over_budget: u32,
+    output: usize,
+    elements: &'a [(usize, Option<i32>)],
+}
+
+const CASES: [Case<'static>; 8] = [
+    Case {
+        shape: Shape::Windows,
+        activations: 3998,
+        input: 4000,
+        some_fail: false,
+        done: 3998,
+        trapped: 0,
+        over_budget: 0,
+        output: 3998,
+        elements: &[(0, Some(2)), (249, Some(0)), (3997, Some(234))],
+    },
+    Case {
+        shape: Shape::Chain,
+        activations: 1000,
+        input: 4,
+        some_fail: false,
+        done: 1000,
+        trapped: 0,
+        over_budget: 0,
+        output: 1,
+        elements: &[(0, Some(3))],
+    },
+    Case {
+        shape: Shape::Fan,
+        activations: 1002,
+        input: 4,
+        some_fail: false,
+        done: 1002,
+        trapped: 0,
+        over_budget: 0,
+        output: 1,
+        elements: &[(0, Some(3))],
+    },
+    Case {
+        shape: Shape::Cycle,
+        activations: 3,
+        input: 4,
+        some_fail: false,
+        done: 1,
+        trapped: 0,
+        over_budget: 0,
+        output: 1,
+        elements: &[(0, Some(0))],
+    },
+    // The first 1,001 end in turn Done, trapped, over budget, Done, Done. The other thousand go on from
+    // there, one place further: of each five the first traps, two read what isn't there, two are Done.
+    Case {
+        shape: Shape::Layers,
+        activations: 2001,
+        input: 1001,
+        some_fail: true,
+        done: 1001,
+        trapped: 400,
+        over_budget: 200,
+        output: 1000,
+        elements: &[
+            (0, None),
+            (1, None),
+            (2, None),
+            (3, Some(3)),
+            (4, Some(4)),
+            (999, Some(246)),
+        ],
+    },
+    Case {
+        shape: Shape::Single,
+        activations: 0,
+        input: 4,
+        some_fail: false,
+        done: 0,
+        trapped: 0,
+        over_budget: 0,
+        output: 0,
+        elements: &[],
+    },
+    // More workers than activations.
+    Case {
+        shape: Shape::Single,
+        activations: 3,
+        input: 4,
+        some_fail: false,
+        done: 3,
+        trapped: 0,
+        over_budget: 0,
+        output: 3,
+        elements: &[(0, Some(0)), (1, Some(1)), (2, Some(2))],
+    },
+    // The input ends before the last twenty.
+    Case {
+        shape: Shape::Single,
+        activations: 4120,
+        input: 4100,
+        some_fail: false,
+        done: 4100,
+        trapped: 0,
+        over_budget: 0,
+        output: 4120,
+        elements: &[(4099, Some(83)), (4100, None), (4119, None)],
+    },
+];
+
+/// How often the gate was called, and the highest worker that it was told.
+#[derive(Drop)]
+struct Calls {
+    count: AtomicU32,
+    worker: AtomicU32,
+}
+
+impl Gate for Calls {
+    fn at(&self, worker: u32, _frame: u32) {
+        self.count.fetch_add(1, Ordering::SeqCst);
+        self.worker.fetch_max(worker, Ordering::SeqCst);
+    }
+}
+
+/// Several workers give what one thread gives, and what was counted by hand.
+#[test]
+fn runs_as_one_thread_does(rt: HostRuntime) -> Result<(), Fail> {
+    for case in &CASES {
+        let alloc = rt.alloc();
+        let mut input = Vec::new(alloc);
+        for k in 0..case.input {
+            input.push((k % 251) as u8)?;
+        }
+        assert!(&rt; input.len() < 65_536);
+        let activations = activations_of(alloc, case)?;
+        let Some(layout) = lawful_layout(alloc, 4, input.len() as u32, activations.as_slice())?
+        else {
+            return Err(Fail::from("the activations aren't lawful"));
+        };
+        let plan = build(alloc, &layout, input.as_slice())?;
+        runs_by_hand(&rt, alloc, case, &plan)?;
+    }
+    Ok(())
+}
+
+/// Whether a case's plan runs so on one thread and on several workers.
+fn runs_by_hand<R: Threads + Abort + Sync>(
+    rt: &R,
+    alloc: Global,
+    case: &Case<'_>,
+    plan: &Plan,
+) -> Result<(), Fail>
+    requires { IsSound plan.now }
+{
+    let bodies = Lasts {
+        plan,
+        some_fail: case.some_fail,
+    };
+    let one = execute_one(alloc, plan, &bodies)?;
+    is_counted(rt, case, &one);
+    for workers in [1, 2, 7, 64] {
+        let calls = Calls {
+            count: AtomicU32::new(0),
+            worker: AtomicU32::new(0),
+        };
+        let many = execute_rounds(rt, alloc, plan, &bodies, workers, &calls)?;
+        assert_eq!(rt; many.ends.as_slice(), one.ends.as_slice());
+        assert_eq!(rt; many.output.as_slice(), one.output.as_slice());
+        assert!(rt; calls.worker.load(Ordering::SeqCst) < workers);
+        assert_eq!(rt;
+            u64::from(calls.count.load(Ordering::SeqCst)),
+            u64::from(case.done) + u64::from(case.trapped) + u64::from(case.over_budget)
+        );
+    }
+    Ok(())
+}
+
+/// Whether a run came to what was counted by hand.
+fn is_counted(rt: &impl Abort, case: &Case<'_>, ends: &Ends) {
+    let (mut done, mut trapped, mut over_budget) = (0u32, 0u32, 0u32);
+    for end in ends.ends.as_slice() {
+        match end {
+            Some(TaskEnd::Done) => done = done.saturating_add(1),
+            Some(TaskEnd::Trapped { .. }) => trapped = trapped.saturating_add(1),
+            Some(TaskEnd::OverBudget) => over_budget = over_budget.saturating_add(1),
+            None => {}
+        }
+    }
+    assert_eq!(rt; ends.ends.len(), case.activations as usize);
+    assert_eq!(rt;
+        (done, trapped, over_budget),
+        (case.done, case.trapped, case.over_budget)
+    );
+    assert_eq!(rt; ends.output.len(), case.output);
+    for (place, element) in case.elements {
+        assert_eq!(rt;
+            ends.output.as_slice().get(*place),
+            Some(element),
+            "{place}"
+        );
+    }
+}
+
+/// The activations of a case.
+fn activations_of(alloc: Global, case: &Case<'_>) -> Result<Vec<Activation>, Memory> {
+    let mut activations = Vec::new(alloc);
+    for number in 0..case.activations {
+        let last = case.activations - 1;
+        activations.push(activation(
+            alloc,
+            read_by(case.shape, number, last),
+            written_by(case.shape, number, last),
+        )?)?;
+    }
+    Ok(activations)
+}
+
+/// What an activation reads.
+fn read_by(shape: Shape, number: u32, last: u32) -> Claim {
+    match shape {
+        Shape::Windows => read(0, 3, 1),
+        Shape::Chain | Shape::Fan if number == 0 => read(0, 4, 4),
+        Shape::Chain => read(2, 1, 1),
+        Shape::Fan if number == last && last > 1 => read(3, last - 1, last - 1),
+        Shape::Fan => read(2, 1, 0),
+        Shape::Cycle if number == 0 => read(2, 1, 1),
+        Shape::Cycle if number == 1 => read(3, 1, 1),
+        Shape::Layers if number > last / 2 => read(2, 1, 1),
+        _ => read(0, 1, 1),
+    }
+}
+
+/// What an activation writes: one element of a stream.
+fn written_by(shape: Shape, number: u32, last: u32) -> Claim {
+    let stream = match shape {
+        Shape::Chain if number < last => 2,
+        Shape::Fan if number == 0 => 2,
+        Shape::Fan if number < last => 3,
+        Shape::Cycle if number == 0 => 3,
+        Shape::Cycle if number == 1 => 2,
+        Shape::Layers if number <= last / 2 => 2,
+        _ => 1,
+    };
+    Claim {
+        stream,
+        write: true,
+        horizon: 1,
+        burst: 1,
+        skip: 0,
+    }
+}
+
+fn read(stream: u32, horizon: u32, burst: u32) -> Claim {
+    Claim {
+        stream,
+        write: false,
+        horizon,
+        burst,
+        skip: 0,
+    }
+}
+
+fn activation(alloc: Global, reads: Claim, writes: Claim) -> Result<Activation, Memory> {
+    let mut claims = List::new(alloc);
+    claims.push(reads)?;
+    claims.push(writes)?;
+    Ok(Activation {
+        site: 0,
+        captured: List::new(alloc),
+        claims,
+    })
+}
