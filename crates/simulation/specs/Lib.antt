@@ -6,3 +6,5 @@ pub mod Declarators
 pub mod Tasks
 pub mod Statements
 pub mod Programs
+-- what proofs say
+pub mod Alignment
