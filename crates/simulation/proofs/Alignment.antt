@@ -35,7 +35,7 @@ takes_more (what.Stream first count) low a b le h = omega (arith, h, le)
 takes_more (what.Element item) low a b le h = omega (arith, h, le)
 takes_more (what.View item) low a b le h = omega (arith, h, le)
 
-module _ (has_items : Type 0) where
+module _ (has_items : ℕ → Type 0) where
   -- a variable keeps its value where its slots do
   holds_same : (slots after : List ℤ) (v : Variable) (w : What) (low top : ℕ) → Takes w low top →
       ((i : ℕ) → low ≤ i → i < top → slot_at after i ≡ slot_at slots i) → Holds has_items slots v w → Holds has_items after v w

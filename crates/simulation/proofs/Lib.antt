@@ -1,3 +1,6 @@
 pub mod Slots
 pub mod Steps
 pub mod Alignment
+pub mod Context
+pub mod Names
+pub mod Exprs

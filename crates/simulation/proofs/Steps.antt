@@ -1,5 +1,5 @@
 -- Runs of the machine that follow an answer of the meaning.
-use Rattle.std.proofs.Common.{◌≡◌, ℕ, zero, suc, ◌+◌, Bool, true, false, if◌then◌else◌, List, [], ◌∷◌, length, Option, Some, None, Ok, Err, Result, ltb, ℤ, pos, negsuc, refl, sym, ap, ◌∙◌, subst}
+use Rattle.std.proofs.Common.{◌≡◌, ℕ, zero, suc, ◌+◌, ◌<◌, arith, Bool, true, false, if◌then◌else◌, List, [], ◌∷◌, length, Option, Some, None, Ok, Err, Result, ltb, ℤ, pos, negsuc, refl, sym, ap, ◌∙◌, subst}
 use Rattle.std.specs.Prelude.{slice_set, slice_index_or, slice_get}
 use Rattle.c_int.specs.Operators.{is_zero, trap_code}
 use Rattle.c_int.specs.Operators as c_int
@@ -7,6 +7,7 @@ use Rattle.c_int.specs.declared.operators.Binary as int_binary
 use Rattle.c_int.specs.declared.operators.Unary as int_unary
 use Rattle.c_int.specs.declared.trap.Trap.{Trap}
 use Rattle.cddf_meaning.specs.Answers.{Answer, traps, and_then, at_line, Left, left, with_turns}
+use Rattle.cddf_meaning.specs.Value.{checked}
 use Rattle.cddf_meaning.specs.declared.ending.Ending.{Ending}
 use Rattle.cddf_meaning.specs.declared.ending.Ending.TheVariants as ending
 use Rattle.flow_core.specs.declared.activation.Activation.{Activation}
@@ -104,6 +105,26 @@ module _ (code : Parts) where
       Meets s mid a → ((x : A) (w : mid.Known x) → Meets (mid.state x w) end (f x)) → Meets s end (and_then a f)
   meets_then f same (gives x w l) next = meets_from l (next x w)
   meets_then {s = s} f same (halts {e = e} h) next = halts (subst (Stops s e) (sym same) h)
+
+  -- an index that is checked
+  pub checks : {A : Type 0} (s : State) (v : ℤ) (size line : ℕ) (t : ℕ → State) (end : Behind A) (f : ℕ → Answer A) → end.created ≡ s.created →
+      step code s ≡ or_trap s 4 line (below size v) (λ k. Going (t k)) → ((k : ℕ) → v ≡ pos k → k < size → Meets (t k) end (f k)) →
+      Meets s end (and_then (checked size line v) f)
+  checks {A = A} s (pos i) size line t end f same is next = by_case (ltb i size) refl is
+    where
+      by_case : (b : Bool) → ltb i size ≡ b → step code s ≡ or_trap s 4 line (if b then Some i else None) (λ k. Going (t k)) →
+          Meets s end (and_then (if b then Ok i else traps 4 line) f)
+      by_case true e h = meets_from (one h) (next i refl (grind arith))
+      by_case false e h = halts (subst (Stops s (ending.Trapped 4 line)) (sym same) (stops_at (ending.Trapped 4 line) h))
+  checks s (negsuc i) size line t end f same is next = halts (subst (Stops s (ending.Trapped 4 line)) (sym same) (stops_at (ending.Trapped 4 line) is))
+
+  then_assoc : {A B C : Type 0} (a : Answer A) (f : A → Answer B) (g : B → Answer C) → and_then a (λ x. and_then (f x) g) ≡ and_then (and_then a f) g
+  then_assoc (Ok x) f g = refl
+  then_assoc (Err e) f g = refl
+
+  pub meets_in : {A B C : Type 0} (s : State) (end : Behind C) (a : Answer A) (f : A → Answer B) (g : B → Answer C) →
+      Meets s end (and_then a (λ x. and_then (f x) g)) → Meets s end (and_then (and_then a f) g)
+  meets_in s end a f g h = subst (Meets s end) (then_assoc a f g) h
 
   -- an instruction
   pub acts : (s : State) (i : Instr) → instr_at code s.place ≡ Some i → step code s ≡ act code s (Some i)

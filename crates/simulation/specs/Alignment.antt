@@ -29,7 +29,7 @@ slot_at slots k = get_or slots k (pos 0)
 
 -- A variable of a body is of the kind that its declaration means, and its value stands in its slots. The elements of
 -- items stand in windows, where a body has some; constants and functions are the file's.
-abbrev pub Holds : Type 0 → List ℤ → Variable → What → Type 0
+abbrev pub Holds : (ℕ → Type 0) → List ℤ → Variable → What → Type 0
 Holds has_items slots (Constant v) w = ⊥
 Holds has_items slots (Function f) w = ⊥
 Holds has_items slots (Scalar v) w = (slot : ℕ) × (w ≡ what.Scalar slot) × (slot_at slots slot ≡ v)
@@ -38,10 +38,10 @@ Holds has_items slots (Array vs) w =
 Holds has_items slots (Window horizon) w =
     (slot : ℕ) × (w ≡ what.Window slot) × (slot_at slots slot ≡ pos horizon) × (1 ≤ horizon) × (horizon ≤ 65536)
 Holds has_items slots (Stream first count) w = w ≡ what.Stream first count
-Holds has_items slots (Item item) w = has_items × ((w ≡ what.Element item) ⊎ (w ≡ what.View item))
+Holds has_items slots (Item item) w = has_items item × ((w ≡ what.Element item) ⊎ (w ≡ what.View item))
 
 -- the variables of a body and its declarations in scope, from the innermost on, one for one
-abbrev pub Aligned : Type 0 → (Entity → What) → List ℤ → List Binding → List Entry → Type 0
+abbrev pub Aligned : (ℕ → Type 0) → (Entity → What) → List ℤ → List Binding → List Entry → Type 0
 Aligned has_items means slots [] [] = ⊤
 Aligned has_items means slots [] (e ∷ es) = ⊥
 Aligned has_items means slots (b ∷ bound) [] = ⊥
