@@ -4,3 +4,4 @@ pub mod Alignment
 pub mod Context
 pub mod Names
 pub mod Exprs
+pub mod Flows
