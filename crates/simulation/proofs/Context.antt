@@ -169,8 +169,9 @@ used c s es n u ns is h =
     }
 
 -- What is found in scope is declared in the body, or round it, or in the file.
-abbrev pub Named : Context → List ℤ → State → Name → Entity → Type 0
-Named c slots st n d = Found (HasItem c.side) (means c) slots (find st.bound n.id) d ⊎ ((find st.bound n.id ≡ None) × FileHas c.code c.file (find c.file.names n.id) d)
+abbrev pub Named : Context → List Entry → List ℤ → State → Name → Entity → Type 0
+Named c es slots st n d =
+    ((entity_of (lookup (es ++ c.bound) n.id) ≡ Some d) × Found (HasItem c.side) (means c) slots (find st.bound n.id) d) ⊎ ((find st.bound n.id ≡ None) × FileHas c.code c.file (find c.file.names n.id) d)
 
 -- either a name is declared in the front of a list, or what is behind it counts
 split : (es xs ys : List Entry) (id : ℕ) →
@@ -185,18 +186,18 @@ split (e ∷ es) xs ys id = by_case (e.id == id) (split es xs ys id)
     by_case false next = next
 
 pub name : (c : Context) (s : Scope) (es : List Entry) (st : State) (slots : List ℤ) (n : Name) (u : Use) → In c s es → (k : IsUsed c s n u) →
-    Aligned (HasItem c.side) (means c) slots st.bound (es ++ c.bound) → Named c slots st n k.entity
+    Aligned (HasItem c.side) (means c) slots st.bound (es ++ c.bound) → Named c es slots st n k.entity
 name c s es st slots n u is k al = by_split (split es c.round c.bound n.id)
   where
     in_text : entity_of (lookup (es ++ c.round) n.id) ≡ Some k.entity
     in_text = subst (λ xs. entity_of (lookup xs n.id) ≡ Some k.entity) is.entries k.is
 
-    by_reach : lookup (es ++ c.bound) n.id ≡ lookup c.bound n.id → Reaches c.code c.file c.bound n.id k.entity → Named c slots st n k.entity
-    by_reach same (inl r) = inl (found (HasItem c.side) (means c) slots st.bound (es ++ c.bound) n.id k.entity al (ap entity_of same ∙ r))
+    by_reach : lookup (es ++ c.bound) n.id ≡ lookup c.bound n.id → Reaches c.code c.file c.bound n.id k.entity → Named c es slots st n k.entity
+    by_reach same (inl r) = inl (ap entity_of same ∙ r, found (HasItem c.side) (means c) slots st.bound (es ++ c.bound) n.id k.entity al (ap entity_of same ∙ r))
     by_reach same (inr r) = inr (missed (HasItem c.side) (means c) slots st.bound (es ++ c.bound) n.id al (same ∙ r.0), r.1)
 
     by_split : (lookup (es ++ c.round) n.id ≡ lookup (es ++ c.bound) n.id) ⊎ ((lookup (es ++ c.round) n.id ≡ lookup c.round n.id) × (lookup (es ++ c.bound) n.id ≡ lookup c.bound n.id)) →
-        Named c slots st n k.entity
-    by_split (inl same) = inl (found (HasItem c.side) (means c) slots st.bound (es ++ c.bound) n.id k.entity al (ap entity_of (sym same) ∙ in_text))
+        Named c es slots st n k.entity
+    by_split (inl same) = inl (ap entity_of (sym same) ∙ in_text, found (HasItem c.side) (means c) slots st.bound (es ++ c.bound) n.id k.entity al (ap entity_of (sym same) ∙ in_text))
     by_split (inr same) =
         by_reach same.1 (c.reaches s n u k.entity k.besides k.is (ap (λ xs. lookup xs n.id) is.entries ∙ same.0))

@@ -75,11 +75,11 @@ no_function has slots (variable_of.Stream x y) number w e h = let z : what.Funct
 no_function has slots (variable_of.Item k) number w e (_, inl f) = let z : what.Function number ≡ what.Element k = sym e ∙ f in absurd (cc)
 no_function has slots (variable_of.Item k) number w e (_, inr f) = let z : what.Function number ≡ what.View k = sym e ∙ f in absurd (cc)
 
-is_call : (c : Context) (slots : List ℤ) (st : State) (n : Name) (count : ℕ) (d : Entity) → Named c slots st n d → is_wrong_kind n.id (usage.Called count) d ≡ false →
+is_call : (c : Context) (es : List Entry) (slots : List ℤ) (st : State) (n : Name) (count : ℕ) (d : Entity) → Named c es slots st n d → is_wrong_kind n.id (usage.Called count) d ≡ false →
     has_other_count n.id (usage.Called count) d ≡ false → IsCall c slots st n count (means c d)
-is_call c slots st n count (entity.Function number params) (inl (v, is, h)) kind other =
+is_call c es slots st n count (entity.Function number params) (inl (there, (v, is, h))) kind other =
     absurd (no_function (HasItem c.side) slots v number (means c (entity.Function number params)) (means_function c.owner c.captured number params) h)
-is_call c slots st n count (entity.Function number params) (inr (none, (place, is, runs))) kind other =
+is_call c es slots st n count (entity.Function number params) (inr (none, (place, is, runs))) kind other =
     let same : count ≡ params = same_count count params other in
     record {
       place = place;
@@ -88,16 +88,16 @@ is_call c slots st n count (entity.Function number params) (inr (none, (place, i
       named = means_function c.owner c.captured number params;
       runs = subst (λ k. IsCallable c.code c.file place number k) (sym same) runs;
     }
-is_call c slots st n count (entity.Constant x) named kind other = absurd (cc)
-is_call c slots st n count (entity.Scalar slot) named kind other = absurd (cc)
-is_call c slots st n count (entity.Control slot) named kind other = absurd (cc)
-is_call c slots st n count entity.InputLength named kind other = absurd (cc)
-is_call c slots st n count (entity.Array first size) named kind other = absurd (cc)
-is_call c slots st n count (entity.Window slot) named kind other = absurd (cc)
-is_call c slots st n count (entity.Stream number) named kind other = absurd (cc)
-is_call c slots st n count (entity.Streams first size) named kind other = absurd (cc)
-is_call c slots st n count (entity.Element item x) named kind other = absurd (cc)
-is_call c slots st n count (entity.View item x) named kind other = absurd (cc)
+is_call c es slots st n count (entity.Constant x) named kind other = absurd (cc)
+is_call c es slots st n count (entity.Scalar slot) named kind other = absurd (cc)
+is_call c es slots st n count (entity.Control slot) named kind other = absurd (cc)
+is_call c es slots st n count entity.InputLength named kind other = absurd (cc)
+is_call c es slots st n count (entity.Array first size) named kind other = absurd (cc)
+is_call c es slots st n count (entity.Window slot) named kind other = absurd (cc)
+is_call c es slots st n count (entity.Stream number) named kind other = absurd (cc)
+is_call c es slots st n count (entity.Streams first size) named kind other = absurd (cc)
+is_call c es slots st n count (entity.Element item x) named kind other = absurd (cc)
+is_call c es slots st n count (entity.View item x) named kind other = absurd (cc)
 
 module _ (code : Parts) (callers : List Frame) where
   pub ends_at : {s : _} {a : Answer (Left ℤ)} (p to : ℕ) (stack : List ℤ) (m : Store) → p ≡ to → Meets code s (pushed callers p stack m) a → Meets code s (pushed callers to stack m) a
@@ -186,7 +186,7 @@ module _ (c : Context) (callers : List Frame) (s : Scope) (es : List Entry) (st 
     expr_runs (tree.ExprTree.Call f args) from to stack turns agree h =
         let u = usage.Called (count_args args) in
         let k = used c s es f u (args_notes s args) ready.scope agree in
-        let call = is_call c m.slots st f (count_args args) k.entity (name c s es st m.slots f u ready.scope k ready.aligned) k.kind k.count in
+        let call = is_call c es m.slots st f (count_args args) k.entity (name c s es st m.slots f u ready.scope k ready.aligned) k.kind k.count in
         let calls : instr_at c.code (h.0 + 1) ≡ Some (instr.Call call.number) = h.2.1.0 ∙ ap (λ w. Some (calling w)) (k.told ∙ call.named) in
         meets_then c.code (call_value c.file.calls (variable c.file st f.id)) refl (args_run args from h.0 stack turns agree.1 h.1)
         (λ ns len. subst (λ v. Meets c.code (at callers h.0 (onto ns.value stack) m ns.turns) (pushed callers to stack m) (call_value c.file.calls v ns)) (sym call.is)
@@ -212,13 +212,13 @@ module _ (c : Context) (callers : List Frame) (s : Scope) (es : List Entry) (st 
     place_runs (tree.Variable n) from to stack turns agree h =
         let k = used c s es n (usage.Place role.Value shape.Bare) [] ready.scope agree in
         gives (left (scalar_value st (variable c.file st n.id)) turns) tt
-        (reads c callers st m n k.entity n.mark.line from to stack turns (name c s es st m.slots n (usage.Place role.Value shape.Bare) ready.scope k ready.aligned) ready.kept
+        (reads c callers es st m n k.entity n.mark.line from to stack turns (name c s es st m.slots n (usage.Place role.Value shape.Bare) ready.scope k ready.aligned) ready.kept
         (subst (λ w. Stands c.code (reading w n.mark.line) from to) k.told h))
     place_runs (tree.Element n open_mark e) from to stack turns agree h =
         let k = used c s es n (usage.Place role.Value shape.Indexed) (expr_notes s e) ready.scope agree in
         meets_then c.code (λ i. with_turns i.turns (element_at (elements st (find st.bound n.id)) open_mark.line i.value)) refl (expr_runs e from h.0 stack turns agree.1 h.1)
         (λ i u. ends_at c.code callers (h.0 + 1) to stack m h.2.1
-        (reads_at c callers st m n k.entity open_mark.line h.0 i.value stack i.turns (name c s es st m.slots n (usage.Place role.Value shape.Indexed) ready.scope k ready.aligned) ready.kept
+        (reads_at c callers es st m n k.entity open_mark.line h.0 i.value stack i.turns (name c s es st m.slots n (usage.Place role.Value shape.Indexed) ready.scope k ready.aligned) ready.kept
         (h.2.0 ∙ ap (λ w. Some (reading_at w open_mark.line)) k.told)))
 
     links_run : (ls : tree.Links) (from to : ℕ) (stack : List ℤ) (n : Left ℤ) → Agree c (links_notes s ls) → HasLinks c.code (tells c) ls from to →

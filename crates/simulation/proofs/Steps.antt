@@ -55,6 +55,10 @@ abbrev pub onto : List ℤ → List ℤ → List ℤ
 onto [] stack = stack
 onto (v ∷ vs) stack = onto vs (v ∷ stack)
 
+-- behind the check of an index
+abbrev pub checked_index : ℤ → ℕ → (ℕ → State) → List Activation → Behind ℕ
+checked_index v size t created = record { Known = λ k. (v ≡ pos k) × (k < size); state = λ k u. t k; created = created }
+
 -- behind arguments their values are on the stack
 abbrev pub pushed_all : List Frame → ℕ → ℕ → List ℤ → Store → Behind (Left (List ℤ))
 pushed_all callers count to stack m =
@@ -107,16 +111,15 @@ module _ (code : Parts) where
   meets_then {s = s} f same (halts {e = e} h) next = halts (subst (Stops s e) (sym same) h)
 
   -- an index that is checked
-  pub checks : {A : Type 0} (s : State) (v : ℤ) (size line : ℕ) (t : ℕ → State) (end : Behind A) (f : ℕ → Answer A) → end.created ≡ s.created →
-      step code s ≡ or_trap s 4 line (below size v) (λ k. Going (t k)) → ((k : ℕ) → v ≡ pos k → k < size → Meets (t k) end (f k)) →
-      Meets s end (and_then (checked size line v) f)
-  checks {A = A} s (pos i) size line t end f same is next = by_case (ltb i size) refl is
+  pub checks : (s : State) (v : ℤ) (size line : ℕ) (t : ℕ → State) → step code s ≡ or_trap s 4 line (below size v) (λ k. Going (t k)) →
+      Meets s (checked_index v size t s.created) (checked size line v)
+  checks s (pos i) size line t is = by_case (ltb i size) refl is
     where
       by_case : (b : Bool) → ltb i size ≡ b → step code s ≡ or_trap s 4 line (if b then Some i else None) (λ k. Going (t k)) →
-          Meets s end (and_then (if b then Ok i else traps 4 line) f)
-      by_case true e h = meets_from (one h) (next i refl (grind arith))
-      by_case false e h = halts (subst (Stops s (ending.Trapped 4 line)) (sym same) (stops_at (ending.Trapped 4 line) h))
-  checks s (negsuc i) size line t end f same is next = halts (subst (Stops s (ending.Trapped 4 line)) (sym same) (stops_at (ending.Trapped 4 line) is))
+          Meets s (checked_index (pos i) size t s.created) (if b then Ok i else traps 4 line)
+      by_case true e h = gives i (refl, grind arith) (one h)
+      by_case false e h = halts (stops_at (ending.Trapped 4 line) h)
+  checks s (negsuc i) size line t is = halts (stops_at (ending.Trapped 4 line) is)
 
   then_assoc : {A B C : Type 0} (a : Answer A) (f : A → Answer B) (g : B → Answer C) → and_then a (λ x. and_then (f x) g) ≡ and_then (and_then a f) g
   then_assoc (Ok x) f g = refl
