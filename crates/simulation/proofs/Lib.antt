@@ -5,3 +5,4 @@ pub mod Context
 pub mod Names
 pub mod Exprs
 pub mod Flows
+pub mod Stores
