@@ -6,3 +6,5 @@ pub mod Names
 pub mod Exprs
 pub mod Flows
 pub mod Stores
+pub mod Quiet
+pub mod Changes
