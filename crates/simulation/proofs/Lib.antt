@@ -8,3 +8,5 @@ pub mod Flows
 pub mod Stores
 pub mod Quiet
 pub mod Changes
+pub mod Conditions
+pub mod Elsewhere
