@@ -117,6 +117,8 @@ pub record Context : Type 1 where
   pub besides : Note → Type 0
   pub reaches : (s : Scope) (n : Name) (u : Use) (d : Entity) → besides (Used s n u) → entity_of (lookup s.entries n.id) ≡ Some d →
       lookup s.entries n.id ≡ lookup round n.id → Reaches code file bound n.id d
+  -- constants are the file's
+  pub constants : (id : ℕ) (v : ℤ) → entity_of (lookup round id) ≡ Some (entity.Constant v) → Reaches code file bound id (entity.Constant v)
 
 abbrev pub means : Context → Entity → What
 means c d = meaning_in c.owner c.captured d
@@ -174,7 +176,7 @@ Named c es slots st n d =
     ((entity_of (lookup (es ++ c.bound) n.id) ≡ Some d) × Found (HasItem c.side) (means c) slots (find st.bound n.id) d) ⊎ ((find st.bound n.id ≡ None) × FileHas c.code c.file (find c.file.names n.id) d)
 
 -- either a name is declared in the front of a list, or what is behind it counts
-split : (es xs ys : List Entry) (id : ℕ) →
+pub split : (es xs ys : List Entry) (id : ℕ) →
     (lookup (es ++ xs) id ≡ lookup (es ++ ys) id) ⊎ ((lookup (es ++ xs) id ≡ lookup xs id) × (lookup (es ++ ys) id ≡ lookup ys id))
 split [] xs ys id = inr (refl, refl)
 split (e ∷ es) xs ys id = by_case (e.id == id) (split es xs ys id)

@@ -10,3 +10,5 @@ pub mod Quiet
 pub mod Changes
 pub mod Conditions
 pub mod Elsewhere
+pub mod Static
+pub mod Declares
