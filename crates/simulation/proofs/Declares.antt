@@ -75,7 +75,7 @@ means_streams owner.OfFunction xs first size = refl
 means_streams owner.OfTask xs first size = refl
 means_streams owner.OfMain xs first size = refl
 
-means_in_text : (o : Owner) (slot : ℕ) → meaning (scalar_entity o slot) ≡ what.Scalar slot
+pub means_in_text : (o : Owner) (slot : ℕ) → meaning (scalar_entity o slot) ≡ what.Scalar slot
 means_in_text owner.OfFunction slot = refl
 means_in_text owner.OfTask slot = refl
 means_in_text owner.OfMain slot = refl
@@ -90,11 +90,11 @@ no_constant has slots (variable_of.Stream y n) x w e h = let z : what.Constant x
 no_constant has slots (variable_of.Item k) x w e (_, inl f) = let z : what.Constant x ≡ what.Element k = sym e ∙ f in absurd (cc)
 no_constant has slots (variable_of.Item k) x w e (_, inr f) = let z : what.Constant x ≡ what.View k = sym e ∙ f in absurd (cc)
 
-or_first : (a b : Bool) → (a || b) ≡ false → a ≡ false
+pub or_first : (a b : Bool) → (a || b) ≡ false → a ≡ false
 or_first true b h = absurd (cc)
 or_first false b h = refl
 
-not_false : (a : Bool) → not a ≡ false → a ≡ true
+pub not_false : (a : Bool) → not a ≡ false → a ≡ true
 not_false true h = refl
 not_false false h = absurd (cc)
 
@@ -126,7 +126,7 @@ constant_known (Some (entity.Streams n k)) v h = absurd (cc)
 constant_known (Some (entity.Element n d)) v h = absurd (cc)
 constant_known (Some (entity.View n d)) v h = absurd (cc)
 
-stored_own : (id : ℕ) (y x : ℤ) (st : State) → stored (declared id (Scalar y) st) id x ≡ declared id (Scalar x) st
+pub stored_own : (id : ℕ) (y x : ℤ) (st : State) → stored (declared id (Scalar y) st) id x ≡ declared id (Scalar x) st
 stored_own id y x st =
     let e : (id == id) ≡ true = eq-eqb id id refl in
     ap (λ t. stored_in (if t then Some (Scalar y) else find st.bound id) (declared id (Scalar y) st) id x) e

@@ -12,3 +12,4 @@ pub mod Conditions
 pub mod Elsewhere
 pub mod Static
 pub mod Declares
+pub mod Declarators
