@@ -41,7 +41,7 @@ use Rattle.simulation.proofs.Elsewhere.{value_same}
 use Rattle.simulation.proofs.Exprs.{Ready, expr_runs}
 use Rattle.simulation.proofs.Flows.{Does, does_from, given_does, settled, AlignedIn, went_on, flows_does}
 use Rattle.simulation.proofs.Slots.{zeroed_length}
-use Rattle.simulation.proofs.Static.{entry, declarator_onward, declarators_onward}
+use Rattle.simulation.proofs.Static.{entry, made, declarator_onward, declarators_onward}
 use Rattle.simulation.proofs.Steps.{Store, with_slots, at, pushed, Leads, stays, one, leads_on, Meets, acts, push, store_top}
 use Rattle.simulation.proofs.Stores.{kept_slots}
 
@@ -216,11 +216,6 @@ module _ (c : Context) (callers : List Frame) (leaves : Instr) (total : ℕ) (si
         by_parts n None false first = scalar_done n first
         by_parts n (Some i) false first = sized_done n i first
 
-    -- the declarations that one declaration has made
-    abbrev pub made : Scope → List tree.DeclaratorTree → List Entry → List Entry
-    made s [] es = es
-    made s (d ∷ ds) es = made (after_declarator s d) ds (entry s d ∷ es)
-
     pub declarators_does : (ds : List tree.DeclaratorTree) (s : Scope) (es : List Entry) (st : State) (m : Store) (broke continued from to : ℕ) (stack : List ℤ) (turns : ℕ) (within : List Entry → Type 0) → Ready c s es st m →
         Stacked (means c) s.slots (es ++ c.bound) → (after_declarators s ds).slots ≤ total → length m.slots ≡ total → Agree c (declarators_notes s ds) → HasDeclarators c.code (tells c) ds from to →
         Does c.code (at callers from stack m turns) (settled c callers leaves total to broke continued stack within (made s ds es)) (run_declarators (around_of c sites) ds st turns)
@@ -234,12 +229,3 @@ module _ (c : Context) (callers : List Frame) (leaves : Instr) (total : ℕ) (si
         (λ st1 m1 t1 e len1 kept1 al1.
         declarators_does ds s1 (entry s d ∷ es) st1 m1 broke continued h.0 to stack t1 within (record { scope = in_behind c s es d ready.scope; aligned = al1; kept = kept1 })
         (stacked_behind c s (es ++ c.bound) d ready.scope.owner stacked) fits len1 (agree_rest c (declarator_notes s d) (declarators_notes s1 ds) agree) h.2)
-
-    pub declarators_in : (ds : List tree.DeclaratorTree) (s : Scope) (es : List Entry) → In c s es → In c (after_declarators s ds) (made s ds es)
-    declarators_in [] s es is = is
-    declarators_in (d ∷ ds) s es is = declarators_in ds (after_declarator s d) (entry s d ∷ es) (in_behind c s es d is)
-
-    pub declarators_stacked : (ds : List tree.DeclaratorTree) (s : Scope) (es : List Entry) → In c s es → Stacked (means c) s.slots (es ++ c.bound) → Stacked (means c) (after_declarators s ds).slots (made s ds es ++ c.bound)
-    declarators_stacked [] s es is st = st
-    declarators_stacked (d ∷ ds) s es is st =
-        declarators_stacked ds (after_declarator s d) (entry s d ∷ es) (in_behind c s es d is) (stacked_behind c s (es ++ c.bound) d is.owner st)

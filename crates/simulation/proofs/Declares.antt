@@ -46,7 +46,7 @@ use Rattle.simulation.proofs.Exprs.{Ready, expr_runs}
 use Rattle.simulation.proofs.Flows.{After, Does, does_from, given_does, settled, AlignedIn, went_on, flows_does, exactly}
 use Rattle.simulation.proofs.Names.{means_constant}
 use Rattle.simulation.proofs.Slots.{zeroed_length}
-use Rattle.simulation.proofs.Static.{entry, declarator_entries, declarator_onward, declarators_onward}
+use Rattle.simulation.proofs.Static.{entry, made, declarator_entries, declarator_onward, declarators_onward}
 use Rattle.simulation.proofs.Steps.{Store, with_slots, at, pushed, Leads, stays, one, leads_on, Meets, gives, acts, push, store_top}
 use Rattle.simulation.proofs.Stores.{kept_slots}
 
@@ -186,3 +186,12 @@ module _ (c : Context) where
   size_runs (tree.Unary op mark e) s es st m v turns ready h = absurd (cc)
   size_runs (tree.Chain l first links) s es st m v turns ready h = absurd (cc)
   size_runs (tree.Choice x a b) s es st m v turns ready h = absurd (cc)
+
+  pub declarators_in : (ds : List tree.DeclaratorTree) (s : Scope) (es : List Entry) → In c s es → In c (after_declarators s ds) (made s ds es)
+  declarators_in [] s es is = is
+  declarators_in (d ∷ ds) s es is = declarators_in ds (after_declarator s d) (entry s d ∷ es) (in_behind s es d is)
+
+  pub declarators_stacked : (ds : List tree.DeclaratorTree) (s : Scope) (es : List Entry) → In c s es → Stacked (means c) s.slots (es ++ c.bound) → Stacked (means c) (after_declarators s ds).slots (made s ds es ++ c.bound)
+  declarators_stacked [] s es is st = st
+  declarators_stacked (d ∷ ds) s es is st =
+      declarators_stacked ds (after_declarator s d) (entry s d ∷ es) (in_behind s es d is) (stacked_behind s (es ++ c.bound) d is.owner st)

@@ -13,3 +13,4 @@ pub mod Elsewhere
 pub mod Static
 pub mod Declares
 pub mod Declarators
+pub mod Stmts

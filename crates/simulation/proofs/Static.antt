@@ -49,6 +49,40 @@ declarator_onward s d =
 pub declarator_entries : (s : Scope) (d : tree.DeclaratorTree) → (after_declarator s d).entries ≡ entry s d ∷ s.entries
 declarator_entries s d = ap (λ es. entry s d ∷ es) (taken_entries s (form s d))
 
+-- what declarations declare, within what was declared before
+abbrev pub made : Scope → List tree.DeclaratorTree → List Entry → List Entry
+made s [] es = es
+made s (d ∷ ds) es = made (after_declarator s d) ds (entry s d ∷ es)
+
+abbrev pub made_first : Scope → tree.StartTree → List Entry → List Entry
+made_first s tree.StartTree.Empty es = es
+made_first s (tree.StartTree.Declare ds) es = made s ds es
+made_first s (tree.StartTree.Change c) es = es
+
+abbrev pub made_by : Scope → tree.StmtTree → List Entry → List Entry
+made_by s (tree.StmtTree.Declare ds) es = made s ds es
+made_by s _ es = es
+
+abbrev pub made_all : Scope → tree.Stmts → List Entry → List Entry
+made_all s tree.no_stmts es = es
+made_all s (tree.stmt a rest) es = made_all (after_stmt s a) rest (made_by s a es)
+
+pub none_made : {a : tree.StmtTree} → IsStmt a → (s : Scope) (es : List Entry) → made_by s a es ≡ es
+none_made IsStmt.empty s es = refl
+none_made (IsStmt.block _) s es = refl
+none_made (IsStmt.change _) s es = refl
+none_made (IsStmt.call _) s es = refl
+none_made (IsStmt.if_alone _ _) s es = refl
+none_made (IsStmt.if_else _ _ _ _) s es = refl
+none_made (IsStmt.while _ _) s es = refl
+none_made (IsStmt.for _ _ _ _) s es = refl
+none_made IsStmt.break s es = refl
+none_made IsStmt.continue s es = refl
+none_made (IsStmt.return _) s es = refl
+none_made (IsStmt.task _ _) s es = refl
+none_made (IsStmt.tick _ _) s es = refl
+none_made IsStmt.taskwait s es = refl
+
 pub declarators_onward : (ds : List tree.DeclaratorTree) (s : Scope) → Onward s (after_declarators s ds)
 declarators_onward [] s = here s
 declarators_onward (d ∷ ds) s = onward (declarator_onward s d) (declarators_onward ds (after_declarator s d))
@@ -86,16 +120,32 @@ mutual
 pub extends_more : {a b c : List Entry} → Extends b a → Extends c b → Extends c a
 extends_more {a = a} x y = (y.0 ++ x.0, y.1 ∙ ap (λ l. y.0 ++ l) x.1 ∙ sym (append_assoc y.0 x.0 a))
 
-pub declarators_extend : (ds : List tree.DeclaratorTree) (s : Scope) → Extends (after_declarators s ds).entries s.entries
-declarators_extend [] s = ([], refl)
-declarators_extend (d ∷ ds) s = extends_more (entry s d ∷ [], declarator_entries s d) (declarators_extend ds (after_declarator s d))
+pub made_extends : (ds : List tree.DeclaratorTree) (s : Scope) (es : List Entry) → Extends (made s ds es) es
+made_extends [] s es = ([], refl)
+made_extends (d ∷ ds) s es = extends_more (entry s d ∷ [], refl) (made_extends ds (after_declarator s d) (entry s d ∷ es))
 
-pub start_extends : (t : tree.StartTree) (s : Scope) → Extends (after_start s t).entries s.entries
-start_extends tree.StartTree.Empty s = ([], refl)
-start_extends (tree.StartTree.Declare ds) s = declarators_extend ds s
-start_extends (tree.StartTree.Change c) s = ([], refl)
+pub first_extends : (t : tree.StartTree) (s : Scope) (es : List Entry) → Extends (made_first s t es) es
+first_extends tree.StartTree.Empty s es = ([], refl)
+first_extends (tree.StartTree.Declare ds) s es = made_extends ds s es
+first_extends (tree.StartTree.Change c) s es = ([], refl)
 
-pub stmts_extend : {ss : tree.Stmts} → AreStmts ss → (s : Scope) → Extends (after_stmts s ss).entries s.entries
-stmts_extend AreStmts.no_stmts s = ([], refl)
-stmts_extend (AreStmts.declare {ds = ds} _ h) s = extends_more (declarators_extend ds s) (stmts_extend h (after_declarators s ds))
-stmts_extend (AreStmts.stmt {s = a} h k) s = extends_more ([], stays_in h s) (stmts_extend k (after_stmt s a))
+by_extends : (a : tree.StmtTree) (s : Scope) (es : List Entry) → Extends (made_by s a es) es
+by_extends tree.StmtTree.Empty s es = ([], refl)
+by_extends (tree.Block ss) s es = ([], refl)
+by_extends (tree.StmtTree.Declare ds) s es = made_extends ds s es
+by_extends (tree.StmtTree.Change c) s es = ([], refl)
+by_extends (tree.StmtTree.Call f args) s es = ([], refl)
+by_extends (tree.If c a) s es = ([], refl)
+by_extends (tree.IfElse c a b) s es = ([], refl)
+by_extends (tree.While c a) s es = ([], refl)
+by_extends (tree.For start test step a) s es = ([], refl)
+by_extends (tree.Break m) s es = ([], refl)
+by_extends (tree.Continue m) s es = ([], refl)
+by_extends (tree.Return m e) s es = ([], refl)
+by_extends (tree.Task m cs a) s es = ([], refl)
+by_extends (tree.Tick m t arrow e) s es = ([], refl)
+by_extends (tree.Taskwait m) s es = ([], refl)
+
+pub all_extend : (ss : tree.Stmts) (s : Scope) (es : List Entry) → Extends (made_all s ss es) es
+all_extend tree.no_stmts s es = ([], refl)
+all_extend (tree.stmt a rest) s es = extends_more (by_extends a s es) (all_extend rest (after_stmt s a) (made_by s a es))
