@@ -14,3 +14,4 @@ pub mod Static
 pub mod Declares
 pub mod Declarators
 pub mod Stmts
+pub mod Functions
