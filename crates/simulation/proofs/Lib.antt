@@ -15,3 +15,4 @@ pub mod Declares
 pub mod Declarators
 pub mod Stmts
 pub mod Functions
+pub mod Sizes
