@@ -16,3 +16,4 @@ pub mod Declarators
 pub mod Stmts
 pub mod Functions
 pub mod Sizes
+pub mod Files
