@@ -18,6 +18,7 @@ use Rattle.os_ast.specs.declared.expr.Name.{Name}
 use Rattle.os_ast.specs.declared.names.Entry.{Entry}
 use Rattle.os_ast.specs.declared.names.Role.TheVariants as role
 use Rattle.os_ast.specs.declared.names.Shape.TheVariants as shape
+use Rattle.os_ast.specs.declared.names.Use.{Use}
 use Rattle.os_ast.specs.declared.names.Use.TheVariants as usage
 use Rattle.os_ast.specs.declared.names.What.{What}
 use Rattle.os_ast.specs.declared.names.What.TheVariants as what
@@ -32,7 +33,7 @@ use Rattle.simulation.specs.Alignment.{Stacked, slot_at}
 use Rattle.simulation.specs.Changes.{is_quiet, HasChanged, HasChange, set, set_unchecked, after, before, needs_old, operating, HasAssigned, HasStepped}
 use Rattle.simulation.specs.Expressions.{Stands, operation, HasExpr}
 use Rattle.simulation.specs.Names.{reading, reading_at, aiming, storing, storing_at, fetching, fetching_at}
-use Rattle.simulation.proofs.Context.{HasItem, Kept, Context, means, tells, Agree, agree_first, agree_rest, In, IsUsed, used, Named, name}
+use Rattle.simulation.proofs.Context.{HasItem, IsPlain, Kept, Context, means, tells, Agree, agree_first, agree_rest, In, IsUsed, used, Named, name}
 use Rattle.simulation.proofs.Exprs.{Ready, ends_at, operates, expr_runs}
 use Rattle.simulation.proofs.Flows.{After, Does, does_from, given_does, settled, AlignedIn}
 use Rattle.simulation.proofs.Names.{reads, fetches_at}
@@ -74,16 +75,16 @@ module _ (c : Context) (callers : List Frame) (leaves : Instr) (total : ℕ) (s 
   RightRuns old right has = (x : ℤ) (below : List ℤ) (turns p q : ℕ) → has p q →
       Meets c.code (at callers p (with_old old x below) m turns) (pushed callers q below m) (right x st turns)
 
-  fetch : (old : Bool) (n : Name) (u : _) (k : IsUsed c s n u) (line p q : ℕ) (i : ℤ) (stack : List ℤ) (turns : ℕ) → Stands c.code (fetching_at old (means c k.entity) line) p q →
+  fetch : (old : Bool) (n : Name) (u : Use) (plain : IsPlain u) (k : IsUsed c s n u) (line p q : ℕ) (i : ℤ) (stack : List ℤ) (turns : ℕ) → Stands c.code (fetching_at old (means c k.entity) line) p q →
       Meets c.code (at callers p (i ∷ stack) m turns) (checked_index i (length (elements st (find st.bound n.id))) (λ k. at callers q (with_old old (slot_at (elements st (find st.bound n.id)) k) (i ∷ stack)) m turns) m.created)
       (checked (length (elements st (find st.bound n.id))) line i)
-  fetch true n u k line p q i stack turns h =
+  fetch true n u plain k line p q i stack turns h =
       meets_from c.code (copy_top c.code callers i p stack m turns h.0)
       (subst (λ z. Meets c.code (at callers (p + 1) (i ∷ i ∷ stack) m turns) (checked_index i (length (elements st (find st.bound n.id))) (λ j. at callers z (slot_at (elements st (find st.bound n.id)) j ∷ i ∷ stack) m turns) m.created) (checked (length (elements st (find st.bound n.id))) line i)) h.1.1
-      (fetches_at c callers es st m true n k.entity line (p + 1) i (i ∷ stack) turns (name c s es st m.slots n u ready.scope k ready.aligned) ready.kept h.1.0))
-  fetch false n u k line p q i stack turns h =
+      (fetches_at c callers es st m true n k.entity line (p + 1) i (i ∷ stack) turns (name c s es st m.slots n u plain ready.scope k ready.aligned) ready.kept h.1.0))
+  fetch false n u plain k line p q i stack turns h =
       subst (λ z. Meets c.code (at callers p (i ∷ stack) m turns) (checked_index i (length (elements st (find st.bound n.id))) (λ j. at callers z (i ∷ stack) m turns) m.created) (checked (length (elements st (find st.bound n.id))) line i)) h.1
-      (fetches_at c callers es st m false n k.entity line p i stack turns (name c s es st m.slots n u ready.scope k ready.aligned) ready.kept h.0)
+      (fetches_at c callers es st m false n k.entity line p i stack turns (name c s es st m.slots n u plain ready.scope k ready.aligned) ready.kept h.0)
 
   -- a target is changed
   pub changed_does : (t : tree.TargetTree) (old : Bool) (right : ℤ → State → ℕ → Answer (Left ℤ)) (has : ℕ → ℕ → Type 0) (broke continued from to : ℕ) (stack : List ℤ) (turns : ℕ) (within : List Entry → Type 0) →
@@ -93,7 +94,7 @@ module _ (c : Context) (callers : List Frame) (leaves : Instr) (total : ℕ) (s 
       let u = usage.Place role.Changed shape.Bare in
       let k = used c s es n u [] ready.scope agree in
       let w = means c k.entity in
-      let named = name c s es st m.slots n u ready.scope k ready.aligned in
+      let named = name c s es st m.slots n u tt ready.scope k ready.aligned in
       let line = n.mark.line in
       does_from (fronts c.code callers m turns (scalar_value st (variable c.file st n.id)) old w line from h.0 stack
       (λ p q below stands. reads c callers es st m n k.entity line p q below turns named ready.kept stands)
@@ -104,7 +105,7 @@ module _ (c : Context) (callers : List Frame) (leaves : Instr) (total : ℕ) (s 
   changed_does (tree.Element n open_mark e) old right has broke continued from to stack turns within agree rights h =
       let u = usage.Place role.Changed shape.Indexed in
       let k = used c s es n u (expr_notes s e) ready.scope agree in
-      let named = name c s es st m.slots n u ready.scope k ready.aligned in
+      let named = name c s es st m.slots n u tt ready.scope k ready.aligned in
       let line = open_mark.line in
       let size = length (elements st (find st.bound n.id)) in
       let g : Left Aim → Ran = λ a. given (right (old_value c.file st a.value) st a.turns) st (λ v. goes_on (written st a.value v.value) v.turns) in
@@ -114,7 +115,7 @@ module _ (c : Context) (callers : List Frame) (leaves : Instr) (total : ℕ) (s 
       (λ i y e1.
       subst (Does c.code (at callers h.0 (i.value ∷ stack) m i.turns) (settled c callers leaves total to broke continued stack within es)) (given_then (checked size line i.value) (λ j. Ok (left (Element n.id j) i.turns)) st g)
       (given_does st m (λ j. given (Ok (left (Element n.id j) i.turns)) st g) refl ready.kept
-      (fetch old n u k line h.0 h.1 i.value stack i.turns (subst (λ x. Stands c.code (fetching_at old x line) h.0 h.1) k.told h.4))
+      (fetch old n u tt k line h.0 h.1 i.value stack i.turns (subst (λ x. Stands c.code (fetching_at old x line) h.0 h.1) k.told h.4))
       (λ j z e2.
       given_does st m (λ v. goes_on (stored_at st n.id j v.value) v.turns) refl ready.kept
       (rights (slot_at (elements st (find st.bound n.id)) j) (i.value ∷ stack) i.turns h.1 h.2 h.5)
@@ -133,7 +134,7 @@ module _ (c : Context) (callers : List Frame) (leaves : Instr) (total : ℕ) (s 
       let u = usage.Place role.Changed shape.Indexed in
       let places = agree_first c (place_notes s role.Changed (tree.Element n open_mark i)) (expr_notes s e) agree in
       let k = used c s es n u (expr_notes s i) ready.scope places in
-      let named = name c s es st m.slots n u ready.scope k ready.aligned in
+      let named = name c s es st m.slots n u tt ready.scope k ready.aligned in
       let line = open_mark.line in
       let size = length (elements st (find st.bound n.id)) in
       let right : ℤ → State → ℕ → Answer (Left ℤ) = λ old s2 t. and_then (value c.file e s2 t) (λ n. with_turns n.turns (Ok n.value)) in

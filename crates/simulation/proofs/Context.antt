@@ -1,5 +1,5 @@
 -- What is known of a body's names, and what it does beside its slots.
-use Rattle.std.proofs.Common.{◌≡◌, ℕ, zero, suc, ◌+◌, ◌<◌, ◌≤◌, ◌==◌, Bool, true, false, if◌then◌else◌, List, [], ◌∷◌, ◌++◌, length, replicate, Option, Some, None, ℤ, refl, sym, ap, ◌∙◌, subst, inl, inr, arith, eq-eqb, eqb-true}
+use Rattle.std.proofs.Common.{◌≡◌, ℕ, zero, suc, ◌+◌, ◌<◌, ◌≤◌, ◌==◌, Bool, true, false, if◌then◌else◌, List, [], ◌∷◌, ◌++◌, length, map, replicate, Option, Some, None, ℤ, refl, sym, ap, ◌∙◌, subst, inl, inr, arith, eq-eqb, eqb-true}
 use Rattle.std.specs.Prelude.{⊤, ◌⊎◌, Contains}
 use Rattle.cddf_meaning.specs.File.{File}
 use Rattle.cddf_meaning.specs.Moves.{CallsFall}
@@ -8,6 +8,7 @@ use Rattle.cddf_meaning.specs.Variables.{find}
 use Rattle.cddf_meaning.specs.declared.variable.Variable.{Variable}
 use Rattle.cddf_meaning.specs.declared.variable.Variable.TheVariants as variable
 use Rattle.flow_core.specs.declared.activation.Activation.{Activation}
+use Rattle.flow_core.specs.declared.claim.Claim.{Claim}
 use Rattle.os_ast.specs.Meanings.{meaning, meaning_in, resolved}
 use Rattle.os_ast.specs.Names.{Scope, lookup, entity_of}
 use Rattle.os_ast.specs.Notes.Kinds.{Note, Used}
@@ -19,7 +20,9 @@ use Rattle.os_ast.specs.declared.names.Entity.TheVariants as entity
 use Rattle.os_ast.specs.declared.names.Entry.{Entry}
 use Rattle.os_ast.specs.declared.names.Owner.{Owner}
 use Rattle.os_ast.specs.declared.names.Resolved.{Resolved}
+use Rattle.os_ast.specs.declared.names.Role.TheVariants as role
 use Rattle.os_ast.specs.declared.names.Use.{Use}
+use Rattle.os_ast.specs.declared.names.Use.TheVariants as usage
 use Rattle.os_ast.specs.declared.names.What.{What}
 use Rattle.os_code.specs.declared.instr.Instr.TheVariants as instr
 use Rattle.os_code.specs.declared.parts.Parts.{Parts}
@@ -53,16 +56,16 @@ told_is (r ∷ rs) p w o (suc k, lt, e) = by_case (r.place == p) refl (told_is r
         let here : r ≡ resolved p r.what = ap (λ q. resolved q r.what) (eqb-true r.place p same) in
         one-meaning (r ∷ rs) p r.what w o (0, omega arith, here) (suc k, lt, e)
 
--- What a body works on beside its slots: a function has nothing, and leaves what its caller has; a task has so many
--- items; `main` creates activations.
+-- What a body works on beside its slots: a function has nothing, and leaves what its caller has; a task has items with
+-- these claims; `main` creates activations.
 pub data Side : Type 0 where
   InFunction : List TaskWindow → List Activation → List ℕ → Side
-  InTask : (count : ℕ) → Side
+  InTask : List Claim → Side
   InMain : Side
 
 abbrev pub HasItem : Side → ℕ → Type 0
 HasItem (InFunction windows created skips) item = ⊥
-HasItem (InTask count) item = item < count
+HasItem (InTask claims) item = item < length claims
 HasItem InMain item = ⊥
 
 -- windows with the elements of items
@@ -74,13 +77,13 @@ Windows (w ∷ ws) (vs ∷ items) = (w.elements ≡ vs) × (w.claim.horizon ≡ 
 
 abbrev pub Kept : Side → State → Store → Type 0
 Kept (InFunction windows created skips) s m = (m.windows ≡ windows) × (m.created ≡ created) × (m.skips ≡ skips)
-Kept (InTask count) s m = (length s.items ≡ count) × Windows m.windows s.items
+Kept (InTask claims) s m = (map (λ (w : TaskWindow). w.claim) m.windows ≡ claims) × Windows m.windows s.items
 Kept InMain s m = (s.activations ≡ m.created) × (rest : ℕ) × (m.skips ≡ s.skips ++ replicate rest 0)
 
 -- where a body has ended: what was created
 abbrev pub Made : Side → List Activation → List Activation → Type 0
 Made (InFunction windows created skips) activations made = made ≡ created
-Made (InTask count) activations made = ⊤
+Made (InTask claims) activations made = ⊤
 Made InMain activations made = made ≡ activations
 
 -- The code of a call of the function with this place and number.
@@ -100,6 +103,13 @@ FileHas code file v _ = ⊥
 abbrev pub Reaches : Parts → File → List Entry → ℕ → Entity → Type 0
 Reaches code file bound id d = (entity_of (lookup bound id) ≡ Some d) ⊎ ((lookup bound id ≡ None) × FileHas code file (find file.names id) d)
 
+-- How a name is used in a body, beside its pragmas.
+abbrev pub IsPlain : Use → Type 0
+IsPlain (usage.Place role.Value s) = ⊤
+IsPlain (usage.Place role.Changed s) = ⊤
+IsPlain (usage.Called args) = ⊤
+IsPlain _ = ⊥
+
 pub record Context : Type 1 where
   pub code : Parts
   pub file : File
@@ -115,7 +125,7 @@ pub record Context : Type 1 where
   pub bound : List Entry
   -- what is known besides of what stands in the body
   pub besides : Note → Type 0
-  pub reaches : (s : Scope) (n : Name) (u : Use) (d : Entity) → besides (Used s n u) → entity_of (lookup s.entries n.id) ≡ Some d →
+  pub reaches : (s : Scope) (n : Name) (u : Use) (d : Entity) → IsPlain u → KeepsAll rules (Used s n u) → besides (Used s n u) → entity_of (lookup s.entries n.id) ≡ Some d →
       lookup s.entries n.id ≡ lookup round n.id → Reaches code file bound n.id d
   -- constants are the file's
   pub constants : (id : ℕ) (v : ℤ) → entity_of (lookup round id) ≡ Some (entity.Constant v) → Reaches code file bound id (entity.Constant v)
@@ -151,6 +161,7 @@ pub record IsUsed (c : Context) (s : Scope) (n : Name) (u : Use) : Type 0 where
   pub told : tells c n.mark.place ≡ means c entity
   pub kind : is_wrong_kind n.id u entity ≡ false
   pub count : has_other_count n.id u entity ≡ false
+  pub lawful : KeepsAll rules (Used s n u)
   pub besides : c.besides (Used s n u)
 
 kept_rule : (rule : UseRule) (s : Scope) (n : Name) (u : Use) (d : Entity) → entity_of (lookup s.entries n.id) ≡ Some d →
@@ -167,6 +178,7 @@ used c s es n u ns is h =
       told = told_is c.names n.mark.place (meaning_in s.owner s.captured d.0) c.ordered w ∙ ap (λ o. meaning_in o s.captured d.0) is.owner ∙ ap (λ xs. meaning_in c.owner xs d.0) is.captured;
       kind = kept_rule is_wrong_kind s n u d.0 d.1 h.0.0.1.0;
       count = kept_rule has_other_count s n u d.0 d.1 h.0.0.1.1.1.0;
+      lawful = h.0.0;
       besides = h.0.2;
     }
 
@@ -187,9 +199,9 @@ split (e ∷ es) xs ys id = by_case (e.id == id) (split es xs ys id)
     by_case true next = inl refl
     by_case false next = next
 
-pub name : (c : Context) (s : Scope) (es : List Entry) (st : State) (slots : List ℤ) (n : Name) (u : Use) → In c s es → (k : IsUsed c s n u) →
+pub name : (c : Context) (s : Scope) (es : List Entry) (st : State) (slots : List ℤ) (n : Name) (u : Use) → IsPlain u → In c s es → (k : IsUsed c s n u) →
     Aligned (HasItem c.side) (means c) slots st.bound (es ++ c.bound) → Named c es slots st n k.entity
-name c s es st slots n u is k al = by_split (split es c.round c.bound n.id)
+name c s es st slots n u plain is k al = by_split (split es c.round c.bound n.id)
   where
     in_text : entity_of (lookup (es ++ c.round) n.id) ≡ Some k.entity
     in_text = subst (λ xs. entity_of (lookup xs n.id) ≡ Some k.entity) is.entries k.is
@@ -202,4 +214,4 @@ name c s es st slots n u is k al = by_split (split es c.round c.bound n.id)
         Named c es slots st n k.entity
     by_split (inl same) = inl (ap entity_of (sym same) ∙ in_text, found (HasItem c.side) (means c) slots st.bound (es ++ c.bound) n.id k.entity al (ap entity_of (sym same) ∙ in_text))
     by_split (inr same) =
-        by_reach same.1 (c.reaches s n u k.entity k.besides k.is (ap (λ xs. lookup xs n.id) is.entries ∙ same.0))
+        by_reach same.1 (c.reaches s n u k.entity plain k.lawful k.besides k.is (ap (λ xs. lookup xs n.id) is.entries ∙ same.0))

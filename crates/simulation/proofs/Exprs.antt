@@ -186,7 +186,7 @@ module _ (c : Context) (callers : List Frame) (s : Scope) (es : List Entry) (st 
     expr_runs (tree.ExprTree.Call f args) from to stack turns agree h =
         let u = usage.Called (count_args args) in
         let k = used c s es f u (args_notes s args) ready.scope agree in
-        let call = is_call c es m.slots st f (count_args args) k.entity (name c s es st m.slots f u ready.scope k ready.aligned) k.kind k.count in
+        let call = is_call c es m.slots st f (count_args args) k.entity (name c s es st m.slots f u tt ready.scope k ready.aligned) k.kind k.count in
         let calls : instr_at c.code (h.0 + 1) ≡ Some (instr.Call call.number) = h.2.1.0 ∙ ap (λ w. Some (calling w)) (k.told ∙ call.named) in
         meets_then c.code (call_value c.file.calls (variable c.file st f.id)) refl (args_run args from h.0 stack turns agree.1 h.1)
         (λ ns len. subst (λ v. Meets c.code (at callers h.0 (onto ns.value stack) m ns.turns) (pushed callers to stack m) (call_value c.file.calls v ns)) (sym call.is)
@@ -212,13 +212,13 @@ module _ (c : Context) (callers : List Frame) (s : Scope) (es : List Entry) (st 
     place_runs (tree.Variable n) from to stack turns agree h =
         let k = used c s es n (usage.Place role.Value shape.Bare) [] ready.scope agree in
         gives (left (scalar_value st (variable c.file st n.id)) turns) tt
-        (reads c callers es st m n k.entity n.mark.line from to stack turns (name c s es st m.slots n (usage.Place role.Value shape.Bare) ready.scope k ready.aligned) ready.kept
+        (reads c callers es st m n k.entity n.mark.line from to stack turns (name c s es st m.slots n (usage.Place role.Value shape.Bare) tt ready.scope k ready.aligned) ready.kept
         (subst (λ w. Stands c.code (reading w n.mark.line) from to) k.told h))
     place_runs (tree.Element n open_mark e) from to stack turns agree h =
         let k = used c s es n (usage.Place role.Value shape.Indexed) (expr_notes s e) ready.scope agree in
         meets_then c.code (λ i. with_turns i.turns (element_at (elements st (find st.bound n.id)) open_mark.line i.value)) refl (expr_runs e from h.0 stack turns agree.1 h.1)
         (λ i u. ends_at c.code callers (h.0 + 1) to stack m h.2.1
-        (reads_at c callers es st m n k.entity open_mark.line h.0 i.value stack i.turns (name c s es st m.slots n (usage.Place role.Value shape.Indexed) ready.scope k ready.aligned) ready.kept
+        (reads_at c callers es st m n k.entity open_mark.line h.0 i.value stack i.turns (name c s es st m.slots n (usage.Place role.Value shape.Indexed) tt ready.scope k ready.aligned) ready.kept
         (h.2.0 ∙ ap (λ w. Some (reading_at w open_mark.line)) k.told)))
 
     links_run : (ls : tree.Links) (from to : ℕ) (stack : List ℤ) (n : Left ℤ) → Agree c (links_notes s ls) → HasLinks c.code (tells c) ls from to →

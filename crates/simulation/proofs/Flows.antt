@@ -44,7 +44,7 @@ does_from {code = code} l (ended made h k) = ended made (stops_from code l h) k
 
 pub kept_made : (side : Side) (st : State) (m : Store) → Kept side st m → Made side st.activations m.created
 kept_made (InFunction windows created skips) st m h = h.1
-kept_made (InTask count) st m h = tt
+kept_made (InTask claims) st m h = tt
 kept_made InMain st m h = sym h.0
 
 -- what follows an answer
@@ -139,7 +139,7 @@ module _ (c : Context) (callers : List Frame) (leaves : Instr) (total : ℕ) whe
 
   kept_bound : (side : Side) (st : State) (m : Store) (bound : List Binding) → Kept side st m → Kept side (record st { bound = bound }) m
   kept_bound (InFunction windows created skips) st m bound h = h
-  kept_bound (InTask count) st m bound h = h
+  kept_bound (InTask claims) st m bound h = h
   kept_bound InMain st m bound h = h
 
   left_in : (m : Store) (was : Store) (outer inner : List Binding) (x es : List Entry) → Extends x es → AlignedIn was outer es → AlignedIn m inner x → AlignedIn m (leave outer inner) es

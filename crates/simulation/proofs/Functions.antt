@@ -147,7 +147,7 @@ module _ (code : Parts) (file : File) (falls : CallsFall file) (names : List Res
     round = es;
     bound = [];
     besides = λ n. ⊤;
-    reaches = λ s n u d b is same. inr (refl, known_has code file (find file.names n.id) d (fits n.id d (ap entity_of (sym same) ∙ is)));
+    reaches = λ s n u d plain lawful b is same. inr (refl, known_has code file (find file.names n.id) d (fits n.id d (ap entity_of (sym same) ∙ is)));
     constants = λ id v is. inr (refl, known_has code file (find file.names id) (entity.Constant v) (fits id (entity.Constant v) is));
   }
 

@@ -1,6 +1,7 @@
 -- The instructions that read a name give what it stands for.
-use Rattle.std.proofs.Common.{◌≡◌, ℕ, zero, suc, ◌+◌, ◌<◌, ◌≤◌, Bool, true, false, if◌then◌else◌, List, [], ◌∷◌, ◌++◌, length, get_or, Option, Some, None, Ok, Err, ltb, ℤ, pos, negsuc, refl, sym, ap, ◌∙◌, subst, inl, inr, arith}
+use Rattle.std.proofs.Common.{◌≡◌, ℕ, zero, suc, ◌+◌, ◌<◌, ◌≤◌, Bool, true, false, if◌then◌else◌, List, [], ◌∷◌, ◌++◌, length, map, get_or, Option, Some, None, Ok, Err, ltb, ℤ, pos, negsuc, refl, sym, ap, ◌∙◌, subst, inl, inr, arith}
 use Rattle.std.proofs.lemmas.Bool.{lt-ltb}
+use Rattle.std.proofs.lemmas.List.{length-map}
 use Rattle.std.specs.Prelude.{◌⊎◌, slice_get, slice_index_or, nat_lt}
 use Rattle.cddf_meaning.specs.Answers.{Answer, and_then, Left, left, with_turns}
 use Rattle.cddf_meaning.specs.File.{File, variable, or_in_file}
@@ -59,10 +60,20 @@ window_there (w ∷ ws) (vs ∷ items) (suc k) h lt =
     let r = window_there ws items k h.3 (omega (arith, lt)) in
     record { window = r.window; is = r.is; elements = r.elements; horizon = r.horizon; some = r.some }
 
+pub windows_length : (ws : List TaskWindow) (items : List (List ℤ)) → Windows ws items → length ws ≡ length items
+windows_length [] [] h = refl
+windows_length [] (vs ∷ items) h = elim h [ ]
+windows_length (w ∷ ws) [] h = elim h [ ]
+windows_length (w ∷ ws) (vs ∷ items) h = let n = windows_length ws items h.3 in omega (arith, n)
+
 pub window_of : (side : Side) (st : State) (m : Store) (k : ℕ) → HasItem side k → Kept side st m → HasWindow m.windows (item_elements st k) k
 window_of (InFunction windows created skips) st m k has kept = elim has [ ]
 window_of InMain st m k has kept = elim has [ ]
-window_of (InTask count) st m k has kept = window_there m.windows st.items k kept.1 (omega (arith, has, kept.0))
+window_of (InTask claims) st m k has kept =
+    let a : length (map (λ (w : TaskWindow). w.claim) m.windows) ≡ length m.windows = length-map m.windows (λ (w : TaskWindow). w.claim) in
+    let b : length (map (λ (w : TaskWindow). w.claim) m.windows) ≡ length claims = ap length kept.0 in
+    let n = windows_length m.windows st.items kept.1 in
+    window_there m.windows st.items k kept.1 (omega (arith, has, a, b, n))
 
 -- the states behind a check, in other words
 pub instead : {code : Parts} {s : machine.State} {v : ℤ} {size : ℕ} {t u : ℕ → machine.State} {created : List Activation} {a : Answer ℕ} →

@@ -1,5 +1,5 @@
 -- The instructions that set a name store what the change says.
-use Rattle.std.proofs.Common.{◌≡◌, ℕ, zero, suc, ◌+◌, ◌<◌, ◌≤◌, Bool, true, false, if◌then◌else◌, List, [], ◌∷◌, ◌++◌, length, get_or, set, Option, Some, None, Ok, Err, ltb, ℤ, pos, negsuc, refl, sym, ap, ◌∙◌, subst, inl, inr, arith, length-set}
+use Rattle.std.proofs.Common.{◌≡◌, ℕ, zero, suc, ◌+◌, ◌<◌, ◌≤◌, Bool, true, false, if◌then◌else◌, List, [], ◌∷◌, ◌++◌, length, map, get_or, set, Option, Some, None, Ok, Err, ltb, ℤ, pos, negsuc, refl, sym, ap, ◌∙◌, subst, inl, inr, arith, length-set}
 use Rattle.std.proofs.lemmas.Bool.{lt-ltb}
 use Rattle.std.specs.Prelude.{◌⊎◌, slice_get, slice_index_or, slice_set}
 use Rattle.cddf_meaning.specs.Answers.{Answer, traps, and_then, Left, left}
@@ -38,7 +38,7 @@ aimed _ stack = stack
 
 pub kept_slots : (side : Side) (st : State) (m : Store) (bound : List Binding) (slots : List ℤ) → Kept side st m → Kept side (record st { bound = bound }) (with_slots m slots)
 kept_slots (InFunction windows created skips) st m bound slots h = h
-kept_slots (InTask count) st m bound slots h = h
+kept_slots (InTask claims) st m bound slots h = h
 kept_slots InMain st m bound slots h = h
 
 windows_set : (ws : List TaskWindow) (items : List (List ℤ)) (k i : ℕ) (x : ℤ) (w : TaskWindow) → Windows ws items → slice_get ws k ≡ Some w →
@@ -59,12 +59,18 @@ windows_set (y ∷ ws) (vs ∷ items) (suc k) i x w h is = (h.0, h.1, h.2, windo
 abbrev pub with_window : Store → ℕ → TaskWindow → ℕ → ℤ → Store
 with_window m k w i x = record m { windows = slice_set m.windows k (record w { elements = slice_set w.elements i x }) }
 
+claims_same : (ws : List TaskWindow) (k i : ℕ) (x : ℤ) (w : TaskWindow) → slice_get ws k ≡ Some w →
+    map (λ (y : TaskWindow). y.claim) (set ws k (record w { elements = set w.elements i x })) ≡ map (λ (y : TaskWindow). y.claim) ws
+claims_same [] k i x w is = refl
+claims_same (y ∷ ws) zero i x w is = let same : y ≡ w = cc in ap (λ (z : TaskWindow). z.claim ∷ map (λ (y : TaskWindow). y.claim) ws) (sym same)
+claims_same (y ∷ ws) (suc k) i x w is = ap (λ cs. y.claim ∷ cs) (claims_same ws k i x w is)
+
 kept_item : (side : Side) (st : State) (m : Store) (k i : ℕ) (x : ℤ) (w : TaskWindow) → HasItem side k → Kept side st m → slice_get m.windows k ≡ Some w →
     Kept side (with_element st k i x) (with_window m k w i x)
 kept_item (InFunction windows created skips) st m k i x w has h is = elim has [ ]
 kept_item InMain st m k i x w has h is = elim has [ ]
-kept_item (InTask count) st m k i x w has h is =
-    (length-set st.items k (set (item_elements st k) i x) ∙ h.0, windows_set m.windows st.items k i x w h.1 is)
+kept_item (InTask claims) st m k i x w has h is =
+    (claims_same m.windows k i x w is ∙ h.0, windows_set m.windows st.items k i x w h.1 is)
 
 pub below_in : (size k line : ℕ) → k < size → checked size line (pos k) ≡ Ok k
 below_in size k line lt = ap (λ b. if b then Ok k else traps 4 line) (lt-ltb k size lt)
