@@ -17,3 +17,5 @@ pub mod Stmts
 pub mod Functions
 pub mod Sizes
 pub mod Files
+pub mod NoTasks
+pub mod TaskTexts
