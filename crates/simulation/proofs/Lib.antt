@@ -19,3 +19,4 @@ pub mod Sizes
 pub mod Files
 pub mod NoTasks
 pub mod TaskTexts
+pub mod Capturing
