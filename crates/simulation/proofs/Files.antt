@@ -17,6 +17,8 @@ use Rattle.os_ast.specs.Notes.Programs.{owner_of, param_names, round_body, after
 use Rattle.os_ast.specs.Notes.Programs as programs
 use Rattle.os_ast.specs.Notes.Statements.{after_stmts, stmts_notes}
 use Rattle.os_ast.specs.Trees as tree
+use Rattle.os_ast.specs.Violations.{captures}
+use Rattle.os_ast.specs.declared.expr.Name.{Name}
 use Rattle.os_ast.specs.declared.names.Entity.{Entity}
 use Rattle.os_ast.specs.declared.names.Entity.TheVariants as entity
 use Rattle.os_ast.specs.declared.names.Entry.{Entry}
@@ -29,9 +31,10 @@ use Rattle.os_code.specs.Machine.{Frame}
 use Rattle.os_code.specs.Parts.{instr_at}
 use Rattle.simulation.specs.Names.{told_at}
 use Rattle.simulation.specs.Programs.{size_by, HasFunction, HasMain, HasUnit, HasFunctions}
-use Rattle.simulation.specs.Tasks.{TaskTree}
+use Rattle.simulation.specs.Tasks.{TaskTree, all_tasks_of, program_tasks}
 use Rattle.simulation.proofs.Context.{Context, Agree, IsCallable}
 use Rattle.simulation.proofs.Functions.{params_slots, Known, FileFits, function_context, IsFunctionCode, function_runs}
+use Rattle.simulation.proofs.NoTasks.{IsOther, captures_both, none_both, none_stmts}
 use Rattle.simulation.proofs.Sizes.{stmts_sizes}
 use Rattle.simulation.proofs.Steps.{Store, at, pushed, onto, Meets}
 use Rattle.window_check.specs.Order.{InOrder}
@@ -77,8 +80,18 @@ fits_more code file other es e u fits le same named new id d is =
     by_case true h = let x : e.entity ≡ d = cc in subst (Known code other (Some u)) x new
     by_case false h = known_on code file other (find file.names id) d le same (fits id d h)
 
--- where `main` stands
-pub record AtMain (code : Parts) (rs : List Resolved) (tasks : List TaskTree) (m : Main) : Type 0 where
+-- the file declares constants and functions alone
+abbrev pub IsOfFile : Entity → Type 0
+IsOfFile (entity.Constant v) = ⊤
+IsOfFile (entity.Function number params) = ⊤
+IsOfFile _ = ⊥
+
+abbrev pub AllOfFile : List Entry → Type 0
+AllOfFile [] = ⊤
+AllOfFile (e ∷ es) = IsOfFile e.entity × AllOfFile es
+
+-- where `main` stands among these items, in this scope
+pub record AtMain (code : Parts) (rs : List Resolved) (tasks : List TaskTree) (outer : Scope) (listed : List tree.ItemTree) (m : Main) : Type 0 where
   pub scope : Scope
   pub function : tree.FunctionTree
   pub number : ℕ
@@ -90,6 +103,40 @@ pub record AtMain (code : Parts) (rs : List Resolved) (tasks : List TaskTree) (m
   pub lawful : AreLawful (stmts_notes (in_body scope function) function.body)
   pub tells : Tells rs (stmts_notes (in_body scope function) function.body)
   pub has : HasMain code (told_at rs) tasks number function
+  pub all : AllOfFile scope.entries
+  -- the tasks are its own, and so are the first of those that capture something
+  pub own_tasks : program_tasks listed ≡ all_tasks_of function.body
+  pub rest : List (List ℕ)
+  pub own_captures : captures (items_notes outer listed) ≡ captures (stmts_notes (in_body scope function) function.body) ++ rest
+
+-- behind an item in which no task of `main` stands
+further : {code : Parts} {rs : List Resolved} {tasks : List TaskTree} {outer inner : Scope} (i : tree.ItemTree) (is : List tree.ItemTree) {m : Main} (ns : List Note) →
+    program_tasks (i ∷ is) ≡ program_tasks is → captures ns ≡ [] → items_notes outer (i ∷ is) ≡ ns ++ items_notes inner is → AtMain code rs tasks inner is m → AtMain code rs tasks outer (i ∷ is) m
+further {outer = outer} {inner = inner} i is ns same none notes at_main = record {
+  scope = at_main.scope;
+  function = at_main.function;
+  number = at_main.number;
+  is_named = at_main.is_named;
+  is = at_main.is;
+  falls = at_main.falls;
+  fits = at_main.fits;
+  leveled = at_main.leveled;
+  lawful = at_main.lawful;
+  tells = at_main.tells;
+  has = at_main.has;
+  all = at_main.all;
+  own_tasks = same ∙ at_main.own_tasks;
+  rest = at_main.rest;
+  own_captures = ap captures notes ∙ captures_both ns (items_notes inner is) ∙ ap (λ cs. cs ++ captures (items_notes inner is)) none ∙ at_main.own_captures;
+}
+
+pub params_owner : (ns : List Name) (s : Scope) → (after_params s ns).owner ≡ s.owner
+params_owner [] s = refl
+params_owner (n ∷ ns) s = params_owner ns (programs.after_param s n)
+
+none_front : (s : Scope) (ns : List Name) → captures (params_notes s ns) ≡ []
+none_front s [] = refl
+none_front s (n ∷ ns) = none_front (programs.after_param s n) ns
 
 module _ (code : Parts) (rs : List Resolved) (ordered : InOrder rs) (tasks : List TaskTree) where
   is_function : (id : ℕ) → (id == main_id) ≡ false → owner_of id ≡ owner.OfFunction
@@ -141,10 +188,6 @@ module _ (code : Parts) (rs : List Resolved) (ordered : InOrder rs) (tasks : Lis
         slots = omega (arith, sum, size, first, none, has.slots);
       })
       has.is_unit len at_turn at_call)
-    where
-      params_owner : (ns : List _) (s : Scope) → (after_params s ns).owner ≡ s.owner
-      params_owner [] s = refl
-      params_owner (n ∷ ns) s = params_owner ns (programs.after_param s n)
 
   same_calls : (file : File) (f : tree.FunctionTree) (place : ℕ) (args : List ℤ) (turns : ℕ) → place < file.count → (with_item file (tree.Function f)).calls place args turns ≡ file.calls place args turns
   same_calls file f place args turns lt = by_case (place == file.count) refl
@@ -153,32 +196,43 @@ module _ (code : Parts) (rs : List Resolved) (ordered : InOrder rs) (tasks : Lis
       by_case true e = let x : place ≡ file.count = eqb-true place file.count e in absurd (omega (arith, x, lt))
       by_case false e = refl
 
-  pub finds_main : (is : List tree.ItemTree) (file : File) (s : Scope) (number : ℕ) (m : Main) → AreAll IsItem is → CallsFall file → FileFits code file s.entries → s.functions ≡ number →
-      AreLawful (items_notes s is) → Tells rs (items_notes s is) → HasFunctions code (told_at rs) tasks number is → main_behind file s is ≡ Some m → AtMain code rs tasks m
-  finds_main [] file s number m leveled falls fits count lawful tells has is = absurd (cc)
-  finds_main (tree.Constant x ∷ is) file s number m (cons _ leveled) falls fits count lawful tells has found =
+  pub finds_main : (is : List tree.ItemTree) (file : File) (s : Scope) (number : ℕ) (m : Main) → AreAll IsItem is → CallsFall file → FileFits code file s.entries → AllOfFile s.entries → s.functions ≡ number →
+      AreLawful (items_notes s is) → Tells rs (items_notes s is) → HasFunctions code (told_at rs) tasks number is → main_behind file s is ≡ Some m → AtMain code rs tasks s is m
+  finds_main [] file s number m leveled falls fits all count lawful tells has is = absurd (cc)
+  finds_main (tree.Constant x ∷ is) file s number m (cons _ leveled) falls fits all count lawful tells has found =
       let i = tree.Constant x in
       let rest = items_notes (after_item s i) is in
-      finds_main is (with_item file i) (after_item s i) number m leveled (item-falls file falls i)
-      (fits_more code file (with_item file i) s.entries (record { id = x.name.id; depth = s.depth; entity = entity.Constant (constant_value x) }) (variable.Constant (constant_value x)) fits (omega arith) (λ place args turns lt. refl) refl refl)
-      count (lawful-rest (item_notes s i) rest lawful) (tells-rest rs (item_notes s i) rest tells) has found
-  finds_main (tree.Function f ∷ is) file s number m (cons (IsItem.function _ body) leveled) falls fits count lawful tells has found =
+      further i is (item_notes s i) refl refl refl
+      (finds_main is (with_item file i) (after_item s i) number m leveled (item-falls file falls i)
+      (fits_more code file (with_item file i) s.entries (record { id = x.name.id; depth = s.depth; entity = entity.Constant (constant_value x) }) (variable.Constant (constant_value x)) fits (omega arith) (λ place args turns lt. refl) refl refl) (tt, all)
+      count (lawful-rest (item_notes s i) rest lawful) (tells-rest rs (item_notes s i) rest tells) has found)
+  finds_main (tree.Function f ∷ is) file s number m (cons (IsItem.function _ body) leveled) falls fits all count lawful tells has found =
       by_case (f.name.id == main_id) refl has.0 found
       (λ other unit found2.
       let i = tree.Function f in
       let rest = items_notes (after_item s i) is in
       let more : (after_item s i).functions ≡ s.functions + 1 = functions_behind s f in
       let runs = callable file falls s f number other fits body (lawful_body s f rest lawful) (tells_body s f rest tells) unit in
-      finds_main is (with_item file i) (after_item s i) (suc number) m leveled (item-falls file falls i)
+      further i is (item_notes s i) (ap (λ t. if t then all_tasks_of f.body else program_tasks is) other) (none_both front_notes (stmts_notes (in_body s f) f.body) (none_front (programs.in_function s f.name.id) (param_names f.params)) (none_stmts f.body (in_body s f) (not_main other))) refl
+      (finds_main is (with_item file i) (after_item s i) (suc number) m leveled (item-falls file falls i)
       (fits_more code file (with_item file i) s.entries (record { id = f.name.id; depth = s.depth; entity = entity.Function (after_stmts (in_body s f) f.body).functions (length (param_names f.params)) }) (variable.Function file.count) fits (omega arith) (same_calls file f) refl
-      (file.count, refl, omega arith, subst (λ k. IsCallable code (with_item file i) file.count k (length (param_names f.params))) (omega (arith, more, count)) runs))
-      (omega (arith, more, count)) (lawful-rest (item_notes s i) rest lawful) (tells-rest rs (item_notes s i) rest tells) has.1 found2)
+      (file.count, refl, omega arith, subst (λ k. IsCallable code (with_item file i) file.count k (length (param_names f.params))) (omega (arith, more, count)) runs)) (tt, all)
+      (omega (arith, more, count)) (lawful-rest (item_notes s i) rest lawful) (tells-rest rs (item_notes s i) rest tells) has.1 found2))
     where
+      front_notes : List Note
+      front_notes = Global s f.name ∷ params_notes (programs.in_function s f.name.id) (param_names f.params)
+
+      not_main : (f.name.id == main_id) ≡ false → IsOther (in_body s f).owner
+      not_main other e =
+          let x : (in_body s f).owner ≡ owner.OfFunction = params_owner (param_names f.params) (programs.in_function s f.name.id) ∙ ap (λ o. (inside o s).owner) (is_function f.name.id other) in
+          let y : owner.OfFunction ≡ owner.OfMain = sym x ∙ e in
+          absurd (cc)
+
       by_case : (t : Bool) → (f.name.id == main_id) ≡ t → HasUnit t code (told_at rs) tasks number f → (if t then Some (main_at file s f) else main_behind (with_item file (tree.Function f)) (after_item s (tree.Function f)) is) ≡ Some m →
-          ((f.name.id == main_id) ≡ false → HasFunction code (told_at rs) number f → main_behind (with_item file (tree.Function f)) (after_item s (tree.Function f)) is ≡ Some m → AtMain code rs tasks m) → AtMain code rs tasks m
+          ((f.name.id == main_id) ≡ false → HasFunction code (told_at rs) number f → main_behind (with_item file (tree.Function f)) (after_item s (tree.Function f)) is ≡ Some m → AtMain code rs tasks s (tree.Function f ∷ is) m) → AtMain code rs tasks s (tree.Function f ∷ is) m
       by_case true e unit found2 go =
           let same : main_at file s f ≡ m = cc in
-          subst (AtMain code rs tasks) same
+          subst (AtMain code rs tasks s (tree.Function f ∷ is)) same
           (record {
             scope = s;
             function = f;
@@ -191,6 +245,14 @@ module _ (code : Parts) (rs : List Resolved) (ordered : InOrder rs) (tasks : Lis
             lawful = lawful_body s f (items_notes (after_item s (tree.Function f)) is) lawful;
             tells = tells_body s f (items_notes (after_item s (tree.Function f)) is) tells;
             has = unit;
+            all = all;
+            own_tasks = ap (λ t. if t then all_tasks_of f.body else program_tasks is) e;
+            rest = captures (items_notes (after_item s (tree.Function f)) is);
+            own_captures =
+                captures_both (item_notes s (tree.Function f)) (items_notes (after_item s (tree.Function f)) is)
+                ∙ ap (λ cs. cs ++ captures (items_notes (after_item s (tree.Function f)) is))
+                (captures_both (Global s f.name ∷ params_notes (programs.in_function s f.name.id) (param_names f.params)) (stmts_notes (in_body s f) f.body)
+                ∙ ap (λ cs. cs ++ captures (stmts_notes (in_body s f) f.body)) (none_front (programs.in_function s f.name.id) (param_names f.params)));
           })
       by_case false e unit found2 go = go e unit found2
 

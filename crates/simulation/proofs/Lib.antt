@@ -20,3 +20,5 @@ pub mod Files
 pub mod NoTasks
 pub mod TaskTexts
 pub mod Capturing
+pub mod TaskContexts
+pub mod TaskStarts

@@ -111,15 +111,19 @@ items_owner [] s inner item = refl
 items_owner (Item d i ∷ ps) s inner item = items_owner ps s _ (suc item)
 items_owner (Private n ∷ ps) s inner item = items_owner ps s inner item
 
+-- a body that isn't that of `main`
+abbrev pub IsOther : Owner → Type 0
+IsOther o = o ≡ owner.OfMain → ⊥
+
 -- a task that stands in no `main`
-outside : (o : Owner) (slots : List ℕ) → o ≡ owner.OfTask → main_task o slots ++ [] ≡ []
+outside : (o : Owner) (slots : List ℕ) → IsOther o → main_task o slots ++ [] ≡ []
 outside owner.OfTask slots e = refl
-outside owner.OfMain slots e = absurd (cc)
+outside owner.OfMain slots e = absurd (e refl)
 outside owner.OfFunction slots e = refl
 
--- No task stands in a task.
+-- Nothing outside `main` captures something.
 mutual
-  pub none_stmt : (a : tree.StmtTree) (s : Scope) → s.owner ≡ owner.OfTask → captures (stmt_notes s a) ≡ []
+  pub none_stmt : (a : tree.StmtTree) (s : Scope) → IsOther s.owner → captures (stmt_notes s a) ≡ []
   none_stmt tree.StmtTree.Empty s own = refl
   none_stmt (tree.Block ss) s own = none_stmts ss (enter s) own
   none_stmt (tree.StmtTree.Declare ds) s own = none_declarators ds s
@@ -128,14 +132,14 @@ mutual
   none_stmt (tree.If c a) s own = none_both (expr_notes s c) (stmt_notes s a) (none_expr c s) (none_stmt a s own)
   none_stmt (tree.IfElse c a b) s own =
       none_both (expr_notes s c ++ stmt_notes s a) (stmt_notes (after_stmt s a) b) (none_both (expr_notes s c) (stmt_notes s a) (none_expr c s) (none_stmt a s own))
-      (none_stmt b (after_stmt s a) ((stmt_onward a s).owner ∙ own))
+      (none_stmt b (after_stmt s a) (λ e. own (sym (stmt_onward a s).owner ∙ e)))
   none_stmt (tree.While c a) s own = none_both (expr_notes s c) (stmt_notes (in_loop s) a) (none_expr c s) (none_stmt a (in_loop s) own)
   none_stmt (tree.For start test step a) s own =
       let head = after_start (enter s) start in
       let x = start_notes (enter s) start in
       none_both (x ++ value_notes head test ++ step_notes head step) (stmt_notes (in_loop head) a)
       (none_both (x ++ value_notes head test) (step_notes head step) (none_both x (value_notes head test) (none_start start (enter s)) (none_value test head)) (none_step step head))
-      (none_stmt a (in_loop head) ((start_onward start (enter s)).owner ∙ own))
+      (none_stmt a (in_loop head) (λ e. own (sym (start_onward start (enter s)).owner ∙ e)))
   none_stmt (tree.Break m) s own = refl
   none_stmt (tree.Continue m) s own = refl
   none_stmt (tree.Return m e) s own = none_expr e s
@@ -143,11 +147,11 @@ mutual
       let inner = in_task_body s (parts cs) a in
       none_both (clauses_notes s m (parts cs) a) (stmt_notes inner a)
       (none_both (parts_notes s [] (parts cs)) (Task s m (count_items (parts cs)) (captured s.entries (parts cs) a) ∷ []) (none_parts (parts cs) s []) (outside s.owner (slots_of (captured s.entries (parts cs) a)) own))
-      (none_stmt a inner (items_owner (parts cs) s (in_task s (captured_in s.owner (slots_of (captured s.entries (parts cs) a)))) 0))
+      (none_stmt a inner (λ e. let x : owner.OfTask ≡ owner.OfMain = sym (items_owner (parts cs) s (in_task s (captured_in s.owner (slots_of (captured s.entries (parts cs) a)))) 0) ∙ e in absurd (cc)))
   none_stmt (tree.Tick m t arrow e) s own = none_both (place_notes s (role.Flow direction.Reads) t) (expr_notes s e) (none_place t s (role.Flow direction.Reads)) (none_expr e s)
   none_stmt (tree.Taskwait m) s own = refl
 
-  pub none_stmts : (ss : tree.Stmts) (s : Scope) → s.owner ≡ owner.OfTask → captures (stmts_notes s ss) ≡ []
+  pub none_stmts : (ss : tree.Stmts) (s : Scope) → IsOther s.owner → captures (stmts_notes s ss) ≡ []
   none_stmts tree.no_stmts s own = refl
   none_stmts (tree.stmt a rest) s own =
-      none_both (stmt_notes s a) (stmts_notes (after_stmt s a) rest) (none_stmt a s own) (none_stmts rest (after_stmt s a) ((stmt_onward a s).owner ∙ own))
+      none_both (stmt_notes s a) (stmts_notes (after_stmt s a) rest) (none_stmt a s own) (none_stmts rest (after_stmt s a) (λ e. own (sym (stmt_onward a s).owner ∙ e)))

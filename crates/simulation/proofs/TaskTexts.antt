@@ -214,7 +214,7 @@ module _ (rs : List Resolved) (file : List Entry) where
         let slots = slots_of (captured s.entries (parts cs) a) in
         let own : inner.owner ≡ owner.OfTask = items_owner (parts cs) s (in_task s (captured_in s.owner slots)) 0 in
         let e : captures (x ++ y) ≡ slots ∷ [] =
-        captures_both x y ∙ ap (λ cs. captures x ++ cs) (none_stmt a inner own) ∙ ap (λ cs. cs ++ []) (captures_both (parts_notes s [] (parts cs)) note ∙ ap (λ cs. cs ++ captures note) (none_parts (parts cs) s []) ∙ ap (λ o. main_task o slots ++ []) h.owner) in
+        captures_both x y ∙ ap (λ cs. captures x ++ cs) (none_stmt a inner (λ e. let z : owner.OfTask ≡ owner.OfMain = sym own ∙ e in absurd (cc))) ∙ ap (λ cs. cs ++ []) (captures_both (parts_notes s [] (parts cs)) note ∙ ap (λ cs. cs ++ captures note) (none_parts (parts cs) s []) ∙ ap (λ o. main_task o slots ++ []) h.owner) in
         subst (Match (task_at s mark cs a ∷ [])) (sym e)
         (record { scope = s; mark = mark; clauses = cs; body = a; is = refl; in_main = h; leveled = is; lawful = lawful-rest x y lawful; tells = tells-rest rs x y tells; captures = refl }, tt)
     match_stmt (IsStmt.tick {m = mark} {t = t} {e = e} _ _) s h lawful tells =
