@@ -22,3 +22,5 @@ pub mod TaskTexts
 pub mod Capturing
 pub mod TaskContexts
 pub mod TaskStarts
+pub mod TaskRuns
+pub mod TaskLaws

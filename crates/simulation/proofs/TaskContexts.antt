@@ -69,7 +69,7 @@ items_slots s inner [] item = refl
 items_slots s inner (Item d i ∷ ps) item = items_slots s (declare inner (item_name i.stream i.window).id (item_entity s item d i)) ps (suc item)
 items_slots s inner (Private n ∷ ps) item = items_slots s inner ps item
 
-items_onto : (s : Scope) (depth item : ℕ) (ps : List Part) (xs ys : List Entry) → made_items s depth item ps (xs ++ ys) ≡ made_items s depth item ps xs ++ ys
+pub items_onto : (s : Scope) (depth item : ℕ) (ps : List Part) (xs ys : List Entry) → made_items s depth item ps (xs ++ ys) ≡ made_items s depth item ps xs ++ ys
 items_onto s depth item [] xs ys = refl
 items_onto s depth item (Item d i ∷ ps) xs ys = items_onto s depth (suc item) ps (record { id = (item_name i.stream i.window).id; depth = depth; entity = item_entity s item d i } ∷ xs) ys
 items_onto s depth item (Private n ∷ ps) xs ys = items_onto s depth item ps xs ys
