@@ -1,11 +1,11 @@
 -- What is known in a task of the names round it.
-use Rattle.std.proofs.Common.{◌≡◌, ℕ, zero, suc, ◌+◌, ◌<◌, ◌≤◌, ◌==◌, ◌||◌, Bool, true, false, not, if◌then◌else◌, List, [], ◌∷◌, ◌++◌, map, length, position, slice_get, Option, Some, None, refl, sym, ap, ◌∙◌, subst, inl, inr, arith, eq-eqb, eqb-true}
+use Rattle.std.proofs.Common.{◌≡◌, ℕ, zero, suc, ◌+◌, ◌<◌, ◌≤◌, ◌==◌, Bool, true, false, if◌then◌else◌, List, [], ◌∷◌, ◌++◌, length, Option, Some, None, refl, sym, ap, ◌∙◌, subst, arith, eq-eqb, eqb-true}
 use Rattle.std.proofs.lemmas.Bool.{lt-ltb}
 use Rattle.std.proofs.lemmas.List.Sums.{position_or_len_is}
 use Rattle.std.specs.List.{position_or_len}
-use Rattle.std.specs.Prelude.{⊤, ◌⊎◌, unwrap_or, nat_lt, cond, get_or}
-use Rattle.os_ast.specs.Captured.{Scalar, scalar_of, others, scalars, among, captured, slots_of}
-use Rattle.os_ast.specs.Meanings.{place_in, meaning_in_task}
+use Rattle.std.specs.Prelude.{⊤, unwrap_or, nat_lt, cond, get_or}
+use Rattle.os_ast.specs.Captured.{Scalar, scalar_of, others, scalars, among}
+use Rattle.os_ast.specs.Meanings.{place_in}
 use Rattle.os_ast.specs.Names.{lookup, entity_of}
 use Rattle.os_ast.specs.Parts.{is_in}
 use Rattle.os_ast.specs.Stacked.{main_extent, begins, ends}
@@ -13,7 +13,6 @@ use Rattle.os_ast.specs.Stacked as text
 use Rattle.os_ast.specs.declared.names.Entity.{Entity}
 use Rattle.os_ast.specs.declared.names.Entity.TheVariants as entity
 use Rattle.os_ast.specs.declared.names.Entry.{Entry}
-use Rattle.os_ast.specs.declared.names.What.TheVariants as what
 use Rattle.window_check.specs.CapturedByUse.{Ascends}
 use Rattle.window_check.specs.Slots.{control_slots}
 

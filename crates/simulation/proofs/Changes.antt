@@ -1,15 +1,15 @@
 -- The code of a change does what the change says.
-use Rattle.std.proofs.Common.{◌≡◌, ℕ, suc, ◌+◌, ◌<◌, ◌≤◌, Bool, true, false, if◌then◌else◌, List, [], ◌∷◌, ◌++◌, length, get_or, Option, Some, None, Ok, Err, ℤ, pos, refl, sym, ap, ◌∙◌, subst, arith}
+use Rattle.std.proofs.Common.{◌≡◌, ℕ, ◌+◌, ◌≤◌, Bool, true, false, List, [], ◌∷◌, ◌++◌, length, Some, Ok, Err, ℤ, pos, refl, sym, ap, ◌∙◌, subst}
 use Rattle.cddf_meaning.specs.Answers.{Answer, and_then, Left, left, with_turns}
 use Rattle.cddf_meaning.specs.File.{variable}
 use Rattle.cddf_meaning.specs.Flow.{Ran, given, goes_on}
 use Rattle.cddf_meaning.specs.Operators.{binary_value, step_operator}
-use Rattle.cddf_meaning.specs.Run.{assigned, aim_at, old_value, written, changed, run_change}
+use Rattle.cddf_meaning.specs.Run.{assigned, old_value, written, changed, run_change}
 use Rattle.cddf_meaning.specs.State.{State, stored, stored_at}
 use Rattle.cddf_meaning.specs.Value.{scalar_value, elements, checked, value}
 use Rattle.cddf_meaning.specs.Variables.{find}
 use Rattle.cddf_meaning.specs.declared.aim.Aim.{Aim}
-use Rattle.cddf_meaning.specs.declared.aim.Aim.TheVariants.{Name as AimName, Element}
+use Rattle.cddf_meaning.specs.declared.aim.Aim.TheVariants.{Element}
 use Rattle.os_ast.specs.Names.{Scope}
 use Rattle.os_ast.specs.Notes.Expressions.{expr_notes, place_notes, change_notes}
 use Rattle.os_ast.specs.Trees as tree
@@ -25,20 +25,19 @@ use Rattle.os_ast.specs.declared.names.What.TheVariants as what
 use Rattle.os_ast.specs.declared.stmt.Assign.{Assign}
 use Rattle.os_ast.specs.declared.stmt.Assign.TheVariants as assign_of
 use Rattle.os_code.specs.declared.instr.Instr.{Instr}
-use Rattle.os_code.specs.declared.instr.Instr.TheVariants as instr
 use Rattle.os_code.specs.declared.parts.Parts.{Parts}
 use Rattle.os_code.specs.Machine.{Frame}
 use Rattle.os_code.specs.Parts.{instr_at}
 use Rattle.simulation.specs.Alignment.{Stacked, slot_at}
 use Rattle.simulation.specs.Changes.{is_quiet, HasChanged, HasChange, set, set_unchecked, after, before, needs_old, operating, HasAssigned, HasStepped}
-use Rattle.simulation.specs.Expressions.{Stands, operation, HasExpr}
-use Rattle.simulation.specs.Names.{reading, reading_at, aiming, storing, storing_at, fetching, fetching_at}
-use Rattle.simulation.proofs.Context.{HasItem, IsPlain, Kept, Context, means, tells, Agree, agree_first, agree_rest, In, IsUsed, used, Named, name}
+use Rattle.simulation.specs.Expressions.{Stands, HasExpr}
+use Rattle.simulation.specs.Names.{reading, aiming, storing, storing_at, fetching, fetching_at}
+use Rattle.simulation.proofs.Context.{IsPlain, Context, means, tells, Agree, agree_first, agree_rest, IsUsed, used, name}
 use Rattle.simulation.proofs.Exprs.{Ready, ends_at, operates, expr_runs}
-use Rattle.simulation.proofs.Flows.{After, Does, does_from, given_does, settled, AlignedIn}
+use Rattle.simulation.proofs.Flows.{Does, does_from, given_does, settled}
 use Rattle.simulation.proofs.Names.{reads, fetches_at}
 use Rattle.simulation.proofs.Quiet.{quiet_gives}
-use Rattle.simulation.proofs.Steps.{Store, at, Behind, pushed, checked_index, Leads, stays, leads_on, Meets, gives, meets_from, meets_then, copy_top, push}
+use Rattle.simulation.proofs.Steps.{Store, at, pushed, checked_index, Leads, stays, leads_on, Meets, gives, meets_from, meets_then, copy_top, push}
 use Rattle.simulation.proofs.Stores.{aimed, below_in, stores_name, stores_at}
 
 abbrev pub with_old : Bool → ℤ → List ℤ → List ℤ

@@ -1,14 +1,13 @@
 -- The code of a condition goes where its value leads.
-use Rattle.std.proofs.Common.{◌≡◌, ℕ, suc, ◌+◌, Bool, true, false, not, if◌then◌else◌, List, ◌∷◌, ◌++◌, Option, Some, None, Ok, ltb, ℤ, pos, refl, sym, ap, ◌∙◌, subst, arith}
+use Rattle.std.proofs.Common.{◌≡◌, ℕ, suc, ◌+◌, Bool, true, false, not, if◌then◌else◌, List, Option, Some, None, Ok, ltb, ℤ, pos, refl, sym, ap, ◌∙◌, subst, arith}
 use Rattle.c_int.specs.Operators.{is_zero, truth}
 use Rattle.cddf_meaning.specs.Answers.{Answer, and_then, Left, left}
 use Rattle.cddf_meaning.specs.Run.{run_test}
 use Rattle.cddf_meaning.specs.State.{State}
-use Rattle.cddf_meaning.specs.Value.{as_truth, linked, value, chained}
+use Rattle.cddf_meaning.specs.Value.{as_truth, value, chained}
 use Rattle.os_ast.specs.Names.{Scope}
 use Rattle.os_ast.specs.Notes.Expressions.{expr_notes, links_notes, value_notes}
 use Rattle.os_ast.specs.Trees as tree
-use Rattle.os_ast.specs.declared.expr.Binary.TheVariants as binary
 use Rattle.os_ast.specs.declared.names.Entry.{Entry}
 use Rattle.os_code.specs.declared.instr.Instr.TheVariants as instr
 use Rattle.os_code.specs.declared.parts.Parts.{Parts}

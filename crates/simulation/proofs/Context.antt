@@ -9,7 +9,7 @@ use Rattle.cddf_meaning.specs.declared.variable.Variable.{Variable}
 use Rattle.cddf_meaning.specs.declared.variable.Variable.TheVariants as variable
 use Rattle.flow_core.specs.declared.activation.Activation.{Activation}
 use Rattle.flow_core.specs.declared.claim.Claim.{Claim}
-use Rattle.os_ast.specs.Meanings.{meaning, meaning_in, resolved}
+use Rattle.os_ast.specs.Meanings.{meaning_in, resolved}
 use Rattle.os_ast.specs.Names.{Scope, lookup, entity_of}
 use Rattle.os_ast.specs.Notes.Kinds.{Note, Used}
 use Rattle.os_ast.specs.Rules.{UseRule, rules, violates, if_declared, is_wrong_kind, has_other_count}
@@ -28,7 +28,7 @@ use Rattle.os_code.specs.declared.instr.Instr.TheVariants as instr
 use Rattle.os_code.specs.declared.parts.Parts.{Parts}
 use Rattle.os_code.specs.Machine.{Frame, TaskWindow}
 use Rattle.os_code.specs.Parts.{instr_at}
-use Rattle.simulation.specs.Alignment.{Holds, Aligned}
+use Rattle.simulation.specs.Alignment.{Aligned}
 use Rattle.simulation.specs.Names.{told_at}
 use Rattle.simulation.proofs.Alignment.{Found, found, missed}
 use Rattle.simulation.proofs.Steps.{Store, at, pushed, onto, Meets}

@@ -1,19 +1,16 @@
 -- The code of declarators does what they say.
-use Rattle.std.proofs.Common.{◌≡◌, ℕ, ◌+◌, ◌≤◌, ◌&&◌, ◌||◌, Bool, true, false, not, List, [], ◌∷◌, ◌++◌, length, set, replicate, Option, Some, None, Ok, ℤ, pos, refl, sym, ap, ◌∙◌, subst, arith, length-set}
+use Rattle.std.proofs.Common.{◌≡◌, ℕ, ◌+◌, ◌≤◌, ◌&&◌, Bool, true, false, not, List, [], ◌∷◌, ◌++◌, length, set, replicate, Option, Some, None, ℤ, pos, refl, sym, ap, ◌∙◌, subst, arith, length-set}
 use Rattle.std.specs.Prelude.{unwrap_or}
-use Rattle.cddf_meaning.specs.Answers.{Left, left}
 use Rattle.cddf_meaning.specs.Flow.{Ran, given, goes_on}
-use Rattle.cddf_meaning.specs.Run.{Around, run_scalar, array_size, run_array, run_window, run_sized, run_streams, run_declarator, run_declarators}
+use Rattle.cddf_meaning.specs.Run.{Around, run_scalar, array_size, run_array, run_sized, run_declarator, run_declarators}
 use Rattle.cddf_meaning.specs.State.{State, declared, stored}
-use Rattle.cddf_meaning.specs.Value.{value}
 use Rattle.cddf_meaning.specs.Variables.{bind}
 use Rattle.cddf_meaning.specs.declared.site.Site.{Site}
 use Rattle.cddf_meaning.specs.declared.variable.Variable.TheVariants.{Scalar, Array}
-use Rattle.os_ast.specs.Leveled.{IsDeclarator}
 use Rattle.os_ast.specs.Limits.{is_size}
-use Rattle.os_ast.specs.Meanings.{meaning, meaning_in, resolved}
+use Rattle.os_ast.specs.Meanings.{meaning}
 use Rattle.os_ast.specs.Names.{Scope, declare}
-use Rattle.os_ast.specs.Notes.Declarators.{scalar_entity, sized_form, size_value, size_of, limited, form, form_entity, declared_entity, taken, after_declarator, after_declarators, declarator_notes, declarators_notes, sized_notes, is_window}
+use Rattle.os_ast.specs.Notes.Declarators.{scalar_entity, sized_form, size_value, size_of, limited, form, form_entity, declared_entity, taken, after_declarator, after_declarators, declarator_notes, declarators_notes, is_window}
 use Rattle.os_ast.specs.Notes.Expressions.{value_notes}
 use Rattle.os_ast.specs.Rules.{is_outermost, has_no_size, has_too_many}
 use Rattle.os_ast.specs.Trees as tree
@@ -24,24 +21,22 @@ use Rattle.os_ast.specs.declared.names.Form.{Form}
 use Rattle.os_ast.specs.declared.names.Form.TheVariants as form_of
 use Rattle.os_ast.specs.declared.names.Owner.{Owner}
 use Rattle.os_ast.specs.declared.names.Owner.TheVariants as owner
-use Rattle.os_ast.specs.declared.names.What.{What}
 use Rattle.os_ast.specs.declared.names.What.TheVariants as what
 use Rattle.os_code.specs.declared.instr.Instr.{Instr}
 use Rattle.os_code.specs.declared.instr.Instr.TheVariants as instr
-use Rattle.os_code.specs.Machine as machine
 use Rattle.os_code.specs.Machine.{Frame, zeroed, act}
 use Rattle.os_code.specs.Parts.{instr_at}
 use Rattle.simulation.specs.Alignment.{Stacked, slot_at}
-use Rattle.simulation.specs.Declarators.{HasFirst, cleared, named_elsewhere, HasScalar, HasDeclared, HasDeclarators}
+use Rattle.simulation.specs.Declarators.{cleared, named_elsewhere, HasScalar, HasDeclared, HasDeclarators}
 use Rattle.simulation.specs.Expressions.{Stands}
 use Rattle.simulation.proofs.Alignment.{declared_scalar, declared_array}
-use Rattle.simulation.proofs.Context.{HasItem, Kept, Context, means, tells, told_is, Agree, agree_first, agree_rest, In}
-use Rattle.simulation.proofs.Declares.{means_scalar, means_array, means_in_text, or_first, not_false, IsSize, size_known, limit_kept, stored_own, in_behind, stacked_behind, size_runs}
+use Rattle.simulation.proofs.Context.{HasItem, Kept, Context, means, tells, told_is, Agree, agree_first, agree_rest}
+use Rattle.simulation.proofs.Declares.{means_scalar, means_array, means_in_text, or_first, not_false, size_known, limit_kept, stored_own, in_behind, stacked_behind, size_runs}
 use Rattle.simulation.proofs.Elsewhere.{value_same}
 use Rattle.simulation.proofs.Exprs.{Ready, expr_runs}
 use Rattle.simulation.proofs.Flows.{Does, does_from, given_does, settled, AlignedIn, went_on, flows_does}
 use Rattle.simulation.proofs.Slots.{zeroed_length}
-use Rattle.simulation.proofs.Static.{entry, made, declarator_onward, declarators_onward}
+use Rattle.simulation.proofs.Static.{entry, made, declarators_onward}
 use Rattle.simulation.proofs.Steps.{Store, with_slots, at, pushed, Leads, stays, one, leads_on, Meets, acts, push, store_top}
 use Rattle.simulation.proofs.Stores.{kept_slots}
 

@@ -1,27 +1,19 @@
 -- The code of declarations does what they say.
-use Rattle.std.proofs.Common.{◌≡◌, ℕ, ◌+◌, ◌<◌, ◌≤◌, ◌==◌, ◌&&◌, ◌||◌, Bool, true, false, not, if◌then◌else◌, List, [], ◌∷◌, ◌++◌, length, set, replicate, leb, Option, Some, None, Ok, ℤ, pos, negsuc, refl, sym, ap, ◌∙◌, subst, inl, inr, arith, length-set, eq-eqb}
+use Rattle.std.proofs.Common.{◌≡◌, ℕ, ◌+◌, ◌==◌, ◌&&◌, ◌||◌, Bool, true, false, not, if◌then◌else◌, List, [], ◌∷◌, ◌++◌, length, leb, Option, Some, None, Ok, ℤ, pos, negsuc, refl, sym, ap, ◌∙◌, subst, inl, inr, arith, eq-eqb}
 use Rattle.std.specs.Prelude.{◌⊎◌, unwrap_or}
-use Rattle.cddf_meaning.specs.Answers.{Answer, Left, left}
+use Rattle.cddf_meaning.specs.Answers.{left}
 use Rattle.cddf_meaning.specs.File.{variable, or_in_file}
-use Rattle.cddf_meaning.specs.Flow.{Ran, Runs, given, goes_on}
-use Rattle.cddf_meaning.specs.Run.{Around, run_scalar, array_size, run_array, run_window, run_sized, run_declarator, run_declarators}
 use Rattle.cddf_meaning.specs.State.{State, declared, stored_in, stored}
 use Rattle.cddf_meaning.specs.Value.{scalar_value, value}
 use Rattle.cddf_meaning.specs.Variables.{bind, find, assign}
-use Rattle.cddf_meaning.specs.declared.site.Site.{Site}
-use Rattle.cddf_meaning.specs.declared.variable.Binding.{Binding}
 use Rattle.cddf_meaning.specs.declared.variable.Variable.{Variable}
 use Rattle.cddf_meaning.specs.declared.variable.Variable.TheVariants as variable_of
 use Rattle.cddf_meaning.specs.declared.variable.Variable.TheVariants.{Scalar, Array}
 use Rattle.os_ast.specs.Limits.{size_limit, is_size}
-use Rattle.os_ast.specs.Meanings.{meaning, meaning_in, resolved}
-use Rattle.os_ast.specs.Names.{Scope, lookup, entity_of, declare}
-use Rattle.os_ast.specs.Notes.Declarators.{scalar_entity, sized_form, size_value, size_of, limited, within_limit, constant_of, form, form_with, form_entity, declared_entity, taken, after_declarator, after_declarators, declarator_notes, declarators_notes, sized_notes, is_window}
-use Rattle.os_ast.specs.Notes.Expressions.{value_notes}
-use Rattle.os_ast.specs.Notes.Kinds.{Note, Declared}
-use Rattle.os_ast.specs.Rules.{is_outermost, has_no_size, has_too_many}
+use Rattle.os_ast.specs.Meanings.{meaning, meaning_in}
+use Rattle.os_ast.specs.Names.{Scope, lookup, entity_of}
+use Rattle.os_ast.specs.Notes.Declarators.{scalar_entity, size_value, within_limit, constant_of, form, form_entity, taken, after_declarator, after_declarators}
 use Rattle.os_ast.specs.Trees as tree
-use Rattle.os_ast.specs.declared.expr.Name.{Name}
 use Rattle.os_ast.specs.declared.names.Entity.{Entity}
 use Rattle.os_ast.specs.declared.names.Entity.TheVariants as entity
 use Rattle.os_ast.specs.declared.names.Entry.{Entry}
@@ -31,24 +23,13 @@ use Rattle.os_ast.specs.declared.names.Owner.{Owner}
 use Rattle.os_ast.specs.declared.names.Owner.TheVariants as owner
 use Rattle.os_ast.specs.declared.names.What.{What}
 use Rattle.os_ast.specs.declared.names.What.TheVariants as what
-use Rattle.os_code.specs.declared.instr.Instr.{Instr}
-use Rattle.os_code.specs.declared.instr.Instr.TheVariants as instr
-use Rattle.os_code.specs.declared.parts.Parts.{Parts}
-use Rattle.os_code.specs.Machine.{Frame, zeroed, act}
-use Rattle.os_code.specs.Parts.{instr_at}
-use Rattle.simulation.specs.Alignment.{Stacked, Takes, slot_at, Holds, Aligned}
-use Rattle.simulation.specs.Declarators.{HasFirst, cleared, named_elsewhere, HasScalar, HasDeclared, HasDeclarators}
-use Rattle.simulation.specs.Expressions.{Stands, HasExpr}
-use Rattle.simulation.proofs.Alignment.{found, missed, declared_scalar, declared_array, stacked_scalar, stacked_window, stacked_array}
-use Rattle.simulation.proofs.Context.{Side, HasItem, Kept, Context, means, tells, told_is, Agree, agree_first, agree_rest, In, Reaches, split}
-use Rattle.simulation.proofs.Elsewhere.{value_same}
-use Rattle.simulation.proofs.Exprs.{Ready, expr_runs}
-use Rattle.simulation.proofs.Flows.{After, Does, does_from, given_does, settled, AlignedIn, went_on, flows_does, exactly}
+use Rattle.simulation.specs.Alignment.{Stacked, Takes, Holds}
+use Rattle.simulation.proofs.Alignment.{found, missed, stacked_scalar, stacked_window, stacked_array}
+use Rattle.simulation.proofs.Context.{HasItem, Context, means, In, Reaches, split}
+use Rattle.simulation.proofs.Exprs.{Ready}
 use Rattle.simulation.proofs.Names.{means_constant}
-use Rattle.simulation.proofs.Slots.{zeroed_length}
-use Rattle.simulation.proofs.Static.{entry, made, declarator_entries, declarator_onward, declarators_onward}
-use Rattle.simulation.proofs.Steps.{Store, with_slots, at, pushed, Leads, stays, one, leads_on, Meets, gives, acts, push, store_top}
-use Rattle.simulation.proofs.Stores.{kept_slots}
+use Rattle.simulation.proofs.Static.{entry, made, declarator_entries, declarator_onward}
+use Rattle.simulation.proofs.Steps.{Store}
 
 pub means_scalar : (o : Owner) (xs : List ℕ) (slot : ℕ) → meaning_in o xs (scalar_entity o slot) ≡ what.Scalar slot
 means_scalar owner.OfFunction xs slot = refl

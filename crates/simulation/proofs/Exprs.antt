@@ -1,5 +1,5 @@
 -- The code of an expression does what its value says.
-use Rattle.std.proofs.Common.{◌≡◌, ℕ, suc, ◌+◌, ◌==◌, Bool, true, false, not, if◌then◌else◌, List, [], ◌∷◌, ◌++◌, length, Option, Some, None, Ok, Err, ℤ, pos, negsuc, refl, sym, ap, ◌∙◌, subst, inl, inr, arith, eqb-true}
+use Rattle.std.proofs.Common.{◌≡◌, ℕ, suc, ◌+◌, ◌==◌, Bool, true, false, not, if◌then◌else◌, List, [], ◌∷◌, ◌++◌, length, Option, Some, None, Ok, ℤ, pos, refl, sym, ap, ◌∙◌, subst, inl, inr, eqb-true}
 use Rattle.c_int.specs.Operators.{is_zero, truth}
 use Rattle.c_int.specs.declared.operators.Binary as int_binary
 use Rattle.c_int.specs.declared.operators.Unary.TheVariants as int_unary
@@ -14,8 +14,7 @@ use Rattle.cddf_meaning.specs.declared.variable.Variable.TheVariants.{Function}
 use Rattle.cddf_meaning.specs.declared.variable.Variable.TheVariants as variable_of
 use Rattle.os_ast.specs.Names.{Scope}
 use Rattle.os_ast.specs.Notes.Expressions.{count_args, args_notes, expr_notes, place_notes, links_notes}
-use Rattle.os_ast.specs.Notes.Kinds.{Note, Used}
-use Rattle.os_ast.specs.Rules.{is_wrong_kind, is_function, has_other_count}
+use Rattle.os_ast.specs.Rules.{is_wrong_kind, has_other_count}
 use Rattle.os_ast.specs.Trees as tree
 use Rattle.os_ast.specs.declared.expr.Binary.{Binary}
 use Rattle.os_ast.specs.declared.expr.Binary.TheVariants as binary
@@ -36,9 +35,9 @@ use Rattle.os_code.specs.Parts.{instr_at}
 use Rattle.simulation.specs.Alignment.{Holds, Aligned}
 use Rattle.simulation.specs.Expressions.{Stands, operation_of, operation, HasUnary, operated, worked_out, HasLink, HasExpr, HasPlace, HasLinks, HasArgs}
 use Rattle.simulation.specs.Names.{reading, reading_at, calling}
-use Rattle.simulation.proofs.Context.{HasItem, Kept, FileHas, Context, means, tells, Agree, agree_first, agree_rest, In, IsUsed, used, Named, name, IsCallable}
+use Rattle.simulation.proofs.Context.{HasItem, Kept, Context, means, tells, Agree, agree_first, agree_rest, In, used, Named, name, IsCallable}
 use Rattle.simulation.proofs.Names.{means_function, reads, reads_at}
-use Rattle.simulation.proofs.Steps.{Store, at, Behind, pushed, onto, pushed_all, Leads, stays, leads_on, Meets, gives, halts, meets_from, meets_then, push, drop_top, jump, jump_zero, unary_step, binary_step}
+use Rattle.simulation.proofs.Steps.{Store, at, pushed, onto, pushed_all, Leads, stays, leads_on, Meets, gives, halts, meets_then, push, drop_top, jump, jump_zero, unary_step, binary_step}
 
 -- a state of the machine beside one of the meaning, in a scope of the body
 pub record Ready (c : Context) (s : Scope) (es : List Entry) (st : State) (m : Store) : Type 0 where

@@ -1,16 +1,15 @@
 -- What stands before `main` in the file is known to it, and its calls do what their functions do.
-use Rattle.std.proofs.Common.{◌≡◌, ℕ, zero, suc, ◌+◌, ◌<◌, ◌≤◌, ◌==◌, Bool, true, false, if◌then◌else◌, List, [], ◌∷◌, ◌++◌, length, Option, Some, None, ℤ, refl, sym, ap, ◌∙◌, subst, arith, eq-eqb, eqb-true}
+use Rattle.std.proofs.Common.{◌≡◌, ℕ, suc, ◌+◌, ◌<◌, ◌≤◌, ◌==◌, Bool, true, false, if◌then◌else◌, List, [], ◌∷◌, ◌++◌, length, Option, Some, ℤ, refl, sym, ap, ◌∙◌, subst, arith, eq-eqb, eqb-true}
 use Rattle.std.specs.Prelude.{⊤}
-use Rattle.cddf_meaning.specs.Answers.{Answer, Left, over}
 use Rattle.cddf_meaning.specs.File.{File}
-use Rattle.cddf_meaning.specs.Functions.{call_function, item_id, item_variable, calls_with, with_item, empty_file}
-use Rattle.cddf_meaning.specs.Moves.{Falls, CallsFall}
+use Rattle.cddf_meaning.specs.Functions.{call_function, with_item, empty_file}
+use Rattle.cddf_meaning.specs.Moves.{CallsFall}
 use Rattle.cddf_meaning.specs.Program.{Main, main_at, main_behind}
 use Rattle.cddf_meaning.specs.Variables.{bind, find}
 use Rattle.cddf_meaning.specs.declared.variable.Variable.{Variable}
 use Rattle.cddf_meaning.specs.declared.variable.Variable.TheVariants as variable
 use Rattle.cddf_meaning.proofs.Files.{item-falls}
-use Rattle.os_ast.specs.Leveled.{AreAll, nil, cons, IsItem, AreStmts}
+use Rattle.os_ast.specs.Leveled.{AreAll, cons, IsItem, AreStmts}
 use Rattle.os_ast.specs.Names.{Scope, lookup, entity_of, enter, in_unit, main_id, constant_value}
 use Rattle.os_ast.specs.Notes.Kinds.{Note, Global}
 use Rattle.os_ast.specs.Notes.Programs.{owner_of, param_names, round_body, after_params, params_notes, after_item, after_function, item_notes, items_notes, in_body}
@@ -25,18 +24,15 @@ use Rattle.os_ast.specs.declared.names.Entry.{Entry}
 use Rattle.os_ast.specs.declared.names.Owner.{Owner}
 use Rattle.os_ast.specs.declared.names.Owner.TheVariants as owner
 use Rattle.os_ast.specs.declared.names.Resolved.{Resolved}
-use Rattle.os_code.specs.declared.instr.Instr.TheVariants as instr
 use Rattle.os_code.specs.declared.parts.Parts.{Parts}
-use Rattle.os_code.specs.Machine.{Frame}
-use Rattle.os_code.specs.Parts.{instr_at}
 use Rattle.simulation.specs.Names.{told_at}
 use Rattle.simulation.specs.Programs.{size_by, HasFunction, HasMain, HasUnit, HasFunctions}
 use Rattle.simulation.specs.Tasks.{TaskTree, all_tasks_of, program_tasks}
 use Rattle.simulation.proofs.Context.{Context, Agree, IsCallable}
-use Rattle.simulation.proofs.Functions.{params_slots, Known, FileFits, function_context, IsFunctionCode, function_runs}
+use Rattle.simulation.proofs.Functions.{params_slots, Known, FileFits, function_context, function_runs}
 use Rattle.simulation.proofs.NoTasks.{IsOther, captures_both, none_both, none_stmts}
 use Rattle.simulation.proofs.Sizes.{stmts_sizes}
-use Rattle.simulation.proofs.Steps.{Store, at, pushed, onto, Meets}
+use Rattle.simulation.proofs.Steps.{at, pushed, onto, Meets}
 use Rattle.window_check.specs.Order.{InOrder}
 use Rattle.window_check.specs.Sums.{stmts_slots}
 use Rattle.window_check.specs.Told.{Tells, AreLawful}

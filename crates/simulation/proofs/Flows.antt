@@ -1,6 +1,5 @@
 -- Statements one after another, in loops and in scopes of their own.
-use Rattle.std.proofs.Common.{◌≡◌, ℕ, zero, suc, ◌+◌, ◌≤◌, Bool, true, false, if◌then◌else◌, List, [], ◌∷◌, ◌++◌, length, Option, Some, None, Ok, Err, ℤ, refl, sym, ap, ◌∙◌, subst, arith, append_assoc}
-use Rattle.std.specs.Prelude.{⊤}
+use Rattle.std.proofs.Common.{◌≡◌, ℕ, zero, suc, ◌+◌, ◌≤◌, Bool, true, false, if◌then◌else◌, List, ◌∷◌, ◌++◌, length, Some, Ok, ℤ, refl, sym, ap, ◌∙◌, subst, arith, append_assoc}
 use Rattle.c_int.specs.Operators.{is_zero}
 use Rattle.cddf_meaning.specs.Answers.{Answer, Left}
 use Rattle.cddf_meaning.specs.Flow.{Ran, Went, Ended, Runs, given, goes_on, flows, loops, left_state, left_from}
@@ -9,7 +8,6 @@ use Rattle.cddf_meaning.specs.Run.{loop}
 use Rattle.cddf_meaning.specs.State.{State}
 use Rattle.cddf_meaning.specs.Variables.{leave}
 use Rattle.cddf_meaning.specs.declared.ending.Ending.{Ending}
-use Rattle.cddf_meaning.specs.declared.ending.Ending.TheVariants as ending
 use Rattle.cddf_meaning.specs.declared.flow.Flow.{Flow}
 use Rattle.cddf_meaning.specs.declared.flow.Flow.TheVariants.{GoesOn, Breaks, Continues, Returns}
 use Rattle.cddf_meaning.specs.declared.variable.Binding.{Binding}
@@ -24,7 +22,7 @@ use Rattle.os_code.specs.Parts.{instr_at}
 use Rattle.simulation.specs.Alignment.{Aligned}
 use Rattle.simulation.proofs.Alignment.{left}
 use Rattle.simulation.proofs.Context.{Side, InFunction, InTask, InMain, HasItem, Kept, Made, Context, means}
-use Rattle.simulation.proofs.Steps.{Store, at, Behind, Leads, stays, leads_on, Stops, stops_from, Meets, gives, halts, meets_from, takes_turn, no_turn, jump}
+use Rattle.simulation.proofs.Steps.{Store, at, Behind, Leads, stays, leads_on, Stops, stops_from, Meets, gives, halts, takes_turn, no_turn, jump}
 
 -- where the machine stands behind a statement, by what is known of it
 pub record After : Type 1 where

@@ -1,38 +1,31 @@
 -- The code of a function does what a call of it gives.
-use Rattle.std.proofs.Common.{◌≡◌, ℕ, zero, suc, ◌+◌, ◌-◌, ◌<◌, ◌≤◌, ◌==◌, Bool, true, false, if◌then◌else◌, List, [], ◌∷◌, ◌++◌, length, take, drop, reverse, replicate, Option, Some, None, Ok, Err, slice_get, ℤ, pos, refl, sym, ap, ◌∙◌, subst, inl, inr, arith, append_assoc, length-append, eq-eqb}
+use Rattle.std.proofs.Common.{◌≡◌, ℕ, zero, suc, ◌+◌, ◌-◌, ◌<◌, ◌≤◌, true, if◌then◌else◌, List, [], ◌∷◌, ◌++◌, length, take, drop, reverse, replicate, Option, Some, ℤ, pos, refl, sym, ap, ◌∙◌, subst, inr, arith, append_assoc, length-append}
 use Rattle.std.proofs.lemmas.Bool.{le-leb}
 use Rattle.std.proofs.lemmas.Grind.{reverse_onto}
 use Rattle.std.proofs.lemmas.List.{length-reverse, length-replicate, reverse-reverse, take-append-le, drop-append-le, take_all, drop_all, get_or_append_left}
-use Rattle.std.specs.Prelude.{⊤, ◌⊎◌, nat_le}
-use Rattle.cddf_meaning.specs.Answers.{Answer, Left, left}
+use Rattle.std.specs.Prelude.{⊤, nat_le}
+use Rattle.cddf_meaning.specs.Answers.{left}
 use Rattle.cddf_meaning.specs.File.{File}
-use Rattle.cddf_meaning.specs.Flow.{Ran, Went, Ended}
-use Rattle.cddf_meaning.specs.Functions.{result_of, returned, bind_params, in_function, call_function, item_variable, calls_with, with_item}
+use Rattle.cddf_meaning.specs.Flow.{Ran}
+use Rattle.cddf_meaning.specs.Functions.{returned, bind_params, call_function}
 use Rattle.cddf_meaning.specs.Moves.{CallsFall}
-use Rattle.cddf_meaning.specs.Run.{run_all}
-use Rattle.cddf_meaning.specs.State.{State, state_of}
+use Rattle.cddf_meaning.specs.State.{state_of}
 use Rattle.cddf_meaning.specs.Variables.{bind, find}
-use Rattle.cddf_meaning.specs.declared.ending.Ending.{Ending}
-use Rattle.cddf_meaning.specs.declared.ending.Ending.TheVariants as ending
-use Rattle.cddf_meaning.specs.declared.flow.Flow.{Flow}
 use Rattle.cddf_meaning.specs.declared.flow.Flow.TheVariants.{GoesOn, Breaks, Continues, Returns}
 use Rattle.cddf_meaning.specs.declared.variable.Binding.{Binding}
 use Rattle.cddf_meaning.specs.declared.variable.Variable.{Variable}
 use Rattle.cddf_meaning.specs.declared.variable.Variable.TheVariants as variable
 use Rattle.os_ast.specs.Leveled.{AreStmts}
 use Rattle.os_ast.specs.Meanings.{meaning_in}
-use Rattle.os_ast.specs.Names.{Scope, lookup, entity_of, enter, in_unit}
+use Rattle.os_ast.specs.Names.{Scope, lookup, entity_of}
 use Rattle.os_ast.specs.Notes.Declarators.{scalar_entity}
-use Rattle.os_ast.specs.Notes.Kinds.{Note}
-use Rattle.os_ast.specs.Notes.Programs.{owner_of, param_names, round_body, after_param, after_params}
-use Rattle.os_ast.specs.Notes.Programs as programs
+use Rattle.os_ast.specs.Notes.Programs.{param_names, after_param, after_params}
 use Rattle.os_ast.specs.Notes.Statements.{after_stmts, stmts_notes}
 use Rattle.os_ast.specs.Trees as tree
 use Rattle.os_ast.specs.declared.expr.Name.{Name}
 use Rattle.os_ast.specs.declared.names.Entity.{Entity}
 use Rattle.os_ast.specs.declared.names.Entity.TheVariants as entity
 use Rattle.os_ast.specs.declared.names.Entry.{Entry}
-use Rattle.os_ast.specs.declared.names.Owner.{Owner}
 use Rattle.os_ast.specs.declared.names.Owner.TheVariants as owner
 use Rattle.os_ast.specs.declared.names.Resolved.{Resolved}
 use Rattle.os_ast.specs.declared.names.What.TheVariants as what
@@ -47,12 +40,11 @@ use Rattle.simulation.specs.Expressions.{Stands}
 use Rattle.simulation.specs.Names.{told_at}
 use Rattle.simulation.specs.Statements.{HasStmts}
 use Rattle.simulation.proofs.Alignment.{stacked_scalar}
-use Rattle.simulation.proofs.Context.{InFunction, HasItem, Kept, Context, means, tells, Agree, In, FileHas, IsCallable, Reaches}
+use Rattle.simulation.proofs.Context.{InFunction, HasItem, Kept, Context, means, Agree, In, FileHas, IsCallable}
 use Rattle.simulation.proofs.Declares.{means_scalar}
-use Rattle.simulation.proofs.Exprs.{Ready}
-use Rattle.simulation.proofs.Flows.{After, Does, went, ended, settled, around, AlignedIn}
+use Rattle.simulation.proofs.Flows.{Does, went, ended, settled, around}
 use Rattle.simulation.proofs.Static.{made_all}
-use Rattle.simulation.proofs.Steps.{Store, with_slots, at, pushed, onto, Leads, stays, one, leads_on, Stops, stops_from, Meets, gives, halts, meets_from, acts, push, takes_turn, no_turn}
+use Rattle.simulation.proofs.Steps.{Store, with_slots, at, pushed, onto, Leads, one, leads_on, Stops, Meets, gives, halts, meets_from, acts, push, takes_turn, no_turn}
 use Rattle.simulation.proofs.Stmts.{stmts_does}
 use Rattle.window_check.specs.Order.{InOrder}
 

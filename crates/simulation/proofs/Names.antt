@@ -1,17 +1,17 @@
 -- The instructions that read a name give what it stands for.
-use Rattle.std.proofs.Common.{◌≡◌, ℕ, zero, suc, ◌+◌, ◌<◌, ◌≤◌, Bool, true, false, if◌then◌else◌, List, [], ◌∷◌, ◌++◌, length, map, get_or, Option, Some, None, Ok, Err, ltb, ℤ, pos, negsuc, refl, sym, ap, ◌∙◌, subst, inl, inr, arith}
+use Rattle.std.proofs.Common.{◌≡◌, ℕ, zero, suc, ◌+◌, ◌<◌, ◌≤◌, Bool, true, false, if◌then◌else◌, List, [], ◌∷◌, length, map, get_or, Option, Some, None, Ok, ltb, ℤ, pos, refl, sym, ap, ◌∙◌, subst, inl, inr, arith}
 use Rattle.std.proofs.lemmas.Bool.{lt-ltb}
 use Rattle.std.proofs.lemmas.List.{length-map}
-use Rattle.std.specs.Prelude.{◌⊎◌, slice_get, slice_index_or, nat_lt}
-use Rattle.cddf_meaning.specs.Answers.{Answer, and_then, Left, left, with_turns}
-use Rattle.cddf_meaning.specs.File.{File, variable, or_in_file}
+use Rattle.std.specs.Prelude.{slice_get, slice_index_or}
+use Rattle.cddf_meaning.specs.Answers.{Answer, left, with_turns}
+use Rattle.cddf_meaning.specs.File.{variable, or_in_file}
 use Rattle.cddf_meaning.specs.State.{State, item_elements}
 use Rattle.cddf_meaning.specs.Value.{scalar_value, elements, checked, element_at}
 use Rattle.cddf_meaning.specs.Variables.{find}
 use Rattle.cddf_meaning.specs.declared.variable.Variable.{Variable}
 use Rattle.cddf_meaning.specs.declared.variable.Variable.TheVariants.{Constant, Function, Scalar, Array, Window, Stream, Item}
 use Rattle.flow_core.specs.declared.activation.Activation.{Activation}
-use Rattle.os_ast.specs.Meanings.{meaning, meaning_in}
+use Rattle.os_ast.specs.Meanings.{meaning_in}
 use Rattle.os_ast.specs.declared.expr.Name.{Name}
 use Rattle.os_ast.specs.declared.names.Entity.{Entity}
 use Rattle.os_ast.specs.declared.names.Entity.TheVariants as entity
@@ -30,7 +30,7 @@ use Rattle.simulation.specs.Alignment.{Holds, slot_at}
 use Rattle.simulation.specs.Expressions.{Stands}
 use Rattle.simulation.specs.Names.{reading, reading_at, checking_at}
 use Rattle.simulation.proofs.Context.{Side, InFunction, InTask, InMain, HasItem, Windows, Kept, FileHas, Context, means, Named}
-use Rattle.simulation.proofs.Steps.{Store, at, pushed, Behind, Leads, stays, one, leads_on, Meets, gives, halts, meets_in, meets_then, checked_index, checks, acts, push, load}
+use Rattle.simulation.proofs.Steps.{Store, at, pushed, Leads, stays, one, leads_on, Meets, gives, halts, meets_in, meets_then, checked_index, checks, acts, push, load}
 
 -- What declarations mean that mean the same in every body.
 pub means_constant : (o : Owner) (xs : List ℕ) (v : ℤ) → meaning_in o xs (entity.Constant v) ≡ what.Constant v

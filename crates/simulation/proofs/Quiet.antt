@@ -1,6 +1,6 @@
 -- A quiet expression gives a number, and takes no turns.
-use Rattle.std.proofs.Common.{◌≡◌, ℕ, ◌&&◌, Bool, true, false, not, if◌then◌else◌, List, Ok, ℤ, pos, refl, sym, ap, ◌∙◌, subst}
-use Rattle.c_int.specs.Operators.{is_zero, truth}
+use Rattle.std.proofs.Common.{◌≡◌, ℕ, ◌&&◌, Bool, true, false, if◌then◌else◌, Ok, ℤ, pos, refl, ap, ◌∙◌}
+use Rattle.c_int.specs.Operators.{is_zero}
 use Rattle.cddf_meaning.specs.Answers.{Answer, and_then, Left, left, with_turns}
 use Rattle.cddf_meaning.specs.File.{File, variable}
 use Rattle.cddf_meaning.specs.Operators.{binary_value, unary_value}

@@ -1,12 +1,12 @@
 -- The sizes of arrays, by the names that are told.
-use Rattle.std.proofs.Common.{◌≡◌, ℕ, ◌&&◌, ◌||◌, Bool, true, false, not, if◌then◌else◌, List, [], ◌∷◌, ◌++◌, Option, Some, None, ℤ, pos, refl, sym, ap, ◌∙◌, subst}
-use Rattle.std.specs.Prelude.{⊤, unwrap_or, Contains}
+use Rattle.std.proofs.Common.{◌≡◌, ℕ, ◌&&◌, Bool, true, false, not, if◌then◌else◌, List, [], ◌∷◌, ◌++◌, Option, Some, None, ℤ, pos, refl, sym, ap, ◌∙◌, subst}
+use Rattle.std.specs.Prelude.{unwrap_or}
 use Rattle.os_ast.specs.Captured.{captured}
 use Rattle.os_ast.specs.Limits.{is_size}
-use Rattle.os_ast.specs.Meanings.{meaning_in, resolved}
+use Rattle.os_ast.specs.Meanings.{meaning_in}
 use Rattle.os_ast.specs.Names.{Scope, lookup, entity_of, enter, in_loop}
-use Rattle.os_ast.specs.Notes.Clauses.{in_task_body, part_notes, parts_notes, window_notes, clauses_notes}
-use Rattle.os_ast.specs.Notes.Declarators.{within_limit, limited, constant_of, size_value, size_of, size_told, form, form_with, sized_form, is_window, after_declarator, declarator_notes, after_declarators, declarators_notes, size_notes, sized_notes, after_start, start_notes}
+use Rattle.os_ast.specs.Notes.Clauses.{in_task_body, parts_notes, window_notes, clauses_notes}
+use Rattle.os_ast.specs.Notes.Declarators.{limited, constant_of, size_value, size_of, size_told, form, form_with, is_window, after_declarator, declarator_notes, declarators_notes, size_notes, sized_notes, after_start, start_notes}
 use Rattle.os_ast.specs.Notes.Expressions.{expr_notes, place_notes, args_notes, links_notes, value_notes, index_notes, change_notes, step_notes}
 use Rattle.os_ast.specs.Notes.Kinds.{Note, Used, Sized, Declared, Given, Global, Left, Returned, Pragma, Task, Listed}
 use Rattle.os_ast.specs.Notes.Statements.{after_stmt, stmt_notes, stmts_notes}
@@ -14,7 +14,6 @@ use Rattle.os_ast.specs.Parts.{Part, Item, Private, parts, part_name, count_item
 use Rattle.os_ast.specs.Rules.{has_no_size, has_too_many}
 use Rattle.os_ast.specs.Trees as tree
 use Rattle.os_ast.specs.Violations.{constant_meaning}
-use Rattle.os_ast.specs.declared.expr.Mark.{Mark}
 use Rattle.os_ast.specs.declared.expr.Name.{Name}
 use Rattle.os_ast.specs.declared.names.Entity.{Entity}
 use Rattle.os_ast.specs.declared.names.Entity.TheVariants as entity
@@ -226,9 +225,10 @@ module _ (rs : List Resolved) (ordered : InOrder rs) where
   declarators_sizes [] s lawful tells = tt
   declarators_sizes (d ∷ ds) s lawful tells =
       let more = declarators_notes (after_declarator s d) ds in
-      sizes_both size (declarator_notes s d) more
-      (declarator_size s d (lawful-first (declarator_notes s d) more lawful) (tells-first rs (declarator_notes s d) more tells),
-      sizes_both size (sized_notes s d.stream d.size) (value_notes (after_declarator s d) d.first) (declared_sizes size s d.stream d.size) (value_sizes size d.first (after_declarator s d)))
+      sizes_both size (declarator_notes s d) more (
+        declarator_size s d (lawful-first (declarator_notes s d) more lawful) (tells-first rs (declarator_notes s d) more tells),
+        sizes_both size (sized_notes s d.stream d.size) (value_notes (after_declarator s d) d.first) (declared_sizes size s d.stream d.size) (value_sizes size d.first (after_declarator s d)),
+      )
       (declarators_sizes ds (after_declarator s d) (lawful-rest (declarator_notes s d) more lawful) (tells-rest rs (declarator_notes s d) more tells))
 
   start_sizes : (t : tree.StartTree) (s : Scope) → AreLawful (start_notes s t) → Tells rs (start_notes s t) → HasSizes size (start_notes s t)

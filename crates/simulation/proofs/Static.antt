@@ -1,6 +1,6 @@
 -- What a statement does to the scope of the text.
 use Rattle.std.proofs.Common.{◌≡◌, ◌≤◌, List, [], ◌∷◌, ◌++◌, refl, sym, ap, ◌∙◌, arith, append_assoc}
-use Rattle.os_ast.specs.Leveled.{IsStmt, AreStmts}
+use Rattle.os_ast.specs.Leveled.{IsStmt}
 use Rattle.os_ast.specs.Names.{Scope, enter, in_loop}
 use Rattle.os_ast.specs.Notes.Declarators.{after_declarator, after_declarators, after_start, taken, form, declared_entity}
 use Rattle.os_ast.specs.Notes.Statements.{after_stmt, after_stmts}
@@ -9,7 +9,6 @@ use Rattle.os_ast.specs.declared.names.Entry.{Entry}
 use Rattle.os_ast.specs.declared.names.Form.{Form}
 use Rattle.os_ast.specs.declared.names.Form.TheVariants as form_of
 use Rattle.simulation.proofs.Flows.{Extends}
-use Rattle.window_check.proofs.Summed.{stays_in}
 
 -- the same body, with no fewer slots taken
 pub record Onward (s t : Scope) : Type 0 where

@@ -1,6 +1,6 @@
 -- Runs of the machine that follow an answer of the meaning.
-use Rattle.std.proofs.Common.{◌≡◌, ℕ, zero, suc, ◌+◌, ◌<◌, arith, Bool, true, false, if◌then◌else◌, List, [], ◌∷◌, length, Option, Some, None, Ok, Err, Result, ltb, ℤ, pos, negsuc, refl, sym, ap, ◌∙◌, subst}
-use Rattle.std.specs.Prelude.{slice_set, slice_index_or, slice_get}
+use Rattle.std.proofs.Common.{◌≡◌, ℕ, suc, ◌+◌, ◌<◌, arith, Bool, true, false, if◌then◌else◌, List, [], ◌∷◌, length, Some, None, Ok, Err, Result, ltb, ℤ, pos, negsuc, refl, sym, ap, ◌∙◌, subst}
+use Rattle.std.specs.Prelude.{slice_set, slice_index_or}
 use Rattle.c_int.specs.Operators.{is_zero, trap_code}
 use Rattle.c_int.specs.Operators as c_int
 use Rattle.c_int.specs.declared.operators.Binary as int_binary
@@ -14,7 +14,7 @@ use Rattle.flow_core.specs.declared.activation.Activation.{Activation}
 use Rattle.os_code.specs.declared.instr.Instr.{Instr}
 use Rattle.os_code.specs.declared.instr.Instr.TheVariants as instr
 use Rattle.os_code.specs.declared.parts.Parts.{Parts}
-use Rattle.os_code.specs.Machine.{Frame, TaskWindow, State, Halt, Trapped, OverBudget, Limited, Progress, Going, Halted, or_trap, or_its_trap, below, act, step, Runs, Halts, GoesOn}
+use Rattle.os_code.specs.Machine.{Frame, TaskWindow, State, Halt, Trapped, OverBudget, Limited, Going, Halted, or_trap, or_its_trap, below, act, step, Runs, Halts, GoesOn}
 use Rattle.os_code.specs.Parts.{instr_at}
 
 -- what a machine's state holds beside its place, operands, callers and turns

@@ -1,10 +1,9 @@
 -- The code of statements does what they do.
-use Rattle.std.proofs.Common.{◌≡◌, ℕ, ◌+◌, ◌≤◌, Bool, true, false, not, if◌then◌else◌, List, [], ◌∷◌, ◌++◌, length, Option, Some, None, Ok, ℤ, pos, refl, sym, ap, ◌∙◌, subst, arith}
+use Rattle.std.proofs.Common.{◌≡◌, ℕ, ◌+◌, ◌≤◌, false, not, if◌then◌else◌, List, [], ◌∷◌, ◌++◌, length, Option, Some, None, ℤ, refl, sym, ◌∙◌, subst, arith}
 use Rattle.c_int.specs.Operators.{is_zero}
-use Rattle.cddf_meaning.specs.Answers.{Answer, Left, and_then, left}
-use Rattle.cddf_meaning.specs.Flow.{Ran, Went, Runs, given, goes_on, flows, left_from}
+use Rattle.cddf_meaning.specs.Flow.{Ran, Went, goes_on}
 use Rattle.cddf_meaning.specs.Moves.{Falls, Keeps}
-use Rattle.cddf_meaning.specs.Run.{Around, loop, run_declarators, run_change, run_start, run_test, run_step, run, run_all}
+use Rattle.cddf_meaning.specs.Run.{loop, run_change, run_start, run_test, run_step, run, run_all}
 use Rattle.cddf_meaning.specs.State.{State}
 use Rattle.cddf_meaning.specs.Value.{value}
 use Rattle.cddf_meaning.specs.declared.flow.Flow.TheVariants.{GoesOn, Breaks, Continues, Returns}
@@ -15,8 +14,8 @@ use Rattle.os_ast.specs.Leveled.{IsStmt, AreStmts}
 use Rattle.os_ast.specs.Names.{Scope, enter, in_loop}
 use Rattle.os_ast.specs.Notes.Clauses.{in_task_body, parts_notes, clauses_notes}
 use Rattle.os_ast.specs.Notes.Declarators.{after_declarators, declarators_notes, after_start, start_notes}
-use Rattle.os_ast.specs.Notes.Expressions.{count_args, args_notes, expr_notes, value_notes, change_notes, step_notes, place_notes}
-use Rattle.os_ast.specs.Notes.Kinds.{Note, Task}
+use Rattle.os_ast.specs.Notes.Expressions.{expr_notes, value_notes, change_notes, step_notes}
+use Rattle.os_ast.specs.Notes.Kinds.{Task}
 use Rattle.os_ast.specs.Notes.Statements.{after_stmt, after_stmts, stmt_notes, stmts_notes}
 use Rattle.os_ast.specs.Parts.{parts, count_items}
 use Rattle.os_ast.specs.Captured.{captured}
@@ -31,23 +30,22 @@ use Rattle.os_code.specs.declared.instr.Instr.TheVariants as instr
 use Rattle.os_code.specs.declared.parts.Parts.{Parts}
 use Rattle.os_code.specs.Machine as machine
 use Rattle.os_code.specs.Machine.{Frame}
-use Rattle.os_code.specs.Parts.{instr_at}
 use Rattle.simulation.specs.Alignment.{Stacked}
 use Rattle.simulation.specs.Changes.{HasChange}
 use Rattle.simulation.specs.Declarators.{HasStart}
 use Rattle.simulation.specs.Expressions.{Stands}
-use Rattle.simulation.specs.Statements.{Body, Ends, by_itself, by_jump, HasTest, HasRound, HasLoop, HasStmt, HasStmts}
+use Rattle.simulation.specs.Statements.{Body, Ends, by_itself, by_jump, HasLoop, HasStmt, HasStmts}
 use Rattle.simulation.specs.Tasks.{TaskTree}
 use Rattle.simulation.proofs.Alignment.{stacked_more}
 use Rattle.simulation.proofs.Changes.{change_does}
 use Rattle.simulation.proofs.Conditions.{cond_runs, test_runs}
 use Rattle.simulation.proofs.Context.{HasItem, Kept, Context, means, tells, Agree, agree_first, agree_rest, In}
 use Rattle.simulation.proofs.Declarators.{around_of, DeclaratorDoes, declarators_does}
-use Rattle.simulation.proofs.Declares.{not_false, declarators_in, declarators_stacked}
+use Rattle.simulation.proofs.Declares.{declarators_in, declarators_stacked}
 use Rattle.simulation.proofs.Exprs.{Ready, expr_runs}
-use Rattle.simulation.proofs.Flows.{After, Does, went, ended, does_from, given_does, exactly, Extends, around, settled, AlignedIn, DoesFrom, went_on, flows_does, scope_does, jumped, branch_does, loop_does}
-use Rattle.simulation.proofs.Static.{Onward, here, declarators_onward, start_onward, stmt_onward, stmts_onward, made, made_first, made_by, made_all, none_made, first_extends, all_extend, extends_more, made_extends}
-use Rattle.simulation.proofs.Steps.{Store, at, pushed, Leads, stays, drop_top, jump}
+use Rattle.simulation.proofs.Flows.{After, Does, went, ended, given_does, exactly, Extends, around, settled, AlignedIn, DoesFrom, went_on, flows_does, scope_does, jumped, branch_does, loop_does}
+use Rattle.simulation.proofs.Static.{Onward, stmt_onward, stmts_onward, made, made_first, made_all, none_made, first_extends, all_extend, extends_more, made_extends}
+use Rattle.simulation.proofs.Steps.{Store, at, Leads, stays, drop_top, jump}
 use Rattle.window_check.proofs.Summed.{stays_in}
 
 -- what stands behind the first statement of a block

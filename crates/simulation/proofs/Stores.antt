@@ -1,9 +1,9 @@
 -- The instructions that set a name store what the change says.
-use Rattle.std.proofs.Common.{◌≡◌, ℕ, zero, suc, ◌+◌, ◌<◌, ◌≤◌, Bool, true, false, if◌then◌else◌, List, [], ◌∷◌, ◌++◌, length, map, get_or, set, Option, Some, None, Ok, Err, ltb, ℤ, pos, negsuc, refl, sym, ap, ◌∙◌, subst, inl, inr, arith, length-set}
+use Rattle.std.proofs.Common.{◌≡◌, ℕ, zero, suc, ◌+◌, ◌<◌, ◌≤◌, if◌then◌else◌, List, [], ◌∷◌, ◌++◌, length, map, get_or, set, Option, Some, None, Ok, ℤ, pos, refl, sym, ap, ◌∙◌, subst, inl, inr, arith, length-set}
 use Rattle.std.proofs.lemmas.Bool.{lt-ltb}
-use Rattle.std.specs.Prelude.{◌⊎◌, slice_get, slice_index_or, slice_set}
-use Rattle.cddf_meaning.specs.Answers.{Answer, traps, and_then, Left, left}
-use Rattle.cddf_meaning.specs.Flow.{Ran, given, goes_on}
+use Rattle.std.specs.Prelude.{slice_get, slice_set}
+use Rattle.cddf_meaning.specs.Answers.{traps}
+use Rattle.cddf_meaning.specs.Flow.{given, goes_on}
 use Rattle.cddf_meaning.specs.State.{State, item_elements, with_element, stored_in, stored, stored_in_at, stored_at}
 use Rattle.cddf_meaning.specs.Value.{elements, checked}
 use Rattle.cddf_meaning.specs.Variables.{find, assign}
@@ -18,17 +18,15 @@ use Rattle.os_ast.specs.declared.names.What.{What}
 use Rattle.os_ast.specs.declared.names.What.TheVariants as what
 use Rattle.os_code.specs.declared.instr.Instr.{Instr}
 use Rattle.os_code.specs.declared.instr.Instr.TheVariants as instr
-use Rattle.os_code.specs.declared.parts.Parts.{Parts}
-use Rattle.os_code.specs.Machine as machine
 use Rattle.os_code.specs.Machine.{Frame, TaskWindow, Going, or_stuck, or_trap, below, act, step}
 use Rattle.os_code.specs.Parts.{instr_at}
-use Rattle.simulation.specs.Alignment.{Stacked, slot_at, Holds, Aligned}
+use Rattle.simulation.specs.Alignment.{Stacked, slot_at, Holds}
 use Rattle.simulation.specs.Names.{storing, storing_at}
 use Rattle.simulation.proofs.Alignment.{set_scalar, set_element}
 use Rattle.simulation.proofs.Context.{Side, InFunction, InTask, InMain, HasItem, Windows, Kept, FileHas, Context, means, Named}
-use Rattle.simulation.proofs.Flows.{After, Does, given_does, settled, AlignedIn, went_on, does_from}
-use Rattle.simulation.proofs.Names.{HasWindow, window_of, file_at}
-use Rattle.simulation.proofs.Steps.{Store, with_slots, at, Behind, checked_index, Leads, stays, one, Meets, gives, halts, checks, acts, drop_top, store_top}
+use Rattle.simulation.proofs.Flows.{Does, given_does, settled, AlignedIn, went_on}
+use Rattle.simulation.proofs.Names.{window_of, file_at}
+use Rattle.simulation.proofs.Steps.{Store, with_slots, at, Leads, stays, checks, acts, drop_top, store_top}
 
 -- what stands below a value that is to be stored
 abbrev pub aimed : What → List ℤ → List ℤ

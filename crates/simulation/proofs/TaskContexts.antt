@@ -1,28 +1,22 @@
 -- A task's body beside the names round it.
-use Rattle.std.proofs.Common.{◌≡◌, ℕ, zero, suc, ◌+◌, ◌<◌, ◌≤◌, ◌==◌, ◌||◌, Bool, true, false, not, if◌then◌else◌, List, [], ◌∷◌, ◌++◌, map, length, get_or, Option, Some, None, ℤ, refl, sym, ap, ◌∙◌, subst, inl, inr, arith, eq-eqb, eqb-true, append_assoc}
+use Rattle.std.proofs.Common.{◌≡◌, ℕ, suc, ◌==◌, ◌||◌, Bool, true, false, if◌then◌else◌, List, [], ◌∷◌, ◌++◌, length, Option, Some, None, ℤ, refl, sym, ap, ◌∙◌, subst, inl, inr, eq-eqb, eqb-true}
 use Rattle.std.specs.Prelude.{⊤, ◌⊎◌}
-use Rattle.cddf_meaning.specs.Body.{bind_captured, bind_items}
 use Rattle.cddf_meaning.specs.File.{File}
 use Rattle.cddf_meaning.specs.Moves.{CallsFall}
 use Rattle.cddf_meaning.specs.Tasks.{Task as MeaningTask}
-use Rattle.cddf_meaning.specs.Variables.{bind, find}
-use Rattle.cddf_meaning.specs.declared.variable.Binding.{Binding}
-use Rattle.cddf_meaning.specs.declared.variable.Variable.TheVariants as variable
+use Rattle.cddf_meaning.specs.Variables.{find}
 use Rattle.flow_core.specs.declared.claim.Claim.{Claim}
-use Rattle.os_ast.specs.Captured.{Scalar, scalars, captured, slots_of}
+use Rattle.os_ast.specs.Captured.{Scalar, captured, slots_of}
 use Rattle.os_ast.specs.FreeNames.{task_names}
-use Rattle.os_ast.specs.Meanings.{meaning_in, meaning_in_task, place_in}
 use Rattle.os_ast.specs.Names.{Scope, lookup, entity_of, declare}
-use Rattle.os_ast.specs.Notes.Clauses.{named_entity, item_entity, with_items, in_task, captured_in, in_task_body}
+use Rattle.os_ast.specs.Notes.Clauses.{item_entity, with_items, in_task, captured_in, in_task_body}
 use Rattle.os_ast.specs.Notes.Kinds.{Note, Used, Sized, Declared, Given, Global, Left, Returned, Pragma, Task, Listed}
 use Rattle.os_ast.specs.Notes.Statements.{stmt_notes}
-use Rattle.os_ast.specs.Parts.{Part, Item, Private, parts, item_name, count_items, is_in, private_ids}
-use Rattle.os_ast.specs.Rules.{UseRule, rules, violates, if_declared, is_wrong_kind, is_changed, is_misplaced_stream, is_misplaced_window}
+use Rattle.os_ast.specs.Parts.{Part, Item, Private, parts, item_name, is_in, private_ids}
+use Rattle.os_ast.specs.Rules.{UseRule, rules, violates, if_declared, is_changed, is_misplaced_stream, is_misplaced_window}
 use Rattle.os_ast.specs.Stacked.{main_extent}
 use Rattle.os_ast.specs.Stacked as text
-use Rattle.os_ast.specs.Trees as tree
 use Rattle.os_ast.specs.declared.expr.Name.{Name}
-use Rattle.os_ast.specs.declared.names.Direction.{Direction}
 use Rattle.os_ast.specs.declared.names.Entity.{Entity}
 use Rattle.os_ast.specs.declared.names.Entity.TheVariants as entity
 use Rattle.os_ast.specs.declared.names.Entry.{Entry}
@@ -31,21 +25,17 @@ use Rattle.os_ast.specs.declared.names.Resolved.{Resolved}
 use Rattle.os_ast.specs.declared.names.Role.TheVariants as role
 use Rattle.os_ast.specs.declared.names.Use.{Use}
 use Rattle.os_ast.specs.declared.names.Use.TheVariants as usage
-use Rattle.os_ast.specs.declared.names.What.{What}
-use Rattle.os_ast.specs.declared.names.What.TheVariants as what
 use Rattle.os_code.specs.declared.parts.Parts.{Parts}
-use Rattle.simulation.specs.Alignment.{Takes, Stacked, slot_at, Aligned}
-use Rattle.simulation.proofs.Capturing.{HasSlot, AreScalars, captured_scalars, one_name, at_place}
-use Rattle.simulation.proofs.Context.{InTask, HasItem, FileHas, Reaches, IsPlain, Context, means, Agree, In, split}
+use Rattle.simulation.proofs.Capturing.{HasSlot, AreScalars, captured_scalars, one_name}
+use Rattle.simulation.proofs.Context.{InTask, Reaches, IsPlain, Context, Agree, In, split}
 use Rattle.simulation.proofs.Functions.{Known, known_has, FileFits}
 use Rattle.simulation.proofs.NoTasks.{items_owner}
-use Rattle.simulation.proofs.TaskTexts.{IsOfMain, AllOfMain, InMain, TaskAt}
-use Rattle.window_check.specs.CapturedByUse.{used_slots, slots_named, Ascends}
+use Rattle.simulation.proofs.TaskTexts.{IsOfMain, AllOfMain, TaskAt}
+use Rattle.window_check.specs.CapturedByUse.{used_slots, slots_named}
 use Rattle.window_check.specs.Order.{InOrder}
 use Rattle.window_check.specs.Slots.{control_slots, named_slots}
 use Rattle.window_check.specs.Sums.{extent_in}
-use Rattle.window_check.specs.Told.{KeepsAll, AreIn, Tells, AreLawful}
-use Rattle.window_check.proofs.Collected.{captured-ascends}
+use Rattle.window_check.specs.Told.{KeepsAll, Tells, AreLawful}
 use Rattle.window_check.proofs.Named.{captured-members}
 
 -- the declarations of items, as they stand within others

@@ -31,7 +31,7 @@ use Rattle.os_ast.specs.declared.names.Owner.TheVariants as owner
 use Rattle.os_code.specs.declared.parts.Parts.{Parts}
 use Rattle.os_code.specs.declared.site.Site.{Site}
 use Rattle.os_code.specs.declared.unit.Unit.{Unit as CodeUnit}
-use Rattle.os_code.specs.Machine.{Halt, Limited, State, Runs}
+use Rattle.os_code.specs.Machine.{Runs}
 use Rattle.os_code.specs.Outcomes as machine
 use Rattle.os_code.specs.Parts.{unit_at, site_at}
 use Rattle.os_code.specs.Tasks.{Fits, TaskOutcome, TaskEnds, task_start}
@@ -39,11 +39,11 @@ use Rattle.os_code.proofs.Halting.{tasks_end, runs_are_one, task_ends_are_one}
 use Rattle.simulation.specs.Laws.{StandsFor}
 use Rattle.simulation.specs.Names.{told_at}
 use Rattle.simulation.specs.Programs.{HasTask}
-use Rattle.simulation.specs.Tasks.{TaskTree, program_tasks, all_tasks_of}
+use Rattle.simulation.specs.Tasks.{program_tasks, all_tasks_of}
 use Rattle.simulation.proofs.Files.{IsOfFile, AllOfFile, AtMain, finds_main, nothing_fits}
 use Rattle.simulation.proofs.Steps.{Stops, halt_of}
 use Rattle.simulation.proofs.TaskRuns.{claims_fit, EndsIn, no_limit, task_does}
-use Rattle.simulation.proofs.TaskTexts.{IsOfMain, AllOfMain, InMain, TaskAt, strip, all_stripped, matched, match_stmts}
+use Rattle.simulation.proofs.TaskTexts.{IsOfMain, InMain, TaskAt, strip, all_stripped, matched, match_stmts}
 use Rattle.window_check.specs.Sums.{extent_in}
 use Rattle.window_check.proofs.Ordered.{names_in_order}
 use Rattle.window_check.proofs.Told.{tells-program, lawful-program}
@@ -126,16 +126,19 @@ module _ (p : tree.ProgramTree) (code : Parts) (a : Activation) (inputs : List �
       no_limit t.ends.site.line n t.ends.halt t.ends.last (machine.task_outcome code a inputs budget) t.ends.ends (sym one.0 ∙ ap halt_of is)
 
   by_main : (m : Main) → main_of p ≡ Some m → Ends (outcome_in (Some m) a inputs budget)
-  by_main m is_main = (e.count, record {
-    site = has.site;
-    unit = has.unit;
-    halt = e.halt;
-    last = e.last;
-    is_site = has.is_site;
-    is_unit = has.is_unit;
-    runs = e.runs;
-    ends = subst (λ line. TaskOutcome line e.halt e.last (outcome_in (Some m) a inputs budget)) (sym has.line) (subst (TaskOutcome there.mark.line e.halt e.last) (sym chosen) e.ends);
-  })
+  by_main m is_main = (
+    e.count,
+    record {
+      site = has.site;
+      unit = has.unit;
+      halt = e.halt;
+      last = e.last;
+      is_site = has.is_site;
+      is_unit = has.is_unit;
+      runs = e.runs;
+      ends = subst (λ line. TaskOutcome line e.halt e.last (outcome_in (Some m) a inputs budget)) (sym has.line) (subst (TaskOutcome there.mark.line e.halt e.last) (sym chosen) e.ends);
+    },
+  )
     where
       at_main : AtMain code (names p) (program_tasks p) programs.file p m
       at_main =

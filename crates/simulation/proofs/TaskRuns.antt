@@ -1,71 +1,54 @@
 -- A task's code ends as its body does.
-use Rattle.std.proofs.Common.{◌≡◌, ℕ, zero, suc, ◌+◌, ◌-◌, ◌<◌, ◌≤◌, ◌==◌, Bool, true, false, if◌then◌else◌, List, [], ◌∷◌, ◌++◌, map, length, replicate, Option, Some, None, slice_get, ℤ, pos, refl, sym, ap, ◌∙◌, subst, arith, length-append}
+use Rattle.std.proofs.Common.{◌≡◌, ℕ, suc, ◌+◌, ◌-◌, ◌≤◌, Bool, true, false, if◌then◌else◌, List, [], ◌∷◌, ◌++◌, map, length, replicate, Some, ℤ, pos, refl, sym, ap, ◌∙◌, subst, arith, length-append}
 use Rattle.std.proofs.lemmas.List.{length-replicate, length-map, get_or_append_left}
-use Rattle.std.proofs.lemmas.Option.{slice_get-map}
 use Rattle.std.specs.List.{list_all, AllZip}
-use Rattle.std.specs.Prelude.{⊤}
 use Rattle.cddf_meaning.specs.Body as meaning
 use Rattle.cddf_meaning.specs.Body.{bound_round, item_lists, outcome, task_outcome, chosen_outcome, outcome_in, body}
 use Rattle.cddf_meaning.specs.File.{File}
-use Rattle.cddf_meaning.specs.Flow.{Ran, Went, Ended}
-use Rattle.cddf_meaning.specs.Functions.{in_function, empty_file, with_item}
+use Rattle.cddf_meaning.specs.Flow.{Ran, Ended}
+use Rattle.cddf_meaning.specs.Functions.{in_function}
 use Rattle.cddf_meaning.specs.Moves.{CallsFall, read_horizons}
-use Rattle.cddf_meaning.specs.Program.{Main, main_at, main_behind, main_of}
 use Rattle.cddf_meaning.specs.Run.{run}
 use Rattle.cddf_meaning.specs.State.{State, state_of}
-use Rattle.cddf_meaning.specs.Tasks.{Task as MeaningTask, task_at, tasks_in_all}
+use Rattle.cddf_meaning.specs.Tasks.{Task as MeaningTask, task_at}
 use Rattle.cddf_meaning.specs.declared.ending.Ending.{Ending}
 use Rattle.cddf_meaning.specs.declared.ending.Ending.TheVariants as ending
-use Rattle.cddf_meaning.specs.declared.flow.Flow.{Flow}
 use Rattle.cddf_meaning.specs.declared.flow.Flow.TheVariants.{GoesOn, Breaks, Continues, Returns}
-use Rattle.flow_core.specs.Outcome.{outcome_of}
 use Rattle.flow_core.specs.declared.activation.Activation.{Activation}
 use Rattle.flow_core.specs.declared.claim.Claim.{Claim}
 use Rattle.flow_core.specs.declared.outcome.Outcome.{Outcome}
-use Rattle.os_ast.specs.Captured.{captured, slots_of}
-use Rattle.os_ast.specs.Names.{Scope, enter, in_unit, main_id}
-use Rattle.os_ast.specs.Notes.Declarators.{scalar_entity}
-use Rattle.os_ast.specs.Notes.Programs.{owner_of, param_names, round_body, after_param, after_params, after_item, in_body}
-use Rattle.os_ast.specs.Notes.Programs as programs
-use Rattle.os_ast.specs.Notes.Statements.{after_stmt, stmt_notes}
+use Rattle.os_ast.specs.Captured.{captured}
+use Rattle.os_ast.specs.Names.{Scope}
+use Rattle.os_ast.specs.Notes.Statements.{after_stmt}
 use Rattle.os_ast.specs.Parts.{Part, Item, Private, parts, count_items}
 use Rattle.os_ast.specs.Stacked.{main_extent, begins, ends}
 use Rattle.os_ast.specs.Stacked as text
-use Rattle.os_ast.specs.Trees as tree
-use Rattle.os_ast.specs.declared.expr.Name.{Name}
-use Rattle.os_ast.specs.declared.names.Entity.{Entity}
-use Rattle.os_ast.specs.declared.names.Entity.TheVariants as entity
 use Rattle.os_ast.specs.declared.names.Entry.{Entry}
-use Rattle.os_ast.specs.declared.names.Owner.{Owner}
 use Rattle.os_ast.specs.declared.names.Owner.TheVariants as owner
 use Rattle.os_ast.specs.declared.names.Resolved.{Resolved}
 use Rattle.os_ast.specs.declared.names.What.{What}
 use Rattle.os_code.specs.declared.instr.Instr.TheVariants as instr
 use Rattle.os_code.specs.declared.parts.Parts.{Parts}
-use Rattle.os_code.specs.declared.site.Site.{Site}
 use Rattle.os_code.specs.declared.site.SiteItem.{SiteItem}
-use Rattle.os_code.specs.declared.unit.Unit.{Unit as CodeUnit}
 use Rattle.os_code.specs.Machine as machine
 use Rattle.os_code.specs.Machine.{Halt, Trapped, OverBudget, Limited, frame_slots, act, step, Runs, Halts}
-use Rattle.os_code.specs.Parts.{instr_at, unit_at, site_at}
+use Rattle.os_code.specs.Parts.{instr_at}
 use Rattle.os_code.specs.Tasks.{ClaimFits, Fits, TaskOutcome, IsDone, SendsNoByte, IsTrapped, IsOver, TaskEnds, task_start, windows_of}
 use Rattle.os_code.specs.Tasks as tasks
 use Rattle.simulation.specs.Alignment.{Stacked, slot_at, Aligned}
 use Rattle.simulation.specs.Names.{told_at}
 use Rattle.simulation.specs.Programs.{size_by, HasTask}
-use Rattle.simulation.specs.Tasks.{TaskTree, program_tasks, all_tasks_of, site_items}
+use Rattle.simulation.specs.Tasks.{site_items}
 use Rattle.simulation.proofs.Capturing.{captured_scalars}
 use Rattle.simulation.proofs.Context.{InTask, HasItem, Windows, Kept, Context, means}
-use Rattle.simulation.proofs.Exprs.{Ready}
-use Rattle.simulation.proofs.Files.{AllOfFile, AtMain, finds_main, nothing_fits}
-use Rattle.simulation.proofs.Flows.{After, Does, went, ended, settled, exactly}
+use Rattle.simulation.proofs.Flows.{Does, went, ended, settled, exactly}
 use Rattle.simulation.proofs.Functions.{FileFits}
 use Rattle.simulation.proofs.Sizes.{stmt_sizes}
-use Rattle.simulation.proofs.Steps.{Store, at, halt_of, Leads, stays, steps, Stops, stops_from, stops_at, acts}
+use Rattle.simulation.proofs.Steps.{Store, at, Leads, stays, steps, Stops, acts}
 use Rattle.simulation.proofs.Stmts.{stmt_does}
-use Rattle.simulation.proofs.TaskContexts.{items_onto, task_context, task_agrees, task_in, first_slots, bound, inner, caught_all, ps, cs}
+use Rattle.simulation.proofs.TaskContexts.{items_onto, task_context, task_agrees, task_in, first_slots, inner, caught_all}
 use Rattle.simulation.proofs.TaskStarts.{points, captured_stacked, captured_aligned, items_stacked, items_aligned, AllSome, windows_start, claims_start, same_written, same_bytes}
-use Rattle.simulation.proofs.TaskTexts.{IsOfMain, AllOfMain, InMain, TaskAt, strip, all_stripped, matched, match_stmts}
+use Rattle.simulation.proofs.TaskTexts.{TaskAt, strip}
 use Rattle.window_check.specs.CapturedByUse.{Ascends}
 use Rattle.window_check.specs.Order.{InOrder}
 use Rattle.window_check.specs.Sums.{extent_in, stmt_slots}

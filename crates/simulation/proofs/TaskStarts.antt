@@ -1,5 +1,5 @@
 -- Where a task's body begins: its captured scalars and its items.
-use Rattle.std.proofs.Common.{◌≡◌, ℕ, zero, suc, ◌+◌, ◌-◌, ◌==◌, ◌<◌, ◌≤◌, Bool, true, false, not, ◌&&◌, ◌||◌, if◌then◌else◌, List, [], ◌∷◌, ◌++◌, map, length, take, drop, replicate, get_or, Option, Some, None, ℤ, pos, negsuc, refl, sym, ap, ◌∙◌, subst, inl, inr, arith, append_assoc, length-append}
+use Rattle.std.proofs.Common.{◌≡◌, ℕ, suc, ◌+◌, ◌-◌, ◌==◌, ◌<◌, ◌≤◌, Bool, true, false, not, ◌&&◌, ◌||◌, if◌then◌else◌, List, [], ◌∷◌, ◌++◌, map, length, take, drop, replicate, get_or, Option, Some, None, ℤ, pos, negsuc, refl, sym, ap, ◌∙◌, subst, inl, inr, arith, append_assoc, length-append}
 use Rattle.std.proofs.lemmas.List.{length-replicate, length-take-le, length-drop}
 use Rattle.std.specs.List.{list_all}
 use Rattle.std.specs.Prelude.{⊤, ◌⊎◌}
@@ -11,7 +11,7 @@ use Rattle.cddf_meaning.specs.declared.variable.Binding.{Binding}
 use Rattle.cddf_meaning.specs.declared.variable.Variable.TheVariants as variable
 use Rattle.flow_core.specs.declared.claim.Claim.{Claim}
 use Rattle.os_ast.specs.Captured.{Scalar, slots_of}
-use Rattle.os_ast.specs.Meanings.{meaning_in, meaning_in_task, place_in}
+use Rattle.os_ast.specs.Meanings.{meaning_in, place_in}
 use Rattle.os_ast.specs.Names.{Scope, lookup, entity_of}
 use Rattle.os_ast.specs.Notes.Clauses.{named_entity, item_entity}
 use Rattle.os_ast.specs.Parts.{Part, Item, Private, item_name, count_items}
@@ -27,7 +27,6 @@ use Rattle.os_code.specs.Machine.{TaskWindow}
 use Rattle.os_code.specs.Tasks as machine
 use Rattle.os_code.specs.Tasks.{windows_of}
 use Rattle.simulation.specs.Alignment.{Takes, Stacked, slot_at, Aligned}
-use Rattle.simulation.proofs.Alignment.{stacked_scalar}
 use Rattle.simulation.proofs.Capturing.{HasSlot, AreScalars, at_place}
 use Rattle.simulation.proofs.Context.{InTask, HasItem, Windows}
 use Rattle.simulation.proofs.TaskContexts.{made_items, captured_entry, entity_or, made_captured}

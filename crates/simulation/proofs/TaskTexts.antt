@@ -1,15 +1,15 @@
 -- The tasks of `main` in the text: where each stands, and what it captures.
-use Rattle.std.proofs.Common.{◌≡◌, ℕ, zero, suc, ◌+◌, ◌≤◌, Bool, true, false, List, [], ◌∷◌, ◌++◌, map, Option, Some, None, slice_get, refl, sym, ap, ◌∙◌, subst, arith}
+use Rattle.std.proofs.Common.{◌≡◌, ℕ, zero, suc, Bool, true, false, List, [], ◌∷◌, ◌++◌, map, Option, Some, None, slice_get, refl, sym, ap, ◌∙◌, subst}
 use Rattle.std.specs.Prelude.{⊤}
 use Rattle.cddf_meaning.specs.Tasks.{Task as MeaningTask, task_at, tasks_in, tasks_in_all}
 use Rattle.os_ast.specs.Captured.{captured, slots_of}
 use Rattle.os_ast.specs.Leveled.{IsStmt, AreStmts}
 use Rattle.os_ast.specs.Names.{Scope, enter, in_loop}
 use Rattle.os_ast.specs.Notes.Clauses.{in_task, captured_in, in_task_body, parts_notes, clauses_notes}
-use Rattle.os_ast.specs.Notes.Declarators.{scalar_entity, after_declarator, after_declarators, declarators_notes, declarator_notes, form, form_with, form_entity, sized_form, after_start, start_notes, size_of}
-use Rattle.os_ast.specs.Notes.Expressions.{args_notes, expr_notes, place_notes, value_notes, step_notes}
+use Rattle.os_ast.specs.Notes.Declarators.{scalar_entity, after_declarator, after_declarators, declarators_notes, form, form_with, form_entity, sized_form, after_start, start_notes, size_of}
+use Rattle.os_ast.specs.Notes.Expressions.{expr_notes, place_notes, value_notes, step_notes}
 use Rattle.os_ast.specs.Notes.Kinds.{Note, Task}
-use Rattle.os_ast.specs.Notes.Statements.{after_stmt, after_stmts, stmt_notes, stmts_notes}
+use Rattle.os_ast.specs.Notes.Statements.{after_stmt, stmt_notes, stmts_notes}
 use Rattle.os_ast.specs.Parts.{parts, count_items}
 use Rattle.os_ast.specs.Stacked.{main_extent}
 use Rattle.os_ast.specs.Stacked as text
@@ -20,15 +20,13 @@ use Rattle.os_ast.specs.declared.names.Direction.TheVariants as direction
 use Rattle.os_ast.specs.declared.names.Entity.{Entity}
 use Rattle.os_ast.specs.declared.names.Entity.TheVariants as entity
 use Rattle.os_ast.specs.declared.names.Entry.{Entry}
-use Rattle.os_ast.specs.declared.names.Form.{Form}
-use Rattle.os_ast.specs.declared.names.Form.TheVariants as form_of
 use Rattle.os_ast.specs.declared.names.Owner.{Owner}
 use Rattle.os_ast.specs.declared.names.Owner.TheVariants as owner
 use Rattle.os_ast.specs.declared.names.Resolved.{Resolved}
 use Rattle.os_ast.specs.declared.names.Role.TheVariants as role
 use Rattle.simulation.specs.Tasks.{TaskTree, tasks_of, all_tasks_of}
 use Rattle.simulation.proofs.NoTasks.{captures_both, none_both, none_expr, none_place, none_args, none_value, none_change, none_step, none_parts, none_declarators, none_start, none_stmt, items_owner}
-use Rattle.simulation.proofs.Static.{entry, declarator_entries, declarator_onward, start_onward, stmt_onward}
+use Rattle.simulation.proofs.Static.{entry, declarator_entries, declarator_onward, stmt_onward}
 use Rattle.window_check.specs.Sums.{extent_in}
 use Rattle.window_check.specs.Told.{Tells, AreLawful}
 use Rattle.window_check.proofs.Summed.{stays_in, stacked-declarator, stacked-stmt}
