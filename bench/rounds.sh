@@ -2,7 +2,7 @@
 # What a frame of a run costs by the number of workers, as a table: for each kind of run microseconds a frame on one
 # thread by itself, and in rounds by 1, 2 and 4 workers, the least of five times. A run has 65,536 frames that read an
 # element and write one: all in one round, in 64 rounds, or each in a round of its own. The program for it is proved and
-# built in a copy of the crates below; its bodies and its test of the conditions are those of language_tests.
+# built in a copy of the crates below; its bodies and its test of the conditions are those of runtime_tests.
 set -eu
 top=$(cd "$(dirname "${BASH_SOURCE[0]}")/.." && pwd)
 work=$(mktemp -d)
@@ -18,11 +18,11 @@ cp "$top/HANDLES" "$work"
 rounds=$work/crates/rounds
 mkdir -p "$rounds/src" "$rounds/proofs"
 cp "$top/bench/rounds.program" "$rounds/src/main.rt"
-cp "$top/crates/language_tests/src/rounds/"*.rt "$rounds/src"
-cp -r "$top/crates/language_tests/specs" "$rounds"
-cp -r "$top/crates/language_tests/proofs/rounds/lawful" "$rounds/proofs"
+cp "$top/crates/runtime_tests/src/rounds/"*.rt "$rounds/src"
+cp -r "$top/crates/runtime_tests/specs" "$rounds"
+cp -r "$top/crates/runtime_tests/proofs/rounds/lawful" "$rounds/proofs"
 find "$rounds" \( -name '*.antt' -o -name '*.rt' \) \
-    -exec sed -i 's/language_tests\.proofs\.rounds\.lawful/rounds.proofs.lawful/; s/language_tests\.specs/rounds.specs/' {} +
+    -exec sed -i 's/runtime_tests\.proofs\.rounds\.lawful/rounds.proofs.lawful/; s/runtime_tests\.specs/rounds.specs/' {} +
 (cd "$rounds" && rt run -- wide 1) >"$work/log" 2>&1 || { cat "$work/log" >&2; exit 1; }
 
 printf '%-8s %8s %8s %8s %8s\n' kind alone 1 2 4

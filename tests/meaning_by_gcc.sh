@@ -1,9 +1,9 @@
 #!/usr/bin/env bash
-# Compiles each expression and body of the table of values by gcc, and compares. A test of language_tests holds the same
+# Compiles each expression and body of the table of values by gcc, and compares. A test of meaning_tests holds the same
 # table against what the programs mean. The last line counts what passed and what failed.
 set -u
 top=$(cd "$(dirname "${BASH_SOURCE[0]}")/.." && pwd)
-table=$top/crates/language_tests/src/meaning/table.rt
+table=$top/crates/meaning_tests/src/meaning/table.rt
 if ! command -v gcc >/dev/null; then
     echo 'gcc is not on this machine: the table of values is not compared'
     exit 0

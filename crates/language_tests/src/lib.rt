@@ -1,9 +1,7 @@
-//! Program texts, and what the language says of them: the way from a text through tokens and trees to the checks. And
-//! runs of activations on several workers.
+//! Program texts, and what the language says of them: the way from a text through tokens and trees to the checks.
 //!
 //! There is nothing here but tests. Each takes a table of whole texts and compares the answer with the one that the
-//! rules of the language give, found by hand: the refusal by its code and line, or what each name means. That of runs
-//! takes a table of activations, and counts by hand how they end.
+//! rules of the language give, found by hand: the refusal by its code and line, or what each name means.
 #![tactic(auto)]
 
 #[cfg(test)]
@@ -21,13 +19,9 @@ mod lawful;
 #[cfg(test)]
 mod limits;
 #[cfg(test)]
-mod meaning;
-#[cfg(test)]
 mod names;
 #[cfg(test)]
 mod refusals;
-#[cfg(test)]
-mod rounds;
 #[cfg(test)]
 mod scopes;
 #[cfg(test)]

@@ -14,13 +14,13 @@ ghost use Rattle.osrun_core.specs.Telling.{Tells, HasTrouble};
 ghost use Rattle.osrun_core.specs.Written.{written};
 
 use crate::answer_job::answer_job;
-use crate::gate::Gate;
 use crate::status::Status;
 use crate::tell::tell;
 use crate::words::{WordsError, command};
 use os_io::{Files, Sink};
 use std::alloc::Global;
 use std::thread::Threads;
+use task_workers::Gate;
 
 /// What is told where the words name no job.
 const USAGE: &[u8] = b"usage\n";

@@ -14,7 +14,6 @@ mod copies;
 mod deliver;
 mod first_program;
 mod first_program_error;
-mod gate;
 mod job;
 mod laws;
 mod load;
@@ -31,6 +30,6 @@ mod tell;
 mod words;
 
 pub use command::run_words;
-pub use gate::{Gate, NoGate};
 pub use laws::{all_is_written, longest_prefix};
 pub use reader::one_reading;
+pub use task_workers::{Gate, NoGate};

@@ -1,9 +1,9 @@
 use super::run_words;
-use crate::gate::NoGate;
 use os_io::{MemFiles, MemSink};
 use std::alloc::Global;
 use std::test::Fail;
 use std::thread::Threads;
+use task_workers::NoGate;
 
 /// Reverses a window of four bytes.
 const REVERSE: &[u8] =

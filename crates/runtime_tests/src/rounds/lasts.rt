@@ -1,6 +1,6 @@
 ghost use Rattle.std.specs.Prelude.{◌≡◌, ⊤, length};
 ghost use Rattle.flow_core.specs.Plans.{frame_at};
-ghost use Rattle.language_tests.specs.Lasts.{end_of, last_of, last_outcome};
+ghost use Rattle.runtime_tests.specs.Lasts.{end_of, last_of, last_outcome};
 
 use flow_core::{Bodies, Plan, TaskEnd};
 use os_io::Memory;
