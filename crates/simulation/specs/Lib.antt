@@ -1,0 +1,8 @@
+-- what code stands for what tree
+pub mod Names
+pub mod Expressions
+pub mod Changes
+pub mod Declarators
+pub mod Tasks
+pub mod Statements
+pub mod Programs
