@@ -1,0 +1,12 @@
+//! The compiler: from a checked program to the code of its machine, in one walk.
+//!
+//! A draft of the code grows instruction by instruction; its jumps name labels, and each label gets its
+//! place when the walk comes there. At the end the labels give way to their places.
+#![tactic(auto)]
+
+mod conditions;
+mod draft;
+mod expressions;
+mod lower_error;
+mod operators;
+mod told;
