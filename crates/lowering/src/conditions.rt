@@ -34,11 +34,24 @@ pub(crate) fn emit_condition(
             }
         }
         Expr::Paren(inner) => emit_condition(draft, told, inner, fails),
-        Expr::Chain(Level::And, first, links) => {
-            emit_condition(draft, told, first, fails)?;
-            emit_conditions(draft, told, links, fails)
+        Expr::Chain(level, first, links) => match level {
+            Level::And => {
+                emit_condition(draft, told, first, fails)?;
+                emit_conditions(draft, told, links, fails)
+            }
+            Level::Or
+            | Level::BitOr
+            | Level::BitXor
+            | Level::BitAnd
+            | Level::Equal
+            | Level::Order
+            | Level::Shift
+            | Level::Sum
+            | Level::Product => emit_test(draft, told, condition, fails),
+        },
+        Expr::Place(_) | Expr::Call(_) | Expr::Unary(_, _, _) | Expr::Choice(_, _, _) => {
+            emit_test(draft, told, condition, fails)
         }
-        _ => emit_test(draft, told, condition, fails),
     }
 }
 

@@ -4,9 +4,11 @@
 //! place when the walk comes there. At the end the labels give way to their places.
 #![tactic(auto)]
 
+mod changes;
 mod conditions;
 mod draft;
 mod expressions;
 mod lower_error;
 mod operators;
+mod quiet;
 mod told;
