@@ -1,2 +1,3 @@
+mod Parts
 mod Placed
 pub mod Rules

@@ -1,3 +1,5 @@
 pub mod Expressions
 pub mod Conditions
 pub mod Changes
+pub mod Declarators
+pub mod Tasks

@@ -6,9 +6,12 @@
 
 mod changes;
 mod conditions;
+mod declarators;
 mod draft;
 mod expressions;
+mod items;
 mod lower_error;
+mod mentions;
 mod operators;
 mod quiet;
 mod told;
