@@ -1,3 +1,5 @@
+pub mod Blocks
+pub mod Loops
 mod Parts
 mod Placed
 pub mod Rules

@@ -3,3 +3,4 @@ pub mod Conditions
 pub mod Changes
 pub mod Declarators
 pub mod Tasks
+pub mod Statements

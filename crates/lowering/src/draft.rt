@@ -1,5 +1,5 @@
 ghost use Rattle.std.specs.Prelude.{◌≡◌, [], IfOk, OnOk, Some, slice_set};
-ghost use Rattle.lowering.specs.Draft.{next_label, with_instr, with_label, with_place};
+ghost use Rattle.lowering.specs.Draft.{next_label, with_instr, with_label, with_place, with_spawn};
 
 use os_code::Instr;
 use os_io::{List, Memory};
@@ -11,6 +11,8 @@ pub struct Draft {
     pub instrs: List<Instr>,
     /// The place of each label, once it has one.
     pub places: List<Option<u32>>,
+    /// How many tasks are spawned so far.
+    pub spawned: u32,
 }
 
 /// The target of jumps, whose place may be found later.
@@ -24,10 +26,12 @@ impl Draft {
     pub(crate) fn new(alloc: Global) -> Draft
         ensures instrs { result.instrs ≡ [] }
         ensures places { result.places ≡ [] }
+        ensures spawned { result.spawned ≡ 0 }
     {
         Draft {
             instrs: List::new(alloc),
             places: List::new(alloc),
+            spawned: 0,
         }
     }
 
@@ -36,6 +40,17 @@ impl Draft {
         ensures { OnOk result (self.new ≡ with_instr self.old instr) }
     {
         self.instrs.push(instr)
+    }
+
+    /// Spawns the next task.
+    pub(crate) fn spawn(&mut self) -> Result<(), Memory>
+        ensures { OnOk result (self.new ≡ with_spawn self.old) }
+    {
+        // So many tasks leave no memory for another one.
+        let next = self.spawned.checked_add(1).ok_or(Memory)?;
+        self.instrs.push(Instr::Spawn(self.spawned))?;
+        self.spawned = next;
+        Ok(())
     }
 
     /// A new label, without a place.
