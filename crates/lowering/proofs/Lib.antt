@@ -1,4 +1,6 @@
 pub mod Blocks
+pub mod Keeping
+pub mod Lists
 pub mod Loops
 mod Parts
 mod Placed

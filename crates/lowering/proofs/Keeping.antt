@@ -1,0 +1,53 @@
+-- What is drafted leaves the labels that were there as they were.
+use Rattle.std.proofs.Common.{◌≡◌, ◌∙◌, ◌≢◌, ℕ, ◌+◌, ◌<◌, ◌≤◌, List, [], ◌∷◌, ◌++◌, length, length-append, length-set, None, Some, slice_get, slice_set, refl, arith}
+use Rattle.lowering.proofs.Lists.{slice_get-front, slice_get-set_other}
+use Rattle.lowering.specs.Draft.{next_label, with_instr, with_instrs, with_label, with_place, with_spawn}
+use Rattle.lowering.specs.Emission.Expressions.{Emission}
+use Rattle.lowering.specs.declared.draft.Draft.{Draft}
+use Rattle.lowering.specs.declared.draft.Label.{Label}
+use Rattle.os_code.specs.declared.instr.Instr.{Instr}
+
+-- The labels of a draft are there in another one, with the same places.
+pub record Keeps (d e : Draft) : Type 0 where
+  pub no_fewer : length d.places ≤ length e.places
+  pub same : (l : ℕ) → l < length d.places → slice_get e.places l ≡ slice_get d.places l
+
+pub kept : (d : Draft) → Keeps d d
+kept d = record { no_fewer = omega arith; same = λ l within. refl }
+
+pub then_kept : {d m e : Draft} → Keeps d m → Keeps m e → Keeps d e
+then_kept a b = record {
+  no_fewer = omega (arith, a.no_fewer, b.no_fewer);
+  same = λ l within. b.same l (omega (arith, within, a.no_fewer)) ∙ a.same l within;
+}
+
+pub keeps_instr : {d m : Draft} → Keeps d m → (i : Instr) → Keeps d (with_instr m i)
+keeps_instr a i = record { no_fewer = a.no_fewer; same = a.same }
+
+pub keeps_instrs : {d m : Draft} → Keeps d m → (is : List Instr) → Keeps d (with_instrs m is)
+keeps_instrs a [] = a
+keeps_instrs a (i ∷ is) = keeps_instrs (keeps_instr a i) is
+
+pub keeps_spawn : {d m : Draft} → Keeps d m → Keeps d (with_spawn m)
+keeps_spawn a = record { no_fewer = a.no_fewer; same = a.same }
+
+pub keeps_label : {d m : Draft} → Keeps d m → Keeps d (with_label m)
+keeps_label {d} {m} a = record {
+  no_fewer = omega (arith, a.no_fewer, length-append m.places (None ∷ []));
+  same = λ l within. slice_get-front m.places (None ∷ []) l (omega (arith, within, a.no_fewer)) ∙ a.same l within;
+}
+
+-- a label that wasn't there gets a place
+pub keeps_place : {d m : Draft} → Keeps d m → (label : Label) → length d.places ≤ label.number → Keeps d (with_place m label)
+keeps_place {d} {m} a label new = record {
+  no_fewer = omega (arith, a.no_fewer, length-set m.places label.number (Some (length m.instrs)));
+  same = λ l within. slice_get-set_other m.places label.number l (Some (length m.instrs)) (λ same. absurd (omega (arith, same, within, new))) ∙ a.same l within;
+}
+
+-- a piece of code keeps the labels that are there
+abbrev pub KeepsLabels : Emission → Type 0
+KeepsLabels f = (d : Draft) → Keeps d (f d)
+
+-- the labels that a draft makes next weren't there
+pub next_is_new : {d m : Draft} → Keeps d m → length d.places ≤ (next_label m).number
+next_is_new a = a.no_fewer
