@@ -1,5 +1,6 @@
 pub mod Blocks
 pub mod Keeping
+pub mod KeptExpressions
 pub mod Lists
 pub mod Loops
 mod Parts
