@@ -23,7 +23,7 @@ function-falls file calls f args (suc turns) =
     let r = run_all (in_function file) f.body s turns in
     falls-less (suc turns) turns (returned r) (omega arith) (returned-falls s turns r (all-keeps (in_function file) calls f.body s turns))
 
-item-falls : (file : File) → CallsFall file → (i : tree.ItemTree) → CallsFall (with_item file i)
+pub item-falls : (file : File) → CallsFall file → (i : tree.ItemTree) → CallsFall (with_item file i)
 item-falls file calls (tree.Constant c) n args turns = calls n args turns
 item-falls file calls (tree.Function f) n args turns =
     falls-if (n == file.count) turns (call_function file f args turns) (file.calls n args turns)

@@ -6,3 +6,7 @@ pub mod Declarators
 pub mod Tasks
 pub mod Statements
 pub mod Programs
+-- what such code does
+pub mod Laws
+-- what proofs say
+pub mod Alignment

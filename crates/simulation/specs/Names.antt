@@ -17,33 +17,39 @@ abbrev pub reading : What → (line : ℕ) → List Instr
 reading (what.Constant v) line = Push v ∷ []
 reading (what.Scalar slot) line = Load slot ∷ []
 reading (what.Element item) line = Push (pos 0) ∷ ItemLoad item line ∷ []
+reading (what.View item) line = Push (pos 0) ∷ ItemLoad item line ∷ []
 reading _ line = Push (pos 0) ∷ []
 
 -- what reads it with one, which is on the stack
 abbrev pub reading_at : What → (line : ℕ) → Instr
 reading_at (what.Array first size) line = LoadAt first size line
+reading_at (what.Element item) line = ItemLoad item line
 reading_at (what.View item) line = ItemLoad item line
 reading_at _ line = LoadAt 0 0 line
 
 -- what checks an index, which stays on the stack
 abbrev pub checking_at : What → (line : ℕ) → Instr
 checking_at (what.Array first size) line = CheckAt size line
+checking_at (what.Element item) line = ItemCheck item line
 checking_at (what.View item) line = ItemCheck item line
 checking_at _ line = CheckAt 0 line
 
 -- what stands before a value that is to be stored: the index of an item's one element
 abbrev pub aiming : What → List Instr
 aiming (what.Element item) = Push (pos 0) ∷ []
+aiming (what.View item) = Push (pos 0) ∷ []
 aiming _ = []
 
 -- what stores the top into a name without an index, and with one below the top
 abbrev pub storing : What → (line : ℕ) → Instr
 storing (what.Scalar slot) line = Store slot
 storing (what.Element item) line = ItemStore item line
+storing (what.View item) line = ItemStore item line
 storing _ line = Drop
 
 abbrev pub storing_at : What → (line : ℕ) → Instr
 storing_at (what.Array first size) line = StoreAt first size line
+storing_at (what.Element item) line = ItemStore item line
 storing_at (what.View item) line = ItemStore item line
 storing_at _ line = StoreAt 0 0 line
 

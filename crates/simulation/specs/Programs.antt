@@ -1,6 +1,7 @@
 -- Which code stands for a program: a unit for each function and each task, and a site for each task.
-use Rattle.std.specs.Prelude.{◌≡◌, ⊤, ℕ, suc, ◌+◌, ◌==◌, Bool, true, false, List, [], ◌∷◌, length, Some, slice_get, pos, unsigned_abs}
+use Rattle.std.specs.Prelude.{◌≡◌, ⊤, ℕ, suc, ◌+◌, ◌==◌, Bool, true, false, List, [], ◌∷◌, length, Some, slice_get, pos, unwrap_or}
 use Rattle.os_ast.specs.Names.{main_id}
+use Rattle.os_ast.specs.Notes.Declarators.{within_limit}
 use Rattle.os_ast.specs.Notes.Programs.{param_names}
 use Rattle.os_ast.specs.Trees as tree
 use Rattle.os_ast.specs.declared.names.Owner.TheVariants as owner
@@ -16,13 +17,13 @@ use Rattle.simulation.specs.Statements.{Body, HasStmt, HasStmts}
 use Rattle.simulation.specs.Tasks.{TaskTree, program_tasks, site_items}
 use Rattle.window_check.specs.Sums.{stmt_slots, stmts_slots}
 
--- the size of an array, by what the names of constants mean
+-- the size of an array, by what the names of constants mean; where the size is wrong, 0 stands for it
 abbrev pub constant_size : What → ℕ
-constant_size (what.Constant v) = unsigned_abs v
+constant_size (what.Constant v) = unwrap_or (within_limit v) 0
 constant_size _ = 0
 
 abbrev pub size_by : (ℕ → What) → tree.ExprTree → ℕ
-size_by tells (tree.Number n) = n
+size_by tells (tree.Number n) = unwrap_or (within_limit (pos n)) 0
 size_by tells (tree.Place (tree.Variable n)) = constant_size (tells n.mark.place)
 size_by tells _ = 0
 

@@ -1,4 +1,10 @@
-//! Laws. They take nothing and do nothing.
+//! Laws of code that stands for a program. They take nothing and do nothing.
 
-/// A place for laws.
-pub fn nothing() {}
+ghost use Rattle.simulation.specs.Laws.{TasksEndSo, TasksEndOnlySo};
+
+/// The code of a lawful program runs each activation that fits it as the body of its task says: it is done with the
+/// same outputs, traps with the same code and line, or is over budget, and it ends in no other way.
+pub fn tasks_end_as_their_bodies()
+    ensures so { TasksEndSo }
+    ensures only_so { TasksEndOnlySo }
+{}

@@ -1,4 +1,10 @@
 //! What code stands for a program's tree, and that it does what the tree means.
+//!
+//! There is no code here but laws. `specs/` says which instructions stand for which tree, part by part: names,
+//! expressions, changes, declarators, tasks, statements, and whole programs. It says where each part stands, with its
+//! jump targets as parameters, and computes no list of code, so that an emitter is free to be short where two ways have
+//! one meaning. `proofs/` follows the machine of `os_code` beside the meaning of `cddf_meaning` over such code: names
+//! stand for slots and windows as their declarations are aligned with them. `laws` has what comes of it.
 #![tactic(auto)]
 
 pub mod laws;

@@ -1,0 +1,33 @@
+-- What code that stands for a lawful program does.
+use Rattle.std.specs.Prelude.{◌≡◌, ℕ, ◌≤◌, List, [], length, ℤ}
+use Rattle.cddf_meaning.specs.Body.{body}
+use Rattle.cddf_meaning.specs.Moves.{read_horizons}
+use Rattle.flow_core.specs.declared.activation.Activation.{Activation}
+use Rattle.flow_core.specs.declared.outcome.Outcome.{Outcome}
+use Rattle.os_ast.specs.Leveled.{IsLeveled}
+use Rattle.os_ast.specs.Marks.{HasPlaces}
+use Rattle.os_ast.specs.Trees as tree
+use Rattle.os_ast.specs.Violations.{violations, names, captured_by_tasks, streams}
+use Rattle.os_code.specs.IsValid.{IsValid}
+use Rattle.os_code.specs.Tasks.{Fits, TaskEnds}
+use Rattle.os_code.specs.declared.parts.Parts.{Parts}
+use Rattle.simulation.specs.Names.{told_at}
+use Rattle.simulation.specs.Programs.{HasProgram}
+
+-- A valid code stands for a lawful program.
+pub record StandsFor (code : Parts) (p : tree.ProgramTree) : Type 0 where
+  pub leveled : IsLeveled p
+  pub placed : HasPlaces p
+  pub lawful : violations p ≡ []
+  pub has : HasProgram code p (told_at (names p)) (captured_by_tasks p) (streams p)
+  pub valid : IsValid code
+
+-- An activation that fits the code ends as the body of its task does, with the same code, line and outputs.
+abbrev pub TasksEndSo : Type 0
+TasksEndSo = (p : tree.ProgramTree) (code : Parts) (a : Activation) (inputs : List ℤ) (budget : ℕ) → StandsFor code p → Fits code a →
+    read_horizons a.claims ≤ length inputs → (steps : ℕ) × TaskEnds code a inputs budget (body p a inputs budget) steps
+
+-- And it ends in no other way.
+abbrev pub TasksEndOnlySo : Type 0
+TasksEndOnlySo = (p : tree.ProgramTree) (code : Parts) (a : Activation) (inputs : List ℤ) (budget : ℕ) (outcome : Outcome) (steps : ℕ) → StandsFor code p → Fits code a →
+    read_horizons a.claims ≤ length inputs → TaskEnds code a inputs budget outcome steps → outcome ≡ body p a inputs budget
