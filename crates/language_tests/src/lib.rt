@@ -19,6 +19,8 @@ mod lawful;
 #[cfg(test)]
 mod limits;
 #[cfg(test)]
+mod meaning;
+#[cfg(test)]
 mod names;
 #[cfg(test)]
 mod refusals;

@@ -1,0 +1,23 @@
+-- The ends of a body and of the control program, as the functions of the program give them.
+use Rattle.std.specs.Prelude.{◌≡◌, ℕ, List, if◌then◌else◌, ℤ}
+use Rattle.cddf_meaning.specs.Body.{done, gives_bytes, trapped, written}
+use Rattle.cddf_meaning.specs.declared.ending.Ending.TheVariants.{Trapped, OverBudget, Limited}
+use Rattle.cddf_meaning.specs.declared.ending.Ending.{Ending}
+use Rattle.flow_core.specs.declared.claim.Claim.{Claim}
+use Rattle.flow_core.specs.declared.outcome.Outcome.{Outcome}
+use Rattle.flow_core.specs.declared.task_end.TaskEnd.TheVariants as end
+use Rattle.flow_core.specs.declared.task_end.TaskEnd.{TaskEnd}
+
+-- an end and what was written are those of an outcome
+abbrev pub IsOutcome : TaskEnd → List ℤ → Outcome → Type 0
+IsOutcome end outputs o = (end ≡ o.end) × (outputs ≡ o.outputs)
+
+-- a body that ended normally
+abbrev pub finished : ℕ → List Claim → List (List ℤ) → Outcome
+finished line claims items = if gives_bytes claims items then done (written claims items) else trapped 5 line
+
+-- a body that ended before its last statement
+abbrev pub task_end : Ending → TaskEnd
+task_end (Trapped code line) = end.Trapped code line
+task_end OverBudget = end.OverBudget
+task_end (Limited n) = end.OverBudget

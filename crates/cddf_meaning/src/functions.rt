@@ -1,0 +1,120 @@
+//! Calls of functions.
+
+ghost use Rattle.std.specs.Prelude.{◌≡◌, ◌+◌, ◌<◌, ◌≤◌, IfErr, IfOk, IfSome, [], length, map, option_map, slice_get};
+ghost use Rattle.cddf_meaning.specs.Functions.{bind_params, call_function, file_of, result_of};
+ghost use Rattle.cddf_meaning.specs.State as states;
+ghost use Rattle.std.specs.Option.{option_copied};
+ghost use Rattle.cddf_meaning.specs.Stops.{Gives};
+ghost use Rattle.cddf_meaning.specs.Units.{function_of, function_tree};
+ghost use Rattle.cddf_meaning.specs.declared.ending.Ending.TheVariants as endings;
+ghost use Rattle.cddf_meaning.specs.declared.stop.Stop.TheVariants as stops;
+ghost use Rattle.os_ast.specs.Notes.Programs.{param_names};
+ghost use Rattle.os_ast.specs.Views.{item_tree};
+
+use crate::flow::Flow;
+use crate::run::stmts;
+use crate::state::State;
+use crate::stop::Stop;
+use crate::unit::Unit;
+use crate::variable::Variable;
+use os_ast::{Function, Item, Name, Params};
+use os_io::Memory;
+use std::alloc::Global;
+
+/// Takes a unit.
+pub(crate) fn take_unit(turns: &mut u64) -> Result<(), Stop>
+    ensures taken { IfOk result (λ _. turns.old ≡ turns.new + 1) }
+    ensures none { IfErr result (λ stop. (stop ≡ stops.Ended endings.OverBudget) × (turns.old ≡ 0)) }
+    ensures fewer { turns.new ≤ turns.old }
+{
+    if *turns == 0 {
+        return Err(Stop::over_budget());
+    }
+    *turns -= 1;
+    Ok(())
+}
+
+/// What a function gives where its body ended.
+fn result_of(flow: Flow) -> i32
+    ensures { result ≡ result_of flow }
+{
+    match flow {
+        Flow::Returns(number) => number,
+        Flow::GoesOn | Flow::Breaks | Flow::Continues => 0,
+    }
+}
+
+pub(crate) fn param_names(params: &Params) -> &[Name]
+    ensures { result.now ≡ param_names params.now }
+{
+    match params {
+        Params::Empty | Params::Void => &[],
+        Params::Names(names) => names.as_slice(),
+    }
+}
+
+/// The state of a function's body, with its parameters set.
+fn with_params(alloc: Global, names: &[Name], args: &[i32]) -> Result<State, Memory>
+    ensures { IfOk result (λ s. s ≡ states.state_of (bind_params names.now args.now []) []) }
+{
+    let mut state = State::new(alloc, Vec::new(alloc));
+    for (place, name) in names.iter().enumerate() {
+        let number = match args.get(place) {
+            Some(number) => *number,
+            None => 0,
+        };
+        state.declare(name.id, Variable::Scalar(number))?;
+    }
+    Ok(state)
+}
+
+/// The function at a place of the file.
+fn function_at(file: &[Item], place: usize) -> Option<&Function>
+    ensures function { option_map function_tree (option_copied result) ≡ function_of (slice_get (map item_tree file.now) place) }
+    ensures inside { IfSome result (λ _. place < length file.now) }
+{
+    match file.get(place) {
+        Some(Item::Function(function)) => Some(function),
+        Some(Item::Constant(_)) | None => None,
+    }
+}
+
+/// Calls the function at a place of the file.
+#[cycle(meaning)]
+pub(crate) fn call_function(
+    alloc: Global,
+    file: &[Item],
+    place: usize,
+    args: &[i32],
+    turns: &mut u64,
+) -> Result<i32, Stop>
+    ensures gives { Gives result turns.new ((file_of (map item_tree file.now)).calls place args.now turns.old) }
+    ensures fewer { turns.new ≤ turns.old }
+{
+    match function_at(file, place) {
+        None => Err(Stop::over_budget()),
+        Some(function) => entered(alloc, &file[..place], function, args, turns),
+    }
+}
+
+/// Takes the unit of a call, and runs the body of a function that stands behind these items of the file.
+#[cycle(meaning)]
+fn entered(
+    alloc: Global,
+    file: &[Item],
+    function: &Function,
+    args: &[i32],
+    turns: &mut u64,
+) -> Result<i32, Stop>
+    ensures gives { Gives result turns.new (call_function (file_of (map item_tree file.now)) (function_tree function.now) args.now turns.old) }
+    ensures fewer { turns.new ≤ turns.old }
+{
+    take_unit(turns)?;
+    let mut state = with_params(alloc, param_names(&function.params), args)?;
+    let unit = Unit {
+        file,
+        control: None,
+    };
+    let flow = stmts(alloc, &unit, &function.body, &mut state, turns)?;
+    Ok(result_of(flow))
+}

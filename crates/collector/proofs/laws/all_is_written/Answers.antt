@@ -1,0 +1,5 @@
+use Rattle.collector.proofs.Covering.{all_written}
+use Rattle.collector.proofs.laws.all_is_written.Goals as goal
+
+pub returns : goal.returns
+returns c = all_written

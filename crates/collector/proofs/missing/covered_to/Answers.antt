@@ -1,0 +1,24 @@
+use Rattle.std.proofs.Common.{◌∙◌, ◌+◌, Some, arith, sym, subst}
+use Rattle.collector.specs.Walking.{Reaches}
+use Rattle.collector.proofs.Producers.{producer_small, reaches, gap_by_nobody, gap_by_producer}
+use Rattle.collector.proofs.missing.covered_to.Goals as goal
+
+pub overflow_add-result : goal.overflow_add-result
+overflow_add-result c =
+    let l = c.requires.layout in
+    let small = producer_small c.args.layout.now l c.args.stream c.args.position c.in_ok-span.span (c.in_ok-span.ensures l.activations l.is_of) in
+    omega (arith, small, c.from.ensures)
+
+pub returns-then-is_done : goal.returns-then-is_done
+returns-then-is_done c = λ activations of.
+    subst (λ n. Reaches activations c.args.layout.now.input_len c.args.ends.now.ends c.args.stream c.args.position (Some (c.in_ok-span.span.first + n))) (sym c.from.ensures)
+    (reaches activations c.args.layout.now.input_len c.args.ends.now.ends c.args.stream c.args.position c.in_ok-span.span c.requires.produced (c.in_ok-span.ensures activations of) (sym c.is_done.ensures ∙ c.if-is_done.true))
+
+pub returns-in_err-span : goal.returns-in_err-span
+returns-in_err-span c = λ activations of.
+    subst (Reaches activations c.args.layout.now.input_len c.args.ends.now.ends c.args.stream c.args.position) (sym c.from_residual.ensures)
+    (gap_by_nobody activations c.args.layout.now.input_len c.args.ends.now.ends c.args.stream c.args.position c.requires.produced (c.in_err-span.ensures activations of))
+
+pub returns-else-is_done : goal.returns-else-is_done
+returns-else-is_done c = λ activations of.
+    gap_by_producer activations c.args.layout.now.input_len c.args.ends.now.ends c.args.stream c.args.position c.in_ok-span.span c.requires.produced (c.in_ok-span.ensures activations of) (sym c.is_done.ensures ∙ c.if-is_done.false)

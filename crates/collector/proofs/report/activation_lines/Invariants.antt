@@ -1,0 +1,11 @@
+use Rattle.std.proofs.Common.{List}
+use Rattle.flow_core.specs.declared.activation.Activation.{Activation}
+use Rattle.stream_match.specs.Layout.{IsLayoutOf}
+use Rattle.collector.specs.Buffering.{WentOn}
+use Rattle.collector.specs.Report.{activation_lines}
+use Rattle.collector.proofs.report.activation_lines.Given as goal
+
+-- the lines so far went on
+abbrev pub invariant-loop-frame : goal.invariant-loop-frame
+invariant-loop-frame g l = (activations : List Activation) → IsLayoutOf l.layout activations
+    → WentOn (record { taken = g.S.Sink.taken; faults = g.S.Sink.faults; empty_takes = g.S.Sink.empty_takes }) l.initial.sink l.sink l.initial.buffer l.buffer (activation_lines activations l.layout.input_len l.ends.ends l.frame)

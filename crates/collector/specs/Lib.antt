@@ -1,0 +1,12 @@
+-- What a reader believes: what is written, missing and reported, and the status.
+pub mod Written
+pub mod Missing
+pub mod Line
+pub mod Report
+pub mod Status
+-- When ends can be reported, and the laws.
+pub mod Reported
+pub mod Laws
+-- What restates private functions: the search for what is missing, how a text goes through the line buffer.
+pub mod Walking
+pub mod Buffering

@@ -1,0 +1,193 @@
+ghost use Rattle.std.specs.Prelude.{◌≡◌, ◌<◌, ◌≤◌, ◌-◌, None, false, All, IfSome, List, drop, find, length, slice_get, slice_index_or, take};
+ghost use Rattle.std.specs.List.{flat_map, range_with_len};
+ghost use Rattle.std.specs.Option.{option_map};
+ghost use Rattle.flow_core.specs.declared.activation.Activation.{Activation};
+ghost use Rattle.flow_core.specs.Outcome.{is_done_at};
+ghost use Rattle.flow_core.specs.Window.{producer};
+ghost use Rattle.stream_match.specs.Layout.{IsLayout, IsLayoutOf, span_of};
+ghost use Rattle.stream_match.specs.Stretch.{frame_count, spans_of, start_of};
+ghost use Rattle.collector.specs.Missing.{missing};
+ghost use Rattle.collector.specs.Walking.{IsSpanIn, Reaches, is_gap, is_missing, first_gap, place_of, read_places};
+
+use flow_core::{Ends, TaskEnd};
+use stream_match::{Layout, Span};
+
+/// An element that isn't there, which a starved activation waits for.
+#[derive(Clone, Copy, Debug, PartialEq, Eq)]
+pub struct Missing {
+    pub stream: u32,
+    pub position: u64,
+    /// The activation whose write claim covers the position, if there is one. It isn't Done.
+    pub producer: Option<u32>,
+}
+
+/// A position of a stream whose element isn't there.
+#[derive(Clone, Copy)]
+struct Gap {
+    stream: u32,
+    position: u64,
+}
+
+/// The first missing element of an activation, by the ends so far: the first one of its input windows, by clause
+/// item and then by position, that isn't there; none exactly where each of them is there. It takes no memory, and
+/// goes from producer to producer.
+pub fn first_missing(layout: &Layout, ends: &Ends, frame: u32) -> Option<Missing>
+    requires layout { IsLayout layout.now }
+    requires exists { frame < frame_count layout.now }
+    ensures missing { (activations : List Activation) → IsLayoutOf layout.now activations
+        → result ≡ missing activations layout.now.input_len ends.now.ends frame }
+{
+    let gap = missing_among(layout, ends, spans_of(layout, frame))?;
+    Some(Missing {
+        stream: gap.stream,
+        position: gap.position,
+        producer: producing(layout, gap),
+    })
+}
+
+/// The spans of an activation.
+fn spans_of(layout: &Layout, frame: u32) -> &[Span]
+    requires layout { IsLayout layout.now }
+    requires exists { frame < frame_count layout.now }
+    ensures { result.now ≡ spans_of layout.now frame }
+{
+    let first = start(layout, frame as usize);
+    let end = start(layout, frame as usize + 1);
+    part(layout, first, end)
+}
+
+/// Where the spans of an activation begin.
+fn start(layout: &Layout, frame: usize) -> usize
+    requires { frame < length layout.now.starts }
+    ensures { result ≡ start_of layout.now frame }
+{
+    layout.starts.as_slice()[frame] as usize
+}
+
+/// The spans from one number up to another.
+fn part(layout: &Layout, first: usize, end: usize) -> &[Span]
+    requires ordered { first ≤ end }
+    requires within { end ≤ length layout.now.spans }
+    ensures { result.now ≡ take (end - first) (drop first layout.now.spans) }
+{
+    &layout.spans.as_slice()[first..end]
+}
+
+/// The first position that spans read whose element isn't there.
+fn missing_among(layout: &Layout, ends: &Ends, spans: &[Span]) -> Option<Gap>
+    requires layout { IsLayout layout.now }
+    requires spans { All (IsSpanIn layout.now) spans.now }
+    ensures exists { IfSome result (λ gap. gap.stream < length layout.now.writers) }
+    ensures missing { (activations : List Activation) → IsLayoutOf layout.now activations
+        → option_map place_of result ≡ find (is_missing activations layout.now.input_len ends.now.ends) (flat_map read_places spans.now) }
+{
+    for span in spans {
+        if !span.write {
+            if let Some(position) = missing_position(layout, ends, *span) {
+                return Some(Gap {
+                    stream: span.stream,
+                    position,
+                });
+            }
+        }
+    }
+    None
+}
+
+/// The first position of a span whose element isn't there.
+fn missing_position(layout: &Layout, ends: &Ends, span: Span) -> Option<u64>
+    requires layout { IsLayout layout.now }
+    requires span { IsSpanIn layout.now span }
+    requires reads { span.write ≡ false }
+    ensures { (activations : List Activation) → IsLayoutOf layout.now activations
+        → result ≡ first_gap activations layout.now.input_len ends.now.ends span.stream span.first span.count }
+{
+    let end = span.first + u64::from(span.count);
+    if span.stream != 0 {
+        return missing_between(layout, ends, span.stream, span.first, end);
+    }
+    let position = span.first.max(u64::from(layout.input_len));
+    if position < end { Some(position) } else { None }
+}
+
+/// The first position of a stream, from one up to another, whose element isn't there. It goes from the end of one
+/// producer to the next.
+fn missing_between(layout: &Layout, ends: &Ends, stream: u32, first: u64, end: u64) -> Option<u64>
+    requires layout { IsLayout layout.now }
+    requires exists { stream < length layout.now.writers }
+    requires produced { 0 < stream }
+    requires ordered { first ≤ end }
+    ensures { (activations : List Activation) → IsLayoutOf layout.now activations
+        → result ≡ find (is_gap activations layout.now.input_len ends.now.ends stream) (range_with_len first (end - first)) }
+{
+    let mut position = first;
+    while position < end {
+        match covered_to(layout, ends, stream, position) {
+            Some(next) => position = next.min(end),
+            None => return Some(position),
+        }
+    }
+    None
+}
+
+/// Where the producer of an element ends, if it is Done.
+fn covered_to(layout: &Layout, ends: &Ends, stream: u32, position: u64) -> Option<u64>
+    requires layout { IsLayout layout.now }
+    requires exists { stream < length layout.now.writers }
+    requires produced { 0 < stream }
+    ensures { (activations : List Activation) → IsLayoutOf layout.now activations
+        → Reaches activations layout.now.input_len ends.now.ends stream position result }
+{
+    let span = producer(layout, stream, position)?;
+    if is_done(ends, span.frame) {
+        Some(span.first + u64::from(span.count))
+    } else {
+        None
+    }
+}
+
+/// The activation whose write claim covers a gap, if there is one.
+fn producing(layout: &Layout, gap: Gap) -> Option<u32>
+    requires layout { IsLayout layout.now }
+    requires exists { gap.stream < length layout.now.writers }
+    ensures { (activations : List Activation) → IsLayoutOf layout.now activations
+        → result ≡ option_map (λ w. w.activation) (producer activations gap.stream gap.position) }
+{
+    let span = producer(layout, gap.stream, gap.position)?;
+    Some(span.frame)
+}
+
+/// The write span that covers a position.
+fn producer(layout: &Layout, stream: u32, position: u64) -> Option<Span>
+    requires layout { IsLayout layout.now }
+    requires exists { stream < length layout.now.writers }
+    ensures { (activations : List Activation) → IsLayoutOf layout.now activations
+        → result ≡ option_map span_of (producer activations stream position) }
+{
+    let number = layout.producer(stream, position)?;
+    span(layout, number)
+}
+
+/// A span by its number.
+fn span(layout: &Layout, number: u32) -> Option<Span>
+    ensures { result ≡ slice_get layout.now.spans number }
+{
+    layout.spans.as_slice().get(number as usize).copied()
+}
+
+/// Whether an activation is Done.
+fn is_done(ends: &Ends, frame: u32) -> bool
+    ensures { result ≡ is_done_at ends.now.ends frame }
+{
+    matches!(end_of(ends, frame), Some(TaskEnd::Done))
+}
+
+/// The end of an activation, if it has one.
+pub(crate) fn end_of(ends: &Ends, frame: u32) -> Option<TaskEnd>
+    ensures { result ≡ slice_index_or ends.now.ends frame None }
+{
+    match ends.ends.as_slice().get(frame as usize) {
+        Some(end) => *end,
+        None => None,
+    }
+}

@@ -1,0 +1,29 @@
+ghost use Rattle.std.specs.Prelude.{◌≡◌, All, IfOk};
+ghost use Rattle.collector.specs.Written.{IsByte, IsByteIfThere, byte_of, written};
+
+use flow_core::Ends;
+use os_io::Memory;
+use std::alloc::Global;
+
+/// The bytes that a run writes: the elements of the output before the first one that isn't there.
+pub fn output_bytes(alloc: Global, ends: &Ends) -> Result<Vec<u8>, Memory>
+    requires bytes { All IsByteIfThere ends.now.output }
+    ensures written { IfOk result (λ bytes. bytes.items ≡ written ends.now.output) }
+{
+    let mut bytes = Vec::new(alloc);
+    for element in ends.output.as_slice() {
+        let Some(value) = element else {
+            return Ok(bytes);
+        };
+        bytes.push(byte_of(*value))?;
+    }
+    Ok(bytes)
+}
+
+/// An element as a byte.
+fn byte_of(value: i32) -> u8
+    requires { IsByte value }
+    ensures { result ≡ byte_of value }
+{
+    value as u8
+}

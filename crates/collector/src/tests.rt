@@ -1,0 +1,5 @@
+mod case;
+mod lawful;
+mod missing;
+mod reports;
+mod sinks;

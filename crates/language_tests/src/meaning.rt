@@ -1,0 +1,185 @@
+//! What programs mean: the activations of their control programs, and the ends of their bodies with what they write.
+//!
+//! An activation is shown as `0 [2 5] r 0 3 1 s 4, w 1 2`: its task, its captured scalars, and its claims, a read claim
+//! by its stream, horizon, burst and skip, a write claim by its stream and horizon.
+
+mod bodies;
+mod flows;
+mod large;
+mod programs;
+mod table;
+
+use crate::judge::{Judged, judge};
+use bodies::{BEFORE, BODIES};
+use cddf_meaning::{plain_body, plain_control};
+use flow_core::{Activation, Claim, Control, ControlEnd, TaskEnd};
+use flows::FLOWS;
+use os_ast::Program;
+use programs::PROGRAMS;
+use std::alloc::Global;
+use std::process::Abort;
+use std::test::Fail;
+use table::{FUNCTIONS, TABLE};
+use window_check::Checked;
+
+/// The length of the input, the budget, and the activations with the end.
+type Run = (u32, u64, &'static str);
+/// Which activation of the first run, its inputs, the budget, and its end with what it writes.
+type Body = (usize, &'static [i32], u64, &'static str);
+/// A program, runs of its control program, and some of its bodies.
+type Case = (&'static str, &'static [Run], &'static [Body]);
+
+/// A program that violates no rule.
+fn accepted(alloc: Global, text: &str) -> Result<Checked, Fail> {
+    match judge(alloc, text)? {
+        Judged::Accepted(checked) => Ok(checked),
+        Judged::Syntax | Judged::Refused { .. } => Err(Fail::from("a program without violations")),
+    }
+}
+
+fn write_claim(text: &mut String, claim: &Claim) -> Result<(), Fail> {
+    let Claim {
+        stream,
+        write,
+        horizon,
+        burst,
+        skip,
+    } = *claim;
+    if write {
+        write!(text, " w {stream} {horizon}")?;
+    } else {
+        write!(text, " r {stream} {horizon} {burst} s {skip}")?;
+    }
+    Ok(())
+}
+
+fn write_activation(text: &mut String, activation: &Activation) -> Result<(), Fail> {
+    write!(text, "{} [", activation.site)?;
+    for (place, number) in activation.captured.as_slice().iter().enumerate() {
+        let parted = if place == 0 { "" } else { " " };
+        write!(text, "{parted}{number}")?;
+    }
+    write!(text, "]")?;
+    for (place, claim) in activation.claims.as_slice().iter().enumerate() {
+        let parted = if place == 0 { "" } else { "," };
+        write!(text, "{parted}")?;
+        write_claim(text, claim)?;
+    }
+    Ok(())
+}
+
+fn control_text(alloc: Global, control: &Control) -> Result<String, Fail> {
+    let mut text = String::new(alloc);
+    for activation in control.activations.as_slice() {
+        write_activation(&mut text, activation)?;
+        write!(&mut text, "; ")?;
+    }
+    match control.end {
+        ControlEnd::Done => write!(&mut text, "Done")?,
+        ControlEnd::Trapped { code, line } => write!(&mut text, "trapped {code} line {line}")?,
+        ControlEnd::OverBudget => write!(&mut text, "over budget")?,
+        ControlEnd::Limit(limit) => write!(&mut text, "limit {limit}")?,
+    }
+    Ok(text)
+}
+
+fn body_text(alloc: Global, end: TaskEnd, outputs: &[i32]) -> Result<String, Fail> {
+    let mut text = String::new(alloc);
+    match end {
+        TaskEnd::Done => write!(&mut text, "Done")?,
+        TaskEnd::Trapped { code, line } => write!(&mut text, "trapped {code} line {line}")?,
+        TaskEnd::OverBudget => write!(&mut text, "over budget")?,
+    }
+    for number in outputs {
+        write!(&mut text, " {number}")?;
+    }
+    Ok(text)
+}
+
+/// The end of an activation, and what it writes.
+fn outcome(
+    alloc: Global,
+    program: &Program,
+    activation: &Activation,
+    inputs: &[i32],
+    budget: u64,
+) -> Result<String, Fail> {
+    let (end, outputs) = plain_body(alloc, program, activation, inputs, budget)?;
+    body_text(alloc, end, outputs.as_slice())
+}
+
+fn holds(rt: &impl Abort, alloc: Global, case: &Case) -> Result<(), Fail> {
+    let (text, runs, bodies) = *case;
+    let checked = accepted(alloc, text)?;
+    for (input_len, budget, shown) in runs {
+        let control = plain_control(alloc, &checked.program, *input_len, *budget)?;
+        let found = control_text(alloc, &control)?;
+        assert_eq!(rt; found.as_str(), *shown, "budget {budget} of {text}");
+    }
+    let Some((input_len, budget, _)) = runs.first() else {
+        return Err(Fail::from("a run of the control program"));
+    };
+    let control = plain_control(alloc, &checked.program, *input_len, *budget)?;
+    for (place, inputs, budget, shown) in bodies {
+        let Some(activation) = control.activations.as_slice().get(*place) else {
+            return Err(Fail::from("an activation"));
+        };
+        let found = outcome(alloc, &checked.program, activation, *inputs, *budget)?;
+        assert_eq!(rt;
+            found.as_str(),
+            *shown,
+            "body {place}, budget {budget} of {text}"
+        );
+    }
+    Ok(())
+}
+
+/// The outcome of the one activation of a program, which has no inputs.
+fn outcome_of(alloc: Global, text: &str, budget: u64) -> Result<String, Fail> {
+    let checked = accepted(alloc, text)?;
+    let control = plain_control(alloc, &checked.program, 0, 0)?;
+    match control.activations.as_slice().first() {
+        None => Err(Fail::from("an activation")),
+        Some(activation) => outcome(alloc, &checked.program, activation, &[], budget),
+    }
+}
+
+#[test]
+fn programs_mean_what_was_worked_out_by_hand(rt: HostRuntime) -> Result<(), Fail> {
+    for case in &PROGRAMS {
+        holds(&rt, rt.alloc(), case)?;
+    }
+    for case in &FLOWS {
+        holds(&rt, rt.alloc(), case)?;
+    }
+    Ok(())
+}
+
+#[test]
+fn bodies_end_as_was_worked_out_by_hand(rt: HostRuntime) -> Result<(), Fail> {
+    for (body, budget, shown) in &BODIES {
+        let text = format!(in rt.alloc(); "{BEFORE}{body}\n}}\n")?;
+        let found = outcome_of(rt.alloc(), text.as_str(), *budget)?;
+        assert_eq!(rt; found.as_str(), *shown, "budget {budget} of {body}");
+    }
+    Ok(())
+}
+
+/// A row whose first part has a `;` is a body; any other is an expression.
+#[test]
+fn expressions_and_bodies_have_the_values_of_c(rt: HostRuntime) -> Result<(), Fail> {
+    let before =
+        "int main(void) {\nint s __attribute__((stream)); int y;\n#pragma omp task output(s << y)\n";
+    for (part, value) in &TABLE {
+        let body = if part.find(";").is_some() {
+            format!(in rt.alloc(); "{part}")?
+        } else {
+            format!(in rt.alloc(); "y = {part};")?
+        };
+        let text = format!(in rt.alloc(); "{FUNCTIONS}{before}{{ {body} }}\n}}\n")?;
+        let found = outcome_of(rt.alloc(), text.as_str(), 5_000)?;
+        let shown = format!(in rt.alloc(); "Done {value}")?;
+        assert_eq!(rt; found.as_str(), shown.as_str(), "{part}");
+    }
+    Ok(())
+}

@@ -1,0 +1,13 @@
+pub mod Stacks
+pub mod Following
+pub mod Facts
+pub mod Moving
+pub mod Held
+pub mod Arms
+pub mod Items
+pub mod Elements
+pub mod Calls
+pub mod Starting
+pub mod Looping
+pub mod Ending
+pub mod Written

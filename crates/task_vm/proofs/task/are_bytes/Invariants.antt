@@ -1,0 +1,7 @@
+use Rattle.std.proofs.Common.{◌≡◌, drop}
+use Rattle.std.specs.List.{list_all}
+use Rattle.os_code.specs.Tasks.{is_byte}
+use Rattle.task_vm.proofs.task.are_bytes.Given as goal
+
+abbrev pub invariant-loop-number : goal.invariant-loop-number
+invariant-loop-number l = list_all is_byte (drop l.number-index l.numbers) ≡ list_all is_byte l.numbers

@@ -1,0 +1,9 @@
+-- What a reader believes: what a scratch has space for.
+pub mod Space
+-- What restates private functions.
+pub mod Room
+pub mod Rows
+pub mod Halting
+pub mod Ending
+-- What tests write out.
+pub mod Written

@@ -1,0 +1,39 @@
+-- Codes that tests write out: a task, the functions that it calls, and `main`, which is the last unit.
+use Rattle.std.specs.Prelude.{ℕ, ◌-◌, Bool, true, false, not, ◌==◌, ◌&&◌, nat_le, nat_lt, List, [], ◌∷◌, length, filter, sum_by, Option, Some, None, ℤ}
+use Rattle.flow_core.specs.declared.claim.Claim.{Claim}
+use Rattle.os_code.specs.declared.instr.Instr.{Instr}
+use Rattle.os_code.specs.declared.site.SiteItem.{SiteItem}
+use Rattle.os_code.specs.declared.unit.Unit.{Unit as CodeUnit}
+use Rattle.os_code.specs.declared.parts.Parts.{Parts}
+use Rattle.os_code.specs.Parts.{made_of}
+
+-- a code with one site, at line 90, and three streams
+abbrev pub written : List Instr → List CodeUnit → (task : ℕ) → (captured : List ℕ) → List SiteItem → Parts
+written instrs units task captured items =
+    made_of instrs units (record { unit = task; line = 90; captured = captured; items = items } ∷ []) (length units - 1) 3
+
+abbrev pub same_bool : Bool → Bool → Bool
+same_bool true b = b
+same_bool false b = not b
+
+abbrev pub single_fits : Option ℕ → ℕ → Bool
+single_fits None horizon = horizon == 1
+single_fits (Some slot) horizon = true
+
+abbrev pub claim_fits : SiteItem → Claim → Bool
+claim_fits item claim =
+    same_bool item.write claim.write && nat_lt claim.stream 3 && nat_le 1 claim.horizon && nat_le claim.horizon 65536
+    && single_fits item.window claim.horizon
+
+abbrev pub claims_fit : List SiteItem → List Claim → Bool
+claims_fit [] [] = true
+claims_fit (item ∷ items) (claim ∷ claims) = claim_fits item claim && claims_fit items claims
+claims_fit [] (claim ∷ claims) = false
+claims_fit (item ∷ items) [] = false
+
+-- what an activation of it takes and gives
+abbrev pub is_run : (captured : List ℕ) → List SiteItem → (values : List ℤ) → List Claim → (inputs outputs : ℕ) → Bool
+is_run captured items values claims inputs outputs =
+    (length values == length captured) && claims_fit items claims
+    && (inputs == sum_by (λ (claim : Claim). claim.horizon) (filter (λ (claim : Claim). not claim.write) claims))
+    && (outputs == sum_by (λ (claim : Claim). claim.horizon) (filter (λ (claim : Claim). claim.write) claims))

@@ -1,0 +1,19 @@
+//! Running a task on the machine of os_code.
+//!
+//! `run_task` runs the unit of an activation's site and answers how it ended. Its promise is the machine's meaning,
+//! exactly: the end with its code and line, the outputs of a task that is done, and the number of steps, which
+//! `Scratch::steps` tells and which the budget bounds. It takes no memory: `Scratch::new` reserves once what the
+//! longest chains of calls of a code need, and a scratch serves one run after another, whatever their ends.
+#![tactic(auto)]
+
+mod registers;
+mod rows;
+mod running;
+mod scratch;
+mod task;
+
+pub use scratch::Scratch;
+pub use task::run_task;
+
+#[cfg(test)]
+mod tests;

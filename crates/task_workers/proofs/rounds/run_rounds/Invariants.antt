@@ -1,0 +1,12 @@
+use Rattle.std.proofs.Common.{◌≤◌, length, count_by, All}
+use Rattle.std.specs.Prelude.{is_none}
+use Rattle.flow_core.specs.Plans.{plan_meaning}
+use Rattle.flow_core.specs.Board.{IsRun}
+use Rattle.task_workers.specs.declared.worker.Worker.{Worker}
+use Rattle.task_workers.proofs.rounds.run_rounds.Given as goal
+
+abbrev pub invariant-loop-turn : goal.invariant-loop-turn
+invariant-loop-turn g l = IsRun l.plan (plan_meaning l.plan (g.B.Bodies.outcome l.bodies)) l.board l.turn × (l.turn ≤ length l.board.waits.opened.items) × All (λ (w : Worker g.row.S.Denot). g.B.Bodies.fits l.bodies w.scratch) l.workers
+
+abbrev pub decreases-loop-turn : goal.decreases-loop-turn
+decreases-loop-turn g l = count_by is_none l.board.ends.items

@@ -1,0 +1,2 @@
+-- What the frames of a round came to.
+pub mod Results

@@ -1,0 +1,191 @@
+ghost use Rattle.std.specs.Prelude.{◌≡◌, ◌<◌, ◌≤◌, ◌+◌, All, OnOk, length};
+ghost use denote.Param.Send.{IsSync, IsSend};
+ghost use Rattle.flow_core.specs.Plans.{plan_meaning};
+ghost use Rattle.flow_core.specs.IsSound.{IsSound};
+ghost use Rattle.flow_core.specs.Serves.{Serves};
+ghost use Rattle.flow_core.specs.Counted.{IsCounted};
+ghost use Rattle.flow_core.specs.Shows.{Shows};
+ghost use Rattle.task_workers.specs.Results.{AreResults, MayRun, room_of};
+
+use crate::gate::Gate;
+use crate::results::outputs_of;
+use crate::worker::{Worker, run_frames};
+use flow_core::{Board, Bodies, Plan, TaskEnd};
+use os_io::Memory;
+use std::thread::{Threads, join_mut};
+
+/// Runs the frames of a round by workers in threads: a part of the frames by each half of the workers.
+#[cycle(halves)]
+pub(crate) fn run_by<R: Threads + Sync, B: Bodies<Scratch = S>, G: Gate, S: Send + Drop>(
+    rt: &R,
+    plan: &Plan,
+    bodies: &B,
+    board: &Board,
+    gate: &G,
+    frames: &[u32],
+    ends: &mut [TaskEnd],
+    outputs: &mut [i32],
+    workers: &mut [Worker<S>],
+) -> Result<(), Memory>
+    requires sound { IsSound plan.now }
+    requires served { Serves plan.now (B.outcome bodies.now) (B.takes bodies.now) }
+    requires counted { IsCounted plan.now board.now.cells.items board.now.waits }
+    requires shows { Shows plan.now (plan_meaning plan.now (B.outcome bodies.now))
+        board.now.cells.items board.now.ends.items }
+    requires may_run { All (MayRun plan.now board.now.waits) frames.now }
+    requires end_each { length ends.old ≡ length frames.now }
+    requires room { length outputs.old ≡ room_of plan.now frames.now }
+    requires few { room_of plan.now frames.now ≤ 4194304 }
+    requires frames_are_few { length frames.now ≤ 65536 }
+    requires some { (0 < length workers.old) × (length workers.old ≤ 64) }
+    requires fitting { All (λ w. B.fits bodies.now w.scratch) workers.old }
+    ensures results { OnOk result (AreResults plan.now (plan_meaning plan.now (B.outcome bodies.now))
+        frames.now ends.new outputs.new) }
+    ensures fitting { All (λ w. B.fits bodies.now w.scratch) workers.new }
+{
+    if workers.len() == 1 {
+        return run_frames(
+            plan,
+            bodies,
+            board,
+            gate,
+            frames,
+            ends,
+            outputs,
+            &mut workers[0],
+        );
+    }
+    let low = workers.len() / 2;
+    let (front, back) = frames.split_at(share_of(frames.len(), low, workers.len()));
+    let (front_ends, back_ends) = ends.split_at_mut(front.len());
+    let (front_outputs, back_outputs) = outputs.split_at_mut(outputs_of(plan, front));
+    let (first, second) = workers.split_at_mut(low);
+    both_halves(
+        rt,
+        plan,
+        bodies,
+        board,
+        gate,
+        front,
+        front_ends,
+        front_outputs,
+        first,
+        back,
+        back_ends,
+        back_outputs,
+        second,
+    )?;
+    Ok(())
+}
+
+/// How many of the frames so many of the workers run.
+fn share_of(frames: usize, some: usize, workers: usize) -> usize
+    requires frames { frames ≤ 65536 }
+    requires workers { (some ≤ workers) × (0 < workers) × (workers ≤ 64) }
+    ensures { result ≤ frames }
+{
+    frames * some / workers
+}
+
+#[cycle(halves)]
+fn both_halves<R: Threads + Sync, B: Bodies<Scratch = S>, G: Gate, S: Send + Drop>(
+    rt: &R,
+    plan: &Plan,
+    bodies: &B,
+    board: &Board,
+    gate: &G,
+    front: &[u32],
+    front_ends: &mut [TaskEnd],
+    front_outputs: &mut [i32],
+    first: &mut [Worker<S>],
+    back: &[u32],
+    back_ends: &mut [TaskEnd],
+    back_outputs: &mut [i32],
+    second: &mut [Worker<S>],
+) -> Result<(), Memory>
+    requires sound { IsSound plan.now }
+    requires served { Serves plan.now (B.outcome bodies.now) (B.takes bodies.now) }
+    requires counted { IsCounted plan.now board.now.cells.items board.now.waits }
+    requires shows { Shows plan.now (plan_meaning plan.now (B.outcome bodies.now))
+        board.now.cells.items board.now.ends.items }
+    requires may_run { All (MayRun plan.now board.now.waits) front.now
+        × All (MayRun plan.now board.now.waits) back.now }
+    requires end_each { (length front_ends.old ≡ length front.now) × (length back_ends.old ≡ length back.now) }
+    requires room { (length front_outputs.old ≡ room_of plan.now front.now)
+        × (length back_outputs.old ≡ room_of plan.now back.now) }
+    requires few { (room_of plan.now front.now ≤ 4194304) × (room_of plan.now back.now ≤ 4194304) }
+    requires frames_are_few { (length front.now ≤ 65536) × (length back.now ≤ 65536) }
+    requires some { (0 < length first.old) × (length first.old ≤ 64)
+        × (0 < length second.old) × (length second.old ≤ 64) }
+    requires fitting_first { All (λ w. B.fits bodies.now w.scratch) first.old }
+    requires fitting_second { All (λ w. B.fits bodies.now w.scratch) second.old }
+    ensures front { OnOk result (AreResults plan.now (plan_meaning plan.now (B.outcome bodies.now))
+        front.now front_ends.new front_outputs.new) }
+    ensures back { OnOk result (AreResults plan.now (plan_meaning plan.now (B.outcome bodies.now))
+        back.now back_ends.new back_outputs.new) }
+    ensures fitting_first { All (λ w. B.fits bodies.now w.scratch) first.new }
+    ensures fitting_second { All (λ w. B.fits bodies.now w.scratch) second.new }
+{
+    let mut one = || -> Result<(), Memory>
+        requires { IsSync R.row × IsSync B.row × IsSync G.row × IsSend S.row
+            × IsSound plan.now
+            × Serves plan.now (B.outcome bodies.now) (B.takes bodies.now)
+            × IsCounted plan.now board.now.cells.items board.now.waits
+            × Shows plan.now (plan_meaning plan.now (B.outcome bodies.now)) board.now.cells.items board.now.ends.items
+            × All (MayRun plan.now board.now.waits) front.now
+            × (length front_ends.now ≡ length front.now)
+            × (length front_outputs.now ≡ room_of plan.now front.now)
+            × (room_of plan.now front.now ≤ 4194304)
+            × (length front.now ≤ 65536)
+            × (0 < length first.now) × (length first.now ≤ 64)
+            × All (λ w. B.fits bodies.now w.scratch) first.now }
+        ensures { OnOk result (AreResults plan.entry.now (plan_meaning plan.entry.now (B.outcome bodies.entry.now))
+            front.entry.now front_ends.exit.now front_outputs.exit.now)
+            × All (λ w. B.fits bodies.entry.now w.scratch) first.exit.now }
+    {
+        run_by(
+            rt,
+            plan,
+            bodies,
+            board,
+            gate,
+            front,
+            front_ends,
+            front_outputs,
+            first,
+        )
+    };
+    let mut other = || -> Result<(), Memory>
+        requires { IsSync R.row × IsSync B.row × IsSync G.row × IsSend S.row
+            × IsSound plan.now
+            × Serves plan.now (B.outcome bodies.now) (B.takes bodies.now)
+            × IsCounted plan.now board.now.cells.items board.now.waits
+            × Shows plan.now (plan_meaning plan.now (B.outcome bodies.now)) board.now.cells.items board.now.ends.items
+            × All (MayRun plan.now board.now.waits) back.now
+            × (length back_ends.now ≡ length back.now)
+            × (length back_outputs.now ≡ room_of plan.now back.now)
+            × (room_of plan.now back.now ≤ 4194304)
+            × (length back.now ≤ 65536)
+            × (0 < length second.now) × (length second.now ≤ 64)
+            × All (λ w. B.fits bodies.now w.scratch) second.now }
+        ensures { OnOk result (AreResults plan.entry.now (plan_meaning plan.entry.now (B.outcome bodies.entry.now))
+            back.entry.now back_ends.exit.now back_outputs.exit.now)
+            × All (λ w. B.fits bodies.entry.now w.scratch) second.exit.now }
+    {
+        run_by(
+            rt,
+            plan,
+            bodies,
+            board,
+            gate,
+            back,
+            back_ends,
+            back_outputs,
+            second,
+        )
+    };
+    let (a, b) = join_mut(rt, &mut one, &mut other);
+    a?;
+    b?;
+    Ok(())
+}

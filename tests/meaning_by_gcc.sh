@@ -1,0 +1,57 @@
+#!/usr/bin/env bash
+# Compiles each expression and body of the table of values by gcc, and compares. A test of language_tests holds the same
+# table against what the programs mean. The last line counts what passed and what failed.
+set -u
+top=$(cd "$(dirname "${BASH_SOURCE[0]}")/.." && pwd)
+table=$top/crates/language_tests/src/meaning/table.rt
+if ! command -v gcc >/dev/null; then
+    echo 'gcc is not on this machine: the table of values is not compared'
+    exit 0
+fi
+work=$(mktemp -d)
+trap 'rm -rf "$work"' EXIT
+
+functions() {
+    sed -n '/FUNCTIONS: &str = "/,/^";$/p' "$table" | sed -e 's/.*FUNCTIONS: &str = "//' -e '/^";$/d'
+}
+
+# Each row as a block of C: what is no body is made one.
+rows() {
+    awk '
+    { text = text $0 " " }
+    END {
+        while (match(text, /\( *"[^"]*", *-?[0-9]+,? *\)/)) {
+            row = substr(text, RSTART, RLENGTH)
+            text = substr(text, RSTART + RLENGTH)
+            split(row, part, "\"")
+            value = part[3]
+            gsub(/[^-0-9]/, "", value)
+            body = part[2] ~ /;/ ? part[2] : "y = " part[2] ";"
+            printf "{ int y = 0; { %s } compare(\"%s\", y, %sL); }\n", body, part[2], value
+        }
+    }' "$table"
+}
+
+{
+    echo '#include <stdio.h>'
+    functions
+    cat <<'C'
+static int passed, failed;
+static void compare(const char *row, long found, long value) {
+    if (found == value) { passed++; return; }
+    failed++;
+    printf("%s: gcc gives %ld, the table has %ld\n", row, found, value);
+}
+int main(void) {
+C
+    rows
+    cat <<'C'
+printf("%d passed, %d failed\n", passed, failed);
+return failed || passed < 190;
+}
+C
+} >"$work/table.c"
+
+# What C leaves undefined ends the program at once.
+gcc -w -O0 -fsanitize=undefined -fsanitize-undefined-trap-on-error -o "$work/table" "$work/table.c" || exit 1
+exec "$work/table"
