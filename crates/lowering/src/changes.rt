@@ -145,14 +145,13 @@ fn emit_aiming(draft: &mut Draft, what: What) -> Result<(), Memory>
     ensures { OnOk result (draft.new ≡ with_instrs draft.old (aiming what)) }
 {
     match what {
-        What::Element(_) => draft.emit(Instr::Push(0)),
+        What::Element(_) | What::View(_) => draft.emit(Instr::Push(0)),
         What::Constant(_)
         | What::Function(_)
         | What::Scalar(_)
         | What::Array { .. }
         | What::Window(_)
-        | What::Stream { .. }
-        | What::View(_) => Ok(()),
+        | What::Stream { .. } => Ok(()),
     }
 }
 
@@ -162,13 +161,12 @@ fn checking_at(what: What, line: u32) -> Instr
 {
     match what {
         What::Array { first: _, size } => Instr::CheckAt { size, line },
-        What::View(item) => Instr::ItemCheck { item, line },
+        What::Element(item) | What::View(item) => Instr::ItemCheck { item, line },
         What::Constant(_)
         | What::Function(_)
         | What::Scalar(_)
         | What::Window(_)
-        | What::Stream { .. }
-        | What::Element(_) => Instr::CheckAt { size: 0, line },
+        | What::Stream { .. } => Instr::CheckAt { size: 0, line },
     }
 }
 
@@ -178,13 +176,12 @@ fn storing(what: What, line: u32) -> Instr
 {
     match what {
         What::Scalar(slot) => Instr::Store(slot),
-        What::Element(item) => Instr::ItemStore { item, line },
+        What::Element(item) | What::View(item) => Instr::ItemStore { item, line },
         What::Constant(_)
         | What::Function(_)
         | What::Array { .. }
         | What::Window(_)
-        | What::Stream { .. }
-        | What::View(_) => Instr::Drop,
+        | What::Stream { .. } => Instr::Drop,
     }
 }
 
@@ -194,13 +191,12 @@ fn storing_at(what: What, line: u32) -> Instr
 {
     match what {
         What::Array { first, size } => Instr::StoreAt { first, size, line },
-        What::View(item) => Instr::ItemStore { item, line },
+        What::Element(item) | What::View(item) => Instr::ItemStore { item, line },
         What::Constant(_)
         | What::Function(_)
         | What::Scalar(_)
         | What::Window(_)
-        | What::Stream { .. }
-        | What::Element(_) => Instr::StoreAt {
+        | What::Stream { .. } => Instr::StoreAt {
             first: 0,
             size: 0,
             line,

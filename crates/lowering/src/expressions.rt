@@ -210,15 +210,12 @@ pub(crate) fn emit_reading(draft: &mut Draft, what: What, line: u32) -> Result<(
     match what {
         What::Constant(value) => draft.emit(Instr::Push(value)),
         What::Scalar(slot) => draft.emit(Instr::Load(slot)),
-        What::Element(item) => {
+        What::Element(item) | What::View(item) => {
             draft.emit(Instr::Push(0))?;
             draft.emit(Instr::ItemLoad { item, line })
         }
-        What::Function(_)
-        | What::Array { .. }
-        | What::Window(_)
-        | What::Stream { .. }
-        | What::View(_) => draft.emit(Instr::Push(0)),
+        What::Function(_) | What::Array { .. } | What::Window(_) | What::Stream { .. } =>
+            draft.emit(Instr::Push(0)),
     }
 }
 
@@ -228,13 +225,12 @@ pub(crate) fn reading_at(what: What, line: u32) -> Instr
 {
     match what {
         What::Array { first, size } => Instr::LoadAt { first, size, line },
-        What::View(item) => Instr::ItemLoad { item, line },
+        What::Element(item) | What::View(item) => Instr::ItemLoad { item, line },
         What::Constant(_)
         | What::Function(_)
         | What::Scalar(_)
         | What::Window(_)
-        | What::Stream { .. }
-        | What::Element(_) => Instr::LoadAt {
+        | What::Stream { .. } => Instr::LoadAt {
             first: 0,
             size: 0,
             line,

@@ -49,8 +49,8 @@ emit_stmt-returns-in_ok-emit_stmt-in-None t c =
     ∙ ap (λ (h : Head). tree.For (start_tree h.start) (option_map expr_tree h.test) (option_map change_tree h.step) body) (sym c.deref-in-For.ensures)
     ∙ ap (λ s. tree.For (start_tree head.start) (option_map expr_tree head.test) (option_map change_tree s) body) step in
     let made = for_made tells (start_tree head.start) (option_map expr_tree head.test) body c.args.exits c.args.next _ _ _ _ _ _
-        c.in_ok-end-in-For.ensures.0 c.in_ok-end-in-For.ensures.1 c.in_ok-again-in-For.ensures.0 c.in_ok-again-in-For.ensures.1
-        (c.in_ok-emit_stmt-in-None.ensures ∙ ap (λ x. stmt_code tells body x (Some c.in_ok-again-in-For.again) c.begin_for.new.draft) c.in_loop-in-None.ensures) in
+    c.in_ok-end-in-For.ensures.0 c.in_ok-end-in-For.ensures.1 c.in_ok-again-in-For.ensures.0 c.in_ok-again-in-For.ensures.1
+    (c.in_ok-emit_stmt-in-None.ensures ∙ ap (λ x. stmt_code tells body x (Some c.in_ok-again-in-For.again) c.begin_for.new.draft) c.in_loop-in-None.ensures) in
     rw (is_for, ← made) c.close-in-None.ensures
 
 pub emit_stmt-returns-in_ok-emit_step-in-Some : goal.emit_stmt-returns-in_ok-emit_step-in-Some
@@ -65,8 +65,8 @@ emit_stmt-returns-in_ok-emit_step-in-Some t c =
     ∙ ap (λ (h : Head). tree.For (start_tree h.start) (option_map expr_tree h.test) (option_map change_tree h.step) body) (sym c.deref-in-For.ensures)
     ∙ ap (λ s. tree.For (start_tree head.start) (option_map expr_tree head.test) (option_map change_tree s) body) step in
     let made = for_with_step_made tells (start_tree head.start) (option_map expr_tree head.test) body c.args.exits c.args.next (change_tree c.in-Some.change) _ _ _ _ _ _ _ _ _
-        c.in_ok-end-in-For.ensures.0 c.in_ok-end-in-For.ensures.1 c.in_ok-again-in-For.ensures.0 c.in_ok-again-in-For.ensures.1
-        c.in_ok-step-in-Some.ensures.0 c.in_ok-step-in-Some.ensures.1
-        (c.in_ok-emit_stmt-in-Some.ensures ∙ ap (λ x. stmt_code tells body x None c.label-in-Some.new.self) c.in_loop-in-Some.ensures)
-        c.in_ok-emit_step-in-Some.ensures in
+    c.in_ok-end-in-For.ensures.0 c.in_ok-end-in-For.ensures.1 c.in_ok-again-in-For.ensures.0 c.in_ok-again-in-For.ensures.1
+    c.in_ok-step-in-Some.ensures.0 c.in_ok-step-in-Some.ensures.1
+    (c.in_ok-emit_stmt-in-Some.ensures ∙ ap (λ x. stmt_code tells body x None c.label-in-Some.new.self) c.in_loop-in-Some.ensures)
+    c.in_ok-emit_step-in-Some.ensures in
     rw (is_for, ← made) c.close-in-Some.ensures
