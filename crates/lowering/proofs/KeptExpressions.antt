@@ -33,10 +33,10 @@ unary_kept (Some v) op line k d = keeps_instr (kept d) (Push v)
 unary_kept None op line k d = keeps_instr (k d) (instr.Unary (operator_of_one op) line)
 
 -- two labels for what comes
-two_labels : (d : Draft) → Keeps d (with_label (with_label d))
+pub two_labels : (d : Draft) → Keeps d (with_label (with_label d))
 two_labels d = keeps_label (keeps_label (kept d))
 
-link_kept : (op : Binary) (line : ℕ) {f : Emission} → KeepsLabels f → KeepsLabels (with_link op line f)
+pub link_kept : (op : Binary) (line : ℕ) {f : Emission} → KeepsLabels f → KeepsLabels (with_link op line f)
 link_kept binary.And line k d =
     keeps_place
     (keeps_instr
@@ -96,15 +96,15 @@ mutual
   expr_kept tells (tree.Chain l first links) d = and_then_kept (expr_kept tells first d) (links_kept tells links)
   expr_kept tells (tree.Choice c a b) d = choice_kept (expr_kept tells c) (expr_kept tells a) (expr_kept tells b) d
 
-  place_kept : (tells : ℕ → What) (t : tree.TargetTree) → KeepsLabels (place_code tells t)
+  pub place_kept : (tells : ℕ → What) (t : tree.TargetTree) → KeepsLabels (place_code tells t)
   place_kept tells (tree.Variable n) d = keeps_instrs (kept d) (reading (tells n.mark.place) n.mark.line)
   place_kept tells (tree.Element n m e) d = keeps_instr (expr_kept tells e d) (reading_at (tells n.mark.place) m.line)
 
-  links_kept : (tells : ℕ → What) (ls : tree.Links) → KeepsLabels (links_code tells ls)
+  pub links_kept : (tells : ℕ → What) (ls : tree.Links) → KeepsLabels (links_code tells ls)
   links_kept tells tree.no_links d = kept d
   links_kept tells (tree.link op m e rest) d = and_then_kept (link_kept op m.line (expr_kept tells e) d) (links_kept tells rest)
 
-  args_kept : (tells : ℕ → What) (es : tree.Args) → KeepsLabels (args_code tells es)
+  pub args_kept : (tells : ℕ → What) (es : tree.Args) → KeepsLabels (args_code tells es)
   args_kept tells tree.no_args d = kept d
   args_kept tells (tree.arg e es) d = and_then_kept (expr_kept tells e d) (args_kept tells es)
 

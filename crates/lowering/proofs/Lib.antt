@@ -1,4 +1,6 @@
+pub mod Becoming
 pub mod Blocks
+pub mod ExpressionsStand
 pub mod Keeping
 pub mod KeptExpressions
 pub mod Lists
