@@ -128,7 +128,7 @@ mutual
   condition_kept tells (tree.Chain level.Sum first links) fails d = keeps_instr (expr_kept tells (tree.Chain level.Sum first links) d) (JumpZero fails.number)
   condition_kept tells (tree.Chain level.Product first links) fails d = keeps_instr (expr_kept tells (tree.Chain level.Product first links) d) (JumpZero fails.number)
 
-  conditions_kept : (tells : ℕ → What) (ls : tree.Links) (fails : Label) → KeepsLabels (conditions_code tells ls fails)
+  pub conditions_kept : (tells : ℕ → What) (ls : tree.Links) (fails : Label) → KeepsLabels (conditions_code tells ls fails)
   conditions_kept tells tree.no_links fails d = kept d
   conditions_kept tells (tree.link op m e rest) fails d = and_then_kept (condition_kept tells e fails d) (conditions_kept tells rest fails)
 
