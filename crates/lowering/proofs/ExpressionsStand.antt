@@ -111,7 +111,7 @@ given line (Ok w) v is = ap ok_of is
 given line (Err trap) v is = absurd (none-some v is)
 
 -- two lists of instructions, one behind the other
-stands-append : (code : Parts) (is js : List Instr) (from mid to : ℕ) → Stands code is from mid → Stands code js mid to → Stands code (is ++ js) from to
+pub stands-append : (code : Parts) (is js : List Instr) (from mid to : ℕ) → Stands code is from mid → Stands code js mid to → Stands code (is ++ js) from to
 stands-append code [] js from mid to first second = subst (λ n. Stands code js n to) (sym first) second
 stands-append code (i ∷ is) js from mid to first second = (first.0, stands-append code is js (from + 1) mid to first.1 second)
 

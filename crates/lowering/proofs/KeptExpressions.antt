@@ -132,22 +132,22 @@ mutual
   conditions_kept tells tree.no_links fails d = kept d
   conditions_kept tells (tree.link op m e rest) fails d = and_then_kept (condition_kept tells e fails d) (conditions_kept tells rest fails)
 
-aim_kept : (tells : ℕ → What) (old : Bool) (t : tree.TargetTree) → KeepsLabels (aim_code tells old t)
+pub aim_kept : (tells : ℕ → What) (old : Bool) (t : tree.TargetTree) → KeepsLabels (aim_code tells old t)
 aim_kept tells old (tree.Variable n) d =
     keeps_instrs (keeps_instrs (kept d) (aiming (tells n.mark.place))) (fetching old (tells n.mark.place) n.mark.line)
 aim_kept tells old (tree.Element n m e) d = keeps_instrs (expr_kept tells e d) (fetching_at old (tells n.mark.place) m.line)
 
-store_kept : (tells : ℕ → What) (t : tree.TargetTree) → KeepsLabels (store_code tells t)
+pub store_kept : (tells : ℕ → What) (t : tree.TargetTree) → KeepsLabels (store_code tells t)
 store_kept tells (tree.Variable n) d = keeps_instr (kept d) (storing (tells n.mark.place) n.mark.line)
 store_kept tells (tree.Element n m e) d = keeps_instr (kept d) (storing_at (tells n.mark.place) m.line)
 
 changed_kept : (tells : ℕ → What) (old : Bool) (t : tree.TargetTree) {f : Emission} → KeepsLabels f → KeepsLabels (changed_code tells old t f)
 changed_kept tells old t k d = and_then_kept (and_then_kept (aim_kept tells old t d) k) (store_kept tells t)
 
-operated_kept : (tells : ℕ → What) (op : Binary) (line : ℕ) (e : tree.ExprTree) → KeepsLabels (operated_code tells op line e)
+pub operated_kept : (tells : ℕ → What) (op : Binary) (line : ℕ) (e : tree.ExprTree) → KeepsLabels (operated_code tells op line e)
 operated_kept tells op line e d = keeps_instrs (expr_kept tells e d) (operation op line)
 
-stepped_kept : (op : Binary) (line : ℕ) → KeepsLabels (stepped_code op line)
+pub stepped_kept : (op : Binary) (line : ℕ) → KeepsLabels (stepped_code op line)
 stepped_kept op line d = keeps_instrs (keeps_instr (kept d) (Push (pos 1))) (operation op line)
 
 plain_aim_kept : (tells : ℕ → What) (quiet : Bool) (t : tree.TargetTree) → KeepsLabels (plain_aim tells quiet t)

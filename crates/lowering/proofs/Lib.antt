@@ -1,5 +1,6 @@
 pub mod Becoming
 pub mod Blocks
+pub mod ChangesStand
 pub mod ConditionsStand
 pub mod ExpressionsStand
 pub mod Keeping
