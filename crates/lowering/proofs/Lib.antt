@@ -2,6 +2,7 @@ pub mod Becoming
 pub mod Blocks
 pub mod ChangesStand
 pub mod ConditionsStand
+pub mod DeclaratorsStand
 pub mod ExpressionsStand
 pub mod Keeping
 pub mod KeptExpressions
