@@ -11,3 +11,4 @@ pub mod Loops
 mod Parts
 mod Placed
 pub mod Rules
+pub mod TasksStand
