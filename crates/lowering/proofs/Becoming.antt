@@ -1,16 +1,15 @@
 -- What a code is that a draft becomes.
-use Rattle.std.proofs.Common.{◌≡◌, ◌∙◌, ℕ, zero, suc, ◌+◌, ◌<◌, ◌≤◌, List, [], ◌∷◌, ◌++◌, length, length-append, Option, Some, None, slice_get, slice_set, ap, subst, sym, refl, arith, ◌≢◌, inl, inr}
+use Rattle.std.proofs.Common.{◌≡◌, ◌∙◌, ℕ, List, [], ◌∷◌, ◌++◌, length, Option, Some, None, slice_get, ap, sym, refl, inl, inr}
 use Rattle.std.proofs.lemmas.Bool.Decides.{eqb_tells}
 use Rattle.std.proofs.lemmas.Option.{none-some, slice_get_within}
 use Rattle.lowering.proofs.Keeping.{Keeps}
 use Rattle.lowering.proofs.Lists.{slice_get-set_other, slice_get-set_same}
-use Rattle.lowering.specs.Draft.{Becomes, next_label, with_instr, with_instrs, with_label, with_place, with_places}
+use Rattle.lowering.specs.Draft.{Becomes, with_instr, with_place, with_places}
 use Rattle.lowering.specs.declared.draft.Draft.{Draft}
 use Rattle.lowering.specs.declared.draft.Label.{Label}
 use Rattle.os_code.specs.Parts.{instr_at}
 use Rattle.os_code.specs.declared.parts.Parts.{Parts}
 use Rattle.os_code.specs.declared.instr.Instr.{Instr}
-use Rattle.simulation.specs.Expressions.{Stands}
 
 -- the last of a list
 pub slice_get-last : {A : Type 0} (xs : List A) (x : A) → slice_get (xs ++ x ∷ []) (length xs) ≡ Some x

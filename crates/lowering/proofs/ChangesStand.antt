@@ -1,13 +1,13 @@
 -- The code that drafts of changes become stands for them.
-use Rattle.std.proofs.Common.{◌≡◌, ◌∙◌, ℕ, ◌+◌, Bool, true, false, List, [], ◌∷◌, ◌++◌, map, length, Some, ap, subst, sym, refl}
+use Rattle.std.proofs.Common.{◌≡◌, ◌∙◌, ℕ, Bool, true, false, [], ◌∷◌, map, length, Some, ap, subst, sym, refl}
 use Rattle.std.specs.Prelude.{pos}
 use Rattle.cddf_meaning.specs.Operators.{step_operator}
 use Rattle.lowering.proofs.Becoming.{back, instr_stands}
 use Rattle.lowering.proofs.ExpressionsStand.{IsPart, expr_stands, length-instr, plain-operation, plain-reading, plain-reading_at, stands-append, stands_instr, stands_plain}
-use Rattle.lowering.proofs.Keeping.{KeepsLabels, kept, keeps_instr, keeps_instrs}
-use Rattle.lowering.proofs.KeptExpressions.{aim_kept, expr_kept, operated_kept, stepped_kept, store_kept}
-use Rattle.lowering.specs.Draft.{Becomes, with_instr, with_instrs, with_places}
-use Rattle.lowering.specs.Emission.Changes.{aim_code, change_code, changed_code, operated_code, plain_aim, plain_code, stepped_code, store_code}
+use Rattle.lowering.proofs.Keeping.{kept, keeps_instr, keeps_instrs}
+use Rattle.lowering.proofs.KeptExpressions.{expr_kept, operated_kept, stepped_kept}
+use Rattle.lowering.specs.Draft.{Becomes, with_instrs, with_places}
+use Rattle.lowering.specs.Emission.Changes.{change_code, changed_code, operated_code, plain_aim, stepped_code, store_code}
 use Rattle.lowering.specs.Emission.Expressions.{Emission, expr_code}
 use Rattle.lowering.specs.declared.draft.Draft.{Draft}
 use Rattle.os_ast.specs.Leveled as leveled
@@ -21,8 +21,8 @@ use Rattle.os_ast.specs.declared.stmt.Assign.TheVariants as assign
 use Rattle.os_code.specs.declared.instr.Instr.TheVariants.{Copy, Push}
 use Rattle.os_code.specs.declared.parts.Parts.{Parts}
 use Rattle.simulation.specs.Changes.{HasAssigned, HasChange, HasChanged, HasStepped, is_quiet, set, set_unchecked, after, before}
-use Rattle.simulation.specs.Expressions.{Stands, operation}
-use Rattle.simulation.specs.Names.{aiming, checking_at, fetching, fetching_at, reading_at, storing, storing_at}
+use Rattle.simulation.specs.Expressions.{operation}
+use Rattle.simulation.specs.Names.{aiming, checking_at, fetching, fetching_at, storing, storing_at}
 
 -- instructions without labels
 module _ (place_of : ℕ → ℕ) where
@@ -84,8 +84,7 @@ module _ {code : Parts} {place_of : ℕ → ℕ} (tells : ℕ → What) where
       let fetched = with_instrs aimed (fetching old w line) in
       let made = f fetched in
       let bm : Becomes made code place_of = back (keeps_instr (kept made) (storing w line)) b in
-      let bf : Becomes fetched code place_of = back (part.keeps fetched) bm in
-      (
+      let bf : Becomes fetched code place_of = back (part.keeps fetched) bm in (
         length fetched.instrs,
         length made.instrs,
         stands-append code (aiming w) (fetching old w line) (length d.instrs) (length aimed.instrs) (length fetched.instrs)
@@ -101,8 +100,7 @@ module _ {code : Parts} {place_of : ℕ → ℕ} (tells : ℕ → What) where
       let fetched = with_instrs index (fetching_at old w line) in
       let made = f fetched in
       let bm : Becomes made code place_of = back (keeps_instr (kept made) (storing_at w line)) b in
-      let bf : Becomes fetched code place_of = back (part.keeps fetched) bm in
-      (
+      let bf : Becomes fetched code place_of = back (part.keeps fetched) bm in (
         length index.instrs,
         length fetched.instrs,
         length made.instrs,

@@ -1,14 +1,13 @@
 -- The code that drafts of conditions and changes become stands for them.
-use Rattle.std.proofs.Common.{◌≡◌, ◌∙◌, ℕ, zero, suc, ◌+◌, ◌&&◌, Bool, true, false, List, [], ◌∷◌, ◌++◌, map, length, Some, None, ap, subst, sym, refl, arith}
+use Rattle.std.proofs.Common.{◌≡◌, ℕ, zero, suc, Bool, true, false, length, ap, subst, sym}
 use Rattle.std.proofs.lemmas.Bool.{false≢true}
-use Rattle.cddf_meaning.specs.Operators.{step_operator}
 use Rattle.lowering.proofs.Becoming.{back, instr_stands}
-use Rattle.lowering.proofs.ExpressionsStand.{IsPart, expr_part, expr_stands, length-instr, plain-operation, plain-reading, plain-reading_at, stands_instr, stands_plain}
-use Rattle.lowering.proofs.Keeping.{KeepsLabels, kept, keeps_instr, keeps_instrs}
-use Rattle.lowering.proofs.KeptExpressions.{condition_kept, conditions_kept, expr_kept}
-use Rattle.lowering.specs.Draft.{Becomes, with_instr, with_instrs, with_places}
+use Rattle.lowering.proofs.ExpressionsStand.{expr_stands, length-instr}
+use Rattle.lowering.proofs.Keeping.{kept, keeps_instr}
+use Rattle.lowering.proofs.KeptExpressions.{conditions_kept}
+use Rattle.lowering.specs.Draft.{Becomes, with_instr}
 use Rattle.lowering.specs.Emission.Conditions.{condition_code, conditions_code}
-use Rattle.lowering.specs.Emission.Expressions.{Emission, expr_code}
+use Rattle.lowering.specs.Emission.Expressions.{expr_code}
 use Rattle.lowering.specs.declared.draft.Draft.{Draft}
 use Rattle.lowering.specs.declared.draft.Label.{Label}
 use Rattle.os_ast.specs.Leveled as leveled
@@ -21,10 +20,9 @@ use Rattle.os_ast.specs.declared.expr.Level.{Level}
 use Rattle.os_ast.specs.declared.expr.Level.TheVariants as level
 use Rattle.os_ast.specs.declared.expr.Mark.{Mark}
 use Rattle.os_ast.specs.declared.names.What.{What}
-use Rattle.os_code.specs.Parts.{instr_at}
 use Rattle.os_code.specs.declared.instr.Instr.TheVariants.{JumpZero}
 use Rattle.os_code.specs.declared.parts.Parts.{Parts}
-use Rattle.simulation.specs.Expressions.{HasCondition, HasExpr, HaveConditions, tested, always, in_parens, each, no_more, one_more}
+use Rattle.simulation.specs.Expressions.{HasCondition, HaveConditions, tested, always, in_parens, each, no_more, one_more}
 
 abbrev is_and : Level → Bool
 is_and level.And = true

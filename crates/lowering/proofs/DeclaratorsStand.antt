@@ -1,14 +1,14 @@
 -- Declarations: their code keeps the labels that are there, and stands for them.
-use Rattle.std.proofs.Common.{◌≡◌, ℕ, ◌+◌, Bool, true, false, List, [], ◌∷◌, length, Option, Some, None, subst, sym, refl}
+use Rattle.std.proofs.Common.{◌≡◌, ℕ, Bool, true, false, List, [], ◌∷◌, length, Option, Some, None, subst, sym, refl}
 use Rattle.std.specs.Prelude.{pos}
 use Rattle.lowering.proofs.Becoming.{back, instr_stands}
-use Rattle.lowering.proofs.ChangesStand.{change_stands}
 use Rattle.lowering.proofs.ExpressionsStand.{expr_stands, length-instr, stands_instr, stands_plain}
 use Rattle.lowering.proofs.Keeping.{KeepsLabels, kept, keeps_instr, keeps_instrs}
 use Rattle.lowering.proofs.KeptExpressions.{and_then_kept, change_kept, expr_kept}
 use Rattle.lowering.specs.Draft.{Becomes, with_instr, with_instrs}
-use Rattle.lowering.specs.Emission.Declarators.{cleared_code, declarators_code, declared_code, scalar_code, start_code, window_code, zeroed_code}
+use Rattle.lowering.specs.Emission.Declarators.{cleared_code, declarators_code, declared_code, scalar_code, start_code, window_code}
 use Rattle.lowering.specs.Emission.Expressions.{expr_code}
+use Rattle.lowering.specs.Given.{IsGiven}
 use Rattle.lowering.specs.declared.draft.Draft.{Draft}
 use Rattle.os_ast.specs.FreeNames.{expr_names}
 use Rattle.os_ast.specs.Leveled as leveled
@@ -19,12 +19,7 @@ use Rattle.os_ast.specs.declared.names.What.{What}
 use Rattle.os_ast.specs.declared.names.What.TheVariants as what
 use Rattle.os_code.specs.declared.instr.Instr.TheVariants.{Push, Store, Window, Zero}
 use Rattle.os_code.specs.declared.parts.Parts.{Parts}
-use Rattle.simulation.specs.Declarators.{HasDeclarators, HasDeclared, HasFirst, HasScalar, HasStart, HasWindow, cleared, named_elsewhere}
-
--- What the declarators of a leveled program have: expressions that are.
-pub record IsGiven (d : tree.DeclaratorTree) : Type 0 where
-  pub size : (i : tree.IndexTree) → d.size ≡ Some i → IsExpr i.value
-  pub first : (e : tree.ExprTree) → d.first ≡ Some e → IsExpr e
+use Rattle.simulation.specs.Declarators.{HasDeclarators, HasDeclared, HasFirst, HasScalar, HasWindow, cleared, named_elsewhere}
 
 module _ (tells : ℕ → What) where
   cleared_kept : (named : Bool) (slot : ℕ) → KeepsLabels (cleared_code named slot)
@@ -83,8 +78,7 @@ module _ {code : Parts} {place_of : ℕ → ℕ} (tells : ℕ → What) where
       → Becomes (window_code tells slot size d) code place_of → HasWindow code tells slot size (length d.instrs) (length (window_code tells slot size d).instrs)
   window_stands slot None is d b = refl
   window_stands slot (Some i) is d b =
-      let made = expr_code tells i.value d in
-      (
+      let made = expr_code tells i.value d in (
         length made.instrs,
         expr_stands tells i.value (is i refl) d (back (keeps_instr (kept made) (Window slot i.mark.line)) b),
         stands_instr made (Window slot i.mark.line) refl b,
@@ -105,8 +99,7 @@ module _ {code : Parts} {place_of : ℕ → ℕ} (tells : ℕ → What) where
       → HasDeclarators code tells ds (length d.instrs) (length (declarators_code tells ds d).instrs)
   declarators_stand [] are d b = refl
   declarators_stand (x ∷ ds) (leveled.cons is are) d b =
-      let made = declared_code tells (tells x.name.mark.place) x d in
-      (
+      let made = declared_code tells (tells x.name.mark.place) x d in (
         length made.instrs,
         declared_stands (tells x.name.mark.place) x is d (back (declarators_kept tells ds made) b),
         declarators_stand ds are made b,

@@ -1,5 +1,5 @@
 -- The code that a draft of an expression becomes stands for it.
-use Rattle.std.proofs.Common.{◌≡◌, ◌≢◌, ◌∙◌, ◌^◌, ℕ, zero, suc, ◌+◌, ◌<◌, ◌≤◌, min, List, [], ◌∷◌, ◌++◌, map, length, length-append, Option, Some, None, Ok, Err, Result, slice_get, ap, subst, sym, refl, arith}
+use Rattle.std.proofs.Common.{◌≡◌, ◌≢◌, ◌∙◌, ◌^◌, ℕ, ◌+◌, ◌<◌, List, [], ◌∷◌, ◌++◌, map, length, length-append, Option, Some, None, Ok, Err, Result, slice_get, ap, subst, sym, refl, arith}
 use Rattle.std.proofs.Math.Nat.{min-eq_left}
 use Rattle.std.proofs.lemmas.Option.{none-some, slice_get_within}
 use Rattle.std.specs.Prelude.{ℤ, pos}
@@ -8,15 +8,14 @@ use Rattle.c_int.specs.Operators as c_int
 use Rattle.c_int.specs.declared.operators.Unary.TheVariants as int_unary
 use Rattle.c_int.specs.declared.trap.Trap.{Trap}
 use Rattle.cddf_meaning.specs.Answers.{Answer, at_line, over}
-use Rattle.cddf_meaning.specs.Operators.{operator_of_one, operator_of_two, unary_value}
+use Rattle.cddf_meaning.specs.Operators.{operator_of_one, unary_value}
 use Rattle.lowering.proofs.Becoming.{back, before_place, instr_stands, placed_here, slice_get-last}
-use Rattle.lowering.proofs.Keeping.{Keeps, KeepsLabels, kept, keeps_instr, keeps_instrs, keeps_label, keeps_place, then_kept}
-use Rattle.lowering.proofs.KeptExpressions.{and_then_kept, args_kept, expr_kept, link_kept, links_kept, two_labels}
+use Rattle.lowering.proofs.Keeping.{Keeps, KeepsLabels, kept, keeps_instr, keeps_instrs, then_kept}
+use Rattle.lowering.proofs.KeptExpressions.{args_kept, expr_kept, links_kept}
 use Rattle.lowering.proofs.Lists.{slice_get-front, slice_get-set_other}
 use Rattle.lowering.specs.Draft.{Becomes, next_label, with_instr, with_instrs, with_label, with_place, with_places}
 use Rattle.lowering.specs.Emission.Expressions.{Emission, args_code, choice_code, expr_code, links_code, literal, place_code, with_link, with_unary, worked_out}
 use Rattle.lowering.specs.declared.draft.Draft.{Draft}
-use Rattle.lowering.specs.declared.draft.Label.{Label}
 use Rattle.os_ast.specs.Leveled as leveled
 use Rattle.os_ast.specs.Leveled.{IsExpr, AreLinks, IsTarget, AreArgs}
 use Rattle.os_ast.specs.Trees as tree
@@ -160,7 +159,7 @@ module _ {code : Parts} {place_of : ℕ → ℕ} where
       let apart : otherwise.number ≢ done.number = λ same. absurd (omega (arith, same, length-append d.places (None ∷ []))) in
       let open_first : slice_get d4.places otherwise.number ≡ Some None = k4.same otherwise.number within_first ∙ first_is_open d in
       let open_second : slice_get d5.places done.number ≡ Some None =
-          slice_get-set_other d4.places otherwise.number done.number (Some (length d4.instrs)) apart ∙ k4.same done.number within_second ∙ second_is_open d in
+      slice_get-set_other d4.places otherwise.number done.number (Some (length d4.instrs)) apart ∙ k4.same done.number within_second ∙ second_is_open d in
       let within_five : length (with_label d).places < length d5.places = omega (arith, slice_get_within d5.places done.number None open_second) in
       let open_done : slice_get db.places done.number ≡ Some None = (pb.keeps d5).same done.number within_five ∙ open_second in
       let bb : Becomes db code place_of = before_place db done open_done becomes in
@@ -168,8 +167,7 @@ module _ {code : Parts} {place_of : ℕ → ℕ} where
       let b4 : Becomes d4 code place_of = before_place d4 otherwise open_first b5 in
       let ba : Becomes da code place_of = back (keeps_instr (kept da) (Jump done.number)) b4 in
       let b3 : Becomes d3 code place_of = back (pa.keeps d3) ba in
-      let bc : Becomes dc code place_of = back (keeps_instr (kept dc) (JumpZero otherwise.number)) b3 in
-      (
+      let bc : Becomes dc code place_of = back (keeps_instr (kept dc) (JumpZero otherwise.number)) b3 in (
         length dc.instrs,
         length da.instrs,
         pc.stands d2 bc,
@@ -197,20 +195,19 @@ module _ {code : Parts} {place_of : ℕ → ℕ} where
       let apart : zero.number ≢ done.number = λ same. absurd (omega (arith, same, length-append d.places (None ∷ []))) in
       let open_zero : slice_get d4.places zero.number ≡ Some None = k4.same zero.number within_first ∙ first_is_open d in
       let open_done : slice_get d6.places done.number ≡ Some None =
-          slice_get-set_other d4.places zero.number done.number (Some (length d4.instrs)) apart ∙ k4.same done.number within_second ∙ second_is_open d in
+      slice_get-set_other d4.places zero.number done.number (Some (length d4.instrs)) apart ∙ k4.same done.number within_second ∙ second_is_open d in
       let b6 : Becomes d6 code place_of = before_place d6 done open_done becomes in
       let b5 : Becomes d5 code place_of = back (keeps_instr (kept d5) (Push (pos 0))) b6 in
       let b4 : Becomes d4 code place_of = before_place d4 zero open_zero b5 in
       let br : Becomes dr code place_of = back (keeps_instrs (kept dr) js) b4 in
       let b3 : Becomes d3 code place_of = back (pf.keeps d3) br in
       let three : length d4.instrs ≡ length dr.instrs + 1 + 1 + 1 =
-          length-instr (with_instr (with_instr dr (instr.Unary int_unary.Not line)) (instr.Unary int_unary.Not line)) (Jump done.number)
-          ∙ ap (λ n. n + 1) (length-instr (with_instr dr (instr.Unary int_unary.Not line)) (instr.Unary int_unary.Not line))
-          ∙ ap (λ n. n + 1 + 1) (length-instr dr (instr.Unary int_unary.Not line)) in
+      length-instr (with_instr (with_instr dr (instr.Unary int_unary.Not line)) (instr.Unary int_unary.Not line)) (Jump done.number)
+      ∙ ap (λ n. n + 1) (length-instr (with_instr dr (instr.Unary int_unary.Not line)) (instr.Unary int_unary.Not line))
+      ∙ ap (λ n. n + 1 + 1) (length-instr dr (instr.Unary int_unary.Not line)) in
       let jumped : Stands code (instr.Unary int_unary.Not line ∷ instr.Unary int_unary.Not line ∷ Jump (length d6.instrs) ∷ []) (length dr.instrs) (length d4.instrs) =
-          subst (λ at. Stands code (instr.Unary int_unary.Not line ∷ instr.Unary int_unary.Not line ∷ Jump at ∷ []) (length dr.instrs) (length d4.instrs))
-          (placed_here d6 done open_done becomes) (stands_instrs dr js b4) in
-      (
+      subst (λ at. Stands code (instr.Unary int_unary.Not line ∷ instr.Unary int_unary.Not line ∷ Jump at ∷ []) (length dr.instrs) (length d4.instrs))
+      (placed_here d6 done open_done becomes) (stands_instrs dr js b4) in (
         length dr.instrs,
         instr_stands d2 (JumpZero zero.number) b3 ∙ ap (λ at. Some (JumpZero at)) (placed_here d4 zero open_zero b5 ∙ three),
         subst (λ from. has from (length dr.instrs)) (length-instr d2 (JumpZero zero.number)) (pf.stands d3 br),
@@ -236,23 +233,22 @@ module _ {code : Parts} {place_of : ℕ → ℕ} where
       let apart : zero.number ≢ done.number = λ same. absurd (omega (arith, same, length-append d.places (None ∷ []))) in
       let open_zero : slice_get d3.places zero.number ≡ Some None = k3.same zero.number within_first ∙ first_is_open d in
       let open_four : slice_get d4.places done.number ≡ Some None =
-          slice_get-set_other d3.places zero.number done.number (Some (length d3.instrs)) apart ∙ k3.same done.number within_second ∙ second_is_open d in
+      slice_get-set_other d3.places zero.number done.number (Some (length d3.instrs)) apart ∙ k3.same done.number within_second ∙ second_is_open d in
       let k5 : Keeps d4 d5 = keeps_instrs (pf.keeps d4) truth in
       let open_done : slice_get d5.places done.number ≡ Some None =
-          k5.same done.number (slice_get_within d4.places done.number None open_four) ∙ open_four in
+      k5.same done.number (slice_get_within d4.places done.number None open_four) ∙ open_four in
       let b5 : Becomes d5 code place_of = before_place d5 done open_done becomes in
       let br : Becomes dr code place_of = back (keeps_instrs (kept dr) truth) b5 in
       let b4 : Becomes d4 code place_of = back (pf.keeps d4) br in
       let b3 : Becomes d3 code place_of = before_place d3 zero open_zero b4 in
       let three : length d3.instrs ≡ length d2.instrs + 1 + 1 + 1 =
-          length-instr (with_instr (with_instr d2 (JumpZero zero.number)) (Push (pos 1))) (Jump done.number)
-          ∙ ap (λ n. n + 1) (length-instr (with_instr d2 (JumpZero zero.number)) (Push (pos 1)))
-          ∙ ap (λ n. n + 1 + 1) (length-instr d2 (JumpZero zero.number)) in
+      length-instr (with_instr (with_instr d2 (JumpZero zero.number)) (Push (pos 1))) (Jump done.number)
+      ∙ ap (λ n. n + 1) (length-instr (with_instr d2 (JumpZero zero.number)) (Push (pos 1)))
+      ∙ ap (λ n. n + 1 + 1) (length-instr d2 (JumpZero zero.number)) in
       let begun : Stands code (JumpZero (length d3.instrs) ∷ Push (pos 1) ∷ Jump (length d5.instrs) ∷ []) (length d2.instrs) (length d3.instrs) =
-          subst (λ at. Stands code (JumpZero at ∷ Push (pos 1) ∷ Jump (length d5.instrs) ∷ []) (length d2.instrs) (length d3.instrs)) (placed_here d3 zero open_zero b4)
-          (subst (λ at. Stands code (JumpZero (place_of zero.number) ∷ Push (pos 1) ∷ Jump at ∷ []) (length d2.instrs) (length d3.instrs)) (placed_here d5 done open_done becomes)
-          (stands_instrs d2 js b3)) in
-      (
+      subst (λ at. Stands code (JumpZero at ∷ Push (pos 1) ∷ Jump (length d5.instrs) ∷ []) (length d2.instrs) (length d3.instrs)) (placed_here d3 zero open_zero b4)
+      (subst (λ at. Stands code (JumpZero (place_of zero.number) ∷ Push (pos 1) ∷ Jump at ∷ []) (length d2.instrs) (length d3.instrs)) (placed_here d5 done open_done becomes)
+      (stands_instrs d2 js b3)) in (
         length dr.instrs,
         begun.0 ∙ ap (λ at. Some (JumpZero at)) three,
         (begun.1.0, (begun.1.1.0, refl)),
@@ -302,7 +298,7 @@ module _ {code : Parts} {place_of : ℕ → ℕ} where
       → Becomes (with_unary w op line f d) code place_of → HasUnary code op line (tree.Number n) has (length d.instrs) (length (with_unary w op line f d).instrs)
   number_unary op line n small (Some v) is has {f} pf d b =
       let gives : unary_value op line (pos n) ≡ Ok v =
-          given line (c_int.unary_value (operator_of_one op) (pos n)) v (ap (λ a. result_ok (c_int.unary_value (operator_of_one op) a)) (sym (number_small n small)) ∙ is) in
+      given line (c_int.unary_value (operator_of_one op) (pos n)) v (ap (λ a. result_ok (c_int.unary_value (operator_of_one op) a)) (sym (number_small n small)) ∙ is) in
       subst (HasUnary code op line (tree.Number n) has (length d.instrs)) (sym (length-instr d (Push v))) (worked_out_code refl gives (instr_stands d (Push v) b))
   number_unary op line n small None is has {f} pf d b = operated_unary op line (tree.Number n) pf d b
 
@@ -329,8 +325,7 @@ module _ {code : Parts} {place_of : ℕ → ℕ} (tells : ℕ → What) where
     expr_stands (tree.Place t) (leveled.place is) d b = place_stands t is d b
     expr_stands (tree.ExprTree.Call f args) (leveled.call are) d b =
         let made = args_code tells args d in
-        let is = Turn ∷ calling (tells f.mark.place) ∷ [] in
-        (
+        let is = Turn ∷ calling (tells f.mark.place) ∷ [] in (
           length made.instrs,
           args_stand args are d (back (keeps_instrs (kept made) is) b),
           stands_plain made is (ap (λ i. Turn ∷ i ∷ []) (plain-calling place_of (tells f.mark.place))) b,
@@ -338,8 +333,7 @@ module _ {code : Parts} {place_of : ℕ → ℕ} (tells : ℕ → What) where
     expr_stands (tree.Paren e) (leveled.paren is) d b = expr_stands e is d b
     expr_stands (tree.Unary op m e) (leveled.unary is high) d b = unary_stands op m.line e is (record { keeps = expr_kept tells e; stands = expr_stands e is }) d b
     expr_stands (tree.Chain l first (tree.link op m e rest)) (leveled.chain is low are) d b =
-        let made = expr_code tells first d in
-        (
+        let made = expr_code tells first d in (
           length made.instrs,
           expr_stands first is d (back (links_kept tells (tree.link op m e rest) made) b),
           links_stand l (tree.link op m e rest) are made b,
@@ -354,8 +348,7 @@ module _ {code : Parts} {place_of : ℕ → ℕ} (tells : ℕ → What) where
         stands_plain d (reading (tells n.mark.place) n.mark.line) (plain-reading place_of (tells n.mark.place) n.mark.line) b
     place_stands (tree.Element n m e) (leveled.element is) d b =
         let made = expr_code tells e d in
-        let i = reading_at (tells n.mark.place) m.line in
-        (
+        let i = reading_at (tells n.mark.place) m.line in (
           length made.instrs,
           expr_stands e is d (back (keeps_instr (kept made) i) b),
           stands_instr made i (plain-reading_at place_of (tells n.mark.place) m.line) b,
@@ -365,8 +358,7 @@ module _ {code : Parts} {place_of : ℕ → ℕ} (tells : ℕ → What) where
         HasLinks code tells ls (length d.instrs) (length (links_code tells ls d).instrs)
     links_stand l tree.no_links leveled.no_links d b = refl
     links_stand l (tree.link op m e rest) (leveled.link same is low are) d b =
-        let made = with_link op m.line (expr_code tells e) d in
-        (
+        let made = with_link op m.line (expr_code tells e) d in (
           length made.instrs,
           link_stands {has = HasExpr code tells e} op m.line (record { keeps = expr_kept tells e; stands = expr_stands e is }) d (back (links_kept tells rest made) b),
           links_stand l rest are made b,

@@ -1,5 +1,5 @@
 -- What is drafted leaves the labels that were there as they were.
-use Rattle.std.proofs.Common.{◌≡◌, ◌∙◌, ◌≢◌, ℕ, ◌+◌, ◌<◌, ◌≤◌, List, [], ◌∷◌, ◌++◌, length, length-append, length-set, None, Some, slice_get, slice_set, refl, arith}
+use Rattle.std.proofs.Common.{◌≡◌, ◌∙◌, ℕ, ◌<◌, ◌≤◌, List, [], ◌∷◌, length, length-append, length-set, None, Some, slice_get, refl, arith}
 use Rattle.lowering.proofs.Lists.{slice_get-front, slice_get-set_other}
 use Rattle.lowering.specs.Draft.{next_label, with_instr, with_instrs, with_label, with_place, with_spawn}
 use Rattle.lowering.specs.Emission.Expressions.{Emission}

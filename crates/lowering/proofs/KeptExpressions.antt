@@ -1,10 +1,10 @@
 -- The code of expressions, conditions and changes keeps the labels that are there.
-use Rattle.std.proofs.Common.{◌≡◌, ℕ, zero, suc, ◌+◌, ◌<◌, ◌≤◌, Bool, true, false, List, [], ◌∷◌, ◌++◌, length, Some, None, Option, arith}
+use Rattle.std.proofs.Common.{ℕ, zero, suc, Bool, true, false, [], ◌∷◌, Some, None, Option}
 use Rattle.lowering.proofs.Keeping.{Keeps, KeepsLabels, kept, keeps_instr, keeps_instrs, keeps_label, keeps_place, next_is_new, then_kept}
-use Rattle.lowering.specs.Draft.{next_label, with_instr, with_instrs, with_label, with_place}
-use Rattle.lowering.specs.Emission.Changes.{aim_code, change_code, changed_code, operated_code, plain_aim, plain_code, set_code, stepped_code, store_code}
+use Rattle.lowering.specs.Draft.{next_label, with_label}
+use Rattle.lowering.specs.Emission.Changes.{aim_code, change_code, changed_code, operated_code, plain_aim, plain_code, stepped_code, store_code}
 use Rattle.lowering.specs.Emission.Conditions.{condition_code, conditions_code}
-use Rattle.lowering.specs.Emission.Expressions.{Emission, and_code, args_code, choice_code, expr_code, links_code, or_code, place_code, with_link, with_unary, worked_out}
+use Rattle.lowering.specs.Emission.Expressions.{Emission, args_code, choice_code, expr_code, links_code, place_code, with_link, with_unary, worked_out}
 use Rattle.lowering.specs.declared.draft.Draft.{Draft}
 use Rattle.lowering.specs.declared.draft.Label.{Label}
 use Rattle.os_ast.specs.Trees as tree

@@ -6,6 +6,7 @@ pub mod DeclaratorsStand
 pub mod ExpressionsStand
 pub mod Keeping
 pub mod KeptExpressions
+pub mod Lawful
 pub mod Lists
 pub mod Loops
 mod Parts

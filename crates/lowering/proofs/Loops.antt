@@ -1,5 +1,5 @@
 -- The code of a `for`, put together.
-use Rattle.std.proofs.Common.{◌≡◌, ℕ, List, Option, Some, None, option_map, refl}
+use Rattle.std.proofs.Common.{◌≡◌, ℕ, Option, Some, None, refl}
 use Rattle.lowering.specs.Draft.{next_label, with_instr, with_label, with_place}
 use Rattle.lowering.specs.Emission.Changes.{change_code}
 use Rattle.lowering.specs.Emission.Declarators.{start_code}

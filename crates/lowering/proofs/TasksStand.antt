@@ -1,13 +1,14 @@
 -- The items of tasks, and ticks: their code keeps the labels that are there, and stands for them.
-use Rattle.std.proofs.Common.{◌≡◌, ℕ, ◌+◌, List, [], ◌∷◌, length, Option, Some, None, refl}
+use Rattle.std.proofs.Common.{◌≡◌, ℕ, List, [], ◌∷◌, length, Option, Some, None, refl}
 use Rattle.std.specs.Prelude.{pos}
 use Rattle.lowering.proofs.Becoming.{back}
 use Rattle.lowering.proofs.ExpressionsStand.{expr_stands, stands_instr, stands_plain}
 use Rattle.lowering.proofs.Keeping.{KeepsLabels, kept, keeps_instr, keeps_instrs}
 use Rattle.lowering.proofs.KeptExpressions.{and_then_kept, expr_kept}
-use Rattle.lowering.specs.Draft.{Becomes, with_instr, with_instrs, with_places}
+use Rattle.lowering.specs.Draft.{Becomes, with_places}
 use Rattle.lowering.specs.Emission.Expressions.{expr_code}
 use Rattle.lowering.specs.Emission.Tasks.{burst_code, item_code, items_code, join_code, stream_code, tick_code}
+use Rattle.lowering.specs.Given.{IsItem, joined}
 use Rattle.lowering.specs.declared.draft.Draft.{Draft}
 use Rattle.os_ast.specs.Leveled as leveled
 use Rattle.os_ast.specs.Leveled.{AreAll, IsExpr, IsTarget}
@@ -22,12 +23,6 @@ use Rattle.os_code.specs.declared.parts.Parts.{Parts}
 use Rattle.simulation.specs.Expressions.{HasExpr, Stands}
 use Rattle.simulation.specs.Names.{count_of, first_of}
 use Rattle.simulation.specs.Tasks.{HasBurst, HasItems, HasJoin, HasStream, bursting}
-
--- What the items of a leveled program have: streams and bursts that are.
-pub data IsItem : Part → Type 0 where
-  private_name : {n : _} → IsItem (Private n)
-  joined : {d : Direction} {i : tree.ClauseItemTree} → IsTarget i.stream
-      → ((j : tree.JoinTree) (b : tree.IndexTree) → i.window ≡ Some j → j.burst ≡ Some b → IsExpr b.value) → IsItem (Item d i)
 
 -- a check has no label
 plain-bursting : (place_of : ℕ → ℕ) (d : Direction) (w : What) (line : ℕ) → with_places place_of (bursting d w line) ≡ bursting d w line
@@ -80,8 +75,7 @@ module _ {code : Parts} {place_of : ℕ → ℕ} (tells : ℕ → What) where
   burst_stands r w None is d b = stands_instr d (Push (pos 1)) refl b
   burst_stands r w (Some i) is d b =
       let made = expr_code tells i.value d in
-      let check = bursting r w i.mark.line in
-      (
+      let check = bursting r w i.mark.line in (
         length made.instrs,
         expr_stands tells i.value (is i refl) d (back (keeps_instr (kept made) check) b),
         stands_instr made check (plain-bursting place_of r w i.mark.line) b,
@@ -99,8 +93,7 @@ module _ {code : Parts} {place_of : ℕ → ℕ} (tells : ℕ → What) where
   items_stand (Item r i ∷ ps) (leveled.cons (joined is_stream is_burst) are) d b =
       let streamed = stream_code tells i.stream d in
       let made = join_code tells r i.window streamed in
-      let bm : Becomes made code place_of = back (items_kept tells ps made) b in
-      (
+      let bm : Becomes made code place_of = back (items_kept tells ps made) b in (
         length streamed.instrs,
         length made.instrs,
         stream_stands i.stream is_stream d (back (join_kept tells r i.window streamed) bm),
@@ -116,8 +109,7 @@ module _ {code : Parts} {place_of : ℕ → ℕ} (tells : ℕ → What) where
       let streamed = stream_code tells t d in
       let made = expr_code tells e streamed in
       let ticks = BurstIn line ∷ Turn ∷ Tick (first_of (tells (target_name t).mark.place)) ∷ [] in
-      let bm : Becomes made code place_of = back (keeps_instrs (kept made) ticks) b in
-      (
+      let bm : Becomes made code place_of = back (keeps_instrs (kept made) ticks) b in (
         length streamed.instrs,
         length made.instrs,
         stream_stands t is_t d (back (expr_kept tells e streamed) bm),

@@ -1,5 +1,5 @@
 -- The code while it is drafted. Jumps name labels, and a label may have its place.
-use Rattle.std.specs.Prelude.{◌≡◌, ℕ, ◌+◌, List, [], ◌∷◌, ◌++◌, length, Option, Some, None, slice_get, slice_set}
+use Rattle.std.specs.Prelude.{◌≡◌, ℕ, ◌+◌, List, [], ◌∷◌, ◌++◌, length, Some, None, slice_get, slice_set}
 use Rattle.lowering.specs.declared.draft.Draft.{Draft}
 use Rattle.lowering.specs.declared.draft.Label.{Label}
 use Rattle.os_code.specs.declared.instr.Instr.{Instr}

@@ -1,7 +1,11 @@
-//! The compiler: from a checked program to the code of its machine, in one walk.
+//! The compiler, as far as it stands: what it drafts of statements, and that this stands for them.
 //!
-//! A draft of the code grows instruction by instruction; its jumps name labels, and each label gets its
-//! place when the walk comes there. At the end the labels give way to their places.
+//! A draft of the code grows instruction by instruction, in one walk over the tree; its jumps name labels, and each
+//! label gets its place when the walk comes there. What is drafted is a function of the tree, of what its names mean
+//! and of the draft before (`specs/Emission`). The laws say that a code which such a draft becomes, once its labels
+//! give way to their places, stands for the part of the program, by the relation of `simulation`.
+//!
+//! Nothing calls the walk yet: what joins the units of a program to a code comes next.
 #![tactic(auto)]
 
 mod changes;
@@ -11,7 +15,7 @@ mod draft;
 mod exits;
 mod expressions;
 mod items;
-mod lower_error;
+pub mod laws;
 mod mentions;
 mod operators;
 mod quiet;

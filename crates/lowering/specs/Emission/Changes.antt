@@ -1,5 +1,5 @@
 -- The code of changes.
-use Rattle.std.specs.Prelude.{ℕ, Bool, true, false, [], ◌∷◌, ◌++◌, pos}
+use Rattle.std.specs.Prelude.{ℕ, Bool, true, false, pos}
 use Rattle.cddf_meaning.specs.Operators.{step_operator}
 use Rattle.lowering.specs.Draft.{with_instr, with_instrs}
 use Rattle.lowering.specs.Emission.Expressions.{Emission, expr_code}

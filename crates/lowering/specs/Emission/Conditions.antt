@@ -2,7 +2,6 @@
 use Rattle.std.specs.Prelude.{ℕ, suc}
 use Rattle.lowering.specs.Draft.{with_instr}
 use Rattle.lowering.specs.Emission.Expressions.{Emission, expr_code}
-use Rattle.lowering.specs.declared.draft.Draft.{Draft}
 use Rattle.lowering.specs.declared.draft.Label.{Label}
 use Rattle.os_ast.specs.Trees as tree
 use Rattle.os_ast.specs.declared.expr.Level.TheVariants as level

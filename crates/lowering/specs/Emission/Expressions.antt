@@ -1,5 +1,5 @@
 -- The code of expressions: a draft with it, by the draft before.
-use Rattle.std.specs.Prelude.{ℕ, min, List, [], ◌∷◌, Option, Some, None, ℤ, pos}
+use Rattle.std.specs.Prelude.{ℕ, min, [], ◌∷◌, Option, Some, None, ℤ, pos}
 use Rattle.std.specs.Result.{result_ok}
 use Rattle.c_int.specs.Operators.{unary_value}
 use Rattle.c_int.specs.declared.operators.Unary.TheVariants as int_unary

@@ -1,5 +1,4 @@
-use Rattle.std.proofs.Common.{◌≡◌, ◌∙◌, ◌+◌, ◌-◌, ◌<◌, List, Some, None, length, drop, get_or, option_map, ap, sym, subst, rules, arith}
-use Rattle.std.proofs.lemmas.Result.{IfOk-equal}
+use Rattle.std.proofs.Common.{◌≡◌, ◌∙◌, ◌+◌, ◌-◌, ◌<◌, List, Some, None, length, drop, get_or, option_map, ap, sym, subst, arith}
 use Rattle.lowering.proofs.Blocks.{tail_all, tail_next}
 use Rattle.lowering.proofs.Loops.{for_made, for_with_step_made}
 use Rattle.lowering.specs.Emission.Statements.{stmt_code, tail_code}
