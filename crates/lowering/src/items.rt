@@ -1,0 +1,175 @@
+//! The items of a task's clauses, and ticks.
+
+ghost use Rattle.std.specs.Prelude.{◌≡◌, OnOk, map, option_map};
+ghost use Rattle.lowering.specs.Emission.Tasks.{burst_code, item_code, items_code, join_code, stream_code, tick_code};
+ghost use Rattle.os_ast.specs.Parts.{Item, parts, parts_of};
+ghost use Rattle.os_ast.specs.Views.{clause_item_tree, clause_kind_tree, clause_tree, expr_tree, index_tree, join_tree, target_tree};
+ghost use Rattle.simulation.specs.Names.{count_of, first_of, told_at};
+ghost use Rattle.simulation.specs.Tasks.{bursting};
+
+use crate::draft::Draft;
+use crate::expressions::emit_expr;
+use crate::told::Told;
+use os_ast::{Clause, ClauseItem, ClauseKind, Direction, Index, Join, Target, TickSite, What};
+use os_code::Instr;
+use os_io::{List, Memory};
+
+/// The items of a task, in the order of its clauses.
+#[tactic(auto, using(crate::proofs::Rules::items))]
+pub(crate) fn emit_items(
+    draft: &mut Draft,
+    told: &Told<'_>,
+    clauses: &List<Clause>,
+) -> Result<(), Memory>
+    ensures { OnOk result (draft.new ≡ items_code (told_at told.now.names.now) (parts (map clause_tree clauses.now)) draft.old) }
+{
+    for clause in clauses.as_slice() {
+        emit_clause(draft, told, &clause.kind)?;
+    }
+    Ok(())
+}
+
+/// The items of a clause.
+#[tactic(auto, using(crate::proofs::Parts::items_code_private))]
+fn emit_clause(draft: &mut Draft, told: &Told<'_>, kind: &ClauseKind) -> Result<(), Memory>
+    ensures { OnOk result (draft.new ≡ items_code (told_at told.now.names.now) (parts_of (clause_kind_tree kind.now)) draft.old) }
+{
+    match kind {
+        ClauseKind::Input(items) => emit_all(draft, told, Direction::Reads, items),
+        ClauseKind::Output(items) => emit_all(draft, told, Direction::Writes, items),
+        ClauseKind::Firstprivate(_) => Ok(()),
+    }
+}
+
+/// Items of one direction.
+#[tactic(auto, using(crate::proofs::Rules::items))]
+fn emit_all(
+    draft: &mut Draft,
+    told: &Told<'_>,
+    direction: Direction,
+    items: &List<ClauseItem>,
+) -> Result<(), Memory>
+    ensures { OnOk result (draft.new ≡ items_code (told_at told.now.names.now) (map (Item direction) (map clause_item_tree items.now)) draft.old) }
+{
+    for item in items.as_slice() {
+        emit_item(draft, told, direction, item)?;
+    }
+    Ok(())
+}
+
+/// An item: the stream's index, then the burst.
+fn emit_item(
+    draft: &mut Draft,
+    told: &Told<'_>,
+    direction: Direction,
+    item: &ClauseItem,
+) -> Result<(), Memory>
+    ensures { OnOk result (draft.new ≡ item_code (told_at told.now.names.now) direction (clause_item_tree item.now) draft.old) }
+{
+    emit_stream(draft, told, &item.stream)?;
+    match &item.window {
+        None => draft.emit(Instr::Push(1)),
+        Some(join) => emit_burst(draft, told, direction, join),
+    }
+}
+
+/// The stream of an item or of a tick: its index, counted from its first number.
+fn emit_stream(draft: &mut Draft, told: &Told<'_>, stream: &Target) -> Result<(), Memory>
+    ensures { OnOk result (draft.new ≡ stream_code (told_at told.now.names.now) (target_tree stream.now) draft.old) }
+{
+    match &stream.index {
+        None => draft.emit(Instr::Push(0)),
+        Some(index) => {
+            emit_expr(draft, told, &index.value)?;
+            draft.emit(Instr::CheckAt {
+                size: count_of(told.at(stream.name.mark.place)),
+                line: index.mark.line,
+            })
+        }
+    }
+}
+
+/// The burst of an item, 1 where none is written.
+fn emit_burst(
+    draft: &mut Draft,
+    told: &Told<'_>,
+    direction: Direction,
+    join: &Join,
+) -> Result<(), Memory>
+    ensures { OnOk result (draft.new
+        ≡ burst_code (told_at told.now.names.now) direction (told_at told.now.names.now join.now.name.mark.place) (option_map index_tree join.now.burst) draft.old) }
+{
+    match &join.burst {
+        None => draft.emit(Instr::Push(1)),
+        Some(index) => {
+            emit_expr(draft, told, &index.value)?;
+            let window = told.at(join.name.mark.place);
+            draft.emit(bursting(direction, window, index.mark.line))
+        }
+    }
+}
+
+/// A tick: the stream's index, the amount, its check, its unit of the budget, the move.
+pub(crate) fn emit_tick(draft: &mut Draft, told: &Told<'_>, tick: &TickSite) -> Result<(), Memory>
+    ensures { OnOk result (draft.new
+        ≡ tick_code (told_at told.now.names.now) (target_tree tick.now.stream) tick.now.arrow.line (expr_tree tick.now.amount) draft.old) }
+{
+    emit_stream(draft, told, &tick.stream)?;
+    emit_expr(draft, told, &tick.amount)?;
+    draft.emit(Instr::BurstIn {
+        line: tick.arrow.line,
+    })?;
+    draft.emit(Instr::Turn)?;
+    draft.emit(Instr::Tick(first_of(told.at(tick.stream.name.mark.place))))
+}
+
+/// Checks a burst: that of an output item is its window's horizon.
+fn bursting(direction: Direction, window: What, line: u32) -> Instr
+    ensures { result ≡ bursting direction window line }
+{
+    match direction {
+        Direction::Reads => Instr::BurstIn { line },
+        Direction::Writes => match window {
+            What::Window(slot) => Instr::BurstOut { slot, line },
+            What::Constant(_)
+            | What::Function(_)
+            | What::Scalar(_)
+            | What::Array { .. }
+            | What::Stream { .. }
+            | What::Element(_)
+            | What::View(_) => Instr::BurstIn { line },
+        },
+    }
+}
+
+/// The first number of a stream or of an array of streams.
+pub(crate) fn first_of(what: What) -> u32
+    ensures { result ≡ first_of what }
+{
+    match what {
+        What::Stream { first, count: _ } => first,
+        What::Constant(_)
+        | What::Function(_)
+        | What::Scalar(_)
+        | What::Array { .. }
+        | What::Window(_)
+        | What::Element(_)
+        | What::View(_) => 0,
+    }
+}
+
+/// How many streams there are.
+fn count_of(what: What) -> u32
+    ensures { result ≡ count_of what }
+{
+    match what {
+        What::Stream { first: _, count } => count,
+        What::Constant(_)
+        | What::Function(_)
+        | What::Scalar(_)
+        | What::Array { .. }
+        | What::Window(_)
+        | What::Element(_)
+        | What::View(_) => 0,
+    }
+}
