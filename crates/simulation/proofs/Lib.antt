@@ -24,3 +24,14 @@ pub mod TaskContexts
 pub mod TaskStarts
 pub mod TaskRuns
 pub mod TaskLaws
+pub mod Heights
+pub mod Homes
+pub mod Lays
+pub mod LaidNames
+pub mod LaidExprs
+pub mod LaidConditions
+pub mod LaidChanges
+pub mod LaidDeclarators
+pub mod LaidItems
+pub mod OwnNotes
+pub mod LaidStmts

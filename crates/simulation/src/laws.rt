@@ -1,10 +1,15 @@
 //! Laws of code that stands for a program. They take nothing and do nothing.
 
-ghost use Rattle.simulation.specs.Laws.{TasksEndSo, TasksEndOnlySo};
+ghost use Rattle.simulation.specs.Laws.{TasksEndSo, TasksEndOnlySo, StandingIsValid};
 
 /// The code of a lawful program runs each activation that fits it as the body of its task says: it is done with the
 /// same outputs, traps with the same code and line, or is over budget, and it ends in no other way.
 pub fn tasks_end_as_their_bodies()
     ensures so { TasksEndSo }
     ensures only_so { TasksEndOnlySo }
+{}
+
+/// Code that stands for a lawful program is valid where its units lie one behind another.
+pub fn standing_is_valid()
+    ensures { StandingIsValid }
 {}
