@@ -57,7 +57,7 @@ pub record IsCall (c : Context) (slots : List ℤ) (st : State) (n : Name) (coun
   pub named : w ≡ what.Function number
   pub runs : IsCallable c.code c.file place number count
 
-same_count : (a b : ℕ) → not (a == b) ≡ false → a ≡ b
+pub same_count : (a b : ℕ) → not (a == b) ≡ false → a ≡ b
 same_count a b h = eqb-true a b (by_case (a == b) h)
   where
     by_case : (t : Bool) → not t ≡ false → t ≡ true

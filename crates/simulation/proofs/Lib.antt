@@ -35,3 +35,7 @@ pub mod LaidDeclarators
 pub mod LaidItems
 pub mod OwnNotes
 pub mod LaidStmts
+pub mod Texts
+pub mod TextNotes
+pub mod Streams
+pub mod TextStmts
