@@ -20,36 +20,36 @@ height_at code (suc place) = behind code (height_at code place) (instr_at code p
 
 module _ (code : Parts) where
   height_next : (place : ℕ) → height_at code (place + 1) ≡ behind code (height_at code place) (instr_at code place)
-  height_next place = ap (height_at code) (omega arith)
+  height_next place = let e : place + 1 ≡ suc place = omega arith in ap (height_at code) e
 
   -- behind an instruction
   pub height_behind : (place : ℕ) (instr : Instr) → instr_at code place ≡ Some instr → height_at code (place + 1) ≡ behind_one code (height_at code place) instr
   height_behind place instr is = height_next place ∙ ap (behind code (height_at code place)) is
 
   -- No instruction makes more than one operand.
-  one_more : (instr : Instr) (height : ℕ) → height_after code instr height ≤ height + 1
-  one_more (Push v) height = omega arith
-  one_more Drop height = omega arith
-  one_more Copy height = omega arith
-  one_more (Load slot) height = omega arith
-  one_more (Store slot) height = omega arith
-  one_more (Zero first count) height = omega arith
-  one_more (CheckAt size line) height = omega arith
-  one_more (LoadAt first size line) height = omega arith
-  one_more (StoreAt first size line) height = omega arith
-  one_more (ItemCheck item line) height = omega arith
-  one_more (ItemLoad item line) height = omega arith
-  one_more (ItemStore item line) height = omega arith
-  one_more (Unary op line) height = omega arith
-  one_more (Binary op line) height = omega arith
-  one_more (Jump to) height = omega arith
-  one_more (JumpZero to) height = omega arith
-  one_more Turn height = omega arith
-  one_more (Call number) height = omega arith
-  one_more Return height = omega arith
-  one_more End height = omega arith
-  one_more (Window slot line) height = omega arith
-  one_more (BurstIn line) height = omega arith
-  one_more (BurstOut slot line) height = omega arith
-  one_more (Spawn number) height = omega arith
-  one_more (Tick stream) height = omega arith
+  pub one_more : (instr : Instr) (height : ℕ) → operands_of code instr ≤ height → height_after code instr height ≤ height + 1
+  one_more (Push v) height enough = omega (arith, enough)
+  one_more Drop height enough = omega (arith, enough)
+  one_more Copy height enough = omega (arith, enough)
+  one_more (Load slot) height enough = omega (arith, enough)
+  one_more (Store slot) height enough = omega (arith, enough)
+  one_more (Zero first count) height enough = omega (arith, enough)
+  one_more (CheckAt size line) height enough = omega (arith, enough)
+  one_more (LoadAt first size line) height enough = omega (arith, enough)
+  one_more (StoreAt first size line) height enough = omega (arith, enough)
+  one_more (ItemCheck item line) height enough = omega (arith, enough)
+  one_more (ItemLoad item line) height enough = omega (arith, enough)
+  one_more (ItemStore item line) height enough = omega (arith, enough)
+  one_more (Unary op line) height enough = omega (arith, enough)
+  one_more (Binary op line) height enough = omega (arith, enough)
+  one_more (Jump to) height enough = omega (arith, enough)
+  one_more (JumpZero to) height enough = omega (arith, enough)
+  one_more Turn height enough = omega (arith, enough)
+  one_more (Call number) height enough = omega (arith, enough)
+  one_more Return height enough = omega (arith, enough)
+  one_more End height enough = omega (arith, enough)
+  one_more (Window slot line) height enough = omega (arith, enough)
+  one_more (BurstIn line) height enough = omega (arith, enough)
+  one_more (BurstOut slot line) height enough = omega (arith, enough)
+  one_more (Spawn number) height enough = omega (arith, enough)
+  one_more (Tick stream) height enough = omega (arith, enough)

@@ -72,10 +72,10 @@ Unturned code to = (p : ℕ) → to ≡ p + 1 → instr_at code p ≡ Some instr
 
 -- A jump from a place may go to another with the height that it leaves: forwards where no `Turn` stands before it, and
 -- else to a `Turn`.
-pub record IsTarget (h : Home) (from to height : ℕ) : Type 0 where
+pub record IsTarget (h : Home) (from to left : ℕ) : Type 0 where
   pub low : h.first ≤ to
   pub high : to < h.last
-  pub height : height_at h.code to ≡ height
+  pub height : height_at h.code to ≡ left
   pub lands : ((from < to) × Unturned h.code to) ⊎ (instr_at h.code to ≡ Some instr.Turn)
 
 -- an instruction at a place keeps what validity asks of it there

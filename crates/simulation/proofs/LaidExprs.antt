@@ -102,14 +102,14 @@ module _ (h : Home) where
   -- a choice between two parts
   lays_choice : (test end from to x : ℕ) → Lays h ⊤ from x test (suc x) → instr_at h.code test ≡ Some (instr.JumpZero (end + 1)) → Lays h ⊤ (test + 1) x end (suc x) →
       instr_at h.code end ≡ Some (instr.Jump to) → Lays h ⊤ (end + 1) x to (suc x) → end + 1 < to → Lays h ⊤ from x to (suc x)
-  lays_choice test end from to x first is_zero yes is_jump no some =
+  lays_choice test end from to x first is_zero left is_jump right some =
       let jump : Lays h (⊤ × (to < h.last)) end (suc x) (end + 1) x =
       jumping h end to (suc x) x is_jump (omega arith)
-      (λ g low high f. ahead end to (suc x) (omega (arith, some)) low g.1 (no.height f) (no.unturned some)) in
+      (λ g low high f. ahead end to (suc x) (omega (arith, some)) low g.1 (right.height f) (right.unturned some)) in
       let zero : Lays h (⊤ × (to < h.last)) test (suc x) (test + 1) x =
       jumping_zero h test (end + 1) x is_zero
-      (λ g low high f. ahead test (end + 1) x (omega (arith, yes.onward)) low (omega (arith, g.1, some)) (jump.height (yes.height f)) (jump.unturned (omega arith))) in
-      closed h (then_lays h (free h first) (then_lays h zero (then_lays h (free h yes) (then_lays h jump (free h no)))))
+      (λ g low high f. ahead test (end + 1) x (omega (arith, left.onward)) low (omega (arith, g.1, some)) (jump.height (left.height f)) (jump.unturned (omega arith))) in
+      closed h (then_lays h (free h first) (then_lays h zero (then_lays h (free h left) (then_lays h jump (free h right)))))
 
   -- an expression has at least one instruction
   abbrev pub Value : (from x to : ℕ) → Type 0
@@ -124,9 +124,10 @@ module _ (h : Home) where
         let before = args_lay args s from has.0 x fit.1 has.1 in
         (omega (arith, before.onward, has.2.1.1), then_lays h before (lays_call (tells h f.mark.place) (count_args args) has.0 to x fit.0 has.2))
     expr_lays (tree.Paren e) s from to x fit has = expr_lays e s from to x fit has
-    expr_lays (tree.Unary op m e) s from to x fit has =
-        (unary_some op m.line e (HasExpr h.code (tells h) e) from to (λ q k. (expr_lays e s from q x fit k).0) has,
-        lays_unary op m.line e (HasExpr h.code (tells h) e) from to x (λ q k. (expr_lays e s from q x fit k).1) has)
+    expr_lays (tree.Unary op m e) s from to x fit has = (
+      unary_some op m.line e (HasExpr h.code (tells h) e) from to (λ q k. (expr_lays e s from q x fit k).0) has,
+      lays_unary op m.line e (HasExpr h.code (tells h) e) from to x (λ q k. (expr_lays e s from q x fit k).1) has,
+    )
     expr_lays (tree.Chain l first links) s from to x fit has =
         let a = expr_lays first s from has.0 x (fit_first h (expr_notes s first) (links_notes s links) fit) has.1 in
         let b = links_lay links s has.0 to x (fit_rest h (expr_notes s first) (links_notes s links) fit) has.2 in
@@ -141,13 +142,15 @@ module _ (h : Home) where
         (omega (arith, v.0, y.0, n.0), lays_choice has.0 has.1 from to x v.1 has.3 y.1 has.5 n.1 n.0)
 
     place_lays : (t : tree.TargetTree) (s : Scope) (from to x : ℕ) → AllFit h (place_notes s role.Value t) → HasPlace h.code (tells h) t from to → Value from x to
-    place_lays (tree.Variable n) s from to x fit has =
-        (reading_some (tells h n.mark.place) n.mark.line from to has,
-        straight h (reading (tells h n.mark.place) n.mark.line) from to x (suc x) has (rises_reading h (tells h n.mark.place) n.mark.line x fit.0))
+    place_lays (tree.Variable n) s from to x fit has = (
+      reading_some (tells h n.mark.place) n.mark.line from to has,
+      straight h (reading (tells h n.mark.place) n.mark.line) from to x (suc x) has (rises_reading h (tells h n.mark.place) n.mark.line x fit.0),
+    )
     place_lays (tree.Element n m e) s from to x fit has =
-        let index = expr_lays e s from has.0 x fit.1 has.1 in
-        (omega (arith, index.0, has.2.1),
-        then_lays h index.1 (straight h (reading_at (tells h n.mark.place) m.line ∷ []) has.0 to (suc x) (suc x) has.2 (rises_reading_at h (tells h n.mark.place) m.line x fit.0)))
+        let index = expr_lays e s from has.0 x fit.1 has.1 in (
+          omega (arith, index.0, has.2.1),
+          then_lays h index.1 (straight h (reading_at (tells h n.mark.place) m.line ∷ []) has.0 to (suc x) (suc x) has.2 (rises_reading_at h (tells h n.mark.place) m.line x fit.0)),
+        )
 
     links_lay : (links : tree.Links) (s : Scope) (from to x : ℕ) → AllFit h (links_notes s links) → HasLinks h.code (tells h) links from to → Lays h ⊤ from (suc x) to (suc x)
     links_lay tree.no_links s from to x fit has = to_end h has (nothing h from (suc x))

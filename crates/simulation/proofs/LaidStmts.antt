@@ -71,10 +71,11 @@ module _ (h : Home) (left : IsLeft h) where
       Runs broke continued next from to
   ends_lay {next = next} {from = from} {to = to} lays (by_itself s) = lays next from to s
   ends_lay {broke = broke} {continued = continued} {next = next} {from = from} lays (by_jump end s is) =
-      let f = (lays end from end s).1 in
-      (λ e. absurd (omega (arith, e, f.onward)),
-      then_lays h (goes_to_end next (omega arith) f)
-      (jumping h end next 0 0 is (omega arith) (λ g low high k. label_target h end (omega arith) (g (omega (arith, f.onward))).2)))
+      let f = (lays end from end s).1 in (
+        λ e. absurd (omega (arith, e, f.onward)),
+        then_lays h (goes_to_end next (omega arith) f)
+            (jumping h end next 0 0 is (omega arith) (λ g low high k. label_target h end (omega arith) (g (omega (arith, f.onward))).2)),
+      )
 
   test_lays : (test : Option tree.ExprTree) (s : Scope) (fails from to : ℕ) → AllFit h (value_notes s test) → HasTest h.code (tells h) test fails from to → Tests h fails from to
   test_lays None s fails from to fit has = to_end h has (nothing h from 0)
@@ -96,11 +97,12 @@ module _ (h : Home) (left : IsLeft h) where
       to_end h has.4.1 (jumping h has.1 again 0 0 has.4.0 (omega arith) (λ g low high k. label_target h has.1 (omega arith) (subst (λ q. IsLabel h q again) (sym has.4.1) g.1))) in
       let front : Lays h ((from < to → IsLabel h to next) × IsLabel h to again) from 0 has.0 0 =
       own_label h
-      (from_more h (λ g lt. (label_before h (omega (arith, change.onward, jump.onward)) (g.0.0 (omega (arith, lt, change.onward, jump.onward))), g.1 lt, g.1 lt)) f) in
-      (λ e. absurd (omega (arith, e, f.onward, change.onward, has.4.1)),
-      then_lays h front
-      (then_lays h (free h change)
-      (from_more h (λ g. (λ lt. g.0 (omega (arith, lt, f.onward, change.onward)), g.1)) jump)))
+      (from_more h (λ g lt. (label_before h (omega (arith, change.onward, jump.onward)) (g.0.0 (omega (arith, lt, change.onward, jump.onward))), g.1 lt, g.1 lt)) f) in (
+        λ e. absurd (omega (arith, e, f.onward, change.onward, has.4.1)),
+        then_lays h front
+            (then_lays h (free h change)
+            (from_more h (λ g. (λ lt. g.0 (omega (arith, lt, f.onward, change.onward)), g.1)) jump)),
+      )
 
   -- a loop goes nowhere but to what follows it
   loop_lays : {part : ℕ → ℕ → ℕ → ℕ → Type 0} (test : Option tree.ExprTree) (step : Option tree.ChangeTree) (s : Scope) (next from to : ℕ) → AllFit h (value_notes s test) → AllFit h (step_notes s step) →
@@ -108,12 +110,13 @@ module _ (h : Home) (left : IsLeft h) where
   loop_lays test step s next from to fit_test fit_step lays has =
       let head = test_lays test s next (from + 1) has.0 fit_test has.2 in
       let round = round_lays step s next from has.0 to fit_step lays has.3 in
-      let some : from + 1 < to = is_some round.0 head.onward round.1.onward in
-      (omega (arith, some),
-      looping h from to has.1 some
-      (then_lays h
-      (from_more h (λ g lt. label_before h round.1.onward (g.0 (omega (arith, some)))) head)
-      (from_more h (λ g. (λ lt. g.0 (omega (arith, some)), g.1)) round.1)))
+      let some : from + 1 < to = is_some round.0 head.onward round.1.onward in (
+        omega (arith, some),
+        looping h from to has.1 some
+            (then_lays h
+            (from_more h (λ g lt. label_before h round.1.onward (g.0 (omega (arith, some)))) head)
+            (from_more h (λ g. (λ lt. g.0 (omega (arith, some)), g.1)) round.1)),
+      )
     where
       is_some : (has.0 ≡ to → from ≡ to) → from + 1 ≤ has.0 → has.0 ≤ to → from + 1 < to
       is_some none a b = by_order (cases_lt (from + 1) to)
@@ -127,8 +130,8 @@ module _ (h : Home) (left : IsLeft h) where
   branch_lays c a = (
     λ e. a.0 (omega (arith, e, c.onward, a.1.onward)),
     then_lays h
-    (from_more h (λ g lt. label_before h a.1.onward (g (omega (arith, lt, a.1.onward))).2) c)
-    (from_more h (labels_back c.onward) a.1),
+        (from_more h (λ g lt. label_before h a.1.onward (g (omega (arith, lt, a.1.onward))).2) c)
+        (from_more h (labels_back c.onward) a.1),
   )
 
   branches_lay : {broke continued next from test otherwise to : ℕ} → Tests h otherwise from test → Runs broke continued next test otherwise → Runs broke continued next otherwise to → Runs broke continued next from to
@@ -144,9 +147,10 @@ module _ (h : Home) (left : IsLeft h) where
       first g = labels_back c.onward (labels_front b.1.onward g.0)
 
   jump_lays : {given : Type 0} (label from to : ℕ) → (given → IsLabel h to label) → Stands h.code (instr.Jump label ∷ []) from to → (from < to) × Lays h given from 0 to 0
-  jump_lays label from to is has =
-      (omega (arith, has.1),
-      to_end h has.1 (jumping h from label 0 0 has.0 (omega arith) (λ g low high k. label_target h from (omega arith) (subst (λ q. IsLabel h q label) (sym has.1) (is g)))))
+  jump_lays label from to is has = (
+    omega (arith, has.1),
+    to_end h has.1 (jumping h from label 0 0 has.0 (omega arith) (λ g low high k. label_target h from (omega arith) (subst (λ q. IsLabel h q label) (sym has.1) (is g)))),
+  )
 
   leave_lays : (place : ℕ) → instr_at h.code place ≡ Some h.body.leaves → Lays h ⊤ place 1 (place + 1) 0
   leave_lays place is = by_kind left
@@ -172,10 +176,11 @@ module _ (h : Home) (left : IsLeft h) where
     stmt_lays (tree.Block ss) s broke continued next from to fit spawned has = stmts_lay ss (enter s) broke continued next from to fit spawned has
     stmt_lays (tree.StmtTree.Declare ds) s broke continued next from to fit spawned has = (λ e. has.1, free h (declarators_lay h ds s from to fit has.0))
     stmt_lays (tree.StmtTree.Change c) s broke continued next from to fit spawned has = (λ e. has.1, free h (change_lays h s fit has.0))
-    stmt_lays (tree.StmtTree.Call f args) s broke continued next from to fit spawned has =
-        (λ e. has.3,
-        free h
-        (then_lays h (expr_lays h (tree.ExprTree.Call f args) s from has.0 0 fit has.1).1 (straight h (instr.Drop ∷ []) has.0 to 1 0 has.2 ((refl, refl, refl, refl), omega arith, tt, omega arith))))
+    stmt_lays (tree.StmtTree.Call f args) s broke continued next from to fit spawned has = (
+      λ e. has.3,
+      free h
+          (then_lays h (expr_lays h (tree.ExprTree.Call f args) s from has.0 0 fit has.1).1 (straight h (instr.Drop ∷ []) has.0 to 1 0 has.2 ((refl, refl, refl, refl), omega arith, tt, omega arith))),
+    )
     stmt_lays (tree.If c a) s broke continued next from to fit spawned has =
         branch_lays (condition_lays h s (fit_first h (expr_notes s c) (own_notes s a) fit) has.1)
         (ends_lay (λ n p q k. stmt_lays a s broke continued n p q (fit_rest h (expr_notes s c) (own_notes s a) fit) spawned k) has.2)
@@ -216,19 +221,21 @@ module _ (h : Home) (left : IsLeft h) where
     stmt_lays (tree.Task m cs a) s broke continued next from to fit spawned has =
         let ps = parts cs in
         let note = Task s m (count_items ps) (captured s.entries ps a) ∷ [] in
-        let fit_task = fit_rest h (parts_notes s [] ps) note fit in
-        (λ e. has.5,
-        free h
-        (then_lays h (items_lay h fit_task.0 ps s [] from has.1 0 (fit_first h (parts_notes s [] ps) note fit) has.3)
-        (spawn_lays has.0 (count_items ps + count_items ps) has.1 to fit_task.0 (spawned.0 has.0 has.2) has.4)))
+        let fit_task = fit_rest h (parts_notes s [] ps) note fit in (
+          λ e. has.5,
+          free h
+              (then_lays h (items_lay h fit_task.0 ps s [] from has.1 0 (fit_first h (parts_notes s [] ps) note fit) has.3)
+              (spawn_lays has.0 (count_items ps + count_items ps) has.1 to fit_task.0 (spawned.0 has.0 has.2) has.4)),
+        )
     stmt_lays (tree.Tick m t arrow e) s broke continued next from to fit spawned has =
         let x = place_notes s (role.Flow direction.Reads) t in
-        let fit_x = fit_first h x (expr_notes s e) fit.1 in
-        (λ same. has.5,
-        free h
-        (then_lays h (stream_lays h fit.0 t direction.Reads s from has.0 0 fit_x has.2)
-        (then_lays h (expr_lays h e s has.0 has.1 1 (fit_rest h x (expr_notes s e) fit.1) has.3).1
-        (tick_lays arrow.line (first_of (tells h (target_name t).mark.place)) has.1 to fit.0 (stream_fits h fit.0 t direction.Reads s fit_x) has.4))))
+        let fit_x = fit_first h x (expr_notes s e) fit.1 in (
+          λ same. has.5,
+          free h
+              (then_lays h (stream_lays h fit.0 t direction.Reads s from has.0 0 fit_x has.2)
+              (then_lays h (expr_lays h e s has.0 has.1 1 (fit_rest h x (expr_notes s e) fit.1) has.3).1
+              (tick_lays arrow.line (first_of (tells h (target_name t).mark.place)) has.1 to fit.0 (stream_fits h fit.0 t direction.Reads s fit_x) has.4))),
+        )
     stmt_lays (tree.Taskwait m) s broke continued next from to fit spawned has = (λ e. has.1, to_end h has.0 (nothing h from 0))
 
     pub stmts_lay : (ss : tree.Stmts) (s : Scope) (broke continued next from to : ℕ) → AllFit h (all_own_notes s ss) → AreSpawned h (all_tasks_of ss) →
@@ -240,6 +247,7 @@ module _ (h : Home) (left : IsLeft h) where
         let y = all_own_notes (after_stmt s a) (tree.stmt c rest) in
         let us = all_tasks_of (tree.stmt c rest) in
         let first = stmt_lays a s broke continued has.0 from has.0 (fit_first h (own_notes s a) y fit) (spawned_first h (tasks_of a) us spawned) has.1 in
-        let others = stmts_lay (tree.stmt c rest) (after_stmt s a) broke continued next has.0 to (fit_rest h (own_notes s a) y fit) (spawned_rest h (tasks_of a) us spawned) has.2 in
-        (λ e. others.0 (omega (arith, e, first.1.onward, others.1.onward)),
-        then_lays h (goes_to_end next others.1.onward first.1) (from_more h (labels_back first.1.onward) others.1))
+        let others = stmts_lay (tree.stmt c rest) (after_stmt s a) broke continued next has.0 to (fit_rest h (own_notes s a) y fit) (spawned_rest h (tasks_of a) us spawned) has.2 in (
+          λ e. others.0 (omega (arith, e, first.1.onward, others.1.onward)),
+          then_lays h (goes_to_end next others.1.onward first.1) (from_more h (labels_back first.1.onward) others.1),
+        )

@@ -70,7 +70,7 @@ module _ (h : Home) where
   }
 
   pub then_lays : {given : Type 0} {a x b y c z : ℕ} → Lays h given a x b y → Lays h given b y c z → Lays h given a x c z
-  then_lays {a = a} {b = b} {c = c} f s = record {
+  then_lays {given = given} {a = a} {x = x} {b = b} {c = c} f s = record {
     onward = omega (arith, f.onward, s.onward);
     height = λ e. s.height (f.height e);
     unturned = λ lt. last_of lt (cases_lt b c);
@@ -83,7 +83,7 @@ module _ (h : Home) where
           let same : b ≡ c = omega (arith, none, s.onward) in
           subst (Unturned h.code) same (f.unturned (omega (arith, lt, same)))
 
-      by_place : _ → h.first ≤ a → c < h.last → height_at h.code a ≡ _ → (p : ℕ) (i : Instr) → a ≤ p → p < c → instr_at h.code p ≡ Some i → (p < b) ⊎ (b ≤ p) → IsFine h p i
+      by_place : given → h.first ≤ a → c < h.last → height_at h.code a ≡ x → (p : ℕ) (i : Instr) → a ≤ p → p < c → instr_at h.code p ≡ Some i → (p < b) ⊎ (b ≤ p) → IsFine h p i
       by_place g low high e p i ge lt is (inl early) = f.fine g low (omega (arith, high, s.onward)) e p i ge early is
       by_place g low high e p i ge lt is (inr late) = s.fine g (omega (arith, low, f.onward)) high (f.height e) p i late lt is
 
@@ -117,7 +117,7 @@ module _ (h : Home) where
   to_height {given = given} {a = a} {x = x} {b = b} e f = subst (λ y. Lays h given a x b y) e f
 
   -- one instruction
-  at_one : (place : ℕ) (i : Instr) → instr_at h.code place ≡ Some i → IsFine h place i → AreFine h place (place + 1)
+  pub at_one : (place : ℕ) (i : Instr) → instr_at h.code place ≡ Some i → IsFine h place i → AreFine h place (place + 1)
   at_one place i is fine p j ge lt there =
       let e : place ≡ p = omega (arith, ge, lt) in
       let same : Some i ≡ Some j = sym is ∙ subst (λ q. instr_at h.code q ≡ Some j) (sym e) there in
@@ -225,7 +225,7 @@ module _ (h : Home) where
 
   -- a loop begins with a `Turn`, which is a label of its own
   pub looping : {given : Type 0} (from to : ℕ) → instr_at h.code from ≡ Some instr.Turn → from + 1 < to → Lays h (given × IsLabel h to from) (from + 1) 0 to 0 → Lays h given from 0 to 0
-  looping from to is some f = record {
+  looping {given = given} from to is some f = record {
     onward = omega (arith, some);
     height = λ e. f.height (behind e);
     unturned = λ lt. f.unturned some;
@@ -238,7 +238,7 @@ module _ (h : Home) where
       label : h.first ≤ from → to < h.last → height_at h.code from ≡ 0 → IsLabel h to from
       label low high e = record { low = low; high = omega (arith, some, high); height = e; lands = inr is }
 
-      by_place : _ × IsLabel h to from → h.first ≤ from → to < h.last → height_at h.code from ≡ 0 → (p : ℕ) (j : Instr) → from ≤ p → p < to → instr_at h.code p ≡ Some j → (p < from + 1) ⊎ (from + 1 ≤ p) → IsFine h p j
+      by_place : given × IsLabel h to from → h.first ≤ from → to < h.last → height_at h.code from ≡ 0 → (p : ℕ) (j : Instr) → from ≤ p → p < to → instr_at h.code p ≡ Some j → (p < from + 1) ⊎ (from + 1 ≤ p) → IsFine h p j
       by_place g low high e p j ge lt there (inl early) =
           at_one from instr.Turn is
           (record { enough = omega arith; jumps = λ q z. absurd (cc); turned = λ t. absurd (cc); suits = tt })

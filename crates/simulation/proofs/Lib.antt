@@ -35,6 +35,7 @@ pub mod LaidDeclarators
 pub mod LaidItems
 pub mod OwnNotes
 pub mod LaidStmts
+pub mod LaidUnits
 pub mod Texts
 pub mod TextNotes
 pub mod Streams

@@ -204,7 +204,7 @@ no_streams n (usage.Called args) first count plain a b = absurd (cc)
 no_streams n (usage.Joined s) first count plain a b = plain
 no_streams n usage.Private first count plain a b = plain
 
-in_slots : (slot : ℕ) → is_in slot (slot ∷ []) ≡ true
+pub in_slots : (slot : ℕ) → is_in slot (slot ∷ []) ≡ true
 in_slots slot = ap (λ t. t || false) (eq-eqb slot slot refl)
 
 module _ (code : Parts) (file : File) (falls : CallsFall file) (rs : List Resolved) (ordered : InOrder rs) (file_es : List Entry) (fits : FileFits code file file_es) (t : MeaningTask) (slots : List ℕ) (there : TaskAt rs file_es t slots) (claims : List Claim) where

@@ -104,10 +104,11 @@ module _ (t : Text) where
   declarator_in d s is room lawful = record {
     owner = (declarator_onward s d).owner ∙ is.owner;
     captured = (declarator_onward s d).captured ∙ is.captured;
-    may = subst (AllMay t.home t.owner) (sym (declarator_entries s d))
-        (form_may s d.name.id is d.stream d.size (record { slots = room.slots; streams = room.streams }) lawful.1.1.1.1.1.1.1.0
-        (size_lawful s d.name.id is d.stream d.size (after_declarator s d) lawful.1.1.1.1.1.0),
-        is.may);
+    may = subst (AllMay t.home t.owner) (sym (declarator_entries s d)) (
+      form_may s d.name.id is d.stream d.size (record { slots = room.slots; streams = room.streams }) lawful.1.1.1.1.1.1.1.0
+          (size_lawful s d.name.id is d.stream d.size (after_declarator s d) lawful.1.1.1.1.1.0),
+      is.may,
+    );
   }
 
   declarators_in : (ds : List tree.DeclaratorTree) (s : Scope) → In t s → HasRoom t (after_declarators s ds) → Known t (declarators_notes s ds) → In t (after_declarators s ds)

@@ -18,7 +18,7 @@ use Rattle.os_ast.specs.declared.names.Entity.{Entity}
 use Rattle.os_ast.specs.declared.names.Entity.TheVariants as entity
 use Rattle.os_ast.specs.declared.names.Entry.{Entry}
 use Rattle.os_ast.specs.declared.names.Owner.{Owner}
-use Rattle.os_ast.specs.declared.names.Owner.TheVariants as owner
+use Rattle.os_ast.specs.declared.names.Owner.TheVariants as owned
 use Rattle.os_ast.specs.declared.names.Resolved.{Resolved}
 use Rattle.os_ast.specs.declared.names.Role.TheVariants as role
 use Rattle.os_ast.specs.declared.names.Shape.{Shape}
@@ -34,6 +34,7 @@ use Rattle.simulation.proofs.Context.{told_is}
 use Rattle.simulation.proofs.Exprs.{same_count}
 use Rattle.simulation.proofs.Homes.{Home, tells, HasItem, HasOutput, IsCallee, IsCalled, Fits, IsOutput, FitsUse, FitsNote, AllFit}
 use Rattle.simulation.proofs.Names.{means_function}
+use Rattle.simulation.proofs.TaskContexts.{in_slots}
 use Rattle.window_check.specs.Order.{InOrder}
 use Rattle.window_check.specs.Slots.{control_slots}
 use Rattle.window_check.specs.Told.{AreIn, KeepsAll}
@@ -47,14 +48,14 @@ pub record Text : Type 0 where
   pub told : tells home ≡ told_at names
   pub owner : Owner
   pub captured : List ℕ
-  pub in_main : owner ≡ owner.OfMain → home.kind ≡ Main
-  pub caught_fit : owner ≡ owner.OfTask → length captured ≤ home.slots
+  pub in_main : owner ≡ owned.OfMain → home.kind ≡ Main
+  pub caught_fit : owner ≡ owned.OfTask → length captured ≤ home.slots
 
 -- what `main` declares may be named in tasks, as far as it is captured
 abbrev pub OfMainAlone : Owner → Type 0 → Type 0
-OfMainAlone owner.OfMain T = T
-OfMainAlone owner.OfTask T = ⊤
-OfMainAlone owner.OfFunction T = ⊥
+OfMainAlone owned.OfMain T = T
+OfMainAlone owned.OfTask T = ⊤
+OfMainAlone owned.OfFunction T = ⊥
 
 -- an item that is written is an output
 abbrev pub IsWritten : Home → Direction → ℕ → Type 0
@@ -91,7 +92,7 @@ may_found h o (e ∷ es) id d all is = by_case (e.id == id) refl is (λ k. may_f
 
 -- the scalars of `main` that a task names are captured
 abbrev pub Catches : Owner → List ℕ → Note → Type 0
-Catches owner.OfTask slots (Used s n u) = (slot : ℕ) → is_in slot (control_slots (entity_of (lookup s.entries n.id))) ≡ true → is_in slot slots ≡ true
+Catches owned.OfTask slots (Used s n u) = (slot : ℕ) → is_in slot (control_slots (entity_of (lookup s.entries n.id))) ≡ true → is_in slot slots ≡ true
 Catches o slots n = ⊤
 
 -- what the checks say of what stands in a body
@@ -117,9 +118,9 @@ pub record In (t : Text) (s : Scope) : Type 0 where
 abbrev pub IsPlaced : Text → Use → Type 0
 IsPlaced t (usage.Place role.Value s) = ⊤
 IsPlaced t (usage.Place role.Changed s) = ⊤
-IsPlaced t (usage.Place (role.Flow d) s) = t.owner ≡ owner.OfMain
+IsPlaced t (usage.Place (role.Flow d) s) = t.owner ≡ owned.OfMain
 IsPlaced t (usage.Called args) = ⊤
-IsPlaced t (usage.Joined s) = t.owner ≡ owner.OfMain
+IsPlaced t (usage.Joined s) = t.owner ≡ owned.OfMain
 IsPlaced t usage.Private = ⊤
 
 -- where what stands in a body stands
@@ -156,22 +157,22 @@ place_within xs slot is = by_test (position_or_len (λ s. s == slot) xs) (nat_lt
 
 -- what a declaration means in a body: itself, or a captured scalar
 same_meaning : (o : Owner) (slots : List ℕ) (d : Entity) → (meaning_in o slots d ≡ meaning d) ⊎ ((slot : ℕ) × (meaning_in o slots d ≡ what.Scalar slot))
-same_meaning owner.OfMain slots d = inl refl
-same_meaning owner.OfFunction slots d = inl refl
-same_meaning owner.OfTask slots (entity.Constant v) = inl refl
-same_meaning owner.OfTask slots (entity.Function number params) = inl refl
-same_meaning owner.OfTask slots (entity.Scalar slot) = inl refl
-same_meaning owner.OfTask slots (entity.Control slot) = inr (place_in slots slot, refl)
-same_meaning owner.OfTask slots entity.InputLength = inr (place_in slots 0, refl)
-same_meaning owner.OfTask slots (entity.Array first size) = inl refl
-same_meaning owner.OfTask slots (entity.Window slot) = inl refl
-same_meaning owner.OfTask slots (entity.Stream number) = inl refl
-same_meaning owner.OfTask slots (entity.Streams first count) = inl refl
-same_meaning owner.OfTask slots (entity.Element item d) = inl refl
-same_meaning owner.OfTask slots (entity.View item d) = inl refl
+same_meaning owned.OfMain slots d = inl refl
+same_meaning owned.OfFunction slots d = inl refl
+same_meaning owned.OfTask slots (entity.Constant v) = inl refl
+same_meaning owned.OfTask slots (entity.Function number params) = inl refl
+same_meaning owned.OfTask slots (entity.Scalar slot) = inl refl
+same_meaning owned.OfTask slots (entity.Control slot) = inr (place_in slots slot, refl)
+same_meaning owned.OfTask slots entity.InputLength = inr (place_in slots 0, refl)
+same_meaning owned.OfTask slots (entity.Array first size) = inl refl
+same_meaning owned.OfTask slots (entity.Window slot) = inl refl
+same_meaning owned.OfTask slots (entity.Stream number) = inl refl
+same_meaning owned.OfTask slots (entity.Streams first count) = inl refl
+same_meaning owned.OfTask slots (entity.Element item d) = inl refl
+same_meaning owned.OfTask slots (entity.View item d) = inl refl
 
 module _ (h : Home) (id : ℕ) where
-  fits_main : (d : Entity) → May h owner.OfMain id d → Fits h (meaning d)
+  fits_main : (d : Entity) → May h owned.OfMain id d → Fits h (meaning d)
   fits_main (entity.Constant v) may = tt
   fits_main (entity.Function number params) may = tt
   fits_main (entity.Scalar slot) may = may
@@ -184,7 +185,7 @@ module _ (h : Home) (id : ℕ) where
   fits_main (entity.Element item d) may = may.0
   fits_main (entity.View item d) may = may.0
 
-  fits_function : (d : Entity) → May h owner.OfFunction id d → Fits h (meaning d)
+  fits_function : (d : Entity) → May h owned.OfFunction id d → Fits h (meaning d)
   fits_function (entity.Constant v) may = tt
   fits_function (entity.Function number params) may = tt
   fits_function (entity.Scalar slot) may = may
@@ -198,12 +199,12 @@ module _ (h : Home) (id : ℕ) where
   fits_function (entity.View item d) may = may.0
 
   fits_task : (slots : List ℕ) (d : Entity) → length slots ≤ h.slots → is_a_window d ≡ false → ((slot : ℕ) → is_in slot (control_slots (Some d)) ≡ true → is_in slot slots ≡ true) →
-      May h owner.OfTask id d → Fits h (meaning_in owner.OfTask slots d)
+      May h owned.OfTask id d → Fits h (meaning_in owned.OfTask slots d)
   fits_task slots (entity.Constant v) few other caught may = tt
   fits_task slots (entity.Function number params) few other caught may = tt
   fits_task slots (entity.Scalar slot) few other caught may = may
-  fits_task slots (entity.Control slot) few other caught may = omega (arith, few, place_within slots slot (caught slot (among slot)))
-  fits_task slots entity.InputLength few other caught may = omega (arith, few, place_within slots 0 (caught 0 (among 0)))
+  fits_task slots (entity.Control slot) few other caught may = omega (arith, few, place_within slots slot (caught slot (in_slots slot)))
+  fits_task slots entity.InputLength few other caught may = omega (arith, few, place_within slots 0 (caught 0 (in_slots 0)))
   fits_task slots (entity.Array first size) few other caught may = may
   fits_task slots (entity.Window slot) few other caught may = absurd (cc)
   fits_task slots (entity.Stream number) few other caught may = tt
@@ -211,11 +212,11 @@ module _ (h : Home) (id : ℕ) where
   fits_task slots (entity.Element item d) few other caught may = may.0
   fits_task slots (entity.View item d) few other caught may = may.0
 
-  fits_in : (o : Owner) (slots : List ℕ) (d : Entity) → (o ≡ owner.OfTask → length slots ≤ h.slots) → (o ≡ owner.OfTask → is_a_window d ≡ false) →
-      (o ≡ owner.OfTask → (slot : ℕ) → is_in slot (control_slots (Some d)) ≡ true → is_in slot slots ≡ true) → May h o id d → Fits h (meaning_in o slots d)
-  fits_in owner.OfMain slots d few other caught may = fits_main d may
-  fits_in owner.OfFunction slots d few other caught may = fits_function d may
-  fits_in owner.OfTask slots d few other caught may = fits_task slots d (few refl) (other refl) (caught refl) may
+  fits_in : (o : Owner) (slots : List ℕ) (d : Entity) → (o ≡ owned.OfTask → length slots ≤ h.slots) → (o ≡ owned.OfTask → is_a_window d ≡ false) →
+      (o ≡ owned.OfTask → (slot : ℕ) → is_in slot (control_slots (Some d)) ≡ true → is_in slot slots ≡ true) → May h o id d → Fits h (meaning_in o slots d)
+  fits_in owned.OfMain slots d few other caught may = fits_main d may
+  fits_in owned.OfFunction slots d few other caught may = fits_function d may
+  fits_in owned.OfTask slots d few other caught may = fits_task slots d (few refl) (other refl) (caught refl) may
 
   -- what may be changed is an output
   output_own : (o : Owner) (s : Shape) (d : Entity) → is_fixed d ≡ false → May h o id d → IsOutput h (meaning d)
@@ -258,7 +259,7 @@ module _ (h : Home) (id : ℕ) where
   called_in o slots args (entity.Element item d) kind count may = absurd (cc)
   called_in o slots args (entity.View item d) kind count may = absurd (cc)
 
-  flow_main : (d : Direction) (s : Shape) (e : Entity) → is_wrong_kind id (usage.Place (role.Flow d) s) e ≡ false → May h owner.OfMain id e → first_of (meaning e) < h.code.streams
+  flow_main : (d : Direction) (s : Shape) (e : Entity) → is_wrong_kind id (usage.Place (role.Flow d) s) e ≡ false → May h owned.OfMain id e → first_of (meaning e) < h.code.streams
   flow_main d s (entity.Stream number) kind may = may
   flow_main d s (entity.Streams first size) kind may = may
   flow_main d s (entity.Function number params) kind may = absurd (cc)
@@ -271,11 +272,11 @@ module _ (h : Home) (id : ℕ) where
   flow_main d s (entity.Element item x) kind may = absurd (cc)
   flow_main d s (entity.View item x) kind may = absurd (cc)
 
-  flow_in : (o : Owner) (slots : List ℕ) (d : Direction) (s : Shape) (e : Entity) → o ≡ owner.OfMain → is_wrong_kind id (usage.Place (role.Flow d) s) e ≡ false → May h o id e →
+  flow_in : (o : Owner) (slots : List ℕ) (d : Direction) (s : Shape) (e : Entity) → o ≡ owned.OfMain → is_wrong_kind id (usage.Place (role.Flow d) s) e ≡ false → May h o id e →
       first_of (meaning_in o slots e) < h.code.streams
-  flow_in owner.OfMain slots d s e is kind may = flow_main d s e kind may
-  flow_in owner.OfFunction slots d s e is kind may = absurd (cc)
-  flow_in owner.OfTask slots d s e is kind may = absurd (cc)
+  flow_in owned.OfMain slots d s e is kind may = flow_main d s e kind may
+  flow_in owned.OfFunction slots d s e is kind may = absurd (cc)
+  flow_in owned.OfTask slots d s e is kind may = absurd (cc)
 
 -- What stands in a body of a lawful program fits.
 module _ (t : Text) where
@@ -287,25 +288,26 @@ module _ (t : Text) where
       may : May t.home t.owner n.id d
       may = may_found t.home t.owner s.entries n.id d is.may found
 
-      caught : (o : Owner) → Catches o t.captured (Used s n u) → o ≡ owner.OfTask → (slot : ℕ) → is_in slot (control_slots (Some d)) ≡ true → is_in slot t.captured ≡ true
-      caught owner.OfTask catches e slot k = catches slot (ap (λ x. is_in slot (control_slots x)) found ∙ k)
-      caught owner.OfMain catches e slot k = absurd (cc)
-      caught owner.OfFunction catches e slot k = absurd (cc)
+      caught : (o : Owner) → Catches o t.captured (Used s n u) → o ≡ owned.OfTask → (slot : ℕ) → is_in slot (control_slots (Some d)) ≡ true → is_in slot t.captured ≡ true
+      caught owned.OfTask catches e slot k = catches slot (ap (λ x. is_in slot (control_slots x)) found ∙ k)
+      caught owned.OfMain catches e slot k = absurd (cc)
+      caught owned.OfFunction catches e slot k = absurd (cc)
 
-      fits : (t.owner ≡ owner.OfTask → is_a_window d ≡ false) → Fits t.home (meaning_in t.owner t.captured d)
+      fits : (t.owner ≡ owned.OfTask → is_a_window d ≡ false) → Fits t.home (meaning_in t.owner t.captured d)
       fits other = fits_in t.home n.id t.owner t.captured d t.caught_fit other (caught t.owner catches) may
 
       by_use : (v : Use) → IsPlaced t v → KeepsAll rules (Used s n v) → FitsUse t.home v (meaning_in t.owner t.captured d)
       by_use (usage.Place role.Value x) placed lawful =
           fits (λ e. kept_rule is_misplaced_window s n (usage.Place role.Value x) d found lawful.1.1.1.1.1.1.1.1.1.1.1.1.1.0)
-      by_use (usage.Place role.Changed x) placed lawful =
-          (fits (λ e. kept_rule is_misplaced_window s n (usage.Place role.Changed x) d found lawful.1.1.1.1.1.1.1.1.1.1.1.1.1.0),
-          output_in t.home n.id t.owner t.captured x d (kept_rule is_changed s n (usage.Place role.Changed x) d found lawful.1.1.1.1.0) may)
+      by_use (usage.Place role.Changed x) placed lawful = (
+        fits (λ e. kept_rule is_misplaced_window s n (usage.Place role.Changed x) d found lawful.1.1.1.1.1.1.1.1.1.1.1.1.1.0),
+        output_in t.home n.id t.owner t.captured x d (kept_rule is_changed s n (usage.Place role.Changed x) d found lawful.1.1.1.1.0) may,
+      )
       by_use (usage.Place (role.Flow k) x) placed lawful =
           flow_in t.home n.id t.owner t.captured k x d placed (kept_rule is_wrong_kind s n (usage.Place (role.Flow k) x) d found lawful.1.0) may
       by_use (usage.Called args) placed lawful =
           called_in t.home n.id t.owner t.captured args d (kept_rule is_wrong_kind s n (usage.Called args) d found lawful.1.0) (kept_rule has_other_count s n (usage.Called args) d found lawful.1.1.1.0) may
-      by_use (usage.Joined x) placed lawful = fits (λ e. let z : owner.OfMain ≡ owner.OfTask = sym placed ∙ e in absurd (cc))
+      by_use (usage.Joined x) placed lawful = fits (λ e. let z : owned.OfMain ≡ owned.OfTask = sym placed ∙ e in absurd (cc))
       by_use usage.Private placed lawful = tt
 
   told_use : (s : Scope) (n : Name) (u : Use) → In t s → IsPlaced t u → KeepsAll rules (Used s n u) → AreIn t.names (resolutions_of (Used s n u)) → Catches t.owner t.captured (Used s n u) →
@@ -321,20 +323,20 @@ module _ (t : Text) where
       subst (FitsUse t.home u) (sym same) (use_fits s n u d.0 is placed lawful catches d.1)
 
   main_kind : (o : Owner) → t.owner ≡ o → not (is_main_body o) ≡ false → t.home.kind ≡ Main
-  main_kind owner.OfMain e h = t.in_main e
-  main_kind owner.OfFunction e h = absurd (cc)
-  main_kind owner.OfTask e h = absurd (cc)
+  main_kind owned.OfMain e h = t.in_main e
+  main_kind owned.OfFunction e h = absurd (cc)
+  main_kind owned.OfTask e h = absurd (cc)
 
   -- what is declared fits where its slots do
   scalar_fits : (o : Owner) (slot : ℕ) → slot + 1 ≤ t.home.slots → Fits t.home (meaning (scalar_entity o slot))
-  scalar_fits owner.OfMain slot le = le
-  scalar_fits owner.OfFunction slot le = le
-  scalar_fits owner.OfTask slot le = le
+  scalar_fits owned.OfMain slot le = le
+  scalar_fits owned.OfFunction slot le = le
+  scalar_fits owned.OfTask slot le = le
 
   sized_fits : (o : Owner) (s : Scope) (size : Option ℕ) → t.owner ≡ o → (taken s (sized_form o size)).slots ≤ t.home.slots → Fits t.home (meaning (form_entity s (sized_form o size)))
-  sized_fits owner.OfMain s size e le = (t.in_main e, le)
-  sized_fits owner.OfFunction s size e le = le
-  sized_fits owner.OfTask s size e le = le
+  sized_fits owned.OfMain s size e le = (t.in_main e, le)
+  sized_fits owned.OfFunction s size e le = le
+  sized_fits owned.OfTask s size e le = le
 
   form_fits : (s : Scope) (stream : Bool) (size : Option tree.IndexTree) → In t s → (taken s (form_with s stream size)).slots ≤ t.home.slots → Fits t.home (meaning (form_entity s (form_with s stream size)))
   form_fits s true None is le = tt
@@ -344,9 +346,10 @@ module _ (t : Text) where
 
   note_fits : (n : Note) → Scoped t n → KeepsAll rules n → AreIn t.names (resolutions_of n) → Catches t.owner t.captured n → FitsNote t.home n
   note_fits (Used s n u) scoped lawful told catches = told_use s n u scoped.0 scoped.1 lawful told catches
-  note_fits (Declared s d) scoped lawful told catches =
-      (ap (λ f. f d.name.mark.place) t.told ∙ told_is t.names d.name.mark.place (meaning (declared_entity s d)) t.ordered told.0,
-      form_fits s d.stream d.size scoped.0 scoped.1)
+  note_fits (Declared s d) scoped lawful told catches = (
+    ap (λ f. f d.name.mark.place) t.told ∙ told_is t.names d.name.mark.place (meaning (declared_entity s d)) t.ordered told.0,
+    form_fits s d.stream d.size scoped.0 scoped.1,
+  )
   note_fits (Pragma s m) scoped lawful told catches = main_kind s.owner (sym scoped.owner) lawful.1.1.1.1.1.1.1.0
   note_fits (Task s m items captured) scoped lawful told catches = main_kind s.owner (sym scoped.owner) lawful.1.1.1.1.1.1.1.0
   note_fits (Sized s n) scoped lawful told catches = tt

@@ -1,0 +1,6 @@
+use Rattle.simulation.proofs.LaidUnits.{function_laid}
+use Rattle.simulation.proofs.TextStmts.{stmts_fit}
+use Rattle.simulation.proofs.laws.standing_is_valid.Goals as goal
+
+pub returns : goal.returns
+returns c = ?
