@@ -40,3 +40,6 @@ pub mod Texts
 pub mod TextNotes
 pub mod Streams
 pub mod TextStmts
+pub mod Tiles
+pub mod ValidRegions
+pub mod ValidHeights

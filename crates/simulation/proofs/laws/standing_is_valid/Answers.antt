@@ -1,3 +1,5 @@
+use Rattle.simulation.proofs.ValidHeights.{heights}
+use Rattle.simulation.proofs.ValidRegions.{targets}
 use Rattle.simulation.proofs.LaidUnits.{function_laid}
 use Rattle.simulation.proofs.TextStmts.{stmts_fit}
 use Rattle.simulation.proofs.laws.standing_is_valid.Goals as goal
