@@ -1,5 +1,5 @@
 -- A task's body beside the names round it.
-use Rattle.std.proofs.Common.{◌≡◌, ℕ, suc, ◌==◌, ◌||◌, Bool, true, false, if◌then◌else◌, List, [], ◌∷◌, ◌++◌, length, Option, Some, None, ℤ, refl, sym, ap, ◌∙◌, subst, inl, inr, eq-eqb, eqb-true}
+use Rattle.std.proofs.Common.{◌≡◌, ℕ, suc, ◌==◌, ◌||◌, Bool, true, false, if◌then◌else◌, List, [], ◌∷◌, ◌++◌, length, Option, Some, None, ℤ, refl, sym, ap, ◌∙◌, subst, inl, inr, eq-eqb, eqb-true, arith}
 use Rattle.std.specs.Prelude.{⊤, ◌⊎◌}
 use Rattle.cddf_meaning.specs.File.{File}
 use Rattle.cddf_meaning.specs.Moves.{CallsFall}
@@ -303,6 +303,7 @@ module _ (code : Parts) (file : File) (falls : CallsFall file) (rs : List Resolv
     owner = owner.OfTask;
     captured = slots;
     side = InTask claims;
+    floor = 0;
     round = inner.entries;
     bound = bound;
     besides = Besides slots;
@@ -320,6 +321,8 @@ module _ (code : Parts) (file : File) (falls : CallsFall file) (rs : List Resolv
     owner = items_owner ps there.scope around 0;
     captured = items_captured there.scope around ps 0 ∙ ap (λ o. captured_in o (slots_of cs)) there.in_main.owner ∙ sym there.captures;
     entries = refl;
+    deep = omega arith;
+    arrays = tt;
   }
 
   pub first_slots : inner.slots ≡ length slots
