@@ -180,7 +180,7 @@ pub record IsUsed (c : Context) (s : Scope) (n : Name) (u : Use) : Type 0 where
   pub lawful : KeepsAll rules (Used s n u)
   pub besides : c.besides (Used s n u)
 
-kept_rule : (rule : UseRule) (s : Scope) (n : Name) (u : Use) (d : Entity) → entity_of (lookup s.entries n.id) ≡ Some d →
+pub kept_rule : (rule : UseRule) (s : Scope) (n : Name) (u : Use) (d : Entity) → entity_of (lookup s.entries n.id) ≡ Some d →
     violates rule (Used s n u) ≡ false → rule n.id u d ≡ false
 kept_rule rule s n u d is h = sym (ap (if_declared (rule n.id u)) is) ∙ h
 

@@ -1,5 +1,6 @@
 -- What stands before `main` in the file is known to it, and its calls do what their functions do.
 use Rattle.std.proofs.Common.{◌≡◌, ℕ, suc, ◌+◌, ◌<◌, ◌≤◌, ◌==◌, ◌&&◌, ◌||◌, Bool, true, false, if◌then◌else◌, List, [], ◌∷◌, ◌++◌, length, Option, Some, ℤ, refl, sym, ap, ◌∙◌, subst, arith, eq-eqb, eqb-true}
+use Rattle.std.proofs.lemmas.Bool.{or_left, or_right}
 use Rattle.std.specs.Prelude.{⊤}
 use Rattle.cddf_meaning.specs.File.{File}
 use Rattle.cddf_meaning.specs.Functions.{call_function, with_item, empty_file}
@@ -139,14 +140,6 @@ further {outer = outer} {inner = inner} i is ns same none notes behind streams d
   few = subst (λ (t : Scope). (after_stmts (in_body at_main.scope at_main.function) at_main.function.body).streams ≤ t.streams) (sym behind) at_main.few;
   bare = λ ids apart h. at_main.bare (global_id i ∷ ids) apart.1 (sym (ap (λ b. b || has_main is) other) ∙ h);
 }
-
-or_left : (a b : Bool) → a ≡ true → (a || b) ≡ true
-or_left true b h = refl
-or_left false b h = absurd (cc)
-
-or_right : (a b : Bool) → b ≡ true → (a || b) ≡ true
-or_right true b h = refl
-or_right false b h = h
 
 -- a name that is declared is that of no further item
 no_more : (is : List tree.ItemTree) (ids : List ℕ) → is_in main_id ids ≡ true → AreApart ids is → has_main is ≡ false

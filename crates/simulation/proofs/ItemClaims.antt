@@ -1,9 +1,9 @@
 -- The code of a task's items gives what they claim.
-use Rattle.std.proofs.Common.{◌≡◌, ℕ, suc, ◌+◌, ◌*◌, ◌<◌, ◌≤◌, ◌==◌, ◌&&◌, Bool, true, false, if◌then◌else◌, List, [], ◌∷◌, ◌++◌, length, Option, Some, None, Ok, Err, Result, ℤ, pos, negsuc, refl, sym, ap, ◌∙◌, subst, arith, leb, le-leb, eq-eqb, eqb-true, ⊎_elim}
+use Rattle.std.proofs.Common.{◌≡◌, ℕ, ◌+◌, ◌*◌, ◌<◌, ◌≤◌, ◌==◌, ◌&&◌, Bool, true, false, if◌then◌else◌, List, [], ◌∷◌, length, Option, Some, None, Ok, ℤ, pos, negsuc, refl, sym, ap, ◌∙◌, subst, arith, leb, le-leb, eq-eqb, eqb-true, ⊎_elim}
 use Rattle.std.proofs.lemmas.Bool.{lt-leb, cases_order}
-use Rattle.std.specs.Prelude.{⊤, slice_index_or}
+use Rattle.std.specs.Prelude.{⊤}
 use Rattle.c_int.specs.Operators.{is_equal}
-use Rattle.cddf_meaning.specs.Answers.{Answer, traps, and_then, Left, left, with_turns}
+use Rattle.cddf_meaning.specs.Answers.{traps, and_then, Left, left, with_turns}
 use Rattle.cddf_meaning.specs.File.{File}
 use Rattle.cddf_meaning.specs.Moves.{CallsFall}
 use Rattle.cddf_meaning.specs.State.{State}
@@ -14,7 +14,7 @@ use Rattle.flow_core.specs.declared.claim.Claim.{Claim}
 use Rattle.os_ast.specs.Names.{Scope}
 use Rattle.os_ast.specs.Notes.Clauses.{shape_of, window_notes, part_notes, parts_notes}
 use Rattle.os_ast.specs.Notes.Expressions.{place_notes, index_notes}
-use Rattle.os_ast.specs.Parts.{Part, Item, Private, part_name, target_name}
+use Rattle.os_ast.specs.Parts.{Part, Item, Private, part_name}
 use Rattle.os_ast.specs.Trees as tree
 use Rattle.os_ast.specs.declared.expr.Name.{Name}
 use Rattle.os_ast.specs.declared.names.Direction.{Direction}
@@ -25,7 +25,6 @@ use Rattle.os_ast.specs.declared.names.Resolved.{Resolved}
 use Rattle.os_ast.specs.declared.names.Role.TheVariants as role
 use Rattle.os_ast.specs.declared.names.Shape.{Shape}
 use Rattle.os_ast.specs.declared.names.Use.TheVariants as usage
-use Rattle.os_ast.specs.declared.names.What.{What}
 use Rattle.os_ast.specs.declared.names.What.TheVariants as what
 use Rattle.os_code.specs.declared.instr.Instr.TheVariants as instr
 use Rattle.os_code.specs.declared.parts.Parts.{Parts}
@@ -196,8 +195,7 @@ module _ (code : Parts) (file : File) (falls : CallsFall file) (names : List Res
       Agree c (window_notes s before t w) → HasJoin code (tells c) d w from to → Meets code (at callers from (pos k ∷ stack) m turns) (itemed (item_of d first w) to stack) (joined file d stream w st turns)
   window_runs d t None before first k stream from to stack turns same lt apart agree h =
       let item = item_of d first None in
-      gives (left (claim_of d stream 1 1) turns)
-      (
+      gives (left (claim_of d stream 1 1) turns) (
         k,
         pos 1,
         claim_is code.streams m.slots item k (pos 1) (first + k) 1 1 (picked d first k lt apart) refl (one_burst d) ∙ ap Ok (same_claim d (first + k) 1 1 (one_fits d) ∙ ap (λ x. claim_of d x 1 1) (sym same)),
@@ -211,12 +209,11 @@ module _ (code : Parts) (file : File) (falls : CallsFall file) (names : List Res
       let join = join_at code file falls names ordered file_es fits streams later s es st m ready j.name (shape_of j.burst) u in
       meets_then code (λ b. Ok (left (claim_of d stream horizon b.value) b.turns)) refl
       (burst_runs d j.name u.entity j.burst from to (pos k ∷ stack) turns u.told join agree.1.1 h)
-      (λ b w. gives (left (claim_of d stream horizon b.value) b.turns)
-      (
+      (λ b w. gives (left (claim_of d stream horizon b.value) b.turns) (
         k,
         w.0,
         claim_is code.streams m.slots item k w.0 (first + k) horizon b.value (picked d first k lt apart) (horizon_is j.name u.entity j.burst u.told join) w.1
-        ∙ ap Ok (same_claim d (first + k) horizon b.value w.2 ∙ ap (λ x. claim_of d x horizon b.value) (sym same)),
+            ∙ ap Ok (same_claim d (first + k) horizon b.value w.2 ∙ ap (λ x. claim_of d x horizon b.value) (sym same)),
         (let z : (claim_of d stream horizon b.value).stream ≡ stream = claim_stream d stream horizon b.value in omega (arith, z, same, lt)),
       )
       stays)
@@ -254,8 +251,7 @@ module _ (code : Parts) (file : File) (falls : CallsFall file) (names : List Res
       (item_runs d i before from h.0 h.1 stack turns (agree_first c first (parts_notes s later_names ps) agree) h.2 h.3)
       (λ x w. meets_then code (λ xs. Ok (left (x.value ∷ xs.value) xs.turns)) refl
       (items_run ps later_names h.1 to (w.1 ∷ pos w.0 ∷ stack) x.turns (agree_rest c first (parts_notes s later_names ps) agree) h.4)
-      (λ xs z. gives (left (x.value ∷ xs.value) xs.turns)
-      (
+      (λ xs z. gives (left (x.value ∷ xs.value) xs.turns) (
         pos w.0 ∷ w.1 ∷ z.0,
         ap (λ r. with_claim r (spawned_claims code.streams m.slots items z.0)) w.2 ∙ ap (with_claim (Ok x.value)) z.1,
         (let n = z.2 in omega (arith, n)),

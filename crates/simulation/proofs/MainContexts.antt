@@ -1,5 +1,5 @@
 -- What is known of names in `main`: its scalars, windows and streams so far, and what stands before it in the file.
-use Rattle.std.proofs.Common.{◌≡◌, ℕ, ◌+◌, ◌≤◌, ◌<◌, ◌==◌, Bool, true, false, if◌then◌else◌, List, [], ◌∷◌, ◌++◌, length, Option, Some, None, ℤ, pos, refl, sym, ap, ◌∙◌, subst, inl, inr, arith, append-nil, ne_eqb}
+use Rattle.std.proofs.Common.{◌≡◌, ℕ, ◌+◌, ◌≤◌, ◌<◌, ◌==◌, Bool, true, false, if◌then◌else◌, List, [], ◌∷◌, ◌++◌, length, Option, Some, ℤ, pos, refl, sym, ap, ◌∙◌, subst, inl, inr, arith, append-nil, ne_eqb}
 use Rattle.std.specs.Prelude.{⊤, ◌⊎◌}
 use Rattle.cddf_meaning.specs.File.{File}
 use Rattle.cddf_meaning.specs.Moves.{CallsFall}
@@ -8,8 +8,7 @@ use Rattle.cddf_meaning.specs.Variables.{find}
 use Rattle.cddf_meaning.specs.declared.variable.Variable.{Variable}
 use Rattle.cddf_meaning.specs.declared.variable.Variable.TheVariants as variable
 use Rattle.os_ast.specs.Names.{Scope, lookup, entity_of}
-use Rattle.os_ast.specs.Notes.Kinds.{Used}
-use Rattle.os_ast.specs.Rules.{UseRule, violates, if_declared, is_wrong_kind, is_wrong_end}
+use Rattle.os_ast.specs.Rules.{is_wrong_kind, is_wrong_end}
 use Rattle.os_ast.specs.declared.expr.Name.{Name}
 use Rattle.os_ast.specs.declared.names.Direction.TheVariants as direction
 use Rattle.os_ast.specs.declared.names.Direction.{Direction}
@@ -21,14 +20,12 @@ use Rattle.os_ast.specs.declared.names.Resolved.{Resolved}
 use Rattle.os_ast.specs.declared.names.Role.TheVariants as role
 use Rattle.os_ast.specs.declared.names.Shape.{Shape}
 use Rattle.os_ast.specs.declared.names.Shape.TheVariants as shape
-use Rattle.os_ast.specs.declared.names.Use.{Use}
 use Rattle.os_ast.specs.declared.names.Use.TheVariants as usage
-use Rattle.os_ast.specs.declared.names.What.{What}
 use Rattle.os_ast.specs.declared.names.What.TheVariants as what
 use Rattle.os_code.specs.declared.parts.Parts.{Parts}
-use Rattle.simulation.specs.Alignment.{Resources, slot_at, Holds, Aligned}
+use Rattle.simulation.specs.Alignment.{Resources, slot_at, Holds}
 use Rattle.simulation.proofs.Alignment.{found}
-use Rattle.simulation.proofs.Context.{InMain, resources, Context, means, AreBehindFirst, IsBehindFirst, IsUsed, split}
+use Rattle.simulation.proofs.Context.{InMain, resources, Context, means, AreBehindFirst, IsBehindFirst, IsUsed, kept_rule, split}
 use Rattle.simulation.proofs.Exprs.{Ready}
 use Rattle.simulation.proofs.Functions.{Known, known_has, FileFits}
 use Rattle.simulation.proofs.Steps.{Store}
@@ -105,9 +102,6 @@ end_allowed id direction.Writes sh number h = h
 array_allowed : (dir : Direction) (first k : ℕ) → 2 ≤ first → (first + k == forbidden dir) ≡ false
 array_allowed direction.Reads first k h = ne_eqb (first + k) 1 (λ e. omega (arith, e, h))
 array_allowed direction.Writes first k h = ne_eqb (first + k) 0 (λ e. omega (arith, e, h))
-
-use_kept : (rule : UseRule) (s : Scope) (n : Name) (u : Use) (d : Entity) → entity_of (lookup s.entries n.id) ≡ Some d → violates rule (Used s n u) ≡ false → rule n.id u d ≡ false
-use_kept rule s n u d is h = sym (ap (if_declared (rule n.id u)) is) ∙ h
 
 module _ (code : Parts) (file : File) (falls : CallsFall file) (names : List Resolved) (ordered : InOrder names) (file_es : List Entry) (fits : FileFits code file file_es) where
   -- the body of `main`, where it has so many streams so far, and so many come later
@@ -204,7 +198,7 @@ module _ (code : Parts) (file : File) (falls : CallsFall file) (names : List Res
 
     pub stream_at : (n : Name) (dir : Direction) (sh : Shape) (k : IsUsed c s n (usage.Place (role.Flow dir) sh)) → StreamAt n.id k.entity dir sh
     stream_at n dir sh k =
-        stream_by n.id dir sh k.entity k.is k.kind (use_kept is_wrong_end s n (usage.Place (role.Flow dir) sh) k.entity k.is k.lawful.1.1.1.1.1.1.1.1.1.1.0)
+        stream_by n.id dir sh k.entity k.is k.kind (kept_rule is_wrong_end s n (usage.Place (role.Flow dir) sh) k.entity k.is k.lawful.1.1.1.1.1.1.1.1.1.1.0)
 
     -- what stands behind an arrow: a scalar without a burst, or a window with one
     pub data JoinAt (id : ℕ) (d : Entity) : Shape → Type 0 where

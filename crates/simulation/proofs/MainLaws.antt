@@ -1,31 +1,30 @@
 -- `main` creates what the control program creates, and ends as it does.
-use Rattle.std.proofs.Common.{◌≡◌, ℕ, suc, ◌+◌, ◌-◌, ◌<◌, ◌≤◌, ◌==◌, ◌&&◌, ◌||◌, Bool, true, false, if◌then◌else◌, List, [], ◌∷◌, ◌++◌, length, map, replicate, Option, Some, None, slice_get, ℤ, pos, refl, sym, ap, ◌∙◌, subst, arith, length-append}
-use Rattle.std.proofs.lemmas.List.{length-replicate, get_or_append_left}
-use Rattle.cddf_meaning.specs.Control.{bound_round_main, control_state, control_in, control}
+use Rattle.std.proofs.Common.{◌≡◌, ℕ, ◌+◌, ◌-◌, ◌≤◌, ◌==◌, ◌&&◌, ◌||◌, Bool, true, false, if◌then◌else◌, List, [], ◌∷◌, ◌++◌, length, map, replicate, Option, Some, None, slice_get, pos, refl, sym, ap, ◌∙◌, subst, arith, length-append}
+use Rattle.std.proofs.lemmas.List.{length-replicate, replicate-append-replicate}
+use Rattle.std.proofs.lemmas.Option.{slice_get_within}
+use Rattle.cddf_meaning.specs.Control.{control_state, control_in, control}
 use Rattle.cddf_meaning.specs.File.{File}
 use Rattle.cddf_meaning.specs.Functions.{empty_file, with_item}
 use Rattle.cddf_meaning.specs.Program.{Main, main_at, main_behind, main_of}
 use Rattle.cddf_meaning.specs.Run.{run_all}
-use Rattle.cddf_meaning.specs.State.{State}
-use Rattle.cddf_meaning.specs.Tasks.{Task as MeaningTask, tasks_in_all, sites_of}
+use Rattle.cddf_meaning.specs.Tasks.{tasks_in_all, sites_of}
 use Rattle.cddf_meaning.specs.declared.site.Site.{Site}
 use Rattle.flow_core.specs.declared.control.Control.{Control}
-use Rattle.os_ast.specs.Names.{Scope, enter, in_unit, main_id, osin_id, osout_id, osin_len_id}
+use Rattle.flow_core.proofs.Stretches.{slice_get-append_left}
+use Rattle.os_ast.specs.Names.{Scope, main_id, osin_id, osout_id, osin_len_id}
 use Rattle.os_ast.specs.Notes.Programs.{owner_of, param_names, round_body, after_params, after_item, in_body, items_notes}
 use Rattle.os_ast.specs.Notes.Programs as programs
 use Rattle.os_ast.specs.Notes.Statements.{after_stmts, stmts_notes}
 use Rattle.os_ast.specs.Spelling.{spell}
 use Rattle.os_ast.specs.Trees as tree
-use Rattle.os_ast.specs.Violations.{faults, names, captures, captured_by_tasks, is_empty, is_main, has_main, no_main, violated, violations}
+use Rattle.os_ast.specs.Violations.{faults, names, captures, captured_by_tasks, is_empty, has_main, no_main, violated, violations}
 use Rattle.os_ast.specs.Notes.Programs.{program_notes}
 use Rattle.os_ast.specs.declared.names.Entity.TheVariants as entity
 use Rattle.os_ast.specs.declared.names.Entry.{Entry}
-use Rattle.os_ast.specs.declared.names.Owner.{Owner}
 use Rattle.os_ast.specs.declared.names.Owner.TheVariants as owner
 use Rattle.os_ast.specs.declared.violation.Violation.{Violation}
 use Rattle.os_code.specs.declared.parts.Parts.{Parts}
-use Rattle.os_code.specs.declared.unit.Unit.{Unit as CodeUnit}
-use Rattle.os_code.specs.Control.{ControlEnds, control_start}
+use Rattle.os_code.specs.Control.{ControlEnds}
 use Rattle.os_code.specs.Machine.{frame_slots}
 use Rattle.os_code.specs.Parts.{unit_at}
 use Rattle.os_code.proofs.Halting.{main_ends_are_one}
@@ -33,17 +32,15 @@ use Rattle.simulation.specs.Laws.{StandsFor}
 use Rattle.simulation.specs.Names.{told_at}
 use Rattle.simulation.specs.Programs.{size_by, HasMain}
 use Rattle.simulation.specs.Tasks.{program_tasks}
-use Rattle.simulation.proofs.Context.{means}
 use Rattle.simulation.proofs.Files.{AtMain, finds_main, nothing_fits}
-use Rattle.simulation.proofs.MainContexts.{main_context}
 use Rattle.simulation.proofs.MainEnds.{MainEnds}
-use Rattle.simulation.proofs.MainRuns.{replicate_both, Outer, stmts_end}
-use Rattle.simulation.proofs.MainSites.{Stretch, IsNumbered, owns_stmts, all_own_more, site_of}
+use Rattle.simulation.proofs.MainRuns.{Outer, stmts_end}
+use Rattle.simulation.proofs.MainSites.{IsNumbered, owns_stmts, all_own_more, site_of}
 use Rattle.simulation.proofs.Owning.{OwnsAll}
 use Rattle.simulation.proofs.Sizes.{stmts_sizes}
 use Rattle.simulation.proofs.Spawns.{IsSite}
 use Rattle.simulation.proofs.Steps.{Store, at}
-use Rattle.simulation.proofs.TaskLaws.{round_of, main_body, get_front}
+use Rattle.simulation.proofs.TaskLaws.{round_of, main_body}
 use Rattle.simulation.proofs.TaskMarks.{Rising, tasks_rise}
 use Rattle.simulation.proofs.TaskTexts.{InMain, strip, all_stripped}
 use Rattle.window_check.specs.Order.{InOrder}
@@ -150,7 +147,7 @@ module _ (p : tree.ProgramTree) (code : Parts) (input_len budget : ℕ) (stands 
       own =
           all_own_more f.body body
           (site_of code (names p) s.entries (tasks_in_all body f.body) (program_tasks p) slots (captured_by_tasks p) by_tree
-          (λ k x is. ap (λ cs. slice_get cs k) at_main.own_captures ∙ get_front slots at_main.rest k x is) rising.0 rising.1 rising.2 stands.has.tasks)
+          (λ k x is. ap (λ cs. slice_get cs k) at_main.own_captures ∙ slice_get-append_left slots at_main.rest k (slice_get_within slots k x is) ∙ is) rising.0 rising.1 rising.2 stands.has.tasks)
           numbered
 
       -- where it begins
@@ -192,7 +189,7 @@ module _ (p : tree.ProgramTree) (code : Parts) (input_len budget : ℕ) (stands 
             ready = record {
               scope = record { owner = refl; captured = refl; entries = refl; deep = omega arith; arrays = (tt, (tt, (tt, tt))) };
               aligned = (refl, (0, refl, refl), (refl, (refl, omega arith), (refl, (refl, omega arith), tt)));
-              kept = (refl, refl, ap (λ n. replicate n 0) enough ∙ replicate_both 2 later 0);
+              kept = (refl, refl, ap (λ n. replicate n 0) enough ∙ sym (replicate-append-replicate 2 later 0));
             };
             depth = (let d = at_main.depth in omega (arith, d));
             counted = (let n = no_streams in omega (arith, n));

@@ -1,14 +1,13 @@
 -- The outermost block of `main`: streams are declared in it alone, in the order of the text, so that the run has at each
 -- place as many as the text before it.
-use Rattle.std.proofs.Common.{◌≡◌, ℕ, zero, suc, ◌+◌, ◌-◌, ◌<◌, ◌≤◌, ◌&&◌, Bool, true, false, not, if◌then◌else◌, List, [], ◌∷◌, ◌++◌, length, replicate, Option, Some, None, Ok, ℤ, pos, refl, sym, ap, ◌∙◌, subst, arith, append_assoc, length-append}
-use Rattle.std.proofs.lemmas.List.{length-replicate}
-use Rattle.std.specs.Prelude.{⊤, unwrap_or}
+use Rattle.std.proofs.Common.{◌≡◌, ℕ, ◌+◌, ◌-◌, ◌≤◌, Bool, true, false, List, [], ◌∷◌, ◌++◌, length, replicate, Option, Some, None, ℤ, pos, refl, sym, ap, ◌∙◌, subst, arith, append_assoc, length-append}
+use Rattle.std.proofs.lemmas.List.{length-replicate, replicate-append-replicate}
+use Rattle.std.specs.Prelude.{unwrap_or}
 use Rattle.cddf_meaning.specs.File.{File}
 use Rattle.cddf_meaning.specs.Flow.{Ran, Went, Ended, Runs, given, goes_on, flows}
 use Rattle.cddf_meaning.specs.Moves.{CallsFall}
-use Rattle.cddf_meaning.specs.Run.{Around, array_size, with_streams, run_streams, run_declarator, run_declarators, run, run_all}
+use Rattle.cddf_meaning.specs.Run.{Around, array_size, with_streams, run_declarator, run_declarators, run_all}
 use Rattle.cddf_meaning.specs.State.{State}
-use Rattle.cddf_meaning.specs.Variables.{bind}
 use Rattle.cddf_meaning.specs.declared.flow.Flow.TheVariants.{GoesOn, Breaks, Continues, Returns}
 use Rattle.cddf_meaning.specs.declared.site.Site.{Site}
 use Rattle.cddf_meaning.specs.declared.variable.Binding.{Binding}
@@ -18,41 +17,39 @@ use Rattle.os_ast.specs.Leveled.{IsStmt, AreStmts}
 use Rattle.os_ast.specs.Limits.{is_size}
 use Rattle.os_ast.specs.Meanings.{meaning}
 use Rattle.os_ast.specs.Names.{Scope}
-use Rattle.os_ast.specs.Notes.Declarators.{size_value, size_of, limited, form, form_with, form_entity, declared_entity, taken, after_declarator, after_declarators, declarator_notes, declarators_notes}
+use Rattle.os_ast.specs.Notes.Declarators.{size_value, size_of, limited, form, form_with, taken, after_declarator, after_declarators, declarator_notes, declarators_notes}
 use Rattle.os_ast.specs.Notes.Kinds.{Note}
 use Rattle.os_ast.specs.Notes.Statements.{after_stmt, after_stmts, stmt_notes, stmts_notes}
 use Rattle.os_ast.specs.Rules.{has_no_size, has_too_many}
 use Rattle.os_ast.specs.Trees as tree
 use Rattle.os_ast.specs.declared.expr.Name.{Name}
 use Rattle.os_ast.specs.declared.names.Entity.{Entity}
-use Rattle.os_ast.specs.declared.names.Entity.TheVariants as entity
 use Rattle.os_ast.specs.declared.names.Entry.{Entry}
-use Rattle.os_ast.specs.declared.names.Form.TheVariants as form_of
 use Rattle.os_ast.specs.declared.names.Resolved.{Resolved}
 use Rattle.os_ast.specs.declared.names.What.{What}
 use Rattle.os_ast.specs.declared.names.What.TheVariants as what
 use Rattle.os_code.specs.declared.instr.Instr.TheVariants as instr
 use Rattle.os_code.specs.declared.parts.Parts.{Parts}
 use Rattle.os_code.specs.Parts.{instr_at}
-use Rattle.simulation.specs.Alignment.{Resources, Stacked, Holds, Aligned}
+use Rattle.simulation.specs.Alignment.{Stacked, Holds, Aligned}
 use Rattle.simulation.specs.Declarators.{HasDeclared, HasDeclarators}
 use Rattle.simulation.specs.Names.{told_at}
 use Rattle.simulation.specs.Statements.{Body, HasStmts}
 use Rattle.simulation.specs.Tasks.{TaskTree}
 use Rattle.simulation.proofs.Alignment.{stacked_more}
-use Rattle.simulation.proofs.Context.{InMain, resources, Kept, Context, means, tells, Agree, In}
-use Rattle.simulation.proofs.Declarators.{around_of, DeclaratorRuns, told, scalar_done}
+use Rattle.simulation.proofs.Context.{InMain, resources, Kept, Context, means, tells, Agree}
+use Rattle.simulation.proofs.Declarators.{DeclaratorRuns, told, scalar_done}
 use Rattle.simulation.proofs.Declares.{or_first, not_false, size_known, limit_kept, in_behind, stacked_behind, size_runs}
 use Rattle.simulation.proofs.Exprs.{Ready}
 use Rattle.simulation.proofs.Files.{agrees}
 use Rattle.simulation.proofs.Flows.{AlignedIn, exactly}
 use Rattle.simulation.proofs.Functions.{FileFits}
 use Rattle.simulation.proofs.MainContexts.{main_context}
-use Rattle.simulation.proofs.MainEnds.{MainEnds, ends_from, at_end, flow_ends}
-use Rattle.simulation.proofs.Owning.{Owns, OwnsAll}
+use Rattle.simulation.proofs.MainEnds.{MainEnds, at_end, flow_ends}
+use Rattle.simulation.proofs.Owning.{OwnsAll}
 use Rattle.simulation.proofs.Spawns.{IsSite, task_does}
 use Rattle.simulation.proofs.Static.{entry, made, declarator_onward, declarators_onward, stmt_onward, stmts_onward}
-use Rattle.simulation.proofs.Steps.{Store, at, Leads, stays}
+use Rattle.simulation.proofs.Steps.{Store, at, stays}
 use Rattle.simulation.proofs.Stmts.{HasRest, last, more, has_rest, stmt_does}
 use Rattle.simulation.proofs.StreamCounts.{sized_streams, stmt_streams}
 use Rattle.simulation.proofs.Ticks.{tick_does}
@@ -62,16 +59,17 @@ use Rattle.window_check.specs.Told.{Tells, AreLawful}
 use Rattle.window_check.proofs.Summed.{stays_in}
 use Rattle.window_check.proofs.Told.{tells-first, tells-rest, lawful-first, lawful-rest}
 
-pub replicate_both : {A : Type 0} (n k : ℕ) (x : A) → replicate (n + k) x ≡ replicate n x ++ replicate k x
-replicate_both zero k x = let e : 0 + k ≡ k = omega arith in ap (λ j. replicate j x) e
-replicate_both (suc n) k x = let e : suc n + k ≡ suc (n + k) = omega arith in ap (λ j. replicate j x) e ∙ ap (λ xs. x ∷ xs) (replicate_both n k x)
-
 flows_on : (next first : Runs) (r : Ran) → flows next (flows first r) ≡ flows (λ st turns. flows next (first st turns)) r
 flows_on next first (Went GoesOn st turns) = refl
 flows_on next first (Went Breaks st turns) = refl
 flows_on next first (Went Continues st turns) = refl
 flows_on next first (Went (Returns v) st turns) = refl
 flows_on next first (Ended e activations) = refl
+
+-- some of the streams that come later are there
+skips_later : (xs all : List ℕ) (later count less : ℕ) → later ≡ count + less → all ≡ xs ++ replicate later 0 → all ≡ (xs ++ replicate count 0) ++ replicate less 0
+skips_later xs all later count less enough h =
+    h ∙ ap (λ k. xs ++ replicate k 0) enough ∙ ap (λ ys. xs ++ ys) (sym (replicate-append-replicate count less 0)) ∙ sym (append_assoc xs (replicate count 0) (replicate less 0))
 
 -- with more streams what there was is there
 holds_later : (streams later now less : ℕ) (slots : List ℤ) (v : Variable) (w : What) → streams ≤ now → Holds (resources (InMain streams later)) slots v w → Holds (resources (InMain now less)) slots v w
@@ -146,7 +144,7 @@ module _ (code : Parts) (file : File) (falls : CallsFall file) (names : List Res
           kept = (
             o.ready.kept.0,
             (let k = o.ready.kept.1 in omega (arith, sum, n, k)),
-            o.ready.kept.2 ∙ ap (λ k. st.skips ++ replicate k 0) enough ∙ ap (λ xs. st.skips ++ xs) (replicate_both count less 0) ∙ sym (append_assoc st.skips (replicate count 0) (replicate less 0)),
+            skips_later st.skips m.skips o.later count less enough o.ready.kept.2,
           );
         };
         depth = (declarator_onward s d).depth ∙ o.depth;

@@ -1,16 +1,16 @@
 -- Each task of `main` has its site.
-use Rattle.std.proofs.Common.{◌≡◌, ℕ, zero, suc, ◌+◌, ◌<◌, ◌≤◌, ◌==◌, List, [], ◌∷◌, ◌++◌, length, map, get_or, position, Option, Some, None, slice_get, refl, sym, ap, ◌∙◌, subst, arith, length-append}
-use Rattle.std.proofs.lemmas.Option.{slice_get-map}
+use Rattle.std.proofs.Common.{◌≡◌, ℕ, suc, ◌+◌, List, [], ◌∷◌, ◌++◌, length, map, Some, slice_get, refl, sym, ap, ◌∙◌, subst, arith}
+use Rattle.std.proofs.lemmas.Option.{slice_get-map, slice_get_within}
 use Rattle.std.specs.Option.{option_map}
-use Rattle.cddf_meaning.specs.Streams.{task_number, captured_by}
 use Rattle.cddf_meaning.specs.Tasks.{Task as MeaningTask, task_at, tasks_in, tasks_in_all, sites_of}
 use Rattle.cddf_meaning.specs.declared.site.Site.{Site as MeaningSite}
+use Rattle.flow_core.proofs.Stretches.{slice_get-append_left, slice_get-append_right}
 use Rattle.os_ast.specs.Captured.{Scalar, captured, slots_of}
 use Rattle.os_ast.specs.Leveled.{IsStmt, AreStmts}
 use Rattle.os_ast.specs.Names.{Scope, enter, in_loop}
 use Rattle.os_ast.specs.Notes.Clauses.{in_task, captured_in, in_task_body, parts_notes, clauses_notes}
 use Rattle.os_ast.specs.Notes.Declarators.{after_declarators, declarators_notes, after_start, start_notes}
-use Rattle.os_ast.specs.Notes.Expressions.{expr_notes, place_notes, value_notes, step_notes}
+use Rattle.os_ast.specs.Notes.Expressions.{expr_notes, value_notes, step_notes}
 use Rattle.os_ast.specs.Notes.Kinds.{Note, Task}
 use Rattle.os_ast.specs.Notes.Statements.{after_stmt, stmt_notes, stmts_notes}
 use Rattle.os_ast.specs.Parts.{parts, count_items}
@@ -23,7 +23,7 @@ use Rattle.os_ast.specs.declared.names.Resolved.{Resolved}
 use Rattle.os_code.specs.declared.parts.Parts.{Parts}
 use Rattle.simulation.specs.Names.{told_at}
 use Rattle.simulation.specs.Programs.{HasTask}
-use Rattle.simulation.specs.Tasks.{TaskTree, number_of}
+use Rattle.simulation.specs.Tasks.{TaskTree}
 use Rattle.simulation.proofs.NoTasks.{captures_both, none_both, none_expr, none_value, none_step, none_parts, none_declarators, none_start, none_stmt, items_owner}
 use Rattle.simulation.proofs.Owning.{OfTask, Owns, OwnsAll}
 use Rattle.simulation.proofs.Spawns.{IsSite}
@@ -36,22 +36,13 @@ use Rattle.window_check.proofs.Told.{tells-first, tells-rest, lawful-first, lawf
 abbrev pub Stretch : {A : Type 0} → List A → ℕ → List A → Type 0
 Stretch {A = A} whole k xs = (j : ℕ) (x : A) → slice_get xs j ≡ Some x → slice_get whole (k + j) ≡ Some x
 
-in_front : {A : Type 0} (xs ys : List A) (k : ℕ) (x : A) → slice_get xs k ≡ Some x → slice_get (xs ++ ys) k ≡ Some x
-in_front [] ys k x h = absurd (cc)
-in_front (y ∷ xs) ys zero x h = h
-in_front (y ∷ xs) ys (suc k) x h = in_front xs ys k x h
-
-behind : {A : Type 0} (xs ys : List A) (k : ℕ) → slice_get (xs ++ ys) (length xs + k) ≡ slice_get ys k
-behind [] ys k = let e : 0 + k ≡ k = omega arith in ap (slice_get ys) e
-behind (x ∷ xs) ys k = let e : length (x ∷ xs) + k ≡ suc (length xs + k) = omega arith in ap (slice_get (x ∷ xs ++ ys)) e ∙ behind xs ys k
-
 first_stretch : {A : Type 0} (whole : List A) (k : ℕ) (xs ys : List A) → Stretch whole k (xs ++ ys) → Stretch whole k xs
-first_stretch whole k xs ys h j x is = h j x (in_front xs ys j x is)
+first_stretch whole k xs ys h j x is = h j x (slice_get-append_left xs ys j (slice_get_within xs j x is) ∙ is)
 
 rest_stretch : {A : Type 0} (whole : List A) (k : ℕ) (xs ys : List A) → Stretch whole k (xs ++ ys) → Stretch whole (k + length xs) ys
 rest_stretch whole k xs ys h j x is =
     let e : k + (length xs + j) ≡ k + length xs + j = omega arith in
-    subst (λ n. slice_get whole n ≡ Some x) e (h (length xs + j) x (behind xs ys j ∙ is))
+    subst (λ n. slice_get whole n ≡ Some x) e (h (length xs + j) x (slice_get-append_right xs ys j ∙ is))
 
 module _ (rs : List Resolved) (file : List Entry) (tasks : List MeaningTask) (slots : List (List ℕ)) where
   matched_lengths : (ts : List MeaningTask) (xs : List (List ℕ)) → Match rs file ts xs → length ts ≡ length xs
@@ -88,7 +79,7 @@ module _ (rs : List Resolved) (file : List Entry) (tasks : List MeaningTask) (sl
         let n = matched_lengths (tasks_in s a) (captures (stmt_notes s a)) (match_stmt rs file is s h lawful1 tells1) in (
           owns_stmt is s k h lawful1 tells1 (first_stretch tasks k (tasks_in s a) (tasks_in (after_stmt s a) b) x) (first_stretch slots k (captures (stmt_notes s a)) (captures last) z),
           owns_stmt is2 (after_stmt s a) (k + length (tasks_in s a)) (stmt_main rs file is s h) (lawful-rest front last lawful) (tells-rest rs front last tells) (rest_stretch tasks k (tasks_in s a) (tasks_in (after_stmt s a) b) x)
-          (subst (λ j. Stretch slots (k + j) (captures last)) (sym n) (rest_stretch slots k (captures (stmt_notes s a)) (captures last) z)),
+              (subst (λ j. Stretch slots (k + j) (captures last)) (sym n) (rest_stretch slots k (captures (stmt_notes s a)) (captures last) z)),
         )
     owns_stmt (IsStmt.while {c = c} {s = a} _ is) s k h lawful tells x y =
         let last = stmt_notes (in_loop s) a in
@@ -140,7 +131,7 @@ module _ (rs : List Resolved) (file : List Entry) (tasks : List MeaningTask) (sl
         let n = matched_lengths (tasks_in s a) (captures first) (match_stmt rs file is s h lawful1 tells1) in (
           owns_stmt is s k h lawful1 tells1 (first_stretch tasks k (tasks_in s a) (tasks_in_all s1 ss) x) (first_stretch slots k (captures first) (captures last) z),
           owns_stmts rest s1 (k + length (tasks_in s a)) (stmt_main rs file is s h) (lawful-rest first last lawful) (tells-rest rs first last tells) (rest_stretch tasks k (tasks_in s a) (tasks_in_all s1 ss) x)
-          (subst (λ j. Stretch slots (k + j) (captures last)) (sym n) (rest_stretch slots k (captures first) (captures last) z)),
+              (subst (λ j. Stretch slots (k + j) (captures last)) (sym n) (rest_stretch slots k (captures first) (captures last) z)),
         )
 
 -- what is known of each task may be put otherwise
@@ -176,7 +167,7 @@ site_of code rs file tasks trees slots all_slots stripped more lo hi rises has s
   site = task.site;
   in_code = position_is (λ (x : TaskTree). x.mark.place) lo trees hi at.number (strip t) rises in_trees;
   in_meaning = position_is (λ (x : MeaningSite). x.place) lo (sites_of tasks) hi at.number (site_as t) rises_sites in_sites;
-  ids = (got (λ (x : List ℕ). 0) (map (λ (x : MeaningSite). x.captured) (sites_of tasks)) at.number ids [] in_ids).1;
+  ids = got (map (λ (x : MeaningSite). x.captured) (sites_of tasks)) at.number ids [] in_ids;
   is_site = task.is_site;
   items = task.items;
   slots = let x : Some task.site.captured ≡ Some (slots_of (captured s.entries (parts cs) a)) = sym task.captures ∙ more at.number (slots_of (captured s.entries (parts cs) a)) at.captures in cc;

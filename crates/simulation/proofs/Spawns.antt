@@ -1,6 +1,6 @@
 -- The code of a task pragma creates the activation that it says.
-use Rattle.std.proofs.Common.{◌≡◌, ℕ, suc, ◌+◌, ◌*◌, ◌≤◌, Bool, true, false, if◌then◌else◌, leb, ltb, List, [], ◌∷◌, ◌++◌, length, map, replicate, Option, Some, None, Ok, ℤ, refl, sym, ap, ◌∙◌, subst, arith}
-use Rattle.cddf_meaning.specs.Claims.{with_skips, skips_behind_all, horizons, all_horizons, limit}
+use Rattle.std.proofs.Common.{◌≡◌, ℕ, ◌+◌, ◌*◌, ◌≤◌, Bool, true, false, if◌then◌else◌, leb, ltb, List, [], ◌∷◌, ◌++◌, length, map, replicate, Option, Some, None, Ok, ℤ, refl, sym, ap, ◌∙◌, subst, arith}
+use Rattle.cddf_meaning.specs.Claims.{with_skips, horizons, all_horizons, limit}
 use Rattle.cddf_meaning.specs.File.{File, variable, or_in_file}
 use Rattle.cddf_meaning.specs.Moves.{CallsFall}
 use Rattle.cddf_meaning.specs.State.{State}
@@ -34,7 +34,7 @@ use Rattle.os_code.specs.Parts.{instr_at, site_at}
 use Rattle.simulation.specs.Alignment.{slot_at}
 use Rattle.simulation.specs.Tasks.{TaskTree, number_of, site_items}
 use Rattle.simulation.proofs.Capturing.{HasSlot, AreScalars, captured_scalars}
-use Rattle.simulation.proofs.Context.{InMain, resources, Kept, Context, tells, agree_first, agree_rest}
+use Rattle.simulation.proofs.Context.{InMain, resources, Kept, Context, tells, agree_first}
 use Rattle.simulation.proofs.Created.{sums_same, skipped_sum, same_claims}
 use Rattle.simulation.proofs.Exprs.{Ready}
 use Rattle.simulation.proofs.Flows.{Does, ended, given_does, settled, exactly, went_on}
@@ -135,8 +135,8 @@ module _ (code : Parts) (file : File) (falls : CallsFall file) (names : List Res
           let rest = replicate later 0 in
           let x = same_claims claims st.skips rest (subst (λ n. AllBelow n claims) (sym kept.1) below) in (
             ap (λ xs. xs ++ record { site = number; captured = captured_values file st ids; claims = with_skips st.skips claims } ∷ []) kept.0
-            ∙ ap (λ vs. m.created ++ record { site = number; captured = vs; claims = with_skips st.skips claims } ∷ []) values
-            ∙ ap (λ xs. m.created ++ record { site = number; captured = map (slot before) site.captured; claims = xs } ∷ []) (sym (ap (λ ys. claims_with_skips ys claims) kept.2 ∙ x.claims)),
+                ∙ ap (λ vs. m.created ++ record { site = number; captured = vs; claims = with_skips st.skips claims } ∷ []) values
+                ∙ ap (λ xs. m.created ++ record { site = number; captured = map (slot before) site.captured; claims = xs } ∷ []) (sym (ap (λ ys. claims_with_skips ys claims) kept.2 ∙ x.claims)),
             x.long ∙ kept.1,
             ap (λ ys. skips_after_all ys claims) kept.2 ∙ x.skips,
           )

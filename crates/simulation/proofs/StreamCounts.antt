@@ -1,10 +1,10 @@
 -- Streams are declared in the outermost block of `main` alone, so that no other part of a lawful program counts one.
-use Rattle.std.proofs.Common.{◌≡◌, ℕ, suc, ◌+◌, ◌<◌, ◌≤◌, ◌&&◌, Bool, true, false, not, List, [], ◌∷◌, ◌++◌, Option, Some, None, refl, sym, ap, ◌∙◌, subst, arith, ne_eqb}
+use Rattle.std.proofs.Common.{◌≡◌, ℕ, ◌≤◌, ◌&&◌, Bool, true, false, not, List, [], ◌∷◌, ◌++◌, Option, Some, None, refl, sym, ◌∙◌, arith, ne_eqb}
 use Rattle.os_ast.specs.Captured.{captured, slots_of}
 use Rattle.os_ast.specs.Leveled.{IsStmt, AreStmts}
-use Rattle.os_ast.specs.Names.{Scope, enter, in_loop, in_unit, main_id}
+use Rattle.os_ast.specs.Names.{Scope, enter, in_loop, in_unit}
 use Rattle.os_ast.specs.Notes.Clauses.{in_task, captured_in, in_task_body, clauses_notes}
-use Rattle.os_ast.specs.Notes.Declarators.{sized_form, form_with, form, size_of, taken, after_declarator, after_declarators, declarator_notes, declarators_notes, after_start, start_notes}
+use Rattle.os_ast.specs.Notes.Declarators.{sized_form, form_with, size_of, taken, after_declarator, after_declarators, declarator_notes, declarators_notes, after_start, start_notes}
 use Rattle.os_ast.specs.Notes.Expressions.{expr_notes, value_notes, step_notes}
 use Rattle.os_ast.specs.Notes.Programs.{owner_of, param_names, round_body, after_param, after_params, after_item, after_items, in_body}
 use Rattle.os_ast.specs.Notes.Programs as programs

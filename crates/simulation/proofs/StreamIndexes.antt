@@ -1,6 +1,6 @@
 -- The code of a stream's index, and of what a cursor is moved by, gives what an item or a tick names.
-use Rattle.std.proofs.Common.{◌≡◌, ℕ, suc, ◌+◌, ◌<◌, ◌≤◌, ◌==◌, Bool, true, false, if◌then◌else◌, List, [], ◌∷◌, ◌++◌, length, Option, Some, None, Ok, ℤ, pos, negsuc, refl, sym, ap, ◌∙◌, subst, arith, leb, leb-true, leb-false, lt-ltb, le-ltb}
-use Rattle.cddf_meaning.specs.Answers.{Answer, traps, and_then, Left, left}
+use Rattle.std.proofs.Common.{◌≡◌, ℕ, ◌+◌, ◌<◌, ◌≤◌, ◌==◌, Bool, true, false, if◌then◌else◌, List, [], ◌∷◌, Some, None, Ok, ℤ, pos, negsuc, refl, sym, ap, ◌∙◌, subst, arith, leb, leb-true, leb-false, lt-ltb, le-ltb}
+use Rattle.cddf_meaning.specs.Answers.{traps, and_then, Left, left}
 use Rattle.cddf_meaning.specs.File.{File}
 use Rattle.cddf_meaning.specs.Moves.{CallsFall}
 use Rattle.cddf_meaning.specs.State.{State}
@@ -30,7 +30,7 @@ use Rattle.simulation.proofs.Exprs.{Ready, expr_runs}
 use Rattle.simulation.proofs.Functions.{FileFits}
 use Rattle.simulation.proofs.MainContexts.{main_context, forbidden, stream_at}
 use Rattle.simulation.proofs.Names.{pushes, check_at}
-use Rattle.simulation.proofs.Steps.{Store, at, Behind, checked_index, Leads, stays, one, Stops, stops_at, Meets, gives, halts, meets_then, acts}
+use Rattle.simulation.proofs.Steps.{Store, at, Behind, checked_index, Leads, stays, one, stops_at, Meets, gives, halts, meets_then, acts}
 use Rattle.window_check.specs.Order.{InOrder}
 
 -- which stream an index picks

@@ -107,7 +107,7 @@ get_there [] k lt = absurd (omega (arith, lt))
 get_there (x ∷ xs) zero lt = (x, refl)
 get_there (x ∷ xs) (suc k) lt = get_there xs k (omega (arith, lt))
 
-pub get_front : {A : Type 0} (xs ys : List A) (k : ℕ) (x : A) → slice_get xs k ≡ Some x → slice_get (xs ++ ys) k ≡ Some x
+get_front : {A : Type 0} (xs ys : List A) (k : ℕ) (x : A) → slice_get xs k ≡ Some x → slice_get (xs ++ ys) k ≡ Some x
 get_front [] ys k x h = absurd (cc)
 get_front (y ∷ xs) ys zero x h = h
 get_front (y ∷ xs) ys (suc k) x h = get_front xs ys k x h

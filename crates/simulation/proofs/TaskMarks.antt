@@ -1,5 +1,6 @@
 -- The tasks of a program stand at rising places, so that a place tells which task it is.
-use Rattle.std.proofs.Common.{◌≡◌, ℕ, zero, suc, ◌+◌, ◌<◌, ◌≤◌, ◌==◌, Bool, true, false, if◌then◌else◌, List, [], ◌∷◌, ◌++◌, length, map, get_or, position, Option, Some, None, slice_get, cond, nat_lt, refl, sym, ap, ◌∙◌, subst, arith, eq-eqb, ne_eqb, lt-ltb}
+use Rattle.std.proofs.Common.{◌≡◌, ℕ, zero, suc, ◌+◌, ◌<◌, ◌≤◌, ◌==◌, Bool, true, false, if◌then◌else◌, List, [], ◌∷◌, ◌++◌, length, map, get_or, position, Option, Some, None, slice_get, cond, nat_lt, unwrap_or, refl, sym, ap, ◌∙◌, subst, arith, eq-eqb, ne_eqb, lt-ltb}
+use Rattle.std.proofs.lemmas.Option.{slice_get_within, unwrap_or-slice_get}
 use Rattle.std.proofs.lemmas.List.Sums.{position_or_len_is}
 use Rattle.os_ast.specs.Marks.{HasMark, HasPlaces}
 use Rattle.os_ast.specs.Names.{main_id}
@@ -172,13 +173,11 @@ has_from (marked k m ∷ ps) from f = (omega (arith, f 0 m (k, refl)), has_from 
 pub tasks_rise : (p : tree.ProgramTree) → HasPlaces p → Rising (program_tasks p)
 tasks_rise p h = walks_items p 0 (has_from (pieces p) 0 (λ i m is. omega (arith, h i m is)))
 
+pub got : {A : Type 0} (xs : List A) (k : ℕ) (x d : A) → slice_get xs k ≡ Some x → get_or xs k d ≡ x
+got xs k x d is = sym (unwrap_or-slice_get xs k d) ∙ ap (λ o. unwrap_or o d) is
+
 -- A place tells where a task stands among them.
 module _ {A : Type 0} (place : A → ℕ) where
-  pub got : (xs : List A) (k : ℕ) (x d : A) → slice_get xs k ≡ Some x → (k < length xs) × (get_or xs k d ≡ x)
-  got [] k x d h = absurd (cc)
-  got (y ∷ xs) zero x d h = let e : y ≡ x = cc in (omega arith, e)
-  got (y ∷ xs) (suc k) x d h = let r = got xs k x d h in ((let lt = r.0 in omega (arith, lt)), r.1)
-
   rises_up : (lo : ℕ) (xs : List A) (hi k : ℕ) (d : A) → Rises place lo xs hi → k < length xs → lo ≤ place (get_or xs k d)
   rises_up lo [] hi k d h lt = absurd (omega (arith, lt))
   rises_up lo (y ∷ xs) hi zero d h lt = h.0
@@ -193,11 +192,11 @@ module _ {A : Type 0} (place : A → ℕ) where
   pub position_is : (lo : ℕ) (xs : List A) (hi k : ℕ) (x : A) → Rises place lo xs hi → slice_get xs k ≡ Some x → position (λ y. place y == place x) xs ≡ Some k
   position_is lo xs hi k x h is =
       let at_k = got xs k x x is in
-      let lt = at_k.0 in
+      let lt = slice_get_within xs k x is in
       ap (λ n. cond (nat_lt n (length xs)) (Some n) None)
       (position_or_len_is (λ y. place y == place x) xs k x (omega (arith, lt))
-      (λ j jk. let less : place (get_or xs j x) < place (get_or xs k x) = rises_on lo xs hi j k x h jk lt in let e = ap place at_k.1 in ne_eqb (place (get_or xs j x)) (place x) (λ q. omega (arith, q, e, less)))
-      (λ _. eq-eqb (place (get_or xs k x)) (place x) (ap place at_k.1)))
+      (λ j jk. let less : place (get_or xs j x) < place (get_or xs k x) = rises_on lo xs hi j k x h jk lt in let e = ap place at_k in ne_eqb (place (get_or xs j x)) (place x) (λ q. omega (arith, q, e, less)))
+      (λ _. eq-eqb (place (get_or xs k x)) (place x) (ap place at_k)))
       ∙ ap (λ t. cond t (Some k) None) (lt-ltb k (length xs) lt)
 
 -- places of what a list is made of

@@ -1,5 +1,5 @@
 -- The code of a tick moves the read cursor that it names.
-use Rattle.std.proofs.Common.{◌≡◌, ℕ, zero, suc, ◌+◌, ◌<◌, ◌≤◌, ◌==◌, false, List, [], ◌∷◌, ◌++◌, length, get_or, set, replicate, Some, ℤ, pos, refl, sym, ap, ◌∙◌, subst, arith, length-set}
+use Rattle.std.proofs.Common.{◌≡◌, ℕ, zero, suc, ◌+◌, ◌<◌, ◌≤◌, ◌==◌, false, List, ◌∷◌, ◌++◌, length, get_or, set, replicate, Some, ℤ, pos, refl, sym, ap, ◌∙◌, subst, arith, length-set}
 use Rattle.std.proofs.lemmas.List.{set-append_left, get_or_append_left}
 use Rattle.std.specs.Prelude.{slice_set}
 use Rattle.cddf_meaning.specs.File.{File}
@@ -49,8 +49,8 @@ module _ (code : Parts) (file : File) (falls : CallsFall file) (names : List Res
         kept.0,
         length-set st.skips stream (get_or st.skips stream 0 + amount) ∙ kept.1,
         ap (λ xs. set xs stream (get_or xs stream 0 + amount)) kept.2
-        ∙ ap (λ n. set (st.skips ++ rest) stream (n + amount)) (get_or_append_left st.skips rest 0 stream here)
-        ∙ set-append_left st.skips rest stream (get_or st.skips stream 0 + amount) here,
+            ∙ ap (λ n. set (st.skips ++ rest) stream (n + amount)) (get_or_append_left st.skips rest 0 stream here)
+            ∙ set-append_left st.skips rest stream (get_or st.skips stream 0 + amount) here,
       )
 
   tick_step : (first k amount p : ℕ) (stack : List ℤ) (m : Store) (turns : ℕ) → first + k < code.streams → (first + k == 1) ≡ false → amount ≤ 65536 → instr_at code p ≡ Some (instr.Tick first) →

@@ -14,7 +14,7 @@ use Rattle.cddf_meaning.specs.declared.variable.Binding.{Binding}
 use Rattle.cddf_meaning.specs.declared.variable.Variable.TheVariants.{Window}
 use Rattle.os_ast.specs.Meanings.{meaning}
 use Rattle.os_ast.specs.Names.{Scope}
-use Rattle.os_ast.specs.Notes.Declarators.{sized_form, size_of, form, form_entity, taken, after_declarator, declarator_notes, sized_notes, size_notes, is_window}
+use Rattle.os_ast.specs.Notes.Declarators.{sized_form, size_of, form, form_entity, taken, after_declarator, sized_notes, size_notes, is_window}
 use Rattle.os_ast.specs.Notes.Expressions.{expr_notes, value_notes}
 use Rattle.os_ast.specs.Rules.{is_outermost}
 use Rattle.os_ast.specs.Trees as tree
@@ -24,7 +24,6 @@ use Rattle.os_ast.specs.declared.names.Entity.TheVariants as entity
 use Rattle.os_ast.specs.declared.names.Entry.{Entry}
 use Rattle.os_ast.specs.declared.names.Form.{Form}
 use Rattle.os_ast.specs.declared.names.Form.TheVariants as form_of
-use Rattle.os_ast.specs.declared.names.Owner.{Owner}
 use Rattle.os_ast.specs.declared.names.Owner.TheVariants as owner
 use Rattle.os_ast.specs.declared.names.Resolved.{Resolved}
 use Rattle.os_ast.specs.declared.names.What.{What}
@@ -39,13 +38,12 @@ use Rattle.simulation.specs.Alignment.{Stacked, Resources, Aligned}
 use Rattle.simulation.specs.Declarators.{HasDeclared}
 use Rattle.simulation.proofs.Alignment.{same_below}
 use Rattle.simulation.proofs.Context.{InMain, resources, Context, means, tells, Agree, agree_first}
-use Rattle.simulation.proofs.Declarators.{around_of, DeclaratorDoes, DeclaratorRuns, at_depth, told, scalar_done}
+use Rattle.simulation.proofs.Declarators.{DeclaratorDoes, DeclaratorRuns, at_depth, told, scalar_done}
 use Rattle.simulation.proofs.Declares.{not_false}
-use Rattle.simulation.proofs.Exprs.{Ready, expr_runs}
+use Rattle.simulation.proofs.Exprs.{expr_runs}
 use Rattle.simulation.proofs.Flows.{Does, given_does, settled, went_on}
 use Rattle.simulation.proofs.Functions.{FileFits}
 use Rattle.simulation.proofs.MainContexts.{main_context}
-use Rattle.simulation.proofs.Static.{entry}
 use Rattle.simulation.proofs.Steps.{Store, with_slots, at, Behind, Leads, stays, one, stops_at, Meets, gives, halts, acts}
 use Rattle.simulation.proofs.Stores.{kept_slots}
 use Rattle.window_check.specs.Order.{InOrder}
