@@ -22,7 +22,6 @@ use Rattle.os_ast.specs.declared.names.Use.TheVariants as usage
 use Rattle.simulation.proofs.Homes.{Home, AllFit}
 use Rattle.simulation.proofs.OwnNotes.{own_notes, all_own_notes}
 use Rattle.simulation.proofs.Static.{entry, declarator_entries, declarator_onward, declarators_onward, stmt_onward, stmts_onward, start_onward}
-use Rattle.simulation.proofs.Streams.{declarator_streams, declarators_streams, start_streams, stmt_streams, stmts_streams}
 use Rattle.simulation.proofs.TextNotes.{expr_scoped, place_scoped, args_scoped, value_scoped, change_scoped, step_scoped, sized_scoped, parts_scoped}
 use Rattle.simulation.proofs.Texts.{Text, OfMainAlone, May, AllMay, In, Known, known_first, known_rest, AllScoped, scoped_both, all_fit}
 use Rattle.window_check.proofs.Summed.{stays_in}
@@ -115,7 +114,7 @@ module _ (t : Text) where
   declarators_in [] s is room known = is
   declarators_in (d ∷ ds) s is room known =
       let rest = declarators_notes (after_declarator s d) ds in
-      let next = before_all (declarators_onward ds (after_declarator s d)).slots (declarators_streams ds (after_declarator s d)) room in
+      let next = before_all (declarators_onward ds (after_declarator s d)).slots (declarators_onward ds (after_declarator s d)).streams room in
       declarators_in ds (after_declarator s d) (declarator_in d s is next known.0.0) room (known_rest t (declarator_notes s d) rest known)
 
   declarators_fit : (ds : List tree.DeclaratorTree) (s : Scope) → In t s → HasRoom t (after_declarators s ds) → Known t (declarators_notes s ds) → AllFit t.home (declarators_notes s ds)
@@ -123,7 +122,7 @@ module _ (t : Text) where
   declarators_fit (d ∷ ds) s is room known =
       let here = declarator_notes s d in
       let rest = declarators_notes (after_declarator s d) ds in
-      let next = before_all (declarators_onward ds (after_declarator s d)).slots (declarators_streams ds (after_declarator s d)) room in
+      let next = before_all (declarators_onward ds (after_declarator s d)).slots (declarators_onward ds (after_declarator s d)).streams room in
       let inner = declarator_in d s is next known.0.0 in
       fit_both t.home here rest
       (all_fit t here
@@ -170,7 +169,7 @@ module _ (t : Text) where
         let known_xy = known_first t (x ++ y) z known in
         fit_both t.home (x ++ own_notes s a) (own_notes (after_stmt s a) b)
         (fit_both t.home x (own_notes s a) (all_fit t x (expr_scoped t s is c) (known_first t x y known_xy))
-        (stmt_fits first s is (before_all (stmt_onward b (after_stmt s a)).slots (stmt_streams b (after_stmt s a)) room) (known_rest t x y known_xy)))
+        (stmt_fits first s is (before_all (stmt_onward b (after_stmt s a)).slots (stmt_onward b (after_stmt s a)).streams room) (known_rest t x y known_xy)))
         (stmt_fits second (after_stmt s a) (stmt_in first s is) room (known_rest t (x ++ y) z known))
     stmt_fits (IsStmt.while {c = c} {s = a} _ leveled) s is room known =
         let y = stmt_notes (in_loop s) a in
@@ -186,7 +185,7 @@ module _ (t : Text) where
         let known_z = known_first t (x ++ y ++ z) w known in
         let known_y = known_first t (x ++ y) z known_z in
         let inner : HasRoom t (after_stmt (in_loop head) a) = record { slots = room.slots; streams = room.streams } in
-        let room_head : HasRoom t head = before_all (stmt_onward a (in_loop head)).slots (stmt_streams a (in_loop head)) inner in
+        let room_head : HasRoom t head = before_all (stmt_onward a (in_loop head)).slots (stmt_onward a (in_loop head)).streams inner in
         let is_enter = same_in s (enter s) is refl refl refl in
         let is_head = start_in start (enter s) is_enter room_head (known_first t x y known_y) in
         fit_both t.home (x ++ y ++ z) (own_notes (in_loop head) a)
@@ -217,7 +216,7 @@ module _ (t : Text) where
         let next = after_declarators s ds in
         let x = declarators_notes s ds in
         let y = stmts_notes next ss in
-        let here = before_all (stmts_onward ss next).slots (stmts_streams ss next) room in
+        let here = before_all (stmts_onward ss next).slots (stmts_onward ss next).streams room in
         fit_both t.home x (all_own_notes next ss) (declarators_fit ds s is here (known_first t x y known))
         (stmts_fit rest next (declarators_in ds s is here (known_first t x y known)) room (known_rest t x y known))
     stmts_fit (AreStmts.stmt {s = a} {ss = ss} leveled rest) s is room known =
@@ -225,5 +224,5 @@ module _ (t : Text) where
         let x = stmt_notes s a in
         let y = stmts_notes next ss in
         fit_both t.home (own_notes s a) (all_own_notes next ss)
-        (stmt_fits leveled s is (before_all (stmts_onward ss next).slots (stmts_streams ss next) room) (known_first t x y known))
+        (stmt_fits leveled s is (before_all (stmts_onward ss next).slots (stmts_onward ss next).streams room) (known_first t x y known))
         (stmts_fit rest next (stmt_in leveled s is) room (known_rest t x y known))
