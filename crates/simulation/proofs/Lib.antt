@@ -54,5 +54,7 @@ pub mod Texts
 pub mod TextNotes
 pub mod TextStmts
 pub mod Tiles
+pub mod Spawned
+pub mod FunctionUnits
 pub mod ValidRegions
 pub mod ValidHeights

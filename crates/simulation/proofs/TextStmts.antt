@@ -49,19 +49,19 @@ or_first : (a b : Bool) → (a || b) ≡ false → a ≡ false
 or_first false b e = refl
 or_first true b e = absurd (cc)
 
--- slots and streams of a scope that the unit and the program have
+-- Slots of a scope that the unit has, and streams that the program has: `main` alone declares some.
 pub record HasRoom (t : Text) (s : Scope) : Type 0 where
   pub slots : s.slots ≤ t.home.slots
-  pub streams : 2 + s.streams ≤ t.home.code.streams
+  pub streams : t.owner ≡ owner.OfMain → 2 + s.streams ≤ t.home.code.streams
 
 module _ (t : Text) where
   pub before_all : {s u : Scope} → s.slots ≤ u.slots → s.streams ≤ u.streams → HasRoom t u → HasRoom t s
-  before_all slots streams room = record { slots = omega (arith, slots, room.slots); streams = omega (arith, streams, room.streams) }
+  before_all slots streams room = record { slots = omega (arith, slots, room.slots); streams = λ e. omega (arith, streams, room.streams e) }
 
   main_alone : (o : Owner) (T : Type 0) → o ≡ owner.OfMain → T → OfMainAlone o T
   main_alone o T e x = subst (λ p. OfMainAlone p T) (sym e) x
 
-  scalar_may : (o : Owner) (id slot : ℕ) → o ≡ t.owner → slot + 1 ≤ t.home.slots → May t.home t.owner id (scalar_entity o slot)
+  pub scalar_may : (o : Owner) (id slot : ℕ) → o ≡ t.owner → slot + 1 ≤ t.home.slots → May t.home t.owner id (scalar_entity o slot)
   scalar_may owner.OfMain id slot e le = main_alone t.owner (slot + 1 ≤ t.home.slots) (sym e) le
   scalar_may owner.OfFunction id slot e le = le
   scalar_may owner.OfTask id slot e le = le
@@ -85,9 +85,11 @@ module _ (t : Text) where
     form_may : (stream : Bool) (size : Option tree.IndexTree) → HasRoom t (taken s (form_with s stream size)) → (stream && not (is_outermost s.owner s.depth)) ≡ false →
         (stream ≡ true → (i : tree.IndexTree) → size ≡ Some i → 1 ≤ unwrap_or (size_of s i.value) 0) → May t.home t.owner id (form_entity s (form_with s stream size))
     form_may true None room outer some =
-        main_alone t.owner _ (sym is.owner ∙ outermost s.owner s.depth outer) (omega (arith, room.streams))
+        let main = sym is.owner ∙ outermost s.owner s.depth outer in
+        main_alone t.owner _ main (omega (arith, room.streams main))
     form_may true (Some i) room outer some =
-        main_alone t.owner _ (sym is.owner ∙ outermost s.owner s.depth outer) (omega (arith, room.streams, some refl i refl))
+        let main = sym is.owner ∙ outermost s.owner s.depth outer in
+        main_alone t.owner _ main (omega (arith, room.streams main, some refl i refl))
     form_may false None room outer some = scalar_may s.owner id s.slots is.owner room.slots
     form_may false (Some i) room outer some = sized_may s.owner s id (size_of s i.value) is.owner room.slots
 

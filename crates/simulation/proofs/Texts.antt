@@ -37,7 +37,7 @@ use Rattle.simulation.proofs.Names.{means_function}
 use Rattle.simulation.proofs.TaskContexts.{in_slots}
 use Rattle.window_check.specs.Order.{InOrder}
 use Rattle.window_check.specs.Slots.{control_slots}
-use Rattle.window_check.specs.Told.{AreIn, KeepsAll}
+use Rattle.window_check.specs.Told.{AreIn, AreLawful, KeepsAll, Tells}
 use Rattle.window_check.proofs.Told.{told-use, declared-use}
 
 -- a body in its unit, the names of its program, and what it captures
@@ -107,6 +107,11 @@ known_first t (x ∷ xs) ys all = (all.0, known_first t xs ys all.1)
 pub known_rest : (t : Text) (xs ys : List Note) → Known t (xs ++ ys) → Known t ys
 known_rest t [] ys all = all
 known_rest t (x ∷ xs) ys all = known_rest t xs ys all.1
+
+-- A part is known that is lawful and told, where it names no more of `main` than what is captured.
+pub known_by : (t : Text) (ns : List Note) → AreLawful ns → Tells t.names ns → ((n : Note) → Catches t.owner t.captured n) → Known t ns
+known_by t [] lawful tells catches = tt
+known_by t (n ∷ ns) lawful tells catches = ((lawful.0, tells.0, catches n), known_by t ns lawful.1 tells.1 catches)
 
 -- a scope of the body
 pub record In (t : Text) (s : Scope) : Type 0 where

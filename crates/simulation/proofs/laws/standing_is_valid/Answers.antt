@@ -1,3 +1,5 @@
+use Rattle.simulation.proofs.Spawned.{all_spawned}
+use Rattle.simulation.proofs.FunctionUnits.{main_unit}
 use Rattle.simulation.proofs.ValidHeights.{heights}
 use Rattle.simulation.proofs.ValidRegions.{targets}
 use Rattle.simulation.proofs.LaidUnits.{function_laid}
