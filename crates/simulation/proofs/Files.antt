@@ -151,7 +151,7 @@ no_more (tree.Function f ∷ is) ids h apart = by_case (f.name.id == main_id) re
     by_case true e next = let there : is_in f.name.id ids ≡ true = subst (λ n. is_in n ids ≡ true) (sym (eqb-true f.name.id main_id e)) h in let bad : true ≡ false = sym there ∙ apart.0 in absurd (cc)
     by_case false e next = next
 
-bare_main : (f : tree.FunctionTree) (is : List tree.ItemTree) (ids : List ℕ) → (f.name.id == main_id) ≡ true → AreApart ids (tree.Function f ∷ is) → has_main (tree.Function f ∷ is) ≡ true → param_names f.params ≡ []
+pub bare_main : (f : tree.FunctionTree) (is : List tree.ItemTree) (ids : List ℕ) → (f.name.id == main_id) ≡ true → AreApart ids (tree.Function f ∷ is) → has_main (tree.Function f ∷ is) ≡ true → param_names f.params ≡ []
 bare_main f is ids named apart h = by_params (param_names f.params) (sym (ap (λ b. (b && is_empty (param_names f.params)) || has_main is) named) ∙ h)
   where
     none : has_main is ≡ false
@@ -165,7 +165,7 @@ pub params_owner : (ns : List Name) (s : Scope) → (after_params s ns).owner �
 params_owner [] s = refl
 params_owner (n ∷ ns) s = params_owner ns (programs.after_param s n)
 
-none_front : (s : Scope) (ns : List Name) → captures (params_notes s ns) ≡ []
+pub none_front : (s : Scope) (ns : List Name) → captures (params_notes s ns) ≡ []
 none_front s [] = refl
 none_front s (n ∷ ns) = none_front (programs.after_param s n) ns
 

@@ -56,5 +56,7 @@ pub mod TextStmts
 pub mod Tiles
 pub mod Spawned
 pub mod FunctionUnits
+pub mod Places
+pub mod TaskUnits
 pub mod ValidRegions
 pub mod ValidHeights

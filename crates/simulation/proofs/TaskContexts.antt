@@ -44,17 +44,17 @@ made_items s depth item [] es = es
 made_items s depth item (Item d i ∷ ps) es = made_items s depth (suc item) ps (record { id = (item_name i.stream i.window).id; depth = depth; entity = item_entity s item d i } ∷ es)
 made_items s depth item (Private n ∷ ps) es = made_items s depth item ps es
 
-items_entries : (s inner : Scope) (ps : List Part) (item : ℕ) → (with_items s inner item ps).entries ≡ made_items s inner.depth item ps inner.entries
+pub items_entries : (s inner : Scope) (ps : List Part) (item : ℕ) → (with_items s inner item ps).entries ≡ made_items s inner.depth item ps inner.entries
 items_entries s inner [] item = refl
 items_entries s inner (Item d i ∷ ps) item = items_entries s (declare inner (item_name i.stream i.window).id (item_entity s item d i)) ps (suc item)
 items_entries s inner (Private n ∷ ps) item = items_entries s inner ps item
 
-items_captured : (s inner : Scope) (ps : List Part) (item : ℕ) → (with_items s inner item ps).captured ≡ inner.captured
+pub items_captured : (s inner : Scope) (ps : List Part) (item : ℕ) → (with_items s inner item ps).captured ≡ inner.captured
 items_captured s inner [] item = refl
 items_captured s inner (Item d i ∷ ps) item = items_captured s (declare inner (item_name i.stream i.window).id (item_entity s item d i)) ps (suc item)
 items_captured s inner (Private n ∷ ps) item = items_captured s inner ps item
 
-items_slots : (s inner : Scope) (ps : List Part) (item : ℕ) → (with_items s inner item ps).slots ≡ inner.slots
+pub items_slots : (s inner : Scope) (ps : List Part) (item : ℕ) → (with_items s inner item ps).slots ≡ inner.slots
 items_slots s inner [] item = refl
 items_slots s inner (Item d i ∷ ps) item = items_slots s (declare inner (item_name i.stream i.window).id (item_entity s item d i)) ps (suc item)
 items_slots s inner (Private n ∷ ps) item = items_slots s inner ps item
@@ -141,7 +141,7 @@ abbrev pub Besides : List ℕ → Note → Type 0
 Besides slots (Used s n u) = (slot : ℕ) → is_in slot (control_slots (entity_of (lookup s.entries n.id))) ≡ true → is_in slot slots ≡ true
 Besides slots _ = ⊤
 
-is_in_both : (x : ℕ) (xs ys : List ℕ) → is_in x (xs ++ ys) ≡ (is_in x xs || is_in x ys)
+pub is_in_both : (x : ℕ) (xs ys : List ℕ) → is_in x (xs ++ ys) ≡ (is_in x xs || is_in x ys)
 is_in_both x [] ys = refl
 is_in_both x (y ∷ xs) ys = ap (λ b. (y == x) || b) (is_in_both x xs ys) ∙ or_assoc (y == x) (is_in x xs) (is_in x ys)
   where
@@ -149,15 +149,15 @@ is_in_both x (y ∷ xs) ys = ap (λ b. (y == x) || b) (is_in_both x xs ys) ∙ o
     or_assoc true b c = refl
     or_assoc false b c = refl
 
-or_left : (a b : Bool) → a ≡ true → (a || b) ≡ true
+pub or_left : (a b : Bool) → a ≡ true → (a || b) ≡ true
 or_left true b h = refl
 or_left false b h = absurd (cc)
 
-or_right : (a b : Bool) → b ≡ true → (a || b) ≡ true
+pub or_right : (a b : Bool) → b ≡ true → (a || b) ≡ true
 or_right true b h = refl
 or_right false b h = h
 
-note_besides : (slots : List ℕ) (n : Note) → ((x : ℕ) → is_in x (named_slots n) ≡ true → is_in x slots ≡ true) → Besides slots n
+pub note_besides : (slots : List ℕ) (n : Note) → ((x : ℕ) → is_in x (named_slots n) ≡ true → is_in x slots ≡ true) → Besides slots n
 note_besides slots (Used s n u) h = h
 note_besides slots (Sized s n) h = tt
 note_besides slots (Declared s d) h = tt

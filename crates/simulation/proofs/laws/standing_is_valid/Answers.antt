@@ -1,3 +1,5 @@
+use Rattle.simulation.proofs.TaskUnits.{task_unit}
+use Rattle.simulation.proofs.Places.{main_place}
 use Rattle.simulation.proofs.Spawned.{all_spawned}
 use Rattle.simulation.proofs.FunctionUnits.{main_unit}
 use Rattle.simulation.proofs.ValidHeights.{heights}
