@@ -58,5 +58,7 @@ pub mod Spawned
 pub mod FunctionUnits
 pub mod Places
 pub mod TaskUnits
+pub mod UnitKinds
 pub mod ValidRegions
 pub mod ValidHeights
+pub mod AllUnits

@@ -55,7 +55,7 @@ none_behind : (xs ys : List Violation) → xs ++ ys ≡ [] → ys ≡ []
 none_behind [] ys h = h
 none_behind (x ∷ xs) ys h = absurd (cc)
 
-main_there : (p : tree.ProgramTree) → violations p ≡ [] → has_main p ≡ true
+pub main_there : (p : tree.ProgramTree) → violations p ≡ [] → has_main p ≡ true
 main_there p h = by_case (has_main p) refl (none_behind (faults (program_notes p)) (no_main p) h)
   where
     by_case : (t : Bool) → has_main p ≡ t → no_main p ≡ [] → t ≡ true

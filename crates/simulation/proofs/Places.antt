@@ -67,6 +67,20 @@ mains_bare (tree.Function f ∷ is) ids apart h (suc j) g there named =
     by_case true e next = absurd (not_again is (f.name.id ∷ ids) (or_left (f.name.id == main_id) (is_in main_id ids) e) apart.1 j g there named)
     by_case false e next = next (sym (ap (λ b. (b && is_empty (param_names f.params)) || has_main is) e) ∙ h)
 
+-- the tasks of a program are those of `main`
+pub mains_tasks : (is : List tree.ItemTree) (ids : List ℕ) → AreApart ids is → (j : ℕ) (g : tree.FunctionTree) → slice_get (functions_of is) j ≡ Some g → (g.name.id == main_id) ≡ true → program_tasks is ≡ all_tasks_of g.body
+mains_tasks [] ids apart j g there named = absurd (cc)
+mains_tasks (tree.Constant c ∷ is) ids apart j g there named = mains_tasks is (c.name.id ∷ ids) apart.1 j g there named
+mains_tasks (tree.Function f ∷ is) ids apart zero g there named =
+    let same : f ≡ g = cc in
+    ap (λ t. if t then all_tasks_of f.body else program_tasks is) (ap (λ (x : tree.FunctionTree). x.name.id == main_id) same ∙ named) ∙ ap (λ (x : tree.FunctionTree). all_tasks_of x.body) same
+mains_tasks (tree.Function f ∷ is) ids apart (suc j) g there named =
+    by_case (f.name.id == main_id) refl (mains_tasks is (f.name.id ∷ ids) apart.1 j g there named)
+  where
+    by_case : (t : Bool) → (f.name.id == main_id) ≡ t → program_tasks is ≡ all_tasks_of g.body → (if t then all_tasks_of f.body else program_tasks is) ≡ all_tasks_of g.body
+    by_case true e next = absurd (not_again is (f.name.id ∷ ids) (or_left (f.name.id == main_id) (is_in main_id ids) e) apart.1 j g there named)
+    by_case false e next = next
+
 module _ (code : Parts) (rs : List Resolved) (tasks : List TaskTree) where
   -- the number of `main`
   pub record MainNumber (first : ℕ) (is : List tree.ItemTree) : Type 0 where

@@ -102,7 +102,7 @@ no_main (tree.Function f ∷ is) file s h = by_case (f.name.id == main_id) h (λ
     by_case true k next = absurd (cc)
     by_case false k next = next k
 
-get_there : {A : Type 0} (xs : List A) (k : ℕ) → k < length xs → (x : A) × (slice_get xs k ≡ Some x)
+pub get_there : {A : Type 0} (xs : List A) (k : ℕ) → k < length xs → (x : A) × (slice_get xs k ≡ Some x)
 get_there [] k lt = absurd (omega (arith, lt))
 get_there (x ∷ xs) zero lt = (x, refl)
 get_there (x ∷ xs) (suc k) lt = get_there xs k (omega (arith, lt))

@@ -1,3 +1,5 @@
+use Rattle.simulation.proofs.AllUnits.{all_laid}
+use Rattle.simulation.proofs.UnitKinds.{task_kind}
 use Rattle.simulation.proofs.TaskUnits.{task_unit}
 use Rattle.simulation.proofs.Places.{main_place}
 use Rattle.simulation.proofs.Spawned.{all_spawned}
