@@ -25,9 +25,10 @@ use Rattle.simulation.specs.Statements.{Body}
 use Rattle.simulation.specs.Tasks.{TaskTree, all_tasks_of}
 use Rattle.simulation.proofs.Files.{params_owner}
 use Rattle.simulation.proofs.Functions.{params_slots}
-use Rattle.simulation.proofs.Homes.{Home, AreSpawned}
+use Rattle.simulation.proofs.Homes.{Home, AllFit, AreSpawned}
 use Rattle.simulation.proofs.LaidUnits.{home_of, IsLaid, function_laid, main_laid}
 use Rattle.simulation.proofs.Spawned.{none_spawned}
+use Rattle.simulation.proofs.OwnNotes.{all_own_notes}
 use Rattle.simulation.proofs.Sizes.{stmts_sizes}
 use Rattle.simulation.proofs.TextStmts.{HasRoom, scalar_may, stmts_fit}
 use Rattle.simulation.proofs.Texts.{Text, May, AllMay, Known, known_by, In}
@@ -153,45 +154,52 @@ module _ (code : Parts) (rs : List Resolved) (ordered : InOrder rs) (s : Scope) 
             })
             (omega (arith, first, none, has.slots))
 
-    pub main_unit : (tasks : List TaskTree) → (f.name.id == main_id) ≡ true → param_names f.params ≡ [] → kind_at code number ≡ Main → 2 ≤ code.streams → 2 + (after_stmts body_scope f.body).streams ≤ code.streams →
-        (has : HasMain code (told_at rs) tasks number f) → AreSpawned (home_of code (in_main (told_at rs) tasks) number has.unit) (all_tasks_of f.body) → IsLaid code number has.unit
-    main_unit tasks named bare kind some few has spawned =
-        main_laid code (in_main (told_at rs) tasks) number has.unit f.body body_scope has.end refl (ap (λ k. stands_in k instr.End) kind)
-        (stmts_fit t leveled body_scope begins (record { slots = room; streams = λ e. few }) (known_by t (stmts_notes body_scope f.body) lawful tells (λ n. tt)))
-        spawned has.body has.falls_off has.fills (omega (arith, has.args, has.slots))
-      where
-        t : Text
-        t = record {
-          home = home_of code (in_main (told_at rs) tasks) number has.unit;
-          names = rs;
-          ordered = ordered;
-          told = refl;
-          owner = owner.OfMain;
-          captured = [];
-          in_main = λ e. kind;
-          caught_fit = λ e. absurd (cc);
-        }
+    module _ (tasks : List TaskTree) (named : (f.name.id == main_id) ≡ true) (bare : param_names f.params ≡ []) (kind : kind_at code number ≡ Main) (some : 2 ≤ code.streams)
+        (few : 2 + (after_stmts body_scope f.body).streams ≤ code.streams) (has : HasMain code (told_at rs) tasks number f) where
+      abbrev pub main_home : Home
+      main_home = home_of code (in_main (told_at rs) tasks) number has.unit
 
-        is : body_scope ≡ round owner.OfMain
-        is =
-            ap (after_params (programs.in_function s f.name.id)) bare
-            ∙ ap (λ o. round o) (ap (λ t. if t then owner.OfMain else owner.OfFunction) named)
+      abbrev main_text : Text
+      main_text = record {
+        home = main_home;
+        names = rs;
+        ordered = ordered;
+        told = refl;
+        owner = owner.OfMain;
+        captured = [];
+        in_main = λ e. kind;
+        caught_fit = λ e. omega arith;
+      }
 
-        room : (after_stmts body_scope f.body).slots ≤ has.unit.slots
-        room =
-            let size : stmts_slots body_scope.owner (size_by (told_at rs)) f.body ≡ stmts_slots owner.OfMain (size_by (told_at rs)) f.body =
-            ap (λ (x : Scope). stmts_slots x.owner (size_by (told_at rs)) f.body) is in
-            let first : body_scope.slots ≡ 1 = ap (λ (x : Scope). x.slots) is in
-            omega (arith, sum, size, first, has.slots)
+      main_begins : body_scope ≡ round owner.OfMain
+      main_begins =
+          ap (after_params (programs.in_function s f.name.id)) bare
+          ∙ ap (λ o. round o) (ap (λ t. if t then owner.OfMain else owner.OfFunction) named)
 
-        begins : In t body_scope
-        begins =
-            subst (In t) (sym is)
-            (record {
-              owner = refl;
-              captured = refl;
-              may = (
-                omega (arith, has.slots),
-                (omega (arith, some), (omega (arith, some), all_file_may code (in_main (told_at rs) tasks) number has.unit owner.OfMain s.entries may)),
-              );
-            })
+      main_room : (after_stmts body_scope f.body).slots ≤ has.unit.slots
+      main_room =
+          let size : stmts_slots body_scope.owner (size_by (told_at rs)) f.body ≡ stmts_slots owner.OfMain (size_by (told_at rs)) f.body =
+          ap (λ (x : Scope). stmts_slots x.owner (size_by (told_at rs)) f.body) main_begins in
+          let first : body_scope.slots ≡ 1 = ap (λ (x : Scope). x.slots) main_begins in
+          omega (arith, sum, size, first, has.slots)
+
+      main_in : In main_text body_scope
+      main_in =
+          subst (In main_text) (sym main_begins)
+          (record {
+            owner = refl;
+            captured = refl;
+            may = (
+              omega (arith, has.slots),
+              (omega (arith, some), (omega (arith, some), all_file_may code (in_main (told_at rs) tasks) number has.unit owner.OfMain s.entries may)),
+            );
+          })
+
+      -- what stands in `main` fits
+      pub main_fits : AllFit main_home (all_own_notes body_scope f.body)
+      main_fits = stmts_fit main_text leveled body_scope main_in (record { slots = main_room; streams = λ e. few }) (known_by main_text (stmts_notes body_scope f.body) lawful tells (λ n. tt))
+
+      pub main_unit : AreSpawned main_home (all_tasks_of f.body) → IsLaid code number has.unit
+      main_unit spawned =
+          main_laid code (in_main (told_at rs) tasks) number has.unit f.body body_scope has.end refl (ap (λ k. stands_in k instr.End) kind) main_fits spawned has.body has.falls_off has.fills
+          (omega (arith, has.args, has.slots))

@@ -1,6 +1,7 @@
 -- Where the code of a body stands, what its instructions may name there, and when one of them is fine.
 use Rattle.std.proofs.Common.{◌≡◌, ℕ, ◌+◌, ◌-◌, ◌<◌, ◌≤◌, Bool, true, false, List, [], ◌∷◌, length, Option, Some, None, slice_get}
-use Rattle.std.specs.Prelude.{⊤, ◌⊎◌, IsTrue}
+use Rattle.std.specs.Prelude.{⊤, ◌⊎◌, All, IsTrue}
+use Rattle.os_ast.specs.Captured.{slots_of}
 use Rattle.os_ast.specs.Meanings.{meaning}
 use Rattle.os_ast.specs.Notes.Declarators.{declared_entity}
 use Rattle.os_ast.specs.Notes.Kinds.{Note, Used, Declared, Pragma, Task}
@@ -123,7 +124,7 @@ abbrev pub FitsNote : Home → Note → Type 0
 FitsNote h (Used s n u) = FitsUse h u (tells h n.mark.place)
 FitsNote h (Declared s d) = (tells h d.name.mark.place ≡ meaning (declared_entity s d)) × Fits h (meaning (declared_entity s d))
 FitsNote h (Pragma s m) = h.kind ≡ Main
-FitsNote h (Task s m items captured) = h.kind ≡ Main
+FitsNote h (Task s m items captured) = (h.kind ≡ Main) × (items ≤ 8) × (length captured ≤ 64) × All (λ slot. slot < h.slots) (slots_of captured)
 FitsNote h _ = ⊤
 
 abbrev pub AllFit : Home → List Note → Type 0

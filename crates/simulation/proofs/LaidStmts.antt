@@ -224,8 +224,8 @@ module _ (h : Home) (left : IsLeft h) where
         let fit_task = fit_rest h (parts_notes s [] ps) note fit in (
           λ e. has.5,
           free h
-              (then_lays h (items_lay h fit_task.0 ps s [] from has.1 0 (fit_first h (parts_notes s [] ps) note fit) has.3)
-              (spawn_lays has.0 (count_items ps + count_items ps) has.1 to fit_task.0 (spawned.0 has.0 has.2) has.4)),
+              (then_lays h (items_lay h fit_task.0.0 ps s [] from has.1 0 (fit_first h (parts_notes s [] ps) note fit) has.3)
+              (spawn_lays has.0 (count_items ps + count_items ps) has.1 to fit_task.0.0 (spawned.0 has.0 has.2) has.4)),
         )
     stmt_lays (tree.Tick m t arrow e) s broke continued next from to fit spawned has =
         let x = place_notes s (role.Flow direction.Reads) t in

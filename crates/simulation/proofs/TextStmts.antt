@@ -1,11 +1,12 @@
 -- What stands in the statements of a body of a lawful program fits.
-use Rattle.std.proofs.Common.{◌≡◌, ℕ, suc, ◌+◌, ◌<◌, ◌≤◌, ◌&&◌, ◌||◌, Bool, true, false, not, if◌then◌else◌, List, [], ◌∷◌, ◌++◌, Option, Some, None, ℤ, pos, negsuc, refl, sym, ap, ◌∙◌, subst, arith}
+use Rattle.std.proofs.Common.{◌≡◌, ℕ, zero, suc, ◌+◌, ◌<◌, ◌≤◌, ◌&&◌, ◌||◌, Bool, true, false, not, if◌then◌else◌, List, [], ◌∷◌, ◌++◌, Option, Some, None, ℤ, pos, negsuc, refl, sym, ap, ◌∙◌, subst, arith}
 use Rattle.std.proofs.lemmas.Bool.{leb-true}
-use Rattle.std.specs.Prelude.{⊤, unwrap_or, leb}
-use Rattle.os_ast.specs.Captured.{captured}
+use Rattle.std.specs.Prelude.{⊤, All, unwrap_or, leb}
+use Rattle.os_ast.specs.Captured.{Scalar, captured, slots_of}
+use Rattle.os_ast.specs.FreeNames.{task_names}
 use Rattle.os_ast.specs.Leveled.{IsStmt, AreStmts}
 use Rattle.os_ast.specs.Limits.{is_size, size_limit}
-use Rattle.os_ast.specs.Names.{Scope, enter, in_loop}
+use Rattle.os_ast.specs.Names.{Scope, lookup, entity_of, enter, in_loop}
 use Rattle.os_ast.specs.Notes.Clauses.{in_task_body, parts_notes, clauses_notes}
 use Rattle.os_ast.specs.Notes.Declarators.{scalar_entity, sized_form, form_with, form_entity, size_of, size_told, limited, taken, after_declarator, after_declarators, declarator_notes, declarators_notes, sized_notes, after_start, start_notes}
 use Rattle.os_ast.specs.Notes.Expressions.{count_args, expr_notes, place_notes, args_notes, value_notes, change_notes, step_notes}
@@ -15,15 +16,18 @@ use Rattle.os_ast.specs.Parts.{parts, count_items}
 use Rattle.os_ast.specs.Rules.{rules, is_outermost, is_main_body, has_no_size, has_too_many}
 use Rattle.os_ast.specs.Trees as tree
 use Rattle.os_ast.specs.declared.names.Direction.TheVariants as direction
+use Rattle.os_ast.specs.declared.names.Entity.{Entity}
+use Rattle.os_ast.specs.declared.names.Entity.TheVariants as entity
 use Rattle.os_ast.specs.declared.names.Owner.{Owner}
 use Rattle.os_ast.specs.declared.names.Owner.TheVariants as owner
 use Rattle.os_ast.specs.declared.names.Role.TheVariants as role
 use Rattle.os_ast.specs.declared.names.Use.TheVariants as usage
+use Rattle.simulation.proofs.Capturing.{HasSlot, AreScalars, captured_scalars}
 use Rattle.simulation.proofs.Homes.{Home, AllFit}
 use Rattle.simulation.proofs.OwnNotes.{own_notes, all_own_notes}
 use Rattle.simulation.proofs.Static.{entry, declarator_entries, declarator_onward, declarators_onward, stmt_onward, stmts_onward, start_onward}
 use Rattle.simulation.proofs.TextNotes.{expr_scoped, place_scoped, args_scoped, value_scoped, change_scoped, step_scoped, sized_scoped, parts_scoped}
-use Rattle.simulation.proofs.Texts.{Text, OfMainAlone, May, AllMay, In, Known, known_first, known_rest, AllScoped, scoped_both, all_fit}
+use Rattle.simulation.proofs.Texts.{or_none_first, may_found, Text, OfMainAlone, May, AllMay, In, Known, known_first, known_rest, AllScoped, scoped_both, all_fit}
 use Rattle.window_check.proofs.Summed.{stays_in}
 use Rattle.window_check.specs.Told.{KeepsAll}
 
@@ -44,10 +48,6 @@ size_some (Some (pos n)) h = by_test (leb 1 n && leb n size_limit) refl h
     by_test : (t : Bool) → (leb 1 n && leb n size_limit) ≡ t → not t ≡ false → 1 ≤ unwrap_or (if t then Some n else None) 0
     by_test true e k = leb-true 1 n (first (leb 1 n) (leb n size_limit) e)
     by_test false e k = absurd (cc)
-
-or_first : (a b : Bool) → (a || b) ≡ false → a ≡ false
-or_first false b e = refl
-or_first true b e = absurd (cc)
 
 -- Slots of a scope that the unit has, and streams that the program has: `main` alone declares some.
 pub record HasRoom (t : Text) (s : Scope) : Type 0 where
@@ -99,7 +99,7 @@ module _ (t : Text) where
     size_lawful true None d lawful e i is_size = absurd (cc)
     size_lawful true (Some j) d lawful e i is_size =
         let same : j ≡ i = cc in
-        subst (λ (k : tree.IndexTree). 1 ≤ unwrap_or (size_of s k.value) 0) same (size_some (size_told s (Some j)) (or_first _ _ lawful))
+        subst (λ (k : tree.IndexTree). 1 ≤ unwrap_or (size_of s k.value) 0) same (size_some (size_told s (Some j)) (or_none_first _ _ lawful))
 
   declarator_in : (d : tree.DeclaratorTree) (s : Scope) → In t s → HasRoom t (after_declarator s d) → KeepsAll rules (Declared s d) → In t (after_declarator s d)
   declarator_in d s is room lawful = record {
@@ -141,6 +141,32 @@ module _ (t : Text) where
   start_fits tree.StartTree.Empty s is room known = tt
   start_fits (tree.StartTree.Declare ds) s is room known = declarators_fit ds s is room known
   start_fits (tree.StartTree.Change c) s is room known = all_fit t (change_notes s c) (change_scoped t s is c) known
+
+  -- captured scalars have slots of `main`
+  caught_below : (s : Scope) → In t s → t.owner ≡ owner.OfMain → (cs : List Scalar) → AreScalars s.entries cs → All (λ slot. slot < t.home.slots) (slots_of cs)
+  caught_below s is main [] are k d lt = absurd (omega (arith, lt))
+  caught_below s is main (c ∷ cs) are zero d lt = by_entity (entity_of (lookup s.entries c.id)) refl are.0
+    where
+      by_entity : (o : Option Entity) → entity_of (lookup s.entries c.id) ≡ o → HasSlot o c.slot → c.slot < t.home.slots
+      by_entity None found has = absurd (cc)
+      by_entity (Some (entity.Control n)) found has =
+          let e : n ≡ c.slot = cc in
+          let may : May t.home owner.OfMain c.id (entity.Control n) = subst (λ o. May t.home o c.id (entity.Control n)) main (may_found t.home t.owner s.entries c.id (entity.Control n) is.may found) in
+          omega (arith, e, may)
+      by_entity (Some entity.InputLength) found has =
+          let e : 0 ≡ c.slot = cc in
+          let may : May t.home owner.OfMain c.id entity.InputLength = subst (λ o. May t.home o c.id entity.InputLength) main (may_found t.home t.owner s.entries c.id entity.InputLength is.may found) in
+          omega (arith, e, may)
+      by_entity (Some (entity.Constant v)) found has = absurd (cc)
+      by_entity (Some (entity.Function n k)) found has = absurd (cc)
+      by_entity (Some (entity.Scalar n)) found has = absurd (cc)
+      by_entity (Some (entity.Array n k)) found has = absurd (cc)
+      by_entity (Some (entity.Window n)) found has = absurd (cc)
+      by_entity (Some (entity.Stream n)) found has = absurd (cc)
+      by_entity (Some (entity.Streams n k)) found has = absurd (cc)
+      by_entity (Some (entity.Element n x)) found has = absurd (cc)
+      by_entity (Some (entity.View n x)) found has = absurd (cc)
+  caught_below s is main (c ∷ cs) are (suc k) d lt = caught_below s is main cs are.1 k d (omega (arith, lt))
 
   -- behind a statement
   stmt_in : {a : tree.StmtTree} → IsStmt a → (s : Scope) → In t s → In t (after_stmt s a)
@@ -204,7 +230,7 @@ module _ (t : Text) where
         let known_own = known_first t (clauses_notes s m ps a) (stmt_notes (in_task_body s ps a) a) known in
         let lawful = (known_rest t (parts_notes s [] ps) note known_own).0.0 in
         let main = sym is.owner ∙ in_main_body s.owner lawful.1.1.1.1.1.1.1.0 in
-        all_fit t (clauses_notes s m ps a) (scoped_both t (parts_notes s [] ps) note (parts_scoped t s is main ps []) (is, tt)) known_own
+        all_fit t (clauses_notes s m ps a) (scoped_both t (parts_notes s [] ps) note (parts_scoped t s is main ps []) ((is, caught_below s is main (captured s.entries ps a) (captured_scalars s.entries (task_names ps a))), tt)) known_own
     stmt_fits (IsStmt.tick {m = m} {t = p} {e = e} _ _) s is room known =
         let main = sym is.owner ∙ in_main_body s.owner known.0.0.1.1.1.1.1.1.1.0 in
         let x = place_notes s (role.Flow direction.Reads) p in

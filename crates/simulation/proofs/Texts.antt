@@ -1,8 +1,10 @@
 -- A body of a lawful program in its unit: what its notes say, and what its scopes hold.
 use Rattle.std.proofs.Common.{◌≡◌, ℕ, zero, suc, ◌+◌, ◌<◌, ◌≤◌, ◌==◌, ◌||◌, Bool, true, false, not, if◌then◌else◌, List, [], ◌∷◌, ◌++◌, length, position, Option, Some, None, ℤ, refl, sym, ap, ◌∙◌, subst, inl, inr, arith, eqb-true}
-use Rattle.std.proofs.lemmas.Bool.{ltb-true}
+use Rattle.std.proofs.lemmas.Bool.{ltb-true, ltb-false}
 use Rattle.std.specs.List.{position_or_len}
-use Rattle.std.specs.Prelude.{⊤, ◌⊎◌, unwrap_or, nat_lt, cond}
+use Rattle.std.specs.Prelude.{⊤, ◌⊎◌, All, unwrap_or, nat_lt, cond, ltb}
+use Rattle.os_ast.specs.Captured.{slots_of}
+use Rattle.os_ast.specs.Limits.{items_limit, captured_limit}
 use Rattle.os_ast.specs.Meanings.{meaning, meaning_in, place_in}
 use Rattle.os_ast.specs.Names.{Scope, lookup, entity_of, main_id}
 use Rattle.os_ast.specs.Notes.Declarators.{declared_entity, form_with, form_entity, scalar_entity, sized_form, taken, after_declarator, size_of}
@@ -133,7 +135,7 @@ abbrev pub Scoped : Text → Note → Type 0
 Scoped t (Used s n u) = In t s × IsPlaced t u
 Scoped t (Declared s d) = In t s × ((after_declarator s d).slots ≤ t.home.slots)
 Scoped t (Pragma s m) = In t s
-Scoped t (Task s m items captured) = In t s
+Scoped t (Task s m items captured) = In t s × All (λ slot. slot < t.home.slots) (slots_of captured)
 Scoped t _ = ⊤
 
 abbrev pub AllScoped : Text → List Note → Type 0
@@ -283,6 +285,15 @@ module _ (h : Home) (id : ℕ) where
   flow_in owned.OfFunction slots d s e is kind may = absurd (cc)
   flow_in owned.OfTask slots d s e is kind may = absurd (cc)
 
+-- what holds of neither
+pub or_none_first : (a b : Bool) → (a || b) ≡ false → a ≡ false
+or_none_first false b e = refl
+or_none_first true b e = absurd (cc)
+
+or_none_rest : (a b : Bool) → (a || b) ≡ false → b ≡ false
+or_none_rest false b e = e
+or_none_rest true b e = absurd (cc)
+
 -- What stands in a body of a lawful program fits.
 module _ (t : Text) where
   -- a used name, by what it is declared as
@@ -356,7 +367,12 @@ module _ (t : Text) where
     form_fits s d.stream d.size scoped.0 scoped.1,
   )
   note_fits (Pragma s m) scoped lawful told catches = main_kind s.owner (sym scoped.owner) lawful.1.1.1.1.1.1.1.0
-  note_fits (Task s m items captured) scoped lawful told catches = main_kind s.owner (sym scoped.owner) lawful.1.1.1.1.1.1.1.0
+  note_fits (Task s m items captured) scoped lawful told catches =
+      let few = lawful.1.1.1.1.1.1.1.1.1.1.1.1.0 in
+      (main_kind s.owner (sym scoped.0.owner) lawful.1.1.1.1.1.1.1.0,
+      ltb-false items_limit items (or_none_first (ltb items_limit items) (ltb captured_limit (length captured)) few),
+      ltb-false captured_limit (length captured) (or_none_rest (ltb items_limit items) (ltb captured_limit (length captured)) few),
+      scoped.1)
   note_fits (Sized s n) scoped lawful told catches = tt
   note_fits (Given s n) scoped lawful told catches = tt
   note_fits (Global s n) scoped lawful told catches = tt
