@@ -19,16 +19,17 @@ use Rattle.simulation.proofs.Homes.{Home, tells, Fits, AllFit}
 use Rattle.simulation.proofs.LaidExprs.{expr_lays}
 use Rattle.simulation.proofs.Lays.{Lays, Rises, fit_first, fit_rest, nothing, then_lays, to_end, to_height, straight}
 
+-- the stream of an item or a tick is there
+pub stream_fits : (h : Home) (d : Direction) (t : tree.TargetTree) (s : Scope) → AllFit h (place_notes s (role.Flow d) t) → first_of (tells h (target_name t).mark.place) < h.code.streams
+stream_fits h d (tree.Variable n) s fit = fit.0
+stream_fits h d (tree.Element n m e) s fit = fit.0
+
 module _ (h : Home) (in_main : h.kind ≡ Main) where
   pub stream_lays : (t : tree.TargetTree) (d : Direction) (s : Scope) (from to x : ℕ) → AllFit h (place_notes s (role.Flow d) t) → HasStream h.code (tells h) t from to → Lays h ⊤ from x to (suc x)
   stream_lays (tree.Variable n) d s from to x fit has = straight h (instr.Push (pos 0) ∷ []) from to x (suc x) has ((refl, refl, refl, refl), omega arith, tt, omega arith)
   stream_lays (tree.Element n m e) d s from to x fit has =
       then_lays h (expr_lays h e s from has.0 x fit.1 has.1).1
       (straight h (instr.CheckAt (count_of (tells h n.mark.place)) m.line ∷ []) has.0 to (suc x) (suc x) has.2 ((refl, refl, refl, refl), omega arith, tt, omega arith))
-
-  pub stream_fits : (t : tree.TargetTree) (d : Direction) (s : Scope) → AllFit h (place_notes s (role.Flow d) t) → first_of (tells h (target_name t).mark.place) < h.code.streams
-  stream_fits (tree.Variable n) d s fit = fit.0
-  stream_fits (tree.Element n m e) d s fit = fit.0
 
   rises_bursting : (d : Direction) (w : What) (line x : ℕ) → Fits h w → Rises h (bursting d w line ∷ []) (suc x) (suc x)
   rises_bursting direction.Reads w line x fits = ((refl, refl, refl, refl), omega arith, in_main, omega arith)

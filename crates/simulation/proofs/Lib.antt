@@ -62,3 +62,5 @@ pub mod UnitKinds
 pub mod ValidRegions
 pub mod ValidHeights
 pub mod AllUnits
+pub mod SitesFit
+pub mod ValidSites

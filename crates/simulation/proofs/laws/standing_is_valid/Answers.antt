@@ -1,3 +1,5 @@
+use Rattle.simulation.proofs.ValidSites.{kinds_fit}
+use Rattle.simulation.proofs.SitesFit.{stmts_tasks}
 use Rattle.simulation.proofs.AllUnits.{all_laid}
 use Rattle.simulation.proofs.UnitKinds.{task_kind}
 use Rattle.simulation.proofs.TaskUnits.{task_unit}
