@@ -24,10 +24,11 @@ use Rattle.simulation.specs.Names.{told_at}
 use Rattle.simulation.specs.Programs.{in_main, HasMain, HasUnit, HasTask, HasProgram}
 use Rattle.simulation.specs.Tasks.{TaskTree, program_tasks, all_tasks_of}
 use Rattle.simulation.specs.Tiling.{IsTiled}
-use Rattle.simulation.proofs.FunctionUnits.{function_unit, main_unit}
-use Rattle.simulation.proofs.Homes.{AreSpawned}
+use Rattle.simulation.proofs.FunctionUnits.{function_unit, main_fits, main_unit}
+use Rattle.simulation.proofs.Homes.{AllFit}
 use Rattle.simulation.proofs.LaidUnits.{home_of, IsLaid}
 use Rattle.simulation.proofs.MainLaws.{main_there}
+use Rattle.simulation.proofs.OwnNotes.{all_own_notes}
 use Rattle.simulation.proofs.Places.{functions_of, functions_count, mains_bare, mains_tasks, MainNumber, main_number, FunctionAt, places, MainAt, main_place}
 use Rattle.simulation.proofs.Spawned.{all_spawned}
 use Rattle.simulation.proofs.TaskLaws.{main_body, get_there}
@@ -86,7 +87,7 @@ module _ (p : tree.ProgramTree) (code : Parts) (st : Standing p code) where
   abbrev pub Laid : ℕ → Type 0
   Laid number = (unit : CodeUnit) × (unit_at code number ≡ Some unit) × IsLaid code number unit
 
-  counted : code.streams ≡ 2 + (after_items file p).streams
+  pub counted : code.streams ≡ 2 + (after_items file p).streams
   counted = st.has.counted
 
   laid_function : (number : ℕ) (g : tree.FunctionTree) → slice_get (functions_of p) number ≡ Some g → (b : Bool) → (g.name.id == main_id) ≡ b → (at : FunctionAt code (names p) (program_tasks p) (after_items file p).streams number g) →
@@ -120,12 +121,13 @@ module _ (p : tree.ProgramTree) (code : Parts) (st : Standing p code) where
   pub record TaskPlace (number : ℕ) : Type 0 where
     pub task : MeaningTask
     pub slots : List ℕ
+    pub found : slice_get (captures (stmts_notes (in_body main_at.at.scope main_at.function) main_at.function.body)) number ≡ Some slots
     pub there : TaskAt (names p) main_at.at.scope.entries task slots
     pub has : HasTask code (told_at (names p)) (captured_by_tasks p) number (strip (task_at there.scope there.mark there.clauses there.body))
     pub same_slots : has.site.captured ≡ slots
 
   pub task_place : (number : ℕ) → number < length (program_tasks p) → TaskPlace number
-  task_place number lt = record { task = got.0; slots = found.0; there = there; has = has; same_slots = same_slots }
+  task_place number lt = record { task = got.0; slots = found.0; found = found.1; there = there; has = has; same_slots = same_slots }
     where
       f : tree.FunctionTree
       f = main_at.function
@@ -165,8 +167,15 @@ module _ (p : tree.ProgramTree) (code : Parts) (st : Standing p code) where
           let y : Some has.site.captured ≡ Some found.0 = sym has.captures ∙ x in
           cc
 
-  main_has : HasMain code (told_at (names p)) (program_tasks p) main_at.number main_at.function
+  pub main_has : HasMain code (told_at (names p)) (program_tasks p) main_at.number main_at.function
   main_has = subst (λ b. HasUnit b code (told_at (names p)) (program_tasks p) main_at.number main_at.function) main_at.named main_at.at.has
+
+  -- what stands in `main` fits
+  pub main_fit : AllFit (home_of code (in_main (told_at (names p)) (program_tasks p)) main_at.number main_has.unit) (all_own_notes (in_body main_at.at.scope main_at.function) main_at.function.body)
+  main_fit =
+      main_fits code (names p) order main_at.at.scope main_at.function main_at.at.leveled main_at.at.lawful main_at.at.tells main_at.number main_at.at.may (program_tasks p) main_at.named
+      (mains_bare p [] apart some_main main_at.place main_at.function main_at.is_there main_at.named) (main_kind code (count_functions p) st.tiled.task_units main_at.number main_has.is_main)
+      (omega (arith, counted)) (omega (arith, counted, main_at.at.few)) main_has
 
   -- the units behind them
   late : (number : ℕ) → number < length (program_tasks p) → Laid (count_functions p + number)

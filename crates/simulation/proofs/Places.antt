@@ -178,6 +178,8 @@ module _ (code : Parts) (rs : List Resolved) (tasks : List TaskTree) where
     pub function : tree.FunctionTree
     pub named : (function.name.id == main_id) ≡ true
     pub at : FunctionAt (after_items outer listed).streams number function
+    pub place : ℕ
+    pub is_there : slice_get (functions_of listed) place ≡ Some function
     pub own_tasks : program_tasks listed ≡ all_tasks_of function.body
     pub rest : List (List ℕ)
     pub own_captures : captures (items_notes outer listed) ≡ captures (stmts_notes (in_body at.scope function) function.body) ++ rest
@@ -200,7 +202,7 @@ module _ (code : Parts) (rs : List Resolved) (tasks : List TaskTree) where
       let i = tree.Constant c in
       let rest = items_notes (after_item s i) is in
       let m = main_place is (after_item s i) number leveled (tt, may) (tt, all) count (lawful-rest (item_notes s i) rest lawful) (tells-rest rs (item_notes s i) rest tells) has kinds some in
-      record { number = m.number; function = m.function; named = m.named; at = m.at; own_tasks = m.own_tasks; rest = m.rest; own_captures = m.own_captures }
+      record { number = m.number; function = m.function; named = m.named; at = m.at; place = m.place; is_there = m.is_there; own_tasks = m.own_tasks; rest = m.rest; own_captures = m.own_captures }
   main_place (tree.Function f ∷ is) s number (cons (IsItem.function _ body) leveled) may all count lawful tells has kinds some =
       by_case (f.name.id == main_id) refl
       (λ other.
@@ -224,6 +226,8 @@ module _ (code : Parts) (rs : List Resolved) (tasks : List TaskTree) where
         function = f;
         named = e;
         at = here f is s number body may all lawful tells has.0;
+        place = 0;
+        is_there = refl;
         own_tasks = ap (λ t. if t then all_tasks_of f.body else program_tasks is) e;
         rest = captures rest;
         own_captures =
@@ -237,6 +241,8 @@ module _ (code : Parts) (rs : List Resolved) (tasks : List TaskTree) where
             function = m.function;
             named = m.named;
             at = m.at;
+            place = suc m.place;
+            is_there = m.is_there;
             own_tasks = ap (λ t. if t then all_tasks_of f.body else program_tasks is) e ∙ m.own_tasks;
             rest = m.rest;
             own_captures = captures_both (item_notes s i) rest ∙ ap (λ cs. cs ++ captures rest) (no_captures s f e) ∙ m.own_captures;

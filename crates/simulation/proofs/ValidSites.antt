@@ -1,10 +1,12 @@
 -- The sites of a tiled code that stands for a lawful program are valid.
 use Rattle.std.proofs.Common.{◌≡◌, ◌≢◌, ℕ, zero, suc, ◌+◌, ◌<◌, ◌≤◌, ◌==◌, Bool, true, false, List, [], ◌∷◌, length, Option, Some, None, slice_get, refl, sym, ap, ◌∙◌, subst, arith}
 use Rattle.std.proofs.lemmas.Option.{slice_get_within}
-use Rattle.std.specs.Prelude.{⊤, All, IsTrue}
+use Rattle.std.specs.Prelude.{⊤, All, IsTrue, slice_index_or}
 use Rattle.os_ast.specs.Notes.Programs.{after_items, in_body, file}
 use Rattle.os_ast.specs.Trees as tree
-use Rattle.os_ast.specs.Violations.{names, captured_by_tasks}
+use Rattle.os_ast.specs.Names.{Scope}
+use Rattle.os_ast.specs.Notes.Statements.{stmts_notes}
+use Rattle.os_ast.specs.Violations.{captures, names, captured_by_tasks}
 use Rattle.os_code.specs.Effects.{item_of, stands_in}
 use Rattle.os_code.specs.IsValid.{HasInstr, HasSites}
 use Rattle.os_code.specs.Parts.{Kind, Main, Task, Function, kind_at, unit_at, site_at}
@@ -14,10 +16,19 @@ use Rattle.os_code.specs.declared.parts.Parts.{Parts}
 use Rattle.os_code.specs.declared.site.Site.{Site}
 use Rattle.os_code.specs.declared.site.SiteItem.{SiteItem}
 use Rattle.os_code.specs.declared.unit.Unit.{Unit as CodeUnit}
-use Rattle.simulation.proofs.AllUnits.{Standing, all_laid, main_early}
+use Rattle.simulation.specs.Names.{told_at}
+use Rattle.simulation.specs.Programs.{in_main, HasMain, HasTask}
+use Rattle.simulation.specs.Tasks.{TaskTree, program_tasks, site_items}
+use Rattle.simulation.proofs.AllUnits.{Standing, all_laid, main_at, main_early, main_fit, main_has, counted, TaskPlace, task_place}
 use Rattle.simulation.proofs.Homes.{Home, HasItem, HasOutput, Suits}
 use Rattle.simulation.proofs.LaidUnits.{home_of}
+use Rattle.simulation.proofs.SitesFit.{IsCaught, caught_at, stmts_caught, ItemFits, TaskFits, AllTasks, task_fits_at, stmts_tasks}
+use Rattle.simulation.proofs.Spawned.{items_length}
+use Rattle.simulation.proofs.TaskLaws.{get_there}
 use Rattle.simulation.proofs.ValidRegions.{Stands, stands, Found, found}
+use Rattle.window_check.specs.Globals.{IsWithin}
+use Rattle.window_check.proofs.Told.{lawful-program}
+use Rattle.window_check.proofs.Within.{within-items_of_file}
 
 -- An instruction stands in the kind of unit that is its.
 kind_fits : (h : Home) (k : Kind) (i : Instr) → h.kind ≡ k → Suits h i → IsTrue (stands_in k i)
@@ -145,7 +156,109 @@ module _ (p : tree.ProgramTree) (code : Parts) (st : Standing p code) where
       let same : site ≡ suits.0 = cc in
       suits.3 named (ap (λ (x : Site). slice_get x.items item) (sym same) ∙ is)
 
-  pub kinds_fit : (number place : ℕ) (unit : CodeUnit) (i : Instr) → HasInstr code number unit place i → IsTrue (stands_in (kind_at code number) i)
+  kinds_fit : (number place : ℕ) (unit : CodeUnit) (i : Instr) → HasInstr code number unit place i → IsTrue (stands_in (kind_at code number) i)
   kinds_fit number place unit i has =
       let s = stands code (all_laid p code st) number unit place i has in
       kind_fits (home_of code ((all_laid p code st).laid number unit s.is_unit).body number unit) (kind_at code number) i refl s.fine.suits
+
+  abbrev main : HasMain code (told_at (names p)) (program_tasks p) (main_at p code st).number (main_at p code st).function
+  main = main_has p code st
+
+  abbrev home : Home
+  home = home_of code (in_main (told_at (names p)) (program_tasks p)) (main_at p code st).number main.unit
+
+  -- `main` by its number
+  main_is : (unit : CodeUnit) → unit_at code code.main ≡ Some unit → main.unit ≡ unit
+  main_is unit is =
+      let twice : Some main.unit ≡ Some unit = sym main.is_unit ∙ ap (unit_at code) (sym main.is_main) ∙ is in
+      cc
+
+  below : (number : ℕ) (site : Site) → site_at code number ≡ Some site → number < length (program_tasks p)
+  below number site is = omega (arith, slice_get_within code.sites number site is, st.has.sites)
+
+  -- a site, with the task that it is of
+  record SiteOf (number : ℕ) (site : Site) : Type 0 where
+    place : TaskPlace p code st number
+    same : place.has.site ≡ site
+    caught : IsCaught home site.captured
+    task : TaskTree
+    fits : TaskFits home task
+    items : site.items ≡ site_items (told_at (names p)) task.parts
+
+  site_of : (number : ℕ) (site : Site) → site_at code number ≡ Some site → SiteOf number site
+  site_of number site is = record {
+    place = place;
+    same = same;
+    caught = subst (IsCaught home) slots
+        (caught_at home (captures (stmts_notes body f.body)) number place.slots (stmts_caught home f.body body (main_fit p code st)) place.found);
+    task = got.0;
+    fits = task_fits_at home (program_tasks p) number got.0 (subst (AllTasks home) (sym (main_at p code st).own_tasks) (stmts_tasks home f.body body (main_fit p code st))) got.1;
+    items = ap (λ (x : Site). x.items) also ∙ task.items;
+  }
+    where
+      f : tree.FunctionTree
+      f = (main_at p code st).function
+
+      body : Scope
+      body = in_body (main_at p code st).at.scope f
+
+      place : TaskPlace p code st number
+      place = task_place p code st number (below number site is)
+
+      same : place.has.site ≡ site
+      same = let twice : Some place.has.site ≡ Some site = sym place.has.is_site ∙ is in cc
+
+      slots : place.slots ≡ site.captured
+      slots = sym place.same_slots ∙ ap (λ (x : Site). x.captured) same
+
+      got : (t : TaskTree) × (slice_get (program_tasks p) number ≡ Some t)
+      got = get_there (program_tasks p) number (below number site is)
+
+      task : HasTask code (told_at (names p)) (captured_by_tasks p) number got.0
+      task = st.has.tasks number got.0 got.1
+
+      also : site ≡ task.site
+      also = let twice : Some site ≡ Some task.site = sym is ∙ task.is_site in cc
+
+  -- what holds of all items
+  all_items : (P : SiteItem → Type 0) (number : ℕ) (site : Site) → SiteOf number site → ((item : SiteItem) → ItemFits home item → P item) → All P site.items
+  all_items P number site s gives =
+      subst (All P) (sym s.items) (λ k d lt. gives (slice_index_or (site_items (told_at (names p)) s.task.parts) k d) (s.fits.items k d lt))
+
+  pub sites : HasSites code
+  sites = record {
+    main_there = omega (arith, main_early p code st, st.tiled.units);
+    main_no_task = λ number site is e. omega (arith, st.tiled.task_units number site is, e, main_early p code st);
+    main_args = λ unit is. ap (λ (x : CodeUnit). x.args) (sym (main_is unit is)) ∙ main.args;
+    tasks_there = λ number site is. omega (arith, st.tiled.task_units number site is, below number site is, st.tiled.units);
+    tasks_distinct = λ number other site one is at same. omega (arith, st.tiled.task_units number site is, st.tiled.task_units other one at, same);
+    tasks_args = λ number site unit is is_unit. args_of number site unit is is_unit;
+    captured_there = λ number site unit is is_main.
+        subst (λ (x : CodeUnit). All (λ slot. slot < x.slots) site.captured) (main_is unit is_main) (site_of number site is).caught.below;
+    windows_there = λ number site unit is is_main.
+        subst (λ (x : CodeUnit). All (λ (item : SiteItem). (slot : ℕ) → item.window ≡ Some slot → slot < x.slots) site.items) (main_is unit is_main)
+        (all_items (λ item. (slot : ℕ) → item.window ≡ Some slot → slot < main.unit.slots) number site (site_of number site is) (λ item fits. fits.window));
+    items_few = λ number site is. few_items number site (site_of number site is);
+    captured_few = λ number site is. (site_of number site is).caught.few;
+    items_there = items_there;
+    stores_are_outputs = stores_are_outputs;
+    spawns_there = λ place number is. (found code (all_laid p code st) place (instr.Spawn number) is).stands.fine.suits.1;
+    streams_enough = omega (arith, counted p code st);
+    streams_few = omega (arith, counted p code st, within.streams);
+    item_streams = λ number site is. all_items (λ item. item.stream < code.streams) number site (site_of number site is) (λ item fits. fits.stream);
+    tick_streams = λ place stream is. (found code (all_laid p code st) place (instr.Tick stream) is).stands.fine.suits.1;
+    kinds_fit = kinds_fit;
+  }
+    where
+      within : IsWithin (after_items file p)
+      within = within-items_of_file file p (record { streams = omega arith; arrays = omega arith }) (lawful-program p st.lawful)
+
+      args_of : (number : ℕ) (site : Site) (unit : CodeUnit) → site_at code number ≡ Some site → unit_at code site.unit ≡ Some unit → unit.args ≡ length site.captured
+      args_of number site unit is is_unit =
+          let s = site_of number site is in
+          let twice : Some s.place.has.unit ≡ Some unit = sym s.place.has.is_unit ∙ ap (λ (x : Site). unit_at code x.unit) s.same ∙ is_unit in
+          let same : s.place.has.unit ≡ unit = cc in
+          ap (λ (x : CodeUnit). x.args) (sym same) ∙ s.place.has.args ∙ ap (λ (x : Site). length x.captured) s.same
+
+      few_items : (number : ℕ) (site : Site) → SiteOf number site → length site.items ≤ 8
+      few_items number site s = omega (arith, ap (λ xs. length xs) s.items, items_length (told_at (names p)) s.task.parts, s.fits.few)
