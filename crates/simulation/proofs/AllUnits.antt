@@ -1,28 +1,25 @@
 -- All units of a tiled code that stands for a lawful program are fine.
-use Rattle.std.proofs.Common.{◌≡◌, ◌≢◌, ℕ, zero, suc, ◌+◌, ◌-◌, ◌<◌, ◌≤◌, ◌==◌, Bool, true, false, if◌then◌else◌, List, [], ◌∷◌, ◌++◌, length, map, Option, Some, None, slice_get, refl, sym, ap, ◌∙◌, subst, inl, inr, arith}
+use Rattle.std.proofs.Common.{◌≡◌, ℕ, ◌+◌, ◌-◌, ◌<◌, ◌≤◌, ◌==◌, Bool, true, false, List, [], length, map, Some, slice_get, refl, sym, ap, ◌∙◌, subst, inl, inr, arith}
 use Rattle.std.proofs.lemmas.Bool.{cases_lt}
 use Rattle.std.proofs.lemmas.List.{length-map}
 use Rattle.std.proofs.lemmas.Option.{slice_get_within, slice_get-map}
 use Rattle.std.specs.Option.{option_map}
-use Rattle.std.specs.Prelude.{⊤, ◌⊎◌}
+use Rattle.std.specs.Prelude.{◌⊎◌}
 use Rattle.cddf_meaning.specs.Tasks.{Task as MeaningTask, task_at, tasks_in_all}
 use Rattle.flow_core.proofs.Stretches.{slice_get-append_left}
-use Rattle.os_ast.specs.Captured.{captured, slots_of}
 use Rattle.os_ast.specs.Leveled.{IsLeveled}
 use Rattle.os_ast.specs.Marks.{HasPlaces}
 use Rattle.os_ast.specs.Names.{Scope, main_id}
 use Rattle.os_ast.specs.Notes.Programs.{after_items, in_body, file}
-use Rattle.os_ast.specs.Notes.Statements.{after_stmts, stmts_notes}
+use Rattle.os_ast.specs.Notes.Statements.{stmts_notes}
 use Rattle.os_ast.specs.Trees as tree
 use Rattle.os_ast.specs.Violations.{violations, names, captures, captured_by_tasks, has_main, streams}
-use Rattle.os_code.specs.Parts.{Main, Function, kind_at, unit_at, site_at}
-use Rattle.os_code.specs.Parts as code_parts
+use Rattle.os_code.specs.Parts.{Function, kind_at, unit_at}
 use Rattle.os_code.specs.declared.parts.Parts.{Parts}
-use Rattle.os_code.specs.declared.site.Site.{Site}
 use Rattle.os_code.specs.declared.unit.Unit.{Unit as CodeUnit}
 use Rattle.simulation.specs.Names.{told_at}
 use Rattle.simulation.specs.Programs.{in_main, HasMain, HasUnit, HasTask, HasProgram}
-use Rattle.simulation.specs.Tasks.{TaskTree, program_tasks, all_tasks_of}
+use Rattle.simulation.specs.Tasks.{program_tasks, all_tasks_of}
 use Rattle.simulation.specs.Tiling.{IsTiled}
 use Rattle.simulation.proofs.FunctionUnits.{function_unit, main_fits, main_unit}
 use Rattle.simulation.proofs.Homes.{AllFit}
@@ -32,7 +29,7 @@ use Rattle.simulation.proofs.OwnNotes.{all_own_notes}
 use Rattle.simulation.proofs.Places.{functions_of, functions_count, mains_bare, mains_tasks, MainNumber, main_number, FunctionAt, places, MainAt, main_place}
 use Rattle.simulation.proofs.Spawned.{all_spawned}
 use Rattle.simulation.proofs.TaskLaws.{main_body, get_there}
-use Rattle.simulation.proofs.TaskMarks.{Rising, tasks_rise}
+use Rattle.simulation.proofs.TaskMarks.{tasks_rise}
 use Rattle.simulation.proofs.TaskTexts.{TaskAt, strip, all_stripped, matched, match_stmts}
 use Rattle.simulation.proofs.TaskUnits.{task_unit}
 use Rattle.simulation.proofs.UnitKinds.{main_kind, function_kind, task_kind}
@@ -182,11 +179,12 @@ module _ (p : tree.ProgramTree) (code : Parts) (st : Standing p code) where
   late number lt =
       let place = task_place number lt in
       let at : place.has.site.unit ≡ count_functions p + number = st.tiled.task_units number place.has.site place.has.is_site in
-      subst Laid at
-      (place.has.unit,
-      place.has.is_unit,
-      task_unit code (names p) order main_at.at.scope.entries place.task place.slots place.there (captured_by_tasks p) number main_at.number main_at.at.may place.has
-          (omega (arith, at, main_early, main_has.is_main)) place.same_slots (task_kind code (count_functions p) st.tiled.task_units number place.has.site place.has.is_site main_early))
+      subst Laid at (
+        place.has.unit,
+        place.has.is_unit,
+        task_unit code (names p) order main_at.at.scope.entries place.task place.slots place.there (captured_by_tasks p) number main_at.number main_at.at.may place.has
+            (omega (arith, at, main_early, main_has.is_main)) place.same_slots (task_kind code (count_functions p) st.tiled.task_units number place.has.site place.has.is_site main_early),
+      )
 
   laid : (number : ℕ) (unit : CodeUnit) → unit_at code number ≡ Some unit → IsLaid code number unit
   laid number unit is = by_order (cases_lt number (count_functions p))

@@ -1,6 +1,6 @@
 -- The units of functions and of `main` are fine.
-use Rattle.std.proofs.Common.{◌≡◌, ℕ, zero, suc, ◌+◌, ◌<◌, ◌≤◌, ◌==◌, Bool, true, false, if◌then◌else◌, List, [], ◌∷◌, ◌++◌, length, Option, Some, None, refl, sym, ap, ◌∙◌, subst, arith, eq-eqb}
-use Rattle.std.specs.Prelude.{⊤, IsTrue}
+use Rattle.std.proofs.Common.{◌≡◌, ℕ, ◌+◌, ◌<◌, ◌≤◌, ◌==◌, true, false, if◌then◌else◌, List, [], ◌∷◌, length, refl, sym, ap, ◌∙◌, subst, arith}
+use Rattle.std.specs.Prelude.{⊤}
 use Rattle.os_ast.specs.Leveled.{AreStmts}
 use Rattle.os_ast.specs.Names.{Scope, enter, in_unit, main_id}
 use Rattle.os_ast.specs.Notes.Programs.{owner_of, param_names, round_body, after_param, after_params, in_body}
@@ -15,12 +15,12 @@ use Rattle.os_ast.specs.declared.names.Owner.{Owner}
 use Rattle.os_ast.specs.declared.names.Owner.TheVariants as owner
 use Rattle.os_ast.specs.declared.names.Resolved.{Resolved}
 use Rattle.os_code.specs.Effects.{operands_of, stands_in}
-use Rattle.os_code.specs.Parts.{Main, Function, kind_at, unit_at}
+use Rattle.os_code.specs.Parts.{Main, Function, kind_at}
 use Rattle.os_code.specs.declared.instr.Instr.TheVariants as instr
 use Rattle.os_code.specs.declared.parts.Parts.{Parts}
 use Rattle.os_code.specs.declared.unit.Unit.{Unit as CodeUnit}
 use Rattle.simulation.specs.Names.{told_at}
-use Rattle.simulation.specs.Programs.{size_by, in_function, in_main, HasFunction, HasMain, HasUnit}
+use Rattle.simulation.specs.Programs.{size_by, in_function, in_main, HasFunction, HasMain}
 use Rattle.simulation.specs.Statements.{Body}
 use Rattle.simulation.specs.Tasks.{TaskTree, all_tasks_of}
 use Rattle.simulation.proofs.Files.{params_owner}
@@ -30,8 +30,8 @@ use Rattle.simulation.proofs.LaidUnits.{home_of, IsLaid, function_laid, main_lai
 use Rattle.simulation.proofs.Spawned.{none_spawned}
 use Rattle.simulation.proofs.OwnNotes.{all_own_notes}
 use Rattle.simulation.proofs.Sizes.{stmts_sizes}
-use Rattle.simulation.proofs.TextStmts.{HasRoom, scalar_may, stmts_fit}
-use Rattle.simulation.proofs.Texts.{Text, May, AllMay, Known, known_by, In}
+use Rattle.simulation.proofs.TextStmts.{scalar_may, stmts_fit}
+use Rattle.simulation.proofs.Texts.{Text, May, AllMay, known_by, In}
 use Rattle.window_check.specs.Order.{InOrder}
 use Rattle.window_check.specs.Sums.{stmts_slots}
 use Rattle.window_check.specs.Told.{AreLawful, Tells}

@@ -1,6 +1,6 @@
 -- Heights of the operand stack by one walk over a code: each instruction goes on from the height that the one before it
 -- leaves. Behind a jump, or the end of a body, what was pushed for those who jump there is gone.
-use Rattle.std.proofs.Common.{◌≡◌, ℕ, zero, suc, ◌+◌, ◌-◌, ◌≤◌, Bool, true, false, if◌then◌else◌, Option, Some, None, refl, sym, ap, ◌∙◌, subst, arith}
+use Rattle.std.proofs.Common.{◌≡◌, ℕ, zero, suc, ◌+◌, ◌-◌, ◌≤◌, if◌then◌else◌, Option, Some, None, ap, ◌∙◌, arith}
 use Rattle.os_code.specs.declared.instr.Instr.{Instr}
 use Rattle.os_code.specs.declared.instr.Instr.TheVariants.{Push, Drop, Copy, Load, Store, Zero, CheckAt, LoadAt, StoreAt, ItemCheck, ItemLoad, ItemStore, Unary, Binary, Jump, JumpZero, Turn, Call, Return, End, Window, BurstIn, BurstOut, Spawn, Tick}
 use Rattle.os_code.specs.declared.parts.Parts.{Parts}

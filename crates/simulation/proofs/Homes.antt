@@ -1,5 +1,5 @@
 -- Where the code of a body stands, what its instructions may name there, and when one of them is fine.
-use Rattle.std.proofs.Common.{◌≡◌, ℕ, ◌+◌, ◌-◌, ◌<◌, ◌≤◌, Bool, true, false, List, [], ◌∷◌, length, Option, Some, None, slice_get}
+use Rattle.std.proofs.Common.{◌≡◌, ℕ, ◌+◌, ◌-◌, ◌<◌, ◌≤◌, true, List, [], ◌∷◌, length, Some, slice_get}
 use Rattle.std.specs.Prelude.{⊤, ◌⊎◌, All, IsTrue}
 use Rattle.os_ast.specs.Captured.{slots_of}
 use Rattle.os_ast.specs.Meanings.{meaning}

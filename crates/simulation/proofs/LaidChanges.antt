@@ -1,5 +1,5 @@
 -- The code of a change leaves as many operands as were there.
-use Rattle.std.proofs.Common.{◌≡◌, ℕ, suc, ◌+◌, ◌<◌, Bool, true, false, List, [], ◌∷◌, ◌++◌, refl, sym, subst, arith, pos}
+use Rattle.std.proofs.Common.{ℕ, suc, ◌+◌, Bool, true, [], ◌∷◌, ◌++◌, refl, subst, arith, pos}
 use Rattle.std.specs.Prelude.{⊤}
 use Rattle.cddf_meaning.specs.Operators.{step_operator}
 use Rattle.os_ast.specs.Names.{Scope}

@@ -1,5 +1,5 @@
 -- The code of a condition, which may jump where its value is 0.
-use Rattle.std.proofs.Common.{◌≡◌, ℕ, suc, ◌+◌, ◌<◌, ◌≤◌, refl, arith}
+use Rattle.std.proofs.Common.{ℕ, ◌<◌, arith}
 use Rattle.os_ast.specs.Names.{Scope}
 use Rattle.os_ast.specs.Notes.Expressions.{expr_notes, links_notes}
 use Rattle.os_ast.specs.Trees as tree

@@ -1,19 +1,17 @@
 -- The code of declarations leaves no operands.
-use Rattle.std.proofs.Common.{◌≡◌, ℕ, suc, ◌+◌, ◌≤◌, ◌&&◌, Bool, true, false, not, if◌then◌else◌, List, [], ◌∷◌, ◌++◌, Option, Some, None, refl, sym, subst, arith, pos}
+use Rattle.std.proofs.Common.{◌≡◌, ℕ, ◌+◌, ◌≤◌, ◌&&◌, Bool, true, false, not, if◌then◌else◌, List, [], ◌∷◌, Option, Some, None, refl, subst, arith, pos}
 use Rattle.std.specs.Prelude.{⊤}
 use Rattle.os_ast.specs.Meanings.{meaning}
 use Rattle.os_ast.specs.Names.{Scope}
-use Rattle.os_ast.specs.Notes.Declarators.{scalar_entity, sized_form, form_with, form_entity, size_of, is_window, sized_notes, size_notes, declared_entity, after_declarator, declarator_notes, declarators_notes, start_notes}
+use Rattle.os_ast.specs.Notes.Declarators.{scalar_entity, sized_form, form_entity, size_of, is_window, sized_notes, size_notes, declared_entity, after_declarator, declarator_notes, declarators_notes, start_notes}
 use Rattle.os_ast.specs.Notes.Expressions.{expr_notes, value_notes}
-use Rattle.os_ast.specs.Notes.Kinds.{Declared}
 use Rattle.os_ast.specs.Trees as tree
 use Rattle.os_ast.specs.declared.expr.Name.{Name}
 use Rattle.os_ast.specs.declared.names.Owner.{Owner}
 use Rattle.os_ast.specs.declared.names.Owner.TheVariants as owner
-use Rattle.os_ast.specs.declared.names.What.{What}
 use Rattle.os_ast.specs.declared.names.What.TheVariants as what
 use Rattle.os_code.specs.declared.instr.Instr.TheVariants as instr
-use Rattle.simulation.specs.Declarators.{HasFirst, cleared, named_elsewhere, HasScalar, HasWindow, HasDeclared, HasDeclarators, HasStart}
+use Rattle.simulation.specs.Declarators.{HasFirst, cleared, named_elsewhere, HasScalar, HasDeclared, HasDeclarators, HasStart}
 use Rattle.simulation.specs.Expressions.{Stands}
 use Rattle.simulation.proofs.Homes.{Home, tells, Fits, AllFit}
 use Rattle.simulation.proofs.LaidChanges.{change_lays}

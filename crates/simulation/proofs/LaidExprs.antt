@@ -1,11 +1,10 @@
 -- The code of an expression leaves one operand more.
-use Rattle.std.proofs.Common.{◌≡◌, ℕ, suc, ◌+◌, ◌-◌, ◌<◌, ◌≤◌, Bool, true, false, List, [], ◌∷◌, ◌++◌, Some, refl, sym, ap, ◌∙◌, subst, inl, inr, arith, pos}
+use Rattle.std.proofs.Common.{◌≡◌, ℕ, suc, ◌+◌, ◌<◌, ◌≤◌, [], ◌∷◌, ◌++◌, Some, refl, subst, inl, arith, pos}
 use Rattle.std.specs.Prelude.{⊤}
 use Rattle.c_int.specs.declared.operators.Unary.TheVariants as int_unary
 use Rattle.cddf_meaning.specs.Operators.{operator_of_one}
 use Rattle.os_ast.specs.Names.{Scope}
 use Rattle.os_ast.specs.Notes.Expressions.{count_args, expr_notes, place_notes, args_notes, links_notes}
-use Rattle.os_ast.specs.Notes.Kinds.{Used}
 use Rattle.os_ast.specs.Trees as tree
 use Rattle.os_ast.specs.declared.expr.Binary.{Binary}
 use Rattle.os_ast.specs.declared.expr.Binary.TheVariants as binary
@@ -20,7 +19,7 @@ use Rattle.simulation.specs.Names.{reading, reading_at, calling}
 use Rattle.simulation.proofs.Heights.{height_at}
 use Rattle.simulation.proofs.Homes.{Home, tells, Unturned, IsTarget, IsCalled, AllFit}
 use Rattle.simulation.proofs.LaidNames.{rises_reading, rises_reading_at, rises_operation}
-use Rattle.simulation.proofs.Lays.{Lays, fit_first, fit_rest, nothing, then_lays, from_more, free, closed, to_end, to_height, straight, jumping, jumping_zero, turned}
+use Rattle.simulation.proofs.Lays.{Lays, fit_first, fit_rest, nothing, then_lays, free, closed, to_end, to_height, straight, jumping, jumping_zero, turned}
 
 module _ (h : Home) where
   -- A jump forwards to the end of what lies behind it.

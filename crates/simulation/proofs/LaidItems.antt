@@ -1,9 +1,9 @@
 -- The code of a task's items leaves two operands for each.
-use Rattle.std.proofs.Common.{◌≡◌, ℕ, suc, ◌+◌, ◌<◌, List, [], ◌∷◌, ◌++◌, Option, Some, None, refl, arith, pos}
+use Rattle.std.proofs.Common.{◌≡◌, ℕ, suc, ◌+◌, ◌<◌, List, [], ◌∷◌, Option, Some, None, refl, arith, pos}
 use Rattle.std.specs.Prelude.{⊤}
 use Rattle.os_ast.specs.Names.{Scope}
 use Rattle.os_ast.specs.Notes.Clauses.{window_notes, part_notes, parts_notes}
-use Rattle.os_ast.specs.Notes.Expressions.{expr_notes, index_notes, place_notes}
+use Rattle.os_ast.specs.Notes.Expressions.{index_notes, place_notes}
 use Rattle.os_ast.specs.Parts.{Part, Item, Private, part_name, count_items, target_name}
 use Rattle.os_ast.specs.Trees as tree
 use Rattle.os_ast.specs.declared.names.Direction.{Direction}

@@ -1,5 +1,5 @@
 -- Instructions that read and set what names mean go from one height to another.
-use Rattle.std.proofs.Common.{◌≡◌, ℕ, suc, ◌+◌, Bool, true, false, List, [], ◌∷◌, ◌++◌, Option, Some, None, refl, sym, subst, arith, pos}
+use Rattle.std.proofs.Common.{ℕ, suc, Bool, true, false, List, [], ◌∷◌, ◌++◌, Option, Some, None, refl, sym, subst, arith}
 use Rattle.c_int.specs.declared.operators.Binary as int_binary
 use Rattle.cddf_meaning.specs.Operators.{operator_of_two}
 use Rattle.os_ast.specs.declared.expr.Binary.{Binary}

@@ -1,5 +1,5 @@
 -- The code of statements begins and ends with no operands.
-use Rattle.std.proofs.Common.{◌≡◌, ℕ, suc, ◌+◌, ◌-◌, ◌<◌, ◌≤◌, List, [], ◌∷◌, ◌++◌, Option, Some, None, refl, sym, ap, ◌∙◌, subst, inl, inr, arith}
+use Rattle.std.proofs.Common.{◌≡◌, ℕ, ◌+◌, ◌<◌, ◌≤◌, List, [], ◌∷◌, ◌++◌, Option, Some, None, refl, sym, ap, ◌∙◌, subst, inl, inr, arith}
 use Rattle.std.proofs.lemmas.Bool.{cases_lt}
 use Rattle.std.specs.Prelude.{⊤, ◌⊎◌, IsTrue, length}
 use Rattle.os_ast.specs.Captured.{captured}
@@ -15,13 +15,12 @@ use Rattle.os_ast.specs.declared.names.Direction.TheVariants as direction
 use Rattle.os_ast.specs.declared.names.Role.TheVariants as role
 use Rattle.os_code.specs.Effects.{operands_of, stands_in}
 use Rattle.os_code.specs.Parts.{instr_at, Main}
-use Rattle.os_code.specs.declared.instr.Instr.{Instr}
 use Rattle.os_code.specs.declared.instr.Instr.TheVariants as instr
 use Rattle.simulation.specs.Expressions.{Stands}
 use Rattle.simulation.specs.Names.{first_of}
 use Rattle.simulation.specs.Statements.{Ends, by_itself, by_jump, HasTest, HasRound, HasLoop, HasStmt, HasStmts}
 use Rattle.simulation.specs.Tasks.{TaskTree, tasks_of, all_tasks_of}
-use Rattle.simulation.proofs.Homes.{Home, tells, Suits, AllFit, AreSpawned}
+use Rattle.simulation.proofs.Homes.{Home, tells, AllFit, AreSpawned}
 use Rattle.simulation.proofs.LaidChanges.{change_lays}
 use Rattle.simulation.proofs.LaidConditions.{Tests, condition_lays}
 use Rattle.simulation.proofs.LaidDeclarators.{declarators_lay, start_lays}

@@ -1,5 +1,5 @@
 -- A unit whose code goes from no operands to no operands, all of it fine.
-use Rattle.std.proofs.Common.{◌≡◌, ℕ, suc, ◌+◌, ◌-◌, ◌<◌, ◌≤◌, Bool, true, false, if◌then◌else◌, List, [], ◌∷◌, Option, Some, None, refl, sym, ap, ◌∙◌, subst, inl, inr, arith, pos}
+use Rattle.std.proofs.Common.{◌≡◌, ℕ, ◌+◌, ◌-◌, ◌<◌, ◌≤◌, true, false, if◌then◌else◌, [], ◌∷◌, Some, None, refl, sym, ap, ◌∙◌, subst, inl, inr, arith, pos}
 use Rattle.std.proofs.lemmas.Bool.{cases_lt}
 use Rattle.std.specs.Prelude.{⊤, ◌⊎◌, IsTrue}
 use Rattle.os_ast.specs.Names.{Scope}
@@ -16,7 +16,7 @@ use Rattle.simulation.specs.Tasks.{tasks_of, all_tasks_of}
 use Rattle.simulation.proofs.Heights.{height_at, behind_one, height_behind}
 use Rattle.simulation.proofs.Homes.{Home, Suits, IsFine, AreFine, AllFit, AreSpawned}
 use Rattle.simulation.proofs.LaidStmts.{IsLeft, Runs, stmt_lays, stmts_lay}
-use Rattle.simulation.proofs.Lays.{Lays, IsLabel, is_turn, at_one, then_lays, from_more, own_label, straight}
+use Rattle.simulation.proofs.Lays.{Lays, at_one, then_lays, from_more, own_label, straight}
 use Rattle.simulation.proofs.OwnNotes.{own_notes, all_own_notes}
 
 abbrev pub home_of : Parts → Body → (number : ℕ) → CodeUnit → Home

@@ -1,10 +1,9 @@
 -- Where functions stand in the file, and `main` among them.
-use Rattle.std.proofs.Common.{◌≡◌, ℕ, zero, suc, ◌+◌, ◌<◌, ◌≤◌, ◌==◌, ◌&&◌, ◌||◌, Bool, true, false, if◌then◌else◌, List, [], ◌∷◌, ◌++◌, length, Option, Some, None, slice_get, refl, sym, ap, ◌∙◌, subst, arith, eqb-true}
+use Rattle.std.proofs.Common.{◌≡◌, ℕ, zero, suc, ◌+◌, ◌<◌, ◌≤◌, ◌==◌, ◌&&◌, ◌||◌, Bool, true, false, if◌then◌else◌, List, [], ◌∷◌, ◌++◌, length, Some, slice_get, refl, sym, ap, ◌∙◌, subst, arith, eqb-true}
 use Rattle.std.proofs.lemmas.Bool.{or_left, or_right}
-use Rattle.std.specs.Prelude.{⊤}
 use Rattle.std.specs.Option.{option_map_or}
 use Rattle.os_ast.specs.Leveled.{AreAll, cons, IsItem, AreStmts}
-use Rattle.os_ast.specs.Names.{Scope, main_id, constant_value, enter, in_unit}
+use Rattle.os_ast.specs.Names.{Scope, main_id, enter, in_unit}
 use Rattle.os_ast.specs.Notes.Kinds.{Note, Global}
 use Rattle.os_ast.specs.Notes.Programs.{owner_of, param_names, params_notes, after_item, after_items, item_notes, items_notes, in_body, round_body}
 use Rattle.os_ast.specs.Notes.Programs as programs
@@ -12,14 +11,13 @@ use Rattle.os_ast.specs.Notes.Statements.{after_stmts, stmts_notes}
 use Rattle.os_ast.specs.Parts.{is_in}
 use Rattle.os_ast.specs.Trees as tree
 use Rattle.os_ast.specs.Violations.{captures, is_empty, has_main}
-use Rattle.os_ast.specs.declared.expr.Name.{Name}
 use Rattle.os_ast.specs.declared.names.Owner.TheVariants as owner
 use Rattle.os_ast.specs.declared.names.Resolved.{Resolved}
 use Rattle.os_code.specs.Parts.{Function, kind_at, unit_at}
 use Rattle.os_code.specs.declared.parts.Parts.{Parts}
 use Rattle.os_code.specs.declared.unit.Unit.{Unit as CodeUnit}
 use Rattle.simulation.specs.Names.{told_at}
-use Rattle.simulation.specs.Programs.{HasFunction, HasMain, HasUnit, HasFunctions}
+use Rattle.simulation.specs.Programs.{HasUnit, HasFunctions}
 use Rattle.simulation.specs.Tasks.{TaskTree, program_tasks, all_tasks_of}
 use Rattle.simulation.proofs.Files.{AllOfFile, params_owner, bare_main, none_front}
 use Rattle.simulation.proofs.FunctionUnits.{AllFileMay, all_later}
@@ -142,10 +140,11 @@ module _ (code : Parts) (rs : List Resolved) (tasks : List TaskTree) where
       ((f.name.id == main_id) ≡ false → kind_at code number ≡ Function) → AllFileMay code (suc number) (after_item s (tree.Function f)).entries
   next_may f s number count may has kind =
       let inner = after_stmts (in_body s f) f.body in
-      let same : inner.functions ≡ number = omega (arith, functions_behind s f, count) in
-      (subst (λ n. (f.name.id == main_id) ≡ false → (option_map_or (λ (unit : CodeUnit). unit.args) (unit_at code n) 0 ≡ length (param_names f.params)) × (n < suc number) × (kind_at code n ≡ Function)) (sym same)
-      (declared (f.name.id == main_id) f number refl has kind),
-      all_later code number (suc number) s.entries (omega arith) may)
+      let same : inner.functions ≡ number = omega (arith, functions_behind s f, count) in (
+        subst (λ n. (f.name.id == main_id) ≡ false → (option_map_or (λ (unit : CodeUnit). unit.args) (unit_at code n) 0 ≡ length (param_names f.params)) × (n < suc number) × (kind_at code n ≡ Function)) (sym same)
+            (declared (f.name.id == main_id) f number refl has kind),
+        all_later code number (suc number) s.entries (omega arith) may,
+      )
 
   -- the functions of a file, each in its place; `kinds` says that those which aren't `main` are functions
   pub places : (is : List tree.ItemTree) (s : Scope) (number : ℕ) → AreAll IsItem is → AllFileMay code number s.entries → AllOfFile s.entries → s.functions ≡ number → AreLawful (items_notes s is) →

@@ -1,5 +1,5 @@
 -- The sites of the tasks of `main`: what they capture and what their items name is there.
-use Rattle.std.proofs.Common.{◌≡◌, ℕ, zero, suc, ◌+◌, ◌<◌, ◌≤◌, Bool, true, false, List, [], ◌∷◌, ◌++◌, length, map, Option, Some, None, slice_get, refl, sym, ap, ◌∙◌, subst, arith}
+use Rattle.std.proofs.Common.{◌≡◌, ℕ, zero, suc, ◌<◌, ◌≤◌, List, [], ◌∷◌, ◌++◌, length, Option, Some, None, slice_get, sym, ap, ◌∙◌, subst, arith}
 use Rattle.std.proofs.lemmas.List.{length-map}
 use Rattle.std.specs.Prelude.{⊤, All}
 use Rattle.os_ast.specs.Captured.{Scalar, captured, slots_of}
@@ -9,7 +9,7 @@ use Rattle.os_ast.specs.Notes.Declarators.{after_start, start_notes}
 use Rattle.os_ast.specs.Notes.Expressions.{expr_notes, place_notes, value_notes, step_notes}
 use Rattle.os_ast.specs.Notes.Kinds.{Note, Task}
 use Rattle.os_ast.specs.Notes.Statements.{after_stmt, stmt_notes, stmts_notes}
-use Rattle.os_ast.specs.Parts.{Part, Item, Private, part_name, parts, count_items, target_name}
+use Rattle.os_ast.specs.Parts.{Part, Item, Private, part_name, parts, count_items}
 use Rattle.os_ast.specs.Trees as tree
 use Rattle.os_ast.specs.Violations.{main_task, captures}
 use Rattle.os_ast.specs.declared.names.Direction.{Direction}
@@ -21,7 +21,7 @@ use Rattle.os_ast.specs.declared.names.What.{What}
 use Rattle.os_ast.specs.declared.names.What.TheVariants as what
 use Rattle.os_code.specs.declared.site.SiteItem.{SiteItem}
 use Rattle.simulation.specs.Tasks.{TaskTree, tasks_of, all_tasks_of, slot_of, window_of, site_item, site_items}
-use Rattle.simulation.proofs.Homes.{Home, tells, Fits, FitsNote, AllFit}
+use Rattle.simulation.proofs.Homes.{Home, tells, Fits, AllFit}
 use Rattle.simulation.proofs.LaidItems.{stream_fits}
 use Rattle.simulation.proofs.Lays.{fit_first, fit_rest}
 use Rattle.simulation.proofs.NoTasks.{captures_both, none_both, none_expr, none_place, none_args, none_value, none_change, none_step, none_parts, none_declarators, none_start, none_stmt, items_owner}

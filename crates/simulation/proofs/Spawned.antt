@@ -1,5 +1,5 @@
 -- Tasks find their sites.
-use Rattle.std.proofs.Common.{◌≡◌, ℕ, zero, suc, ◌+◌, ◌*◌, ◌<◌, ◌≤◌, List, [], ◌∷◌, length, Option, Some, None, slice_get, refl, sym, ap, ◌∙◌, subst, arith}
+use Rattle.std.proofs.Common.{◌≡◌, ℕ, suc, ◌+◌, ◌*◌, List, [], ◌∷◌, length, Some, None, slice_get, refl, sym, ap, ◌∙◌, subst, arith}
 use Rattle.std.proofs.lemmas.Option.{slice_get_within}
 use Rattle.std.specs.Option.{option_map_or}
 use Rattle.os_ast.specs.Parts.{Part, Item, Private, count_items}
@@ -33,10 +33,11 @@ module _ (h : Home) (tells : ℕ → What) (captured : List (List ℕ)) (lo hi :
         let at_k : slice_get h.body.tasks k ≡ Some t = ap (slice_get h.body.tasks) (sym e) ∙ there 0 t refl in
         let found : Some k ≡ Some number = sym (position_is place_of lo h.body.tasks hi k t rises at_k) ∙ is in
         let same : k ≡ number = cc in
-        let task = has number t (subst (λ n. slice_get h.body.tasks n ≡ Some t) same at_k) in
-        (ap (λ o. option_map_or (λ (site : Site). 2 * length site.items) o 0) task.is_site
-        ∙ omega (arith, ap (λ xs. length xs) task.items, items_length tells t.parts),
-        slice_get_within h.code.sites number task.site task.is_site),
+        let task = has number t (subst (λ n. slice_get h.body.tasks n ≡ Some t) same at_k) in (
+          ap (λ o. option_map_or (λ (site : Site). 2 * length site.items) o 0) task.is_site
+              ∙ omega (arith, ap (λ xs. length xs) task.items, items_length tells t.parts),
+          slice_get_within h.code.sites number task.site task.is_site,
+        ),
     all_spawned ts (suc k) (λ j u is.
         let e : k + suc j ≡ suc k + j = omega arith in
         ap (slice_get h.body.tasks) (sym e) ∙ there (suc j) u is),

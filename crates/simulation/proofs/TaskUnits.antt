@@ -1,7 +1,6 @@
 -- The units of tasks are fine.
-use Rattle.std.proofs.Common.{◌≡◌, ℕ, zero, suc, ◌+◌, ◌<◌, ◌≤◌, ◌||◌, Bool, true, false, List, [], ◌∷◌, ◌++◌, length, Option, Some, None, slice_get, refl, sym, ap, ◌∙◌, subst, arith}
+use Rattle.std.proofs.Common.{◌≡◌, ℕ, suc, ◌+◌, ◌≤◌, true, List, [], ◌∷◌, ◌++◌, length, Option, Some, None, slice_get, refl, sym, ap, ◌∙◌, subst, arith}
 use Rattle.std.proofs.lemmas.Option.{slice_get_within}
-use Rattle.std.specs.Prelude.{⊤, IsTrue}
 use Rattle.cddf_meaning.specs.Tasks.{Task as MeaningTask, task_at}
 use Rattle.os_ast.specs.Captured.{Scalar, captured, slots_of}
 use Rattle.os_ast.specs.Names.{Scope, lookup, entity_of}
@@ -27,16 +26,16 @@ use Rattle.os_code.specs.declared.site.Site.{Site}
 use Rattle.os_code.specs.declared.site.SiteItem.{SiteItem}
 use Rattle.simulation.specs.Names.{told_at}
 use Rattle.simulation.specs.Programs.{size_by, in_main, HasTask}
-use Rattle.simulation.specs.Tasks.{tasks_of, is_write, site_item, site_items}
+use Rattle.simulation.specs.Tasks.{tasks_of, site_item, site_items}
 use Rattle.simulation.proofs.FunctionUnits.{AllFileMay, all_file_may, all_later}
-use Rattle.simulation.proofs.Homes.{Home, HasItem, HasOutput}
+use Rattle.simulation.proofs.Homes.{Home, HasItem}
 use Rattle.simulation.proofs.LaidUnits.{home_of, IsLaid, task_laid}
 use Rattle.simulation.proofs.NoTasks.{items_owner}
 use Rattle.simulation.proofs.Sizes.{stmt_sizes}
 use Rattle.simulation.proofs.Spawned.{none_spawned}
-use Rattle.simulation.proofs.TaskContexts.{Besides, made_items, items_entries, items_captured, items_slots, items_onto, is_in_both, note_besides, or_left, or_right}
+use Rattle.simulation.proofs.TaskContexts.{Besides, made_items, items_entries, items_captured, items_slots, is_in_both, note_besides, or_left, or_right}
 use Rattle.simulation.proofs.TaskTexts.{IsOfMain, AllOfMain, TaskAt, strip}
-use Rattle.simulation.proofs.TextStmts.{HasRoom, stmt_fits}
+use Rattle.simulation.proofs.TextStmts.{stmt_fits}
 use Rattle.simulation.proofs.Texts.{Text, IsWritten, May, AllMay, Catches, Known, In}
 use Rattle.window_check.specs.CapturedByUse.{used_slots, slots_named}
 use Rattle.window_check.specs.Order.{InOrder}
@@ -123,9 +122,12 @@ caught slots (Listed before n) h = tt
 known_by_slots : (t : Text) → t.owner ≡ owner.OfTask → (ns : List Note) → AreLawful ns → Tells t.names ns → ((x : ℕ) → is_in x (used_slots ns) ≡ true → is_in x t.captured ≡ true) → Known t ns
 known_by_slots t is [] lawful tells h = tt
 known_by_slots t is (n ∷ ns) lawful tells h = (
-  (lawful.0, tells.0,
-  subst (λ o. Catches o t.captured n) (sym is)
-  (caught t.captured n (note_besides t.captured n (λ x k. h x (is_in_both x (named_slots n) (used_slots ns) ∙ or_left (is_in x (named_slots n)) (is_in x (used_slots ns)) k))))),
+  (
+    lawful.0,
+    tells.0,
+    subst (λ o. Catches o t.captured n) (sym is)
+        (caught t.captured n (note_besides t.captured n (λ x k. h x (is_in_both x (named_slots n) (used_slots ns) ∙ or_left (is_in x (named_slots n)) (is_in x (used_slots ns)) k)))),
+  ),
   known_by_slots t is ns lawful.1 tells.1 (λ x k. h x (is_in_both x (named_slots n) (used_slots ns) ∙ or_right (is_in x (named_slots n)) (is_in x (used_slots ns)) k)),
 )
 

@@ -1,7 +1,7 @@
 -- What stands in the statements of a body of a lawful program fits.
-use Rattle.std.proofs.Common.{◌≡◌, ℕ, zero, suc, ◌+◌, ◌<◌, ◌≤◌, ◌&&◌, ◌||◌, Bool, true, false, not, if◌then◌else◌, List, [], ◌∷◌, ◌++◌, Option, Some, None, ℤ, pos, negsuc, refl, sym, ap, ◌∙◌, subst, arith}
+use Rattle.std.proofs.Common.{◌≡◌, ℕ, zero, suc, ◌+◌, ◌<◌, ◌≤◌, ◌&&◌, ◌||◌, Bool, true, false, not, if◌then◌else◌, List, [], ◌∷◌, ◌++◌, Option, Some, None, ℤ, pos, negsuc, refl, sym, ◌∙◌, subst, arith}
 use Rattle.std.proofs.lemmas.Bool.{leb-true}
-use Rattle.std.specs.Prelude.{⊤, All, unwrap_or, leb}
+use Rattle.std.specs.Prelude.{All, unwrap_or, leb}
 use Rattle.os_ast.specs.Captured.{Scalar, captured, slots_of}
 use Rattle.os_ast.specs.FreeNames.{task_names}
 use Rattle.os_ast.specs.Leveled.{IsStmt, AreStmts}
@@ -10,7 +10,7 @@ use Rattle.os_ast.specs.Names.{Scope, lookup, entity_of, enter, in_loop}
 use Rattle.os_ast.specs.Notes.Clauses.{in_task_body, parts_notes, clauses_notes}
 use Rattle.os_ast.specs.Notes.Declarators.{scalar_entity, sized_form, form_with, form_entity, size_of, size_told, limited, taken, after_declarator, after_declarators, declarator_notes, declarators_notes, sized_notes, after_start, start_notes}
 use Rattle.os_ast.specs.Notes.Expressions.{count_args, expr_notes, place_notes, args_notes, value_notes, change_notes, step_notes}
-use Rattle.os_ast.specs.Notes.Kinds.{Note, Used, Declared, Left, Returned, Pragma, Task}
+use Rattle.os_ast.specs.Notes.Kinds.{Note, Used, Declared, Pragma, Task}
 use Rattle.os_ast.specs.Notes.Statements.{after_stmt, after_stmts, stmt_notes, stmts_notes}
 use Rattle.os_ast.specs.Parts.{parts, count_items}
 use Rattle.os_ast.specs.Rules.{rules, is_outermost, is_main_body, has_no_size, has_too_many}
@@ -25,9 +25,9 @@ use Rattle.os_ast.specs.declared.names.Use.TheVariants as usage
 use Rattle.simulation.proofs.Capturing.{HasSlot, AreScalars, captured_scalars}
 use Rattle.simulation.proofs.Homes.{Home, AllFit}
 use Rattle.simulation.proofs.OwnNotes.{own_notes, all_own_notes}
-use Rattle.simulation.proofs.Static.{entry, declarator_entries, declarator_onward, declarators_onward, stmt_onward, stmts_onward, start_onward}
+use Rattle.simulation.proofs.Static.{declarator_entries, declarator_onward, declarators_onward, stmt_onward, stmts_onward}
 use Rattle.simulation.proofs.TextNotes.{expr_scoped, place_scoped, args_scoped, value_scoped, change_scoped, step_scoped, sized_scoped, parts_scoped}
-use Rattle.simulation.proofs.Texts.{or_none_first, may_found, Text, OfMainAlone, May, AllMay, In, Known, known_first, known_rest, AllScoped, scoped_both, all_fit}
+use Rattle.simulation.proofs.Texts.{or_none_first, may_found, Text, OfMainAlone, May, AllMay, In, Known, known_first, known_rest, scoped_both, all_fit}
 use Rattle.window_check.proofs.Summed.{stays_in}
 use Rattle.window_check.specs.Told.{KeepsAll}
 

@@ -1,5 +1,5 @@
 -- A body of a lawful program in its unit: what its notes say, and what its scopes hold.
-use Rattle.std.proofs.Common.{◌≡◌, ℕ, zero, suc, ◌+◌, ◌<◌, ◌≤◌, ◌==◌, ◌||◌, Bool, true, false, not, if◌then◌else◌, List, [], ◌∷◌, ◌++◌, length, position, Option, Some, None, ℤ, refl, sym, ap, ◌∙◌, subst, inl, inr, arith, eqb-true}
+use Rattle.std.proofs.Common.{◌≡◌, ℕ, ◌+◌, ◌<◌, ◌≤◌, ◌==◌, ◌||◌, Bool, true, false, not, if◌then◌else◌, List, [], ◌∷◌, ◌++◌, length, Option, Some, None, refl, sym, ap, ◌∙◌, subst, inl, inr, arith, eqb-true}
 use Rattle.std.proofs.lemmas.Bool.{ltb-true, ltb-false}
 use Rattle.std.specs.List.{position_or_len}
 use Rattle.std.specs.Prelude.{⊤, ◌⊎◌, All, unwrap_or, nat_lt, cond, ltb}
@@ -10,7 +10,7 @@ use Rattle.os_ast.specs.Names.{Scope, lookup, entity_of, main_id}
 use Rattle.os_ast.specs.Notes.Declarators.{declared_entity, form_with, form_entity, scalar_entity, sized_form, taken, after_declarator, size_of}
 use Rattle.os_ast.specs.Notes.Kinds.{Note, Used, Sized, Declared, Given, Global, Left, Returned, Pragma, Task, Listed}
 use Rattle.os_ast.specs.Parts.{is_in}
-use Rattle.os_ast.specs.Rules.{UseRule, rules, violates, if_declared, is_wrong_kind, has_other_count, is_changed, is_misplaced, is_main_body, is_misplaced_window, is_a_window, is_fixed}
+use Rattle.os_ast.specs.Rules.{UseRule, rules, violates, if_declared, is_wrong_kind, has_other_count, is_changed, is_main_body, is_misplaced_window, is_a_window, is_fixed}
 use Rattle.os_ast.specs.Trees as tree
 use Rattle.os_ast.specs.Violations.{resolutions_of}
 use Rattle.os_ast.specs.declared.expr.Name.{Name}
@@ -26,7 +26,6 @@ use Rattle.os_ast.specs.declared.names.Role.TheVariants as role
 use Rattle.os_ast.specs.declared.names.Shape.{Shape}
 use Rattle.os_ast.specs.declared.names.Use.{Use}
 use Rattle.os_ast.specs.declared.names.Use.TheVariants as usage
-use Rattle.os_ast.specs.declared.names.What.{What}
 use Rattle.os_ast.specs.declared.names.What.TheVariants as what
 use Rattle.os_code.specs.Effects.{operands_of}
 use Rattle.os_code.specs.Parts.{Main}
@@ -368,11 +367,12 @@ module _ (t : Text) where
   )
   note_fits (Pragma s m) scoped lawful told catches = main_kind s.owner (sym scoped.owner) lawful.1.1.1.1.1.1.1.0
   note_fits (Task s m items captured) scoped lawful told catches =
-      let few = lawful.1.1.1.1.1.1.1.1.1.1.1.1.0 in
-      (main_kind s.owner (sym scoped.0.owner) lawful.1.1.1.1.1.1.1.0,
-      ltb-false items_limit items (or_none_first (ltb items_limit items) (ltb captured_limit (length captured)) few),
-      ltb-false captured_limit (length captured) (or_none_rest (ltb items_limit items) (ltb captured_limit (length captured)) few),
-      scoped.1)
+      let few = lawful.1.1.1.1.1.1.1.1.1.1.1.1.0 in (
+        main_kind s.owner (sym scoped.0.owner) lawful.1.1.1.1.1.1.1.0,
+        ltb-false items_limit items (or_none_first (ltb items_limit items) (ltb captured_limit (length captured)) few),
+        ltb-false captured_limit (length captured) (or_none_rest (ltb items_limit items) (ltb captured_limit (length captured)) few),
+        scoped.1,
+      )
   note_fits (Sized s n) scoped lawful told catches = tt
   note_fits (Given s n) scoped lawful told catches = tt
   note_fits (Global s n) scoped lawful told catches = tt

@@ -1,18 +1,17 @@
 -- The heights and frames of a code whose units are fine.
-use Rattle.std.proofs.Common.{◌≡◌, ℕ, zero, suc, ◌+◌, ◌-◌, ◌<◌, ◌≤◌, Bool, true, false, if◌then◌else◌, Option, Some, None, refl, sym, ap, ◌∙◌, subst, inl, inr, arith}
-use Rattle.std.specs.Prelude.{⊤, ◌⊎◌, IsTrue}
-use Rattle.os_code.specs.Effects.{operands_of, height_after, jump_of, goes_on, slots_named}
+use Rattle.std.proofs.Common.{◌≡◌, ℕ, zero, suc, ◌+◌, ◌-◌, ◌<◌, ◌≤◌, Bool, true, false, if◌then◌else◌, Option, Some, None, refl, ap, ◌∙◌, subst, arith}
+use Rattle.os_code.specs.Effects.{operands_of, height_after, goes_on, slots_named}
 use Rattle.os_code.specs.Heights.{HeightsFit}
 use Rattle.os_code.specs.IsValid.{HasInstr, HasFrames, HasHeights}
-use Rattle.os_code.specs.Parts.{instr_at, unit_at, is_within}
+use Rattle.os_code.specs.Parts.{instr_at, unit_at}
 use Rattle.os_code.specs.declared.instr.Instr.{Instr}
 use Rattle.os_code.specs.declared.instr.Instr.TheVariants as instr
 use Rattle.os_code.specs.declared.parts.Parts.{Parts}
 use Rattle.os_code.specs.declared.unit.Unit.{Unit as CodeUnit}
 use Rattle.os_code.proofs.HeightTables.{heights_suffice}
-use Rattle.simulation.proofs.Heights.{height_at, behind, behind_one, height_behind, one_more}
-use Rattle.simulation.proofs.Homes.{Home, Suits, AreFine, IsFine}
-use Rattle.simulation.proofs.LaidUnits.{home_of, IsLaid}
+use Rattle.simulation.proofs.Heights.{height_at, behind, height_behind, one_more}
+use Rattle.simulation.proofs.Homes.{Home, Suits}
+use Rattle.simulation.proofs.LaidUnits.{home_of}
 use Rattle.simulation.proofs.ValidRegions.{AreLaid, flat, ends, is_inside, stands, regions, targets}
 
 -- the slots that an instruction names are the unit's

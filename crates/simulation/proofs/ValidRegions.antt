@@ -1,24 +1,22 @@
 -- Where units lie one behind another, all of them fine: their regions, targets, frames and heights are valid.
-use Rattle.std.proofs.Common.{◌≡◌, ℕ, zero, suc, ◌+◌, ◌-◌, ◌^◌, ◌<◌, ◌≤◌, Bool, true, false, if◌then◌else◌, List, [], ◌∷◌, length, Option, Some, None, slice_get, refl, sym, ap, ◌∙◌, subst, inl, inr, arith}
-use Rattle.std.proofs.lemmas.Bool.{cases_lt, cases_order}
+use Rattle.std.proofs.Common.{◌≡◌, ℕ, zero, suc, ◌+◌, ◌-◌, ◌^◌, ◌<◌, ◌≤◌, Bool, true, false, List, [], ◌∷◌, length, Some, slice_get, refl, sym, ap, ◌∙◌, inl, inr, arith}
+use Rattle.std.proofs.lemmas.Bool.{cases_order}
 use Rattle.std.proofs.lemmas.Option.{slice_get_within}
 use Rattle.std.specs.List.{list_any}
-use Rattle.std.specs.Prelude.{⊤, ◌⊎◌, ◌||◌, IsTrue, sum_by}
-use Rattle.os_code.specs.Effects.{operands_of, height_after, jump_of, goes_on, needs_turn, slots_named, stands_in}
-use Rattle.os_code.specs.Heights.{HeightsFit, IsHeights}
-use Rattle.os_code.specs.IsValid.{HasInstr, HasRegions, HasTargets, HasFrames, HasHeights}
-use Rattle.os_code.specs.Parts.{Function, instr_at, unit_at, region_end, is_within, kind_at}
+use Rattle.std.specs.Prelude.{◌⊎◌, ◌||◌, IsTrue, sum_by}
+use Rattle.os_code.specs.Effects.{jump_of, needs_turn}
+use Rattle.os_code.specs.IsValid.{HasInstr, HasRegions, HasTargets}
+use Rattle.os_code.specs.Parts.{instr_at, unit_at, region_end, is_within}
 use Rattle.os_code.specs.declared.instr.Instr.{Instr}
 use Rattle.os_code.specs.declared.instr.Instr.TheVariants as instr
 use Rattle.os_code.specs.declared.parts.Parts.{Parts}
 use Rattle.os_code.specs.declared.unit.Unit.{Unit as CodeUnit}
-use Rattle.os_code.proofs.HeightTables.{heights_suffice}
 use Rattle.os_code.proofs.Regions.{within, is_within-from}
 use Rattle.simulation.specs.Tiling.{Tile}
-use Rattle.simulation.proofs.Heights.{height_at, behind, behind_one, height_behind, one_more}
-use Rattle.simulation.proofs.Homes.{Home, Suits, IsCallee, Unturned, IsTarget, IsFine, AreFine}
+use Rattle.simulation.proofs.Heights.{height_at}
+use Rattle.simulation.proofs.Homes.{Unturned, IsFine}
 use Rattle.simulation.proofs.LaidUnits.{home_of, IsLaid}
-use Rattle.simulation.proofs.Tiles.{between, in_order, next_of, IsCovered, covers, carried}
+use Rattle.simulation.proofs.Tiles.{between, in_order, next_of, covers, carried}
 
 -- a code whose units fill it one behind another
 pub record AreLaid (code : Parts) : Type 0 where

@@ -1,7 +1,7 @@
 -- The sites of a tiled code that stands for a lawful program are valid.
-use Rattle.std.proofs.Common.{◌≡◌, ◌≢◌, ℕ, zero, suc, ◌+◌, ◌<◌, ◌≤◌, ◌==◌, Bool, true, false, List, [], ◌∷◌, length, Option, Some, None, slice_get, refl, sym, ap, ◌∙◌, subst, arith}
+use Rattle.std.proofs.Common.{◌≡◌, ℕ, ◌<◌, ◌≤◌, length, Some, slice_get, refl, sym, ap, ◌∙◌, subst, arith}
 use Rattle.std.proofs.lemmas.Option.{slice_get_within}
-use Rattle.std.specs.Prelude.{⊤, All, IsTrue, slice_index_or}
+use Rattle.std.specs.Prelude.{All, IsTrue, slice_index_or}
 use Rattle.os_ast.specs.Notes.Programs.{after_items, in_body, file}
 use Rattle.os_ast.specs.Trees as tree
 use Rattle.os_ast.specs.Names.{Scope}
@@ -20,12 +20,12 @@ use Rattle.simulation.specs.Names.{told_at}
 use Rattle.simulation.specs.Programs.{in_main, HasMain, HasTask}
 use Rattle.simulation.specs.Tasks.{TaskTree, program_tasks, site_items}
 use Rattle.simulation.proofs.AllUnits.{Standing, all_laid, main_at, main_early, main_fit, main_has, counted, TaskPlace, task_place}
-use Rattle.simulation.proofs.Homes.{Home, HasItem, HasOutput, Suits}
+use Rattle.simulation.proofs.Homes.{Home, Suits}
 use Rattle.simulation.proofs.LaidUnits.{home_of}
 use Rattle.simulation.proofs.SitesFit.{IsCaught, caught_at, stmts_caught, ItemFits, TaskFits, AllTasks, task_fits_at, stmts_tasks}
 use Rattle.simulation.proofs.Spawned.{items_length}
 use Rattle.simulation.proofs.TaskLaws.{get_there}
-use Rattle.simulation.proofs.ValidRegions.{Stands, stands, Found, found}
+use Rattle.simulation.proofs.ValidRegions.{stands, found}
 use Rattle.window_check.specs.Globals.{IsWithin}
 use Rattle.window_check.proofs.Told.{lawful-program}
 use Rattle.window_check.proofs.Within.{within-items_of_file}
