@@ -65,7 +65,7 @@ linked_same binary.Multiply line a f g e = ap (λ x. and_then x (λ b. with_turn
 linked_same binary.Divide line a f g e = ap (λ x. and_then x (λ b. with_turns b.turns (binary_value binary.Divide line a.value b.value))) e
 linked_same binary.Remainder line a f g e = ap (λ x. and_then x (λ b. with_turns b.turns (binary_value binary.Remainder line a.value b.value))) e
 
-same_then : {A B : Type 0} (a b : Answer A) (f g : A → Answer B) → a ≡ b → ((x : A) → f x ≡ g x) → and_then a f ≡ and_then b g
+pub same_then : {A B : Type 0} (a b : Answer A) (f g : A → Answer B) → a ≡ b → ((x : A) → f x ≡ g x) → and_then a f ≡ and_then b g
 same_then a b f g e h = ap (λ x. and_then x f) e ∙ by_answer b h
   where
     by_answer : (x : Answer _) → ((y : _) → f y ≡ g y) → and_then x f ≡ and_then x g
@@ -128,7 +128,7 @@ module _ (file : File) (s : State) (one other : List Binding) where
         (value_same e turns (same_others one other n.id (expr_names e) h))
         (λ i. ap (λ xs. with_turns i.turns (element_at xs m.line i.value)) (ap (elements here) (same_own one other n.id (expr_names e) h) ∙ elements_same (find there.bound n.id)))
 
-    values_same : (es : tree.Args) (turns : ℕ) → FindSame one other (args_names es) → values file es here turns ≡ values file es there turns
+    pub values_same : (es : tree.Args) (turns : ℕ) → FindSame one other (args_names es) → values file es here turns ≡ values file es there turns
     values_same tree.no_args turns h = refl
     values_same (tree.arg e es) turns h =
         same_then (value file e here turns) (value file e there turns) (λ n. and_then (values file es here n.turns) (λ ns. Ok (left (n.value ∷ ns.value) ns.turns))) (λ n. and_then (values file es there n.turns) (λ ns. Ok (left (n.value ∷ ns.value) ns.turns)))

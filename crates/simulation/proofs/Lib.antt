@@ -38,3 +38,6 @@ pub mod MainSites
 pub mod MainEnds
 pub mod MainRuns
 pub mod MainLaws
+pub mod SameNames
+pub mod SameFlows
+pub mod SameChanges
