@@ -41,3 +41,5 @@ pub mod MainLaws
 pub mod SameNames
 pub mod SameFlows
 pub mod SameChanges
+pub mod SameStreams
+pub mod SameStmts

@@ -101,7 +101,7 @@ module _ (file : File) (more : List Binding) (apart : AreElse file more) (st : S
   abbrev st2 : State
   st2 = with_more more st
 
-  scalar_more : (id : ℕ) → Seen file st.bound id → scalar_value st (or_in_file file id (find st.bound id)) ≡ scalar_value st2 (or_in_file file id (find st2.bound id))
+  pub scalar_more : (id : ℕ) → Seen file st.bound id → scalar_value st (or_in_file file id (find st.bound id)) ≡ scalar_value st2 (or_in_file file id (find st2.bound id))
   scalar_more id seen =
       scalar_same file st st.bound st2.bound (or_in_file file id (find st.bound id)) ∙ ap (λ o. scalar_value st2 (or_in_file file id o)) (same_found file st.bound more id apart seen)
 
