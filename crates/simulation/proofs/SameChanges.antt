@@ -32,7 +32,7 @@ use Rattle.os_ast.specs.declared.names.Owner.TheVariants as owner
 use Rattle.os_ast.specs.declared.names.Role.TheVariants as role
 use Rattle.os_ast.specs.declared.stmt.Assign.{Assign}
 use Rattle.os_ast.specs.declared.stmt.Assign.TheVariants as assign_of
-use Rattle.simulation.specs.Laws.{AreElse, with_more}
+use Rattle.simulation.specs.FoundNames.{AreElse, with_more}
 use Rattle.simulation.proofs.Context.{Context, Agree, agree_first, agree_rest, In}
 use Rattle.simulation.proofs.Declarators.{around_of}
 use Rattle.simulation.proofs.Declares.{or_first, not_false, size_known, in_behind}

@@ -13,7 +13,7 @@ use Rattle.cddf_meaning.specs.declared.flow.Flow.TheVariants.{GoesOn, Breaks, Co
 use Rattle.cddf_meaning.specs.declared.variable.Binding.{Binding}
 use Rattle.flow_core.specs.declared.activation.Activation.{Activation}
 use Rattle.os_ast.specs.declared.names.Entry.{Entry}
-use Rattle.simulation.specs.Laws.{with_more}
+use Rattle.simulation.specs.FoundNames.{with_more}
 use Rattle.simulation.proofs.Context.{Context}
 use Rattle.simulation.proofs.Flows.{exactly, Extends}
 use Rattle.simulation.proofs.SameNames.{ids, entry_ids, Matches}

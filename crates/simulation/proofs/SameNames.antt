@@ -28,7 +28,7 @@ use Rattle.os_ast.specs.declared.names.Shape.{Shape}
 use Rattle.os_ast.specs.declared.names.Shape.TheVariants as shape
 use Rattle.os_ast.specs.declared.names.Use.{Use}
 use Rattle.os_ast.specs.declared.names.Use.TheVariants as usage
-use Rattle.simulation.specs.Laws.{AreElse, with_more}
+use Rattle.simulation.specs.FoundNames.{AreElse, with_more}
 use Rattle.simulation.proofs.Context.{FileHas, Reaches, IsPlain, Context, Agree, agree_first, agree_rest, In, IsUsed, used, split}
 use Rattle.simulation.proofs.Declares.{constant_known}
 use Rattle.simulation.proofs.Elsewhere.{FindSame, value_same, values_same}

@@ -24,7 +24,7 @@ use Rattle.os_ast.specs.declared.expr.Mark.{Mark}
 use Rattle.os_ast.specs.declared.names.Entry.{Entry}
 use Rattle.os_ast.specs.declared.names.Owner.TheVariants as owner
 use Rattle.os_ast.specs.declared.names.Use.TheVariants as usage
-use Rattle.simulation.specs.Laws.{AreElse, with_more}
+use Rattle.simulation.specs.FoundNames.{AreElse, with_more}
 use Rattle.simulation.proofs.Context.{Context, Agree, agree_first, agree_rest, In}
 use Rattle.simulation.proofs.Declarators.{around_of}
 use Rattle.simulation.proofs.Declares.{declarators_in}

@@ -29,7 +29,7 @@ use Rattle.os_ast.specs.declared.names.Role.TheVariants as role
 use Rattle.os_ast.specs.declared.names.Shape.TheVariants as shape
 use Rattle.os_ast.specs.declared.names.Use.{Use}
 use Rattle.os_ast.specs.declared.names.Use.TheVariants as usage
-use Rattle.simulation.specs.Laws.{AreElse, with_more}
+use Rattle.simulation.specs.FoundNames.{AreElse, with_more}
 use Rattle.simulation.proofs.Capturing.{HasSlot, AreScalars, captured_scalars}
 use Rattle.simulation.proofs.Context.{Context, Agree, agree_first, agree_rest, In, used}
 use Rattle.simulation.proofs.Elsewhere.{same_then}

@@ -1,12 +1,8 @@
 -- What code that stands for a lawful program does.
-use Rattle.std.specs.Prelude.{◌≡◌, ◌⊎◌, ℕ, ◌≤◌, List, [], ◌++◌, length, Option, Some, None, ℤ}
+use Rattle.std.specs.Prelude.{◌≡◌, ℕ, ◌≤◌, List, [], length, ℤ}
 use Rattle.cddf_meaning.specs.Body.{body}
 use Rattle.cddf_meaning.specs.Control.{control}
-use Rattle.cddf_meaning.specs.File.{File}
 use Rattle.cddf_meaning.specs.Moves.{read_horizons}
-use Rattle.cddf_meaning.specs.State.{State}
-use Rattle.cddf_meaning.specs.Variables.{find}
-use Rattle.cddf_meaning.specs.declared.variable.Binding.{Binding}
 use Rattle.flow_core.specs.declared.activation.Activation.{Activation}
 use Rattle.flow_core.specs.declared.control.Control.{Control}
 use Rattle.flow_core.specs.declared.outcome.Outcome.{Outcome}
@@ -48,11 +44,3 @@ MainEndsSo = (p : tree.ProgramTree) (code : Parts) (input_len budget : ℕ) → 
 abbrev pub MainEndsOnlySo : Type 0
 MainEndsOnlySo = (p : tree.ProgramTree) (code : Parts) (input_len budget : ℕ) (made : Control) (steps : ℕ) → StandsFor code p →
     ControlEnds code input_len budget made steps → made ≡ control p input_len budget
-
--- Further declarations, under names that the file doesn't have.
-abbrev pub AreElse : File → List Binding → Type 0
-AreElse file more = (id : ℕ) → (find file.names id ≡ None) ⊎ (find more id ≡ None)
-
--- with these in scope too, round all that is
-abbrev pub with_more : List Binding → State → State
-with_more more s = record s { bound = s.bound ++ more }

@@ -8,5 +8,7 @@ pub mod Statements
 pub mod Programs
 -- what such code does
 pub mod Laws
+-- that no run asks for a name that isn't there
+pub mod FoundNames
 -- what proofs say
 pub mod Alignment
