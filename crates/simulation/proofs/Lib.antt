@@ -43,3 +43,5 @@ pub mod SameFlows
 pub mod SameChanges
 pub mod SameStreams
 pub mod SameStmts
+pub mod SamePlaces
+pub mod SameLaws

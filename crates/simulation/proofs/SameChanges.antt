@@ -1,12 +1,12 @@
 -- Changes and declarators do the same where more is in scope.
-use Rattle.std.proofs.Common.{◌≡◌, ℕ, ◌==◌, ◌||◌, ◌&&◌, Bool, true, false, not, if◌then◌else◌, List, [], ◌∷◌, ◌++◌, length, map, get_or, set, replicate, Option, Some, None, Ok, Err, ℤ, pos, refl, sym, ap, ◌∙◌, subst, inl, eq-eqb}
+use Rattle.std.proofs.Common.{◌≡◌, ℕ, ◌==◌, ◌||◌, ◌&&◌, Bool, true, false, not, if◌then◌else◌, List, [], ◌∷◌, ◌++◌, length, get_or, set, replicate, Option, Some, None, Ok, Err, ℤ, pos, refl, sym, ap, ◌∙◌, subst, inl, eq-eqb}
 use Rattle.std.proofs.lemmas.Bool.{or_right}
 use Rattle.cddf_meaning.specs.Answers.{Answer, Left, left, and_then, with_turns}
 use Rattle.cddf_meaning.specs.File.{File, or_in_file}
 use Rattle.cddf_meaning.specs.Flow.{Ran, given, goes_on}
 use Rattle.cddf_meaning.specs.Operators.{binary_value, step_operator}
-use Rattle.cddf_meaning.specs.Run.{assigned, aim_at, old_value, written, changed, run_change, run_scalar, array_size, run_array, window_size, run_window, with_streams, run_streams, run_sized, run_declarator, run_declarators, run_start}
-use Rattle.cddf_meaning.specs.State.{State, declared, stored_in, stored, stored_in_at, stored_at}
+use Rattle.cddf_meaning.specs.Run.{assigned, aim_at, old_value, written, changed, run_change, array_size, run_array, window_size, run_window, with_streams, run_sized, run_declarator, run_declarators, run_start}
+use Rattle.cddf_meaning.specs.State.{State, declared, stored_in, stored, stored_in_at}
 use Rattle.cddf_meaning.specs.Value.{value, scalar_value, elements, checked}
 use Rattle.cddf_meaning.specs.Variables.{bind, find, assign}
 use Rattle.cddf_meaning.specs.declared.aim.Aim.{Aim}
@@ -18,9 +18,8 @@ use Rattle.cddf_meaning.specs.declared.variable.Variable.TheVariants.{Constant, 
 use Rattle.os_ast.specs.FreeNames.{expr_names, target_names}
 use Rattle.os_ast.specs.Limits.{is_size}
 use Rattle.os_ast.specs.Names.{Scope}
-use Rattle.os_ast.specs.Notes.Declarators.{form, form_with, sized_form, size_of, size_value, after_declarator, after_declarators, declarator_notes, declarators_notes, sized_notes, size_notes, is_window, after_start, start_notes}
+use Rattle.os_ast.specs.Notes.Declarators.{form, sized_form, size_of, size_value, after_declarator, declarator_notes, declarators_notes, sized_notes, size_notes, is_window, start_notes}
 use Rattle.os_ast.specs.Notes.Expressions.{expr_notes, place_notes, value_notes, change_notes}
-use Rattle.os_ast.specs.Notes.Kinds.{Declared}
 use Rattle.os_ast.specs.Parts.{is_in, target_name}
 use Rattle.os_ast.specs.Rules.{has_no_size, has_too_many}
 use Rattle.os_ast.specs.Trees as tree
@@ -30,15 +29,13 @@ use Rattle.os_ast.specs.declared.names.Form.TheVariants as form_of
 use Rattle.os_ast.specs.declared.names.Owner.{Owner}
 use Rattle.os_ast.specs.declared.names.Owner.TheVariants as owner
 use Rattle.os_ast.specs.declared.names.Role.TheVariants as role
-use Rattle.os_ast.specs.declared.stmt.Assign.{Assign}
-use Rattle.os_ast.specs.declared.stmt.Assign.TheVariants as assign_of
 use Rattle.simulation.specs.FoundNames.{AreElse, with_more}
 use Rattle.simulation.proofs.Context.{Context, Agree, agree_first, agree_rest, In}
 use Rattle.simulation.proofs.Declarators.{around_of}
 use Rattle.simulation.proofs.Declares.{or_first, not_false, size_known, in_behind}
-use Rattle.simulation.proofs.Elsewhere.{same_then, same_own, same_others, scalar_same, elements_same}
+use Rattle.simulation.proofs.Elsewhere.{same_then, scalar_same, elements_same}
 use Rattle.simulation.proofs.SameFlows.{SameRan, went, given_same, flows_same}
-use Rattle.simulation.proofs.SameNames.{ids, entry_ids, Seen, AllSeen, same_found, all_same, Matches, seen_expr, seen_size, seen_target, value_more, variable_more}
+use Rattle.simulation.proofs.SameNames.{ids, Seen, AllSeen, same_found, Matches, seen_expr, seen_size, seen_target, value_more}
 use Rattle.simulation.proofs.Static.{entry, made, made_first}
 
 -- A name that is found is set where it is found.

@@ -1,9 +1,7 @@
 -- A name of a lawful body is found in the body or in the file, so that nothing else in scope counts for it.
-use Rattle.std.proofs.Common.{◌≡◌, ℕ, ◌==◌, ◌||◌, Bool, true, false, if◌then◌else◌, List, [], ◌∷◌, ◌++◌, map, Option, Some, None, Ok, ℤ, pos, refl, sym, ap, ◌∙◌, subst, inl, inr, eq-eqb, eqb-true}
+use Rattle.std.proofs.Common.{◌≡◌, ℕ, ◌==◌, ◌||◌, Bool, true, false, if◌then◌else◌, List, [], ◌∷◌, ◌++◌, map, Option, Some, None, ℤ, refl, sym, ap, ◌∙◌, subst, inl, inr, eqb-true}
 use Rattle.std.proofs.lemmas.Bool.{or_cases}
-use Rattle.std.proofs.lemmas.List.{map-append}
 use Rattle.std.specs.Prelude.{◌⊎◌}
-use Rattle.cddf_meaning.specs.Answers.{Answer, Left, and_then}
 use Rattle.cddf_meaning.specs.File.{File, variable, or_in_file}
 use Rattle.cddf_meaning.specs.State.{State}
 use Rattle.cddf_meaning.specs.Value.{value, values}
@@ -13,10 +11,10 @@ use Rattle.cddf_meaning.specs.declared.variable.Variable.{Variable}
 use Rattle.cddf_meaning.proofs.HasNames.{in-append}
 use Rattle.os_ast.specs.FreeNames.{expr_names, target_names, args_names, links_names}
 use Rattle.os_ast.specs.Names.{Scope, lookup, entity_of}
-use Rattle.os_ast.specs.Notes.Declarators.{size_value, constant_of}
+use Rattle.os_ast.specs.Notes.Declarators.{size_value}
 use Rattle.os_ast.specs.Notes.Expressions.{count_args, expr_notes, place_notes, args_notes, links_notes}
 use Rattle.os_ast.specs.Notes.Kinds.{Note, Used}
-use Rattle.os_ast.specs.Parts.{is_in, target_name}
+use Rattle.os_ast.specs.Parts.{is_in}
 use Rattle.os_ast.specs.Trees as tree
 use Rattle.os_ast.specs.declared.expr.Name.{Name}
 use Rattle.os_ast.specs.declared.names.Entity.{Entity}
@@ -24,12 +22,11 @@ use Rattle.os_ast.specs.declared.names.Entity.TheVariants as entity
 use Rattle.os_ast.specs.declared.names.Entry.{Entry}
 use Rattle.os_ast.specs.declared.names.Role.{Role}
 use Rattle.os_ast.specs.declared.names.Role.TheVariants as role
-use Rattle.os_ast.specs.declared.names.Shape.{Shape}
 use Rattle.os_ast.specs.declared.names.Shape.TheVariants as shape
 use Rattle.os_ast.specs.declared.names.Use.{Use}
 use Rattle.os_ast.specs.declared.names.Use.TheVariants as usage
 use Rattle.simulation.specs.FoundNames.{AreElse, with_more}
-use Rattle.simulation.proofs.Context.{FileHas, Reaches, IsPlain, Context, Agree, agree_first, agree_rest, In, IsUsed, used, split}
+use Rattle.simulation.proofs.Context.{FileHas, Reaches, IsPlain, Context, Agree, agree_first, agree_rest, In, used, split}
 use Rattle.simulation.proofs.Declares.{constant_known}
 use Rattle.simulation.proofs.Elsewhere.{FindSame, value_same, values_same}
 

@@ -1,9 +1,9 @@
 -- A lawful body does the same where more is in scope, under names that the file doesn't have.
-use Rattle.std.proofs.Common.{◌≡◌, ℕ, ◌+◌, ◌≤◌, List, [], ◌∷◌, ◌++◌, Option, Some, None, ℤ, if◌then◌else◌, refl, sym, ap, ◌∙◌, subst, arith}
+use Rattle.std.proofs.Common.{◌≡◌, ℕ, ◌≤◌, List, [], ◌∷◌, ◌++◌, Option, Some, None, if◌then◌else◌, refl, sym, ap, ◌∙◌, subst, arith}
 use Rattle.c_int.specs.Operators.{is_zero}
-use Rattle.cddf_meaning.specs.Answers.{and_then, Left}
+use Rattle.cddf_meaning.specs.Answers.{and_then}
 use Rattle.cddf_meaning.specs.File.{variable}
-use Rattle.cddf_meaning.specs.Flow.{Ran, Went, given, goes_on, flows}
+use Rattle.cddf_meaning.specs.Flow.{Ran, Went, goes_on}
 use Rattle.cddf_meaning.specs.Run.{Around, loop, run_test, run_step, run, run_all}
 use Rattle.cddf_meaning.specs.State.{State}
 use Rattle.cddf_meaning.specs.Value.{value, values, call_value}
@@ -35,7 +35,7 @@ use Rattle.simulation.proofs.SameChanges.{change_same, declarators_same, start_s
 use Rattle.simulation.proofs.SameFlows.{SameRan, went, breaks, continues, returns, ended, given_same, flows_same, scope_same, branch_same, loop_same}
 use Rattle.simulation.proofs.SameNames.{Matches, seen_used, seen_expr, seen_all, value_more, values_more, variable_more}
 use Rattle.simulation.proofs.SameStreams.{SeesAll, IsNamed, task_same, tick_same}
-use Rattle.simulation.proofs.Static.{declarators_onward, stmt_onward, made, made_first, made_all, none_made, first_extends, all_extend, extends_more, made_extends}
+use Rattle.simulation.proofs.Static.{stmt_onward, made, made_first, made_all, none_made, first_extends, all_extend, extends_more, made_extends}
 use Rattle.simulation.proofs.Stmts.{main_pragma}
 use Rattle.window_check.proofs.Summed.{stays_in}
 

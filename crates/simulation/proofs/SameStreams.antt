@@ -1,9 +1,9 @@
 -- The pragmas of `main` do the same where more is in scope.
-use Rattle.std.proofs.Common.{◌≡◌, ℕ, zero, suc, ◌+◌, List, [], ◌∷◌, ◌++◌, map, Option, Some, None, Ok, ℤ, refl, sym, ap, ◌∙◌, subst}
-use Rattle.cddf_meaning.specs.Answers.{Answer, Left, left, and_then, with_turns}
+use Rattle.std.proofs.Common.{◌≡◌, ℕ, zero, suc, ◌+◌, List, [], ◌∷◌, ◌++◌, map, Option, Some, None, Ok, refl, sym, ap, ◌∙◌, subst}
+use Rattle.cddf_meaning.specs.Answers.{left, and_then, with_turns}
 use Rattle.cddf_meaning.specs.Claims.{with_skips, skips_behind_all, limit}
 use Rattle.cddf_meaning.specs.File.{or_in_file}
-use Rattle.cddf_meaning.specs.Flow.{Ran, given}
+use Rattle.cddf_meaning.specs.Flow.{given}
 use Rattle.cddf_meaning.specs.State.{State}
 use Rattle.cddf_meaning.specs.Streams.{first_stream, stream_count, stream_number, cursor_move, burst_of, horizon_of, claim_of, burst, joined, item_claim, items_claims, captured_values, with_activation, unless_limited, task_number, captured_by, run_task, moved, tick_turn, run_tick}
 use Rattle.cddf_meaning.specs.Value.{scalar_value, value, checked}

@@ -1,4 +1,3 @@
-use Rattle.simulation.proofs.SameChanges.{start_same}
 use Rattle.simulation.proofs.MainLaws.{main_ends_so, main_ends_only_so}
 use Rattle.simulation.proofs.laws.main_ends_as_its_control.Goals as goal
 
