@@ -32,7 +32,7 @@ use Rattle.simulation.specs.Expressions.{Stands}
 use Rattle.simulation.proofs.Alignment.{declared_scalar, declared_array}
 use Rattle.simulation.proofs.Context.{resources, Kept, Context, means, tells, told_is, Agree, agree_first, agree_rest}
 use Rattle.simulation.proofs.Declares.{means_scalar, scalar_behind, means_array, means_in_text, or_first, not_false, size_known, limit_kept, stored_own, in_behind, stacked_behind, size_runs}
-use Rattle.simulation.proofs.Elsewhere.{value_same}
+use Rattle.simulation.proofs.Elsewhere.{value_elsewhere}
 use Rattle.simulation.proofs.Exprs.{Ready, expr_runs}
 use Rattle.simulation.proofs.Flows.{Does, does_from, given_does, settled, AlignedIn, went_on, flows_does}
 use Rattle.simulation.proofs.Slots.{zeroed_length}
@@ -135,7 +135,7 @@ module _ (c : Context) (callers : List Frame) (leaves : Instr) (total : ℕ) (si
         let kept1 = kept_slots c.side st m (bind n.id (Scalar y) st.bound) m.slots ready.kept in
         let al1 : AlignedIn c callers leaves total m (bind n.id (Scalar y) st.bound) (scalar_entry n ∷ es) = (refl, (s.slots, mean n, refl), ready.aligned) in
         given_does inner m (λ x. goes_on (stored inner n.id x.value) x.turns) refl (kept_slots c.side st m (bind n.id (Scalar (pos 0)) st.bound) m.slots ready.kept)
-        (subst (Meets c.code (at callers from stack m turns) (pushed callers end stack m)) (value_same c.file st n.id (Scalar y) (Scalar (pos 0)) e turns apart)
+        (subst (Meets c.code (at callers from stack m turns) (pushed callers end stack m)) (value_elsewhere c.file st n.id (Scalar y) (Scalar (pos 0)) e turns apart)
         (expr_runs c callers (scalar_scope n) (scalar_entry n ∷ es) other m (ready_for n y m al1 kept1) e from end stack turns agree h))
         (λ x u q. first_stored n x.value m end x.turns fits ready.aligned len ready.kept is)
 

@@ -98,7 +98,7 @@ size_known (Some (pos n)) h = record { size = n; is = refl; within = h }
 pub limit_kept : (n : ℕ) → (leb 1 n && leb n size_limit) ≡ true → within_limit (pos n) ≡ Some n
 limit_kept n h = ap (λ t. if t then Some n else None) h
 
-constant_known : (o : Option Entity) (v : ℤ) → constant_of o ≡ Some v → o ≡ Some (entity.Constant v)
+pub constant_known : (o : Option Entity) (v : ℤ) → constant_of o ≡ Some v → o ≡ Some (entity.Constant v)
 constant_known None v h = absurd (cc)
 constant_known (Some (entity.Constant x)) v h = let e : x ≡ v = cc in ap (λ y. Some (entity.Constant y)) e
 constant_known (Some (entity.Function n k)) v h = absurd (cc)

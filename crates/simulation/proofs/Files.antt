@@ -70,7 +70,7 @@ known_on code file other v (entity.Element item x) le same h = h
 known_on code file other v (entity.View item x) le same h = h
 
 -- with one more declaration
-fits_more : (code : Parts) (file other : File) (es : List Entry) (e : Entry) (u : Variable) → FileFits code file es → file.count ≤ other.count →
+pub fits_more : (code : Parts) (file other : File) (es : List Entry) (e : Entry) (u : Variable) → FileFits code file es → file.count ≤ other.count →
     ((place : ℕ) (args : List ℤ) (turns : ℕ) → place < file.count → other.calls place args turns ≡ file.calls place args turns) →
     other.names ≡ bind e.id u file.names → Known code other (Some u) e.entity → FileFits code other (e ∷ es)
 fits_more code file other es e u fits le same named new id d is =
@@ -170,10 +170,10 @@ none_front s [] = refl
 none_front s (n ∷ ns) = none_front (programs.after_param s n) ns
 
 module _ (code : Parts) (rs : List Resolved) (ordered : InOrder rs) (tasks : List TaskTree) where
-  is_function : (id : ℕ) → (id == main_id) ≡ false → owner_of id ≡ owner.OfFunction
+  pub is_function : (id : ℕ) → (id == main_id) ≡ false → owner_of id ≡ owner.OfFunction
   is_function id h = ap (λ t. if t then owner.OfMain else owner.OfFunction) h
 
-  abbrev inside : Owner → Scope → Scope
+  abbrev pub inside : Owner → Scope → Scope
   inside o s = enter (round_body o (enter (in_unit o s)))
 
   body_notes : (s : Scope) (f : tree.FunctionTree) → List Note
@@ -220,7 +220,7 @@ module _ (code : Parts) (rs : List Resolved) (ordered : InOrder rs) (tasks : Lis
       })
       has.is_unit len at_turn at_call)
 
-  same_calls : (file : File) (f : tree.FunctionTree) (place : ℕ) (args : List ℤ) (turns : ℕ) → place < file.count → (with_item file (tree.Function f)).calls place args turns ≡ file.calls place args turns
+  pub same_calls : (file : File) (f : tree.FunctionTree) (place : ℕ) (args : List ℤ) (turns : ℕ) → place < file.count → (with_item file (tree.Function f)).calls place args turns ≡ file.calls place args turns
   same_calls file f place args turns lt = by_case (place == file.count) refl
     where
       by_case : (t : Bool) → (place == file.count) ≡ t → (if t then call_function file f args turns else file.calls place args turns) ≡ file.calls place args turns

@@ -64,3 +64,10 @@ pub mod ValidHeights
 pub mod AllUnits
 pub mod SitesFit
 pub mod ValidSites
+pub mod SameNames
+pub mod SameFlows
+pub mod SameChanges
+pub mod SameStreams
+pub mod SameStmts
+pub mod SamePlaces
+pub mod SameLaws

@@ -74,7 +74,7 @@ finds (tree.Function f ∷ is) file s h none =
     by_case false e k next = next (sym (ap (λ t. (t && is_empty (param_names f.params)) || has_main is) e) ∙ h) k
 
 -- what is round the body of `main`
-abbrev round_entries : Scope → List Entry
+abbrev pub round_entries : Scope → List Entry
 round_entries s =
     record { id = osin_len_id; depth = s.depth + 1; entity = entity.InputLength }
     ∷ record { id = osout_id; depth = s.depth + 1; entity = entity.Stream 1 }
@@ -146,8 +146,8 @@ module _ (p : tree.ProgramTree) (code : Parts) (input_len budget : ℕ) (stands 
       own : OwnsAll (IsSite code (told_at (names p)) (sites_of (tasks_in_all body f.body)) (program_tasks p)) body f.body
       own =
           all_own_more f.body body
-          (site_of code (names p) s.entries (tasks_in_all body f.body) (program_tasks p) slots (captured_by_tasks p) by_tree
-          (λ k x is. ap (λ cs. slice_get cs k) at_main.own_captures ∙ slice_get-append_left slots at_main.rest k (slice_get_within slots k x is) ∙ is) rising.0 rising.1 rising.2 stands.has.tasks)
+          (λ t mark cs a at. site_of (names p) s.entries (tasks_in_all body f.body) (program_tasks p) slots by_tree rising.0 rising.1 rising.2 t mark cs a at code (captured_by_tasks p)
+          (λ k x is. ap (λ cs. slice_get cs k) at_main.own_captures ∙ slice_get-append_left slots at_main.rest k (slice_get_within slots k x is) ∙ is) stands.has.tasks)
           numbered
 
       -- where it begins

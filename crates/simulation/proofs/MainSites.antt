@@ -2,6 +2,7 @@
 use Rattle.std.proofs.Common.{◌≡◌, ℕ, suc, ◌+◌, List, [], ◌∷◌, ◌++◌, length, map, Some, slice_get, refl, sym, ap, ◌∙◌, subst, arith}
 use Rattle.std.proofs.lemmas.Option.{slice_get-map, slice_get_within}
 use Rattle.std.specs.Option.{option_map}
+use Rattle.cddf_meaning.specs.Streams.{task_number, captured_by}
 use Rattle.cddf_meaning.specs.Tasks.{Task as MeaningTask, task_at, tasks_in, tasks_in_all, sites_of}
 use Rattle.cddf_meaning.specs.declared.site.Site.{Site as MeaningSite}
 use Rattle.flow_core.proofs.Stretches.{slice_get-append_left, slice_get-append_right}
@@ -157,45 +158,50 @@ mutual
   all_own_more tree.no_stmts s f h = tt
   all_own_more (tree.stmt a rest) s f h = (owns_more a s f h.0, all_own_more rest (after_stmt s a) f h.1)
 
--- the site of a task by its number
-pub site_of : (code : Parts) (rs : List Resolved) (file : List Entry) (tasks : List MeaningTask) (trees : List TaskTree) (slots all_slots : List (List ℕ)) → trees ≡ map strip tasks →
-    ((k : ℕ) (x : List ℕ) → slice_get slots k ≡ Some x → slice_get all_slots k ≡ Some x) → (lo hi : ℕ) → Rises (λ (t : TaskTree). t.mark.place) lo trees hi →
-    ((number : ℕ) (t : TaskTree) → slice_get trees number ≡ Some t → HasTask code (told_at rs) all_slots number t) →
-    (s : Scope) (m : Mark) (cs : List tree.ClauseTree) (a : tree.StmtTree) → IsNumbered rs file tasks slots s m cs a → IsSite code (told_at rs) (sites_of tasks) trees s m cs a
-site_of code rs file tasks trees slots all_slots stripped more lo hi rises has s m cs a at = record {
-  number = at.number;
-  site = task.site;
-  in_code = position_is (λ (x : TaskTree). x.mark.place) lo trees hi at.number (strip t) rises in_trees;
-  in_meaning = position_is (λ (x : MeaningSite). x.place) lo (sites_of tasks) hi at.number (site_as t) rises_sites in_sites;
-  ids = got (map (λ (x : MeaningSite). x.captured) (sites_of tasks)) at.number ids [] in_ids;
-  is_site = task.is_site;
-  items = task.items;
-  slots = let x : Some task.site.captured ≡ Some (slots_of (captured s.entries (parts cs) a)) = sym task.captures ∙ more at.number (slots_of (captured s.entries (parts cs) a)) at.captures in cc;
-}
-  where
-    t : MeaningTask
-    t = task_at s m cs a
+-- a task by its place and by its number
+module _ (rs : List Resolved) (file : List Entry) (tasks : List MeaningTask) (trees : List TaskTree) (slots : List (List ℕ)) (stripped : trees ≡ map strip tasks) (lo hi : ℕ) (rises : Rises (λ (t : TaskTree). t.mark.place) lo trees hi)
+    (s : Scope) (m : Mark) (cs : List tree.ClauseTree) (a : tree.StmtTree) (at : IsNumbered rs file tasks slots s m cs a) where
+  abbrev t : MeaningTask
+  t = task_at s m cs a
 
-    ids : List ℕ
-    ids = map (λ (x : Scalar). x.id) (captured s.entries (parts cs) a)
+  abbrev ids : List ℕ
+  ids = map (λ (x : Scalar). x.id) (captured s.entries (parts cs) a)
 
-    site_as : MeaningTask → MeaningSite
-    site_as x = record { place = x.mark.place; captured = x.captured }
+  abbrev site_as : MeaningTask → MeaningSite
+  site_as x = record { place = x.mark.place; captured = x.captured }
 
-    in_trees : slice_get trees at.number ≡ Some (strip t)
-    in_trees = ap (λ ts. slice_get ts at.number) stripped ∙ slice_get-map strip tasks at.number ∙ ap (option_map strip) at.is
+  in_trees : slice_get trees at.number ≡ Some (strip t)
+  in_trees = ap (λ ts. slice_get ts at.number) stripped ∙ slice_get-map strip tasks at.number ∙ ap (option_map strip) at.is
 
-    in_sites : slice_get (sites_of tasks) at.number ≡ Some (site_as t)
-    in_sites = slice_get-map site_as tasks at.number ∙ ap (option_map site_as) at.is
+  in_sites : slice_get (sites_of tasks) at.number ≡ Some (site_as t)
+  in_sites = slice_get-map site_as tasks at.number ∙ ap (option_map site_as) at.is
 
-    in_ids : slice_get (map (λ (x : MeaningSite). x.captured) (sites_of tasks)) at.number ≡ Some ids
-    in_ids = slice_get-map (λ (x : MeaningSite). x.captured) (sites_of tasks) at.number ∙ ap (option_map (λ (x : MeaningSite). x.captured)) in_sites
+  rises_tasks : Rises (λ (x : MeaningTask). x.mark.place) lo tasks hi
+  rises_tasks = rises_unmapped (λ (x : TaskTree). x.mark.place) strip tasks lo hi (subst (λ ts. Rises (λ (x : TaskTree). x.mark.place) lo ts hi) stripped rises)
 
-    task : HasTask code (told_at rs) all_slots at.number (strip t)
-    task = has at.number (strip t) in_trees
+  rises_sites : Rises (λ (x : MeaningSite). x.place) lo (sites_of tasks) hi
+  rises_sites = rises_mapped (λ (x : MeaningSite). x.place) site_as tasks lo hi rises_tasks
 
-    rises_tasks : Rises (λ (x : MeaningTask). x.mark.place) lo tasks hi
-    rises_tasks = rises_unmapped (λ (x : TaskTree). x.mark.place) strip tasks lo hi (subst (λ ts. Rises (λ (x : TaskTree). x.mark.place) lo ts hi) stripped rises)
+  pub number_is : task_number (sites_of tasks) m ≡ Some at.number
+  number_is = position_is (λ (x : MeaningSite). x.place) lo (sites_of tasks) hi at.number (site_as t) rises_sites in_sites
 
-    rises_sites : Rises (λ (x : MeaningSite). x.place) lo (sites_of tasks) hi
-    rises_sites = rises_mapped (λ (x : MeaningSite). x.place) site_as tasks lo hi rises_tasks
+  pub captured_is : captured_by (sites_of tasks) at.number ≡ ids
+  captured_is =
+      got (map (λ (x : MeaningSite). x.captured) (sites_of tasks)) at.number ids []
+      (slice_get-map (λ (x : MeaningSite). x.captured) (sites_of tasks) at.number ∙ ap (option_map (λ (x : MeaningSite). x.captured)) in_sites)
+
+  -- its site, where a code has one for each task
+  pub site_of : (code : Parts) (all_slots : List (List ℕ)) → ((k : ℕ) (x : List ℕ) → slice_get slots k ≡ Some x → slice_get all_slots k ≡ Some x) →
+      ((number : ℕ) (x : TaskTree) → slice_get trees number ≡ Some x → HasTask code (told_at rs) all_slots number x) → IsSite code (told_at rs) (sites_of tasks) trees s m cs a
+  site_of code all_slots more has =
+      let task = has at.number (strip t) in_trees in
+      record {
+        number = at.number;
+        site = task.site;
+        in_code = position_is (λ (x : TaskTree). x.mark.place) lo trees hi at.number (strip t) rises in_trees;
+        in_meaning = number_is;
+        ids = captured_is;
+        is_site = task.is_site;
+        items = task.items;
+        slots = let x : Some task.site.captured ≡ Some (slots_of (captured s.entries (parts cs) a)) = sym task.captures ∙ more at.number (slots_of (captured s.entries (parts cs) a)) at.captures in cc;
+      }

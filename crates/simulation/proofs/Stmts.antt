@@ -59,6 +59,12 @@ pub has_rest : (code : Parts) (b : Body) (a : tree.StmtTree) (rest : tree.Stmts)
 has_rest code b a tree.no_stmts broke continued next from to h = (next, to, h, last refl)
 has_rest code b a (tree.stmt x rest) broke continued next from to h = (h.0, h.0, h.1, more h.2)
 
+-- a pragma stands in `main` alone
+pub main_pragma : (o : Owner) → not (is_main_body o) ≡ false → o ≡ owner.OfMain
+main_pragma owner.OfMain h = refl
+main_pragma owner.OfFunction h = absurd (cc)
+main_pragma owner.OfTask h = absurd (cc)
+
 module _ (c : Context) (callers : List Frame) (leaves : Instr) (total : ℕ) (sites : List Site) (tasks : List TaskTree) (known : OfTask) where
   abbrev pub body_of : Body
   body_of = record { tells = tells c; tasks = tasks; leaves = leaves }
@@ -82,11 +88,6 @@ module _ (c : Context) (callers : List Frame) (leaves : Instr) (total : ℕ) (si
   -- the same state, in a scope that differs only in what it counts
   same_place : (s t : Scope) (es : List Entry) (st : State) (m : Store) → Ready c s es st m → t.owner ≡ s.owner → t.captured ≡ s.captured → t.entries ≡ s.entries → s.depth ≤ t.depth → Ready c t es st m
   same_place s t es st m ready a b e d = record { scope = moved_in s t es ready.scope a b e d; aligned = ready.aligned; kept = ready.kept }
-
-  main_pragma : (o : Owner) → not (is_main_body o) ≡ false → o ≡ owner.OfMain
-  main_pragma owner.OfMain h = refl
-  main_pragma owner.OfFunction h = absurd (cc)
-  main_pragma owner.OfTask h = absurd (cc)
 
   onto_next : (from to next : ℕ) (stack : List ℤ) (m : Store) (turns : ℕ) → from ≡ to → next ≡ to → Leads c.code (at callers from stack m turns) (at callers next stack m turns)
   onto_next from to next stack m turns a b = subst (λ q. Leads c.code (at callers from stack m turns) (at callers q stack m turns)) (a ∙ sym b) stays

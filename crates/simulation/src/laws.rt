@@ -1,5 +1,6 @@
 //! Laws of code that stands for a program. They take nothing and do nothing.
 
+ghost use Rattle.simulation.specs.FoundNames.{MainFindsItsNames, TasksFindTheirNames, FunctionsFindTheirNames};
 ghost use Rattle.simulation.specs.Laws.{TasksEndSo, TasksEndOnlySo, MainEndsSo, MainEndsOnlySo, StandingIsValid};
 
 /// The code of a lawful program runs each activation that fits it as the body of its task says: it is done with the
@@ -19,4 +20,12 @@ pub fn main_ends_as_its_control()
 /// Code that stands for a lawful program is valid where its units lie one behind another.
 pub fn standing_is_valid()
     ensures { StandingIsValid }
+{}
+
+/// A run of a lawful program asks for no name that isn't there: whatever else is in scope round `main`, a task or a
+/// function, under names that the file doesn't have, it comes to the same.
+pub fn lawful_programs_find_their_names()
+    ensures in_main { MainFindsItsNames }
+    ensures in_tasks { TasksFindTheirNames }
+    ensures in_functions { FunctionsFindTheirNames }
 {}
