@@ -4,3 +4,4 @@ pub mod Changes
 pub mod Declarators
 pub mod Tasks
 pub mod Statements
+pub mod Units
