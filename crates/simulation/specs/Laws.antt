@@ -13,6 +13,7 @@ use Rattle.os_code.specs.Tasks.{Fits, TaskEnds}
 use Rattle.os_code.specs.declared.parts.Parts.{Parts}
 use Rattle.simulation.specs.Names.{told_at}
 use Rattle.simulation.specs.Programs.{HasProgram}
+use Rattle.simulation.specs.Tiling.{IsTiled}
 
 -- A valid code stands for a lawful program.
 pub record StandsFor (code : Parts) (p : tree.ProgramTree) : Type 0 where
@@ -31,3 +32,8 @@ TasksEndSo = (p : tree.ProgramTree) (code : Parts) (a : Activation) (inputs : Li
 abbrev pub TasksEndOnlySo : Type 0
 TasksEndOnlySo = (p : tree.ProgramTree) (code : Parts) (a : Activation) (inputs : List ℤ) (budget : ℕ) (outcome : Outcome) (steps : ℕ) → StandsFor code p → Fits code a →
     read_horizons a.claims ≤ length inputs → TaskEnds code a inputs budget outcome steps → outcome ≡ body p a inputs budget
+
+-- Code that stands for a lawful program, with its units one behind another, is valid.
+abbrev pub StandingIsValid : Type 0
+StandingIsValid = (p : tree.ProgramTree) (code : Parts) → IsLeveled p → HasPlaces p → violations p ≡ [] →
+    HasProgram code p (told_at (names p)) (captured_by_tasks p) (streams p) → IsTiled code p → IsValid code

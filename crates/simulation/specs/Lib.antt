@@ -6,6 +6,7 @@ pub mod Declarators
 pub mod Tasks
 pub mod Statements
 pub mod Programs
+pub mod Tiling
 -- what such code does
 pub mod Laws
 -- what proofs say
