@@ -1,5 +1,6 @@
 pub mod Becoming
 pub mod Blocks
+pub mod CaughtSlots
 pub mod ChangesStand
 pub mod ConditionsStand
 pub mod DeclaratorsStand
@@ -10,14 +11,19 @@ pub mod KeptExpressions
 pub mod Lawful
 pub mod Lists
 pub mod Loops
+pub mod NameCounts
 pub mod Ordered
+pub mod Paid
 mod Parts
 mod Placed
+pub mod Resolving
 pub mod Rules
 pub mod SlotsFit
+pub mod SlotsSum
 pub mod Sums
 pub mod TaskNumbers
 pub mod TaskParts
 pub mod TasksInMain
 pub mod TasksStand
+pub mod Tiled
 pub mod UnitsStand

@@ -93,7 +93,7 @@ tasks_weight [] = 0
 tasks_weight (t ∷ ts) = stmt_weight t.body + tasks_weight ts
 
 weight-append : (ts us : List TaskTree) → tasks_weight (ts ++ us) ≡ tasks_weight ts + tasks_weight us
-weight-append [] us = refl
+weight-append [] us = omega arith
 weight-append (t ∷ ts) us = omega (arith, weight-append ts us)
 
 mutual

@@ -18,6 +18,7 @@ use Rattle.os_ast.specs.declared.program.Params.{Params}
 use Rattle.os_ast.specs.declared.program.Params.TheVariants as params_of
 use Rattle.os_lexer.specs.declared.token.Key.TheVariants as keys
 use Rattle.os_lexer.specs.declared.token.Kind.{Kind}
+use Rattle.os_lexer.specs.declared.token.Kind.TheVariants as kind
 use Rattle.os_lexer.specs.declared.token.Punct.TheVariants as puncts
 use Rattle.simulation.specs.Tasks.{TaskTree, tasks_of, all_tasks_of, program_tasks, number_of}
 
@@ -72,7 +73,7 @@ past_params (params_of.Names []) rest ts h = h
 past_params (params_of.Names (n ∷ ns)) rest ts h = skip (skip (more_params ns rest ts h))
 
 -- a task, whose PragmaStart is its first piece
-tail_of : List Piece → List Piece
+abbrev tail_of : List Piece → List Piece
 tail_of [] = []
 tail_of (p ∷ ps) = ps
 
@@ -80,7 +81,7 @@ past_task : (m : Mark) (cs : List tree.ClauseTree) (a : tree.StmtTree) (t : Task
     Among (t ∷ ts) (spelling.stmt (tree.Task m cs a) rest)
 past_task m cs a t rest ts is h =
     subst (Among (t ∷ ts)) (sym ((prints_stmt (tree.Task m cs a)).in_front rest))
-    (subst (λ mark. Among (t ∷ ts) (marked _ mark ∷ tail_of (spelling.stmt (tree.Task m cs a) []) ++ rest)) is
+    (subst (λ mark. Among (t ∷ ts) (marked kind.PragmaStart mark ∷ tail_of (spelling.stmt (tree.Task m cs a) []) ++ rest)) is
     (take (among_behind (tail_of (spelling.stmt (tree.Task m cs a) [])) h)))
 
 mutual
@@ -134,14 +135,14 @@ among_function f rest =
 among_program : (is : List tree.ItemTree) → Among (program_tasks is) (spelling.each spelling.item is [])
 among_program [] = none
 among_program (tree.Constant c ∷ is) = past_item (tree.Constant c) (spelling.each spelling.item is []) (program_tasks is) (among_program is)
-among_program (tree.Function f ∷ is) = by_case (f.name.id == main_id)
+among_program (tree.Function f ∷ is) = by_case (f.name.id == main_id) (among_program is)
   where
     all : List Piece
     all = spelling.item (tree.Function f) (spelling.each spelling.item is [])
 
-    by_case : (t : Bool) → Among (if t then all_tasks_of f.body else program_tasks is) all
-    by_case true = among_function f (spelling.each spelling.item is [])
-    by_case false = past_item (tree.Function f) (spelling.each spelling.item is []) (program_tasks is) (among_program is)
+    by_case : (t : Bool) → Among (program_tasks is) (spelling.each spelling.item is []) → Among (if t then all_tasks_of f.body else program_tasks is) all
+    by_case true more = among_function f (spelling.each spelling.item is [])
+    by_case false more = past_item (tree.Function f) (spelling.each spelling.item is []) (program_tasks is) more
 
 -- tasks whose places ascend, from one place on
 abbrev Ascend : ℕ → List TaskTree → Type 0

@@ -217,7 +217,9 @@ match_items (tree.Constant c ∷ is) s (cons _ leveled) lawful =
     let i = tree.Constant c in
     let more = match_items is (after_item s i) leveled (lawful-rest (item_notes s i) (items_notes (after_item s i) is) lawful) in
     record { own = more.own; rest = more.rest; all = more.all; match = more.match }
-match_items (tree.Function f ∷ is) s (cons (IsItem.function _ body) leveled) lawful = by_case (f.name.id == main_id) refl
+match_items (tree.Function f ∷ is) s (cons (IsItem.function _ body) leveled) lawful =
+    by_case (f.name.id == main_id) refl
+    (match_items is (after_item s (tree.Function f)) leveled (lawful-rest (item_notes s (tree.Function f)) (items_notes (after_item s (tree.Function f)) is) lawful))
   where
     i : tree.ItemTree
     i = tree.Function f
@@ -233,8 +235,8 @@ match_items (tree.Function f ∷ is) s (cons (IsItem.function _ body) leveled) l
         captures_both (item_notes s i) behind
         ∙ ap (λ cs. cs ++ captures behind) (captures_both (front s f) own_notes ∙ ap (λ cs. cs ++ captures own_notes) (none_front (in_function s f.name.id) (param_names f.params)))
 
-    by_case : (t : Bool) → (f.name.id == main_id) ≡ t → Matched s (i ∷ is)
-    by_case true e = record {
+    by_case : (t : Bool) → (f.name.id == main_id) ≡ t → Matched (after_item s i) is → Matched s (i ∷ is)
+    by_case true e more = record {
       own = captures own_notes;
       rest = captures behind;
       all = own_captures;
@@ -242,14 +244,12 @@ match_items (tree.Function f ∷ is) s (cons (IsItem.function _ body) leveled) l
           subst (λ ts. Match ts (captures own_notes)) (sym (ap (λ t. if t then all_tasks_of f.body else program_tasks is) e))
           (match_stmts body (in_body s f) (main_owner s f e) (lawful_body s f behind lawful));
     }
-    by_case false e =
-        let more = match_items is (after_item s i) leveled (lawful-rest (item_notes s i) behind lawful) in
-        record {
-          own = more.own;
-          rest = more.rest;
-          all = own_captures ∙ ap (λ cs. cs ++ captures behind) (none_stmts f.body (in_body s f) (function_other s f e)) ∙ more.all;
-          match = subst (λ ts. Match ts more.own) (sym (ap (λ t. if t then all_tasks_of f.body else program_tasks is) e)) more.match;
-        }
+    by_case false e more = record {
+      own = more.own;
+      rest = more.rest;
+      all = own_captures ∙ ap (λ cs. cs ++ captures behind) (none_stmts f.body (in_body s f) (function_other s f e)) ∙ more.all;
+      match = subst (λ ts. Match ts more.own) (sym (ap (λ t. if t then all_tasks_of f.body else program_tasks is) e)) more.match;
+    }
 
 -- Each task of a lawful program has the slots that stand at its number.
 pub tasks_captured : (is : List tree.ItemTree) (s : Scope) → AreAll IsItem is → AreLawful (items_notes s is) → (k : ℕ) (t : TaskTree) →

@@ -23,6 +23,7 @@ use Rattle.lowering.specs.declared.units.Units.{Units}
 use Rattle.os_ast.specs.Leveled.{AreAll, AreStmts, IsItem, IsLeveled, IsStmt, cons}
 use Rattle.os_ast.specs.Marks.{HasPlaces}
 use Rattle.os_ast.specs.Names.{Scope, main_id}
+use Rattle.os_ast.specs.Notes.Kinds.{Note}
 use Rattle.os_ast.specs.Notes.Programs.{after_item, file, in_body, item_notes, items_notes, param_names, program_notes}
 use Rattle.os_ast.specs.Notes.Statements.{stmts_notes}
 use Rattle.os_ast.specs.Parts.{is_in}
@@ -35,6 +36,7 @@ use Rattle.os_code.specs.Parts.{instr_at, site_at, unit_at}
 use Rattle.os_code.specs.declared.instr.Instr.{Instr}
 use Rattle.os_code.specs.declared.instr.Instr.TheVariants.{End, Push, Return}
 use Rattle.os_code.specs.declared.parts.Parts.{Parts}
+use Rattle.os_code.specs.declared.site.Site.{Site}
 use Rattle.simulation.specs.Expressions.{Stands}
 use Rattle.simulation.specs.Programs.{HasFunction, HasFunctions, HasMain, HasProgram, HasTask, HasUnit, in_function, in_main, size_by}
 use Rattle.simulation.specs.Statements.{Body, HasStmt, HasStmts}
@@ -166,6 +168,7 @@ module _
         is_unit = last_unit made (with_plain tells f made) _ refl g;
         body = framing.body;
         falls_off = framing.falls_off;
+        fills = omega (arith, (plain_grows tells blocks_kept stmts_kept f made).draft.no_shorter);
         args = refl;
         slots = capped_small (n + sum) (omega (arith, small, within));
       }
@@ -186,6 +189,7 @@ module _
         is_unit = last_unit made (with_main tells f made) _ refl g;
         body = framing.body;
         falls_off = (framing.falls_off.0, refl);
+        fills = omega (arith, (main_grows tells blocks_kept stmts_kept f made).draft.no_shorter, framing.falls_off.1);
         args = refl;
         slots = capped_small (1 + sum) (omega (arith, small, within));
       }
@@ -199,58 +203,64 @@ module _
       behind_stand is (after_item s i) made leveled (lawful-rest (item_notes s i) (items_notes (after_item s i) is) lawful) none (omega (arith, small)) g
   behind_stand (tree.Function f ∷ is) s made (cons (IsItem.function _ body) leveled) lawful none small g =
       by_case (f.name.id == main_id) none.0 g
+      (λ after g. behind_stand is (after_item s (tree.Function f)) after leveled (lawful-rest (item_notes s (tree.Function f)) (items_notes (after_item s (tree.Function f)) is) lawful) none.1 (omega (arith, small)) g)
     where
-      rest : List _
+      rest : List Note
       rest = items_notes (after_item s (tree.Function f)) is
 
       by_case : (t : Bool) → t ≡ false → Grows (with_functions tells is (with_function t tells f made)) final →
+          ((after : Units) → Grows (with_functions tells is after) final → HasFunctions code tells tasks (length after.units) is) →
           HasUnit t code tells tasks (length made.units) f × HasFunctions code tells tasks (suc (length made.units)) is
-      by_case true e g = absurd (cc)
-      by_case false e g =
+      by_case true e g go = absurd (cc)
+      by_case false e g go =
           let after = with_plain tells f made in
-          let one : length after.units ≡ suc (length made.units) = omega (arith, length-append made.units (_ ∷ [])) in (
+          let one : length after.units ≡ suc (length made.units) = length-append made.units (_ ∷ []) ∙ omega arith in (
             function_stands f made body (none_of_all f.body (in_body s f) (function_other s f none.0) (lawful_body s f rest lawful)) (omega (arith, small))
             (then_grown (functions_grow tells blocks_kept stmts_kept is after) g),
-            subst (λ n. HasFunctions code tells tasks n is) one
-            (behind_stand is (after_item s (tree.Function f)) after leveled (lawful-rest (item_notes s (tree.Function f)) rest lawful) none.1 (omega (arith, small)) g),
+            subst (λ n. HasFunctions code tells tasks n is) one (go after g),
           )
 
   -- all functions: none before `main` spawns a task
   functions_stand : (is : List tree.ItemTree) (before : List ℕ) (s : Scope) (made : Units) → AreAll IsItem is → AreLawful (items_notes s is) → AreApart before is → items_weight is < 2 ^ 32
       → made.draft.spawned ≡ 0 → (program_tasks is ≡ tasks) → AreNumbered tasks 0 tasks → final.main ≡ (with_functions tells is made).main
       → Grows (with_functions tells is made) final → HasFunctions code tells tasks (length made.units) is
-  functions_stand [] before s made leveled lawful apart small zero own numbered is_main g = tt
-  functions_stand (tree.Constant c ∷ is) before s made (cons _ leveled) lawful apart small zero own numbered is_main g =
+  functions_stand [] before s made leveled lawful apart small start own numbered is_main g = tt
+  functions_stand (tree.Constant c ∷ is) before s made (cons _ leveled) lawful apart small start own numbered is_main g =
       let i = tree.Constant c in
-      functions_stand is (c.name.id ∷ before) (after_item s i) made leveled (lawful-rest (item_notes s i) (items_notes (after_item s i) is) lawful) apart.1 (omega (arith, small)) zero own numbered is_main g
-  functions_stand (tree.Function f ∷ is) before s made (cons (IsItem.function _ body) leveled) lawful apart small zero own numbered is_main g =
+      functions_stand is (c.name.id ∷ before) (after_item s i) made leveled (lawful-rest (item_notes s i) (items_notes (after_item s i) is) lawful) apart.1 (omega (arith, small)) start own numbered is_main g
+  functions_stand (tree.Function f ∷ is) before s made (cons (IsItem.function _ body) leveled) lawful apart small start own numbered is_main g =
       by_case (f.name.id == main_id) refl own is_main g
+      (λ after still own is_main g.
+      functions_stand is (f.name.id ∷ before) (after_item s (tree.Function f)) after leveled
+      (lawful-rest (item_notes s (tree.Function f)) (items_notes (after_item s (tree.Function f)) is) lawful) apart.1 (omega (arith, small)) still own numbered is_main g)
     where
-      rest : List _
+      rest : List Note
       rest = items_notes (after_item s (tree.Function f)) is
 
       later : AreLawful rest
       later = lawful-rest (item_notes s (tree.Function f)) rest lawful
 
       by_case : (t : Bool) → (f.name.id == main_id) ≡ t → (if t then all_tasks_of f.body else program_tasks is) ≡ tasks → final.main ≡ (with_functions tells is (with_function t tells f made)).main →
-          Grows (with_functions tells is (with_function t tells f made)) final → HasUnit t code tells tasks (length made.units) f × HasFunctions code tells tasks (suc (length made.units)) is
-      by_case true e own is_main g =
+          Grows (with_functions tells is (with_function t tells f made)) final →
+          ((after : Units) → after.draft.spawned ≡ 0 → program_tasks is ≡ tasks → final.main ≡ (with_functions tells is after).main → Grows (with_functions tells is after) final →
+          HasFunctions code tells tasks (length after.units) is) →
+          HasUnit t code tells tasks (length made.units) f × HasFunctions code tells tasks (suc (length made.units)) is
+      by_case true e own is_main g go =
           let after = with_main tells f made in
-          let one : length after.units ≡ suc (length made.units) = omega (arith, length-append made.units (_ ∷ [])) in
+          let one : length after.units ≡ suc (length made.units) = length-append made.units (_ ∷ []) ∙ omega arith in
           let alone : NoMain is = no_main_behind (f.name.id ∷ before) is (ap (λ t. t || is_in main_id before) e) apart.1 in
-          let ours : AreNumbered tasks made.draft.spawned (all_tasks_of f.body) = subst (λ ts. AreNumbered tasks made.draft.spawned ts) (sym own) (subst (λ n. AreNumbered tasks n tasks) (sym zero) numbered) in (
+          let ours : AreNumbered tasks made.draft.spawned (all_tasks_of f.body) = subst (λ ts. AreNumbered tasks made.draft.spawned ts) (sym own) (subst (λ n. AreNumbered tasks n tasks) (sym start) numbered) in (
             main_stands f made body ours (omega (arith, small)) (is_main ∙ main_kept tells is after alone) (then_grown (functions_grow tells blocks_kept stmts_kept is after) g),
             subst (λ n. HasFunctions code tells tasks n is) one (behind_stand is (after_item s (tree.Function f)) after leveled later alone (omega (arith, small)) g),
           )
-      by_case false e own is_main g =
+      by_case false e own is_main g go =
           let after = with_plain tells f made in
-          let one : length after.units ≡ suc (length made.units) = omega (arith, length-append made.units (_ ∷ [])) in
+          let one : length after.units ≡ suc (length made.units) = length-append made.units (_ ∷ []) ∙ omega arith in
           let none : all_tasks_of f.body ≡ [] = none_of_all f.body (in_body s f) (function_other s f e) (lawful_body s f rest lawful) in
           let still : after.draft.spawned ≡ 0 =
-          instrs_spawned _ (Push (pos 0) ∷ Return ∷ []) ∙ spawned tells f.body (exits_of (next_label made.draft) Return) None (with_label made.draft) ∙ omega (arith, zero, ap length none) in (
+          instrs_spawned (with_place (block_code tells f.body (exits_of (next_label made.draft) Return) None (with_label made.draft)) (next_label made.draft)) (Push (pos 0) ∷ Return ∷ []) ∙ spawned tells f.body (exits_of (next_label made.draft) Return) None (with_label made.draft) ∙ omega (arith, start, ap length none) in (
             function_stands f made body none (omega (arith, small)) (then_grown (functions_grow tells blocks_kept stmts_kept is after) g),
-            subst (λ n. HasFunctions code tells tasks n is) one
-            (functions_stand is (f.name.id ∷ before) (after_item s (tree.Function f)) after leveled later apart.1 (omega (arith, small)) still own numbered is_main g),
+            subst (λ n. HasFunctions code tells tasks n is) one (go after still own is_main g),
           )
 
   task_stands : (t : TaskTree) (slots : List ℕ) (made : Units) → IsAlone t slots → slice_get captured (length made.sites) ≡ Some slots → stmt_weight t.body + 64 < 2 ^ 32
@@ -263,7 +273,7 @@ module _
       let within = stmt_small owner.OfTask (size_by tells) (size_small tells) t.body in
       let after = with_task tells captured t made in
       let b = in_main tells [] in
-      let site = record { unit = length made.units; line = t.mark.line; captured = caught; items = site_items tells t.parts } in
+      let site : Site = record { unit = length made.units; line = t.mark.line; captured = caught; items = site_items tells t.parts } in
       let framing =
       framed code place_of b (stmt_code tells t.body) (tasks_of t.body) (HasStmt code b t.body) (stmts_kept t.body) (statements code place_of b t.body alone.leveled) ends (End ∷ []) refl
       made.draft (none_numbered made.draft.spawned (tasks_of t.body) alone.alone) (back g.draft (becomes_resolved final streams)) in
@@ -278,6 +288,7 @@ module _
         items = refl;
         body = framing.body;
         falls_off = (framing.falls_off.0, refl);
+        fills = omega (arith, (task_grows tells blocks_kept stmts_kept captured t made).draft.no_shorter, framing.falls_off.1);
         args = refl;
         slots = capped_small (length caught + sum) (omega (arith, small, within, few));
       }
@@ -297,7 +308,7 @@ module _
       let none : length made.sites + 0 ≡ length made.sites = omega arith in
       subst (λ v. HasTask code tells captured (length made.sites + 0) v) same
       (subst (λ n. HasTask code tells captured n u) (sym none)
-      (task_stands u fit.0 made fit.1.1 (ap (slice_get captured) (sym none) ∙ fit.1.0) (omega (arith, small)) (then_grown (tasks_grow tells blocks_kept stmts_kept captured ts (with_task tells captured u made)) g)))
+      (task_stands u fit.0 made fit.2 (ap (slice_get captured) (sym none) ∙ fit.1) (omega (arith, small)) (then_grown (tasks_grow tells blocks_kept stmts_kept captured ts (with_task tells captured u made)) g)))
   tasks_stand (u ∷ ts) made fits small g (suc k) t is =
       let after = with_task tells captured u made in
       let one : length after.sites ≡ length made.sites + 1 = length-append made.sites (_ ∷ []) in
@@ -322,16 +333,18 @@ pub tasks_sites : (tells : ℕ → What) (captured : List (List ℕ)) (ts : List
     length (with_tasks tells captured ts made).sites ≡ length made.sites + length ts
 tasks_sites tells captured [] made = omega arith
 tasks_sites tells captured (t ∷ ts) made =
-    omega (arith, tasks_sites tells captured ts (with_task tells captured t made), length-append made.sites (_ ∷ []))
+    let after = with_task tells captured t made in
+    let one : length after.sites ≡ length made.sites + 1 = length-append made.sites (_ ∷ []) in
+    omega (arith, tasks_sites tells captured ts after, one)
 
 program_tasks_small : (is : List tree.ItemTree) → tasks_weight (program_tasks is) ≤ items_weight is
 program_tasks_small [] = omega arith
 program_tasks_small (tree.Constant c ∷ is) = omega (arith, program_tasks_small is)
-program_tasks_small (tree.Function f ∷ is) = by_case (f.name.id == main_id)
+program_tasks_small (tree.Function f ∷ is) = by_case (f.name.id == main_id) (program_tasks_small is)
   where
-    by_case : (t : Bool) → tasks_weight (if t then all_tasks_of f.body else program_tasks is) ≤ items_weight (tree.Function f ∷ is)
-    by_case true = omega (arith, all_tasks_small f.body)
-    by_case false = omega (arith, program_tasks_small is)
+    by_case : (t : Bool) → tasks_weight (program_tasks is) ≤ items_weight is → tasks_weight (if t then all_tasks_of f.body else program_tasks is) ≤ items_weight (tree.Function f ∷ is)
+    by_case true more = omega (arith, all_tasks_small f.body)
+    by_case false more = omega (arith, more)
 
 -- What is made of a lawful program stands for it.
 pub program_stands : (tells : ℕ → What) → StatementsStand → BlocksStand → BlocksAreSpawned

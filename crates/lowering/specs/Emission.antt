@@ -5,3 +5,4 @@ pub mod Declarators
 pub mod Tasks
 pub mod Statements
 pub mod Units
+pub mod TaskUnits

@@ -15,6 +15,7 @@ use std::alloc::Global;
 use window_check::Checked;
 
 /// The parts of the code of a program.
+#[tactic(auto, using(crate::proofs::UnitsStand::program_stands, crate::proofs::Tiled::program_tiled, crate::proofs::SlotsSum::program_slots))]
 pub(crate) fn lower_parts(alloc: Global, checked: &Checked) -> Result<Parts, Memory>
     ensures made { IfOk result (λ parts. parts ≡ parts_made checked.now.streams
         (program_units (told_at checked.now.names) checked.now.captured (program_tree checked.now.program))) }

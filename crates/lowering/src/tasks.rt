@@ -1,12 +1,13 @@
 //! The units and sites of tasks, in the order of the text.
 
 ghost use Rattle.std.specs.Prelude.{◌≡◌, ◌+◌, OnOk, map};
+ghost use Rattle.lowering.specs.Emission.TaskUnits.{with_block_tasks, with_stmt_tasks};
 ghost use Rattle.lowering.specs.Emission.Units.{capped, task_code, task_tree, with_task, with_tasks, with_unit};
 ghost use Rattle.os_ast.specs.Views.{item_tree, stmt_tree, stmts_tree};
 ghost use Rattle.simulation.specs.Names.{told_at};
 ghost use Rattle.os_ast.specs.declared.names.Owner.TheVariants as owner;
 ghost use Rattle.simulation.specs.Programs.{size_by};
-ghost use Rattle.simulation.specs.Tasks.{all_tasks_of, program_tasks, tasks_of};
+ghost use Rattle.simulation.specs.Tasks.{program_tasks};
 ghost use Rattle.window_check.specs.Sums.{stmt_slots};
 
 use crate::sites::{captured_at, listed, site_items};
@@ -49,7 +50,7 @@ fn add_tasks(
     captured: &[List<u32>],
     stmt: &Stmt,
 ) -> Result<(), Memory>
-    ensures { OnOk result (made.new ≡ with_tasks (told_at told.now.names.now) captured.now (tasks_of (stmt_tree stmt.now)) made.old) }
+    ensures { OnOk result (made.new ≡ with_stmt_tasks (told_at told.now.names.now) captured.now (stmt_tree stmt.now) made.old) }
 {
     match stmt {
         Stmt::Block(stmts) => add_all_tasks(alloc, made, told, captured, stmts),
@@ -83,7 +84,7 @@ fn add_all_tasks(
     captured: &[List<u32>],
     stmts: &List<Stmt>,
 ) -> Result<(), Memory>
-    ensures { OnOk result (made.new ≡ with_tasks (told_at told.now.names.now) captured.now (all_tasks_of (stmts_tree stmts.now)) made.old) }
+    ensures { OnOk result (made.new ≡ with_block_tasks (told_at told.now.names.now) captured.now (stmts_tree stmts.now) made.old) }
 {
     for stmt in stmts.as_slice() {
         add_tasks(alloc, made, told, captured, stmt)?;

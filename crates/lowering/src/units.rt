@@ -1,9 +1,9 @@
 //! The units of functions and of tasks: a body each, and behind it what it does where it falls off its end.
 
-ghost use Rattle.std.specs.Prelude.{◌≡◌, [], ◌∷◌, ◌==◌, OnOk, map};
+ghost use Rattle.std.specs.Prelude.{◌≡◌, ◌==◌, OnOk, map};
 ghost use Rattle.lowering.specs.Emission.Units.{
-    exits_of, function_code, function_tree, main_code, no_units, task_code, unit_from, with_functions, with_main,
-    with_plain,
+    exits_of, function_code, function_tree, main_code, no_units, task_code, unit_from, with_functions, with_item,
+    with_main, with_plain,
 };
 ghost use Rattle.os_ast.specs.Names.{main_id};
 ghost use Rattle.os_ast.specs.Notes.Programs.{param_names};
@@ -79,7 +79,7 @@ pub(crate) fn add_functions(
 
 /// An item, which has a unit where it is a function.
 fn add_item(made: &mut Units, told: &Told<'_>, item: &Item) -> Result<(), Memory>
-    ensures { OnOk result (made.new ≡ with_functions (told_at told.now.names.now) (item_tree item.now ∷ []) made.old) }
+    ensures { OnOk result (made.new ≡ with_item (told_at told.now.names.now) (item_tree item.now) made.old) }
 {
     match item {
         Item::Constant(_) => Ok(()),

@@ -80,10 +80,13 @@ abbrev pub with_function : (is_main : Bool) → (ℕ → What) → tree.Function
 with_function true tells f made = with_main tells f made
 with_function false tells f made = with_plain tells f made
 
+abbrev pub with_item : (ℕ → What) → tree.ItemTree → Units → Units
+with_item tells (tree.Constant c) made = made
+with_item tells (tree.Function f) made = with_function (f.name.id == main_id) tells f made
+
 abbrev pub with_functions : (ℕ → What) → List tree.ItemTree → Units → Units
 with_functions tells [] made = made
-with_functions tells (tree.Constant c ∷ is) made = with_functions tells is made
-with_functions tells (tree.Function f ∷ is) made = with_functions tells is (with_function (f.name.id == main_id) tells f made)
+with_functions tells (i ∷ is) made = with_functions tells is (with_item tells i made)
 
 abbrev pub with_site : Site → Units → Units
 with_site site made = record made { sites = made.sites ++ site ∷ [] }
