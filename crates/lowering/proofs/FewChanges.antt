@@ -7,9 +7,9 @@ use Rattle.lowering.proofs.FewExpressions.{expr_pays}
 use Rattle.lowering.proofs.KeptExpressions.{expr_kept}
 use Rattle.lowering.proofs.Paying.{Pays, aiming_few, length-instrs, operation_few, reading_few}
 use Rattle.lowering.specs.Draft.{with_instr, with_instrs}
-use Rattle.lowering.specs.Emission.Changes.{aim_code, change_code, changed_code, operated_code, plain_aim, plain_code, stepped_code, store_code}
+use Rattle.lowering.specs.Emission.Changes.{aim_code, change_code, plain_aim, stepped_code, store_code}
 use Rattle.lowering.specs.Emission.Declarators.{cleared_code, declarators_code, declared_code, scalar_code, start_code, window_code}
-use Rattle.lowering.specs.Emission.Expressions.{Emission, expr_code}
+use Rattle.lowering.specs.Emission.Expressions.{expr_code}
 use Rattle.lowering.specs.declared.draft.Draft.{Draft}
 use Rattle.os_ast.specs.FreeNames.{expr_names}
 use Rattle.os_ast.specs.Parts.{is_in}

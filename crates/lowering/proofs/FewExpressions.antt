@@ -1,5 +1,5 @@
 -- Expressions and conditions have few instructions for their tokens.
-use Rattle.std.proofs.Common.{◌≡◌, ℕ, zero, suc, ◌+◌, ◌*◌, ◌≤◌, List, [], ◌∷◌, length, Option, Some, None, arith}
+use Rattle.std.proofs.Common.{ℕ, zero, suc, [], ◌∷◌, Option, Some, None, arith}
 use Rattle.std.specs.Prelude.{ℤ, pos}
 use Rattle.c_int.specs.declared.operators.Unary.TheVariants as int_unary
 use Rattle.cddf_meaning.specs.Operators.{operator_of_one}
@@ -10,10 +10,8 @@ use Rattle.lowering.proofs.Paying.{Pays, length-instrs, operation_few, reading_f
 use Rattle.lowering.specs.Draft.{next_label, with_instr, with_instrs, with_label, with_place}
 use Rattle.lowering.specs.Emission.Conditions.{condition_code, conditions_code}
 use Rattle.lowering.specs.Emission.Expressions.{Emission, args_code, expr_code, links_code, literal, place_code, with_link, with_unary, worked_out}
-use Rattle.lowering.specs.declared.draft.Draft.{Draft}
 use Rattle.lowering.specs.declared.draft.Label.{Label}
-use Rattle.os_ast.specs.Spelling as spelling
-use Rattle.os_ast.specs.Spelling.{Piece, Printer, bare, ◌⨾◌, expr, links, args, more_args, target}
+use Rattle.os_ast.specs.Spelling.{Printer, bare, expr, links, args, more_args, target}
 use Rattle.os_ast.specs.Trees as tree
 use Rattle.os_ast.specs.declared.expr.Binary.{Binary}
 use Rattle.os_ast.specs.declared.expr.Binary.TheVariants as binary

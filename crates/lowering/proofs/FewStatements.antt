@@ -9,8 +9,8 @@ use Rattle.lowering.specs.Draft.{next_label, with_instr, with_label, with_place,
 use Rattle.lowering.specs.Emission.Changes.{change_code}
 use Rattle.lowering.specs.Emission.Conditions.{condition_code}
 use Rattle.lowering.specs.Emission.Declarators.{declarators_code, start_code}
-use Rattle.lowering.specs.Emission.Expressions.{Emission, expr_code}
-use Rattle.lowering.specs.Emission.Statements.{Part, block_code, closed, end_of, in_loop, jump_on, loop_code, opened, rest_code, round_code, stmt_code, test_code}
+use Rattle.lowering.specs.Emission.Expressions.{expr_code}
+use Rattle.lowering.specs.Emission.Statements.{Part, block_code, closed, end_of, in_loop, jump_on, loop_code, opened, rest_code, stmt_code, test_code}
 use Rattle.lowering.specs.Emission.Tasks.{items_code, tick_code}
 use Rattle.lowering.specs.Few.{units_most}
 use Rattle.lowering.specs.declared.draft.Draft.{Draft}

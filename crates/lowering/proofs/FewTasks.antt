@@ -1,12 +1,11 @@
 -- The items of tasks, and ticks, have few instructions for their tokens.
-use Rattle.std.proofs.Common.{◌≡◌, ◌∙◌, ℕ, ◌+◌, ◌*◌, ◌≤◌, Bool, true, false, List, [], ◌∷◌, ◌++◌, length, map, Option, Some, None, ap, refl, arith}
+use Rattle.std.proofs.Common.{◌≡◌, ℕ, ◌+◌, ◌*◌, ◌≤◌, Bool, true, false, List, [], ◌∷◌, length, map, Option, Some, None, ap, refl, arith}
 use Rattle.std.specs.Prelude.{pos}
 use Rattle.lowering.proofs.ExpressionsStand.{length-instr}
 use Rattle.lowering.proofs.FewExpressions.{expr_pays}
 use Rattle.lowering.proofs.Parts.{items_code-append}
 use Rattle.lowering.proofs.Paying.{Pays, length-instrs}
-use Rattle.lowering.specs.Draft.{with_instr, with_instrs}
-use Rattle.lowering.specs.Emission.Expressions.{Emission, expr_code}
+use Rattle.lowering.specs.Emission.Expressions.{expr_code}
 use Rattle.lowering.specs.Emission.Tasks.{burst_code, item_code, items_code, join_code, stream_code, tick_code}
 use Rattle.lowering.specs.declared.draft.Draft.{Draft}
 use Rattle.os_ast.specs.Parts.{Item, Private, parts, parts_of, target_name}

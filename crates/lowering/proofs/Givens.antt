@@ -1,10 +1,10 @@
 -- The declarators and clauses of a leveled statement have leveled expressions in them.
-use Rattle.std.proofs.Common.{◌≡◌, ◌∙◌, List, [], ◌∷◌, ◌++◌, map, Option, Some, None, ap, subst}
+use Rattle.std.proofs.Common.{◌≡◌, ◌∙◌, List, [], ◌∷◌, ◌++◌, map, Option, Some, ap, subst}
 use Rattle.std.proofs.lemmas.Option.{none-some, same_Some}
 use Rattle.lowering.specs.Given.{IsGiven, IsItem, joined, private_name}
 use Rattle.os_ast.specs.Leveled as leveled
 use Rattle.os_ast.specs.Leveled.{AreAll, AreClauses, AreListed, IsClause, IsClauseItem, IsClauseKind, IsDeclarator, IsExpr, IsHeadDeclarator, IsIndex, IsOptional}
-use Rattle.os_ast.specs.Parts.{Part, Item, Private, parts, parts_of}
+use Rattle.os_ast.specs.Parts.{Item, Private, parts, parts_of}
 use Rattle.os_ast.specs.Trees as tree
 use Rattle.os_ast.specs.declared.expr.Name.{Name}
 use Rattle.os_ast.specs.declared.names.Direction.{Direction}

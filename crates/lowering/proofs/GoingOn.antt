@@ -1,5 +1,5 @@
 -- Where the code goes on behind a part: at the next place, by a jump, or at a label of its own.
-use Rattle.std.proofs.Common.{◌≡◌, ◌∙◌, ℕ, ◌+◌, ◌<◌, [], ◌∷◌, length, length-append, Option, Some, None, slice_get, ap, subst, sym, refl, arith}
+use Rattle.std.proofs.Common.{◌≡◌, ◌∙◌, ℕ, ◌<◌, [], ◌∷◌, length, length-append, Option, Some, None, slice_get, subst, sym, refl, arith}
 use Rattle.lowering.proofs.Becoming.{back, before_place, instr_stands, placed_here, slice_get-last}
 use Rattle.lowering.proofs.ExpressionsStand.{length-instr}
 use Rattle.lowering.proofs.Keeping.{KeepsLabels, kept, keeps_instr}
@@ -9,7 +9,6 @@ use Rattle.lowering.specs.Emission.Statements.{closed, end_of, jump_on, opened}
 use Rattle.lowering.specs.Going.{GoesOn}
 use Rattle.lowering.specs.declared.draft.Draft.{Draft}
 use Rattle.lowering.specs.declared.draft.Label.{Label}
-use Rattle.os_code.specs.Parts.{instr_at}
 use Rattle.os_code.specs.declared.instr.Instr.TheVariants.{Jump}
 use Rattle.os_code.specs.declared.parts.Parts.{Parts}
 use Rattle.simulation.specs.Statements.{Ends, by_itself, by_jump}

@@ -1,5 +1,5 @@
 -- The laws, as they are stated.
-use Rattle.std.proofs.Common.{◌+◌, ◌*◌, ◌≤◌, [], length, arith}
+use Rattle.std.proofs.Common.{[], arith}
 use Rattle.lowering.proofs.ChangesStand.{change_stands}
 use Rattle.lowering.proofs.ConditionsStand.{condition_stands}
 use Rattle.lowering.proofs.DeclaratorsStand.{declarators_stand}

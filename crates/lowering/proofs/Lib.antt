@@ -1,5 +1,6 @@
 pub mod Becoming
 pub mod Blocks
+pub mod BranchesStand
 pub mod ChangesStand
 pub mod ConditionsStand
 pub mod DeclaratorsStand
@@ -9,6 +10,7 @@ pub mod FewExpressions
 pub mod FewStatements
 pub mod FewTasks
 pub mod Givens
+pub mod Going
 pub mod GoingOn
 pub mod Keeping
 pub mod KeptExpressions
@@ -16,11 +18,13 @@ pub mod KeptStatements
 pub mod Lawful
 pub mod Lists
 pub mod Loops
+pub mod LoopsStand
 pub mod Numbering
 mod Parts
 pub mod Paying
 mod Placed
 pub mod Rules
+pub mod SimpleStand
 pub mod Spawning
 pub mod StatementsStand
 pub mod TasksStand

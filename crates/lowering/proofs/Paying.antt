@@ -1,5 +1,5 @@
 -- How many instructions an emission adds, paid by the tokens of a printer, 8 for each.
-use Rattle.std.proofs.Common.{◌≡◌, ◌∙◌, ℕ, ◌+◌, ◌*◌, ◌≤◌, List, [], ◌∷◌, length, length-append, Option, Some, None, refl, arith}
+use Rattle.std.proofs.Common.{◌≡◌, ℕ, ◌+◌, ◌*◌, ◌≤◌, List, [], ◌∷◌, length, Option, Some, None, arith}
 use Rattle.lowering.proofs.ExpressionsStand.{length-instr}
 use Rattle.lowering.specs.Draft.{with_instr, with_instrs}
 use Rattle.lowering.specs.Emission.Expressions.{Emission}

@@ -1,19 +1,19 @@
 -- How many tasks are spawned: those of statements, and none in expressions, conditions, changes, declarators and items.
-use Rattle.std.proofs.Common.{◌≡◌, ◌∙◌, ℕ, zero, suc, ◌+◌, Bool, true, false, List, [], ◌∷◌, length, length-append, Option, Some, None, ap, sym, refl, arith}
+use Rattle.std.proofs.Common.{◌≡◌, ◌∙◌, ℕ, zero, suc, ◌+◌, Bool, true, false, List, [], ◌∷◌, length, length-append, Option, Some, None, ap, refl, arith}
 use Rattle.std.specs.Prelude.{ℤ}
 use Rattle.lowering.specs.Draft.{next_label, with_instr, with_instrs, with_label, with_place, with_spawn}
-use Rattle.lowering.specs.Emission.Changes.{aim_code, change_code, changed_code, operated_code, plain_aim, plain_code, stepped_code, store_code}
+use Rattle.lowering.specs.Emission.Changes.{aim_code, change_code, changed_code, operated_code, plain_aim, stepped_code, store_code}
 use Rattle.lowering.specs.Emission.Conditions.{condition_code, conditions_code}
 use Rattle.lowering.specs.Emission.Declarators.{cleared_code, declarators_code, declared_code, scalar_code, start_code, window_code}
 use Rattle.lowering.specs.Emission.Expressions.{Emission, args_code, expr_code, links_code, place_code, with_link, with_unary, worked_out}
-use Rattle.lowering.specs.Emission.Statements.{Part as StmtPart, block_code, closed, end_of, in_loop, jump_on, loop_code, opened, rest_code, round_code, stmt_code, test_code}
+use Rattle.lowering.specs.Emission.Statements.{Part as StmtPart, block_code, closed, end_of, jump_on, loop_code, opened, rest_code, stmt_code, test_code}
 use Rattle.lowering.specs.Emission.Tasks.{burst_code, item_code, items_code, join_code, stream_code, tick_code}
 use Rattle.lowering.specs.declared.draft.Draft.{Draft}
 use Rattle.lowering.specs.declared.draft.Label.{Label}
 use Rattle.lowering.specs.declared.exits.Exits.{Exits}
 use Rattle.cddf_meaning.specs.Operators.{step_operator}
 use Rattle.os_ast.specs.FreeNames.{expr_names}
-use Rattle.os_ast.specs.Parts.{Part, Item, Private, is_in, parts, target_name}
+use Rattle.os_ast.specs.Parts.{Part, Item, Private, is_in, parts}
 use Rattle.os_ast.specs.Trees as tree
 use Rattle.os_ast.specs.declared.expr.Binary.{Binary}
 use Rattle.os_ast.specs.declared.expr.Binary.TheVariants as binary
@@ -26,10 +26,9 @@ use Rattle.os_ast.specs.declared.stmt.Assign.TheVariants as assign
 use Rattle.os_code.specs.declared.instr.Instr.{Instr}
 use Rattle.os_code.specs.declared.instr.Instr.TheVariants.{BurstIn, JumpZero, Push, Store, Tick, Turn}
 use Rattle.os_code.specs.declared.instr.Instr.TheVariants as instr
-use Rattle.c_int.specs.declared.operators.Unary.TheVariants as int_unary
 use Rattle.simulation.specs.Changes.{is_quiet}
 use Rattle.simulation.specs.Expressions.{operation}
-use Rattle.simulation.specs.Names.{aiming, calling, fetching, fetching_at, first_of, reading}
+use Rattle.simulation.specs.Names.{aiming, calling, fetching, fetching_at, reading}
 use Rattle.simulation.specs.Tasks.{all_tasks_of, tasks_of}
 use Rattle.std.specs.Prelude.{pos}
 

@@ -1,13 +1,12 @@
 -- How many instructions a part of a program has: at most 8 for each token of its spelling. A task's body has a unit of its
 -- own, which the tokens of the body and of its pragma pay.
 use Rattle.std.specs.Prelude.{ℕ, ◌+◌, ◌*◌, ◌≤◌, List, [], ◌∷◌, length, Option}
-use Rattle.lowering.specs.Emission.Conditions.{condition_code}
-use Rattle.lowering.specs.Emission.Expressions.{Emission, expr_code}
-use Rattle.lowering.specs.Emission.Statements.{Part, block_code, stmt_code}
+use Rattle.lowering.specs.Emission.Expressions.{Emission}
+use Rattle.lowering.specs.Emission.Statements.{block_code, stmt_code}
 use Rattle.lowering.specs.declared.draft.Draft.{Draft}
 use Rattle.lowering.specs.declared.draft.Label.{Label}
 use Rattle.lowering.specs.declared.exits.Exits.{Exits}
-use Rattle.os_ast.specs.Spelling.{Printer, expr, function, stmt, stmts}
+use Rattle.os_ast.specs.Spelling.{Printer, function, stmt}
 use Rattle.os_ast.specs.Trees as tree
 use Rattle.os_ast.specs.declared.names.What.{What}
 use Rattle.simulation.specs.Tasks.{TaskTree, all_tasks_of, tasks_of}
