@@ -42,7 +42,13 @@ module _ (tells : ℕ → What) where
       → length (aim_code tells old t d).instrs + 5 + 8 * length rest ≤ length d.instrs + 8 * length (target t rest)
   aim_pays old (tree.Variable n) d rest =
       let w = tells n.mark.place in
-      omega (arith, length-instrs (with_instrs d (aiming w)) (fetching old w n.mark.line), length-instrs d (aiming w), aiming_few w, fetching_few old w n.mark.line)
+      omega (
+        arith,
+        length-instrs (with_instrs d (aiming w)) (fetching old w n.mark.line),
+        length-instrs d (aiming w),
+        aiming_few w,
+        fetching_few old w n.mark.line,
+      )
   aim_pays old (tree.Element n m e) d rest =
       let w = tells n.mark.place in
       omega (
@@ -70,7 +76,12 @@ module _ (tells : ℕ → What) where
   change_pays (tree.Set t assign.Plain m e) d rest =
       let aimed = plain_aim tells (is_quiet e) t d in
       let made = expr_code tells e aimed in
-      omega (arith, plain_aim_pays (is_quiet e) t d (marked (kind.Punct (assign_mark assign.Plain)) m ∷ expr e rest), expr_pays tells e aimed rest, length-store t made)
+      omega (
+        arith,
+        plain_aim_pays (is_quiet e) t d (marked (kind.Punct (assign_mark assign.Plain)) m ∷ expr e rest),
+        expr_pays tells e aimed rest,
+        length-store t made,
+      )
   change_pays (tree.Set t (assign.With op) m e) d rest =
       let aimed = aim_code tells true t d in
       let made = expr_code tells e aimed in
@@ -123,7 +134,11 @@ module _ (tells : ℕ → What) where
   window_pays : (slot : ℕ) (size : Option tree.IndexTree) → Pays (window_code tells slot size) (optional index size) 1
   window_pays slot None d rest = omega arith
   window_pays slot (Some i) d rest =
-      omega (arith, expr_pays tells i.value d (bare (kind.Punct puncts.CloseBracket) ∷ rest), length-instr (expr_code tells i.value d) (Window slot i.mark.line))
+      omega (
+        arith,
+        expr_pays tells i.value d (bare (kind.Punct puncts.CloseBracket) ∷ rest),
+        length-instr (expr_code tells i.value d) (Window slot i.mark.line),
+      )
 
   -- a declarator for which nothing is done
   quiet_pays : (x : tree.DeclaratorTree) (rest : List Piece) → length rest + 1 ≤ length (declarator x rest)

@@ -107,7 +107,11 @@ module _ (tells : ℕ → What) where
     links_pay : (ls : tree.Links) → Pays (links_code tells ls) (links ls) 0
     links_pay tree.no_links d rest = omega arith
     links_pay (tree.link op m e more) d rest =
-        omega (arith, link_pays op m.line (expr_code tells e) (expr e) (expr_pays e) d (links more rest), links_pay more (with_link op m.line (expr_code tells e) d) rest)
+        omega (
+          arith,
+          link_pays op m.line (expr_code tells e) (expr e) (expr_pays e) d (links more rest),
+          links_pay more (with_link op m.line (expr_code tells e) d) rest,
+        )
 
     args_pay : (es : tree.Args) → Pays (args_code tells es) (args es) 0
     args_pay tree.no_args d rest = omega arith

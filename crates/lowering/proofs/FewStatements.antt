@@ -190,8 +190,10 @@ module _ (tells : ℕ → What) where
           units_most-append (tasks_of a) (all_tasks_of more),
         )
 
-    rest_pays : (more : tree.Stmts) (a : Part) (p : Printer) (units : ℕ) → PartPays a p units 0 → (x : Exits) (next : Option Label) (d : Draft) (rest : List Piece)
-        → length (rest_code tells more x next a d).instrs + (units + units_most (all_tasks_of more)) + 8 * length rest ≤ length d.instrs + 8 * length (p (stmts more rest))
+    rest_pays : (more : tree.Stmts) (a : Part) (p : Printer) (units : ℕ) → PartPays a p units 0
+        → (x : Exits) (next : Option Label) (d : Draft) (rest : List Piece)
+        → length (rest_code tells more x next a d).instrs + (units + units_most (all_tasks_of more)) + 8 * length rest
+        ≤ length d.instrs + 8 * length (p (stmts more rest))
     rest_pays tree.no_stmts a p units pays x next d rest = omega (arith, pays x next d rest)
     rest_pays (tree.stmt b more) a p units pays x next d rest =
         omega (
@@ -202,7 +204,8 @@ module _ (tells : ℕ → What) where
         )
 
 -- parameters behind the first one
-names_grow : (ns : List Name) (rest : List Piece) → length rest ≤ length (each (λ y. spelling.punct puncts.Comma ⨾ (spelling.key keys.Int ⨾ spelling.name y)) ns rest)
+names_grow : (ns : List Name) (rest : List Piece)
+    → length rest ≤ length (each (λ y. spelling.punct puncts.Comma ⨾ (spelling.key keys.Int ⨾ spelling.name y)) ns rest)
 names_grow [] rest = omega arith
 names_grow (n ∷ ns) rest = omega (arith, names_grow ns rest)
 
@@ -212,7 +215,8 @@ params_grow params_of.Void rest = omega arith
 params_grow (params_of.Names []) rest = omega arith
 params_grow (params_of.Names (n ∷ ns)) rest = omega (arith, names_grow ns rest)
 
-pub function_pays : (tells : ℕ → What) (f : tree.FunctionTree) → PartPays (λ x next d. block_code tells f.body x next d) (spelling.function f) (units_most (all_tasks_of f.body) + 2) 0
+pub function_pays : (tells : ℕ → What) (f : tree.FunctionTree)
+    → PartPays (λ x next d. block_code tells f.body x next d) (spelling.function f) (units_most (all_tasks_of f.body) + 2) 0
 function_pays tells f x next d rest =
     let closed = bare (kind.Punct puncts.CloseBrace) ∷ rest in
     omega (

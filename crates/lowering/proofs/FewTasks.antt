@@ -35,15 +35,24 @@ listed_grow (n ∷ ns) rest = omega (arith, names_grow ns rest)
 
 module _ (tells : ℕ → What) where
   -- A stream pays for its code, and 7 more.
-  stream_pays : (t : tree.TargetTree) (d : Draft) (rest : List Piece) → length (stream_code tells t d).instrs + 7 + 8 * length rest ≤ length d.instrs + 8 * length (target t rest)
+  stream_pays : (t : tree.TargetTree) (d : Draft) (rest : List Piece)
+      → length (stream_code tells t d).instrs + 7 + 8 * length rest ≤ length d.instrs + 8 * length (target t rest)
   stream_pays (tree.Variable n) d rest = omega (arith, length-instr d (Push (pos 0)))
   stream_pays (tree.Element n m e) d rest =
-      omega (arith, expr_pays tells e d (bare (kind.Punct puncts.CloseBracket) ∷ rest), length-instr (expr_code tells e d) (CheckAt (count_of (tells n.mark.place)) m.line))
+      omega (
+        arith,
+        expr_pays tells e d (bare (kind.Punct puncts.CloseBracket) ∷ rest),
+        length-instr (expr_code tells e d) (CheckAt (count_of (tells n.mark.place)) m.line),
+      )
 
   burst_pays : (r : Direction) (w : What) (b : Option tree.IndexTree) → Pays (burst_code tells r w b) (optional index b) 1
   burst_pays r w None d rest = omega (arith, length-instr d (Push (pos 1)))
   burst_pays r w (Some i) d rest =
-      omega (arith, expr_pays tells i.value d (bare (kind.Punct puncts.CloseBracket) ∷ rest), length-instr (expr_code tells i.value d) (bursting r w i.mark.line))
+      omega (
+        arith,
+        expr_pays tells i.value d (bare (kind.Punct puncts.CloseBracket) ∷ rest),
+        length-instr (expr_code tells i.value d) (bursting r w i.mark.line),
+      )
 
   join_pays : (arrow : Punct) (r : Direction) (j : Option tree.JoinTree) → Pays (join_code tells r j) (optional (join arrow) j) 1
   join_pays arrow r None d rest = omega (arith, length-instr d (Push (pos 1)))

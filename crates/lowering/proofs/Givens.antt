@@ -49,7 +49,9 @@ heads_given are = map_listed (λ d is. head_given is) are
 
 item_given : (d : Direction) {i : tree.ClauseItemTree} → IsClauseItem i → IsItem (Item d i)
 item_given d (leveled.joined {t} {m} {n} {burst} is_target is_burst) = joined is_target
-    (λ j b is_join is. index_value (present_is is_burst b (ap (λ (k : tree.JoinTree). k.burst) (same_Some (record { mark = m; name = n; burst = burst }) j is_join) ∙ is)))
+    (λ j b is_join is.
+    let same = same_Some (record { mark = m; name = n; burst = burst }) j is_join in
+    index_value (present_is is_burst b (ap (λ (k : tree.JoinTree). k.burst) same ∙ is)))
 item_given d leveled.alone = joined leveled.variable (λ j b is_join is. absurd (none-some j is_join))
 
 items_given : (d : Direction) {is : List tree.ClauseItemTree} → AreAll IsClauseItem is → AreAll IsItem (map (Item d) is)

@@ -22,7 +22,8 @@ new_is_within d = omega (arith, length-append d.places (None ∷ []))
 
 module _ (code : Parts) where
   -- something before a part
-  ends_behind : (p q : (next from to : ℕ) → Type 0) (from mid next : ℕ) → ((n to : ℕ) → p n mid to → q n from to) → {to : ℕ} → Ends code p next mid to → Ends code q next from to
+  ends_behind : (p q : (next from to : ℕ) → Type 0) (from mid next : ℕ) → ((n to : ℕ) → p n mid to → q n from to) → {to : ℕ}
+      → Ends code p next mid to → Ends code q next from to
   ends_behind p q from mid next f {to} (by_itself h) = by_itself (f next to h)
   ends_behind p q from mid next f (by_jump end h is) = by_jump end (f end end h) is
 
@@ -33,7 +34,8 @@ module _ (code : Parts) (place_of : ℕ → ℕ) where
   Meets (Some next) end to = next ≡ end
 
   -- a part that goes on there ends there
-  pub ends_there : (part : (next from to : ℕ) → Type 0) (next : Option Label) (end : Label) (from to : ℕ) → Meets next end to → GoesOn code place_of next part from to
+  pub ends_there : (part : (next from to : ℕ) → Type 0) (next : Option Label) (end : Label) (from to : ℕ)
+      → Meets next end to → GoesOn code place_of next part from to
       → Ends code part (place_of end.number) from to
   ends_there part None end from to there goes = by_itself (subst (λ n. part n from to) (sym there) goes)
   ends_there part (Some next) end from to same goes = subst (λ (l : Label). Ends code part (place_of l.number) from to) same goes
@@ -63,7 +65,8 @@ module _ (code : Parts) (place_of : ℕ → ℕ) where
       (by_jump (length d.instrs) (stands (back (keeps_instr (kept d) (Jump next.number)) becomes)) (instr_stands d (Jump next.number) becomes))
 
   -- code that doesn't go on
-  pub still_stands : (part : (next from to : ℕ) → Type 0) (from to : ℕ) (next : Option Label) → ((n : ℕ) → part n from to) → GoesOn code place_of next part from to
+  pub still_stands : (part : (next from to : ℕ) → Type 0) (from to : ℕ) (next : Option Label) → ((n : ℕ) → part n from to)
+      → GoesOn code place_of next part from to
   still_stands part from to None stands = stands to
   still_stands part from to (Some next) stands = by_itself (stands (place_of next.number))
 

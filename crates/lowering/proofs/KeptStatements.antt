@@ -36,21 +36,25 @@ begun_kept : {test : Emission} → KeepsLabels test → (d : Draft) → Keeps d 
 begun_kept k d = and_then_kept (keeps_instr (keeps_place (keeps_label (kept d)) (next_label d) (next_is_new (kept d))) Turn) k
 
 module _ (tells : ℕ → What) where
-  pub if_kept : (c : tree.ExprTree) (end : Label) (x : Exits) (next : Option Label) {a : Part} → KeepsAll a → KeepsLabels (λ d. a x next (condition_code tells c end d))
+  pub if_kept : (c : tree.ExprTree) (end : Label) (x : Exits) (next : Option Label) {a : Part} → KeepsAll a
+      → KeepsLabels (λ d. a x next (condition_code tells c end d))
   if_kept c end x next k d = and_then_kept (condition_kept tells c end d) (k x next)
 
   pub if_else_kept : (c : tree.ExprTree) (end : Label) (x : Exits) (next : Option Label) {a s : Part} → KeepsAll a → KeepsAll s
       → KeepsLabels (λ d. s x next (with_place (a x (Some end) (condition_code tells c (next_label d) (with_label d))) (next_label d)))
   if_else_kept c end x next ka ks d =
       and_then_kept
-      (keeps_place (and_then_kept (and_then_kept (keeps_label (kept d)) (condition_kept tells c (next_label d))) (ka x (Some end))) (next_label d) (next_is_new (kept d)))
+      (keeps_place
+      (and_then_kept (and_then_kept (keeps_label (kept d)) (condition_kept tells c (next_label d))) (ka x (Some end)))
+      (next_label d) (next_is_new (kept d)))
       (ks x next)
 
   pub test_kept : (test : Option tree.ExprTree) (end : Label) → KeepsLabels (test_code tells test end)
   test_kept None end d = kept d
   test_kept (Some e) end d = condition_kept tells e end d
 
-  pub round_kept : (step : Option tree.ChangeTree) (again : Label) (x : Exits) (end : Label) {a : Part} → KeepsAll a → KeepsLabels (round_code tells step again x end a)
+  pub round_kept : (step : Option tree.ChangeTree) (again : Label) (x : Exits) (end : Label) {a : Part} → KeepsAll a
+      → KeepsLabels (round_code tells step again x end a)
   round_kept None again x end k d = k (in_loop x end again) (Some again) d
   round_kept (Some c) again x end k d =
       keeps_instr
@@ -58,7 +62,8 @@ module _ (tells : ℕ → What) where
       (change_kept tells c))
       (Jump again.number)
 
-  pub loop_kept : (test : Option tree.ExprTree) (step : Option tree.ChangeTree) (x : Exits) (end : Label) {a : Part} → KeepsAll a → KeepsLabels (loop_code tells test step x end a)
+  pub loop_kept : (test : Option tree.ExprTree) (step : Option tree.ChangeTree) (x : Exits) (end : Label) {a : Part} → KeepsAll a
+      → KeepsLabels (loop_code tells test step x end a)
   loop_kept test step x end k d = and_then_kept (begun_kept (test_kept test end) d) (round_kept step (next_label d) x end k)
 
   mutual
@@ -77,7 +82,9 @@ module _ (tells : ℕ → What) where
         closed_kept next (and_then_kept (opened_kept next d) (loop_kept (Some c) None x (end_of next d) {a = stmt_code tells a} (stmt_kept a)))
     stmt_kept (tree.For start test step a) x next d =
         closed_kept next
-        (and_then_kept (and_then_kept (opened_kept next d) (start_kept tells start)) (loop_kept test step x (end_of next d) {a = stmt_code tells a} (stmt_kept a)))
+        (and_then_kept
+        (and_then_kept (opened_kept next d) (start_kept tells start))
+        (loop_kept test step x (end_of next d) {a = stmt_code tells a} (stmt_kept a)))
     stmt_kept (tree.Break m) x next d = keeps_instr (kept d) (Jump x.broke.number)
     stmt_kept (tree.Continue m) x next d = keeps_instr (kept d) (Jump x.continued.number)
     stmt_kept (tree.Return m e) x next d = keeps_instr (expr_kept tells e d) x.leaves

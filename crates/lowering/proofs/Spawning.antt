@@ -100,7 +100,8 @@ module _ (tells : ℕ → What) where
     condition_spawned (tree.Paren e) fails d = condition_spawned e fails d
     condition_spawned (tree.Unary op m e) fails d = expr_spawned (tree.Unary op m e) d
     condition_spawned (tree.Choice c a b) fails d = expr_spawned (tree.Choice c a b) d
-    condition_spawned (tree.Chain level.And first links) fails d = conditions_spawned links fails (condition_code tells first fails d) ∙ condition_spawned first fails d
+    condition_spawned (tree.Chain level.And first links) fails d =
+        conditions_spawned links fails (condition_code tells first fails d) ∙ condition_spawned first fails d
     condition_spawned (tree.Chain level.Or first links) fails d = expr_spawned (tree.Chain level.Or first links) d
     condition_spawned (tree.Chain level.BitOr first links) fails d = expr_spawned (tree.Chain level.BitOr first links) d
     condition_spawned (tree.Chain level.BitXor first links) fails d = expr_spawned (tree.Chain level.BitXor first links) d
@@ -117,7 +118,8 @@ module _ (tells : ℕ → What) where
 
   aim_spawned : (old : Bool) (t : tree.TargetTree) → SpawnsNothing (aim_code tells old t)
   aim_spawned old (tree.Variable n) d =
-      instrs_spawned (fetching old (tells n.mark.place) n.mark.line) (with_instrs d (aiming (tells n.mark.place))) ∙ instrs_spawned (aiming (tells n.mark.place)) d
+      instrs_spawned (fetching old (tells n.mark.place) n.mark.line) (with_instrs d (aiming (tells n.mark.place)))
+      ∙ instrs_spawned (aiming (tells n.mark.place)) d
   aim_spawned old (tree.Element n m e) d = instrs_spawned (fetching_at old (tells n.mark.place) m.line) (expr_code tells e d) ∙ expr_spawned e d
 
   store_spawned : (t : tree.TargetTree) → SpawnsNothing (store_code tells t)
@@ -140,7 +142,8 @@ module _ (tells : ℕ → What) where
 
   pub change_spawned : (c : tree.ChangeTree) → SpawnsNothing (change_code tells c)
   change_spawned (tree.Set t assign.Plain m e) d =
-      store_spawned t (expr_code tells e (plain_aim tells (is_quiet e) t d)) ∙ expr_spawned e (plain_aim tells (is_quiet e) t d) ∙ plain_aim_spawned (is_quiet e) t d
+      store_spawned t (expr_code tells e (plain_aim tells (is_quiet e) t d))
+      ∙ expr_spawned e (plain_aim tells (is_quiet e) t d) ∙ plain_aim_spawned (is_quiet e) t d
   change_spawned (tree.Set t (assign.With op) m e) d = changed_spawned true t (operated_code tells op m.line e) (operated_spawned op m.line e) d
   change_spawned (tree.After t p m) d = changed_spawned true t (stepped_code (step_operator p) m.line) (stepped_spawned (step_operator p) m.line) d
   change_spawned (tree.Before t p m) d = changed_spawned true t (stepped_code (step_operator p) m.line) (stepped_spawned (step_operator p) m.line) d
