@@ -1,7 +1,6 @@
 -- How many instructions a part of a program has: at most 8 for each token of its spelling. A task's body has a unit of its
 -- own, which the tokens of the body and of its pragma pay.
 use Rattle.std.specs.Prelude.{ℕ, ◌+◌, ◌*◌, ◌≤◌, List, [], ◌∷◌, length, Option}
-use Rattle.lowering.specs.Emission.Expressions.{Emission}
 use Rattle.lowering.specs.Emission.Statements.{block_code, stmt_code}
 use Rattle.lowering.specs.declared.draft.Draft.{Draft}
 use Rattle.lowering.specs.declared.draft.Label.{Label}
@@ -22,10 +21,6 @@ unit_most t = 8 * tokens (stmt t.body) + 1
 abbrev pub units_most : List TaskTree → ℕ
 units_most [] = 0
 units_most (t ∷ ts) = unit_most t + units_most ts
-
--- An emission adds at most so many instructions to a draft.
-abbrev pub AddsAtMost : ℕ → Emission → Type 0
-AddsAtMost most f = (d : Draft) → length (f d).instrs ≤ length d.instrs + most
 
 -- The tokens of a statement pay for its code and for the units of its tasks.
 abbrev pub StatementsAreFew : Type 0

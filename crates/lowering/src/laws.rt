@@ -18,18 +18,18 @@ pub fn declarators_stand()
     ensures items { ItemsStand }
 {}
 
-/// A draft spawns the tasks of a statement, one by one.
-#[tactic(auto, using(crate::proofs::Lawful::spawned_law, crate::proofs::Lawful::spawned_blocks_law))]
-pub fn statements_spawn_their_tasks()
-    ensures statements { TasksAreSpawned }
-    ensures blocks { BlocksAreSpawned }
-{}
-
 /// The code of a statement stands for it, and that of a block.
 #[tactic(auto, using(crate::proofs::Lawful::statements_law, crate::proofs::Lawful::blocks_law))]
 pub fn statements_stand()
     ensures statements { StatementsStand }
     ensures blocks { BlocksStand }
+{}
+
+/// A draft spawns the tasks of a statement, one by one.
+#[tactic(auto, using(crate::proofs::Lawful::spawned_law, crate::proofs::Lawful::spawned_blocks_law))]
+pub fn statements_spawn_their_tasks()
+    ensures statements { TasksAreSpawned }
+    ensures blocks { BlocksAreSpawned }
 {}
 
 /// The tokens of a statement pay for its code, 8 instructions each, and those of a function.
