@@ -49,7 +49,8 @@ ItemsStand = (code : Parts) (place_of : ℕ → ℕ) (tells : ℕ → What) (ps 
 
 -- What the code of a statement or a block adds to a draft has something, by where `break` and `continue` go and where the
 -- code goes on, in each code that the draft becomes. Its tasks are numbered from those on that were spawned before.
-abbrev pub MakesGoingOn : Parts → (ℕ → ℕ) → Body → StmtPart → (tasks : List TaskTree) → (has : (broke continued next from to : ℕ) → Type 0) → Type 0
+abbrev pub MakesGoingOn : Parts → (ℕ → ℕ) → Body → StmtPart → (tasks : List TaskTree)
+    → (has : (broke continued next from to : ℕ) → Type 0) → Type 0
 MakesGoingOn code place_of b f tasks has = IsLeave b.leaves → (x : Exits) → x.leaves ≡ b.leaves → (next : Option Label) (d : Draft) →
     AreNumbered b.tasks d.spawned tasks → Becomes (f x next d) code place_of →
     GoesOn code place_of next (has (place_of x.broke.number) (place_of x.continued.number)) (length d.instrs) (length (f x next d).instrs)

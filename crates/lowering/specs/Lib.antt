@@ -1,5 +1,6 @@
 -- What a reader believes: what a draft becomes, and the laws of it.
 pub mod Draft
+pub mod Few
 pub mod Given
 pub mod Going
 pub mod Laws

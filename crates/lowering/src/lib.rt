@@ -3,7 +3,8 @@
 //! A draft of the code grows instruction by instruction, in one walk over the tree; its jumps name labels, and each
 //! label gets its place when the walk comes there. What is drafted is a function of the tree, of what its names mean
 //! and of the draft before (`specs/Emission`). The laws say that a code which such a draft becomes, once its labels
-//! give way to their places, stands for the part of the program, by the relation of `simulation`.
+//! give way to their places, stands for the part of the program, by the relation of `simulation`, and that it has at most
+//! 8 instructions for each token of that part.
 //!
 //! Nothing calls the walk yet: what joins the units of a program to a code comes next.
 #![tactic(auto)]
