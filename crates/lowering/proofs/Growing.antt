@@ -2,6 +2,7 @@
 use Rattle.std.proofs.Common.{◌≡◌, ◌∙◌, ℕ, zero, suc, ◌+◌, ◌-◌, ◌<◌, ◌≤◌, ◌==◌, Bool, true, false, List, [], ◌∷◌, ◌++◌, length, length-append, get_or, Option, Some, None, slice_get, ap, sym, refl, arith, append_assoc, pos}
 use Rattle.lowering.proofs.Becoming.{slice_get-last}
 use Rattle.lowering.proofs.Keeping.{Keeps, KeepsLabels, kept, keeps_instrs, keeps_label, keeps_place, then_kept}
+use Rattle.lowering.proofs.KeptStatements.{block_kept, stmt_kept}
 use Rattle.lowering.proofs.Lists.{slice_get-front}
 use Rattle.lowering.specs.Draft.{next_label, with_instrs, with_label, with_place}
 use Rattle.lowering.specs.Emission.Expressions.{Emission}
@@ -60,10 +61,7 @@ body_kept leaves f falls keeps d =
     let d2 = f (exits_of end leaves) None d1 in
     keeps_instrs (keeps_place (then_kept (keeps_label (kept d)) (keeps (exits_of end leaves) None d1)) end (omega arith)) falls
 
-module _
-    (tells : ℕ → What)
-    (blocks_kept : (ss : tree.Stmts) (x : Exits) (next : Option Label) → KeepsLabels (block_code tells ss x next))
-    (stmts_kept : (a : tree.StmtTree) (x : Exits) (next : Option Label) → KeepsLabels (stmt_code tells a x next)) where
+module _ (tells : ℕ → What) where
   unit_grows : (code : Emission) (args slots : ℕ) (m : Units) → KeepsLabels code → Grows m (with_unit code args slots m)
   unit_grows code args slots m keeps = record {
     draft = keeps m.draft;
@@ -74,11 +72,11 @@ module _
   }
 
   pub plain_grows : (f : tree.FunctionTree) (m : Units) → Grows m (with_plain tells f m)
-  plain_grows f m = unit_grows (function_code tells f.body) _ _ m (body_kept Return (block_code tells f.body) (Push (pos 0) ∷ Return ∷ []) (blocks_kept f.body))
+  plain_grows f m = unit_grows (function_code tells f.body) _ _ m (body_kept Return (block_code tells f.body) (Push (pos 0) ∷ Return ∷ []) (block_kept tells f.body))
 
   pub main_grows : (f : tree.FunctionTree) (m : Units) → Grows m (with_main tells f m)
   main_grows f m =
-      let g = unit_grows (main_code tells f.body) _ _ m (body_kept End (block_code tells f.body) (End ∷ []) (blocks_kept f.body)) in
+      let g = unit_grows (main_code tells f.body) _ _ m (body_kept End (block_code tells f.body) (End ∷ []) (block_kept tells f.body)) in
       record { draft = g.draft; units_behind = g.units_behind; units = g.units; sites_behind = g.sites_behind; sites = g.sites }
 
   pub function_grows : (is_main : Bool) (f : tree.FunctionTree) (m : Units) → Grows m (with_function is_main tells f m)
@@ -93,7 +91,7 @@ module _
 
   pub task_grows : (captured : List (List ℕ)) (t : TaskTree) (m : Units) → Grows m (with_task tells captured t m)
   task_grows captured t m =
-      let g = unit_grows (task_code tells t.body) _ _ m (body_kept End (stmt_code tells t.body) (End ∷ []) (stmts_kept t.body)) in
+      let g = unit_grows (task_code tells t.body) _ _ m (body_kept End (stmt_code tells t.body) (End ∷ []) (stmt_kept tells t.body)) in
       record { draft = g.draft; units_behind = g.units_behind; units = g.units; sites_behind = _ ∷ []; sites = refl }
 
   pub tasks_grow : (captured : List (List ℕ)) (ts : List TaskTree) (m : Units) → Grows m (with_tasks tells captured ts m)

@@ -28,6 +28,7 @@ pub mod Paid
 mod Parts
 pub mod Paying
 mod Placed
+pub mod ProgramLaws
 pub mod Resolving
 pub mod Rules
 pub mod SimpleStand

@@ -31,10 +31,7 @@ tile_more (u ∷ us) from mid unit tiles starts = (tiles.0, tile_more us (from +
 abbrev Fills : Units → Type 0
 Fills made = Tile 0 (length made.draft.instrs) made.units
 
-module _
-    (tells : ℕ → What)
-    (blocks_kept : (ss : tree.Stmts) (x : Exits) (next : Option Label) → KeepsLabels (block_code tells ss x next))
-    (stmts_kept : (a : tree.StmtTree) (x : Exits) (next : Option Label) → KeepsLabels (stmt_code tells a x next)) where
+module _ (tells : ℕ → What) where
   more_fills : (made after : Units) (unit : CodeUnit) → Fills made → unit.start ≡ length made.draft.instrs → after.units ≡ made.units ++ unit ∷ []
       → length made.draft.instrs + unit.stack ≡ length after.draft.instrs → Fills after
   more_fills made after unit fills starts is long =
@@ -43,9 +40,9 @@ module _
 
   function_fills : (is_main : Bool) (f : tree.FunctionTree) (made : Units) → Fills made → Fills (with_function is_main tells f made)
   function_fills true f made fills =
-      more_fills made (with_main tells f made) _ fills refl refl (omega (arith, (function_grows tells blocks_kept stmts_kept true f made).draft.no_shorter))
+      more_fills made (with_main tells f made) _ fills refl refl (omega (arith, (function_grows tells true f made).draft.no_shorter))
   function_fills false f made fills =
-      more_fills made (with_plain tells f made) _ fills refl refl (omega (arith, (function_grows tells blocks_kept stmts_kept false f made).draft.no_shorter))
+      more_fills made (with_plain tells f made) _ fills refl refl (omega (arith, (function_grows tells false f made).draft.no_shorter))
 
   functions_fill : (is : List tree.ItemTree) (made : Units) → Fills made → Fills (with_functions tells is made)
   functions_fill [] made fills = fills
@@ -57,7 +54,7 @@ module _
   tasks_fill captured [] made fills = fills
   tasks_fill captured (t ∷ ts) made fills =
       tasks_fill captured ts (with_task tells captured t made)
-      (more_fills made (with_task tells captured t made) _ fills refl refl (omega (arith, (task_grows tells blocks_kept stmts_kept captured t made).draft.no_shorter)))
+      (more_fills made (with_task tells captured t made) _ fills refl refl (omega (arith, (task_grows tells captured t made).draft.no_shorter)))
 
 -- how many units there are
 function_counts : (is_main : Bool) (tells : ℕ → What) (f : tree.FunctionTree) (made : Units) → length (with_function is_main tells f made).units ≡ length made.units + 1
@@ -114,14 +111,11 @@ functions_sited tells (tree.Function f ∷ is) made none = by_case (f.name.id ==
     by_case false go = go (with_plain tells f made) none
 
 -- The units of what is made of a program lie in order, where they are not too long and have few slots.
-pub program_tiled : (tells : ℕ → What)
-    → ((ss : tree.Stmts) (x : Exits) (next : Option Label) → KeepsLabels (block_code tells ss x next))
-    → ((a : tree.StmtTree) (x : Exits) (next : Option Label) → KeepsLabels (stmt_code tells a x next))
-    → (captured : List (List ℕ)) (streams : ℕ) (p : tree.ProgramTree)
+pub program_tiled : (tells : ℕ → What) (captured : List (List ℕ)) (streams : ℕ) (p : tree.ProgramTree)
     → length (program_units tells captured p).draft.instrs < 2 ^ 32
     → sum_by (λ (unit : CodeUnit). unit.slots) (program_units tells captured p).units ≤ 2097152
     → IsTiled (parts_made streams (program_units tells captured p)) p
-program_tiled tells blocks_kept stmts_kept captured streams p short small =
+program_tiled tells captured streams p short small =
     let made = with_functions tells p no_units in
     let final = program_units tells captured p in
     let long : length (parts_made streams final).instrs ≡ length final.draft.instrs = length-map final.draft.instrs _ in
@@ -134,7 +128,7 @@ program_tiled tells blocks_kept stmts_kept captured streams p short small =
     record {
       tiles =
           subst (λ n. Tile 0 n final.units) (sym long)
-          (tasks_fill tells blocks_kept stmts_kept captured (program_tasks p) made (functions_fill tells blocks_kept stmts_kept p no_units refl));
+          (tasks_fill tells captured (program_tasks p) made (functions_fill tells p no_units refl));
       units = omega (arith, tasks_count tells captured (program_tasks p) made, functions_count tells p no_units);
       task_units = λ number site is. sited.each number site is;
       short = omega (arith, short, long);

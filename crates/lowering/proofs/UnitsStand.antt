@@ -8,14 +8,17 @@ use Rattle.lowering.proofs.Becoming.{back, before_place, placed_here, slice_get-
 use Rattle.lowering.proofs.ExpressionsStand.{stands_plain}
 use Rattle.lowering.proofs.Growing.{Grows, body_kept, function_grows, functions_grow, grown, main_grows, plain_grows, site_stays, task_grows, tasks_grow, then_grown, unit_stays}
 use Rattle.lowering.proofs.Keeping.{KeepsLabels, kept, keeps_instrs}
+use Rattle.lowering.proofs.KeptStatements.{block_kept, stmt_kept}
+use Rattle.lowering.proofs.Lawful.{blocks_law, spawned_blocks_law, statements_law}
 use Rattle.lowering.proofs.SlotsFit.{all_tasks_small, capped_small, size_small, stmt_small, stmts_small, tasks_weight}
+use Rattle.lowering.proofs.Spawning.{instrs_spawned}
 use Rattle.lowering.proofs.TaskNumbers.{program_numbered}
 use Rattle.lowering.proofs.TasksInMain.{IsAlone, function_other, lawful_body, none_of_all, tasks_captured}
 use Rattle.lowering.specs.Draft.{Becomes, next_label, with_instrs, with_label, with_place, with_places}
 use Rattle.lowering.specs.Emission.Statements.{Part as StmtPart, block_code, stmt_code}
 use Rattle.lowering.specs.Emission.Units.{body_code, capped, exits_of, function_code, main_code, no_units, parts_made, place_in, place_or, program_units, resolved, task_code, with_function, with_functions, with_main, with_plain, with_task, with_tasks}
 use Rattle.lowering.specs.Going.{AreNumbered, IsLeave, ends, returns}
-use Rattle.lowering.specs.Laws.{BlocksAreSpawned, BlocksStand, MakesGoingOn, StatementsStand}
+use Rattle.lowering.specs.Laws.{MakesGoingOn}
 use Rattle.lowering.specs.declared.draft.Draft.{Draft}
 use Rattle.lowering.specs.declared.exits.Exits.{Exits}
 use Rattle.lowering.specs.declared.draft.Label.{Label}
@@ -123,22 +126,12 @@ no_main_behind before (tree.Function f ∷ is) there apart = (
         let same : f.name.id ≡ main_id = eqb-true f.name.id main_id e in
         absurd (false≢true (sym apart.0 ∙ ap (λ id. is_in id before) same ∙ there))
 
--- what a draft spawned doesn't change behind a body
-instrs_spawned : (d : Draft) (is : List Instr) → (with_instrs d is).spawned ≡ d.spawned
-instrs_spawned d [] = refl
-instrs_spawned d (i ∷ is) = instrs_spawned _ is
-
 module _
     (tells : ℕ → What)
     (captured : List (List ℕ))
     (tasks : List TaskTree)
     (streams : ℕ)
-    (final : Units)
-    (statements : StatementsStand)
-    (blocks : BlocksStand)
-    (spawned : BlocksAreSpawned)
-    (blocks_kept : (ss : tree.Stmts) (x : Exits) (next : Option Label) → KeepsLabels (block_code tells ss x next))
-    (stmts_kept : (a : tree.StmtTree) (x : Exits) (next : Option Label) → KeepsLabels (stmt_code tells a x next)) where
+    (final : Units) where
   abbrev code : Parts
   code = parts_made streams final
 
@@ -159,7 +152,7 @@ module _
       let b = in_function tells in
       let falls = Push (pos 0) ∷ Return ∷ [] in
       let framing =
-      framed code place_of b (block_code tells f.body) (all_tasks_of f.body) (HasStmts code b f.body) (blocks_kept f.body) (blocks code place_of b f.body leveled) returns falls refl
+      framed code place_of b (block_code tells f.body) (all_tasks_of f.body) (HasStmts code b f.body) (block_kept tells f.body) (blocks_law code place_of b f.body leveled) returns falls refl
       made.draft (none_numbered made.draft.spawned (all_tasks_of f.body) none) (back g.draft (becomes_resolved final streams)) in
       record {
         unit = record { start = length made.draft.instrs; args = n; slots = capped (n + sum); stack = length (function_code tells f.body made.draft).instrs - length made.draft.instrs };
@@ -168,7 +161,7 @@ module _
         is_unit = last_unit made (with_plain tells f made) _ refl g;
         body = framing.body;
         falls_off = framing.falls_off;
-        fills = omega (arith, (plain_grows tells blocks_kept stmts_kept f made).draft.no_shorter);
+        fills = omega (arith, (plain_grows tells f made).draft.no_shorter);
         args = refl;
         slots = capped_small (n + sum) (omega (arith, small, within));
       }
@@ -180,7 +173,7 @@ module _
       let within = stmts_small owner.OfMain (size_by tells) (size_small tells) f.body in
       let b = in_main tells tasks in
       let framing =
-      framed code place_of b (block_code tells f.body) (all_tasks_of f.body) (HasStmts code b f.body) (blocks_kept f.body) (blocks code place_of b f.body leveled) ends (End ∷ []) refl
+      framed code place_of b (block_code tells f.body) (all_tasks_of f.body) (HasStmts code b f.body) (block_kept tells f.body) (blocks_law code place_of b f.body leveled) ends (End ∷ []) refl
       made.draft numbered (back g.draft (becomes_resolved final streams)) in
       record {
         unit = record { start = length made.draft.instrs; args = 1; slots = capped (1 + sum); stack = length (main_code tells f.body made.draft).instrs - length made.draft.instrs };
@@ -189,7 +182,7 @@ module _
         is_unit = last_unit made (with_main tells f made) _ refl g;
         body = framing.body;
         falls_off = (framing.falls_off.0, refl);
-        fills = omega (arith, (main_grows tells blocks_kept stmts_kept f made).draft.no_shorter, framing.falls_off.1);
+        fills = omega (arith, (main_grows tells f made).draft.no_shorter, framing.falls_off.1);
         args = refl;
         slots = capped_small (1 + sum) (omega (arith, small, within));
       }
@@ -216,7 +209,7 @@ module _
           let after = with_plain tells f made in
           let one : length after.units ≡ suc (length made.units) = length-append made.units (_ ∷ []) ∙ omega arith in (
             function_stands f made body (none_of_all f.body (in_body s f) (function_other s f none.0) (lawful_body s f rest lawful)) (omega (arith, small))
-            (then_grown (functions_grow tells blocks_kept stmts_kept is after) g),
+            (then_grown (functions_grow tells is after) g),
             subst (λ n. HasFunctions code tells tasks n is) one (go after g),
           )
 
@@ -250,7 +243,7 @@ module _
           let one : length after.units ≡ suc (length made.units) = length-append made.units (_ ∷ []) ∙ omega arith in
           let alone : NoMain is = no_main_behind (f.name.id ∷ before) is (ap (λ t. t || is_in main_id before) e) apart.1 in
           let ours : AreNumbered tasks made.draft.spawned (all_tasks_of f.body) = subst (λ ts. AreNumbered tasks made.draft.spawned ts) (sym own) (subst (λ n. AreNumbered tasks n tasks) (sym start) numbered) in (
-            main_stands f made body ours (omega (arith, small)) (is_main ∙ main_kept tells is after alone) (then_grown (functions_grow tells blocks_kept stmts_kept is after) g),
+            main_stands f made body ours (omega (arith, small)) (is_main ∙ main_kept tells is after alone) (then_grown (functions_grow tells is after) g),
             subst (λ n. HasFunctions code tells tasks n is) one (behind_stand is (after_item s (tree.Function f)) after leveled later alone (omega (arith, small)) g),
           )
       by_case false e own is_main g go =
@@ -258,8 +251,8 @@ module _
           let one : length after.units ≡ suc (length made.units) = length-append made.units (_ ∷ []) ∙ omega arith in
           let none : all_tasks_of f.body ≡ [] = none_of_all f.body (in_body s f) (function_other s f e) (lawful_body s f rest lawful) in
           let still : after.draft.spawned ≡ 0 =
-          instrs_spawned (with_place (block_code tells f.body (exits_of (next_label made.draft) Return) None (with_label made.draft)) (next_label made.draft)) (Push (pos 0) ∷ Return ∷ []) ∙ spawned tells f.body (exits_of (next_label made.draft) Return) None (with_label made.draft) ∙ omega (arith, start, ap length none) in (
-            function_stands f made body none (omega (arith, small)) (then_grown (functions_grow tells blocks_kept stmts_kept is after) g),
+          instrs_spawned (Push (pos 0) ∷ Return ∷ []) (with_place (block_code tells f.body (exits_of (next_label made.draft) Return) None (with_label made.draft)) (next_label made.draft)) ∙ spawned_blocks_law tells f.body (exits_of (next_label made.draft) Return) None (with_label made.draft) ∙ omega (arith, start, ap length none) in (
+            function_stands f made body none (omega (arith, small)) (then_grown (functions_grow tells is after) g),
             subst (λ n. HasFunctions code tells tasks n is) one (go after still own is_main g),
           )
 
@@ -275,7 +268,7 @@ module _
       let b = in_main tells [] in
       let site : Site = record { unit = length made.units; line = t.mark.line; captured = caught; items = site_items tells t.parts } in
       let framing =
-      framed code place_of b (stmt_code tells t.body) (tasks_of t.body) (HasStmt code b t.body) (stmts_kept t.body) (statements code place_of b t.body alone.leveled) ends (End ∷ []) refl
+      framed code place_of b (stmt_code tells t.body) (tasks_of t.body) (HasStmt code b t.body) (stmt_kept tells t.body) (statements_law code place_of b t.body alone.leveled) ends (End ∷ []) refl
       made.draft (none_numbered made.draft.spawned (tasks_of t.body) alone.alone) (back g.draft (becomes_resolved final streams)) in
       record {
         site = site;
@@ -288,7 +281,7 @@ module _
         items = refl;
         body = framing.body;
         falls_off = (framing.falls_off.0, refl);
-        fills = omega (arith, (task_grows tells blocks_kept stmts_kept captured t made).draft.no_shorter, framing.falls_off.1);
+        fills = omega (arith, (task_grows tells captured t made).draft.no_shorter, framing.falls_off.1);
         args = refl;
         slots = capped_small (length caught + sum) (omega (arith, small, within, few));
       }
@@ -308,7 +301,7 @@ module _
       let none : length made.sites + 0 ≡ length made.sites = omega arith in
       subst (λ v. HasTask code tells captured (length made.sites + 0) v) same
       (subst (λ n. HasTask code tells captured n u) (sym none)
-      (task_stands u fit.0 made fit.2 (ap (slice_get captured) (sym none) ∙ fit.1) (omega (arith, small)) (then_grown (tasks_grow tells blocks_kept stmts_kept captured ts (with_task tells captured u made)) g)))
+      (task_stands u fit.0 made fit.2 (ap (slice_get captured) (sym none) ∙ fit.1) (omega (arith, small)) (then_grown (tasks_grow tells captured ts (with_task tells captured u made)) g)))
   tasks_stand (u ∷ ts) made fits small g (suc k) t is =
       let after = with_task tells captured u made in
       let one : length after.sites ≡ length made.sites + 1 = length-append made.sites (_ ∷ []) in
@@ -347,12 +340,9 @@ program_tasks_small (tree.Function f ∷ is) = by_case (f.name.id == main_id) (p
     by_case false more = omega (arith, more)
 
 -- What is made of a lawful program stands for it.
-pub program_stands : (tells : ℕ → What) → StatementsStand → BlocksStand → BlocksAreSpawned
-    → ((ss : tree.Stmts) (x : Exits) (next : Option Label) → KeepsLabels (block_code tells ss x next))
-    → ((a : tree.StmtTree) (x : Exits) (next : Option Label) → KeepsLabels (stmt_code tells a x next))
-    → (p : tree.ProgramTree) → IsLeveled p → HasPlaces p → violations p ≡ [] → length (spell p) ≤ 262144
+pub program_stands : (tells : ℕ → What) (p : tree.ProgramTree) → IsLeveled p → HasPlaces p → violations p ≡ [] → length (spell p) ≤ 262144
     → HasProgram (parts_made (streams p) (program_units tells (captured_by_tasks p) p)) p tells (captured_by_tasks p) (streams p)
-program_stands tells statements blocks spawned blocks_kept stmts_kept p leveled places none few =
+program_stands tells p leveled places none few =
     let captured = captured_by_tasks p in
     let tasks = program_tasks p in
     let made = with_functions tells p no_units in
@@ -365,11 +355,11 @@ program_stands tells statements blocks spawned blocks_kept stmts_kept p leveled 
     let numbered : AreNumbered tasks 0 tasks = λ k t is. program_numbered p places k t is ∙ ap Some (omega arith) in
     record {
       functions =
-          functions_stand tells captured tasks (streams p) final statements blocks spawned blocks_kept stmts_kept p [] file no_units leveled.items lawful (distinct-program p lawful) weight refl refl
-          numbered (tasks_keep_main tells captured tasks made) (tasks_grow tells blocks_kept stmts_kept captured tasks made);
+          functions_stand tells captured tasks (streams p) final p [] file no_units leveled.items lawful (distinct-program p lawful) weight refl refl
+          numbered (tasks_keep_main tells captured tasks made) (tasks_grow tells captured tasks made);
       tasks = λ k t is.
           subst (λ n. HasTask (parts_made (streams p) final) tells captured n t) (at k)
-          (tasks_stand tells captured tasks (streams p) final statements blocks spawned blocks_kept stmts_kept tasks made
+          (tasks_stand tells captured tasks (streams p) final tasks made
           (λ j u there. subst (λ n. (slots : List ℕ) × (slice_get captured n ≡ Some slots) × IsAlone u slots) (sym (at j)) (tasks_captured p file leveled.items lawful j u there))
           bodies (grown final) k t is);
       sites = omega (arith, tasks_sites tells captured tasks made, empty);

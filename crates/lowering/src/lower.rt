@@ -1,9 +1,12 @@
 //! A code of a whole program.
 
-ghost use Rattle.std.specs.Prelude.{◌≡◌, IfOk};
+ghost use Rattle.std.specs.Prelude.{◌≡◌, ◌<◌, ◌^◌, IfOk, length};
 ghost use Rattle.lowering.specs.Emission.Units.{parts_made, program_units};
 ghost use Rattle.os_ast.specs.Views.{program_tree};
+ghost use Rattle.os_ast.specs.Violations.{captured_by_tasks, names, streams};
 ghost use Rattle.simulation.specs.Names.{told_at};
+ghost use Rattle.simulation.specs.Programs.{HasProgram};
+ghost use Rattle.simulation.specs.Tiling.{IsTiled};
 
 use crate::resolve::resolve;
 use crate::tasks::add_program_tasks;
@@ -14,21 +17,32 @@ use os_io::Memory;
 use std::alloc::Global;
 use window_check::Checked;
 
-/// The parts of the code of a program.
-#[tactic(auto, using(crate::proofs::UnitsStand::program_stands, crate::proofs::Tiled::program_tiled, crate::proofs::SlotsSum::program_slots))]
+/// The parts of the code of a program: they stand for it, and its units lie one behind another.
 pub(crate) fn lower_parts(alloc: Global, checked: &Checked) -> Result<Parts, Memory>
-    ensures made { IfOk result (λ parts. parts ≡ parts_made checked.now.streams
-        (program_units (told_at checked.now.names) checked.now.captured (program_tree checked.now.program))) }
+    ensures has { IfOk result (λ parts. HasProgram parts (program_tree checked.now.program) (told_at (names (program_tree checked.now.program)))
+        (captured_by_tasks (program_tree checked.now.program)) (streams (program_tree checked.now.program))) }
+    ensures tiled { IfOk result (λ parts. IsTiled parts (program_tree checked.now.program)) }
 {
-    let told = told_by(checked);
-    let mut made = Units::new(alloc);
-    add_functions(&mut made, &told, &checked.program.items)?;
-    add_program_tasks(alloc, &mut made, &told, checked.captured.as_slice(), &checked.program.items)?;
+    let made = units_of(alloc, checked)?;
     Ok(parts_of(made, checked.streams))
 }
 
+/// All units and sites of a program.
+fn units_of(alloc: Global, checked: &Checked) -> Result<Units, Memory>
+    ensures made { IfOk result (λ made. made ≡ program_units (told_at checked.now.names) checked.now.captured (program_tree checked.now.program)) }
+    ensures short { IfOk result (λ made. length made.draft.instrs < 2 ^ 32) }
+{
+    let told = told_by(checked);
+    let mut made = Units::new(alloc);
+    let items = &checked.program.items;
+    add_functions(&mut made, &told, items)?;
+    add_program_tasks(alloc, &mut made, &told, checked.captured.as_slice(), items)?;
+    // So many instructions leave no memory for another one.
+    u32::try_from(made.draft.instrs.len()).map_err(|_| Memory)?;
+    Ok(made)
+}
+
 /// What the names of a program mean.
-#[tactic(auto, using(crate::proofs::Ordered::names_ascend))]
 fn told_by(checked: &Checked) -> Told<'_>
     ensures { result.names.now ≡ checked.now.names }
 {
