@@ -71,7 +71,7 @@ no_more lo (x ∷ xs) ys a all =
       arith,
       without_length x ys here,
       no_more (x + 1) xs (without x ys) a.1
-      (λ z there. without_other x z ys (λ same. absurd (omega (arith, same, above (x + 1) z xs a.1 there))) (all z (or_more (x == z) (is_in z xs) there))),
+          (λ z there. without_other x z ys (λ same. absurd (omega (arith, same, above (x + 1) z xs a.1 there))) (all z (or_more (x == z) (is_in z xs) there))),
     )
   where
     or_more : (b c : Bool) → c ≡ true → (b || c) ≡ true
@@ -128,7 +128,7 @@ caught_few s n m ps a room =
     omega (
       arith,
       no_more 0 caught (named ++ used_slots inner) (captured-ascends s.entries ps a room.order.top room.order.stacked)
-      (λ z there. is_in-append z named (used_slots inner) ∙ sym (captured-members s ps a z) ∙ there),
+          (λ z there. is_in-append z named (used_slots inner) ∙ sym (captured-members s ps a z) ∙ there),
       length-append named (used_slots inner),
       named_few s.entries (private_ids ps),
       privates_few s [] ps,

@@ -10,6 +10,7 @@ pub mod FewChanges
 pub mod FewExpressions
 pub mod FewStatements
 pub mod FewTasks
+pub mod FewUnits
 pub mod Givens
 pub mod Going
 pub mod GoingOn
@@ -29,6 +30,7 @@ mod Parts
 pub mod Paying
 mod Placed
 pub mod ProgramLaws
+pub mod ProgramRuns
 pub mod Resolving
 pub mod Rules
 pub mod SimpleStand

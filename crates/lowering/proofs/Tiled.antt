@@ -97,7 +97,7 @@ tasks_sited base tells captured (t ∷ ts) made sited =
       each = λ number site is. elim (cases_lt number (length made.sites)) [
         | inl less ↦ sited.each number site (sym (slice_get-front made.sites (_ ∷ []) number less) ∙ is)
         | inr not_less ↦ (let last = of_last made.sites _ site number (omega (arith, not_less)) is in
-        sym (ap (λ (s : Site). s.unit) last.1) ∙ omega (arith, sited.next, last.0))
+            sym (ap (λ (s : Site). s.unit) last.1) ∙ omega (arith, sited.next, last.0))
       ];
     })
 

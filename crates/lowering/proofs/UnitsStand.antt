@@ -209,7 +209,7 @@ module _
           let after = with_plain tells f made in
           let one : length after.units ≡ suc (length made.units) = length-append made.units (_ ∷ []) ∙ omega arith in (
             function_stands f made body (none_of_all f.body (in_body s f) (function_other s f none.0) (lawful_body s f rest lawful)) (omega (arith, small))
-            (then_grown (functions_grow tells is after) g),
+                (then_grown (functions_grow tells is after) g),
             subst (λ n. HasFunctions code tells tasks n is) one (go after g),
           )
 

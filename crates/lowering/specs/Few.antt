@@ -2,10 +2,11 @@
 -- own, which the tokens of the body and of its pragma pay.
 use Rattle.std.specs.Prelude.{ℕ, ◌+◌, ◌*◌, ◌≤◌, List, [], ◌∷◌, length, Option}
 use Rattle.lowering.specs.Emission.Statements.{block_code, stmt_code}
+use Rattle.lowering.specs.Emission.Units.{program_units}
 use Rattle.lowering.specs.declared.draft.Draft.{Draft}
 use Rattle.lowering.specs.declared.draft.Label.{Label}
 use Rattle.lowering.specs.declared.exits.Exits.{Exits}
-use Rattle.os_ast.specs.Spelling.{Printer, function, stmt}
+use Rattle.os_ast.specs.Spelling.{Printer, function, spell, stmt}
 use Rattle.os_ast.specs.Trees as tree
 use Rattle.os_ast.specs.declared.names.What.{What}
 use Rattle.simulation.specs.Tasks.{TaskTree, all_tasks_of, tasks_of}
@@ -31,3 +32,8 @@ StatementsAreFew = (tells : ℕ → What) (s : tree.StmtTree) (x : Exits) (next 
 abbrev pub FunctionsAreFew : Type 0
 FunctionsAreFew = (tells : ℕ → What) (f : tree.FunctionTree) (x : Exits) (next : Option Label) (d : Draft) →
     length (block_code tells f.body x next d).instrs + 2 + units_most (all_tasks_of f.body) ≤ length d.instrs + 8 * tokens (function f)
+
+-- The tokens of a program pay for the code of all its units.
+abbrev pub UnitsAreFew : Type 0
+UnitsAreFew = (tells : ℕ → What) (captured : List (List ℕ)) (p : tree.ProgramTree) →
+    length (program_units tells captured p).draft.instrs ≤ 8 * length (spell p)

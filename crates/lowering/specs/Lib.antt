@@ -4,6 +4,7 @@ pub mod Few
 pub mod Given
 pub mod Going
 pub mod Laws
+pub mod Meanings
 -- What restates private functions: the code as a function of the tree.
 pub mod Ascending
 pub mod Emission

@@ -1,6 +1,6 @@
 //! Laws of the code that is drafted. Each is a call that does nothing and ensures its law.
 
-ghost use Rattle.lowering.specs.Few.{FunctionsAreFew, StatementsAreFew};
+ghost use Rattle.lowering.specs.Few.{FunctionsAreFew, StatementsAreFew, UnitsAreFew};
 ghost use Rattle.lowering.specs.Laws.{BlocksAreSpawned, BlocksStand, ChangesStand, ConditionsStand, DeclaratorsStand, ExpressionsStand, ItemsStand, StatementsStand, TasksAreSpawned};
 
 /// The code of an expression stands for it, and that of a condition and of a change.
@@ -33,8 +33,9 @@ pub fn statements_spawn_their_tasks()
 {}
 
 /// The tokens of a statement pay for its code, 8 instructions each, and those of a function.
-#[tactic(auto, using(crate::proofs::Lawful::few_law, crate::proofs::Lawful::few_functions_law))]
+#[tactic(auto, using(crate::proofs::Lawful::few_law, crate::proofs::Lawful::few_functions_law, crate::proofs::FewUnits::program_few))]
 pub fn statements_are_few()
     ensures statements { StatementsAreFew }
     ensures functions { FunctionsAreFew }
+    ensures units { UnitsAreFew }
 {}

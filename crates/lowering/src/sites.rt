@@ -53,11 +53,7 @@ pub(crate) fn site_items(
 
 /// The items of a clause.
 #[tactic(auto, using(crate::proofs::Rules::sites))]
-fn add_clause(
-    made: &mut List<SiteItem>,
-    told: &Told<'_>,
-    kind: &ClauseKind,
-) -> Result<(), Memory>
+fn add_clause(made: &mut List<SiteItem>, told: &Told<'_>, kind: &ClauseKind) -> Result<(), Memory>
     ensures { OnOk result (made.new ≡ made.old ++ site_items (told_at told.now.names.now) (parts_of (clause_kind_tree kind.now))) }
 {
     match kind {

@@ -2,8 +2,17 @@
 
 ghost use Rattle.std.specs.Prelude.{◌≡◌, ◌==◌, OnOk, map};
 ghost use Rattle.lowering.specs.Emission.Units.{
-    exits_of, function_code, function_tree, main_code, no_units, task_code, unit_from, with_functions, with_item,
-    with_main, with_plain,
+  exits_of,
+  function_code,
+  function_tree,
+  main_code,
+  no_units,
+  task_code,
+  unit_from,
+  with_functions,
+  with_item,
+  with_main,
+  with_plain,
 };
 ghost use Rattle.os_ast.specs.Names.{main_id};
 ghost use Rattle.os_ast.specs.Notes.Programs.{param_names};
@@ -51,7 +60,9 @@ impl Units {
         ensures { OnOk result (self.new ≡ unit_from start args slots self.old) }
     {
         // So many instructions leave no memory for another one.
-        let stack = u32::try_from(self.draft.instrs.len().saturating_sub(start)).map_err(|_| Memory)?;
+        let stack = u32::try_from(self.draft.instrs.len().saturating_sub(start)).map_err(
+            |_| Memory,
+        )?;
         let start = u32::try_from(start).map_err(|_| Memory)?;
         self.units.push(Unit {
             start,
@@ -158,11 +169,7 @@ fn emit_main(draft: &mut Draft, told: &Told<'_>, body: &List<Stmt>) -> Result<()
 }
 
 /// The code of a task, which ends behind its body.
-pub(crate) fn emit_task_body(
-    draft: &mut Draft,
-    told: &Told<'_>,
-    body: &Stmt,
-) -> Result<(), Memory>
+pub(crate) fn emit_task_body(draft: &mut Draft, told: &Told<'_>, body: &Stmt) -> Result<(), Memory>
     ensures { OnOk result (draft.new ≡ task_code (told_at told.now.names.now) (stmt_tree body.now) draft.old) }
 {
     let end = draft.label()?;

@@ -10,5 +10,5 @@ abbrev pub invariant-stmts_slots-loop-stmt : goal.invariant-stmts_slots-loop-stm
 invariant-stmts_slots-loop-stmt l = record {
   small : l.sum ≤ 2 ^ 32 - 1;
   so_far : capped (l.sum + stmts_slots l.owner (size_by (told_at l.told.names.now)) (stmts_tree (drop l.stmt-index l.stmts)))
-    ≡ capped (stmts_slots l.owner (size_by (told_at l.told.names.now)) (stmts_tree l.stmts));
+      ≡ capped (stmts_slots l.owner (size_by (told_at l.told.names.now)) (stmts_tree l.stmts));
 }

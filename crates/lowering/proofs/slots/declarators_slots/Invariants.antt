@@ -10,5 +10,5 @@ abbrev pub invariant-loop-declarator : goal.invariant-loop-declarator
 invariant-loop-declarator l = record {
   small : l.sum ≤ 2 ^ 32 - 1;
   so_far : capped (l.sum + declarators_slots l.owner (size_by (told_at l.told.names.now)) (map declarator_tree (drop l.declarator-index l.declarators)))
-    ≡ capped (declarators_slots l.owner (size_by (told_at l.told.names.now)) (map declarator_tree l.declarators));
+      ≡ capped (declarators_slots l.owner (size_by (told_at l.told.names.now)) (map declarator_tree l.declarators));
 }

@@ -1,7 +1,7 @@
 use Rattle.std.proofs.Common.{◌∙◌}
 use Rattle.lowering.proofs.Ordered.{names_ascend}
 use Rattle.os_ast.specs.Views.{program_tree}
-use Rattle.lowering.proofs.lower.told_by.Goals as goal
+use Rattle.lowering.proofs.compiler.told_by.Goals as goal
 
 pub invariant_of-result : goal.invariant_of-result
 invariant_of-result c =
