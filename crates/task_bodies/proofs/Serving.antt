@@ -19,7 +19,7 @@ use Rattle.task_bodies.specs.Frames.{TakesFrame, frame_outcome}
 use Rattle.task_bodies.proofs.Counts.{length-reads}
 
 -- what stands for an activation where there is none
-abbrev no_activation : Activation
+abbrev pub no_activation : Activation
 no_activation = record { site = 0; captured = []; claims = [] }
 
 module _ (ends : TasksEnd) (proper : TaskEndsAreProper) (code : Parts) (activations : List Activation) (input : List ℕ) (budget : ℕ) (plan : Plan)
