@@ -1,7 +1,1 @@
--- What a reader believes: what a draft becomes, and the laws of it.
-pub mod Draft
-pub mod Given
-pub mod Laws
--- What restates private functions: the code as a function of the tree.
-pub mod Ascending
-pub mod Emission
+pub mod Meanings

@@ -1,6 +1,0 @@
-pub mod Expressions
-pub mod Conditions
-pub mod Changes
-pub mod Declarators
-pub mod Tasks
-pub mod Statements
