@@ -3,6 +3,9 @@ use Rattle.std.proofs.Common.{◌≡◌, ◌≢◌, ◌∙◌, ◌⊎◌, subst,
 use Rattle.std.proofs.lemmas.Option.{slice_get_within}
 use Rattle.std.specs.Option.{option_map_or}
 use Rattle.std.specs.Io.KnownBytes.{append_known}
+use Rattle.collector.specs.Report.{report}
+use Rattle.collector.specs.Status.{status}
+use Rattle.collector.specs.Written.{written}
 use Rattle.os_io.specs.Counts.{last_count, raised}
 use Rattle.osrun_core.specs.declared.refusal.Refusal.{Refusal}
 use Rattle.osrun_core.specs.declared.refusal.Refusal.TheVariants as refusals
@@ -11,14 +14,12 @@ use Rattle.osrun_core.specs.declared.status.Status.{Status}
 use Rattle.osrun_core.specs.declared.status.Status.TheVariants as statuses
 use Rattle.osrun_core.specs.Command.{Job, JobFile, files_of}
 use Rattle.osrun_core.specs.Delivers.{IsUndelivered}
-use Rattle.osrun_core.specs.JobAnswer.{MakesRun, AnswersJob}
+use Rattle.osrun_core.specs.JobAnswer.{AnswersJob, AnswersRun, status_of}
 use Rattle.osrun_core.specs.Loading.{FilesView, IsCauseOf}
 use Rattle.osrun_core.specs.Refusal.{limit_of, refusal_line, refusal_status}
-use Rattle.osrun_core.specs.Report.{report, status}
 use Rattle.osrun_core.specs.Run.{ProgramRun, IsRunOfJob}
 use Rattle.osrun_core.specs.Status.{number_of}
 use Rattle.osrun_core.specs.Telling.{SinkView, Tells}
-use Rattle.osrun_core.specs.Written.{written}
 
 -- a choice between 0 and 1 is below 2
 choice_small : (b : Bool) (n : ℕ) → n ≡ cond b 0 1 → n < 2
@@ -48,7 +49,7 @@ number_small statuses.NoMemory = omega arith
 
 -- a refusal's status is 3, 4, 5 or 7
 refusal_large : (r : Refusal) → 3 ≤ number_of (refusal_status r)
-refusal_large (refusals.Token code line) = omega arith
+refusal_large (refusals.Text code line) = omega arith
 refusal_large refusals.NoProgram = omega arith
 refusal_large (refusals.TooLong subject) = omega arith
 refusal_large (refusals.ReadFault subject) = omega arith
@@ -57,23 +58,17 @@ refusal_large refusals.Memory = omega arith
 module _ {F O E : Type 0} (of_files : FilesView F) (files_old files_new : F) (job : Job)
     (of_out : SinkView O) (out_old out_new : O) (of_report : SinkView E) (report_old report_new : E) where
   -- the status of a run is 0 or 1
-  own_small : (output_bytes report_bytes : List ℕ) (own : Status) → MakesRun of_files files_old files_new job output_bytes report_bytes own → number_of own < 2
-  own_small output_bytes report_bytes own made = choice_small _ (number_of own) made.has_status
+  own_small : (run : ProgramRun) (n : ℕ) → n ≡ status_of run → n < 2
+  own_small run n is = choice_small _ n is
 
   -- a status below 2 is that of a run that was delivered
   pub delivered_answer : (s : Status) → AnswersJob of_files files_old files_new job of_out out_old out_new of_report report_old report_new s → number_of s < 2
       → (run : ProgramRun) × IsRunOfJob (of_files.holds files_old) (of_files.given files_new) job run
       × (of_out.taken out_new ≡ append_known (of_out.taken out_old) (written run.ends.output))
-      × (of_report.taken report_new ≡ append_known (of_report.taken report_old) (report run.activations (length run.input) run.ends run.control))
-      × (number_of s ≡ status run.ends.ends run.control)
+      × (of_report.taken report_new ≡ append_known (of_report.taken report_old) (report run.control.activations (length run.input) run.ends run.control.end))
+      × (number_of s ≡ status run.ends.ends run.control.end)
   delivered_answer s (inl a) small = elim a.delivers [
-    | inl d ↦ let run = a.made.run in (
-      run,
-      a.made.is_run,
-      subst (λ bytes. of_out.taken out_new ≡ append_known (of_out.taken out_old) bytes) a.made.writes d.0.0,
-      subst (λ bytes. of_report.taken report_new ≡ append_known (of_report.taken report_old) bytes) a.made.reports d.1.0,
-      ap number_of d.2 ∙ a.made.has_status,
-    )
+    | inl d ↦ (a.run, a.is_run, d.0.0, d.1.0, d.2)
     | inr d ↦ absurd (let same : number_of s ≡ 6 = ap number_of d.1 in omega arith)
   ]
   delivered_answer s (inr a) small = elim a.refuses [
@@ -97,7 +92,7 @@ module _ {F O E : Type 0} (of_files : FilesView F) (files_old files_new : F) (jo
   -- the status of a run comes after all files were opened
   pub opened_answer : (s : Status) → AnswersJob of_files files_old files_new job of_out out_old out_new of_report report_old report_new s → (number_of s < 2) ⊎ (number_of s ≡ 6)
       → of_files.opens files_new ≡ raised (of_files.opens files_old) (length (files_of job))
-  opened_answer s (inl a) is_run = a.made.opened
+  opened_answer s (inl a) is_run = a.opened
   opened_answer s (inr a) is_run = elim a.refuses [
     | inl d ↦ absurd (let large : 3 ≤ number_of (refusal_status a.refusal) = refusal_large a.refusal in let same : number_of s ≡ number_of (refusal_status a.refusal) = ap number_of d.0 in let small : number_of s ≤ 5 = d.1 in omega arith)
     | inr d ↦ absurd (let same : number_of s ≡ 7 = ap number_of d.0 in omega arith)
@@ -107,7 +102,7 @@ module _ {F O E : Type 0} (of_files : FilesView F) (files_old files_new : F) (jo
   pub refused_answer : (s : Status) → AnswersJob of_files files_old files_new job of_out out_old out_new of_report report_old report_new s → 3 ≤ number_of s → number_of s ≤ 5
       → (r : Refusal) × (number_of s ≡ number_of (refusal_status r)) × IsCauseOf of_files files_old files_new job r × Tells of_report report_old report_new (refusal_line r)
   refused_answer s (inl a) low high = elim a.delivers [
-    | inl d ↦ absurd (let small : number_of a.own < 2 = own_small _ _ a.own a.made in let same : number_of s ≡ number_of a.own = ap number_of d.2 in omega arith)
+    | inl d ↦ absurd (let small : number_of s < 2 = own_small a.run (number_of s) d.2 in omega arith)
     | inr d ↦ absurd (let same : number_of s ≡ 6 = ap number_of d.1 in omega arith)
   ]
   refused_answer s (inr a) low high = elim a.refuses [
@@ -118,15 +113,10 @@ module _ {F O E : Type 0} (of_files : FilesView F) (files_old files_new : F) (jo
   -- 6 is the status of a run that was not delivered whole
   pub undelivered_answer : (s : Status) → AnswersJob of_files files_old files_new job of_out out_old out_new of_report report_old report_new s → number_of s ≡ 6
       → (run : ProgramRun) × IsRunOfJob (of_files.holds files_old) (of_files.given files_new) job run
-      × IsUndelivered of_out out_old out_new (written run.ends.output) of_report report_old report_new (report run.activations (length run.input) run.ends run.control)
+      × IsUndelivered of_out out_old out_new (written run.ends.output) of_report report_old report_new (report run.control.activations (length run.input) run.ends run.control.end)
   undelivered_answer s (inl a) six = elim a.delivers [
-    | inl d ↦ absurd (let small : number_of a.own < 2 = own_small _ _ a.own a.made in let same : number_of s ≡ number_of a.own = ap number_of d.2 in omega arith)
-    | inr d ↦ let run = a.made.run in (
-      run,
-      a.made.is_run,
-      subst (λ bytes. IsUndelivered of_out out_old out_new (written run.ends.output) of_report report_old report_new bytes) a.made.reports
-          (subst (λ bytes. IsUndelivered of_out out_old out_new bytes of_report report_old report_new a.report_bytes) a.made.writes d.0),
-    )
+    | inl d ↦ absurd (let small : number_of s < 2 = own_small a.run (number_of s) d.2 in omega arith)
+    | inr d ↦ (a.run, a.is_run, d.0)
   ]
   undelivered_answer s (inr a) six = elim a.refuses [
     | inl d ↦ absurd (let small : number_of s ≤ 5 = d.1 in omega arith)
@@ -136,7 +126,7 @@ module _ {F O E : Type 0} (of_files : FilesView F) (files_old files_new : F) (jo
   -- 7 leaves the report as it was
   pub memory_answer : (s : Status) → AnswersJob of_files files_old files_new job of_out out_old out_new of_report report_old report_new s → number_of s ≡ 7 → report_new ≡ report_old
   memory_answer s (inl a) seven = elim a.delivers [
-    | inl d ↦ absurd (let small : number_of a.own < 2 = own_small _ _ a.own a.made in let same : number_of s ≡ number_of a.own = ap number_of d.2 in omega arith)
+    | inl d ↦ absurd (let small : number_of s < 2 = own_small a.run (number_of s) d.2 in omega arith)
     | inr d ↦ absurd (let same : number_of s ≡ 6 = ap number_of d.1 in omega arith)
   ]
   memory_answer s (inr a) seven = elim a.refuses [
@@ -147,7 +137,7 @@ module _ {F O E : Type 0} (of_files : FilesView F) (files_old files_new : F) (jo
   -- a status that isn't that of a run leaves the output as it was
   pub unwritten_answer : (s : Status) → AnswersJob of_files files_old files_new job of_out out_old out_new of_report report_old report_new s → 2 ≤ number_of s → number_of s ≢ 6 → out_new ≡ out_old
   unwritten_answer s (inl a) large other = elim a.delivers [
-    | inl d ↦ absurd (let small : number_of a.own < 2 = own_small _ _ a.own a.made in let same : number_of s ≡ number_of a.own = ap number_of d.2 in omega arith)
+    | inl d ↦ absurd (let small : number_of s < 2 = own_small a.run (number_of s) d.2 in omega arith)
     | inr d ↦ absurd (other (ap number_of d.1))
   ]
   unwritten_answer s (inr a) large other = a.nothing_written
@@ -160,7 +150,7 @@ module _ {F O E : Type 0} (of_files : FilesView F) (files_old files_new : F) (jo
   past_limit (refusals.ReadFault subject) place file cause at room opened more =
       let same : limit_of file.subject ≡ limit_of subject = same_file job (of_files.opens files_old) place cause.came.place file (record { subject = subject; name = cause.came.name }) at cause.came.is_there room (sym opened ∙ cause.came.opened) in
       absurd (omega (arith, cause.within))
-  past_limit (refusals.Token code line) place file cause at room opened more =
+  past_limit (refusals.Text code line) place file cause at room opened more =
       let same : limit_of file.subject ≡ limit_of subjects.Program = same_file job (of_files.opens files_old) place cause.came.place file (record { subject = subjects.Program; name = cause.came.name }) at cause.came.is_there room (sym opened ∙ cause.came.opened) in
       absurd (omega (arith, cause.whole, cause.fits))
   past_limit refusals.NoProgram place file cause at room opened more =
@@ -172,8 +162,8 @@ module _ {F O E : Type 0} (of_files : FilesView F) (files_old files_new : F) (jo
       → slice_get (files_of job) place ≡ Some file → of_files.opens files_old + 2 ≤ last_count → of_files.opens files_new ≡ raised (of_files.opens files_old) (place + 1)
       → limit_of file.subject < of_files.given files_new → (number_of s ≡ 4) ⊎ (number_of s ≡ 7)
   too_long_answer s (inl a) place file at room opened more =
-      let run = a.made.is_run in
-      let same : limit_of file.subject ≡ limit_of subjects.Input = same_file job (of_files.opens files_old) place 1 file (record { subject = subjects.Input; name = job.input }) at refl room (sym opened ∙ a.made.opened) in
+      let run = a.is_run in
+      let same : limit_of file.subject ≡ limit_of subjects.Input = same_file job (of_files.opens files_old) place 1 file (record { subject = subjects.Input; name = job.input }) at refl room (sym opened ∙ a.opened) in
       absurd (omega (arith, run.input_whole, run.input_fits))
   too_long_answer s (inr a) place file at room opened more = elim a.refuses [
     | inl d ↦ subst (λ n. (n ≡ 4) ⊎ (n ≡ 7)) (sym (ap number_of d.0)) (past_limit a.refusal place file a.cause at room opened more)

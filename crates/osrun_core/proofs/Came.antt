@@ -2,24 +2,21 @@
 use Rattle.std.proofs.Common.{◌≡◌, ◌∙◌, ◌⊎◌, inl, inr, ℕ, zero, suc, ◌+◌, ◌<◌, ◌≤◌, Bool, true, List, [], ◌∷◌, Some, All, IfSome, IsTrue, refl, sym, subst, arith, length}
 use Rattle.std.proofs.lemmas.Bool.{cases_lt}
 use Rattle.std.proofs.lemmas.List.Elements.{All-nil, All-cons, All-head, All-tail}
+use Rattle.cddf_meaning.specs.Control.{control}
+use Rattle.flow_core.specs.declared.control.Control.{Control}
+use Rattle.flow_core.specs.declared.ends.Ends.{Ends}
+use Rattle.front_end.specs.Texts.{IsAccepted}
+use Rattle.os_ast.specs.Trees.{ProgramTree}
 use Rattle.os_io.specs.Counts.{raised, last_count}
-use Rattle.osrun_core.specs.declared.first_program.FirstProgram.{FirstProgram}
+use Rattle.osrun_core.specs.Run.{IsRunOfJob, ends_over}
 use Rattle.osrun_core.specs.declared.refusal.Refusal.{Refusal}
 use Rattle.osrun_core.specs.declared.refusal.Refusal.TheVariants as refusals
 use Rattle.osrun_core.specs.declared.refusal.Subject.{Subject}
 use Rattle.osrun_core.specs.declared.refusal.Subject.TheVariants as subjects
-use Rattle.osrun_core.specs.Accepting.{IsRefusalOf}
 use Rattle.osrun_core.specs.Command.{Job, JobFile, files_of}
 use Rattle.osrun_core.specs.Loading.{FilesView, MayOpen, IsHeld, IsRead, CameTo, IsCauseOf, ReadsInOrder}
 use Rattle.osrun_core.specs.Loads.{IsLoaded, IsLoadRefusal}
-use Rattle.flow_core.specs.declared.control.ControlEnd.TheVariants as control_end
-use Rattle.osrun_core.specs.declared.status.Status.{Status}
-use Rattle.osrun_core.specs.JobAnswer.{MakesRun}
-use Rattle.osrun_core.specs.Meaning.{activations, program_ends}
-use Rattle.osrun_core.specs.Program.{IsProgramOf}
-use Rattle.osrun_core.specs.Run.{IsRunOf}
-use Rattle.osrun_core.specs.Status.{number_of}
-use Rattle.osrun_core.specs.Refusal.{limit_of, refusal_status}
+use Rattle.osrun_core.specs.Refusal.{IsRefusalOf, limit_of, refusal_status}
 use Rattle.osrun_core.specs.declared.status.Status.TheVariants as statuses
 
 -- the files of a job by their subjects
@@ -51,7 +48,7 @@ only_fault view old new subject name bytes (refusals.TooLong s) told fits h =
     absurd (omega (arith, long, fits))
 only_fault view old new subject name bytes (refusals.ReadFault s) told fits h = inl refl
 only_fault view old new subject name bytes refusals.Memory told fits h = inr refl
-only_fault view old new subject name bytes (refusals.Token code line) told fits h = absurd h
+only_fault view old new subject name bytes (refusals.Text code line) told fits h = absurd h
 only_fault view old new subject name bytes refusals.NoProgram told fits h = absurd h
 
 -- what may be said of all files of a job may be said of its program and of its input
@@ -77,7 +74,7 @@ module _ {F : Type 0} (view : FilesView F) (job : Job) where
       record { name = job.input; place = 1; is_there = refl; earlier = program_alone old read; opened = opened ∙ omega arith }
 
   -- a program that was loaded and accepted was read
-  pub program_read : (old new : F) (text : List ℕ) (p : FirstProgram) → IsLoaded view old new subjects.Program job.program text → IsProgramOf text p
+  pub program_read : (old new : F) (text : List ℕ) (p : ProgramTree) → IsLoaded view old new subjects.Program job.program text → IsAccepted text p
       → IsRead (view.holds old) (program_file job)
   program_read old new text p loaded is_program =
       record { bytes = text; is_held = loaded.is_held; fits = loaded.fits; serves = (p, is_program) }
@@ -92,7 +89,7 @@ module _ {F : Type 0} (view : FilesView F) (job : Job) where
       let came = came_to_program old new opened in
       subst (λ s. IsCauseOf view old new job (refusals.ReadFault s)) (sym h.0) (record { came = came; within = h.1; fault = h.2 })
   cause_of_program old new refusals.Memory opened h = tt
-  cause_of_program old new (refusals.Token code line) opened h = absurd h
+  cause_of_program old new (refusals.Text code line) opened h = absurd h
   cause_of_program old new refusals.NoProgram opened h = absurd h
 
   -- why its text was refused
@@ -102,7 +99,7 @@ module _ {F : Type 0} (view : FilesView F) (job : Job) where
   cause_of_text old new text (refusals.TooLong s) opened loaded (inr h) = absurd h
   cause_of_text old new text (refusals.ReadFault s) opened loaded (inr h) = absurd h
   cause_of_text old new text refusals.Memory opened loaded (inr h) = tt
-  cause_of_text old new text (refusals.Token code line) opened loaded (inr h) = record {
+  cause_of_text old new text (refusals.Text code line) opened loaded (inr h) = record {
     came = came_to_program old new opened;
     text = text;
     held = loaded.is_held;
@@ -131,7 +128,7 @@ module _ {F : Type 0} (view : FilesView F) (job : Job) where
       let came = came_to_input old new read opened in
       subst (λ s. IsCauseOf view old new job (refusals.ReadFault s)) (sym h.0) (record { came = came; within = h.1; fault = omega (arith, faults, h.2) })
   cause_of_input old mid new refusals.Memory same faults read opened h = tt
-  cause_of_input old mid new (refusals.Token code line) same faults read opened h = absurd h
+  cause_of_input old mid new (refusals.Text code line) same faults read opened h = absurd h
   cause_of_input old mid new refusals.NoProgram same faults read opened h = absurd h
 
   -- where the program alone was opened, there is nothing to say
@@ -146,27 +143,20 @@ module _ {F : Type 0} (view : FilesView F) (job : Job) where
   in_order_both old new read opened (suc zero) more = program_alone old read
   in_order_both old new read opened (suc (suc k)) more = absurd (omega arith)
 
-  -- the run that was made of both
-  pub made_run : (old mid new : F) (text input output_bytes report_bytes : List ℕ) (p : FirstProgram) (own : Status) → IsLoaded view old mid subjects.Program job.program text
-      → IsLoaded view mid new subjects.Input job.input input → view.holds mid ≡ view.holds old → view.opens new ≡ raised (raised (view.opens old) 1) 1
-      → IsProgramOf text p → IsRunOf p input output_bytes report_bytes (number_of own) → MakesRun view old new job output_bytes report_bytes own
-  made_run old mid new text input output_bytes report_bytes p own of_text of_input same opened is_program run = record {
-    run = record { activations = activations p; control = control_end.Done; input = input; ends = program_ends p input };
-    opened = opened ∙ omega arith;
-    is_run = record {
-      text = text;
-      text_held = of_text.is_held;
-      text_fits = of_text.fits;
-      input_held = subst (λ holds. IsHeld (holds job.input) input) same of_input.is_held;
-      input_whole = of_input.whole;
-      input_fits = of_input.fits;
-      program = p;
-      is_program = is_program;
-      activations_are = refl;
-      control_is = refl;
-      ends_are = refl;
-    };
-    writes = run.output;
-    reports = run.report;
-    has_status = run.status;
+  -- a run of what both hold is a run of the job
+  pub run_of_both : (old mid new : F) (text input : List ℕ) (p : ProgramTree) (made : Control) (ends : Ends) → IsLoaded view old mid subjects.Program job.program text
+      → IsLoaded view mid new subjects.Input job.input input → view.holds mid ≡ view.holds old → IsAccepted text p
+      → made ≡ control p (length input) job.control_budget → ends ≡ ends_over p made.activations input job.task_budget
+      → IsRunOfJob (view.holds old) (view.given new) job (record { control = made; input = input; ends = ends })
+  run_of_both old mid new text input p made ends of_text of_input same is_program control_is ends_are = record {
+    text = text;
+    text_held = of_text.is_held;
+    text_fits = of_text.fits;
+    input_held = subst (λ holds. IsHeld (holds job.input) input) same of_input.is_held;
+    input_whole = of_input.whole;
+    input_fits = of_input.fits;
+    program = p;
+    is_program = is_program;
+    control_is = control_is;
+    ends_are = ends_are;
   }

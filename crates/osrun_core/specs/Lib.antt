@@ -1,25 +1,15 @@
-pub mod Accepting
+-- What a reader believes: what the words name, what a run comes to, why none is made, and what is told of it.
 pub mod Arguments
 pub mod Command
-pub mod Copies
-pub mod Delivers
-pub mod FirstPlan
-pub mod FirstProgram
-pub mod FirstReport
-pub mod JobAnswer
-pub mod Laws
-pub mod Line
 pub mod Loading
-pub mod Loads
-pub mod Meaning
-pub mod Parsed
-pub mod Program
-pub mod Reading
 pub mod Refusal
-pub mod Refuses
-pub mod Report
 pub mod Run
-pub mod Sizes
 pub mod Status
 pub mod Telling
-pub mod Written
+-- What restates private functions.
+pub mod Accepting
+pub mod Delivers
+pub mod JobAnswer
+pub mod Loads
+pub mod Parsed
+pub mod Refuses

@@ -1,15 +1,14 @@
 -- What a job finds in its files, which are read one after the other.
 use Rattle.std.specs.Prelude.{◌≡◌, ℕ, ◌+◌, ◌<◌, ◌≤◌, Bool, List, Option, Some, All, IfSome, IsTrue, length, max, slice_get, take}
+use Rattle.front_end.specs.Texts.{IsAccepted}
+use Rattle.os_ast.specs.Trees.{ProgramTree}
 use Rattle.os_io.specs.Counts.{HasRisen, raised, last_count}
-use Rattle.osrun_core.specs.declared.first_program.FirstProgram.{FirstProgram}
 use Rattle.osrun_core.specs.declared.refusal.Subject.{Subject}
 use Rattle.osrun_core.specs.declared.refusal.Subject.TheVariants as subjects
 use Rattle.osrun_core.specs.declared.refusal.Refusal.{Refusal}
 use Rattle.osrun_core.specs.declared.refusal.Refusal.TheVariants as refusal
-use Rattle.osrun_core.specs.Accepting.{IsRefusalOf}
 use Rattle.osrun_core.specs.Command.{Job, JobFile, files_of}
-use Rattle.osrun_core.specs.Program.{IsProgramOf}
-use Rattle.osrun_core.specs.Refusal.{limit_of}
+use Rattle.osrun_core.specs.Refusal.{IsRefusalOf, limit_of}
 
 -- What shows files at a moment, each part by its name: what each name holds where that is told, the numbers
 -- of openings and of faults, and how many bytes were given since the last opening.
@@ -29,9 +28,9 @@ MayOpen may opens files =
 abbrev pub IsHeld : Option (List ℕ) → List ℕ → Type 0
 IsHeld held bytes = IfSome held (λ told. bytes ≡ told)
 
--- bytes that serve as such a file: those of the program are a program
+-- bytes that serve as such a file: those of the program are accepted as one
 abbrev pub Serves : Subject → List ℕ → Type 0
-Serves subjects.Program bytes = (p : FirstProgram) × IsProgramOf bytes p
+Serves subjects.Program bytes = (p : ProgramTree) × IsAccepted bytes p
 Serves subjects.Input bytes = Unit {0}
 
 -- the file was read whole, within its limit, and serves
@@ -79,7 +78,7 @@ pub record IsRefusedText {F : Type 0} (view : FilesView F) (old new : F) (job : 
 
 -- the cause of a refusal of a job; want of memory has none
 abbrev pub IsCauseOf : {F : Type 0} → FilesView F → F → F → Job → Refusal → Type 0
-IsCauseOf view old new job (refusal.Token code line_number) = IsRefusedText view old new job (refusal.Token code line_number)
+IsCauseOf view old new job (refusal.Text code line_number) = IsRefusedText view old new job (refusal.Text code line_number)
 IsCauseOf view old new job refusal.NoProgram = IsRefusedText view old new job refusal.NoProgram
 IsCauseOf view old new job (refusal.TooLong subject) = IsTooLong view old new job subject
 IsCauseOf view old new job (refusal.ReadFault subject) = IsUnread view old new job subject

@@ -20,5 +20,5 @@ IsLoadRefusal view old new subject name (refusal.TooLong s) =
 IsLoadRefusal view old new subject name (refusal.ReadFault s) =
     (s ≡ subject) × (view.given new ≤ limit_of subject) × HasRisen (view.faults old) (view.faults new)
 IsLoadRefusal view old new subject name refusal.Memory = Unit {0}
-IsLoadRefusal view old new subject name (refusal.Token code line_number) = ⊥
+IsLoadRefusal view old new subject name (refusal.Text code line_number) = ⊥
 IsLoadRefusal view old new subject name refusal.NoProgram = ⊥

@@ -1,13 +1,15 @@
 -- Why no run is made, and the lines that tell it.
 use Rattle.std.specs.Prelude.{ℕ, List, ◌++◌, codes}
 use Rattle.std.specs.Fmt.{decimal}
+use Rattle.collector.specs.Line.{line}
+use Rattle.front_end.specs.Texts.{IsRefused}
+use Rattle.front_end.specs.declared.text_error.TextError.TheVariants as errors
 use Rattle.osrun_core.specs.declared.refusal.Subject.{Subject}
 use Rattle.osrun_core.specs.declared.refusal.Subject.TheVariants.{Program, Input}
 use Rattle.osrun_core.specs.declared.refusal.Refusal.{Refusal}
 use Rattle.osrun_core.specs.declared.refusal.Refusal.TheVariants as refusal
 use Rattle.osrun_core.specs.declared.status.Status.{Status}
 use Rattle.osrun_core.specs.declared.status.Status.TheVariants as status
-use Rattle.osrun_core.specs.Line.{line}
 
 -- how many bytes a file may have
 abbrev pub limit_of : Subject → ℕ
@@ -22,9 +24,17 @@ subject_name Input = codes "input"
 abbrev pub usage_line : List ℕ
 usage_line = line (codes "usage")
 
+-- The text is refused so: by the first of its first fault, that it is no program, its least violation.
+abbrev pub IsRefusalOf : List ℕ → Refusal → Type 0
+IsRefusalOf text (refusal.Text code line_number) = IsRefused text (errors.Refused code line_number)
+IsRefusalOf text refusal.NoProgram = IsRefused text errors.Syntax
+IsRefusalOf text (refusal.TooLong subject) = ⊥
+IsRefusalOf text (refusal.ReadFault subject) = ⊥
+IsRefusalOf text refusal.Memory = ⊥
+
 -- the line that tells a refusal; want of memory has none
 abbrev pub refusal_line : Refusal → List ℕ
-refusal_line (refusal.Token code line_number) = line (codes "refused " ++ decimal code ++ codes " line " ++ decimal line_number)
+refusal_line (refusal.Text code line_number) = line (codes "refused " ++ decimal code ++ codes " line " ++ decimal line_number)
 refusal_line refusal.NoProgram = line (codes "refused 4")
 refusal_line (refusal.TooLong subject) = line (codes "too long " ++ subject_name subject)
 refusal_line (refusal.ReadFault subject) = line (codes "read fault " ++ subject_name subject)
@@ -32,7 +42,7 @@ refusal_line refusal.Memory = codes ""
 
 -- the status of a refusal
 abbrev pub refusal_status : Refusal → Status
-refusal_status (refusal.Token code line_number) = status.Refused
+refusal_status (refusal.Text code line_number) = status.Refused
 refusal_status refusal.NoProgram = status.Refused
 refusal_status (refusal.TooLong subject) = status.TooLong
 refusal_status (refusal.ReadFault subject) = status.ReadFault

@@ -1,35 +1,39 @@
 -- A run of a program over an input.
-use Rattle.std.specs.Prelude.{◌≡◌, ℕ, ◌≤◌, List, Option, length}
+use Rattle.std.specs.Prelude.{◌≡◌, ℕ, ℤ, ◌≤◌, List, Option, length, slice_get}
+use Rattle.std.specs.Option.{option_map_or}
+use Rattle.cddf_meaning.specs.Body.{body, over_budget}
+use Rattle.cddf_meaning.specs.Control.{control}
+use Rattle.flow_core.specs.Streams.{stream_ends, stream_meaning}
 use Rattle.flow_core.specs.declared.activation.Activation.{Activation}
-use Rattle.flow_core.specs.declared.control.ControlEnd.{ControlEnd}
-use Rattle.flow_core.specs.declared.control.ControlEnd.TheVariants as control_end
+use Rattle.flow_core.specs.declared.control.Control.{Control}
 use Rattle.flow_core.specs.declared.ends.Ends.{Ends}
-use Rattle.osrun_core.specs.declared.first_program.FirstProgram.{FirstProgram}
-use Rattle.osrun_core.specs.declared.refusal.Subject.TheVariants.{Program, Input}
+use Rattle.flow_core.specs.declared.outcome.Outcome.{Outcome}
+use Rattle.front_end.specs.Texts.{IsAccepted}
+use Rattle.os_ast.specs.Trees.{ProgramTree}
 use Rattle.osrun_core.specs.Command.{Job}
 use Rattle.osrun_core.specs.Loading.{IsHeld}
-use Rattle.osrun_core.specs.Meaning.{activations, program_ends}
-use Rattle.osrun_core.specs.Program.{IsProgramOf}
 use Rattle.osrun_core.specs.Refusal.{limit_of}
-use Rattle.osrun_core.specs.Report.{report, status}
-use Rattle.osrun_core.specs.Written.{written}
+use Rattle.osrun_core.specs.declared.refusal.Subject.TheVariants.{Program, Input}
 
--- the output, the report and the status are those of the program's meaning over the input
-pub record IsRunOf (p : FirstProgram) (input output_bytes report_bytes : List ℕ) (status_number : ℕ) : Type 0 where
-  pub output : output_bytes ≡ written (program_ends p input).output
-  pub report : report_bytes ≡ report (activations p) (length input) (program_ends p input) control_end.Done
-  pub status : status_number ≡ status (program_ends p input).ends control_end.Done
+-- What the activation of a number makes of its inputs: what the body of its task does. A number that no activation has
+-- is never asked for.
+abbrev pub body_at : ProgramTree → List Activation → (budget number : ℕ) → List ℤ → Outcome
+body_at p activations budget number inputs =
+    option_map_or (λ (a : Activation). body p a inputs budget) (slice_get activations number) over_budget
 
--- a run: the activations that the control program created and how it ended, the input, and the ends of the
--- activations over it with the elements of the output
+-- What activations come to over an input: the data-flow meaning of their streams, with the bodies of the program.
+abbrev pub ends_over : ProgramTree → List Activation → (input : List ℕ) → (budget : ℕ) → Ends
+ends_over p activations input budget =
+    stream_ends activations input (stream_meaning activations input (body_at p activations budget))
+
+-- A run: what the control program created and how it ended, the input, and what the activations came to over it.
 pub record ProgramRun : Type 0 where
-  pub activations : List Activation
-  pub control : ControlEnd
+  pub control : Control
   pub input : List ℕ
   pub ends : Ends
 
--- Both files of the job were read whole, within their limits: of the second so many bytes were given. The first
--- is a program, and the run is that of this program over the bytes of the second.
+-- Both files of the job were read whole, within their limits: of the second so many bytes were given. The first is
+-- accepted as a program, and the run is that of this program over the bytes of the second, with the job's budgets.
 pub record IsRunOfJob (holds : List ℕ → Option (List ℕ)) (given : ℕ) (job : Job) (run : ProgramRun) : Type 0 where
   pub text : List ℕ
   pub text_held : IsHeld (holds job.program) text
@@ -37,8 +41,7 @@ pub record IsRunOfJob (holds : List ℕ → Option (List ℕ)) (given : ℕ) (jo
   pub input_held : IsHeld (holds job.input) run.input
   pub input_whole : given ≡ length run.input
   pub input_fits : length run.input ≤ limit_of Input
-  pub program : FirstProgram
-  pub is_program : IsProgramOf text program
-  pub activations_are : run.activations ≡ activations program
-  pub control_is : run.control ≡ control_end.Done
-  pub ends_are : run.ends ≡ program_ends program run.input
+  pub program : ProgramTree
+  pub is_program : IsAccepted text program
+  pub control_is : run.control ≡ control program (length run.input) job.control_budget
+  pub ends_are : run.ends ≡ ends_over program run.control.activations run.input job.task_budget

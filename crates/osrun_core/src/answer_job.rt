@@ -1,28 +1,32 @@
 ghost use Rattle.std.specs.Prelude.{◌≡◌, ◌≢◌, ◌<◌, ◌≤◌, ◌⊎◌, All};
 ghost use Rattle.os_io.specs.Counts.{HasRisen};
-ghost use Rattle.osrun_core.specs.Command.{files_of, job_of};
+ghost use Rattle.osrun_core.specs.Command.{IsWithin, files_of, job_of};
 ghost use Rattle.osrun_core.specs.JobAnswer.{AnswersJob};
 ghost use Rattle.osrun_core.specs.Loading.{MayOpen, IsReadable, IsRejected, ReadsInOrder};
 ghost use Rattle.osrun_core.specs.Status.{number_of};
 ghost use Rattle.osrun_core.specs.Telling.{HasTrouble};
 
-use crate::deliver::deliver;
 use crate::job::Job;
 use crate::run_job::run_job;
 use crate::status::Status;
 use crate::tell::refuse;
 use os_io::{Files, Sink};
 use std::alloc::Global;
+use std::thread::Threads;
+use task_workers::Gate;
 
-/// Makes the run of a job and delivers it, or tells why there is none.
-pub fn answer_job<F: Files, O: Sink, E: Sink>(
+/// Makes the run of a job and delivers it, or tells why there is none, and answers the status.
+pub fn answer_job<R: Threads + Sync, F: Files, O: Sink, E: Sink, G: Gate>(
+    rt: &R,
     alloc: Global,
     job: &Job<'_>,
     files: &mut F,
     out: &mut O,
     report: &mut E,
+    gate: &G,
 ) -> Status
-    requires { MayOpen (F.may files.old) (F.opens files.old) (files_of (job_of job.now)) }
+    requires within { IsWithin (job_of job.now) }
+    requires may { MayOpen (F.may files.old) (F.opens files.old) (files_of (job_of job.now)) }
     ensures answers { AnswersJob
         (record { holds = F.holds; opens = F.opens; faults = F.faults; given = F.given }) files.old files.new (job_of job.now)
         (record { taken = O.taken; faults = O.faults; empty_takes = O.empty_takes }) out.old out.new
@@ -41,8 +45,8 @@ pub fn answer_job<F: Files, O: Sink, E: Sink>(
     ensures holds { F.holds files.new ≡ F.holds files.old }
     ensures may { F.may files.new ≡ F.may files.old }
 {
-    match run_job(alloc, files, job) {
-        Ok(run) => deliver(out, report, &run),
+    match run_job(rt, alloc, job, files, out, report, gate) {
+        Ok(status) => status,
         Err(refusal) => refuse(alloc, report, &refusal),
     }
 }

@@ -5,13 +5,14 @@ ghost use Rattle.os_io.specs.Counts.{HasRisen, last_count, raised};
 ghost use Rattle.osrun_core.specs.declared.refusal.Refusal.{Refusal as Cause};
 ghost use Rattle.osrun_core.specs.Command.{JobFile, command, files_of, texts};
 ghost use Rattle.osrun_core.specs.Delivers.{IsUndelivered};
+ghost use Rattle.collector.specs.Report.{report as report_of};
+ghost use Rattle.collector.specs.Status.{status as status_of};
+ghost use Rattle.collector.specs.Written.{written};
 ghost use Rattle.osrun_core.specs.Loading.{MayOpen, IsCauseOf, IsReadable, IsRejected, ReadsInOrder};
 ghost use Rattle.osrun_core.specs.Refusal.{limit_of, refusal_line, refusal_status, usage_line};
-ghost use Rattle.osrun_core.specs.Report.{report as report_of, status as status_of};
 ghost use Rattle.osrun_core.specs.Run.{ProgramRun, IsRunOfJob};
 ghost use Rattle.osrun_core.specs.Status.{number_of};
 ghost use Rattle.osrun_core.specs.Telling.{Tells, HasTrouble};
-ghost use Rattle.osrun_core.specs.Written.{written};
 
 use crate::answer_job::answer_job;
 use crate::status::Status;
@@ -27,13 +28,13 @@ const USAGE: &[u8] = b"usage\n";
 
 /// Runs the command that the words name, and answers the status of the process.
 pub fn run_words<R: Threads + Sync, F: Files, O: Sink, E: Sink, G: Gate>(
-    _rt: &R,
+    rt: &R,
     alloc: Global,
     words: &[String],
     files: &mut F,
     out: &mut O,
     report: &mut E,
-    _gate: &G,
+    gate: &G,
 ) -> u8
     requires { ForSome (command (texts words.now))
         (λ job. MayOpen (F.may files.old) (F.opens files.old) (files_of job)) }
@@ -43,8 +44,8 @@ pub fn run_words<R: Threads + Sync, F: Files, O: Sink, E: Sink, G: Gate>(
     ensures headline { result < 2 → IsSomeAnd (command (texts words.now)) (λ job. (run : ProgramRun)
         × IsRunOfJob (F.holds files.old) (F.given files.new) job run
         × (O.taken out.new ≡ append_known (O.taken out.old) (written run.ends.output))
-        × (E.taken report.new ≡ append_known (E.taken report.old) (report_of run.activations (length run.input) run.ends run.control))
-        × (result ≡ status_of run.ends.ends run.control)) }
+        × (E.taken report.new ≡ append_known (E.taken report.old) (report_of run.control.activations (length run.input) run.ends run.control.end))
+        × (result ≡ status_of run.ends.ends run.control.end)) }
 
     // 0, 1 and 6: a run was made, so all files were opened, the input last.
     ensures all_opened { (result < 2) ⊎ (result ≡ 6) → IfSome (command (texts words.now))
@@ -83,7 +84,7 @@ pub fn run_words<R: Threads + Sync, F: Files, O: Sink, E: Sink, G: Gate>(
         × IsRunOfJob (F.holds files.old) (F.given files.new) job run
         × IsUndelivered
         (record { taken = O.taken; faults = O.faults; empty_takes = O.empty_takes }) out.old out.new (written run.ends.output)
-        (record { taken = E.taken; faults = E.faults; empty_takes = E.empty_takes }) report.old report.new (report_of run.activations (length run.input) run.ends run.control)) }
+        (record { taken = E.taken; faults = E.faults; empty_takes = E.empty_takes }) report.old report.new (report_of run.control.activations (length run.input) run.ends run.control.end)) }
 
     // 7: want of memory, before anything is written.
     ensures memory { result ≡ 7 → report.new ≡ report.old }
@@ -113,7 +114,7 @@ pub fn run_words<R: Threads + Sync, F: Files, O: Sink, E: Sink, G: Gate>(
     ensures may { F.may files.new ≡ F.may files.old }
 {
     match command(alloc, words) {
-        Ok(job) => answer_job(alloc, &job, files, out, report).number(),
+        Ok(job) => answer_job(rt, alloc, &job, files, out, report, gate).number(),
         Err(WordsError::Refused) => {
             tell(report, USAGE);
             Status::BadWords.number()

@@ -1,22 +1,62 @@
-ghost use Rattle.std.specs.Prelude.{◌≡◌, string_bytes};
+ghost use Rattle.std.specs.Prelude.{◌≡◌, List};
+ghost use Rattle.collector.specs.Report.{report as report_of};
+ghost use Rattle.collector.specs.Status.{has_done, is_done_control, status as status_of};
+ghost use Rattle.flow_core.specs.declared.activation.Activation.{Activation};
 ghost use Rattle.osrun_core.specs.Delivers.{Delivers};
+ghost use Rattle.osrun_core.specs.Status.{number_of};
+ghost use Rattle.stream_match.specs.Layout.{IsLayout, IsLayoutOf};
 
-use crate::run::Run;
 use crate::status::Status;
+use collector::report_lines;
+use flow_core::{ControlEnd, Ends, TaskEnd};
 use os_io::{Sink, write_whole};
+use stream_match::Layout;
 
 /// Writes the output of a run, and then its report.
-pub fn deliver<O: Sink, E: Sink>(out: &mut O, report: &mut E, run: &Run) -> Status
-    ensures { Delivers
-        (record { taken = O.taken; faults = O.faults; empty_takes = O.empty_takes }) out.old out.new run.now.output.items
-        (record { taken = E.taken; faults = E.faults; empty_takes = E.empty_takes }) report.old report.new (string_bytes run.now.report)
-        run.now.status result }
+pub fn deliver<O: Sink, E: Sink>(
+    out: &mut O,
+    report: &mut E,
+    output: &[u8],
+    layout: &Layout,
+    ends: &Ends,
+    control: ControlEnd,
+) -> Status
+    requires { IsLayout layout.now }
+    ensures { (activations : List Activation) → IsLayoutOf layout.now activations → Delivers
+        (record { taken = O.taken; faults = O.faults; empty_takes = O.empty_takes }) out.old out.new output.now
+        (record { taken = E.taken; faults = E.faults; empty_takes = E.empty_takes }) report.old report.new
+        (report_of activations layout.now.input_len ends.now control) (status_of ends.now.ends control) result }
 {
-    if write_whole(out, run.output.as_slice()).is_err() {
+    if write_whole(out, output).is_err() {
         return Status::WriteFault;
     }
-    if write_whole(report, run.report.as_bytes()).is_err() {
+    if report_lines(layout, ends, &control, report).is_err() {
         return Status::WriteFault;
     }
-    run.status
+    run_status(ends, control)
+}
+
+/// The status of a run: whether every activation and the control program are Done.
+fn run_status(ends: &Ends, control: ControlEnd) -> Status
+    ensures { number_of result ≡ status_of ends.now.ends control }
+{
+    if is_done_control(control) && ends.ends.as_slice().iter().all(is_done) {
+        Status::AllDone
+    } else {
+        Status::NotAllDone
+    }
+}
+
+/// Whether an activation is Done.
+fn is_done(end: &Option<TaskEnd>) -> bool
+    ensures { result ≡ has_done end.now }
+{
+    matches!(end, Some(TaskEnd::Done))
+}
+
+/// Whether the control program ran to its end.
+fn is_done_control(control: ControlEnd) -> bool
+    ensures { result ≡ is_done_control control }
+{
+    matches!(control, ControlEnd::Done)
 }

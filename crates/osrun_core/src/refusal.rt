@@ -1,9 +1,9 @@
 ghost use Rattle.std.specs.Prelude.{◌≡◌};
 ghost use Rattle.osrun_core.specs.Refusal.{limit_of};
 
-use crate::first_program_error::FirstProgramError;
+use front_end::TextError;
+use lowering::LowerError;
 use os_io::Memory;
-use os_lexer::LexError;
 
 /// Which of the two files that a run reads.
 #[derive(Clone, Copy, Debug, PartialEq, Eq)]
@@ -27,9 +27,9 @@ impl Subject {
 /// Why no run was made.
 #[derive(Clone, Copy, Debug, PartialEq, Eq)]
 pub enum Refusal {
-    /// The text has no token cover: the code and the line of its first fault.
-    Token { code: u8, line: u32 },
-    /// The tokens are no program.
+    /// The text is not accepted: the code and the line of its first fault, 1 to 3, or of its least violation, 10 to 24.
+    Text { code: u8, line: u32 },
+    /// The tokens are no program, which has the code 4.
     NoProgram,
     /// The file has more bytes than its limit.
     TooLong(Subject),
@@ -39,32 +39,30 @@ pub enum Refusal {
     Memory,
 }
 
-impl From<LexError> for Refusal {
+impl From<TextError> for Refusal {
     ghost use Rattle.std.specs.Prelude.{◌≡◌};
-    ghost use Rattle.osrun_core.specs.Accepting.{token_refusal};
+    ghost use Rattle.osrun_core.specs.Accepting.{text_refusal};
 
-    ghost from_gives = { λ error refusal. refusal ≡ token_refusal error };
+    ghost from_gives = { λ error refusal. refusal ≡ text_refusal error };
 
-    fn from(error: LexError) -> Refusal {
+    fn from(error: TextError) -> Refusal {
         match error {
-            LexError::BadByte { line } => Refusal::Token { code: 1, line },
-            LexError::OpenComment { line } => Refusal::Token { code: 2, line },
-            LexError::BigNumber { line } => Refusal::Token { code: 3, line },
-            LexError::Memory => Refusal::Memory,
+            TextError::Refused { code, line } => Refusal::Text { code, line },
+            TextError::Syntax => Refusal::NoProgram,
+            TextError::Memory => Refusal::Memory,
         }
     }
 }
 
-impl From<FirstProgramError> for Refusal {
+impl From<LowerError> for Refusal {
     ghost use Rattle.std.specs.Prelude.{◌≡◌};
-    ghost use Rattle.osrun_core.specs.Accepting.{syntax_refusal};
+    ghost use Rattle.osrun_core.specs.declared.refusal.Refusal.TheVariants as refusals;
 
-    ghost from_gives = { λ error refusal. refusal ≡ syntax_refusal error };
+    ghost from_gives = { λ _ refusal. refusal ≡ refusals.Memory };
 
-    fn from(error: FirstProgramError) -> Refusal {
+    fn from(error: LowerError) -> Refusal {
         match error {
-            FirstProgramError::Refused => Refusal::NoProgram,
-            FirstProgramError::Memory => Refusal::Memory,
+            LowerError::Memory => Refusal::Memory,
         }
     }
 }

@@ -1,26 +1,48 @@
-ghost use Rattle.std.specs.Prelude.{◌≡◌, ◌≢◌, ◌≤◌, ◌⊎◌, All, IfOk, IfErr, MatchResult, string_bytes};
+ghost use Rattle.std.specs.Prelude.{◌≡◌, ◌≢◌, ◌≤◌, ◌⊎◌, All, IfOk, IfErr, MatchResult};
 ghost use Rattle.osrun_core.specs.declared.status.Status.TheVariants.{TooLong, ReadFault, NoMemory};
-ghost use Rattle.osrun_core.specs.Command.{files_of, job_of};
-ghost use Rattle.osrun_core.specs.JobAnswer.{MakesRun};
+ghost use Rattle.osrun_core.specs.Command.{IsWithin, files_of, job_of};
+ghost use Rattle.osrun_core.specs.JobAnswer.{AnswersRun};
 ghost use Rattle.osrun_core.specs.Loading.{MayOpen, IsCauseOf, IsReadable, IsRejected, ReadsInOrder};
 ghost use Rattle.osrun_core.specs.Refusal.{refusal_status};
 
 use crate::accept::accept;
+use crate::deliver::deliver;
 use crate::job::Job;
+use crate::lay_out::lay_out;
 use crate::load::load;
 use crate::refusal::{Refusal, Subject};
-use crate::run::{Run, run_program};
-use os_io::Files;
+use crate::run_tasks::run_tasks;
+use crate::status::Status;
+use collector::output_bytes;
+use control_run::run_control;
+use lowering::lower;
+use os_io::{Files, Sink};
 use std::alloc::Global;
+use std::thread::Threads;
+use stream_match::build;
+use task_workers::Gate;
 
-/// Makes the run that a job asks for. Nothing is written yet.
-pub fn run_job<F: Files>(alloc: Global, files: &mut F, job: &Job<'_>) -> Result<Run, Refusal>
-    requires { MayOpen (F.may files.old) (F.opens files.old) (files_of (job_of job.now)) }
-    ensures run { IfOk result (λ run. MakesRun
+/// The whole way of a job, from its files to its sinks: the program is read, checked and compiled, its control program
+/// is run, the activations get their positions and a plan, workers carry it out, and what it comes to is delivered.
+/// Nothing is written before all memory was taken.
+pub fn run_job<R: Threads + Sync, F: Files, O: Sink, E: Sink, G: Gate>(
+    rt: &R,
+    alloc: Global,
+    job: &Job<'_>,
+    files: &mut F,
+    out: &mut O,
+    report: &mut E,
+    gate: &G,
+) -> Result<Status, Refusal>
+    requires may { MayOpen (F.may files.old) (F.opens files.old) (files_of (job_of job.now)) }
+    requires within { IsWithin (job_of job.now) }
+    ensures run { IfOk result (AnswersRun
         (record { holds = F.holds; opens = F.opens; faults = F.faults; given = F.given }) files.old files.new (job_of job.now)
-        run.output.items (string_bytes run.report) run.status) }
+        (record { taken = O.taken; faults = O.faults; empty_takes = O.empty_takes }) out.old out.new
+        (record { taken = E.taken; faults = E.faults; empty_takes = E.empty_takes }) report.old report.new) }
     ensures refused { IfErr result (IsCauseOf
         (record { holds = F.holds; opens = F.opens; faults = F.faults; given = F.given }) files.old files.new (job_of job.now)) }
+    ensures nothing_written { IfErr result (λ _. (out.new ≡ out.old) × (report.new ≡ report.old)) }
     ensures complete { All (IsReadable (F.holds files.old)) (files_of (job_of job.now)) →
         IfErr result (λ r. (refusal_status r ≡ ReadFault) ⊎ (refusal_status r ≡ NoMemory)) }
     ensures rejected { IsRejected (F.holds files.old) (job_of job.now) →
@@ -34,8 +56,13 @@ pub fn run_job<F: Files>(alloc: Global, files: &mut F, job: &Job<'_>) -> Result<
     ensures may { F.may files.new ≡ F.may files.old }
 {
     let text = load(alloc, files, job.program, Subject::Program)?;
-    let program = accept(alloc, &text)?;
+    let checked = accept(alloc, &text)?;
     let input = load(alloc, files, job.input, Subject::Input)?;
-    let run = run_program(alloc, &program, &input)?;
-    Ok(run)
+    let code = lower(alloc, &checked)?;
+    let control = run_control(alloc, &code, input.len() as u32, job.control_budget)?;
+    let layout = lay_out(alloc, &code, &control, &input)?;
+    let plan = build(alloc, &layout, &input)?;
+    let ends = run_tasks(rt, alloc, job, &code, &control, &plan, gate)?;
+    let output = output_bytes(alloc, &ends)?;
+    Ok(deliver(out, report, &output, &layout, &ends, control.end))
 }

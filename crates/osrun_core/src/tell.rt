@@ -21,7 +21,7 @@ fn refusal_text(alloc: Global, refusal: &Refusal) -> Result<String, AllocError>
     ensures { IfOk result (λ text. string_bytes text ≡ refusal_line refusal.now) }
 {
     match refusal {
-        Refusal::Token { code, line } => token_text(alloc, *code, *line),
+        Refusal::Text { code, line } => text_line(alloc, *code, *line),
         Refusal::NoProgram => String::from_str(alloc, "refused 4\n"),
         Refusal::TooLong(Subject::Program) => String::from_str(alloc, "too long program\n"),
         Refusal::TooLong(Subject::Input) => String::from_str(alloc, "too long input\n"),
@@ -31,9 +31,9 @@ fn refusal_text(alloc: Global, refusal: &Refusal) -> Result<String, AllocError>
     }
 }
 
-/// The line that tells the first fault of a text.
-fn token_text(alloc: Global, code: u8, line: u32) -> Result<String, AllocError>
-    ensures { IfOk result (λ text. string_bytes text ≡ refusal_line (Refusal.Token code line)) }
+/// The line that tells why a text is not accepted.
+fn text_line(alloc: Global, code: u8, line: u32) -> Result<String, AllocError>
+    ensures { IfOk result (λ text. string_bytes text ≡ refusal_line (Refusal.Text code line)) }
 {
     format!(in alloc; "refused {code} line {line}\n")
 }
@@ -43,7 +43,7 @@ fn status_of(refusal: &Refusal) -> Status
     ensures { result ≡ refusal_status refusal.now }
 {
     match refusal {
-        Refusal::Token { .. } | Refusal::NoProgram => Status::Refused,
+        Refusal::Text { .. } | Refusal::NoProgram => Status::Refused,
         Refusal::TooLong(_) => Status::TooLong,
         Refusal::ReadFault(_) => Status::ReadFault,
         Refusal::Memory => Status::NoMemory,

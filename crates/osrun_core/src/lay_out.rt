@@ -1,0 +1,26 @@
+ghost use Rattle.std.specs.Prelude.{◌≡◌, ◌≤◌, IfOk, length};
+ghost use Rattle.stream_match.specs.Lawful.{AreLawful};
+ghost use Rattle.stream_match.specs.Layout.{IsLayoutOf};
+
+use flow_core::Control;
+use os_code::Code;
+use os_io::Memory;
+use std::alloc::Global;
+use stream_match::Layout;
+
+/// The positions of the activations that a control program created, over an input.
+pub fn lay_out(
+    alloc: Global,
+    code: &Code,
+    control: &Control,
+    input: &[u8],
+) -> Result<Layout, Memory>
+    requires lawful { AreLawful code.now.streams control.now.activations }
+    requires few { length input.now ≤ 4194304 }
+    ensures layout { IfOk result (λ layout. IsLayoutOf layout control.now.activations) }
+    ensures input { IfOk result (λ layout. layout.input_len ≡ length input.now) }
+{
+    let mut layout = Layout::new(alloc, code.streams, input.len() as u32)?;
+    layout.append(control.activations.as_slice())?;
+    Ok(layout)
+}

@@ -1,0 +1,4 @@
+pub mod Agreeing
+pub mod Bytes
+pub mod Counts
+pub mod Serving

@@ -1,0 +1,3 @@
+-- What a reader believes.
+pub mod Frames
+pub mod Laws
