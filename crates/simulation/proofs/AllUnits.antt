@@ -87,7 +87,8 @@ module _ (p : tree.ProgramTree) (code : Parts) (st : Standing p code) where
   pub counted : code.streams ≡ 2 + (after_items file p).streams
   counted = st.has.counted
 
-  laid_function : (number : ℕ) (g : tree.FunctionTree) → slice_get (functions_of p) number ≡ Some g → (b : Bool) → (g.name.id == main_id) ≡ b → (at : FunctionAt code (names p) (program_tasks p) (after_items file p).streams number g) →
+  laid_function : (number : ℕ) (g : tree.FunctionTree) → slice_get (functions_of p) number ≡ Some g → (b : Bool) → (g.name.id == main_id) ≡ b →
+      (at : FunctionAt code (names p) (program_tasks p) (after_items file p).streams number g) →
       HasUnit b code (told_at (names p)) (program_tasks p) number g → Laid number
   laid_function number g there false e at has = (
     has.unit,

@@ -105,7 +105,8 @@ module _ (code : Parts) (rs : List Resolved) (ordered : InOrder rs) (s : Scope) 
   sum = summed-stmts (size_by (told_at rs)) body_scope f.body (stmts_sizes rs ordered f.body body_scope lawful tells)
 
   module _ (number : ℕ) (may : AllFileMay code number s.entries) where
-    pub function_unit : (f.name.id == main_id) ≡ false → kind_at code number ≡ Function → (has : HasFunction code (told_at rs) number f) → IsLaid code number has.unit
+    pub function_unit : (f.name.id == main_id) ≡ false → kind_at code number ≡ Function → (has : HasFunction code (told_at rs) number f) →
+        IsLaid code number has.unit
     function_unit other kind has =
         function_laid code (in_function (told_at rs)) number has.unit f.body body_scope has.end has.last refl (ap (λ k. stands_in k instr.Return) kind)
         (stmts_fit t leveled body_scope begins (record { slots = room; streams = λ e. absurd (cc) }) (known_by t (stmts_notes body_scope f.body) lawful tells (λ n. tt)))
@@ -197,7 +198,9 @@ module _ (code : Parts) (rs : List Resolved) (ordered : InOrder rs) (s : Scope) 
 
       -- what stands in `main` fits
       pub main_fits : AllFit main_home (all_own_notes body_scope f.body)
-      main_fits = stmts_fit main_text leveled body_scope main_in (record { slots = main_room; streams = λ e. few }) (known_by main_text (stmts_notes body_scope f.body) lawful tells (λ n. tt))
+      main_fits =
+          stmts_fit main_text leveled body_scope main_in (record { slots = main_room; streams = λ e. few })
+          (known_by main_text (stmts_notes body_scope f.body) lawful tells (λ n. tt))
 
       pub main_unit : AreSpawned main_home (all_tasks_of f.body) → IsLaid code number has.unit
       main_unit spawned =

@@ -31,7 +31,8 @@ module _ (h : Home) where
       (then_lays h (straight h (fetching_at old w m.line) has.0 has.1 1 (fetched old 1) has.4 (rises_fetching_at h old w m.line 0 fit.0.0))
       (then_lays h (lays 1 has.1 has.2 has.5) (straight h (storing_at w m.line ∷ []) has.2 to 2 0 has.6 (rises_storing_at h w m.line 0 fit.0.0 fit.0.1))))
 
-  assigned_lays : (a : Assign) (line : ℕ) (e : tree.ExprTree) (s : Scope) → AllFit h (expr_notes s e) → (x from to : ℕ) → HasAssigned h.code (tells h) a line e from to →
+  assigned_lays : (a : Assign) (line : ℕ) (e : tree.ExprTree) (s : Scope) → AllFit h (expr_notes s e) → (x from to : ℕ) →
+      HasAssigned h.code (tells h) a line e from to →
       Lays h ⊤ from (fetched (needs_old a) x) to (suc x)
   assigned_lays assign_of.Plain line e s fit x from to has = to_end h has.2 (expr_lays h e s from has.0 x fit has.1).1
   assigned_lays (assign_of.With op) line e s fit x from to has =

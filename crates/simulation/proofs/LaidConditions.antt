@@ -20,7 +20,8 @@ module _ (h : Home) where
       (from_more h (λ g lt. g (omega (arith, lt, first.onward))) second)
 
   mutual
-    pub condition_lays : {e : tree.ExprTree} {fails from to : ℕ} (s : Scope) → AllFit h (expr_notes s e) → HasCondition h.code (tells h) e fails from to → Tests fails from to
+    pub condition_lays : {e : tree.ExprTree} {fails from to : ℕ} (s : Scope) → AllFit h (expr_notes s e) → HasCondition h.code (tells h) e fails from to →
+        Tests fails from to
     condition_lays {e = e} {fails = fails} {from = from} s fit (tested end has is) =
         let v = expr_lays h e s from end 0 fit has in
         then_lays h (free h v.1) (jumping_zero h end fails 0 is (λ g low high f. label_target h end (omega arith) (g (omega (arith, v.0)))))
@@ -31,7 +32,8 @@ module _ (h : Home) where
         (condition_lays s (fit_first h (expr_notes s first) (links_notes s links) fit) has)
         (conditions_lay s (fit_rest h (expr_notes s first) (links_notes s links) fit) rest)
 
-    pub conditions_lay : {links : tree.Links} {fails from to : ℕ} (s : Scope) → AllFit h (links_notes s links) → HaveConditions h.code (tells h) links fails from to → Tests fails from to
+    pub conditions_lay : {links : tree.Links} {fails from to : ℕ} (s : Scope) → AllFit h (links_notes s links) →
+        HaveConditions h.code (tells h) links fails from to → Tests fails from to
     conditions_lay {from = from} s fit no_more = nothing h from 0
     conditions_lay {fails = fails} {from = from} {to = to} s fit (one_more {e = e} {rest = rest} {mid = mid} has more) =
         tests_both fails from mid to

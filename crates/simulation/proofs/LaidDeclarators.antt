@@ -28,14 +28,16 @@ module _ (h : Home) where
   clearing slot from to fits has =
       straight h (instr.Push (pos 0) ∷ instr.Store slot ∷ []) from to 0 0 has ((refl, refl, refl, refl), omega arith, tt, ((refl, refl, refl, refl), omega arith, fits, omega arith))
 
-  first_lays : (id slot : ℕ) (e : tree.ExprTree) (s : Scope) (from to : ℕ) → slot + 1 ≤ h.slots → AllFit h (expr_notes s e) → HasFirst h.code (tells h) id slot e from to → Lays h ⊤ from 0 to 0
+  first_lays : (id slot : ℕ) (e : tree.ExprTree) (s : Scope) (from to : ℕ) → slot + 1 ≤ h.slots → AllFit h (expr_notes s e) →
+      HasFirst h.code (tells h) id slot e from to → Lays h ⊤ from 0 to 0
   first_lays id slot e s from to fits fit (cleared zeros end zero has is) =
       then_lays h (clearing slot from zeros fits zero)
       (then_lays h (expr_lays h e s zeros end 0 fit has).1 (straight h (instr.Store slot ∷ []) end (end + 1) 1 0 (is, refl) ((refl, refl, refl, refl), omega arith, fits, omega arith)))
   first_lays id slot e s from to fits fit (named_elsewhere end elsewhere has is) =
       then_lays h (expr_lays h e s from end 0 fit has).1 (straight h (instr.Store slot ∷ []) end (end + 1) 1 0 (is, refl) ((refl, refl, refl, refl), omega arith, fits, omega arith))
 
-  scalar_lays : (id slot : ℕ) (e : Option tree.ExprTree) (s : Scope) (from to : ℕ) → slot + 1 ≤ h.slots → AllFit h (value_notes s e) → HasScalar h.code (tells h) id slot e from to → Lays h ⊤ from 0 to 0
+  scalar_lays : (id slot : ℕ) (e : Option tree.ExprTree) (s : Scope) (from to : ℕ) → slot + 1 ≤ h.slots → AllFit h (value_notes s e) →
+      HasScalar h.code (tells h) id slot e from to → Lays h ⊤ from 0 to 0
   scalar_lays id slot None s from to fits fit has = clearing slot from to fits has
   scalar_lays id slot (Some e) s from to fits fit has = first_lays id slot e s from to fits fit has
 
@@ -50,10 +52,13 @@ module _ (h : Home) where
     window_lays owner.OfMain i size fits fit has =
         then_lays h (expr_lays h i.value s from has.0 0 fit has.1).1
         (straight h (instr.Window s.slots i.mark.line ∷ []) has.0 to 1 0 has.2 ((refl, refl, refl, refl), omega arith, fits, omega arith))
-    window_lays owner.OfFunction i size fits fit has = straight h (instr.Zero s.slots _ ∷ []) from to 0 0 has ((refl, refl, refl, refl), omega arith, fits, omega arith)
-    window_lays owner.OfTask i size fits fit has = straight h (instr.Zero s.slots _ ∷ []) from to 0 0 has ((refl, refl, refl, refl), omega arith, fits, omega arith)
+    window_lays owner.OfFunction i size fits fit has =
+        straight h (instr.Zero s.slots _ ∷ []) from to 0 0 has ((refl, refl, refl, refl), omega arith, fits, omega arith)
+    window_lays owner.OfTask i size fits fit has =
+        straight h (instr.Zero s.slots _ ∷ []) from to 0 0 has ((refl, refl, refl, refl), omega arith, fits, omega arith)
 
-    declared_lays : (stream : Bool) (size : Option tree.IndexTree) → Fits h (meaning (declared_entity s (by_parts stream size))) → AllFit h (sized_notes s stream size) →
+    declared_lays : (stream : Bool) (size : Option tree.IndexTree) → Fits h (meaning (declared_entity s (by_parts stream size))) →
+        AllFit h (sized_notes s stream size) →
         AllFit h (value_notes (after_declarator s (by_parts stream size)) first) →
         HasDeclared h.code (tells h) (meaning (declared_entity s (by_parts stream size))) (by_parts stream size) from to → Lays h ⊤ from 0 to 0
     declared_lays true None fits sized valued has = to_end h has (nothing h from 0)
@@ -63,14 +68,16 @@ module _ (h : Home) where
         (subst (λ w. HasDeclared h.code (tells h) w (by_parts false None) from to) (scalar_means s.owner s.slots) has)
     declared_lays false (Some i) fits sized valued has = window_lays s.owner i (size_of s i.value) fits sized has
 
-  declarator_lays : (d : tree.DeclaratorTree) (s : Scope) (from to : ℕ) → AllFit h (declarator_notes s d) → HasDeclared h.code (tells h) (tells h d.name.mark.place) d from to → Lays h ⊤ from 0 to 0
+  declarator_lays : (d : tree.DeclaratorTree) (s : Scope) (from to : ℕ) → AllFit h (declarator_notes s d) →
+      HasDeclared h.code (tells h) (tells h d.name.mark.place) d from to → Lays h ⊤ from 0 to 0
   declarator_lays d s from to fit has =
       declared_lays s d.name d.first from to d.stream d.size fit.0.1
       (fit_first h (sized_notes s d.stream d.size) (value_notes (after_declarator s d) d.first) fit.1)
       (fit_rest h (sized_notes s d.stream d.size) (value_notes (after_declarator s d) d.first) fit.1)
       (subst (λ w. HasDeclared h.code (tells h) w d from to) fit.0.0 has)
 
-  pub declarators_lay : (ds : List tree.DeclaratorTree) (s : Scope) (from to : ℕ) → AllFit h (declarators_notes s ds) → HasDeclarators h.code (tells h) ds from to → Lays h ⊤ from 0 to 0
+  pub declarators_lay : (ds : List tree.DeclaratorTree) (s : Scope) (from to : ℕ) → AllFit h (declarators_notes s ds) →
+      HasDeclarators h.code (tells h) ds from to → Lays h ⊤ from 0 to 0
   declarators_lay [] s from to fit has = to_end h has (nothing h from 0)
   declarators_lay (d ∷ ds) s from to fit has =
       then_lays h (declarator_lays d s from has.0 (fit_first h (declarator_notes s d) (declarators_notes (after_declarator s d) ds) fit) has.1)

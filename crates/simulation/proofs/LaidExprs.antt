@@ -23,11 +23,13 @@ use Rattle.simulation.proofs.Lays.{Lays, fit_first, fit_rest, nothing, then_lays
 
 module _ (h : Home) where
   -- A jump forwards to the end of what lies behind it.
-  pub ahead : (place end height : ℕ) → place < end → h.first ≤ place → end < h.last → height_at h.code end ≡ height → Unturned h.code end → IsTarget h place end height
+  pub ahead : (place end height : ℕ) → place < end → h.first ≤ place → end < h.last → height_at h.code end ≡ height → Unturned h.code end →
+      IsTarget h place end height
   ahead place end height lt first last is other = record { low = omega (arith, first, lt); high = last; height = is; lands = inl (lt, other) }
 
   -- two `!` behind a number, and what follows them
-  nots : (line from x : ℕ) → instr_at h.code from ≡ Some (instr.Unary int_unary.Not line) → instr_at h.code (from + 1) ≡ Some (instr.Unary int_unary.Not line) → Lays h ⊤ from (suc x) (from + 1 + 1) (suc x)
+  nots : (line from x : ℕ) → instr_at h.code from ≡ Some (instr.Unary int_unary.Not line) → instr_at h.code (from + 1) ≡ Some (instr.Unary int_unary.Not line) →
+      Lays h ⊤ from (suc x) (from + 1 + 1) (suc x)
   nots line from x a b =
       straight h (instr.Unary int_unary.Not line ∷ instr.Unary int_unary.Not line ∷ []) from (from + 1 + 1) (suc x) (suc x) (a, (b, refl))
       ((refl, refl, refl, refl), omega arith, tt, ((refl, refl, refl, refl), omega arith, tt, omega arith))
@@ -64,21 +66,24 @@ module _ (h : Home) where
         closed h (then_lays h zero (then_lays h (free h push) (then_lays h jump (then_lays h (free h first) (free h last)))))
 
     lays_operation : (op : Binary) (from to x : ℕ) → (end : ℕ) × right from end × Stands h.code (operation op line) end to → Lays h ⊤ from (suc x) to (suc x)
-    lays_operation op from to x s = then_lays h (lays (suc x) from s.0 s.1) (straight h (operation op line) s.0 to (suc (suc x)) (suc x) s.2 (rises_operation h op line x))
+    lays_operation op from to x s =
+        then_lays h (lays (suc x) from s.0 s.1) (straight h (operation op line) s.0 to (suc (suc x)) (suc x) s.2 (rises_operation h op line x))
 
     lays_link : (op : Binary) (from to x : ℕ) → HasLink h.code op line right from to → Lays h ⊤ from (suc x) to (suc x)
     lays_link binary.And from to x s = lays_and from to x s
     lays_link binary.Or from to x s = lays_or from to x s
     lays_link op from to x s = lays_operation op from to x s
 
-  lays_unary : (op : tree_unary.Unary) (line : ℕ) (e : tree.ExprTree) (has : ℕ → ℕ → Type 0) (from to x : ℕ) → ((q : ℕ) → has from q → Lays h ⊤ from x q (suc x)) →
+  lays_unary : (op : tree_unary.Unary) (line : ℕ) (e : tree.ExprTree) (has : ℕ → ℕ → Type 0) (from to x : ℕ) →
+      ((q : ℕ) → has from q → Lays h ⊤ from x q (suc x)) →
       HasUnary h.code op line e has from to → Lays h ⊤ from x to (suc x)
   lays_unary op line e has from to x lays (operated end s is) =
       then_lays h (lays end s) (straight h (instr.Unary (operator_of_one op) line ∷ []) end (end + 1) (suc x) (suc x) (is, refl) ((refl, refl, refl, refl), omega arith, tt, omega arith))
   lays_unary op line e has from to x lays (worked_out {v = v} same given is) =
       straight h (instr.Push v ∷ []) from (from + 1) x (suc x) (is, refl) ((refl, refl, refl, refl), omega arith, tt, omega arith)
 
-  unary_some : (op : tree_unary.Unary) (line : ℕ) (e : tree.ExprTree) (has : ℕ → ℕ → Type 0) (from to : ℕ) → ((q : ℕ) → has from q → from < q) → HasUnary h.code op line e has from to → from < to
+  unary_some : (op : tree_unary.Unary) (line : ℕ) (e : tree.ExprTree) (has : ℕ → ℕ → Type 0) (from to : ℕ) → ((q : ℕ) → has from q → from < q) →
+      HasUnary h.code op line e has from to → from < to
   unary_some op line e has from to some (operated end s is) = omega (arith, some end s)
   unary_some op line e has from to some (worked_out same given is) = omega arith
 
@@ -99,7 +104,8 @@ module _ (h : Home) where
       (omega (arith, called.takes)) (omega (arith, called.takes)) called.suits
 
   -- a choice between two parts
-  lays_choice : (test end from to x : ℕ) → Lays h ⊤ from x test (suc x) → instr_at h.code test ≡ Some (instr.JumpZero (end + 1)) → Lays h ⊤ (test + 1) x end (suc x) →
+  lays_choice : (test end from to x : ℕ) → Lays h ⊤ from x test (suc x) → instr_at h.code test ≡ Some (instr.JumpZero (end + 1)) →
+      Lays h ⊤ (test + 1) x end (suc x) →
       instr_at h.code end ≡ Some (instr.Jump to) → Lays h ⊤ (end + 1) x to (suc x) → end + 1 < to → Lays h ⊤ from x to (suc x)
   lays_choice test end from to x first is_zero left is_jump right some =
       let jump : Lays h (⊤ × (to < h.last)) end (suc x) (end + 1) x =
@@ -140,7 +146,8 @@ module _ (h : Home) where
         let n = expr_lays b s (has.1 + 1) to x (fit_rest h first (expr_notes s b) fit) has.6 in
         (omega (arith, v.0, y.0, n.0), lays_choice has.0 has.1 from to x v.1 has.3 y.1 has.5 n.1 n.0)
 
-    place_lays : (t : tree.TargetTree) (s : Scope) (from to x : ℕ) → AllFit h (place_notes s role.Value t) → HasPlace h.code (tells h) t from to → Value from x to
+    place_lays : (t : tree.TargetTree) (s : Scope) (from to x : ℕ) → AllFit h (place_notes s role.Value t) → HasPlace h.code (tells h) t from to →
+        Value from x to
     place_lays (tree.Variable n) s from to x fit has = (
       reading_some (tells h n.mark.place) n.mark.line from to has,
       straight h (reading (tells h n.mark.place) n.mark.line) from to x (suc x) has (rises_reading h (tells h n.mark.place) n.mark.line x fit.0),
@@ -151,14 +158,16 @@ module _ (h : Home) where
           then_lays h index.1 (straight h (reading_at (tells h n.mark.place) m.line ∷ []) has.0 to (suc x) (suc x) has.2 (rises_reading_at h (tells h n.mark.place) m.line x fit.0)),
         )
 
-    links_lay : (links : tree.Links) (s : Scope) (from to x : ℕ) → AllFit h (links_notes s links) → HasLinks h.code (tells h) links from to → Lays h ⊤ from (suc x) to (suc x)
+    links_lay : (links : tree.Links) (s : Scope) (from to x : ℕ) → AllFit h (links_notes s links) → HasLinks h.code (tells h) links from to →
+        Lays h ⊤ from (suc x) to (suc x)
     links_lay tree.no_links s from to x fit has = to_end h has (nothing h from (suc x))
     links_lay (tree.link op m e rest) s from to x fit has =
         then_lays h
         (lays_link m.line (HasExpr h.code (tells h) e) (λ y p q k. (expr_lays e s p q y (fit_first h (expr_notes s e) (links_notes s rest) fit) k).1) op from has.0 x has.1)
         (links_lay rest s has.0 to x (fit_rest h (expr_notes s e) (links_notes s rest) fit) has.2)
 
-    args_lay : (args : tree.Args) (s : Scope) (from to x : ℕ) → AllFit h (args_notes s args) → HasArgs h.code (tells h) args from to → Lays h ⊤ from x to (x + count_args args)
+    args_lay : (args : tree.Args) (s : Scope) (from to x : ℕ) → AllFit h (args_notes s args) → HasArgs h.code (tells h) args from to →
+        Lays h ⊤ from x to (x + count_args args)
     args_lay tree.no_args s from to x fit has = to_end h has (to_height h (omega arith) (nothing h from x))
     args_lay (tree.arg e es) s from to x fit has =
         let first = expr_lays e s from has.0 x (fit_first h (expr_notes s e) (args_notes s es) fit) has.1 in

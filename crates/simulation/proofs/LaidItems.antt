@@ -20,13 +20,16 @@ use Rattle.simulation.proofs.LaidExprs.{expr_lays}
 use Rattle.simulation.proofs.Lays.{Lays, Rises, fit_first, fit_rest, nothing, then_lays, to_end, to_height, straight}
 
 -- the stream of an item or a tick is there
-pub stream_fits : (h : Home) (d : Direction) (t : tree.TargetTree) (s : Scope) → AllFit h (place_notes s (role.Flow d) t) → first_of (tells h (target_name t).mark.place) < h.code.streams
+pub stream_fits : (h : Home) (d : Direction) (t : tree.TargetTree) (s : Scope) → AllFit h (place_notes s (role.Flow d) t) →
+    first_of (tells h (target_name t).mark.place) < h.code.streams
 stream_fits h d (tree.Variable n) s fit = fit.0
 stream_fits h d (tree.Element n m e) s fit = fit.0
 
 module _ (h : Home) (in_main : h.kind ≡ Main) where
-  pub stream_lays : (t : tree.TargetTree) (d : Direction) (s : Scope) (from to x : ℕ) → AllFit h (place_notes s (role.Flow d) t) → HasStream h.code (tells h) t from to → Lays h ⊤ from x to (suc x)
-  stream_lays (tree.Variable n) d s from to x fit has = straight h (instr.Push (pos 0) ∷ []) from to x (suc x) has ((refl, refl, refl, refl), omega arith, tt, omega arith)
+  pub stream_lays : (t : tree.TargetTree) (d : Direction) (s : Scope) (from to x : ℕ) → AllFit h (place_notes s (role.Flow d) t) →
+      HasStream h.code (tells h) t from to → Lays h ⊤ from x to (suc x)
+  stream_lays (tree.Variable n) d s from to x fit has =
+      straight h (instr.Push (pos 0) ∷ []) from to x (suc x) has ((refl, refl, refl, refl), omega arith, tt, omega arith)
   stream_lays (tree.Element n m e) d s from to x fit has =
       then_lays h (expr_lays h e s from has.0 x fit.1 has.1).1
       (straight h (instr.CheckAt (count_of (tells h n.mark.place)) m.line ∷ []) has.0 to (suc x) (suc x) has.2 ((refl, refl, refl, refl), omega arith, tt, omega arith))
@@ -42,14 +45,18 @@ module _ (h : Home) (in_main : h.kind ≡ Main) where
   rises_bursting direction.Writes (what.Element item) line x fits = ((refl, refl, refl, refl), omega arith, in_main, omega arith)
   rises_bursting direction.Writes (what.View item) line x fits = ((refl, refl, refl, refl), omega arith, in_main, omega arith)
 
-  burst_lays : (d : Direction) (w : What) (burst : Option tree.IndexTree) (s : Scope) (from to x : ℕ) → Fits h w → AllFit h (index_notes s burst) → HasBurst h.code (tells h) d w burst from to → Lays h ⊤ from x to (suc x)
-  burst_lays d w None s from to x fits fit has = straight h (instr.Push (pos 1) ∷ []) from to x (suc x) has ((refl, refl, refl, refl), omega arith, tt, omega arith)
+  burst_lays : (d : Direction) (w : What) (burst : Option tree.IndexTree) (s : Scope) (from to x : ℕ) → Fits h w → AllFit h (index_notes s burst) →
+      HasBurst h.code (tells h) d w burst from to → Lays h ⊤ from x to (suc x)
+  burst_lays d w None s from to x fits fit has =
+      straight h (instr.Push (pos 1) ∷ []) from to x (suc x) has ((refl, refl, refl, refl), omega arith, tt, omega arith)
   burst_lays d w (Some i) s from to x fits fit has =
       then_lays h (expr_lays h i.value s from has.0 x fit has.1).1 (straight h (bursting d w i.mark.line ∷ []) has.0 to (suc x) (suc x) has.2 (rises_bursting d w i.mark.line x fits))
 
-  join_lays : (d : Direction) (stream : tree.TargetTree) (join : Option tree.JoinTree) (s : Scope) (before : List ℕ) (from to x : ℕ) → AllFit h (window_notes s before stream join) →
+  join_lays : (d : Direction) (stream : tree.TargetTree) (join : Option tree.JoinTree) (s : Scope) (before : List ℕ) (from to x : ℕ) →
+      AllFit h (window_notes s before stream join) →
       HasJoin h.code (tells h) d join from to → Lays h ⊤ from x to (suc x)
-  join_lays d stream None s before from to x fit has = straight h (instr.Push (pos 1) ∷ []) from to x (suc x) has ((refl, refl, refl, refl), omega arith, tt, omega arith)
+  join_lays d stream None s before from to x fit has =
+      straight h (instr.Push (pos 1) ∷ []) from to x (suc x) has ((refl, refl, refl, refl), omega arith, tt, omega arith)
   join_lays d stream (Some j) s before from to x fit has = burst_lays d (tells h j.name.mark.place) j.burst s from to x fit.1.0 fit.1.1 has
 
   pub items_lay : (ps : List Part) (s : Scope) (before : List ℕ) (from to x : ℕ) → AllFit h (parts_notes s before ps) → HasItems h.code (tells h) ps from to →

@@ -60,13 +60,15 @@ module _ (h : Home) (left : IsLeft h) where
   labels_back le g lt = g (omega (arith, lt, le))
 
   -- a part that goes on at its own end
-  goes_to_end : {broke continued from mid to : ℕ} (next : ℕ) → mid ≤ to → Lays h (Labels broke continued mid from mid) from 0 mid 0 → Lays h (Labels broke continued next from to) from 0 mid 0
+  goes_to_end : {broke continued from mid to : ℕ} (next : ℕ) → mid ≤ to → Lays h (Labels broke continued mid from mid) from 0 mid 0 →
+      Lays h (Labels broke continued next from to) from 0 mid 0
   goes_to_end {broke = broke} {continued = continued} {from = from} {mid = mid} {to = to} next le f = own_label h (from_more h own f)
     where
       own : Labels broke continued next from to × (from < mid → IsLabel h mid mid) → Labels broke continued mid from mid
       own g lt = let l = g.0 (omega (arith, lt, le)) in (label_before h le l.0, label_before h le l.1, g.1 lt)
 
-  ends_lay : {part : ℕ → ℕ → ℕ → Type 0} {broke continued next from to : ℕ} → ((n p q : ℕ) → part n p q → Runs broke continued n p q) → Ends h.code part next from to →
+  ends_lay : {part : ℕ → ℕ → ℕ → Type 0} {broke continued next from to : ℕ} → ((n p q : ℕ) → part n p q → Runs broke continued n p q) →
+      Ends h.code part next from to →
       Runs broke continued next from to
   ends_lay {next = next} {from = from} {to = to} lays (by_itself s) = lays next from to s
   ends_lay {broke = broke} {continued = continued} {next = next} {from = from} lays (by_jump end s is) =
@@ -76,7 +78,8 @@ module _ (h : Home) (left : IsLeft h) where
             (jumping h end next 0 0 is (omega arith) (λ g low high k. label_target h end (omega arith) (g (omega (arith, f.onward))).2)),
       )
 
-  test_lays : (test : Option tree.ExprTree) (s : Scope) (fails from to : ℕ) → AllFit h (value_notes s test) → HasTest h.code (tells h) test fails from to → Tests h fails from to
+  test_lays : (test : Option tree.ExprTree) (s : Scope) (fails from to : ℕ) → AllFit h (value_notes s test) → HasTest h.code (tells h) test fails from to →
+      Tests h fails from to
   test_lays None s fails from to fit has = to_end h has (nothing h from 0)
   test_lays (Some e) s fails from to fit has = condition_lays h s fit has
 
@@ -104,7 +107,8 @@ module _ (h : Home) (left : IsLeft h) where
       )
 
   -- a loop goes nowhere but to what follows it
-  loop_lays : {part : ℕ → ℕ → ℕ → ℕ → Type 0} (test : Option tree.ExprTree) (step : Option tree.ChangeTree) (s : Scope) (next from to : ℕ) → AllFit h (value_notes s test) → AllFit h (step_notes s step) →
+  loop_lays : {part : ℕ → ℕ → ℕ → ℕ → Type 0} (test : Option tree.ExprTree) (step : Option tree.ChangeTree) (s : Scope) (next from to : ℕ) →
+      AllFit h (value_notes s test) → AllFit h (step_notes s step) →
       ((c n p q : ℕ) → part c n p q → Runs next c n p q) → HasLoop h.code (tells h) test part step next from to → (from < to) × Lays h (from < to → IsLabel h to next) from 0 to 0
   loop_lays test step s next from to fit_test fit_step lays has =
       let head = test_lays test s next (from + 1) has.0 fit_test has.2 in
@@ -133,7 +137,8 @@ module _ (h : Home) (left : IsLeft h) where
         (from_more h (labels_back c.onward) a.1),
   )
 
-  branches_lay : {broke continued next from test otherwise to : ℕ} → Tests h otherwise from test → Runs broke continued next test otherwise → Runs broke continued next otherwise to → Runs broke continued next from to
+  branches_lay : {broke continued next from test otherwise to : ℕ} → Tests h otherwise from test → Runs broke continued next test otherwise →
+      Runs broke continued next otherwise to → Runs broke continued next from to
   branches_lay {broke = broke} {continued = continued} {next = next} {from = from} {test = test} {otherwise = otherwise} {to = to} c a b = (
     λ e. b.0 (omega (arith, e, c.onward, a.1.onward, b.1.onward)),
     then_lays h (own_label h (then_lays h (from_more h other c) (from_more h first a.1))) (from_more h (labels_back (omega (arith, c.onward, a.1.onward))) b.1),
@@ -145,7 +150,8 @@ module _ (h : Home) (left : IsLeft h) where
       first : Labels broke continued next from to × (from < otherwise → IsLabel h otherwise otherwise) → Labels broke continued next test otherwise
       first g = labels_back c.onward (labels_front b.1.onward g.0)
 
-  jump_lays : {given : Type 0} (label from to : ℕ) → (given → IsLabel h to label) → Stands h.code (instr.Jump label ∷ []) from to → (from < to) × Lays h given from 0 to 0
+  jump_lays : {given : Type 0} (label from to : ℕ) → (given → IsLabel h to label) → Stands h.code (instr.Jump label ∷ []) from to →
+      (from < to) × Lays h given from 0 to 0
   jump_lays label from to is has = (
     omega (arith, has.1),
     to_end h has.1 (jumping h from label 0 0 has.0 (omega arith) (λ g low high k. label_target h from (omega arith) (subst (λ q. IsLabel h q label) (sym has.1) (is g)))),
@@ -158,12 +164,14 @@ module _ (h : Home) (left : IsLeft h) where
       by_kind (inl (e, fits)) = to_height h (omega arith) (leaving h place 1 instr.Return (is ∙ ap Some e) refl refl refl refl (omega arith) fits)
       by_kind (inr (e, fits)) = to_height h (omega arith) (leaving h place 1 instr.End (is ∙ ap Some e) refl refl refl refl (omega arith) fits)
 
-  spawn_lays : (number items from to : ℕ) → h.kind ≡ Main → (operands_of h.code (instr.Spawn number) ≡ items) × (number < length h.code.sites) → Stands h.code (instr.Spawn number ∷ []) from to →
+  spawn_lays : (number items from to : ℕ) → h.kind ≡ Main → (operands_of h.code (instr.Spawn number) ≡ items) × (number < length h.code.sites) →
+      Stands h.code (instr.Spawn number ∷ []) from to →
       Lays h ⊤ from (0 + items) to 0
   spawn_lays number items from to in_main there has =
       straight h (instr.Spawn number ∷ []) from to (0 + items) 0 has ((refl, refl, refl, refl), omega (arith, there.0), (in_main, there.1), omega (arith, there.0))
 
-  tick_lays : (line stream from to : ℕ) → h.kind ≡ Main → stream < h.code.streams → Stands h.code (instr.BurstIn line ∷ instr.Turn ∷ instr.Tick stream ∷ []) from to → Lays h ⊤ from 2 to 0
+  tick_lays : (line stream from to : ℕ) → h.kind ≡ Main → stream < h.code.streams →
+      Stands h.code (instr.BurstIn line ∷ instr.Turn ∷ instr.Tick stream ∷ []) from to → Lays h ⊤ from 2 to 0
   tick_lays line stream from to in_main fits has =
       then_lays h (straight h (instr.BurstIn line ∷ []) from (from + 1) 2 2 (has.0, refl) ((refl, refl, refl, refl), omega arith, in_main, omega arith))
       (turned h (from + 1) to 2 0 (instr.Tick stream) has.1 refl refl refl (omega arith) (omega arith) (in_main, fits))

@@ -45,7 +45,8 @@ module _ (code : Parts) (body : Body) (number : ℕ) (unit : CodeUnit) where
   home = home_of code body number unit
 
   -- behind the body stands an instruction that ends it
-  closed_by : (place x : ℕ) (i : Instr) → Lays home ⊤ unit.start 0 place x → instr_at code place ≡ Some i → goes_on i ≡ false → jump_of i ≡ None → needs_turn i ≡ false → operands_of code i ≤ x → x ≤ 1 →
+  closed_by : (place x : ℕ) (i : Instr) → Lays home ⊤ unit.start 0 place x → instr_at code place ≡ Some i → goes_on i ≡ false → jump_of i ≡ None →
+      needs_turn i ≡ false → operands_of code i ≤ x → x ≤ 1 →
       Suits home i → unit.start + unit.stack ≡ place + 1 → unit.args ≤ unit.slots → IsLaid code number unit
   closed_by place x i front is off none low enough few suits ends args = record {
     body = body;
@@ -59,7 +60,8 @@ module _ (code : Parts) (body : Body) (number : ℕ) (unit : CodeUnit) where
       behind : height_at code place ≡ x → behind_one code (height_at code place) i ≡ 0
       behind e = ap (λ t. if t then height_after code i (height_at code place) else height_at code place - 1) off ∙ omega (arith, e, few)
 
-      by_place : height_at code unit.start ≡ 0 → (p : ℕ) (j : Instr) → unit.start ≤ p → p < unit.start + unit.stack → instr_at code p ≡ Some j → (p < place) ⊎ (place ≤ p) → IsFine home p j
+      by_place : height_at code unit.start ≡ 0 → (p : ℕ) (j : Instr) → unit.start ≤ p → p < unit.start + unit.stack → instr_at code p ≡ Some j →
+          (p < place) ⊎ (place ≤ p) → IsFine home p j
       by_place e p j ge lt there (inl early) = front.fine tt (omega arith) (omega (arith, ends)) e p j ge early there
       by_place e p j ge lt there (inr late) =
           at_one home place i is
@@ -71,7 +73,8 @@ module _ (code : Parts) (body : Body) (number : ℕ) (unit : CodeUnit) where
           })
           p j late (omega (arith, lt, ends)) there
 
-      by_end : (p : ℕ) (j : Instr) → p < unit.start + unit.stack → instr_at code p ≡ Some j → goes_on j ≡ true → (p < place) ⊎ (place ≤ p) → p + 1 < unit.start + unit.stack
+      by_end : (p : ℕ) (j : Instr) → p < unit.start + unit.stack → instr_at code p ≡ Some j → goes_on j ≡ true → (p < place) ⊎ (place ≤ p) →
+          p + 1 < unit.start + unit.stack
       by_end p j lt there on (inl early) = omega (arith, early, ends)
       by_end p j lt there on (inr late) =
           let same : p ≡ place = omega (arith, late, lt, ends) in
@@ -85,7 +88,8 @@ module _ (code : Parts) (body : Body) (number : ℕ) (unit : CodeUnit) where
   body_lays left end runs = own_label home (from_more home (λ g lt. (g.1 lt, g.1 lt, g.1 lt)) runs.1)
 
   -- a function: behind its body stands a `Return` of 0
-  pub function_laid : (ss : tree.Stmts) (s : Scope) (end last : ℕ) → body.leaves ≡ instr.Return → IsTrue (stands_in (kind_at code number) instr.Return) → AllFit home (all_own_notes s ss) →
+  pub function_laid : (ss : tree.Stmts) (s : Scope) (end last : ℕ) → body.leaves ≡ instr.Return → IsTrue (stands_in (kind_at code number) instr.Return) →
+      AllFit home (all_own_notes s ss) →
       AreSpawned home (all_tasks_of ss) → HasStmts code body ss end end end unit.start end → Stands code (instr.Push (pos 0) ∷ instr.Return ∷ []) end last → unit.start + unit.stack ≡ last →
       unit.args ≤ unit.slots → IsLaid code number unit
   function_laid ss s end last leaves kind fit spawned has off ends args =
@@ -95,14 +99,16 @@ module _ (code : Parts) (body : Body) (number : ℕ) (unit : CodeUnit) where
       closed_by (end + 1) 1 instr.Return (then_lays home front push) off.1.0 refl refl refl (omega arith) (omega arith) kind (ends ∙ sym off.1.1) args
 
   -- `main`, and a task: behind its body stands an `End`
-  pub main_laid : (ss : tree.Stmts) (s : Scope) (end : ℕ) → body.leaves ≡ instr.End → IsTrue (stands_in (kind_at code number) instr.End) → AllFit home (all_own_notes s ss) →
+  pub main_laid : (ss : tree.Stmts) (s : Scope) (end : ℕ) → body.leaves ≡ instr.End → IsTrue (stands_in (kind_at code number) instr.End) →
+      AllFit home (all_own_notes s ss) →
       AreSpawned home (all_tasks_of ss) → HasStmts code body ss end end end unit.start end → Stands code (instr.End ∷ []) end (end + 1) → unit.start + unit.stack ≡ end + 1 → unit.args ≤ unit.slots →
       IsLaid code number unit
   main_laid ss s end leaves kind fit spawned has off ends args =
       let left : IsLeft home = inr (leaves, kind) in
       closed_by end 0 instr.End (body_lays left end (stmts_lay home left ss s end end end unit.start end fit spawned has)) off.0 refl refl refl (omega arith) (omega arith) kind ends args
 
-  pub task_laid : (a : tree.StmtTree) (s : Scope) (end : ℕ) → body.leaves ≡ instr.End → IsTrue (stands_in (kind_at code number) instr.End) → AllFit home (own_notes s a) → AreSpawned home (tasks_of a) →
+  pub task_laid : (a : tree.StmtTree) (s : Scope) (end : ℕ) → body.leaves ≡ instr.End → IsTrue (stands_in (kind_at code number) instr.End) →
+      AllFit home (own_notes s a) → AreSpawned home (tasks_of a) →
       HasStmt code body a end end end unit.start end → Stands code (instr.End ∷ []) end (end + 1) → unit.start + unit.stack ≡ end + 1 → unit.args ≤ unit.slots → IsLaid code number unit
   task_laid a s end leaves kind fit spawned has off ends args =
       let left : IsLeft home = inr (leaves, kind) in

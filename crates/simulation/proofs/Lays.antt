@@ -50,14 +50,16 @@ module _ (h : Home) where
   pub label_before : {a b label : ℕ} → a ≤ b → IsLabel h b label → IsLabel h a label
   label_before {a = a} {b = b} {label = label} le l = record { low = l.low; high = l.high; height = l.height; lands = by_lands l.lands }
     where
-      by_lands : ((b ≤ label) × Unturned h.code label) ⊎ (instr_at h.code label ≡ Some instr.Turn) → ((a ≤ label) × Unturned h.code label) ⊎ (instr_at h.code label ≡ Some instr.Turn)
+      by_lands : ((b ≤ label) × Unturned h.code label) ⊎ (instr_at h.code label ≡ Some instr.Turn) →
+          ((a ≤ label) × Unturned h.code label) ⊎ (instr_at h.code label ≡ Some instr.Turn)
       by_lands (inl k) = inl (omega (arith, le, k.0), k.1)
       by_lands (inr k) = inr k
 
   pub label_target : {to label : ℕ} (place : ℕ) → place < to → IsLabel h to label → IsTarget h place label 0
   label_target {to = to} {label = label} place lt l = record { low = l.low; high = l.high; height = l.height; lands = by_lands l.lands }
     where
-      by_lands : ((to ≤ label) × Unturned h.code label) ⊎ (instr_at h.code label ≡ Some instr.Turn) → ((place < label) × Unturned h.code label) ⊎ (instr_at h.code label ≡ Some instr.Turn)
+      by_lands : ((to ≤ label) × Unturned h.code label) ⊎ (instr_at h.code label ≡ Some instr.Turn) →
+          ((place < label) × Unturned h.code label) ⊎ (instr_at h.code label ≡ Some instr.Turn)
       by_lands (inl k) = inl (omega (arith, lt, k.0), k.1)
       by_lands (inr k) = inr k
 
@@ -83,7 +85,8 @@ module _ (h : Home) where
           let same : b ≡ c = omega (arith, none, s.onward) in
           subst (Unturned h.code) same (f.unturned (omega (arith, lt, same)))
 
-      by_place : given → h.first ≤ a → c < h.last → height_at h.code a ≡ x → (p : ℕ) (i : Instr) → a ≤ p → p < c → instr_at h.code p ≡ Some i → (p < b) ⊎ (b ≤ p) → IsFine h p i
+      by_place : given → h.first ≤ a → c < h.last → height_at h.code a ≡ x → (p : ℕ) (i : Instr) → a ≤ p → p < c → instr_at h.code p ≡ Some i →
+          (p < b) ⊎ (b ≤ p) → IsFine h p i
       by_place g low high e p i ge lt is (inl early) = f.fine g low (omega (arith, high, s.onward)) e p i ge early is
       by_place g low high e p i ge lt is (inr late) = s.fine g (omega (arith, low, f.onward)) high (f.height e) p i late lt is
 
@@ -132,7 +135,8 @@ module _ (h : Home) where
       let t : is_turn i ≡ true = ap is_turn k in
       absurd (cc)
 
-  pub one : {given : Type 0} (place : ℕ) (i : Instr) (x y : ℕ) → instr_at h.code place ≡ Some i → is_turn i ≡ false → ((z : ℕ) → z ≡ x → behind_one h.code z i ≡ y) →
+  pub one : {given : Type 0} (place : ℕ) (i : Instr) (x y : ℕ) → instr_at h.code place ≡ Some i → is_turn i ≡ false →
+      ((z : ℕ) → z ≡ x → behind_one h.code z i ≡ y) →
       (given → h.first ≤ place → place + 1 < h.last → height_at h.code place ≡ x → IsFine h place i) → Lays h given place x (place + 1) y
   one place i x y is other rises fine = record {
     onward = omega arith;
@@ -142,7 +146,8 @@ module _ (h : Home) where
   }
 
   -- an instruction that goes on
-  plain : (place : ℕ) (i : Instr) (x : ℕ) → instr_at h.code place ≡ Some i → IsPlain i → operands_of h.code i ≤ x → Suits h i → Lays h ⊤ place x (place + 1) (height_after h.code i x)
+  plain : (place : ℕ) (i : Instr) (x : ℕ) → instr_at h.code place ≡ Some i → IsPlain i → operands_of h.code i ≤ x → Suits h i →
+      Lays h ⊤ place x (place + 1) (height_after h.code i x)
   plain place i x is (on, none, low, other) enough suits =
       one place i x (height_after h.code i x) is other (λ z e. ap (λ t. if t then height_after h.code i z else z - 1) on ∙ ap (height_after h.code i) e)
       (λ g first last e. record {
@@ -188,7 +193,8 @@ module _ (h : Home) where
       })
 
   -- a call or a tick behind its `Turn`
-  pub turned : (from to x y : ℕ) (i : Instr) → Stands h.code (instr.Turn ∷ i ∷ []) from to → goes_on i ≡ true → jump_of i ≡ None → is_turn i ≡ false → operands_of h.code i ≤ x →
+  pub turned : (from to x y : ℕ) (i : Instr) → Stands h.code (instr.Turn ∷ i ∷ []) from to → goes_on i ≡ true → jump_of i ≡ None → is_turn i ≡ false →
+      operands_of h.code i ≤ x →
       height_after h.code i x ≡ y → Suits h i → Lays h ⊤ from x to y
   turned from to x y i stands on none other enough rises suits = record {
     onward = omega (arith, stands.1.1);
@@ -208,7 +214,8 @@ module _ (h : Home) where
           ∙ ap (height_after h.code i) (before e)
           ∙ rises
 
-      by_place : height_at h.code from ≡ x → (p : ℕ) (j : Instr) → from ≤ p → p < to → instr_at h.code p ≡ Some j → (p < from + 1) ⊎ (from + 1 ≤ p) → IsFine h p j
+      by_place : height_at h.code from ≡ x → (p : ℕ) (j : Instr) → from ≤ p → p < to → instr_at h.code p ≡ Some j → (p < from + 1) ⊎ (from + 1 ≤ p) →
+          IsFine h p j
       by_place e p j ge lt is (inl early) =
           at_one from instr.Turn stands.0
           (record { enough = omega arith; jumps = λ q z. absurd (cc); turned = λ t. absurd (cc); suits = tt })
@@ -224,7 +231,8 @@ module _ (h : Home) where
           p j late (omega (arith, lt, stands.1.1)) is
 
   -- a loop begins with a `Turn`, which is a label of its own
-  pub looping : {given : Type 0} (from to : ℕ) → instr_at h.code from ≡ Some instr.Turn → from + 1 < to → Lays h (given × IsLabel h to from) (from + 1) 0 to 0 → Lays h given from 0 to 0
+  pub looping : {given : Type 0} (from to : ℕ) → instr_at h.code from ≡ Some instr.Turn → from + 1 < to → Lays h (given × IsLabel h to from) (from + 1) 0 to 0 →
+      Lays h given from 0 to 0
   looping {given = given} from to is some f = record {
     onward = omega (arith, some);
     height = λ e. f.height (behind e);
@@ -238,7 +246,8 @@ module _ (h : Home) where
       label : h.first ≤ from → to < h.last → height_at h.code from ≡ 0 → IsLabel h to from
       label low high e = record { low = low; high = omega (arith, some, high); height = e; lands = inr is }
 
-      by_place : given × IsLabel h to from → h.first ≤ from → to < h.last → height_at h.code from ≡ 0 → (p : ℕ) (j : Instr) → from ≤ p → p < to → instr_at h.code p ≡ Some j → (p < from + 1) ⊎ (from + 1 ≤ p) → IsFine h p j
+      by_place : given × IsLabel h to from → h.first ≤ from → to < h.last → height_at h.code from ≡ 0 → (p : ℕ) (j : Instr) → from ≤ p → p < to →
+          instr_at h.code p ≡ Some j → (p < from + 1) ⊎ (from + 1 ≤ p) → IsFine h p j
       by_place g low high e p j ge lt there (inl early) =
           at_one from instr.Turn is
           (record { enough = omega arith; jumps = λ q z. absurd (cc); turned = λ t. absurd (cc); suits = tt })
@@ -246,7 +255,8 @@ module _ (h : Home) where
       by_place g low high e p j ge lt there (inr late) = f.fine g (omega (arith, low)) high (behind e) p j late lt there
 
   -- what ends a body has its value on the stack, if it asks for one
-  pub leaving : {given : Type 0} (place x : ℕ) (i : Instr) → instr_at h.code place ≡ Some i → goes_on i ≡ false → jump_of i ≡ None → needs_turn i ≡ false → is_turn i ≡ false →
+  pub leaving : {given : Type 0} (place x : ℕ) (i : Instr) → instr_at h.code place ≡ Some i → goes_on i ≡ false → jump_of i ≡ None → needs_turn i ≡ false →
+      is_turn i ≡ false →
       operands_of h.code i ≤ x → Suits h i → Lays h given place x (place + 1) (x - 1)
   leaving place x i is off none low other enough suits =
       one place i x (x - 1) is other (λ z e. ap (λ t. if t then height_after h.code i z else z - 1) off ∙ ap (λ n. n - 1) e)

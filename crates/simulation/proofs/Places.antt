@@ -40,18 +40,22 @@ functions_count (tree.Constant c ∷ is) = functions_count is
 functions_count (tree.Function f ∷ is) = ap suc (functions_count is)
 
 -- a name that is declared is that of no further function
-not_again : (is : List tree.ItemTree) (ids : List ℕ) → is_in main_id ids ≡ true → AreApart ids is → (j : ℕ) (g : tree.FunctionTree) → slice_get (functions_of is) j ≡ Some g → (g.name.id == main_id) ≡ true → ⊥
+not_again : (is : List tree.ItemTree) (ids : List ℕ) → is_in main_id ids ≡ true → AreApart ids is → (j : ℕ) (g : tree.FunctionTree) →
+    slice_get (functions_of is) j ≡ Some g → (g.name.id == main_id) ≡ true → ⊥
 not_again [] ids h apart j g is_there named = absurd (cc)
-not_again (tree.Constant c ∷ is) ids h apart j g is_there named = not_again is (c.name.id ∷ ids) (or_right (c.name.id == main_id) (is_in main_id ids) h) apart.1 j g is_there named
+not_again (tree.Constant c ∷ is) ids h apart j g is_there named =
+    not_again is (c.name.id ∷ ids) (or_right (c.name.id == main_id) (is_in main_id ids) h) apart.1 j g is_there named
 not_again (tree.Function f ∷ is) ids h apart zero g is_there named =
     let same : f ≡ g = cc in
     let e : f.name.id ≡ main_id = ap (λ (x : tree.FunctionTree). x.name.id) same ∙ eqb-true g.name.id main_id named in
     let bad : true ≡ false = sym h ∙ ap (λ n. is_in n ids) (sym e) ∙ apart.0 in
     absurd (cc)
-not_again (tree.Function f ∷ is) ids h apart (suc j) g is_there named = not_again is (f.name.id ∷ ids) (or_right (f.name.id == main_id) (is_in main_id ids) h) apart.1 j g is_there named
+not_again (tree.Function f ∷ is) ids h apart (suc j) g is_there named =
+    not_again is (f.name.id ∷ ids) (or_right (f.name.id == main_id) (is_in main_id ids) h) apart.1 j g is_there named
 
 -- `main` has no parameters
-pub mains_bare : (is : List tree.ItemTree) (ids : List ℕ) → AreApart ids is → has_main is ≡ true → (j : ℕ) (g : tree.FunctionTree) → slice_get (functions_of is) j ≡ Some g → (g.name.id == main_id) ≡ true → param_names g.params ≡ []
+pub mains_bare : (is : List tree.ItemTree) (ids : List ℕ) → AreApart ids is → has_main is ≡ true → (j : ℕ) (g : tree.FunctionTree) →
+    slice_get (functions_of is) j ≡ Some g → (g.name.id == main_id) ≡ true → param_names g.params ≡ []
 mains_bare [] ids apart h j g there named = absurd (cc)
 mains_bare (tree.Constant c ∷ is) ids apart h j g there named = mains_bare is (c.name.id ∷ ids) apart.1 h j g there named
 mains_bare (tree.Function f ∷ is) ids apart h zero g there named =
@@ -66,7 +70,8 @@ mains_bare (tree.Function f ∷ is) ids apart h (suc j) g there named =
     by_case false e next = next (sym (ap (λ b. (b && is_empty (param_names f.params)) || has_main is) e) ∙ h)
 
 -- the tasks of a program are those of `main`
-pub mains_tasks : (is : List tree.ItemTree) (ids : List ℕ) → AreApart ids is → (j : ℕ) (g : tree.FunctionTree) → slice_get (functions_of is) j ≡ Some g → (g.name.id == main_id) ≡ true → program_tasks is ≡ all_tasks_of g.body
+pub mains_tasks : (is : List tree.ItemTree) (ids : List ℕ) → AreApart ids is → (j : ℕ) (g : tree.FunctionTree) → slice_get (functions_of is) j ≡ Some g →
+    (g.name.id == main_id) ≡ true → program_tasks is ≡ all_tasks_of g.body
 mains_tasks [] ids apart j g there named = absurd (cc)
 mains_tasks (tree.Constant c ∷ is) ids apart j g there named = mains_tasks is (c.name.id ∷ ids) apart.1 j g there named
 mains_tasks (tree.Function f ∷ is) ids apart zero g there named =
@@ -75,7 +80,8 @@ mains_tasks (tree.Function f ∷ is) ids apart zero g there named =
 mains_tasks (tree.Function f ∷ is) ids apart (suc j) g there named =
     by_case (f.name.id == main_id) refl (mains_tasks is (f.name.id ∷ ids) apart.1 j g there named)
   where
-    by_case : (t : Bool) → (f.name.id == main_id) ≡ t → program_tasks is ≡ all_tasks_of g.body → (if t then all_tasks_of f.body else program_tasks is) ≡ all_tasks_of g.body
+    by_case : (t : Bool) → (f.name.id == main_id) ≡ t → program_tasks is ≡ all_tasks_of g.body →
+        (if t then all_tasks_of f.body else program_tasks is) ≡ all_tasks_of g.body
     by_case true e next = absurd (not_again is (f.name.id ∷ ids) (or_left (f.name.id == main_id) (is_in main_id ids) e) apart.1 j g there named)
     by_case false e next = next
 
@@ -96,7 +102,8 @@ module _ (code : Parts) (rs : List Resolved) (tasks : List TaskTree) where
   main_number (tree.Function f ∷ is) first has h =
       by_case (f.name.id == main_id) refl has.0 (λ k. main_number is (suc first) has.1 k)
     where
-      by_case : (t : Bool) → (f.name.id == main_id) ≡ t → HasUnit t code (told_at rs) tasks first f → (has_main is ≡ true → MainNumber (suc first) is) → MainNumber first (tree.Function f ∷ is)
+      by_case : (t : Bool) → (f.name.id == main_id) ≡ t → HasUnit t code (told_at rs) tasks first f → (has_main is ≡ true → MainNumber (suc first) is) →
+          MainNumber first (tree.Function f ∷ is)
       by_case true e unit next = record { place = 0; function = f; is_there = refl; named = e; is_main = omega (arith, unit.is_main) }
       by_case false e unit next =
           let m = next (sym (ap (λ b. (b && is_empty (param_names f.params)) || has_main is) e) ∙ h) in
@@ -116,7 +123,8 @@ module _ (code : Parts) (rs : List Resolved) (tasks : List TaskTree) where
   abbrev front : Scope → tree.FunctionTree → List Note
   front s f = Global s f.name ∷ params_notes (programs.in_function s f.name.id) (param_names f.params)
 
-  abbrev here : (f : tree.FunctionTree) (is : List tree.ItemTree) (s : Scope) (number : ℕ) → AreStmts f.body → AllFileMay code number s.entries → AllOfFile s.entries → AreLawful (items_notes s (tree.Function f ∷ is)) →
+  abbrev here : (f : tree.FunctionTree) (is : List tree.ItemTree) (s : Scope) (number : ℕ) → AreStmts f.body → AllFileMay code number s.entries →
+      AllOfFile s.entries → AreLawful (items_notes s (tree.Function f ∷ is)) →
       Tells rs (items_notes s (tree.Function f ∷ is)) → HasUnit (f.name.id == main_id) code (told_at rs) tasks number f → FunctionAt (after_items s (tree.Function f ∷ is)).streams number f
   here f is s number body may all lawful tells has = record {
     scope = s;
@@ -130,13 +138,15 @@ module _ (code : Parts) (rs : List Resolved) (tasks : List TaskTree) where
   }
 
   -- a function in the scope behind it
-  declared : (t : Bool) (f : tree.FunctionTree) (number : ℕ) → (f.name.id == main_id) ≡ t → HasUnit t code (told_at rs) tasks number f → ((f.name.id == main_id) ≡ false → kind_at code number ≡ Function) →
+  declared : (t : Bool) (f : tree.FunctionTree) (number : ℕ) → (f.name.id == main_id) ≡ t → HasUnit t code (told_at rs) tasks number f →
+      ((f.name.id == main_id) ≡ false → kind_at code number ≡ Function) →
       (f.name.id == main_id) ≡ false → (option_map_or (λ (unit : CodeUnit). unit.args) (unit_at code number) 0 ≡ length (param_names f.params)) × (number < suc number) × (kind_at code number ≡ Function)
   declared true f number e has kind other = let bad : true ≡ false = sym e ∙ other in absurd (cc)
   declared false f number e has kind other =
       (ap (λ o. option_map_or (λ (unit : CodeUnit). unit.args) o 0) has.is_unit ∙ has.args, omega arith, kind other)
 
-  next_may : (f : tree.FunctionTree) (s : Scope) (number : ℕ) → s.functions ≡ number → AllFileMay code number s.entries → HasUnit (f.name.id == main_id) code (told_at rs) tasks number f →
+  next_may : (f : tree.FunctionTree) (s : Scope) (number : ℕ) → s.functions ≡ number → AllFileMay code number s.entries →
+      HasUnit (f.name.id == main_id) code (told_at rs) tasks number f →
       ((f.name.id == main_id) ≡ false → kind_at code number ≡ Function) → AllFileMay code (suc number) (after_item s (tree.Function f)).entries
   next_may f s number count may has kind =
       let inner = after_stmts (in_body s f) f.body in
@@ -147,7 +157,8 @@ module _ (code : Parts) (rs : List Resolved) (tasks : List TaskTree) where
       )
 
   -- the functions of a file, each in its place; `kinds` says that those which aren't `main` are functions
-  pub places : (is : List tree.ItemTree) (s : Scope) (number : ℕ) → AreAll IsItem is → AllFileMay code number s.entries → AllOfFile s.entries → s.functions ≡ number → AreLawful (items_notes s is) →
+  pub places : (is : List tree.ItemTree) (s : Scope) (number : ℕ) → AreAll IsItem is → AllFileMay code number s.entries → AllOfFile s.entries →
+      s.functions ≡ number → AreLawful (items_notes s is) →
       Tells rs (items_notes s is) → HasFunctions code (told_at rs) tasks number is →
       (kinds : (j : ℕ) (g : tree.FunctionTree) → slice_get (functions_of is) j ≡ Some g → (g.name.id == main_id) ≡ false → kind_at code (number + j) ≡ Function) →
       (j : ℕ) (g : tree.FunctionTree) → slice_get (functions_of is) j ≡ Some g → FunctionAt (after_items s is).streams (number + j) g
@@ -191,9 +202,12 @@ module _ (code : Parts) (rs : List Resolved) (tasks : List TaskTree) where
       absurd (cc)
 
   no_captures : (s : Scope) (f : tree.FunctionTree) → (f.name.id == main_id) ≡ false → captures (item_notes s (tree.Function f)) ≡ []
-  no_captures s f other = none_both (front s f) (stmts_notes (in_body s f) f.body) (none_front (programs.in_function s f.name.id) (param_names f.params)) (none_stmts f.body (in_body s f) (not_main s f other))
+  no_captures s f other =
+      none_both (front s f) (stmts_notes (in_body s f) f.body) (none_front (programs.in_function s f.name.id) (param_names f.params))
+      (none_stmts f.body (in_body s f) (not_main s f other))
 
-  pub main_place : (is : List tree.ItemTree) (s : Scope) (number : ℕ) → AreAll IsItem is → AllFileMay code number s.entries → AllOfFile s.entries → s.functions ≡ number → AreLawful (items_notes s is) →
+  pub main_place : (is : List tree.ItemTree) (s : Scope) (number : ℕ) → AreAll IsItem is → AllFileMay code number s.entries → AllOfFile s.entries →
+      s.functions ≡ number → AreLawful (items_notes s is) →
       Tells rs (items_notes s is) → HasFunctions code (told_at rs) tasks number is →
       (kinds : (j : ℕ) (g : tree.FunctionTree) → slice_get (functions_of is) j ≡ Some g → (g.name.id == main_id) ≡ false → kind_at code (number + j) ≡ Function) → has_main is ≡ true → MainAt s is
   main_place [] s number leveled may all count lawful tells has kinds some = absurd (cc)
@@ -219,7 +233,8 @@ module _ (code : Parts) (rs : List Resolved) (tasks : List TaskTree) where
       rest : List Note
       rest = items_notes (after_item s (tree.Function f)) is
 
-      by_case : (t : Bool) → (f.name.id == main_id) ≡ t → ((f.name.id == main_id) ≡ false → MainAt (after_item s (tree.Function f)) is) → MainAt s (tree.Function f ∷ is)
+      by_case : (t : Bool) → (f.name.id == main_id) ≡ t → ((f.name.id == main_id) ≡ false → MainAt (after_item s (tree.Function f)) is) →
+          MainAt s (tree.Function f ∷ is)
       by_case true e next = record {
         number = number;
         function = f;

@@ -70,7 +70,8 @@ module _ (h : Home) where
     stmt_caught (tree.StmtTree.Declare ds) s fit = subst AllCaught (sym (none_declarators ds s)) tt
     stmt_caught (tree.StmtTree.Change c) s fit = subst AllCaught (sym (none_change c s)) tt
     stmt_caught (tree.StmtTree.Call f args) s fit = subst AllCaught (sym (none_args args s)) tt
-    stmt_caught (tree.If c a) s fit = caught_behind (expr_notes s c) (stmt_notes s a) (none_expr c s) (stmt_caught a s (fit_rest h (expr_notes s c) (own_notes s a) fit))
+    stmt_caught (tree.If c a) s fit =
+        caught_behind (expr_notes s c) (stmt_notes s a) (none_expr c s) (stmt_caught a s (fit_rest h (expr_notes s c) (own_notes s a) fit))
     stmt_caught (tree.IfElse c a b) s fit =
         let x = expr_notes s c ++ stmt_notes s a in
         let y = stmt_notes (after_stmt s a) b in
@@ -131,7 +132,8 @@ module _ (h : Home) where
   window_below (what.Element item) slot fits is = absurd (cc)
   window_below (what.View item) slot fits is = absurd (cc)
 
-  item_fits : (d : Direction) (i : tree.ClauseItemTree) (s : Scope) (before : List ℕ) → AllFit h (part_notes s before (Item d i)) → ItemFits (site_item (tells h) d i)
+  item_fits : (d : Direction) (i : tree.ClauseItemTree) (s : Scope) (before : List ℕ) → AllFit h (part_notes s before (Item d i)) →
+      ItemFits (site_item (tells h) d i)
   item_fits d i s before fit = record {
     stream = stream_fits h d i.stream s (fit_first h (place_notes s (role.Flow d) i.stream) (window_notes s before i.stream i.window) fit);
     window = λ slot is. by_window i.window slot (fit_rest h (place_notes s (role.Flow d) i.stream) (window_notes s before i.stream i.window) fit) is;

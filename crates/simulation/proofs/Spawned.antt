@@ -25,7 +25,8 @@ none_spawned h none (t ∷ ts) = (
 
 module _ (h : Home) (tells : ℕ → What) (captured : List (List ℕ)) (lo hi : ℕ) (rises : Rises place_of lo h.body.tasks hi)
     (has : (number : ℕ) (t : TaskTree) → slice_get h.body.tasks number ≡ Some t → HasTask h.code tells captured number t) where
-  pub all_spawned : (ts : List TaskTree) (k : ℕ) → ((j : ℕ) (t : TaskTree) → slice_get ts j ≡ Some t → slice_get h.body.tasks (k + j) ≡ Some t) → AreSpawned h ts
+  pub all_spawned : (ts : List TaskTree) (k : ℕ) → ((j : ℕ) (t : TaskTree) → slice_get ts j ≡ Some t → slice_get h.body.tasks (k + j) ≡ Some t) →
+      AreSpawned h ts
   all_spawned [] k there = tt
   all_spawned (t ∷ ts) k there = (
     λ number is.

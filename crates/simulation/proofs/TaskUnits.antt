@@ -68,7 +68,8 @@ all_main_may h [] all = tt
 all_main_may h (e ∷ es) all = (main_may h e.id e.entity all.0, all_main_may h es all.1)
 
 module _ (h : Home) (site : Site) (kind : h.kind ≡ code_parts.Task site) (tells : ℕ → What) (s : Scope) (depth : ℕ) where
-  named_may : (id item : ℕ) (d : Direction) (w : Option tree.JoinTree) (e : Option Entity) → HasItem h item × IsWritten h d item → May h owner.OfTask id (named_entity item d w e)
+  named_may : (id item : ℕ) (d : Direction) (w : Option tree.JoinTree) (e : Option Entity) → HasItem h item × IsWritten h d item →
+      May h owner.OfTask id (named_entity item d w e)
   named_may id item d None e may = may
   named_may id item d (Some j) None may = may
   named_may id item d (Some j) (Some (entity.Constant v)) may = may
@@ -96,7 +97,8 @@ module _ (h : Home) (site : Site) (kind : h.kind ≡ code_parts.Task site) (tell
   )
 
   -- the items of a task may be named in it
-  items_may : (ps : List Part) (k : ℕ) (es : List Entry) → ((j : ℕ) → slice_get site.items (k + j) ≡ slice_get (site_items tells ps) j) → AllMay h owner.OfTask es → AllMay h owner.OfTask (made_items s depth k ps es)
+  items_may : (ps : List Part) (k : ℕ) (es : List Entry) → ((j : ℕ) → slice_get site.items (k + j) ≡ slice_get (site_items tells ps) j) →
+      AllMay h owner.OfTask es → AllMay h owner.OfTask (made_items s depth k ps es)
   items_may [] k es rows all = all
   items_may (Private n ∷ ps) k es rows all = items_may ps k es rows all
   items_may (Item d i ∷ ps) k es rows all =
@@ -119,7 +121,8 @@ caught slots (Pragma s m) h = tt
 caught slots (Task s m k cs) h = tt
 caught slots (Listed before n) h = tt
 
-known_by_slots : (t : Text) → t.owner ≡ owner.OfTask → (ns : List Note) → AreLawful ns → Tells t.names ns → ((x : ℕ) → is_in x (used_slots ns) ≡ true → is_in x t.captured ≡ true) → Known t ns
+known_by_slots : (t : Text) → t.owner ≡ owner.OfTask → (ns : List Note) → AreLawful ns → Tells t.names ns →
+    ((x : ℕ) → is_in x (used_slots ns) ≡ true → is_in x t.captured ≡ true) → Known t ns
 known_by_slots t is [] lawful tells h = tt
 known_by_slots t is (n ∷ ns) lawful tells h = (
   (

@@ -25,7 +25,8 @@ module _ (t : Text) (s : Scope) (is : In t s) where
     expr_scoped (tree.Choice c a b) =
         scoped_both t (expr_notes s c ++ expr_notes s a) (expr_notes s b) (scoped_both t (expr_notes s c) (expr_notes s a) (expr_scoped c) (expr_scoped a)) (expr_scoped b)
 
-    pub place_scoped : (p : tree.TargetTree) (r : Role) → IsPlaced t (usage.Place r shape.Bare) → IsPlaced t (usage.Place r shape.Indexed) → AllScoped t (place_notes s r p)
+    pub place_scoped : (p : tree.TargetTree) (r : Role) → IsPlaced t (usage.Place r shape.Bare) → IsPlaced t (usage.Place r shape.Indexed) →
+        AllScoped t (place_notes s r p)
     place_scoped (tree.Variable n) r bare indexed = ((is, bare), tt)
     place_scoped (tree.Element n m e) r bare indexed = ((is, indexed), expr_scoped e)
 

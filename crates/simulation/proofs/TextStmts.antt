@@ -66,7 +66,8 @@ module _ (t : Text) where
   scalar_may owner.OfFunction id slot e le = le
   scalar_may owner.OfTask id slot e le = le
 
-  sized_may : (o : Owner) (s : Scope) (id : ℕ) (size : Option ℕ) → o ≡ t.owner → (taken s (sized_form o size)).slots ≤ t.home.slots → May t.home t.owner id (form_entity s (sized_form o size))
+  sized_may : (o : Owner) (s : Scope) (id : ℕ) (size : Option ℕ) → o ≡ t.owner → (taken s (sized_form o size)).slots ≤ t.home.slots →
+      May t.home t.owner id (form_entity s (sized_form o size))
   sized_may owner.OfMain s id size e le = main_alone t.owner _ (sym e) (t.in_main (sym e), le)
   sized_may owner.OfFunction s id size e le = le
   sized_may owner.OfTask s id size e le = le
@@ -82,7 +83,8 @@ module _ (t : Text) where
   in_main_body owner.OfTask h = absurd (cc)
 
   module _ (s : Scope) (id : ℕ) (is : In t s) where
-    form_may : (stream : Bool) (size : Option tree.IndexTree) → HasRoom t (taken s (form_with s stream size)) → (stream && not (is_outermost s.owner s.depth)) ≡ false →
+    form_may : (stream : Bool) (size : Option tree.IndexTree) → HasRoom t (taken s (form_with s stream size)) →
+        (stream && not (is_outermost s.owner s.depth)) ≡ false →
         (stream ≡ true → (i : tree.IndexTree) → size ≡ Some i → 1 ≤ unwrap_or (size_of s i.value) 0) → May t.home t.owner id (form_entity s (form_with s stream size))
     form_may true None room outer some =
         let main = sym is.owner ∙ outermost s.owner s.depth outer in
@@ -93,7 +95,8 @@ module _ (t : Text) where
     form_may false None room outer some = scalar_may s.owner id s.slots is.owner room.slots
     form_may false (Some i) room outer some = sized_may s.owner s id (size_of s i.value) is.owner room.slots
 
-    size_lawful : (stream : Bool) (size : Option tree.IndexTree) (d : Scope) → (has_no_size (form_with s stream size) (size_told s size) || has_too_many d (form_with s stream size)) ≡ false →
+    size_lawful : (stream : Bool) (size : Option tree.IndexTree) (d : Scope) →
+        (has_no_size (form_with s stream size) (size_told s size) || has_too_many d (form_with s stream size)) ≡ false →
         stream ≡ true → (i : tree.IndexTree) → size ≡ Some i → 1 ≤ unwrap_or (size_of s i.value) 0
     size_lawful false size d lawful e i is_size = absurd (cc)
     size_lawful true None d lawful e i is_size = absurd (cc)
@@ -101,7 +104,8 @@ module _ (t : Text) where
         let same : j ≡ i = cc in
         subst (λ (k : tree.IndexTree). 1 ≤ unwrap_or (size_of s k.value) 0) same (size_some (size_told s (Some j)) (or_none_first _ _ lawful))
 
-  declarator_in : (d : tree.DeclaratorTree) (s : Scope) → In t s → HasRoom t (after_declarator s d) → KeepsAll rules (Declared s d) → In t (after_declarator s d)
+  declarator_in : (d : tree.DeclaratorTree) (s : Scope) → In t s → HasRoom t (after_declarator s d) → KeepsAll rules (Declared s d) →
+      In t (after_declarator s d)
   declarator_in d s is room lawful = record {
     owner = (declarator_onward s d).owner ∙ is.owner;
     captured = (declarator_onward s d).captured ∙ is.captured;
@@ -112,14 +116,16 @@ module _ (t : Text) where
     );
   }
 
-  declarators_in : (ds : List tree.DeclaratorTree) (s : Scope) → In t s → HasRoom t (after_declarators s ds) → Known t (declarators_notes s ds) → In t (after_declarators s ds)
+  declarators_in : (ds : List tree.DeclaratorTree) (s : Scope) → In t s → HasRoom t (after_declarators s ds) → Known t (declarators_notes s ds) →
+      In t (after_declarators s ds)
   declarators_in [] s is room known = is
   declarators_in (d ∷ ds) s is room known =
       let rest = declarators_notes (after_declarator s d) ds in
       let next = before_all (declarators_onward ds (after_declarator s d)).slots (declarators_onward ds (after_declarator s d)).streams room in
       declarators_in ds (after_declarator s d) (declarator_in d s is next known.0.0) room (known_rest t (declarator_notes s d) rest known)
 
-  declarators_fit : (ds : List tree.DeclaratorTree) (s : Scope) → In t s → HasRoom t (after_declarators s ds) → Known t (declarators_notes s ds) → AllFit t.home (declarators_notes s ds)
+  declarators_fit : (ds : List tree.DeclaratorTree) (s : Scope) → In t s → HasRoom t (after_declarators s ds) → Known t (declarators_notes s ds) →
+      AllFit t.home (declarators_notes s ds)
   declarators_fit [] s is room known = tt
   declarators_fit (d ∷ ds) s is room known =
       let here = declarator_notes s d in
@@ -180,9 +186,11 @@ module _ (t : Text) where
   same_in s u is own caps entries = record { owner = own ∙ is.owner; captured = caps ∙ is.captured; may = subst (AllMay t.home t.owner) (sym entries) is.may }
 
   mutual
-    pub stmt_fits : {a : tree.StmtTree} → IsStmt a → (s : Scope) → In t s → HasRoom t (after_stmt s a) → Known t (stmt_notes s a) → AllFit t.home (own_notes s a)
+    pub stmt_fits : {a : tree.StmtTree} → IsStmt a → (s : Scope) → In t s → HasRoom t (after_stmt s a) → Known t (stmt_notes s a) →
+        AllFit t.home (own_notes s a)
     stmt_fits IsStmt.empty s is room known = tt
-    stmt_fits (IsStmt.block ss) s is room known = stmts_fit ss (enter s) (same_in s (enter s) is refl refl refl) (record { slots = room.slots; streams = room.streams }) known
+    stmt_fits (IsStmt.block ss) s is room known =
+        stmts_fit ss (enter s) (same_in s (enter s) is refl refl refl) (record { slots = room.slots; streams = room.streams }) known
     stmt_fits (IsStmt.change {c = c} _) s is room known = all_fit t (change_notes s c) (change_scoped t s is c) known
     stmt_fits (IsStmt.call {f = f} {args = args} _) s is room known =
         all_fit t (Used s f (usage.Called (count_args args)) ∷ args_notes s args) ((is, tt), args_scoped t s is args) known
@@ -238,7 +246,8 @@ module _ (t : Text) where
         (is, scoped_both t x (expr_notes s e) (place_scoped t s is p (role.Flow direction.Reads) main main) (expr_scoped t s is e)) known
     stmt_fits (IsStmt.taskwait {m = m}) s is room known = all_fit t (Pragma s m ∷ []) (is, tt) known
 
-    pub stmts_fit : {ss : tree.Stmts} → AreStmts ss → (s : Scope) → In t s → HasRoom t (after_stmts s ss) → Known t (stmts_notes s ss) → AllFit t.home (all_own_notes s ss)
+    pub stmts_fit : {ss : tree.Stmts} → AreStmts ss → (s : Scope) → In t s → HasRoom t (after_stmts s ss) → Known t (stmts_notes s ss) →
+        AllFit t.home (all_own_notes s ss)
     stmts_fit AreStmts.no_stmts s is room known = tt
     stmts_fit (AreStmts.declare {ds = ds} {ss = ss} _ rest) s is room known =
         let next = after_declarators s ds in

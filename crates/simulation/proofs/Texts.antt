@@ -85,7 +85,8 @@ pub may_found : (h : Home) (o : Owner) (es : List Entry) (id : ℕ) (d : Entity)
 may_found h o [] id d all is = absurd (cc)
 may_found h o (e ∷ es) id d all is = by_case (e.id == id) refl is (λ k. may_found h o es id d all.1 k)
   where
-    by_case : (t : Bool) → (e.id == id) ≡ t → entity_of (if t then Some e else lookup es id) ≡ Some d → (entity_of (lookup es id) ≡ Some d → May h o id d) → May h o id d
+    by_case : (t : Bool) → (e.id == id) ≡ t → entity_of (if t then Some e else lookup es id) ≡ Some d → (entity_of (lookup es id) ≡ Some d → May h o id d) →
+        May h o id d
     by_case false _ k next = next k
     by_case true same k next =
         let x : e.entity ≡ d = cc in
@@ -146,7 +147,8 @@ scoped_both t [] ys a b = b
 scoped_both t (x ∷ xs) ys a b = (a.0, scoped_both t xs ys a.1 b)
 
 -- a rule that a used name keeps
-kept_rule : (rule : UseRule) (s : Scope) (n : Name) (u : Use) (d : Entity) → entity_of (lookup s.entries n.id) ≡ Some d → violates rule (Used s n u) ≡ false → rule n.id u d ≡ false
+kept_rule : (rule : UseRule) (s : Scope) (n : Name) (u : Use) (d : Entity) → entity_of (lookup s.entries n.id) ≡ Some d → violates rule (Used s n u) ≡ false →
+    rule n.id u d ≡ false
 kept_rule rule s n u d is h = sym (ap (if_declared (rule n.id u)) is) ∙ h
 
 -- the place of a captured scalar
@@ -204,7 +206,8 @@ module _ (h : Home) (id : ℕ) where
   fits_function (entity.Element item d) may = may.0
   fits_function (entity.View item d) may = may.0
 
-  fits_task : (slots : List ℕ) (d : Entity) → length slots ≤ h.slots → is_a_window d ≡ false → ((slot : ℕ) → is_in slot (control_slots (Some d)) ≡ true → is_in slot slots ≡ true) →
+  fits_task : (slots : List ℕ) (d : Entity) → length slots ≤ h.slots → is_a_window d ≡ false →
+      ((slot : ℕ) → is_in slot (control_slots (Some d)) ≡ true → is_in slot slots ≡ true) →
       May h owned.OfTask id d → Fits h (meaning_in owned.OfTask slots d)
   fits_task slots (entity.Constant v) few other caught may = tt
   fits_task slots (entity.Function number params) few other caught may = tt
@@ -247,7 +250,8 @@ module _ (h : Home) (id : ℕ) where
       by_meaning (inl e) = subst (IsOutput h) (sym e) (output_own o s d free may)
       by_meaning (inr (slot, e)) = subst (IsOutput h) (sym e) tt
 
-  called_in : (o : Owner) (slots : List ℕ) (args : ℕ) (d : Entity) → is_wrong_kind id (usage.Called args) d ≡ false → has_other_count id (usage.Called args) d ≡ false → May h o id d → IsCalled h args (meaning_in o slots d)
+  called_in : (o : Owner) (slots : List ℕ) (args : ℕ) (d : Entity) → is_wrong_kind id (usage.Called args) d ≡ false →
+      has_other_count id (usage.Called args) d ≡ false → May h o id d → IsCalled h args (meaning_in o slots d)
   called_in o slots args (entity.Function number params) kind count may =
       let there = may (other_kind (id == main_id) kind) in
       record { callee = number; is = means_function o slots number params; takes = there.0 ∙ sym (same_count args params count); suits = there.1 }
@@ -265,7 +269,8 @@ module _ (h : Home) (id : ℕ) where
   called_in o slots args (entity.Element item d) kind count may = absurd (cc)
   called_in o slots args (entity.View item d) kind count may = absurd (cc)
 
-  flow_main : (d : Direction) (s : Shape) (e : Entity) → is_wrong_kind id (usage.Place (role.Flow d) s) e ≡ false → May h owned.OfMain id e → first_of (meaning e) < h.code.streams
+  flow_main : (d : Direction) (s : Shape) (e : Entity) → is_wrong_kind id (usage.Place (role.Flow d) s) e ≡ false → May h owned.OfMain id e →
+      first_of (meaning e) < h.code.streams
   flow_main d s (entity.Stream number) kind may = may
   flow_main d s (entity.Streams first size) kind may = may
   flow_main d s (entity.Function number params) kind may = absurd (cc)
@@ -278,7 +283,8 @@ module _ (h : Home) (id : ℕ) where
   flow_main d s (entity.Element item x) kind may = absurd (cc)
   flow_main d s (entity.View item x) kind may = absurd (cc)
 
-  flow_in : (o : Owner) (slots : List ℕ) (d : Direction) (s : Shape) (e : Entity) → o ≡ owned.OfMain → is_wrong_kind id (usage.Place (role.Flow d) s) e ≡ false → May h o id e →
+  flow_in : (o : Owner) (slots : List ℕ) (d : Direction) (s : Shape) (e : Entity) → o ≡ owned.OfMain →
+      is_wrong_kind id (usage.Place (role.Flow d) s) e ≡ false → May h o id e →
       first_of (meaning_in o slots e) < h.code.streams
   flow_in owned.OfMain slots d s e is kind may = flow_main d s e kind may
   flow_in owned.OfFunction slots d s e is kind may = absurd (cc)
@@ -296,14 +302,16 @@ or_none_rest true b e = absurd (cc)
 -- What stands in a body of a lawful program fits.
 module _ (t : Text) where
   -- a used name, by what it is declared as
-  use_fits : (s : Scope) (n : Name) (u : Use) (d : Entity) → In t s → IsPlaced t u → KeepsAll rules (Used s n u) → Catches t.owner t.captured (Used s n u) → entity_of (lookup s.entries n.id) ≡ Some d →
+  use_fits : (s : Scope) (n : Name) (u : Use) (d : Entity) → In t s → IsPlaced t u → KeepsAll rules (Used s n u) → Catches t.owner t.captured (Used s n u) →
+      entity_of (lookup s.entries n.id) ≡ Some d →
       FitsUse t.home u (meaning_in t.owner t.captured d)
   use_fits s n u d is placed lawful catches found = by_use u placed lawful
     where
       may : May t.home t.owner n.id d
       may = may_found t.home t.owner s.entries n.id d is.may found
 
-      caught : (o : Owner) → Catches o t.captured (Used s n u) → o ≡ owned.OfTask → (slot : ℕ) → is_in slot (control_slots (Some d)) ≡ true → is_in slot t.captured ≡ true
+      caught : (o : Owner) → Catches o t.captured (Used s n u) → o ≡ owned.OfTask → (slot : ℕ) → is_in slot (control_slots (Some d)) ≡ true →
+          is_in slot t.captured ≡ true
       caught owned.OfTask catches e slot k = catches slot (ap (λ x. is_in slot (control_slots x)) found ∙ k)
       caught owned.OfMain catches e slot k = absurd (cc)
       caught owned.OfFunction catches e slot k = absurd (cc)
@@ -325,7 +333,8 @@ module _ (t : Text) where
       by_use (usage.Joined x) placed lawful = fits (λ e. let z : owned.OfMain ≡ owned.OfTask = sym placed ∙ e in absurd (cc))
       by_use usage.Private placed lawful = tt
 
-  told_use : (s : Scope) (n : Name) (u : Use) → In t s → IsPlaced t u → KeepsAll rules (Used s n u) → AreIn t.names (resolutions_of (Used s n u)) → Catches t.owner t.captured (Used s n u) →
+  told_use : (s : Scope) (n : Name) (u : Use) → In t s → IsPlaced t u → KeepsAll rules (Used s n u) → AreIn t.names (resolutions_of (Used s n u)) →
+      Catches t.owner t.captured (Used s n u) →
       FitsUse t.home u (tells t.home n.mark.place)
   told_use s n u is placed lawful told catches =
       let d = declared-use s n u (lawful, tt) in
@@ -348,12 +357,14 @@ module _ (t : Text) where
   scalar_fits owned.OfFunction slot le = le
   scalar_fits owned.OfTask slot le = le
 
-  sized_fits : (o : Owner) (s : Scope) (size : Option ℕ) → t.owner ≡ o → (taken s (sized_form o size)).slots ≤ t.home.slots → Fits t.home (meaning (form_entity s (sized_form o size)))
+  sized_fits : (o : Owner) (s : Scope) (size : Option ℕ) → t.owner ≡ o → (taken s (sized_form o size)).slots ≤ t.home.slots →
+      Fits t.home (meaning (form_entity s (sized_form o size)))
   sized_fits owned.OfMain s size e le = (t.in_main e, le)
   sized_fits owned.OfFunction s size e le = le
   sized_fits owned.OfTask s size e le = le
 
-  form_fits : (s : Scope) (stream : Bool) (size : Option tree.IndexTree) → In t s → (taken s (form_with s stream size)).slots ≤ t.home.slots → Fits t.home (meaning (form_entity s (form_with s stream size)))
+  form_fits : (s : Scope) (stream : Bool) (size : Option tree.IndexTree) → In t s → (taken s (form_with s stream size)).slots ≤ t.home.slots →
+      Fits t.home (meaning (form_entity s (form_with s stream size)))
   form_fits s true None is le = tt
   form_fits s true (Some i) is le = tt
   form_fits s false None is le = scalar_fits s.owner s.slots le

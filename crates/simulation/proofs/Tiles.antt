@@ -31,7 +31,8 @@ between (v ∷ us) from to (suc k) u tile is =
     record { low = omega (arith, b.low); high = b.high }
 
 -- an earlier one ends where a later one begins, or before
-pub in_order : (us : List CodeUnit) (from to j k : ℕ) (u v : CodeUnit) → Tile from to us → slice_get us j ≡ Some u → slice_get us k ≡ Some v → j < k → u.start + u.stack ≤ v.start
+pub in_order : (us : List CodeUnit) (from to j k : ℕ) (u v : CodeUnit) → Tile from to us → slice_get us j ≡ Some u → slice_get us k ≡ Some v → j < k →
+    u.start + u.stack ≤ v.start
 in_order [] from to j k u v tile first second lt = absurd (cc)
 in_order (w ∷ us) from to j zero u v tile first second lt = absurd (omega (arith, lt))
 in_order (w ∷ us) from to zero (suc k) u v tile first second lt =
@@ -53,7 +54,8 @@ next_first (u ∷ us) from to place tile lt =
     least a b c e f = grind (arith, nat_tests)
 
 -- A region ends where the next unit begins.
-pub next_of : (us : List CodeUnit) (from to k : ℕ) (u : CodeUnit) → Tile from to us → slice_get us k ≡ Some u → u.start < u.start + u.stack → next_start to u.start us ≡ u.start + u.stack
+pub next_of : (us : List CodeUnit) (from to k : ℕ) (u : CodeUnit) → Tile from to us → slice_get us k ≡ Some u → u.start < u.start + u.stack →
+    next_start to u.start us ≡ u.start + u.stack
 next_of [] from to k u tile is some = absurd (cc)
 next_of (v ∷ us) from to zero u tile is some =
     let same : v ≡ u = cc in
@@ -85,7 +87,8 @@ covers (u ∷ us) from to place tile low high = by_place (cases_lt place (from +
         record { number = suc c.number; unit = c.unit; is = c.is; low = c.low; high = c.high }
 
 -- What goes from the start of each unit to its end goes from the first start to each start.
-pub carried : (P : ℕ → Type 0) (us : List CodeUnit) (from to : ℕ) → Tile from to us → ((k : ℕ) (u : CodeUnit) → slice_get us k ≡ Some u → P u.start → P (u.start + u.stack)) → P from →
+pub carried : (P : ℕ → Type 0) (us : List CodeUnit) (from to : ℕ) → Tile from to us →
+    ((k : ℕ) (u : CodeUnit) → slice_get us k ≡ Some u → P u.start → P (u.start + u.stack)) → P from →
     (k : ℕ) (u : CodeUnit) → slice_get us k ≡ Some u → P u.start
 carried P [] from to tile goes first k u is = absurd (cc)
 carried P (v ∷ us) from to tile goes first zero u is =

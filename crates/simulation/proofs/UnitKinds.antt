@@ -5,14 +5,16 @@ use Rattle.os_code.specs.declared.parts.Parts.{Parts}
 use Rattle.os_code.specs.declared.site.Site.{Site}
 
 -- no site has this unit
-none_found : (sites : List Site) (number : ℕ) → ((k : ℕ) (site : Site) → slice_get sites k ≡ Some site → site.unit ≢ number) → find (λ (t : Site). t.unit == number) sites ≡ None
+none_found : (sites : List Site) (number : ℕ) → ((k : ℕ) (site : Site) → slice_get sites k ≡ Some site → site.unit ≢ number) →
+    find (λ (t : Site). t.unit == number) sites ≡ None
 none_found [] number other = refl
 none_found (site ∷ sites) number other =
     ap (λ t. if t then Some site else find (λ (x : Site). x.unit == number) sites) (ne_eqb site.unit number (other 0 site refl))
     ∙ none_found sites number (λ k x is. other (suc k) x is)
 
 -- the sites' units are numbered one after another
-one_found : (sites : List Site) (first k : ℕ) (site : Site) → ((j : ℕ) (x : Site) → slice_get sites j ≡ Some x → x.unit ≡ first + j) → slice_get sites k ≡ Some site →
+one_found : (sites : List Site) (first k : ℕ) (site : Site) → ((j : ℕ) (x : Site) → slice_get sites j ≡ Some x → x.unit ≡ first + j) →
+    slice_get sites k ≡ Some site →
     find (λ (t : Site). t.unit == site.unit) sites ≡ Some site
 one_found [] first k site numbered is = absurd (cc)
 one_found (x ∷ sites) first zero site numbered is =

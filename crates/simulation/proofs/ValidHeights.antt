@@ -52,7 +52,8 @@ module _ (code : Parts) (all : AreLaid code) where
   }
 
   -- No more operands are there than instructions before them in the unit.
-  step_low : (p k : ℕ) (o : Option Instr) → height_at code p ≤ k → ((i : Instr) → o ≡ Some i → operands_of code i ≤ height_at code p) → behind code (height_at code p) o ≤ k + 1
+  step_low : (p k : ℕ) (o : Option Instr) → height_at code p ≤ k → ((i : Instr) → o ≡ Some i → operands_of code i ≤ height_at code p) →
+      behind code (height_at code p) o ≤ k + 1
   step_low p k None low enough = omega (arith, low)
   step_low p k (Some i) low enough = by_case (goes_on i)
     where
@@ -72,14 +73,16 @@ module _ (code : Parts) (all : AreLaid code) where
       (λ i there. ((all.laid number unit is).fine (flat code all number unit is) (unit.start + k) i (omega arith) (omega (arith, le)) there).enough) in
       omega (arith, ap (height_at code) e, step)
 
-  low_at : (unit : CodeUnit) (number place : ℕ) → unit_at code number ≡ Some unit → unit.start ≤ place → place < unit.start + unit.stack → height_at code place < unit.stack
+  low_at : (unit : CodeUnit) (number place : ℕ) → unit_at code number ≡ Some unit → unit.start ≤ place → place < unit.start + unit.stack →
+      height_at code place < unit.stack
   low_at unit number place is low high =
       let k = place - unit.start in
       let e : unit.start + k ≡ place = omega (arith, low) in
       let h = low_from unit number is k (omega (arith, high, e)) in
       omega (arith, h, ap (height_at code) e, e, high)
 
-  fit : (number place height : ℕ) (unit : CodeUnit) (i : Instr) → HasInstr code number unit place i → Some (height_at code place) ≡ Some height → HeightsFit code (λ p. Some (height_at code p)) unit place height i
+  fit : (number place height : ℕ) (unit : CodeUnit) (i : Instr) → HasInstr code number unit place i → Some (height_at code place) ≡ Some height →
+      HeightsFit code (λ p. Some (height_at code p)) unit place height i
   fit number place height unit i has is_height =
       let same : height_at code place ≡ height = cc in
       subst (λ n. HeightsFit code (λ p. Some (height_at code p)) unit place n i) same

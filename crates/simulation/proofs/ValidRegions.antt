@@ -40,10 +40,12 @@ module _ (code : Parts) (all : AreLaid code) where
   pub ends : (number : ℕ) (unit : CodeUnit) → unit_at code number ≡ Some unit → region_end code unit ≡ unit.start + unit.stack
   ends number unit is = next_of code.units 0 (length code.instrs) number unit all.tiles is (all.laid number unit is).some
 
-  pub is_inside : (number : ℕ) (unit : CodeUnit) (place : ℕ) → unit_at code number ≡ Some unit → unit.start ≤ place → place < unit.start + unit.stack → IsTrue (is_within code unit place)
+  pub is_inside : (number : ℕ) (unit : CodeUnit) (place : ℕ) → unit_at code number ≡ Some unit → unit.start ≤ place → place < unit.start + unit.stack →
+      IsTrue (is_within code unit place)
   is_inside number unit place is low high = is_within-from code unit place low (omega (arith, high, ends number unit is))
 
-  stands_at : (number : ℕ) (unit : CodeUnit) (place : ℕ) (i : Instr) → unit_at code number ≡ Some unit → unit.start ≤ place → place < unit.start + unit.stack → instr_at code place ≡ Some i →
+  stands_at : (number : ℕ) (unit : CodeUnit) (place : ℕ) (i : Instr) → unit_at code number ≡ Some unit → unit.start ≤ place → place < unit.start + unit.stack →
+      instr_at code place ≡ Some i →
       Stands number unit place i
   stands_at number unit place i is low high there = record { is_unit = is; low = low; high = high; fine = (all.laid number unit is).fine (flat number unit is) place i low high there }
 
@@ -87,7 +89,8 @@ module _ (code : Parts) (all : AreLaid code) where
         any_at (λ (unit : CodeUnit). is_within code unit place) code.units c.number c.unit c.is (is_inside c.number c.unit place c.is c.low c.high);
   }
     where
-      distinct : (number other : ℕ) (unit one : CodeUnit) → unit_at code number ≡ Some unit → unit_at code other ≡ Some one → unit.start ≡ one.start → (number ≡ other) ⊎ ((number < other) ⊎ (other < number)) → number ≡ other
+      distinct : (number other : ℕ) (unit one : CodeUnit) → unit_at code number ≡ Some unit → unit_at code other ≡ Some one → unit.start ≡ one.start →
+          (number ≡ other) ⊎ ((number < other) ⊎ (other < number)) → number ≡ other
       distinct number other unit one is at same (inl e) = e
       distinct number other unit one is at same (inr (inl lt)) =
           absurd (omega (arith, same, in_order code.units 0 (length code.instrs) number other unit one all.tiles is at lt, (all.laid number unit is).some))

@@ -143,12 +143,14 @@ item_there h site (instr.Spawn number) k kind suits is = absurd (cc)
 item_there h site (instr.Tick stream) k kind suits is = absurd (cc)
 
 module _ (p : tree.ProgramTree) (code : Parts) (st : Standing p code) where
-  items_there : (number place item : ℕ) (unit : CodeUnit) (i : Instr) (site : Site) → HasInstr code number unit place i → kind_at code number ≡ Task site → item_of i ≡ Some item → item < length site.items
+  items_there : (number place item : ℕ) (unit : CodeUnit) (i : Instr) (site : Site) → HasInstr code number unit place i → kind_at code number ≡ Task site →
+      item_of i ≡ Some item → item < length site.items
   items_there number place item unit i site has kind is =
       let s = stands code (all_laid p code st) number unit place i has in
       item_there (home_of code ((all_laid p code st).laid number unit s.is_unit).body number unit) site i item kind s.fine.suits is
 
-  stores_are_outputs : (number place item line : ℕ) (unit : CodeUnit) (site : Site) (named : SiteItem) → HasInstr code number unit place (instr.ItemStore item line) → kind_at code number ≡ Task site →
+  stores_are_outputs : (number place item line : ℕ) (unit : CodeUnit) (site : Site) (named : SiteItem) →
+      HasInstr code number unit place (instr.ItemStore item line) → kind_at code number ≡ Task site →
       slice_get site.items item ≡ Some named → IsTrue named.write
   stores_are_outputs number place item line unit site named has kind is =
       let suits = (stands code (all_laid p code st) number unit place (instr.ItemStore item line) has).fine.suits in
@@ -253,7 +255,8 @@ module _ (p : tree.ProgramTree) (code : Parts) (st : Standing p code) where
       within : IsWithin (after_items file p)
       within = within-items_of_file file p (record { streams = omega arith; arrays = omega arith }) (lawful-program p st.lawful)
 
-      args_of : (number : ℕ) (site : Site) (unit : CodeUnit) → site_at code number ≡ Some site → unit_at code site.unit ≡ Some unit → unit.args ≡ length site.captured
+      args_of : (number : ℕ) (site : Site) (unit : CodeUnit) → site_at code number ≡ Some site → unit_at code site.unit ≡ Some unit →
+          unit.args ≡ length site.captured
       args_of number site unit is is_unit =
           let s = site_of number site is in
           let twice : Some s.place.has.unit ≡ Some unit = sym s.place.has.is_unit ∙ ap (λ (x : Site). unit_at code x.unit) s.same ∙ is_unit in
