@@ -13,22 +13,6 @@ fn trapped(code: u8, line: u32) -> ControlEnd {
     ControlEnd::Trapped { code, line }
 }
 
-fn input(stream: u32) -> SiteItem {
-    SiteItem {
-        write: false,
-        stream,
-        window: None,
-    }
-}
-
-fn output(stream: u32, slot: u32) -> SiteItem {
-    SiteItem {
-        write: true,
-        stream,
-        window: Some(slot),
-    }
-}
-
 fn reads(stream: u32, horizon: u32, burst: u32, skip: u64) -> Claim {
     Claim {
         stream,
@@ -94,7 +78,18 @@ fn spawning(alloc: Global, window: i32, operands: [i32; 4]) -> Result<Control, M
             },
         ],
         &[2, 0],
-        &[input(1), output(1, 1)],
+        &[
+            SiteItem {
+                write: false,
+                stream: 1,
+                window: None,
+            },
+            SiteItem {
+                write: true,
+                stream: 1,
+                window: Some(1),
+            },
+        ],
         5,
         0,
     )
@@ -145,9 +140,20 @@ fn ticking(alloc: Global, stream: i32, amount: i32, budget: u32) -> Result<Contr
             },
         ],
         &[],
-        &[input(0), input(0)],
+        &[
+            SiteItem {
+                write: false,
+                stream: 0,
+                window: None,
+            },
+            SiteItem {
+                write: false,
+                stream: 0,
+                window: None,
+            },
+        ],
         0,
-        u64::from(budget),
+        u64::from(budget.min(1000000000)),
     )
 }
 
@@ -209,7 +215,18 @@ fn looping(
             },
         ],
         &[],
-        &[input(0), output(2, 2)],
+        &[
+            SiteItem {
+                write: false,
+                stream: 0,
+                window: None,
+            },
+            SiteItem {
+                write: true,
+                stream: 2,
+                window: Some(2),
+            },
+        ],
         0,
         u64::from(budget.min(1000000000)),
     )

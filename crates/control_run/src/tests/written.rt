@@ -1,7 +1,7 @@
-//! Codes written out: a task that ends at once, and `main`, which is the second unit. There are three streams, and one
+//! Codes written out: a task that ends at once, and `main`, which is the last unit. There are three streams, and one
 //! site, at line 90.
 
-ghost use Rattle.std.specs.Prelude.{◌≡◌, ◌≤◌, true, IfOk};
+ghost use Rattle.std.specs.Prelude.{◌≡◌, ◌≤◌, length, true, IfOk};
 ghost use Rattle.os_code.specs.Checking.{is_valid};
 ghost use Rattle.os_code.specs.Codes.{parts_of};
 ghost use Rattle.task_vm.specs.Written.{written};
@@ -27,12 +27,14 @@ fn list_of<T: Copy>(alloc: Global, items: &[T]) -> Result<List<T>, Memory>
 pub(crate) fn run_written(
     alloc: Global,
     instrs: &[Instr],
-    units: &[Unit; 2],
+    units: &[Unit],
     captured: &[u32],
     items: &[SiteItem],
     input_len: u32,
     budget: u64,
 ) -> Result<Control, Memory>
+    requires some { 1 ≤ length units.now }
+    requires few { length units.now ≤ 1000 }
     requires valid { is_valid (written instrs.now units.now 0 captured.now items.now) ≡ true }
     requires input { input_len ≤ 4194304 }
     requires budget { budget ≤ 1000000000 }
@@ -50,7 +52,7 @@ pub(crate) fn run_written(
             instrs: list_of(alloc, instrs)?,
             units: list_of(alloc, units)?,
             sites,
-            main: 1,
+            main: (units.len() - 1) as u32,
             streams: 3,
         },
     )?;

@@ -1,4 +1,4 @@
-use Rattle.std.proofs.Common.{◌≡◌, ◌+◌, ◌*◌, ◌<◌, List, length, drop, sym, ap, ◌∙◌, arith, rules, w32}
+use Rattle.std.proofs.Common.{◌+◌, ◌*◌, List, drop, sym, ap, ◌∙◌, arith, rules, w32}
 use Rattle.std.proofs.lemmas.Int.{to_z-of_z}
 use Rattle.flow_core.specs.declared.claim.Claim.{Claim}
 use Rattle.os_code.specs.Machine.{spawned_claims}

@@ -1,4 +1,4 @@
-use Rattle.std.proofs.Common.{◌≡◌, List, sym, ap, ◌∙◌}
+use Rattle.std.proofs.Common.{List, sym, ap, ◌∙◌}
 use Rattle.std.specs.Prelude.{slice_get}
 use Rattle.os_code.specs.Codes.{parts_of}
 use Rattle.os_code.specs.declared.unit.Unit.{Unit as CodeUnit}

@@ -1,11 +1,10 @@
-use Rattle.std.proofs.Common.{◌≡◌, ℕ, ◌+◌, ◌-◌, ◌<◌, ◌≤◌, [], ◌∷◌, length, set, take, to_z, List, ℤ, pos, refl, sym, ap, subst, ◌∙◌, arith, w32, length-set}
+use Rattle.std.proofs.Common.{ℕ, ◌-◌, [], ◌∷◌, set, take, to_z, ℤ, pos, ap, ◌∙◌, arith, w32, length-set}
 use Rattle.std.proofs.lemmas.Int.{to_z_pos}
 use Rattle.os_code.specs.Chains.{Alone}
 use Rattle.os_code.specs.Codes.{parts_of}
 use Rattle.os_code.specs.declared.unit.Unit.{Unit as CodeUnit}
 use Rattle.os_code.proofs.Fitting.{chain-few}
 use Rattle.os_code.proofs.LargestSums.{chain_need-cons}
-use Rattle.task_vm.specs.declared.registers.Registers.{Registers}
 use Rattle.control_run.proofs.Ready.{ready-slots}
 use Rattle.control_run.proofs.machine.Machine.new.Goals as goal
 
