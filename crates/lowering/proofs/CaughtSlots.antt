@@ -1,11 +1,11 @@
 -- What tasks capture is no more than the names that they use.
-use Rattle.std.proofs.Common.{◌≡◌, ◌≢◌, ◌∙◌, ℕ, zero, suc, ◌+◌, ◌<◌, ◌≤◌, ◌==◌, ◌||◌, Bool, true, false, if◌then◌else◌, List, [], ◌∷◌, ◌++◌, length, length-append, Option, Some, None, ap, sym, subst, refl, arith, eqb-true, eq-eqb}
-use Rattle.std.proofs.lemmas.Bool.{false≢true, ne_eqb}
+use Rattle.std.proofs.Common.{◌≡◌, ◌≢◌, ◌∙◌, ℕ, suc, ◌+◌, ◌≤◌, ◌==◌, ◌||◌, Bool, true, false, if◌then◌else◌, List, [], ◌∷◌, ◌++◌, length, length-append, Option, Some, None, ap, sym, refl, arith, eqb-true, eq-eqb}
+use Rattle.std.proofs.lemmas.Bool.{false≢true}
 use Rattle.lowering.proofs.NameCounts.{used_in, used_in-append}
 use Rattle.os_ast.specs.Captured.{captured, slots_of}
 use Rattle.os_ast.specs.Names.{Scope, enter, entity_of, in_loop, lookup}
 use Rattle.os_ast.specs.Notes.Clauses.{captured_in, clauses_notes, in_task, in_task_body, part_notes, parts_notes}
-use Rattle.os_ast.specs.Notes.Declarators.{after_declarators, after_start, declarators_notes, start_notes}
+use Rattle.os_ast.specs.Notes.Declarators.{after_start, declarators_notes, start_notes}
 use Rattle.os_ast.specs.Notes.Expressions.{expr_notes, step_notes, value_notes}
 use Rattle.os_ast.specs.Notes.Kinds.{Declared, Given, Global, Left, Listed, Note, Pragma, Returned, Sized, Task, Used}
 use Rattle.os_ast.specs.Notes.Programs.{after_item, in_body, in_function, item_notes, items_notes, param_names, params_notes, after_param}
@@ -26,8 +26,8 @@ use Rattle.window_check.proofs.Collected.{captured-ascends}
 use Rattle.window_check.proofs.HasRoom.{owner_item, room_enter, room_for_body, room_in_for, room_in_loop, room_item, room_less, room_stmt}
 use Rattle.window_check.proofs.Named.{captured-members}
 use Rattle.window_check.specs.CapturedByUse.{Ascends, slots_named, used_slots}
-use Rattle.window_check.specs.Room.{HasRoom, declarators_weight, item_weight, items_weight, start_weight, stmt_weight, stmts_weight}
-use Rattle.window_check.specs.Slots.{control_slots, named_slots}
+use Rattle.window_check.specs.Room.{HasRoom, item_weight, items_weight, stmt_weight, stmts_weight}
+use Rattle.window_check.specs.Slots.{control_slots}
 
 -- a list without one number
 abbrev without : ℕ → List ℕ → List ℕ
@@ -71,7 +71,8 @@ no_more lo (x ∷ xs) ys a all =
       arith,
       without_length x ys here,
       no_more (x + 1) xs (without x ys) a.1
-          (λ z there. without_other x z ys (λ same. absurd (omega (arith, same, above (x + 1) z xs a.1 there))) (all z (or_more (x == z) (is_in z xs) there))),
+          (λ z there. without_other x z ys (λ same. absurd (omega (arith, same, above (x + 1) z xs a.1 there)))
+          (all z (or_more (x == z) (is_in z xs) there))),
     )
   where
     or_more : (b c : Bool) → c ≡ true → (b || c) ≡ true
@@ -100,7 +101,12 @@ named_few es (id ∷ ids) =
 used_few : (ns : List Note) → length (used_slots ns) ≤ used_in ns
 used_few [] = omega arith
 used_few (Used s n u ∷ ns) =
-    omega (arith, one_slot (entity_of (lookup s.entries n.id)), used_few ns, length-append (control_slots (entity_of (lookup s.entries n.id))) (used_slots ns))
+    omega (
+      arith,
+      one_slot (entity_of (lookup s.entries n.id)),
+      used_few ns,
+      length-append (control_slots (entity_of (lookup s.entries n.id))) (used_slots ns),
+    )
 used_few (Declared s d ∷ ns) = omega (arith, used_few ns)
 used_few (Given s n ∷ ns) = omega (arith, used_few ns)
 used_few (Sized s n ∷ ns) = omega (arith, used_few ns)
@@ -173,16 +179,19 @@ mutual
   stmt_uses (tree.If c a) s room = both_paid (expr_notes s c) (stmt_notes s a) (none_paid (expr_notes s c) (none_expr c s)) (stmt_uses a s room)
   stmt_uses (tree.IfElse c a b) s room =
       both_paid (expr_notes s c ++ stmt_notes s a) (stmt_notes (after_stmt s a) b)
-      (both_paid (expr_notes s c) (stmt_notes s a) (none_paid (expr_notes s c) (none_expr c s)) (stmt_uses a s (room_less s (stmt_weight a + stmt_weight b) (stmt_weight a) room (omega arith))))
+      (both_paid (expr_notes s c) (stmt_notes s a) (none_paid (expr_notes s c) (none_expr c s))
+      (stmt_uses a s (room_less s (stmt_weight a + stmt_weight b) (stmt_weight a) room (omega arith))))
       (stmt_uses b (after_stmt s a) (room_stmt s a (stmt_weight b) room))
   stmt_uses (tree.While c a) s room =
-      both_paid (expr_notes s c) (stmt_notes (in_loop s) a) (none_paid (expr_notes s c) (none_expr c s)) (stmt_uses a (in_loop s) (room_in_loop s (stmt_weight a) room))
+      both_paid (expr_notes s c) (stmt_notes (in_loop s) a) (none_paid (expr_notes s c) (none_expr c s))
+      (stmt_uses a (in_loop s) (room_in_loop s (stmt_weight a) room))
   stmt_uses (tree.For start test step a) s room =
       let head = after_start (enter s) start in
       let x = start_notes (enter s) start in
       let z = x ++ value_notes head test ++ step_notes head step in
       both_paid z (stmt_notes (in_loop head) a)
-      (none_paid z (none_both (x ++ value_notes head test) (step_notes head step) (none_both x (value_notes head test) (none_start start (enter s)) (none_value test head)) (none_step step head)))
+      (none_paid z (none_both (x ++ value_notes head test) (step_notes head step)
+      (none_both x (value_notes head test) (none_start start (enter s)) (none_value test head)) (none_step step head)))
       (stmt_uses a (in_loop head) (room_in_for s start (stmt_weight a) room))
   stmt_uses (tree.Break m) s room = omega arith
   stmt_uses (tree.Continue m) s room = omega arith
@@ -225,7 +234,8 @@ pub items_use : (is : List tree.ItemTree) (s : Scope) → s.owner ≡ owner.OfFu
 items_use [] s own room = omega arith
 items_use (tree.Constant c ∷ is) s own room =
     let i = tree.Constant c in
-    both_paid (item_notes s i) (items_notes (after_item s i) is) (omega arith) (items_use is (after_item s i) (owner_item s i ∙ own) (room_item s i (items_weight is) own room))
+    both_paid (item_notes s i) (items_notes (after_item s i) is) (omega arith)
+    (items_use is (after_item s i) (owner_item s i ∙ own) (room_item s i (items_weight is) own room))
 items_use (tree.Function f ∷ is) s own room =
     let i = tree.Function f in
     let front = Global s f.name ∷ params_notes (in_function s f.name.id) (param_names f.params) in

@@ -44,7 +44,8 @@ module _ (tells : ℕ → What) where
       )
 
   functions_few : (is : List tree.ItemTree) (made : Units) (rest : List Piece)
-      → length (with_functions tells is made).draft.instrs + units_most (program_tasks is) + 8 * length rest ≤ length made.draft.instrs + 8 * length (each item is rest)
+      → length (with_functions tells is made).draft.instrs + units_most (program_tasks is) + 8 * length rest ≤ length made.draft.instrs + 8 * length
+      (each item is rest)
   functions_few [] made rest = omega arith
   functions_few (tree.Constant c ∷ is) made rest =
       let behind = spelling.number c.size (spelling.punct puncts.Semicolon (each item is rest)) in

@@ -1,19 +1,16 @@
 -- A code that is made grows: what was there stays, and more stands behind it.
-use Rattle.std.proofs.Common.{◌≡◌, ◌∙◌, ℕ, zero, suc, ◌+◌, ◌-◌, ◌<◌, ◌≤◌, ◌==◌, Bool, true, false, List, [], ◌∷◌, ◌++◌, length, length-append, get_or, Option, Some, None, slice_get, ap, sym, refl, arith, append_assoc, pos}
-use Rattle.lowering.proofs.Becoming.{slice_get-last}
+use Rattle.std.proofs.Common.{◌≡◌, ◌∙◌, ℕ, ◌-◌, ◌<◌, ◌==◌, Bool, true, false, List, [], ◌∷◌, ◌++◌, length, Option, Some, None, slice_get, ap, refl, arith, append_assoc, pos}
 use Rattle.lowering.proofs.Keeping.{Keeps, KeepsLabels, kept, keeps_instrs, keeps_label, keeps_place, then_kept}
 use Rattle.lowering.proofs.KeptStatements.{block_kept, stmt_kept}
 use Rattle.lowering.proofs.Lists.{slice_get-front}
-use Rattle.lowering.specs.Draft.{next_label, with_instrs, with_label, with_place}
+use Rattle.lowering.specs.Draft.{next_label, with_label}
 use Rattle.lowering.specs.Emission.Expressions.{Emission}
 use Rattle.lowering.specs.Emission.Statements.{Part as StmtPart, block_code, stmt_code}
-use Rattle.lowering.specs.Emission.Units.{body_code, exits_of, function_code, main_code, task_code, with_function, with_functions, with_main, with_plain, with_task, with_tasks, with_unit, with_draft, unit_from, with_capturing, with_site}
-use Rattle.lowering.specs.declared.draft.Draft.{Draft}
+use Rattle.lowering.specs.Emission.Units.{body_code, exits_of, function_code, main_code, task_code, with_function, with_functions, with_main, with_plain, with_task, with_tasks, with_unit}
 use Rattle.lowering.specs.declared.draft.Label.{Label}
 use Rattle.lowering.specs.declared.exits.Exits.{Exits}
 use Rattle.lowering.specs.declared.units.Units.{Units}
 use Rattle.os_ast.specs.Names.{main_id}
-use Rattle.os_ast.specs.Notes.Programs.{param_names}
 use Rattle.os_ast.specs.Trees as tree
 use Rattle.os_ast.specs.declared.names.What.{What}
 use Rattle.os_code.specs.declared.instr.Instr.{Instr}
@@ -54,7 +51,8 @@ pub site_stays : {m n : Units} → Grows m n → (k : ℕ) (s : Site) → k < le
 site_stays {m} {n} g k s within is = ap (λ us. slice_get us k) g.sites ∙ slice_get-front m.sites g.sites_behind k within ∙ is
 
 -- a body with what stands behind it
-pub body_kept : (leaves : Instr) (f : StmtPart) (falls : List Instr) → ((x : Exits) (next : Option Label) → KeepsLabels (f x next)) → KeepsLabels (body_code leaves f falls)
+pub body_kept : (leaves : Instr) (f : StmtPart) (falls : List Instr) → ((x : Exits) (next : Option Label) → KeepsLabels (f x next))
+    → KeepsLabels (body_code leaves f falls)
 body_kept leaves f falls keeps d =
     let end = next_label d in
     let d1 = with_label d in
@@ -72,7 +70,8 @@ module _ (tells : ℕ → What) where
   }
 
   pub plain_grows : (f : tree.FunctionTree) (m : Units) → Grows m (with_plain tells f m)
-  plain_grows f m = unit_grows (function_code tells f.body) _ _ m (body_kept Return (block_code tells f.body) (Push (pos 0) ∷ Return ∷ []) (block_kept tells f.body))
+  plain_grows f m = unit_grows (function_code tells f.body) _ _ m
+      (body_kept Return (block_code tells f.body) (Push (pos 0) ∷ Return ∷ []) (block_kept tells f.body))
 
   pub main_grows : (f : tree.FunctionTree) (m : Units) → Grows m (with_main tells f m)
   main_grows f m =

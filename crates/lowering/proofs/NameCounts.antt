@@ -1,5 +1,5 @@
 -- A lawful program has no more names than tokens: so many variables it declares, and so many uses has it of them.
-use Rattle.std.proofs.Common.{◌≡◌, ◌∙◌, ℕ, zero, suc, ◌+◌, ◌<◌, ◌≤◌, List, [], ◌∷◌, ◌++◌, length, length-append, Option, Some, None, ap, sym, subst, refl, arith}
+use Rattle.std.proofs.Common.{◌≡◌, ℕ, suc, ◌+◌, ◌<◌, ◌≤◌, List, [], ◌∷◌, ◌++◌, length, length-append, Option, Some, None, sym, subst, refl, arith}
 use Rattle.std.specs.Prelude.{⊤}
 use Rattle.std.proofs.lemmas.List.{length-map}
 use Rattle.os_ast.specs.Marks.{HasMark, HasPlaces}
@@ -94,10 +94,12 @@ few n [] order below = omega arith
 few n (r ∷ rs) order below = omega (arith, few_behind r.place n rs order below.1 below.0)
 
 -- each mark is below the number of pieces
-kept_below : (ps : List Piece) (from n : ℕ) → from + length ps ≤ n → ((i : ℕ) (m : Mark) → HasMark ps i m → m.place ≡ from + i) → HasKept (λ m. m.place < n) ps
+kept_below : (ps : List Piece) (from n : ℕ) → from + length ps ≤ n → ((i : ℕ) (m : Mark) → HasMark ps i m → m.place ≡ from + i)
+    → HasKept (λ m. m.place < n) ps
 kept_below [] from n h f = tt
 kept_below (bare k ∷ ps) from n h f = kept_below ps (suc from) n (omega (arith, h)) (λ i m is. omega (arith, f (suc i) m is))
-kept_below (marked k m ∷ ps) from n h f = (omega (arith, h, f 0 m (k, refl)), kept_below ps (suc from) n (omega (arith, h)) (λ i q is. omega (arith, f (suc i) q is)))
+kept_below (marked k m ∷ ps) from n h f =
+    (omega (arith, h, f 0 m (k, refl)), kept_below ps (suc from) n (omega (arith, h)) (λ i q is. omega (arith, f (suc i) q is)))
 
 below_both : (n : ℕ) (rs ss : List Resolved) → Below n rs → Below n ss → Below n (rs ++ ss)
 below_both n [] ss a b = b
@@ -128,7 +130,8 @@ all_below n [] h = tt
 all_below n (x ∷ ns) h = below_both n (resolutions_of x) (resolutions ns) (each_below n x (h.0, tt)) (all_below n ns h.1)
 
 -- A lawful program declares and uses no more names than it has tokens.
-pub names_few : (p : tree.ProgramTree) → HasPlaces p → AreLawful (program_notes p) → declared_in (program_notes p) + used_in (program_notes p) ≤ length (spell p)
+pub names_few : (p : tree.ProgramTree) → HasPlaces p → AreLawful (program_notes p)
+    → declared_in (program_notes p) + used_in (program_notes p) ≤ length (spell p)
 names_few p places lawful =
     let long : length (pieces p) ≡ length (spell p) = sym (length-map (pieces p) kind_of) in
     let kept = kept_below (pieces p) 0 (length (spell p)) (omega (arith, long)) (λ i m is. omega (arith, places i m is)) in

@@ -1,5 +1,5 @@
 -- The slots of bodies are paid by what they declare and by the elements of arrays.
-use Rattle.std.proofs.Common.{◌≡◌, ◌∙◌, ℕ, zero, suc, ◌+◌, ◌≤◌, ◌==◌, Bool, true, false, if◌then◌else◌, List, [], ◌∷◌, ◌++◌, length, Option, Some, None, ap, sym, subst, refl, arith}
+use Rattle.std.proofs.Common.{◌≡◌, ◌∙◌, ℕ, suc, ◌+◌, ◌≤◌, ◌==◌, Bool, true, false, if◌then◌else◌, List, [], ◌∷◌, ◌++◌, length, ap, refl, arith}
 use Rattle.lowering.proofs.NameCounts.{declared_in, declared_in-append}
 use Rattle.lowering.proofs.TasksInMain.{function_owner, lawful_body, main_owner}
 use Rattle.os_ast.specs.Captured.{captured, slots_of}
@@ -174,8 +174,10 @@ module _ (rs : List Resolved) (ordered : InOrder rs) where
   body_arrays : (s : Scope) (f : tree.FunctionTree) → (in_body s f).arrays ≡ s.arrays
   body_arrays s f = params_arrays (param_names f.params) (in_function s f.name.id) ∙ round_arrays (owner_of f.name.id) s
 
-  body_paid : (s : Scope) (f : tree.FunctionTree) (o : Owner) → (in_body s f).owner ≡ o → AreLawful (stmts_notes (in_body s f) f.body) → Tells rs (stmts_notes (in_body s f) f.body) →
-      stmts_slots o size f.body + bodies (all_tasks_of f.body) + s.arrays ≤ declared_in (stmts_notes (in_body s f) f.body) + (after_stmts (in_body s f) f.body).arrays
+  body_paid : (s : Scope) (f : tree.FunctionTree) (o : Owner) → (in_body s f).owner ≡ o → AreLawful (stmts_notes (in_body s f) f.body)
+      → Tells rs (stmts_notes (in_body s f) f.body) →
+      stmts_slots o size f.body + bodies (all_tasks_of f.body) + s.arrays ≤ declared_in
+      (stmts_notes (in_body s f) f.body) + (after_stmts (in_body s f) f.body).arrays
   body_paid s f o own lawful tells =
       omega (
         arith,
@@ -213,11 +215,18 @@ module _ (rs : List Resolved) (ordered : InOrder rs) where
       tells_own = tells-rest rs front own (tells-first rs (item_notes s i) rest tells)
 
       by_case : (t : Bool) → (f.name.id == main_id) ≡ t →
-          functions_slots is + bodies (program_tasks is) + (after_item s i).arrays ≤ declared_in rest + count_functions is + (after_items (after_item s i) is).arrays →
+          functions_slots is + bodies (program_tasks is) + (after_item s i).arrays ≤ declared_in rest + count_functions
+          is + (after_items (after_item s i) is).arrays →
           function_slots t f + functions_slots is + bodies (if t then all_tasks_of f.body else program_tasks is) + s.arrays
           ≤ declared_in (item_notes s i ++ rest) + count_functions (i ∷ is) + (after_items s (i ∷ is)).arrays
       by_case true e later =
-          omega (arith, later, body_paid s f owner.OfMain (main_owner s f e) (lawful_body s f rest lawful) tells_own, declared_in-append (item_notes s i) rest, declared_in-append front own)
+          omega (
+            arith,
+            later,
+            body_paid s f owner.OfMain (main_owner s f e) (lawful_body s f rest lawful) tells_own,
+            declared_in-append (item_notes s i) rest,
+            declared_in-append front own,
+          )
       by_case false e later =
           omega (
             arith,

@@ -1,5 +1,5 @@
 -- What is made of a lawful program stands for it, and its units lie one behind another.
-use Rattle.std.proofs.Common.{◌≡◌, ◌∙◌, ◌*◌, ◌<◌, ◌≤◌, ◌^◌, [], length, ap, subst, sym, arith}
+use Rattle.std.proofs.Common.{◌≡◌, ◌∙◌, ◌*◌, ◌<◌, ◌≤◌, ◌^◌, length, ap, subst, sym, arith}
 use Rattle.std.proofs.lemmas.List.{length-map}
 use Rattle.lowering.proofs.FewUnits.{program_few}
 use Rattle.lowering.proofs.SlotsSum.{program_slots}
@@ -32,13 +32,16 @@ module _ (checked : Checked) (made : Units) (parts : Parts)
     (is_made : made ≡ program_units (told_at checked.names) checked.captured (program_tree checked.program))
     (is : parts ≡ parts_made checked.streams made) where
   its_own : parts ≡ parts_made (text.streams (program_tree checked.program))
-      (program_units (told_at (text.names (program_tree checked.program))) (text.captured_by_tasks (program_tree checked.program)) (program_tree checked.program))
+      (program_units (told_at (text.names (program_tree checked.program))) (text.captured_by_tasks (program_tree checked.program))
+      (program_tree checked.program))
   its_own =
       is
       ∙ ap (parts_made checked.streams) is_made
       ∙ ap (λ n. parts_made n (program_units (told_at checked.names) checked.captured (program_tree checked.program))) checked.counted
-      ∙ ap (λ rs. parts_made (text.streams (program_tree checked.program)) (program_units (told_at rs) checked.captured (program_tree checked.program))) checked.named
-      ∙ ap (λ cs. parts_made (text.streams (program_tree checked.program)) (program_units (told_at (text.names (program_tree checked.program))) cs (program_tree checked.program))) checked.captures
+      ∙ ap (λ rs. parts_made (text.streams (program_tree checked.program))
+      (program_units (told_at rs) checked.captured (program_tree checked.program))) checked.named
+      ∙ ap (λ cs. parts_made (text.streams (program_tree checked.program))
+      (program_units (told_at (text.names (program_tree checked.program))) cs (program_tree checked.program))) checked.captures
 
   pub has_program : HasProgram parts (program_tree checked.program) (told_at (text.names (program_tree checked.program)))
       (text.captured_by_tasks (program_tree checked.program)) (text.streams (program_tree checked.program))
@@ -47,10 +50,12 @@ module _ (checked : Checked) (made : Units) (parts : Parts)
       subst (λ code. HasProgram code p (told_at (text.names p)) (text.captured_by_tasks p) (text.streams p)) (sym its_own)
       (program_stands (told_at (text.names p)) p checked.leveled checked.placed checked.lawful checked.few)
 
-  same_units : made ≡ program_units (told_at (text.names (program_tree checked.program))) (text.captured_by_tasks (program_tree checked.program)) (program_tree checked.program)
+  same_units : made ≡ program_units (told_at (text.names (program_tree checked.program))) (text.captured_by_tasks (program_tree checked.program))
+      (program_tree checked.program)
   same_units =
       let p = program_tree checked.program in
-      is_made ∙ ap (λ rs. program_units (told_at rs) checked.captured p) checked.named ∙ ap (λ cs. program_units (told_at (text.names p)) cs p) checked.captures
+      is_made ∙ ap (λ rs. program_units (told_at rs) checked.captured p) checked.named
+      ∙ ap (λ cs. program_units (told_at (text.names p)) cs p) checked.captures
 
   few_drafted : length made.draft.instrs ≤ 8 * length (spell (program_tree checked.program))
   few_drafted =
@@ -58,7 +63,12 @@ module _ (checked : Checked) (made : Units) (parts : Parts)
       subst (λ (m : Units). length m.draft.instrs ≤ 8 * length (spell p)) (sym same_units) (program_few (told_at (text.names p)) (text.captured_by_tasks p) p)
 
   pub few_instrs : length parts.instrs ≤ 8 * length (spell (program_tree checked.program))
-  few_instrs = omega (arith, few_drafted, ap (λ (code : Parts). length code.instrs) is, length-map made.draft.instrs (with_places (place_in made.draft.places)))
+  few_instrs = omega (
+    arith,
+    few_drafted,
+    ap (λ (code : Parts). length code.instrs) is,
+    length-map made.draft.instrs (with_places (place_in made.draft.places)),
+  )
 
   pub is_tiled : IsTiled parts (program_tree checked.program)
   is_tiled =

@@ -1,14 +1,11 @@
 -- Code that stands for a program does what the program means.
-use Rattle.std.proofs.Common.{◌≡◌, ◌∙◌, ℕ, ◌+◌, ◌≤◌, Bool, true, false, not, if◌then◌else◌, List, [], ◌∷◌, length, ap, sym, refl, arith}
+use Rattle.std.proofs.Common.{◌≡◌, ◌∙◌, ◌+◌, Bool, true, false, not, if◌then◌else◌, List, [], ◌∷◌, refl, arith}
 use Rattle.std.specs.Prelude.{filter, sum_by}
 use Rattle.std.proofs.lemmas.List.Sums.{sum_by-append}
 use Rattle.cddf_meaning.specs.Moves.{read_horizons}
 use Rattle.flow_core.specs.declared.claim.Claim.{Claim}
 use Rattle.lowering.specs.Meanings.{RunsBodies, RunsControl}
-use Rattle.os_ast.specs.Leveled.{IsLeveled}
-use Rattle.os_ast.specs.Marks.{HasPlaces}
 use Rattle.os_ast.specs.Trees as tree
-use Rattle.os_ast.specs.Violations.{captured_by_tasks, names, streams, violations}
 use Rattle.os_code.proofs.Halting.{main_ends, tasks_end}
 use Rattle.os_code.specs.Outcomes as machine
 use Rattle.os_code.specs.declared.parts.Parts.{Parts}
@@ -22,7 +19,8 @@ same_count [] = refl
 same_count (c ∷ claims) = by_case c.write (same_count claims)
   where
     by_case : (t : Bool) → sum_by (λ (claim : Claim). claim.horizon) (filter (λ (claim : Claim). not claim.write) claims) ≡ read_horizons claims →
-        sum_by (λ (claim : Claim). claim.horizon) (if not t then c ∷ filter (λ (claim : Claim). not claim.write) claims else filter (λ (claim : Claim). not claim.write) claims)
+        sum_by (λ (claim : Claim). claim.horizon)
+        (if not t then c ∷ filter (λ (claim : Claim). not claim.write) claims else filter (λ (claim : Claim). not claim.write) claims)
         ≡ (if t then 0 else c.horizon) + read_horizons claims
     by_case true more = omega (arith, more)
     by_case false more =

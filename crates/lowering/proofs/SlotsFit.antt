@@ -1,5 +1,5 @@
 -- The slots of a body are few for its tokens, so that no sum of them is stopped.
-use Rattle.std.proofs.Common.{◌≡◌, ℕ, ◌+◌, ◌*◌, ◌<◌, ◌≤◌, ◌^◌, ◌&&◌, Bool, true, false, if◌then◌else◌, leb, zero, suc, List, [], ◌∷◌, ◌++◌, length, map, Option, Some, None, slice_get, ap, subst, sym, refl, arith}
+use Rattle.std.proofs.Common.{◌≡◌, ℕ, ◌+◌, ◌<◌, ◌≤◌, ◌^◌, ◌&&◌, Bool, true, false, if◌then◌else◌, leb, List, [], ◌∷◌, ◌++◌, Option, Some, None, refl, arith}
 use Rattle.std.specs.Prelude.{ℤ, pos, negsuc, is_some, unwrap_or}
 use Rattle.std.proofs.lemmas.Bool.{leb-true, and_parts}
 use Rattle.lowering.specs.Emission.Units.{capped}
@@ -12,7 +12,7 @@ use Rattle.os_ast.specs.declared.names.What.{What}
 use Rattle.os_ast.specs.declared.names.What.TheVariants as what
 use Rattle.simulation.specs.Programs.{constant_size, size_by}
 use Rattle.simulation.specs.Tasks.{TaskTree, all_tasks_of, tasks_of}
-use Rattle.window_check.specs.Room.{declarator_weight, declarators_weight, start_weight, stmt_weight, stmts_weight}
+use Rattle.window_check.specs.Room.{declarators_weight, start_weight, stmt_weight, stmts_weight}
 use Rattle.window_check.specs.Sums.{array_slots, declared_slots, declarators_slots, start_slots, stmt_slots, stmts_slots}
 
 -- a size is at most the limit

@@ -1,17 +1,17 @@
 -- The units of a lawful program have few slots in all.
-use Rattle.std.proofs.Common.{◌≡◌, ◌∙◌, ℕ, zero, suc, ◌+◌, ◌*◌, ◌≤◌, ◌==◌, Bool, true, false, if◌then◌else◌, List, [], ◌∷◌, ◌++◌, drop, length, length-append, get_or, ap, sym, subst, refl, arith}
+use Rattle.std.proofs.Common.{◌≡◌, ◌∙◌, ℕ, zero, suc, ◌+◌, ◌≤◌, ◌==◌, Bool, true, false, List, [], ◌∷◌, ◌++◌, drop, length, length-append, get_or, ap, refl, arith}
 use Rattle.std.specs.Prelude.{sum_by}
 use Rattle.std.proofs.lemmas.List.{length-map}
 use Rattle.std.proofs.lemmas.List.Sums.{sum_by-append}
 use Rattle.lowering.proofs.CaughtSlots.{items_use, total}
-use Rattle.lowering.proofs.NameCounts.{declared_in, names_few, used_in}
+use Rattle.lowering.proofs.NameCounts.{names_few}
 use Rattle.lowering.proofs.Paid.{bodies, function_slots, functions_slots, items_paid, size}
 use Rattle.lowering.specs.Emission.Units.{capped, no_units, program_units, with_function, with_functions, with_main, with_plain, with_task, with_tasks}
 use Rattle.lowering.specs.declared.units.Units.{Units}
 use Rattle.os_ast.proofs.Prints.{prints_item}
 use Rattle.os_ast.specs.Marks.{HasPlaces}
 use Rattle.os_ast.specs.Names.{main_id}
-use Rattle.os_ast.specs.Notes.Programs.{after_items, file, param_names, program_notes}
+use Rattle.os_ast.specs.Notes.Programs.{file, param_names}
 use Rattle.os_ast.specs.Spelling as spelling
 use Rattle.os_ast.specs.Spelling.{kind_of, pieces, spell}
 use Rattle.os_ast.specs.Trees as tree
@@ -67,7 +67,8 @@ room p few = record {
 }
 
 module _ (rs : List Resolved) (ordered : InOrder rs) where
-  functions_sum : (is : List tree.ItemTree) (made : Units) → slots_in (with_functions (told_at rs) is made).units ≤ slots_in made.units + functions_slots rs ordered is
+  functions_sum : (is : List tree.ItemTree) (made : Units)
+      → slots_in (with_functions (told_at rs) is made).units ≤ slots_in made.units + functions_slots rs ordered is
   functions_sum [] made = omega arith
   functions_sum (tree.Constant c ∷ is) made = functions_sum is made
   functions_sum (tree.Function f ∷ is) made = by_case (f.name.id == main_id) (λ after. functions_sum is after)
@@ -76,11 +77,13 @@ module _ (rs : List Resolved) (ordered : InOrder rs) where
           → slots_in (with_functions (told_at rs) is (with_function t (told_at rs) f made)).units
           ≤ slots_in made.units + (function_slots rs ordered t f + functions_slots rs ordered is)
       by_case true go =
-          let more : slots_in (with_main (told_at rs) f made).units ≡ slots_in made.units + capped (1 + stmts_slots owner.OfMain (size rs ordered) f.body) = slots_more made.units _ in
+          let more : slots_in (with_main (told_at rs) f made).units ≡ slots_in made.units + capped
+          (1 + stmts_slots owner.OfMain (size rs ordered) f.body) = slots_more made.units _ in
           omega (arith, go (with_main (told_at rs) f made), more)
       by_case false go =
           let n = length (param_names f.params) in
-          let more : slots_in (with_plain (told_at rs) f made).units ≡ slots_in made.units + capped (n + stmts_slots owner.OfFunction (size rs ordered) f.body) = slots_more made.units _ in
+          let more : slots_in (with_plain (told_at rs) f made).units ≡ slots_in made.units + capped
+          (n + stmts_slots owner.OfFunction (size rs ordered) f.body) = slots_more made.units _ in
           omega (arith, go (with_plain (told_at rs) f made), more)
 
   tasks_sum : (captured : List (List ℕ)) (ts : List TaskTree) (made : Units) →
@@ -89,7 +92,8 @@ module _ (rs : List Resolved) (ordered : InOrder rs) where
   tasks_sum captured (t ∷ ts) made =
       let after = with_task (told_at rs) captured t made in
       let one : length after.sites ≡ suc (length made.sites) = length-append made.sites (_ ∷ []) ∙ omega arith in
-      let more : slots_in after.units ≡ slots_in made.units + capped (length (get_or captured (length made.sites) []) + stmt_slots owner.OfTask (size rs ordered) t.body) =
+      let more : slots_in after.units ≡ slots_in made.units + capped
+      (length (get_or captured (length made.sites) []) + stmt_slots owner.OfTask (size rs ordered) t.body) =
       slots_more made.units _ in
       omega (
         arith,

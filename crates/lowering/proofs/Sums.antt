@@ -1,5 +1,5 @@
 -- Sums that stop at the greatest number.
-use Rattle.std.proofs.Common.{◌≡◌, ℕ, ◌+◌, ◌-◌, ◌^◌, ◌≤◌, min, arith}
+use Rattle.std.proofs.Common.{◌≡◌, ℕ, ◌+◌, ◌-◌, ◌^◌, ◌≤◌, arith}
 use Rattle.lowering.specs.Emission.Units.{capped}
 
 -- a sum of two that were stopped

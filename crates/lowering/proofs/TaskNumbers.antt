@@ -1,5 +1,5 @@
 -- Tasks are numbered in the order of the text: no two PragmaStarts have one place.
-use Rattle.std.proofs.Common.{◌≡◌, ◌≢◌, ◌∙◌, ℕ, zero, suc, ◌+◌, ◌<◌, ◌≤◌, ◌==◌, Bool, true, false, if◌then◌else◌, List, [], ◌∷◌, ◌++◌, length, get_or, Option, Some, None, slice_get, ap, subst, sym, refl, arith, append_assoc}
+use Rattle.std.proofs.Common.{◌≡◌, ℕ, zero, suc, ◌+◌, ◌<◌, ◌≤◌, ◌==◌, Bool, true, false, if◌then◌else◌, List, [], ◌∷◌, ◌++◌, length, get_or, Option, Some, None, slice_get, ap, subst, sym, refl, arith, append_assoc}
 use Rattle.std.specs.Prelude.{⊤}
 use Rattle.std.specs.List.{position_or_len}
 use Rattle.std.proofs.lemmas.Bool.{ne_eqb, eq-eqb, lt-ltb}
@@ -105,7 +105,8 @@ mutual
       let steps = spelling.optional spelling.change step body in
       let tests = spelling.optional spelling.expr test (spelling.punct puncts.Semicolon steps) in
       let us = tasks_of a ++ ts in
-      skip (skip (past_start start tests us (past_test test (spelling.punct puncts.Semicolon steps) us (skip (past_step step body us (skip (among_stmt a rest ts h)))))))
+      skip (skip (past_start start tests us
+      (past_test test (spelling.punct puncts.Semicolon steps) us (skip (past_step step body us (skip (among_stmt a rest ts h)))))))
   among_stmt (tree.Break m) rest ts h = past_stmt (tree.Break m) rest ts h
   among_stmt (tree.Continue m) rest ts h = past_stmt (tree.Continue m) rest ts h
   among_stmt (tree.Return m e) rest ts h = past_stmt (tree.Return m e) rest ts h
@@ -158,15 +159,18 @@ ascending : (ts : List TaskTree) (ps : List Piece) (from : ℕ) → ((i : ℕ) (
 ascending [] ps from f none = tt
 ascending ts (p ∷ ps) from f (skip h) = lower from (suc from) ts (omega arith) (ascending ts ps (suc from) (λ i m is. omega (arith, f (suc i) m is)) h)
 ascending (t ∷ ts) (marked k m ∷ ps) from f (take h) =
-    let here : t.mark.place ≡ from = omega (arith, f 0 t.mark (k, refl)) in
-    (omega (arith, here), lower (suc t.mark.place) (suc from) ts (omega (arith, here)) (ascending ts ps (suc from) (λ i q is. omega (arith, f (suc i) q is)) h))
+    let here : t.mark.place ≡ from = omega (arith, f 0 t.mark (k, refl)) in (
+      omega (arith, here),
+      lower (suc t.mark.place) (suc from) ts (omega (arith, here)) (ascending ts ps (suc from) (λ i q is. omega (arith, f (suc i) q is)) h),
+    )
 
 at_least : (lo : ℕ) (ts : List TaskTree) (k : ℕ) (d : TaskTree) → Ascend lo ts → k < length ts → lo ≤ (get_or ts k d).mark.place
 at_least lo [] k d a lt = absurd (omega (arith, lt))
 at_least lo (t ∷ ts) zero d a lt = a.0
 at_least lo (t ∷ ts) (suc k) d a lt = omega (arith, a.0, at_least (suc t.mark.place) ts k d a.1 (omega (arith, lt)))
 
-apart : (lo : ℕ) (ts : List TaskTree) (j k : ℕ) (d : TaskTree) → Ascend lo ts → j < k → k < length ts → (get_or ts j d).mark.place < (get_or ts k d).mark.place
+apart : (lo : ℕ) (ts : List TaskTree) (j k : ℕ) (d : TaskTree) → Ascend lo ts → j < k → k < length ts
+    → (get_or ts j d).mark.place < (get_or ts k d).mark.place
 apart lo [] j k d a less lt = absurd (omega (arith, lt))
 apart lo (t ∷ ts) j zero d a less lt = absurd (omega (arith, less))
 apart lo (t ∷ ts) zero (suc k) d a less lt = at_least (suc t.mark.place) ts k d a.1 (omega (arith, lt))
@@ -183,7 +187,8 @@ numbered lo ts k t a is =
     let here : get_or ts k t ≡ t = get_there ts k t is in
     let first : position_or_len (λ (u : TaskTree). u.mark.place == t.mark.place) ts ≡ k =
     position_or_len_is (λ (u : TaskTree). u.mark.place == t.mark.place) ts k t (omega (arith, within))
-    (λ j less. ne_eqb (get_or ts j t).mark.place t.mark.place (λ same. absurd (omega (arith, apart lo ts j k t a less within, ap (λ (u : TaskTree). u.mark.place) here, same))))
+    (λ j less. ne_eqb (get_or ts j t).mark.place t.mark.place
+    (λ same. absurd (omega (arith, apart lo ts j k t a less within, ap (λ (u : TaskTree). u.mark.place) here, same))))
     (λ below. eq-eqb (get_or ts k t).mark.place t.mark.place (ap (λ (u : TaskTree). u.mark.place) here)) in
     rw (first, lt-ltb k (length ts) within) refl
 

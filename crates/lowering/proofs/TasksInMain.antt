@@ -1,5 +1,5 @@
 -- The tasks of a lawful program stand in `main`, none in another one, and what they capture stands in the same order.
-use Rattle.std.proofs.Common.{◌≡◌, ◌∙◌, ℕ, zero, suc, ◌≤◌, ◌==◌, Bool, true, false, not, if◌then◌else◌, List, [], ◌∷◌, ◌++◌, length, Option, Some, slice_get, ap, subst, sym, refl}
+use Rattle.std.proofs.Common.{◌≡◌, ◌∙◌, ℕ, zero, suc, ◌≤◌, ◌==◌, Bool, true, false, not, if◌then◌else◌, List, [], ◌∷◌, ◌++◌, length, Some, slice_get, ap, subst, sym, refl}
 use Rattle.std.specs.Prelude.{⊤, ltb}
 use Rattle.std.proofs.lemmas.Bool.{ltb-false, or_parts}
 use Rattle.std.proofs.lemmas.List.{length-map}
@@ -11,7 +11,7 @@ use Rattle.os_ast.specs.Notes.Clauses.{captured_in, clauses_notes, in_task, in_t
 use Rattle.os_ast.specs.Notes.Declarators.{after_declarators, after_start, declarators_notes, start_notes}
 use Rattle.os_ast.specs.Notes.Expressions.{expr_notes, place_notes, step_notes, value_notes}
 use Rattle.os_ast.specs.Notes.Kinds.{Global, Note, Task}
-use Rattle.os_ast.specs.Notes.Programs.{after_item, after_param, after_params, in_body, in_function, item_notes, items_notes, owner_of, param_names, params_notes, round_body}
+use Rattle.os_ast.specs.Notes.Programs.{after_item, after_param, in_body, in_function, item_notes, items_notes, param_names, params_notes, round_body}
 use Rattle.os_ast.specs.Notes.Statements.{after_stmt, stmt_notes, stmts_notes}
 use Rattle.os_ast.specs.Parts.{Part, count_items, parts}
 use Rattle.os_ast.specs.Rules.{is_main_body}
@@ -119,7 +119,8 @@ behind_none : (ts : List TaskTree) (xs ys : List Note) → captures xs ≡ [] �
 behind_none ts xs ys none h = subst (Match ts) (sym (captures_both xs ys ∙ ap (λ cs. cs ++ captures ys) none)) h
 
 mutual
-  match_stmt : {a : tree.StmtTree} → IsStmt a → (s : Scope) → s.owner ≡ owner.OfMain → AreLawful (stmt_notes s a) → Match (tasks_of a) (captures (stmt_notes s a))
+  match_stmt : {a : tree.StmtTree} → IsStmt a → (s : Scope) → s.owner ≡ owner.OfMain → AreLawful (stmt_notes s a)
+      → Match (tasks_of a) (captures (stmt_notes s a))
   match_stmt IsStmt.empty s own lawful = tt
   match_stmt (IsStmt.block is) s own lawful = match_stmts is (enter s) own lawful
   match_stmt (IsStmt.change {c = c} _) s own lawful = subst (Match []) (sym (none_change c s)) tt
@@ -143,7 +144,8 @@ mutual
       let z = x ++ value_notes head test ++ step_notes head step in
       let y = stmt_notes (in_loop head) a in
       behind_none (tasks_of a) z y
-      (none_both (x ++ value_notes head test) (step_notes head step) (none_both x (value_notes head test) (none_start start (enter s)) (none_value test head)) (none_step step head))
+      (none_both (x ++ value_notes head test) (step_notes head step)
+      (none_both x (value_notes head test) (none_start start (enter s)) (none_value test head)) (none_step step head))
       (match_stmt is (in_loop head) ((start_onward start (enter s)).owner ∙ own) (lawful-rest z y lawful))
   match_stmt IsStmt.break s own lawful = tt
   match_stmt IsStmt.continue s own lawful = tt
@@ -157,19 +159,25 @@ mutual
       let task : inner.owner ≡ owner.OfTask = items_owner (parts cs) s (in_task s (captured_in s.owner slots)) 0 in
       let other : IsOther inner.owner = λ e. let z : owner.OfTask ≡ owner.OfMain = sym task ∙ e in absurd (cc) in
       let e : captures (x ++ y) ≡ slots ∷ [] =
-      captures_both x y ∙ ap (λ cs. captures x ++ cs) (none_stmt a inner other) ∙ ap (λ cs. cs ++ []) (captures_both (parts_notes s [] (parts cs)) note ∙ ap (λ cs. cs ++ captures note) (none_parts (parts cs) s []) ∙ ap (λ o. main_task o slots ++ []) own) in
+      captures_both x y ∙ ap (λ cs. captures x ++ cs) (none_stmt a inner other)
+      ∙ ap (λ cs. cs ++ [])
+      (captures_both (parts_notes s [] (parts cs)) note ∙ ap (λ cs. cs ++ captures note) (none_parts (parts cs) s [])
+      ∙ ap (λ o. main_task o slots ++ []) own) in
       subst (Match (record { mark = mark; parts = parts cs; body = a } ∷ [])) (sym e)
       (record { leveled = is; alone = no_tasks a inner other (lawful-rest x y lawful); few = few_captured s mark (parts cs) a (lawful-first x y lawful) }, tt)
   match_stmt (IsStmt.tick {m = mark} {t = t} {e = e} _ _) s own lawful =
-      subst (Match []) (sym (none_both (place_notes s (role.Flow direction.Reads) t) (expr_notes s e) (none_place t s (role.Flow direction.Reads)) (none_expr e s))) tt
+      subst (Match []) (sym
+      (none_both (place_notes s (role.Flow direction.Reads) t) (expr_notes s e) (none_place t s (role.Flow direction.Reads)) (none_expr e s))) tt
   match_stmt IsStmt.taskwait s own lawful = tt
 
-  match_stmts : {ss : tree.Stmts} → AreStmts ss → (s : Scope) → s.owner ≡ owner.OfMain → AreLawful (stmts_notes s ss) → Match (all_tasks_of ss) (captures (stmts_notes s ss))
+  match_stmts : {ss : tree.Stmts} → AreStmts ss → (s : Scope) → s.owner ≡ owner.OfMain → AreLawful (stmts_notes s ss)
+      → Match (all_tasks_of ss) (captures (stmts_notes s ss))
   match_stmts AreStmts.no_stmts s own lawful = tt
   match_stmts (AreStmts.declare {ds = ds} {ss = ss} _ rest) s own lawful =
       let x = declarators_notes s ds in
       let y = stmts_notes (after_declarators s ds) ss in
-      behind_none (all_tasks_of ss) x y (none_declarators ds s) (match_stmts rest (after_declarators s ds) ((declarators_onward ds s).owner ∙ own) (lawful-rest x y lawful))
+      behind_none (all_tasks_of ss) x y (none_declarators ds s)
+      (match_stmts rest (after_declarators s ds) ((declarators_onward ds s).owner ∙ own) (lawful-rest x y lawful))
   match_stmts (AreStmts.stmt {s = a} {ss = ss} is rest) s own lawful =
       let x = stmt_notes s a in
       let y = stmts_notes (after_stmt s a) ss in
@@ -201,7 +209,8 @@ none_front s (n ∷ ns) = none_front (after_param s n) ns
 abbrev front : Scope → tree.FunctionTree → List Note
 front s f = Global s f.name ∷ params_notes (in_function s f.name.id) (param_names f.params)
 
-pub lawful_body : (s : Scope) (f : tree.FunctionTree) (rest : List Note) → AreLawful (item_notes s (tree.Function f) ++ rest) → AreLawful (stmts_notes (in_body s f) f.body)
+pub lawful_body : (s : Scope) (f : tree.FunctionTree) (rest : List Note) → AreLawful (item_notes s (tree.Function f) ++ rest)
+    → AreLawful (stmts_notes (in_body s f) f.body)
 lawful_body s f rest h = lawful-rest (front s f) (stmts_notes (in_body s f) f.body) (lawful-first (item_notes s (tree.Function f)) rest h)
 
 -- the tasks of some items, with what they capture and what others do
@@ -219,7 +228,8 @@ match_items (tree.Constant c ∷ is) s (cons _ leveled) lawful =
     record { own = more.own; rest = more.rest; all = more.all; match = more.match }
 match_items (tree.Function f ∷ is) s (cons (IsItem.function _ body) leveled) lawful =
     by_case (f.name.id == main_id) refl
-    (match_items is (after_item s (tree.Function f)) leveled (lawful-rest (item_notes s (tree.Function f)) (items_notes (after_item s (tree.Function f)) is) lawful))
+    (match_items is (after_item s (tree.Function f)) leveled
+    (lawful-rest (item_notes s (tree.Function f)) (items_notes (after_item s (tree.Function f)) is) lawful))
   where
     i : tree.ItemTree
     i = tree.Function f
@@ -233,7 +243,8 @@ match_items (tree.Function f ∷ is) s (cons (IsItem.function _ body) leveled) l
     own_captures : captures (item_notes s i ++ behind) ≡ captures own_notes ++ captures behind
     own_captures =
         captures_both (item_notes s i) behind
-        ∙ ap (λ cs. cs ++ captures behind) (captures_both (front s f) own_notes ∙ ap (λ cs. cs ++ captures own_notes) (none_front (in_function s f.name.id) (param_names f.params)))
+        ∙ ap (λ cs. cs ++ captures behind)
+        (captures_both (front s f) own_notes ∙ ap (λ cs. cs ++ captures own_notes) (none_front (in_function s f.name.id) (param_names f.params)))
 
     by_case : (t : Bool) → (f.name.id == main_id) ≡ t → Matched (after_item s i) is → Matched s (i ∷ is)
     by_case true e more = record {

@@ -1,22 +1,16 @@
 -- The units of a program lie one behind another, first those of functions, then those of tasks.
-use Rattle.std.proofs.Common.{◌≡◌, ◌∙◌, ℕ, zero, suc, ◌+◌, ◌-◌, ◌<◌, ◌≤◌, ◌==◌, ◌^◌, Bool, true, false, if◌then◌else◌, List, [], ◌∷◌, ◌++◌, length, length-append, Option, Some, None, slice_get, ap, subst, sym, refl, arith, inl, inr}
+use Rattle.std.proofs.Common.{◌≡◌, ◌∙◌, ℕ, zero, suc, ◌+◌, ◌<◌, ◌≤◌, ◌==◌, ◌^◌, Bool, true, false, List, [], ◌∷◌, ◌++◌, length, length-append, Some, slice_get, ap, subst, sym, refl, arith, inl, inr}
 use Rattle.std.proofs.lemmas.Bool.{cases_lt}
 use Rattle.std.proofs.lemmas.List.{length-map}
-use Rattle.std.proofs.lemmas.Option.{none-some, slice_get_within}
+use Rattle.std.proofs.lemmas.Option.{none-some}
 use Rattle.std.specs.Prelude.{sum_by}
-use Rattle.lowering.proofs.Becoming.{slice_get-last}
 use Rattle.lowering.proofs.Growing.{function_grows, task_grows}
-use Rattle.lowering.proofs.Keeping.{KeepsLabels}
 use Rattle.lowering.proofs.Lists.{slice_get-front}
-use Rattle.lowering.specs.Emission.Statements.{block_code, stmt_code}
 use Rattle.lowering.specs.Emission.Units.{no_units, parts_made, program_units, with_function, with_functions, with_main, with_plain, with_task, with_tasks}
-use Rattle.lowering.specs.declared.draft.Label.{Label}
-use Rattle.lowering.specs.declared.exits.Exits.{Exits}
 use Rattle.lowering.specs.declared.units.Units.{Units}
 use Rattle.os_ast.specs.Names.{main_id}
 use Rattle.os_ast.specs.Trees as tree
 use Rattle.os_ast.specs.declared.names.What.{What}
-use Rattle.os_code.specs.Parts.{site_at}
 use Rattle.os_code.specs.declared.site.Site.{Site}
 use Rattle.os_code.specs.declared.unit.Unit.{Unit as CodeUnit}
 use Rattle.simulation.specs.Tasks.{TaskTree, program_tasks}
@@ -57,11 +51,13 @@ module _ (tells : ℕ → What) where
       (more_fills made (with_task tells captured t made) _ fills refl refl (omega (arith, (task_grows tells captured t made).draft.no_shorter)))
 
 -- how many units there are
-function_counts : (is_main : Bool) (tells : ℕ → What) (f : tree.FunctionTree) (made : Units) → length (with_function is_main tells f made).units ≡ length made.units + 1
+function_counts : (is_main : Bool) (tells : ℕ → What) (f : tree.FunctionTree) (made : Units)
+    → length (with_function is_main tells f made).units ≡ length made.units + 1
 function_counts true tells f made = length-append made.units (_ ∷ [])
 function_counts false tells f made = length-append made.units (_ ∷ [])
 
-functions_count : (tells : ℕ → What) (is : List tree.ItemTree) (made : Units) → length (with_functions tells is made).units ≡ length made.units + count_functions is
+functions_count : (tells : ℕ → What) (is : List tree.ItemTree) (made : Units)
+    → length (with_functions tells is made).units ≡ length made.units + count_functions is
 functions_count tells [] made = omega arith
 functions_count tells (tree.Constant c ∷ is) made = functions_count tells is made
 functions_count tells (tree.Function f ∷ is) made =
@@ -86,7 +82,8 @@ of_last [] x y (suc k) le is = absurd (cc)
 of_last (z ∷ xs) x y zero le is = absurd (omega (arith, le))
 of_last (z ∷ xs) x y (suc k) le is = let more = of_last xs x y k (omega (arith, le)) is in (ap suc more.0, more.1)
 
-tasks_sited : (base : ℕ) (tells : ℕ → What) (captured : List (List ℕ)) (ts : List TaskTree) (made : Units) → Sited base made → Sited base (with_tasks tells captured ts made)
+tasks_sited : (base : ℕ) (tells : ℕ → What) (captured : List (List ℕ)) (ts : List TaskTree) (made : Units) → Sited base made
+    → Sited base (with_tasks tells captured ts made)
 tasks_sited base tells captured [] made sited = sited
 tasks_sited base tells captured (t ∷ ts) made sited =
     let after = with_task tells captured t made in
@@ -106,7 +103,8 @@ functions_sited tells [] made none = none
 functions_sited tells (tree.Constant c ∷ is) made none = functions_sited tells is made none
 functions_sited tells (tree.Function f ∷ is) made none = by_case (f.name.id == main_id) (λ after still. functions_sited tells is after still)
   where
-    by_case : (t : Bool) → ((after : Units) → after.sites ≡ [] → (with_functions tells is after).sites ≡ []) → (with_functions tells is (with_function t tells f made)).sites ≡ []
+    by_case : (t : Bool) → ((after : Units) → after.sites ≡ [] → (with_functions tells is after).sites ≡ [])
+        → (with_functions tells is (with_function t tells f made)).sites ≡ []
     by_case true go = go (with_main tells f made) none
     by_case false go = go (with_plain tells f made) none
 

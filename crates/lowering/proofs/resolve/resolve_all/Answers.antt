@@ -1,4 +1,3 @@
-use Rattle.std.proofs.Common.{◌≡◌}
 use Rattle.lowering.proofs.Resolving.{next_resolved}
 use Rattle.lowering.specs.Draft.{with_places}
 use Rattle.lowering.specs.Emission.Units.{place_in}

@@ -14,4 +14,5 @@ returns c =
     let i = c.loop-declarator.declarator-index in
     let slots = λ (ds : List Declarator). declarators_slots c.args.owner (size_by (told_at c.args.told.now.names.now)) (map declarator_tree ds) in
     let past : length all ≤ i = subst (λ (ds : List Declarator). length ds ≤ i) c.as_slice-declarator-items.ensures c.loop-declarator-test.false in
-    sum_done c.loop-declarator.sum (slots (drop i all)) (slots all) c.loop-declarator.invariant.small (ap slots (drop_of_length-le all past)) c.loop-declarator.invariant.so_far
+    sum_done c.loop-declarator.sum (slots (drop i all)) (slots all) c.loop-declarator.invariant.small (ap slots (drop_of_length-le all past))
+    c.loop-declarator.invariant.so_far
