@@ -3,7 +3,7 @@
 # table against what the programs mean. The last line counts what passed and what failed.
 set -u
 top=$(cd "$(dirname "${BASH_SOURCE[0]}")/.." && pwd)
-table=$top/crates/meaning_tests/src/meaning/table.rt
+table=$top/crates/meaning_tests/src/values.rt
 if ! command -v gcc >/dev/null; then
     echo 'gcc is not on this machine: the table of values is not compared'
     exit 0

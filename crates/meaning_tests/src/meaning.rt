@@ -1,33 +1,20 @@
-//! What programs mean: the activations of their control programs, and the ends of their bodies with what they write.
-//!
-//! An activation is shown as `0 [2 5] r 0 3 1 s 4, w 1 2`: its task, its captured scalars, and its claims, a read claim
-//! by its stream, horizon, burst and skip, a write claim by its stream and horizon.
+//! Each table against what its programs mean.
 
-mod bodies;
-mod flows;
 mod large;
-mod programs;
-mod table;
 
-use bodies::{BEFORE, BODIES};
+use crate::bodies::{BEFORE, BODIES};
+use crate::case::Case;
+use crate::flows::FLOWS;
+use crate::programs::PROGRAMS;
+use crate::values::{FUNCTIONS, TABLE};
 use cddf_meaning::{plain_body, plain_control};
 use flow_core::{Activation, Claim, Control, ControlEnd, TaskEnd};
-use flows::FLOWS;
 use front_end::read_program;
 use os_ast::Program;
-use programs::PROGRAMS;
 use std::alloc::Global;
 use std::process::Abort;
 use std::test::Fail;
-use table::{FUNCTIONS, TABLE};
 use window_check::Checked;
-
-/// The length of the input, the budget, and the activations with the end.
-type Run = (u32, u64, &'static str);
-/// Which activation of the first run, its inputs, the budget, and its end with what it writes.
-type Body = (usize, &'static [i32], u64, &'static str);
-/// A program, runs of its control program, and some of its bodies.
-type Case = (&'static str, &'static [Run], &'static [Body]);
 
 /// A program that violates no rule.
 fn accepted(alloc: Global, text: &str) -> Result<Checked, Fail> {

@@ -1,7 +1,7 @@
 //! Expressions and bodies of plain C, and their values. `tests/meaning_by_gcc.sh` compiles each of them and compares.
 
 /// What the rows call.
-pub(crate) const FUNCTIONS: &str = "int add(int a, int b) { return a + b; }
+pub const FUNCTIONS: &str = "int add(int a, int b) { return a + b; }
 int gcd(int a, int b) { while (b) { int t = a % b; a = b; b = t; } return a; }
 int power(int b, int n) { int r = 1; int i; for (i = 0; i < n; i++) r *= b; return r; }
 int collatz(int n) { int c = 0; while (n != 1) { if (n % 2) n = 3 * n + 1; else n /= 2; c++; } return c; }
@@ -10,7 +10,7 @@ int first(int a, int b) { if (a) return a; return b; }
 ";
 
 /// An expression, or a body that sets `y`, with its value.
-pub(crate) const TABLE: [(&str, i32); 210] = [
+pub const TABLE: [(&str, i32); 210] = [
     ("1 + 2", 3),
     ("2147483646 + 1", 2147483647),
     ("-2147483647 + 2147483647", 0),

@@ -1,7 +1,7 @@
 //! Bodies that set `y`, the one element that their task writes to a declared stream. They stand from line 5 on.
 
 /// The lines before a body.
-pub(crate) const BEFORE: &str =
+pub const BEFORE: &str =
     "int one(void) { return 1; } int f(int a) { return a + 1; } int g(void) { }
 int main(void) {
 int s __attribute__((stream)); int y;
@@ -9,7 +9,7 @@ int s __attribute__((stream)); int y;
 ";
 
 /// A body, its budget, and its outcome.
-pub(crate) const BODIES: [(&str, u64, &str); 86] = [
+pub const BODIES: [(&str, u64, &str); 86] = [
     (
         "y = (2 && -3) + 2 * (0 || 0) + 4 * (0 || 7) + 8 * !5 + 16 * !0 + 32 * (0 && 1 / 0) + 64 * (5 || 1 / 0);",
         0,

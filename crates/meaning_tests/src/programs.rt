@@ -1,8 +1,8 @@
 //! Programs whose control programs and bodies were worked out by hand.
 
-use crate::meaning::Case;
+use crate::case::Case;
 
-pub(crate) const PROGRAMS: [Case; 40] = [
+pub const PROGRAMS: [Case; 40] = [
     (
         "int main(void) {
     int y;

@@ -1,8 +1,8 @@
 //! How activations claim streams: overlap, peek, ticks, and where the control program ends.
 
-use crate::meaning::Case;
+use crate::case::Case;
 
-pub(crate) const FLOWS: [Case; 18] = [
+pub const FLOWS: [Case; 18] = [
     (
         "int main(void) {
     int s __attribute__((stream));

@@ -1,0 +1,104 @@
+//! Programs as large as they may be.
+
+use crate::beside::{body_beside, control_beside, whole_beside};
+use crate::compiled::compile;
+use std::alloc::Global;
+use std::test::Fail;
+use std::time::Instant;
+use task_vm::Scratch;
+
+/// A chain of so many `else if` in a task, which runs for some numbers of them.
+fn choices_text(alloc: Global, count: u32) -> Result<String, Fail> {
+    let mut text = String::from_str(
+        alloc,
+        "int main(void) { int s __attribute__((stream)); int c, y; for (c = 0; c < 210; c += 21) {\n#pragma omp task output(s << y)\n",
+    )?;
+    for number in 0..count {
+        write!(&mut text, "if (c == {number}) y = {number}; else ")?;
+    }
+    text.push_str("y = -1;\n} }\n")?;
+    Ok(text)
+}
+
+#[test]
+fn a_long_chain_of_choices_is_gone_along(rt: HostRuntime) -> Result<(), Fail> {
+    let text = choices_text(rt.alloc(), 190)?;
+    whole_beside(&rt, rt.alloc(), text.as_str(), 0)
+}
+
+/// A task that captures so many scalars, all of which it names and changes.
+fn captures_text(alloc: Global, count: u32) -> Result<String, Fail> {
+    let mut text = String::from_str(
+        alloc,
+        "int main(void) { int s __attribute__((stream)); int y, w[2], a, b, c, d, e, f",
+    )?;
+    for number in 0..count {
+        write!(&mut text, ", v{number} = {number}")?;
+    }
+    text.push_str(
+        ";\nfor (a = 1; a < 4; a++) {\n#pragma omp task output(s << y, s << w[2], s << b, s << c, s << d, s << e, s << f, osout)\n{ osout = v1;",
+    )?;
+    for number in 0..count {
+        write!(&mut text, " y = (y * 3 + v{number}) % 9973; v{number}++;")?;
+    }
+    text.push_str(" f = v0; }\n")?;
+    for number in 0..count {
+        write!(&mut text, " v{number} += a;")?;
+    }
+    text.push_str("} }\n")?;
+    Ok(text)
+}
+
+#[test]
+fn as_many_scalars_as_may_be_are_captured(rt: HostRuntime) -> Result<(), Fail> {
+    let text = captures_text(rt.alloc(), 64)?;
+    whole_beside(&rt, rt.alloc(), text.as_str(), 0)
+}
+
+/// A head, pieces until the text is nearly as long as a text may be, and a tail.
+fn long_text(alloc: Global, head: &str, piece: &str, tail: &str) -> Result<String, Fail> {
+    let mut text = String::from_str(alloc, head)?;
+    while text.len() < 262_000 {
+        text.push_str(piece)?;
+    }
+    text.push_str(tail)?;
+    Ok(text)
+}
+
+/// The texts are one chain of operators, many statements, many loops, and many tasks.
+#[test]
+fn the_longest_texts_are_compiled(rt: HostRuntime) -> Result<(), Fail> {
+    let task =
+        "int main(void) { int s __attribute__((stream)); int c = 3, y;\n#pragma omp task output(s << y)\n";
+    let one = format!(in rt.alloc(); "{task}y = 1")?;
+    let many = format!(in rt.alloc(); "{task}{{ int x; ")?;
+    for (head, piece, tail) in [
+        (one.as_str(), "+c*2-y", "; }"),
+        (many.as_str(), "x += c; y = x ^ y; ", "} }"),
+        (
+            many.as_str(),
+            "while (x) { x--; if (c) continue; break; } x++; ",
+            "} }",
+        ),
+        (
+            "int f(int a) { int b[2]; b[1] = a; return b[1]; } int main(void) { int y;\n",
+            "\n#pragma omp task output(osout << y)\ny = f(3);\n",
+            "}",
+        ),
+    ] {
+        let text = long_text(rt.alloc(), head, piece, tail)?;
+        assert!(rt; text.len() > 262_000);
+        let began = Instant::now(&rt)?;
+        let compiled = compile(&rt, rt.alloc(), text.as_str())?;
+        println!(rt; "compile {} ms", began.elapsed(&rt)?.as_millis())?;
+        let control = control_beside(&rt, rt.alloc(), &compiled, 0, 0)?;
+        println!(rt; "control {} ms", began.elapsed(&rt)?.as_millis())?;
+        let Some(activation) = control.activations.as_slice().first() else {
+            return Err(Fail::from("an activation"));
+        };
+        let mut scratch = Scratch::new(rt.alloc(), &compiled.code)?;
+        body_beside(&rt, rt.alloc(), &compiled, activation, &mut scratch, 100_000)?;
+        println!(rt; "body {} ms", began.elapsed(&rt)?.as_millis())?;
+    }
+    Ok(())
+}
