@@ -4,3 +4,5 @@ pub mod Changes
 pub mod Declarators
 pub mod Tasks
 pub mod Statements
+pub mod Units
+pub mod TaskUnits

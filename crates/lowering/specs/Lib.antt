@@ -1,7 +1,10 @@
 -- What a reader believes: what a draft becomes, and the laws of it.
 pub mod Draft
+pub mod Few
 pub mod Given
+pub mod Going
 pub mod Laws
+pub mod Meanings
 -- What restates private functions: the code as a function of the tree.
 pub mod Ascending
 pub mod Emission

@@ -5,6 +5,7 @@ ghost use Rattle.lowering.specs.Ascending.{Ascends};
 use os_ast::{Resolved, What};
 
 /// What names mean, in the order of their places.
+#[derive(Drop)]
 pub(crate) struct Told<'a> {
     pub(crate) names: &'a [Resolved],
     ghost ascends: { Ascends names.now },

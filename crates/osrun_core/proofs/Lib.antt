@@ -1,3 +1,4 @@
+pub mod Accepted
 pub mod Answered
 pub mod ArgumentValues
 pub mod BodyBytes
@@ -5,4 +6,5 @@ pub mod Came
 pub mod CommandJobs
 pub mod CommandParses
 pub mod GivenNumbers
+pub mod TasksRun
 pub mod WrittenBytes

@@ -5,6 +5,7 @@
 //! data-flow meaning of the program over the input, and the contract says so for every program, input, file and sink.
 #![tactic(auto)]
 
+mod accept;
 mod answer_job;
 mod command;
 mod deliver;

@@ -5,6 +5,7 @@ ghost use Rattle.osrun_core.specs.JobAnswer.{AnswersRun};
 ghost use Rattle.osrun_core.specs.Loading.{MayOpen, IsCauseOf, IsReadable, IsRejected, ReadsInOrder};
 ghost use Rattle.osrun_core.specs.Refusal.{refusal_status};
 
+use crate::accept::accept;
 use crate::deliver::deliver;
 use crate::job::Job;
 use crate::lay_out::lay_out;
@@ -14,7 +15,6 @@ use crate::run_tasks::run_tasks;
 use crate::status::Status;
 use collector::output_bytes;
 use control_run::run_control;
-use front_end::read_program;
 use lowering::lower;
 use os_io::{Files, Sink};
 use std::alloc::Global;
@@ -56,7 +56,7 @@ pub fn run_job<R: Threads + Sync, F: Files, O: Sink, E: Sink, G: Gate>(
     ensures may { F.may files.new ≡ F.may files.old }
 {
     let text = load(alloc, files, job.program, Subject::Program)?;
-    let checked = read_program(alloc, &text)?;
+    let checked = accept(alloc, &text)?;
     let input = load(alloc, files, job.input, Subject::Input)?;
     let code = lower(alloc, &checked)?;
     let control = run_control(alloc, &code, input.len() as u32, job.control_budget)?;

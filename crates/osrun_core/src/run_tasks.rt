@@ -1,23 +1,26 @@
 ghost use Rattle.std.specs.Prelude.{◌≡◌, ◌≤◌, ℕ, List, All, IfOk};
+ghost use Rattle.collector.specs.Written.{IsByteIfThere};
 ghost use Rattle.flow_core.specs.IsSound.{IsSound};
 ghost use Rattle.flow_core.specs.StandsFor.{StandsFor};
-ghost use Rattle.flow_core.specs.Streams.{stream_ends, stream_meaning};
+ghost use Rattle.lowering.specs.Meanings.{RunsBodies};
+ghost use Rattle.os_ast.specs.Trees.{ProgramTree};
 ghost use Rattle.os_code.specs.Codes.{parts_of};
 ghost use Rattle.os_code.specs.Tasks.{Fits};
-ghost use Rattle.task_bodies.specs.Frames.{frame_outcome};
+ghost use Rattle.osrun_core.specs.Run.{ends_over};
 
 use crate::job::Job;
+use cddf_meaning::laws::turns_never_grow;
 use flow_core::{Control, Ends, Plan, laws};
 use os_code::Code;
 use os_io::Memory;
 use std::alloc::Global;
 use std::thread::Threads;
 use task_bodies::TaskBodies;
-use task_bodies::laws::bodies_serve;
+use task_bodies::laws::{agreeing_bodies_mean_one, bodies_serve, outputs_are_bytes};
 use task_workers::{Gate, execute_rounds};
 
 /// Carries out the plan of a run: each frame runs the task of its activation on one of the job's workers. What it comes
-/// to is the data-flow meaning of the activations with the machine's outcomes.
+/// to is what the activations of the program come to, whatever the number of workers, and its output has only bytes.
 pub fn run_tasks<R: Threads + Sync, G: Gate>(
     rt: &R,
     alloc: Global,
@@ -32,9 +35,10 @@ pub fn run_tasks<R: Threads + Sync, G: Gate>(
     requires fit { All (Fits (parts_of code.now)) control.now.activations }
     requires sound { IsSound plan.now }
     requires stands { (input : List ℕ) × StandsFor plan.now control.now.activations input }
-    ensures { (input : List ℕ) → StandsFor plan.now control.now.activations input → IfOk result (λ ends.
-        ends ≡ stream_ends control.now.activations input (stream_meaning control.now.activations input
-        (frame_outcome (parts_of code.now) control.now.activations job.now.task_budget))) }
+    ensures meaning { (p : ProgramTree) (input : List ℕ) → RunsBodies (parts_of code.now) p → StandsFor plan.now control.now.activations input
+        → IfOk result (λ ends. ends ≡ ends_over p control.now.activations input job.now.task_budget) }
+    ensures bytes { (p : ProgramTree) (input : List ℕ) → RunsBodies (parts_of code.now) p → StandsFor plan.now control.now.activations input
+        → IfOk result (λ ends. All IsByteIfThere ends.output) }
 {
     let bodies = TaskBodies {
         code,
@@ -42,6 +46,9 @@ pub fn run_tasks<R: Threads + Sync, G: Gate>(
         budget: job.task_budget,
     };
     bodies_serve();
+    agreeing_bodies_mean_one();
+    outputs_are_bytes();
+    turns_never_grow();
     laws::plan_meaning();
     execute_rounds(rt, alloc, plan, &bodies, job.workers, gate)
 }

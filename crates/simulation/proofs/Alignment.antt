@@ -12,7 +12,7 @@ use Rattle.os_ast.specs.declared.names.Entry.{Entry}
 use Rattle.os_ast.specs.declared.names.What.{What}
 use Rattle.os_ast.specs.declared.names.What.TheVariants as what
 use Rattle.os_code.specs.Machine.{zeroed}
-use Rattle.simulation.specs.Alignment.{Takes, Stacked, slot_at, Holds, Aligned}
+use Rattle.simulation.specs.Alignment.{Takes, Stacked, slot_at, Resources, Holds, Aligned}
 use Rattle.simulation.proofs.Slots.{SameBelow, SameFrom, set_at, zeroed_below, zeroed_at}
 
 takes_below : (w : What) (low top : ℕ) → Takes w low top → low ≤ top
@@ -35,10 +35,10 @@ takes_more (what.Stream first count) low a b le h = omega (arith, h, le)
 takes_more (what.Element item) low a b le h = omega (arith, h, le)
 takes_more (what.View item) low a b le h = omega (arith, h, le)
 
-module _ (has_items : ℕ → Type 0) where
+module _ (has : Resources) where
   -- a variable keeps its value where its slots do
   holds_same : (slots after : List ℤ) (v : Variable) (w : What) (low top : ℕ) → Takes w low top →
-      ((i : ℕ) → low ≤ i → i < top → slot_at after i ≡ slot_at slots i) → Holds has_items slots v w → Holds has_items after v w
+      ((i : ℕ) → low ≤ i → i < top → slot_at after i ≡ slot_at slots i) → Holds has slots v w → Holds has after v w
   holds_same slots after (Constant c) w low top t same h = h
   holds_same slots after (Function f) w low top t same h = h
   holds_same slots after (Stream first count) w low top t same h = h
@@ -60,7 +60,7 @@ module _ (has_items : ℕ → Type 0) where
 
     -- slots from the top on change
     pub same_below : (top : ℕ) (slots after : List ℤ) (bound : List Binding) (es : List Entry) → Stacked means top es → SameBelow top slots after →
-        Aligned has_items means slots bound es → Aligned has_items means after bound es
+        Aligned has means slots bound es → Aligned has means after bound es
     same_below top slots after [] [] st same h = tt
     same_below top slots after [] (e ∷ es) st same h = elim h [ ]
     same_below top slots after (x ∷ bound) [] st same h = elim h [ ]
@@ -91,18 +91,18 @@ module _ (has_items : ℕ → Type 0) where
 
     -- what a name is found to be, by its declaration and by its binding
     abbrev pub Found : List ℤ → Option Variable → Entity → Type 0
-    Found slots found d = (v : Variable) × (found ≡ Some v) × Holds has_items slots v (means d)
+    Found slots found d = (v : Variable) × (found ≡ Some v) × Holds has slots v (means d)
 
-    found_at : (t : Bool) (slots : List ℤ) (v : Variable) (u : Option Variable) (e : Entry) (rest : Option Entry) (d : Entity) → Holds has_items slots v (means e.entity) →
+    found_at : (t : Bool) (slots : List ℤ) (v : Variable) (u : Option Variable) (e : Entry) (rest : Option Entry) (d : Entity) → Holds has slots v (means e.entity) →
         (entity_of rest ≡ Some d → Found slots u d) →
         entity_of (if t then Some e else rest) ≡ Some d → Found slots (if t then Some v else u) d
     found_at true slots v u e rest d h next is =
         let same : e.entity ≡ d = cc in
-        (v, refl, subst (λ x. Holds has_items slots v (means x)) same h)
+        (v, refl, subst (λ x. Holds has slots v (means x)) same h)
     found_at false slots v u e rest d h next is = next is
 
     pub found : (slots : List ℤ) (bound : List Binding) (es : List Entry) (id : ℕ) (d : Entity) →
-        Aligned has_items means slots bound es → entity_of (lookup es id) ≡ Some d → Found slots (find bound id) d
+        Aligned has means slots bound es → entity_of (lookup es id) ≡ Some d → Found slots (find bound id) d
     found slots [] [] id d h is = absurd (cc)
     found slots [] (e ∷ es) id d h is = elim h [ ]
     found slots (b ∷ bound) [] id d h is = elim h [ ]
@@ -116,7 +116,7 @@ module _ (has_items : ℕ → Type 0) where
     missed_at false v u e rest next is = next is
 
     pub missed : (slots : List ℤ) (bound : List Binding) (es : List Entry) (id : ℕ) →
-        Aligned has_items means slots bound es → lookup es id ≡ None → find bound id ≡ None
+        Aligned has means slots bound es → lookup es id ≡ None → find bound id ≡ None
     missed slots [] [] id h is = refl
     missed slots [] (e ∷ es) id h is = elim h [ ]
     missed slots (b ∷ bound) [] id h is = elim h [ ]
@@ -126,20 +126,20 @@ module _ (has_items : ℕ → Type 0) where
 
     -- what a store does to the slots of a variable, and to the others
     abbrev pub Stores : List ℤ → List ℤ → Variable → Entity → ℕ → ℕ → Type 0
-    Stores slots after u d low above = Holds has_items after u (means d) × SameBelow low slots after × SameFrom above slots after
+    Stores slots after u d low above = Holds has after u (means d) × SameBelow low slots after × SameFrom above slots after
 
     -- A variable is set: the slots change within its own alone, where its new value stands.
     assigned_at : (t : Bool) (top low : ℕ) (slots after : List ℤ) (b : Binding) (bound set_bound : List Binding) (e : Entry) (es : List Entry) (rest : Option Entry) (u : Variable) (d : Entity) →
-        b.id ≡ e.id → Takes (means e.entity) low top → Stacked means low es → Holds has_items slots b.variable (means e.entity) → Aligned has_items means slots bound es →
+        b.id ≡ e.id → Takes (means e.entity) low top → Stacked means low es → Holds has slots b.variable (means e.entity) → Aligned has means slots bound es →
         entity_of (if t then Some e else rest) ≡ Some d →
         ((low2 above : ℕ) → above ≤ top → Takes (means d) low2 above → Stores slots after u d low2 above) →
         (entity_of rest ≡ Some d → TakesIn low d) →
-        (entity_of rest ≡ Some d → ((low2 above : ℕ) → above ≤ low → Takes (means d) low2 above → Stores slots after u d low2 above) → Aligned has_items means after set_bound es) →
-        Aligned has_items means after (if t then bind b.id u bound else b ∷ set_bound) (e ∷ es)
+        (entity_of rest ≡ Some d → ((low2 above : ℕ) → above ≤ low → Takes (means d) low2 above → Stores slots after u d low2 above) → Aligned has means after set_bound es) →
+        Aligned has means after (if t then bind b.id u bound else b ∷ set_bound) (e ∷ es)
     assigned_at true top low slots after b bound set_bound e es rest u d same t st h tail is keep there next =
         let eq : e.entity ≡ d = cc in
         let k = keep low top (omega arith) (subst (λ x. Takes (means x) low top) eq t) in
-        (same, subst (λ x. Holds has_items after u (means x)) (sym eq) k.0, same_below low slots after bound es st k.1 tail)
+        (same, subst (λ x. Holds has after u (means x)) (sym eq) k.0, same_below low slots after bound es st k.1 tail)
     assigned_at false top low slots after b bound set_bound e es rest u d same t st h tail is keep there next =
         let f = there is in
         let le : low ≤ top = takes_below (means e.entity) low top t in
@@ -150,22 +150,22 @@ module _ (has_items : ℕ → Type 0) where
         )
 
     pub assigned : (top : ℕ) (slots after : List ℤ) (bound : List Binding) (es : List Entry) (id : ℕ) (d : Entity) (u : Variable) → Stacked means top es →
-        Aligned has_items means slots bound es → entity_of (lookup es id) ≡ Some d →
+        Aligned has means slots bound es → entity_of (lookup es id) ≡ Some d →
         ((low above : ℕ) → above ≤ top → Takes (means d) low above → Stores slots after u d low above) →
-        Aligned has_items means after (assign bound id u) es
+        Aligned has means after (assign bound id u) es
     assigned top slots after [] [] id d u st h is keep = absurd (cc)
     assigned top slots after [] (e ∷ es) id d u st h is keep = elim h [ ]
     assigned top slots after (b ∷ bound) [] id d u st h is keep = elim h [ ]
     assigned top slots after (b ∷ bound) (e ∷ es) id d u st h is keep =
-        subst (λ x. Aligned has_items means after (if x == id then bind b.id u bound else b ∷ assign bound id u) (e ∷ es)) (sym h.0)
+        subst (λ x. Aligned has means after (if x == id then bind b.id u bound else b ∷ assign bound id u) (e ∷ es)) (sym h.0)
         (assigned_at (e.id == id) top st.0 slots after b bound (assign bound id u) e es (lookup es id) u d h.0 st.1 st.2 h.1 h.2 is keep
         (λ is2. taken st.0 es id d st.2 is2)
         (λ is2 k2. assigned st.0 slots after bound es id d u st.2 h.2 is2 k2))
 
     -- a scalar is declared, in the next slot
     pub declared_scalar : (top : ℕ) (slots : List ℤ) (bound : List Binding) (es : List Entry) (e : Entry) (v : ℤ) → top < length slots →
-        means e.entity ≡ what.Scalar top → Stacked means top es → Aligned has_items means slots bound es →
-        Aligned has_items means (set slots top v) (bind e.id (Scalar v) bound) (e ∷ es)
+        means e.entity ≡ what.Scalar top → Stacked means top es → Aligned has means slots bound es →
+        Aligned has means (set slots top v) (bind e.id (Scalar v) bound) (e ∷ es)
     declared_scalar top slots bound es e v lt is st h = (
       refl,
       (top, is, get_or-set_same slots top v (pos 0) lt),
@@ -183,8 +183,8 @@ module _ (has_items : ℕ → Type 0) where
 
     -- a scalar is set
     pub set_scalar : (top : ℕ) (slots : List ℤ) (bound : List Binding) (es : List Entry) (id slot : ℕ) (d : Entity) (v : ℤ) → top ≤ length slots →
-        means d ≡ what.Scalar slot → entity_of (lookup es id) ≡ Some d → Stacked means top es → Aligned has_items means slots bound es →
-        Aligned has_items means (set slots slot v) (assign bound id (Scalar v)) es
+        means d ≡ what.Scalar slot → entity_of (lookup es id) ≡ Some d → Stacked means top es → Aligned has means slots bound es →
+        Aligned has means (set slots slot v) (assign bound id (Scalar v)) es
     set_scalar top slots bound es id slot d v fits is there st h =
         assigned top slots (set slots slot v) bound es id d (Scalar v) st h there
         (λ low above le t.
@@ -196,8 +196,8 @@ module _ (has_items : ℕ → Type 0) where
 
     -- an element of an array is set
     pub set_element : (top : ℕ) (slots : List ℤ) (bound : List Binding) (es : List Entry) (id first k : ℕ) (vs : List ℤ) (d : Entity) (x : ℤ) → top ≤ length slots →
-        means d ≡ what.Array first (length vs) → ((i : ℕ) → i < length vs → slot_at slots (first + i) ≡ slot_at vs i) → k < length vs → entity_of (lookup es id) ≡ Some d → Stacked means top es → Aligned has_items means slots bound es →
-        Aligned has_items means (set slots (first + k) x) (assign bound id (Array (set vs k x))) es
+        means d ≡ what.Array first (length vs) → ((i : ℕ) → i < length vs → slot_at slots (first + i) ≡ slot_at vs i) → k < length vs → entity_of (lookup es id) ≡ Some d → Stacked means top es → Aligned has means slots bound es →
+        Aligned has means (set slots (first + k) x) (assign bound id (Array (set vs k x))) es
     set_element top slots bound es id first k vs d x fits is same lt there st h =
         let n : length (set vs k x) ≡ length vs = length-set vs k x in
         assigned top slots (set slots (first + k) x) bound es id d (Array (set vs k x)) st h there
@@ -214,8 +214,8 @@ module _ (has_items : ℕ → Type 0) where
 
     -- an array is declared, in the next slots
     pub declared_array : (top size : ℕ) (slots : List ℤ) (bound : List Binding) (es : List Entry) (e : Entry) → top + size ≤ length slots →
-        means e.entity ≡ what.Array top size → Stacked means top es → Aligned has_items means slots bound es →
-        Aligned has_items means (zeroed slots top size) (bind e.id (Array (replicate size (pos 0))) bound) (e ∷ es)
+        means e.entity ≡ what.Array top size → Stacked means top es → Aligned has means slots bound es →
+        Aligned has means (zeroed slots top size) (bind e.id (Array (replicate size (pos 0))) bound) (e ∷ es)
     declared_array top size slots bound es e fits is st h =
         let n : length (replicate size (pos 0)) ≡ size = length-replicate size (pos 0) in (
           refl,
@@ -227,23 +227,23 @@ module _ (has_items : ℕ → Type 0) where
           same_below top slots (zeroed slots top size) bound es st (λ i below. zeroed_below slots top size fits i below) h,
         )
 
-    pub aligned_length : (slots : List ℤ) (bound : List Binding) (es : List Entry) → Aligned has_items means slots bound es → length bound ≡ length es
+    pub aligned_length : (slots : List ℤ) (bound : List Binding) (es : List Entry) → Aligned has means slots bound es → length bound ≡ length es
     aligned_length slots [] [] h = refl
     aligned_length slots [] (e ∷ es) h = elim h [ ]
     aligned_length slots (b ∷ bound) [] h = elim h [ ]
     aligned_length slots (b ∷ bound) (e ∷ es) h = ap suc (aligned_length slots bound es h.2)
 
-    dropped : (slots : List ℤ) (bound : List Binding) (added es : List Entry) → Aligned has_items means slots bound (added ++ es) →
-        Aligned has_items means slots (drop (length added) bound) es
+    dropped : (slots : List ℤ) (bound : List Binding) (added es : List Entry) → Aligned has means slots bound (added ++ es) →
+        Aligned has means slots (drop (length added) bound) es
     dropped slots bound [] es h = h
     dropped slots [] (e ∷ added) es h = elim h [ ]
     dropped slots (b ∷ bound) (e ∷ added) es h = dropped slots bound added es h.2
 
     -- a scope is left
-    pub left : (slots was : List ℤ) (outer inner : List Binding) (added es : List Entry) → Aligned has_items means was outer es →
-        Aligned has_items means slots inner (added ++ es) → Aligned has_items means slots (leave outer inner) es
+    pub left : (slots was : List ℤ) (outer inner : List Binding) (added es : List Entry) → Aligned has means was outer es →
+        Aligned has means slots inner (added ++ es) → Aligned has means slots (leave outer inner) es
     left slots was outer inner added es o i =
         let a : length outer ≡ length es = aligned_length was outer es o in
         let b : length inner ≡ length (added ++ es) = aligned_length slots inner (added ++ es) i in
         let n : length added ≡ length inner - length outer = omega (arith, a, b, length-append added es) in
-        subst (λ k. Aligned has_items means slots (drop k inner) es) n (dropped slots inner added es i)
+        subst (λ k. Aligned has means slots (drop k inner) es) n (dropped slots inner added es i)

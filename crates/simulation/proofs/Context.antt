@@ -28,7 +28,7 @@ use Rattle.os_code.specs.declared.instr.Instr.TheVariants as instr
 use Rattle.os_code.specs.declared.parts.Parts.{Parts}
 use Rattle.os_code.specs.Machine.{Frame, TaskWindow}
 use Rattle.os_code.specs.Parts.{instr_at}
-use Rattle.simulation.specs.Alignment.{Aligned}
+use Rattle.simulation.specs.Alignment.{Resources, Aligned}
 use Rattle.simulation.specs.Names.{told_at}
 use Rattle.simulation.proofs.Alignment.{Found, found, missed}
 use Rattle.simulation.proofs.Steps.{Store, at, pushed, onto, Meets}
@@ -57,16 +57,19 @@ told_is (r ∷ rs) p w o (suc k, lt, e) = by_case (r.place == p) refl (told_is r
         one-meaning (r ∷ rs) p r.what w o (0, omega arith, here) (suc k, lt, e)
 
 -- What a body works on beside its slots: a function has nothing, and leaves what its caller has; a task has items with
--- these claims; `main` creates activations.
+-- these claims; `main` creates activations, and has some of the code's streams so far.
 pub data Side : Type 0 where
   InFunction : List TaskWindow → List Activation → List ℕ → Side
   InTask : List Claim → Side
-  InMain : Side
+  InMain : (streams later : ℕ) → Side
+
+abbrev pub resources : Side → Resources
+resources (InFunction windows created skips) = record { item = λ item. ⊥; streams = λ first count. ⊥ }
+resources (InTask claims) = record { item = λ item. item < length claims; streams = λ first count. ⊥ }
+resources (InMain streams later) = record { item = λ item. ⊥; streams = λ first count. first + count ≤ streams }
 
 abbrev pub HasItem : Side → ℕ → Type 0
-HasItem (InFunction windows created skips) item = ⊥
-HasItem (InTask claims) item = item < length claims
-HasItem InMain item = ⊥
+HasItem side item = (resources side).item item
 
 -- windows with the elements of items
 abbrev pub Windows : List TaskWindow → List (List ℤ) → Type 0
@@ -78,13 +81,13 @@ Windows (w ∷ ws) (vs ∷ items) = (w.elements ≡ vs) × (w.claim.horizon ≡ 
 abbrev pub Kept : Side → State → Store → Type 0
 Kept (InFunction windows created skips) s m = (m.windows ≡ windows) × (m.created ≡ created) × (m.skips ≡ skips)
 Kept (InTask claims) s m = (map (λ (w : TaskWindow). w.claim) m.windows ≡ claims) × Windows m.windows s.items
-Kept InMain s m = (s.activations ≡ m.created) × (rest : ℕ) × (m.skips ≡ s.skips ++ replicate rest 0)
+Kept (InMain streams later) s m = (s.activations ≡ m.created) × (length s.skips ≡ streams) × (m.skips ≡ s.skips ++ replicate later 0)
 
 -- where a body has ended: what was created
 abbrev pub Made : Side → List Activation → List Activation → Type 0
 Made (InFunction windows created skips) activations made = made ≡ created
 Made (InTask claims) activations made = ⊤
-Made InMain activations made = made ≡ activations
+Made (InMain streams later) activations made = made ≡ activations
 
 -- The code of a call of the function with this place and number.
 abbrev pub IsCallable : Parts → File → (place number params : ℕ) → Type 0
@@ -120,6 +123,8 @@ pub record Context : Type 1 where
   pub owner : Owner
   pub captured : List ℕ
   pub side : Side
+  -- how many scopes are round it
+  pub floor : ℕ
   -- what is in scope round the body in the text, and of it what is in scope round it in the run
   pub round : List Entry
   pub bound : List Entry
@@ -148,11 +153,22 @@ pub agree_rest : (c : Context) (xs ys : List Note) → Agree c (xs ++ ys) → Ag
 agree_rest c [] ys h = h
 agree_rest c (x ∷ xs) ys h = agree_rest c xs ys h.1
 
+-- `osin` and `osout` are the first streams, and are no arrays
+abbrev pub IsBehindFirst : Entity → Type 0
+IsBehindFirst (entity.Streams first count) = 2 ≤ first
+IsBehindFirst _ = ⊤
+
+abbrev pub AreBehindFirst : List Entry → Type 0
+AreBehindFirst [] = ⊤
+AreBehindFirst (e ∷ es) = IsBehindFirst e.entity × AreBehindFirst es
+
 -- a scope of the body: what the body declared, within what is round it
 pub record In (c : Context) (s : Scope) (es : List Entry) : Type 0 where
   pub owner : s.owner ≡ c.owner
   pub captured : s.captured ≡ c.captured
   pub entries : s.entries ≡ es ++ c.round
+  pub deep : c.floor ≤ s.depth
+  pub arrays : AreBehindFirst es
 
 -- a used name
 pub record IsUsed (c : Context) (s : Scope) (n : Name) (u : Use) : Type 0 where
@@ -164,7 +180,7 @@ pub record IsUsed (c : Context) (s : Scope) (n : Name) (u : Use) : Type 0 where
   pub lawful : KeepsAll rules (Used s n u)
   pub besides : c.besides (Used s n u)
 
-kept_rule : (rule : UseRule) (s : Scope) (n : Name) (u : Use) (d : Entity) → entity_of (lookup s.entries n.id) ≡ Some d →
+pub kept_rule : (rule : UseRule) (s : Scope) (n : Name) (u : Use) (d : Entity) → entity_of (lookup s.entries n.id) ≡ Some d →
     violates rule (Used s n u) ≡ false → rule n.id u d ≡ false
 kept_rule rule s n u d is h = sym (ap (if_declared (rule n.id u)) is) ∙ h
 
@@ -185,7 +201,7 @@ used c s es n u ns is h =
 -- What is found in scope is declared in the body, or round it, or in the file.
 abbrev pub Named : Context → List Entry → List ℤ → State → Name → Entity → Type 0
 Named c es slots st n d =
-    ((entity_of (lookup (es ++ c.bound) n.id) ≡ Some d) × Found (HasItem c.side) (means c) slots (find st.bound n.id) d) ⊎ ((find st.bound n.id ≡ None) × FileHas c.code c.file (find c.file.names n.id) d)
+    ((entity_of (lookup (es ++ c.bound) n.id) ≡ Some d) × Found (resources c.side) (means c) slots (find st.bound n.id) d) ⊎ ((find st.bound n.id ≡ None) × FileHas c.code c.file (find c.file.names n.id) d)
 
 -- either a name is declared in the front of a list, or what is behind it counts
 pub split : (es xs ys : List Entry) (id : ℕ) →
@@ -200,18 +216,18 @@ split (e ∷ es) xs ys id = by_case (e.id == id) (split es xs ys id)
     by_case false next = next
 
 pub name : (c : Context) (s : Scope) (es : List Entry) (st : State) (slots : List ℤ) (n : Name) (u : Use) → IsPlain u → In c s es → (k : IsUsed c s n u) →
-    Aligned (HasItem c.side) (means c) slots st.bound (es ++ c.bound) → Named c es slots st n k.entity
+    Aligned (resources c.side) (means c) slots st.bound (es ++ c.bound) → Named c es slots st n k.entity
 name c s es st slots n u plain is k al = by_split (split es c.round c.bound n.id)
   where
     in_text : entity_of (lookup (es ++ c.round) n.id) ≡ Some k.entity
     in_text = subst (λ xs. entity_of (lookup xs n.id) ≡ Some k.entity) is.entries k.is
 
     by_reach : lookup (es ++ c.bound) n.id ≡ lookup c.bound n.id → Reaches c.code c.file c.bound n.id k.entity → Named c es slots st n k.entity
-    by_reach same (inl r) = inl (ap entity_of same ∙ r, found (HasItem c.side) (means c) slots st.bound (es ++ c.bound) n.id k.entity al (ap entity_of same ∙ r))
-    by_reach same (inr r) = inr (missed (HasItem c.side) (means c) slots st.bound (es ++ c.bound) n.id al (same ∙ r.0), r.1)
+    by_reach same (inl r) = inl (ap entity_of same ∙ r, found (resources c.side) (means c) slots st.bound (es ++ c.bound) n.id k.entity al (ap entity_of same ∙ r))
+    by_reach same (inr r) = inr (missed (resources c.side) (means c) slots st.bound (es ++ c.bound) n.id al (same ∙ r.0), r.1)
 
     by_split : (lookup (es ++ c.round) n.id ≡ lookup (es ++ c.bound) n.id) ⊎ ((lookup (es ++ c.round) n.id ≡ lookup c.round n.id) × (lookup (es ++ c.bound) n.id ≡ lookup c.bound n.id)) →
         Named c es slots st n k.entity
-    by_split (inl same) = inl (ap entity_of (sym same) ∙ in_text, found (HasItem c.side) (means c) slots st.bound (es ++ c.bound) n.id k.entity al (ap entity_of (sym same) ∙ in_text))
+    by_split (inl same) = inl (ap entity_of (sym same) ∙ in_text, found (resources c.side) (means c) slots st.bound (es ++ c.bound) n.id k.entity al (ap entity_of (sym same) ∙ in_text))
     by_split (inr same) =
         by_reach same.1 (c.reaches s n u k.entity plain k.lawful k.besides k.is (ap (λ xs. lookup xs n.id) is.entries ∙ same.0))

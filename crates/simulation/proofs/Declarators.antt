@@ -1,5 +1,5 @@
 -- The code of declarators does what they say.
-use Rattle.std.proofs.Common.{◌≡◌, ℕ, ◌+◌, ◌≤◌, ◌&&◌, Bool, true, false, not, List, [], ◌∷◌, ◌++◌, length, set, replicate, Option, Some, None, ℤ, pos, refl, sym, ap, ◌∙◌, subst, arith, length-set}
+use Rattle.std.proofs.Common.{◌≡◌, ℕ, ◌+◌, ◌<◌, ◌≤◌, ◌&&◌, Bool, true, false, not, List, [], ◌∷◌, ◌++◌, length, set, replicate, Option, Some, None, ℤ, pos, refl, sym, ap, ◌∙◌, subst, arith, length-set}
 use Rattle.std.specs.Prelude.{unwrap_or}
 use Rattle.cddf_meaning.specs.Flow.{Ran, given, goes_on}
 use Rattle.cddf_meaning.specs.Run.{Around, run_scalar, array_size, run_array, run_sized, run_declarator, run_declarators}
@@ -30,13 +30,13 @@ use Rattle.simulation.specs.Alignment.{Stacked, slot_at}
 use Rattle.simulation.specs.Declarators.{cleared, named_elsewhere, HasScalar, HasDeclared, HasDeclarators}
 use Rattle.simulation.specs.Expressions.{Stands}
 use Rattle.simulation.proofs.Alignment.{declared_scalar, declared_array}
-use Rattle.simulation.proofs.Context.{HasItem, Kept, Context, means, tells, told_is, Agree, agree_first, agree_rest}
-use Rattle.simulation.proofs.Declares.{means_scalar, means_array, means_in_text, or_first, not_false, size_known, limit_kept, stored_own, in_behind, stacked_behind, size_runs}
-use Rattle.simulation.proofs.Elsewhere.{value_same}
+use Rattle.simulation.proofs.Context.{resources, Kept, Context, means, tells, told_is, Agree, agree_first, agree_rest}
+use Rattle.simulation.proofs.Declares.{means_scalar, scalar_behind, means_array, means_in_text, or_first, not_false, size_known, limit_kept, stored_own, in_behind, stacked_behind, size_runs}
+use Rattle.simulation.proofs.Elsewhere.{value_elsewhere}
 use Rattle.simulation.proofs.Exprs.{Ready, expr_runs}
 use Rattle.simulation.proofs.Flows.{Does, does_from, given_does, settled, AlignedIn, went_on, flows_does}
 use Rattle.simulation.proofs.Slots.{zeroed_length}
-use Rattle.simulation.proofs.Static.{entry, made, declarators_onward}
+use Rattle.simulation.proofs.Static.{entry, made, declarator_onward, declarators_onward}
 use Rattle.simulation.proofs.Steps.{Store, with_slots, at, pushed, Leads, stays, one, leads_on, Meets, acts, push, store_top}
 use Rattle.simulation.proofs.Stores.{kept_slots}
 
@@ -46,10 +46,21 @@ around_of c sites = record { file = c.file; is_control = is_window c.owner; site
 module _ (c : Context) (callers : List Frame) (leaves : Instr) (total : ℕ) (sites : List Site) where
   abbrev pub DeclaratorDoes : tree.DeclaratorTree → Type 1
   DeclaratorDoes d =
+      (s : Scope) (es : List Entry) (st : State) (m : Store) (broke continued from to : ℕ) (stack : List ℤ) (turns : ℕ) (within : List Entry → Type 0) → Ready c s es st m → c.floor < s.depth →
+      Stacked (means c) s.slots (es ++ c.bound) → (after_declarator s d).slots ≤ total → length m.slots ≡ total → Agree c (declarator_notes s d) →
+      HasDeclared c.code (tells c) (tells c d.name.mark.place) d from to →
+      Does c.code (at callers from stack m turns) (settled c callers leaves total to broke continued stack within (entry s d ∷ es)) (run_declarator (around_of c sites) d st turns)
+
+  -- the same, at any depth
+  abbrev pub DeclaratorRuns : tree.DeclaratorTree → Type 1
+  DeclaratorRuns d =
       (s : Scope) (es : List Entry) (st : State) (m : Store) (broke continued from to : ℕ) (stack : List ℤ) (turns : ℕ) (within : List Entry → Type 0) → Ready c s es st m →
       Stacked (means c) s.slots (es ++ c.bound) → (after_declarator s d).slots ≤ total → length m.slots ≡ total → Agree c (declarator_notes s d) →
       HasDeclared c.code (tells c) (tells c d.name.mark.place) d from to →
       Does c.code (at callers from stack m turns) (settled c callers leaves total to broke continued stack within (entry s d ∷ es)) (run_declarator (around_of c sites) d st turns)
+
+  pub at_depth : (d : tree.DeclaratorTree) → DeclaratorRuns d → DeclaratorDoes d
+  at_depth d runs s es st m broke continued from to stack turns within ready deep stacked fits len agree h = runs s es st m broke continued from to stack turns within ready stacked fits len agree h
 
   zeroes : (k p to : ℕ) (stack : List ℤ) (m : Store) (turns : ℕ) → Stands c.code (instr.Push (pos 0) ∷ instr.Store k ∷ []) p to →
       Leads c.code (at callers p stack m turns) (at callers to stack (with_slots m (set m.slots k (pos 0))) turns)
@@ -75,12 +86,18 @@ module _ (c : Context) (callers : List Frame) (leaves : Instr) (total : ℕ) (si
     set_to x = with_slots m (set m.slots s.slots x)
 
     is_set : (n : Name) (x : ℤ) → s.slots + 1 ≤ total → AlignedIn c callers leaves total (set_to x) (bind n.id (Scalar x) st.bound) (scalar_entry n ∷ es)
-    is_set n x fits = declared_scalar (HasItem c.side) (means c) s.slots m.slots st.bound (es ++ c.bound) (scalar_entry n) x (omega (arith, fits, len)) (mean n) stacked ready.aligned
+    is_set n x fits = declared_scalar (resources c.side) (means c) s.slots m.slots st.bound (es ++ c.bound) (scalar_entry n) x (omega (arith, fits, len)) (mean n) stacked ready.aligned
 
     ready_for : (n : Name) (y : ℤ) (m1 : Store) → AlignedIn c callers leaves total m1 (bind n.id (Scalar y) st.bound) (scalar_entry n ∷ es) → Kept c.side (declared n.id (Scalar y) st) m1 →
         Ready c (scalar_scope n) (scalar_entry n ∷ es) (declared n.id (Scalar y) st) m1
     ready_for n y m1 al kept = record {
-      scope = record { owner = ready.scope.owner; captured = ready.scope.captured; entries = ap (λ xs. scalar_entry n ∷ xs) ready.scope.entries };
+      scope = record {
+        owner = ready.scope.owner;
+        captured = ready.scope.captured;
+        entries = ap (λ xs. scalar_entry n ∷ xs) ready.scope.entries;
+        deep = ready.scope.deep;
+        arrays = (scalar_behind s.owner s.slots, ready.scope.arrays);
+      };
       aligned = al;
       kept = kept;
     }
@@ -93,7 +110,7 @@ module _ (c : Context) (callers : List Frame) (leaves : Instr) (total : ℕ) (si
         subst (λ z. Does c.code (at callers end (x ∷ stack) m1 t) (settled c callers leaves total (end + 1) broke continued stack within (scalar_entry n ∷ es)) (goes_on z t)) (sym (stored_own n.id (pos 0) x st))
         (went_on c callers leaves total (scalar_entry n ∷ es) (declared n.id (Scalar x) st) (with_slots m1 (set m1.slots s.slots x)) t (length-set m1.slots s.slots x ∙ len1)
         (kept_slots c.side st m1 (bind n.id (Scalar x) st.bound) (set m1.slots s.slots x) kept1)
-        (declared_scalar (HasItem c.side) (means c) s.slots m1.slots st.bound (es ++ c.bound) (scalar_entry n) x (omega (arith, fits, len1)) (mean n) stacked rest)
+        (declared_scalar (resources c.side) (means c) s.slots m1.slots st.bound (es ++ c.bound) (scalar_entry n) x (omega (arith, fits, len1)) (mean n) stacked rest)
         (store_top c.code callers s.slots end x stack m1 t is))
 
     scalar_does : (n : Name) (first : Option tree.ExprTree) (from to : ℕ) → s.slots + 1 ≤ total → Agree c (value_notes (scalar_scope n) first) →
@@ -118,7 +135,7 @@ module _ (c : Context) (callers : List Frame) (leaves : Instr) (total : ℕ) (si
         let kept1 = kept_slots c.side st m (bind n.id (Scalar y) st.bound) m.slots ready.kept in
         let al1 : AlignedIn c callers leaves total m (bind n.id (Scalar y) st.bound) (scalar_entry n ∷ es) = (refl, (s.slots, mean n, refl), ready.aligned) in
         given_does inner m (λ x. goes_on (stored inner n.id x.value) x.turns) refl (kept_slots c.side st m (bind n.id (Scalar (pos 0)) st.bound) m.slots ready.kept)
-        (subst (Meets c.code (at callers from stack m turns) (pushed callers end stack m)) (value_same c.file st n.id (Scalar y) (Scalar (pos 0)) e turns apart)
+        (subst (Meets c.code (at callers from stack m turns) (pushed callers end stack m)) (value_elsewhere c.file st n.id (Scalar y) (Scalar (pos 0)) e turns apart)
         (expr_runs c callers (scalar_scope n) (scalar_entry n ∷ es) other m (ready_for n y m al1 kept1) e from end stack turns agree h))
         (λ x u q. first_stored n x.value m end x.turns fits ready.aligned len ready.kept is)
 
@@ -135,15 +152,21 @@ module _ (c : Context) (callers : List Frame) (leaves : Instr) (total : ℕ) (si
         (subst (λ j. Declares from to (array_entry n k ∷ es) (goes_on (declared n.id (Array (replicate j (pos 0))) st) turns)) (sym same)
         (went_on c callers leaves total (array_entry n k ∷ es) (declared n.id (Array (replicate k (pos 0))) st) m1 turns (zeroed_length m.slots s.slots k fits2 ∙ len)
         (kept_slots c.side st m (bind n.id (Array (replicate k (pos 0))) st.bound) (zeroed m.slots s.slots k) ready.kept)
-        (declared_array (HasItem c.side) (means c) s.slots k m.slots st.bound (es ++ c.bound) (array_entry n k) fits2 (means_array c.owner c.captured s.slots k) stacked ready.aligned)
+        (declared_array (resources c.side) (means c) s.slots k m.slots st.bound (es ++ c.bound) (array_entry n k) fits2 (means_array c.owner c.captured s.slots k) stacked ready.aligned)
         (subst (λ q. Leads c.code (at callers from stack m turns) (at callers q stack m1 turns)) h.1
         (one c.code (acts c.code (at callers from stack m turns) (instr.Zero s.slots k) h.0)))))
 
+  pub told : (s : Scope) (d : tree.DeclaratorTree) → Agree c (declarator_notes s d) → tells c d.name.mark.place ≡ meaning (declared_entity s d)
+  told s d agree = told_is c.names d.name.mark.place (meaning (declared_entity s d)) c.ordered agree.0.1.0
+
+  pub scalar_done : (n : Name) (first : Option tree.ExprTree) → DeclaratorRuns (record { name = n; size = None; stream = false; first = first })
+  scalar_done n first s es st m broke continued from to stack turns within ready stacked fits len agree h =
+      let d : tree.DeclaratorTree = record { name = n; size = None; stream = false; first = first } in
+      scalar_does s es st m broke continued stack turns within ready stacked len n first from to fits agree.1
+      (subst (λ w. HasDeclared c.code (tells c) w d from to) (told s d agree ∙ means_in_text s.owner s.slots) h)
+
   -- the declarators that only `main` has
   module _ (control : c.owner ≡ owner.OfMain → (d : tree.DeclaratorTree) → DeclaratorDoes d) where
-    told : (s : Scope) (d : tree.DeclaratorTree) → Agree c (declarator_notes s d) → tells c d.name.mark.place ≡ meaning (declared_entity s d)
-    told s d agree = told_is c.names d.name.mark.place (meaning (declared_entity s d)) c.ordered agree.0.1.0
-
     main_stream : (s : Scope) → s.owner ≡ c.owner → (true && not (is_outermost s.owner s.depth)) ≡ false → c.owner ≡ owner.OfMain
     main_stream s own h = sym own ∙ by_owner s.owner (not_false (is_outermost s.owner s.depth) h)
       where
@@ -153,15 +176,9 @@ module _ (c : Context) (callers : List Frame) (leaves : Instr) (total : ℕ) (si
         by_owner owner.OfTask e = absurd (cc)
 
     stream_done : (n : Name) (size : Option tree.IndexTree) (first : Option tree.ExprTree) → DeclaratorDoes (record { name = n; size = size; stream = true; first = first })
-    stream_done n size first s es st m broke continued from to stack turns within ready stacked fits len agree h =
+    stream_done n size first s es st m broke continued from to stack turns within ready deep stacked fits len agree h =
         let d : tree.DeclaratorTree = record { name = n; size = size; stream = true; first = first } in
-        control (main_stream s ready.scope.owner agree.0.0.1.1.1.1.1.1.1.0) d s es st m broke continued from to stack turns within ready stacked fits len agree h
-
-    scalar_done : (n : Name) (first : Option tree.ExprTree) → DeclaratorDoes (record { name = n; size = None; stream = false; first = first })
-    scalar_done n first s es st m broke continued from to stack turns within ready stacked fits len agree h =
-        let d : tree.DeclaratorTree = record { name = n; size = None; stream = false; first = first } in
-        scalar_does s es st m broke continued stack turns within ready stacked len n first from to fits agree.1
-        (subst (λ w. HasDeclared c.code (tells c) w d from to) (told s d agree ∙ means_in_text s.owner s.slots) h)
+        control (main_stream s ready.scope.owner agree.0.0.1.1.1.1.1.1.1.0) d s es st m broke continued from to stack turns within ready deep stacked fits len agree h
 
     abbrev ArrayGoal : Form → Name → tree.IndexTree → Scope → List Entry → State → Store → ℕ → ℕ → ℕ → ℕ → List ℤ → ℕ → (List Entry → Type 0) → Type 0
     ArrayGoal f n i s es st m broke continued from to stack turns within =
@@ -184,7 +201,7 @@ module _ (c : Context) (callers : List Frame) (leaves : Instr) (total : ℕ) (si
         (subst (λ w. HasDeclared c.code (tells c) w d from to) (says ∙ ap (λ x. meaning (form_entity s x)) g) h))
 
     sized_done : (n : Name) (i : tree.IndexTree) (first : Option tree.ExprTree) → DeclaratorDoes (record { name = n; size = Some i; stream = false; first = first })
-    sized_done n i first s es st m broke continued from to stack turns within ready stacked fits len agree h = by_owner c.owner refl
+    sized_done n i first s es st m broke continued from to stack turns within ready deep stacked fits len agree h = by_owner c.owner refl
       where
         d : tree.DeclaratorTree
         d = record { name = n; size = Some i; stream = false; first = first }
@@ -199,7 +216,7 @@ module _ (c : Context) (callers : List Frame) (leaves : Instr) (total : ℕ) (si
 
         by_owner : (o : Owner) → c.owner ≡ o →
             Does c.code (at callers from stack m turns) (settled c callers leaves total to broke continued stack within (entry s d ∷ es)) (run_declarator (around_of c sites) d st turns)
-        by_owner owner.OfMain own = control own d s es st m broke continued from to stack turns within ready stacked fits len agree h
+        by_owner owner.OfMain own = control own d s es st m broke continued from to stack turns within ready deep stacked fits len agree h
         by_owner owner.OfFunction own = array_by owner.OfFunction own refl (λ size. refl)
         by_owner owner.OfTask own = array_by owner.OfTask own refl (λ size. refl)
 
@@ -208,19 +225,19 @@ module _ (c : Context) (callers : List Frame) (leaves : Instr) (total : ℕ) (si
       where
         by_parts : (n : Name) (size : Option tree.IndexTree) (stream : Bool) (first : Option tree.ExprTree) → DeclaratorDoes (record { name = n; size = size; stream = stream; first = first })
         by_parts n size true first = stream_done n size first
-        by_parts n None false first = scalar_done n first
+        by_parts n None false first = at_depth (record { name = n; size = None; stream = false; first = first }) (scalar_done n first)
         by_parts n (Some i) false first = sized_done n i first
 
-    pub declarators_does : (ds : List tree.DeclaratorTree) (s : Scope) (es : List Entry) (st : State) (m : Store) (broke continued from to : ℕ) (stack : List ℤ) (turns : ℕ) (within : List Entry → Type 0) → Ready c s es st m →
+    pub declarators_does : (ds : List tree.DeclaratorTree) (s : Scope) (es : List Entry) (st : State) (m : Store) (broke continued from to : ℕ) (stack : List ℤ) (turns : ℕ) (within : List Entry → Type 0) → Ready c s es st m → c.floor < s.depth →
         Stacked (means c) s.slots (es ++ c.bound) → (after_declarators s ds).slots ≤ total → length m.slots ≡ total → Agree c (declarators_notes s ds) → HasDeclarators c.code (tells c) ds from to →
         Does c.code (at callers from stack m turns) (settled c callers leaves total to broke continued stack within (made s ds es)) (run_declarators (around_of c sites) ds st turns)
-    declarators_does [] s es st m broke continued from to stack turns within ready stacked fits len agree h =
+    declarators_does [] s es st m broke continued from to stack turns within ready deep stacked fits len agree h =
         went_on c callers leaves total es st m turns len ready.kept ready.aligned (subst (λ q. Leads c.code (at callers from stack m turns) (at callers q stack m turns)) h stays)
-    declarators_does (d ∷ ds) s es st m broke continued from to stack turns within ready stacked fits len agree h =
+    declarators_does (d ∷ ds) s es st m broke continued from to stack turns within ready deep stacked fits len agree h =
         let s1 = after_declarator s d in
         flows_does c callers leaves total h.0 to broke continued stack within within (entry s d ∷ es) (made s1 ds (entry s d ∷ es)) (run_declarators (around_of c sites) ds) (λ x i. i)
-        (declarator_does d s es st m broke continued from h.0 stack turns within ready stacked (omega (arith, fits, (declarators_onward ds s1).slots)) len
+        (declarator_does d s es st m broke continued from h.0 stack turns within ready deep stacked (omega (arith, fits, (declarators_onward ds s1).slots)) len
         (agree_first c (declarator_notes s d) (declarators_notes s1 ds) agree) h.1)
         (λ st1 m1 t1 e len1 kept1 al1.
-        declarators_does ds s1 (entry s d ∷ es) st1 m1 broke continued h.0 to stack t1 within (record { scope = in_behind c s es d ready.scope; aligned = al1; kept = kept1 })
+        declarators_does ds s1 (entry s d ∷ es) st1 m1 broke continued h.0 to stack t1 within (record { scope = in_behind c s es d ready.scope; aligned = al1; kept = kept1 }) (omega (arith, deep, (declarator_onward s d).depth))
         (stacked_behind c s (es ++ c.bound) d ready.scope.owner stacked) fits len1 (agree_rest c (declarator_notes s d) (declarators_notes s1 ds) agree) h.2)

@@ -23,9 +23,9 @@ use Rattle.os_ast.specs.declared.names.Owner.{Owner}
 use Rattle.os_ast.specs.declared.names.Owner.TheVariants as owner
 use Rattle.os_ast.specs.declared.names.What.{What}
 use Rattle.os_ast.specs.declared.names.What.TheVariants as what
-use Rattle.simulation.specs.Alignment.{Stacked, Takes, Holds}
+use Rattle.simulation.specs.Alignment.{Stacked, Takes, Resources, Holds}
 use Rattle.simulation.proofs.Alignment.{found, missed, stacked_scalar, stacked_window, stacked_array}
-use Rattle.simulation.proofs.Context.{HasItem, Context, means, In, Reaches, split}
+use Rattle.simulation.proofs.Context.{resources, Context, means, IsBehindFirst, In, Reaches, split}
 use Rattle.simulation.proofs.Exprs.{Ready}
 use Rattle.simulation.proofs.Names.{means_constant}
 use Rattle.simulation.proofs.Static.{entry, made, declarator_entries, declarator_onward}
@@ -35,6 +35,11 @@ pub means_scalar : (o : Owner) (xs : List ℕ) (slot : ℕ) → meaning_in o xs 
 means_scalar owner.OfFunction xs slot = refl
 means_scalar owner.OfTask xs slot = refl
 means_scalar owner.OfMain xs slot = refl
+
+pub scalar_behind : (o : Owner) (slot : ℕ) → IsBehindFirst (scalar_entity o slot)
+scalar_behind owner.OfFunction slot = tt
+scalar_behind owner.OfTask slot = tt
+scalar_behind owner.OfMain slot = tt
 
 pub means_array : (o : Owner) (xs : List ℕ) (first size : ℕ) → meaning_in o xs (entity.Array first size) ≡ what.Array first size
 means_array owner.OfFunction xs first size = refl
@@ -61,13 +66,13 @@ means_in_text owner.OfFunction slot = refl
 means_in_text owner.OfTask slot = refl
 means_in_text owner.OfMain slot = refl
 
-no_constant : (has : ℕ → Type 0) (slots : List ℤ) (v : Variable) (x : ℤ) (w : What) → w ≡ what.Constant x → Holds has slots v w → ⊥
+no_constant : (has : Resources) (slots : List ℤ) (v : Variable) (x : ℤ) (w : What) → w ≡ what.Constant x → Holds has slots v w → ⊥
 no_constant has slots (variable_of.Constant y) x w e h = h
 no_constant has slots (variable_of.Function f) x w e h = h
 no_constant has slots (variable_of.Scalar y) x w e h = let z : what.Constant x ≡ what.Scalar h.0 = sym e ∙ h.1 in absurd (cc)
 no_constant has slots (variable_of.Array vs) x w e h = let z : what.Constant x ≡ what.Array h.0 (length vs) = sym e ∙ h.1 in absurd (cc)
 no_constant has slots (variable_of.Window y) x w e h = let z : what.Constant x ≡ what.Window h.0 = sym e ∙ h.1 in absurd (cc)
-no_constant has slots (variable_of.Stream y n) x w e h = let z : what.Constant x ≡ what.Stream y n = sym e ∙ h in absurd (cc)
+no_constant has slots (variable_of.Stream y n) x w e h = let z : what.Constant x ≡ what.Stream y n = sym e ∙ h.0 in absurd (cc)
 no_constant has slots (variable_of.Item k) x w e (_, inl f) = let z : what.Constant x ≡ what.Element k = sym e ∙ f in absurd (cc)
 no_constant has slots (variable_of.Item k) x w e (_, inr f) = let z : what.Constant x ≡ what.View k = sym e ∙ f in absurd (cc)
 
@@ -93,7 +98,7 @@ size_known (Some (pos n)) h = record { size = n; is = refl; within = h }
 pub limit_kept : (n : ℕ) → (leb 1 n && leb n size_limit) ≡ true → within_limit (pos n) ≡ Some n
 limit_kept n h = ap (λ t. if t then Some n else None) h
 
-constant_known : (o : Option Entity) (v : ℤ) → constant_of o ≡ Some v → o ≡ Some (entity.Constant v)
+pub constant_known : (o : Option Entity) (v : ℤ) → constant_of o ≡ Some v → o ≡ Some (entity.Constant v)
 constant_known None v h = absurd (cc)
 constant_known (Some (entity.Constant x)) v h = let e : x ≡ v = cc in ap (λ y. Some (entity.Constant y)) e
 constant_known (Some (entity.Function n k)) v h = absurd (cc)
@@ -113,21 +118,34 @@ stored_own id y x st =
     ap (λ t. stored_in (if t then Some (Scalar y) else find st.bound id) (declared id (Scalar y) st) id x) e
     ∙ ap (λ t. record st { bound = if t then bind id (Scalar x) st.bound else record { id = id; variable = Scalar y } ∷ assign st.bound id (Scalar x) }) e
 
+form_behind : (s : Scope) (f : Form) → IsBehindFirst (form_entity s f)
+form_behind s form_of.Scalar = scalar_behind s.owner s.slots
+form_behind s (form_of.Array size) = tt
+form_behind s form_of.Window = tt
+form_behind s form_of.Stream = tt
+form_behind s (form_of.Streams size) = omega arith
+
 module _ (c : Context) where
   -- the scope behind a declarator
   pub in_behind : (s : Scope) (es : List Entry) (d : tree.DeclaratorTree) → In c s es → In c (after_declarator s d) (entry s d ∷ es)
   in_behind s es d is =
       let o = declarator_onward s d in
-      record { owner = o.owner ∙ is.owner; captured = o.captured ∙ is.captured; entries = declarator_entries s d ∙ ap (λ xs. entry s d ∷ xs) is.entries }
+      record {
+        owner = o.owner ∙ is.owner;
+        captured = o.captured ∙ is.captured;
+        entries = declarator_entries s d ∙ ap (λ xs. entry s d ∷ xs) is.entries;
+        deep = omega (arith, o.depth, is.deep);
+        arrays = (form_behind s (form s d), is.arrays);
+      }
 
   stacked_form : (s : Scope) (es : List Entry) (id : ℕ) (f : Form) → s.owner ≡ c.owner → Stacked (means c) s.slots es →
       Stacked (means c) (taken s f).slots (record { id = id; depth = (taken s f).depth; entity = form_entity s f } ∷ es)
   stacked_form s es id form_of.Scalar own st =
-      stacked_scalar (HasItem c.side) (means c) s.slots es (record { id = id; depth = s.depth; entity = scalar_entity s.owner s.slots }) (ap (λ o. meaning_in c.owner c.captured (scalar_entity o s.slots)) own ∙ means_scalar c.owner c.captured s.slots) st
+      stacked_scalar (resources c.side) (means c) s.slots es (record { id = id; depth = s.depth; entity = scalar_entity s.owner s.slots }) (ap (λ o. meaning_in c.owner c.captured (scalar_entity o s.slots)) own ∙ means_scalar c.owner c.captured s.slots) st
   stacked_form s es id (form_of.Array size) own st =
-      stacked_array (HasItem c.side) (means c) s.slots (unwrap_or size 0) es (record { id = id; depth = s.depth; entity = entity.Array s.slots (unwrap_or size 0) }) (means_array c.owner c.captured s.slots (unwrap_or size 0)) st
+      stacked_array (resources c.side) (means c) s.slots (unwrap_or size 0) es (record { id = id; depth = s.depth; entity = entity.Array s.slots (unwrap_or size 0) }) (means_array c.owner c.captured s.slots (unwrap_or size 0)) st
   stacked_form s es id form_of.Window own st =
-      stacked_window (HasItem c.side) (means c) s.slots es (record { id = id; depth = s.depth; entity = entity.Window s.slots }) (means_window c.owner c.captured s.slots) st
+      stacked_window (resources c.side) (means c) s.slots es (record { id = id; depth = s.depth; entity = entity.Window s.slots }) (means_window c.owner c.captured s.slots) st
   stacked_form s es id form_of.Stream own st =
       (s.slots, subst (λ w. Takes w s.slots s.slots) (sym (means_stream c.owner c.captured (2 + s.streams))) (omega arith), st)
   stacked_form s es id (form_of.Streams size) own st =
@@ -146,13 +164,13 @@ module _ (c : Context) where
 
       not_bound : entity_of (lookup (es ++ c.bound) n.id) ≡ Some (entity.Constant v) → ⊥
       not_bound is =
-          let f = found (HasItem c.side) (means c) m.slots st.bound (es ++ c.bound) n.id (entity.Constant v) ready.aligned is in
-          no_constant (HasItem c.side) m.slots f.0 v (means c (entity.Constant v)) (means_constant c.owner c.captured v) f.2
+          let f = found (resources c.side) (means c) m.slots st.bound (es ++ c.bound) n.id (entity.Constant v) ready.aligned is in
+          no_constant (resources c.side) m.slots f.0 v (means c (entity.Constant v)) (means_constant c.owner c.captured v) f.2
 
       by_reach : lookup (es ++ c.bound) n.id ≡ lookup c.bound n.id → Reaches c.code c.file c.bound n.id (entity.Constant v) → variable c.file st n.id ≡ Some (variable_of.Constant v)
       by_reach same (inl r) = absurd (not_bound (ap entity_of same ∙ r))
       by_reach same (inr (none, there)) =
-          ap (or_in_file c.file n.id) (missed (HasItem c.side) (means c) m.slots st.bound (es ++ c.bound) n.id ready.aligned (same ∙ none)) ∙ there
+          ap (or_in_file c.file n.id) (missed (resources c.side) (means c) m.slots st.bound (es ++ c.bound) n.id ready.aligned (same ∙ none)) ∙ there
 
       by_split : (lookup (es ++ c.round) n.id ≡ lookup (es ++ c.bound) n.id) ⊎ ((lookup (es ++ c.round) n.id ≡ lookup c.round n.id) × (lookup (es ++ c.bound) n.id ≡ lookup c.bound n.id)) →
           variable c.file st n.id ≡ Some (variable_of.Constant v)

@@ -1,12 +1,14 @@
--- A value doesn't depend on a name that the expression doesn't have.
-use Rattle.std.proofs.Common.{◌≡◌, ℕ, ◌==◌, ◌||◌, Bool, true, false, if◌then◌else◌, List, [], ◌∷◌, ◌++◌, Option, Some, None, ℤ, pos, Ok, Err, arith, refl, ap, ◌∙◌}
+-- A value depends on no more than what is found for the names of its expression.
+use Rattle.std.proofs.Common.{◌≡◌, ℕ, ◌==◌, ◌||◌, Bool, true, false, if◌then◌else◌, List, [], ◌∷◌, ◌++◌, Option, Some, None, ℤ, pos, Ok, Err, refl, sym, ap, ◌∙◌, subst, eq-eqb, eqb-true}
+use Rattle.std.proofs.lemmas.Bool.{or_right}
 use Rattle.c_int.specs.Operators.{is_zero}
 use Rattle.cddf_meaning.specs.Answers.{Answer, and_then, Left, left, with_turns}
 use Rattle.cddf_meaning.specs.File.{File, variable, or_in_file}
 use Rattle.cddf_meaning.specs.Operators.{binary_value, unary_value}
 use Rattle.cddf_meaning.specs.State.{State, declared}
 use Rattle.cddf_meaning.specs.Value.{call_value, scalar_value, elements, element_at, as_truth, linked, value, place_value, values, chained}
-use Rattle.cddf_meaning.specs.Variables.{find}
+use Rattle.cddf_meaning.specs.Variables.{bind, find}
+use Rattle.cddf_meaning.specs.declared.variable.Binding.{Binding}
 use Rattle.cddf_meaning.specs.declared.variable.Variable.{Variable}
 use Rattle.cddf_meaning.specs.declared.variable.Variable.TheVariants as variable_of
 use Rattle.os_ast.specs.FreeNames.{expr_names, target_names, args_names, links_names}
@@ -15,25 +17,33 @@ use Rattle.os_ast.specs.Trees as tree
 use Rattle.os_ast.specs.declared.expr.Binary.{Binary}
 use Rattle.os_ast.specs.declared.expr.Binary.TheVariants as binary
 
-or_first : (a b : Bool) → (a || b) ≡ false → a ≡ false
-or_first true b h = absurd (cc)
-or_first false b h = refl
+-- what is found for these names is the same
+abbrev pub FindSame : List Binding → List Binding → List ℕ → Type 0
+FindSame one other ids = (id : ℕ) → is_in id ids ≡ true → find one id ≡ find other id
 
-or_rest : (a b : Bool) → (a || b) ≡ false → b ≡ false
-or_rest true b h = absurd (cc)
-or_rest false b h = h
-
-out_first : (id : ℕ) (xs ys : List ℕ) → is_in id (xs ++ ys) ≡ false → is_in id xs ≡ false
-out_first id [] ys h = refl
-out_first id (x ∷ xs) ys h = by_case (x == id) (out_first id xs ys (or_rest (x == id) (is_in id (xs ++ ys)) h)) (or_first (x == id) (is_in id (xs ++ ys)) h)
+is_in_first : (id : ℕ) (xs ys : List ℕ) → is_in id xs ≡ true → is_in id (xs ++ ys) ≡ true
+is_in_first id [] ys h = absurd (cc)
+is_in_first id (x ∷ xs) ys h = by_case (x == id) h (λ k. is_in_first id xs ys k)
   where
-    by_case : (t : Bool) → is_in id xs ≡ false → t ≡ false → (t || is_in id xs) ≡ false
-    by_case true a b = absurd (cc)
-    by_case false a b = a
+    by_case : (t : Bool) → (t || is_in id xs) ≡ true → (is_in id xs ≡ true → is_in id (xs ++ ys) ≡ true) → (t || is_in id (xs ++ ys)) ≡ true
+    by_case true k next = refl
+    by_case false k next = next k
 
-out_rest : (id : ℕ) (xs ys : List ℕ) → is_in id (xs ++ ys) ≡ false → is_in id ys ≡ false
-out_rest id [] ys h = h
-out_rest id (x ∷ xs) ys h = out_rest id xs ys (or_rest (x == id) (is_in id (xs ++ ys)) h)
+is_in_rest : (id : ℕ) (xs ys : List ℕ) → is_in id ys ≡ true → is_in id (xs ++ ys) ≡ true
+is_in_rest id [] ys h = h
+is_in_rest id (x ∷ xs) ys h = or_right (x == id) (is_in id (xs ++ ys)) (is_in_rest id xs ys h)
+
+pub same_first : (one other : List Binding) (xs ys : List ℕ) → FindSame one other (xs ++ ys) → FindSame one other xs
+same_first one other xs ys h id is = h id (is_in_first id xs ys is)
+
+pub same_rest : (one other : List Binding) (xs ys : List ℕ) → FindSame one other (xs ++ ys) → FindSame one other ys
+same_rest one other xs ys h id is = h id (is_in_rest id xs ys is)
+
+pub same_own : (one other : List Binding) (id : ℕ) (ids : List ℕ) → FindSame one other (id ∷ ids) → find one id ≡ find other id
+same_own one other id ids h = h id (ap (λ t. t || is_in id ids) (eq-eqb id id refl))
+
+pub same_others : (one other : List Binding) (id : ℕ) (ids : List ℕ) → FindSame one other (id ∷ ids) → FindSame one other ids
+same_others one other id ids h x is = h x (or_right (id == x) (is_in x ids) is)
 
 linked_same : (op : Binary) (line : ℕ) (a : Left ℤ) (f g : ℕ → Answer (Left ℤ)) → f a.turns ≡ g a.turns → linked op line a f ≡ linked op line a g
 linked_same binary.And line a f g e = ap (λ x. if is_zero a.value then Ok (left (pos 0) a.turns) else and_then x as_truth) e
@@ -55,32 +65,22 @@ linked_same binary.Multiply line a f g e = ap (λ x. and_then x (λ b. with_turn
 linked_same binary.Divide line a f g e = ap (λ x. and_then x (λ b. with_turns b.turns (binary_value binary.Divide line a.value b.value))) e
 linked_same binary.Remainder line a f g e = ap (λ x. and_then x (λ b. with_turns b.turns (binary_value binary.Remainder line a.value b.value))) e
 
-same_then : {A B : Type 0} (a b : Answer A) (f g : A → Answer B) → a ≡ b → ((x : A) → f x ≡ g x) → and_then a f ≡ and_then b g
+pub same_then : {A B : Type 0} (a b : Answer A) (f g : A → Answer B) → a ≡ b → ((x : A) → f x ≡ g x) → and_then a f ≡ and_then b g
 same_then a b f g e h = ap (λ x. and_then x f) e ∙ by_answer b h
   where
     by_answer : (x : Answer _) → ((y : _) → f y ≡ g y) → and_then x f ≡ and_then x g
     by_answer (Ok y) h = h y
     by_answer (Err e) h = refl
 
-module _ (file : File) (s : State) (id : ℕ) (v w : Variable) where
+module _ (file : File) (s : State) (one other : List Binding) where
   abbrev here : State
-  here = declared id v s
+  here = record s { bound = one }
 
   abbrev there : State
-  there = declared id w s
-
-  found_same : (x : ℕ) → (x == id) ≡ false → find here.bound x ≡ find there.bound x
-  found_same x h = by_case (id == x) (sym_eq x h)
-    where
-      sym_eq : (x : ℕ) → (x == id) ≡ false → (id == x) ≡ false
-      sym_eq x h = grind arith
-
-      by_case : (t : Bool) → t ≡ false → (if t then Some v else find s.bound x) ≡ (if t then Some w else find s.bound x)
-      by_case true e = absurd (cc)
-      by_case false e = refl
+  there = record s { bound = other }
 
   -- the state counts for items alone
-  scalar_same : (o : Option Variable) → scalar_value here o ≡ scalar_value there o
+  pub scalar_same : (o : Option Variable) → scalar_value here o ≡ scalar_value there o
   scalar_same None = refl
   scalar_same (Some (variable_of.Constant x)) = refl
   scalar_same (Some (variable_of.Function x)) = refl
@@ -90,7 +90,7 @@ module _ (file : File) (s : State) (id : ℕ) (v w : Variable) where
   scalar_same (Some (variable_of.Stream x y)) = refl
   scalar_same (Some (variable_of.Item x)) = refl
 
-  elements_same : (o : Option Variable) → elements here o ≡ elements there o
+  pub elements_same : (o : Option Variable) → elements here o ≡ elements there o
   elements_same None = refl
   elements_same (Some (variable_of.Constant x)) = refl
   elements_same (Some (variable_of.Function x)) = refl
@@ -101,43 +101,54 @@ module _ (file : File) (s : State) (id : ℕ) (v w : Variable) where
   elements_same (Some (variable_of.Item x)) = refl
 
   mutual
-    pub value_same : (e : tree.ExprTree) (turns : ℕ) → is_in id (expr_names e) ≡ false → value file e here turns ≡ value file e there turns
+    pub value_same : (e : tree.ExprTree) (turns : ℕ) → FindSame one other (expr_names e) → value file e here turns ≡ value file e there turns
     value_same (tree.Number n) turns h = refl
     value_same (tree.Place t) turns h = place_same t turns h
     value_same (tree.ExprTree.Call f args) turns h =
         same_then (values file args here turns) (values file args there turns) (call_value file.calls (variable file here f.id)) (call_value file.calls (variable file there f.id))
-        (values_same args turns (or_rest (f.id == id) (is_in id (args_names args)) h))
-        (λ x. ap (λ o. call_value file.calls (or_in_file file f.id o) x) (found_same f.id (or_first (f.id == id) (is_in id (args_names args)) h)))
+        (values_same args turns (same_others one other f.id (args_names args) h))
+        (λ x. ap (λ o. call_value file.calls (or_in_file file f.id o) x) (same_own one other f.id (args_names args) h))
     value_same (tree.Paren e) turns h = value_same e turns h
     value_same (tree.Unary op m e) turns h = ap (λ a. and_then a (λ n. with_turns n.turns (unary_value op m.line n.value))) (value_same e turns h)
     value_same (tree.Chain l first links) turns h =
-        same_then (value file first here turns) (value file first there turns) (chained file links here) (chained file links there) (value_same first turns (out_first id (expr_names first) (links_names links) h))
-        (λ x. links_same links x (out_rest id (expr_names first) (links_names links) h))
+        same_then (value file first here turns) (value file first there turns) (chained file links here) (chained file links there) (value_same first turns (same_first one other (expr_names first) (links_names links) h))
+        (λ x. links_same links x (same_rest one other (expr_names first) (links_names links) h))
     value_same (tree.Choice c a b) turns h =
-        let front = out_first id (expr_names c ++ expr_names a) (expr_names b) h in
+        let front = same_first one other (expr_names c ++ expr_names a) (expr_names b) h in
         same_then (value file c here turns) (value file c there turns) (λ n. if is_zero n.value then value file b here n.turns else value file a here n.turns) (λ n. if is_zero n.value then value file b there n.turns else value file a there n.turns)
-        (value_same c turns (out_first id (expr_names c) (expr_names a) front))
-        (λ n. ap (λ x. if is_zero n.value then x else value file a here n.turns) (value_same b n.turns (out_rest id (expr_names c ++ expr_names a) (expr_names b) h))
-        ∙ ap (λ x. if is_zero n.value then value file b there n.turns else x) (value_same a n.turns (out_rest id (expr_names c) (expr_names a) front)))
+        (value_same c turns (same_first one other (expr_names c) (expr_names a) front))
+        (λ n. ap (λ x. if is_zero n.value then x else value file a here n.turns) (value_same b n.turns (same_rest one other (expr_names c ++ expr_names a) (expr_names b) h))
+        ∙ ap (λ x. if is_zero n.value then value file b there n.turns else x) (value_same a n.turns (same_rest one other (expr_names c) (expr_names a) front)))
 
-    place_same : (t : tree.TargetTree) (turns : ℕ) → is_in id (target_names t) ≡ false → place_value file t here turns ≡ place_value file t there turns
+    place_same : (t : tree.TargetTree) (turns : ℕ) → FindSame one other (target_names t) → place_value file t here turns ≡ place_value file t there turns
     place_same (tree.Variable n) turns h =
-        ap (λ x. Ok (left x turns)) (ap (λ o. scalar_value here (or_in_file file n.id o)) (found_same n.id (or_first (n.id == id) false h)) ∙ scalar_same (or_in_file file n.id (find there.bound n.id)))
+        ap (λ x. Ok (left x turns)) (ap (λ o. scalar_value here (or_in_file file n.id o)) (same_own one other n.id [] h) ∙ scalar_same (or_in_file file n.id (find there.bound n.id)))
     place_same (tree.Element n m e) turns h =
         same_then (value file e here turns) (value file e there turns) (λ i. with_turns i.turns (element_at (elements here (find here.bound n.id)) m.line i.value)) (λ i. with_turns i.turns (element_at (elements there (find there.bound n.id)) m.line i.value))
-        (value_same e turns (or_rest (n.id == id) (is_in id (expr_names e)) h))
-        (λ i. ap (λ xs. with_turns i.turns (element_at xs m.line i.value)) (ap (elements here) (found_same n.id (or_first (n.id == id) (is_in id (expr_names e)) h)) ∙ elements_same (find there.bound n.id)))
+        (value_same e turns (same_others one other n.id (expr_names e) h))
+        (λ i. ap (λ xs. with_turns i.turns (element_at xs m.line i.value)) (ap (elements here) (same_own one other n.id (expr_names e) h) ∙ elements_same (find there.bound n.id)))
 
-    values_same : (es : tree.Args) (turns : ℕ) → is_in id (args_names es) ≡ false → values file es here turns ≡ values file es there turns
+    pub values_same : (es : tree.Args) (turns : ℕ) → FindSame one other (args_names es) → values file es here turns ≡ values file es there turns
     values_same tree.no_args turns h = refl
     values_same (tree.arg e es) turns h =
         same_then (value file e here turns) (value file e there turns) (λ n. and_then (values file es here n.turns) (λ ns. Ok (left (n.value ∷ ns.value) ns.turns))) (λ n. and_then (values file es there n.turns) (λ ns. Ok (left (n.value ∷ ns.value) ns.turns)))
-        (value_same e turns (out_first id (expr_names e) (args_names es) h))
-        (λ n. ap (λ a. and_then a (λ ns. Ok (left (n.value ∷ ns.value) ns.turns))) (values_same es n.turns (out_rest id (expr_names e) (args_names es) h)))
+        (value_same e turns (same_first one other (expr_names e) (args_names es) h))
+        (λ n. ap (λ a. and_then a (λ ns. Ok (left (n.value ∷ ns.value) ns.turns))) (values_same es n.turns (same_rest one other (expr_names e) (args_names es) h)))
 
-    links_same : (ls : tree.Links) (n : Left ℤ) → is_in id (links_names ls) ≡ false → chained file ls here n ≡ chained file ls there n
+    links_same : (ls : tree.Links) (n : Left ℤ) → FindSame one other (links_names ls) → chained file ls here n ≡ chained file ls there n
     links_same tree.no_links n h = refl
     links_same (tree.link op m e rest) n h =
         same_then (linked op m.line n (value file e here)) (linked op m.line n (value file e there)) (chained file rest here) (chained file rest there)
-        (linked_same op m.line n (value file e here) (value file e there) (value_same e n.turns (out_first id (expr_names e) (links_names rest) h)))
-        (λ k. links_same rest k (out_rest id (expr_names e) (links_names rest) h))
+        (linked_same op m.line n (value file e here) (value file e there) (value_same e n.turns (same_first one other (expr_names e) (links_names rest) h)))
+        (λ k. links_same rest k (same_rest one other (expr_names e) (links_names rest) h))
+
+-- An expression that doesn't have a name gives the same, whatever the name stands for.
+pub value_elsewhere : (file : File) (s : State) (id : ℕ) (v w : Variable) (e : tree.ExprTree) (turns : ℕ) → is_in id (expr_names e) ≡ false → value file e (declared id v s) turns ≡ value file e (declared id w s) turns
+value_elsewhere file s id v w e turns apart = value_same file s (bind id v s.bound) (bind id w s.bound) e turns found
+  where
+    found : FindSame (bind id v s.bound) (bind id w s.bound) (expr_names e)
+    found x is = by_case (id == x) refl
+      where
+        by_case : (t : Bool) → (id == x) ≡ t → (if t then Some v else find s.bound x) ≡ (if t then Some w else find s.bound x)
+        by_case false h = refl
+        by_case true h = let there : is_in x (expr_names e) ≡ false = subst (λ n. is_in n (expr_names e) ≡ false) (eqb-true id x h) apart in let bad : true ≡ false = sym is ∙ there in absurd (cc)

@@ -32,17 +32,17 @@ use Rattle.os_code.specs.declared.instr.Instr.TheVariants as instr
 use Rattle.os_code.specs.declared.parts.Parts.{Parts}
 use Rattle.os_code.specs.Machine.{Frame}
 use Rattle.os_code.specs.Parts.{instr_at}
-use Rattle.simulation.specs.Alignment.{Holds, Aligned}
+use Rattle.simulation.specs.Alignment.{Resources, Holds, Aligned}
 use Rattle.simulation.specs.Expressions.{Stands, operation_of, operation, HasUnary, operated, worked_out, HasLink, HasExpr, HasPlace, HasLinks, HasArgs}
 use Rattle.simulation.specs.Names.{reading, reading_at, calling}
-use Rattle.simulation.proofs.Context.{HasItem, Kept, Context, means, tells, Agree, agree_first, agree_rest, In, used, Named, name, IsCallable}
+use Rattle.simulation.proofs.Context.{resources, Kept, Context, means, tells, Agree, agree_first, agree_rest, In, used, Named, name, IsCallable}
 use Rattle.simulation.proofs.Names.{means_function, reads, reads_at}
 use Rattle.simulation.proofs.Steps.{Store, at, pushed, onto, pushed_all, Leads, stays, leads_on, Meets, gives, halts, meets_then, push, drop_top, jump, jump_zero, unary_step, binary_step}
 
 -- a state of the machine beside one of the meaning, in a scope of the body
 pub record Ready (c : Context) (s : Scope) (es : List Entry) (st : State) (m : Store) : Type 0 where
   pub scope : In c s es
-  pub aligned : Aligned (HasItem c.side) (means c) m.slots st.bound (es ++ c.bound)
+  pub aligned : Aligned (resources c.side) (means c) m.slots st.bound (es ++ c.bound)
   pub kept : Kept c.side st m
 
 not_not : (t : Bool) → truth (is_zero (truth t)) ≡ truth (not t)
@@ -57,27 +57,27 @@ pub record IsCall (c : Context) (slots : List ℤ) (st : State) (n : Name) (coun
   pub named : w ≡ what.Function number
   pub runs : IsCallable c.code c.file place number count
 
-same_count : (a b : ℕ) → not (a == b) ≡ false → a ≡ b
+pub same_count : (a b : ℕ) → not (a == b) ≡ false → a ≡ b
 same_count a b h = eqb-true a b (by_case (a == b) h)
   where
     by_case : (t : Bool) → not t ≡ false → t ≡ true
     by_case true h = refl
     by_case false h = absurd (cc)
 
-no_function : (has : ℕ → Type 0) (slots : List ℤ) (v : Variable) (number : ℕ) (w : What) → w ≡ what.Function number → Holds has slots v w → ⊥
+no_function : (has : Resources) (slots : List ℤ) (v : Variable) (number : ℕ) (w : What) → w ≡ what.Function number → Holds has slots v w → ⊥
 no_function has slots (variable_of.Constant x) number w e h = h
 no_function has slots (variable_of.Function f) number w e h = h
 no_function has slots (variable_of.Scalar x) number w e h = let z : what.Function number ≡ what.Scalar h.0 = sym e ∙ h.1 in absurd (cc)
 no_function has slots (variable_of.Array vs) number w e h = let z : what.Function number ≡ what.Array h.0 (length vs) = sym e ∙ h.1 in absurd (cc)
 no_function has slots (variable_of.Window x) number w e h = let z : what.Function number ≡ what.Window h.0 = sym e ∙ h.1 in absurd (cc)
-no_function has slots (variable_of.Stream x y) number w e h = let z : what.Function number ≡ what.Stream x y = sym e ∙ h in absurd (cc)
+no_function has slots (variable_of.Stream x y) number w e h = let z : what.Function number ≡ what.Stream x y = sym e ∙ h.0 in absurd (cc)
 no_function has slots (variable_of.Item k) number w e (_, inl f) = let z : what.Function number ≡ what.Element k = sym e ∙ f in absurd (cc)
 no_function has slots (variable_of.Item k) number w e (_, inr f) = let z : what.Function number ≡ what.View k = sym e ∙ f in absurd (cc)
 
 is_call : (c : Context) (es : List Entry) (slots : List ℤ) (st : State) (n : Name) (count : ℕ) (d : Entity) → Named c es slots st n d → is_wrong_kind n.id (usage.Called count) d ≡ false →
     has_other_count n.id (usage.Called count) d ≡ false → IsCall c slots st n count (means c d)
 is_call c es slots st n count (entity.Function number params) (inl (there, (v, is, h))) kind other =
-    absurd (no_function (HasItem c.side) slots v number (means c (entity.Function number params)) (means_function c.owner c.captured number params) h)
+    absurd (no_function (resources c.side) slots v number (means c (entity.Function number params)) (means_function c.owner c.captured number params) h)
 is_call c es slots st n count (entity.Function number params) (inr (none, (place, is, runs))) kind other =
     let same : count ≡ params = same_count count params other in
     record {

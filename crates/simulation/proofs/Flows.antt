@@ -21,7 +21,7 @@ use Rattle.os_code.specs.Machine.{Frame}
 use Rattle.os_code.specs.Parts.{instr_at}
 use Rattle.simulation.specs.Alignment.{Aligned}
 use Rattle.simulation.proofs.Alignment.{left}
-use Rattle.simulation.proofs.Context.{Side, InFunction, InTask, InMain, HasItem, Kept, Made, Context, means}
+use Rattle.simulation.proofs.Context.{Side, InFunction, InTask, InMain, resources, Kept, Made, Context, means}
 use Rattle.simulation.proofs.Steps.{Store, at, Behind, Leads, stays, leads_on, Stops, stops_from, Meets, gives, halts, takes_turn, no_turn, jump}
 
 -- where the machine stands behind a statement, by what is known of it
@@ -43,7 +43,7 @@ does_from {code = code} l (ended made h k) = ended made (stops_from code l h) k
 pub kept_made : (side : Side) (st : State) (m : Store) → Kept side st m → Made side st.activations m.created
 kept_made (InFunction windows created skips) st m h = h.1
 kept_made (InTask claims) st m h = tt
-kept_made InMain st m h = sym h.0
+kept_made (InMain streams later) st m h = sym h.0
 
 -- what follows an answer
 pub given_does : {A : Type 0} {code : Parts} {s : machine.State} {end : After} {mid : Behind A} {a : Answer A} (st : State) (m : Store) (next : A → Ran) → mid.created ≡ m.created → Kept end.side st m →
@@ -70,7 +70,7 @@ branched callers fails to stack m = record {
 
 module _ (c : Context) (callers : List Frame) (leaves : Instr) (total : ℕ) where
   abbrev pub AlignedIn : Store → List Binding → List Entry → Type 0
-  AlignedIn m bound es = Aligned (HasItem c.side) (means c) m.slots bound (es ++ c.bound)
+  AlignedIn m bound es = Aligned (resources c.side) (means c) m.slots bound (es ++ c.bound)
 
   -- what is known behind a statement: where nothing leaves it, what is in scope behind it
   abbrev pub Placed : (List Entry → Type 0) → List Entry → Store → List Binding → Flow → Type 0
@@ -138,12 +138,12 @@ module _ (c : Context) (callers : List Frame) (leaves : Instr) (total : ℕ) whe
   kept_bound : (side : Side) (st : State) (m : Store) (bound : List Binding) → Kept side st m → Kept side (record st { bound = bound }) m
   kept_bound (InFunction windows created skips) st m bound h = h
   kept_bound (InTask claims) st m bound h = h
-  kept_bound InMain st m bound h = h
+  kept_bound (InMain streams later) st m bound h = h
 
   left_in : (m : Store) (was : Store) (outer inner : List Binding) (x es : List Entry) → Extends x es → AlignedIn was outer es → AlignedIn m inner x → AlignedIn m (leave outer inner) es
   left_in m was outer inner x es (added, e) o h =
-      left (HasItem c.side) (means c) m.slots was.slots outer inner added (es ++ c.bound) o
-      (subst (λ y. Aligned (HasItem c.side) (means c) m.slots inner y) (ap (λ y. y ++ c.bound) e ∙ append_assoc added es c.bound) h)
+      left (resources c.side) (means c) m.slots was.slots outer inner added (es ++ c.bound) o
+      (subst (λ y. Aligned (resources c.side) (means c) m.slots inner y) (ap (λ y. y ++ c.bound) e ∙ append_assoc added es c.bound) h)
 
   -- a scope of its own
   pub scope_does : {s : machine.State} {r : Ran} (outer : State) (was : Store) (next broke continued : ℕ) (stack : List ℤ) (inner : List Entry → Type 0) (after es : List Entry) →

@@ -40,9 +40,10 @@ use Rattle.simulation.specs.Expressions.{Stands}
 use Rattle.simulation.specs.Names.{told_at}
 use Rattle.simulation.specs.Statements.{HasStmts}
 use Rattle.simulation.proofs.Alignment.{stacked_scalar}
-use Rattle.simulation.proofs.Context.{InFunction, HasItem, Kept, Context, means, Agree, In, FileHas, IsCallable}
-use Rattle.simulation.proofs.Declares.{means_scalar}
+use Rattle.simulation.proofs.Context.{InFunction, resources, Kept, Context, means, Agree, In, FileHas, IsCallable}
+use Rattle.simulation.proofs.Declares.{means_scalar, scalar_behind}
 use Rattle.simulation.proofs.Flows.{Does, went, ended, settled, around}
+use Rattle.simulation.proofs.Owning.{nothing, all_own_nothing}
 use Rattle.simulation.proofs.Static.{made_all}
 use Rattle.simulation.proofs.Steps.{Store, with_slots, at, pushed, onto, Leads, one, leads_on, Stops, Meets, gives, halts, meets_from, acts, push, takes_turn, no_turn}
 use Rattle.simulation.proofs.Stmts.{stmts_does}
@@ -54,7 +55,7 @@ onto_is [] st = refl
 onto_is (v ∷ vs) st =
     onto_is vs (v ∷ st) ∙ sym (append_assoc (reverse vs) (v ∷ []) st) ∙ ap (λ xs. xs ++ st) (sym (reverse_onto vs v []))
 
-popped : (vs st : List ℤ) (n : ℕ) (go : List ℤ → List ℤ → Progress) → n ≡ length vs → pop_many n (onto vs st) go ≡ go vs st
+pub popped : (vs st : List ℤ) (n : ℕ) (go : List ℤ → List ℤ → Progress) → n ≡ length vs → pop_many n (onto vs st) go ≡ go vs st
 popped vs st n go is =
     let long : length (reverse vs) ≡ length vs = length-reverse vs in
     let le : n ≤ length (reverse vs) = omega (arith, long, is) in
@@ -77,11 +78,21 @@ pub params_slots : (ns : List Name) (s : Scope) → (after_params s ns).slots �
 params_slots [] s = omega arith
 params_slots (n ∷ ns) s = let h = params_slots ns (after_param s n) in omega (arith, h)
 
+params_depth : (ns : List Name) (s : Scope) → (after_params s ns).depth ≡ s.depth
+params_depth [] s = refl
+params_depth (n ∷ ns) s = params_depth ns (after_param s n)
+
 module _ (c : Context) where
   pub params_in : (ns : List Name) (s : Scope) (es : List Entry) → In c s es → In c (after_params s ns) (made_params s ns es)
   params_in [] s es is = is
   params_in (n ∷ ns) s es is =
-      params_in ns (after_param s n) (param_entry s n ∷ es) (record { owner = is.owner; captured = is.captured; entries = ap (λ xs. param_entry s n ∷ xs) is.entries })
+      params_in ns (after_param s n) (param_entry s n ∷ es) (record {
+        owner = is.owner;
+        captured = is.captured;
+        entries = ap (λ xs. param_entry s n ∷ xs) is.entries;
+        deep = is.deep;
+        arrays = (scalar_behind s.owner s.slots, is.arrays);
+      })
 
   param_means : (s : Scope) → s.owner ≡ c.owner → means c (scalar_entity s.owner s.slots) ≡ what.Scalar s.slots
   param_means s own = ap (λ o. meaning_in c.owner c.captured (scalar_entity o s.slots)) own ∙ means_scalar c.owner c.captured s.slots
@@ -89,12 +100,12 @@ module _ (c : Context) where
   pub params_stacked : (ns : List Name) (s : Scope) (es : List Entry) → s.owner ≡ c.owner → Stacked (means c) s.slots (es ++ c.bound) → Stacked (means c) (after_params s ns).slots (made_params s ns es ++ c.bound)
   params_stacked [] s es own st = st
   params_stacked (n ∷ ns) s es own st =
-      params_stacked ns (after_param s n) (param_entry s n ∷ es) own (stacked_scalar (HasItem c.side) (means c) s.slots (es ++ c.bound) (param_entry s n) (param_means s own) st)
+      params_stacked ns (after_param s n) (param_entry s n ∷ es) own (stacked_scalar (resources c.side) (means c) s.slots (es ++ c.bound) (param_entry s n) (param_means s own) st)
 
   -- parameters stand in the first slots
   pub params_aligned : (ns : List Name) (vs slots : List ℤ) (s : Scope) (es : List Entry) (bound : List Binding) → s.owner ≡ c.owner → length vs ≡ length ns →
-      ((i : ℕ) → i < length vs → slot_at slots (s.slots + i) ≡ slot_at vs i) → Aligned (HasItem c.side) (means c) slots bound (es ++ c.bound) →
-      Aligned (HasItem c.side) (means c) slots (bind_params ns vs bound) (made_params s ns es ++ c.bound)
+      ((i : ℕ) → i < length vs → slot_at slots (s.slots + i) ≡ slot_at vs i) → Aligned (resources c.side) (means c) slots bound (es ++ c.bound) →
+      Aligned (resources c.side) (means c) slots (bind_params ns vs bound) (made_params s ns es ++ c.bound)
   params_aligned [] vs slots s es bound own len same al = al
   params_aligned (n ∷ ns) [] slots s es bound own len same al = absurd (omega (arith, len))
   params_aligned (n ∷ ns) (v ∷ vs) slots s es bound own len same al =
@@ -136,6 +147,7 @@ module _ (code : Parts) (file : File) (falls : CallsFall file) (names : List Res
     owner = owner.OfFunction;
     captured = [];
     side = InFunction m.windows m.created m.skips;
+    floor = 0;
     round = es;
     bound = [];
     besides = λ n. ⊤;
@@ -181,13 +193,13 @@ module _ (code : Parts) (file : File) (falls : CallsFall file) (names : List Res
     pub slots : (after_stmts (after_params s (param_names f.params)) f.body).slots ≤ u.slots
 
   pub function_runs : (f : tree.FunctionTree) (number : ℕ) (s : Scope) (u : CodeUnit) (callers : List Frame) (args : List ℤ) (p : ℕ) (stack : List ℤ) (m : Store) (turns : ℕ) →
-      AreStmts f.body → s.owner ≡ owner.OfFunction → s.captured ≡ [] → s.slots ≡ 0 → s.entries ≡ es →
+      AreStmts f.body → 0 < s.depth → s.owner ≡ owner.OfFunction → s.captured ≡ [] → s.slots ≡ 0 → s.entries ≡ es →
       ((m : Store) → Agree (function_context m) (stmts_notes (after_params s (param_names f.params)) f.body)) → IsFunctionCode f s u → unit_at code number ≡ Some u → length args ≡ length (param_names f.params) →
       instr_at code p ≡ Some instr.Turn → instr_at code (p + 1) ≡ Some (instr.Call number) →
       Meets code (at callers p (onto args stack) m turns) (pushed callers (p + 1 + 1) stack m) (call_function file f args turns)
   unfolding act
-  function_runs f number s u callers args p stack m zero is own caps none here agree h unit len at_turn at_call = halts (no_turn code callers p (onto args stack) m at_turn)
-  function_runs f number s u callers args p stack m (suc turns) is own caps none here agree h unit len at_turn at_call =
+  function_runs f number s u callers args p stack m zero is deep own caps none here agree h unit len at_turn at_call = halts (no_turn code callers p (onto args stack) m at_turn)
+  function_runs f number s u callers args p stack m (suc turns) is deep own caps none here agree h unit len at_turn at_call =
       let ns = param_names f.params in
       let c = function_context m in
       let s1 = after_params s ns in
@@ -197,17 +209,17 @@ module _ (code : Parts) (file : File) (falls : CallsFall file) (names : List Res
       let zeros : length (replicate (u.slots - u.args) (pos 0)) ≡ u.slots - u.args = length-replicate (u.slots - u.args) (pos 0) in
       let sum : length (frame_slots u args) ≡ length args + length (replicate (u.slots - u.args) (pos 0)) = length-append args (replicate (u.slots - u.args) (pos 0)) in
       let n_slots : length m1.slots ≡ u.slots = omega (arith, n_args, h.room, zeros, sum) in
-      let is_in : In c s [] = record { owner = own; captured = caps; entries = here } in
+      let is_in : In c s [] = record { owner = own; captured = caps; entries = here; deep = omega arith; arrays = tt } in
       meets_from code (takes_turn code callers p (onto args stack) m turns at_turn)
       (meets_from code (one code (acts code (at callers (p + 1) (onto args stack) m turns) (instr.Call number) at_call
       ∙ ap (λ o. or_stuck o (calls (at callers (p + 1) (onto args stack) m turns))) unit
       ∙ popped args stack u.args (λ args rest. Going (at (record { place = p + 1 + 1; stack = rest; slots = m.slots } ∷ callers) u.start [] (with_slots m (frame_slots u args)) turns)) n_args))
       (returns callers m (p + 1 + 1) stack u.slots h.end h.last (made_params s ns []) (made_all s1 f.body (made_params s ns [])) h.off
-      (stmts_does c (caller ∷ callers) instr.Return u.slots [] [] (λ e d. absurd (cc)) (λ e mark cs a. absurd (cc)) (λ e mark t arrow x. absurd (cc)) is s1 (made_params s ns []) (state_of (bind_params ns args []) []) m1 h.end h.end h.end u.start h.end [] turns
+      (stmts_does c (caller ∷ callers) instr.Return u.slots [] [] nothing (λ e d. absurd (cc)) (λ e mark cs a. absurd (cc)) (λ e mark t arrow x. absurd (cc)) is s1 (made_params s ns []) (state_of (bind_params ns args []) []) m1 h.end h.end h.end u.start h.end [] turns
       (record {
         scope = params_in c ns s [] is_in;
         aligned = params_aligned c ns args (frame_slots u args) s [] [] own len
             (λ i lt. let e : s.slots + i ≡ i = omega (arith, none) in ap (λ k. slot_at (frame_slots u args) k) e ∙ get_or_append_left args (replicate (u.slots - u.args) (pos 0)) (pos 0) i lt) tt;
         kept = (refl, refl, refl);
-      })
-      (params_stacked c ns s [] own tt) h.slots n_slots (agree m) h.body)))
+      }) (omega (arith, deep, params_depth ns s))
+      (params_stacked c ns s [] own tt) h.slots n_slots (agree m) (all_own_nothing f.body s1) h.body)))

@@ -29,7 +29,7 @@ use Rattle.os_code.specs.Parts.{instr_at}
 use Rattle.simulation.specs.Alignment.{Holds, slot_at}
 use Rattle.simulation.specs.Expressions.{Stands}
 use Rattle.simulation.specs.Names.{reading, reading_at, checking_at}
-use Rattle.simulation.proofs.Context.{Side, InFunction, InTask, InMain, HasItem, Windows, Kept, FileHas, Context, means, Named}
+use Rattle.simulation.proofs.Context.{Side, InFunction, InTask, InMain, HasItem, resources, Windows, Kept, FileHas, Context, means, Named}
 use Rattle.simulation.proofs.Steps.{Store, at, pushed, Leads, stays, one, leads_on, Meets, gives, halts, meets_in, meets_then, checked_index, checks, acts, push, load}
 
 -- What declarations mean that mean the same in every body.
@@ -68,7 +68,7 @@ windows_length (w ∷ ws) (vs ∷ items) h = let n = windows_length ws items h.3
 
 pub window_of : (side : Side) (st : State) (m : Store) (k : ℕ) → HasItem side k → Kept side st m → HasWindow m.windows (item_elements st k) k
 window_of (InFunction windows created skips) st m k has kept = elim has [ ]
-window_of InMain st m k has kept = elim has [ ]
+window_of (InMain streams later) st m k has kept = elim has [ ]
 window_of (InTask claims) st m k has kept =
     let a : length (map (λ (w : TaskWindow). w.claim) m.windows) ≡ length m.windows = length-map m.windows (λ (w : TaskWindow). w.claim) in
     let b : length (map (λ (w : TaskWindow). w.claim) m.windows) ≡ length claims = ap length kept.0 in
@@ -153,7 +153,7 @@ module _ (code : Parts) (callers : List Frame) where
           ap (λ b. or_trap (at callers (from + 1) (pos 0 ∷ stack) m turns) 4 line (if b then Some 0 else None) (λ k. Going (at callers (from + 1 + 1) (slice_index_or has.window.elements k (pos 0) ∷ stack) m turns))) lt
 
 module _ (c : Context) (callers : List Frame) (es : List Entry) (st : State) (m : Store) where
-  by_variable : (v : Variable) (w : What) (line from to : ℕ) (stack : List ℤ) (turns : ℕ) → Holds (HasItem c.side) m.slots v w → Kept c.side st m →
+  by_variable : (v : Variable) (w : What) (line from to : ℕ) (stack : List ℤ) (turns : ℕ) → Holds (resources c.side) m.slots v w → Kept c.side st m →
       Stands c.code (reading w line) from to → Leads c.code (at callers from stack m turns) (at callers to (scalar_value st (Some v) ∷ stack) m turns)
   by_variable (Constant x) w line from to stack turns h kept is = elim h [ ]
   by_variable (Function f) w line from to stack turns h kept is = elim h [ ]
@@ -166,7 +166,7 @@ module _ (c : Context) (callers : List Frame) (es : List Entry) (st : State) (m 
   by_variable (Window horizon) w line from to stack turns h kept is =
       pushes c.code callers (pos 0) from to stack m turns (subst (λ y. Stands c.code (reading y line) from to) h.1 is)
   by_variable (Stream first count) w line from to stack turns h kept is =
-      pushes c.code callers (pos 0) from to stack m turns (subst (λ y. Stands c.code (reading y line) from to) h is)
+      pushes c.code callers (pos 0) from to stack m turns (subst (λ y. Stands c.code (reading y line) from to) h.0 is)
   by_variable (Item k) w line from to stack turns (has, inl e) kept is =
       item_first c.code callers (item_elements st k) k line from to stack m turns (window_of c.side st m k has kept) (subst (λ y. Stands c.code (reading y line) from to) e is)
   by_variable (Item k) w line from to stack turns (has, inr e) kept is =
@@ -233,7 +233,7 @@ module _ (c : Context) (callers : List Frame) (es : List Entry) (st : State) (m 
   same_none : (b : Bool) (w : What) (line : ℕ) → ((x : Bool) → fetched_by x w line ≡ fetched_by x (what.Constant (pos 0)) line) → fetched_by b w line ≡ fetched_by b (what.Constant (pos 0)) line
   same_none b w line h = h b
 
-  by_variable_at : (b : Bool) (v : Variable) (w : What) (line p : ℕ) (i : ℤ) (stack : List ℤ) (turns : ℕ) → Holds (HasItem c.side) m.slots v w → Kept c.side st m →
+  by_variable_at : (b : Bool) (v : Variable) (w : What) (line p : ℕ) (i : ℤ) (stack : List ℤ) (turns : ℕ) → Holds (resources c.side) m.slots v w → Kept c.side st m →
       instr_at c.code p ≡ Some (fetched_by b w line) → Fetches b (Some v) p i stack turns line
   by_variable_at b (Constant x) w line p i stack turns h kept is = elim h [ ]
   by_variable_at b (Function f) w line p i stack turns h kept is = elim h [ ]
@@ -243,8 +243,8 @@ module _ (c : Context) (callers : List Frame) (es : List Entry) (st : State) (m 
   by_variable_at false (Array vs) w line p i stack turns h kept is = check_at c.code callers (length vs) line p i stack m turns (is ∙ ap (λ y. Some (checking_at y line)) h.1)
   by_variable_at true (Window x) w line p i stack turns h kept is = nothing_at true w (Some (Window x)) line p i stack turns refl (ap (λ y. reading_at y line) h.1) is
   by_variable_at false (Window x) w line p i stack turns h kept is = nothing_at false w (Some (Window x)) line p i stack turns refl (ap (λ y. checking_at y line) h.1) is
-  by_variable_at true (Stream x y) w line p i stack turns h kept is = nothing_at true w (Some (Stream x y)) line p i stack turns refl (ap (λ z. reading_at z line) h) is
-  by_variable_at false (Stream x y) w line p i stack turns h kept is = nothing_at false w (Some (Stream x y)) line p i stack turns refl (ap (λ z. checking_at z line) h) is
+  by_variable_at true (Stream x y) w line p i stack turns h kept is = nothing_at true w (Some (Stream x y)) line p i stack turns refl (ap (λ z. reading_at z line) h.0) is
+  by_variable_at false (Stream x y) w line p i stack turns h kept is = nothing_at false w (Some (Stream x y)) line p i stack turns refl (ap (λ z. checking_at z line) h.0) is
   by_variable_at b (Item k) w line p i stack turns (has, inl e) kept is = item_at b k w line p i stack turns has kept (ap (λ y. fetched_by b y line) e) is
   by_variable_at b (Item k) w line p i stack turns (has, inr e) kept is = item_at b k w line p i stack turns has kept (ap (λ y. fetched_by b y line) e ∙ same_view b k line) is
 

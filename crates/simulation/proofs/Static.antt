@@ -1,33 +1,44 @@
 -- What a statement does to the scope of the text.
-use Rattle.std.proofs.Common.{◌≡◌, ◌≤◌, List, [], ◌∷◌, ◌++◌, refl, sym, ap, ◌∙◌, arith, append_assoc}
+use Rattle.std.proofs.Common.{◌≡◌, ◌≤◌, ℕ, suc, List, [], ◌∷◌, ◌++◌, refl, sym, ap, ◌∙◌, arith, append_assoc}
+use Rattle.os_ast.specs.Captured.{captured, slots_of}
 use Rattle.os_ast.specs.Leveled.{IsStmt}
-use Rattle.os_ast.specs.Names.{Scope, enter, in_loop}
+use Rattle.os_ast.specs.Names.{Scope, declare, enter, in_loop}
+use Rattle.os_ast.specs.Notes.Clauses.{with_items, in_task, in_task_body, captured_in, item_entity}
 use Rattle.os_ast.specs.Notes.Declarators.{after_declarator, after_declarators, after_start, taken, form, declared_entity}
 use Rattle.os_ast.specs.Notes.Statements.{after_stmt, after_stmts}
+use Rattle.os_ast.specs.Parts.{Part, Item, Private, parts, item_name}
 use Rattle.os_ast.specs.Trees as tree
 use Rattle.os_ast.specs.declared.names.Entry.{Entry}
 use Rattle.os_ast.specs.declared.names.Form.{Form}
 use Rattle.os_ast.specs.declared.names.Form.TheVariants as form_of
 use Rattle.simulation.proofs.Flows.{Extends}
 
--- the same body, with no fewer slots taken
+-- the same body, at the same depth, with no fewer slots and streams taken
 pub record Onward (s t : Scope) : Type 0 where
   pub owner : t.owner ≡ s.owner
   pub captured : t.captured ≡ s.captured
+  pub depth : t.depth ≡ s.depth
   pub slots : s.slots ≤ t.slots
+  pub streams : s.streams ≤ t.streams
 
 pub here : (s : Scope) → Onward s s
-here s = record { owner = refl; captured = refl; slots = omega arith }
+here s = record { owner = refl; captured = refl; depth = refl; slots = omega arith; streams = omega arith }
 
 pub onward : {s t u : Scope} → Onward s t → Onward t u → Onward s u
-onward a b = record { owner = b.owner ∙ a.owner; captured = b.captured ∙ a.captured; slots = omega (arith, a.slots, b.slots) }
+onward a b = record {
+  owner = b.owner ∙ a.owner;
+  captured = b.captured ∙ a.captured;
+  depth = b.depth ∙ a.depth;
+  slots = omega (arith, a.slots, b.slots);
+  streams = omega (arith, a.streams, b.streams);
+}
 
 taken_onward : (s : Scope) (f : Form) → Onward s (taken s f)
-taken_onward s form_of.Scalar = record { owner = refl; captured = refl; slots = omega arith }
-taken_onward s (form_of.Array size) = record { owner = refl; captured = refl; slots = omega arith }
-taken_onward s form_of.Window = record { owner = refl; captured = refl; slots = omega arith }
-taken_onward s form_of.Stream = record { owner = refl; captured = refl; slots = omega arith }
-taken_onward s (form_of.Streams size) = record { owner = refl; captured = refl; slots = omega arith }
+taken_onward s form_of.Scalar = record { owner = refl; captured = refl; depth = refl; slots = omega arith; streams = omega arith }
+taken_onward s (form_of.Array size) = record { owner = refl; captured = refl; depth = refl; slots = omega arith; streams = omega arith }
+taken_onward s form_of.Window = record { owner = refl; captured = refl; depth = refl; slots = omega arith; streams = omega arith }
+taken_onward s form_of.Stream = record { owner = refl; captured = refl; depth = refl; slots = omega arith; streams = omega arith }
+taken_onward s (form_of.Streams size) = record { owner = refl; captured = refl; depth = refl; slots = omega arith; streams = omega arith }
 
 taken_entries : (s : Scope) (f : Form) → (taken s f).entries ≡ s.entries
 taken_entries s form_of.Scalar = refl
@@ -43,7 +54,7 @@ entry s d = record { id = d.name.id; depth = (taken s (form s d)).depth; entity 
 pub declarator_onward : (s : Scope) (d : tree.DeclaratorTree) → Onward s (after_declarator s d)
 declarator_onward s d =
     let t = taken_onward s (form s d) in
-    record { owner = t.owner; captured = t.captured; slots = t.slots }
+    record { owner = t.owner; captured = t.captured; depth = t.depth; slots = t.slots; streams = t.streams }
 
 pub declarator_entries : (s : Scope) (d : tree.DeclaratorTree) → (after_declarator s d).entries ≡ entry s d ∷ s.entries
 declarator_entries s d = ap (λ es. entry s d ∷ es) (taken_entries s (form s d))
@@ -91,24 +102,35 @@ start_onward tree.StartTree.Empty s = here s
 start_onward (tree.StartTree.Declare ds) s = declarators_onward ds s
 start_onward (tree.StartTree.Change c) s = here s
 
+-- the clauses of a task declare no stream
+pub items_streams : (s inner : Scope) (n : ℕ) (ps : List Part) → (with_items s inner n ps).streams ≡ inner.streams
+items_streams s inner n [] = refl
+items_streams s inner n (Item d i ∷ ps) = items_streams s (declare inner (item_name i.stream i.window).id (item_entity s n d i)) (suc n) ps
+items_streams s inner n (Private p ∷ ps) = items_streams s inner n ps
+
 mutual
   pub stmt_onward : (a : tree.StmtTree) (s : Scope) → Onward s (after_stmt s a)
   stmt_onward tree.StmtTree.Empty s = here s
-  stmt_onward (tree.Block ss) s = let t = stmts_onward ss (enter s) in record { owner = t.owner; captured = t.captured; slots = t.slots }
+  stmt_onward (tree.Block ss) s = let t = stmts_onward ss (enter s) in record { owner = t.owner; captured = t.captured; depth = refl; slots = t.slots; streams = t.streams }
   stmt_onward (tree.StmtTree.Declare ds) s = declarators_onward ds s
   stmt_onward (tree.StmtTree.Change c) s = here s
   stmt_onward (tree.StmtTree.Call f args) s = here s
   stmt_onward (tree.If c a) s = stmt_onward a s
   stmt_onward (tree.IfElse c a b) s = onward (stmt_onward a s) (stmt_onward b (after_stmt s a))
-  stmt_onward (tree.While c a) s = let t = stmt_onward a (in_loop s) in record { owner = t.owner; captured = t.captured; slots = t.slots }
+  stmt_onward (tree.While c a) s = let t = stmt_onward a (in_loop s) in record { owner = t.owner; captured = t.captured; depth = t.depth; slots = t.slots; streams = t.streams }
   stmt_onward (tree.For start test step a) s =
       let x = start_onward start (enter s) in
       let y = stmt_onward a (in_loop (after_start (enter s) start)) in
-      record { owner = y.owner ∙ x.owner; captured = y.captured ∙ x.captured; slots = omega (arith, x.slots, y.slots) }
+      record { owner = y.owner ∙ x.owner; captured = y.captured ∙ x.captured; depth = refl; slots = omega (arith, x.slots, y.slots); streams = omega (arith, x.streams, y.streams) }
   stmt_onward (tree.Break m) s = here s
   stmt_onward (tree.Continue m) s = here s
   stmt_onward (tree.Return m e) s = here s
-  stmt_onward (tree.Task m cs a) s = record { owner = refl; captured = refl; slots = omega arith }
+  stmt_onward (tree.Task m cs a) s =
+      let inner = in_task_body s (parts cs) a in
+      let round = in_task s (captured_in s.owner (slots_of (captured s.entries (parts cs) a))) in
+      let x : inner.streams ≡ round.streams = items_streams s round 0 (parts cs) in
+      let y = stmt_onward a inner in
+      record { owner = refl; captured = refl; depth = refl; slots = omega arith; streams = omega (arith, x, y.streams) }
   stmt_onward (tree.Tick m t arrow e) s = here s
   stmt_onward (tree.Taskwait m) s = here s
 

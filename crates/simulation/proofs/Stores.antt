@@ -23,7 +23,7 @@ use Rattle.os_code.specs.Parts.{instr_at}
 use Rattle.simulation.specs.Alignment.{Stacked, slot_at, Holds}
 use Rattle.simulation.specs.Names.{storing, storing_at}
 use Rattle.simulation.proofs.Alignment.{set_scalar, set_element}
-use Rattle.simulation.proofs.Context.{Side, InFunction, InTask, InMain, HasItem, Windows, Kept, FileHas, Context, means, Named}
+use Rattle.simulation.proofs.Context.{Side, InFunction, InTask, InMain, HasItem, resources, Windows, Kept, FileHas, Context, means, Named}
 use Rattle.simulation.proofs.Flows.{Does, given_does, settled, AlignedIn, went_on}
 use Rattle.simulation.proofs.Names.{window_of, file_at}
 use Rattle.simulation.proofs.Steps.{Store, with_slots, at, Leads, stays, checks, acts, drop_top, store_top}
@@ -37,7 +37,7 @@ aimed _ stack = stack
 pub kept_slots : (side : Side) (st : State) (m : Store) (bound : List Binding) (slots : List ℤ) → Kept side st m → Kept side (record st { bound = bound }) (with_slots m slots)
 kept_slots (InFunction windows created skips) st m bound slots h = h
 kept_slots (InTask claims) st m bound slots h = h
-kept_slots InMain st m bound slots h = h
+kept_slots (InMain streams later) st m bound slots h = h
 
 windows_set : (ws : List TaskWindow) (items : List (List ℤ)) (k i : ℕ) (x : ℤ) (w : TaskWindow) → Windows ws items → slice_get ws k ≡ Some w →
     Windows (set ws k (record w { elements = set w.elements i x })) (set items k (set (get_or items k []) i x))
@@ -66,7 +66,7 @@ claims_same (y ∷ ws) (suc k) i x w is = ap (λ cs. y.claim ∷ cs) (claims_sam
 kept_item : (side : Side) (st : State) (m : Store) (k i : ℕ) (x : ℤ) (w : TaskWindow) → HasItem side k → Kept side st m → slice_get m.windows k ≡ Some w →
     Kept side (with_element st k i x) (with_window m k w i x)
 kept_item (InFunction windows created skips) st m k i x w has h is = elim has [ ]
-kept_item InMain st m k i x w has h is = elim has [ ]
+kept_item (InMain streams later) st m k i x w has h is = elim has [ ]
 kept_item (InTask claims) st m k i x w has h is =
     (claims_same m.windows k i x w is ∙ h.0, windows_set m.windows st.items k i x w h.1 is)
 
@@ -110,7 +110,7 @@ module _ (c : Context) (callers : List Frame) (leaves : Instr) (total next broke
     StoresName w p x stack v id = Does c.code (at callers p (x ∷ aimed w stack) m turns) (settled c callers leaves total next broke continued stack within es) (goes_on (stored_in v st id x) turns)
 
     stores_variable : (v : Variable) (w : What) (id : ℕ) (d : Entity) (line p : ℕ) (x : ℤ) (stack : List ℤ) → p + 1 ≡ next → means c d ≡ w → entity_of (lookup (es ++ c.bound) id) ≡ Some d →
-        Holds (HasItem c.side) m.slots v w → instr_at c.code p ≡ Some (storing w line) → StoresName w p x stack (Some v) id
+        Holds (resources c.side) m.slots v w → instr_at c.code p ≡ Some (storing w line) → StoresName w p x stack (Some v) id
     stores_variable (Constant y) w id d line p x stack there mean is h store = elim h [ ]
     stores_variable (Function f) w id d line p x stack there mean is h store = elim h [ ]
     stores_variable (Scalar y) w id d line p x stack there mean is h store =
@@ -118,7 +118,7 @@ module _ (c : Context) (callers : List Frame) (leaves : Instr) (total next broke
         subst (λ z. StoresName z p x stack (Some (Scalar y)) id) (sym h.1)
         (went_on c callers leaves total es (stored_in (Some (Scalar y)) st id x) after turns (length-set m.slots h.0 x ∙ len)
         (kept_slots c.side st m (assign st.bound id (Scalar x)) (set m.slots h.0 x) kept)
-        (set_scalar (HasItem c.side) (means c) top m.slots st.bound (es ++ c.bound) id h.0 d x (omega (arith, fits, len)) (mean ∙ h.1) is stacked al)
+        (set_scalar (resources c.side) (means c) top m.slots st.bound (es ++ c.bound) id h.0 d x (omega (arith, fits, len)) (mean ∙ h.1) is stacked al)
         (subst (λ q. Leads c.code (at callers p (x ∷ stack) m turns) (at callers q stack after turns)) there
         (store_top c.code callers h.0 p x stack m turns (store ∙ ap (λ z. Some (storing z line)) h.1))))
     stores_variable (Array vs) w id d line p x stack there mean is h store =
@@ -126,7 +126,7 @@ module _ (c : Context) (callers : List Frame) (leaves : Instr) (total next broke
     stores_variable (Window y) w id d line p x stack there mean is h store =
         subst (λ z. StoresName z p x stack (Some (Window y)) id) (sym h.1) (dropped p x stack st m turns there len kept al (store ∙ ap (λ z. Some (storing z line)) h.1))
     stores_variable (Stream y n) w id d line p x stack there mean is h store =
-        subst (λ z. StoresName z p x stack (Some (Stream y n)) id) (sym h) (dropped p x stack st m turns there len kept al (store ∙ ap (λ z. Some (storing z line)) h))
+        subst (λ z. StoresName z p x stack (Some (Stream y n)) id) (sym h.0) (dropped p x stack st m turns there len kept al (store ∙ ap (λ z. Some (storing z line)) h.0))
     stores_variable (Item k) w id d line p x stack there mean is (has, inl e) store =
         subst (λ z. StoresName z p x stack (Some (Item k)) id) (sym e) (item_first_store k line p x stack st m turns there len has kept al (store ∙ ap (λ z. Some (storing z line)) e))
     stores_variable (Item k) w id d line p x stack there mean is (has, inr e) store =
@@ -169,7 +169,7 @@ module _ (c : Context) (callers : List Frame) (leaves : Instr) (total next broke
         (checks c.code s v (length vs) line (λ k. at callers (p + 1) stack (with_slots m (slice_set m.slots (first + k) x)) turns) (acts c.code s (instr.StoreAt first (length vs) line) store))
         (λ k u e. went_on c callers leaves total es (stored_in_at (Some (Array vs)) st id k x) (with_slots m (set m.slots (first + k) x)) turns (length-set m.slots (first + k) x ∙ len)
         (kept_slots c.side st m (assign st.bound id (Array (set vs k x))) (set m.slots (first + k) x) kept)
-        (set_element (HasItem c.side) (means c) top m.slots st.bound (es ++ c.bound) id first k vs d x (omega (arith, fits, len)) mean same u.1 is stacked al)
+        (set_element (resources c.side) (means c) top m.slots st.bound (es ++ c.bound) id first k vs d x (omega (arith, fits, len)) mean same u.1 is stacked al)
         (subst (λ q. Leads c.code (at callers (p + 1) stack (with_slots m (set m.slots (first + k) x)) turns) (at callers q stack (with_slots m (set m.slots (first + k) x)) turns)) there stays))
 
     nothing_stored : (o : Option Variable) (line p : ℕ) (id : ℕ) (v x : ℤ) (stack : List ℤ) → elements st o ≡ [] → instr_at c.code p ≡ Some (instr.StoreAt 0 0 line) → StoresAt line p v x stack o id
@@ -182,12 +182,12 @@ module _ (c : Context) (callers : List Frame) (leaves : Instr) (total next broke
         (λ k u e. absurd (omega (arith, u.1))))
 
     stores_variable_at : (v : Variable) (w : What) (id : ℕ) (d : Entity) (line p : ℕ) (i x : ℤ) (stack : List ℤ) → p + 1 ≡ next → means c d ≡ w → entity_of (lookup (es ++ c.bound) id) ≡ Some d →
-        Holds (HasItem c.side) m.slots v w → instr_at c.code p ≡ Some (storing_at w line) → StoresAt line p i x stack (Some v) id
+        Holds (resources c.side) m.slots v w → instr_at c.code p ≡ Some (storing_at w line) → StoresAt line p i x stack (Some v) id
     stores_variable_at (Constant y) w id d line p i x stack there mean is h store = elim h [ ]
     stores_variable_at (Function f) w id d line p i x stack there mean is h store = elim h [ ]
     stores_variable_at (Scalar y) w id d line p i x stack there mean is h store = nothing_stored (Some (Scalar y)) line p id i x stack refl (store ∙ ap (λ z. Some (storing_at z line)) h.1)
     stores_variable_at (Window y) w id d line p i x stack there mean is h store = nothing_stored (Some (Window y)) line p id i x stack refl (store ∙ ap (λ z. Some (storing_at z line)) h.1)
-    stores_variable_at (Stream y n) w id d line p i x stack there mean is h store = nothing_stored (Some (Stream y n)) line p id i x stack refl (store ∙ ap (λ z. Some (storing_at z line)) h)
+    stores_variable_at (Stream y n) w id d line p i x stack there mean is h store = nothing_stored (Some (Stream y n)) line p id i x stack refl (store ∙ ap (λ z. Some (storing_at z line)) h.0)
     stores_variable_at (Array vs) w id d line p i x stack there mean is h store =
         array_store vs h.0 line p id d i x stack there (mean ∙ h.1) is h.2 (store ∙ ap (λ z. Some (storing_at z line)) h.1)
     stores_variable_at (Item k) w id d line p i x stack there mean is (has, inl e) store =

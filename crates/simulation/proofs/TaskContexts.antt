@@ -1,5 +1,5 @@
 -- A task's body beside the names round it.
-use Rattle.std.proofs.Common.{◌≡◌, ℕ, suc, ◌==◌, ◌||◌, Bool, true, false, if◌then◌else◌, List, [], ◌∷◌, ◌++◌, length, Option, Some, None, ℤ, refl, sym, ap, ◌∙◌, subst, inl, inr, eq-eqb, eqb-true}
+use Rattle.std.proofs.Common.{◌≡◌, ℕ, suc, ◌==◌, ◌||◌, Bool, true, false, if◌then◌else◌, List, [], ◌∷◌, ◌++◌, length, Option, Some, None, ℤ, refl, sym, ap, ◌∙◌, subst, inl, inr, eq-eqb, eqb-true, arith}
 use Rattle.std.specs.Prelude.{⊤, ◌⊎◌}
 use Rattle.cddf_meaning.specs.File.{File}
 use Rattle.cddf_meaning.specs.Moves.{CallsFall}
@@ -13,7 +13,7 @@ use Rattle.os_ast.specs.Notes.Clauses.{item_entity, with_items, in_task, capture
 use Rattle.os_ast.specs.Notes.Kinds.{Note, Used, Sized, Declared, Given, Global, Left, Returned, Pragma, Task, Listed}
 use Rattle.os_ast.specs.Notes.Statements.{stmt_notes}
 use Rattle.os_ast.specs.Parts.{Part, Item, Private, parts, item_name, is_in, private_ids}
-use Rattle.os_ast.specs.Rules.{UseRule, rules, violates, if_declared, is_changed, is_misplaced_stream, is_misplaced_window}
+use Rattle.os_ast.specs.Rules.{rules, is_changed, is_misplaced_stream, is_misplaced_window}
 use Rattle.os_ast.specs.Stacked.{main_extent}
 use Rattle.os_ast.specs.Stacked as text
 use Rattle.os_ast.specs.declared.expr.Name.{Name}
@@ -27,7 +27,7 @@ use Rattle.os_ast.specs.declared.names.Use.{Use}
 use Rattle.os_ast.specs.declared.names.Use.TheVariants as usage
 use Rattle.os_code.specs.declared.parts.Parts.{Parts}
 use Rattle.simulation.proofs.Capturing.{HasSlot, AreScalars, captured_scalars, one_name}
-use Rattle.simulation.proofs.Context.{InTask, Reaches, IsPlain, Context, Agree, In, split}
+use Rattle.simulation.proofs.Context.{InTask, Reaches, IsPlain, Context, Agree, In, kept_rule, split}
 use Rattle.simulation.proofs.Functions.{Known, known_has, FileFits}
 use Rattle.simulation.proofs.NoTasks.{items_owner}
 use Rattle.simulation.proofs.TaskTexts.{IsOfMain, AllOfMain, TaskAt}
@@ -44,17 +44,17 @@ made_items s depth item [] es = es
 made_items s depth item (Item d i ∷ ps) es = made_items s depth (suc item) ps (record { id = (item_name i.stream i.window).id; depth = depth; entity = item_entity s item d i } ∷ es)
 made_items s depth item (Private n ∷ ps) es = made_items s depth item ps es
 
-items_entries : (s inner : Scope) (ps : List Part) (item : ℕ) → (with_items s inner item ps).entries ≡ made_items s inner.depth item ps inner.entries
+pub items_entries : (s inner : Scope) (ps : List Part) (item : ℕ) → (with_items s inner item ps).entries ≡ made_items s inner.depth item ps inner.entries
 items_entries s inner [] item = refl
 items_entries s inner (Item d i ∷ ps) item = items_entries s (declare inner (item_name i.stream i.window).id (item_entity s item d i)) ps (suc item)
 items_entries s inner (Private n ∷ ps) item = items_entries s inner ps item
 
-items_captured : (s inner : Scope) (ps : List Part) (item : ℕ) → (with_items s inner item ps).captured ≡ inner.captured
+pub items_captured : (s inner : Scope) (ps : List Part) (item : ℕ) → (with_items s inner item ps).captured ≡ inner.captured
 items_captured s inner [] item = refl
 items_captured s inner (Item d i ∷ ps) item = items_captured s (declare inner (item_name i.stream i.window).id (item_entity s item d i)) ps (suc item)
 items_captured s inner (Private n ∷ ps) item = items_captured s inner ps item
 
-items_slots : (s inner : Scope) (ps : List Part) (item : ℕ) → (with_items s inner item ps).slots ≡ inner.slots
+pub items_slots : (s inner : Scope) (ps : List Part) (item : ℕ) → (with_items s inner item ps).slots ≡ inner.slots
 items_slots s inner [] item = refl
 items_slots s inner (Item d i ∷ ps) item = items_slots s (declare inner (item_name i.stream i.window).id (item_entity s item d i)) ps (suc item)
 items_slots s inner (Private n ∷ ps) item = items_slots s inner ps item
@@ -141,7 +141,7 @@ abbrev pub Besides : List ℕ → Note → Type 0
 Besides slots (Used s n u) = (slot : ℕ) → is_in slot (control_slots (entity_of (lookup s.entries n.id))) ≡ true → is_in slot slots ≡ true
 Besides slots _ = ⊤
 
-is_in_both : (x : ℕ) (xs ys : List ℕ) → is_in x (xs ++ ys) ≡ (is_in x xs || is_in x ys)
+pub is_in_both : (x : ℕ) (xs ys : List ℕ) → is_in x (xs ++ ys) ≡ (is_in x xs || is_in x ys)
 is_in_both x [] ys = refl
 is_in_both x (y ∷ xs) ys = ap (λ b. (y == x) || b) (is_in_both x xs ys) ∙ or_assoc (y == x) (is_in x xs) (is_in x ys)
   where
@@ -149,15 +149,15 @@ is_in_both x (y ∷ xs) ys = ap (λ b. (y == x) || b) (is_in_both x xs ys) ∙ o
     or_assoc true b c = refl
     or_assoc false b c = refl
 
-or_left : (a b : Bool) → a ≡ true → (a || b) ≡ true
+pub or_left : (a b : Bool) → a ≡ true → (a || b) ≡ true
 or_left true b h = refl
 or_left false b h = absurd (cc)
 
-or_right : (a b : Bool) → b ≡ true → (a || b) ≡ true
+pub or_right : (a b : Bool) → b ≡ true → (a || b) ≡ true
 or_right true b h = refl
 or_right false b h = h
 
-note_besides : (slots : List ℕ) (n : Note) → ((x : ℕ) → is_in x (named_slots n) ≡ true → is_in x slots ≡ true) → Besides slots n
+pub note_besides : (slots : List ℕ) (n : Note) → ((x : ℕ) → is_in x (named_slots n) ≡ true → is_in x slots ≡ true) → Besides slots n
 note_besides slots (Used s n u) h = h
 note_besides slots (Sized s n) h = tt
 note_besides slots (Declared s d) h = tt
@@ -175,9 +175,6 @@ agrees_by_slots c slots (n ∷ ns) gives lawful tells h = (
   (lawful.0, tells.0, gives n (note_besides slots n (λ x k. h x (is_in_both x (named_slots n) (used_slots ns) ∙ or_left (is_in x (named_slots n)) (is_in x (used_slots ns)) k)))),
   agrees_by_slots c slots ns gives lawful.1 tells.1 (λ x k. h x (is_in_both x (named_slots n) (used_slots ns) ∙ or_right (is_in x (named_slots n)) (is_in x (used_slots ns)) k)),
 )
-
-use_kept : (rule : UseRule) (s : Scope) (n : Name) (u : Use) (d : Entity) → entity_of (lookup s.entries n.id) ≡ Some d → violates rule (Used s n u) ≡ false → rule n.id u d ≡ false
-use_kept rule s n u d is h = sym (ap (if_declared (rule n.id u)) is) ∙ h
 
 -- No window and no stream is used in the body of a task.
 no_window : (n : Name) (u : Use) (slot : ℕ) → IsPlain u → is_misplaced_window n.id u (entity.Window slot) ≡ false → ⊥
@@ -204,7 +201,7 @@ no_streams n (usage.Called args) first count plain a b = absurd (cc)
 no_streams n (usage.Joined s) first count plain a b = plain
 no_streams n usage.Private first count plain a b = plain
 
-in_slots : (slot : ℕ) → is_in slot (slot ∷ []) ≡ true
+pub in_slots : (slot : ℕ) → is_in slot (slot ∷ []) ≡ true
 in_slots slot = ap (λ t. t || false) (eq-eqb slot slot refl)
 
 module _ (code : Parts) (file : File) (falls : CallsFall file) (rs : List Resolved) (ordered : InOrder rs) (file_es : List Entry) (fits : FileFits code file file_es) (t : MeaningTask) (slots : List ℕ) (there : TaskAt rs file_es t slots) (claims : List Claim) where
@@ -263,11 +260,11 @@ module _ (code : Parts) (file : File) (falls : CallsFall file) (rs : List Resolv
   by_entity s n u (entity.Element item x) plain lawful besides is main same = absurd (file_entity n.id (entity.Element item x) (λ x. x) main)
   by_entity s n u (entity.View item x) plain lawful besides is main same = absurd (file_entity n.id (entity.View item x) (λ x. x) main)
   by_entity s n u (entity.Window slot) plain lawful besides is main same =
-      absurd (no_window n u slot plain (use_kept is_misplaced_window s n u (entity.Window slot) is lawful.1.1.1.1.1.1.1.1.1.1.1.1.1.0))
+      absurd (no_window n u slot plain (kept_rule is_misplaced_window s n u (entity.Window slot) is lawful.1.1.1.1.1.1.1.1.1.1.1.1.1.0))
   by_entity s n u (entity.Stream number) plain lawful besides is main same =
-      absurd (no_stream n u number plain (use_kept is_misplaced_stream s n u (entity.Stream number) is lawful.1.1.1.1.1.1.1.1.1.0) (use_kept is_changed s n u (entity.Stream number) is lawful.1.1.1.1.0))
+      absurd (no_stream n u number plain (kept_rule is_misplaced_stream s n u (entity.Stream number) is lawful.1.1.1.1.1.1.1.1.1.0) (kept_rule is_changed s n u (entity.Stream number) is lawful.1.1.1.1.0))
   by_entity s n u (entity.Streams first count) plain lawful besides is main same =
-      absurd (no_streams n u first count plain (use_kept is_misplaced_stream s n u (entity.Streams first count) is lawful.1.1.1.1.1.1.1.1.1.0) (use_kept is_changed s n u (entity.Streams first count) is lawful.1.1.1.1.0))
+      absurd (no_streams n u first count plain (kept_rule is_misplaced_stream s n u (entity.Streams first count) is lawful.1.1.1.1.1.1.1.1.1.0) (kept_rule is_changed s n u (entity.Streams first count) is lawful.1.1.1.1.0))
 
   abbrev Splits : ℕ → Type 0
   Splits id = (lookup (items ++ there.scope.entries) id ≡ lookup bound id) ⊎ ((lookup (items ++ there.scope.entries) id ≡ lookup there.scope.entries id) × (lookup bound id ≡ lookup caught_all id))
@@ -303,6 +300,7 @@ module _ (code : Parts) (file : File) (falls : CallsFall file) (rs : List Resolv
     owner = owner.OfTask;
     captured = slots;
     side = InTask claims;
+    floor = 0;
     round = inner.entries;
     bound = bound;
     besides = Besides slots;
@@ -320,6 +318,8 @@ module _ (code : Parts) (file : File) (falls : CallsFall file) (rs : List Resolv
     owner = items_owner ps there.scope around 0;
     captured = items_captured there.scope around ps 0 ∙ ap (λ o. captured_in o (slots_of cs)) there.in_main.owner ∙ sym there.captures;
     entries = refl;
+    deep = omega arith;
+    arrays = tt;
   }
 
   pub first_slots : inner.slots ≡ length slots

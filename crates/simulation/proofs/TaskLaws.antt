@@ -67,7 +67,7 @@ file_stacked [] top all = tt
 file_stacked (e ∷ es) top all = no_extent e.entity top es all.0 (file_stacked es top all.1)
 
 -- the body of `main`
-abbrev round_of : Owner → Scope → Scope
+abbrev pub round_of : Owner → Scope → Scope
 round_of o s = enter (round_body o (enter (in_unit o s)))
 
 main_params : (file : List Entry) (ns : List Name) (s : Scope) → InMain file s → InMain file (after_params s ns)
@@ -82,7 +82,7 @@ main_params file (n ∷ ns) s h = main_params file ns (after_param s n) (record 
       (omega arith, subst (λ o. text.Stacked (extent_in o) s.slots s.entries) h.owner h.stacked);
 })
 
-main_body : (s : Scope) (f : tree.FunctionTree) → (f.name.id == main_id) ≡ true → AllOfFile s.entries → InMain s.entries (in_body s f)
+pub main_body : (s : Scope) (f : tree.FunctionTree) → (f.name.id == main_id) ≡ true → AllOfFile s.entries → InMain s.entries (in_body s f)
 main_body s f is all =
     main_params s.entries (param_names f.params) (programs.in_function s f.name.id)
     (subst (λ o. InMain s.entries (round_of o s)) (sym own)
@@ -102,7 +102,7 @@ no_main (tree.Function f ∷ is) file s h = by_case (f.name.id == main_id) h (λ
     by_case true k next = absurd (cc)
     by_case false k next = next k
 
-get_there : {A : Type 0} (xs : List A) (k : ℕ) → k < length xs → (x : A) × (slice_get xs k ≡ Some x)
+pub get_there : {A : Type 0} (xs : List A) (k : ℕ) → k < length xs → (x : A) × (slice_get xs k ≡ Some x)
 get_there [] k lt = absurd (omega (arith, lt))
 get_there (x ∷ xs) zero lt = (x, refl)
 get_there (x ∷ xs) (suc k) lt = get_there xs k (omega (arith, lt))

@@ -40,9 +40,10 @@ use Rattle.simulation.specs.Names.{told_at}
 use Rattle.simulation.specs.Programs.{size_by, HasTask}
 use Rattle.simulation.specs.Tasks.{site_items}
 use Rattle.simulation.proofs.Capturing.{captured_scalars}
-use Rattle.simulation.proofs.Context.{InTask, HasItem, Windows, Kept, Context, means}
+use Rattle.simulation.proofs.Context.{InTask, resources, Windows, Kept, Context, means}
 use Rattle.simulation.proofs.Flows.{Does, went, ended, settled, exactly}
 use Rattle.simulation.proofs.Functions.{FileFits}
+use Rattle.simulation.proofs.Owning.{nothing, owns_nothing}
 use Rattle.simulation.proofs.Sizes.{stmt_sizes}
 use Rattle.simulation.proofs.Steps.{Store, at, Leads, stays, steps, Stops, acts}
 use Rattle.simulation.proofs.Stmts.{stmt_does}
@@ -75,7 +76,7 @@ pub record EndsIn (code : Parts) (line : ℕ) (s : machine.State) (out : Outcome
   pub runs : Runs code s halt last count
   pub ends : TaskOutcome line halt last out
 
-to_end : (code : Parts) (s last : machine.State) → Leads code s last → instr_at code last.place ≡ Some instr.End → (count : ℕ) × Runs code s machine.Ended last count
+pub to_end : (code : Parts) (s last : machine.State) → Leads code s last → instr_at code last.place ≡ Some instr.End → (count : ℕ) × Runs code s machine.Ended last count
 unfolding act
 to_end code s last stays is = (1, Halts (acts code last instr.End is))
 to_end code s last (steps {t = t} a l) is = let r = to_end code t last l is in (r.0 + 1, machine.GoesOn a r.1)
@@ -168,16 +169,16 @@ module _ (code : Parts) (file : File) (falls : CallsFall file) (rs : List Resolv
       let sum : length (frame_slots has.unit a.captured) ≡ length a.captured + length (replicate (has.unit.slots - has.unit.args) (pos 0)) = length-append a.captured (replicate (has.unit.slots - has.unit.args) (pos 0)) in
       omega (arith, zeros, sum, has.args, has.slots, arguments)
 
-  aligned : Aligned (HasItem (InTask a.claims)) (means c) m0.slots begun.bound c.bound
+  aligned : Aligned (resources (InTask a.claims)) (means c) m0.slots begun.bound c.bound
   aligned =
       let n = ap length same_slots in
       let k = count_captured in
-      subst (λ es. Aligned (HasItem (InTask a.claims)) (means c) m0.slots begun.bound es) (items_onto there.scope _ 0 (parts there.clauses) [] (caught_all code file falls rs ordered file_es fits t slots there a.claims))
+      subst (λ es. Aligned (resources (InTask a.claims)) (means c) m0.slots begun.bound es) (items_onto there.scope _ 0 (parts there.clauses) [] (caught_all code file falls rs ordered file_es fits t slots there a.claims))
       (items_aligned slots a.claims m0.slots there.scope _ 0 (parts there.clauses) _ (caught_all code file falls rs ordered file_es fits t slots there a.claims)
       (let z : length (site_items (told_at rs) (parts there.clauses)) ≡ count_items (parts there.clauses) = items_counted (told_at rs) (parts there.clauses) in
       let y : length has.site.items ≡ length (site_items (told_at rs) (parts there.clauses)) = ap length has.items in
       omega (arith, z, y, claims_ok.0))
-      (captured_aligned slots ascends there.scope.entries (HasItem (InTask a.claims)) m0.slots (captured there.scope.entries (parts there.clauses) there.body) a.captured 0 [] [] (captured_scalars there.scope.entries _) (points slots _ there.captures)
+      (captured_aligned slots ascends there.scope.entries (resources (InTask a.claims)) m0.slots (captured there.scope.entries (parts there.clauses) there.body) a.captured 0 [] [] (captured_scalars there.scope.entries _) (points slots _ there.captures)
       (omega (arith, arguments, n, k)) (λ i lt. let z : 0 + i ≡ i = omega arith in ap (λ j. slot_at m0.slots j) z ∙ get_or_append_left a.captured (replicate (has.unit.slots - has.unit.args) (pos 0)) (pos 0) i lt) tt))
 
   stacked : Stacked (means c) in_body_of.slots ([] ++ c.bound)
@@ -203,6 +204,6 @@ module _ (code : Parts) (file : File) (falls : CallsFall file) (rs : List Resolv
       EndsIn code there.mark.line (task_start has.unit a inputs budget) (task_outcome file these a inputs budget)
   task_does limits =
       task_end c has.unit.slots has.end [] [] a.claims there.mark.line (task_start has.unit a inputs budget) (run (in_function file) there.body begun budget) refl has.falls_off.0 limits
-      (stmt_does c [] instr.End has.unit.slots [] [] (λ e d. absurd (cc)) (λ e mark cs x. absurd (cc)) (λ e mark x arrow y. absurd (cc)) there.leveled in_body_of [] begun m0 has.end has.end has.end has.unit.start has.end [] budget
+      (stmt_does c [] instr.End has.unit.slots [] [] nothing (λ e d. absurd (cc)) (λ e mark cs x. absurd (cc)) (λ e mark x arrow y. absurd (cc)) there.leveled in_body_of [] begun m0 has.end has.end has.end has.unit.start has.end [] budget
       (record { scope = task_in code file falls rs ordered file_es fits t slots there a.claims; aligned = aligned; kept = (claims_start a.claims inputs, windows_start a.claims inputs claims_ok.1 enough) })
-      stacked room frame_long (task_agrees code file falls rs ordered file_es fits t slots there a.claims) has.body)
+      stacked room frame_long (task_agrees code file falls rs ordered file_es fits t slots there a.claims) (owns_nothing there.body in_body_of) has.body)

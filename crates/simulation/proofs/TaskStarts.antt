@@ -26,9 +26,9 @@ use Rattle.os_ast.specs.declared.names.What.TheVariants as what
 use Rattle.os_code.specs.Machine.{TaskWindow}
 use Rattle.os_code.specs.Tasks as machine
 use Rattle.os_code.specs.Tasks.{windows_of}
-use Rattle.simulation.specs.Alignment.{Takes, Stacked, slot_at, Aligned}
+use Rattle.simulation.specs.Alignment.{Takes, Stacked, slot_at, Resources, Aligned}
 use Rattle.simulation.proofs.Capturing.{HasSlot, AreScalars, at_place}
-use Rattle.simulation.proofs.Context.{InTask, HasItem, Windows}
+use Rattle.simulation.proofs.Context.{InTask, resources, Windows}
 use Rattle.simulation.proofs.TaskContexts.{made_items, captured_entry, entity_or, made_captured}
 use Rattle.window_check.specs.CapturedByUse.{Ascends}
 
@@ -82,7 +82,7 @@ module _ (slots : List ℕ) (ascends : Ascends 0 slots) (es : List Entry) where
       subst (λ n. Stacked (meaning_in owner.OfTask slots) n (made_captured es cs (captured_entry es c ∷ xs))) e
       (captured_stacked cs (k + 1) (captured_entry es c ∷ xs) all.1 at.2 (k, subst (λ w. Takes w k (k + 1)) (sym (mean c k all.0 at.0 at.1)) (refl, omega arith), st))
 
-  pub captured_aligned : (has : ℕ → Type 0) (held : List ℤ) (cs : List Scalar) (vs : List ℤ) (k : ℕ) (names : List Binding) (xs : List Entry) → AreScalars es cs → Points slots k cs → length vs ≡ length cs →
+  pub captured_aligned : (has : Resources) (held : List ℤ) (cs : List Scalar) (vs : List ℤ) (k : ℕ) (names : List Binding) (xs : List Entry) → AreScalars es cs → Points slots k cs → length vs ≡ length cs →
       ((i : ℕ) → i < length vs → slot_at held (k + i) ≡ slot_at vs i) → Aligned has (meaning_in owner.OfTask slots) held names xs →
       Aligned has (meaning_in owner.OfTask slots) held (bind_captured (map (λ (c : Scalar). c.id) cs) vs names) (made_captured es cs xs)
   captured_aligned has held [] vs k names xs all at len same al = al
@@ -123,7 +123,7 @@ module _ (slots : List ℕ) where
   items_stacked s depth item top (Private n ∷ ps) xs st = items_stacked s depth item top ps xs st
 
   pub items_aligned : (claims : List Claim) (held : List ℤ) (s : Scope) (depth item : ℕ) (ps : List Part) (names : List Binding) (xs : List Entry) → item + count_items ps ≤ length claims →
-      Aligned (HasItem (InTask claims)) (meaning_in owner.OfTask slots) held names xs → Aligned (HasItem (InTask claims)) (meaning_in owner.OfTask slots) held (bind_items item ps names) (made_items s depth item ps xs)
+      Aligned (resources (InTask claims)) (meaning_in owner.OfTask slots) held names xs → Aligned (resources (InTask claims)) (meaning_in owner.OfTask slots) held (bind_items item ps names) (made_items s depth item ps xs)
   items_aligned claims held s depth item [] names xs le al = al
   items_aligned claims held s depth item (Item d i ∷ ps) names xs le al =
       items_aligned claims held s depth (suc item) ps (bind (item_name i.stream i.window).id (variable.Item item) names) _ (omega (arith, le)) (refl, (omega (arith, le), item_means s item d i), al)

@@ -148,12 +148,12 @@ module _ (rs : List Resolved) (file : List Entry) where
     stacked = subst (λ o. text.Stacked (extent_in o) (after_declarator s d).slots (after_declarator s d).entries) (sym (declarator_onward s d).owner) (stacked-declarator s d h.stacked);
   })
 
-  start_main : (t : tree.StartTree) (s : Scope) → InMain file s → InMain file (after_start s t)
+  pub start_main : (t : tree.StartTree) (s : Scope) → InMain file s → InMain file (after_start s t)
   start_main tree.StartTree.Empty s h = h
   start_main (tree.StartTree.Declare ds) s h = declarators_main ds s h
   start_main (tree.StartTree.Change c) s h = h
 
-  stmt_main : {a : tree.StmtTree} → IsStmt a → (s : Scope) → InMain file s → InMain file (after_stmt s a)
+  pub stmt_main : {a : tree.StmtTree} → IsStmt a → (s : Scope) → InMain file s → InMain file (after_stmt s a)
   stmt_main {a = a} is s h = record {
     owner = (stmt_onward a s).owner ∙ h.owner;
     inner = h.inner;
@@ -163,7 +163,7 @@ module _ (rs : List Resolved) (file : List Entry) where
   }
 
   -- the same entries, in a scope that counts differently
-  same_main : (s t : Scope) → InMain file s → t.owner ≡ s.owner → t.entries ≡ s.entries → t.slots ≡ s.slots → InMain file t
+  pub same_main : (s t : Scope) → InMain file s → t.owner ≡ s.owner → t.entries ≡ s.entries → t.slots ≡ s.slots → InMain file t
   same_main s t h own entries slots = record {
     owner = own ∙ h.owner;
     inner = h.inner;

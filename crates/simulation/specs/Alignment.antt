@@ -27,23 +27,28 @@ Stacked means top (e ∷ es) = (low : ℕ) × Takes (means e.entity) low top × 
 abbrev pub slot_at : List ℤ → ℕ → ℤ
 slot_at slots k = get_or slots k (pos 0)
 
+-- What a body has beside its slots: which items, by their numbers, and which streams, by the first of their numbers.
+pub record Resources : Type 1 where
+  pub item : ℕ → Type 0
+  pub streams : (first count : ℕ) → Type 0
+
 -- A variable of a body is of the kind that its declaration means, and its value stands in its slots. The elements of
 -- items stand in windows, where a body has some; constants and functions are the file's.
-abbrev pub Holds : (ℕ → Type 0) → List ℤ → Variable → What → Type 0
-Holds has_items slots (Constant v) w = ⊥
-Holds has_items slots (Function f) w = ⊥
-Holds has_items slots (Scalar v) w = (slot : ℕ) × (w ≡ what.Scalar slot) × (slot_at slots slot ≡ v)
-Holds has_items slots (Array vs) w =
+abbrev pub Holds : Resources → List ℤ → Variable → What → Type 0
+Holds has slots (Constant v) w = ⊥
+Holds has slots (Function f) w = ⊥
+Holds has slots (Scalar v) w = (slot : ℕ) × (w ≡ what.Scalar slot) × (slot_at slots slot ≡ v)
+Holds has slots (Array vs) w =
     (first : ℕ) × (w ≡ what.Array first (length vs)) × ((i : ℕ) → i < length vs → slot_at slots (first + i) ≡ slot_at vs i)
-Holds has_items slots (Window horizon) w =
+Holds has slots (Window horizon) w =
     (slot : ℕ) × (w ≡ what.Window slot) × (slot_at slots slot ≡ pos horizon) × (1 ≤ horizon) × (horizon ≤ 65536)
-Holds has_items slots (Stream first count) w = w ≡ what.Stream first count
-Holds has_items slots (Item item) w = has_items item × ((w ≡ what.Element item) ⊎ (w ≡ what.View item))
+Holds has slots (Stream first count) w = (w ≡ what.Stream first count) × has.streams first count
+Holds has slots (Item item) w = has.item item × ((w ≡ what.Element item) ⊎ (w ≡ what.View item))
 
 -- the variables of a body and its declarations in scope, from the innermost on, one for one
-abbrev pub Aligned : (ℕ → Type 0) → (Entity → What) → List ℤ → List Binding → List Entry → Type 0
-Aligned has_items means slots [] [] = ⊤
-Aligned has_items means slots [] (e ∷ es) = ⊥
-Aligned has_items means slots (b ∷ bound) [] = ⊥
-Aligned has_items means slots (b ∷ bound) (e ∷ es) =
-    (b.id ≡ e.id) × Holds has_items slots b.variable (means e.entity) × Aligned has_items means slots bound es
+abbrev pub Aligned : Resources → (Entity → What) → List ℤ → List Binding → List Entry → Type 0
+Aligned has means slots [] [] = ⊤
+Aligned has means slots [] (e ∷ es) = ⊥
+Aligned has means slots (b ∷ bound) [] = ⊥
+Aligned has means slots (b ∷ bound) (e ∷ es) =
+    (b.id ≡ e.id) × Holds has slots b.variable (means e.entity) × Aligned has means slots bound es

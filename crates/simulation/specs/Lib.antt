@@ -6,7 +6,10 @@ pub mod Declarators
 pub mod Tasks
 pub mod Statements
 pub mod Programs
+pub mod Tiling
 -- what such code does
 pub mod Laws
+-- that no run asks for a name that isn't there
+pub mod FoundNames
 -- what proofs say
 pub mod Alignment

@@ -39,6 +39,7 @@ pub record HasFunction (code : Parts) (tells : ℕ → What) (number : ℕ) (f :
   pub is_unit : unit_at code number ≡ Some unit
   pub body : HasStmts code (in_function tells) f.body end end end unit.start end
   pub falls_off : Stands code (Push (pos 0) ∷ Return ∷ []) end last
+  pub fills : unit.start + unit.stack ≡ last
   pub args : unit.args ≡ length (param_names f.params)
   pub slots : unit.slots ≡ length (param_names f.params) + stmts_slots owner.OfFunction (size_by tells) f.body
 
@@ -53,6 +54,7 @@ pub record HasMain (code : Parts) (tells : ℕ → What) (tasks : List TaskTree)
   pub is_unit : unit_at code number ≡ Some unit
   pub body : HasStmts code (in_main tells tasks) f.body end end end unit.start end
   pub falls_off : Stands code (End ∷ []) end (end + 1)
+  pub fills : unit.start + unit.stack ≡ end + 1
   pub args : unit.args ≡ 1
   pub slots : unit.slots ≡ 1 + stmts_slots owner.OfMain (size_by tells) f.body
 
@@ -79,6 +81,7 @@ pub record HasTask (code : Parts) (tells : ℕ → What) (captured : List (List 
   pub items : site.items ≡ site_items tells t.parts
   pub body : HasStmt code (in_main tells []) t.body end end end unit.start end
   pub falls_off : Stands code (End ∷ []) end (end + 1)
+  pub fills : unit.start + unit.stack ≡ end + 1
   pub args : unit.args ≡ length site.captured
   pub slots : unit.slots ≡ length site.captured + stmt_slots owner.OfTask (size_by tells) t.body
 

@@ -4,7 +4,8 @@
 //! expressions, changes, declarators, tasks, statements, and whole programs. It says where each part stands, with its
 //! jump targets as parameters, and computes no list of code, so that an emitter is free to be short where two ways have
 //! one meaning. `proofs/` follows the machine of `os_code` beside the meaning of `cddf_meaning` over such code: names
-//! stand for slots and windows as their declarations are aligned with them. `laws` has what comes of it.
+//! stand for slots and windows as their declarations are aligned with them. `laws` has what comes of it, and beside it
+//! that a lawful program finds its names, which needs no code.
 #![tactic(auto)]
 
 pub mod laws;

@@ -1,20 +1,19 @@
-use Rattle.std.proofs.Common.{◌≡◌, ◌∙◌, ◌⊎◌, ap, subst, string_bytes}
+use Rattle.std.proofs.Common.{◌≡◌, ◌∙◌, ◌⊎◌, ap, subst, arith}
 use Rattle.std.proofs.lemmas.Result.{err_from_is_err_and}
+use Rattle.front_end.specs.Texts.{IsAccepted}
+use Rattle.os_ast.specs.Views.{program_tree}
 use Rattle.os_io.specs.Counts.{raised}
 use Rattle.osrun_core.proofs.Accepted.{only_memory}
-use Rattle.osrun_core.proofs.Came.{may_open_program, may_open_input, cause_of_program, cause_of_text, cause_of_input, program_read, only_fault, of_program, of_input, made_run}
-use Rattle.osrun_core.specs.declared.refusal.Refusal.TheVariants as refusals
-use Rattle.osrun_core.specs.declared.refusal.Subject.TheVariants as subjects
-use Rattle.osrun_core.specs.Accepting.{IsRefusalOf}
+use Rattle.osrun_core.proofs.Came.{may_open_program, may_open_input, cause_of_program, cause_of_text, cause_of_input, program_read, only_fault, of_program, of_input, run_of_both}
 use Rattle.osrun_core.specs.Command.{job_of}
 use Rattle.osrun_core.specs.Loading.{FilesView, IsReadable}
-use Rattle.osrun_core.specs.Program.{IsProgramOf}
-use Rattle.osrun_core.specs.Run.{IsRunOf}
-use Rattle.osrun_core.specs.Status.{number_of}
+use Rattle.osrun_core.specs.Refusal.{IsRefusalOf}
+use Rattle.osrun_core.specs.declared.refusal.Refusal.TheVariants as refusals
+use Rattle.osrun_core.specs.declared.refusal.Subject.TheVariants as subjects
 use Rattle.osrun_core.proofs.run_job.run_job.Goals as goal
 
 pub load-requires : goal.load-requires
-load-requires g c = may_open_program (g.F.Files.may c.args.files.now) (g.F.Files.opens c.args.files.now) (job_of c.args.job.now) c.requires
+load-requires g c = may_open_program (g.F.Files.may c.args.files.now) (g.F.Files.opens c.args.files.now) (job_of c.args.job.now) c.requires.may
 
 pub returns-in_err-text-clause-refused : goal.returns-in_err-text-clause-refused
 returns-in_err-text-clause-refused g c =
@@ -28,30 +27,31 @@ returns-in_err-text-clause-complete g c h =
     let view : FilesView g.row.F.Denot = record { holds = g.F.Files.holds; opens = g.F.Files.opens; faults = g.F.Files.faults; given = g.F.Files.given } in
     rw (e.1, e.2) (only_fault view c.args.files.now c.load.new.files subjects.Program c.args.job.now.program.now program.bytes c.in_err-text.field-0.0 program.told program.fits c.in_err-text.ensures.refused)
 
-pub returns-in_err-program-clause-refused : goal.returns-in_err-program-clause-refused
-returns-in_err-program-clause-refused g c =
-    let e = err_from_is_err_and c.from_residual-in_err-program.result c.from_residual-in_err-program.ensures.1 in
-    let refused = subst (λ text. (c.in_err-program.field-0.0 ≡ refusals.Memory) ⊎ IsRefusalOf text c.in_err-program.field-0.0) c.deref.ensures.value c.in_err-program.ensures.refused in
-    rw (e.1, e.2) (cause_of_text _ (job_of c.args.job.now) c.args.files.now c.load.new.files c.in_ok-text.text.items c.in_err-program.field-0.0 c.in_ok-text.ensures.opens c.in_ok-text.ensures.loaded refused)
+pub returns-in_err-checked-clause-refused : goal.returns-in_err-checked-clause-refused
+returns-in_err-checked-clause-refused g c =
+    let e = err_from_is_err_and c.from_residual-in_err-checked.result c.from_residual-in_err-checked.ensures.1 in
+    let refused = subst (λ text. (c.in_err-checked.field-0.0 ≡ refusals.Memory) ⊎ IsRefusalOf text c.in_err-checked.field-0.0) c.deref.ensures.value c.in_err-checked.ensures.refused in
+    rw (e.1, e.2) (cause_of_text _ (job_of c.args.job.now) c.args.files.now c.load.new.files c.in_ok-text.text.items c.in_err-checked.field-0.0 c.in_ok-text.ensures.opens c.in_ok-text.ensures.loaded refused)
 
 -- the text is the program's, so that it isn't refused
-pub returns-in_err-program-clause-complete : goal.returns-in_err-program-clause-complete
-returns-in_err-program-clause-complete g c h =
-    let e = err_from_is_err_and c.from_residual-in_err-program.result c.from_residual-in_err-program.ensures.1 in
+pub returns-in_err-checked-clause-complete : goal.returns-in_err-checked-clause-complete
+returns-in_err-checked-clause-complete g c h =
+    let e = err_from_is_err_and c.from_residual-in_err-checked.result c.from_residual-in_err-checked.ensures.1 in
     let program = of_program (IsReadable (g.F.Files.holds c.args.files.now)) (job_of c.args.job.now) h in
     rw (e.1, e.2) (only_memory _ _ program.bytes c.in_ok-text.text.items c.deref.result.now program.serves.0 program.told
-    c.in_ok-text.ensures.loaded.is_held c.deref.ensures.value program.serves.1 c.in_err-program.ensures.accepted)
+    c.in_ok-text.ensures.loaded.is_held c.deref.ensures.value program.serves.1 c.in_err-checked.ensures.accepted)
 
 pub load-requires-2 : goal.load-requires-2
 load-requires-2 g c =
-    let allowed = may_open_input (g.F.Files.may c.args.files.now) (g.F.Files.opens c.args.files.now) (job_of c.args.job.now) (g.met.F.Files.may_at_last c.args.files.now) c.requires in
+    let allowed = may_open_input (g.F.Files.may c.args.files.now) (g.F.Files.opens c.args.files.now) (job_of c.args.job.now) (g.met.F.Files.may_at_last c.args.files.now) c.requires.may in
     rw (c.in_ok-text.ensures.may, c.in_ok-text.ensures.opens) allowed
 
 pub returns-in_err-input-clause-refused : goal.returns-in_err-input-clause-refused
 returns-in_err-input-clause-refused g c =
     let e = err_from_is_err_and c.from_residual-in_err-input.result c.from_residual-in_err-input.ensures.1 in
     let opened = c.in_err-input.ensures.opens ∙ ap (λ n. raised n 1) c.in_ok-text.ensures.opens in
-    let read = program_read _ (job_of c.args.job.now) c.args.files.now c.load.new.files c.in_ok-text.text.items c.in_ok-program.program c.in_ok-text.ensures.loaded (subst (λ text. IsProgramOf text c.in_ok-program.program) c.deref.ensures.value c.in_ok-program.ensures.program) in
+    let p = program_tree c.in_ok-checked.checked.program in
+    let read = program_read _ (job_of c.args.job.now) c.args.files.now c.load.new.files c.in_ok-text.text.items p c.in_ok-text.ensures.loaded (subst (λ text. IsAccepted text p) c.deref.ensures.value c.in_ok-checked.ensures.program) in
     rw (e.1, e.2) (cause_of_input _ (job_of c.args.job.now) c.args.files.now c.load.new.files c.load-2.new.files c.in_err-input.field-0.0 c.in_ok-text.ensures.holds c.in_ok-text.ensures.faults_kept read opened c.in_err-input.ensures.refused)
 
 pub returns-in_err-input-clause-complete : goal.returns-in_err-input-clause-complete
@@ -60,13 +60,3 @@ returns-in_err-input-clause-complete g c h =
     let input = of_input (IsReadable (g.F.Files.holds c.args.files.now)) (job_of c.args.job.now) h in
     let view : FilesView g.row.F.Denot = record { holds = g.F.Files.holds; opens = g.F.Files.opens; faults = g.F.Files.faults; given = g.F.Files.given } in
     rw (e.1, e.2) (only_fault view c.load.new.files c.load-2.new.files subjects.Input c.args.job.now.input.now input.bytes c.in_err-input.field-0.0 (ap (λ holds. holds c.args.job.now.input.now) c.in_ok-text.ensures.holds ∙ input.told) input.fits c.in_err-input.ensures.refused)
-
-pub returns-clause-run : goal.returns-clause-run
-returns-clause-run g c =
-    let opened = c.in_ok-input.ensures.opens ∙ ap (λ n. raised n 1) c.in_ok-text.ensures.opens in
-    let p = c.in_ok-program.program in
-    let run = c.in_ok-run.run' in
-    let is_program = subst (λ text. IsProgramOf text p) c.deref.ensures.value c.in_ok-program.ensures.program in
-    let is_run = subst (λ input. IsRunOf p input run.output.items (string_bytes run.report) (number_of run.status)) c.deref-2.ensures.value c.in_ok-run.ensures in
-    made_run _ (job_of c.args.job.now) c.args.files.now c.load.new.files c.load-2.new.files c.in_ok-text.text.items c.in_ok-input.input.items run.output.items (string_bytes run.report) p run.status
-    c.in_ok-text.ensures.loaded c.in_ok-input.ensures.loaded c.in_ok-text.ensures.holds opened is_program is_run

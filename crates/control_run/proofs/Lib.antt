@@ -1,0 +1,10 @@
+pub mod Claimed
+pub mod Skips
+pub mod Law
+pub mod Keeping
+pub mod Making
+pub mod Coming
+pub mod Joining
+pub mod Sites
+pub mod Ready
+pub mod Ended

@@ -1,0 +1,65 @@
+ghost use Rattle.std.specs.Prelude.{◌≤◌, IfOk};
+ghost use Rattle.os_code.specs.Codes.{parts_of};
+ghost use Rattle.control_run.specs.Ending.{IsMainUnit, IsReady};
+
+use crate::made::Made;
+use os_code::{Code, Unit};
+use os_io::Memory;
+use std::alloc::Global;
+use task_vm::registers::{Caller, Registers};
+
+/// A run of `main`: where it stands, its lists, and what it has made.
+#[derive(Debug, Drop)]
+pub(crate) struct Machine {
+    pub registers: Registers,
+    pub stack: Vec<i32>,
+    pub slots: Vec<i32>,
+    pub callers: Vec<Caller>,
+    pub made: Made,
+}
+
+impl Machine {
+    /// A machine at the start of `main`, with the length of the input in slot 0. It reserves the operand stack, the slots
+    /// and the calls that the code needs.
+    pub fn new(
+        alloc: Global,
+        code: &Code,
+        unit: Unit,
+        input_len: u32,
+        budget: u64,
+    ) -> Result<Machine, Memory>
+        requires input { input_len ≤ 4194304 }
+        requires unit { IsMainUnit (parts_of code.now) unit }
+        ensures { IfOk result (λ machine. IsReady (parts_of code.now) unit input_len budget (record {
+          registers = machine.registers;
+          stack = machine.stack.items;
+          slots = machine.slots.items;
+          callers = machine.callers.items;
+          made = machine.made;
+        })) }
+    {
+        let mut slots = vec![in alloc; 0; code.slots_need() as usize]?;
+        slots[0] = input_len as i32;
+        Ok(Machine {
+            registers: Registers {
+                place: unit.start as usize,
+                top: 0,
+                low: 0,
+                first: 0,
+                end: unit.slots as usize,
+                depth: 0,
+                turns: budget,
+                past: code.instrs.len() - unit.start as usize,
+            },
+            stack: vec![in alloc; 0; code.stack_need() as usize]?,
+            slots,
+            callers: vec![in alloc; Caller {
+                place: 0,
+                operands: 0,
+                slots: 0,
+                end: 0
+            }; code.units.len()]?,
+            made: Made::new(alloc, code.streams)?,
+        })
+    }
+}

@@ -1,0 +1,55 @@
+ghost use Rattle.std.specs.Prelude.{◌≡◌, ◌*◌, ◌<◌, ◌≤◌, All, length, map, pos, slice_index_or, IfOk, OnOk};
+ghost use Rattle.os_code.specs.Machine.{spawned_claims};
+ghost use Rattle.control_run.specs.Spawning.{HasWindow, spawn_end, spawn_made};
+
+use crate::claims::{captured_of, claims_of, horizons};
+use crate::made::{Made, take_skips};
+use flow_core::{Activation, ControlEnd};
+use os_code::Site;
+use os_io::Memory;
+use std::alloc::Global;
+
+/// Creates the activation of a site, or answers how `main` ends there. The slots are those of `main`; the operands are
+/// an index and a burst for each item.
+pub(crate) fn spawn(
+    alloc: Global,
+    streams: u32,
+    number: u32,
+    site: &Site,
+    slots: &[i32],
+    operands: &[i32],
+    made: &mut Made,
+) -> Result<Option<ControlEnd>, Memory>
+    requires windows { All (HasWindow (length slots.now)) site.now.items }
+    requires captured { All (λ slot. slot < length slots.now) site.now.captured }
+    requires pairs { length operands.now ≡ 2 * length site.now.items }
+    requires few { length site.now.items ≤ 8 }
+    requires streams { length made.old.skips ≡ streams }
+    requires positions { made.old.horizons ≤ 4194304 }
+    ensures end { IfOk result (λ end. end ≡ spawn_end made.old site.now.line (spawned_claims streams slots.now site.now.items operands.now)) }
+    ensures made { OnOk result (made.new ≡ spawn_made made.old number (map (λ slot. slice_index_or slots.now slot (pos 0)) site.now.captured)
+        (spawned_claims streams slots.now site.now.items operands.now)) }
+{
+    let mut claims = match claims_of(alloc, streams, slots, site.items.as_slice(), operands)? {
+        Ok(claims) => claims,
+        Err(code) => {
+            return Ok(Some(ControlEnd::Trapped {
+                code,
+                line: site.line,
+            }));
+        }
+    };
+    let positions = horizons(claims.as_slice());
+    if let Some(limit) = made.limit(positions) {
+        return Ok(Some(ControlEnd::Limit(limit)));
+    }
+    let captured = captured_of(alloc, slots, site.captured.as_slice())?;
+    take_skips(claims.as_mut_slice(), made.skips.as_mut_slice());
+    made.activations.push(Activation {
+        site: number,
+        captured,
+        claims,
+    })?;
+    made.horizons += positions;
+    Ok(None)
+}

@@ -1,0 +1,129 @@
+//! The units and sites of tasks, in the order of the text.
+
+ghost use Rattle.std.specs.Prelude.{◌≡◌, ◌+◌, OnOk, map};
+ghost use Rattle.lowering.specs.Emission.TaskUnits.{with_block_tasks, with_stmt_tasks};
+ghost use Rattle.lowering.specs.Emission.Units.{capped, task_code, task_tree, with_task, with_tasks, with_unit};
+ghost use Rattle.os_ast.specs.Views.{item_tree, stmt_tree, stmts_tree};
+ghost use Rattle.simulation.specs.Names.{told_at};
+ghost use Rattle.os_ast.specs.declared.names.Owner.TheVariants as owner;
+ghost use Rattle.simulation.specs.Programs.{size_by};
+ghost use Rattle.simulation.specs.Tasks.{program_tasks};
+ghost use Rattle.window_check.specs.Sums.{stmt_slots};
+
+use crate::sites::{captured_at, listed, site_items};
+use crate::slots::stmt_slots;
+use crate::told::Told;
+use crate::units::{Units, emit_task_body, is_main};
+use os_ast::{Item, Owner, Stmt, TaskSite};
+use os_code::Site;
+use os_io::{List, Memory};
+use std::alloc::Global;
+
+/// The tasks of `main`.
+#[tactic(auto, using(crate::proofs::Rules::tasks))]
+pub(crate) fn add_program_tasks(
+    alloc: Global,
+    made: &mut Units,
+    told: &Told<'_>,
+    captured: &[List<u32>],
+    items: &List<Item>,
+) -> Result<(), Memory>
+    ensures { OnOk result (made.new ≡ with_tasks (told_at told.now.names.now) captured.now (program_tasks (map item_tree items.now)) made.old) }
+{
+    for item in items.as_slice() {
+        if let Item::Function(function) = item {
+            if is_main(function) {
+                return add_all_tasks(alloc, made, told, captured, &function.body);
+            }
+        }
+    }
+    Ok(())
+}
+
+/// The tasks of a statement.
+#[cycle(tasks)]
+#[tactic(auto, using(crate::proofs::Rules::tasks))]
+fn add_tasks(
+    alloc: Global,
+    made: &mut Units,
+    told: &Told<'_>,
+    captured: &[List<u32>],
+    stmt: &Stmt,
+) -> Result<(), Memory>
+    ensures { OnOk result (made.new ≡ with_stmt_tasks (told_at told.now.names.now) captured.now (stmt_tree stmt.now) made.old) }
+{
+    match stmt {
+        Stmt::Block(stmts) => add_all_tasks(alloc, made, told, captured, stmts),
+        Stmt::If(_, first, None) => add_tasks(alloc, made, told, captured, first),
+        Stmt::If(_, first, Some(second)) => {
+            add_tasks(alloc, made, told, captured, first)?;
+            add_tasks(alloc, made, told, captured, second)
+        }
+        Stmt::While(_, body) => add_tasks(alloc, made, told, captured, body),
+        Stmt::For(_, body) => add_tasks(alloc, made, told, captured, body),
+        Stmt::Task(site) => add_task(alloc, made, told, captured, site),
+        Stmt::Empty
+        | Stmt::Declare(_)
+        | Stmt::Change(_)
+        | Stmt::Call(_)
+        | Stmt::Break(_)
+        | Stmt::Continue(_)
+        | Stmt::Return(_, _)
+        | Stmt::Tick(_)
+        | Stmt::Taskwait(_) => Ok(()),
+    }
+}
+
+/// The tasks of the statements of a block.
+#[cycle(tasks)]
+#[tactic(auto, using(crate::proofs::Rules::tasks))]
+fn add_all_tasks(
+    alloc: Global,
+    made: &mut Units,
+    told: &Told<'_>,
+    captured: &[List<u32>],
+    stmts: &List<Stmt>,
+) -> Result<(), Memory>
+    ensures { OnOk result (made.new ≡ with_block_tasks (told_at told.now.names.now) captured.now (stmts_tree stmts.now) made.old) }
+{
+    for stmt in stmts.as_slice() {
+        add_tasks(alloc, made, told, captured, stmt)?;
+    }
+    Ok(())
+}
+
+/// A task: its unit, whose first slots are what it captures, and its site.
+fn add_task(
+    alloc: Global,
+    made: &mut Units,
+    told: &Told<'_>,
+    captured: &[List<u32>],
+    site: &TaskSite,
+) -> Result<(), Memory>
+    ensures { OnOk result (made.new ≡ with_task (told_at told.now.names.now) captured.now (task_tree site.now) made.old) }
+{
+    // So many units leave no memory for another one.
+    let unit = u32::try_from(made.units.len()).map_err(|_| Memory)?;
+    let captured = listed(alloc, captured_at(captured, made.sites.len()))?;
+    let items = site_items(alloc, told, &site.clauses)?;
+    add_unit(made, told, captured.len(), &site.body)?;
+    made.sites.push(Site {
+        unit,
+        line: site.mark.line,
+        captured,
+        items,
+    })
+}
+
+/// The unit of a task that captures so many scalars.
+fn add_unit(made: &mut Units, told: &Told<'_>, captured: usize, body: &Stmt) -> Result<(), Memory>
+    ensures { OnOk result (made.new ≡ with_unit (task_code (told_at told.now.names.now) (stmt_tree body.now)) captured
+        (capped (captured + stmt_slots owner.OfTask (size_by (told_at told.now.names.now)) (stmt_tree body.now))) made.old) }
+{
+    let start = made.draft.instrs.len();
+    emit_task_body(&mut made.draft, told, body)?;
+    // So many captured scalars leave no memory for another one.
+    let args = u32::try_from(captured).map_err(|_| Memory)?;
+    let slots = args.saturating_add(stmt_slots(told, Owner::OfTask, body));
+    made.add(start, args, slots)
+}

@@ -1,0 +1,190 @@
+//! The units of functions and of tasks: a body each, and behind it what it does where it falls off its end.
+
+ghost use Rattle.std.specs.Prelude.{◌≡◌, ◌==◌, OnOk, map};
+ghost use Rattle.lowering.specs.Emission.Units.{
+  exits_of,
+  function_code,
+  function_tree,
+  main_code,
+  no_units,
+  task_code,
+  unit_from,
+  with_functions,
+  with_item,
+  with_main,
+  with_plain,
+};
+ghost use Rattle.os_ast.specs.Names.{main_id};
+ghost use Rattle.os_ast.specs.Notes.Programs.{param_names};
+ghost use Rattle.os_ast.specs.Views.{item_tree, stmt_tree, stmts_tree};
+ghost use Rattle.simulation.specs.Names.{told_at};
+
+use crate::draft::{Draft, Label};
+use crate::exits::Exits;
+use crate::slots::stmts_slots;
+use crate::statements::{emit_block, emit_stmt};
+use crate::told::Told;
+use os_ast::{Function, Item, Name, Owner, Params, Stmt};
+use os_code::{Instr, Site, Unit};
+use os_io::{List, Memory};
+use std::alloc::Global;
+
+/// The number of the name `main`.
+const MAIN: u32 = 8;
+
+/// A code while it is made: the draft of its instructions, and its units and sites so far.
+#[derive(Debug, Drop)]
+pub struct Units {
+    pub draft: Draft,
+    pub units: List<Unit>,
+    pub sites: List<Site>,
+    /// The number of the unit of `main`, once it is there.
+    pub main: u32,
+}
+
+impl Units {
+    /// No unit yet.
+    pub(crate) fn new(alloc: Global) -> Units
+        ensures { result ≡ no_units }
+    {
+        Units {
+            draft: Draft::new(alloc),
+            units: List::new(alloc),
+            sites: List::new(alloc),
+            main: 0,
+        }
+    }
+
+    /// A unit of the code from a place on, which has been drafted.
+    pub(crate) fn add(&mut self, start: usize, args: u32, slots: u32) -> Result<(), Memory>
+        ensures { OnOk result (self.new ≡ unit_from start args slots self.old) }
+    {
+        // So many instructions leave no memory for another one.
+        let stack = u32::try_from(self.draft.instrs.len().saturating_sub(start)).map_err(
+            |_| Memory,
+        )?;
+        let start = u32::try_from(start).map_err(|_| Memory)?;
+        self.units.push(Unit {
+            start,
+            args,
+            slots,
+            stack,
+        })
+    }
+}
+
+/// The functions, in the order of the text.
+#[tactic(auto, using(crate::proofs::Rules::declarators))]
+pub(crate) fn add_functions(
+    made: &mut Units,
+    told: &Told<'_>,
+    items: &List<Item>,
+) -> Result<(), Memory>
+    ensures { OnOk result (made.new ≡ with_functions (told_at told.now.names.now) (map item_tree items.now) made.old) }
+{
+    for item in items.as_slice() {
+        add_item(made, told, item)?;
+    }
+    Ok(())
+}
+
+/// An item, which has a unit where it is a function.
+fn add_item(made: &mut Units, told: &Told<'_>, item: &Item) -> Result<(), Memory>
+    ensures { OnOk result (made.new ≡ with_item (told_at told.now.names.now) (item_tree item.now) made.old) }
+{
+    match item {
+        Item::Constant(_) => Ok(()),
+        Item::Function(function) => {
+            if is_main(function) {
+                add_main(made, told, function)
+            } else {
+                add_function(made, told, function)
+            }
+        }
+    }
+}
+
+/// Whether a function is `main`.
+pub(crate) fn is_main(function: &Function) -> bool
+    ensures { result ≡ (function.now.name.id == main_id) }
+{
+    function.name.id == MAIN
+}
+
+/// A function: its parameters are its first slots.
+fn add_function(made: &mut Units, told: &Told<'_>, function: &Function) -> Result<(), Memory>
+    ensures { OnOk result (made.new ≡ with_plain (told_at told.now.names.now) (function_tree function.now) made.old) }
+{
+    let start = made.draft.instrs.len();
+    emit_function(&mut made.draft, told, &function.body)?;
+    // So many parameters leave no memory for another one.
+    let args = u32::try_from(param_names(&function.params).len()).map_err(|_| Memory)?;
+    let slots = args.saturating_add(stmts_slots(told, Owner::OfFunction, &function.body));
+    made.add(start, args, slots)
+}
+
+/// `main`: its slot 0 has the length of the input.
+fn add_main(made: &mut Units, told: &Told<'_>, function: &Function) -> Result<(), Memory>
+    ensures { OnOk result (made.new ≡ with_main (told_at told.now.names.now) (function_tree function.now) made.old) }
+{
+    let start = made.draft.instrs.len();
+    // So many units leave no memory for another one.
+    let number = u32::try_from(made.units.len()).map_err(|_| Memory)?;
+    emit_main(&mut made.draft, told, &function.body)?;
+    let slots = stmts_slots(told, Owner::OfMain, &function.body).saturating_add(1);
+    made.add(start, 1, slots)?;
+    made.main = number;
+    Ok(())
+}
+
+/// The names of a function's parameters.
+fn param_names(params: &Params) -> &[Name]
+    ensures { result.now ≡ param_names params.now }
+{
+    match params {
+        Params::Empty | Params::Void => &[],
+        Params::Names(names) => names.as_slice(),
+    }
+}
+
+/// A function's code: behind its body it returns 0.
+fn emit_function(draft: &mut Draft, told: &Told<'_>, body: &List<Stmt>) -> Result<(), Memory>
+    ensures { OnOk result (draft.new ≡ function_code (told_at told.now.names.now) (stmts_tree body.now) draft.old) }
+{
+    let end = draft.label()?;
+    emit_block(draft, told, body, exits_of(end, Instr::Return), None)?;
+    draft.place(end)?;
+    draft.emit(Instr::Push(0))?;
+    draft.emit(Instr::Return)
+}
+
+/// The code of `main`, which ends behind its body.
+fn emit_main(draft: &mut Draft, told: &Told<'_>, body: &List<Stmt>) -> Result<(), Memory>
+    ensures { OnOk result (draft.new ≡ main_code (told_at told.now.names.now) (stmts_tree body.now) draft.old) }
+{
+    let end = draft.label()?;
+    emit_block(draft, told, body, exits_of(end, Instr::End), None)?;
+    draft.place(end)?;
+    draft.emit(Instr::End)
+}
+
+/// The code of a task, which ends behind its body.
+pub(crate) fn emit_task_body(draft: &mut Draft, told: &Told<'_>, body: &Stmt) -> Result<(), Memory>
+    ensures { OnOk result (draft.new ≡ task_code (told_at told.now.names.now) (stmt_tree body.now) draft.old) }
+{
+    let end = draft.label()?;
+    emit_stmt(draft, told, body, exits_of(end, Instr::End), None)?;
+    draft.place(end)?;
+    draft.emit(Instr::End)
+}
+
+/// `break` and `continue` outside loops go to the end of the body.
+fn exits_of(end: Label, leaves: Instr) -> Exits
+    ensures { result ≡ exits_of end leaves }
+{
+    Exits {
+        broke: end,
+        continued: end,
+        leaves,
+    }
+}
