@@ -115,6 +115,25 @@ check "two kinds of tasks with a stream between them" 0 01000300 "control done /
 run run "$top/examples/broadcast.c" in.bin
 check "an array of streams" 0 010000020100030100040201 "control done / output 12 of 12"
 
+printf '\002\000\005' >zero.bin
+run run "$top/examples/divide.c" zero.bin
+check "a byte that traps" 1 32 "trapped 1 code 2 line 8 / control done / output 1 of 3"
+
+# What the documents show of programs stands in the examples, word for word.
+awk '/^```c$/ { n++; on = 1; next } /^```$/ { on = 0 } on { print >("shown." n) }' "$top/README.md" "$top/docs/GUIDE.md"
+for shown in shown.*; do
+    found=0
+    for example in "$top"/examples/*.c; do
+        [[ $(cat "$example") == *"$(cat "$shown")"* ]] && found=1
+    done
+    if [ "$found" = 1 ]; then
+        passed=$((passed + 1))
+    else
+        failed=$((failed + 1))
+        printf 'a program of the documents stands in no example: %s\n' "$(cat "$shown")"
+    fi
+done
+
 # The codecs over a sine, noise, an image, a text, and what is shorter than a block.
 bytes 4096 "128 + 100 * sin(k * 6.283185307 / 64)" >sine.bin
 bytes 4096 "x / 65536 % 256" >noise.bin
