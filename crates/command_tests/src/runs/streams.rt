@@ -70,7 +70,10 @@ fn activations_that_wait_for_each_other_are_starved(rt: HostRuntime) -> Result<(
 ",
             input: &[],
             out: &[],
-            report: "starved 0 stream 2 position 0 producer 1 starved\nstarved 1 stream 3 position 0 producer 0 starved\nstarved 2 stream 2 position 1 producer 2 starved\ncontrol done\noutput 0 of 0\n",
+            report: "starved 0 stream 2 position 0 producer 1 starved\n\
+                starved 1 stream 3 position 0 producer 0 starved\n\
+                starved 2 stream 2 position 1 producer 2 starved\n\
+                control done\noutput 0 of 0\n",
             status: 1,
         },
     )

@@ -127,7 +127,10 @@ fn who_waits_for_a_trapped_activation_is_starved(rt: HostRuntime) -> Result<(), 
 ",
             input: &[],
             out: &[],
-            report: "trapped 0 code 3 line 5\nover-budget 1\nstarved 2 stream 3 position 0 producer 1 over-budget\nstarved 3 stream 2 position 0 producer 0 trapped\ncontrol done\noutput 0 of 2\n",
+            report: "trapped 0 code 3 line 5\nover-budget 1\n\
+                starved 2 stream 3 position 0 producer 1 over-budget\n\
+                starved 3 stream 2 position 0 producer 0 trapped\n\
+                control done\noutput 0 of 2\n",
             status: 1,
         },
     )
