@@ -10,12 +10,17 @@ trap 'rm -rf "$work"' EXIT
 passed=0
 failed=0
 
+# told: the report of the last run, whose lines are parted by " / ".
+told() {
+    sed -e ':a' -e '$!{N;ba' -e '}' -e 's|\n| / |g' "$work/report"
+}
+
 # check NAME STATUS OUT REPORT: compares the last run with the status, the bytes of the output in hexadecimal,
-# and the report, whose lines are parted by " / ".
+# and the report.
 check() {
     local out report
     out=$(od -An -tx1 -v "$work/out" | tr -d ' \n')
-    report=$(sed -e ':a' -e '$!{N;ba' -e '}' -e 's|\n| / |g' "$work/report")
+    report=$(told)
     if [ "$status" = "$2" ] && [ "$out" = "$3" ] && [ "$report" = "$4" ]; then
         passed=$((passed + 1))
     else
@@ -25,9 +30,51 @@ check() {
     fi
 }
 
+# agree NAME STATUS FILE REPORT: compares the last run with the status, a file for its output, and the report.
+agree() {
+    if [ "$status" = "$2" ] && cmp -s "$work/out" "$3" && [ "$(told)" = "$4" ]; then
+        passed=$((passed + 1))
+    else
+        failed=$((failed + 1))
+        printf '%s: status %s, report %s; wanted %s, %s, and the output %s\n' "$1" "$status" "$(told)" "$2" "$4" "$3"
+    fi
+}
+
 run() {
     "$osrun" "$@" >"$work/out" 2>"$work/report"
     status=$?
+}
+
+# bytes COUNT EXPRESSION: writes so many bytes, of which that at place k is an expression of awk. In it x runs through the
+# numbers of a generator.
+bytes() {
+    printf "$(awk "BEGIN { x = 1; for (k = 0; k < $1; k++) { x = x * 16807 % 2147483647; printf \"\\\\%03o\", int($2) } }")"
+}
+
+# is_within FILE FILE MOST: whether two files are as long, and no bytes of them differ by more.
+is_within() {
+    [ "$(wc -c <"$1")" = "$(wc -c <"$2")" ] && cmp -l "$1" "$2" | awk -v most="$3" '
+        function value(octal) { return int(octal / 100) * 64 + int(octal % 100 / 10) * 8 + octal % 10 }
+        { by = value($2) - value($3); if (by > most || -by > most) apart = 1 }
+        END { exit apart }'
+}
+
+# comes_back CODEC FILE MOST: codes a file and decodes it, by 1 and by 4 workers, and compares what comes back with it.
+comes_back() {
+    local workers
+    for workers in 1 4; do
+        run run "$top/examples/$1.c" "$2" --workers "$workers"
+        mv "$work/out" "$work/coded.$workers"
+        if [ "$status" = 0 ]; then
+            run run "$top/examples/un$1.c" "$work/coded.$workers" --workers "$workers"
+        fi
+        if [ "$status" = 0 ] && is_within "$2" "$work/out" "$3" && cmp -s "$work/coded.$workers" "$work/coded.1"; then
+            passed=$((passed + 1))
+        else
+            failed=$((failed + 1))
+            printf '%s and its inverse over %s by %s workers: status %s, report %s\n' "$1" "$2" "$workers" "$status" "$(told)"
+        fi
+    done
 }
 
 cp "$top/examples/first.c" "$top/examples/in.bin" "$work"
@@ -48,7 +95,130 @@ check "an input that is too short" 1 "" "starved 0 stream 0 position 2 producer 
 run run first.c full.bin
 check "the longest input" 0 00000000 "control done / output 4 of 4"
 run run empty.c in.bin
-check "an empty program" 3 "" "refused 4"
+check "an empty program" 3 "" "refused 23 line 1"
+run run /dev/stdin in.bin <first.c
+check "a program from standard input" 0 04030201 "control done / output 4 of 4"
+run run first.c /dev/stdin <in.bin
+check "an input from standard input" 0 04030201 "control done / output 4 of 4"
+
+# The examples over four bytes.
+run run "$top/examples/invert.c" in.bin
+check "blocks that are inverted" 0 fefdfcfb "control done / output 4 of 4"
+run run "$top/examples/smooth.c" in.bin
+check "means of three" 0 0203 "control done / output 2 of 2"
+run run "$top/examples/lift.c" in.bin
+check "a lifting step" 0 01010301 "control done / output 4 of 4"
+run run "$top/examples/unlift.c" in.bin
+check "a lifting step that is taken back" 0 00020105 "control done / output 4 of 4"
+run run "$top/examples/pipeline.c" in.bin
+check "two kinds of tasks with a stream between them" 0 01000300 "control done / output 4 of 4"
+run run "$top/examples/broadcast.c" in.bin
+check "an array of streams" 0 010000020100030100040201 "control done / output 12 of 12"
+
+printf '\002\000\005' >zero.bin
+run run "$top/examples/divide.c" zero.bin
+check "a byte that traps" 1 32 "trapped 1 code 2 line 8 / control done / output 1 of 3"
+
+# What the documents show of programs stands in the examples, word for word.
+awk '/^```c$/ { n++; on = 1; next } /^```$/ { on = 0 } on { print >("shown." n) }' "$top/README.md" "$top/docs/GUIDE.md"
+for shown in shown.*; do
+    found=0
+    for example in "$top"/examples/*.c; do
+        [[ $(cat "$example") == *"$(cat "$shown")"* ]] && found=1
+    done
+    if [ "$found" = 1 ]; then
+        passed=$((passed + 1))
+    else
+        failed=$((failed + 1))
+        printf 'a program of the documents stands in no example: %s\n' "$(cat "$shown")"
+    fi
+done
+
+# The codecs over a sine, noise, an image, a text, and what is shorter than a block.
+bytes 4096 "128 + 100 * sin(k * 6.283185307 / 64)" >sine.bin
+bytes 4096 "x / 65536 % 256" >noise.bin
+bytes 3072 "(k % 64 * 3 + k / 64 * 5) % 256" >image.bin
+bytes 4099 "x / 65536 % 256" >odd.bin
+printf '\310\003\377' >three.bin
+: >nothing.bin
+for codec in wavelet bank delta; do
+    for file in sine.bin noise.bin image.bin odd.bin three.bin nothing.bin "$top/README.md"; do
+        comes_back "$codec" "$file" 0
+    done
+done
+for file in sine.bin noise.bin image.bin nothing.bin; do
+    comes_back lift "$file" 0
+done
+for file in sine.bin noise.bin image.bin odd.bin three.bin nothing.bin "$top/README.md"; do
+    comes_back dct "$file" 6
+done
+comes_back adpcm sine.bin 4
+
+# Any number of workers gives the same bytes.
+for program in smooth bank wavelet adpcm; do
+    run run "$top/examples/$program.c" odd.bin --workers 1
+    mv out alone.bin
+    claimed=$(wc -c <alone.bin)
+    for workers in 2 7 64; do
+        run run "$top/examples/$program.c" odd.bin --workers "$workers"
+        agree "$program by $workers workers" 0 alone.bin "control done / output $claimed of $claimed"
+    done
+done
+
+# As many activations as a run may have, and a megabyte in blocks of 64.
+head -c 65536 /dev/zero >zeros.bin
+head -c 65538 /dev/zero >more.bin
+run run "$top/examples/pipeline.c" zeros.bin
+agree "65,536 activations" 0 zeros.bin "control done / output 65536 of 65536"
+run run "$top/examples/pipeline.c" more.bin
+agree "a pair too many" 1 zeros.bin "control limit 1 / output 65536 of 65536"
+sed 's/B = 4/B = 64/' "$top/examples/invert.c" >invert.c
+head -c 1048576 /dev/zero >million.bin
+tr '\0' '\377' <million.bin >ones.bin
+run run invert.c million.bin
+agree "a megabyte in blocks of 64" 0 ones.bin "control done / output 1048576 of 1048576"
+
+# A reader that leaves: it is gone before the output comes.
+{ sleep 1; "$osrun" run invert.c million.bin 2>report; echo "$?" >left; } | :
+status=$(cat left)
+: >out
+check "a closed standard output" 6 "" ""
+
+# Programs that never end by themselves are stopped by their budgets, and those that take all that they may end.
+echo 'int main(void) { while (1) ; }' >endless.c
+cat >endless_tasks.c <<'END'
+int main(void) {
+    int i, y;
+    for (i = 0; i < 65536; i++) {
+        #pragma omp task output(osout << y)
+        while (1) ;
+    }
+}
+END
+cat >windows.c <<'END'
+int main(void) {
+    int s __attribute__((stream));
+    int i;
+    for (i = 0; i < 65536; i++) {
+        int w[64];
+        #pragma omp task output(s << w[64])
+        w[0] = i;
+    }
+}
+END
+: >nothing.bin
+began=$SECONDS
+run run endless.c in.bin --control 1000000000
+agree "a control program that never ends" 1 nothing.bin "control over-budget / output 0 of 0"
+echo "a control program that never ends was stopped after $((SECONDS - began)) seconds"
+run run endless_tasks.c in.bin --budget 1000
+: >out
+seq 0 65535 | sed 's/^/over-budget /' >wanted
+printf 'control done\noutput 0 of 65536\n' >>wanted
+cmp -s report wanted && echo "as wanted" >report
+agree "65,536 tasks that never end" 1 nothing.bin "as wanted"
+run run windows.c in.bin
+agree "65,536 windows of 64" 0 nothing.bin "control done / output 0 of 0"
 
 run
 check "no words" 2 "" usage
@@ -106,7 +276,7 @@ status=$?
 check "a refusal and a full standard error" 3 "" ""
 
 # Whichever allocation fails, the status is 7 and nothing is written, or the answer is that of ample memory. A run
-# makes fewer than 100 of them, and so do bad words.
+# makes fewer than 400 of them, and so do bad words.
 compiler=$(command -v cc || command -v clang || echo "$(dirname "$(readlink -f "$(command -v rt)")")/../toolchain/bin/clang")
 "$compiler" -shared -fPIC -nostdlib -O1 -o failing_allocation.so "$top/tests/failing_allocation.c"
 # run_without NUMBER WORD..: runs the words, and lets the allocation of that number fail.
@@ -114,7 +284,7 @@ run_without() {
     LD_PRELOAD=$work/failing_allocation.so FAILING_ALLOCATION=$1 "$program" "${@:2}" >out 2>report
     status=$?
 }
-for number in $(seq 1 99); do
+for number in $(seq 1 399); do
     run_without "$number" run first.c in.bin
     if [ "$status" = 7 ]; then
         check "allocation $number of a run fails" 7 "" ""
@@ -130,9 +300,9 @@ for number in $(seq 1 99); do
 done
 run_without 1 run first.c in.bin
 check "the first allocation fails" 7 "" ""
-run_without 100 run first.c in.bin
+run_without 400 run first.c in.bin
 check "a run makes fewer allocations" 0 04030201 "control done / output 4 of 4"
-run_without 100 run --help
+run_without 400 run --help
 check "bad words make fewer allocations" 2 "" usage
 
 # The program that judges files.

@@ -122,6 +122,3 @@ pub fn run_words<R: Threads + Sync, F: Files, O: Sink, E: Sink, G: Gate>(
         Err(WordsError::Memory) => Status::NoMemory.number(),
     }
 }
-
-#[cfg(test)]
-mod tests;
