@@ -119,6 +119,14 @@ printf '\002\000\005' >zero.bin
 run run "$top/examples/divide.c" zero.bin
 check "a byte that traps" 1 32 "trapped 1 code 2 line 8 / control done / output 1 of 3"
 
+run run "$top/examples/invert.c" in.bin --budget 0
+check "tasks without a budget" 1 "" "over-budget 0 / control done / output 0 of 4"
+run run "$top/examples/invert.c" in.bin --control 0
+check "a control program without a budget" 1 "" "control over-budget / output 0 of 0"
+printf 'int main(void) {\n    x = 1;\n}\n' >unknown.c
+run run unknown.c in.bin
+check "a name that nobody declared" 3 "" "refused 10 line 2"
+
 # What the documents show of programs stands in the examples, word for word.
 awk '/^```c$/ { n++; on = 1; next } /^```$/ { on = 0 } on { print >("shown." n) }' "$top/README.md" "$top/docs/GUIDE.md"
 for shown in shown.*; do

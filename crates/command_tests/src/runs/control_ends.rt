@@ -32,7 +32,7 @@ fn a_control_program_over_budget_leaves_what_it_created(rt: HostRuntime) -> Resu
 #[test]
 fn a_control_program_ends_at_65536_activations(rt: HostRuntime) -> Result<(), Fail> {
     let mut wanted = Vec::new(rt.alloc());
-    for place in 0..65_536 {
+    for place in 0..65_536_u32 {
         wanted.push((place % 256) as u8)?;
     }
     let left = call_run(&rt, MANY.as_bytes(), &[])?;
@@ -61,8 +61,8 @@ const WIDE: &str = r"int main(void) {
 #[test]
 fn a_control_program_ends_where_windows_cover_too_much(rt: HostRuntime) -> Result<(), Fail> {
     let mut wanted = Vec::new(rt.alloc());
-    for place in 0..63 {
-        wanted.push(place as u8)?;
+    for place in 0..63_u8 {
+        wanted.push(place)?;
     }
     let left = call_run(&rt, WIDE.as_bytes(), &[])?;
     has_left(&rt, &left, &wanted, "control limit 2\noutput 63 of 63\n", 1)
