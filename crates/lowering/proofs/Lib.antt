@@ -11,6 +11,8 @@ pub mod FewExpressions
 pub mod FewStatements
 pub mod FewTasks
 pub mod FewUnits
+pub mod Framed
+pub mod FunctionsStand
 pub mod Givens
 pub mod Going
 pub mod GoingOn
@@ -22,6 +24,7 @@ pub mod Lawful
 pub mod Lists
 pub mod Loops
 pub mod LoopsStand
+pub mod MainAlone
 pub mod NameCounts
 pub mod Numbering
 pub mod Ordered
@@ -41,6 +44,7 @@ pub mod StatementsStand
 pub mod Sums
 pub mod TaskNumbers
 pub mod TaskParts
+pub mod TaskUnitsStand
 pub mod TasksInMain
 pub mod TasksStand
 pub mod Tiled
