@@ -1,4 +1,4 @@
-//! Bodies with each instruction, worked out by hand. Where the values of a run are named, they are the captured ones.
+//! Bodies with each instruction, worked out by hand.
 
 use flow_core::TaskEnd;
 use flow_core::TaskEnd::{Done, OverBudget, Trapped};
@@ -42,7 +42,7 @@ pub(crate) const CASES: [Case<'static>; 29] = [
         &[Push(0), Push(7), Copy, ADD, SET, End],
         &[([0, 0], 0, Done, 6, [14, 0, 0])],
     ),
-    // slots: the captured values are 0 and 1, and all others 0
+    // the captured values are slots 0 and 1, and all other slots are 0
     (
         &[Push(0), Load(1), SET, Push(1), Load(3), SET, End],
         &[([5, 6], 0, Done, 7, [6, 0, 0])],
