@@ -1,7 +1,7 @@
 -- Codes that are written out, and activations that fit them.
-use Rattle.std.proofs.Common.{◌≡◌, ℕ, Bool, true, false, List, [], ◌∷◌, ◌++◌, length, Some, None, Option, ℤ, refl, sym, ap, subst, ◌∙◌, arith}
+use Rattle.std.proofs.Common.{◌≡◌, ℕ, zero, suc, ◌+◌, ◌<◌, get_or, Bool, true, false, List, [], ◌∷◌, ◌++◌, length, Some, None, Option, ℤ, refl, sym, ap, subst, ◌∙◌, arith}
 use Rattle.std.specs.Prelude.{◌==◌, ◌&&◌, nat_le, nat_lt}
-use Rattle.std.specs.List.{AllZip}
+use Rattle.std.specs.List.{AllZip, list_all}
 use Rattle.std.proofs.lemmas.Bool.{and_parts, eqb-true, ltb-true, leb-true}
 use Rattle.flow_core.specs.declared.activation.Activation.{Activation}
 use Rattle.flow_core.specs.declared.claim.Claim.{Claim}
@@ -13,6 +13,12 @@ use Rattle.os_code.specs.declared.unit.Unit.{Unit as CodeUnit}
 use Rattle.os_code.specs.Parts.{site_at}
 use Rattle.os_code.specs.Tasks.{ClaimFits, Fits}
 use Rattle.task_vm.specs.Written.{written, same_bool, single_fits, claim_fits, claims_fit, is_run}
+
+-- what holds of each element holds of one
+pub of_each : {A : Type 0} (test : A → Bool) (xs : List A) (k : ℕ) (d : A) → k < length xs → list_all test xs ≡ true → test (get_or xs k d) ≡ true
+of_each test [] k d inside all = absurd (omega arith)
+of_each test (x ∷ xs) zero d inside all = (and_parts (test x) (list_all test xs) all).0
+of_each test (x ∷ xs) (suc k) d inside all = of_each test xs k d (omega arith) (and_parts (test x) (list_all test xs) all).1
 
 same-bool : (a b : Bool) → same_bool a b ≡ true → b ≡ a
 same-bool true true e = refl

@@ -1,12 +1,22 @@
-//! Tasks that were worked out by hand, twice each with one scratch: the ends, the steps and what is written.
+//! Tasks that were worked out by hand: the ends, the steps and what is written.
 
+ghost use Rattle.std.specs.Prelude.{◌≡◌, true};
+ghost use Rattle.std.specs.List.{list_all};
+ghost use Rattle.os_code.specs.Checking.{is_valid};
+ghost use Rattle.task_vm.specs.Written.{alone};
+
+mod alone;
+mod table;
 mod written;
 
+use alone::run_alone;
 use flow_core::{Claim, TaskEnd};
 use os_code::{Binary, Instr, SiteItem, Unary, Unit};
 use os_io::Memory;
 use std::alloc::Global;
+use std::process::Abort;
 use std::test::Fail;
+use table::{CASES, Case, Run, SET};
 use written::{Ran, run_twice};
 
 /// The end of a task that is done, after so many steps.
@@ -31,189 +41,65 @@ fn over(steps: u64) -> Ran {
     }
 }
 
-/// An operator on two captured values, then on two others.
-fn binary(
-    alloc: Global,
-    op: Binary,
-    first: [i32; 2],
-    second: [i32; 2],
-) -> Result<(Ran, Ran, [i32; 1]), Memory> {
-    let instrs = [
+/// Whether a body comes to what each of its runs says, where the last of them was made before with the same scratch.
+fn comes_to(rt: &(impl AllocGlobal + Abort), body: &[Instr], runs: &[Run]) -> Result<(), Fail>
+    requires { is_valid (alone body.now) ≡ true }
+{
+    assert!(rt; body.len() <= 1000);
+    let Some(last) = runs.last() else {
+        return Err(Fail::from("a body without runs"));
+    };
+    let (last_values, last_budget, last_end, last_steps, _) = *last;
+    for run in runs {
+        let (values, budget, end, steps, outputs) = *run;
+        let (before, ran, written) = run_alone(
+            rt.alloc(),
+            body,
+            (last_values, last_budget.min(1000)),
+            (values, budget.min(1000)),
+        )?;
+        assert_eq!(rt; (before.end, before.steps), (last_end, last_steps));
+        assert_eq!(rt; (ran.end, ran.steps), (end, steps));
+        assert!(rt; end != TaskEnd::Done || written == outputs);
+    }
+    Ok(())
+}
+
+/// Whether each body comes to what its runs say.
+fn all_come_to(rt: &(impl AllocGlobal + Abort), cases: &[Case<'_>]) -> Result<(), Fail>
+    requires { list_all (λ case. is_valid (alone case.0.now)) cases.now ≡ true }
+{
+    for case in cases {
+        comes_to(rt, case.0, case.1)?;
+    }
+    Ok(())
+}
+
+/// How an operator on two captured values ends, and what it gives.
+fn binary(alloc: Global, op: Binary, values: [i32; 2]) -> Result<(Ran, i32), Memory> {
+    let body = [
         Instr::Push(0),
         Instr::Load(0),
         Instr::Load(1),
         Instr::Binary { op, line: 4 },
-        Instr::ItemStore { item: 0, line: 5 },
-        Instr::End,
+        SET,
         Instr::End,
     ];
-    let units = [
-        Unit {
-            start: 0,
-            args: 2,
-            slots: 2,
-            stack: 3,
-        },
-        Unit {
-            start: 6,
-            args: 1,
-            slots: 9,
-            stack: 0,
-        },
-    ];
-    let items = [SiteItem {
-        write: true,
-        stream: 2,
-        window: None,
-    }];
-    let claims = [Claim {
-        stream: 2,
-        write: true,
-        horizon: 1,
-        burst: 1,
-        skip: 0,
-    }];
-    let mut outputs = [0; 1];
-    let (one, other) = run_twice(
-        alloc,
-        &instrs,
-        &units,
-        0,
-        &[1, 2],
-        &items,
-        &claims,
-        &[],
-        (&first, 0),
-        (&second, 0),
-        &mut outputs,
-    )?;
-    Ok((one, other, outputs))
+    let (_, ran, outputs) = run_alone(alloc, &body, ([1, 0], 0), (values, 0))?;
+    Ok((ran, outputs[0]))
 }
 
-/// An operator on a captured value, then on another one.
-fn unary(
-    alloc: Global,
-    op: Unary,
-    first: i32,
-    second: i32,
-) -> Result<(Ran, Ran, [i32; 1]), Memory> {
-    let instrs = [
+/// How an operator on a captured value ends, and what it gives.
+fn unary(alloc: Global, op: Unary, value: i32) -> Result<(Ran, i32), Memory> {
+    let body = [
         Instr::Push(0),
         Instr::Load(0),
         Instr::Unary { op, line: 4 },
-        Instr::ItemStore { item: 0, line: 5 },
-        Instr::End,
-        Instr::End,
-    ];
-    let units = [
-        Unit {
-            start: 0,
-            args: 1,
-            slots: 1,
-            stack: 2,
-        },
-        Unit {
-            start: 5,
-            args: 1,
-            slots: 9,
-            stack: 0,
-        },
-    ];
-    let items = [SiteItem {
-        write: true,
-        stream: 2,
-        window: None,
-    }];
-    let claims = [Claim {
-        stream: 2,
-        write: true,
-        horizon: 1,
-        burst: 1,
-        skip: 0,
-    }];
-    let mut outputs = [0; 1];
-    let (one, other) = run_twice(
-        alloc,
-        &instrs,
-        &units,
-        0,
-        &[1],
-        &items,
-        &claims,
-        &[],
-        (&[first], 0),
-        (&[second], 0),
-        &mut outputs,
-    )?;
-    Ok((one, other, outputs))
-}
-
-/// Counts to 5 with a turn for each, and keeps the last number before it.
-fn counting(alloc: Global, first: u64, second: u64) -> Result<(Ran, Ran, [i32; 1]), Memory> {
-    let instrs = [
-        Instr::Turn,
-        Instr::Load(0),
-        Instr::Push(5),
-        Instr::Binary {
-            op: Binary::Less,
-            line: 0,
-        },
-        Instr::JumpZero(13),
-        Instr::Push(0),
-        Instr::Load(0),
-        Instr::ItemStore { item: 0, line: 0 },
-        Instr::Load(0),
-        Instr::Push(1),
-        Instr::Binary {
-            op: Binary::Add,
-            line: 0,
-        },
-        Instr::Store(0),
-        Instr::Jump(0),
-        Instr::End,
+        SET,
         Instr::End,
     ];
-    let units = [
-        Unit {
-            start: 0,
-            args: 0,
-            slots: 1,
-            stack: 2,
-        },
-        Unit {
-            start: 14,
-            args: 1,
-            slots: 9,
-            stack: 0,
-        },
-    ];
-    let items = [SiteItem {
-        write: true,
-        stream: 2,
-        window: None,
-    }];
-    let claims = [Claim {
-        stream: 2,
-        write: true,
-        horizon: 1,
-        burst: 1,
-        skip: 0,
-    }];
-    let mut outputs = [0; 1];
-    let (one, other) = run_twice(
-        alloc,
-        &instrs,
-        &units,
-        0,
-        &[],
-        &items,
-        &claims,
-        &[],
-        (&[], first.min(1000000000)),
-        (&[], second.min(1000000000)),
-        &mut outputs,
-    )?;
-    Ok((one, other, outputs))
+    let (_, ran, outputs) = run_alone(alloc, &body, ([1, 0], 0), ([value, 0], 0))?;
+    Ok((ran, outputs[0]))
 }
 
 /// Divides 1 by a captured value, three calls deep.
@@ -302,246 +188,6 @@ fn deep(
         &[],
         (&[first.0], first.1.min(1000000000)),
         (&[second.0], second.1.min(1000000000)),
-        &mut outputs,
-    )?;
-    Ok((one, other, outputs))
-}
-
-/// Calls twice a function that keeps a number in a slot of its own, and leaves operands behind.
-fn frames(alloc: Global, first: u64, second: u64) -> Result<(Ran, Ran, [i32; 1]), Memory> {
-    let instrs = [
-        Instr::Push(9),
-        Instr::Load(0),
-        Instr::Push(1),
-        Instr::Binary {
-            op: Binary::Add,
-            line: 0,
-        },
-        Instr::Copy,
-        Instr::Store(0),
-        Instr::Return,
-        Instr::Push(0),
-        Instr::Turn,
-        Instr::Call(0),
-        Instr::Turn,
-        Instr::Call(0),
-        Instr::Binary {
-            op: Binary::Add,
-            line: 0,
-        },
-        Instr::ItemStore { item: 0, line: 0 },
-        Instr::End,
-        Instr::End,
-    ];
-    let units = [
-        Unit {
-            start: 0,
-            args: 0,
-            slots: 1,
-            stack: 3,
-        },
-        Unit {
-            start: 7,
-            args: 0,
-            slots: 0,
-            stack: 3,
-        },
-        Unit {
-            start: 15,
-            args: 1,
-            slots: 9,
-            stack: 0,
-        },
-    ];
-    let items = [SiteItem {
-        write: true,
-        stream: 2,
-        window: None,
-    }];
-    let claims = [Claim {
-        stream: 2,
-        write: true,
-        horizon: 1,
-        burst: 1,
-        skip: 0,
-    }];
-    let mut outputs = [0; 1];
-    let (one, other) = run_twice(
-        alloc,
-        &instrs,
-        &units,
-        1,
-        &[],
-        &items,
-        &claims,
-        &[],
-        (&[], first.min(1000000000)),
-        (&[], second.min(1000000000)),
-        &mut outputs,
-    )?;
-    Ok((one, other, outputs))
-}
-
-/// Stores 42 into a slot that one captured index picks, and loads the one that another picks.
-fn slots(alloc: Global, first: [i32; 2], second: [i32; 2]) -> Result<(Ran, Ran, [i32; 1]), Memory> {
-    let instrs = [
-        Instr::Push(7),
-        Instr::Store(2),
-        Instr::Push(7),
-        Instr::Store(6),
-        Instr::Zero { first: 6, count: 1 },
-        Instr::Load(0),
-        Instr::CheckAt { size: 2, line: 5 },
-        Instr::Push(42),
-        Instr::StoreAt {
-            first: 3,
-            size: 2,
-            line: 6,
-        },
-        Instr::Push(0),
-        Instr::Load(1),
-        Instr::LoadAt {
-            first: 3,
-            size: 2,
-            line: 7,
-        },
-        Instr::ItemStore { item: 0, line: 0 },
-        Instr::End,
-        Instr::End,
-    ];
-    let units = [
-        Unit {
-            start: 0,
-            args: 2,
-            slots: 7,
-            stack: 2,
-        },
-        Unit {
-            start: 14,
-            args: 1,
-            slots: 9,
-            stack: 0,
-        },
-    ];
-    let items = [SiteItem {
-        write: true,
-        stream: 2,
-        window: None,
-    }];
-    let claims = [Claim {
-        stream: 2,
-        write: true,
-        horizon: 1,
-        burst: 1,
-        skip: 0,
-    }];
-    let mut outputs = [0; 1];
-    let (one, other) = run_twice(
-        alloc,
-        &instrs,
-        &units,
-        0,
-        &[0, 1],
-        &items,
-        &claims,
-        &[],
-        (&first, 0),
-        (&second, 0),
-        &mut outputs,
-    )?;
-    Ok((one, other, outputs))
-}
-
-/// Moves an input into the second window, from one captured index to another, and doubles what it wrote.
-fn windows(
-    alloc: Global,
-    first: [i32; 2],
-    second: [i32; 2],
-) -> Result<(Ran, Ran, [i32; 3]), Memory> {
-    let instrs = [
-        Instr::Load(1),
-        Instr::ItemCheck { item: 1, line: 8 },
-        Instr::Load(0),
-        Instr::ItemLoad { item: 0, line: 5 },
-        Instr::ItemStore { item: 1, line: 6 },
-        Instr::Load(1),
-        Instr::Load(1),
-        Instr::ItemLoad { item: 1, line: 9 },
-        Instr::Copy,
-        Instr::Binary {
-            op: Binary::Add,
-            line: 4,
-        },
-        Instr::ItemStore { item: 1, line: 6 },
-        Instr::End,
-        Instr::End,
-    ];
-    let units = [
-        Unit {
-            start: 0,
-            args: 2,
-            slots: 2,
-            stack: 3,
-        },
-        Unit {
-            start: 12,
-            args: 1,
-            slots: 9,
-            stack: 0,
-        },
-    ];
-    let items = [
-        SiteItem {
-            write: false,
-            stream: 0,
-            window: Some(1),
-        },
-        SiteItem {
-            write: true,
-            stream: 1,
-            window: Some(2),
-        },
-        SiteItem {
-            write: true,
-            stream: 2,
-            window: None,
-        },
-    ];
-    let claims = [
-        Claim {
-            stream: 0,
-            write: false,
-            horizon: 3,
-            burst: 3,
-            skip: 0,
-        },
-        Claim {
-            stream: 1,
-            write: true,
-            horizon: 2,
-            burst: 2,
-            skip: 0,
-        },
-        Claim {
-            stream: 2,
-            write: true,
-            horizon: 1,
-            burst: 1,
-            skip: 0,
-        },
-    ];
-    let mut outputs = [0; 3];
-    let (one, other) = run_twice(
-        alloc,
-        &instrs,
-        &units,
-        0,
-        &[0, 1],
-        &items,
-        &claims,
-        &[10, 127, 128],
-        (&first, 0),
-        (&second, 0),
         &mut outputs,
     )?;
     Ok((one, other, outputs))
@@ -692,52 +338,87 @@ fn eight(alloc: Global, first: i32, second: i32) -> Result<(Ran, Ran, [i32; 36])
     Ok((one, other, outputs))
 }
 
+const LEAST: i32 = -2147483648;
+
+const MOST: i32 = 2147483647;
+
 #[test]
-fn operators_give_numbers_or_trap(rt: HostRuntime) -> Result<(), Fail> {
-    let minimum = -2147483648;
-    for (op, a, b, number) in [
-        (Binary::Divide, -7, 2, -3),
-        (Binary::Remainder, 7, -2, 1),
-        (Binary::Multiply, -65536, 32768, minimum),
-        (Binary::Subtract, 10, 3, 7),
-        (Binary::ShiftRight, -7, 1, -4),
-        (Binary::ShiftLeft, 1, 30, 1073741824),
-        (Binary::Less, 10, 3, 0),
+fn each_instruction_has_its_effect_and_its_traps(rt: HostRuntime) -> Result<(), Fail> {
+    all_come_to(&rt, &CASES)
+}
+
+#[test]
+fn operators_give_numbers(rt: HostRuntime) -> Result<(), Fail> {
+    for (op, left, right, number) in [
+        (Binary::BitOr, -8, 3, -5),
         (Binary::BitXor, -1, 5, -6),
+        (Binary::BitAnd, -8, 255, 248),
+        (Binary::Equal, 3, 3, 1),
+        (Binary::Equal, 3, 4, 0),
+        (Binary::Unequal, 3, 3, 0),
+        (Binary::Unequal, 3, 4, 1),
+        (Binary::Less, -1, 0, 1),
+        (Binary::Less, 10, 3, 0),
+        (Binary::LessEqual, 3, 3, 1),
+        (Binary::LessEqual, 4, 3, 0),
+        (Binary::Greater, 10, 3, 1),
+        (Binary::Greater, 3, 3, 0),
+        (Binary::GreaterEqual, 3, 3, 1),
+        (Binary::GreaterEqual, 2, 3, 0),
+        (Binary::ShiftLeft, 1, 30, 1073741824),
+        (Binary::ShiftLeft, 0, 31, 0),
+        (Binary::ShiftRight, -7, 1, -4),
+        (Binary::Add, 3, 4, 7),
+        (Binary::Subtract, 10, 3, 7),
+        (Binary::Multiply, -65536, 32768, LEAST),
+        (Binary::Divide, -7, 2, -3),
+        (Binary::Divide, 7, -2, -3),
+        (Binary::Remainder, -7, 2, -1),
+        (Binary::Remainder, 7, -2, 1),
     ] {
-        let (first, second, outputs) = binary(rt.alloc(), op, [1, 0], [a, b])?;
-        assert_eq!(rt; second, done(6));
-        assert_eq!(rt; outputs, [number]);
-        assert!(rt; first == done(6) || first == trapped(2, 4, 4));
+        assert_eq!(rt; binary(rt.alloc(), op, [left, right])?, (done(6), number));
     }
-    for (op, a, b, code) in [
-        (Binary::Divide, minimum, -1, 1),
-        (Binary::Divide, minimum, 0, 2),
-        (Binary::Add, 2147483647, 1, 1),
-        (Binary::ShiftLeft, -1, 0, 3),
+    for (op, value, number) in [
+        (Unary::Minus, 5, -5),
+        (Unary::Plus, LEAST, LEAST),
+        (Unary::Not, 0, 1),
+        (Unary::Not, LEAST, 0),
+        (Unary::Invert, 5, -6),
+        (Unary::Invert, LEAST, MOST),
     ] {
-        let (first, second, outputs) = binary(rt.alloc(), op, [a, b], [3, 2])?;
-        assert_eq!(rt; first, trapped(code, 4, 4));
-        assert_eq!(rt; second, done(6));
-        assert!(rt; outputs[0] > 0);
-    }
-    for (op, number, trap) in [
-        (Unary::Minus, -5, true),
-        (Unary::Not, 0, false),
-        (Unary::Invert, -6, false),
-    ] {
-        let (first, second, outputs) = unary(rt.alloc(), op, minimum, 5)?;
-        assert_eq!(rt; first, if trap { trapped(1, 4, 3) } else { done(5) });
-        assert_eq!(rt; second, done(5));
-        assert_eq!(rt; outputs, [number]);
+        assert_eq!(rt; unary(rt.alloc(), op, value)?, (done(5), number));
     }
     Ok(())
 }
 
 #[test]
-fn budgets_and_calls_count_steps(rt: HostRuntime) -> Result<(), Fail> {
-    assert_eq!(rt; counting(rt.alloc(), 5, 6)?, (over(66), done(71), [4]));
-    assert_eq!(rt; counting(rt.alloc(), 6, 0)?, (done(71), over(1), [0]));
+fn operators_trap_at_their_line(rt: HostRuntime) -> Result<(), Fail> {
+    for (op, left, right, code) in [
+        (Binary::ShiftLeft, -1, 0, 3),
+        (Binary::ShiftLeft, 1, 31, 3),
+        (Binary::ShiftLeft, 1, 32, 3),
+        (Binary::ShiftLeft, 1, -1, 3),
+        (Binary::ShiftRight, 1, 32, 3),
+        (Binary::ShiftRight, 5, -1, 3),
+        (Binary::Add, MOST, 1, 1),
+        (Binary::Add, LEAST, -1, 1),
+        (Binary::Subtract, LEAST, 1, 1),
+        (Binary::Multiply, 65536, 32768, 1),
+        (Binary::Divide, LEAST, -1, 1),
+        (Binary::Divide, LEAST, 0, 2),
+        (Binary::Remainder, LEAST, -1, 1),
+        (Binary::Remainder, 7, 0, 2),
+    ] {
+        let (ran, _) = binary(rt.alloc(), op, [left, right])?;
+        assert_eq!(rt; ran, trapped(code, 4, 4));
+    }
+    let (ran, _) = unary(rt.alloc(), Unary::Minus, LEAST)?;
+    assert_eq!(rt; ran, trapped(1, 4, 3));
+    Ok(())
+}
+
+#[test]
+fn three_calls_deep_a_trap_keeps_its_line(rt: HostRuntime) -> Result<(), Fail> {
     assert_eq!(rt;
         deep(rt.alloc(), (0, 3), (1, 3))?,
         (trapped(2, 33, 13), done(18), [1])
@@ -746,28 +427,11 @@ fn budgets_and_calls_count_steps(rt: HostRuntime) -> Result<(), Fail> {
         deep(rt.alloc(), (0, 2), (-1, 4))?,
         (over(9), done(18), [-1])
     );
-    assert_eq!(rt; frames(rt.alloc(), 1, 2)?, (over(11), done(22), [2]));
     Ok(())
 }
 
 #[test]
-fn indexes_stay_in_slots_and_windows(rt: HostRuntime) -> Result<(), Fail> {
-    assert_eq!(rt;
-        slots(rt.alloc(), [2, 0], [1, 1])?,
-        (trapped(4, 5, 7), done(14), [42])
-    );
-    assert_eq!(rt;
-        slots(rt.alloc(), [1, 2], [0, 1])?,
-        (trapped(4, 7, 12), done(14), [0])
-    );
-    assert_eq!(rt;
-        windows(rt.alloc(), [3, 0], [1, 1])?,
-        (trapped(4, 5, 4), done(12), [0, 254, 0])
-    );
-    assert_eq!(rt;
-        windows(rt.alloc(), [0, 2], [2, 0])?,
-        (trapped(4, 8, 2), trapped(5, 90, 12), [256, 0, 0])
-    );
+fn eight_windows_have_their_own_places(rt: HostRuntime) -> Result<(), Fail> {
     let (first, second, outputs) = eight(rt.alloc(), 4, 3)?;
     assert_eq!(rt; first, trapped(4, 4, 3));
     assert_eq!(rt; second, done(8));
