@@ -1,11 +1,10 @@
 //! Programs as large as they may be.
 
-use crate::beside::{body_beside, control_beside, whole_beside};
+use crate::beside::whole_beside;
 use crate::compiled::compile;
 use std::alloc::Global;
+use std::process::Abort;
 use std::test::Fail;
-use std::time::Instant;
-use task_vm::Scratch;
 
 /// A chain of so many `else if` in a task, which runs for some numbers of them.
 fn choices_text(alloc: Global, count: u32) -> Result<String, Fail> {
@@ -65,40 +64,37 @@ fn long_text(alloc: Global, head: &str, piece: &str, tail: &str) -> Result<Strin
     Ok(text)
 }
 
-/// The texts are one chain of operators, many statements, many loops, and many tasks.
-#[test]
-fn the_longest_texts_are_compiled(rt: HostRuntime) -> Result<(), Fail> {
-    let task =
-        "int main(void) { int s __attribute__((stream)); int c = 3, y;\n#pragma omp task output(s << y)\n";
-    let one = format!(in rt.alloc(); "{task}y = 1")?;
-    let many = format!(in rt.alloc(); "{task}{{ int x; ")?;
-    for (head, piece, tail) in [
-        (one.as_str(), "+c*2-y", "; }"),
-        (many.as_str(), "x += c; y = x ^ y; ", "} }"),
-        (
-            many.as_str(),
-            "while (x) { x--; if (c) continue; break; } x++; ",
-            "} }",
-        ),
-        (
-            "int f(int a) { int b[2]; b[1] = a; return b[1]; } int main(void) { int y;\n",
-            "\n#pragma omp task output(osout << y)\ny = f(3);\n",
-            "}",
-        ),
-    ] {
-        let text = long_text(rt.alloc(), head, piece, tail)?;
-        assert!(rt; text.len() > 262_000);
-        let began = Instant::now(&rt)?;
-        let compiled = compile(&rt, rt.alloc(), text.as_str())?;
-        println!(rt; "compile {} ms", began.elapsed(&rt)?.as_millis())?;
-        let control = control_beside(&rt, rt.alloc(), &compiled, 0, 0)?;
-        println!(rt; "control {} ms", began.elapsed(&rt)?.as_millis())?;
-        let Some(activation) = control.activations.as_slice().first() else {
-            return Err(Fail::from("an activation"));
-        };
-        let mut scratch = Scratch::new(rt.alloc(), &compiled.code)?;
-        body_beside(&rt, rt.alloc(), &compiled, activation, &mut scratch, 100_000)?;
-        println!(rt; "body {} ms", began.elapsed(&rt)?.as_millis())?;
-    }
+/// A text of these parts, nearly as long as a text may be, is compiled.
+fn is_compiled_at_length(
+    rt: &impl Abort,
+    alloc: Global,
+    head: &str,
+    piece: &str,
+    tail: &str,
+) -> Result<(), Fail> {
+    let text = long_text(alloc, head, piece, tail)?;
+    assert!(rt; text.len() > 262_000);
+    let compiled = compile(rt, alloc, text.as_str())?;
+    assert!(rt; compiled.code.instrs.len() > 10_000);
     Ok(())
+}
+
+#[test]
+fn the_longest_chain_is_compiled(rt: HostRuntime) -> Result<(), Fail> {
+    let head = "int main(void) { int c, y; y = 1";
+    is_compiled_at_length(&rt, rt.alloc(), head, "+c*2-y", "; }")
+}
+
+#[test]
+fn the_longest_list_of_loops_is_compiled(rt: HostRuntime) -> Result<(), Fail> {
+    let head = "int main(void) { int x, y; ";
+    let piece = "while (x) { x--; if (y) continue; break; } ";
+    is_compiled_at_length(&rt, rt.alloc(), head, piece, "}")
+}
+
+#[test]
+fn the_longest_list_of_tasks_is_compiled(rt: HostRuntime) -> Result<(), Fail> {
+    let head = "int f(int a) { int b[2]; b[1] = a; return b[1]; } int main(void) { int y;\n";
+    let piece = "\n#pragma omp task output(osout << y)\ny = f(3);\n";
+    is_compiled_at_length(&rt, rt.alloc(), head, piece, "}")
 }

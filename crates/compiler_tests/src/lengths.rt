@@ -1,58 +1,32 @@
-//! How many instructions there are a token.
+//! How many instructions there are a token: at most 8, by the promise of `lower`, and how many at the most that were found.
 
 use crate::compiled::compile;
 use os_lexer::lex;
 use std::alloc::Global;
 use std::test::Fail;
 
-/// What is repeated, and where.
-const PIECES: [(&str, &str, &str); 20] = [
-    ("{ int x; ", "x++;", "}"),
-    ("{ ", "y++;", "}"),
-    ("{ ", "y=y;", "}"),
-    ("{ ", "y+=y;", "}"),
-    ("{ int x = y", "+y", ";}"),
-    ("{ int x = y", "&&y", ";}"),
-    ("{ int x = y", "||y", ";}"),
-    ("{ int x = ", "!", "y;}"),
-    ("{ int a[9]; ", "a[1]++;", "}"),
-    ("{ ", "w[1]++;", "}"),
-    ("{ ", "y;", "}"),
-    ("{ ", "g();", "}"),
-    ("{ ", "f(y);", "}"),
-    ("{ int x0", ",x", ";}"),
-    ("{ int x = y", "?y:y", ";}"),
-    ("{ ", "while(y);", "}"),
-    ("{ ", "for(;;y++)y++;", "}"),
-    ("{ ", "for(y++;y;y++);", "}"),
-    ("{ ", "if(y)y++;else y++;", "}"),
-    ("{ ", "--y;", "}"),
-];
+/// A task with so many links `&& y` on its item, each of 2 tokens and 7 instructions: to leave out the right side or not,
+/// to load an element by its index, to look at it, and to give 1 or 0. Of links, changes, loops, calls, choices and
+/// declarations none was found that comes nearer to 8 a token.
+fn links_text(alloc: Global, count: u32) -> Result<String, Fail> {
+    let mut text = String::from_str(
+        alloc,
+        "int main(void) { int y;\n#pragma omp task output(osout << y)\ny = y",
+    )?;
+    for _ in 0..count {
+        text.push_str("&&y")?;
+    }
+    text.push_str("; }")?;
+    Ok(text)
+}
 
 #[test]
-fn lengths(rt: HostRuntime) -> Result<(), Fail> {
-    for (head, piece, tail) in &PIECES {
-        let mut text = String::from_str(
-            rt.alloc(),
-            "int g(void){} int f(int a){} int main(void) { int s __attribute__((stream)); int c, y, w[2];\n#pragma omp task output(s << y, s << w[2])\n",
-        )?;
-        text.push_str(*head)?;
-        for number in 0..150 {
-            text.push_str(*piece)?;
-            if *piece == ",x" {
-                write!(&mut text, "{number}")?;
-            }
-        }
-        text.push_str(*tail)?;
-        text.push_str("}")?;
-        let compiled = compile(&rt, rt.alloc(), text.as_str())?;
-        assert!(rt; text.len() <= 262_144);
-        let tokens = lex(rt.alloc(), text.as_bytes())?;
-        println!(rt;
-            "{piece}: {} instructions, {} tokens",
-            compiled.code.instrs.len(),
-            tokens.len()
-        )?;
-    }
+fn links_have_seven_instructions_for_two_tokens(rt: HostRuntime) -> Result<(), Fail> {
+    let text = links_text(rt.alloc(), 1_000)?;
+    let compiled = compile(&rt, rt.alloc(), text.as_str())?;
+    assert!(rt; text.len() <= 262_144);
+    let tokens = lex(rt.alloc(), text.as_bytes())?;
+    assert_eq!(rt; tokens.len(), 24 + 2 * 1_000);
+    assert_eq!(rt; compiled.code.instrs.len(), 11 + 7 * 1_000);
     Ok(())
 }

@@ -1,8 +1,7 @@
 //! Bodies that set `y`, the one element that their task writes to a declared stream. They stand from line 5 on.
 
 /// The lines before a body.
-pub const BEFORE: &str =
-    "int one(void) { return 1; } int f(int a) { return a + 1; } int g(void) { }
+pub const BEFORE: &str = "int one(void) { return 1; } int f(int a) { return a + 1; } int g(void) { }
 int main(void) {
 int s __attribute__((stream)); int y;
 #pragma omp task output(s << y)

@@ -3,7 +3,10 @@
 use flow_core::ControlEnd;
 
 /// A program, the length of its input, a budget, how many activations there are, and the end.
-pub const COUNTED: [(&str, u32, u64, usize, ControlEnd); 9] = [
+pub type Counted = (&'static str, u32, u64, usize, ControlEnd);
+
+/// Each against the limits.
+pub const COUNTED: [Counted; 9] = [
     // 65,536 activations; the next one would pass both limits, and the first counts
     (
         "int main(void) {\nint i, w[64];\nfor (i = 0; i < 65537; i++) {\n#pragma omp task input(osin >> w[0])\n;\n}\n}\n",

@@ -12,8 +12,7 @@ pub mod bodies;
 pub mod case;
 pub mod counted;
 pub mod flows;
-pub mod programs;
-pub mod values;
-
 #[cfg(test)]
 mod meaning;
+pub mod programs;
+pub mod values;
