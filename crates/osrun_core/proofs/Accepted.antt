@@ -1,6 +1,6 @@
 -- A text is accepted or refused, and never both.
 use Rattle.std.proofs.Common.{◌≡◌, ◌∙◌, ◌⊎◌, inl, inr, ℕ, List, Option, Some, refl, sym, ap, subst}
-use Rattle.front_end.specs.Texts.{IsAccepted, IsRefused, IsTrueOf, NeverBoth}
+use Rattle.front_end.specs.Texts.{IsAccepted, IsTrueOf, NeverBoth}
 use Rattle.front_end.specs.declared.text_error.TextError.{TextError}
 use Rattle.front_end.specs.declared.text_error.TextError.TheVariants as errors
 use Rattle.os_ast.specs.Trees.{ProgramTree}

@@ -1,5 +1,5 @@
 -- What the status of an answered job says.
-use Rattle.std.proofs.Common.{◌≡◌, ◌≢◌, ◌∙◌, ◌⊎◌, subst, ℕ, ◌+◌, ◌<◌, ◌≤◌, Bool, true, false, cond, List, Some, slice_get, length, sym, ap, refl, inl, inr, arith}
+use Rattle.std.proofs.Common.{◌≡◌, ◌≢◌, ◌∙◌, ◌⊎◌, subst, ℕ, ◌+◌, ◌<◌, ◌≤◌, Bool, true, false, cond, Some, slice_get, length, sym, ap, refl, inl, inr, arith}
 use Rattle.std.proofs.lemmas.Option.{slice_get_within}
 use Rattle.std.specs.Option.{option_map_or}
 use Rattle.std.specs.Io.KnownBytes.{append_known}
@@ -14,7 +14,7 @@ use Rattle.osrun_core.specs.declared.status.Status.{Status}
 use Rattle.osrun_core.specs.declared.status.Status.TheVariants as statuses
 use Rattle.osrun_core.specs.Command.{Job, JobFile, files_of}
 use Rattle.osrun_core.specs.Delivers.{IsUndelivered}
-use Rattle.osrun_core.specs.JobAnswer.{AnswersJob, AnswersRun, status_of}
+use Rattle.osrun_core.specs.JobAnswer.{AnswersJob, status_of}
 use Rattle.osrun_core.specs.Loading.{FilesView, IsCauseOf}
 use Rattle.osrun_core.specs.Refusal.{limit_of, refusal_line, refusal_status}
 use Rattle.osrun_core.specs.Run.{ProgramRun, IsRunOfJob}

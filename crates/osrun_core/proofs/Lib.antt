@@ -6,5 +6,6 @@ pub mod Came
 pub mod CommandJobs
 pub mod CommandParses
 pub mod GivenNumbers
+pub mod Ran
 pub mod TasksRun
 pub mod WrittenBytes

@@ -1,5 +1,6 @@
 -- What a run on the machine comes to is what the program's activations come to.
-use Rattle.std.proofs.Common.{◌≡◌, ℕ, ℤ, ◌≤◌, List, [], All, Option, Some, None, length, get_or, slice_get, refl, sym, ap, ◌∙◌, subst}
+use Rattle.std.proofs.Common.{◌≡◌, ℕ, ℤ, List, All, Option, Some, None, length, get_or, slice_get, refl, sym, ap, ◌∙◌, subst}
+use Rattle.std.specs.Prelude.{IfOk, Result, Ok, Err}
 use Rattle.std.specs.Option.{ForSome, option_map_or}
 use Rattle.std.proofs.lemmas.List.Elements.{All-get_or}
 use Rattle.std.proofs.lemmas.Option.{get_or_from_slice_get, slice_get_within}
@@ -9,10 +10,9 @@ use Rattle.flow_core.specs.Laws.{MeansTheStreams, SinkIsTheOutput}
 use Rattle.flow_core.specs.Outcome.{ends_of}
 use Rattle.flow_core.specs.Plans.{plan_meaning, sink_elements}
 use Rattle.flow_core.specs.StandsFor.{StandsFor}
-use Rattle.flow_core.specs.Streams.{output_elements, stream_ends, stream_meaning}
+use Rattle.flow_core.specs.Streams.{output_elements, stream_meaning}
 use Rattle.flow_core.specs.declared.activation.Activation.{Activation}
 use Rattle.flow_core.specs.declared.ends.Ends.{Ends}
-use Rattle.flow_core.specs.declared.outcome.Outcome.{Outcome}
 use Rattle.flow_core.specs.declared.plan.Plan.{Plan}
 use Rattle.lowering.specs.Meanings.{RunsBodies}
 use Rattle.os_ast.specs.Trees.{ProgramTree}
@@ -44,6 +44,13 @@ module _ (code : Parts) (p : ProgramTree) (activations : List Activation) (budge
       let os : ends.output ≡ output_elements activations input state = of_output ∙ ap (sink_elements plan) meant ∙ sink plan activations input state stands in
       ap (λ xs. record { ends = xs; output = ends.output }) es ∙ ap (λ xs. record { ends = ends_of state; output = xs }) os
 
+  pub ends_if : {E : Type 0} → AgreeingBodiesMeanOne → MeansTheStreams → SinkIsTheOutput → (plan : Plan) (input : List ℕ) → StandsFor plan activations input → (r : Result Ends E)
+      → IfOk r (λ (e : Ends). e.ends ≡ ends_of (plan_meaning plan (frame_outcome code activations budget)))
+      → IfOk r (λ (e : Ends). e.output ≡ sink_elements plan (plan_meaning plan (frame_outcome code activations budget)))
+      → IfOk r (λ (e : Ends). e ≡ ends_over p activations input budget)
+  ends_if one means sink plan input stands (Ok ends) of_ends of_output = ends_are one means sink plan input ends stands of_ends of_output
+  ends_if one means sink plan input stands (Err error) of_ends of_output = tt
+
 -- the output of a program has only bytes
 pub bytes_are : RunsKeep → OutputsAreBytes → (p : ProgramTree) (activations : List Activation) (input : List ℕ) (budget : ℕ) → All IsByteIfThere (ends_over p activations input budget).output
 bytes_are keep bytes p activations input budget =
@@ -56,3 +63,9 @@ bytes_are keep bytes p activations input budget =
     there : (e : Option ℤ) → ForSome e IsByte → IsByteIfThere e
     there None h = tt
     there (Some value) h = h value refl
+
+pub bytes_if : {E : Type 0} → RunsKeep → OutputsAreBytes → (p : ProgramTree) (activations : List Activation) (input : List ℕ) (budget : ℕ) (r : Result Ends E)
+    → IfOk r (λ (e : Ends). e ≡ ends_over p activations input budget) → IfOk r (λ (e : Ends). All IsByteIfThere e.output)
+bytes_if keep bytes p activations input budget (Ok ends) is =
+    subst (λ (e : Ends). All IsByteIfThere e.output) (sym is) (bytes_are keep bytes p activations input budget)
+bytes_if keep bytes p activations input budget (Err error) is = tt

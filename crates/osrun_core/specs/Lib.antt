@@ -1,6 +1,7 @@
--- What a reader believes: what the words name, what a run comes to, why none is made, and what is told of it.
+-- What a reader believes: what the words name, what a run comes to, why none is made, what is told and delivered of it.
 pub mod Arguments
 pub mod Command
+pub mod Delivers
 pub mod Loading
 pub mod Refusal
 pub mod Run
@@ -8,8 +9,8 @@ pub mod Status
 pub mod Telling
 -- What restates private functions.
 pub mod Accepting
-pub mod Delivers
 pub mod JobAnswer
 pub mod Loads
 pub mod Parsed
 pub mod Refuses
+pub mod RunOf

@@ -40,7 +40,7 @@ pub fn run_words<R: Threads + Sync, F: Files, O: Sink, E: Sink, G: Gate>(
         (λ job. MayOpen (F.may files.old) (F.opens files.old) (files_of job)) }
 
     // 0 and 1, the headline: there is a run of the job, of which `out` took what is written, `report` took the
-    // report, and the status is its status.
+    // report, and the status is its status. Files that don't tell what they hold leave open which text and input it was of.
     ensures headline { result < 2 → IsSomeAnd (command (texts words.now)) (λ job. (run : ProgramRun)
         × IsRunOfJob (F.holds files.old) (F.given files.new) job run
         × (O.taken out.new ≡ append_known (O.taken out.old) (written run.ends.output))
@@ -103,7 +103,7 @@ pub fn run_words<R: Threads + Sync, F: Files, O: Sink, E: Sink, G: Gate>(
         → (HasTrouble (record { taken = E.taken; faults = E.faults; empty_takes = E.empty_takes }) report.old report.new → ⊥)
         → (result < 2) ⊎ (result ≡ 7)) }
 
-    // The counts where nothing failed: no call was made again behind a fault.
+    // The counts where nothing failed: with 0 to 4 and 6 no read failed, with 0 and 1 no write did.
     ensures no_read_fault { result ≢ 5 → result ≢ 7 → F.faults files.new ≡ F.faults files.old }
     ensures no_write_fault { result < 2 → (O.faults out.new ≡ O.faults out.old) × (O.empty_takes out.new ≡ O.empty_takes out.old)
         × (E.faults report.new ≡ E.faults report.old) × (E.empty_takes report.new ≡ E.empty_takes report.old) }

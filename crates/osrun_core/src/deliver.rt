@@ -6,34 +6,27 @@ ghost use Rattle.osrun_core.specs.Delivers.{Delivers};
 ghost use Rattle.osrun_core.specs.Status.{number_of};
 ghost use Rattle.stream_match.specs.Layout.{IsLayout, IsLayoutOf};
 
+use crate::run_program::Run;
 use crate::status::Status;
 use collector::report_lines;
 use flow_core::{ControlEnd, Ends, TaskEnd};
 use os_io::{Sink, write_whole};
-use stream_match::Layout;
 
 /// Writes the output of a run, and then its report.
-pub fn deliver<O: Sink, E: Sink>(
-    out: &mut O,
-    report: &mut E,
-    output: &[u8],
-    layout: &Layout,
-    ends: &Ends,
-    control: ControlEnd,
-) -> Status
-    requires { IsLayout layout.now }
-    ensures { (activations : List Activation) → IsLayoutOf layout.now activations → Delivers
-        (record { taken = O.taken; faults = O.faults; empty_takes = O.empty_takes }) out.old out.new output.now
+pub fn deliver<O: Sink, E: Sink>(out: &mut O, report: &mut E, run: &Run) -> Status
+    requires { IsLayout run.now.layout }
+    ensures { (activations : List Activation) → IsLayoutOf run.now.layout activations → Delivers
+        (record { taken = O.taken; faults = O.faults; empty_takes = O.empty_takes }) out.old out.new run.now.output.items
         (record { taken = E.taken; faults = E.faults; empty_takes = E.empty_takes }) report.old report.new
-        (report_of activations layout.now.input_len ends.now control) (status_of ends.now.ends control) result }
+        (report_of activations run.now.layout.input_len run.now.ends run.now.control) (status_of run.now.ends.ends run.now.control) result }
 {
-    if write_whole(out, output).is_err() {
+    if write_whole(out, run.output.as_slice()).is_err() {
         return Status::WriteFault;
     }
-    if report_lines(layout, ends, &control, report).is_err() {
+    if report_lines(&run.layout, &run.ends, &run.control, report).is_err() {
         return Status::WriteFault;
     }
-    run_status(ends, control)
+    run_status(&run.ends, run.control)
 }
 
 /// The status of a run: whether every activation and the control program are Done.

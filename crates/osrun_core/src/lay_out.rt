@@ -1,6 +1,6 @@
 ghost use Rattle.std.specs.Prelude.{◌≡◌, ◌≤◌, IfOk, length};
 ghost use Rattle.stream_match.specs.Lawful.{AreLawful};
-ghost use Rattle.stream_match.specs.Layout.{IsLayoutOf};
+ghost use Rattle.stream_match.specs.Layout.{IsLayout, IsLayoutOf};
 
 use flow_core::Control;
 use os_code::Code;
@@ -18,6 +18,7 @@ pub fn lay_out(
     requires lawful { AreLawful code.now.streams control.now.activations }
     requires few { length input.now ≤ 4194304 }
     ensures layout { IfOk result (λ layout. IsLayoutOf layout control.now.activations) }
+    ensures whole { IfOk result IsLayout }
     ensures input { IfOk result (λ layout. layout.input_len ≡ length input.now) }
 {
     let mut layout = Layout::new(alloc, code.streams, input.len() as u32)?;

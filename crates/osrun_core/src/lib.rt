@@ -1,7 +1,7 @@
 //! The command `osrun`: from words and files to output, report and status.
 //!
 //! `run_words` takes the words of a command, files, and two sinks for output and report, and answers the status of the
-//! process. `run_job` is the whole way of a run, stop by stop. What is written and reported is the control-driven
+//! process. `run_job` goes from the files to the sinks, and `run_program` is the way between, stop by stop. What is written and reported is the control-driven
 //! data-flow meaning of the program over the input, and the contract says so for every program, input, file and sink.
 #![tactic(auto)]
 
@@ -14,6 +14,7 @@ mod lay_out;
 mod load;
 mod refusal;
 mod run_job;
+mod run_program;
 mod run_tasks;
 mod status;
 mod tell;

@@ -8,23 +8,17 @@ ghost use Rattle.osrun_core.specs.Refusal.{refusal_status};
 use crate::accept::accept;
 use crate::deliver::deliver;
 use crate::job::Job;
-use crate::lay_out::lay_out;
 use crate::load::load;
 use crate::refusal::{Refusal, Subject};
-use crate::run_tasks::run_tasks;
+use crate::run_program::run_program;
 use crate::status::Status;
-use collector::output_bytes;
-use control_run::run_control;
-use lowering::lower;
 use os_io::{Files, Sink};
 use std::alloc::Global;
 use std::thread::Threads;
-use stream_match::build;
 use task_workers::Gate;
 
-/// The whole way of a job, from its files to its sinks: the program is read, checked and compiled, its control program
-/// is run, the activations get their positions and a plan, workers carry it out, and what it comes to is delivered.
-/// Nothing is written before all memory was taken.
+/// The whole way of a job, from its files to its sinks: the program is read and checked, the input is read, the program
+/// is run over it, and what the run comes to is delivered. Nothing is written before all memory was taken.
 pub fn run_job<R: Threads + Sync, F: Files, O: Sink, E: Sink, G: Gate>(
     rt: &R,
     alloc: Global,
@@ -58,11 +52,6 @@ pub fn run_job<R: Threads + Sync, F: Files, O: Sink, E: Sink, G: Gate>(
     let text = load(alloc, files, job.program, Subject::Program)?;
     let checked = accept(alloc, &text)?;
     let input = load(alloc, files, job.input, Subject::Input)?;
-    let code = lower(alloc, &checked)?;
-    let control = run_control(alloc, &code, input.len() as u32, job.control_budget)?;
-    let layout = lay_out(alloc, &code, &control, &input)?;
-    let plan = build(alloc, &layout, &input)?;
-    let ends = run_tasks(rt, alloc, job, &code, &control, &plan, gate)?;
-    let output = output_bytes(alloc, &ends)?;
-    Ok(deliver(out, report, &output, &layout, &ends, control.end))
+    let run = run_program(rt, alloc, job, &checked, &input, gate)?;
+    Ok(deliver(out, report, &run))
 }

@@ -1,8 +1,8 @@
 use Rattle.osrun_core.proofs.Answered.{untroubled_answer, delivered_answer, opened_answer, refused_answer, undelivered_answer, too_long_answer}
 use Rattle.osrun_core.proofs.command.run_words.Goals as goal
 
-pub answer_job-requires : goal.answer_job-requires
-answer_job-requires g c = c.requires _ c.in-Ok.ensures.job
+pub answer_job-requires-clause-may : goal.answer_job-requires-clause-may
+answer_job-requires-clause-may g c lifetimes live = c.requires _ c.in-Ok.ensures.job
 
 pub returns-in-Ok-clause-headline : goal.returns-in-Ok-clause-headline
 returns-in-Ok-clause-headline g c =

@@ -1,13 +1,16 @@
-use Rattle.std.proofs.Common.{◌≡◌, ◌∙◌, ◌⊎◌, ap, subst, arith}
+use Rattle.std.proofs.Common.{◌≡◌, ◌∙◌, ◌⊎◌, ap, subst}
 use Rattle.std.proofs.lemmas.Result.{err_from_is_err_and}
 use Rattle.front_end.specs.Texts.{IsAccepted}
 use Rattle.os_ast.specs.Views.{program_tree}
 use Rattle.os_io.specs.Counts.{raised}
 use Rattle.osrun_core.proofs.Accepted.{only_memory}
-use Rattle.osrun_core.proofs.Came.{may_open_program, may_open_input, cause_of_program, cause_of_text, cause_of_input, program_read, only_fault, of_program, of_input, run_of_both}
+use Rattle.osrun_core.proofs.Came.{may_open_program, may_open_input, cause_of_program, cause_of_text, cause_of_input, program_read, only_fault, in_order_both, of_program, of_input}
+use Rattle.osrun_core.proofs.Ran.{answers}
 use Rattle.osrun_core.specs.Command.{job_of}
 use Rattle.osrun_core.specs.Loading.{FilesView, IsReadable}
 use Rattle.osrun_core.specs.Refusal.{IsRefusalOf}
+use Rattle.osrun_core.specs.RunOf.{IsRunOf}
+use Rattle.osrun_core.specs.Telling.{SinkView}
 use Rattle.osrun_core.specs.declared.refusal.Refusal.TheVariants as refusals
 use Rattle.osrun_core.specs.declared.refusal.Subject.TheVariants as subjects
 use Rattle.osrun_core.proofs.run_job.run_job.Goals as goal
@@ -60,3 +63,29 @@ returns-in_err-input-clause-complete g c h =
     let input = of_input (IsReadable (g.F.Files.holds c.args.files.now)) (job_of c.args.job.now) h in
     let view : FilesView g.row.F.Denot = record { holds = g.F.Files.holds; opens = g.F.Files.opens; faults = g.F.Files.faults; given = g.F.Files.given } in
     rw (e.1, e.2) (only_fault view c.load.new.files c.load-2.new.files subjects.Input c.args.job.now.input.now input.bytes c.in_err-input.field-0.0 (ap (λ holds. holds c.args.job.now.input.now) c.in_ok-text.ensures.holds ∙ input.told) input.fits c.in_err-input.ensures.refused)
+
+pub deliver-requires : goal.deliver-requires
+deliver-requires g c = c.in_ok-run.ensures.run.whole
+
+pub returns-clause-in_order : goal.returns-clause-in_order
+returns-clause-in_order g c =
+    let view : FilesView g.row.F.Denot = record { holds = g.F.Files.holds; opens = g.F.Files.opens; faults = g.F.Files.faults; given = g.F.Files.given } in
+    let opened = c.in_ok-input.ensures.opens ∙ ap (λ n. raised n 1) c.in_ok-text.ensures.opens in
+    let p = program_tree c.in_ok-checked.checked.program in
+    let read = program_read view (job_of c.args.job.now) c.args.files.now c.load.new.files c.in_ok-text.text.items p c.in_ok-text.ensures.loaded (subst (λ text. IsAccepted text p) c.deref.ensures.value c.in_ok-checked.ensures.program) in
+    in_order_both view (job_of c.args.job.now) c.args.files.now c.load-2.new.files read opened
+
+pub returns-clause-run : goal.returns-clause-run
+returns-clause-run g c =
+    let view : FilesView g.row.F.Denot = record { holds = g.F.Files.holds; opens = g.F.Files.opens; faults = g.F.Files.faults; given = g.F.Files.given } in
+    let of_out : SinkView g.row.O.Denot = record { taken = g.O.Sink.taken; faults = g.O.Sink.faults; empty_takes = g.O.Sink.empty_takes } in
+    let of_report : SinkView g.row.E.Denot = record { taken = g.E.Sink.taken; faults = g.E.Sink.faults; empty_takes = g.E.Sink.empty_takes } in
+    let opened = c.in_ok-input.ensures.opens ∙ ap (λ n. raised n 1) c.in_ok-text.ensures.opens in
+    let p = program_tree c.in_ok-checked.checked.program in
+    let run = c.in_ok-run.run' in
+    let job = job_of c.args.job.now in
+    let input = c.in_ok-input.input.items in
+    let accepted = subst (λ text. IsAccepted text p) c.deref.ensures.value c.in_ok-checked.ensures.program in
+    let ran = subst (λ bytes. IsRunOf job p bytes run.output.items run.layout run.ends run.control) c.deref-2.ensures.value c.in_ok-run.ensures.run in
+    answers job p input run.output.items run.layout run.ends run.control ran of_out c.args.out.now c.deliver.new.out of_report c.args.report.now c.deliver.new.report c.deliver.result
+    view c.args.files.now c.load.new.files c.load-2.new.files c.in_ok-text.text.items c.in_ok-text.ensures.loaded c.in_ok-input.ensures.loaded c.in_ok-text.ensures.holds opened accepted c.deliver.ensures
