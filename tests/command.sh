@@ -163,13 +163,13 @@ done
 comes_back adpcm sine.bin 4
 
 # Any number of workers gives the same bytes.
-for program in smooth bank wavelet adpcm; do
-    run run "$top/examples/$program.c" odd.bin --workers 1
+for codec in smooth bank wavelet adpcm; do
+    run run "$top/examples/$codec.c" odd.bin --workers 1
     mv out alone.bin
     claimed=$(wc -c <alone.bin)
     for workers in 2 7 64; do
-        run run "$top/examples/$program.c" odd.bin --workers "$workers"
-        agree "$program by $workers workers" 0 alone.bin "control done / output $claimed of $claimed"
+        run run "$top/examples/$codec.c" odd.bin --workers "$workers"
+        agree "$codec by $workers workers" 0 alone.bin "control done / output $claimed of $claimed"
     done
 done
 
