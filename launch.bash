@@ -64,5 +64,5 @@ if ! tail -n 1 "$said" | grep -q '^run=ended '; then
     cat "$said" >&2
     exit 70
 fi
-grep -v -e '^checked: ' -e '^run=ended ' "$said" >&2
+grep -v -e '^checked: ' -e '^races: ' -e '^run=ended ' "$said" >&2
 exit "$status"
