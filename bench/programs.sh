@@ -1,8 +1,11 @@
 #!/usr/bin/env bash
 # What whole runs of the command take, as a table: for each program and 1, 2 and 4 workers the milliseconds, the microseconds an
-# activation, and the peak memory in megabytes, of the quickest of five runs; beside them the same work in C with OpenMP by as
-# many threads, by gcc -O2 -fopenmp, and in Lua by one thread, by lua5.4, where these are there. Each output is compared
-# with that of the command byte by byte. ./build has to have built the program.
+# activation, the nanoseconds a step of the machine and the peak memory in megabytes, of the quickest of five runs; beside them
+# the same work in C with OpenMP tasks by as many threads, by gcc -O2 -fopenmp, and in Lua by one thread, by lua5.4, where these
+# are there, and how many times their milliseconds the command takes. With one worker also the machine instructions a step, of the
+# whole program, where valgrind is there. Each output is compared with that of the command byte by byte. ./build has to have built
+# the program. How many steps a program makes is counted by bench/steps.program, which is proved and built in a copy of the crates
+# below it; where it isn't wanted (an hour from nothing), the word `unstepped` leaves out what is told a step.
 set -eu
 top=$(cd "$(dirname "${BASH_SOURCE[0]}")/.." && pwd)
 osrun=$top/crates/osrun/out/osrun
@@ -66,35 +69,40 @@ static void wavelet(const unsigned char *a, unsigned char *out, int n) {
     for (k = 0; k < n; k++) out[k] = b[k];
 }
 
+static void work(char kind, const unsigned char *in, unsigned char *out, int i, int size) {
+    if (kind == 'f') {
+        for (int k = 0; k < 4; k++) out[k] = in[3 - k];
+    } else if (kind == 'i') {
+        for (int k = i; k < i + size; k++) out[k] = 255 - in[k];
+    } else if (kind == 'l') {
+        for (int k = i; k < i + size; k += 2) {
+            int d = wrap(in[k + 1] - in[k]);
+            out[k] = (in[k] + (d >> 1)) & 255;
+            out[k + 1] = d & 255;
+        }
+    } else if (kind == 'w') {
+        wavelet(in + i, out + i, size);
+    } else {
+        int x = i + 1;
+        for (int k = 0; k < 200000; k++) x = (x * 31 + (x >> 3) + k) & 65535;
+        out[i] = x & 255;
+    }
+}
+
 int main(int argc, char **argv) {
     static unsigned char in[4194304], out[4194304];
     FILE *file = argc > 2 ? fopen(argv[2], "rb") : NULL;
-    int length = file ? (int)fread(in, 1, sizeof in, file) : 0, i, written = length;
-    if (strcmp(argv[1], "first") == 0) {
-        for (i = 0; i < 4; i++) out[i] = in[3 - i];
-    } else if (strcmp(argv[1], "invert") == 0) {
-        #pragma omp parallel for schedule(dynamic)
-        for (i = 0; i < length; i += 64)
-            for (int k = i; k < i + 64 && k < length; k++) out[k] = 255 - in[k];
-    } else if (strcmp(argv[1], "lift") == 0) {
-        #pragma omp parallel for schedule(dynamic)
-        for (i = 0; i < length - 3; i += 4)
-            for (int k = i; k < i + 4; k += 2) {
-                int d = wrap(in[k + 1] - in[k]);
-                out[k] = (in[k] + (d >> 1)) & 255;
-                out[k + 1] = d & 255;
-            }
-    } else if (strcmp(argv[1], "wavelet") == 0) {
-        #pragma omp parallel for schedule(dynamic)
-        for (i = 0; i < length; i += 4096) wavelet(in + i, out + i, length - i < 4096 ? length - i : 4096);
-    } else {
-        written = 32;
-        #pragma omp parallel for schedule(dynamic)
-        for (i = 0; i < 32; i++) {
-            int x = i + 1;
-            for (int k = 0; k < 200000; k++) x = (x * 31 + (x >> 3) + k) & 65535;
-            out[i] = x & 255;
-        }
+    int length = file ? (int)fread(in, 1, sizeof in, file) : 0, written = length;
+    int size = strcmp(argv[1], "invert") == 0 ? 64 : strcmp(argv[1], "wavelet") == 0 ? 4096 : 4;
+    if (strcmp(argv[1], "turns") == 0) {
+        length = written = 32;
+        size = 1;
+    }
+    #pragma omp parallel
+    #pragma omp single
+    for (int i = 0; i < length; i += size) {
+        #pragma omp task firstprivate(i)
+        work(argv[1][0], in, out, i, size);
     }
     fwrite(out, 1, written, stdout);
     return 0;
@@ -163,34 +171,65 @@ quickest() {
     echo "$best $peak"
 }
 
-# row PROGRAM ACTIVATIONS BY WORKERS COMMAND..: a line of the table, where the output is the one wanted.
+# milliseconds BY WORKERS COMMAND..: those of the quickest run in `micros`, its kilobytes in `kilobytes`; a line on standard error
+# where its output isn't the one wanted.
+measure() {
+    read -r micros kilobytes < <(quickest "${@:3}")
+    cmp -s out wanted || echo "$program by $1 with $2: another output" >&2
+}
+
+# row PROGRAM BY WORKERS MICROSECONDS KILOBYTES ACTIVATIONS STEPS INSTRUCTIONS C LUA: a line of the table; 0 is what isn't known.
 row() {
-    local micros kilobytes same=''
-    read -r micros kilobytes < <(quickest "${@:5}")
-    cmp -s out wanted || same=' another output'
-    awk -v program="$1" -v count="$2" -v by="$3" -v workers="$4" -v micros="$micros" -v kilobytes="$kilobytes" -v same="$same" \
-        'BEGIN { printf "%-8s %-6s %7s %10.2f %10.3f %8.1f%s\n", program, by, workers, micros / 1000, micros / count, kilobytes / 1024, same }'
+    awk -v program="$1" -v by="$2" -v workers="$3" -v micros="$4" -v kilobytes="$5" -v count="$6" -v steps="$7" -v instrs="$8" \
+        -v c="$9" -v lua="${10}" '
+        function told(form, top, bottom) { return bottom > 0 && top > 0 ? sprintf(form, top / bottom) : "-" }
+        BEGIN {
+            printf "%-8s %-6s %7s %9.2f %9.3f %8s %11s %7.1f %6s %6s\n", program, by, workers, micros / 1000, micros / count,
+                told("%.2f", micros * 1000, steps), told("%.2f", instrs, steps), kilobytes / 1024,
+                told("%.2f", micros, c), told("%.2f", micros, lua)
+        }'
+}
+
+# The machine instructions of a run by one worker.
+instructions() {
+    valgrind --tool=callgrind --callgrind-out-file=/dev/null "$osrun" run "$program.c" "$program.in" --workers 1 2>&1 >/dev/null |
+        awk '/Collected/ { print $NF }'
 }
 
 gcc=$(command -v gcc || true)
 lua=$(command -v lua5.4 || true)
+valgrind=$(command -v valgrind || true)
 if [ -n "$gcc" ]; then
     "$gcc" -O2 -fopenmp -o work work.c 2>log || { echo "gcc has no OpenMP here: C isn't measured" >&2; gcc=''; }
 else
     echo "gcc isn't here: C isn't measured" >&2
 fi
 [ -n "$lua" ] || echo "lua5.4 isn't here: Lua isn't measured" >&2
+[ -n "$valgrind" ] || echo "valgrind isn't here: machine instructions aren't measured" >&2
 
-printf '%-8s %-6s %7s %10s %10s %8s\n' program by workers ms us/activ MB
+printf '%-8s %-6s %7s %9s %9s %8s %11s %7s %6s %6s\n' program by workers ms us/activ ns/step instrs/step MB to-C to-Lua
 while read -r program activations; do
     "$osrun" run "$program.c" "$program.in" --workers 1 >wanted 2>report
+    steps=0
+    [ "${1:-}" = unstepped ] || steps=$("$counter" "$program.c" "$(stat -c %s "$program.in")")
+    lua_micros=0
+    if [ -n "$lua" ]; then
+        measure Lua 1 "$lua" work.lua "$program" "$program.in"
+        lua_micros=$micros
+        row "$program" Lua 1 "$micros" "$kilobytes" "$activations" 0 0 0 0
+    fi
     for workers in 1 2 4; do
-        row "$program" "$activations" osrun "$workers" "$osrun" run "$program.c" "$program.in" --workers "$workers"
+        c_micros=0
+        if [ -n "$gcc" ]; then
+            measure C "$workers" env OMP_NUM_THREADS="$workers" ./work "$program" "$program.in"
+            c_micros=$micros
+            row "$program" C "$workers" "$micros" "$kilobytes" "$activations" 0 0 0 "$lua_micros"
+        fi
+        measure osrun "$workers" "$osrun" run "$program.c" "$program.in" --workers "$workers"
+        instrs=0
+        [ "$workers" != 1 ] || [ -z "$valgrind" ] || instrs=$(instructions)
+        row "$program" osrun "$workers" "$micros" "$kilobytes" "$activations" "$steps" "$instrs" "$c_micros" "$lua_micros"
     done
-    for workers in 1 2 4; do
-        [ -z "$gcc" ] || row "$program" "$activations" C "$workers" env OMP_NUM_THREADS="$workers" ./work "$program" "$program.in"
-    done
-    [ -z "$lua" ] || row "$program" "$activations" Lua 1 "$lua" work.lua "$program" "$program.in"
 done <<'END'
 first 1
 invert 16384

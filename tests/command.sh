@@ -228,6 +228,30 @@ agree "65,536 tasks that never end" 1 nothing.bin "as wanted"
 run run windows.c in.bin
 agree "65,536 windows of 64" 0 nothing.bin "control done / output 0 of 0"
 
+# The largest run: as many activations, cells and pieces as there may be, in less than 400 MB of address space.
+cat >largest.c <<'END'
+int main(void) {
+    int s __attribute__((stream));
+    int i, x, y;
+    for (i = 0; i < 32768; i++) {
+        #pragma omp task output(s << x)
+        x = 1;
+    }
+    for (i = 0; i < 32768; i++) {
+        int w[126];
+        #pragma omp task input(s >> w[1]) output(osout << y)
+        y = w[125];
+    }
+}
+END
+(ulimit -v 400000 && exec "$osrun" run largest.c nothing.bin --workers 1 >out 2>report)
+status=$?
+seq 65411 65535 | sed 's/.*/starved & stream 2 position 32768 producer none/' >wanted
+printf 'control done\noutput 32643 of 32768\n' >>wanted
+cmp -s report wanted && echo "as wanted" >report
+head -c 32643 /dev/zero | tr '\0' '\1' >part.bin
+agree "the largest run" 1 part.bin "as wanted"
+
 run
 check "no words" 2 "" usage
 run run first.c

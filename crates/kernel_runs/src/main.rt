@@ -1,0 +1,47 @@
+//! The program `kernel_runs`: runs three kernels over a file, each by several numbers of workers, by the command's own call.
+//! Its stored output shows that what they write is the same with each number.
+#![tactic(auto)]
+
+use os_io::{HostFiles, HostSink};
+use osrun_core::{NoGate, run_words};
+use std::alloc::{AllocError, Global};
+use std::process::ExitCode;
+
+/// The status where memory could not be had for the words.
+const NO_MEMORY: u8 = 7;
+
+/// The words of a run of a program over `in.bin`.
+fn words(alloc: Global, program: &str, workers: &str) -> Result<Vec<String>, AllocError> {
+    let mut words = Vec::new(alloc);
+    for word in ["run", program, "in.bin", "--workers", workers] {
+        words.push(String::from_str(alloc, word)?)?;
+    }
+    Ok(words)
+}
+
+/// Runs a program by so many workers, and answers the status of the command.
+fn run(rt: &HostRuntime, program: &str, workers: &str) -> u8 {
+    let Ok(words) = words(rt.alloc(), program, workers) else {
+        return NO_MEMORY;
+    };
+    run_words(
+        rt,
+        rt.alloc(),
+        &words,
+        &mut HostFiles::new(rt),
+        &mut HostSink::new(rt.stdout()),
+        &mut HostSink::new(rt.stderr()),
+        &NoGate,
+    )
+}
+
+/// The status is the greatest of the runs'.
+fn main(rt: HostRuntime) -> ExitCode {
+    let mut worst = 0;
+    for program in ["invert.c", "smooth.c", "broadcast.c"] {
+        for workers in ["1", "3", "64"] {
+            worst = worst.max(run(&rt, program, workers));
+        }
+    }
+    ExitCode::from(worst)
+}
