@@ -88,7 +88,7 @@ alternate_means = refl
 early : List Activation
 early = task (reads 2 1 ∷ writes 1 1 ∷ []) ∷ task (writes 2 1 ∷ []) ∷ []
 
-early_waits : rounds (stream_reads early []) (gives (None ∷ Some (pos 41 ∷ []) ∷ [])) 1 (None ∷ None ∷ []) ≡ None ∷ done (pos 41 ∷ []) ∷ []
+early_waits : rounds element (stream_reads early []) (gives (None ∷ Some (pos 41 ∷ []) ∷ [])) 1 (None ∷ None ∷ []) ≡ None ∷ done (pos 41 ∷ []) ∷ []
 unfolding early windows input_places rounds round
 early_waits = refl
 

@@ -125,7 +125,7 @@ map-stretch f g from (suc n) same =
     cc
 
 -- At the end of a run every activation that has an outcome in the meaning has an end.
-reaches : (plan : Plan) (outcome : ℕ → List ℤ → Outcome) (board : Board) (turn : ℕ) → IsSound plan → IsRun plan (plan_meaning plan outcome) board turn → length board.waits.opened.items ≤ turn → IsClosed (plan_reads plan) outcome (length plan.frames) (λ f. is_some (end_at board.ends.items f))
+reaches : (plan : Plan) (outcome : ℕ → List ℤ → Outcome) (board : Board) (turn : ℕ) → IsSound plan → IsRun plan (plan_meaning plan outcome) board turn → length board.waits.opened.items ≤ turn → IsClosed element (plan_reads plan) outcome (length plan.frames) (λ f. is_some (end_at board.ends.items f))
 reaches plan outcome board turn sound run over = record { passes = λ s extends earlier a vs lt inputs. by_cells s extends earlier a vs lt (ap gathered (sym (map_map (cell_source plan) (element s) (cells_of plan a))) ∙ inputs) }
   where
     m : State
@@ -133,7 +133,7 @@ reaches plan outcome board turn sound run over = record { passes = λ s extends 
 
     shown_too : (s : State) → Extends s m → ((b : ℕ) (o : Outcome) → outcome_at s b ≡ Some o → is_some (end_at board.ends.items b) ≡ true) → (source : Source) (v : ℤ) → element s source ≡ Some v → shown board.ends.items m source ≡ Some v
     shown_too s extends earlier (given w) v h = h
-    shown_too s extends earlier (fed b k) v h = option_and_then_some (λ (o : Outcome). slice_get o.outputs k) (outcome_at s b) v h (λ o is at. ap (λ (t : Bool). cond t (output_at m b k) None) (earlier b o is) ∙ element-extends s m extends (fed b k) v h)
+    shown_too s extends earlier (fed b k) v h = option_and_then_some (λ (o : Outcome). slice_get o.outputs k) (outcome_at s b) v h (λ o is at. ap (λ (t : Bool). cond t (output_at m b k) None) (earlier b o is) ∙ element-extends s m extends.kept (fed b k) v h)
     shown_too s extends earlier nobody v h = absurd (cc)
 
     by_cells : (s : State) → Extends s m → ((b : ℕ) (o : Outcome) → outcome_at s b ≡ Some o → is_some (end_at board.ends.items b) ≡ true) → (a : ℕ) (vs : List ℤ) → a < length plan.frames → gathered (map (λ c. element s (cell_source plan c)) (cells_of plan a)) ≡ Some vs → is_some (end_at board.ends.items a) ≡ true
@@ -147,7 +147,7 @@ reaches plan outcome board turn sound run over = record { passes = λ s extends 
         subst (λ (f : ℕ). is_some (end_at board.ends.items f) ≡ true) at (run.have_ended k (omega arith) k_lt)
 
 pub all_ended : (plan : Plan) (outcome : ℕ → List ℤ → Outcome) (board : Board) (turn : ℕ) → IsSound plan → IsRun plan (plan_meaning plan outcome) board turn → length board.waits.opened.items ≤ turn → (a : ℕ) (o : Outcome) → outcome_at (plan_meaning plan outcome) a ≡ Some o → is_some (end_at board.ends.items a) ≡ true
-all_ended plan outcome board turn sound run over = passes_from_closed (plan_reads plan) outcome (length plan.frames) (λ f. is_some (end_at board.ends.items f)) (reaches plan outcome board turn sound run over)
+all_ended plan outcome board turn sound run over = passes_from_closed element (plan_reads plan) outcome (length plan.frames) (λ f. is_some (end_at board.ends.items f)) (reaches plan outcome board turn sound run over)
 
 -- the outcome of a frame without an end
 outcome_or_none : (m : State) (ends : List (Option TaskEnd)) → ((a : ℕ) (o : Outcome) → outcome_at m a ≡ Some o → is_some (end_at ends a) ≡ true) → (a : ℕ) → end_at ends a ≡ None → outcome_at m a ≡ None

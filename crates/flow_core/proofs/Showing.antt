@@ -22,7 +22,7 @@ use Rattle.flow_core.specs.Counted.{IsCounted, Carries, AreEmpty}
 use Rattle.flow_core.specs.Shows.{end_at, shown, Shows, Gives}
 use Rattle.flow_core.proofs.Carrying.{piece_fits}
 use Rattle.flow_core.proofs.Gathering.{gathered-weaker, all_gathered}
-use Rattle.flow_core.proofs.Rounds.{outcome_at-meaning}
+use Rattle.flow_core.proofs.Rounds.{element-extends, outcome_at-meaning}
 use Rattle.flow_core.proofs.Sources.{cell_source-covered, fed-covered}
 
 -- the pieces of a frame
@@ -168,7 +168,7 @@ outcome_meant plan outcome cells ends waits f vs sound counted shows lt h =
     let m = plan_meaning plan outcome in
     let cell_by_cell : gathered (map (value_at cells) (cells_of plan f)) ≡ Some vs = ap gathered (sym (stretch_of plan cells waits f sound counted (let le : f ≤ length plan.frames = omega arith in le))) ∙ h in
     let read : gathered (map (λ c. element (plan_meaning plan outcome) (cell_source plan c)) (cells_of plan f)) ≡ Some vs = gathered-weaker (value_at cells) (λ c. element (plan_meaning plan outcome) (cell_source plan c)) (value_meant plan (plan_meaning plan outcome) cells ends shows) (cells_of plan f) vs cell_by_cell in
-    outcome_at-meaning (plan_reads plan) outcome (length plan.frames) f lt ∙ ap (option_map (outcome f)) (ap gathered (map_map (cell_source plan) (element (plan_meaning plan outcome)) (cells_of plan f)) ∙ read)
+    outcome_at-meaning element element-extends (plan_reads plan) outcome (length plan.frames) f lt ∙ ap (option_map (outcome f)) (ap gathered (map_map (cell_source plan) (element (plan_meaning plan outcome)) (cells_of plan f)) ∙ read)
 
 -- a frame's part of the cells, as it is read
 abbrev pub part_of : FramePlan → List (Option ℤ) → List (Option ℤ)

@@ -1,5 +1,5 @@
 -- The laws of the meaning, as statements.
-use Rattle.std.specs.Prelude.{◌≡◌, ℕ, ℤ, ◌+◌, ◌<◌, ◌≤◌, List, ◌++◌, Some, None, is_some, slice_get, length, replicate, slice_set, take, option_and_then, IsTrue}
+use Rattle.std.specs.Prelude.{◌≡◌, ℕ, ℤ, ◌+◌, ◌<◌, ◌≤◌, List, ◌++◌, Option, Some, None, is_some, slice_get, length, replicate, slice_set, take, option_and_then, IsTrue}
 use Rattle.std.specs.Option.{option_map}
 use Rattle.flow_core.specs.declared.claim.Claim.{Claim}
 use Rattle.flow_core.specs.declared.activation.Activation.{Activation}
@@ -17,18 +17,43 @@ use Rattle.flow_core.specs.Streams.{stream_source, stream_reads, output_count, o
 use Rattle.flow_core.specs.Plans.{plan_reads, plan_meaning, sink_elements}
 use Rattle.flow_core.specs.StandsFor.{StandsFor}
 
--- one more round changes nothing in a meaning
-abbrev pub IsSettled : (ℕ → List Source) → (ℕ → List ℤ → Outcome) → ℕ → Type 0
-IsSettled reads body count = round reads body (meaning reads body count) ≡ meaning reads body count
+-- Of every kind of elements and outcomes.
+module _ {S V O : Type 0} (element : List (Option O) → S → Option V) where
+  -- an element that is there stays the same as more activations get outcomes
+  abbrev pub IsKept : Type 0
+  IsKept = (s t : List (Option O)) → ((a : ℕ) (o : O) → outcome_at s a ≡ Some o → outcome_at t a ≡ Some o) → (source : S) (v : V) → element s source ≡ Some v → element t source ≡ Some v
 
--- an outcome that is there after some rounds is the same after all later ones
-abbrev pub KeepsOutcomes : (ℕ → List Source) → (ℕ → List ℤ → Outcome) → ℕ → Type 0
-KeepsOutcomes reads body count = (n m a : ℕ) (o : Outcome) → n ≤ m → outcome_at (rounds reads body n (replicate count None)) a ≡ Some o → outcome_at (rounds reads body m (replicate count None)) a ≡ Some o
+  -- a fact of the meaning for all that activations read and bodies make of it
+  abbrev pub OfAll : ((ℕ → List S) → (ℕ → List V → O) → ℕ → Type 0) → Type 0
+  OfAll fact = (reads : ℕ → List S) (body : ℕ → List V → O) (count : ℕ) → fact reads body count
 
--- where all inputs of an activation are there in a meaning, its outcome is what its body gives for
--- them; elsewhere it has none
-abbrev pub IsFixed : (ℕ → List Source) → (ℕ → List ℤ → Outcome) → ℕ → Type 0
-IsFixed reads body count = (a : ℕ) → a < count → outcome_at (meaning reads body count) a ≡ option_map (body a) (inputs_in reads (meaning reads body count) a)
+  -- one more round changes nothing in a meaning
+  abbrev pub IsSettled : (ℕ → List S) → (ℕ → List V → O) → ℕ → Type 0
+  IsSettled reads body count = round element reads body (meaning element reads body count) ≡ meaning element reads body count
+
+  -- an outcome that is there after some rounds is the same after all later ones
+  abbrev pub KeepsOutcomes : (ℕ → List S) → (ℕ → List V → O) → ℕ → Type 0
+  KeepsOutcomes reads body count = (n m a : ℕ) (o : O) → n ≤ m → outcome_at (rounds element reads body n (replicate count None)) a ≡ Some o → outcome_at (rounds element reads body m (replicate count None)) a ≡ Some o
+
+  -- where all inputs of an activation are there in a meaning, its outcome is what its body gives for
+  -- them; elsewhere it has none
+  abbrev pub IsFixed : (ℕ → List S) → (ℕ → List V → O) → ℕ → Type 0
+  IsFixed reads body count = (a : ℕ) → a < count → outcome_at (meaning element reads body count) a ≡ option_map (body a) (inputs_in element reads (meaning element reads body count) a)
+
+  -- A round gives an enabled activation the outcome of its body for its inputs, and leaves the others.
+  pub record RoundsFire (reads : ℕ → List S) (body : ℕ → List V → O) (count : ℕ) : Type 0 where
+    pub fires : (state : List (Option O)) (a : ℕ) → length state ≡ count → a < count → IsEnabled element reads state a → (inputs : List V) × (inputs_in element reads state a ≡ Some inputs) × (outcome_at (round element reads body state) a ≡ Some (body a inputs))
+    pub leaves : (state : List (Option O)) (a : ℕ) → ¬ (IsEnabled element reads state a) → outcome_at (round element reads body state) a ≡ outcome_at state a
+
+  -- The states that are reached by giving enabled activations their outcomes one at a time, in any order.
+  pub data Reached (reads : ℕ → List S) (body : ℕ → List V → O) (count : ℕ) : List (Option O) → Type 0 where
+    start : Reached reads body count (replicate count None)
+    fire : (state : List (Option O)) (a : ℕ) (inputs : List V) → Reached reads body count state → a < count → outcome_at state a ≡ None → inputs_in element reads state a ≡ Some inputs → Reached reads body count (slice_set state a (Some (body a inputs)))
+
+  -- Each such state agrees with the meaning, and one in which nothing is enabled is the meaning.
+  pub record IsConfluent (reads : ℕ → List S) (body : ℕ → List V → O) (count : ℕ) : Type 0 where
+    pub agrees : (state : List (Option O)) (a : ℕ) (o : O) → Reached reads body count state → outcome_at state a ≡ Some o → outcome_at (meaning element reads body count) a ≡ Some o
+    pub ends_there : (state : List (Option O)) → Reached reads body count state → ((a : ℕ) → a < count → ¬ (IsEnabled element reads state a)) → state ≡ meaning element reads body count
 
 -- a fact of the meaning of each list of activations over each input, with each body
 abbrev pub OfStreams : ((ℕ → List Source) → (ℕ → List ℤ → Outcome) → ℕ → Type 0) → Type 0
@@ -78,18 +103,3 @@ IsFilled activations state = (a : ℕ) (x : Activation) (o : Outcome) → slice_
 -- the ends and the length of the input say which elements are there in such a state
 abbrev pub EndsSayWhatIsThere : Type 0
 EndsSayWhatIsThere = (activations : List Activation) (input : List ℕ) (state : State) (place : Place) → IsFilled activations state → is_some (element state (stream_source activations input place)) ≡ is_there activations (length input) (ends_of state) place
-
--- A round gives an enabled activation the outcome of its body for its inputs, and leaves the others.
-pub record RoundsFire (reads : ℕ → List Source) (body : ℕ → List ℤ → Outcome) (count : ℕ) : Type 0 where
-  pub fires : (state : State) (a : ℕ) → length state ≡ count → a < count → IsEnabled reads state a → (inputs : List ℤ) × (inputs_in reads state a ≡ Some inputs) × (outcome_at (round reads body state) a ≡ Some (body a inputs))
-  pub leaves : (state : State) (a : ℕ) → ¬ (IsEnabled reads state a) → outcome_at (round reads body state) a ≡ outcome_at state a
-
--- The states that are reached by giving enabled activations their outcomes one at a time, in any order.
-pub data Reached (reads : ℕ → List Source) (body : ℕ → List ℤ → Outcome) (count : ℕ) : State → Type 0 where
-  start : Reached reads body count (replicate count None)
-  fire : (state : State) (a : ℕ) (inputs : List ℤ) → Reached reads body count state → a < count → outcome_at state a ≡ None → inputs_in reads state a ≡ Some inputs → Reached reads body count (slice_set state a (Some (body a inputs)))
-
--- Each such state agrees with the meaning, and one in which nothing is enabled is the meaning.
-pub record IsConfluent (reads : ℕ → List Source) (body : ℕ → List ℤ → Outcome) (count : ℕ) : Type 0 where
-  pub agrees : (state : State) (a : ℕ) (o : Outcome) → Reached reads body count state → outcome_at state a ≡ Some o → outcome_at (meaning reads body count) a ≡ Some o
-  pub ends_there : (state : State) → Reached reads body count state → ((a : ℕ) → a < count → ¬ (IsEnabled reads state a)) → state ≡ meaning reads body count

@@ -16,7 +16,7 @@ pub mod Serves
 pub mod Laws
 -- The concurrent core.
 pub mod Concurrent
--- Where a run of a plan stands.
+-- What restates private functions for their contracts: where a run of a plan stands.
 pub mod Waits
 pub mod Counted
 pub mod Shows

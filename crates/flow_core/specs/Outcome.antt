@@ -17,7 +17,7 @@ abbrev pub State : Type 0
 State = List (Option Outcome)
 
 -- The outcome of an activation in a state, if it has one.
-abbrev pub outcome_at : State → ℕ → Option Outcome
+abbrev pub outcome_at : {O : Type 0} → List (Option O) → ℕ → Option O
 outcome_at state activation = slice_index_or state activation None
 
 -- The ends of a state alone.

@@ -50,7 +50,7 @@ plan_reads plan frame = map (cell_source plan) (cells_of plan frame)
 -- The meaning of a plan: each frame's outcome, or none where it is starved. `outcome` says by number
 -- what each frame makes of its inputs.
 abbrev pub plan_meaning : Plan → (ℕ → List ℤ → Outcome) → State
-plan_meaning plan outcome = meaning (plan_reads plan) outcome (length plan.frames)
+plan_meaning plan outcome = meaning element (plan_reads plan) outcome (length plan.frames)
 
 -- The elements of the sink cells in a state, in order, each where it is there.
 abbrev pub sink_elements : Plan → State → List (Option ℤ)

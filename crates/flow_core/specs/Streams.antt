@@ -36,7 +36,7 @@ output_count activation = sum_by (λ (c : Claim). c.horizon) (filter (λ (c : Cl
 -- The data-flow meaning of a list of activations over an input: each activation's outcome, or none
 -- where it is starved. `body` says by number what each activation makes of its inputs.
 abbrev pub stream_meaning : List Activation → List ℕ → (ℕ → List ℤ → Outcome) → State
-stream_meaning activations input body = meaning (stream_reads activations input) body (length activations)
+stream_meaning activations input body = meaning element (stream_reads activations input) body (length activations)
 
 -- The elements of the output in a state, place by place, each where it is there.
 abbrev pub output_elements : List Activation → List ℕ → State → List (Option ℤ)

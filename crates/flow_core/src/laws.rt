@@ -1,38 +1,51 @@
 //! Laws of the meaning, for the proofs of other runtimes. Each is a call that does nothing and
 //! ensures its law.
 
-ghost use Rattle.std.specs.Prelude.{List};
+ghost use Rattle.std.specs.Prelude.{List, Option};
 ghost use Rattle.flow_core.specs.declared.activation.Activation.{Activation};
-ghost use Rattle.flow_core.specs.Laws.{IsSettled, KeepsOutcomes, IsFixed, OfStreams, OfPlans, MeansTheStreams, SinkIsTheOutput, HasOneWriter, WritersAreInOrder, WritersAreProducers, ProducersHaveNumbers, EndsSayWhatIsThere, WindowsAreInOrder, RoundsFire, IsConfluent};
+ghost use Rattle.flow_core.specs.Element.{element};
+ghost use Rattle.flow_core.specs.Laws.{IsSettled, KeepsOutcomes, IsFixed, OfStreams, OfPlans, MeansTheStreams, SinkIsTheOutput, HasOneWriter, WritersAreInOrder, WritersAreProducers, ProducersHaveNumbers, EndsSayWhatIsThere, WindowsAreInOrder, RoundsFire, IsConfluent, IsKept, OfAll};
 
 /// A round runs what is enabled, and nothing else.
 pub fn one_round()
-    ensures streams { OfStreams RoundsFire }
-    ensures plans { OfPlans RoundsFire }
+    ensures streams { OfStreams (RoundsFire element) }
+    ensures plans { OfPlans (RoundsFire element) }
 {}
 
 /// One more round changes nothing in a meaning.
 pub fn settled()
-    ensures streams { OfStreams IsSettled }
-    ensures plans { OfPlans IsSettled }
+    ensures streams { OfStreams (IsSettled element) }
+    ensures plans { OfPlans (IsSettled element) }
 {}
 
 /// An outcome never changes from the round on in which it came.
 pub fn outcomes_stay()
-    ensures streams { OfStreams KeepsOutcomes }
-    ensures plans { OfPlans KeepsOutcomes }
+    ensures streams { OfStreams (KeepsOutcomes element) }
+    ensures plans { OfPlans (KeepsOutcomes element) }
 {}
 
 /// In a meaning an activation has the outcome of its body exactly where all its inputs are there.
 pub fn fixed_point()
-    ensures streams { OfStreams IsFixed }
-    ensures plans { OfPlans IsFixed }
+    ensures streams { OfStreams (IsFixed element) }
+    ensures plans { OfPlans (IsFixed element) }
 {}
 
 /// The order in which enabled activations run doesn't matter.
 pub fn confluence()
-    ensures streams { OfStreams IsConfluent }
-    ensures plans { OfPlans IsConfluent }
+    ensures streams { OfStreams (IsConfluent element) }
+    ensures plans { OfPlans (IsConfluent element) }
+{}
+
+/// The laws of rounds hold of every kind of elements and outcomes. `S` has the sources of elements, `V`
+/// their values and `O` the outcomes.
+pub fn any_elements<S, V, O>()
+    ensures one_round { (element : List (Option O) → S → Option V) → OfAll element (RoundsFire element) }
+    ensures settled { (element : List (Option O) → S → Option V) → OfAll element (IsSettled element) }
+    ensures outcomes_stay { (element : List (Option O) → S → Option V) → OfAll element (KeepsOutcomes element) }
+    ensures fixed_point { (element : List (Option O) → S → Option V) → IsKept element
+        → OfAll element (IsFixed element) }
+    ensures confluence { (element : List (Option O) → S → Option V) → IsKept element
+        → OfAll element (IsConfluent element) }
 {}
 
 /// A plan means what the activations mean for which it stands, and its sink holds their output.

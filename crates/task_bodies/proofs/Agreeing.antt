@@ -18,28 +18,28 @@ use Rattle.task_bodies.proofs.Serving.{no_activation}
 module _ (reads : ℕ → List Source) (body other : ℕ → List ℤ → Outcome) (count : ℕ)
     (agree : (a : ℕ) (inputs : List ℤ) → a < count → length inputs ≡ length (reads a) → body a inputs ≡ other a inputs) where
   -- the same inputs, if they are there, give the same
-  given : (s : State) (a : ℕ) → a < count → (o : Option (List ℤ)) → inputs_in reads s a ≡ o → option_map (body a) o ≡ option_map (other a) o
+  given : (s : State) (a : ℕ) → a < count → (o : Option (List ℤ)) → inputs_in element reads s a ≡ o → option_map (body a) o ≡ option_map (other a) o
   given s a lt None is = refl
   given s a lt (Some inputs) is = ap (λ (o : Outcome). Some o) (agree a inputs lt (length-gathered (map (element s) (reads a)) inputs is ∙ length-map (reads a) (element s)))
 
-  one_round : (s : State) → length s ≡ count → round reads body s ≡ round reads other s
-  one_round s long = same_lists (round reads body s) (round reads other s) (length-round reads body s ∙ sym (length-round reads other s)) (λ k d lt. at k d (omega (arith, length-round reads body s)))
+  one_round : (s : State) → length s ≡ count → round element reads body s ≡ round element reads other s
+  one_round s long = same_lists (round element reads body s) (round element reads other s) (length-round element reads body s ∙ sym (length-round element reads other s)) (λ k d lt. at k d (omega (arith, length-round element reads body s)))
     where
-      at : (k : ℕ) (d : Option Outcome) → k < length s → get_or (round reads body s) k d ≡ get_or (round reads other s) k d
+      at : (k : ℕ) (d : Option Outcome) → k < length s → get_or (round element reads body s) k d ≡ get_or (round element reads other s) k d
       at k d lt =
-          get_or_default (round reads body s) k d None (omega (arith, length-round reads body s))
-          ∙ outcome_at-round reads body s k lt
-          ∙ ap (option_or (outcome_at s k)) (given s k (omega arith) (inputs_in reads s k) refl)
-          ∙ sym (outcome_at-round reads other s k lt)
-          ∙ get_or_default (round reads other s) k None d (omega (arith, length-round reads other s))
+          get_or_default (round element reads body s) k d None (omega (arith, length-round element reads body s))
+          ∙ outcome_at-round element reads body s k lt
+          ∙ ap (option_or (outcome_at s k)) (given s k (omega arith) (inputs_in element reads s k) refl)
+          ∙ sym (outcome_at-round element reads other s k lt)
+          ∙ get_or_default (round element reads other s) k None d (omega (arith, length-round element reads other s))
 
-  some_rounds : (n : ℕ) → after reads body count n ≡ after reads other count n
+  some_rounds : (n : ℕ) → after element reads body count n ≡ after element reads other count n
   unfolding rounds
   some_rounds zero = refl
   some_rounds (suc n) =
-      one_round (after reads body count n) (length-after reads body count n) ∙ ap (round reads other) (some_rounds n)
+      one_round (after element reads body count n) (length-after element reads body count n) ∙ ap (round element reads other) (some_rounds n)
 
-  pub same_meaning : meaning reads body count ≡ meaning reads other count
+  pub same_meaning : meaning element reads body count ≡ meaning element reads other count
   unfolding meaning
   same_meaning = some_rounds count
 

@@ -8,7 +8,7 @@ use Rattle.std.proofs.lemmas.List.{length-map}
 use Rattle.std.proofs.lemmas.List.Elements.{All-cons, All-nil}
 use Rattle.std.proofs.lemmas.Option.{slice_get-get_or}
 use Rattle.flow_core.proofs.Gathering.{length-gathered}
-use Rattle.flow_core.proofs.Rounds.{outcome_at-meaning}
+use Rattle.flow_core.proofs.Rounds.{element-extends, outcome_at-meaning}
 use Rattle.flow_core.proofs.Sources.{find_passes}
 use Rattle.flow_core.proofs.Windows.{Writes, is_window, written}
 use Rattle.flow_core.specs.Element.{element, fed, nobody}
@@ -34,16 +34,16 @@ module _ (activations : List Activation) (input : List ℕ) (body : ℕ → List
   given : (a place : ℕ) (x : Activation) (value : ℤ) → slice_get activations a ≡ Some x → a < length activations → element state (fed a place) ≡ Some value
       → (inputs : List ℤ) × (length inputs ≡ input_count x) × (slice_get (body a inputs).outputs place ≡ Some value)
   unfolding meaning
-  given a place x value at lt is = by (inputs_in (stream_reads activations input) state a) refl
+  given a place x value at lt is = by (inputs_in element (stream_reads activations input) state a) refl
     where
-      by : (o : Option (List ℤ)) → inputs_in (stream_reads activations input) state a ≡ o → (inputs : List ℤ) × (length inputs ≡ input_count x) × (slice_get (body a inputs).outputs place ≡ Some value)
+      by : (o : Option (List ℤ)) → inputs_in element (stream_reads activations input) state a ≡ o → (inputs : List ℤ) × (length inputs ≡ input_count x) × (slice_get (body a inputs).outputs place ≡ Some value)
       by None none =
-          let e : None ≡ Some value = sym (ap (option_and_then (λ (o : Outcome). slice_get o.outputs place)) (outcome_at-meaning (stream_reads activations input) body (length activations) a lt ∙ ap (option_map (body a)) none)) ∙ is in
+          let e : None ≡ Some value = sym (ap (option_and_then (λ (o : Outcome). slice_get o.outputs place)) (outcome_at-meaning element element-extends (stream_reads activations input) body (length activations) a lt ∙ ap (option_map (body a)) none)) ∙ is in
           absurd (cc)
       by (Some inputs) there = (
         inputs,
         length-gathered (map (element state) (stream_reads activations input a)) inputs there ∙ length-map (stream_reads activations input a) (element state) ∙ length-reads activations input a x at,
-        sym (ap (option_and_then (λ (o : Outcome). slice_get o.outputs place)) (outcome_at-meaning (stream_reads activations input) body (length activations) a lt ∙ ap (option_map (body a)) there)) ∙ is,
+        sym (ap (option_and_then (λ (o : Outcome). slice_get o.outputs place)) (outcome_at-meaning element element-extends (stream_reads activations input) body (length activations) a lt ∙ ap (option_map (body a)) there)) ∙ is,
       )
 
   -- the element at a position of the output

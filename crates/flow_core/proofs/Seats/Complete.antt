@@ -165,10 +165,10 @@ module _ (known : Known) (outcome : ℕ → List ℤ → Outcome) (s : CoreState
           let z : end ≡ Done = same_Some end Done (sym (g.ends_are_meant f end e) ∙ ap (option_map (λ (o : Outcome). o.end)) there ∙ ap Some done) in
           ap has_delivered e ∙ ap is_done z
 
-  closed : IsClosed (plan_reads known.plan) outcome (length known.plan.frames) (λ f. is_some (end_in (word_at s.words f)))
+  closed : IsClosed element (plan_reads known.plan) outcome (length known.plan.frames) (λ f. is_some (end_in (word_at s.words f)))
   closed = record { passes = λ t extends earlier f vs lt inputs. passes t extends earlier f vs lt inputs }
     where
-      passes : (t : State) → Extends t (plan_meaning known.plan outcome) → ((f : ℕ) (o : Outcome) → outcome_at t f ≡ Some o → is_some (end_in (word_at s.words f)) ≡ true) → (f : ℕ) (vs : List ℤ) → f < length known.plan.frames → inputs_in (plan_reads known.plan) t f ≡ Some vs → is_some (end_in (word_at s.words f)) ≡ true
+      passes : (t : State) → Extends t (plan_meaning known.plan outcome) → ((f : ℕ) (o : Outcome) → outcome_at t f ≡ Some o → is_some (end_in (word_at s.words f)) ≡ true) → (f : ℕ) (vs : List ℤ) → f < length known.plan.frames → inputs_in element (plan_reads known.plan) t f ≡ Some vs → is_some (end_in (word_at s.words f)) ≡ true
       passes t extends earlier f vs lt inputs = has_end (word_at s.words f) full (unopen f lt) (untaken f)
         where
           delivered : (h : ℕ) (o : Outcome) → outcome_at t h ≡ Some o → o.end ≡ Done → has_delivered (word_at s.words h) ≡ true
@@ -188,7 +188,7 @@ module _ (known : Known) (outcome : ℕ → List ℤ → Outcome) (s : CoreState
 
   -- each frame with an outcome has ended
   ended : (f : ℕ) (o : Outcome) → outcome_at known.meaning f ≡ Some o → is_some (end_in (word_at s.words f)) ≡ true
-  ended f o h = passes_from_closed (plan_reads known.plan) outcome (length known.plan.frames) (λ f. is_some (end_in (word_at s.words f))) closed f o (sym (ap (λ m. outcome_at m f) is_meant) ∙ h)
+  ended f o h = passes_from_closed element (plan_reads known.plan) outcome (length known.plan.frames) (λ f. is_some (end_in (word_at s.words f))) closed f o (sym (ap (λ m. outcome_at m f) is_meant) ∙ h)
 
   pub complete : IsComplete known s
   complete = record { ends = λ f lt. ends f (word_at s.words f) refl; cells = λ c. cells c (value_at s.cells c) refl }

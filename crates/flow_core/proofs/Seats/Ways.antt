@@ -19,7 +19,7 @@ use Rattle.flow_core.specs.Laws.{Reached, start, fire}
 use Rattle.flow_core.proofs.Counting.{passing-none}
 use Rattle.flow_core.proofs.Gathering.{all_gathered, gathered-weaker}
 use Rattle.flow_core.proofs.Orders.{reached_extends, reached_meaning}
-use Rattle.flow_core.proofs.Rounds.{outcome_at-meaning, outcome_at_past}
+use Rattle.flow_core.proofs.Rounds.{element-extends, outcome_at-meaning, outcome_at_past}
 use Rattle.flow_core.proofs.Showing.{map_map}
 use Rattle.flow_core.proofs.Sources.{fed-covered, piece_at-covered}
 use Rattle.flow_core.specs.declared.concurrent.known.Known.{Known}
@@ -180,7 +180,7 @@ module _ (known : Known) (outcome : ℕ → List ℤ → Outcome) (s : CoreState
       (x, claimed_element known s c x fit g (omega (arith, some)) there)
 
   -- all its inputs are there
-  inputs_there : (vs : List ℤ) × (inputs_in (plan_reads known.plan) (claimed_outcomes known s) f ≡ Some vs)
+  inputs_there : (vs : List ℤ) × (inputs_in element (plan_reads known.plan) (claimed_outcomes known s) f ≡ Some vs)
   inputs_there =
       let (vs, h) = all_gathered (λ c. element (claimed_outcomes known s) (cell_source known.plan c)) (cells_of known.plan f)
       (passing-none (λ c. is_none (element (claimed_outcomes known s) (cell_source known.plan c))) first many (λ c low high. ap is_none (value_of c (low, high)).1)) in
@@ -205,17 +205,17 @@ module _ (known : Known) (outcome : ℕ → List ℤ → Outcome) (s : CoreState
               started false there = absurd (cc)
 
   -- its outcome in the meaning is what its body gives for them
-  gives : (vs : List ℤ) → inputs_in (plan_reads known.plan) (claimed_outcomes known s) f ≡ Some vs → outcome_at known.meaning f ≡ Some (outcome f vs)
+  gives : (vs : List ℤ) → inputs_in element (plan_reads known.plan) (claimed_outcomes known s) f ≡ Some vs → outcome_at known.meaning f ≡ Some (outcome f vs)
   gives vs h =
-      let a : inputs_in (plan_reads known.plan) known.meaning f ≡ Some vs = gathered-weaker (element (claimed_outcomes known s)) (element known.meaning) meant_element (plan_reads known.plan f) vs h in
-      let b : inputs_in (plan_reads known.plan) (plan_meaning known.plan outcome) f ≡ Some vs = ap (λ m. inputs_in (plan_reads known.plan) m f) (sym is_meant) ∙ a in
-      ap (λ m. outcome_at m f) is_meant ∙ outcome_at-meaning (plan_reads known.plan) outcome (length known.plan.frames) f lt ∙ ap (option_map (outcome f)) b
+      let a : inputs_in element (plan_reads known.plan) known.meaning f ≡ Some vs = gathered-weaker (element (claimed_outcomes known s)) (element known.meaning) meant_element (plan_reads known.plan f) vs h in
+      let b : inputs_in element (plan_reads known.plan) (plan_meaning known.plan outcome) f ≡ Some vs = ap (λ m. inputs_in element (plan_reads known.plan) m f) (sym is_meant) ∙ a in
+      ap (λ m. outcome_at m f) is_meant ∙ outcome_at-meaning element element-extends (plan_reads known.plan) outcome (length known.plan.frames) f lt ∙ ap (option_map (outcome f)) b
 
-  fires : word_at s.words f ≡ Open → (t : CoreState) → t.words ≡ set s.words f Taken → Reached (plan_reads known.plan) outcome (length known.plan.frames) (claimed_outcomes known s) → Reached (plan_reads known.plan) outcome (length known.plan.frames) (claimed_outcomes known t)
+  fires : word_at s.words f ≡ Open → (t : CoreState) → t.words ≡ set s.words f Taken → Reached element (plan_reads known.plan) outcome (length known.plan.frames) (claimed_outcomes known s) → Reached element (plan_reads known.plan) outcome (length known.plan.frames) (claimed_outcomes known t)
   fires is t words reached = by inputs_there
     where
-      by : (vs : List ℤ) × (inputs_in (plan_reads known.plan) (claimed_outcomes known s) f ≡ Some vs) → Reached (plan_reads known.plan) outcome (length known.plan.frames) (claimed_outcomes known t)
-      by (vs, h) = subst (Reached (plan_reads known.plan) outcome (length known.plan.frames)) (sym new) (fire (claimed_outcomes known s) f vs reached lt (outcome_at-claimed known s f lt ∙ ap (λ w. if is_started w then outcome_at known.meaning f else None) is) h)
+      by : (vs : List ℤ) × (inputs_in element (plan_reads known.plan) (claimed_outcomes known s) f ≡ Some vs) → Reached element (plan_reads known.plan) outcome (length known.plan.frames) (claimed_outcomes known t)
+      by (vs, h) = subst (Reached element (plan_reads known.plan) outcome (length known.plan.frames)) (sym new) (fire (claimed_outcomes known s) f vs reached lt (outcome_at-claimed known s f lt ∙ ap (λ w. if is_started w then outcome_at known.meaning f else None) is) h)
         where
           fits : f < length s.words
           fits = let a = g.words_of_plan in omega (arith, a, lt)
@@ -251,7 +251,7 @@ claimed_has_outcome known outcome s f fit is_meant g lt started = by (inputs_the
     full : amount (word_at s.words f) ≡ 0
     full = misses_none (word_at s.words f) started
 
-    by : (vs : List ℤ) × (inputs_in (plan_reads known.plan) (claimed_outcomes known s) f ≡ Some vs) → is_some (outcome_at known.meaning f) ≡ true
+    by : (vs : List ℤ) × (inputs_in element (plan_reads known.plan) (claimed_outcomes known s) f ≡ Some vs) → is_some (outcome_at known.meaning f) ≡ true
     by (vs, h) = ap is_some (gives known outcome s f fit is_meant g lt full vs h)
 
 of_the_claimed : (known : Known) (outcome : ℕ → List ℤ → Outcome) (s : CoreState) (f : ℕ) → IsFit known → IsMeant known outcome → IsGood known s → f < length known.plan.frames → is_some (outcome_at (claimed_outcomes known s) f) ≡ is_started (word_at s.words f)
@@ -271,11 +271,11 @@ has_the_elements known s c x fit g e =
     claimed_element known s c x fit g (omega (arith, a, b)) (g.cells_hold_the_meaning c x e)
 
 -- what every step does to the claimed outcomes
-step_reaches : (known : Known) (outcome : ℕ → List ℤ → Outcome) (old new : CoreState) → IsFit known → IsMeant known outcome → IsGood known old → Step known old new → Reached (plan_reads known.plan) outcome (length known.plan.frames) (claimed_outcomes known old) → Reached (plan_reads known.plan) outcome (length known.plan.frames) (claimed_outcomes known new)
+step_reaches : (known : Known) (outcome : ℕ → List ℤ → Outcome) (old new : CoreState) → IsFit known → IsMeant known outcome → IsGood known old → Step known old new → Reached element (plan_reads known.plan) outcome (length known.plan.frames) (claimed_outcomes known old) → Reached element (plan_reads known.plan) outcome (length known.plan.frames) (claimed_outcomes known new)
 step_reaches known outcome old new fit is_meant g step reached = by new step
   where
-    same : (t : CoreState) → ((f : ℕ) → is_started (word_at t.words f) ≡ is_started (word_at old.words f)) → Reached (plan_reads known.plan) outcome (length known.plan.frames) (claimed_outcomes known t)
-    same t e = subst (Reached (plan_reads known.plan) outcome (length known.plan.frames)) (sym (same_claimed known old t e)) reached
+    same : (t : CoreState) → ((f : ℕ) → is_started (word_at t.words f) ≡ is_started (word_at old.words f)) → Reached element (plan_reads known.plan) outcome (length known.plan.frames) (claimed_outcomes known t)
+    same t e = subst (Reached element (plan_reads known.plan) outcome (length known.plan.frames)) (sym (same_claimed known old t e)) reached
 
     lowered_started : (count : ℕ) (w : Word) → is_started (lowered count w) ≡ is_started w
     lowered_started count (Wait n) = is_started-lowered count n
@@ -283,12 +283,12 @@ step_reaches known outcome old new fit is_meant g step reached = by new step
     lowered_started count Taken = refl
     lowered_started count (Ended e) = refl
 
-    by : (t : CoreState) → Step known old t → Reached (plan_reads known.plan) outcome (length known.plan.frames) (claimed_outcomes known t)
+    by : (t : CoreState) → Step known old t → Reached element (plan_reads known.plan) outcome (length known.plan.frames) (claimed_outcomes known t)
     by t (split seat view can) = same (after_split old seat view) (λ f. refl)
     by t (join seat view other gone can) = same (after_join old seat view other gone) (λ f. refl)
     by t (claim seat view frame can) = choose (is_open (word_at old.words frame)) refl
       where
-        choose : (b : Bool) → is_open (word_at old.words frame) ≡ b → Reached (plan_reads known.plan) outcome (length known.plan.frames) (claimed_outcomes known (if b then (record { words = set old.words frame Taken; cells = old.cells; seats = set old.seats seat (with_claim known view frame) }) else with_view old seat (with_miss known view frame)))
+        choose : (b : Bool) → is_open (word_at old.words frame) ≡ b → Reached element (plan_reads known.plan) outcome (length known.plan.frames) (claimed_outcomes known (if b then (record { words = set old.words frame Taken; cells = old.cells; seats = set old.seats seat (with_claim known view frame) }) else with_view old seat (with_miss known view frame)))
         choose true e = fires known outcome old frame fit is_meant g can.exists (ap amount (open_is (word_at old.words frame) e)) (open_is (word_at old.words frame) e) (record { words = set old.words frame Taken; cells = old.cells; seats = set old.seats seat (with_claim known view frame) }) refl reached
         choose false e = same (with_view old seat (with_miss known view frame)) (λ f. refl)
     by t (read seat view run cell can) = reached
@@ -304,8 +304,8 @@ step_reaches known outcome old new fit is_meant g step reached = by new step
         exists = let a = g.words_of_plan in let b = ((g.views_are_sound seat view can.is_seat.sees).runs_at_a_place run can.runs).of_a_frame in omega (arith, a, b)
     by t (look seat view can) = same (after_look known old seat view) (λ f. refl)
 
-way_reaches : (known : Known) (outcome : ℕ → List ℤ → Outcome) (state : CoreState) → IsFit known → IsMeant known outcome → Way known state → Reached (plan_reads known.plan) outcome (length known.plan.frames) (claimed_outcomes known state)
-way_reaches known outcome state fit is_meant opens = subst (Reached (plan_reads known.plan) outcome (length known.plan.frames)) (none_claimed known) start
+way_reaches : (known : Known) (outcome : ℕ → List ℤ → Outcome) (state : CoreState) → IsFit known → IsMeant known outcome → Way known state → Reached element (plan_reads known.plan) outcome (length known.plan.frames) (claimed_outcomes known state)
+way_reaches known outcome state fit is_meant opens = subst (Reached element (plan_reads known.plan) outcome (length known.plan.frames)) (none_claimed known) start
 way_reaches known outcome state fit is_meant (goes old new way step) = step_reaches known outcome old new fit is_meant (way_is_good known old fit way) step (way_reaches known outcome old fit is_meant way)
 
 pub in_order : (known : Known) (outcome : ℕ → List ℤ → Outcome) (state : CoreState) → IsFit known → IsMeant known outcome → Way known state → IsInOrder known state outcome
@@ -318,6 +318,6 @@ in_order known outcome state fit is_meant way =
       of_the_claimed = λ f lt. of_the_claimed known outcome state f fit is_meant g lt;
       has_the_ends = λ f end lt. has_the_ends known state f end g lt;
       has_the_elements = λ c x. has_the_elements known state c x fit g;
-      agrees = (reached_extends (plan_reads known.plan) outcome (length known.plan.frames) (claimed_outcomes known state) r).kept;
-      ends_there = reached_meaning (plan_reads known.plan) outcome (length known.plan.frames) (claimed_outcomes known state) r;
+      agrees = (reached_extends element element-extends (plan_reads known.plan) outcome (length known.plan.frames) (claimed_outcomes known state) r).kept;
+      ends_there = reached_meaning element element-extends (plan_reads known.plan) outcome (length known.plan.frames) (claimed_outcomes known state) r;
     }

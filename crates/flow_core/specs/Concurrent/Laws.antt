@@ -125,12 +125,12 @@ KnownWaitsNoMore = (known : Known) (state : CoreState) (seat : ℕ) (view : View
 -- it, it is the meaning.
 pub record IsInOrder (known : Known) (state : CoreState) (outcome : ℕ → List ℤ → Outcome) : Type 0 where
   pub outcomes : State
-  pub ran_in_order : Reached (plan_reads known.plan) outcome (length known.plan.frames) outcomes
+  pub ran_in_order : Reached element (plan_reads known.plan) outcome (length known.plan.frames) outcomes
   pub of_the_claimed : (f : ℕ) → f < length known.plan.frames → is_some (outcome_at outcomes f) ≡ is_started (word_at state.words f)
   pub has_the_ends : (f : ℕ) (end : TaskEnd) → f < length known.plan.frames → word_at state.words f ≡ Ended end → option_map (λ (o : Outcome). o.end) (outcome_at outcomes f) ≡ Some end
   pub has_the_elements : (c : ℕ) (value : ℤ) → value_at state.cells c ≡ Some value → element outcomes (cell_source known.plan c) ≡ Some value
   pub agrees : (f : ℕ) (o : Outcome) → outcome_at outcomes f ≡ Some o → outcome_at (plan_meaning known.plan outcome) f ≡ Some o
-  pub ends_there : ((f : ℕ) → f < length known.plan.frames → ¬ (IsEnabled (plan_reads known.plan) outcomes f)) → outcomes ≡ plan_meaning known.plan outcome
+  pub ends_there : ((f : ℕ) → f < length known.plan.frames → ¬ (IsEnabled element (plan_reads known.plan) outcomes f)) → outcomes ≡ plan_meaning known.plan outcome
 
 abbrev pub RunsAreConfluent : Type 0
 RunsAreConfluent = (known : Known) (outcome : ℕ → List ℤ → Outcome) (state : CoreState) → IsFit known → IsMeant known outcome → Way known state → IsInOrder known state outcome

@@ -1,3 +1,5 @@
+use Rattle.flow_core.specs.Element.{element}
+use Rattle.flow_core.proofs.Rounds.{element-extends}
 use Rattle.std.proofs.Common.{length}
 use Rattle.flow_core.specs.Streams.{stream_reads}
 use Rattle.flow_core.specs.Plans.{plan_reads}
@@ -5,7 +7,7 @@ use Rattle.flow_core.proofs.Orders.{reached_extends, reached_meaning}
 use Rattle.flow_core.proofs.laws.confluence.Goals as goal
 
 pub returns-clause-streams : goal.returns-clause-streams
-returns-clause-streams c = λ activations input body. record { agrees = λ s a o r. (reached_extends (stream_reads activations input) body (length activations) s r).kept a o; ends_there = reached_meaning (stream_reads activations input) body (length activations) }
+returns-clause-streams c = λ activations input body. record { agrees = λ s a o r. (reached_extends element element-extends (stream_reads activations input) body (length activations) s r).kept a o; ends_there = reached_meaning element element-extends (stream_reads activations input) body (length activations) }
 
 pub returns-clause-plans : goal.returns-clause-plans
-returns-clause-plans c = λ plan outcome. record { agrees = λ s a o r. (reached_extends (plan_reads plan) outcome (length plan.frames) s r).kept a o; ends_there = reached_meaning (plan_reads plan) outcome (length plan.frames) }
+returns-clause-plans c = λ plan outcome. record { agrees = λ s a o r. (reached_extends element element-extends (plan_reads plan) outcome (length plan.frames) s r).kept a o; ends_there = reached_meaning element element-extends (plan_reads plan) outcome (length plan.frames) }

@@ -1,11 +1,12 @@
+use Rattle.flow_core.specs.Element.{element}
 use Rattle.flow_core.specs.Streams.{stream_reads}
 use Rattle.flow_core.specs.Plans.{plan_reads}
 use Rattle.std.proofs.Common.{length}
-use Rattle.flow_core.proofs.Rounds.{outcome_at-meaning}
+use Rattle.flow_core.proofs.Rounds.{element-extends, outcome_at-meaning}
 use Rattle.flow_core.proofs.laws.fixed_point.Goals as goal
 
 pub returns-clause-streams : goal.returns-clause-streams
-returns-clause-streams c = λ activations input body. outcome_at-meaning (stream_reads activations input) body (length activations)
+returns-clause-streams c = λ activations input body. outcome_at-meaning element element-extends (stream_reads activations input) body (length activations)
 
 pub returns-clause-plans : goal.returns-clause-plans
-returns-clause-plans c = λ plan outcome. outcome_at-meaning (plan_reads plan) outcome (length plan.frames)
+returns-clause-plans c = λ plan outcome. outcome_at-meaning element element-extends (plan_reads plan) outcome (length plan.frames)

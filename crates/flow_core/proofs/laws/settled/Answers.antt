@@ -1,3 +1,4 @@
+use Rattle.flow_core.specs.Element.{element}
 use Rattle.flow_core.specs.Streams.{stream_reads}
 use Rattle.flow_core.specs.Plans.{plan_reads}
 use Rattle.std.proofs.Common.{length}
@@ -5,7 +6,7 @@ use Rattle.flow_core.proofs.Rounds.{round-meaning}
 use Rattle.flow_core.proofs.laws.settled.Goals as goal
 
 pub returns-clause-streams : goal.returns-clause-streams
-returns-clause-streams c = λ activations input body. round-meaning (stream_reads activations input) body (length activations)
+returns-clause-streams c = λ activations input body. round-meaning element (stream_reads activations input) body (length activations)
 
 pub returns-clause-plans : goal.returns-clause-plans
-returns-clause-plans c = λ plan outcome. round-meaning (plan_reads plan) outcome (length plan.frames)
+returns-clause-plans c = λ plan outcome. round-meaning element (plan_reads plan) outcome (length plan.frames)

@@ -1,3 +1,4 @@
+use Rattle.flow_core.specs.Element.{element}
 use Rattle.std.proofs.Common.{length, ◌∙◌, arith}
 use Rattle.flow_core.specs.Plans.{plan_reads, plan_meaning}
 use Rattle.flow_core.proofs.Rounds.{length-meaning}
@@ -16,7 +17,7 @@ returns-clause-ends g c =
     let outcome = g.B.Bodies.outcome c.args.bodies.now in
     let run = c.in_ok-run_all.ensures in
     let all = all_ended plan outcome c.run_all.new.board _ c.requires.sound run (omega arith) in
-    c.in_ok-ends.ensures.ends ∙ ends_meant plan (plan_meaning plan outcome) _ _ (length-meaning (plan_reads plan) outcome (length plan.frames)) run.shows all
+    c.in_ok-ends.ensures.ends ∙ ends_meant plan (plan_meaning plan outcome) _ _ (length-meaning element (plan_reads plan) outcome (length plan.frames)) run.shows all
 
 pub returns-clause-output : goal.returns-clause-output
 returns-clause-output g c =
