@@ -54,6 +54,12 @@ module _ (o : Owner) (size : tree.ExprTree → ℕ) where
     stmts_slots tree.no_stmts = 0
     stmts_slots (tree.stmt a rest) = stmt_slots a + stmts_slots rest
 
+-- what has slots round a body, before its parameters: `osin_len`
+abbrev pub slots_round : Owner → ℕ
+slots_round owner.OfMain = 1
+slots_round owner.OfFunction = 0
+slots_round owner.OfTask = 0
+
 -- an array has the size that its expression has by this
 abbrev pub HasSize : (tree.ExprTree → ℕ) → Scope → Option tree.IndexTree → Type 0
 HasSize size s None = ⊤
