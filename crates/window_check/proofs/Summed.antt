@@ -24,9 +24,9 @@ use Rattle.os_ast.specs.declared.names.Owner.TheVariants as owner
 use Rattle.window_check.proofs.Restored.{owner_declarator, owner_start, owner_stmt}
 use Rattle.window_check.proofs.Rise.{rise_stmt}
 use Rattle.window_check.proofs.Stacks.{stacked_more}
-use Rattle.window_check.specs.Sums.{HasSize, HasSizes, array_slots, declared_slots, declarators_slots, slots_round, start_slots, stmt_slots, stmts_slots, extent_in}
+use Rattle.window_check.specs.Sums.{HasSize, HasSizes, IsArraySize, array_slots, declared_slots, declarators_slots, slots_round, start_slots, stmt_slots, stmts_slots, extent_in}
 
-sizes-first : (size : tree.ExprTree → ℕ) (xs ys : List Note) → HasSizes size (xs ++ ys) → HasSizes size xs
+pub sizes-first : (size : tree.ExprTree → ℕ) (xs ys : List Note) → HasSizes size (xs ++ ys) → HasSizes size xs
 sizes-first size [] ys h = tt
 sizes-first size (Used s n u ∷ xs) ys h = sizes-first size xs ys h
 sizes-first size (Sized s n ∷ xs) ys h = sizes-first size xs ys h
@@ -39,7 +39,7 @@ sizes-first size (Pragma s m ∷ xs) ys h = sizes-first size xs ys h
 sizes-first size (Task s m items cs ∷ xs) ys h = sizes-first size xs ys h
 sizes-first size (Listed before n ∷ xs) ys h = sizes-first size xs ys h
 
-sizes-rest : (size : tree.ExprTree → ℕ) (xs ys : List Note) → HasSizes size (xs ++ ys) → HasSizes size ys
+pub sizes-rest : (size : tree.ExprTree → ℕ) (xs ys : List Note) → HasSizes size (xs ++ ys) → HasSizes size ys
 sizes-rest size [] ys h = h
 sizes-rest size (Used s n u ∷ xs) ys h = sizes-rest size xs ys h
 sizes-rest size (Sized s n ∷ xs) ys h = sizes-rest size xs ys h
@@ -52,7 +52,7 @@ sizes-rest size (Pragma s m ∷ xs) ys h = sizes-rest size xs ys h
 sizes-rest size (Task s m items cs ∷ xs) ys h = sizes-rest size xs ys h
 sizes-rest size (Listed before n ∷ xs) ys h = sizes-rest size xs ys h
 
-array-slots : (o : Owner) (s : Scope) (v : Option ℕ) (n : ℕ) → unwrap_or v 0 ≡ n → (taken s (sized_form o v)).slots ≡ s.slots + array_slots o n
+array-slots : (o : Owner) (s : Scope) (v : Option ℕ) (n : ℕ) → IsArraySize o (unwrap_or v 0) n → (taken s (sized_form o v)).slots ≡ s.slots + array_slots o n
 array-slots owner.OfMain s v n h = refl
 array-slots owner.OfFunction s v n h = ap (λ k. s.slots + k) h
 array-slots owner.OfTask s v n h = ap (λ k. s.slots + k) h

@@ -1,6 +1,7 @@
 -- What is in scope where something stands in a lawful program.
-use Rattle.std.specs.Prelude.{⊤, ◌≡◌, ℕ, suc, ◌+◌, ◌<◌, ◌≤◌, ◌==◌, if◌then◌else◌, List, [], ◌∷◌, length, Option, Some, None, ℤ}
+use Rattle.std.specs.Prelude.{⊤, ◌≡◌, ℕ, suc, ◌+◌, ◌<◌, ◌≤◌, ◌==◌, if◌then◌else◌, List, [], ◌∷◌, length, Option, Some, None, unwrap_or, ℤ, pos}
 use Rattle.os_ast.specs.Names.{Scope, lookup, entity_of, constant_value}
+use Rattle.os_ast.specs.Notes.Declarators.{limited, constant_of}
 use Rattle.os_ast.specs.Notes.Kinds.{Note, Used, Sized, Declared, Given, Global, Left, Returned, Pragma, Task, Listed}
 use Rattle.os_ast.specs.Notes.Programs.{param_names}
 use Rattle.os_ast.specs.Stacked.{Stacked}
@@ -47,6 +48,13 @@ pub record IsConstant (p : tree.ProgramTree) (s : Scope) (id : ℕ) : Type 0 whe
   pub value : ℤ
   pub there : entity_of (lookup s.entries id) ≡ Some (entity.Constant value)
   pub declared : global p id ≡ Some (entity.Constant value)
+
+-- The size of a local array, by a number or by the name of a constant among the program's items. Where it is none, 0
+-- stands for it.
+abbrev pub size_in : tree.ProgramTree → tree.ExprTree → ℕ
+size_in p (tree.Number n) = unwrap_or (limited (Some (pos n))) 0
+size_in p (tree.Place (tree.Variable n)) = unwrap_or (limited (constant_of (global p n.id))) 0
+size_in p _ = 0
 
 -- what stands in a program stands in such a scope, and a name that is a size is that of a constant
 abbrev pub Stands : tree.ProgramTree → Note → Type 0

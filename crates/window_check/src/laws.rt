@@ -26,7 +26,7 @@ ghost use Rattle.os_lexer.specs.declared.token.Token.{Token};
 ghost use Rattle.std.specs.Prelude.{◌≡◌, ◌≤◌, ◌||◌, ◌+◌, ◌++◌, ◌∷◌, [], ℕ, List, Contains, length, map};
 ghost use Rattle.window_check.specs.CapturedByUse.{Ascends, slots_named, used_slots};
 ghost use Rattle.window_check.specs.Globals.{AreApart, IsWithin, count_functions};
-ghost use Rattle.window_check.specs.Known.{Stands};
+ghost use Rattle.window_check.specs.Known.{Stands, size_in};
 ghost use Rattle.window_check.specs.NameTokens.{program_places};
 ghost use Rattle.window_check.specs.Order.{InOrder};
 ghost use Rattle.window_check.specs.Sums.{HasSizes, extent_in, slots_round, stmt_slots, stmts_slots};
@@ -100,6 +100,14 @@ pub fn slots_are_summed()
         (after_stmt s a).slots ≡ s.slots + stmt_slots s.owner size a }
     ensures statements { (size : tree.ExprTree → ℕ) (s : Scope) (ss : tree.Stmts) → HasSizes size (stmts_notes s ss) →
         (after_stmts s ss).slots ≡ s.slots + stmts_slots s.owner size ss }
+{}
+
+/// The local arrays of a lawful program, and of each part of it, have the sizes that the numbers and the constants of its
+/// items give them.
+pub fn arrays_have_sizes()
+    ensures all { (p : ProgramTree) → IsLeveled p → violations p ≡ [] → HasSizes (size_in p) (program_notes p) }
+    ensures first { (size : tree.ExprTree → ℕ) (xs ys : List Note) → HasSizes size (xs ++ ys) → HasSizes size xs }
+    ensures rest { (size : tree.ExprTree → ℕ) (xs ys : List Note) → HasSizes size (xs ++ ys) → HasSizes size ys }
 {}
 
 /// Functions are numbered in the order of the text, and no two constants or functions of a lawful program have one name,
