@@ -32,7 +32,7 @@ use Rattle.simulation.specs.Programs.{constant_size, size_by}
 use Rattle.simulation.proofs.Context.{told_is}
 use Rattle.simulation.proofs.Declares.{or_first, not_false, size_known}
 use Rattle.window_check.specs.Order.{InOrder}
-use Rattle.window_check.specs.Sums.{HasSize, HasSizes}
+use Rattle.window_check.specs.Sums.{HasSize, HasSizes, IsArraySize}
 use Rattle.window_check.specs.Told.{AreIn, Tells, AreLawful}
 use Rattle.window_check.proofs.Told.{tells-first, tells-rest, lawful-first, lawful-rest, told-use, declared-use}
 
@@ -197,6 +197,12 @@ module _ (rs : List Resolved) (ordered : InOrder rs) where
   by_value s (tree.Chain l first links) lawful tells = refl
   by_value s (tree.Choice c a b) lawful tells = refl
 
+  -- in `main` it doesn't count
+  counts : (o : Owner) (told n : ℕ) → told ≡ n → IsArraySize o told n
+  counts owner.OfMain told n h = tt
+  counts owner.OfFunction told n h = h
+  counts owner.OfTask told n h = h
+
   -- a declarator
   declarator_size : (s : Scope) (d : tree.DeclaratorTree) → AreLawful (declarator_notes s d) → Tells rs (declarator_notes s d) → HasSize size s d.size
   declarator_size s d lawful tells = by_size d.size d.stream
@@ -219,7 +225,7 @@ module _ (rs : List Resolved) (ordered : InOrder rs) where
 
       by_size : (o : Option tree.IndexTree) (stream : Bool) → has_no_size (form_with s stream o) (size_told s o) ≡ false → AreLawful (sized_notes s stream o) → Tells rs (sized_notes s stream o) → HasSize size s o
       by_size None stream h lawful tells = tt
-      by_size (Some i) stream h lawful tells = by_form stream i (is_window s.owner && not stream) refl h lawful tells
+      by_size (Some i) stream h lawful tells = counts s.owner (unwrap_or (size_of s i.value) 0) (size i.value) (by_form stream i (is_window s.owner && not stream) refl h lawful tells)
 
   declarators_sizes : (ds : List tree.DeclaratorTree) (s : Scope) → AreLawful (declarators_notes s ds) → Tells rs (declarators_notes s ds) → HasSizes size (declarators_notes s ds)
   declarators_sizes [] s lawful tells = tt

@@ -15,7 +15,7 @@ use Rattle.os_ast.specs.declared.names.Owner.{Owner}
 use Rattle.os_ast.specs.declared.names.Owner.TheVariants as owner
 use Rattle.window_check.specs.Globals.{count_functions}
 
-functions_taken : (s : Scope) (f : Form) → (taken s f).functions ≡ s.functions
+pub functions_taken : (s : Scope) (f : Form) → (taken s f).functions ≡ s.functions
 functions_taken s form_of.Scalar = refl
 functions_taken s (form_of.Array n) = refl
 functions_taken s form_of.Window = refl
@@ -31,14 +31,14 @@ functions_start s tree.StartTree.Empty = refl
 functions_start s (tree.StartTree.Declare ds) = functions_declarators s ds
 functions_start s (tree.StartTree.Change c) = refl
 
-functions_items : (s inner : Scope) (n : ℕ) (ps : List Part) → (with_items s inner n ps).functions ≡ inner.functions
+pub functions_items : (s inner : Scope) (n : ℕ) (ps : List Part) → (with_items s inner n ps).functions ≡ inner.functions
 functions_items s inner n [] = refl
 functions_items s inner n (Item d i ∷ ps) =
     functions_items s (declare inner (item_name i.stream i.window).id (item_entity s n d i)) (suc n) ps
 functions_items s inner n (Private p ∷ ps) = functions_items s inner n ps
 
 mutual
-  functions_stmt : (s : Scope) (a : tree.StmtTree) → (after_stmt s a).functions ≡ s.functions
+  pub functions_stmt : (s : Scope) (a : tree.StmtTree) → (after_stmt s a).functions ≡ s.functions
   functions_stmt s tree.StmtTree.Empty = refl
   functions_stmt s (tree.Block ss) = functions_stmts (enter s) ss
   functions_stmt s (tree.StmtTree.Declare ds) = functions_declarators s ds
@@ -56,7 +56,7 @@ mutual
   functions_stmt s (tree.Tick m t arrow e) = refl
   functions_stmt s (tree.Taskwait m) = refl
 
-  functions_stmts : (s : Scope) (ss : tree.Stmts) → (after_stmts s ss).functions ≡ s.functions
+  pub functions_stmts : (s : Scope) (ss : tree.Stmts) → (after_stmts s ss).functions ≡ s.functions
   functions_stmts s tree.no_stmts = refl
   functions_stmts s (tree.stmt a rest) = functions_stmts (after_stmt s a) rest ∙ functions_stmt s a
 

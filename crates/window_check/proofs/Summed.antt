@@ -1,14 +1,19 @@
 -- Slots are summed over the tree, and lie above one another in scope.
-use Rattle.std.proofs.Common.{◌≡◌, ◌≤◌, ◌+◌, ℕ, Bool, true, false, List, [], ◌∷◌, ◌++◌, Option, Some, None, refl, ap, sym, subst, ◌∙◌, arith}
+use Rattle.std.proofs.Common.{◌≡◌, ◌≤◌, ◌+◌, ℕ, suc, length, Bool, true, false, List, [], ◌∷◌, ◌++◌, Option, Some, None, refl, ap, sym, subst, ◌∙◌, arith}
 use Rattle.std.specs.Prelude.{unwrap_or}
+use Rattle.os_ast.specs.Captured.{captured, slots_of}
 use Rattle.os_ast.specs.Leveled.{IsStmt, AreStmts}
-use Rattle.os_ast.specs.Names.{Scope, enter, in_loop}
+use Rattle.os_ast.specs.Names.{Scope, declare, enter, in_loop, in_unit}
+use Rattle.os_ast.specs.Notes.Clauses.{captured_in, in_task, in_task_body, item_entity, with_items}
 use Rattle.os_ast.specs.Notes.Declarators.{form, form_with, sized_form, size_of, taken, form_entity, declared_entity, scalar_entity, declarator_notes, declarators_notes, after_declarator, after_declarators, after_start, start_notes}
 use Rattle.os_ast.specs.Notes.Expressions.{expr_notes, value_notes, step_notes}
 use Rattle.os_ast.specs.Notes.Kinds.{Note, Used, Sized, Declared, Given, Global, Left, Returned, Pragma, Task, Listed}
+use Rattle.os_ast.specs.Notes.Programs.{after_param, after_params, in_body, in_function, owner_of, param_names, round_body}
 use Rattle.os_ast.specs.Notes.Statements.{after_stmt, after_stmts, stmt_notes, stmts_notes}
+use Rattle.os_ast.specs.Parts.{Item, Part, Private, item_name}
 use Rattle.os_ast.specs.Stacked.{Extent, Stacked, begins, ends}
 use Rattle.os_ast.specs.Trees as tree
+use Rattle.os_ast.specs.declared.expr.Name.{Name}
 use Rattle.os_ast.specs.declared.names.Entity.{Entity}
 use Rattle.os_ast.specs.declared.names.Entity.TheVariants as entity
 use Rattle.os_ast.specs.declared.names.Entry.{Entry}
@@ -19,9 +24,9 @@ use Rattle.os_ast.specs.declared.names.Owner.TheVariants as owner
 use Rattle.window_check.proofs.Restored.{owner_declarator, owner_start, owner_stmt}
 use Rattle.window_check.proofs.Rise.{rise_stmt}
 use Rattle.window_check.proofs.Stacks.{stacked_more}
-use Rattle.window_check.specs.Sums.{HasSize, HasSizes, array_slots, declared_slots, declarators_slots, start_slots, stmt_slots, stmts_slots, extent_in}
+use Rattle.window_check.specs.Sums.{HasSize, HasSizes, IsArraySize, array_slots, declared_slots, declarators_slots, slots_round, start_slots, stmt_slots, stmts_slots, extent_in}
 
-sizes-first : (size : tree.ExprTree → ℕ) (xs ys : List Note) → HasSizes size (xs ++ ys) → HasSizes size xs
+pub sizes-first : (size : tree.ExprTree → ℕ) (xs ys : List Note) → HasSizes size (xs ++ ys) → HasSizes size xs
 sizes-first size [] ys h = tt
 sizes-first size (Used s n u ∷ xs) ys h = sizes-first size xs ys h
 sizes-first size (Sized s n ∷ xs) ys h = sizes-first size xs ys h
@@ -34,7 +39,7 @@ sizes-first size (Pragma s m ∷ xs) ys h = sizes-first size xs ys h
 sizes-first size (Task s m items cs ∷ xs) ys h = sizes-first size xs ys h
 sizes-first size (Listed before n ∷ xs) ys h = sizes-first size xs ys h
 
-sizes-rest : (size : tree.ExprTree → ℕ) (xs ys : List Note) → HasSizes size (xs ++ ys) → HasSizes size ys
+pub sizes-rest : (size : tree.ExprTree → ℕ) (xs ys : List Note) → HasSizes size (xs ++ ys) → HasSizes size ys
 sizes-rest size [] ys h = h
 sizes-rest size (Used s n u ∷ xs) ys h = sizes-rest size xs ys h
 sizes-rest size (Sized s n ∷ xs) ys h = sizes-rest size xs ys h
@@ -47,7 +52,7 @@ sizes-rest size (Pragma s m ∷ xs) ys h = sizes-rest size xs ys h
 sizes-rest size (Task s m items cs ∷ xs) ys h = sizes-rest size xs ys h
 sizes-rest size (Listed before n ∷ xs) ys h = sizes-rest size xs ys h
 
-array-slots : (o : Owner) (s : Scope) (v : Option ℕ) (n : ℕ) → unwrap_or v 0 ≡ n → (taken s (sized_form o v)).slots ≡ s.slots + array_slots o n
+array-slots : (o : Owner) (s : Scope) (v : Option ℕ) (n : ℕ) → IsArraySize o (unwrap_or v 0) n → (taken s (sized_form o v)).slots ≡ s.slots + array_slots o n
 array-slots owner.OfMain s v n h = refl
 array-slots owner.OfFunction s v n h = ap (λ k. s.slots + k) h
 array-slots owner.OfTask s v n h = ap (λ k. s.slots + k) h
@@ -117,6 +122,31 @@ mutual
       let same : stmts_slots after.owner size rest ≡ stmts_slots s.owner size rest = ap (λ (o : Owner). stmts_slots o size rest) (owner_stmt s a) in
       omega (arith, one, two, same)
 
+-- A body begins behind its parameters, or behind what its task captures.
+slots-params : (s : Scope) (ns : List Name) → (after_params s ns).slots ≡ s.slots + length ns
+slots-params s [] = omega arith
+slots-params s (n ∷ ns) = omega (arith, slots-params (after_param s n) ns)
+
+slots-round : (o : Owner) (s : Scope) → (enter (round_body o (enter (in_unit o s)))).slots ≡ slots_round o
+slots-round owner.OfMain s = refl
+slots-round owner.OfFunction s = refl
+slots-round owner.OfTask s = refl
+
+pub slots-in_body : (s : Scope) (f : tree.FunctionTree) → (in_body s f).slots ≡ slots_round (owner_of f.name.id) + length (param_names f.params)
+slots-in_body s f =
+    let round = slots-round (owner_of f.name.id) s in
+    let given = slots-params (in_function s f.name.id) (param_names f.params) in
+    omega (arith, round, given)
+
+slots-items : (s inner : Scope) (n : ℕ) (ps : List Part) → (with_items s inner n ps).slots ≡ inner.slots
+slots-items s inner n [] = refl
+slots-items s inner n (Item d i ∷ ps) = slots-items s (declare inner (item_name i.stream i.window).id (item_entity s n d i)) (suc n) ps
+slots-items s inner n (Private p ∷ ps) = slots-items s inner n ps
+
+pub slots-in_task : (s : Scope) (ps : List Part) (a : tree.StmtTree) →
+    (in_task_body s ps a).slots ≡ length (captured_in s.owner (slots_of (captured s.entries ps a)))
+slots-in_task s ps a = slots-items s (in_task s (captured_in s.owner (slots_of (captured s.entries ps a)))) 0 ps
+
 -- A statement that is no declaration leaves in scope what was there.
 pub stays_in : {a : tree.StmtTree} → IsStmt a → (s : Scope) → (after_stmt s a).entries ≡ s.entries
 stays_in IsStmt.empty s = refl
@@ -135,7 +165,7 @@ stays_in (IsStmt.tick _ _) s = refl
 stays_in IsStmt.taskwait s = refl
 
 -- what is declared next lies above what is in scope
-stacked-scalar : (o : Owner) (id depth slots : ℕ) (es : List Entry) → Stacked (extent_in o) slots es →
+pub stacked-scalar : (o : Owner) (id depth slots : ℕ) (es : List Entry) → Stacked (extent_in o) slots es →
     Stacked (extent_in o) (slots + 1) (record { id = id; depth = depth; entity = scalar_entity o slots } ∷ es)
 stacked-scalar owner.OfMain id depth slots es h = (omega arith, h)
 stacked-scalar owner.OfFunction id depth slots es h = (omega arith, h)
@@ -159,7 +189,7 @@ no-extents owner.OfMain n k = refl
 no-extents owner.OfFunction n k = refl
 no-extents owner.OfTask n k = refl
 
-stacked-none : (o : Owner) (top id depth : ℕ) (e : Entity) (es : List Entry) → extent_in o e ≡ None → Stacked (extent_in o) top es →
+pub stacked-none : (o : Owner) (top id depth : ℕ) (e : Entity) (es : List Entry) → extent_in o e ≡ None → Stacked (extent_in o) top es →
     Stacked (extent_in o) top (record { id = id; depth = depth; entity = e } ∷ es)
 stacked-none o top id depth e es none h =
     subst (λ (x : Option Extent). (ends x top ≤ top) × Stacked (extent_in o) (begins x top) es) (sym none) (omega arith, h)

@@ -1,6 +1,7 @@
 -- What a reader believes: the clauses of `check` and of the laws cite these.
 pub mod CapturedByUse
 pub mod Globals
+pub mod Known
 pub mod NameTokens
 pub mod Order
 pub mod Refusal

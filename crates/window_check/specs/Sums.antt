@@ -54,10 +54,22 @@ module _ (o : Owner) (size : tree.ExprTree → ℕ) where
     stmts_slots tree.no_stmts = 0
     stmts_slots (tree.stmt a rest) = stmt_slots a + stmts_slots rest
 
+-- what has slots round a body, before its parameters: `osin_len`
+abbrev pub slots_round : Owner → ℕ
+slots_round owner.OfMain = 1
+slots_round owner.OfFunction = 0
+slots_round owner.OfTask = 0
+
+-- the size of an array counts outside `main`: there it is a window's
+abbrev pub IsArraySize : Owner → (told size : ℕ) → Type 0
+IsArraySize owner.OfMain told size = ⊤
+IsArraySize owner.OfFunction told size = told ≡ size
+IsArraySize owner.OfTask told size = told ≡ size
+
 -- an array has the size that its expression has by this
 abbrev pub HasSize : (tree.ExprTree → ℕ) → Scope → Option tree.IndexTree → Type 0
 HasSize size s None = ⊤
-HasSize size s (Some i) = unwrap_or (size_of s i.value) 0 ≡ size i.value
+HasSize size s (Some i) = IsArraySize s.owner (unwrap_or (size_of s i.value) 0) (size i.value)
 
 -- each array that is declared among these notes has
 abbrev pub HasSizes : (tree.ExprTree → ℕ) → List Note → Type 0

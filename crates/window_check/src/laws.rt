@@ -1,15 +1,15 @@
 //! Laws that show what the definitions mean. They take nothing and do nothing.
 
 ghost use Rattle.os_ast.specs.Captured.{captured, slots_of};
-ghost use Rattle.os_ast.specs.Leveled.{AreStmts, IsStmt};
+ghost use Rattle.os_ast.specs.Leveled.{AreStmts, IsLeveled, IsStmt};
 ghost use Rattle.os_ast.specs.Marks.{HasPlaces};
 ghost use Rattle.os_ast.specs.Meanings.{meaning_in, resolved};
 ghost use Rattle.os_ast.specs.Means.{Means};
 ghost use Rattle.os_ast.specs.Names.{Scope, lookup, entity_of};
-ghost use Rattle.os_ast.specs.Notes.Clauses.{in_task_body};
+ghost use Rattle.os_ast.specs.Notes.Clauses.{captured_in, in_task_body};
 ghost use Rattle.os_ast.specs.Notes.Declarators.{after_declarator};
 ghost use Rattle.os_ast.specs.Notes.Kinds.{Note, Used};
-ghost use Rattle.os_ast.specs.Notes.Programs.{after_items, file, in_body, program_notes};
+ghost use Rattle.os_ast.specs.Notes.Programs.{after_items, file, in_body, owner_of, param_names, program_notes};
 ghost use Rattle.os_ast.specs.Notes.Statements.{after_stmt, after_stmts, stmt_notes, stmts_notes};
 ghost use Rattle.os_ast.specs.Parts.{Part, private_ids, is_in};
 ghost use Rattle.os_ast.specs.Stacked.{Stacked, main_extent};
@@ -23,12 +23,13 @@ ghost use Rattle.os_ast.specs.declared.names.Resolved.{Resolved};
 ghost use Rattle.os_ast.specs.declared.names.Use.{Use};
 ghost use Rattle.os_ast.specs.declared.names.What.{What};
 ghost use Rattle.os_lexer.specs.declared.token.Token.{Token};
-ghost use Rattle.std.specs.Prelude.{◌≡◌, ◌≤◌, ◌||◌, ◌+◌, ◌++◌, ◌∷◌, [], ℕ, List, Contains, map};
+ghost use Rattle.std.specs.Prelude.{◌≡◌, ◌≤◌, ◌||◌, ◌+◌, ◌++◌, ◌∷◌, [], ℕ, List, Contains, length, map};
 ghost use Rattle.window_check.specs.CapturedByUse.{Ascends, slots_named, used_slots};
 ghost use Rattle.window_check.specs.Globals.{AreApart, IsWithin, count_functions};
+ghost use Rattle.window_check.specs.Known.{Stands, size_in};
 ghost use Rattle.window_check.specs.NameTokens.{program_places};
 ghost use Rattle.window_check.specs.Order.{InOrder};
-ghost use Rattle.window_check.specs.Sums.{HasSizes, extent_in, stmt_slots, stmts_slots};
+ghost use Rattle.window_check.specs.Sums.{HasSizes, extent_in, slots_round, stmt_slots, stmts_slots};
 ghost use Rattle.window_check.specs.Told.{AreLawful, Tells};
 
 use os_ast::laws::meaning_by_tokens;
@@ -88,12 +89,25 @@ pub fn slots_are_stacked()
 {}
 
 /// The slots of a body are the sums over its tree, without scopes: no array is left out that has a size, both branches
-/// count, and a task takes none of those of `main`.
+/// count, and a task takes none of those of `main`. They begin behind the parameters, in `main` behind `osin_len` too,
+/// and in a task behind the captured scalars.
 pub fn slots_are_summed()
+    ensures function { (s : Scope) (f : tree.FunctionTree) →
+        (in_body s f).slots ≡ slots_round (owner_of f.name.id) + length (param_names f.params) }
+    ensures task { (s : Scope) (ps : List Part) (a : tree.StmtTree) →
+        (in_task_body s ps a).slots ≡ length (captured_in s.owner (slots_of (captured s.entries ps a))) }
     ensures statement { (size : tree.ExprTree → ℕ) (s : Scope) (a : tree.StmtTree) → HasSizes size (stmt_notes s a) →
         (after_stmt s a).slots ≡ s.slots + stmt_slots s.owner size a }
     ensures statements { (size : tree.ExprTree → ℕ) (s : Scope) (ss : tree.Stmts) → HasSizes size (stmts_notes s ss) →
         (after_stmts s ss).slots ≡ s.slots + stmts_slots s.owner size ss }
+{}
+
+/// The local arrays of a lawful program, and of each part of it, have the sizes that the numbers and the constants of its
+/// items give them.
+pub fn arrays_have_sizes()
+    ensures all { (p : ProgramTree) → IsLeveled p → violations p ≡ [] → HasSizes (size_in p) (program_notes p) }
+    ensures first { (size : tree.ExprTree → ℕ) (xs ys : List Note) → HasSizes size (xs ++ ys) → HasSizes size xs }
+    ensures rest { (size : tree.ExprTree → ℕ) (xs ys : List Note) → HasSizes size (xs ++ ys) → HasSizes size ys }
 {}
 
 /// Functions are numbered in the order of the text, and no two constants or functions of a lawful program have one name,
@@ -114,4 +128,11 @@ pub fn limits_are_kept()
 /// token has one: constants and functions have none where they are declared.
 pub fn names_are_the_name_tokens()
     ensures { (p : ProgramTree) → violations p ≡ [] → map (λ r. r.place) (names p) ≡ program_places p }
+{}
+
+/// Whatever stands in a lawful program stands where a constant or a function in scope is the item of its name, and a
+/// function one that stands before; where a stream is one of the program's, and slots lie above one another. The name of
+/// an array's size is that of a constant of the program.
+pub fn names_are_known()
+    ensures { (p : ProgramTree) (n : Note) → IsLeveled p → violations p ≡ [] → Contains (program_notes p) n → Stands p n }
 {}
