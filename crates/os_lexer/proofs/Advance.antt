@@ -1,22 +1,22 @@
 -- What one piece makes of what the reader knows.
-use Rattle.std.proofs.Common.{◌≡◌, ℕ, ◌+◌, ◌-◌, ◌<◌, ◌≤◌, Bool, true, false, cond, List, [], ◌∷◌, ◌++◌, length, take, drop, Some, None, position, unwrap_or, bytes_eq, refl, sym, ap, ap₂, ◌∙◌, subst, ⊎_elim, arith, length-take-le, length-drop, length-append, take-add, add-zero, eqb, lt-ltb, le-ltb, eq-eqb, eqb-true}
-use Rattle.std.proofs.lemmas.Bool.{cond-true, cond-false, cases_lt, cond_both, false_from_ne_true}
+use Rattle.std.proofs.Common.{◌≡◌, ℕ, ◌+◌, ◌-◌, ◌<◌, ◌≤◌, cond, List, [], ◌∷◌, ◌++◌, length, take, drop, Some, None, position, unwrap_or, bytes_eq, refl, sym, ap, ap₂, ◌∙◌, subst, arith, All, length-take-le, length-drop, length-append, take-add}
 use Rattle.std.proofs.lemmas.Bool.Decides.{same_from_decides}
 use Rattle.std.proofs.lemmas.List.Sums.{sum_by-append}
-use Rattle.std.proofs.lemmas.List.Folds.{position_or_len_push}
+use Rattle.std.proofs.lemmas.List.Elements.{All-push}
 use Rattle.std.proofs.lemmas.Slice.Eq.{bytes_eq-Decides}
-use Rattle.std.specs.List.{position_or_len}
-use Rattle.std.specs.Prelude.{count_by, nat_lt, not, slice_range}
+use Rattle.std.specs.Prelude.{count_by, ◌&&◌, slice_range}
 use Rattle.os_lexer.specs.Bytes.{is_line_feed}
 use Rattle.os_lexer.specs.Cover.{Place, token_of, effect_at, Step, skips, gives, IsFaultAt, faulty}
 use Rattle.os_lexer.specs.Effects.{effect}
 use Rattle.os_lexer.specs.Forms.{IsPiece}
 use Rattle.os_lexer.specs.Lines.{line_of}
-use Rattle.os_lexer.specs.Names.{fixed_names, spelling, name_number}
+use Rattle.os_lexer.specs.Names.{spelling, name_number}
 use Rattle.os_lexer.specs.Spellings.{first_of}
-use Rattle.os_lexer.specs.States.{place_of, KnowsSpellings, IsState, number_in, IsFaultHere}
+use Rattle.os_lexer.specs.States.{place_of, is_name, is_named, KnowsSpellings, IsNameWhereSpelledSo, IsState, number_in, IsFaultHere}
 use Rattle.os_lexer.specs.Answer.{error_of}
 use Rattle.os_lexer.proofs.Cuts.{IsPiece-some}
+use Rattle.os_lexer.proofs.NamedTokens.{effect_by_name, named_by_form}
+use Rattle.os_lexer.proofs.Positions.{position-push}
 use Rattle.os_lexer.specs.declared.effect.Effect.TheVariants.{Skip, Give, Fail}
 use Rattle.os_lexer.specs.declared.fault.Fault.{Fault}
 use Rattle.os_lexer.specs.declared.fault.Fault.TheVariants as fault
@@ -27,70 +27,18 @@ use Rattle.os_lexer.specs.declared.spellings.Spellings.{Spellings}
 use Rattle.os_lexer.specs.declared.token.Kind.{Kind}
 use Rattle.os_lexer.specs.declared.token.Token.{Token}
 
--- ---- positions
-position_or_len-le : {X : Type 0} (p : X → Bool) (xs : List X) → position_or_len p xs ≤ length xs
-position_or_len-le p [] = omega arith
-position_or_len-le p (x ∷ xs) =
-    let later = position_or_len-le p xs in
-    let P : ℕ → Type 0 = λ k. k ≤ length (x ∷ xs) in
-    cond_both (not (p x)) (1 + position_or_len p xs) 0 P (λ _. omega (arith, later)) (λ _. omega arith)
-
-module _ {X : Type 0} (p : X → Bool) where
-  position_some : (xs : List X) → position_or_len p xs < length xs → position p xs ≡ Some (position_or_len p xs)
-  position_some xs below = cond-true (nat_lt (position_or_len p xs) (length xs)) _ _ (lt-ltb (position_or_len p xs) (length xs) below)
-
-  position_none : (xs : List X) → length xs ≤ position_or_len p xs → position p xs ≡ None
-  position_none xs over = cond-false (nat_lt (position_or_len p xs) (length xs)) _ _ (le-ltb (position_or_len p xs) (length xs) over)
-
-  -- the first position, or the length
-  pub unwrap_or-position : (xs : List X) → unwrap_or (position p xs) (length xs) ≡ position_or_len p xs
-  unwrap_or-position xs =
-      ⊎_elim
-      (λ below. ap (λ o. unwrap_or o (length xs)) (position_some xs below))
-      (λ over. ap (λ o. unwrap_or o (length xs)) (position_none xs over) ∙ omega (arith, over, position_or_len-le p xs))
-      (cases_lt (position_or_len p xs) (length xs))
-
-  some_either : (b : Bool) (k n : ℕ) → cond b (Some (unwrap_or (Some k) n)) (Some k) ≡ Some k
-  some_either true k n = refl
-  some_either false k n = refl
-
-  push_new : (xs : List X) (y : X) (b : Bool) → p y ≡ b → length xs ≤ position_or_len p xs → position p (xs ++ y ∷ []) ≡ cond b (Some (length xs)) None
-  push_new xs y true e over =
-      let all : position_or_len p xs ≡ length xs = omega (arith, over, position_or_len-le p xs) in
-      let is : position_or_len p (xs ++ y ∷ []) ≡ length xs = position_or_len_push p xs y ∙ cond-true (eqb (position_or_len p xs) (length xs)) _ _ (eq-eqb _ _ all) ∙ ap (λ b. length xs + cond b 0 1) e ∙ add-zero (length xs) in
-      position_some (xs ++ y ∷ []) (omega (arith, length-append xs (y ∷ []))) ∙ ap Some is
-  push_new xs y false e over =
-      let all : position_or_len p xs ≡ length xs = omega (arith, over, position_or_len-le p xs) in
-      let is : position_or_len p (xs ++ y ∷ []) ≡ length xs + 1 = position_or_len_push p xs y ∙ cond-true (eqb (position_or_len p xs) (length xs)) _ _ (eq-eqb _ _ all) ∙ ap (λ b. length xs + cond b 0 1) e in
-      position_none (xs ++ y ∷ []) (omega (arith, length-append xs (y ∷ [])))
-
-  -- one more element
-  pub position-push : (xs : List X) (y : X) → position p (xs ++ y ∷ []) ≡ cond (p y) (Some (unwrap_or (position p xs) (length xs))) (position p xs)
-  position-push xs y =
-      ⊎_elim
-      (λ below.
-      let k = position_or_len p xs in
-      let apart : eqb k (length xs) ≡ false = false_from_ne_true _ (λ e. let same = eqb-true _ _ e in omega (arith, same, below)) in
-      let is : position_or_len p (xs ++ y ∷ []) ≡ k = position_or_len_push p xs y ∙ cond-false (eqb k (length xs)) _ _ apart in
-      position_some (xs ++ y ∷ []) (omega (arith, length-append xs (y ∷ []))) ∙ ap Some is ∙ sym (some_either (p y) k (length xs)) ∙ ap (λ o. cond (p y) (Some (unwrap_or o (length xs))) o) (sym (position_some xs below)))
-      (λ over. push_new xs y (p y) refl over ∙ ap (λ o. cond (p y) (Some (unwrap_or o (length xs))) o) (sym (position_none xs over)))
-      (cases_lt (position_or_len p xs) (length xs))
-
--- ---- the numbers of names
-module _ (text : List ℕ) (tokens : List Token) (spellings : Spellings) (known : KnowsSpellings text tokens spellings) where
-  pub number_in-is : (name : List ℕ) → number_in spellings (length tokens) name ≡ name_number text tokens name
-  number_in-is name =
-      ap (λ i. unwrap_or (position (bytes_eq name) fixed_names) (12 + i)) (ap (λ o. unwrap_or o (length tokens)) (known name) ∙ unwrap_or-position (λ token. bytes_eq name (spelling text token)) tokens)
-
+-- ---- the map of spellings
 bytes_eq-flip : (xs ys : List ℕ) → bytes_eq xs ys ≡ bytes_eq ys xs
 bytes_eq-flip xs ys =
     same_from_decides _ _ (bytes_eq-Decides xs ys) ((λ t. sym ((bytes_eq-Decides ys xs).0 t)), λ e. (bytes_eq-Decides ys xs).1 (sym e))
 
 -- the map after one more token
-pub known_push : (text : List ℕ) (tokens : List Token) (old new : Spellings) (t : Token) (s : List ℕ) → KnowsSpellings text tokens old → spelling text t ≡ s → ((name : List ℕ) → first_of new name ≡ cond (bytes_eq s name) (Some (unwrap_or (first_of old name) (length tokens))) (first_of old name)) → KnowsSpellings text (tokens ++ t ∷ []) new
+pub known_push : (text : List ℕ) (tokens : List Token) (old new : Spellings) (t : Token) (s : List ℕ) → KnowsSpellings text tokens old → spelling text t ≡ s → ((name : List ℕ) → first_of new name ≡ cond (is_name t.kind && bytes_eq s name) (Some (unwrap_or (first_of old name) (length tokens))) (first_of old name)) → KnowsSpellings text (tokens ++ t ∷ []) new
 known_push text tokens old new t s known spelled noted name =
-    let same : bytes_eq s name ≡ bytes_eq name (spelling text t) = bytes_eq-flip s name ∙ ap (bytes_eq name) (sym spelled) in
-    noted name ∙ ap₂ (λ b o. cond b (Some (unwrap_or o (length tokens))) o) same (known name) ∙ sym (position-push (λ token. bytes_eq name (spelling text token)) tokens t)
+    let same : (is_name t.kind && bytes_eq s name) ≡ is_named text name t =
+    ap (λ b. is_name t.kind && b) (bytes_eq-flip s name ∙ ap (bytes_eq name) (sym spelled))
+    in
+    noted name ∙ ap₂ (λ b o. cond b (Some (unwrap_or o (length tokens))) o) same (known name) ∙ sym (position-push (is_named text name) tokens t)
 
 -- the line of a later place
 pub line_of-later : (text : List ℕ) (at n : ℕ) → at + n ≤ length text → line_of text (at + n) ≡ line_of text at + count_by is_line_feed (take n (drop at text))
@@ -110,7 +58,8 @@ module _ (text : List ℕ) (old : Lexer) (f : Form) (n : ℕ) (state : IsState t
 
   pub effect_is : effect old.mode (number_in old.spellings (length old.tokens.items) (slice_range text old.at (old.at + n))) f (slice_range text old.at (old.at + n)) ≡ effect_at text (place_of old) f n
   effect_is =
-      ap₂ (λ k s. effect old.mode k f s) (number_in-is text old.tokens.items old.spellings state.known (slice_range text old.at (old.at + n)) ∙ ap (name_number text old.tokens.items) slice_is) slice_is
+      ap (λ s. effect old.mode (number_in old.spellings (length old.tokens.items) s) f s) slice_is
+      ∙ effect_by_name text old.tokens.items old.spellings state.known state.named old.mode f (take n (drop old.at text)) is_piece.of_form
 
   line_is : (line : ℕ) → line ≡ old.line + count_by is_line_feed (slice_range text old.at (old.at + n)) → line ≡ line_of text (old.at + n)
   line_is line e =
@@ -133,7 +82,8 @@ module _ (text : List ℕ) (old : Lexer) (f : Form) (n : ℕ) (state : IsState t
           within = omega (arith, at_end, fits);
           lined = line_is new.line lines ∙ ap (line_of text) (sym at_end);
           few = omega (arith, state.few, at_end, ap length tokens_are);
-          known = λ name. ap (λ m. first_of m name) same ∙ state.known name ∙ ap (position (λ token. bytes_eq name (spelling text token))) (sym tokens_are);
+          named = subst (All (IsNameWhereSpelledSo text)) (sym tokens_are) state.named;
+          known = λ name. ap (λ m. first_of m name) same ∙ state.known name ∙ ap (position (is_named text name)) (sym tokens_are);
         }
 
   -- the piece is a token
@@ -148,7 +98,7 @@ module _ (text : List ℕ) (old : Lexer) (f : Form) (n : ℕ) (state : IsState t
         let place_is : ◌≡◌ {A = Place} (record { at = old.at + n; mode = mode; tokens = old.tokens.items ++ token_of text kind old.at (old.at + n) ∷ [] }) (place_of new) = λ i. record { at = sym at_end i; mode = sym mode_is i; tokens = sym given_tokens i } in
         subst (λ p. Step text (place_of old) p) place_is there
 
-    pub state_give : new.line ≡ old.line + count_by is_line_feed (slice_range text old.at (old.at + n)) → ((name : List ℕ) → first_of new.spellings name ≡ cond (bytes_eq (slice_range text old.at (old.at + n)) name) (Some (unwrap_or (first_of old.spellings name) (length old.tokens.items))) (first_of old.spellings name)) → IsState text new
+    pub state_give : new.line ≡ old.line + count_by is_line_feed (slice_range text old.at (old.at + n)) → ((name : List ℕ) → first_of new.spellings name ≡ cond (is_name kind && bytes_eq (slice_range text old.at (old.at + n)) name) (Some (unwrap_or (first_of old.spellings name) (length old.tokens.items))) (first_of old.spellings name)) → IsState text new
     state_give lines noted =
         let at_end : new.at ≡ old.at + n = at_is ∙ ap (λ k. old.at + k) slice_length in
         let some : 0 < n = (IsPiece-some (drop old.at text) f n is_piece).0 in
@@ -157,7 +107,10 @@ module _ (text : List ℕ) (old : Lexer) (f : Form) (n : ℕ) (state : IsState t
           within = omega (arith, at_end, fits);
           lined = line_is new.line lines ∙ ap (line_of text) (sym at_end);
           few = omega (arith, state.few, at_end, some, ap length given_tokens, length-append old.tokens.items (token_of text kind old.at (old.at + n) ∷ []));
-          known = λ name. known_push text old.tokens.items old.spellings new.spellings (token_of text kind old.at (old.at + n)) (slice_range text old.at (old.at + n)) state.known refl noted name ∙ ap (position (λ token. bytes_eq name (spelling text token))) (sym given_tokens);
+          named = subst (All (IsNameWhereSpelledSo text)) (sym given_tokens)
+              (All-push (IsNameWhereSpelledSo text) old.tokens.items (token_of text kind old.at (old.at + n)) state.named
+              (named_by_form text old.at n f old.mode mode kind (number_in old.spellings (length old.tokens.items) (slice_range text old.at (old.at + n))) slice_is is_piece.of_form does));
+          known = λ name. known_push text old.tokens.items old.spellings new.spellings (token_of text kind old.at (old.at + n)) (slice_range text old.at (old.at + n)) state.known refl noted name ∙ ap (position (is_named text name)) (sym given_tokens);
         }
 
   -- the piece is a fault

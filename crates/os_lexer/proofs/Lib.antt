@@ -9,6 +9,7 @@ pub mod CoverCuts
 pub mod Ends
 pub mod Values
 pub mod Positions
+pub mod NamedTokens
 pub mod Advance
 pub mod Outcomes
 pub mod FewTokens

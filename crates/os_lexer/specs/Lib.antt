@@ -1,5 +1,8 @@
+-- What a reader believes: the forms of pieces and what each does, names and their numbers, the token cover with the
+-- first fault, and what follows of them.
 pub mod Bytes
 pub mod Lines
+pub mod Limits
 pub mod Marks
 pub mod Keywords
 pub mod Numbers
@@ -8,7 +11,8 @@ pub mod Forms
 pub mod Effects
 pub mod Cover
 pub mod Answer
-pub mod Reading
 pub mod Laws
+-- What restates private functions for their contracts.
+pub mod Reading
 pub mod Spellings
 pub mod States

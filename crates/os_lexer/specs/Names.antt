@@ -20,6 +20,43 @@ fixed_names =
     codes "osin_len" ∷
     []
 
+-- their numbers, which are their places in this list
+abbrev pub omp_id : ℕ
+omp_id = 0
+
+abbrev pub task_id : ℕ
+task_id = 1
+
+abbrev pub tick_id : ℕ
+tick_id = 2
+
+abbrev pub taskwait_id : ℕ
+taskwait_id = 3
+
+abbrev pub input_id : ℕ
+input_id = 4
+
+abbrev pub output_id : ℕ
+output_id = 5
+
+abbrev pub firstprivate_id : ℕ
+firstprivate_id = 6
+
+abbrev pub stream_id : ℕ
+stream_id = 7
+
+abbrev pub main_id : ℕ
+main_id = 8
+
+abbrev pub osin_id : ℕ
+osin_id = 9
+
+abbrev pub osout_id : ℕ
+osout_id = 10
+
+abbrev pub osin_len_id : ℕ
+osin_len_id = 11
+
 -- the slice of the text that a token is
 abbrev pub spelling : List ℕ → Token → List ℕ
 spelling text token = slice_range text token.start token.end

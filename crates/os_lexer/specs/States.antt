@@ -1,6 +1,9 @@
 -- What the reader of a text knows at a place.
-use Rattle.std.specs.Prelude.{◌≡◌, ℕ, ◌+◌, ◌≤◌, List, [], ◌∷◌, length, position, unwrap_or, bytes_eq}
+use Rattle.std.specs.Prelude.{◌≡◌, ℕ, ◌+◌, ◌≤◌, Bool, true, false, ◌&&◌, List, [], ◌∷◌, length, None, position, unwrap_or, bytes_eq, All}
 use Rattle.os_lexer.specs.Cover.{Place, IsFaultAt}
+use Rattle.os_lexer.specs.Forms.{IsWord}
+use Rattle.os_lexer.specs.Keywords.{key_of}
+use Rattle.os_lexer.specs.Limits.{text_limit}
 use Rattle.os_lexer.specs.Lines.{line_of}
 use Rattle.os_lexer.specs.Names.{fixed_names, spelling}
 use Rattle.os_lexer.specs.Spellings.{first_of}
@@ -13,6 +16,7 @@ use Rattle.os_lexer.specs.declared.lexer.Lexer.{Lexer}
 use Rattle.os_lexer.specs.declared.mode.Mode.{Mode}
 use Rattle.os_lexer.specs.declared.mode.Mode.TheVariants.{LineStart, InLine, InPragma}
 use Rattle.os_lexer.specs.declared.spellings.Spellings.{Spellings}
+use Rattle.os_lexer.specs.declared.token.Kind.{Kind}
 use Rattle.os_lexer.specs.declared.token.Kind.TheVariants as kind
 use Rattle.os_lexer.specs.declared.token.Token.{Token}
 
@@ -20,18 +24,37 @@ use Rattle.os_lexer.specs.declared.token.Token.{Token}
 abbrev pub place_of : Lexer → Place
 place_of lexer = record { at = lexer.at; mode = lexer.mode; tokens = lexer.tokens.items }
 
--- the map has for each spelling the index of the first token that has it
+-- whether a kind is that of a name
+abbrev pub is_name : Kind → Bool
+is_name (kind.Name n) = true
+is_name (kind.Number n) = false
+is_name (kind.Key k) = false
+is_name (kind.Punct m) = false
+is_name kind.PragmaStart = false
+is_name kind.PragmaEnd = false
+
+-- a token is a name with this spelling
+abbrev pub is_named : List ℕ → List ℕ → Token → Bool
+is_named text name token = is_name token.kind && bytes_eq name (spelling text token)
+
+-- the map has for each spelling the index of the first name that has it
 abbrev pub KnowsSpellings : List ℕ → List Token → Spellings → Type 0
 KnowsSpellings text tokens spellings =
-    (name : List ℕ) → first_of spellings name ≡ position (λ token. bytes_eq name (spelling text token)) tokens
+    (name : List ℕ) → first_of spellings name ≡ position (is_named text name) tokens
 
--- what the reader keeps true: its line, and its map of spellings
+-- a token that is spelled as a name is one
+abbrev pub IsNameWhereSpelledSo : List ℕ → Token → Type 0
+IsNameWhereSpelledSo text token =
+    IsWord (spelling text token) → key_of (spelling text token) ≡ None → is_name token.kind ≡ true
+
+-- what the reader keeps true: its line, its map of spellings, and that names alone are spelled as names
 pub record IsState (text : List ℕ) (lexer : Lexer) : Type 0 where
-  pub short : length text ≤ 262144
+  pub short : length text ≤ text_limit
   pub within : lexer.at ≤ length text
   pub lined : lexer.line ≡ line_of text lexer.at
   pub few : length lexer.tokens.items ≤ lexer.at
   pub known : KnowsSpellings text lexer.tokens.items lexer.spellings
+  pub named : All (IsNameWhereSpelledSo text) lexer.tokens.items
 
 -- the number of a name, by the map, where so many tokens stand before it
 abbrev pub number_in : Spellings → ℕ → List ℕ → ℕ

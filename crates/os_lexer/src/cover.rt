@@ -2,6 +2,7 @@ ghost use Rattle.std.specs.Prelude.{ℕ, ◌≤◌, List, length, All, IfOk, IfE
 ghost use Rattle.os_lexer.specs.Cover.{IsTokenCover, IsFirstFault};
 ghost use Rattle.os_lexer.specs.Answer.{IsFaultOf, IsGivenUnlessMemory, IsToldUnlessMemory};
 ghost use Rattle.os_lexer.specs.Laws.{HasSmallNumber};
+ghost use Rattle.os_lexer.specs.Limits.{text_limit};
 ghost use Rattle.os_lexer.specs.declared.token.Token.{Token};
 
 use crate::fault::LexError;
@@ -12,7 +13,7 @@ use std::alloc::Global;
 /// The tokens of a text, each with its slice of the text and its line. It looks at each byte a bounded
 /// number of times, and the cost of a name is logarithmic in the number of names.
 pub fn lex(alloc: Global, text: &[u8]) -> Result<Vec<Token>, LexError>
-    requires { length text.now ≤ 262144 }
+    requires { length text.now ≤ text_limit }
 
     // What is answered is right.
     ensures cover { IfOk result (λ tokens. IsTokenCover text.now tokens.items) }
@@ -32,7 +33,7 @@ pub fn lex(alloc: Global, text: &[u8]) -> Result<Vec<Token>, LexError>
 }
 
 fn tokens_of(alloc: Global, text: &[u8]) -> Result<Vec<Token>, LexError>
-    requires { length text.now ≤ 262144 }
+    requires { length text.now ≤ text_limit }
     ensures cover { IfOk result (λ tokens. IsTokenCover text.now tokens.items) }
     ensures fault { IfErr result (IsFaultOf text.now) }
 {

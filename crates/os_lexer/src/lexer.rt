@@ -1,4 +1,4 @@
-ghost use Rattle.std.specs.Prelude.{◌≡◌, ◌+◌, ◌^◌, ◌<◌, ◌≤◌, ℕ, Some, List, [], ◌∷◌, ◌++◌, length, drop, IfOk, IfErr, OnOk, count_by, bytes_eq, unwrap_or, if◌then◌else◌};
+ghost use Rattle.std.specs.Prelude.{◌≡◌, ◌+◌, ◌^◌, ◌<◌, ◌≤◌, ℕ, Some, List, [], ◌∷◌, ◌++◌, length, drop, IfOk, IfErr, OnOk, count_by, bytes_eq, unwrap_or, ◌&&◌, if◌then◌else◌};
 ghost use Rattle.os_lexer.specs.Bytes.{is_line_feed};
 
 use crate::bytes::is_line_feed;
@@ -27,13 +27,14 @@ impl<'a> Lexer<'a> {
     ghost use Rattle.os_lexer.specs.Cover.{text_start, Step};
     ghost use Rattle.os_lexer.specs.Effects.{effect};
     ghost use Rattle.os_lexer.specs.Forms.{IsPiece};
+    ghost use Rattle.os_lexer.specs.Limits.{text_limit};
     ghost use Rattle.os_lexer.specs.Spellings.{first_of};
-    ghost use Rattle.os_lexer.specs.States.{place_of, end_of, number_in, IsState, IsFaultHere, IfWord};
+    ghost use Rattle.os_lexer.specs.States.{place_of, end_of, is_name, number_in, IsState, IsFaultHere, IfWord};
 
     /// The start of a text.
     pub(crate) fn new(alloc: Global) -> Lexer<'a>
         ensures start { place_of result ≡ text_start }
-        ensures state { (text : List ℕ) → length text ≤ 262144 → IsState text result }
+        ensures state { (text : List ℕ) → length text ≤ text_limit → IsState text result }
     {
         Lexer {
             at: 0,
@@ -120,7 +121,7 @@ impl<'a> Lexer<'a> {
         }
     }
 
-    /// The index of the first token with this spelling, where the token to come has it.
+    /// The index of the first name with this spelling, where the token to come is one with it.
     fn first_index(&self, name: &[u8]) -> u32
         requires { unwrap_or (first_of self.now.spellings name.now) (length self.now.tokens.items) < 2 ^ 32 }
         ensures { result ≡ unwrap_or (first_of self.now.spellings name.now) (length self.now.tokens.items) }
@@ -142,7 +143,7 @@ impl<'a> Lexer<'a> {
           line = self.old.line;
         } ∷ []) }
         ensures noted { OnOk result ((name : List ℕ) → first_of self.new.spellings name
-            ≡ (if bytes_eq slice.now name
+            ≡ (if is_name kind && bytes_eq slice.now name
             then Some (unwrap_or (first_of self.old.spellings name) (length self.old.tokens.items))
             else first_of self.old.spellings name)) }
         ensures at { self.new.at ≡ self.old.at }
@@ -153,7 +154,7 @@ impl<'a> Lexer<'a> {
         let start = self.at as u32;
         let end = (self.at + slice.len()) as u32;
         let line = self.line;
-        self.spellings.note(slice, index)?;
+        self.spellings.note_token(kind, slice, index)?;
         self.tokens.push(Token {
             kind,
             start,
