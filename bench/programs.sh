@@ -12,6 +12,22 @@ osrun=$top/crates/osrun/out/osrun
 [ -x "$osrun" ] || { echo "build the program first: ./build" >&2; exit 1; }
 work=$(mktemp -d)
 trap 'rm -rf "$work"' EXIT
+# The program that counts steps.
+if [ "${1:-}" != unstepped ]; then
+    mkdir "$work/crates"
+    for crate in os_io c_int flow_core os_lexer os_ast os_parser window_check front_end cddf_meaning os_code task_vm simulation \
+        lowering stream_match control_run; do
+        cp -r "$top/crates/$crate" "$work/crates"
+        grep -E "^$crate:" "$top/crates.txt" >>"$work/crates.txt"
+    done
+    echo 'steps: control_run lowering task_vm os_code front_end flow_core os_io' >>"$work/crates.txt"
+    counting=$work/crates/steps
+    mkdir -p "$counting/src"
+    cp "$top/bench/steps.program" "$counting/src/main.rt"
+    cp "$top/crates/compiler_tests/src/elements.rt" "$counting/src"
+    (cd "$counting" && rt run) >"$work/log" 2>&1 </dev/null || { cat "$work/log" >&2; exit 1; }
+    counter=$counting/out/steps
+fi
 cd "$work"
 
 # The programs of the language.
