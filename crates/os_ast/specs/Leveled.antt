@@ -1,9 +1,9 @@
 -- Where each part of a program may stand: what the grammar admits of a tree, production by production.
 use Rattle.std.specs.Prelude.{◌≡◌, ℕ, ◌<◌, ◌≤◌, ◌^◌, Bool, true, false, List, [], ◌∷◌, Option, Some, None}
 use Rattle.os_ast.specs.Depth.{program_depth}
+use Rattle.os_ast.specs.Limits.{depth_limit}
 use Rattle.os_ast.specs.Operators.{level_of, rank, IsAssign}
 use Rattle.os_ast.specs.Trees as tree
-use Rattle.os_ast.specs.declared.program.TheConstants.{DEPTH_LIMIT}
 use Rattle.os_ast.specs.declared.expr.Binary.{Binary}
 use Rattle.os_ast.specs.declared.expr.Level.{Level}
 use Rattle.os_ast.specs.declared.expr.Mark.{Mark}
@@ -190,4 +190,4 @@ pub data IsItem : tree.ItemTree → Type 0 where
 -- every part stands where the grammar admits it, and the depth is within the limit
 pub record IsLeveled (p : tree.ProgramTree) : Type 0 where
   pub items : AreAll IsItem p
-  pub depth : program_depth p ≤ DEPTH_LIMIT
+  pub depth : program_depth p ≤ depth_limit

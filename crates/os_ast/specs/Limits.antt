@@ -1,5 +1,9 @@
--- How much a program may declare.
+-- How deep a program may be, and how much it may declare.
 use Rattle.std.specs.Prelude.{ℕ, ◌&&◌, Bool, false, leb, Option, Some, ℤ, pos}
+
+-- At most so many constructs stand in one another.
+abbrev pub depth_limit : ℕ
+depth_limit = 200
 
 -- At most so many elements has a local array, and so many streams a stream array.
 abbrev pub size_limit : ℕ

@@ -1,22 +1,11 @@
 -- What names mean: declarations, scopes, and what is in scope at a place.
 use Rattle.std.specs.Prelude.{ℕ, ◌+◌, ◌==◌, Bool, true, false, if◌then◌else◌, List, [], ◌∷◌, Option, Some, None, ℤ, pos, neg_ℤ}
+-- the numbers that the lexer gives the names which a program doesn't declare, or that mean more than others
+pub use Rattle.os_lexer.specs.Names.{main_id, osin_id, osout_id, osin_len_id}
 use Rattle.os_ast.specs.declared.names.Entity.{Entity}
 use Rattle.os_ast.specs.declared.names.Entry.{Entry}
 use Rattle.os_ast.specs.declared.names.Owner.{Owner}
 use Rattle.os_ast.specs.declared.program.Constant.{Constant as ConstantItem}
-
--- The numbers that the lexer gives the names which a program doesn't declare, or that mean more than others.
-abbrev pub main_id : ℕ
-main_id = 8
-
-abbrev pub osin_id : ℕ
-osin_id = 9
-
-abbrev pub osout_id : ℕ
-osout_id = 10
-
-abbrev pub osin_len_id : ℕ
-osin_len_id = 11
 
 -- A place of the program: what is in scope there, from the innermost declaration on, how many scopes are open inside
 -- that of the file, whose body it is, whether a loop of that body is round it, and what is taken by the declarations before it.

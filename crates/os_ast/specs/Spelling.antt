@@ -8,6 +8,7 @@ use Rattle.os_ast.specs.declared.expr.Name.{Name}
 use Rattle.os_ast.specs.declared.program.Constant.{Constant}
 use Rattle.os_ast.specs.declared.program.Params.{Params}
 use Rattle.os_ast.specs.declared.program.Params.TheVariants as params_of
+use Rattle.os_lexer.specs.Names.{omp_id, task_id, tick_id, taskwait_id, input_id, output_id, firstprivate_id, stream_id}
 use Rattle.os_lexer.specs.declared.token.Key.{Key}
 use Rattle.os_lexer.specs.declared.token.Key.TheVariants as keys
 use Rattle.os_lexer.specs.declared.token.Kind.{Kind}
@@ -69,28 +70,28 @@ abbrev pub word : ℕ → Printer
 word n = token (kind.Name n)
 
 abbrev pub omp : Printer
-omp = word 0
+omp = word omp_id
 
 abbrev pub task_word : Printer
-task_word = word 1
+task_word = word task_id
 
 abbrev pub tick_word : Printer
-tick_word = word 2
+tick_word = word tick_id
 
 abbrev pub taskwait_word : Printer
-taskwait_word = word 3
+taskwait_word = word taskwait_id
 
 abbrev pub input_word : Printer
-input_word = word 4
+input_word = word input_id
 
 abbrev pub output_word : Printer
-output_word = word 5
+output_word = word output_id
 
 abbrev pub firstprivate_word : Printer
-firstprivate_word = word 6
+firstprivate_word = word firstprivate_id
 
 abbrev pub stream_word : Printer
-stream_word = word 7
+stream_word = word stream_id
 
 -- "(" part ")"
 abbrev pub in_parens : Printer → Printer

@@ -24,6 +24,6 @@ pub use expr::{Binary, Call, Expr, Index, Level, Link, Mark, Name, Target, Unary
 pub use names::{Direction, Entity, Entry, Form, Owner, Resolved, Role, Shape, Use, What};
 pub use nesting::depth;
 pub use pragma::{Clause, ClauseItem, ClauseKind, Join, TaskSite, TickSite};
-pub use program::{Constant, DEPTH_LIMIT, Function, Item, Params, Program};
+pub use program::{Constant, Function, Item, Params, Program};
 pub use stmt::{Assign, Change, Declarator, Head, Start, Step, Stmt};
 pub use violation::Violation;

@@ -2,9 +2,6 @@ use crate::expr::Name;
 use crate::stmt::Stmt;
 use os_io::List;
 
-/// The greatest depth of a program that a list of tokens may mean.
-pub const DEPTH_LIMIT: u32 = 200;
-
 #[derive(Drop)]
 pub struct Program {
     pub items: List<Item>,

@@ -12,6 +12,7 @@ use Rattle.os_ast.specs.Trees as tree
 use Rattle.os_ast.specs.Trees.{ExprTree, TargetTree, IndexTree, DeclaratorTree, ChangeTree, StartTree, JoinTree, ClauseItemTree, ClauseKindTree, ClauseTree}
 use Rattle.os_ast.specs.declared.expr.Mark.{Mark}
 use Rattle.os_ast.specs.declared.expr.Name.{Name}
+use Rattle.os_lexer.specs.Names.{input_id, output_id, firstprivate_id}
 use Rattle.os_lexer.specs.declared.token.Kind.{Kind}
 use Rattle.os_lexer.specs.declared.token.Kind.TheVariants as kind
 use Rattle.os_lexer.specs.declared.token.Punct.{Punct}
@@ -102,21 +103,21 @@ record Shorter {A : Type 0} (part : Reader A) (x : A) (ps : List Piece) (ts : Li
   pub back : Back part x ps ts
   pub less : length back.rest < length ts
 
-input-back : (d : ℕ) (items : List ClauseItemTree) (ps qs : List Piece) (ts : List Placed) → (t : Plain (kind.Name 4) qs ts) →
+input-back : (d : ℕ) (items : List ClauseItemTree) (ps qs : List Piece) (ts : List Placed) → (t : Plain (kind.Name input_id) qs ts) →
     Back (in_parens (clause_item puncts.ShiftRight (below d))) items ps t.rest → Shorter (clause_kind (below d)) (tree.Input items) ps ts
 unfolding clause_kind
 input-back d items ps qs ts t b =
     let size = ap length t.head in
     record { back = record { rest = b.rest; read = rw (t.head, b.read) refl; fits = b.fits; within = omega (arith, b.within) }; less = omega (arith, b.within) }
 
-output-back : (d : ℕ) (items : List ClauseItemTree) (ps qs : List Piece) (ts : List Placed) → (t : Plain (kind.Name 5) qs ts) →
+output-back : (d : ℕ) (items : List ClauseItemTree) (ps qs : List Piece) (ts : List Placed) → (t : Plain (kind.Name output_id) qs ts) →
     Back (in_parens (clause_item puncts.ShiftLeft (below d))) items ps t.rest → Shorter (clause_kind (below d)) (tree.Output items) ps ts
 unfolding clause_kind
 output-back d items ps qs ts t b =
     let size = ap length t.head in
     record { back = record { rest = b.rest; read = rw (t.head, b.read) refl; fits = b.fits; within = omega (arith, b.within) }; less = omega (arith, b.within) }
 
-firstprivate-back : (d : ℕ) (names : List Name) (ps qs : List Piece) (ts : List Placed) → (t : Plain (kind.Name 6) qs ts) →
+firstprivate-back : (d : ℕ) (names : List Name) (ps qs : List Piece) (ts : List Placed) → (t : Plain (kind.Name firstprivate_id) qs ts) →
     Back (in_parens name) names ps t.rest → Shorter (clause_kind (below d)) (tree.Firstprivate names) ps ts
 unfolding clause_kind
 firstprivate-back d names ps qs ts t b =
@@ -147,9 +148,9 @@ back-kind d ps ts (leveled.IsClauseKind.firstprivate {n} {ns}) h f =
 
 -- how a clause begins
 data Words : Kind → Type 0 where
-  input : Words (kind.Name 4)
-  output : Words (kind.Name 5)
-  firstprivate : Words (kind.Name 6)
+  input : Words (kind.Name input_id)
+  output : Words (kind.Name output_id)
+  firstprivate : Words (kind.Name firstprivate_id)
   comma : Words (kind.Punct puncts.Comma)
 
 kind-begins : (k : ClauseKindTree) (ps : List Piece) → BeginsWith Words (spelling.clause_kind k ps)

@@ -11,6 +11,7 @@ use Rattle.os_ast.specs.Spelling as spelling
 use Rattle.os_ast.specs.Spelling.{Piece, Printer, bare, marked, ◌⨾◌}
 use Rattle.os_ast.specs.Trees.{ExprTree, TargetTree, IndexTree, DeclaratorTree}
 use Rattle.os_ast.specs.declared.expr.Name.{Name}
+use Rattle.os_lexer.specs.Names.{stream_id}
 use Rattle.os_lexer.specs.declared.token.Key.TheVariants as keys
 use Rattle.os_lexer.specs.declared.token.Kind.{Kind}
 use Rattle.os_lexer.specs.declared.token.Kind.TheVariants as kind
@@ -221,7 +222,7 @@ back-plain_attribute ps ts e f =
     record { rest = ts; read = rw (begins-not (kind.Key keys.Attribute) ps ts e no-attribute f) refl; fits = f; within = omega arith }
 
 attribute-back : {p0 p1 p2 p3 p4 : List Piece} (ps : List Piece) (ts : List Placed) → (t0 : Plain (kind.Key keys.Attribute) p0 ts) →
-    (t1 : Plain (kind.Punct puncts.OpenParen) p1 t0.rest) → (t2 : Plain (kind.Punct puncts.OpenParen) p2 t1.rest) → (t3 : Plain (kind.Name 7) p3 t2.rest) →
+    (t1 : Plain (kind.Punct puncts.OpenParen) p1 t0.rest) → (t2 : Plain (kind.Punct puncts.OpenParen) p2 t1.rest) → (t3 : Plain (kind.Name stream_id) p3 t2.rest) →
     (t4 : Plain (kind.Punct puncts.CloseParen) p4 t3.rest) → Plain (kind.Punct puncts.CloseParen) ps t4.rest → Back attribute true ps ts
 unfolding attribute
 attribute-back ps ts t0 t1 t2 t3 t4 t5 =
@@ -240,7 +241,7 @@ attribute-back ps ts t0 t1 t2 t3 t4 t5 =
         t2.head,
         expect-back (kind.Punct puncts.OpenParen) t2.mark t2.rest,
         t3.head,
-        expect-back (kind.Name 7) t3.mark t3.rest,
+        expect-back (kind.Name stream_id) t3.mark t3.rest,
         t4.head,
         expect-back (kind.Punct puncts.CloseParen) t4.mark t4.rest,
         t5.head,

@@ -15,6 +15,7 @@ use Rattle.os_ast.specs.declared.expr.Mark.{Mark}
 use Rattle.os_ast.specs.declared.expr.Name.{Name}
 use Rattle.os_ast.specs.declared.stmt.Step.{Step}
 use Rattle.os_ast.proofs.Prints.{Prints}
+use Rattle.os_lexer.specs.Names.{omp_id, task_id, tick_id, taskwait_id}
 use Rattle.os_lexer.specs.declared.token.Key.TheVariants as keys
 use Rattle.os_lexer.specs.declared.token.Kind.{Kind}
 use Rattle.os_lexer.specs.declared.token.Kind.TheVariants as kind
@@ -219,7 +220,7 @@ return-back c m e ps qs ts t b u =
     }
 
 pub task-back : (c : ℕ) (m : Mark) (cs : List ClauseTree) (a : StmtTree) (ps p0 p1 p2 p3 : List Piece) (ts : List Placed) → (t : Noted kind.PragmaStart m p0 ts) →
-    (o : Plain (kind.Name 0) p1 t.rest) → (w : Plain (kind.Name 1) p2 o.rest) → (x : Back (clauses (below (suc c))) cs (bare kind.PragmaEnd ∷ p3) w.rest) →
+    (o : Plain (kind.Name omp_id) p1 t.rest) → (w : Plain (kind.Name task_id) p2 o.rest) → (x : Back (clauses (below (suc c))) cs (bare kind.PragmaEnd ∷ p3) w.rest) →
     (u : Plain kind.PragmaEnd p3 x.rest) → Back (stmt_on (inner c)) a ps u.rest → Back (stmt_by starts.Pragma (inner (suc c))) (tree.Task m cs a) ps ts
 unfolding stmt_by pragma task inner below
 task-back c m cs a ps p0 p1 p2 p3 ts t o w x u y =
@@ -229,13 +230,13 @@ task-back c m cs a ps p0 p1 p2 p3 ts t o w x u y =
     let s3 = ap length u.head in
     record {
       rest = y.rest;
-      read = rw (t.head, o.head, expect-back (kind.Name 0) o.mark o.rest, w.head, x.read, u.head, expect-back kind.PragmaEnd u.mark u.rest, y.read) refl;
+      read = rw (t.head, o.head, expect-back (kind.Name omp_id) o.mark o.rest, w.head, x.read, u.head, expect-back kind.PragmaEnd u.mark u.rest, y.read) refl;
       fits = y.fits;
       within = omega (arith, x.within, y.within);
     }
 
 pub tick-back : (c : ℕ) (m : Mark) (g : TargetTree) (a : Mark) (e : ExprTree) (ps p0 p1 p2 p3 p4 p5 p6 : List Piece) (ts : List Placed) → (t : Noted kind.PragmaStart m p0 ts) →
-    (o : Plain (kind.Name 0) p1 t.rest) → (w : Plain (kind.Name 2) p2 o.rest) → (q : Plain (kind.Punct puncts.OpenParen) p3 w.rest) →
+    (o : Plain (kind.Name omp_id) p1 t.rest) → (w : Plain (kind.Name tick_id) p2 o.rest) → (q : Plain (kind.Punct puncts.OpenParen) p3 w.rest) →
     (x : Back (target (below (suc c))) g p4 q.rest) → (r : Noted (kind.Punct puncts.ShiftRight) a p5 x.rest) → (y : Back (expr_on (below c)) e p6 r.rest) →
     (u : Plain (kind.Punct puncts.CloseParen) (bare kind.PragmaEnd ∷ ps) y.rest) → Plain kind.PragmaEnd ps u.rest →
     Back (stmt_by starts.Pragma (inner (suc c))) (tree.Tick m g a e) ps ts
@@ -254,7 +255,7 @@ tick-back c m g a e ps p0 p1 p2 p3 p4 p5 p6 ts t o w q x r y u v =
         readers_of-inner (suc c),
         t.head,
         o.head,
-        expect-back (kind.Name 0) o.mark o.rest,
+        expect-back (kind.Name omp_id) o.mark o.rest,
         w.head,
         q.head,
         expect-back (kind.Punct puncts.OpenParen) q.mark q.rest,
@@ -272,7 +273,7 @@ tick-back c m g a e ps p0 p1 p2 p3 p4 p5 p6 ts t o w q x r y u v =
     }
 
 pub taskwait-back : (s : Option Inner) (m : Mark) (ps p0 p1 p2 : List Piece) (ts : List Placed) → (t : Noted kind.PragmaStart m p0 ts) →
-    (o : Plain (kind.Name 0) p1 t.rest) → (w : Plain (kind.Name 3) p2 o.rest) → Plain kind.PragmaEnd ps w.rest → Back (stmt_by starts.Pragma s) (tree.Taskwait m) ps ts
+    (o : Plain (kind.Name omp_id) p1 t.rest) → (w : Plain (kind.Name taskwait_id) p2 o.rest) → Plain kind.PragmaEnd ps w.rest → Back (stmt_by starts.Pragma s) (tree.Taskwait m) ps ts
 unfolding stmt_by pragma taskwait
 taskwait-back s m ps p0 p1 p2 ts t o w u =
     let s0 = ap length t.head in
@@ -281,7 +282,7 @@ taskwait-back s m ps p0 p1 p2 ts t o w u =
     let s3 = ap length u.head in
     record {
       rest = u.rest;
-      read = rw (t.head, o.head, expect-back (kind.Name 0) o.mark o.rest, w.head, u.head, expect-back kind.PragmaEnd u.mark u.rest) refl;
+      read = rw (t.head, o.head, expect-back (kind.Name omp_id) o.mark o.rest, w.head, u.head, expect-back kind.PragmaEnd u.mark u.rest) refl;
       fits = u.fits;
       within = omega arith;
     }

@@ -18,6 +18,7 @@ use Rattle.os_ast.specs.declared.stmt.Assign.{Assign}
 use Rattle.os_ast.specs.declared.stmt.Assign.TheVariants as assign
 use Rattle.os_ast.specs.declared.stmt.Step.{Step}
 use Rattle.os_ast.specs.declared.stmt.Step.TheVariants as step_of
+use Rattle.os_lexer.specs.Names.{input_id, output_id, firstprivate_id, stream_id}
 use Rattle.os_lexer.specs.declared.token.Key.TheVariants as keys
 use Rattle.os_lexer.specs.declared.token.Kind.{Kind}
 use Rattle.os_lexer.specs.declared.token.Kind.TheVariants as kind
@@ -131,7 +132,7 @@ attribute-sound ts =
     sound-if _ (begins (kind.Key keys.Attribute) ts) _ _
     (λ word. sound-then _ _ (expect (kind.Punct puncts.OpenParen) (after ts)) _ (expect-sound _ (after ts)) (λ _ t1 e1.
     sound-then _ _ (expect (kind.Punct puncts.OpenParen) t1) _ (expect-sound _ t1) (λ _ t2 e2.
-    sound-then _ _ (expect (kind.Name 7) t2) _ (expect-sound _ t2) (λ _ t3 e3.
+    sound-then _ _ (expect (kind.Name stream_id) t2) _ (expect-sound _ t2) (λ _ t3 e3.
     sound-then _ _ (expect (kind.Punct puncts.CloseParen) t3) _ (expect-sound _ t3) (λ _ t4 e4.
     sound-then _ _ (expect (kind.Punct puncts.CloseParen) t4) _ (expect-sound _ t4) (λ _ t5 e5.
     λ ps g. begins-bare (kind.Key keys.Attribute) ts word _ (e1.plain _ (e2.plain _ (e3.plain _ (e4.plain _ (e5.plain ps g)))))))))))
@@ -331,18 +332,18 @@ pub clause_kind-sound : (d : ℕ) (b : Option Readers) (ts : List Placed) → So
     Sound (ReadPart IsClauseKind clause_kind_depth spelling.clause_kind d ts) (clause_kind b ts)
 unfolding clause_kind
 clause_kind-sound d b ts h =
-    sound-if _ (begins (kind.Name 4) ts) _ _
+    sound-if _ (begins (kind.Name input_id) ts) _ _
     (λ word. sound-then _ _ (in_parens (clause_item puncts.ShiftRight b) (after ts)) _
     (in_parens-sound IsClauseItem clause_item_depth (spelling.clause_item puncts.ShiftRight) d (clause_item puncts.ShiftRight b) (after ts) (λ us. clause_item-sound puncts.ShiftRight d b us h)) (λ xs us rxs.
-    record { leveled = leveled.IsClauseKind.input rxs.leveled; shallow = rxs.shallow; takes = λ ps g. begins-bare (kind.Name 4) ts word _ (rxs.takes ps g) }))
-    (λ _. sound-if _ (begins (kind.Name 5) ts) _ _
+    record { leveled = leveled.IsClauseKind.input rxs.leveled; shallow = rxs.shallow; takes = λ ps g. begins-bare (kind.Name input_id) ts word _ (rxs.takes ps g) }))
+    (λ _. sound-if _ (begins (kind.Name output_id) ts) _ _
     (λ word. sound-then _ _ (in_parens (clause_item puncts.ShiftLeft b) (after ts)) _
     (in_parens-sound IsClauseItem clause_item_depth (spelling.clause_item puncts.ShiftLeft) d (clause_item puncts.ShiftLeft b) (after ts) (λ us. clause_item-sound puncts.ShiftLeft d b us h)) (λ xs us rxs.
-    record { leveled = leveled.IsClauseKind.output rxs.leveled; shallow = rxs.shallow; takes = λ ps g. begins-bare (kind.Name 5) ts word _ (rxs.takes ps g) }))
-    (λ _. sound-if _ (begins (kind.Name 6) ts) _ _
+    record { leveled = leveled.IsClauseKind.output rxs.leveled; shallow = rxs.shallow; takes = λ ps g. begins-bare (kind.Name output_id) ts word _ (rxs.takes ps g) }))
+    (λ _. sound-if _ (begins (kind.Name firstprivate_id) ts) _ _
     (λ word. sound-then _ _ (in_parens name (after ts)) _
     (in_parens-sound IsName no_depth spelling.name d name (after ts) (λ us. name-part d us (name us) (name-sound us))) (λ xs us rxs.
-    record { leveled = firstprivate-is rxs.leveled; shallow = omega arith; takes = λ ps g. begins-bare (kind.Name 6) ts word _ (rxs.takes ps g) }))
+    record { leveled = firstprivate-is rxs.leveled; shallow = omega arith; takes = λ ps g. begins-bare (kind.Name firstprivate_id) ts word _ (rxs.takes ps g) }))
     (λ _. tt)))
 
 abbrev ReadClause : ℕ → List Placed → ClauseTree → List Placed → Type 0

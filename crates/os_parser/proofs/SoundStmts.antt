@@ -18,6 +18,7 @@ use Rattle.os_ast.specs.declared.program.Params.TheVariants as params_of
 use Rattle.os_ast.specs.declared.stmt.Step.{Step}
 use Rattle.os_ast.specs.declared.stmt.Step.TheVariants as step_of
 use Rattle.os_lexer.specs.declared.token.Key.{Key}
+use Rattle.os_lexer.specs.Names.{omp_id, task_id, tick_id, taskwait_id}
 use Rattle.os_lexer.specs.declared.token.Key.TheVariants as keys
 use Rattle.os_lexer.specs.declared.token.Kind.{Kind}
 use Rattle.os_lexer.specs.declared.token.Kind.TheVariants as kind
@@ -311,11 +312,11 @@ named-sound d b n us ts h name =
 abbrev opened : Mark → ℕ → Printer
 opened m word = spelling.pragma m ⨾ spelling.omp ⨾ spelling.word word
 
-task-sound : (d : ℕ) (m : Mark) (s : Option Inner) (us ts : List Placed) → SoundDeep d s → Takes (opened m 1) us ts →
+task-sound : (d : ℕ) (m : Mark) (s : Option Inner) (us ts : List Placed) → SoundDeep d s → Takes (opened m task_id) us (after ts) →
     Sound (ReadStmt (suc d) us) (task m s ts)
 unfolding task
 task-sound d m s us ts h opens =
-    sound-deep _ d s ts _ h (λ r i. sound-then _ _ (clauses (Some r.readers) ts) _ (clauses-sound d (Some r.readers) ts i.readers) (λ cs t1 rcs.
+    sound-deep _ d s ts _ h (λ r i. sound-then _ _ (clauses (Some r.readers) (after ts)) _ (clauses-sound d (Some r.readers) (after ts) i.readers) (λ cs t1 rcs.
     sound-then _ _ (expect kind.PragmaEnd t1) _ (expect-sound _ t1) (λ _ t2 ends.
     sound-then _ _ (r.stmt t2) _ (i.stmt t2) (λ x t3 rx.
     record {
@@ -325,11 +326,11 @@ task-sound d m s us ts h opens =
       settled = rx.settled;
     }))))
 
-tick-sound : (d : ℕ) (m : Mark) (b : Option Readers) (us ts : List Placed) → SoundBelow d b → Takes (opened m 2) us ts →
+tick-sound : (d : ℕ) (m : Mark) (b : Option Readers) (us ts : List Placed) → SoundBelow d b → Takes (opened m tick_id) us (after ts) →
     Sound (ReadStmt (suc d) us) (tick m b ts)
 unfolding tick
 tick-sound d m b us ts h opens =
-    sound-deeper _ d b ts _ h (λ r i. sound-then _ _ (expect (kind.Punct puncts.OpenParen) ts) _ (expect-sound _ ts) (λ _ t1 e1.
+    sound-deeper _ d b ts _ h (λ r i. sound-then _ _ (expect (kind.Punct puncts.OpenParen) (after ts)) _ (expect-sound _ (after ts)) (λ _ t1 e1.
     sound-then _ _ (target b t1) _ (target-sound d b t1 h) (λ t t2 rt.
     sound-then _ _ (expect (kind.Punct puncts.ShiftRight) t2) _ (expect-sound _ t2) (λ a t3 arrow.
     sound-then _ _ (r.expr t3) _ (i.expr t3) (λ e t4 re.
@@ -342,7 +343,7 @@ tick-sound d m b us ts h opens =
       settled = λ e. absurd (cc e);
     })))))))
 
-taskwait-sound : (d : ℕ) (m : Mark) (us ts : List Placed) → Takes (opened m 3) us ts → Sound (ReadStmt (suc d) us) (taskwait m ts)
+taskwait-sound : (d : ℕ) (m : Mark) (us ts : List Placed) → Takes (opened m taskwait_id) us ts → Sound (ReadStmt (suc d) us) (taskwait m ts)
 unfolding taskwait
 taskwait-sound d m us ts opens =
     sound-then _ _ (expect kind.PragmaEnd ts) _ (expect-sound _ ts) (λ _ vs ends.
@@ -357,13 +358,13 @@ pragma-sound : (d : ℕ) (s : Option Inner) (ts : List Placed) → SoundDeep d s
     Sound (ReadStmt (suc d) ts) (pragma s ts)
 unfolding pragma
 pragma-sound d s ts h is =
-    sound-then _ _ (expect (kind.Name 0) (after ts)) _ (expect-sound _ (after ts)) (λ _ us omp.
-    sound-if _ (begins (kind.Name 1) us) _ _
-    (λ word. task-sound d (mark_at ts) s ts (after us) h (λ ps g. begins-marked kind.PragmaStart ts is _ (omp.plain _ (begins-bare (kind.Name 1) us word ps g))))
-    (λ _. sound-if _ (begins (kind.Name 2) us) _ _
-    (λ word. tick-sound d (mark_at ts) (readers_of s) ts (after us) (readers_of-sound d s h) (λ ps g. begins-marked kind.PragmaStart ts is _ (omp.plain _ (begins-bare (kind.Name 2) us word ps g))))
-    (λ _. sound-if _ (begins (kind.Name 3) us) _ _
-    (λ word. taskwait-sound d (mark_at ts) ts (after us) (λ ps g. begins-marked kind.PragmaStart ts is _ (omp.plain _ (begins-bare (kind.Name 3) us word ps g))))
+    sound-then _ _ (expect (kind.Name omp_id) (after ts)) _ (expect-sound _ (after ts)) (λ _ us omp.
+    sound-if _ (begins (kind.Name task_id) us) _ _
+    (λ word. task-sound d (mark_at ts) s ts us h (λ ps g. begins-marked kind.PragmaStart ts is _ (omp.plain _ (begins-bare (kind.Name task_id) us word ps g))))
+    (λ _. sound-if _ (begins (kind.Name tick_id) us) _ _
+    (λ word. tick-sound d (mark_at ts) (readers_of s) ts us (readers_of-sound d s h) (λ ps g. begins-marked kind.PragmaStart ts is _ (omp.plain _ (begins-bare (kind.Name tick_id) us word ps g))))
+    (λ _. sound-if _ (begins (kind.Name taskwait_id) us) _ _
+    (λ word. taskwait-sound d (mark_at ts) ts (after us) (λ ps g. begins-marked kind.PragmaStart ts is _ (omp.plain _ (begins-bare (kind.Name taskwait_id) us word ps g))))
     (λ _. tt))))
 
 -- statements

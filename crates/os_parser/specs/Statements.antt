@@ -8,6 +8,7 @@ use Rattle.os_ast.specs.declared.expr.Name.{Name}
 use Rattle.os_ast.specs.declared.program.Params.{Params}
 use Rattle.os_ast.specs.declared.program.Params.TheVariants as params_of
 use Rattle.os_ast.specs.declared.stmt.Step.{Step}
+use Rattle.os_lexer.specs.Names.{omp_id, task_id, tick_id, taskwait_id, input_id, output_id, firstprivate_id, stream_id}
 use Rattle.os_lexer.specs.declared.token.Key.TheVariants as keys
 use Rattle.os_lexer.specs.declared.token.Kind.TheVariants as kind
 use Rattle.os_lexer.specs.declared.token.Punct.{Punct}
@@ -64,7 +65,7 @@ unfoldable pub attribute : Reader Bool
 attribute ts =
     if begins (kind.Key keys.Attribute) ts
     then (expect (kind.Punct puncts.OpenParen) (after ts) >>= λ _ t1. expect (kind.Punct puncts.OpenParen) t1 >>= λ _ t2.
-    expect (kind.Name 7) t2 >>= λ _ t3. expect (kind.Punct puncts.CloseParen) t3 >>= λ _ t4.
+    expect (kind.Name stream_id) t2 >>= λ _ t3. expect (kind.Punct puncts.CloseParen) t3 >>= λ _ t4.
     expect (kind.Punct puncts.CloseParen) t4 >>= λ _ t5. got true t5)
     else got false ts
 
@@ -230,9 +231,9 @@ in_parens part ts =
 -- what a clause lists, from its word on
 unfoldable pub clause_kind : Option Readers → Reader ClauseKindTree
 clause_kind b ts =
-    if begins (kind.Name 4) ts then (in_parens (clause_item puncts.ShiftRight b) (after ts) >>= λ xs us. got (tree.Input xs) us) else
-    if begins (kind.Name 5) ts then (in_parens (clause_item puncts.ShiftLeft b) (after ts) >>= λ xs us. got (tree.Output xs) us) else
-    if begins (kind.Name 6) ts then (in_parens name (after ts) >>= λ ns us. got (tree.Firstprivate ns) us) else fails ts
+    if begins (kind.Name input_id) ts then (in_parens (clause_item puncts.ShiftRight b) (after ts) >>= λ xs us. got (tree.Input xs) us) else
+    if begins (kind.Name output_id) ts then (in_parens (clause_item puncts.ShiftLeft b) (after ts) >>= λ xs us. got (tree.Output xs) us) else
+    if begins (kind.Name firstprivate_id) ts then (in_parens name (after ts) >>= λ ns us. got (tree.Firstprivate ns) us) else fails ts
 
 -- [ "," ] clause
 unfoldable pub clause : Option Readers → Reader ClauseTree
@@ -258,16 +259,16 @@ some_clauses b ts =
 unfoldable pub clauses : Option Readers → Reader (List ClauseTree)
 clauses b ts = if begins kind.PragmaEnd ts then got [] ts else some_clauses b ts
 
--- a task, behind its word
+-- a task, from its word on
 unfoldable pub task : Mark → Option Inner → Reader StmtTree
 task m s ts =
-    deep s ts (λ r. clauses (Some r.readers) ts >>= λ cs us. expect kind.PragmaEnd us >>= λ _ vs. r.stmt vs >>= λ x ws.
+    deep s ts (λ r. clauses (Some r.readers) (after ts) >>= λ cs us. expect kind.PragmaEnd us >>= λ _ vs. r.stmt vs >>= λ x ws.
     got (tree.Task m cs x) ws)
 
--- a tick, behind its word
+-- a tick, from its word on
 unfoldable pub tick : Mark → Option Readers → Reader StmtTree
 tick m b ts =
-    deeper b ts (λ r. expect (kind.Punct puncts.OpenParen) ts >>= λ _ t1. target b t1 >>= λ t t2.
+    deeper b ts (λ r. expect (kind.Punct puncts.OpenParen) (after ts) >>= λ _ t1. target b t1 >>= λ t t2.
     expect (kind.Punct puncts.ShiftRight) t2 >>= λ a t3. r.expr t3 >>= λ e t4. expect (kind.Punct puncts.CloseParen) t4 >>= λ _ t5.
     expect kind.PragmaEnd t5 >>= λ _ t6. got (tree.Tick m t a e) t6)
 
@@ -278,10 +279,10 @@ taskwait m ts = expect kind.PragmaEnd ts >>= λ _ us. got (tree.Taskwait m) us
 -- a pragma that is a statement
 unfoldable pub pragma : Option Inner → Reader StmtTree
 pragma s ts =
-    expect (kind.Name 0) (after ts) >>= λ _ us.
-    if begins (kind.Name 1) us then task (mark_at ts) s (after us) else
-    if begins (kind.Name 2) us then tick (mark_at ts) (readers_of s) (after us) else
-    if begins (kind.Name 3) us then taskwait (mark_at ts) (after us) else fails us
+    expect (kind.Name omp_id) (after ts) >>= λ _ us.
+    if begins (kind.Name task_id) us then task (mark_at ts) s us else
+    if begins (kind.Name tick_id) us then tick (mark_at ts) (readers_of s) us else
+    if begins (kind.Name taskwait_id) us then taskwait (mark_at ts) (after us) else fails us
 
 -- stmt
 unfoldable pub stmt_by : StmtStart → Option Inner → Reader StmtTree

@@ -2,6 +2,7 @@
 
 ghost use Rattle.std.specs.Prelude.{◌≡◌, ◌+◌, ◌≤◌, ◌↔◌, IsTrue, length};
 ghost use Rattle.os_ast.specs.Means.{placed_from};
+ghost use Rattle.os_lexer.specs.Limits.{text_limit};
 ghost use Rattle.os_parser.specs.Kinds.{same};
 ghost use Rattle.os_parser.specs.Reading.{Gives, Same, kind_at, mark_at, after, begins, expect};
 
@@ -9,9 +10,6 @@ use crate::parse_error::ParseError;
 use os_ast::Mark;
 use os_lexer::{Kind, Token};
 use std::marker::Model;
-
-/// The most tokens that a program may have.
-pub const TOKENS_LIMIT: usize = 262_144;
 
 /// The tokens that are left. Contracts see each with the mark of its place and its line.
 #[derive(Drop)]
@@ -23,12 +21,13 @@ pub(crate) struct Cursor<'a> {
 impl<'a> Model for Cursor<'a> {
     ghost use Rattle.std.specs.Prelude.{◌+◌, ◌≤◌, List, length};
     ghost use Rattle.os_ast.specs.Means.{Placed, placed_from};
+    ghost use Rattle.os_lexer.specs.Limits.{text_limit};
 
     ghost Value = { List Placed };
 
     ghost view = { λ cursor. placed_from cursor.place cursor.rest.now };
 
-    ghost invariant = { λ cursor. cursor.place + length cursor.rest.now ≤ 262144 };
+    ghost invariant = { λ cursor. cursor.place + length cursor.rest.now ≤ text_limit };
 }
 
 fn is_same(kind: Kind, other: Kind) -> bool
@@ -40,7 +39,7 @@ fn is_same(kind: Kind, other: Kind) -> bool
 impl<'a> Cursor<'a> {
     /// The first token's place.
     pub(crate) fn new(tokens: &'a [Token]) -> Cursor<'a>
-        requires { length tokens.now ≤ 262144 }
+        requires { length tokens.now ≤ text_limit }
         ensures { result ≡ placed_from 0 tokens.now }
     {
         Cursor {

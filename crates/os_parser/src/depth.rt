@@ -3,6 +3,9 @@ ghost use Rattle.os_parser.specs.Statements.{DeepensStmt};
 
 use crate::parse_error::ParseError;
 
+/// How deep a program may be.
+pub(crate) const DEPTH_LIMIT: u32 = 200;
+
 /// What is left of a depth for the parts that stand one deeper.
 #[tactic(auto, using(crate::proofs::Depths::depths))]
 pub(crate) fn deeper(depth: u32) -> Result<u32, ParseError>

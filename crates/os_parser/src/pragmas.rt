@@ -13,6 +13,7 @@ use crate::parse_error::ParseError;
 use crate::statements::{name, size, target};
 use os_ast::{Clause, ClauseItem, ClauseKind, Join, Mark, Name, Stmt, Target, TickSite};
 use os_io::List;
+use os_lexer::names::{FIRSTPRIVATE, INPUT, OUTPUT};
 use os_lexer::{Kind, Punct};
 use std::alloc::Global;
 
@@ -137,17 +138,17 @@ fn clause_kind(alloc: Global, cursor: &mut Cursor<'_>, depth: u32) -> Result<Cla
     ensures within { length cursor.new ≤ length cursor.old }
     ensures taken { OnOk result (length cursor.new ≤ length (after cursor.old)) }
 {
-    if cursor.is_at(Kind::Name(4)) {
+    if cursor.is_at(Kind::Name(INPUT)) {
         cursor.advance();
         let items = items_in_parens(alloc, cursor, Punct::ShiftRight, depth)?;
         return Ok(ClauseKind::Input(items));
     }
-    if cursor.is_at(Kind::Name(5)) {
+    if cursor.is_at(Kind::Name(OUTPUT)) {
         cursor.advance();
         let items = items_in_parens(alloc, cursor, Punct::ShiftLeft, depth)?;
         return Ok(ClauseKind::Output(items));
     }
-    if cursor.is_at(Kind::Name(6)) {
+    if cursor.is_at(Kind::Name(FIRSTPRIVATE)) {
         cursor.advance();
         let names = names_in_parens(alloc, cursor)?;
         return Ok(ClauseKind::Firstprivate(names));
@@ -214,7 +215,7 @@ pub(crate) fn clauses(
     some_clauses(alloc, cursor, depth)
 }
 
-/// `"tick" "(" stream ">>" expr ")" PragmaEnd`, from what follows its word.
+/// `"tick" "(" stream ">>" expr ")" PragmaEnd`, from its word on.
 #[tactic(auto, unfolding(crate::specs::Statements::tick))]
 pub(crate) fn tick(
     alloc: Global,
@@ -226,6 +227,7 @@ pub(crate) fn tick(
     ensures within { length cursor.new ≤ length cursor.old }
 {
     let deeper_by_one = deeper(depth)?;
+    cursor.advance();
     cursor.expect(Kind::Punct(Punct::OpenParen))?;
     let stream = target(alloc, cursor, depth)?;
     let arrow = cursor.expect(Kind::Punct(Punct::ShiftRight))?;

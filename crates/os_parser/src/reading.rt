@@ -2,18 +2,20 @@ ghost use Rattle.std.specs.Prelude.{◌≡◌, ◌≤◌, length, Err, IfOk};
 ghost use Rattle.os_ast.specs.Means.{Means, OneReading};
 ghost use Rattle.os_ast.specs.Trees.{ProgramTree};
 ghost use Rattle.os_ast.specs.Views.{program_tree};
+ghost use Rattle.os_lexer.specs.Limits.{text_limit};
 ghost use Rattle.os_parser.specs.declared.parse_error.ParseError.TheVariants as errors;
 
 use crate::cursor::Cursor;
+use crate::depth::DEPTH_LIMIT;
 use crate::parse_error::ParseError;
 use crate::program::program;
-use os_ast::{DEPTH_LIMIT, Program};
+use os_ast::Program;
 use os_lexer::Token;
 use std::alloc::Global;
 
 /// The program that the tokens mean. It takes time linear in the tokens, and stack for the limit of depth.
 pub fn parse(alloc: Global, tokens: &[Token]) -> Result<Program, ParseError>
-    requires { length tokens.now ≤ 262144 }
+    requires { length tokens.now ≤ text_limit }
     // What is read is the program that the tokens mean.
     ensures found { IfOk result (λ p. Means tokens.now (program_tree p)) }
     // Tokens are refused only where they mean no program.

@@ -14,6 +14,7 @@ use crate::parse_error::ParseError;
 use crate::starts::{ChangeSign, StmtStart, change_at, name_at, stmt_at};
 use os_ast::{Assign, Call, Change, Declarator, Expr, Index, Mark, Name, Step, Stmt, Target};
 use os_io::List;
+use os_lexer::names::STREAM;
 use os_lexer::{Key, Kind, Punct};
 use std::alloc::Global;
 
@@ -91,7 +92,7 @@ fn attribute(cursor: &mut Cursor<'_>) -> Result<bool, ParseError>
     cursor.advance();
     cursor.expect(Kind::Punct(Punct::OpenParen))?;
     cursor.expect(Kind::Punct(Punct::OpenParen))?;
-    cursor.expect(Kind::Name(7))?;
+    cursor.expect(Kind::Name(STREAM))?;
     cursor.expect(Kind::Punct(Punct::CloseParen))?;
     cursor.expect(Kind::Punct(Punct::CloseParen))?;
     Ok(true)

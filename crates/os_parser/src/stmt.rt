@@ -15,6 +15,7 @@ use crate::starts::{StmtStart, stmt_at};
 use crate::statements::{before, declare, named_stmt, return_stmt};
 use os_ast::{Change, Head, Mark, Name, Stmt, TaskSite};
 use os_io::List;
+use os_lexer::names::{OMP, TASK, TASKWAIT, TICK};
 use os_lexer::{Key, Kind, Punct};
 use std::alloc::Global;
 
@@ -167,23 +168,21 @@ fn pragma(alloc: Global, cursor: &mut Cursor<'_>, depth: u32) -> Result<Stmt, Pa
 {
     let mark = cursor.mark();
     cursor.advance();
-    cursor.expect(Kind::Name(0))?;
-    if cursor.is_at(Kind::Name(1)) {
-        cursor.advance();
+    cursor.expect(Kind::Name(OMP))?;
+    if cursor.is_at(Kind::Name(TASK)) {
         return task(alloc, cursor, mark, depth);
     }
-    if cursor.is_at(Kind::Name(2)) {
-        cursor.advance();
+    if cursor.is_at(Kind::Name(TICK)) {
         return tick(alloc, cursor, mark, depth);
     }
-    if cursor.is_at(Kind::Name(3)) {
+    if cursor.is_at(Kind::Name(TASKWAIT)) {
         cursor.advance();
         return taskwait(cursor, mark);
     }
     Err(ParseError::Syntax)
 }
 
-/// `"task" { [ "," ] clause } PragmaEnd stmt`, from what follows its word.
+/// `"task" { [ "," ] clause } PragmaEnd stmt`, from its word on.
 #[cycle(statements)]
 #[tactic(auto, unfolding(crate::specs::Statements::task))]
 fn task(alloc: Global, cursor: &mut Cursor<'_>, mark: Mark, depth: u32) -> Result<Stmt, ParseError>
@@ -191,6 +190,7 @@ fn task(alloc: Global, cursor: &mut Cursor<'_>, mark: Mark, depth: u32) -> Resul
     ensures within { length cursor.new ≤ length cursor.old }
 {
     let inner = deeper(depth)?;
+    cursor.advance();
     let clauses = clauses(alloc, cursor, depth)?;
     cursor.expect(Kind::PragmaEnd)?;
     let body = stmt(alloc, cursor, inner)?;
