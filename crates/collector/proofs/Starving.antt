@@ -7,7 +7,7 @@ use Rattle.std.proofs.lemmas.Bool.{eqb-true}
 use Rattle.std.proofs.lemmas.List.{get_or-map, length-map}
 use Rattle.std.proofs.lemmas.Option.{same_Some}
 use Rattle.flow_core.proofs.Gathering.{gathered_there}
-use Rattle.flow_core.proofs.Rounds.{length-meaning, outcome_at-meaning}
+use Rattle.flow_core.proofs.Rounds.{element-extends, length-meaning, outcome_at-meaning}
 use Rattle.flow_core.proofs.There.{there_by_ends}
 use Rattle.flow_core.specs.Element.{element}
 use Rattle.flow_core.specs.Laws.{IsFilled}
@@ -73,7 +73,7 @@ module _ (activations : List Activation) (input : List ℕ) (body : ℕ → List
       ∙ ap (λ bs. is_there activations (length input) ends p ∷ bs) (states ps)
 
   state_length : length state ≡ length activations
-  state_length = length-meaning (stream_reads activations input) body (length activations)
+  state_length = length-meaning element (stream_reads activations input) body (length activations)
 
   pub of_state : AreOfState activations (length input) (stream_ends activations input state)
   of_state = record {
@@ -87,7 +87,7 @@ module _ (activations : List Activation) (input : List ℕ) (body : ℕ → List
       let there = is_there activations (length input) ends in
       let (vs, all) = all_gathered (element state) (stream_source activations input) there says (input_places activations a) none in
       let ended : outcome_at state a ≡ Some (body a vs) =
-      outcome_at-meaning (stream_reads activations input) body (length activations) a lt ∙ ap (option_map (body a)) all in
+      outcome_at-meaning element element-extends (stream_reads activations input) body (length activations) a lt ∙ ap (option_map (body a)) all in
       let never : None ≡ Some (body a vs) = sym starved ∙ ended in
       absurd (cc)
 

@@ -4,7 +4,7 @@ use Rattle.std.specs.Option.{option_map}
 use Rattle.std.proofs.lemmas.List.{length-map}
 use Rattle.std.proofs.lemmas.Option.{same_Some, slice_get_within}
 use Rattle.flow_core.proofs.Gathering.{length-gathered}
-use Rattle.flow_core.proofs.Rounds.{outcome_at-meaning}
+use Rattle.flow_core.proofs.Rounds.{element-extends, outcome_at-meaning}
 use Rattle.flow_core.specs.Element.{element}
 use Rattle.flow_core.specs.Outcome.{outcome_at}
 use Rattle.flow_core.specs.Round.{inputs_in}
@@ -14,13 +14,13 @@ use Rattle.task_bodies.proofs.Counts.{length-reads}
 use Rattle.task_bodies.specs.Laws.{FilledBodiesFill}
 
 pub filled : FilledBodiesFill
-filled activations input body fills a x o at is done = by (inputs_in (stream_reads activations input) (stream_meaning activations input body) a) refl
+filled activations input body fills a x o at is done = by (inputs_in element (stream_reads activations input) (stream_meaning activations input body) a) refl
   where
     here : outcome_at (stream_meaning activations input body) a
-        ≡ option_map (body a) (inputs_in (stream_reads activations input) (stream_meaning activations input body) a)
-    here = outcome_at-meaning (stream_reads activations input) body (length activations) a (slice_get_within activations a x at)
+        ≡ option_map (body a) (inputs_in element (stream_reads activations input) (stream_meaning activations input body) a)
+    here = outcome_at-meaning element element-extends (stream_reads activations input) body (length activations) a (slice_get_within activations a x at)
 
-    by : (i : Option (List ℤ)) → inputs_in (stream_reads activations input) (stream_meaning activations input body) a ≡ i → length o.outputs ≡ output_count x
+    by : (i : Option (List ℤ)) → inputs_in element (stream_reads activations input) (stream_meaning activations input body) a ≡ i → length o.outputs ≡ output_count x
     by None none = absurd (let never : Some o ≡ None = sym is ∙ here ∙ ap (option_map (body a)) none in cc)
     by (Some inputs) there =
         let long = length-gathered (map (element (stream_meaning activations input body)) (stream_reads activations input a)) inputs there
