@@ -6,3 +6,4 @@ pub mod ReadPlaces
 pub mod Reported
 pub mod Firsts
 pub mod Covering
+pub mod Starving

@@ -1,12 +1,17 @@
 -- The laws of what is written and missing, as statements.
-use Rattle.std.specs.Prelude.{◌≡◌, ℕ, ℤ, ◌<◌, ◌⊎◌, true, false, List, Option, Some, None, All, length, slice_get}
+use Rattle.std.specs.Prelude.{◌≡◌, ◌≢◌, ℕ, ℤ, ◌<◌, ◌⊎◌, true, false, List, [], Option, Some, None, IsSome, All, length, slice_get, slice_index_or}
 use Rattle.flow_core.specs.declared.activation.Activation.{Activation}
 use Rattle.flow_core.specs.declared.ends.Ends.{Ends}
+use Rattle.flow_core.specs.declared.outcome.Outcome.{Outcome}
 use Rattle.flow_core.specs.declared.task_end.TaskEnd.{TaskEnd}
+use Rattle.flow_core.specs.Laws.{IsFilled}
+use Rattle.flow_core.specs.Outcome.{is_done_at}
 use Rattle.flow_core.specs.Place.{Place, input_places, written_count}
+use Rattle.flow_core.specs.Streams.{stream_ends, stream_meaning}
 use Rattle.flow_core.specs.There.{is_there}
 use Rattle.collector.specs.declared.missing.Missing.{Missing}
 use Rattle.collector.specs.Missing.{missing, missing_at}
+use Rattle.collector.specs.Report.{activation_line}
 use Rattle.collector.specs.Written.{byte_of, written}
 
 -- The bytes are the longest prefix of the elements that is complete: all of it is there, and nothing is there
@@ -28,3 +33,21 @@ pub record IsFirstMissing (activations : List Activation) (input_len : ℕ) (end
   pub first : (m : Missing) → missing activations input_len ends a ≡ Some m
       → (k : ℕ) × (place : Place) × (slice_get (input_places activations a) k ≡ Some place) × (m ≡ missing_at activations place) × (is_there activations input_len ends place ≡ false)
       × ((j : ℕ) (other : Place) → j < k → slice_get (input_places activations a) j ≡ Some other → is_there activations input_len ends other ≡ true)
+
+-- a fact of what the meaning of activations over an input comes to, where those that are Done filled their outputs
+abbrev pub OfFilled : (List Activation → ℕ → Ends → Type 0) → Type 0
+OfFilled fact = (activations : List Activation) (input : List ℕ) (body : ℕ → List ℤ → Outcome)
+    → IsFilled activations (stream_meaning activations input body)
+    → fact activations (length input) (stream_ends activations input (stream_meaning activations input body))
+
+-- An activation without an end misses an element. So each activation that isn't Done has a line in the report, and no
+-- other has one.
+pub record HasItsLines (activations : List Activation) (input_len : ℕ) (ends : Ends) : Type 0 where
+  pub misses : (a : ℕ) → a < length activations → slice_index_or ends.ends a None ≡ None → IsSome (missing activations input_len ends.ends a)
+  pub told : (a : ℕ) → a < length activations → is_done_at ends.ends a ≡ false → activation_line activations input_len ends.ends a ≢ []
+  pub untold : (a : ℕ) → is_done_at ends.ends a ≡ true → activation_line activations input_len ends.ends a ≡ []
+
+-- The producer of a missing element isn't Done, unless the element is one of the input, which no lawful claim writes.
+abbrev pub ProducersAreNotDone : Type 0
+ProducersAreNotDone = (activations : List Activation) (input_len : ℕ) (ends : List (Option TaskEnd)) (a : ℕ) (m : Missing) (producer : ℕ)
+    → missing activations input_len ends a ≡ Some m → m.stream ≢ 0 → m.producer ≡ Some producer → is_done_at ends producer ≡ false

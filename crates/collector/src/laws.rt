@@ -6,7 +6,7 @@ ghost use Rattle.flow_core.specs.declared.control.ControlEnd.{ControlEnd};
 ghost use Rattle.flow_core.specs.declared.ends.Ends.{Ends};
 ghost use Rattle.flow_core.specs.declared.task_end.TaskEnd.{TaskEnd};
 ghost use Rattle.flow_core.specs.Place.{written_count};
-ghost use Rattle.collector.specs.Laws.{IsFirstMissing, IsLongestPrefix, IsWrittenOf};
+ghost use Rattle.collector.specs.Laws.{HasItsLines, IsFirstMissing, IsLongestPrefix, IsWrittenOf, OfFilled, ProducersAreNotDone};
 ghost use Rattle.collector.specs.Reported.{AreOfState};
 ghost use Rattle.collector.specs.Status.{status};
 ghost use Rattle.collector.specs.Written.{written};
@@ -34,4 +34,17 @@ pub fn all_is_written()
     ensures { (activations : List Activation) (input_len : ℕ) (ends : Ends) (control : ControlEnd)
         → AreOfState activations input_len ends → status ends.ends control ≡ 0
         → length (written ends.output) ≡ written_count activations 1 }
+{}
+
+/// What the meaning of activations comes to is of one state, as the laws above ask, where those that are done filled
+/// their outputs.
+pub fn meanings_are_states()
+    ensures { OfFilled AreOfState }
+{}
+
+/// There, each activation that isn't done has a line in the report, and no other has: one without an end misses an
+/// element. The producer that such a line names isn't done.
+pub fn all_but_done_have_lines()
+    ensures lines { OfFilled HasItsLines }
+    ensures producers { ProducersAreNotDone }
 {}

@@ -29,8 +29,7 @@ struct Gap {
 }
 
 /// The first missing element of an activation, by the ends so far: the first one of its input windows, by clause
-/// item and then by position, that isn't there; none exactly where each of them is there. It takes no memory, and
-/// goes from producer to producer.
+/// item and then by position, that isn't there; none exactly where each of them is there. It takes no memory.
 pub fn first_missing(layout: &Layout, ends: &Ends, frame: u32) -> Option<Missing>
     requires layout { IsLayout layout.now }
     requires exists { frame < frame_count layout.now }

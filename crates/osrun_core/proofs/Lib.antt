@@ -7,5 +7,6 @@ pub mod CommandJobs
 pub mod CommandParses
 pub mod GivenNumbers
 pub mod Ran
+pub mod RunLaws
 pub mod TasksRun
 pub mod WrittenBytes

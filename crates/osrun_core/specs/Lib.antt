@@ -7,6 +7,8 @@ pub mod Refusal
 pub mod Run
 pub mod Status
 pub mod Telling
+-- The laws of programs and of their runs.
+pub mod Laws
 -- What restates private functions.
 pub mod Accepting
 pub mod JobAnswer

@@ -10,6 +10,7 @@ mod answer_job;
 mod command;
 mod deliver;
 mod job;
+pub mod laws;
 mod lay_out;
 mod load;
 mod refusal;

@@ -71,3 +71,5 @@ pub mod SameStreams
 pub mod SameStmts
 pub mod SamePlaces
 pub mod SameLaws
+pub mod Sited
+pub mod Filled

@@ -1,18 +1,20 @@
 -- What code that stands for a lawful program does.
-use Rattle.std.specs.Prelude.{◌≡◌, ℕ, ◌≤◌, List, [], length, ℤ}
+use Rattle.std.specs.Prelude.{◌≡◌, ℕ, ◌≤◌, List, [], length, slice_get, Some, ℤ}
 use Rattle.cddf_meaning.specs.Body.{body}
 use Rattle.cddf_meaning.specs.Control.{control}
 use Rattle.cddf_meaning.specs.Moves.{read_horizons}
 use Rattle.flow_core.specs.declared.activation.Activation.{Activation}
 use Rattle.flow_core.specs.declared.control.Control.{Control}
 use Rattle.flow_core.specs.declared.outcome.Outcome.{Outcome}
+use Rattle.flow_core.specs.declared.task_end.TaskEnd.TheVariants.{Done}
+use Rattle.flow_core.specs.Streams.{output_count}
 use Rattle.os_ast.specs.Leveled.{IsLeveled}
 use Rattle.os_ast.specs.Marks.{HasPlaces}
 use Rattle.os_ast.specs.Trees as tree
 use Rattle.os_ast.specs.Violations.{violations, names, captured_by_tasks, streams}
 use Rattle.os_code.specs.Control.{ControlEnds}
 use Rattle.os_code.specs.IsValid.{IsValid}
-use Rattle.os_code.specs.Tasks.{Fits, TaskEnds}
+use Rattle.os_code.specs.Tasks.{Fits, TaskEnds, input_count}
 use Rattle.os_code.specs.declared.parts.Parts.{Parts}
 use Rattle.simulation.specs.Names.{told_at}
 use Rattle.simulation.specs.Programs.{HasProgram}
@@ -50,3 +52,10 @@ MainEndsOnlySo = (p : tree.ProgramTree) (code : Parts) (input_len budget : ℕ) 
 abbrev pub StandingIsValid : Type 0
 StandingIsValid = (p : tree.ProgramTree) (code : Parts) → IsLeveled p → HasPlaces p → violations p ≡ [] →
     HasProgram code p (told_at (names p)) (captured_by_tasks p) (streams p) → IsTiled code p → IsValid code
+
+-- Each activation of the control program that is done for its inputs wrote as many elements as its output windows have
+-- horizons together.
+abbrev pub BodiesFill : Type 0
+BodiesFill = (p : tree.ProgramTree) (input_len control_budget number : ℕ) (a : Activation) (inputs : List ℤ) (budget : ℕ) →
+    slice_get (control p input_len control_budget).activations number ≡ Some a → length inputs ≡ input_count a →
+    (body p a inputs budget).end ≡ Done → length (body p a inputs budget).outputs ≡ output_count a

@@ -1,7 +1,7 @@
 //! Laws of code that stands for a program. They take nothing and do nothing.
 
 ghost use Rattle.simulation.specs.FoundNames.{MainFindsItsNames, TasksFindTheirNames, FunctionsFindTheirNames};
-ghost use Rattle.simulation.specs.Laws.{TasksEndSo, TasksEndOnlySo, MainEndsSo, MainEndsOnlySo, StandingIsValid};
+ghost use Rattle.simulation.specs.Laws.{BodiesFill, TasksEndSo, TasksEndOnlySo, MainEndsSo, MainEndsOnlySo, StandingIsValid};
 
 /// The code of a lawful program runs each activation that fits it as the body of its task says: it is done with the
 /// same outputs, traps with the same code and line, or is over budget, and it ends in no other way.
@@ -28,4 +28,10 @@ pub fn lawful_programs_find_their_names()
     ensures in_main { MainFindsItsNames }
     ensures in_tasks { TasksFindTheirNames }
     ensures in_functions { FunctionsFindTheirNames }
+{}
+
+/// Each activation of the control program that is done wrote as many elements as its output windows have horizons
+/// together, for every program, lawful or not.
+pub fn bodies_fill_their_outputs()
+    ensures { BodiesFill }
 {}

@@ -1,4 +1,5 @@
 pub mod Agreeing
 pub mod Bytes
 pub mod Counts
+pub mod Filling
 pub mod Serving

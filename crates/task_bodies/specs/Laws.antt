@@ -1,14 +1,16 @@
 -- The laws of bodies, as statements.
 use Rattle.std.specs.Prelude.{◌≡◌, ℕ, ℤ, pos, ◌+◌, ◌<◌, ◌≤◌, ◌≤ℤ◌, true, All, List, Some, length, slice_get, take}
 use Rattle.std.specs.Option.{ForSome}
+use Rattle.flow_core.specs.Laws.{IsFilled}
 use Rattle.flow_core.specs.Serves.{Serves}
 use Rattle.flow_core.specs.StandsFor.{StandsFor}
-use Rattle.flow_core.specs.Streams.{output_elements, stream_meaning}
+use Rattle.flow_core.specs.Streams.{output_count, output_elements, stream_meaning}
 use Rattle.flow_core.specs.Window.{offset_after}
 use Rattle.flow_core.specs.declared.activation.Activation.{Activation}
 use Rattle.flow_core.specs.declared.claim.Claim.{Claim}
 use Rattle.flow_core.specs.declared.outcome.Outcome.{Outcome}
 use Rattle.flow_core.specs.declared.plan.Plan.{Plan}
+use Rattle.flow_core.specs.declared.task_end.TaskEnd.TheVariants.{Done}
 use Rattle.os_code.specs.IsValid.{IsValid}
 use Rattle.os_code.specs.Tasks.{Fits, input_count}
 use Rattle.os_code.specs.declared.parts.Parts.{Parts}
@@ -42,3 +44,10 @@ abbrev pub OutputsAreBytes : Type 0
 OutputsAreBytes = (activations : List Activation) (input : List ℕ) (body : ℕ → List ℤ → Outcome)
     → ((a : ℕ) (x : Activation) (inputs : List ℤ) → slice_get activations a ≡ Some x → length inputs ≡ input_count x → GivesBytes x (body a inputs))
     → All (λ element. ForSome element IsByte) (output_elements activations input (stream_meaning activations input body))
+
+-- where all bodies that are done fill their output windows, the outputs of the meaning are filled
+abbrev pub FilledBodiesFill : Type 0
+FilledBodiesFill = (activations : List Activation) (input : List ℕ) (body : ℕ → List ℤ → Outcome)
+    → ((a : ℕ) (x : Activation) (inputs : List ℤ) → slice_get activations a ≡ Some x → length inputs ≡ input_count x
+    → (body a inputs).end ≡ Done → length (body a inputs).outputs ≡ output_count x)
+    → IsFilled activations (stream_meaning activations input body)

@@ -1,6 +1,6 @@
 //! Laws of bodies. Each is a call that does nothing and ensures its law.
 
-ghost use Rattle.task_bodies.specs.Laws.{AgreeingBodiesMeanOne, BodiesServe, OutputsAreBytes};
+ghost use Rattle.task_bodies.specs.Laws.{AgreeingBodiesMeanOne, BodiesServe, FilledBodiesFill, OutputsAreBytes};
 
 use os_code::laws::tasks_end;
 
@@ -19,4 +19,10 @@ pub fn agreeing_bodies_mean_one()
 /// Where no activation writes anything but bytes to the output, the output has nothing but bytes.
 pub fn outputs_are_bytes()
     ensures { OutputsAreBytes }
+{}
+
+/// Where each activation that is done writes as many elements as its output windows have horizons, so it is in the
+/// meaning: then the ends alone say which elements are there.
+pub fn filled_bodies_fill()
+    ensures { FilledBodiesFill }
 {}
