@@ -255,7 +255,7 @@ hide_items s inner item (Item d i ∷ ps) =
     (hide_items s named (suc item) ps)
 hide_items s inner item (Private n ∷ ps) = hide_items s inner item ps
 
-owner_items : (s inner : Scope) (n : ℕ) (ps : List Part) → (with_items s inner n ps).owner ≡ inner.owner
+pub owner_items : (s inner : Scope) (n : ℕ) (ps : List Part) → (with_items s inner n ps).owner ≡ inner.owner
 owner_items s inner n [] = refl
 owner_items s inner n (Item d i ∷ ps) = owner_items s (declare inner (item_name i.stream i.window).id (item_entity s n d i)) (suc n) ps
 owner_items s inner n (Private p ∷ ps) = owner_items s inner n ps

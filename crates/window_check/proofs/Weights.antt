@@ -1,10 +1,11 @@
 -- What a program declares is little for its tokens: each makes room for 16,383.
-use Rattle.std.proofs.Common.{◌≤◌, ◌+◌, ◌*◌, if◌then◌else◌, List, [], ◌∷◌, map, length, length-append, Option, Some, None, Bool, true, false, arith}
+use Rattle.std.proofs.Common.{ap, refl, ◌≤◌, ◌+◌, ◌*◌, if◌then◌else◌, List, [], ◌∷◌, map, length, length-append, Option, Some, None, Bool, true, false, arith}
 use Rattle.std.specs.Prelude.{is_some}
 use Rattle.std.proofs.lemmas.List.{length-map}
+use Rattle.os_ast.proofs.Prints.{prints_item}
 use Rattle.os_ast.specs.Limits.{size_limit}
 use Rattle.os_ast.specs.Parts.{Item, Private, parts, parts_of}
-use Rattle.os_ast.specs.Notes.Programs.{param_names}
+use Rattle.os_ast.specs.Notes.Programs.{file, param_names}
 use Rattle.os_ast.specs.Operators.{assign_mark, step_mark}
 use Rattle.os_ast.specs.Spelling as spelling
 use Rattle.os_ast.specs.Spelling.{Piece, ◌⨾◌}
@@ -18,7 +19,8 @@ use Rattle.os_lexer.specs.declared.token.Key.TheVariants as keys
 use Rattle.os_lexer.specs.declared.token.Kind.TheVariants as kind
 use Rattle.os_lexer.specs.declared.token.Punct.{Punct}
 use Rattle.os_lexer.specs.declared.token.Punct.TheVariants as puncts
-use Rattle.window_check.specs.Room.{declarator_weight, declarators_weight, start_weight, stmt_weight, stmts_weight, item_weight, items_weight}
+use Rattle.window_check.specs.Globals.{count_functions}
+use Rattle.window_check.specs.Room.{HasRoom, declarator_weight, declarators_weight, start_weight, stmt_weight, stmts_weight, item_weight, items_weight}
 
 mutual
   long-expr : (e : tree.ExprTree) (rest : List Piece) → 1 + length rest ≤ length (spelling.expr e rest)
@@ -222,3 +224,26 @@ long-program (i ∷ is) rest = omega (arith, long-program is rest, long-programs
 -- a program's weight by the number of its tokens
 pub weight-spell : (p : tree.ProgramTree) → items_weight p ≤ 16383 * length (spelling.spell p)
 weight-spell p = omega (arith, long-program p [], length-map (spelling.pieces p) spelling.kind_of)
+
+-- a function has at least one token
+pub functions_few : (is : List tree.ItemTree) → count_functions is ≤ length (spelling.each spelling.item is [])
+functions_few [] = omega arith
+functions_few (tree.Constant c ∷ is) =
+    let rest = spelling.each spelling.item is [] in
+    omega (arith, functions_few is, ap length ((prints_item (tree.Constant c)).in_front rest), length-append (spelling.item (tree.Constant c) []) rest)
+functions_few (tree.Function f ∷ is) =
+    let rest = spelling.each spelling.item is [] in
+    omega (arith, functions_few is, ap length ((prints_item (tree.Function f)).in_front rest), length-append (spelling.item (tree.Function f) []) rest)
+
+-- a program has room that has few tokens
+pub room : (p : tree.ProgramTree) → length (spelling.spell p) ≤ 262144 → HasRoom file (items_weight p)
+room p few = record {
+  slots = omega (arith, weight-spell p, few);
+  depth = omega (arith, weight-spell p, few);
+  functions = omega (arith, weight-spell p, few);
+  elements = omega (arith, weight-spell p, few);
+  arrays = omega (arith, weight-spell p, few);
+  streams = omega (arith, weight-spell p, few);
+  entries = omega (arith, weight-spell p, few);
+  order = record { top = 0; stacked = tt; below = λ is. omega arith; outside = λ is. refl };
+}

@@ -7,6 +7,7 @@ pub mod Order
 pub mod Refusal
 pub mod Sums
 pub mod Told
+pub mod UnitSlots
 -- What restates the parts of the walk for their own contracts.
 pub mod Codes
 pub mod Findings

@@ -12,6 +12,7 @@ ghost use Rattle.os_ast.specs.Notes.Kinds.{Note, Used};
 ghost use Rattle.os_ast.specs.Notes.Programs.{after_items, file, in_body, owner_of, param_names, program_notes};
 ghost use Rattle.os_ast.specs.Notes.Statements.{after_stmt, after_stmts, stmt_notes, stmts_notes};
 ghost use Rattle.os_ast.specs.Parts.{Part, private_ids, is_in};
+ghost use Rattle.os_ast.specs.Spelling.{spell};
 ghost use Rattle.os_ast.specs.Stacked.{Stacked, main_extent};
 ghost use Rattle.os_ast.specs.Trees as tree;
 ghost use Rattle.os_ast.specs.Trees.{ProgramTree};
@@ -31,6 +32,7 @@ ghost use Rattle.window_check.specs.NameTokens.{program_places};
 ghost use Rattle.window_check.specs.Order.{InOrder};
 ghost use Rattle.window_check.specs.Sums.{HasSizes, extent_in, slots_round, stmt_slots, stmts_slots};
 ghost use Rattle.window_check.specs.Told.{AreLawful, Tells};
+ghost use Rattle.window_check.specs.UnitSlots.{program_slots};
 
 use os_ast::laws::meaning_by_tokens;
 
@@ -118,10 +120,12 @@ pub fn functions_are_numbered()
     ensures apart { (p : ProgramTree) → violations p ≡ [] → AreApart [] p }
 {}
 
-/// A lawful program has at most 65,536 streams of its own, and at most 1,048,576 elements of local arrays.
+/// A lawful program has at most 65,536 streams of its own, and at most 1,048,576 elements of local arrays. Its units
+/// have at most 2,097,152 slots in all, where it is spelled by a text's tokens.
 pub fn limits_are_kept()
     ensures within { (p : ProgramTree) → violations p ≡ [] → IsWithin (after_items file p) }
     ensures streams { (p : ProgramTree) → violations p ≡ [] → streams p ≤ 65538 }
+    ensures slots { (p : ProgramTree) → HasPlaces p → violations p ≡ [] → length (spell p) ≤ 262144 → program_slots p ≤ 2097152 }
 {}
 
 /// Every name token of a lawful program that is used or declares a variable has its entry in the names, and no other

@@ -5,25 +5,12 @@ use Rattle.os_ast.specs.Spelling.{spell}
 use Rattle.os_ast.specs.Trees.{ProgramTree}
 use Rattle.os_ast.specs.Views.{program_tree}
 use Rattle.os_ast.specs.declared.violation.Violation.{Violation}
-use Rattle.window_check.specs.Room.{HasRoom, items_weight, room_end}
+use Rattle.window_check.specs.Room.{items_weight, room_end}
 use Rattle.window_check.specs.declared.found.Judged.{Judged}
 use Rattle.window_check.proofs.HasRoom.{room_less, room_items_of_file}
 use Rattle.window_check.proofs.Refused.{all_judged, refused, refused-end, lawful, found-names, found-captured}
-use Rattle.window_check.proofs.Weights.{weight-spell}
+use Rattle.window_check.proofs.Weights.{room}
 use Rattle.window_check.proofs.checker.check.Goals as goal
-
--- a program has room that has few tokens
-room : (p : ProgramTree) → length (spell p) ≤ 262144 → HasRoom file (items_weight p)
-room p few = record {
-  slots = omega (arith, weight-spell p, few);
-  depth = omega (arith, weight-spell p, few);
-  functions = omega (arith, weight-spell p, few);
-  elements = omega (arith, weight-spell p, few);
-  arrays = omega (arith, weight-spell p, few);
-  streams = omega (arith, weight-spell p, few);
-  entries = omega (arith, weight-spell p, few);
-  order = record { top = 0; stacked = tt; below = λ is. omega arith; outside = λ is. refl };
-}
 
 -- how many streams it has
 few_streams : (p : ProgramTree) → length (spell p) ≤ 262144 → (after_items file p).streams ≤ room_end

@@ -1,6 +1,7 @@
 use Rattle.std.proofs.Common.{arith}
 use Rattle.os_ast.specs.Notes.Programs.{file}
 use Rattle.window_check.proofs.Told.{lawful-program}
+use Rattle.window_check.proofs.UnitSlots.{units-few}
 use Rattle.window_check.proofs.Within.{within-items_of_file}
 use Rattle.window_check.proofs.laws.limits_are_kept.Goals as goal
 
@@ -9,3 +10,6 @@ returns-clause-within c p h = within-items_of_file file p (record { streams = om
 
 pub returns-clause-streams : goal.returns-clause-streams
 returns-clause-streams c p h = omega (arith, (within-items_of_file file p (record { streams = omega arith; arrays = omega arith }) (lawful-program p h)).streams)
+
+pub returns-clause-slots : goal.returns-clause-slots
+returns-clause-slots c p places none few = units-few p places none few
