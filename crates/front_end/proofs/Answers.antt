@@ -1,22 +1,28 @@
 -- A text has one answer.
-use Rattle.std.proofs.Common.{◌≡◌, ℕ, ◌<◌, ◌≤◌, List, [], All, Contains, Result, Err, refl, ap, ◌∙◌, sym, subst, arith}
-use Rattle.std.proofs.lemmas.List.Elements.{All-contains, All-nil}
-use Rattle.front_end.specs.Texts.{IsProgramOf, IsAccepted, IsRefused, has_fault, is_no_program, has_violation, IsTrueOf, NeverBoth, OneCode, OneProgram}
+use Rattle.std.proofs.Common.{◌≡◌, ℕ, ◌⊎◌, inl, inr, List, [], ◌∷◌, All, Contains, Result, Err, refl, ap, ◌∙◌, sym, subst, arith}
+use Rattle.std.proofs.lemmas.List.Elements.{All-cons, All-contains, All-nil}
+use Rattle.front_end.proofs.Lines.{KindsAreSpelled, MarksAreOfTokens, least_is_one}
+use Rattle.front_end.specs.Texts.{AcceptedOrRefused, IsProgramOf, IsAccepted, IsRefused, has_fault, is_no_program, has_violation, IsTrueOf, NeverBoth, OneProgram, OneRefusal}
 use Rattle.front_end.specs.Told.{told_fault, told_syntax, told_violation}
 use Rattle.front_end.specs.declared.text_error.TextError.{TextError}
-use Rattle.os_ast.specs.Means.{Means, OneReading}
+use Rattle.front_end.specs.declared.text_error.TextError.TheVariants as errors
+use Rattle.os_ast.specs.Means.{Means, OneReading, placed_from}
 use Rattle.os_ast.specs.Trees.{ProgramTree}
-use Rattle.os_ast.specs.Violations.{violations, violated, IsBefore, earlier, same_place, IsRefusal}
+use Rattle.os_ast.specs.Violations.{violations, violated, IsBefore, IsRefusal}
 use Rattle.os_ast.specs.declared.violation.Violation.{Violation}
 use Rattle.os_ast.specs.declared.program.Program.{Program}
 use Rattle.os_lexer.specs.Answer.{IsFaultOf}
-use Rattle.os_lexer.specs.Cover.{IsTokenCover}
+use Rattle.os_lexer.specs.Cover.{IsFirstFault, IsTokenCover}
 use Rattle.os_lexer.specs.Laws as laws
 use Rattle.os_lexer.specs.declared.fault.LexError.{LexError}
 use Rattle.os_lexer.specs.declared.fault.LexError.TheVariants as lex
 use Rattle.os_lexer.specs.declared.token.Token.{Token}
+use Rattle.os_parser.proofs.Programs.{never, whole}
+use Rattle.os_parser.specs.Reading.{Read, fails, got}
+use Rattle.os_parser.specs.Statements.{inner, program}
 use Rattle.os_parser.specs.declared.parse_error.ParseError.{ParseError}
 use Rattle.os_parser.specs.declared.parse_error.ParseError.TheVariants as parse
+use Rattle.window_check.proofs.Least.{contains-tail, least-among, least-first, least-others, least_among}
 use Rattle.window_check.specs.Refusal.{IsAnswer}
 use Rattle.window_check.specs.declared.check_error.CheckError.{CheckError}
 use Rattle.window_check.specs.declared.check_error.CheckError.TheVariants as check
@@ -40,31 +46,73 @@ never_both one never reading text p e a (is_no_program n) = n.2 p (moved one tex
 never_both one never reading text p e a (has_violation v) =
     none (violations v.0) _ (ap violations (same one reading text v.0 p v.2 a.0) ∙ a.1) v.3.among
 
-code_by : {v w : Violation} → IsBefore v w → IsBefore w v → v.code ≡ w.code
-code_by (earlier a) (earlier b) = absurd (omega (arith, a, b))
-code_by (earlier a) (same_place b c) = absurd (omega (arith, a, b))
-code_by (same_place a c) (earlier b) = absurd (omega (arith, a, b))
-code_by (same_place a c) (same_place b d) = omega (arith, c, d)
+pub one_refusal : MarksAreOfTokens → KindsAreSpelled → laws.OneCover → laws.OneFault → laws.NeverBoth → OneReading → OneRefusal
+one_refusal marks kinds one fault never reading text e f (has_fault {code} {line} x) (has_fault {code = code'} {line = line'} y) =
+    let both = fault text code line code' line' x y in
+    ap (λ c. errors.Refused c line) both.0 ∙ ap (errors.Refused code') both.1
+one_refusal marks kinds one fault never reading text e f (has_fault x) (is_no_program n) = absurd (never text n.0 _ _ n.1 x)
+one_refusal marks kinds one fault never reading text e f (has_fault x) (has_violation v) = absurd (never text v.2.0 _ _ v.2.1 x)
+one_refusal marks kinds one fault never reading text e f (is_no_program n) (has_fault y) = absurd (never text n.0 _ _ n.1 y)
+one_refusal marks kinds one fault never reading text e f (is_no_program n) (is_no_program m) = refl
+one_refusal marks kinds one fault never reading text e f (is_no_program n) (has_violation v) = absurd (n.2 v.0 (moved one text n.0 v.2.0 v.0 n.1 v.2.1 v.2.2))
+one_refusal marks kinds one fault never reading text e f (has_violation v) (has_fault y) = absurd (never text v.2.0 _ _ v.2.1 y)
+one_refusal marks kinds one fault never reading text e f (has_violation v) (is_no_program n) = absurd (n.2 v.0 (moved one text n.0 v.2.0 v.0 n.1 v.2.1 v.2.2))
+one_refusal marks kinds one fault never reading text e f (has_violation {code} {line} v) (has_violation {code = code'} {line = line'} w) =
+    let both = least_is_one marks kinds v.2.0 v.0 v.2.2 (violated v.1 code line) (violated w.1 code' line') v.3
+    (subst (λ (p : ProgramTree). IsRefusal p (violated w.1 code' line')) (same one reading text w.0 v.0 w.2 v.2) w.3) in
+    ap (λ c. errors.Refused c line) both.0 ∙ ap (errors.Refused code') both.1
 
--- two least violations of one program have one code
-least_code : (p : ProgramTree) (v w : Violation) → IsRefusal p v → IsRefusal p w → v.code ≡ w.code
-least_code p v w a b =
-    code_by
-    (All-contains (IsBefore v) (violations p) w a.least b.among)
-    (All-contains (IsBefore w) (violations p) v b.least a.among)
+-- tokens mean a program or none
+abbrev IsDecided : List Token → Type 0
+IsDecided tokens = ((p : ProgramTree) × Means tokens p) ⊎ ((p : ProgramTree) → Means tokens p → ⊥)
 
-pub one_code : laws.OneCover → laws.OneFault → laws.NeverBoth → OneReading → OneCode
-one_code one fault never reading text e f (has_fault x) (has_fault y) = (fault text _ _ _ _ x y).0
-one_code one fault never reading text e f (has_fault x) (is_no_program n) = absurd (never text n.0 _ _ n.1 x)
-one_code one fault never reading text e f (has_fault x) (has_violation v) = absurd (never text v.2.0 _ _ v.2.1 x)
-one_code one fault never reading text e f (is_no_program n) (has_fault y) = absurd (never text n.0 _ _ n.1 y)
-one_code one fault never reading text e f (is_no_program n) (is_no_program m) = refl
-one_code one fault never reading text e f (is_no_program n) (has_violation v) = absurd (n.2 v.0 (moved one text n.0 v.2.0 v.0 n.1 v.2.1 v.2.2))
-one_code one fault never reading text e f (has_violation v) (has_fault y) = absurd (never text v.2.0 _ _ v.2.1 y)
-one_code one fault never reading text e f (has_violation v) (is_no_program n) = absurd (n.2 v.0 (moved one text n.0 v.2.0 v.0 n.1 v.2.1 v.2.2))
-one_code one fault never reading text e f (has_violation {code} {line} v) (has_violation {code = code'} {line = line'} w) =
-    least_code v.0 (violated v.1 code line) (violated w.1 code' line') v.3
-    (subst (λ (p : ProgramTree). IsRefusal p (violated w.1 code' line')) (same one reading text w.0 v.0 w.2 v.2) w.3)
+decided : (tokens : List Token) → IsDecided tokens
+decided tokens = by (program (inner 199) (placed_from 0 tokens)) refl
+  where
+    by : (r : Read ProgramTree) → program (inner 199) (placed_from 0 tokens) ≡ r → IsDecided tokens
+    by (got p rest) is = inl (p, whole tokens p rest is)
+    by (fails rest) is = inr (never tokens rest is)
+
+-- a program has a least violation or none
+abbrev IsJudged : ProgramTree → Type 0
+IsJudged p = (violations p ≡ []) ⊎ ((v : Violation) × IsRefusal p v)
+
+judged : (p : ProgramTree) → IsJudged p
+judged p = by (violations p) refl
+  where
+    among : (u : Violation) (us : List Violation) → (least_among u us ≡ u) ⊎ Contains us (least_among u us) → Contains (u ∷ us) (least_among u us)
+    among u us (inl first) = (0, omega arith, sym first)
+    among u us (inr other) = contains-tail u (least_among u us) us other
+
+    by : (vs : List Violation) → violations p ≡ vs → IsJudged p
+    by [] is = inl is
+    by (u ∷ us) is =
+        let least = least_among u us in
+        inr (
+          least,
+          record {
+            among = subst (λ vs. Contains vs least) (sym is) (among u us (least-among u us));
+            least = subst (λ vs. All (IsBefore least) vs) (sym is) (All-cons (IsBefore least) u us (least-first u us) (least-others u us));
+          },
+        )
+
+pub accepted_or_refused : laws.CoverOrFault → AcceptedOrRefused
+accepted_or_refused some text = by_cover (some text)
+  where
+    by_program : (tokens : List Token) (p : ProgramTree) → IsTokenCover text tokens → Means tokens p → IsJudged p
+        → ((q : ProgramTree) × IsAccepted text q) ⊎ ((e : TextError) × IsRefused text e)
+    by_program tokens p cover means (inl none) = inl (p, ((tokens, cover, means), none))
+    by_program tokens p cover means (inr (v, least)) = inr (errors.Refused v.code v.line, has_violation (p, v.place, (tokens, cover, means), least))
+
+    by_tokens : (tokens : List Token) → IsTokenCover text tokens → IsDecided tokens
+        → ((q : ProgramTree) × IsAccepted text q) ⊎ ((e : TextError) × IsRefused text e)
+    by_tokens tokens cover (inl (p, means)) = by_program tokens p cover means (judged p)
+    by_tokens tokens cover (inr none) = inr (errors.Syntax, is_no_program (tokens, cover, none))
+
+    by_cover : ((tokens : List Token) × IsTokenCover text tokens) ⊎ ((code : ℕ) × (line : ℕ) × IsFirstFault text code line)
+        → ((q : ProgramTree) × IsAccepted text q) ⊎ ((e : TextError) × IsRefused text e)
+    by_cover (inl (tokens, cover)) = by_tokens tokens cover (decided tokens)
+    by_cover (inr (code, line, fault)) = inr (errors.Refused code line, has_fault fault)
 
 -- what each stop answers is true of the text
 pub true_fault : (text : List ℕ) (e : LexError) → IsFaultOf text e → IsTrueOf text (told_fault e)

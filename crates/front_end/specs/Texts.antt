@@ -1,5 +1,5 @@
 -- What a text means, and what is wrong with one that isn't accepted.
-use Rattle.std.specs.Prelude.{◌≡◌, ⊤, ℕ, List, [], Result, Ok, Err}
+use Rattle.std.specs.Prelude.{◌≡◌, ◌⊎◌, ⊤, ℕ, List, []}
 use Rattle.front_end.specs.declared.text_error.TextError.{TextError}
 use Rattle.front_end.specs.declared.text_error.TextError.TheVariants as errors
 use Rattle.os_ast.specs.Means.{Means}
@@ -37,12 +37,6 @@ IsTrueOf text (errors.Refused code line) = IsRefused text (errors.Refused code l
 IsTrueOf text errors.Syntax = IsRefused text errors.Syntax
 IsTrueOf text errors.Memory = ⊤
 
--- the code of what is wrong
-abbrev pub code_of : TextError → ℕ
-code_of (errors.Refused code line) = code
-code_of errors.Syntax = 4
-code_of errors.Memory = 0
-
 -- a text is accepted as one program
 abbrev pub OneProgram : Type 0
 OneProgram = (text : List ℕ) (p q : ProgramTree) → IsAccepted text p → IsAccepted text q → p ≡ q
@@ -51,6 +45,10 @@ OneProgram = (text : List ℕ) (p q : ProgramTree) → IsAccepted text p → IsA
 abbrev pub NeverBoth : Type 0
 NeverBoth = (text : List ℕ) (p : ProgramTree) (e : TextError) → IsAccepted text p → IsRefused text e → ⊥
 
--- a text is refused by one code
-abbrev pub OneCode : Type 0
-OneCode = (text : List ℕ) (e f : TextError) → IsRefused text e → IsRefused text f → code_of e ≡ code_of f
+-- a text is refused in one way: by one code and one line, or as no program
+abbrev pub OneRefusal : Type 0
+OneRefusal = (text : List ℕ) (e f : TextError) → IsRefused text e → IsRefused text f → e ≡ f
+
+-- each text is accepted or refused
+abbrev pub AcceptedOrRefused : Type 0
+AcceptedOrRefused = (text : List ℕ) → ((p : ProgramTree) × IsAccepted text p) ⊎ ((e : TextError) × IsRefused text e)

@@ -1,5 +1,5 @@
 ghost use Rattle.std.specs.Prelude.{◌≤◌, length, IfOk, IfErr};
-ghost use Rattle.front_end.specs.Texts.{IsAccepted, IsTrueOf, NeverBoth, OneCode, OneProgram};
+ghost use Rattle.front_end.specs.Texts.{AcceptedOrRefused, IsAccepted, IsTrueOf, NeverBoth, OneProgram, OneRefusal};
 ghost use Rattle.os_ast.specs.Views.{program_tree};
 ghost use Rattle.os_lexer.specs.Cover.{IsTokenCover};
 
@@ -41,13 +41,15 @@ fn read_tokens(alloc: Global, text: &[u8], tokens: &[Token]) -> Result<Checked, 
     }
 }
 
-/// A text is accepted as one program or refused by one code, and never both: so each answer of `read_program` comes
-/// wherever it is right, unless memory runs out. This is a law: it takes nothing and does nothing.
+/// A text is accepted as one program or refused in one way, with one code and one line, and never both: so each answer
+/// of `read_program` comes wherever it is right, unless memory runs out. This is a law: it takes nothing and does nothing.
 pub fn one_answer()
     ensures program { OneProgram }
     ensures never_both { NeverBoth }
-    ensures code { OneCode }
+    ensures refusal { OneRefusal }
+    ensures either { AcceptedOrRefused }
 {
     one_cover();
     one_reading();
+    meaning_by_tokens();
 }
