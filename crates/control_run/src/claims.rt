@@ -1,8 +1,7 @@
 //! The claims that a `Spawn` makes.
 
-ghost use Rattle.std.specs.Prelude.{◌≡◌, ℕ, ◌*◌, ◌<◌, ◌≤◌, All, length, map, Some, pos, sum_by, slice_index_or, IfOk};
+ghost use Rattle.std.specs.Prelude.{◌≡◌, ℕ, ◌*◌, ◌<◌, ◌≤◌, All, length, map, Some, pos, slice_index_or, IfOk};
 ghost use Rattle.flow_core.specs.declared.claim.Claim.{Claim as TheClaim};
-ghost use Rattle.os_code.specs.declared.site.SiteItem.{SiteItem as TheItem};
 ghost use Rattle.os_code.specs.Machine as machine;
 ghost use Rattle.control_run.specs.Spawning.{HasWindow};
 

@@ -1,6 +1,6 @@
 ghost use Rattle.std.specs.Prelude.{◌≤◌, IfOk};
 ghost use Rattle.os_code.specs.Codes.{parts_of};
-ghost use Rattle.control_run.specs.Ending.{IsMainUnit, IsReady};
+ghost use Rattle.control_run.specs.Ending.{HasCome, IsMainUnit};
 
 use crate::made::Made;
 use os_code::{Code, Unit};
@@ -29,8 +29,9 @@ impl Machine {
         budget: u64,
     ) -> Result<Machine, Memory>
         requires input { input_len ≤ 4194304 }
+        requires budget { budget ≤ 1000000000 }
         requires unit { IsMainUnit (parts_of code.now) unit }
-        ensures { IfOk result (λ machine. IsReady (parts_of code.now) unit input_len budget (record {
+        ensures { IfOk result (λ machine. HasCome (parts_of code.now) unit input_len budget (record {
           registers = machine.registers;
           stack = machine.stack.items;
           slots = machine.slots.items;

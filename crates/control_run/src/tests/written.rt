@@ -3,7 +3,6 @@
 
 ghost use Rattle.std.specs.Prelude.{◌≡◌, ◌≤◌, length, true, IfOk};
 ghost use Rattle.os_code.specs.Checking.{is_valid};
-ghost use Rattle.os_code.specs.Codes.{parts_of};
 ghost use Rattle.task_vm.specs.Written.{written};
 
 use crate::run_control;

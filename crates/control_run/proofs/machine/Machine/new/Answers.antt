@@ -5,6 +5,7 @@ use Rattle.os_code.specs.Codes.{parts_of}
 use Rattle.os_code.specs.declared.unit.Unit.{Unit as CodeUnit}
 use Rattle.os_code.proofs.Fitting.{chain-few}
 use Rattle.os_code.proofs.LargestSums.{chain_need-cons}
+use Rattle.control_run.proofs.Coming.{begins-there}
 use Rattle.control_run.proofs.Ready.{ready-slots}
 use Rattle.control_run.proofs.machine.Machine.new.Goals as goal
 
@@ -24,7 +25,8 @@ returns c =
     let args = c.args.code.now.valid.sites.main_args c.args.unit c.requires.unit in
     let fits = c.args.code.now.valid.frames.args_in_slots c.args.code.now.main c.args.unit c.requires.unit in
     let input = c.requires.input in
-    record {
+    begins-there (parts_of c.args.code.now) c.args.code.now.valid c.args.input_len c.args.budget c.args.unit c.requires.unit _ c.requires.budget
+    (record {
       registers = ap (λ (n : ℕ). record { place = c.args.unit.start; top = 0; low = 0; first = 0; end = c.args.unit.slots; depth = 0; turns = c.args.budget; past = n - c.args.unit.start }) c.len.ensures;
       slots = ap (λ (v : ℤ). take c.args.unit.slots (set c.in_ok-slots.slots.items 0 v)) (to_z_pos w32 c.args.input_len (omega (arith, input)))
           ∙ ready-slots c.slots_need.result c.args.unit.slots c.args.unit.args (pos c.args.input_len) c.in_ok-slots.slots.items (c.in_ok-slots.ensures.items_if_clones_equal (λ x same. same)) args fits (omega (arith, few, sum));
@@ -34,4 +36,4 @@ returns c =
         calls = λ chain is. let few = chain-few (parts_of c.args.code.now) c.args.code.now.valid chain is in let e = c.in_ok-vec-2.ensures.len in omega (arith, few, e, c.len-2.ensures);
       };
       made = c.in_ok-new.ensures;
-    }
+    })
