@@ -9,6 +9,7 @@ mod refusals;
 mod streams;
 mod traps;
 mod words;
+mod workers;
 
 use calls::{ALL, Left, Taking, call};
 use std::process::Abort;

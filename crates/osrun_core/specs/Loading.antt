@@ -18,8 +18,8 @@ pub record FilesView (F : Type 0) : Type 0 where
   pub faults : F → ℕ
   pub given : F → ℕ
 
--- each opening that a job makes is allowed: the k-th file's at the number of openings so far plus k, as far as
--- that isn't past the last value of the count
+-- each opening that a job makes is allowed: the first file's at the number of openings so far, and the k-th one's at
+-- that number plus k, as far as it isn't past the last value of the count
 abbrev pub MayOpen : (ℕ → List ℕ → Bool) → ℕ → List JobFile → Type 0
 MayOpen may opens files =
     (k : ℕ) (file : JobFile) → slice_get files k ≡ Some file → opens + k ≤ max opens last_count → IsTrue (may (opens + k) file.name)

@@ -1,5 +1,5 @@
 use os_io::{MemFiles, MemSink};
-use osrun_core::{NoGate, run_words};
+use osrun_core::{Gate, NoGate, run_words};
 use std::alloc::Global;
 use std::test::Fail;
 use std::thread::Threads;
@@ -62,25 +62,35 @@ pub(super) fn call<R: Threads + Sync + AllocGlobal>(
     out: Taking,
     report: Taking,
 ) -> Result<Left, Fail> {
-    let alloc = rt.alloc();
-    let mut files = MemFiles::new(alloc);
-    files.add("p.c", program)?;
-    files.add("in", input)?;
+    let mut files = files_of(rt.alloc(), program, input)?;
     if let Some(call) = failing {
         files.fail_at(call)?;
     }
+    call_through(rt, words, files, out, report, &NoGate)
+}
+
+/// The files `p.c` and `in`.
+pub(super) fn files_of(alloc: Global, program: &[u8], input: &[u8]) -> Result<MemFiles, Fail> {
+    let mut files = MemFiles::new(alloc);
+    files.add("p.c", program)?;
+    files.add("in", input)?;
+    Ok(files)
+}
+
+/// Calls the command over files, with a gate for its workers.
+pub(super) fn call_through<R: Threads + Sync + AllocGlobal, G: Gate>(
+    rt: &R,
+    words: &[&str],
+    mut files: MemFiles,
+    out: Taking,
+    report: Taking,
+    gate: &G,
+) -> Result<Left, Fail> {
+    let alloc = rt.alloc();
     let words = words_of(alloc, words)?;
     let mut out = sink(alloc, out)?;
     let mut report = sink(alloc, report)?;
-    let status = run_words(
-        rt,
-        alloc,
-        &words,
-        &mut files,
-        &mut out,
-        &mut report,
-        &NoGate,
-    );
+    let status = run_words(rt, alloc, &words, &mut files, &mut out, &mut report, gate);
     Ok(Left {
         status,
         out: Vec::from_slice(alloc, out.bytes())?,

@@ -1,0 +1,48 @@
+//! That the job's workers run the activations, and that each passes the gate.
+
+use super::calls::{ALL, call_through, files_of};
+use super::has_left;
+use kernels::INVERT;
+use osrun_core::Gate;
+use std::sync::atomic::{AtomicU32, Ordering};
+use std::test::Fail;
+
+/// What a gate saw: how often it was called, and the first 32 workers and frames that it was told, each as a bit.
+#[derive(Drop)]
+struct Seen {
+    calls: AtomicU32,
+    workers: AtomicU32,
+    frames: AtomicU32,
+}
+
+/// The bit of a number, if it is one of the first 32.
+fn bit(number: u32) -> u32 {
+    1u32.checked_shl(number).unwrap_or(0)
+}
+
+impl Gate for Seen {
+    fn at(&self, worker: u32, frame: u32) {
+        self.calls.fetch_add(1, Ordering::SeqCst);
+        self.workers.fetch_or(bit(worker), Ordering::SeqCst);
+        self.frames.fetch_or(bit(frame), Ordering::SeqCst);
+    }
+}
+
+#[test]
+fn two_workers_run_each_activation_once(rt: HostRuntime) -> Result<(), Fail> {
+    let seen = Seen {
+        calls: AtomicU32::new(0),
+        workers: AtomicU32::new(0),
+        frames: AtomicU32::new(0),
+    };
+    // Eight blocks of four bytes.
+    let input = [1; 32];
+    let words = ["run", "p.c", "in", "--workers", "2"];
+    let files = files_of(rt.alloc(), INVERT.as_bytes(), &input)?;
+    let left = call_through(&rt, &words, files, ALL, ALL, &seen)?;
+    has_left(&rt, &left, &[254; 32], "control done\noutput 32 of 32\n", 0)?;
+    assert_eq!(rt; seen.calls.load(Ordering::SeqCst), 8);
+    assert_eq!(rt; seen.frames.load(Ordering::SeqCst), 0xff);
+    assert_eq!(rt; seen.workers.load(Ordering::SeqCst), 0b11);
+    Ok(())
+}
