@@ -1,23 +1,16 @@
 -- The text before a fault.
-use Rattle.std.proofs.Common.{◌≡◌, ℕ, ◌+◌, ◌-◌, ◌<◌, ◌≤◌, Bool, true, false, cond, List, [], ◌∷◌, ◌++◌, length, take, drop, Option, Some, None, refl, sym, ap, ap₂, ◌∙◌, subst, ⊎_elim, arith, length-take-le, length-drop, append_assoc, append-nil, take-take}
+use Rattle.std.proofs.Common.{◌≡◌, ℕ, ◌+◌, ◌-◌, ◌<◌, ◌≤◌, cond, List, [], ◌∷◌, ◌++◌, length, take, drop, refl, sym, ap, ap₂, ◌∙◌, subst, ⊎_elim, arith, length-take-le, length-drop, take-take}
 use Rattle.std.proofs.lemmas.Bool.{cases_lt}
 use Rattle.std.proofs.lemmas.List.{drop-take}
-use Rattle.std.specs.Prelude.{slice_range, count_by, bytes_eq, position, unwrap_or, nat_le, not}
+use Rattle.std.specs.Prelude.{count_by, bytes_eq, position, unwrap_or, not}
 use Rattle.os_lexer.specs.Bytes.{is_line_feed}
 use Rattle.os_lexer.specs.Cover.{Place, token_of, effect_at, Step, skips, gives, Leads, here, on, tokens_at_end, IsTokenCover, IsFirstFault}
-use Rattle.os_lexer.specs.Effects.{effect, directive_effect, number_effect, mode_after_token}
+use Rattle.os_lexer.specs.Effects.{effect}
 use Rattle.os_lexer.specs.Forms.{IsForm, IsPiece}
 use Rattle.os_lexer.specs.Laws.{CoverBeforeFault}
 use Rattle.os_lexer.specs.Lines.{line_of}
 use Rattle.os_lexer.specs.Names.{fixed_names, spelling, first_index, name_number}
-use Rattle.os_lexer.specs.Numbers.{number_value}
-use Rattle.os_lexer.specs.declared.effect.Effect.TheVariants.{Skip, Give, Fail}
-use Rattle.os_lexer.specs.declared.fault.Fault.TheVariants as fault
 use Rattle.os_lexer.specs.declared.form.Form.{Form}
-use Rattle.os_lexer.specs.declared.form.Form.TheVariants as form
-use Rattle.os_lexer.specs.declared.mode.Mode.{Mode}
-use Rattle.os_lexer.specs.declared.mode.Mode.TheVariants.{LineStart, InLine, InPragma}
-use Rattle.os_lexer.specs.declared.token.Kind.TheVariants as kind
 use Rattle.os_lexer.specs.declared.token.Token.{Token}
 use Rattle.os_lexer.proofs.Cuts.{leads_within, fault_within, last_at_fault, one_way}
 use Rattle.os_lexer.proofs.PlaceCuts.{place_to_fault, place_kept}
@@ -124,9 +117,9 @@ cover_before_fault text code place f =
       omega (arith, before.0, here),
       subst (λ at. (tokens : List Token) × IsTokenCover (take at text) tokens) here before.1,
       (λ other code' g.
-      let second = place_to_fault text code' other g in
-      let there : second.place.at ≡ other = place_kept text code' other g in
-      let same : first.place ≡ second.place = one_place text code (line_of text place) code' (line_of text other) first second in
-      let at_same : first.place.at ≡ second.place.at = ap (λ p. p.at) same in
-      omega (arith, at_same, here, there)),
+          let second = place_to_fault text code' other g in
+          let there : second.place.at ≡ other = place_kept text code' other g in
+          let same : first.place ≡ second.place = one_place text code (line_of text place) code' (line_of text other) first second in
+          let at_same : first.place.at ≡ second.place.at = ap (λ p. p.at) same in
+          omega (arith, at_same, here, there)),
     )

@@ -1,16 +1,16 @@
 -- What is spelled as a name is a name, and so the first name with a spelling is the first token with it.
-use Rattle.std.proofs.Common.{◌≡◌, ℕ, zero, suc, ◌+◌, ◌<◌, ◌≤◌, Bool, true, false, cond, List, [], ◌∷◌, length, take, drop, Option, Some, None, position, unwrap_or, bytes_eq, refl, sym, ap, ap₂, ◌∙◌, subst, arith, All}
+use Rattle.std.proofs.Common.{◌≡◌, ℕ, suc, ◌+◌, Bool, true, false, cond, List, [], ◌∷◌, length, take, drop, Option, Some, None, position, unwrap_or, bytes_eq, refl, sym, ap, ap₂, ◌∙◌, subst, arith, All}
 use Rattle.std.proofs.lemmas.List.{take_all}
 use Rattle.std.proofs.lemmas.Slice.Eq.{bytes_eq-Decides}
 use Rattle.std.specs.List.{position_or_len}
 use Rattle.std.specs.Prelude.{not, ◌&&◌, slice_range}
 use Rattle.os_lexer.specs.Effects.{effect, word_kind, mode_after_token}
-use Rattle.os_lexer.specs.Forms.{IsWord, IsForm, IsPiece}
+use Rattle.os_lexer.specs.Forms.{IsWord, IsForm}
 use Rattle.os_lexer.specs.Keywords.{key_of}
 use Rattle.os_lexer.specs.Names.{fixed_names, spelling, first_index, name_number}
 use Rattle.os_lexer.specs.Reading.{piece, piece_at}
 use Rattle.os_lexer.specs.States.{is_name, is_named, KnowsSpellings, IsNameWhereSpelledSo, number_in}
-use Rattle.os_lexer.specs.declared.effect.Effect.TheVariants.{Skip, Give, Fail}
+use Rattle.os_lexer.specs.declared.effect.Effect.TheVariants.{Give}
 use Rattle.os_lexer.specs.declared.form.Form.{Form}
 use Rattle.os_lexer.specs.declared.form.Form.TheVariants as form
 use Rattle.os_lexer.specs.declared.mode.Mode.{Mode}

@@ -1,12 +1,12 @@
 -- The walk over the places of a text, and its cut told by the tokens alone, are the same.
-use Rattle.std.proofs.Common.{◌≡◌, ℕ, zero, suc, ◌+◌, ◌-◌, ◌<◌, ◌≤◌, ◌⊎◌, Bool, true, false, cond, List, [], ◌∷◌, ◌++◌, length, take, drop, Option, Some, None, unwrap_or, refl, sym, ap, ap₂, ◌∙◌, subst, inl, inr, ⊎_elim, arith, All, length-take-le, length-drop, add-zero, get_or-take, get_or-drop, lt-ltb, ltb-true, le-ltb, eqb-true}
+use Rattle.std.proofs.Common.{◌≡◌, ℕ, suc, ◌+◌, ◌-◌, ◌<◌, ◌≤◌, ◌⊎◌, Bool, true, false, cond, List, [], ◌∷◌, ◌++◌, length, take, drop, Option, Some, None, unwrap_or, refl, sym, ap, ap₂, ◌∙◌, subst, inl, inr, ⊎_elim, arith, All, length-take-le, length-drop, add-zero, get_or-take, get_or-drop, lt-ltb, ltb-true, le-ltb, eqb-true}
 use Rattle.std.proofs.lemmas.Bool.{cond-true, cond-false, cond_both, cases_lt, and_parts, false≢true}
 use Rattle.std.proofs.lemmas.Bool.Decides.{nat_tests}
 use Rattle.std.proofs.lemmas.List.Elements.{All-push, All-from_get_or}
 use Rattle.std.proofs.lemmas.List.Folds.{list_all-append, list_any_none}
 use Rattle.std.proofs.lemmas.List.Sums.{fold_push, sum_by-append}
 use Rattle.std.specs.List.{list_all, list_any}
-use Rattle.std.specs.Prelude.{count_by, nat_le, nat_lt, not, ◌&&◌, ◌||◌, ◌==◌, ◌↔◌, slice_index}
+use Rattle.std.specs.Prelude.{count_by, nat_le, nat_lt, not, ◌&&◌, ◌||◌, ◌==◌, slice_index}
 use Rattle.os_lexer.specs.Bytes.{is_line_feed, is_word_byte}
 use Rattle.os_lexer.specs.Cover.{Place, text_start, token_of, effect_at, skipped_to, given_to, Step, skips, gives, Leads, here, on, tokens_at_end, IsTokenCover, IsFaultAt, IsFirstFault}
 use Rattle.os_lexer.specs.Cover as walk
@@ -15,7 +15,7 @@ use Rattle.os_lexer.specs.Effects.{effect, directive_effect, space_effect, numbe
 use Rattle.os_lexer.specs.Forms.{IsRun, IsForm, IsPiece}
 use Rattle.os_lexer.specs.Keywords.{key_of}
 use Rattle.os_lexer.specs.Laws.{CoverCuts, FaultPlaces}
-use Rattle.os_lexer.specs.Lines.{line_of, EndsJoinedLine}
+use Rattle.os_lexer.specs.Lines.{line_of}
 use Rattle.os_lexer.specs.Marks.{mark_spelling}
 use Rattle.os_lexer.specs.Names.{name_number}
 use Rattle.os_lexer.specs.Numbers.{number_value}
@@ -233,7 +233,7 @@ module _ (text : List ℕ) where
       let rest = drop at text in
       let some = IsPiece-some rest f n is_piece in
       let byte : slice_index rest 0 ≡ 10 = get_or-drop at text 0 0 ∙ ap (λ i. slice_index text i) (add-zero at) ∙ feed (omega
-          (arith, some, length-drop at text)) in
+      (arith, some, length-drop at text)) in
       let found : piece_at rest ≡ Some (piece form.Space 1) = piece_at-of_class rest White (ap class_of byte) in
       ap (λ o. (unwrap_or o (piece f 0)).form) (sym (piece_at-is rest f n is_piece) ∙ found)
 
@@ -242,7 +242,7 @@ module _ (text : List ℕ) where
       let rest = drop at text in
       let some = IsPiece-some rest f n is_piece in
       let byte : slice_index rest 0 ≡ 10 = get_or-drop at text 0 0 ∙ ap (λ i. slice_index text i) (add-zero at) ∙ feed (omega
-          (arith, some, length-drop at text)) in
+      (arith, some, length-drop at text)) in
       any_head (take n rest) (omega (arith, some, length-take-le n rest some.1)) (get_or-take n rest 0 0 some.0 ∙ byte)
 
   -- one byte more, that is no line feed, would be of the comment too
@@ -253,7 +253,7 @@ module _ (text : List ℕ) where
       let long : length (take (n + 1) rest) ≡ n + 1 = length-take-le (n + 1) rest (omega arith) in
       let two : 2 ≤ n = omega (arith, c.opened.within, short) in
       let same : (i : ℕ) → i < n → slice_index (take (n + 1) rest) i ≡ slice_index (take n rest) i = λ i low. get_or-take (n + 1) rest i 0
-          (omega arith) ∙ sym (get_or-take n rest i 0 low) in
+      (omega arith) ∙ sym (get_or-take n rest i 0 low) in
       record {
         opened = record { within = omega arith; first = same 0 (omega arith) ∙ c.opened.first; second = same 1 (omega arith) ∙ c.opened.second };
         on_line = λ i below feed. ⊎_elim
@@ -263,7 +263,7 @@ module _ (text : List ℕ) where
             (c.on_line i (omega (arith, low, short)) (sym (same i low) ∙ feed)))
             (λ over. let last : i ≡ n = omega (arith, over, below, long) in
             let byte : slice_index rest n ≡ 10 = sym (get_or-take (n + 1) rest n 0 (omega arith)) ∙ ap (λ j. slice_index (take (n + 1) rest) j)
-                (sym last) ∙ feed in
+            (sym last) ∙ feed in
             absurd (false≢true (sym apart ∙ ap (λ b. b == 10) byte)))
             (cases_lt i n);
       }
@@ -280,7 +280,7 @@ module _ (text : List ℕ) where
       by_test true e room there = sym there ∙ eqb-true _ _ e
       by_test false e room there =
           absurd (let over = is_piece.longest form.LineComment (n + 1) (omega (arith, room)) (longer_comment
-              (drop at text) n room is_piece.of_form e) in omega (arith, over))
+          (drop at text) n room is_piece.of_form e) in omega (arith, over))
 
   -- ---- lines go on
   module _ (at n : ℕ) (f : Form) (is_piece : IsPiece (drop at text) f n) where
@@ -301,10 +301,10 @@ module _ (text : List ℕ) where
         (λ none. (
           a.0,
           ⊎_elim
-          (λ e. let line : line_of text (at + n) ≡ line_of text at = omega (arith, line_is, none_count slice none) in
-          inl (ap (λ l. list_all (λ (t : Token). nat_lt t.line l) ts) line ∙ e))
-          (λ feed. absurd (false≢true (sym none ∙ feed_in_slice at n f is_piece feed)))
-          a.1,
+              (λ e. let line : line_of text (at + n) ≡ line_of text at = omega (arith, line_is, none_count slice none) in
+              inl (ap (λ l. list_all (λ (t : Token). nat_lt t.line l) ts) line ∙ e))
+              (λ feed. absurd (false≢true (sym none ∙ feed_in_slice at n f is_piece feed)))
+              a.1,
         ))
     gap_agrees InPragma ts all a = a
 
@@ -316,8 +316,7 @@ module _ (text : List ℕ) where
     give_agrees : {mode m : Mode} {k : Kind} (ts : List Token) → Gives mode slice k m → All (λ (t : Token). t.line ≤ line_of text at) ts → Agrees mode ts at →
         Agrees m (ts ++ token_of text k at (at + n) ∷ []) (at + n)
     give_agrees ts (ends any) all a =
-        let t = token_of text kind.PragmaEnd at (at + n) in
-        (
+        let t = token_of text kind.PragmaEnd at (at + n) in (
           pragma_push ts t,
           all_first (ts ++ t ∷ []) (line_of text at) (line_of text (at + n)) (omega (arith, line_is, any_count slice any)) (All-push (λ
               (u : Token). u.line ≤ line_of text at) ts t all (omega arith)),
