@@ -1,9 +1,9 @@
 -- A tree is leveled in one way at most: each production stands on what is in it.
-use Rattle.std.proofs.Common.{◌≡◌, ℕ, ◌<◌, ◌≤◌, ◌^◌, Bool, false, List, [], ◌∷◌, Option, Some, None, refl, ap, ◌∙◌}
+use Rattle.std.proofs.Common.{◌≡◌, ℕ, ◌<◌, Bool, false, List, Option, refl, ap, ◌∙◌}
 use Rattle.std.proofs.Math.Bridge.{le_prop}
 use Rattle.std.proofs.Props.{props}
-use Rattle.os_ast.specs.Leveled.{IsExpr, IsTarget, AreLinks, AreArgs, AreAll, AreListed, IsOptional, IsIndex, IsDeclarator, IsHeadDeclarator, IsChange, IsStart, IsClauseItem, IsClauseKind, IsClause, AreClauses, IsStmt, AreStmts, IsParams, IsItem, IsLeveled, takes_else, level}
-use Rattle.os_ast.specs.Operators.{level_of, rank, IsAssign, HasAssigningForm}
+use Rattle.os_ast.specs.Leveled.{IsExpr, IsTarget, AreLinks, AreArgs, AreAll, AreListed, IsOptional, IsIndex, IsDeclarator, IsHeadDeclarator, IsChange, IsStart, IsClauseItem, IsClauseKind, IsClause, AreClauses, IsStmt, AreStmts, IsParams, IsItem, IsLeveled}
+use Rattle.os_ast.specs.Operators.{IsAssign, HasAssigningForm}
 use Rattle.os_ast.specs.Trees as tree
 use Rattle.os_ast.specs.declared.expr.Binary.{Binary}
 use Rattle.os_ast.specs.declared.expr.Level.{Level}

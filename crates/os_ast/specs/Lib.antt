@@ -1,9 +1,9 @@
-pub mod Beginnings
+-- What a reader believes: the trees, their spelling, where each part may stand, depth, and what tokens mean; scopes, what
+-- stands where, the rules with their codes and limits, and what names mean.
 pub mod Captured
+pub mod Codes
 pub mod Depth
-pub mod Examples
 pub mod FreeNames
-pub mod Kept
 pub mod Leveled
 pub mod Limits
 pub mod Marks
@@ -15,7 +15,11 @@ pub mod Operators
 pub mod Parts
 pub mod Rules
 pub mod Spelling
-pub mod Stacked
 pub mod Trees
 pub mod Views
 pub mod Violations
+-- What laws and examples say of these. No definition restates a private function.
+pub mod Beginnings
+pub mod Examples
+pub mod Kept
+pub mod Stacked

@@ -1,6 +1,7 @@
 -- The rules, one after another by their codes, over what stands at a token. A token violates a rule where its test is
 -- true. 23 is a rule for the whole program, and stands with the violations.
 use Rattle.std.specs.Prelude.{ℕ, ◌==◌, ◌&&◌, ◌||◌, Bool, true, false, not, ltb, List, [], ◌∷◌, ◌++◌, length, Option, Some, None, is_none, ℤ}
+use Rattle.os_ast.specs.Codes.{unknown_code, kind_code, declared_twice_code, arguments_code, changed_code, size_code, no_loop_code, misplaced_code, return_in_task_code, stream_code, wrong_end_code, listed_twice_code, task_limit_code, window_code}
 use Rattle.os_ast.specs.Limits.{is_size, elements_limit, arrays_limit, streams_limit, items_limit, captured_limit}
 use Rattle.os_ast.specs.Names.{Scope, lookup, entity_of, is_declared, main_id}
 use Rattle.os_ast.specs.Notes.Declarators.{form, size_told, after_declarator}
@@ -233,20 +234,20 @@ rule code test = record { code = code; is_violated = test }
 -- all rules for what stands at a token
 abbrev pub rules : List Rule
 rules =
-    rule 10 is_unknown
-    ∷ rule 11 (violates is_wrong_kind)
-    ∷ rule 12 is_declared_twice
-    ∷ rule 13 (violates has_other_count)
-    ∷ rule 14 (violates is_changed)
-    ∷ rule 15 has_wrong_size
-    ∷ rule 16 is_outside_a_loop
-    ∷ rule 17 is_misplaced
-    ∷ rule 18 returns_from_a_task
-    ∷ rule 19 (violates is_misplaced_stream)
-    ∷ rule 20 (violates is_wrong_end)
-    ∷ rule 21 is_listed_twice
-    ∷ rule 22 takes_too_much
-    ∷ rule 24 (violates is_misplaced_window)
+    rule unknown_code is_unknown
+    ∷ rule kind_code (violates is_wrong_kind)
+    ∷ rule declared_twice_code is_declared_twice
+    ∷ rule arguments_code (violates has_other_count)
+    ∷ rule changed_code (violates is_changed)
+    ∷ rule size_code has_wrong_size
+    ∷ rule no_loop_code is_outside_a_loop
+    ∷ rule misplaced_code is_misplaced
+    ∷ rule return_in_task_code returns_from_a_task
+    ∷ rule stream_code (violates is_misplaced_stream)
+    ∷ rule wrong_end_code (violates is_wrong_end)
+    ∷ rule listed_twice_code is_listed_twice
+    ∷ rule task_limit_code takes_too_much
+    ∷ rule window_code (violates is_misplaced_window)
     ∷ []
 
 abbrev pub codes_among : List Rule → Note → List ℕ

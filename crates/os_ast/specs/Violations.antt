@@ -1,6 +1,7 @@
 -- The violations of a program, its refusal, and what its names mean where there is none.
 use Rattle.std.specs.Prelude.{◌≡◌, ℕ, ◌+◌, ◌<◌, ◌≤◌, ◌==◌, ◌&&◌, ◌||◌, Bool, true, false, List, [], ◌∷◌, ◌++◌, length, All, Contains, if◌then◌else◌, Option, Some, None, ℤ}
 use Rattle.os_ast.specs.Captured.{slots_of}
+use Rattle.os_ast.specs.Codes.{no_main_code}
 use Rattle.os_ast.specs.Meanings.{meaning, meaning_in, resolved}
 use Rattle.os_ast.specs.Names.{lookup, entity_of, main_id}
 use Rattle.os_ast.specs.Notes.Declarators.{constant_of, declared_entity, scalar_entity}
@@ -80,7 +81,7 @@ has_main (i ∷ is) = is_main i || has_main is
 
 -- 23: there is none; the place is the number of tokens, and the line 1
 abbrev pub no_main : tree.ProgramTree → List Violation
-no_main p = if has_main p then [] else violated (length (spell p)) 23 1 ∷ []
+no_main p = if has_main p then [] else violated (length (spell p)) no_main_code 1 ∷ []
 
 -- The violations of a program. The list stands for the set of its members.
 abbrev pub violations : tree.ProgramTree → List Violation

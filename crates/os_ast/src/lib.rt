@@ -9,6 +9,7 @@
 //! at most one program. `laws` and `examples` show that these definitions are the ones that were meant.
 #![tactic(auto)]
 
+pub mod codes;
 pub mod examples;
 mod expr;
 pub mod laws;

@@ -1,5 +1,5 @@
 -- What one piece makes of what the reader knows.
-use Rattle.std.proofs.Common.{◌≡◌, ℕ, ◌+◌, ◌-◌, ◌<◌, ◌≤◌, cond, List, [], ◌∷◌, ◌++◌, length, take, drop, Some, None, position, unwrap_or, bytes_eq, refl, sym, ap, ap₂, ◌∙◌, subst, arith, All, length-take-le, length-drop, length-append, take-add}
+use Rattle.std.proofs.Common.{◌≡◌, ℕ, ◌+◌, ◌-◌, ◌<◌, ◌≤◌, cond, List, [], ◌∷◌, ◌++◌, length, take, drop, Some, position, unwrap_or, bytes_eq, refl, sym, ap, ap₂, ◌∙◌, subst, arith, All, length-take-le, length-drop, length-append, take-add}
 use Rattle.std.proofs.lemmas.Bool.Decides.{same_from_decides}
 use Rattle.std.proofs.lemmas.List.Sums.{sum_by-append}
 use Rattle.std.proofs.lemmas.List.Elements.{All-push}
@@ -10,7 +10,7 @@ use Rattle.os_lexer.specs.Cover.{Place, token_of, effect_at, Step, skips, gives,
 use Rattle.os_lexer.specs.Effects.{effect}
 use Rattle.os_lexer.specs.Forms.{IsPiece}
 use Rattle.os_lexer.specs.Lines.{line_of}
-use Rattle.os_lexer.specs.Names.{spelling, name_number}
+use Rattle.os_lexer.specs.Names.{spelling}
 use Rattle.os_lexer.specs.Spellings.{first_of}
 use Rattle.os_lexer.specs.States.{place_of, is_name, is_named, KnowsSpellings, IsNameWhereSpelledSo, IsState, number_in, IsFaultHere}
 use Rattle.os_lexer.specs.Answer.{error_of}

@@ -5,12 +5,13 @@ pub mod Longest
 pub mod Found
 pub mod Cuts
 pub mod CoverLaws
-pub mod CoverCuts
 pub mod Ends
 pub mod Values
 pub mod Positions
 pub mod NamedTokens
 pub mod Advance
+pub mod PlaceCuts
+pub mod BeforeFaults
 pub mod Outcomes
 pub mod FewTokens
 pub mod TokenNumbers

@@ -209,7 +209,7 @@ mark_at-is bytes p e =
     ⊎_elim (λ found. (3, found)) (λ goes. ⊎_elim (λ found. (2, found)) (λ again. ⊎_elim (λ found. (1, found)) (λ none. cc) (mark_or-is bytes 1 _ p again)) (mark_or-is bytes 2 _ p goes)) (mark_or-is bytes 3 _ p e)
 
 -- ---- which bytes a mark may have
-tested : (t : List ℕ → Bool) (ms : List Punct) (s : List ℕ) (m : Punct) → list_all (λ k. t (mark_spelling k)) ms ≡ true → mark_from ms s ≡ Some m → t s ≡ true
+pub tested : (t : List ℕ → Bool) (ms : List Punct) (s : List ℕ) (m : Punct) → list_all (λ k. t (mark_spelling k)) ms ≡ true → mark_from ms s ≡ Some m → t s ≡ true
 tested t [] s m all e = cc
 tested t (n ∷ ms) s m all e =
     let parts = and_parts (t (mark_spelling n)) (list_all (λ k. t (mark_spelling k)) ms) all in

@@ -1,10 +1,8 @@
 -- What follows of the token cover and the first fault: that the definitions are the ones meant.
-use Rattle.std.specs.Prelude.{◌≡◌, ℕ, ◌<◌, ◌≤◌, ◌⊎◌, List, [], ◌∷◌, length, take, slice_range, All}
+use Rattle.std.specs.Prelude.{◌≡◌, ℕ, ◌<◌, ◌≤◌, ◌⊎◌, ◌↔◌, List, length, take, All}
 use Rattle.os_lexer.specs.Cover.{IsTokenCover, IsFirstFault}
-use Rattle.os_lexer.specs.Forms.{IsForm}
+use Rattle.os_lexer.specs.Cut.{IsCut, IsFaultPlace}
 use Rattle.os_lexer.specs.Lines.{line_of}
-use Rattle.os_lexer.specs.declared.form.Form.{Form}
-use Rattle.os_lexer.specs.declared.form.Form.TheVariants as form
 use Rattle.os_lexer.specs.declared.token.Kind.{Kind}
 use Rattle.os_lexer.specs.declared.token.Kind.TheVariants as kind
 use Rattle.os_lexer.specs.declared.token.Token.{Token}
@@ -31,40 +29,22 @@ NeverBoth =
     (text : List ℕ) (tokens : List Token) (code line : ℕ) →
     IsTokenCover text tokens → IsFirstFault text code line → ⊥
 
--- the text before the place of the first fault has a cover
+-- the token cover is the cut of the whole text
+abbrev pub CoverCuts : Type 0
+CoverCuts = (text : List ℕ) (tokens : List Token) → IsTokenCover text tokens ↔ IsCut text tokens
+
+-- the first fault stands at the place that the text is cut to, on its line
+abbrev pub FaultPlaces : Type 0
+FaultPlaces =
+    (text : List ℕ) (code line : ℕ) →
+    IsFirstFault text code line ↔ ((place : ℕ) × IsFaultPlace text code place × (line ≡ line_of text place))
+
+-- the text before that place has a cover, and no fault stands at an earlier place that the text is cut to
 abbrev pub CoverBeforeFault : Type 0
 CoverBeforeFault =
-    (text : List ℕ) (code line : ℕ) → IsFirstFault text code line →
-    (place : ℕ) × (place < length text) × (line ≡ line_of text place) ×
-    ((tokens : List Token) × IsTokenCover (take place text) tokens)
-
--- white space, joined lines, comments and `include` lines may be skipped
-abbrev pub MayBeSkipped : Form → Type 0
-MayBeSkipped form.Space = Unit {0}
-MayBeSkipped form.JoinedLine = Unit {0}
-MayBeSkipped form.LineComment = Unit {0}
-MayBeSkipped form.BlockComment = Unit {0}
-MayBeSkipped form.IncludeLine = Unit {0}
-MayBeSkipped form.OpenComment = ⊥
-MayBeSkipped form.PragmaStart = ⊥
-MayBeSkipped form.OtherDirective = ⊥
-MayBeSkipped form.Word = ⊥
-MayBeSkipped form.Number = ⊥
-MayBeSkipped (form.Mark m) = ⊥
-
--- From one place to another the text is cut into slices that are skipped and the slices of the tokens, in order.
-pub data IsCut (text : List ℕ) : ℕ → List Token → ℕ → Type 0 where
-  done : {at : ℕ} → IsCut text at [] at
-  gap : {from at to : ℕ} {tokens : List Token} (form : Form) →
-      from < at → MayBeSkipped form → IsForm form (slice_range text from at) →
-      IsCut text at tokens to → IsCut text from tokens to
-  token : {to : ℕ} {token : Token} {tokens : List Token} →
-      token.start ≤ token.end → token.line ≡ line_of text token.start →
-      IsCut text token.end tokens to → IsCut text token.start (token ∷ tokens) to
-
--- the tokens of a cover are slices of the whole text in order, with nothing but skipped slices between them
-abbrev pub CoverCuts : Type 0
-CoverCuts = (text : List ℕ) (tokens : List Token) → IsTokenCover text tokens → IsCut text 0 tokens (length text)
+    (text : List ℕ) (code place : ℕ) → IsFaultPlace text code place →
+    (place < length text) × ((tokens : List Token) × IsTokenCover (take place text) tokens) ×
+    ((other code' : ℕ) → IsFaultPlace text code' other → place ≤ other)
 
 -- a text has at least as many bytes as tokens
 abbrev pub FewTokens : Type 0

@@ -10,6 +10,7 @@ pub mod Names
 pub mod Forms
 pub mod Effects
 pub mod Cover
+pub mod Cut
 pub mod Answer
 pub mod Laws
 -- What restates private functions for their contracts.

@@ -1,5 +1,5 @@
 //! Laws of the token cover and the first fault. These functions do nothing: their contracts are the laws.
-ghost use Rattle.os_lexer.specs.Laws.{OneCover, OneFault, CoverOrFault, NeverBoth, CoverCuts, CoverBeforeFault, FewTokens, SmallNumbers};
+ghost use Rattle.os_lexer.specs.Laws.{OneCover, OneFault, CoverOrFault, NeverBoth, CoverCuts, FaultPlaces, CoverBeforeFault, FewTokens, SmallNumbers};
 
 /// Each text has one outcome.
 pub fn one_cover()
@@ -9,15 +9,17 @@ pub fn one_cover()
     ensures never_both { NeverBoth }
 {}
 
-/// A cover cuts its text, from the start to the end, into the slices of the tokens, in order, and slices that
-/// are skipped. It has at most as many tokens as the text has bytes, and no number above 2,147,483,647.
+/// The token cover is the cut of the whole text into pieces, each the longest form at its place, with the kinds and
+/// lines of the tokens. It has at most as many tokens as the text has bytes, and no number above 2,147,483,647.
 pub fn cover_cuts()
     ensures cuts { CoverCuts }
     ensures few { FewTokens }
     ensures small { SmallNumbers }
 {}
 
-/// The text before the place of its first fault has a cover.
+/// The first fault stands at the place that the text is cut to. The text before it has a cover, and no fault stands at an
+/// earlier place that the text is cut to.
 pub fn cover_before_fault()
-    ensures { CoverBeforeFault }
+    ensures places { FaultPlaces }
+    ensures before { CoverBeforeFault }
 {}

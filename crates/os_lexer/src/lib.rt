@@ -8,8 +8,9 @@
 //! and a line. `lex` answers each of the two exactly where it is so, unless memory runs out.
 //!
 //! `specs/Cover.antt` is where a reader begins: it says what a cover and a first fault are, over the forms of
-//! `specs/Forms.antt` and what they do, in `specs/Effects.antt`. `specs/Laws.antt` has what follows, and the empty
-//! functions of `laws` are its proofs. `specs/Reading.antt` only says what the private functions give.
+//! `specs/Forms.antt` and what they do, in `specs/Effects.antt`. `specs/Cut.antt` says the same of a cut of the text,
+//! told by the tokens alone. `specs/Laws.antt` has that these are the same, and what follows, and the empty functions
+//! of `laws` are its proofs. `specs/Reading.antt` only says what the private functions give.
 #![tactic(auto)]
 
 mod bytes;

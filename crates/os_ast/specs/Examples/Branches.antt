@@ -10,7 +10,31 @@ use Rattle.os_lexer.specs.declared.token.Token.{Token}
 
 abbrev pub tokens : List Token
 tokens =
-    on 1 (key k.Int ∷ name 13 ∷ punct p.OpenParen ∷ key k.Int ∷ name 16 ∷ punct p.CloseParen ∷ punct p.OpenBrace ∷ key k.If ∷ punct p.OpenParen ∷ name 16 ∷ punct p.CloseParen ∷ key k.If ∷ punct p.OpenParen ∷ name 16 ∷ punct p.CloseParen ∷ punct p.Semicolon ∷ key k.Else ∷ key k.Return ∷ number 1 ∷ punct p.Semicolon ∷ key k.Return ∷ number 2 ∷ punct p.Semicolon ∷ punct p.CloseBrace ∷ [])
+    on 1
+    (key k.Int
+    ∷ name 13
+    ∷ punct p.OpenParen
+    ∷ key k.Int
+    ∷ name 16
+    ∷ punct p.CloseParen
+    ∷ punct p.OpenBrace
+    ∷ key k.If
+    ∷ punct p.OpenParen
+    ∷ name 16
+    ∷ punct p.CloseParen
+    ∷ key k.If
+    ∷ punct p.OpenParen
+    ∷ name 16
+    ∷ punct p.CloseParen
+    ∷ punct p.Semicolon
+    ∷ key k.Else
+    ∷ key k.Return
+    ∷ number 1
+    ∷ punct p.Semicolon
+    ∷ key k.Return
+    ∷ number 2
+    ∷ punct p.Semicolon
+    ∷ punct p.CloseBrace ∷ [])
 
 -- `int f(int a) { statement return 2; }`
 abbrev pub with_first : tree.StmtTree → tree.ProgramTree

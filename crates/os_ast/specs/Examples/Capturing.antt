@@ -20,8 +20,33 @@ use Rattle.os_ast.specs.declared.program.Params.TheVariants as params
 use Rattle.os_ast.specs.declared.stmt.Assign.TheVariants as assign
 
 abbrev pub program : tree.ProgramTree
-program = tree.Function record { name = (named 8 1 1); params = params.Void; body = (block (tree.StmtTree.Declare (record { name = (named 19 7 2); size = None; stream = false; first = None } ∷ record { name = (named 21 9 2); size = None; stream = false; first = None } ∷ record { name = (named 23 11 2); size = None; stream = false; first = None } ∷ []) ∷ tree.Task (mark 13 3) (record { comma = false; kind = tree.Output (joined (variable 10 18 3) (mark 19 3) (named 23 20 3) None ∷ []) } ∷ record { comma = false; kind = tree.Firstprivate ((named 21 24 3) ∷ []) } ∷ []) (tree.Block (block (tree.StmtTree.Declare (record { name = (named 41 29 5); size = None; stream = false; first = None } ∷ []) ∷ tree.StmtTree.Change (tree.Set (variable 23 31 6) assign.Plain (mark 32 6) (tree.Chain level.Sum (tree.Place (variable 19 33 6)) (tree.link op.Add (mark 34 6) (tree.Place (variable 11 35 6)) tree.no_links))) ∷ tree.StmtTree.Change (tree.Set (variable 41 37 7) assign.Plain (mark 38 7) (tree.Place (variable 21 39 7))) ∷ []))) ∷ [])) } ∷ []
+program =
+    tree.Function
+    record {
+      name = (named 8 1 1);
+      params = params.Void;
+      body =
+          (block
+          (tree.StmtTree.Declare
+          (record { name = (named 19 7 2); size = None; stream = false; first = None }
+          ∷ record { name = (named 21 9 2); size = None; stream = false; first = None }
+          ∷ record { name = (named 23 11 2); size = None; stream = false; first = None } ∷ [])
+          ∷ tree.Task (mark 13 3)
+          (record { comma = false; kind = tree.Output (joined (variable 10 18 3) (mark 19 3) (named 23 20 3) None ∷ []) }
+          ∷ record { comma = false; kind = tree.Firstprivate ((named 21 24 3) ∷ []) } ∷ [])
+          (tree.Block
+          (block
+          (tree.StmtTree.Declare (record { name = (named 41 29 5); size = None; stream = false; first = None } ∷ [])
+          ∷ tree.StmtTree.Change
+          (tree.Set (variable 23 31 6) assign.Plain (mark 32 6)
+          (tree.Chain level.Sum (tree.Place (variable 19 33 6))
+          (tree.link op.Add (mark 34 6) (tree.Place (variable 11 35 6)) tree.no_links)))
+          ∷ tree.StmtTree.Change (tree.Set (variable 41 37 7) assign.Plain (mark 38 7) (tree.Place (variable 21 39 7))) ∷ []))) ∷ []));
+    } ∷ []
 
 -- what each name means, by its place
 abbrev pub meanings : List Resolved
-meanings = resolved 7 (what.Scalar 1) ∷ resolved 9 (what.Scalar 2) ∷ resolved 11 (what.Scalar 3) ∷ resolved 18 (what.Stream 1 1) ∷ resolved 20 (what.Scalar 3) ∷ resolved 24 (what.Scalar 2) ∷ resolved 29 (what.Scalar 3) ∷ resolved 31 (what.Element 0) ∷ resolved 33 (what.Scalar 1) ∷ resolved 35 (what.Scalar 0) ∷ resolved 37 (what.Scalar 3) ∷ resolved 39 (what.Scalar 2) ∷ []
+meanings =
+    resolved 7 (what.Scalar 1) ∷ resolved 9 (what.Scalar 2) ∷ resolved 11 (what.Scalar 3) ∷ resolved 18 (what.Stream 1 1) ∷ resolved 20 (what.Scalar 3)
+    ∷ resolved 24 (what.Scalar 2) ∷ resolved 29 (what.Scalar 3) ∷ resolved 31 (what.Element 0) ∷ resolved 33 (what.Scalar 1) ∷ resolved 35 (what.Scalar 0)
+    ∷ resolved 37 (what.Scalar 3) ∷ resolved 39 (what.Scalar 2) ∷ []

@@ -32,13 +32,101 @@ tokens =
     on 2 (key k.Const ∷ key k.Int ∷ name 14 ∷ punct p.Set ∷ number 4 ∷ punct p.Semicolon ∷ [])
     ++ on 3 (key k.Int ∷ name 8 ∷ punct p.OpenParen ∷ key k.Void ∷ punct p.CloseParen ∷ punct p.OpenBrace ∷ [])
     ++ on 4 (key k.Int ∷ name 25 ∷ punct p.Semicolon ∷ [])
-    ++ on 5 (key k.For ∷ punct p.OpenParen ∷ name 25 ∷ punct p.Set ∷ number 0 ∷ punct p.Semicolon ∷ name 25 ∷ punct p.Less ∷ name 11 ∷ punct p.Semicolon ∷ name 25 ∷ punct p.AddSet ∷ name 14 ∷ punct p.CloseParen ∷ punct p.OpenBrace ∷ [])
-    ++ on 6 (key k.Int ∷ name 43 ∷ punct p.Set ∷ name 11 ∷ punct p.Minus ∷ name 25 ∷ punct p.Less ∷ name 14 ∷ punct p.Question ∷ name 11 ∷ punct p.Minus ∷ name 25 ∷ punct p.Colon ∷ name 14 ∷ punct p.Semicolon ∷ [])
-    ++ on 7 (key k.Int ∷ name 58 ∷ punct p.OpenBracket ∷ name 43 ∷ punct p.CloseBracket ∷ punct p.Comma ∷ name 63 ∷ punct p.OpenBracket ∷ name 43 ∷ punct p.CloseBracket ∷ punct p.Semicolon ∷ [])
-    ++ on 8 (PragmaStart ∷ name 0 ∷ name 1 ∷ name 4 ∷ punct p.OpenParen ∷ name 9 ∷ punct p.ShiftRight ∷ name 58 ∷ punct p.OpenBracket ∷ name 43 ∷ punct p.CloseBracket ∷ punct p.CloseParen ∷ name 5 ∷ punct p.OpenParen ∷ name 10 ∷ punct p.ShiftLeft ∷ name 63 ∷ punct p.OpenBracket ∷ name 43 ∷ punct p.CloseBracket ∷ punct p.CloseParen ∷ PragmaEnd ∷ [])
+    ++ on 5
+    (key k.For
+    ∷ punct p.OpenParen
+    ∷ name 25
+    ∷ punct p.Set
+    ∷ number 0
+    ∷ punct p.Semicolon
+    ∷ name 25
+    ∷ punct p.Less
+    ∷ name 11
+    ∷ punct p.Semicolon
+    ∷ name 25
+    ∷ punct p.AddSet
+    ∷ name 14
+    ∷ punct p.CloseParen
+    ∷ punct p.OpenBrace ∷ [])
+    ++ on 6
+    (key k.Int
+    ∷ name 43
+    ∷ punct p.Set
+    ∷ name 11
+    ∷ punct p.Minus
+    ∷ name 25
+    ∷ punct p.Less
+    ∷ name 14
+    ∷ punct p.Question
+    ∷ name 11
+    ∷ punct p.Minus
+    ∷ name 25
+    ∷ punct p.Colon
+    ∷ name 14
+    ∷ punct p.Semicolon ∷ [])
+    ++ on 7
+    (key k.Int
+    ∷ name 58
+    ∷ punct p.OpenBracket
+    ∷ name 43
+    ∷ punct p.CloseBracket
+    ∷ punct p.Comma
+    ∷ name 63
+    ∷ punct p.OpenBracket
+    ∷ name 43
+    ∷ punct p.CloseBracket
+    ∷ punct p.Semicolon ∷ [])
+    ++ on 8
+    (PragmaStart
+    ∷ name 0
+    ∷ name 1
+    ∷ name 4
+    ∷ punct p.OpenParen
+    ∷ name 9
+    ∷ punct p.ShiftRight
+    ∷ name 58
+    ∷ punct p.OpenBracket
+    ∷ name 43
+    ∷ punct p.CloseBracket
+    ∷ punct p.CloseParen
+    ∷ name 5
+    ∷ punct p.OpenParen
+    ∷ name 10
+    ∷ punct p.ShiftLeft
+    ∷ name 63
+    ∷ punct p.OpenBracket
+    ∷ name 43
+    ∷ punct p.CloseBracket
+    ∷ punct p.CloseParen
+    ∷ PragmaEnd ∷ [])
     ++ on 9 (punct p.OpenBrace ∷ [])
     ++ on 10 (key k.Int ∷ name 92 ∷ punct p.Semicolon ∷ [])
-    ++ on 11 (key k.For ∷ punct p.OpenParen ∷ name 92 ∷ punct p.Set ∷ number 0 ∷ punct p.Semicolon ∷ name 92 ∷ punct p.Less ∷ name 43 ∷ punct p.Semicolon ∷ name 92 ∷ punct p.Up ∷ punct p.CloseParen ∷ name 63 ∷ punct p.OpenBracket ∷ name 92 ∷ punct p.CloseBracket ∷ punct p.Set ∷ number 255 ∷ punct p.Minus ∷ name 58 ∷ punct p.OpenBracket ∷ name 92 ∷ punct p.CloseBracket ∷ punct p.Semicolon ∷ [])
+    ++ on 11
+    (key k.For
+    ∷ punct p.OpenParen
+    ∷ name 92
+    ∷ punct p.Set
+    ∷ number 0
+    ∷ punct p.Semicolon
+    ∷ name 92
+    ∷ punct p.Less
+    ∷ name 43
+    ∷ punct p.Semicolon
+    ∷ name 92
+    ∷ punct p.Up
+    ∷ punct p.CloseParen
+    ∷ name 63
+    ∷ punct p.OpenBracket
+    ∷ name 92
+    ∷ punct p.CloseBracket
+    ∷ punct p.Set
+    ∷ number 255
+    ∷ punct p.Minus
+    ∷ name 58
+    ∷ punct p.OpenBracket
+    ∷ name 92
+    ∷ punct p.CloseBracket
+    ∷ punct p.Semicolon ∷ [])
     ++ on 12 (punct p.CloseBrace ∷ [])
     ++ on 13 (punct p.CloseBrace ∷ [])
     ++ on 14 (key k.Return ∷ number 0 ∷ punct p.Semicolon ∷ [])

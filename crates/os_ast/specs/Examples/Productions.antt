@@ -28,16 +28,158 @@ use Rattle.os_lexer.specs.declared.token.Token.{Token}
 abbrev pub tokens : List Token
 tokens =
     on 1 (key k.Const ∷ key k.Int ∷ name 14 ∷ punct p.Set ∷ punct p.Minus ∷ number 5 ∷ punct p.Semicolon ∷ [])
-    ++ on 2 (key k.Int ∷ name 20 ∷ punct p.OpenParen ∷ punct p.CloseParen ∷ punct p.OpenBrace ∷ key k.Return ∷ punct p.Plus ∷ name 20 ∷ punct p.OpenParen ∷ number 1 ∷ punct p.Comma ∷ punct p.Invert ∷ number 2 ∷ punct p.CloseParen ∷ punct p.Semicolon ∷ punct p.CloseBrace ∷ [])
-    ++ on 3 (key k.Int ∷ name 36 ∷ punct p.OpenParen ∷ key k.Int ∷ name 39 ∷ punct p.Comma ∷ key k.Int ∷ name 42 ∷ punct p.CloseParen ∷ punct p.OpenBrace ∷ key k.While ∷ punct p.OpenParen ∷ punct p.Not ∷ name 39 ∷ punct p.CloseParen ∷ punct p.OpenBrace ∷ punct p.Up ∷ name 39 ∷ punct p.Semicolon ∷ name 42 ∷ punct p.Down ∷ punct p.Semicolon ∷ key k.Break ∷ punct p.Semicolon ∷ key k.Continue ∷ punct p.Semicolon ∷ name 20 ∷ punct p.OpenParen ∷ name 39 ∷ punct p.CloseParen ∷ punct p.Semicolon ∷ punct p.CloseBrace ∷ key k.Return ∷ name 39 ∷ punct p.Semicolon ∷ punct p.CloseBrace ∷ [])
+    ++ on 2
+    (key k.Int
+    ∷ name 20
+    ∷ punct p.OpenParen
+    ∷ punct p.CloseParen
+    ∷ punct p.OpenBrace
+    ∷ key k.Return
+    ∷ punct p.Plus
+    ∷ name 20
+    ∷ punct p.OpenParen
+    ∷ number 1
+    ∷ punct p.Comma
+    ∷ punct p.Invert
+    ∷ number 2
+    ∷ punct p.CloseParen
+    ∷ punct p.Semicolon
+    ∷ punct p.CloseBrace ∷ [])
+    ++ on 3
+    (key k.Int
+    ∷ name 36
+    ∷ punct p.OpenParen
+    ∷ key k.Int
+    ∷ name 39
+    ∷ punct p.Comma
+    ∷ key k.Int
+    ∷ name 42
+    ∷ punct p.CloseParen
+    ∷ punct p.OpenBrace
+    ∷ key k.While
+    ∷ punct p.OpenParen
+    ∷ punct p.Not
+    ∷ name 39
+    ∷ punct p.CloseParen
+    ∷ punct p.OpenBrace
+    ∷ punct p.Up
+    ∷ name 39
+    ∷ punct p.Semicolon
+    ∷ name 42
+    ∷ punct p.Down
+    ∷ punct p.Semicolon
+    ∷ key k.Break
+    ∷ punct p.Semicolon
+    ∷ key k.Continue
+    ∷ punct p.Semicolon
+    ∷ name 20
+    ∷ punct p.OpenParen
+    ∷ name 39
+    ∷ punct p.CloseParen
+    ∷ punct p.Semicolon
+    ∷ punct p.CloseBrace
+    ∷ key k.Return
+    ∷ name 39
+    ∷ punct p.Semicolon
+    ∷ punct p.CloseBrace ∷ [])
     ++ on 4 (key k.Int ∷ name 8 ∷ punct p.OpenParen ∷ key k.Void ∷ punct p.CloseParen ∷ punct p.OpenBrace ∷ [])
-    ++ on 5 (key k.Int ∷ name 78 ∷ punct p.OpenBracket ∷ number 3 ∷ punct p.CloseBracket ∷ key k.Attribute ∷ punct p.OpenParen ∷ punct p.OpenParen ∷ name 7 ∷ punct p.CloseParen ∷ punct p.CloseParen ∷ punct p.Comma ∷ name 89 ∷ key k.Attribute ∷ punct p.OpenParen ∷ punct p.OpenParen ∷ name 7 ∷ punct p.CloseParen ∷ punct p.CloseParen ∷ punct p.Semicolon ∷ [])
-    ++ on 6 (PragmaStart ∷ name 0 ∷ name 2 ∷ punct p.OpenParen ∷ name 78 ∷ punct p.OpenBracket ∷ number 0 ∷ punct p.CloseBracket ∷ punct p.ShiftRight ∷ number 2 ∷ punct p.CloseParen ∷ PragmaEnd ∷ [])
+    ++ on 5
+    (key k.Int
+    ∷ name 78
+    ∷ punct p.OpenBracket
+    ∷ number 3
+    ∷ punct p.CloseBracket
+    ∷ key k.Attribute
+    ∷ punct p.OpenParen
+    ∷ punct p.OpenParen
+    ∷ name 7
+    ∷ punct p.CloseParen
+    ∷ punct p.CloseParen
+    ∷ punct p.Comma
+    ∷ name 89
+    ∷ key k.Attribute
+    ∷ punct p.OpenParen
+    ∷ punct p.OpenParen
+    ∷ name 7
+    ∷ punct p.CloseParen
+    ∷ punct p.CloseParen
+    ∷ punct p.Semicolon ∷ [])
+    ++ on 6
+    (PragmaStart
+    ∷ name 0
+    ∷ name 2
+    ∷ punct p.OpenParen
+    ∷ name 78
+    ∷ punct p.OpenBracket
+    ∷ number 0
+    ∷ punct p.CloseBracket
+    ∷ punct p.ShiftRight
+    ∷ number 2
+    ∷ punct p.CloseParen
+    ∷ PragmaEnd ∷ [])
     ++ on 7 (PragmaStart ∷ name 0 ∷ name 3 ∷ PragmaEnd ∷ [])
-    ++ on 8 (PragmaStart ∷ name 0 ∷ name 1 ∷ name 6 ∷ punct p.OpenParen ∷ name 118 ∷ punct p.Comma ∷ name 120 ∷ punct p.CloseParen ∷ punct p.Comma ∷ name 4 ∷ punct p.OpenParen ∷ name 89 ∷ punct p.CloseParen ∷ name 5 ∷ punct p.OpenParen ∷ name 78 ∷ punct p.OpenBracket ∷ number 1 ∷ punct p.CloseBracket ∷ punct p.ShiftLeft ∷ name 134 ∷ punct p.CloseParen ∷ PragmaEnd ∷ [])
+    ++ on 8
+    (PragmaStart
+    ∷ name 0
+    ∷ name 1
+    ∷ name 6
+    ∷ punct p.OpenParen
+    ∷ name 118
+    ∷ punct p.Comma
+    ∷ name 120
+    ∷ punct p.CloseParen
+    ∷ punct p.Comma
+    ∷ name 4
+    ∷ punct p.OpenParen
+    ∷ name 89
+    ∷ punct p.CloseParen
+    ∷ name 5
+    ∷ punct p.OpenParen
+    ∷ name 78
+    ∷ punct p.OpenBracket
+    ∷ number 1
+    ∷ punct p.CloseBracket
+    ∷ punct p.ShiftLeft
+    ∷ name 134
+    ∷ punct p.CloseParen
+    ∷ PragmaEnd ∷ [])
     ++ on 9 (punct p.Semicolon ∷ [])
-    ++ on 10 (key k.For ∷ punct p.OpenParen ∷ key k.Int ∷ name 141 ∷ punct p.Set ∷ number 0 ∷ punct p.Semicolon ∷ punct p.Semicolon ∷ punct p.CloseParen ∷ punct p.OpenBrace ∷ punct p.CloseBrace ∷ [])
-    ++ on 11 (key k.For ∷ punct p.OpenParen ∷ punct p.Semicolon ∷ name 39 ∷ punct p.Or ∷ name 42 ∷ punct p.And ∷ name 156 ∷ punct p.Semicolon ∷ name 39 ∷ punct p.ShiftLeftSet ∷ number 1 ∷ punct p.CloseParen ∷ key k.If ∷ punct p.OpenParen ∷ name 39 ∷ punct p.CloseParen ∷ punct p.Semicolon ∷ key k.Else ∷ name 39 ∷ punct p.Set ∷ number 1 ∷ punct p.Semicolon ∷ [])
+    ++ on 10
+    (key k.For
+    ∷ punct p.OpenParen
+    ∷ key k.Int
+    ∷ name 141
+    ∷ punct p.Set
+    ∷ number 0
+    ∷ punct p.Semicolon
+    ∷ punct p.Semicolon
+    ∷ punct p.CloseParen
+    ∷ punct p.OpenBrace
+    ∷ punct p.CloseBrace ∷ [])
+    ++ on 11
+    (key k.For
+    ∷ punct p.OpenParen
+    ∷ punct p.Semicolon
+    ∷ name 39
+    ∷ punct p.Or
+    ∷ name 42
+    ∷ punct p.And
+    ∷ name 156
+    ∷ punct p.Semicolon
+    ∷ name 39
+    ∷ punct p.ShiftLeftSet
+    ∷ number 1
+    ∷ punct p.CloseParen
+    ∷ key k.If
+    ∷ punct p.OpenParen
+    ∷ name 39
+    ∷ punct p.CloseParen
+    ∷ punct p.Semicolon
+    ∷ key k.Else
+    ∷ name 39
+    ∷ punct p.Set
+    ∷ number 1
+    ∷ punct p.Semicolon ∷ [])
     ++ on 12 (punct p.CloseBrace ∷ [])
 
 abbrev pub constant : tree.ItemTree

@@ -20,8 +20,39 @@ use Rattle.os_ast.specs.declared.stmt.Assign.TheVariants as assign
 use Rattle.os_ast.specs.declared.stmt.Step.TheVariants as step
 
 abbrev pub program : tree.ProgramTree
-program = tree.Function record { name = (named 13 1 1); params = params.Names ((named 16 4 1) ∷ []); body = (block (tree.Block (block (tree.StmtTree.Declare (record { name = (named 16 9 2); size = None; stream = false; first = None } ∷ []) ∷ tree.StmtTree.Change (tree.Set (variable 16 11 2) assign.Plain (mark 12 2) (tree.Number 1)) ∷ [])) ∷ tree.Return (mark 16 3) (tree.Place (variable 16 17 3)) ∷ [])) } ∷ tree.Function record { name = (named 8 21 5); params = params.Void; body = (block (tree.StmtTree.Declare (record { name = (named 9 27 6); size = None; stream = false; first = None } ∷ []) ∷ tree.For (tree.StartTree.Declare (record { name = (named 44 32 7); size = None; stream = false; first = (Some (tree.Number 0)) } ∷ [])) (Some (tree.Chain level.Order (tree.Place (variable 44 36 7)) (tree.link op.Less (mark 37 7) (tree.Place (variable 11 38 7)) tree.no_links))) (Some (tree.After (variable 44 40 7) step.Up (mark 41 7))) (tree.Block (block (tree.StmtTree.Declare (record { name = (named 44 45 7); size = None; stream = false; first = None } ∷ []) ∷ tree.StmtTree.Change (tree.Set (variable 44 47 7) assign.Plain (mark 48 7) (tree.Place (variable 9 49 7))) ∷ []))) ∷ [])) } ∷ []
+program =
+    tree.Function
+    record {
+      name = (named 13 1 1);
+      params = params.Names ((named 16 4 1) ∷ []);
+      body =
+          (block
+          (tree.Block
+          (block
+          (tree.StmtTree.Declare (record { name = (named 16 9 2); size = None; stream = false; first = None } ∷ [])
+          ∷ tree.StmtTree.Change (tree.Set (variable 16 11 2) assign.Plain (mark 12 2) (tree.Number 1)) ∷ []))
+          ∷ tree.Return (mark 16 3) (tree.Place (variable 16 17 3)) ∷ []));
+    }
+    ∷ tree.Function
+    record {
+      name = (named 8 21 5);
+      params = params.Void;
+      body =
+          (block
+          (tree.StmtTree.Declare (record { name = (named 9 27 6); size = None; stream = false; first = None } ∷ [])
+          ∷ tree.For (tree.StartTree.Declare (record { name = (named 44 32 7); size = None; stream = false; first = (Some (tree.Number 0)) } ∷ []))
+          (Some
+          (tree.Chain level.Order (tree.Place (variable 44 36 7)) (tree.link op.Less (mark 37 7) (tree.Place (variable 11 38 7)) tree.no_links)))
+          (Some (tree.After (variable 44 40 7) step.Up (mark 41 7)))
+          (tree.Block
+          (block
+          (tree.StmtTree.Declare (record { name = (named 44 45 7); size = None; stream = false; first = None } ∷ [])
+          ∷ tree.StmtTree.Change (tree.Set (variable 44 47 7) assign.Plain (mark 48 7) (tree.Place (variable 9 49 7))) ∷ []))) ∷ []));
+    } ∷ []
 
 -- what each name means, by its place
 abbrev pub meanings : List Resolved
-meanings = resolved 4 (what.Scalar 0) ∷ resolved 9 (what.Scalar 1) ∷ resolved 11 (what.Scalar 1) ∷ resolved 17 (what.Scalar 0) ∷ resolved 27 (what.Scalar 1) ∷ resolved 32 (what.Scalar 2) ∷ resolved 36 (what.Scalar 2) ∷ resolved 38 (what.Scalar 0) ∷ resolved 40 (what.Scalar 2) ∷ resolved 45 (what.Scalar 3) ∷ resolved 47 (what.Scalar 3) ∷ resolved 49 (what.Scalar 1) ∷ []
+meanings =
+    resolved 4 (what.Scalar 0) ∷ resolved 9 (what.Scalar 1) ∷ resolved 11 (what.Scalar 1) ∷ resolved 17 (what.Scalar 0) ∷ resolved 27 (what.Scalar 1)
+    ∷ resolved 32 (what.Scalar 2) ∷ resolved 36 (what.Scalar 2) ∷ resolved 38 (what.Scalar 0) ∷ resolved 40 (what.Scalar 2) ∷ resolved 45 (what.Scalar 3)
+    ∷ resolved 47 (what.Scalar 3) ∷ resolved 49 (what.Scalar 1) ∷ []

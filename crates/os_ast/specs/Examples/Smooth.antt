@@ -25,10 +25,66 @@ abbrev pub tokens : List Token
 tokens =
     on 1 (key k.Int ∷ name 8 ∷ punct p.OpenParen ∷ key k.Void ∷ punct p.CloseParen ∷ punct p.OpenBrace ∷ [])
     ++ on 2 (key k.Int ∷ name 19 ∷ punct p.Semicolon ∷ [])
-    ++ on 3 (key k.For ∷ punct p.OpenParen ∷ name 19 ∷ punct p.Set ∷ number 0 ∷ punct p.Semicolon ∷ name 19 ∷ punct p.Plus ∷ number 2 ∷ punct p.Less ∷ name 11 ∷ punct p.Semicolon ∷ name 19 ∷ punct p.Up ∷ punct p.CloseParen ∷ punct p.OpenBrace ∷ [])
+    ++ on 3
+    (key k.For
+    ∷ punct p.OpenParen
+    ∷ name 19
+    ∷ punct p.Set
+    ∷ number 0
+    ∷ punct p.Semicolon
+    ∷ name 19
+    ∷ punct p.Plus
+    ∷ number 2
+    ∷ punct p.Less
+    ∷ name 11
+    ∷ punct p.Semicolon
+    ∷ name 19
+    ∷ punct p.Up
+    ∷ punct p.CloseParen
+    ∷ punct p.OpenBrace ∷ [])
     ++ on 4 (key k.Int ∷ name 38 ∷ punct p.OpenBracket ∷ number 3 ∷ punct p.CloseBracket ∷ punct p.Comma ∷ name 43 ∷ punct p.Semicolon ∷ [])
-    ++ on 5 (PragmaStart ∷ name 0 ∷ name 1 ∷ name 4 ∷ punct p.OpenParen ∷ name 9 ∷ punct p.ShiftRight ∷ name 38 ∷ punct p.OpenBracket ∷ number 1 ∷ punct p.CloseBracket ∷ punct p.CloseParen ∷ name 5 ∷ punct p.OpenParen ∷ name 10 ∷ punct p.ShiftLeft ∷ name 43 ∷ punct p.CloseParen ∷ PragmaEnd ∷ [])
-    ++ on 6 (name 43 ∷ punct p.Set ∷ punct p.OpenParen ∷ name 38 ∷ punct p.OpenBracket ∷ number 0 ∷ punct p.CloseBracket ∷ punct p.Plus ∷ name 38 ∷ punct p.OpenBracket ∷ number 1 ∷ punct p.CloseBracket ∷ punct p.Plus ∷ name 38 ∷ punct p.OpenBracket ∷ number 2 ∷ punct p.CloseBracket ∷ punct p.CloseParen ∷ punct p.Slash ∷ number 3 ∷ punct p.Semicolon ∷ [])
+    ++ on 5
+    (PragmaStart
+    ∷ name 0
+    ∷ name 1
+    ∷ name 4
+    ∷ punct p.OpenParen
+    ∷ name 9
+    ∷ punct p.ShiftRight
+    ∷ name 38
+    ∷ punct p.OpenBracket
+    ∷ number 1
+    ∷ punct p.CloseBracket
+    ∷ punct p.CloseParen
+    ∷ name 5
+    ∷ punct p.OpenParen
+    ∷ name 10
+    ∷ punct p.ShiftLeft
+    ∷ name 43
+    ∷ punct p.CloseParen
+    ∷ PragmaEnd ∷ [])
+    ++ on 6
+    (name 43
+    ∷ punct p.Set
+    ∷ punct p.OpenParen
+    ∷ name 38
+    ∷ punct p.OpenBracket
+    ∷ number 0
+    ∷ punct p.CloseBracket
+    ∷ punct p.Plus
+    ∷ name 38
+    ∷ punct p.OpenBracket
+    ∷ number 1
+    ∷ punct p.CloseBracket
+    ∷ punct p.Plus
+    ∷ name 38
+    ∷ punct p.OpenBracket
+    ∷ number 2
+    ∷ punct p.CloseBracket
+    ∷ punct p.CloseParen
+    ∷ punct p.Slash
+    ∷ number 3
+    ∷ punct p.Semicolon ∷ [])
     ++ on 7 (punct p.CloseBrace ∷ [])
     ++ on 8 (key k.Return ∷ number 0 ∷ punct p.Semicolon ∷ [])
     ++ on 9 (punct p.CloseBrace ∷ [])

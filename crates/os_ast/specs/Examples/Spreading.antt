@@ -26,8 +26,76 @@ use Rattle.os_ast.specs.declared.stmt.Assign.TheVariants as assign
 use Rattle.os_ast.specs.declared.stmt.Step.TheVariants as step
 
 abbrev pub program : tree.ProgramTree
-program = tree.Function record { name = (named 8 1 1); params = params.Void; body = (block (tree.StmtTree.Declare (record { name = (named 19 7 2); size = (index 8 2 (tree.Number 3)); stream = true; first = None } ∷ []) ∷ tree.StmtTree.Declare (record { name = (named 31 19 3); size = None; stream = false; first = None } ∷ record { name = (named 33 21 3); size = None; stream = false; first = None } ∷ []) ∷ tree.For (tree.StartTree.Change (tree.Set (variable 31 25 4) assign.Plain (mark 26 4) (tree.Number 0))) (Some (tree.Chain level.Order (tree.Place (variable 31 29 4)) (tree.link op.Less (mark 30 4) (tree.Place (variable 11 31 4)) tree.no_links))) (Some (tree.After (variable 31 33 4) step.Up (mark 34 4))) (tree.Block (block (tree.StmtTree.Declare (record { name = (named 50 38 5); size = None; stream = false; first = None } ∷ record { name = (named 52 40 5); size = None; stream = false; first = None } ∷ record { name = (named 54 42 5); size = None; stream = false; first = None } ∷ record { name = (named 56 44 5); size = None; stream = false; first = None } ∷ record { name = (named 58 46 5); size = None; stream = false; first = None } ∷ []) ∷ tree.Task (mark 48 6) (record { comma = false; kind = tree.Input (joined (variable 9 53 6) (mark 54 6) (named 50 55 6) None ∷ []) } ∷ record { comma = false; kind = tree.Output (joined (element 19 59 6 (tree.Number 0)) (mark 63 6) (named 52 64 6) None ∷ joined (element 19 66 6 (tree.Number 1)) (mark 70 6) (named 54 71 6) None ∷ joined (element 19 73 6 (tree.Number 2)) (mark 77 6) (named 56 78 6) None ∷ []) } ∷ []) (tree.Block (block (tree.StmtTree.Change (tree.Set (variable 52 82 7) assign.Plain (mark 83 7) (tree.Place (variable 50 84 7))) ∷ tree.StmtTree.Change (tree.Set (variable 54 86 7) assign.Plain (mark 87 7) (tree.Chain level.Shift (tree.Place (variable 50 88 7)) (tree.link op.ShiftRight (mark 89 7) (tree.Number 1) tree.no_links))) ∷ tree.StmtTree.Change (tree.Set (variable 56 92 7) assign.Plain (mark 93 7) (tree.Chain level.Shift (tree.Place (variable 50 94 7)) (tree.link op.ShiftRight (mark 95 7) (tree.Number 2) tree.no_links))) ∷ []))) ∷ tree.For (tree.StartTree.Change (tree.Set (variable 33 101 8) assign.Plain (mark 102 8) (tree.Number 0))) (Some (tree.Chain level.Order (tree.Place (variable 33 105 8)) (tree.link op.Less (mark 106 8) (tree.Number 3) tree.no_links))) (Some (tree.After (variable 33 109 8) step.Up (mark 110 8))) (tree.Block (block (tree.Task (mark 113 9) (record { comma = false; kind = tree.Input (joined (element 19 118 9 (tree.Place (variable 33 120 9))) (mark 122 9) (named 50 123 9) None ∷ []) } ∷ record { comma = false; kind = tree.Output (joined (variable 10 127 9) (mark 128 9) (named 58 129 9) None ∷ []) } ∷ []) (tree.StmtTree.Change (tree.Set (variable 58 132 10) assign.Plain (mark 133 10) (tree.Place (variable 50 134 10)))) ∷ []))) ∷ []))) ∷ tree.Return (mark 138 13) (tree.Number 0) ∷ [])) } ∷ []
+program =
+    tree.Function
+    record {
+      name = (named 8 1 1);
+      params = params.Void;
+      body =
+          (block
+          (tree.StmtTree.Declare (record { name = (named 19 7 2); size = (index 8 2 (tree.Number 3)); stream = true; first = None } ∷ [])
+          ∷ tree.StmtTree.Declare
+          (record { name = (named 31 19 3); size = None; stream = false; first = None }
+          ∷ record { name = (named 33 21 3); size = None; stream = false; first = None } ∷ [])
+          ∷ tree.For (tree.StartTree.Change (tree.Set (variable 31 25 4) assign.Plain (mark 26 4) (tree.Number 0)))
+          (Some
+          (tree.Chain level.Order (tree.Place (variable 31 29 4)) (tree.link op.Less (mark 30 4) (tree.Place (variable 11 31 4)) tree.no_links)))
+          (Some (tree.After (variable 31 33 4) step.Up (mark 34 4)))
+          (tree.Block
+          (block
+          (tree.StmtTree.Declare
+          (record { name = (named 50 38 5); size = None; stream = false; first = None }
+          ∷ record { name = (named 52 40 5); size = None; stream = false; first = None }
+          ∷ record { name = (named 54 42 5); size = None; stream = false; first = None }
+          ∷ record { name = (named 56 44 5); size = None; stream = false; first = None }
+          ∷ record { name = (named 58 46 5); size = None; stream = false; first = None } ∷ [])
+          ∷ tree.Task (mark 48 6)
+          (record { comma = false; kind = tree.Input (joined (variable 9 53 6) (mark 54 6) (named 50 55 6) None ∷ []) }
+          ∷ record {
+            comma = false;
+            kind =
+                tree.Output
+                (joined (element 19 59 6 (tree.Number 0)) (mark 63 6) (named 52 64 6) None
+                ∷ joined (element 19 66 6 (tree.Number 1)) (mark 70 6) (named 54 71 6) None
+                ∷ joined (element 19 73 6 (tree.Number 2)) (mark 77 6) (named 56 78 6) None ∷ []);
+          } ∷ [])
+          (tree.Block
+          (block
+          (tree.StmtTree.Change (tree.Set (variable 52 82 7) assign.Plain (mark 83 7) (tree.Place (variable 50 84 7)))
+          ∷ tree.StmtTree.Change
+          (tree.Set (variable 54 86 7) assign.Plain (mark 87 7)
+          (tree.Chain level.Shift (tree.Place (variable 50 88 7))
+          (tree.link op.ShiftRight (mark 89 7) (tree.Number 1) tree.no_links)))
+          ∷ tree.StmtTree.Change
+          (tree.Set (variable 56 92 7) assign.Plain (mark 93 7)
+          (tree.Chain level.Shift (tree.Place (variable 50 94 7))
+          (tree.link op.ShiftRight (mark 95 7) (tree.Number 2) tree.no_links))) ∷ [])))
+          ∷ tree.For (tree.StartTree.Change (tree.Set (variable 33 101 8) assign.Plain (mark 102 8) (tree.Number 0)))
+          (Some (tree.Chain level.Order (tree.Place (variable 33 105 8)) (tree.link op.Less (mark 106 8) (tree.Number 3) tree.no_links)))
+          (Some (tree.After (variable 33 109 8) step.Up (mark 110 8)))
+          (tree.Block
+          (block
+          (tree.Task (mark 113 9)
+          (record {
+            comma = false;
+            kind =
+                tree.Input (joined (element 19 118 9 (tree.Place (variable 33 120 9))) (mark 122 9) (named 50 123 9) None ∷ []);
+          }
+          ∷ record { comma = false; kind = tree.Output (joined (variable 10 127 9) (mark 128 9) (named 58 129 9) None ∷ []) } ∷ [])
+          (tree.StmtTree.Change (tree.Set (variable 58 132 10) assign.Plain (mark 133 10) (tree.Place (variable 50 134 10)))) ∷ [])))
+          ∷ [])))
+          ∷ tree.Return (mark 138 13) (tree.Number 0) ∷ []));
+    } ∷ []
 
 -- what each name means, by its place
 abbrev pub meanings : List Resolved
-meanings = resolved 7 (what.Stream 2 3) ∷ resolved 19 (what.Scalar 1) ∷ resolved 21 (what.Scalar 2) ∷ resolved 25 (what.Scalar 1) ∷ resolved 29 (what.Scalar 1) ∷ resolved 31 (what.Scalar 0) ∷ resolved 33 (what.Scalar 1) ∷ resolved 38 (what.Scalar 3) ∷ resolved 40 (what.Scalar 4) ∷ resolved 42 (what.Scalar 5) ∷ resolved 44 (what.Scalar 6) ∷ resolved 46 (what.Scalar 7) ∷ resolved 53 (what.Stream 0 1) ∷ resolved 55 (what.Scalar 3) ∷ resolved 59 (what.Stream 2 3) ∷ resolved 64 (what.Scalar 4) ∷ resolved 66 (what.Stream 2 3) ∷ resolved 71 (what.Scalar 5) ∷ resolved 73 (what.Stream 2 3) ∷ resolved 78 (what.Scalar 6) ∷ resolved 82 (what.Element 1) ∷ resolved 84 (what.Element 0) ∷ resolved 86 (what.Element 2) ∷ resolved 88 (what.Element 0) ∷ resolved 92 (what.Element 3) ∷ resolved 94 (what.Element 0) ∷ resolved 101 (what.Scalar 2) ∷ resolved 105 (what.Scalar 2) ∷ resolved 109 (what.Scalar 2) ∷ resolved 118 (what.Stream 2 3) ∷ resolved 120 (what.Scalar 2) ∷ resolved 123 (what.Scalar 3) ∷ resolved 127 (what.Stream 1 1) ∷ resolved 129 (what.Scalar 7) ∷ resolved 132 (what.Element 1) ∷ resolved 134 (what.Element 0) ∷ []
+meanings =
+    resolved 7 (what.Stream 2 3) ∷ resolved 19 (what.Scalar 1) ∷ resolved 21 (what.Scalar 2) ∷ resolved 25 (what.Scalar 1) ∷ resolved 29 (what.Scalar 1)
+    ∷ resolved 31 (what.Scalar 0) ∷ resolved 33 (what.Scalar 1) ∷ resolved 38 (what.Scalar 3) ∷ resolved 40 (what.Scalar 4) ∷ resolved 42 (what.Scalar 5)
+    ∷ resolved 44 (what.Scalar 6) ∷ resolved 46 (what.Scalar 7) ∷ resolved 53 (what.Stream 0 1) ∷ resolved 55 (what.Scalar 3)
+    ∷ resolved 59 (what.Stream 2 3) ∷ resolved 64 (what.Scalar 4) ∷ resolved 66 (what.Stream 2 3) ∷ resolved 71 (what.Scalar 5)
+    ∷ resolved 73 (what.Stream 2 3) ∷ resolved 78 (what.Scalar 6) ∷ resolved 82 (what.Element 1) ∷ resolved 84 (what.Element 0)
+    ∷ resolved 86 (what.Element 2) ∷ resolved 88 (what.Element 0) ∷ resolved 92 (what.Element 3) ∷ resolved 94 (what.Element 0)
+    ∷ resolved 101 (what.Scalar 2) ∷ resolved 105 (what.Scalar 2) ∷ resolved 109 (what.Scalar 2) ∷ resolved 118 (what.Stream 2 3)
+    ∷ resolved 120 (what.Scalar 2) ∷ resolved 123 (what.Scalar 3) ∷ resolved 127 (what.Stream 1 1) ∷ resolved 129 (what.Scalar 7)
+    ∷ resolved 132 (what.Element 1) ∷ resolved 134 (what.Element 0) ∷ []

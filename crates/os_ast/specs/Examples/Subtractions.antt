@@ -12,7 +12,21 @@ use Rattle.os_lexer.specs.declared.token.Token.{Token}
 
 abbrev pub tokens : List Token
 tokens =
-    on 1 (key k.Int ∷ name 13 ∷ punct p.OpenParen ∷ key k.Void ∷ punct p.CloseParen ∷ punct p.OpenBrace ∷ key k.Return ∷ number 1 ∷ punct p.Minus ∷ number 2 ∷ punct p.Minus ∷ number 3 ∷ punct p.Semicolon ∷ punct p.CloseBrace ∷ [])
+    on 1
+    (key k.Int
+    ∷ name 13
+    ∷ punct p.OpenParen
+    ∷ key k.Void
+    ∷ punct p.CloseParen
+    ∷ punct p.OpenBrace
+    ∷ key k.Return
+    ∷ number 1
+    ∷ punct p.Minus
+    ∷ number 2
+    ∷ punct p.Minus
+    ∷ number 3
+    ∷ punct p.Semicolon
+    ∷ punct p.CloseBrace ∷ [])
 
 abbrev pub program : tree.ProgramTree
 program =

@@ -1,91 +1,19 @@
--- What a cover is made of, and the text before a fault.
-use Rattle.std.proofs.Common.{◌≡◌, ℕ, ◌+◌, ◌-◌, ◌≤◌, Bool, true, false, cond, List, [], ◌∷◌, ◌++◌, length, take, drop, Option, Some, None, refl, sym, ap, ap₂, ◌∙◌, subst, ⊎_elim, arith, length-take-le, length-drop, append_assoc, append-nil, take-take}
+-- The text before a fault.
+use Rattle.std.proofs.Common.{◌≡◌, ℕ, ◌+◌, ◌-◌, ◌<◌, ◌≤◌, cond, List, [], ◌∷◌, ◌++◌, length, take, drop, refl, sym, ap, ap₂, ◌∙◌, subst, ⊎_elim, arith, length-take-le, length-drop, take-take}
 use Rattle.std.proofs.lemmas.Bool.{cases_lt}
 use Rattle.std.proofs.lemmas.List.{drop-take}
-use Rattle.std.specs.Prelude.{slice_range, count_by, bytes_eq, position, unwrap_or, nat_le, not}
+use Rattle.std.specs.Prelude.{count_by, bytes_eq, position, unwrap_or, not}
 use Rattle.os_lexer.specs.Bytes.{is_line_feed}
-use Rattle.os_lexer.specs.Cover.{Place, token_of, effect_at, Step, skips, gives, Leads, here, on, tokens_at_end}
-use Rattle.os_lexer.specs.Effects.{effect, directive_effect, number_effect, mode_after_token}
+use Rattle.os_lexer.specs.Cover.{Place, token_of, effect_at, Step, skips, gives, Leads, here, on, tokens_at_end, IsTokenCover, IsFirstFault}
+use Rattle.os_lexer.specs.Effects.{effect}
 use Rattle.os_lexer.specs.Forms.{IsForm, IsPiece}
-use Rattle.os_lexer.specs.Laws.{CoverBeforeFault, MayBeSkipped, IsCut, done, gap, token, CoverCuts}
+use Rattle.os_lexer.specs.Laws.{CoverBeforeFault}
 use Rattle.os_lexer.specs.Lines.{line_of}
 use Rattle.os_lexer.specs.Names.{fixed_names, spelling, first_index, name_number}
-use Rattle.os_lexer.specs.Numbers.{number_value}
-use Rattle.os_lexer.specs.declared.effect.Effect.TheVariants.{Skip, Give, Fail}
-use Rattle.os_lexer.specs.declared.fault.Fault.TheVariants as fault
 use Rattle.os_lexer.specs.declared.form.Form.{Form}
-use Rattle.os_lexer.specs.declared.form.Form.TheVariants as form
-use Rattle.os_lexer.specs.declared.mode.Mode.{Mode}
-use Rattle.os_lexer.specs.declared.mode.Mode.TheVariants.{LineStart, InLine, InPragma}
-use Rattle.os_lexer.specs.declared.token.Kind.TheVariants as kind
 use Rattle.os_lexer.specs.declared.token.Token.{Token}
-use Rattle.os_lexer.proofs.Cuts.{leads_within, fault_within, IsPiece-some}
-
--- only what may be skipped is skipped
-number_gives : (mode m : Mode) (v : ℕ) (b : Bool) → cond b (Give (kind.Number v) (mode_after_token mode)) (Fail fault.BigNumber) ≡ Skip m → ⊥
-number_gives mode m v true e = cc
-number_gives mode m v false e = cc
-
-number_unskipped : (mode m : Mode) (v : Option ℕ) → number_effect mode v ≡ Skip m → ⊥
-number_unskipped mode m None e = cc
-number_unskipped mode m (Some v) e = number_gives mode m v (nat_le v 2147483647) e
-
-pragma_unskipped : (mode m : Mode) → directive_effect mode (Give kind.PragmaStart InPragma) ≡ Skip m → ⊥
-pragma_unskipped LineStart m e = cc
-pragma_unskipped InLine m e = cc
-pragma_unskipped InPragma m e = cc
-
-may_be_skipped : (mode m : Mode) (name : ℕ) (f : Form) (s : List ℕ) → effect mode name f s ≡ Skip m → MayBeSkipped f
-may_be_skipped mode m name form.Space s e = tt
-may_be_skipped mode m name form.JoinedLine s e = tt
-may_be_skipped mode m name form.LineComment s e = tt
-may_be_skipped mode m name form.BlockComment s e = tt
-may_be_skipped mode m name form.OpenComment s e = cc
-may_be_skipped mode m name form.IncludeLine s e = tt
-may_be_skipped mode m name form.PragmaStart s e = pragma_unskipped mode m e
-may_be_skipped mode m name form.OtherDirective s e = cc
-may_be_skipped mode m name form.Word s e = cc
-may_be_skipped mode m name form.Number s e = number_unskipped mode m (number_value s) e
-may_be_skipped mode m name (form.Mark k) s e = cc
-
-module _ (text : List ℕ) where
-  slice_is : (at n : ℕ) → slice_range text at (at + n) ≡ take n (drop at text)
-  slice_is at n = let count : at + n - at ≡ n = omega arith in ap (λ k. take k (drop at text)) count
-
-  cut_append : {a b c : ℕ} {ts us : List Token} → IsCut text a ts b → IsCut text b us c → IsCut text a (ts ++ us) c
-  cut_append done more = more
-  cut_append (gap form below skipped is_form cut) more = gap form below skipped is_form (cut_append cut more)
-  cut_append (token ordered lined cut) more = token ordered lined (cut_append cut more)
-
-  -- the tokens that a step adds, as a cut
-  abbrev CutsOn : Place → Place → Type 0
-  CutsOn p q = (news : List Token) × (q.tokens ≡ p.tokens ++ news) × IsCut text p.at news q.at
-
-  step_cuts : {p q : Place} → Step text p q → CutsOn p q
-  step_cuts (skips {p = p} {form = form} {n = n} {mode = mode} is_piece e) =
-      let some = IsPiece-some (drop p.at text) form n is_piece in
-      ([], sym (append-nil p.tokens), gap form (omega arith) (may_be_skipped p.mode mode _ form _ e) (subst (IsForm form) (sym (slice_is p.at n)) is_piece.of_form) done)
-  step_cuts (gives {p = p} {form = form} {n = n} {kind = kind} {mode = mode} is_piece e) =
-      (token_of text kind p.at (p.at + n) ∷ [], refl, token {token = token_of text kind p.at (p.at + n)} (omega arith) refl done)
-
-  leads_cuts : {p q : Place} → Leads text p q → CutsOn p q
-  leads_cuts {p = p} here = ([], sym (append-nil p.tokens), done)
-  leads_cuts {p = p} {q = q} (on s l) =
-      let first = step_cuts s in
-      let later = leads_cuts l in
-      (first.0 ++ later.0, later.1 ∙ ap (λ ts. ts ++ later.0) first.1 ∙ append_assoc p.tokens first.0 later.0, cut_append first.2 later.2)
-
-  end_cuts : (mode : Mode) → IsCut text (length text) (tokens_at_end text mode) (length text)
-  end_cuts LineStart = done
-  end_cuts InLine = done
-  end_cuts InPragma = token {token = token_of text kind.PragmaEnd (length text) (length text)} (omega arith) refl done
-
-pub cover_cuts : CoverCuts
-cover_cuts text tokens p =
-    let cuts = leads_cuts text p.reached in
-    let to_end : IsCut text 0 cuts.0 (length text) = subst (λ to. IsCut text 0 cuts.0 to) p.ends cuts.2 in
-    let all : tokens ≡ cuts.0 ++ tokens_at_end text p.place.mode = p.all_tokens ∙ ap (λ ts. ts ++ tokens_at_end text p.place.mode) cuts.1 in
-    subst (λ ts. IsCut text 0 ts (length text)) (sym all) (cut_append text to_end (end_cuts text p.place.mode))
+use Rattle.os_lexer.proofs.Cuts.{leads_within, fault_within, last_at_fault, one_way}
+use Rattle.os_lexer.proofs.PlaceCuts.{place_to_fault, place_kept}
 
 -- the tokens stand in the first c bytes
 abbrev AreWithin : ℕ → List Token → Type 0
@@ -160,13 +88,12 @@ module _ (text : List ℕ) (c : ℕ) (inside : c ≤ length text) where
       let first = step_before s within (omega (arith, leads_within text l)) in
       on first.0 (leads_before l first.1 high)
 
-pub cover_before_fault : CoverBeforeFault
-cover_before_fault text code line f =
+before_fault : (text : List ℕ) (code line : ℕ) (f : IsFirstFault text code line) →
+    (f.place.at < length text) × ((tokens : List Token) × IsTokenCover (take f.place.at text) tokens)
+before_fault text code line f =
     let p = f.place in
     let inside = fault_within text f.stands in (
-      p.at,
       inside,
-      f.lined,
       (
         p.tokens ++ tokens_at_end (take p.at text) p.mode,
         record {
@@ -176,4 +103,23 @@ cover_before_fault text code line f =
           all_tokens = refl;
         },
       ),
+    )
+
+one_place : (text : List ℕ) (code line code' line' : ℕ) (f : IsFirstFault text code line) (g : IsFirstFault text code' line') → f.place ≡ g.place
+one_place text code line code' line' f g =
+    one_way text f.reached g.reached (last_at_fault text f.place f.wrong f.stands) (last_at_fault text g.place g.wrong g.stands)
+
+pub cover_before_fault : CoverBeforeFault
+cover_before_fault text code place f =
+    let first = place_to_fault text code place f in
+    let here : first.place.at ≡ place = place_kept text code place f in
+    let before = before_fault text code (line_of text place) first in (
+      omega (arith, before.0, here),
+      subst (λ at. (tokens : List Token) × IsTokenCover (take at text) tokens) here before.1,
+      (λ other code' g.
+          let second = place_to_fault text code' other g in
+          let there : second.place.at ≡ other = place_kept text code' other g in
+          let same : first.place ≡ second.place = one_place text code (line_of text place) code' (line_of text other) first second in
+          let at_same : first.place.at ≡ second.place.at = ap (λ p. p.at) same in
+          omega (arith, at_same, here, there)),
     )
