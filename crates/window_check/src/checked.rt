@@ -6,6 +6,7 @@ ghost use Rattle.os_ast.specs.Spelling.{spell};
 ghost use Rattle.os_ast.specs.Views.{program_tree};
 ghost use Rattle.os_ast.specs.Violations.{violations, captured_by_tasks};
 ghost use Rattle.os_ast.specs.Violations as rules;
+ghost use Rattle.os_lexer.specs.Limits.{text_limit};
 
 use os_ast::{Program, Resolved};
 use os_io::List;
@@ -23,7 +24,7 @@ pub struct Checked {
     pub streams: u32,
     // The program was spelled by a text's tokens.
     pub ghost leveled: { IsLeveled (program_tree program) } by { leveled_once (program_tree program) },
-    pub ghost few: { length (spell (program_tree program)) ≤ 262144 },
+    pub ghost few: { length (spell (program_tree program)) ≤ text_limit },
     pub ghost placed: { HasPlaces (program_tree program) },
     // It violates no rule.
     pub ghost lawful: { violations (program_tree program) ≡ [] },

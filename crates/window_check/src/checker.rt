@@ -4,6 +4,7 @@ ghost use Rattle.os_ast.specs.Marks.{HasPlaces};
 ghost use Rattle.os_ast.specs.Notes.Programs.{file, after_items, program_notes};
 ghost use Rattle.os_ast.specs.Spelling.{spell};
 ghost use Rattle.os_ast.specs.Views.{program_tree};
+ghost use Rattle.os_lexer.specs.Limits.{text_limit};
 ghost use Rattle.window_check.specs.Findings.{nothing_found, noted, judged_in};
 ghost use Rattle.window_check.specs.Refusal.{IsAnswer};
 ghost use Rattle.window_check.specs.Room.{HasRoom, items_weight};
@@ -40,7 +41,7 @@ fn judge(alloc: Global, scopes: &mut Scopes, program: &Program) -> Result<Judged
 pub fn check(alloc: Global, program: Program) -> Result<Checked, CheckError>
     // The program is spelled by at most so many tokens, and each of its marks has its place among them.
     requires leveled { IsLeveled (program_tree program) }
-    requires few { length (spell (program_tree program)) ≤ 262144 }
+    requires few { length (spell (program_tree program)) ≤ text_limit }
     requires placed { HasPlaces (program_tree program) }
     // What is accepted is the same program, and `Checked` says that it violates no rule.
     ensures accepted { IfOk result (λ checked. checked.program ≡ program) }

@@ -19,10 +19,11 @@ ghost use Rattle.window_check.specs.Scopes.{around_of};
 use crate::codes::{self, when};
 use crate::found::Found;
 use crate::meanings::meaning;
-use crate::scopes::{Around, MAIN, Scopes};
+use crate::scopes::{Around, Scopes};
 use crate::statements::stmts;
 use os_ast::{Constant, Entity, Form, Function, Item, Name, Owner, Params};
 use os_io::{List, Memory};
+use os_lexer::names::MAIN;
 use std::alloc::Global;
 
 /// Whose body that of a function with this name is: the control program is the function `main`.

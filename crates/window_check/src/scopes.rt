@@ -18,18 +18,10 @@ use crate::declared::Declared;
 use crate::meanings::meaning;
 use os_ast::{Entity, Entry, Form, Owner, What};
 use os_io::Memory;
+use os_lexer::names::{OSIN, OSIN_LEN, OSOUT};
 use std::alloc::Global;
 use std::marker::Model;
 use std::mem;
-
-/// The number of the name `main`.
-pub(crate) const MAIN: u32 = 8;
-
-const OSIN: u32 = 9;
-
-const OSOUT: u32 = 10;
-
-const OSIN_LEN: u32 = 11;
 
 /// The most elements of the local arrays of one function or task.
 const ELEMENTS_LIMIT: u32 = 65_536;
