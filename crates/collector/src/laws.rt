@@ -43,7 +43,8 @@ pub fn meanings_are_states()
 {}
 
 /// There, each activation that isn't done has a line in the report, and no other has: one without an end misses an
-/// element. The producer that such a line names isn't done.
+/// element. The producer that such a line names isn't done, unless the element is one of the input, which no lawful claim
+/// writes.
 pub fn all_but_done_have_lines()
     ensures lines { OfFilled HasItsLines }
     ensures producers { ProducersAreNotDone }

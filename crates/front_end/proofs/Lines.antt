@@ -101,6 +101,8 @@ module _ (marks : MarksAreOfTokens) (kinds : KindsAreSpelled) (tokens : List Tok
   least_is_one v w a b =
       let both = same_both
       (All-contains (IsBefore v) (violations p) w a.least b.among)
-      (All-contains (IsBefore w) (violations p) v b.least a.among) in
-      (both.1, one_line tokens v w (All-contains (IsLined tokens) (violations p) v violations_lined a.among)
-      (All-contains (IsLined tokens) (violations p) w violations_lined b.among) both.0)
+      (All-contains (IsBefore w) (violations p) v b.least a.among) in (
+        both.1,
+        one_line tokens v w (All-contains (IsLined tokens) (violations p) v violations_lined a.among)
+            (All-contains (IsLined tokens) (violations p) w violations_lined b.among) both.0,
+      )

@@ -5,6 +5,7 @@ pub mod BodyBytes
 pub mod Came
 pub mod CommandJobs
 pub mod CommandParses
+pub mod Defaults
 pub mod GivenNumbers
 pub mod Ran
 pub mod RunLaws

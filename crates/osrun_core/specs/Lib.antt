@@ -7,7 +7,8 @@ pub mod Refusal
 pub mod Run
 pub mod Status
 pub mod Telling
--- The laws of programs and of their runs.
+-- The laws of programs, of their runs and of words.
+pub mod Defaults
 pub mod Laws
 -- What restates private functions.
 pub mod Accepting

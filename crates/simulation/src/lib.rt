@@ -6,7 +6,8 @@
 //! one meaning. `proofs/` follows the machine of `os_code` beside the meaning of `cddf_meaning` over such code: names
 //! stand for slots and windows as their declarations are aligned with them. Beside it they show that the code of a lawful
 //! program is valid, part by part: it goes from one height of the operand stack to another, and names only what is there.
-//! `laws` has what comes of it, and beside it that a lawful program finds its names, which needs no code.
+//! `laws` has what comes of it, and beside it that a lawful program finds its names and that the bodies of activations fill
+//! their output windows, which need no code.
 #![tactic(auto)]
 
 pub mod laws;
