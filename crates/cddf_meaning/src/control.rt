@@ -12,12 +12,13 @@ use crate::run::stmts;
 use crate::sites::{Sites, sites_of};
 use crate::state::State;
 use crate::stop::Stop;
-use crate::tasks::{INPUT, INPUT_LENGTH, Main, OUTPUT, main_of, tasks};
+use crate::tasks::{Main, main_of, tasks};
 use crate::unit::Unit;
 use crate::variable::Variable;
 use flow_core::{Control, ControlEnd};
 use os_ast::Program;
 use os_io::{List, Memory};
+use os_lexer::names::{OSIN, OSIN_LEN, OSOUT};
 use std::alloc::Global;
 
 /// The state round the body of `main`: `osin` is stream 0, `osout` stream 1.
@@ -25,9 +26,9 @@ fn state_round(alloc: Global, input_len: u32) -> Result<State, Stop>
     ensures { IfOk result (λ s. s ≡ control_state input_len) }
 {
     let mut state = State::new(alloc, Vec::new(alloc));
-    state.declare_streams(INPUT, 1)?;
-    state.declare_streams(OUTPUT, 1)?;
-    state.declare(INPUT_LENGTH, Variable::Scalar(int(input_len)?))?;
+    state.declare_streams(OSIN, 1)?;
+    state.declare_streams(OSOUT, 1)?;
+    state.declare(OSIN_LEN, Variable::Scalar(int(input_len)?))?;
     Ok(state)
 }
 

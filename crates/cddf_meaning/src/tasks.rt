@@ -22,16 +22,8 @@ use crate::names::item_id;
 use crate::naming::in_task;
 use os_ast::{Declarator, Function, Head, Item, Start, Stmt, TaskSite};
 use os_io::{List, Memory};
+use os_lexer::names::{MAIN, OSIN, OSIN_LEN, OSOUT};
 use std::alloc::Global;
-
-/// The number that the lexer gives `main`.
-const MAIN: u32 = 8;
-/// Those of the names that stand round its body: `osin`, `osout` and `osin_len`.
-pub(crate) const INPUT: u32 = 9;
-
-pub(crate) const OUTPUT: u32 = 10;
-
-pub(crate) const INPUT_LENGTH: u32 = 11;
 
 /// The function `main`, and the items before it.
 #[derive(Clone, Copy)]
@@ -238,15 +230,15 @@ fn known_in_main(alloc: Global, main: &Main<'_>) -> Result<Vec<Known>, Memory>
 {
     let mut known = known_in_file(alloc, main.file)?;
     known.push(Known {
-        id: INPUT,
+        id: OSIN,
         scalar: false,
     })?;
     known.push(Known {
-        id: OUTPUT,
+        id: OSOUT,
         scalar: false,
     })?;
     known.push(Known {
-        id: INPUT_LENGTH,
+        id: OSIN_LEN,
         scalar: true,
     })?;
     for name in param_names(&main.function.params) {

@@ -11,5 +11,6 @@
 mod reading;
 mod text_error;
 
+pub use os_lexer::TEXT_LIMIT;
 pub use reading::{one_answer, read_program};
 pub use text_error::TextError;

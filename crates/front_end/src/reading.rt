@@ -2,6 +2,7 @@ ghost use Rattle.std.specs.Prelude.{◌≤◌, length, IfOk, IfErr};
 ghost use Rattle.front_end.specs.Texts.{AcceptedOrRefused, IsAccepted, IsTrueOf, NeverBoth, OneProgram, OneRefusal};
 ghost use Rattle.os_ast.specs.Views.{program_tree};
 ghost use Rattle.os_lexer.specs.Cover.{IsTokenCover};
+ghost use Rattle.os_lexer.specs.Limits.{text_limit};
 
 use crate::text_error::{TextError, fault_error, syntax_error, violation_error};
 use os_ast::laws::meaning_by_tokens;
@@ -12,7 +13,7 @@ use window_check::{Checked, check, marks_have_places};
 
 /// The program that a text means, checked. A text has at most 262,144 bytes.
 pub fn read_program(alloc: Global, text: &[u8]) -> Result<Checked, TextError>
-    requires { length text.now ≤ 262144 }
+    requires { length text.now ≤ text_limit }
     ensures accepted { IfOk result (λ checked. IsAccepted text.now (program_tree checked.program)) }
     ensures refused { IfErr result (IsTrueOf text.now) }
 {
@@ -25,7 +26,7 @@ pub fn read_program(alloc: Global, text: &[u8]) -> Result<Checked, TextError>
 /// The same from the tokens of a text on.
 fn read_tokens(alloc: Global, text: &[u8], tokens: &[Token]) -> Result<Checked, TextError>
     requires cover { IsTokenCover text.now tokens.now }
-    requires few { length tokens.now ≤ 262144 }
+    requires few { length tokens.now ≤ text_limit }
     ensures accepted { IfOk result (λ checked. IsAccepted text.now (program_tree checked.program)) }
     ensures refused { IfErr result (IsTrueOf text.now) }
 {

@@ -27,10 +27,8 @@ use crate::told::Told;
 use os_ast::{Function, Item, Name, Owner, Params, Stmt};
 use os_code::{Instr, Site, Unit};
 use os_io::{List, Memory};
+use os_lexer::names::MAIN;
 use std::alloc::Global;
-
-/// The number of the name `main`.
-const MAIN: u32 = 8;
 
 /// A code while it is made: the draft of its instructions, and its units and sites so far.
 #[derive(Debug, Drop)]

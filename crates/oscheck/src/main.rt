@@ -4,16 +4,13 @@
 
 mod sentences;
 
-use front_end::{TextError, read_program};
+use front_end::{TEXT_LIMIT, TextError, read_program};
 use os_io::{HostFiles, Loaded, read_whole};
 use sentences::{NO_PROGRAM, sentence};
 use std::alloc::Global;
 use std::process::ExitCode;
 use std::rt::Env;
 use std::{env, io};
-
-/// The most bytes that a text has.
-const TEXT_LIMIT: u64 = 262_144;
 
 /// What is said of a file, from the best to the worst. The status of the program is that of the worst.
 #[derive(Clone, Copy, PartialEq, Eq, PartialOrd, Ord)]
@@ -62,7 +59,7 @@ impl From<TextError> for Wrong {
 
 /// Judges the text of a file.
 fn judge<R: std::rt::Files>(rt: &R, alloc: Global, name: &str) -> Result<(), Wrong> {
-    match read_whole(alloc, &mut HostFiles::new(rt), name, TEXT_LIMIT) {
+    match read_whole(alloc, &mut HostFiles::new(rt), name, TEXT_LIMIT as u64) {
         Ok(Loaded::Whole(text)) => {
             read_program(alloc, &text)?;
             Ok(())

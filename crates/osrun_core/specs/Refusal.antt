@@ -3,6 +3,7 @@ use Rattle.std.specs.Prelude.{ℕ, List, ◌++◌, codes}
 use Rattle.std.specs.Fmt.{decimal}
 use Rattle.collector.specs.Line.{line}
 use Rattle.front_end.specs.Texts.{IsRefused}
+use Rattle.os_lexer.specs.Limits.{text_limit}
 use Rattle.front_end.specs.declared.text_error.TextError.TheVariants as errors
 use Rattle.osrun_core.specs.declared.refusal.Subject.{Subject}
 use Rattle.osrun_core.specs.declared.refusal.Subject.TheVariants.{Program, Input}
@@ -13,7 +14,7 @@ use Rattle.osrun_core.specs.declared.status.Status.TheVariants as status
 
 -- how many bytes a file may have
 abbrev pub limit_of : Subject → ℕ
-limit_of Program = 262144
+limit_of Program = text_limit
 limit_of Input = 4194304
 
 abbrev pub subject_name : Subject → List ℕ

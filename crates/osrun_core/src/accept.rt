@@ -2,6 +2,7 @@ ghost use Rattle.std.specs.Prelude.{◌≡◌, ◌≤◌, ◌⊎◌, length, IfO
 ghost use Rattle.front_end.specs.Texts.{IsAccepted};
 ghost use Rattle.os_ast.specs.Trees.{ProgramTree};
 ghost use Rattle.os_ast.specs.Views.{program_tree};
+ghost use Rattle.os_lexer.specs.Limits.{text_limit};
 ghost use Rattle.osrun_core.specs.Refusal.{IsRefusalOf};
 ghost use Rattle.osrun_core.specs.declared.refusal.Refusal.{Refusal as Cause};
 
@@ -12,7 +13,7 @@ use window_check::Checked;
 
 /// The program that a text is accepted as, with what its names mean.
 pub fn accept(alloc: Global, text: &[u8]) -> Result<Checked, Refusal>
-    requires { length text.now ≤ 262144 }
+    requires { length text.now ≤ text_limit }
     ensures program { IfOk result (λ checked. IsAccepted text.now (program_tree checked.program)) }
     ensures refused { IfErr result (λ refusal. (refusal ≡ Refusal.Memory) ⊎ IsRefusalOf text.now refusal) }
     ensures accepted { (p : ProgramTree) → IsAccepted text.now p → IfErr result (λ refusal. refusal ≡ Refusal.Memory) }

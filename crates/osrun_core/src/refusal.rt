@@ -4,6 +4,7 @@ ghost use Rattle.osrun_core.specs.Refusal.{limit_of};
 use front_end::TextError;
 use lowering::LowerError;
 use os_io::Memory;
+use os_lexer::TEXT_LIMIT;
 
 /// Which of the two files that a run reads.
 #[derive(Clone, Copy, Debug, PartialEq, Eq)]
@@ -18,7 +19,7 @@ impl Subject {
         ensures { result ≡ limit_of self }
     {
         match self {
-            Subject::Program => 262_144,
+            Subject::Program => TEXT_LIMIT as u64,
             Subject::Input => 4_194_304,
         }
     }
