@@ -5,6 +5,8 @@ pub mod BodyBytes
 pub mod Came
 pub mod CommandJobs
 pub mod CommandParses
+pub mod FewWritten
+pub mod GenRan
 pub mod GivenNumbers
 pub mod Ran
 pub mod TasksRun

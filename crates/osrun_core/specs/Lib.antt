@@ -2,6 +2,7 @@
 pub mod Arguments
 pub mod Command
 pub mod Delivers
+pub mod Gen
 pub mod Loading
 pub mod Refusal
 pub mod Run
@@ -9,6 +10,7 @@ pub mod Status
 pub mod Telling
 -- What restates private functions.
 pub mod Accepting
+pub mod GenAnswer
 pub mod JobAnswer
 pub mod Loads
 pub mod Parsed
