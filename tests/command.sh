@@ -186,6 +186,43 @@ tr '\0' '\377' <million.bin >ones.bin
 run run invert.c million.bin
 agree "a megabyte in blocks of 64" 0 ones.bin "control done / output 1048576 of 1048576"
 
+# Bytes that are made from a seed and run through a kernel. The lines were found by another program.
+# lines NAME LINE..: compares the last run with the status 0, these lines as its output, and an empty report.
+lines() {
+    printf '%s\n' "${@:2}" >wanted
+    agree "$1" 0 wanted ""
+}
+run gen 1 2
+lines "eight bytes that are made" "seed 1 blocks 2" "input 8 sum 1363" "output 8 sum 1172" "status 0"
+run gen 0 1
+lines "four bytes that are made from 0" "seed 0 blocks 1" "input 4 sum 325" "output 4 sum 607" "status 0"
+printf '\306\176\201\153\113\373\342\373' >made.bin
+run run "$top/examples/lift.c" made.bin
+check "the bytes of a seed, lifted" 0 a2b876ea23b0ee19 "control done / output 8 of 8"
+cp out lifted.bin
+run run "$top/examples/unlift.c" lifted.bin
+check "and taken back" 0 c67e816b4bfbe2fb "control done / output 8 of 8"
+for workers in 1 64; do
+    run gen 7 65536 --workers "$workers"
+    lines "as many blocks as there may be, by $workers workers" "seed 7 blocks 65536" "input 262144 sum 33428608" \
+        "output 262144 sum 33438952" "status 0"
+done
+run gen 4294967295 65536
+lines "the greatest seed" "seed 4294967295 blocks 65536" "input 262144 sum 33388960" "output 262144 sum 33467832" "status 0"
+for words in "" "1" "1 0" "1 65537" "4294967296 1" "-1 1" "1 2 3" "1 2 --budget 5" "1 2 --workers 65" "--help"; do
+    # shellcheck disable=SC2086
+    run gen $words
+    check "bytes that can't be made: gen $words" 2 "" usage
+done
+"$osrun" gen 1 2 >/dev/full 2>report
+status=$?
+: >out
+check "a full standard output for lines" 6 "" ""
+"$osrun" gen 1 2 >out 2>/dev/full
+status=$?
+: >report
+lines "a full standard error, of which nothing is asked" "seed 1 blocks 2" "input 8 sum 1363" "output 8 sum 1172" "status 0"
+
 # A reader that leaves: it is gone before the output comes.
 { sleep 1; "$osrun" run invert.c million.bin 2>report; echo "$?" >left; } | :
 status=$(cat left)
@@ -308,7 +345,7 @@ status=$?
 check "a refusal and a full standard error" 3 "" ""
 
 # Whichever allocation fails, the status is 7 and nothing is written, or the answer is that of ample memory. A run
-# makes fewer than 400 of them, and so do bad words.
+# makes fewer than 400 of them, and so do bytes that are made and bad words.
 compiler=$(command -v cc || command -v clang || echo "$(dirname "$(readlink -f "$(command -v rt)")")/../toolchain/bin/clang")
 "$compiler" -shared -fPIC -nostdlib -O1 -o failing_allocation.so "$top/tests/failing_allocation.c"
 # run_without NUMBER WORD..: runs the words, and lets the allocation of that number fail.
@@ -323,6 +360,12 @@ for number in $(seq 1 399); do
     else
         check "allocation $number of a run fails" 0 04030201 "control done / output 4 of 4"
     fi
+    run_without "$number" gen 1 2
+    if [ "$status" = 7 ]; then
+        check "allocation $number of bytes that are made fails" 7 "" ""
+    else
+        lines "allocation $number of bytes that are made fails" "seed 1 blocks 2" "input 8 sum 1363" "output 8 sum 1172" "status 0"
+    fi
     run_without "$number" run --help
     if [ "$status" = 7 ]; then
         check "allocation $number of bad words fails" 7 "" ""
@@ -334,6 +377,8 @@ run_without 1 run first.c in.bin
 check "the first allocation fails" 7 "" ""
 run_without 400 run first.c in.bin
 check "a run makes fewer allocations" 0 04030201 "control done / output 4 of 4"
+run_without 400 gen 1 2
+lines "bytes that are made make fewer allocations" "seed 1 blocks 2" "input 8 sum 1363" "output 8 sum 1172" "status 0"
 run_without 400 run --help
 check "bad words make fewer allocations" 2 "" usage
 

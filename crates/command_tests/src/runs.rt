@@ -3,6 +3,7 @@
 mod calls;
 mod control_ends;
 mod delivery;
+mod generated;
 mod kernel_runs;
 mod ordering;
 mod refusals;

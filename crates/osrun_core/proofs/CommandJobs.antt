@@ -7,38 +7,38 @@ use Rattle.clap.specs.Words.{IsUnsignedIn, Kinds, ReadsOne, Text, fault_of, foun
 use Rattle.clap.specs.declared.parser.matches.ArgMatches.{ArgMatches}
 use Rattle.clap.proofs.WalkLemmas.{one_text-rows}
 use Rattle.osrun_core.specs.Arguments.{Argument, name, number, option, id_of, number_in}
-use Rattle.osrun_core.specs.Command.{CommandForm, Job, app_of_form, job_by, unless}
+use Rattle.osrun_core.specs.Command.{CommandForm, Request, app_of_form, request_by, unless}
 use Rattle.osrun_core.specs.Parsed.{IsNumber, IsNumberGiven, IsParsedBy}
-use Rattle.osrun_core.specs.declared.job.Job.{Job as Lent}
+use Rattle.osrun_core.specs.declared.job.Request.{Request as Lent}
 use Rattle.osrun_core.specs.declared.words.words_error.WordsError.{WordsError}
 use Rattle.osrun_core.specs.declared.words.words_error.WordsError.TheVariants as errors
 
--- ---- a job
+-- ---- a request
 
--- words with no fault name the job of the matches that the parse found
-pub job_read : (form : CommandForm) (words : List Text) (m : ArgMatches) (job : Job) → IsParsedBy (app_of_form form) words m
-    → form.job (rows_of (found_of m)) ≡ job → job_by form words ≡ Some job
-unfolding job_by
-job_read form words m job p is =
-    ap (λ (k : Kinds). unless k (form.job (matches_of (app_of_form form) words))) p.no_fault
-    ∙ ap Some (ap form.job (sym p.rows) ∙ is)
+-- words with no fault ask for what the matches that the parse found ask for
+pub request_read : (form : CommandForm) (words : List Text) (m : ArgMatches) (request : Request) → IsParsedBy (app_of_form form) words m
+    → form.request (rows_of (found_of m)) ≡ request → request_by form words ≡ Some request
+unfolding request_by
+request_read form words m request p is =
+    ap (λ (k : Kinds). unless k (form.request (matches_of (app_of_form form) words))) p.no_fault
+    ∙ ap Some (ap form.request (sym p.rows) ∙ is)
 
--- and words with a fault name none
-no_job : (form : CommandForm) (words : List Text) → (fault_of (app_of_form form) words ≡ [] → ⊥) → job_by form words ≡ None
-unfolding job_by
-no_job form words fault = go (fault_of (app_of_form form) words) fault
+-- and words with a fault ask for nothing
+no_request : (form : CommandForm) (words : List Text) → (fault_of (app_of_form form) words ≡ [] → ⊥) → request_by form words ≡ None
+unfolding request_by
+no_request form words fault = go (fault_of (app_of_form form) words) fault
   where
-    go : (k : Kinds) → (k ≡ [] → ⊥) → unless k (form.job (matches_of (app_of_form form) words)) ≡ None
+    go : (k : Kinds) → (k ≡ [] → ⊥) → unless k (form.request (matches_of (app_of_form form) words)) ≡ None
     go [] h = absurd (h refl)
     go (k ∷ ks) h = refl
 
 -- a reader that hands an error on refuses words with a fault
 pub refused : (form : CommandForm) (words : List Text) (r : Result Lent WordsError) (e : WordsError) → IsErrAnd r (λ y. y ≡ e)
     → (◌≡◌ {A = Result ArgMatches WordsError} (Err e) (Err errors.Refused) → fault_of (app_of_form form) words ≡ [] → ⊥)
-    → r ≡ Err errors.Refused → job_by form words ≡ None
+    → r ≡ Err errors.Refused → request_by form words ≡ None
 refused form words r e is faulty refuses =
     let same : errors.Refused ≡ e = subst (λ (x : Result Lent WordsError). IsErrAnd x (λ y. y ≡ e)) refuses is in
-    no_job form words (faulty (ap Err (sym same)))
+    no_request form words (faulty (ap Err (sym same)))
 
 -- ---- a number
 

@@ -6,6 +6,8 @@ pub mod Came
 pub mod CommandJobs
 pub mod CommandParses
 pub mod Defaults
+pub mod FewWritten
+pub mod GenRan
 pub mod GivenNumbers
 pub mod Ran
 pub mod RunLaws

@@ -23,7 +23,7 @@ use Rattle.stream_match.specs.Layout.{IsLayoutOf}
 use Rattle.stream_match.specs.declared.layout.Layout.{Layout}
 
 module _ {O E : Type 0} (job : Job) (p : ProgramTree) (input output : List ℕ) (layout : Layout) (ends : Ends) (end : ControlEnd)
-    (ran : IsRunOf job p input output layout ends end) (of_out : SinkView O) (out_old out_new : O) (of_report : SinkView E) (report_old report_new : E) (answered : Status) where
+    (ran : IsRunOf job.task_budget job.control_budget p input output layout ends end) (of_out : SinkView O) (out_old out_new : O) (of_report : SinkView E) (report_old report_new : E) (answered : Status) where
   -- the run that was made
   abbrev pub the_run : ProgramRun
   the_run = record { control = ran.made; input = input; ends = ends }

@@ -4,8 +4,11 @@ use Rattle.std.specs.Str.{bytes_eq}
 use Rattle.std.specs.declared.string.String.{String}
 use Rattle.std.specs.declared.alloc.Global.{Global}
 use Rattle.clap.specs.Words.{App, Kinds, Row, Text, fault_of, matches_of}
-use Rattle.osrun_core.specs.Arguments.{Argument, name, option, name_in, number_in, simple_command}
+use Rattle.osrun_core.specs.Arguments.{Argument, name, number, option, name_in, number_in, simple_command}
+use Rattle.osrun_core.specs.declared.job.GenJob.{GenJob as LentGen}
 use Rattle.osrun_core.specs.declared.job.Job.{Job as Lent}
+use Rattle.osrun_core.specs.declared.job.Request.{Request as LentRequest}
+use Rattle.osrun_core.specs.declared.job.Request.TheVariants as lent
 use Rattle.osrun_core.specs.declared.refusal.Subject.{Subject}
 use Rattle.osrun_core.specs.declared.refusal.Subject.TheVariants.{Program, Input}
 
@@ -19,6 +22,27 @@ pub record Job : Type 0 where
   pub task_budget : ℕ
   pub control_budget : ℕ
 
+-- a run of the kernel `lift` over bytes that are made from a seed, four for each block, with as many workers
+pub record GenJob : Type 0 where
+  pub seed : ℕ
+  pub blocks : ℕ
+  pub workers : ℕ
+
+-- what words may ask for
+pub data Request : Type 0 where
+  Run : Job → Request
+  Gen : GenJob → Request
+
+-- the run, where it is one
+abbrev pub run_in : Request → Option Job
+run_in (Run job) = Some job
+run_in (Gen job) = None
+
+-- the bytes to make, where it is that
+abbrev pub gen_in : Request → Option GenJob
+gen_in (Run job) = None
+gen_in (Gen job) = Some job
+
 -- a file that a job reads: what it is to the job, and its name
 pub record JobFile : Type 0 where
   pub subject : Subject
@@ -31,11 +55,11 @@ files_of job =
 
 -- ---- the commands
 
--- a command: the word that picks it, its arguments, and the job that these are given
+-- a command: the word that picks it, its arguments, and what is asked for where these are given
 pub record CommandForm : Type 0 where
   pub word : Text
   pub arguments : List Argument
-  pub job : List Row → Job
+  pub request : List Row → Request
 
 abbrev pub workers : Argument
 workers = option (codes "workers") (codes "4") 1 64
@@ -52,17 +76,30 @@ run = record {
   word = codes "run";
   arguments =
       name (codes "PROGRAM") ∷ name (codes "INPUT") ∷ workers ∷ task_budget ∷ control_budget ∷ [];
-  job = λ rows. record {
+  request = λ rows. Run (record {
     program = name_in rows (codes "PROGRAM");
     input = name_in rows (codes "INPUT");
     workers = number_in rows (codes "workers");
     task_budget = number_in rows (codes "budget");
     control_budget = number_in rows (codes "control");
-  };
+  });
+}
+
+-- `gen SEED BLOCKS [--workers N]`
+abbrev pub gen : CommandForm
+gen = record {
+  word = codes "gen";
+  arguments =
+      number (codes "SEED") 0 4294967295 ∷ number (codes "BLOCKS") 1 65536 ∷ workers ∷ [];
+  request = λ rows. Gen (record {
+    seed = number_in rows (codes "SEED");
+    blocks = number_in rows (codes "BLOCKS");
+    workers = number_in rows (codes "workers");
+  });
 }
 
 abbrev pub commands : List CommandForm
-commands = run ∷ []
+commands = run ∷ gen ∷ []
 
 -- ---- the words
 
@@ -70,22 +107,30 @@ commands = run ∷ []
 abbrev pub app_of_form : CommandForm → App
 app_of_form form = simple_command form.word form.arguments
 
--- a job, unless there is a fault
-abbrev pub unless : Kinds → Job → Option Job
-unless [] job = Some job
-unless (fault ∷ more) job = None
+-- a request, unless there is a fault
+abbrev pub unless : Kinds → Request → Option Request
+unless [] request = Some request
+unless (fault ∷ more) request = None
 
--- the job in the matches of the simple command, unless the words have a fault
-unfoldable pub job_by : CommandForm → List Text → Option Job
-job_by form words =
-    unless (fault_of (app_of_form form) words) (form.job (matches_of (app_of_form form) words))
+-- what the matches of the simple command ask for, unless the words have a fault
+unfoldable pub request_by : CommandForm → List Text → Option Request
+request_by form words =
+    unless (fault_of (app_of_form form) words) (form.request (matches_of (app_of_form form) words))
 
--- The job that the words name. The first word picks the command, and all words are read by it: the first
--- one stands in the place of the program's name.
-abbrev pub command : List Text → Option Job
+-- What the words ask for. The first word picks the command, and all words are read by it: the first one
+-- stands in the place of the program's name.
+abbrev pub command : List Text → Option Request
 command [] = None
 command (first ∷ rest) =
-    option_and_then (λ form. job_by form (first ∷ rest)) (find (λ form. bytes_eq form.word first) commands)
+    option_and_then (λ form. request_by form (first ∷ rest)) (find (λ form. bytes_eq form.word first) commands)
+
+-- the run that the words name
+abbrev pub named_run : List Text → Option Job
+named_run words = option_and_then run_in (command words)
+
+-- the bytes that the words ask to be made
+abbrev pub named_gen : List Text → Option GenJob
+named_gen words = option_and_then gen_in (command words)
 
 -- the numbers of a job are within their bounds
 pub record IsWithin (job : Job) : Type 0 where
@@ -93,6 +138,17 @@ pub record IsWithin (job : Job) : Type 0 where
   pub few_workers : job.workers ≤ 64
   pub task_turns : job.task_budget ≤ 1000000000
   pub control_turns : job.control_budget ≤ 1000000000
+
+pub record IsGenWithin (job : GenJob) : Type 0 where
+  pub seed_fits : job.seed ≤ 4294967295
+  pub some_blocks : 1 ≤ job.blocks
+  pub few_blocks : job.blocks ≤ 65536
+  pub some_workers : 1 ≤ job.workers
+  pub few_workers : job.workers ≤ 64
+
+abbrev pub IsRequestWithin : Request → Type 0
+IsRequestWithin (Run job) = IsWithin job
+IsRequestWithin (Gen job) = IsGenWithin job
 
 -- ---- what the code's values show
 
@@ -105,7 +161,14 @@ abbrev pub job_of : Lent → Job
 job_of job = record {
   program = job.program.now;
   input = job.input.now;
-  workers = job.workers;
-  task_budget = job.task_budget;
-  control_budget = job.control_budget;
+  workers = job.terms.workers;
+  task_budget = job.terms.task_budget;
+  control_budget = job.terms.control_budget;
 }
+
+abbrev pub gen_of : LentGen → GenJob
+gen_of job = record { seed = job.seed; blocks = job.blocks; workers = job.workers }
+
+abbrev pub request_of : LentRequest → Request
+request_of (lent.Run job) = Run (job_of job)
+request_of (lent.Gen job) = Gen (gen_of job)

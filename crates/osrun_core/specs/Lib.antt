@@ -2,6 +2,7 @@
 pub mod Arguments
 pub mod Command
 pub mod Delivers
+pub mod Gen
 pub mod Loading
 pub mod Refusal
 pub mod Run
@@ -12,6 +13,7 @@ pub mod Defaults
 pub mod Laws
 -- What restates private functions.
 pub mod Accepting
+pub mod GenAnswer
 pub mod JobAnswer
 pub mod Loads
 pub mod Parsed

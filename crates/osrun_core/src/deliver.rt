@@ -30,7 +30,7 @@ pub fn deliver<O: Sink, E: Sink>(out: &mut O, report: &mut E, run: &Run) -> Stat
 }
 
 /// The status of a run: whether every activation and the control program are Done.
-fn run_status(ends: &Ends, control: ControlEnd) -> Status
+pub fn run_status(ends: &Ends, control: ControlEnd) -> Status
     ensures { number_of result ≡ status_of ends.now.ends control }
 {
     if is_done_control(control) && ends.ends.as_slice().iter().all(is_done) {

@@ -52,6 +52,6 @@ pub fn run_job<R: Threads + Sync, F: Files, O: Sink, E: Sink, G: Gate>(
     let text = load(alloc, files, job.program, Subject::Program)?;
     let checked = accept(alloc, &text)?;
     let input = load(alloc, files, job.input, Subject::Input)?;
-    let run = run_program(rt, alloc, job, &checked, &input, gate)?;
+    let run = run_program(rt, alloc, job.terms, &checked, &input, gate)?;
     Ok(deliver(out, report, &run))
 }

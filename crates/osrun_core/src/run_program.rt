@@ -1,9 +1,8 @@
 ghost use Rattle.std.specs.Prelude.{◌≡◌, ◌≤◌, length, IfOk, IfErr};
 ghost use Rattle.os_ast.specs.Views.{program_tree};
-ghost use Rattle.osrun_core.specs.Command.{IsWithin, job_of};
-ghost use Rattle.osrun_core.specs.RunOf.{IsRunOf};
+ghost use Rattle.osrun_core.specs.RunOf.{AreTerms, IsRunOf};
 
-use crate::job::Job;
+use crate::job::Terms;
 use crate::lay_out::lay_out;
 use crate::refusal::Refusal;
 use crate::run_tasks::run_tasks;
@@ -31,21 +30,21 @@ pub struct Run {
 pub fn run_program<R: Threads + Sync, G: Gate>(
     rt: &R,
     alloc: Global,
-    job: &Job<'_>,
+    terms: Terms,
     checked: &Checked,
     input: &[u8],
     gate: &G,
 ) -> Result<Run, Refusal>
-    requires within { IsWithin (job_of job.now) }
+    requires within { AreTerms terms }
     requires few { length input.now ≤ 4194304 }
-    ensures run { IfOk result (λ run. IsRunOf (job_of job.now) (program_tree checked.now.program) input.now run.output.items run.layout run.ends run.control) }
+    ensures run { IfOk result (λ run. IsRunOf terms.task_budget terms.control_budget (program_tree checked.now.program) input.now run.output.items run.layout run.ends run.control) }
     ensures memory { IfErr result (λ refusal. refusal ≡ Refusal.Memory) }
 {
     let code = lower(alloc, checked)?;
-    let control = run_control(alloc, &code, input.len() as u32, job.control_budget)?;
+    let control = run_control(alloc, &code, input.len() as u32, terms.control_budget)?;
     let layout = lay_out(alloc, &code, &control, input)?;
     let plan = build(alloc, &layout, input)?;
-    let ends = run_tasks(rt, alloc, job, &code, &control, &plan, gate)?;
+    let ends = run_tasks(rt, alloc, terms, &code, &control, &plan, gate)?;
     let output = output_bytes(alloc, &ends)?;
     Ok(Run {
         output,

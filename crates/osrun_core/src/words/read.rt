@@ -1,14 +1,16 @@
 ghost use Rattle.std.specs.Prelude.{◌≡◌, ◌≤◌, IfOk, Err, None, Some};
 ghost use Rattle.clap.specs.Words.{found_of, rows_of};
 ghost use Rattle.osrun_core.specs.Arguments.{argument_of, id_of, name_in, number_in};
-ghost use Rattle.osrun_core.specs.Command.{IsWithin, command, job_by, job_of, run, texts};
+ghost use Rattle.osrun_core.specs.Command.{IsRequestWithin, command, gen, request_by, request_of, run, texts};
 ghost use Rattle.osrun_core.specs.Parsed.{IsNumberFor, IsNumberGiven};
 ghost use Rattle.osrun_core.specs.declared.words.words_error.WordsError.TheVariants as errors;
 
-use crate::job::Job;
+use crate::job::{GenJob, Job, Request, Terms};
 use crate::words::argument::Argument;
 use crate::words::parse::parse;
-use crate::words::table::{CONTROL_BUDGET, INPUT, PROGRAM, RUN, TASK_BUDGET, WORKERS};
+use crate::words::table::{
+    BLOCKS, CONTROL_BUDGET, GEN, INPUT, PROGRAM, RUN, SEED, TASK_BUDGET, WORKERS,
+};
 use crate::words::words_error::WordsError;
 use clap::ArgMatches;
 use std::alloc::Global;
@@ -21,7 +23,7 @@ fn name_of<'w>(matches: &ArgMatches<'w>, argument: Argument<'_>) -> &'w str
 }
 
 /// The number that an argument was given.
-pub fn number_of(matches: &ArgMatches<'_>, argument: Argument<'_>) -> u64
+fn number_of(matches: &ArgMatches<'_>, argument: Argument<'_>) -> u64
     requires { IsNumberGiven matches.now (argument_of argument) }
     ensures value { result ≡ number_in (rows_of (found_of matches.now)) (id_of (argument_of argument.entry)) }
     ensures within { IsNumberFor (argument_of argument.entry) result }
@@ -30,25 +32,41 @@ pub fn number_of(matches: &ArgMatches<'_>, argument: Argument<'_>) -> u64
 }
 
 /// The job of `run`.
-fn read_run<'w>(alloc: Global, words: &'w [String]) -> Result<Job<'w>, WordsError>
-    ensures job { IfOk result (λ job. job_by run (texts words.entry.now) ≡ Some (job_of job)) }
-    ensures within { IfOk result (λ job. IsWithin (job_of job)) }
-    ensures refused { result ≡ Err errors.Refused → job_by run (texts words.entry.now) ≡ None }
+fn read_run<'w>(alloc: Global, words: &'w [String]) -> Result<Request<'w>, WordsError>
+    ensures request { IfOk result (λ request. request_by run (texts words.entry.now) ≡ Some (request_of request)) }
+    ensures within { IfOk result (λ request. IsRequestWithin (request_of request)) }
+    ensures refused { result ≡ Err errors.Refused → request_by run (texts words.entry.now) ≡ None }
 {
     let matches = parse(alloc, RUN, words)?;
-    Ok(Job {
+    Ok(Request::Run(Job {
         program: name_of(&matches, PROGRAM),
         input: name_of(&matches, INPUT),
-        workers: number_of(&matches, WORKERS) as u32,
-        task_budget: number_of(&matches, TASK_BUDGET),
-        control_budget: number_of(&matches, CONTROL_BUDGET),
-    })
+        terms: Terms {
+            workers: number_of(&matches, WORKERS) as u32,
+            task_budget: number_of(&matches, TASK_BUDGET),
+            control_budget: number_of(&matches, CONTROL_BUDGET),
+        },
+    }))
 }
 
-/// The job that the words name.
-pub fn command<'w>(alloc: Global, words: &'w [String]) -> Result<Job<'w>, WordsError>
-    ensures job { IfOk result (λ job. command (texts words.entry.now) ≡ Some (job_of job)) }
-    ensures within { IfOk result (λ job. IsWithin (job_of job)) }
+/// The job of `gen`.
+fn read_gen<'w>(alloc: Global, words: &'w [String]) -> Result<Request<'w>, WordsError>
+    ensures request { IfOk result (λ request. request_by gen (texts words.entry.now) ≡ Some (request_of request)) }
+    ensures within { IfOk result (λ request. IsRequestWithin (request_of request)) }
+    ensures refused { result ≡ Err errors.Refused → request_by gen (texts words.entry.now) ≡ None }
+{
+    let matches = parse(alloc, GEN, words)?;
+    Ok(Request::Gen(GenJob {
+        seed: number_of(&matches, SEED) as u32,
+        blocks: number_of(&matches, BLOCKS) as u32,
+        workers: number_of(&matches, WORKERS) as u32,
+    }))
+}
+
+/// What the words ask for.
+pub fn command<'w>(alloc: Global, words: &'w [String]) -> Result<Request<'w>, WordsError>
+    ensures request { IfOk result (λ request. command (texts words.entry.now) ≡ Some (request_of request)) }
+    ensures within { IfOk result (λ request. IsRequestWithin (request_of request)) }
     ensures refused { result ≡ Err errors.Refused → command (texts words.entry.now) ≡ None }
 {
     let Some(first) = words.first() else {
@@ -56,6 +74,7 @@ pub fn command<'w>(alloc: Global, words: &'w [String]) -> Result<Job<'w>, WordsE
     };
     match first.as_str() {
         "run" => read_run(alloc, words),
+        "gen" => read_gen(alloc, words),
         _ => Err(WordsError::Refused),
     }
 }

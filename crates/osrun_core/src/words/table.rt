@@ -38,8 +38,28 @@ pub const CONTROL_BUDGET: Argument<'static> = Argument::Option {
     most: 1_000_000_000,
 };
 
+/// What the bytes are made from.
+pub const SEED: Argument<'static> = Argument::Number {
+    id: "SEED",
+    least: 0,
+    most: 4_294_967_295,
+};
+
+/// How many blocks of four bytes are made.
+pub const BLOCKS: Argument<'static> = Argument::Number {
+    id: "BLOCKS",
+    least: 1,
+    most: 65_536,
+};
+
 /// Runs a program over an input.
 pub const RUN: CommandForm<'static> = CommandForm {
     word: "run",
     arguments: &[PROGRAM, INPUT, WORKERS, TASK_BUDGET, CONTROL_BUDGET],
+};
+
+/// Makes bytes and runs a kernel over them.
+pub const GEN: CommandForm<'static> = CommandForm {
+    word: "gen",
+    arguments: &[SEED, BLOCKS, WORKERS],
 };

@@ -1,7 +1,5 @@
-use crate::words::argument::Argument;
-use crate::words::parse::parse;
-use crate::words::read::{command, number_of};
-use crate::words::table::{CommandForm, WORKERS};
+use crate::job::Request;
+use crate::words::read::command;
 use crate::words::words_error::WordsError;
 use std::alloc::Global;
 use std::process::Abort;
@@ -23,13 +21,18 @@ fn reason_of(error: WordsError) -> &'static str {
     }
 }
 
-/// The names and numbers of the job that the words name, parted by bars.
+/// The names and numbers of what the words ask for, parted by bars.
 fn job_of(alloc: Global, words: &[String]) -> Result<String, Fail> {
     let text = match command(alloc, words) {
-        Ok(job) => format!(in alloc;
+        Ok(Request::Run(job)) => format!(in alloc;
             "{}|{}|{}|{}|{}",
-            job.program, job.input, job.workers, job.task_budget, job.control_budget
+            job.program,
+            job.input,
+            job.terms.workers,
+            job.terms.task_budget,
+            job.terms.control_budget
         )?,
+        Ok(Request::Gen(job)) => format!(in alloc; "{}|{}|{}", job.seed, job.blocks, job.workers)?,
         Err(error) => String::from_str(alloc, reason_of(error))?,
     };
     Ok(text)
@@ -64,7 +67,8 @@ fn refuses_no_words_and_other_commands(rt: HostRuntime) -> Result<(), Fail> {
         &[
             "",
             "stop",
-            "gen|1|2",
+            "GEN|1|2",
+            "gen |1|2",
             "RUN|p.c|in",
             "run |p.c|in",
             "|run|p.c|in",
@@ -232,59 +236,38 @@ fn refuses_requests_for_help(rt: HostRuntime) -> Result<(), Fail> {
     )
 }
 
-const FIRST: Argument<'static> = Argument::Number {
-    id: "FIRST",
-    least: 0,
-    most: 4_294_967_295,
-};
-
-const SECOND: Argument<'static> = Argument::Number {
-    id: "SECOND",
-    least: 1,
-    most: 65_536,
-};
-
-/// A command with numbers that have to be given.
-const NUMBERS: CommandForm<'static> = CommandForm {
-    word: "numbers",
-    arguments: &[FIRST, SECOND, WORKERS],
-};
-
-fn numbers_of(alloc: Global, words: &[String]) -> Result<String, Fail> {
-    let text = match parse(alloc, NUMBERS, words) {
-        Ok(matches) => format!(in alloc;
-            "{}|{}|{}",
-            number_of(&matches, FIRST),
-            number_of(&matches, SECOND),
-            number_of(&matches, WORKERS)
-        )?,
-        Err(error) => String::from_str(alloc, reason_of(error))?,
-    };
-    Ok(text)
-}
-
 #[test]
 fn reads_numbers_that_have_to_be_given(rt: HostRuntime) -> Result<(), Fail> {
-    let cases = [
-        ("numbers|0|1", "0|1|4"),
-        ("numbers|4294967295|65536", "4294967295|65536|4"),
-        ("numbers|--workers=64|+7|0001", "7|1|64"),
-        ("numbers|4294967296|1", "refused"),
-        ("numbers|1|0", "refused"),
-        ("numbers|1|65537", "refused"),
-        ("numbers|-1|1", "refused"),
-        ("numbers|--|-0|1", "refused"),
-        ("numbers||1", "refused"),
-        ("numbers|1", "refused"),
-        ("numbers", "refused"),
-        ("numbers|1|1|1", "refused"),
-        ("numbers|--help", "refused"),
-    ];
-    let alloc = rt.alloc();
-    for (line, wanted) in cases.as_slice() {
-        let words = words_of(alloc, line)?;
-        let numbers = numbers_of(alloc, &words)?;
-        assert!(rt; numbers.as_str() == *wanted, "{line}: {numbers}");
-    }
-    Ok(())
+    has_jobs(
+        &rt,
+        &[
+            ("gen|0|1", "0|1|4"),
+            ("gen|4294967295|65536", "4294967295|65536|4"),
+            ("gen|--workers=64|+7|0001", "7|1|64"),
+            ("gen|1|--workers|1|2", "1|2|1"),
+        ],
+    )?;
+    refuses(
+        &rt,
+        &[
+            "gen",
+            "gen|1",
+            "gen|--workers=4|1",
+            "gen|4294967296|1",
+            "gen|-1|1",
+            "gen|--|-0|1",
+            "gen||1",
+            "gen|x|1",
+            "gen|1|0",
+            "gen|1|65537",
+            "gen|1|1|1",
+            "gen|1|1|--workers|0",
+            "gen|1|1|--workers|65",
+            "gen|1|1|--budget|5",
+            "gen|1|1|--control=5",
+            "gen|1|1|--seed|5",
+            "gen|--help",
+            "gen|1|1|-h",
+        ],
+    )
 }

@@ -86,6 +86,6 @@ returns-clause-run g c =
     let job = job_of c.args.job.now in
     let input = c.in_ok-input.input.items in
     let accepted = subst (λ text. IsAccepted text p) c.deref.ensures.value c.in_ok-checked.ensures.program in
-    let ran = subst (λ bytes. IsRunOf job p bytes run.output.items run.layout run.ends run.control) c.deref-2.ensures.value c.in_ok-run.ensures.run in
+    let ran = subst (λ bytes. IsRunOf job.task_budget job.control_budget p bytes run.output.items run.layout run.ends run.control) c.deref-2.ensures.value c.in_ok-run.ensures.run in
     answers job p input run.output.items run.layout run.ends run.control ran of_out c.args.out.now c.deliver.new.out of_report c.args.report.now c.deliver.new.report c.deliver.result
     view c.args.files.now c.load.new.files c.load-2.new.files c.in_ok-text.text.items c.in_ok-text.ensures.loaded c.in_ok-input.ensures.loaded c.in_ok-text.ensures.holds opened accepted c.deliver.ensures

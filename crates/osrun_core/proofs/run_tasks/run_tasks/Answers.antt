@@ -12,7 +12,7 @@ pub returns-clause-meaning : goal.returns-clause-meaning
 returns-clause-meaning g c p input runs stands =
     let code = parts_of c.args.code.now in
     let plan = c.args.plan.now in
-    let budget = c.args.job.now.task_budget in
+    let budget = c.args.terms.task_budget in
     let of_ends = subst (λ xs. IfOk c.execute_rounds.result (λ (e : Ends). e.ends ≡ ends_of (plan_meaning plan (frame_outcome code xs budget)))) c.as_slice.ensures c.execute_rounds.ensures.ends in
     let of_output = subst (λ xs. IfOk c.execute_rounds.result (λ (e : Ends). e.output ≡ sink_elements plan (plan_meaning plan (frame_outcome code xs budget)))) c.as_slice.ensures c.execute_rounds.ensures.output in
     ends_if code p c.args.control.now.activations budget runs c.requires.fit
@@ -20,5 +20,5 @@ returns-clause-meaning g c p input runs stands =
 
 pub returns-clause-bytes : goal.returns-clause-bytes
 returns-clause-bytes g c p input runs stands =
-    bytes_if c.turns_never_grow.ensures.statements c.outputs_are_bytes.ensures p c.args.control.now.activations input c.args.job.now.task_budget c.execute_rounds.result
+    bytes_if c.turns_never_grow.ensures.statements c.outputs_are_bytes.ensures p c.args.control.now.activations input c.args.terms.task_budget c.execute_rounds.result
     (returns-clause-meaning g c p input runs stands)

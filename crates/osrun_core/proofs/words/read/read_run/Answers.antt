@@ -1,18 +1,18 @@
 use Rattle.std.proofs.Common.{◌≡◌, ℕ}
 use Rattle.clap.specs.Words.{Text}
-use Rattle.osrun_core.specs.Command.{Job, run, texts}
-use Rattle.osrun_core.proofs.CommandJobs.{job_read, refused}
+use Rattle.osrun_core.specs.Command.{Request, Run, run, texts}
+use Rattle.osrun_core.proofs.CommandJobs.{request_read, refused}
 use Rattle.osrun_core.proofs.words.read.read_run.Goals as goal
 
-same_job : (program p input i : Text) (workers w task t control k : ℕ) → p ≡ program → i ≡ input → w ≡ workers → t ≡ task → k ≡ control
-    → ◌≡◌ {A = Job} (record { program = program; input = input; workers = workers; task_budget = task; control_budget = control })
-    (record { program = p; input = i; workers = w; task_budget = t; control_budget = k })
-same_job program p input i workers w task t control k a b c d e = cc
+same_run : (program p input i : Text) (workers w task t control k : ℕ) → p ≡ program → i ≡ input → w ≡ workers → t ≡ task → k ≡ control
+    → ◌≡◌ {A = Request} (Run (record { program = program; input = input; workers = workers; task_budget = task; control_budget = control }))
+    (Run (record { program = p; input = i; workers = w; task_budget = t; control_budget = k }))
+same_run program p input i workers w task t control k a b c d e = cc
 
-pub returns-clause-job : goal.returns-clause-job
-returns-clause-job c =
-    job_read run (texts c.args.words.now) c.in_ok-matches.matches _ c.in_ok-matches.ensures.parsed
-    (same_job _ _ _ _ _ _ _ _ _ _ c.name_of.ensures c.name_of-2.ensures c.number_of.ensures.value c.number_of-2.ensures.value c.number_of-3.ensures.value)
+pub returns-clause-request : goal.returns-clause-request
+returns-clause-request c =
+    request_read run (texts c.args.words.now) c.in_ok-matches.matches _ c.in_ok-matches.ensures.parsed
+    (same_run _ _ _ _ _ _ _ _ _ _ c.name_of.ensures c.name_of-2.ensures c.number_of.ensures.value c.number_of-2.ensures.value c.number_of-3.ensures.value)
 
 pub returns-in_err-matches-clause-refused : goal.returns-in_err-matches-clause-refused
 returns-in_err-matches-clause-refused c =
