@@ -3,13 +3,13 @@ use Rattle.std.proofs.Common.{refl}
 use Rattle.clap.specs.Faults.{defaults_fault, flags_fault, walk_fault}
 use Rattle.clap.specs.Takes.{flags_pass, walk_passes}
 use Rattle.clap.specs.Walk.{bundle_met, walked}
-use Rattle.osrun_core.specs.Command.{job_by}
+use Rattle.osrun_core.specs.Command.{request_by}
 use Rattle.osrun_core.specs.Defaults.{HasDefaults, TakesOptions}
 
 pub defaults : HasDefaults
-unfolding job_by walk_fault defaults_fault flags_fault flags_pass walk_passes bundle_met walked
+unfolding request_by walk_fault defaults_fault flags_fault flags_pass walk_passes bundle_met walked
 defaults = refl
 
 pub options : TakesOptions
-unfolding job_by walk_fault defaults_fault flags_fault flags_pass walk_passes bundle_met walked
+unfolding request_by walk_fault defaults_fault flags_fault flags_pass walk_passes bundle_met walked
 options = refl
