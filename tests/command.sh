@@ -142,6 +142,17 @@ for shown in shown.*; do
     fi
 done
 
+# The programs that tests of crates have as texts stand in the examples, word for word.
+texts=$(cat "$top/crates/kernels/src/texts.rt" "$top/crates/compiler_tests/src/examples.rt")
+for example in "$top"/examples/*.c; do
+    if [[ $texts == *'r"'"$(cat "$example")"$'\n";'* ]]; then
+        passed=$((passed + 1))
+    else
+        failed=$((failed + 1))
+        printf 'an example that no test has as it is: %s\n' "$example"
+    fi
+done
+
 # The codecs over a sine, noise, an image, a text, and what is shorter than a block.
 bytes 4096 "128 + 100 * sin(k * 6.283185307 / 64)" >sine.bin
 bytes 4096 "x / 65536 % 256" >noise.bin

@@ -1,0 +1,127 @@
+//! Each control program of the tables beside what it means.
+
+use crate::beside::{bodies_beside, control_beside, whole_beside};
+use crate::compiled::compile;
+use crate::programs::{BRANCHES, CAPTURES, CLAUSES, HIDING, OUTPUTS, SIZES, TICKS, TRAPS, WINDOWS};
+use control_run::run_control;
+use meaning_tests::case::Case;
+use meaning_tests::counted::{COUNTED, Counted};
+use meaning_tests::flows::FLOWS;
+use meaning_tests::programs::PROGRAMS as WORKED;
+use std::alloc::Global;
+use std::process::Abort;
+use std::test::Fail;
+
+/// The most that a budget may be.
+const MOST: u64 = 1_000_000_000;
+/// The longest input.
+const LONGEST: u32 = 4_194_304;
+
+/// The runs of a case, and the bodies of the first.
+fn case_beside(rt: &impl Abort, alloc: Global, case: &Case) -> Result<(), Fail> {
+    let (text, runs, _) = *case;
+    let compiled = compile(rt, alloc, text)?;
+    for (number, (input_len, budget, _)) in runs.iter().enumerate() {
+        let input_len = (*input_len).min(LONGEST);
+        let budget = (*budget).min(MOST);
+        let control = control_beside(rt, alloc, &compiled, input_len, budget)?;
+        if number == 0 {
+            bodies_beside(rt, alloc, &compiled, &control)?;
+        }
+    }
+    Ok(())
+}
+
+#[test]
+fn worked_programs_run_as_they_mean(rt: HostRuntime) -> Result<(), Fail> {
+    for case in &WORKED {
+        case_beside(&rt, rt.alloc(), case)?;
+    }
+    for case in &FLOWS {
+        case_beside(&rt, rt.alloc(), case)?;
+    }
+    Ok(())
+}
+
+/// Control programs and their bodies end as they mean, round the budgets that just suffice; a budget of 0 is among them.
+fn programs_beside(rt: &impl Abort, alloc: Global, texts: &[&str]) -> Result<(), Fail> {
+    for text in texts {
+        whole_beside(rt, alloc, *text, 5)?;
+    }
+    Ok(())
+}
+
+#[test]
+fn ticks_skip_on_the_streams_of_an_array(rt: HostRuntime) -> Result<(), Fail> {
+    programs_beside(&rt, rt.alloc(), &TICKS)
+}
+
+#[test]
+fn scalars_are_captured_as_they_are_at_each_pragma(rt: HostRuntime) -> Result<(), Fail> {
+    programs_beside(&rt, rt.alloc(), &CAPTURES)
+}
+
+#[test]
+fn windows_are_declared_anew_and_in_scopes_inside_one_another(rt: HostRuntime) -> Result<(), Fail> {
+    programs_beside(&rt, rt.alloc(), &WINDOWS)
+}
+
+#[test]
+fn control_programs_trap_as_they_mean(rt: HostRuntime) -> Result<(), Fail> {
+    programs_beside(&rt, rt.alloc(), &SIZES)?;
+    programs_beside(&rt, rt.alloc(), &TRAPS)
+}
+
+#[test]
+fn control_goes_as_it_means(rt: HostRuntime) -> Result<(), Fail> {
+    programs_beside(&rt, rt.alloc(), &BRANCHES)
+}
+
+#[test]
+fn clauses_and_sizes_are_evaluated_as_they_mean(rt: HostRuntime) -> Result<(), Fail> {
+    programs_beside(&rt, rt.alloc(), &CLAUSES)?;
+    programs_beside(&rt, rt.alloc(), &HIDING)
+}
+
+#[test]
+fn each_output_item_goes_out_as_it_means(rt: HostRuntime) -> Result<(), Fail> {
+    programs_beside(&rt, rt.alloc(), &OUTPUTS)
+}
+
+/// A control program makes so many activations and ends so. The numbers were found by hand; `meaning_tests` holds what the
+/// program means against them too.
+fn counts_so(rt: &impl Abort, alloc: Global, case: &Counted) -> Result<(), Fail> {
+    let (text, input_len, budget, count, end) = *case;
+    let compiled = compile(rt, alloc, text)?;
+    let input_len = input_len.min(LONGEST);
+    let control = run_control(alloc, &compiled.code, input_len, budget.min(MOST))?;
+    assert_eq!(rt; control.activations.len(), count, "{text}");
+    assert_eq!(rt; control.end, end, "{text}");
+    Ok(())
+}
+
+#[test]
+fn limits_come_where_they_should(rt: HostRuntime) -> Result<(), Fail> {
+    for case in &COUNTED {
+        counts_so(&rt, rt.alloc(), case)?;
+    }
+    Ok(())
+}
+
+/// The program that makes 65,536 activations under a budget of 1,000,000.
+#[test]
+fn as_many_activations_as_may_be_are_those_that_are_meant(rt: HostRuntime) -> Result<(), Fail> {
+    for (text, input_len, budget, _, _) in &COUNTED {
+        if *budget == 1_000_000 {
+            let compiled = compile(&rt, rt.alloc(), *text)?;
+            control_beside(
+                &rt,
+                rt.alloc(),
+                &compiled,
+                (*input_len).min(LONGEST),
+                1_000_000,
+            )?;
+        }
+    }
+    Ok(())
+}
