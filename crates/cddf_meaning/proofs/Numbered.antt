@@ -3,7 +3,7 @@ use Rattle.std.proofs.Common.{◌≡◌, ◌==◌, ℕ, nat_cmp, cond, List, [],
 use Rattle.std.proofs.lemmas.Grind.{common_steps}
 use Rattle.std.specs.BTreeMap.{BTreeMap, get, Updates}
 use Rattle.cddf_meaning.specs.declared.site.Site.{Site}
-use Rattle.os_lexer.proofs.Advance.{position-push}
+use Rattle.os_lexer.proofs.Positions.{position-push}
 
 one-more : (numbers : ℕ → Option ℕ) (len number key : ℕ) (m n : BTreeMap ℕ ℕ) → ((place : ℕ) → get nat_cmp m place ≡ numbers place) →
     Updates nat_cmp m n key (Some number) → number ≡ unwrap_or (numbers key) len → (place : ℕ) →

@@ -25,6 +25,7 @@ pub mod Lists
 pub mod Loops
 pub mod LoopsStand
 pub mod MainAlone
+pub mod NameCounts
 pub mod Numbering
 pub mod Ordered
 pub mod Paid
