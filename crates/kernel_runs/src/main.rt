@@ -19,28 +19,24 @@ fn words(alloc: Global, program: &str, workers: &str) -> Result<Vec<String>, All
     Ok(words)
 }
 
-/// Runs a program by so many workers, and answers the status of the command.
-fn run(rt: &HostRuntime, program: &str, workers: &str) -> u8 {
-    let Ok(words) = words(rt.alloc(), program, workers) else {
-        return NO_MEMORY;
-    };
-    run_words(
-        rt,
-        rt.alloc(),
-        &words,
-        &mut HostFiles::new(rt),
-        &mut HostSink::new(rt.stdout()),
-        &mut HostSink::new(rt.stderr()),
-        &NoGate,
-    )
-}
-
 /// The status is the greatest of the runs'.
 fn main(rt: HostRuntime) -> ExitCode {
     let mut worst = 0;
     for program in ["invert.c", "smooth.c", "broadcast.c"] {
         for workers in ["1", "3", "64"] {
-            worst = worst.max(run(&rt, program, workers));
+            let Ok(words) = words(rt.alloc(), program, workers) else {
+                return ExitCode::from(NO_MEMORY);
+            };
+            let status = run_words(
+                &rt,
+                rt.alloc(),
+                &words,
+                &mut HostFiles::new(&rt),
+                &mut HostSink::new(rt.stdout()),
+                &mut HostSink::new(rt.stderr()),
+                &NoGate,
+            );
+            worst = worst.max(status);
         }
     }
     ExitCode::from(worst)
