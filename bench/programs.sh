@@ -243,7 +243,7 @@ while read -r program activations; do
         fi
         measure osrun "$workers" "$osrun" run "$program.c" "$program.in" --workers "$workers"
         instrs=0
-        [ "$workers" != 1 ] || [ -z "$valgrind" ] || instrs=$(instructions)
+        [ "$workers" != 1 ] || [ -z "$valgrind" ] || [ "$steps" = 0 ] || instrs=$(instructions)
         row "$program" osrun "$workers" "$micros" "$kilobytes" "$activations" "$steps" "$instrs" "$c_micros" "$lua_micros"
     done
 done <<'END'
