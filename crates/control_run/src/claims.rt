@@ -26,8 +26,7 @@ pub(crate) fn claims_of(
     requires few { length items.now ≤ 8 }
     ensures { IfOk result (λ claims. claims ≡ machine.spawned_claims streams slots.now items.now operands.now) }
 {
-    let mut claims = List::new(alloc);
-    claims.reserve(items.len())?;
+    let mut claims = List::with_capacity(alloc, items.len())?;
     for (k, item) in items.iter().enumerate() {
         let index = number_at(operands, 2 * k);
         let burst = number_at(operands, 2 * k + 1);
@@ -122,8 +121,7 @@ pub(crate) fn captured_of(
     requires { All (λ slot. slot < length slots.now) captured.now }
     ensures { IfOk result (λ values. values ≡ map (λ slot. slice_index_or slots.now slot (pos 0)) captured.now) }
 {
-    let mut values = List::new(alloc);
-    values.reserve(captured.len())?;
+    let mut values = List::with_capacity(alloc, captured.len())?;
     for slot in captured {
         values.push(number_at(slots, *slot as usize))?;
     }

@@ -1,4 +1,4 @@
-ghost use Rattle.std.specs.Prelude.{◌≡◌, [], ◌∷◌, ◌++◌, length, OnOk, OnErr};
+ghost use Rattle.std.specs.Prelude.{◌≡◌, [], ◌∷◌, ◌++◌, length, IfOk, OnOk, OnErr};
 
 use crate::refusals::Memory;
 use std::alloc::Global;
@@ -33,6 +33,15 @@ impl<T> List<T> {
         List {
             items: Vec::new(alloc),
         }
+    }
+
+    /// An empty list with memory for exactly so many items.
+    pub fn with_capacity(alloc: Global, capacity: usize) -> Result<List<T>, Memory>
+        ensures { IfOk result (λ list. list ≡ []) }
+    {
+        Ok(List {
+            items: Vec::with_capacity(alloc, capacity)?,
+        })
     }
 
     /// The items, for reading.
@@ -85,7 +94,7 @@ mod tests {
 
     #[test]
     fn holds_what_is_pushed_and_written(rt: HostRuntime) -> Result<(), Fail> {
-        let mut list = List::new(rt.alloc());
+        let mut list = List::with_capacity(rt.alloc(), 2)?;
         list.reserve(3)?;
         assert_eq!(rt; list.len(), 0);
         for item in [2u32, 3, 5] {
