@@ -1,8 +1,9 @@
 -- What follows of the token cover and the first fault: that the definitions are the ones meant.
-use Rattle.std.specs.Prelude.{◌≡◌, ℕ, ◌<◌, ◌≤◌, ◌⊎◌, ◌↔◌, List, length, take, All}
+use Rattle.std.specs.Prelude.{◌≡◌, ℕ, ◌<◌, ◌≤◌, ◌⊎◌, ◌↔◌, List, length, take, All, Option, Some, position, codes, bytes_eq}
 use Rattle.os_lexer.specs.Cover.{IsTokenCover, IsFirstFault}
 use Rattle.os_lexer.specs.Cut.{IsCut, IsFaultPlace}
 use Rattle.os_lexer.specs.Lines.{line_of}
+use Rattle.os_lexer.specs.Names.{fixed_names, omp_id, task_id, tick_id, taskwait_id, input_id, output_id, firstprivate_id, stream_id, main_id, osin_id, osout_id, osin_len_id}
 use Rattle.os_lexer.specs.declared.token.Kind.{Kind}
 use Rattle.os_lexer.specs.declared.token.Kind.TheVariants as kind
 use Rattle.os_lexer.specs.declared.token.Token.{Token}
@@ -63,3 +64,17 @@ HasSmallNumber kind.PragmaEnd = Unit {0}
 abbrev pub SmallNumbers : Type 0
 SmallNumbers =
     (text : List ℕ) (tokens : List Token) → IsTokenCover text tokens → All (λ token. HasSmallNumber token.kind) tokens
+
+-- the number of a fixed name
+abbrev pub fixed_number : List ℕ → Option ℕ
+fixed_number name = position (bytes_eq name) fixed_names
+
+-- the words of pragmas, the streams of the program, `main` and `osin_len` have the numbers that are named for them
+abbrev pub FixedNamesAreNumbered : Type 0
+FixedNamesAreNumbered =
+    (fixed_number (codes "omp") ≡ Some omp_id) × (fixed_number (codes "task") ≡ Some task_id) ×
+    (fixed_number (codes "tick") ≡ Some tick_id) × (fixed_number (codes "taskwait") ≡ Some taskwait_id) ×
+    (fixed_number (codes "input") ≡ Some input_id) × (fixed_number (codes "output") ≡ Some output_id) ×
+    (fixed_number (codes "firstprivate") ≡ Some firstprivate_id) × (fixed_number (codes "stream") ≡ Some stream_id) ×
+    (fixed_number (codes "main") ≡ Some main_id) × (fixed_number (codes "osin") ≡ Some osin_id) ×
+    (fixed_number (codes "osout") ≡ Some osout_id) × (fixed_number (codes "osin_len") ≡ Some osin_len_id)

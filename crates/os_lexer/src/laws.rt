@@ -1,5 +1,5 @@
 //! Laws of the token cover and the first fault. These functions do nothing: their contracts are the laws.
-ghost use Rattle.os_lexer.specs.Laws.{OneCover, OneFault, CoverOrFault, NeverBoth, CoverCuts, FaultPlaces, CoverBeforeFault, FewTokens, SmallNumbers};
+ghost use Rattle.os_lexer.specs.Laws.{OneCover, OneFault, CoverOrFault, NeverBoth, CoverCuts, FaultPlaces, CoverBeforeFault, FewTokens, SmallNumbers, FixedNamesAreNumbered};
 
 /// Each text has one outcome.
 pub fn one_cover()
@@ -22,4 +22,9 @@ pub fn cover_cuts()
 pub fn cover_before_fault()
     ensures places { FaultPlaces }
     ensures before { CoverBeforeFault }
+{}
+
+/// Each fixed name has the number that is named for it.
+pub fn fixed_names_are_numbered()
+    ensures numbered { FixedNamesAreNumbered }
 {}

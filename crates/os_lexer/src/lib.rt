@@ -33,6 +33,6 @@ mod words;
 
 pub use cover::lex;
 pub use fault::LexError;
-pub use laws::{cover_before_fault, cover_cuts, one_cover};
+pub use laws::{cover_before_fault, cover_cuts, fixed_names_are_numbered, one_cover};
 pub use limits::TEXT_LIMIT;
 pub use token::{Key, Kind, Punct, Token};
