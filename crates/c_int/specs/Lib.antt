@@ -1,4 +1,4 @@
--- what a reader believes
+-- What a reader believes.
 pub mod Operators
--- laws of these definitions
+-- Laws of these definitions.
 pub mod Laws

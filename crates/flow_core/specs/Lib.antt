@@ -1,4 +1,4 @@
--- How an activation ends, and the states of a run.
+-- What a reader believes. How an activation ends, and the states of a run.
 pub mod Outcome
 pub mod Element
 pub mod Round

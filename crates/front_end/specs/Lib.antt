@@ -1,4 +1,4 @@
--- what a reader believes
+-- What a reader believes.
 pub mod Texts
--- what restates private functions
+-- What restates private functions for their contracts.
 pub mod Told

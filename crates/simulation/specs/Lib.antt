@@ -1,4 +1,4 @@
--- what code stands for what tree
+-- What a reader believes: what code stands for what tree,
 pub mod Names
 pub mod Expressions
 pub mod Changes
@@ -7,9 +7,9 @@ pub mod Tasks
 pub mod Statements
 pub mod Programs
 pub mod Tiling
--- what such code does
+-- what such code does,
 pub mod Laws
--- that no run asks for a name that isn't there
+-- and that no run asks for a name that isn't there.
 pub mod FoundNames
--- what proofs say
+-- What only proofs say.
 pub mod Alignment
