@@ -25,7 +25,6 @@ pub mod Lists
 pub mod Loops
 pub mod LoopsStand
 pub mod MainAlone
-pub mod NameCounts
 pub mod Numbering
 pub mod Ordered
 pub mod Paid

@@ -1,20 +1,16 @@
 -- The slots of bodies are paid by what they declare and by the elements of arrays.
-use Rattle.std.proofs.Common.{◌≡◌, ◌∙◌, ℕ, suc, ◌+◌, ◌≤◌, ◌==◌, Bool, true, false, if◌then◌else◌, List, [], ◌∷◌, ◌++◌, length, ap, refl, arith}
-use Rattle.lowering.proofs.NameCounts.{declared_in, declared_in-append}
+use Rattle.std.proofs.Common.{◌≡◌, ℕ, ◌+◌, ◌≤◌, ◌==◌, Bool, true, false, if◌then◌else◌, List, [], ◌∷◌, ◌++◌, length, ap, refl, arith}
 use Rattle.lowering.proofs.TasksInMain.{function_owner, lawful_body, main_owner}
 use Rattle.os_ast.specs.Captured.{captured, slots_of}
-use Rattle.os_ast.specs.Names.{Scope, enter, in_loop, in_unit, main_id}
-use Rattle.os_ast.specs.Notes.Clauses.{captured_in, clauses_notes, in_task, in_task_body, with_items}
-use Rattle.os_ast.specs.Notes.Declarators.{after_declarator, after_declarators, after_start, declarator_notes, declarators_notes, form, start_notes, taken}
+use Rattle.os_ast.specs.Names.{Scope, enter, in_loop, main_id}
+use Rattle.os_ast.specs.Notes.Clauses.{captured_in, clauses_notes, in_task, in_task_body}
+use Rattle.os_ast.specs.Notes.Declarators.{after_start, start_notes}
 use Rattle.os_ast.specs.Notes.Expressions.{expr_notes, step_notes, value_notes}
 use Rattle.os_ast.specs.Notes.Kinds.{Global, Note}
-use Rattle.os_ast.specs.Notes.Programs.{after_item, after_items, after_param, after_params, in_body, in_function, item_notes, items_notes, owner_of, param_names, params_notes, round_body}
+use Rattle.os_ast.specs.Notes.Programs.{after_item, after_items, in_body, in_function, item_notes, items_notes, param_names, params_notes}
 use Rattle.os_ast.specs.Notes.Statements.{after_stmt, after_stmts, stmt_notes, stmts_notes}
-use Rattle.os_ast.specs.Parts.{Item, Part, Private, parts}
+use Rattle.os_ast.specs.Parts.{parts}
 use Rattle.os_ast.specs.Trees as tree
-use Rattle.os_ast.specs.declared.expr.Name.{Name}
-use Rattle.os_ast.specs.declared.names.Form.{Form}
-use Rattle.os_ast.specs.declared.names.Form.TheVariants as form_of
 use Rattle.os_ast.specs.declared.names.Owner.{Owner}
 use Rattle.os_ast.specs.declared.names.Owner.TheVariants as owner
 use Rattle.os_ast.specs.declared.names.Resolved.{Resolved}
@@ -23,36 +19,14 @@ use Rattle.simulation.proofs.Sizes.{stmt_sizes, stmts_sizes}
 use Rattle.simulation.specs.Names.{told_at}
 use Rattle.simulation.specs.Programs.{size_by}
 use Rattle.simulation.specs.Tasks.{TaskTree, all_tasks_of, program_tasks, tasks_of}
+use Rattle.window_check.proofs.DeclaredSlots.{items_arrays, declarators_paid, start_paid, params_paid, body_arrays}
+use Rattle.window_check.proofs.NameCounts.{declared_in, declared_in-append}
 use Rattle.window_check.proofs.Summed.{summed-stmt, summed-stmts}
 use Rattle.window_check.proofs.Told.{lawful-first, lawful-rest, tells-first, tells-rest}
 use Rattle.window_check.specs.Globals.{count_functions}
 use Rattle.window_check.specs.Order.{InOrder}
 use Rattle.window_check.specs.Sums.{stmt_slots, stmts_slots}
 use Rattle.window_check.specs.Told.{AreLawful, Tells}
-
-items_arrays : (ps : List Part) (s inner : Scope) (item : ℕ) → (with_items s inner item ps).arrays ≡ inner.arrays
-items_arrays [] s inner item = refl
-items_arrays (Item d i ∷ ps) s inner item = items_arrays ps s _ (suc item)
-items_arrays (Private n ∷ ps) s inner item = items_arrays ps s inner item
-
-form_paid : (s : Scope) (f : Form) → (taken s f).slots + s.arrays ≤ s.slots + 1 + (taken s f).arrays
-form_paid s form_of.Scalar = omega arith
-form_paid s (form_of.Array size) = omega arith
-form_paid s form_of.Window = omega arith
-form_paid s form_of.Stream = omega arith
-form_paid s (form_of.Streams size) = omega arith
-
-declarators_paid : (ds : List tree.DeclaratorTree) (s : Scope) →
-    (after_declarators s ds).slots + s.arrays ≤ s.slots + declared_in (declarators_notes s ds) + (after_declarators s ds).arrays
-declarators_paid [] s = omega arith
-declarators_paid (d ∷ ds) s =
-    let after = after_declarator s d in
-    omega (arith, form_paid s (form s d), declarators_paid ds after, declared_in-append (declarator_notes s d) (declarators_notes after ds))
-
-start_paid : (t : tree.StartTree) (s : Scope) → (after_start s t).slots + s.arrays ≤ s.slots + declared_in (start_notes s t) + (after_start s t).arrays
-start_paid tree.StartTree.Empty s = omega arith
-start_paid (tree.StartTree.Declare ds) s = declarators_paid ds s
-start_paid (tree.StartTree.Change c) s = omega arith
 
 module _ (rs : List Resolved) (ordered : InOrder rs) where
   abbrev pub size : tree.ExprTree → ℕ
@@ -157,22 +131,6 @@ module _ (rs : List Resolved) (ordered : InOrder rs) where
   functions_slots [] = 0
   functions_slots (tree.Constant c ∷ is) = functions_slots is
   functions_slots (tree.Function f ∷ is) = function_slots (f.name.id == main_id) f + functions_slots is
-
-  params_paid : (ns : List Name) (s : Scope) → length ns ≤ declared_in (params_notes s ns)
-  params_paid [] s = omega arith
-  params_paid (n ∷ ns) s = omega (arith, params_paid ns (after_param s n))
-
-  params_arrays : (ns : List Name) (s : Scope) → (after_params s ns).arrays ≡ s.arrays
-  params_arrays [] s = refl
-  params_arrays (n ∷ ns) s = params_arrays ns (after_param s n)
-
-  round_arrays : (o : Owner) (s : Scope) → (enter (round_body o (enter (in_unit o s)))).arrays ≡ s.arrays
-  round_arrays owner.OfMain s = refl
-  round_arrays owner.OfFunction s = refl
-  round_arrays owner.OfTask s = refl
-
-  body_arrays : (s : Scope) (f : tree.FunctionTree) → (in_body s f).arrays ≡ s.arrays
-  body_arrays s f = params_arrays (param_names f.params) (in_function s f.name.id) ∙ round_arrays (owner_of f.name.id) s
 
   body_paid : (s : Scope) (f : tree.FunctionTree) (o : Owner) → (in_body s f).owner ≡ o → AreLawful (stmts_notes (in_body s f) f.body)
       → Tells rs (stmts_notes (in_body s f) f.body) →

@@ -4,15 +4,12 @@ use Rattle.std.specs.Prelude.{sum_by}
 use Rattle.std.proofs.lemmas.List.{length-map}
 use Rattle.std.proofs.lemmas.List.Sums.{sum_by-append}
 use Rattle.lowering.proofs.CaughtSlots.{items_use, total}
-use Rattle.lowering.proofs.NameCounts.{names_few}
 use Rattle.lowering.proofs.Paid.{bodies, function_slots, functions_slots, items_paid, size}
 use Rattle.lowering.specs.Emission.Units.{capped, no_units, program_units, with_function, with_functions, with_main, with_plain, with_task, with_tasks}
 use Rattle.lowering.specs.declared.units.Units.{Units}
-use Rattle.os_ast.proofs.Prints.{prints_item}
 use Rattle.os_ast.specs.Marks.{HasPlaces}
 use Rattle.os_ast.specs.Names.{main_id}
 use Rattle.os_ast.specs.Notes.Programs.{file, param_names}
-use Rattle.os_ast.specs.Spelling as spelling
 use Rattle.os_ast.specs.Spelling.{kind_of, pieces, spell}
 use Rattle.os_ast.specs.Trees as tree
 use Rattle.os_ast.specs.Violations.{captured_by_tasks, names, violations}
@@ -21,13 +18,12 @@ use Rattle.os_ast.specs.declared.names.Resolved.{Resolved}
 use Rattle.os_code.specs.declared.unit.Unit.{Unit as CodeUnit}
 use Rattle.simulation.specs.Names.{told_at}
 use Rattle.simulation.specs.Tasks.{TaskTree, program_tasks}
+use Rattle.window_check.proofs.NameCounts.{names_few}
 use Rattle.window_check.proofs.Ordered.{names_in_order}
 use Rattle.window_check.proofs.Told.{lawful-program, tells-program}
-use Rattle.window_check.proofs.Weights.{weight-spell}
+use Rattle.window_check.proofs.Weights.{functions_few, room}
 use Rattle.window_check.proofs.Within.{within-items_of_file}
-use Rattle.window_check.specs.Globals.{count_functions}
 use Rattle.window_check.specs.Order.{InOrder}
-use Rattle.window_check.specs.Room.{HasRoom, items_weight}
 use Rattle.window_check.specs.Sums.{stmt_slots, stmts_slots}
 
 abbrev pub slots_in : List CodeUnit → ℕ
@@ -43,28 +39,6 @@ total-drop [] zero = omega arith
 total-drop [] (suc n) = omega arith
 total-drop (x ∷ xs) zero = omega arith
 total-drop (x ∷ xs) (suc n) = total-drop xs n
-
--- a function has at least one token
-functions_few : (is : List tree.ItemTree) → count_functions is ≤ length (spelling.each spelling.item is [])
-functions_few [] = omega arith
-functions_few (tree.Constant c ∷ is) =
-    let rest = spelling.each spelling.item is [] in
-    omega (arith, functions_few is, ap length ((prints_item (tree.Constant c)).in_front rest), length-append (spelling.item (tree.Constant c) []) rest)
-functions_few (tree.Function f ∷ is) =
-    let rest = spelling.each spelling.item is [] in
-    omega (arith, functions_few is, ap length ((prints_item (tree.Function f)).in_front rest), length-append (spelling.item (tree.Function f) []) rest)
-
-room : (p : tree.ProgramTree) → length (spell p) ≤ 262144 → HasRoom file (items_weight p)
-room p few = record {
-  slots = omega (arith, weight-spell p, few);
-  depth = omega (arith, weight-spell p, few);
-  functions = omega (arith, weight-spell p, few);
-  elements = omega (arith, weight-spell p, few);
-  arrays = omega (arith, weight-spell p, few);
-  streams = omega (arith, weight-spell p, few);
-  entries = omega (arith, weight-spell p, few);
-  order = record { top = 0; stacked = tt; below = λ is. omega arith; outside = λ is. refl };
-}
 
 module _ (rs : List Resolved) (ordered : InOrder rs) where
   functions_sum : (is : List tree.ItemTree) (made : Units)
