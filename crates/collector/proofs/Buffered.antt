@@ -6,8 +6,9 @@ use Rattle.std.specs.Result.{IsErrAnd, OnOk, OnErr}
 use Rattle.std.specs.Io.KnownBytes.{append_known}
 use Rattle.os_io.specs.Counts.{HasRisen}
 use Rattle.os_io.specs.Writing.{TookProperPrefix}
+use Rattle.os_io.specs.declared.sink.Sink.{Ghosts as SinkView}
 use Rattle.os_io.specs.declared.writing.WriteError.{WriteError}
-use Rattle.collector.specs.Buffering.{SinkView, WentOn, IsCutShort, GoesOn}
+use Rattle.collector.specs.Buffering.{WentOn, BrokeOff, GoesOn}
 
 append_known-append : (known : Option (List ℕ)) (front back : List ℕ) → append_known (append_known known front) back ≡ append_known known (front ++ back)
 append_known-append None front back = refl
@@ -41,14 +42,14 @@ both_on view a b c held mid kept first second whole one two is = subst (WentOn v
   not_stuck = two.not_stuck ∙ one.not_stuck;
 })
 
--- a text that went on, and one behind it that was cut short
-then_cut : {S : Type 0} (view : SinkView S) (a b c : S) (held mid first second whole : List ℕ) (e : WriteError) → WentOn view a b held mid first → IsCutShort view b c mid second e → whole ≡ first ++ second → IsCutShort view a c held whole e
+-- a text that went on, and one behind it that broke off
+then_cut : {S : Type 0} (view : SinkView S) (a b c : S) (held mid first second whole : List ℕ) (e : WriteError) → WentOn view a b held mid first → BrokeOff view b c mid second e → whole ≡ first ++ second → BrokeOff view a c held whole e
 then_cut view a b c held mid first second whole_text e one two is =
     let (n, within, took) = two.front in
     let whole = together view a b held mid first second one in
     let lengths : length (held ++ (first ++ second)) ≡ length one.sent + length (mid ++ second) = ap length whole ∙ length-append one.sent (mid ++ second) in
     let same : take (length one.sent + n) (held ++ (first ++ second)) ≡ one.sent ++ take n (mid ++ second) = ap (take (length one.sent + n)) whole ∙ take-append-add one.sent (mid ++ second) n in
-    subst (λ xs. IsCutShort view a c held xs e) (sym is) (record {
+    subst (λ xs. BrokeOff view a c held xs e) (sym is) (record {
       front = (length one.sent + n, omega (arith, lengths), took ∙ ap (λ k. append_known k (take n (mid ++ second))) one.taken ∙ append_known-append (view.taken a) one.sent (take n (mid ++ second)) ∙ ap (append_known (view.taken a)) (sym same));
       failed = λ is_failed. subst (λ m. HasRisen m (view.faults c)) one.no_fault (two.failed is_failed);
       stuck = λ is_stuck. subst (λ m. HasRisen m (view.empty_takes c)) one.not_stuck (two.stuck is_stuck);
@@ -58,8 +59,8 @@ then_cut view a b c held mid first second whole_text e one two is =
       empty_takes_kept = subst (λ m. m ≤ view.empty_takes c) one.not_stuck two.empty_takes_kept;
     })
 
--- where a text was cut short, so is a longer one
-cut_before : {S : Type 0} (view : SinkView S) (a b : S) (held text rest whole : List ℕ) (e : WriteError) → IsCutShort view a b held text e → whole ≡ text ++ rest → IsCutShort view a b held whole e
+-- where a text broke off, so is a longer one
+cut_before : {S : Type 0} (view : SinkView S) (a b : S) (held text rest whole : List ℕ) (e : WriteError) → BrokeOff view a b held text e → whole ≡ text ++ rest → BrokeOff view a b held whole e
 cut_before view a b held text rest whole e cut is =
     let (n, within, took) = cut.front in
     let longer : held ++ whole ≡ (held ++ text) ++ rest = ap (λ xs. held ++ xs) is ∙ sym (append_assoc held text rest) in
@@ -81,10 +82,10 @@ pub on : {S T : Type 0} {view : SinkView S} {a b c : S} {held mid kept first sec
 on {r = Ok done} one two is = record { ok = both_on _ _ _ _ _ _ _ _ _ _ one two.ok is; err = tt }
 on {r = Err e} one two is = record { ok = tt; err = then_cut _ _ _ _ _ _ _ _ _ e one two.err is }
 
--- a call that was cut short, as the front of a longer text
-pub out : {S T : Type 0} {view : SinkView S} {a b : S} {held text whole : List ℕ} {e : WriteError} (kept rest : List ℕ) (r : Result T WriteError) (Q : WriteError → Type 0) → IsErrAnd r Q → ((y : WriteError) → Q y → y ≡ e) → IsCutShort view a b held text e → whole ≡ text ++ rest → GoesOn view a b held kept whole r
+-- a call that broke off, as the front of a longer text
+pub out : {S T : Type 0} {view : SinkView S} {a b : S} {held text whole : List ℕ} {e : WriteError} (kept rest : List ℕ) (r : Result T WriteError) (Q : WriteError → Type 0) → IsErrAnd r Q → ((y : WriteError) → Q y → y ≡ e) → BrokeOff view a b held text e → whole ≡ text ++ rest → GoesOn view a b held kept whole r
 out {view = view} {a = a} {b = b} {held = held} kept rest (Ok done) Q is same cut e = absurd is
-out {view = view} {a = a} {b = b} {held = held} {whole = whole} kept rest (Err y) Q is same cut e = record { ok = tt; err = subst (IsCutShort view a b held whole) (sym (same y is)) (cut_before _ _ _ _ _ _ _ _ cut e) }
+out {view = view} {a = a} {b = b} {held = held} {whole = whole} kept rest (Err y) Q is same cut e = record { ok = tt; err = subst (BrokeOff view a b held whole) (sym (same y is)) (cut_before _ _ _ _ _ _ _ _ cut e) }
 
 -- the same behind a join of branches
 pub on_from : {S T : Type 0} {view : SinkView S} {a b m c : S} {held mid mid_held kept first second whole : List ℕ} {r : Result T WriteError} → WentOn view a b held mid first → m ≡ b → mid_held ≡ mid → GoesOn view m c mid_held kept second r → whole ≡ first ++ second → GoesOn view a c held kept whole r
@@ -117,5 +118,5 @@ told_ok (Err e) goes none empty = tt
 pub told_err : {S T : Type 0} {view : SinkView S} {a b : S} {held kept text : List ℕ} (r : Result T WriteError) → GoesOn view a b held kept text r → held ≡ [] → OnErr r (TookProperPrefix (view.taken a) (view.taken b) text)
 told_err (Ok done) goes none = tt
 told_err {view = view} {a = a} {b = b} {held = held} {text = text} (Err e) goes none =
-    let cut : IsCutShort view a b held text e = goes.err in
+    let cut : BrokeOff view a b held text e = goes.err in
     subst (λ h. TookProperPrefix (view.taken a) (view.taken b) (h ++ text)) none cut.front

@@ -39,8 +39,7 @@ impl LineBuffer {
 
     /// Writes what is kept.
     pub(crate) fn flush<S: Sink>(&mut self, sink: &mut S) -> Result<(), WriteError>
-        ensures goes_on { GoesOn (record { taken = S.taken; faults = S.faults; empty_takes = S.empty_takes })
-            sink.old sink.new self.old self.new [] result }
+        ensures goes_on { GoesOn S.Sink sink.old sink.new self.old self.new [] result }
         ensures empty { OnOk result (self.new ≡ []) }
     {
         write_whole(sink, &self.bytes[..self.kept])?;
@@ -50,8 +49,7 @@ impl LineBuffer {
 
     /// Adds a byte, behind what had to be written for it.
     fn push<S: Sink>(&mut self, sink: &mut S, byte: u8) -> Result<(), WriteError>
-        ensures { GoesOn (record { taken = S.taken; faults = S.faults; empty_takes = S.empty_takes })
-            sink.old sink.new self.old self.new (byte ∷ []) result }
+        ensures { GoesOn S.Sink sink.old sink.new self.old self.new (byte ∷ []) result }
     {
         if self.kept == ROOM {
             self.flush(sink)?;
@@ -71,8 +69,7 @@ impl LineBuffer {
 
     /// Adds a text.
     pub(crate) fn text<S: Sink>(&mut self, sink: &mut S, text: &[u8]) -> Result<(), WriteError>
-        ensures { GoesOn (record { taken = S.taken; faults = S.faults; empty_takes = S.empty_takes })
-            sink.old sink.new self.old self.new text.now result }
+        ensures { GoesOn S.Sink sink.old sink.new self.old self.new text.now result }
     {
         for byte in text {
             self.push(sink, *byte)?;
@@ -82,8 +79,7 @@ impl LineBuffer {
 
     /// Adds a number in decimal.
     pub(crate) fn number<S: Sink>(&mut self, sink: &mut S, number: u64) -> Result<(), WriteError>
-        ensures { GoesOn (record { taken = S.taken; faults = S.faults; empty_takes = S.empty_takes })
-            sink.old sink.new self.old self.new (decimal number) result }
+        ensures { GoesOn S.Sink sink.old sink.new self.old self.new (decimal number) result }
     {
         if number >= 10 {
             self.number(sink, number / 10)?;
@@ -98,8 +94,7 @@ impl LineBuffer {
         text: &[u8],
         number: u64,
     ) -> Result<(), WriteError>
-        ensures { GoesOn (record { taken = S.taken; faults = S.faults; empty_takes = S.empty_takes })
-            sink.old sink.new self.old self.new (text.now ++ decimal number) result }
+        ensures { GoesOn S.Sink sink.old sink.new self.old self.new (text.now ++ decimal number) result }
     {
         self.text(sink, text)?;
         self.number(sink, number)

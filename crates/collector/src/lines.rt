@@ -19,8 +19,7 @@ impl LineBuffer {
         frame: u32,
         missing: Missing,
     ) -> Result<(), WriteError>
-        ensures { GoesOn (record { taken = S.taken; faults = S.faults; empty_takes = S.empty_takes })
-            sink.old sink.new self.old self.new (starved_line ends.now.ends frame missing) result }
+        ensures { GoesOn S.Sink sink.old sink.new self.old self.new (starved_line ends.now.ends frame missing) result }
     {
         self.field(sink, b"starved ", frame as u64)?;
         self.field(sink, b" stream ", missing.stream as u64)?;
@@ -37,8 +36,7 @@ impl LineBuffer {
         ends: &Ends,
         producer: Option<u32>,
     ) -> Result<(), WriteError>
-        ensures { GoesOn (record { taken = S.taken; faults = S.faults; empty_takes = S.empty_takes })
-            sink.old sink.new self.old self.new (producer_text ends.now.ends producer) result }
+        ensures { GoesOn S.Sink sink.old sink.new self.old self.new (producer_text ends.now.ends producer) result }
     {
         match producer {
             Some(frame) => {
@@ -56,8 +54,7 @@ impl LineBuffer {
         frame: u32,
         end: TaskEnd,
     ) -> Result<(), WriteError>
-        ensures { GoesOn (record { taken = S.taken; faults = S.faults; empty_takes = S.empty_takes })
-            sink.old sink.new self.old self.new (end_line frame end) result }
+        ensures { GoesOn S.Sink sink.old sink.new self.old self.new (end_line frame end) result }
     {
         match end {
             TaskEnd::Done => Ok(()),
@@ -74,8 +71,7 @@ impl LineBuffer {
 
     /// Adds where a trap was hit, and ends the line.
     fn trap<S: Sink>(&mut self, sink: &mut S, code: u8, line_number: u32) -> Result<(), WriteError>
-        ensures { GoesOn (record { taken = S.taken; faults = S.faults; empty_takes = S.empty_takes })
-            sink.old sink.new self.old self.new (line (codes " code " ++ decimal code ++ codes " line " ++ decimal line_number)) result }
+        ensures { GoesOn S.Sink sink.old sink.new self.old self.new (line (codes " code " ++ decimal code ++ codes " line " ++ decimal line_number)) result }
     {
         self.field(sink, b" code ", code as u64)?;
         self.field(sink, b" line ", line_number as u64)?;
@@ -88,8 +84,7 @@ impl LineBuffer {
         sink: &mut S,
         control: &ControlEnd,
     ) -> Result<(), WriteError>
-        ensures { GoesOn (record { taken = S.taken; faults = S.faults; empty_takes = S.empty_takes })
-            sink.old sink.new self.old self.new (control_line control.now) result }
+        ensures { GoesOn S.Sink sink.old sink.new self.old self.new (control_line control.now) result }
     {
         match *control {
             ControlEnd::Done => self.text(sink, b"control done\n"),
@@ -112,8 +107,7 @@ impl LineBuffer {
         count: u64,
         claimed: u64,
     ) -> Result<(), WriteError>
-        ensures { GoesOn (record { taken = S.taken; faults = S.faults; empty_takes = S.empty_takes })
-            sink.old sink.new self.old self.new (output_line count claimed) result }
+        ensures { GoesOn S.Sink sink.old sink.new self.old self.new (output_line count claimed) result }
     {
         self.field(sink, b"output ", count)?;
         self.field(sink, b" of ", claimed)?;

@@ -59,8 +59,7 @@ fn activation_lines<S: Sink>(
 ) -> Result<(), WriteError>
     requires { IsLayout layout.now }
     ensures { (activations : List Activation) → IsLayoutOf layout.now activations
-        → GoesOn (record { taken = S.taken; faults = S.faults; empty_takes = S.empty_takes })
-        sink.old sink.new buffer.old buffer.new (activation_lines activations layout.now.input_len ends.now.ends (frame_count layout.now)) result }
+        → GoesOn S.Sink sink.old sink.new buffer.old buffer.new (activation_lines activations layout.now.input_len ends.now.ends (frame_count layout.now)) result }
 {
     for frame in 0..layout.starts.len() as u32 - 1 {
         activation_line(layout, ends, frame, buffer, sink)?;
@@ -79,8 +78,7 @@ fn activation_line<S: Sink>(
     requires layout { IsLayout layout.now }
     requires exists { frame < frame_count layout.now }
     ensures { (activations : List Activation) → IsLayoutOf layout.now activations
-        → GoesOn (record { taken = S.taken; faults = S.faults; empty_takes = S.empty_takes })
-        sink.old sink.new buffer.old buffer.new (activation_line activations layout.now.input_len ends.now.ends frame) result }
+        → GoesOn S.Sink sink.old sink.new buffer.old buffer.new (activation_line activations layout.now.input_len ends.now.ends frame) result }
 {
     if let Some(end) = end_of(ends, frame) {
         return buffer.ended(sink, frame, end);

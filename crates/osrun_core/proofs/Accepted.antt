@@ -1,11 +1,10 @@
 -- A text is accepted or refused, and never both.
-use Rattle.std.proofs.Common.{◌≡◌, ◌∙◌, ◌⊎◌, inl, inr, ℕ, List, Option, Some, refl, sym, ap, subst}
+use Rattle.std.proofs.Common.{◌≡◌, ◌∙◌, ◌⊎◌, inl, inr, ℕ, List, Option, Some, IfSome, refl, sym, ap, subst}
 use Rattle.front_end.specs.Texts.{IsAccepted, IsTrueOf, NeverBoth}
 use Rattle.front_end.specs.declared.text_error.TextError.{TextError}
 use Rattle.front_end.specs.declared.text_error.TextError.TheVariants as errors
 use Rattle.os_ast.specs.Trees.{ProgramTree}
 use Rattle.osrun_core.specs.Accepting.{text_refusal}
-use Rattle.osrun_core.specs.Loading.{IsHeld}
 use Rattle.osrun_core.specs.Refusal.{IsRefusalOf, refusal_status}
 use Rattle.osrun_core.specs.declared.refusal.Refusal.{Refusal}
 use Rattle.osrun_core.specs.declared.refusal.Refusal.TheVariants as refusals
@@ -32,10 +31,10 @@ not_refused never text p accepted (refusals.ReadFault subject) h = h
 not_refused never text p accepted refusals.Memory h = h
 
 -- a text that is told is the one that was read, and where that is a program, memory alone was wanted
-pub only_memory : (r : Refusal) (told : Option (List ℕ)) (held read text : List ℕ) (p : ProgramTree) → told ≡ Some held → IsHeld told read → text ≡ read
+pub only_memory : (r : Refusal) (told : Option (List ℕ)) (held read text : List ℕ) (p : ProgramTree) → told ≡ Some held → IfSome told (λ bytes. read ≡ bytes) → text ≡ read
     → IsAccepted held p → ((q : ProgramTree) → IsAccepted text q → r ≡ refusals.Memory)
     → (refusal_status r ≡ statuses.ReadFault) ⊎ (refusal_status r ≡ statuses.NoMemory)
 only_memory r told held read text p is_told is_read same h accepted =
-    let read_held : IsHeld (Some held) read = subst (λ t. IsHeld t read) is_told is_read in
+    let read_held : read ≡ held = subst (λ t. IfSome t (λ bytes. read ≡ bytes)) is_told is_read in
     let program : IsAccepted text p = subst (λ t. IsAccepted t p) (sym (same ∙ read_held)) h in
     inr (ap refusal_status (accepted p program))

@@ -7,19 +7,20 @@ use Rattle.collector.specs.Report.{report}
 use Rattle.collector.specs.Status.{status}
 use Rattle.collector.specs.Written.{written}
 use Rattle.os_io.specs.Counts.{last_count, raised}
+use Rattle.os_io.specs.declared.files.Files.{Ghosts as FilesView}
+use Rattle.os_io.specs.declared.sink.Sink.{Ghosts as SinkView}
 use Rattle.osrun_core.specs.declared.refusal.Refusal.{Refusal}
 use Rattle.osrun_core.specs.declared.refusal.Refusal.TheVariants as refusals
 use Rattle.osrun_core.specs.declared.refusal.Subject.TheVariants as subjects
 use Rattle.osrun_core.specs.declared.status.Status.{Status}
 use Rattle.osrun_core.specs.declared.status.Status.TheVariants as statuses
 use Rattle.osrun_core.specs.Command.{Job, JobFile, files_of}
-use Rattle.osrun_core.specs.Delivers.{IsUndelivered}
 use Rattle.osrun_core.specs.JobAnswer.{AnswersJob, status_of}
-use Rattle.osrun_core.specs.Loading.{FilesView, IsCauseOf}
+use Rattle.osrun_core.specs.Loading.{IsCauseOf}
 use Rattle.osrun_core.specs.Refusal.{limit_of, refusal_line, refusal_status}
 use Rattle.osrun_core.specs.Run.{ProgramRun, IsRunOfJob}
 use Rattle.osrun_core.specs.Status.{number_of}
-use Rattle.osrun_core.specs.Telling.{SinkView, Tells}
+use Rattle.osrun_core.specs.Telling.{IsUndelivered, Tells}
 
 -- a choice between 0 and 1 is below 2
 choice_small : (b : Bool) (n : ℕ) → n ≡ cond b 0 1 → n < 2
@@ -63,12 +64,12 @@ module _ {F O E : Type 0} (of_files : FilesView F) (files_old files_new : F) (jo
 
   -- a status below 2 is that of a run that was delivered
   pub delivered_answer : (s : Status) → AnswersJob of_files files_old files_new job of_out out_old out_new of_report report_old report_new s → number_of s < 2
-      → (run : ProgramRun) × IsRunOfJob (of_files.holds files_old) (of_files.given files_new) job run
+      → (run : ProgramRun) × IsRunOfJob (of_files.holds files_old) job run × (of_files.given files_new ≡ length run.input)
       × (of_out.taken out_new ≡ append_known (of_out.taken out_old) (written run.ends.output))
       × (of_report.taken report_new ≡ append_known (of_report.taken report_old) (report run.control.activations (length run.input) run.ends run.control.end))
       × (number_of s ≡ status run.ends.ends run.control.end)
-  delivered_answer s (inl a) small = elim a.delivers [
-    | inl d ↦ (a.run, a.is_run, d.0.0, d.1.0, d.2)
+  delivered_answer s (inl a) small = elim a.hands_over [
+    | inl d ↦ (a.run, a.is_run, a.input_whole, d.0.0, d.1.0, d.2)
     | inr d ↦ absurd (let same : number_of s ≡ 6 = ap number_of d.1 in omega arith)
   ]
   delivered_answer s (inr a) small = elim a.refuses [
@@ -80,7 +81,7 @@ module _ {F O E : Type 0} (of_files : FilesView F) (files_old files_new : F) (jo
   pub untroubled_answer : (s : Status) → AnswersJob of_files files_old files_new job of_out out_old out_new of_report report_old report_new s → number_of s < 2
       → (of_out.faults out_new ≡ of_out.faults out_old) × (of_out.empty_takes out_new ≡ of_out.empty_takes out_old)
       × (of_report.faults report_new ≡ of_report.faults report_old) × (of_report.empty_takes report_new ≡ of_report.empty_takes report_old)
-  untroubled_answer s (inl a) small = elim a.delivers [
+  untroubled_answer s (inl a) small = elim a.hands_over [
     | inl d ↦ (d.0.1, d.0.2, d.1.1, d.1.2)
     | inr d ↦ absurd (let same : number_of s ≡ 6 = ap number_of d.1 in omega arith)
   ]
@@ -98,25 +99,31 @@ module _ {F O E : Type 0} (of_files : FilesView F) (files_old files_new : F) (jo
     | inr d ↦ absurd (let same : number_of s ≡ 7 = ap number_of d.0 in omega arith)
   ]
 
+  -- what isn't want of memory has its cause
+  a_cause : (r : Refusal) → (r ≡ refusals.Memory) ⊎ IsCauseOf of_files files_old files_new job r → number_of (refusal_status r) ≤ 5
+      → IsCauseOf of_files files_old files_new job r
+  a_cause r (inl is_memory) small = absurd (let seven : number_of (refusal_status r) ≡ 7 = ap (λ x. number_of (refusal_status x)) is_memory in omega arith)
+  a_cause r (inr cause) small = cause
+
   -- a status of 3 to 5 is that of a refusal, whose cause stands and whose line was told
   pub refused_answer : (s : Status) → AnswersJob of_files files_old files_new job of_out out_old out_new of_report report_old report_new s → 3 ≤ number_of s → number_of s ≤ 5
       → (r : Refusal) × (number_of s ≡ number_of (refusal_status r)) × IsCauseOf of_files files_old files_new job r × Tells of_report report_old report_new (refusal_line r)
-  refused_answer s (inl a) low high = elim a.delivers [
+  refused_answer s (inl a) low high = elim a.hands_over [
     | inl d ↦ absurd (let small : number_of s < 2 = own_small a.run (number_of s) d.2 in omega arith)
     | inr d ↦ absurd (let same : number_of s ≡ 6 = ap number_of d.1 in omega arith)
   ]
   refused_answer s (inr a) low high = elim a.refuses [
-    | inl d ↦ (a.refusal, ap number_of d.0, a.cause, d.2)
+    | inl d ↦ (a.refusal, ap number_of d.0, a_cause a.refusal a.cause (omega (arith, ap number_of d.0)), d.2)
     | inr d ↦ absurd (let same : number_of s ≡ 7 = ap number_of d.0 in omega arith)
   ]
 
   -- 6 is the status of a run that was not delivered whole
   pub undelivered_answer : (s : Status) → AnswersJob of_files files_old files_new job of_out out_old out_new of_report report_old report_new s → number_of s ≡ 6
-      → (run : ProgramRun) × IsRunOfJob (of_files.holds files_old) (of_files.given files_new) job run
+      → (run : ProgramRun) × IsRunOfJob (of_files.holds files_old) job run × (of_files.given files_new ≡ length run.input)
       × IsUndelivered of_out out_old out_new (written run.ends.output) of_report report_old report_new (report run.control.activations (length run.input) run.ends run.control.end)
-  undelivered_answer s (inl a) six = elim a.delivers [
+  undelivered_answer s (inl a) six = elim a.hands_over [
     | inl d ↦ absurd (let small : number_of s < 2 = own_small a.run (number_of s) d.2 in omega arith)
-    | inr d ↦ (a.run, a.is_run, d.0)
+    | inr d ↦ (a.run, a.is_run, a.input_whole, d.0)
   ]
   undelivered_answer s (inr a) six = elim a.refuses [
     | inl d ↦ absurd (let small : number_of s ≤ 5 = d.1 in omega arith)
@@ -125,7 +132,7 @@ module _ {F O E : Type 0} (of_files : FilesView F) (files_old files_new : F) (jo
 
   -- 7 leaves the report as it was
   pub memory_answer : (s : Status) → AnswersJob of_files files_old files_new job of_out out_old out_new of_report report_old report_new s → number_of s ≡ 7 → report_new ≡ report_old
-  memory_answer s (inl a) seven = elim a.delivers [
+  memory_answer s (inl a) seven = elim a.hands_over [
     | inl d ↦ absurd (let small : number_of s < 2 = own_small a.run (number_of s) d.2 in omega arith)
     | inr d ↦ absurd (let same : number_of s ≡ 6 = ap number_of d.1 in omega arith)
   ]
@@ -136,7 +143,7 @@ module _ {F O E : Type 0} (of_files : FilesView F) (files_old files_new : F) (jo
 
   -- a status that isn't that of a run leaves the output as it was
   pub unwritten_answer : (s : Status) → AnswersJob of_files files_old files_new job of_out out_old out_new of_report report_old report_new s → 2 ≤ number_of s → number_of s ≢ 6 → out_new ≡ out_old
-  unwritten_answer s (inl a) large other = elim a.delivers [
+  unwritten_answer s (inl a) large other = elim a.hands_over [
     | inl d ↦ absurd (let small : number_of s < 2 = own_small a.run (number_of s) d.2 in omega arith)
     | inr d ↦ absurd (other (ap number_of d.1))
   ]
@@ -152,20 +159,19 @@ module _ {F O E : Type 0} (of_files : FilesView F) (files_old files_new : F) (jo
       absurd (omega (arith, cause.within))
   past_limit (refusals.Text code line) place file cause at room opened more =
       let same : limit_of file.subject ≡ limit_of subjects.Program = same_file job (of_files.opens files_old) place cause.came.place file (record { subject = subjects.Program; name = cause.came.name }) at cause.came.is_there room (sym opened ∙ cause.came.opened) in
-      absurd (omega (arith, cause.whole, cause.fits))
+      absurd (omega (arith, cause.whole, cause.read.fits))
   past_limit refusals.NoProgram place file cause at room opened more =
       let same : limit_of file.subject ≡ limit_of subjects.Program = same_file job (of_files.opens files_old) place cause.came.place file (record { subject = subjects.Program; name = cause.came.name }) at cause.came.is_there room (sym opened ∙ cause.came.opened) in
-      absurd (omega (arith, cause.whole, cause.fits))
-  past_limit refusals.Memory place file cause at room opened more = inr refl
+      absurd (omega (arith, cause.whole, cause.read.fits))
+  past_limit refusals.Memory place file cause at room opened more = absurd cause
 
   pub too_long_answer : (s : Status) → AnswersJob of_files files_old files_new job of_out out_old out_new of_report report_old report_new s → (place : ℕ) (file : JobFile)
       → slice_get (files_of job) place ≡ Some file → of_files.opens files_old + 2 ≤ last_count → of_files.opens files_new ≡ raised (of_files.opens files_old) (place + 1)
       → limit_of file.subject < of_files.given files_new → (number_of s ≡ 4) ⊎ (number_of s ≡ 7)
   too_long_answer s (inl a) place file at room opened more =
-      let run = a.is_run in
       let same : limit_of file.subject ≡ limit_of subjects.Input = same_file job (of_files.opens files_old) place 1 file (record { subject = subjects.Input; name = job.input }) at refl room (sym opened ∙ a.opened) in
-      absurd (omega (arith, run.input_whole, run.input_fits))
+      absurd (omega (arith, a.input_whole, a.is_run.input_read.fits))
   too_long_answer s (inr a) place file at room opened more = elim a.refuses [
-    | inl d ↦ subst (λ n. (n ≡ 4) ⊎ (n ≡ 7)) (sym (ap number_of d.0)) (past_limit a.refusal place file a.cause at room opened more)
+    | inl d ↦ subst (λ n. (n ≡ 4) ⊎ (n ≡ 7)) (sym (ap number_of d.0)) (past_limit a.refusal place file (a_cause a.refusal a.cause (omega (arith, ap number_of d.0, d.1))) at room opened more)
     | inr d ↦ inr (ap number_of d.0)
   ]

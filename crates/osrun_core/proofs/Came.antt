@@ -8,13 +8,14 @@ use Rattle.flow_core.specs.declared.ends.Ends.{Ends}
 use Rattle.front_end.specs.Texts.{IsAccepted}
 use Rattle.os_ast.specs.Trees.{ProgramTree}
 use Rattle.os_io.specs.Counts.{raised, last_count}
+use Rattle.os_io.specs.declared.files.Files.{Ghosts as FilesView}
 use Rattle.osrun_core.specs.Run.{IsRunOfJob, ends_over}
 use Rattle.osrun_core.specs.declared.refusal.Refusal.{Refusal}
 use Rattle.osrun_core.specs.declared.refusal.Refusal.TheVariants as refusals
 use Rattle.osrun_core.specs.declared.refusal.Subject.{Subject}
 use Rattle.osrun_core.specs.declared.refusal.Subject.TheVariants as subjects
 use Rattle.osrun_core.specs.Command.{Job, JobFile, files_of}
-use Rattle.osrun_core.specs.Loading.{FilesView, MayOpen, IsHeld, IsRead, CameTo, IsCauseOf, ReadsInOrder}
+use Rattle.osrun_core.specs.Loading.{AreBytesOf, MayOpen, IsRead, CameTo, IsCauseOf, ReadsInOrder}
 use Rattle.osrun_core.specs.Loads.{IsLoaded, IsLoadRefusal}
 use Rattle.osrun_core.specs.Refusal.{IsRefusalOf, limit_of, refusal_status}
 use Rattle.osrun_core.specs.declared.status.Status.TheVariants as statuses
@@ -77,57 +78,55 @@ module _ {F : Type 0} (view : FilesView F) (job : Job) where
   pub program_read : (old new : F) (text : List ℕ) (p : ProgramTree) → IsLoaded view old new subjects.Program job.program text → IsAccepted text p
       → IsRead (view.holds old) (program_file job)
   program_read old new text p loaded is_program =
-      record { bytes = text; is_held = loaded.is_held; fits = loaded.fits; serves = (p, is_program) }
+      record { bytes = text; read = loaded.read; usable = (p, is_program) }
 
   -- why the program could not be loaded
   pub cause_of_program : (old new : F) (r : Refusal) → view.opens new ≡ raised (view.opens old) 1 → IsLoadRefusal view old new subjects.Program job.program r
-      → IsCauseOf view old new job r
+      → (r ≡ refusals.Memory) ⊎ IsCauseOf view old new job r
   cause_of_program old new (refusals.TooLong s) opened h =
       let came = came_to_program old new opened in
-      subst (λ s. IsCauseOf view old new job (refusals.TooLong s)) (sym h.0) (record { came = came; too_many = h.1; held = h.2 })
+      inr (subst (λ s. IsCauseOf view old new job (refusals.TooLong s)) (sym h.0) (record { came = came; too_many = h.1; held = h.2 }))
   cause_of_program old new (refusals.ReadFault s) opened h =
       let came = came_to_program old new opened in
-      subst (λ s. IsCauseOf view old new job (refusals.ReadFault s)) (sym h.0) (record { came = came; within = h.1; fault = h.2 })
-  cause_of_program old new refusals.Memory opened h = tt
+      inr (subst (λ s. IsCauseOf view old new job (refusals.ReadFault s)) (sym h.0) (record { came = came; within = h.1; fault = h.2 }))
+  cause_of_program old new refusals.Memory opened h = inl refl
   cause_of_program old new (refusals.Text code line) opened h = absurd h
   cause_of_program old new refusals.NoProgram opened h = absurd h
 
   -- why its text was refused
   pub cause_of_text : (old new : F) (text : List ℕ) (r : Refusal) → view.opens new ≡ raised (view.opens old) 1 → IsLoaded view old new subjects.Program job.program text
-      → (r ≡ refusals.Memory) ⊎ IsRefusalOf text r → IsCauseOf view old new job r
-  cause_of_text old new text r opened loaded (inl is_memory) = subst (IsCauseOf view old new job) (sym is_memory) tt
+      → (r ≡ refusals.Memory) ⊎ IsRefusalOf text r → (r ≡ refusals.Memory) ⊎ IsCauseOf view old new job r
+  cause_of_text old new text r opened loaded (inl is_memory) = inl is_memory
   cause_of_text old new text (refusals.TooLong s) opened loaded (inr h) = absurd h
   cause_of_text old new text (refusals.ReadFault s) opened loaded (inr h) = absurd h
-  cause_of_text old new text refusals.Memory opened loaded (inr h) = tt
-  cause_of_text old new text (refusals.Text code line) opened loaded (inr h) = record {
+  cause_of_text old new text refusals.Memory opened loaded (inr h) = absurd h
+  cause_of_text old new text (refusals.Text code line) opened loaded (inr h) = inr (record {
     came = came_to_program old new opened;
     text = text;
-    held = loaded.is_held;
+    read = loaded.read;
     whole = loaded.whole;
-    fits = loaded.fits;
     refused = h;
-  }
-  cause_of_text old new text refusals.NoProgram opened loaded (inr h) = record {
+  })
+  cause_of_text old new text refusals.NoProgram opened loaded (inr h) = inr (record {
     came = came_to_program old new opened;
     text = text;
-    held = loaded.is_held;
+    read = loaded.read;
     whole = loaded.whole;
-    fits = loaded.fits;
     refused = h;
-  }
+  })
 
   -- why the input could not be loaded, after the program was read
   pub cause_of_input : (old mid new : F) (r : Refusal) → view.holds mid ≡ view.holds old → view.faults old ≤ view.faults mid
       → IsRead (view.holds old) (program_file job) → view.opens new ≡ raised (raised (view.opens old) 1) 1
-      → IsLoadRefusal view mid new subjects.Input job.input r → IsCauseOf view old new job r
+      → IsLoadRefusal view mid new subjects.Input job.input r → (r ≡ refusals.Memory) ⊎ IsCauseOf view old new job r
   cause_of_input old mid new (refusals.TooLong s) same faults read opened h =
       let came = came_to_input old new read opened in
-      subst (λ s. IsCauseOf view old new job (refusals.TooLong s)) (sym h.0)
-      (record { came = came; too_many = h.1; held = subst (λ holds. IfSome (holds job.input) (λ told. limit_of subjects.Input < length told)) same h.2 })
+      inr (subst (λ s. IsCauseOf view old new job (refusals.TooLong s)) (sym h.0)
+      (record { came = came; too_many = h.1; held = subst (λ holds. IfSome (holds job.input) (λ told. limit_of subjects.Input < length told)) same h.2 }))
   cause_of_input old mid new (refusals.ReadFault s) same faults read opened h =
       let came = came_to_input old new read opened in
-      subst (λ s. IsCauseOf view old new job (refusals.ReadFault s)) (sym h.0) (record { came = came; within = h.1; fault = omega (arith, faults, h.2) })
-  cause_of_input old mid new refusals.Memory same faults read opened h = tt
+      inr (subst (λ s. IsCauseOf view old new job (refusals.ReadFault s)) (sym h.0) (record { came = came; within = h.1; fault = omega (arith, faults, h.2) }))
+  cause_of_input old mid new refusals.Memory same faults read opened h = inl refl
   cause_of_input old mid new (refusals.Text code line) same faults read opened h = absurd h
   cause_of_input old mid new refusals.NoProgram same faults read opened h = absurd h
 
@@ -147,14 +146,11 @@ module _ {F : Type 0} (view : FilesView F) (job : Job) where
   pub run_of_both : (old mid new : F) (text input : List ℕ) (p : ProgramTree) (made : Control) (ends : Ends) → IsLoaded view old mid subjects.Program job.program text
       → IsLoaded view mid new subjects.Input job.input input → view.holds mid ≡ view.holds old → IsAccepted text p
       → made ≡ control p (length input) job.control_budget → ends ≡ ends_over p made.activations input job.task_budget
-      → IsRunOfJob (view.holds old) (view.given new) job (record { control = made; input = input; ends = ends })
+      → IsRunOfJob (view.holds old) job (record { control = made; input = input; ends = ends })
   run_of_both old mid new text input p made ends of_text of_input same is_program control_is ends_are = record {
     text = text;
-    text_held = of_text.is_held;
-    text_fits = of_text.fits;
-    input_held = subst (λ holds. IsHeld (holds job.input) input) same of_input.is_held;
-    input_whole = of_input.whole;
-    input_fits = of_input.fits;
+    text_read = of_text.read;
+    input_read = subst (λ holds. AreBytesOf (holds job.input) subjects.Input input) same of_input.read;
     program = p;
     is_program = is_program;
     control_is = control_is;

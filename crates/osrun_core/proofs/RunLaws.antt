@@ -25,7 +25,7 @@ use Rattle.osrun_core.specs.Laws.{GivesOnlyBytes, IsOfAState, OfRuns, TellsAllBu
 use Rattle.osrun_core.specs.Run.{IsRunOfJob, ProgramRun, body_at}
 
 pub only_bytes : RunsKeep → OutputsAreBytes → OfRuns GivesOnlyBytes
-only_bytes keep bytes holds given job run is =
+only_bytes keep bytes holds job run is =
     subst (λ (e : Ends). All IsByteIfThere e.output) (sym is.ends_are) (bytes_are keep bytes is.program run.control.activations run.input job.task_budget)
 
 module _ (fill : BodiesFill) (meaning_filled : FilledBodiesFill) where
@@ -42,10 +42,10 @@ module _ (fill : BodiesFill) (meaning_filled : FilledBodiesFill) where
       ap (λ (o : Outcome). length o.outputs) same
       ∙ fill p input_len control_budget a x inputs budget at long (ap (λ (o : Outcome). o.end) (sym same) ∙ done))
 
-  run_filled : (holds : List ℕ → Option (List ℕ)) (given : ℕ) (job : Job) (run : ProgramRun) (is : IsRunOfJob holds given job run)
+  run_filled : (holds : List ℕ → Option (List ℕ)) (job : Job) (run : ProgramRun) (is : IsRunOfJob holds job run)
       → IsFilled run.control.activations
       (stream_meaning run.control.activations run.input (body_at is.program run.control.activations job.task_budget))
-  run_filled holds given job run is =
+  run_filled holds job run is =
       subst (λ (c : Control). IsFilled c.activations (stream_meaning c.activations run.input (body_at is.program c.activations job.task_budget)))
       (sym is.control_is)
       (program_filled is.program (length run.input) job.control_budget run.input job.task_budget)
@@ -53,9 +53,9 @@ module _ (fill : BodiesFill) (meaning_filled : FilledBodiesFill) where
   -- what holds of filled meanings holds of runs
   of_runs : (fact : List Activation → ℕ → Ends → Type 0) → OfFilled fact
       → OfRuns (λ (run : ProgramRun). fact run.control.activations (length run.input) run.ends)
-  of_runs fact all holds given job run is =
+  of_runs fact all holds job run is =
       subst (fact run.control.activations (length run.input)) (sym is.ends_are)
-      (all run.control.activations run.input (body_at is.program run.control.activations job.task_budget) (run_filled holds given job run is))
+      (all run.control.activations run.input (body_at is.program run.control.activations job.task_budget) (run_filled holds job run is))
 
   pub of_a_state : OfFilled AreOfState → OfRuns IsOfAState
   of_a_state states = of_runs AreOfState states
@@ -66,5 +66,5 @@ module _ (fill : BodiesFill) (meaning_filled : FilledBodiesFill) where
   pub writes_all : OfFilled AreOfState
       → ((activations : List Activation) (input_len : ℕ) (ends : Ends) (end : ControlEnd) → AreOfState activations input_len ends
       → status ends.ends end ≡ 0 → length (written ends.output) ≡ written_count activations 1) → OfRuns WritesAllAtZero
-  writes_all states all holds given job run is zero_is =
-      all run.control.activations (length run.input) run.ends run.control.end (of_runs AreOfState states holds given job run is) zero_is
+  writes_all states all holds job run is zero_is =
+      all run.control.activations (length run.input) run.ends run.control.end (of_runs AreOfState states holds job run is) zero_is

@@ -71,8 +71,8 @@ abbrev pub control_budget : Argument
 control_budget = option (codes "control") (codes "1000000") 0 1000000000
 
 -- `run PROGRAM INPUT [--workers N] [--budget N] [--control N]`
-abbrev pub run : CommandForm
-run = record {
+abbrev pub run_form : CommandForm
+run_form = record {
   word = codes "run";
   arguments =
       name (codes "PROGRAM") ∷ name (codes "INPUT") ∷ workers ∷ task_budget ∷ control_budget ∷ [];
@@ -86,8 +86,8 @@ run = record {
 }
 
 -- `gen SEED BLOCKS [--workers N]`
-abbrev pub gen : CommandForm
-gen = record {
+abbrev pub gen_form : CommandForm
+gen_form = record {
   word = codes "gen";
   arguments =
       number (codes "SEED") 0 4294967295 ∷ number (codes "BLOCKS") 1 65536 ∷ workers ∷ [];
@@ -99,7 +99,7 @@ gen = record {
 }
 
 abbrev pub commands : List CommandForm
-commands = run ∷ gen ∷ []
+commands = run_form ∷ gen_form ∷ []
 
 -- ---- the words
 

@@ -4,13 +4,15 @@ use Rattle.collector.specs.Report.{report}
 use Rattle.collector.specs.Status.{status}
 use Rattle.collector.specs.Written.{written}
 use Rattle.os_io.specs.Counts.{raised}
+use Rattle.os_io.specs.declared.files.Files.{Ghosts as FilesView}
+use Rattle.os_io.specs.declared.sink.Sink.{Ghosts as SinkView}
 use Rattle.osrun_core.specs.Command.{Job, files_of}
-use Rattle.osrun_core.specs.Delivers.{Delivers}
-use Rattle.osrun_core.specs.Loading.{FilesView, IsCauseOf}
+use Rattle.osrun_core.specs.HandsOver.{HandsOver}
+use Rattle.osrun_core.specs.Loading.{IsCauseOf}
 use Rattle.osrun_core.specs.Refuses.{Refuses}
 use Rattle.osrun_core.specs.Run.{ProgramRun, IsRunOfJob}
-use Rattle.osrun_core.specs.Telling.{SinkView}
 use Rattle.osrun_core.specs.declared.refusal.Refusal.{Refusal}
+use Rattle.osrun_core.specs.declared.refusal.Refusal.TheVariants.{Memory}
 use Rattle.osrun_core.specs.declared.status.Status.{Status}
 
 -- what a run writes and reports, and the number of its status
@@ -28,14 +30,15 @@ pub record AnswersRun {F O E : Type 0} (of_files : FilesView F) (files_old files
     (of_out : SinkView O) (out_old out_new : O) (of_report : SinkView E) (report_old report_new : E) (answered : Status) : Type 0 where
   pub opened : of_files.opens files_new ≡ raised (of_files.opens files_old) (length (files_of job))
   pub run : ProgramRun
-  pub is_run : IsRunOfJob (of_files.holds files_old) (of_files.given files_new) job run
-  pub delivers : Delivers of_out out_old out_new (output_of run) of_report report_old report_new (report_of run) (status_of run) answered
+  pub is_run : IsRunOfJob (of_files.holds files_old) job run
+  pub input_whole : of_files.given files_new ≡ length run.input
+  pub hands_over : HandsOver of_out out_old out_new (output_of run) of_report report_old report_new (report_of run) (status_of run) answered
 
--- no run was made, for a cause that is told
+-- no run was made, for want of memory or for a cause that is told
 pub record AnswersRefusal {F O E : Type 0} (of_files : FilesView F) (files_old files_new : F) (job : Job)
     (out_old out_new : O) (of_report : SinkView E) (report_old report_new : E) (answered : Status) : Type 0 where
   pub refusal : Refusal
-  pub cause : IsCauseOf of_files files_old files_new job refusal
+  pub cause : (refusal ≡ Memory) ⊎ IsCauseOf of_files files_old files_new job refusal
   pub refuses : Refuses of_report report_old report_new refusal answered
   pub nothing_written : out_new ≡ out_old
 

@@ -21,7 +21,7 @@ BodiesGiveBytes = (p : ProgramTree) (a : Activation) (inputs : List ℤ) (budget
 
 -- a fact of every run of a job
 abbrev pub OfRuns : (ProgramRun → Type 0) → Type 0
-OfRuns fact = (holds : List ℕ → Option (List ℕ)) (given : ℕ) (job : Job) (run : ProgramRun) → IsRunOfJob holds given job run → fact run
+OfRuns fact = (holds : List ℕ → Option (List ℕ)) (job : Job) (run : ProgramRun) → IsRunOfJob holds job run → fact run
 
 -- Each activation that is done filled its output windows, so that what is there by the ends, as the report tells it, is
 -- what is there by the elements, of which the output is written.

@@ -1,7 +1,6 @@
 -- What a reader believes: what the words name, what a run comes to, why none is made, what is told and delivered of it.
 pub mod Arguments
 pub mod Command
-pub mod Delivers
 pub mod Gen
 pub mod Loading
 pub mod Refusal
@@ -14,6 +13,7 @@ pub mod Laws
 -- What restates private functions.
 pub mod Accepting
 pub mod GenAnswer
+pub mod HandsOver
 pub mod JobAnswer
 pub mod Loads
 pub mod Parsed

@@ -1,8 +1,11 @@
--- What a job finds in its files, which are read one after the other.
+-- What a job finds in its files, which are read one after the other. Files are seen by the members that their trait declares,
+-- each by its name: what a name holds, where that is told, the numbers of openings and of faults, and how many bytes were
+-- given since the last opening.
 use Rattle.std.specs.Prelude.{◌≡◌, ℕ, ◌+◌, ◌<◌, ◌≤◌, Bool, List, Option, Some, All, IfSome, IsTrue, length, max, slice_get, take}
 use Rattle.front_end.specs.Texts.{IsAccepted}
 use Rattle.os_ast.specs.Trees.{ProgramTree}
 use Rattle.os_io.specs.Counts.{HasRisen, raised, last_count}
+use Rattle.os_io.specs.declared.files.Files.{Ghosts as FilesView}
 use Rattle.osrun_core.specs.declared.refusal.Subject.{Subject}
 use Rattle.osrun_core.specs.declared.refusal.Subject.TheVariants as subjects
 use Rattle.osrun_core.specs.declared.refusal.Refusal.{Refusal}
@@ -10,42 +13,42 @@ use Rattle.osrun_core.specs.declared.refusal.Refusal.TheVariants as refusal
 use Rattle.osrun_core.specs.Command.{Job, JobFile, files_of}
 use Rattle.osrun_core.specs.Refusal.{IsRefusalOf, limit_of}
 
--- What shows files at a moment, each part by its name: what each name holds where that is told, the numbers
--- of openings and of faults, and how many bytes were given since the last opening.
-pub record FilesView (F : Type 0) : Type 0 where
-  pub holds : F → List ℕ → Option (List ℕ)
-  pub opens : F → ℕ
-  pub faults : F → ℕ
-  pub given : F → ℕ
-
 -- each opening that a job makes is allowed: the first file's at the number of openings so far, and the k-th one's at
 -- that number plus k, as far as it isn't past the last value of the count
 abbrev pub MayOpen : (ℕ → List ℕ → Bool) → ℕ → List JobFile → Type 0
 MayOpen may opens files =
     (k : ℕ) (file : JobFile) → slice_get files k ≡ Some file → opens + k ≤ max opens last_count → IsTrue (may (opens + k) file.name)
 
--- the bytes are those that are held, where that is told
-abbrev pub IsHeld : Option (List ℕ) → List ℕ → Type 0
-IsHeld held bytes = IfSome held (λ told. bytes ≡ told)
+-- the bytes were read of such a file: they are those that it holds, where that is told, and within its limit
+pub record AreBytesOf (held : Option (List ℕ)) (subject : Subject) (bytes : List ℕ) : Type 0 where
+  pub is_held : IfSome held (λ told. bytes ≡ told)
+  pub fits : length bytes ≤ limit_of subject
 
--- bytes that serve as such a file: those of the program are accepted as one
-abbrev pub Serves : Subject → List ℕ → Type 0
-Serves subjects.Program bytes = (p : ProgramTree) × IsAccepted bytes p
-Serves subjects.Input bytes = Unit {0}
+-- bytes that are usable as such a file: those of the program are accepted as one
+abbrev pub IsUsable : Subject → List ℕ → Type 0
+IsUsable subjects.Program bytes = (p : ProgramTree) × IsAccepted bytes p
+IsUsable subjects.Input bytes = Unit {0}
 
--- the file was read whole, within its limit, and serves
+-- the file was read whole, within its limit, and is usable
 pub record IsRead (holds : List ℕ → Option (List ℕ)) (file : JobFile) : Type 0 where
   pub bytes : List ℕ
-  pub is_held : IsHeld (holds file.name) bytes
-  pub fits : length bytes ≤ limit_of file.subject
-  pub serves : Serves file.subject bytes
+  pub read : AreBytesOf (holds file.name) file.subject bytes
+  pub usable : IsUsable file.subject bytes
 
--- the file is told, is within its limit, and serves
+-- the file is told, is within its limit, and is usable
 pub record IsReadable (holds : List ℕ → Option (List ℕ)) (file : JobFile) : Type 0 where
   pub bytes : List ℕ
   pub told : holds file.name ≡ Some bytes
   pub fits : length bytes ≤ limit_of file.subject
-  pub serves : Serves file.subject bytes
+  pub usable : IsUsable file.subject bytes
+
+-- the program is told and within its limit, and its text is refused
+pub record IsRejected (holds : List ℕ → Option (List ℕ)) (job : Job) : Type 0 where
+  pub text : List ℕ
+  pub told : holds job.program ≡ Some text
+  pub fits : length text ≤ limit_of subjects.Program
+  pub cause : Refusal
+  pub refused : IsRefusalOf text cause
 
 -- the job came to this file, which it opened last, after it had read those before it
 pub record CameTo {F : Type 0} (view : FilesView F) (old new : F) (job : Job) (subject : Subject) : Type 0 where
@@ -71,28 +74,19 @@ pub record IsUnread {F : Type 0} (view : FilesView F) (old new : F) (job : Job) 
 pub record IsRefusedText {F : Type 0} (view : FilesView F) (old new : F) (job : Job) (r : Refusal) : Type 0 where
   pub came : CameTo view old new job subjects.Program
   pub text : List ℕ
-  pub held : IsHeld (view.holds old came.name) text
+  pub read : AreBytesOf (view.holds old came.name) subjects.Program text
   pub whole : view.given new ≡ length text
-  pub fits : length text ≤ limit_of subjects.Program
   pub refused : IsRefusalOf text r
 
--- the cause of a refusal of a job; want of memory has none
+-- the cause of a refusal of a job; want of memory, which is not told, has none
 abbrev pub IsCauseOf : {F : Type 0} → FilesView F → F → F → Job → Refusal → Type 0
 IsCauseOf view old new job (refusal.Text code line_number) = IsRefusedText view old new job (refusal.Text code line_number)
 IsCauseOf view old new job refusal.NoProgram = IsRefusedText view old new job refusal.NoProgram
 IsCauseOf view old new job (refusal.TooLong subject) = IsTooLong view old new job subject
 IsCauseOf view old new job (refusal.ReadFault subject) = IsUnread view old new job subject
-IsCauseOf view old new job refusal.Memory = Unit {0}
+IsCauseOf view old new job refusal.Memory = ⊥
 
 -- where more than k files were opened, the first k were read
 abbrev pub ReadsInOrder : {F : Type 0} → FilesView F → F → F → Job → Type 0
 ReadsInOrder view old new job =
     (k : ℕ) → view.opens old + k < view.opens new → All (IsRead (view.holds old)) (take k (files_of job))
-
--- the program is told and within its limit, and its text is refused
-pub record IsRejected (holds : List ℕ → Option (List ℕ)) (job : Job) : Type 0 where
-  pub text : List ℕ
-  pub held : holds job.program ≡ Some text
-  pub fits : length text ≤ limit_of subjects.Program
-  pub cause : Refusal
-  pub refused : IsRefusalOf text cause

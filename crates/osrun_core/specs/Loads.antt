@@ -1,17 +1,17 @@
 -- What reading one file answers.
 use Rattle.std.specs.Prelude.{◌≡◌, ℕ, ◌+◌, ◌<◌, ◌≤◌, List, IfSome, length}
 use Rattle.os_io.specs.Counts.{HasRisen}
+use Rattle.os_io.specs.declared.files.Files.{Ghosts as FilesView}
 use Rattle.osrun_core.specs.declared.refusal.Subject.{Subject}
 use Rattle.osrun_core.specs.declared.refusal.Refusal.{Refusal}
 use Rattle.osrun_core.specs.declared.refusal.Refusal.TheVariants as refusal
-use Rattle.osrun_core.specs.Loading.{FilesView, IsHeld}
+use Rattle.osrun_core.specs.Loading.{AreBytesOf}
 use Rattle.osrun_core.specs.Refusal.{limit_of}
 
 -- the bytes are all those of the file, and within its limit
 pub record IsLoaded {F : Type 0} (view : FilesView F) (old new : F) (subject : Subject) (name bytes : List ℕ) : Type 0 where
-  pub fits : length bytes ≤ limit_of subject
+  pub read : AreBytesOf (view.holds old name) subject bytes
   pub whole : view.given new ≡ length bytes
-  pub is_held : IsHeld (view.holds old name) bytes
 
 -- the file is too long, or could not be read, or memory could not be had
 abbrev pub IsLoadRefusal : {F : Type 0} → FilesView F → F → F → Subject → List ℕ → Refusal → Type 0

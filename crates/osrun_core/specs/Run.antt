@@ -1,5 +1,5 @@
 -- A run of a program over an input.
-use Rattle.std.specs.Prelude.{◌≡◌, ℕ, ℤ, ◌≤◌, List, Option, length, slice_get}
+use Rattle.std.specs.Prelude.{◌≡◌, ℕ, ℤ, List, Option, length, slice_get}
 use Rattle.std.specs.Option.{option_map_or}
 use Rattle.cddf_meaning.specs.Body.{body, over_budget}
 use Rattle.cddf_meaning.specs.Control.{control}
@@ -11,8 +11,7 @@ use Rattle.flow_core.specs.declared.outcome.Outcome.{Outcome}
 use Rattle.front_end.specs.Texts.{IsAccepted}
 use Rattle.os_ast.specs.Trees.{ProgramTree}
 use Rattle.osrun_core.specs.Command.{Job}
-use Rattle.osrun_core.specs.Loading.{IsHeld}
-use Rattle.osrun_core.specs.Refusal.{limit_of}
+use Rattle.osrun_core.specs.Loading.{AreBytesOf}
 use Rattle.osrun_core.specs.declared.refusal.Subject.TheVariants.{Program, Input}
 
 -- What the activation of a number makes of its inputs: what the body of its task does. A number that no activation has
@@ -32,15 +31,12 @@ pub record ProgramRun : Type 0 where
   pub input : List ℕ
   pub ends : Ends
 
--- Both files of the job were read whole, within their limits: of the second so many bytes were given. The first is
--- accepted as a program, and the run is that of this program over the bytes of the second, with the job's budgets.
-pub record IsRunOfJob (holds : List ℕ → Option (List ℕ)) (given : ℕ) (job : Job) (run : ProgramRun) : Type 0 where
+-- The run of a job: the text was read of its first file and is accepted as a program, the input was read of its second, and
+-- the run is that of the program over the input, with the job's budgets.
+pub record IsRunOfJob (holds : List ℕ → Option (List ℕ)) (job : Job) (run : ProgramRun) : Type 0 where
   pub text : List ℕ
-  pub text_held : IsHeld (holds job.program) text
-  pub text_fits : length text ≤ limit_of Program
-  pub input_held : IsHeld (holds job.input) run.input
-  pub input_whole : given ≡ length run.input
-  pub input_fits : length run.input ≤ limit_of Input
+  pub text_read : AreBytesOf (holds job.program) Program text
+  pub input_read : AreBytesOf (holds job.input) Input run.input
   pub program : ProgramTree
   pub is_program : IsAccepted text program
   pub control_is : run.control ≡ control program (length run.input) job.control_budget

@@ -1,15 +1,10 @@
--- What a sink has taken of a text.
-use Rattle.std.specs.Prelude.{◌≡◌, ℕ, List, Option, ◌⊎◌}
+-- What a sink has taken of a text. A sink is seen by the members that its trait declares, each by its name: the bytes taken so
+-- far, where that is told, and its numbers of faults and of calls that took nothing of a piece that wasn't empty.
+use Rattle.std.specs.Prelude.{◌≡◌, ℕ, List, ◌⊎◌}
 use Rattle.std.specs.Io.KnownBytes.{append_known}
 use Rattle.os_io.specs.Counts.{HasRisen}
 use Rattle.os_io.specs.Writing.{TookProperPrefix}
-
--- What shows a sink at a moment, each part by its name: its bytes where they are told, and its numbers of
--- faults and of calls that took nothing of a piece that wasn't empty.
-pub record SinkView (S : Type 0) : Type 0 where
-  pub taken : S → Option (List ℕ)
-  pub faults : S → ℕ
-  pub empty_takes : S → ℕ
+use Rattle.os_io.specs.declared.sink.Sink.{Ghosts as SinkView}
 
 -- the sink took the whole text and nothing else, without a fault, and something of each piece
 abbrev pub Took : {S : Type 0} → SinkView S → S → S → List ℕ → Type 0
@@ -29,3 +24,10 @@ pub record IsCutShort {S : Type 0} (view : SinkView S) (old new : S) (text : Lis
 -- the sink took the text, or a front of it for a cause of its own
 abbrev pub Tells : {S : Type 0} → SinkView S → S → S → List ℕ → Type 0
 Tells view old new text = Took view old new text ⊎ IsCutShort view old new text
+
+-- Either the output was cut short and the report is as it was, or the output was written and the report was
+-- cut short, for a cause of the sink that did not take all.
+abbrev pub IsUndelivered : {O E : Type 0} → SinkView O → O → O → List ℕ → SinkView E → E → E → List ℕ → Type 0
+IsUndelivered of_out out_old out_new output_bytes of_report report_old report_new report_bytes =
+    (IsCutShort of_out out_old out_new output_bytes × (report_new ≡ report_old))
+    ⊎ (Took of_out out_old out_new output_bytes × IsCutShort of_report report_old report_new report_bytes)

@@ -19,8 +19,7 @@ pub fn answer_gen<R: Threads + Sync, O: Sink, G: Gate>(
     gate: &G,
 ) -> Status
     requires { IsGenWithin (gen_of job.now) }
-    ensures { AnswersGen
-        (record { taken = O.taken; faults = O.faults; empty_takes = O.empty_takes }) out.old out.new (gen_of job.now) result }
+    ensures { AnswersGen O.Sink out.old out.new (gen_of job.now) result }
 {
     let Ok(text) = gen_text(rt, alloc, job, gate) else {
         return Status::NoMemory;

@@ -28,18 +28,15 @@ pub fn answer_job<R: Threads + Sync, F: Files, O: Sink, E: Sink, G: Gate>(
     requires within { IsWithin (job_of job.now) }
     requires may { MayOpen (F.may files.old) (F.opens files.old) (files_of (job_of job.now)) }
     ensures answers { AnswersJob
-        (record { holds = F.holds; opens = F.opens; faults = F.faults; given = F.given }) files.old files.new (job_of job.now)
-        (record { taken = O.taken; faults = O.faults; empty_takes = O.empty_takes }) out.old out.new
-        (record { taken = E.taken; faults = E.faults; empty_takes = E.empty_takes }) report.old report.new result }
+        F.Files files.old files.new (job_of job.now) O.Sink out.old out.new E.Sink report.old report.new result }
     ensures complete { All (IsReadable (F.holds files.old)) (files_of (job_of job.now))
         → (HasRisen (F.faults files.old) (F.faults files.new) → ⊥)
-        → (HasTrouble (record { taken = O.taken; faults = O.faults; empty_takes = O.empty_takes }) out.old out.new → ⊥)
-        → (HasTrouble (record { taken = E.taken; faults = E.faults; empty_takes = E.empty_takes }) report.old report.new → ⊥)
+        → (HasTrouble O.Sink out.old out.new → ⊥)
+        → (HasTrouble E.Sink report.old report.new → ⊥)
         → (number_of result < 2) ⊎ (number_of result ≡ 7) }
     ensures rejected { IsRejected (F.holds files.old) (job_of job.now)
         → (number_of result ≡ 3) ⊎ ((number_of result ≡ 5) ⊎ (number_of result ≡ 7)) }
-    ensures in_order { ReadsInOrder
-        (record { holds = F.holds; opens = F.opens; faults = F.faults; given = F.given }) files.old files.new (job_of job.now) }
+    ensures in_order { ReadsInOrder F.Files files.old files.new (job_of job.now) }
     ensures no_fault { number_of result ≢ 5 → number_of result ≢ 7 → F.faults files.new ≡ F.faults files.old }
     ensures faults_kept { F.faults files.old ≤ F.faults files.new }
     ensures holds { F.holds files.new ≡ F.holds files.old }

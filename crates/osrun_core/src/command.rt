@@ -3,8 +3,7 @@ ghost use Rattle.std.specs.Io.KnownBytes.{append_known};
 ghost use Rattle.std.specs.Option.{ForSome};
 ghost use Rattle.os_io.specs.Counts.{HasRisen, last_count, raised};
 ghost use Rattle.osrun_core.specs.declared.refusal.Refusal.{Refusal as Cause};
-ghost use Rattle.osrun_core.specs.Command.{JobFile, command, files_of, named_gen, named_run, texts};
-ghost use Rattle.osrun_core.specs.Delivers.{IsUndelivered};
+ghost use Rattle.osrun_core.specs.Command.{IsRequestWithin, JobFile, command, files_of, named_gen, named_run, texts};
 ghost use Rattle.osrun_core.specs.Gen.{IsRunOfGen, gen_lines};
 ghost use Rattle.collector.specs.Report.{report as report_of};
 ghost use Rattle.collector.specs.Status.{status as status_of};
@@ -13,7 +12,7 @@ ghost use Rattle.osrun_core.specs.Loading.{MayOpen, IsCauseOf, IsReadable, IsRej
 ghost use Rattle.osrun_core.specs.Refusal.{limit_of, refusal_line, refusal_status, usage_line};
 ghost use Rattle.osrun_core.specs.Run.{ProgramRun, IsRunOfJob};
 ghost use Rattle.osrun_core.specs.Status.{number_of};
-ghost use Rattle.osrun_core.specs.Telling.{HasTrouble, IsCutShort, Tells};
+ghost use Rattle.osrun_core.specs.Telling.{HasTrouble, IsCutShort, IsUndelivered, Tells};
 
 use crate::answer_gen::answer_gen;
 use crate::answer_job::answer_job;
@@ -43,9 +42,11 @@ pub fn run_words<R: Threads + Sync, F: Files, O: Sink, E: Sink, G: Gate>(
         (λ job. MayOpen (F.may files.old) (F.opens files.old) (files_of job)) }
 
     // 0 and 1 of `run`, the headline: there is a run of the job, of which `out` took what is written, `report` took the
-    // report, and the status is its status. Files that don't tell what they hold leave open which text and input it was of.
+    // report, and the status is its status. Of the file opened last as many bytes were given as the run's input has. Files
+    // that don't tell what they hold leave open which text and input the run was of.
     ensures headline { result < 2 → IfSome (named_run (texts words.now)) (λ job. (run : ProgramRun)
-        × IsRunOfJob (F.holds files.old) (F.given files.new) job run
+        × IsRunOfJob (F.holds files.old) job run
+        × (F.given files.new ≡ length run.input)
         × (O.taken out.new ≡ append_known (O.taken out.old) (written run.ends.output))
         × (E.taken report.new ≡ append_known (E.taken report.old) (report_of run.control.activations (length run.input) run.ends run.control.end))
         × (result ≡ status_of run.ends.ends run.control.end)) }
@@ -54,20 +55,20 @@ pub fn run_words<R: Threads + Sync, F: Files, O: Sink, E: Sink, G: Gate>(
     ensures all_opened { (result < 2) ⊎ (result ≡ 6) → IfSome (named_run (texts words.now))
         (λ job. F.opens files.new ≡ raised (F.opens files.old) (length (files_of job))) }
 
+    // All but 2 and 7: the words name a job whose numbers are within their bounds.
+    ensures within { result ≢ 2 → result ≢ 7 → IsSomeAnd (command (texts words.now)) IsRequestWithin }
+
     // 2: the words. Nothing is read where they name no job.
     ensures bad_words { result ≡ 2 → command (texts words.now) ≡ None }
     ensures bad_words_always { command (texts words.now) ≡ None → (result ≡ 2) ⊎ (result ≡ 7) }
     ensures nothing_read { command (texts words.now) ≡ None → files.new ≡ files.old }
-    ensures usage { result ≡ 2 → Tells
-        (record { taken = E.taken; faults = E.faults; empty_takes = E.empty_takes }) report.old report.new usage_line }
+    ensures usage { result ≡ 2 → Tells E.Sink report.old report.new usage_line }
 
     // 3, 4 and 5: a refusal, whose cause stands and whose line is told.
     ensures refused { 3 ≤ result → result ≤ 5 → IsSomeAnd (named_run (texts words.now)) (λ job. (refusal : Cause)
         × (result ≡ number_of (refusal_status refusal))
-        × IsCauseOf
-        (record { holds = F.holds; opens = F.opens; faults = F.faults; given = F.given }) files.old files.new job refusal
-        × Tells
-        (record { taken = E.taken; faults = E.faults; empty_takes = E.empty_takes }) report.old report.new (refusal_line refusal)) }
+        × IsCauseOf F.Files files.old files.new job refusal
+        × Tells E.Sink report.old report.new (refusal_line refusal)) }
 
     // 3: where the program is told and within its limit, and its text is refused, the status is 3, unless a
     // read failed (5) or memory ran out (7).
@@ -84,10 +85,10 @@ pub fn run_words<R: Threads + Sync, F: Files, O: Sink, E: Sink, G: Gate>(
 
     // 6 of `run`: a sink did not take all of a run.
     ensures undelivered { result ≡ 6 → IfSome (named_run (texts words.now)) (λ job. (run : ProgramRun)
-        × IsRunOfJob (F.holds files.old) (F.given files.new) job run
-        × IsUndelivered
-        (record { taken = O.taken; faults = O.faults; empty_takes = O.empty_takes }) out.old out.new (written run.ends.output)
-        (record { taken = E.taken; faults = E.faults; empty_takes = E.empty_takes }) report.old report.new (report_of run.control.activations (length run.input) run.ends run.control.end)) }
+        × IsRunOfJob (F.holds files.old) job run
+        × (F.given files.new ≡ length run.input)
+        × IsUndelivered O.Sink out.old out.new (written run.ends.output)
+        E.Sink report.old report.new (report_of run.control.activations (length run.input) run.ends run.control.end)) }
 
     // 7: want of memory, before anything is written.
     ensures memory { result ≡ 7 → report.new ≡ report.old }
@@ -95,15 +96,14 @@ pub fn run_words<R: Threads + Sync, F: Files, O: Sink, E: Sink, G: Gate>(
     ensures statuses { result ≤ 7 }
 
     // With any status: a file is opened only after those before it were read.
-    ensures in_order { IfSome (named_run (texts words.now)) (λ job. ReadsInOrder
-        (record { holds = F.holds; opens = F.opens; faults = F.faults; given = F.given }) files.old files.new job) }
+    ensures in_order { IfSome (named_run (texts words.now)) (λ job. ReadsInOrder F.Files files.old files.new job) }
 
     // Completeness of `run`: where all files are told, within their limits, and serve, and nothing fails, the run is
     // made and delivered, unless memory runs out.
     ensures complete { IfSome (named_run (texts words.now)) (λ job. All (IsReadable (F.holds files.old)) (files_of job)
         → (HasRisen (F.faults files.old) (F.faults files.new) → ⊥)
-        → (HasTrouble (record { taken = O.taken; faults = O.faults; empty_takes = O.empty_takes }) out.old out.new → ⊥)
-        → (HasTrouble (record { taken = E.taken; faults = E.faults; empty_takes = E.empty_takes }) report.old report.new → ⊥)
+        → (HasTrouble O.Sink out.old out.new → ⊥)
+        → (HasTrouble E.Sink report.old report.new → ⊥)
         → (result < 2) ⊎ (result ≡ 7)) }
 
     // The counts where nothing failed: with 0 to 4 and 6 no read failed, with 0 and 1 no write did.
@@ -116,15 +116,14 @@ pub fn run_words<R: Threads + Sync, F: Files, O: Sink, E: Sink, G: Gate>(
     ensures gen_written { result ≡ 0 → IfSome (named_gen (texts words.now)) (λ job. (run : ProgramRun) × IsRunOfGen job run
         × (O.taken out.new ≡ append_known (O.taken out.old) (gen_lines job run))) }
     ensures gen_cut_short { result ≡ 6 → IfSome (named_gen (texts words.now)) (λ job. (run : ProgramRun) × IsRunOfGen job run
-        × IsCutShort
-        (record { taken = O.taken; faults = O.faults; empty_takes = O.empty_takes }) out.old out.new (gen_lines job run)) }
+        × IsCutShort O.Sink out.old out.new (gen_lines job run)) }
     ensures gen_statuses { IfSome (named_gen (texts words.now)) (λ _. (result ≡ 0) ⊎ ((result ≡ 6) ⊎ (result ≡ 7))) }
     ensures gen_files { IfSome (named_gen (texts words.now)) (λ _. files.new ≡ files.old) }
     ensures gen_report { IfSome (named_gen (texts words.now)) (λ _. report.new ≡ report.old) }
 
     // Completeness of `gen`: where `out` has no trouble, the four lines are written, unless memory runs out.
     ensures gen_complete { IfSome (named_gen (texts words.now)) (λ _.
-        (HasTrouble (record { taken = O.taken; faults = O.faults; empty_takes = O.empty_takes }) out.old out.new → ⊥)
+        (HasTrouble O.Sink out.old out.new → ⊥)
         → (result ≡ 0) ⊎ (result ≡ 7)) }
 
     // What stays.

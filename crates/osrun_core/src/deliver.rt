@@ -2,7 +2,7 @@ ghost use Rattle.std.specs.Prelude.{◌≡◌, List};
 ghost use Rattle.collector.specs.Report.{report as report_of};
 ghost use Rattle.collector.specs.Status.{has_done, is_done_control, status as status_of};
 ghost use Rattle.flow_core.specs.declared.activation.Activation.{Activation};
-ghost use Rattle.osrun_core.specs.Delivers.{Delivers};
+ghost use Rattle.osrun_core.specs.HandsOver.{HandsOver};
 ghost use Rattle.osrun_core.specs.Status.{number_of};
 ghost use Rattle.stream_match.specs.Layout.{IsLayout, IsLayoutOf};
 
@@ -15,9 +15,8 @@ use os_io::{Sink, write_whole};
 /// Writes the output of a run, and then its report.
 pub fn deliver<O: Sink, E: Sink>(out: &mut O, report: &mut E, run: &Run) -> Status
     requires { IsLayout run.now.layout }
-    ensures { (activations : List Activation) → IsLayoutOf run.now.layout activations → Delivers
-        (record { taken = O.taken; faults = O.faults; empty_takes = O.empty_takes }) out.old out.new run.now.output.items
-        (record { taken = E.taken; faults = E.faults; empty_takes = E.empty_takes }) report.old report.new
+    ensures { (activations : List Activation) → IsLayoutOf run.now.layout activations → HandsOver
+        O.Sink out.old out.new run.now.output.items E.Sink report.old report.new
         (report_of activations run.now.layout.input_len run.now.ends run.now.control) (status_of run.now.ends.ends run.now.control) result }
 {
     if write_whole(out, run.output.as_slice()).is_err() {

@@ -16,10 +16,8 @@ pub fn load<F: Files>(
     subject: Subject,
 ) -> Result<Vec<u8>, Refusal>
     requires { IsTrue (F.may files.old (F.opens files.old) name.now) }
-    ensures loaded { IfOk result (λ bytes. IsLoaded
-        (record { holds = F.holds; opens = F.opens; faults = F.faults; given = F.given }) files.old files.new subject name.now bytes.items) }
-    ensures refused { IfErr result (IsLoadRefusal
-        (record { holds = F.holds; opens = F.opens; faults = F.faults; given = F.given }) files.old files.new subject name.now) }
+    ensures loaded { IfOk result (λ bytes. IsLoaded F.Files files.old files.new subject name.now bytes.items) }
+    ensures refused { IfErr result (IsLoadRefusal F.Files files.old files.new subject name.now) }
     ensures no_fault { MatchResult result (λ _. F.faults files.new ≡ F.faults files.old)
         (λ r. refusal_status r ≢ ReadFault → F.faults files.new ≡ F.faults files.old) }
     ensures faults_kept { F.faults files.old ≤ F.faults files.new }

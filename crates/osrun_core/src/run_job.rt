@@ -30,19 +30,16 @@ pub fn run_job<R: Threads + Sync, F: Files, O: Sink, E: Sink, G: Gate>(
 ) -> Result<Status, Refusal>
     requires may { MayOpen (F.may files.old) (F.opens files.old) (files_of (job_of job.now)) }
     requires within { IsWithin (job_of job.now) }
-    ensures run { IfOk result (AnswersRun
-        (record { holds = F.holds; opens = F.opens; faults = F.faults; given = F.given }) files.old files.new (job_of job.now)
-        (record { taken = O.taken; faults = O.faults; empty_takes = O.empty_takes }) out.old out.new
-        (record { taken = E.taken; faults = E.faults; empty_takes = E.empty_takes }) report.old report.new) }
-    ensures refused { IfErr result (IsCauseOf
-        (record { holds = F.holds; opens = F.opens; faults = F.faults; given = F.given }) files.old files.new (job_of job.now)) }
+    ensures run { IfOk result
+        (AnswersRun F.Files files.old files.new (job_of job.now) O.Sink out.old out.new E.Sink report.old report.new) }
+    ensures refused { IfErr result
+        (λ refusal. (refusal ≡ Refusal.Memory) ⊎ IsCauseOf F.Files files.old files.new (job_of job.now) refusal) }
     ensures nothing_written { IfErr result (λ _. (out.new ≡ out.old) × (report.new ≡ report.old)) }
     ensures complete { All (IsReadable (F.holds files.old)) (files_of (job_of job.now)) →
         IfErr result (λ r. (refusal_status r ≡ ReadFault) ⊎ (refusal_status r ≡ NoMemory)) }
     ensures rejected { IsRejected (F.holds files.old) (job_of job.now) →
         MatchResult result (λ _. ⊥) (λ r. refusal_status r ≢ TooLong) }
-    ensures in_order { ReadsInOrder
-        (record { holds = F.holds; opens = F.opens; faults = F.faults; given = F.given }) files.old files.new (job_of job.now) }
+    ensures in_order { ReadsInOrder F.Files files.old files.new (job_of job.now) }
     ensures no_fault { MatchResult result (λ _. F.faults files.new ≡ F.faults files.old)
         (λ r. refusal_status r ≢ ReadFault → F.faults files.new ≡ F.faults files.old) }
     ensures faults_kept { F.faults files.old ≤ F.faults files.new }

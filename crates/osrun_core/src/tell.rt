@@ -10,8 +10,7 @@ use std::alloc::{AllocError, Global};
 
 /// Writes a line. Where the sink fails, a front of the line was written.
 pub fn tell<S: Sink>(sink: &mut S, text: &[u8])
-    ensures { Tells
-        (record { taken = S.taken; faults = S.faults; empty_takes = S.empty_takes }) sink.old sink.new text.now }
+    ensures { Tells S.Sink sink.old sink.new text.now }
 {
     let _ = write_whole(sink, text);
 }
@@ -52,8 +51,7 @@ fn status_of(refusal: &Refusal) -> Status
 
 /// Tells a refusal of a job, and answers its status. The status stays where the sink fails.
 pub fn refuse<S: Sink>(alloc: Global, sink: &mut S, refusal: &Refusal) -> Status
-    ensures { Refuses
-        (record { taken = S.taken; faults = S.faults; empty_takes = S.empty_takes }) sink.old sink.new refusal.now result }
+    ensures { Refuses S.Sink sink.old sink.new refusal.now result }
 {
     if let Refusal::Memory = refusal {
         return Status::NoMemory;

@@ -1,7 +1,7 @@
 ghost use Rattle.std.specs.Prelude.{◌≡◌, ◌≤◌, IfOk, Err, None, Some};
 ghost use Rattle.clap.specs.Words.{found_of, rows_of};
 ghost use Rattle.osrun_core.specs.Arguments.{argument_of, id_of, name_in, number_in};
-ghost use Rattle.osrun_core.specs.Command.{IsRequestWithin, command, gen, request_by, request_of, run, texts};
+ghost use Rattle.osrun_core.specs.Command.{IsRequestWithin, command, gen_form, request_by, request_of, run_form, texts};
 ghost use Rattle.osrun_core.specs.Parsed.{IsNumberFor, IsNumberGiven};
 ghost use Rattle.osrun_core.specs.declared.words.words_error.WordsError.TheVariants as errors;
 
@@ -33,9 +33,9 @@ fn number_of(matches: &ArgMatches<'_>, argument: Argument<'_>) -> u64
 
 /// The job of `run`.
 fn read_run<'w>(alloc: Global, words: &'w [String]) -> Result<Request<'w>, WordsError>
-    ensures request { IfOk result (λ request. request_by run (texts words.entry.now) ≡ Some (request_of request)) }
+    ensures request { IfOk result (λ request. request_by run_form (texts words.entry.now) ≡ Some (request_of request)) }
     ensures within { IfOk result (λ request. IsRequestWithin (request_of request)) }
-    ensures refused { result ≡ Err errors.Refused → request_by run (texts words.entry.now) ≡ None }
+    ensures refused { result ≡ Err errors.Refused → request_by run_form (texts words.entry.now) ≡ None }
 {
     let matches = parse(alloc, RUN, words)?;
     Ok(Request::Run(Job {
@@ -51,9 +51,9 @@ fn read_run<'w>(alloc: Global, words: &'w [String]) -> Result<Request<'w>, Words
 
 /// The job of `gen`.
 fn read_gen<'w>(alloc: Global, words: &'w [String]) -> Result<Request<'w>, WordsError>
-    ensures request { IfOk result (λ request. request_by gen (texts words.entry.now) ≡ Some (request_of request)) }
+    ensures request { IfOk result (λ request. request_by gen_form (texts words.entry.now) ≡ Some (request_of request)) }
     ensures within { IfOk result (λ request. IsRequestWithin (request_of request)) }
-    ensures refused { result ≡ Err errors.Refused → request_by gen (texts words.entry.now) ≡ None }
+    ensures refused { result ≡ Err errors.Refused → request_by gen_form (texts words.entry.now) ≡ None }
 {
     let matches = parse(alloc, GEN, words)?;
     Ok(Request::Gen(GenJob {

@@ -8,4 +8,4 @@ use Rattle.collector.proofs.report.activation_lines.Given as goal
 -- the lines so far went on
 abbrev pub invariant-loop-frame : goal.invariant-loop-frame
 invariant-loop-frame g l = (activations : List Activation) → IsLayoutOf l.layout activations
-    → WentOn (record { taken = g.S.Sink.taken; faults = g.S.Sink.faults; empty_takes = g.S.Sink.empty_takes }) l.initial.sink l.sink l.initial.buffer l.buffer (activation_lines activations l.layout.input_len l.ends.ends l.frame)
+    → WentOn g.S.Sink l.initial.sink l.sink l.initial.buffer l.buffer (activation_lines activations l.layout.input_len l.ends.ends l.frame)

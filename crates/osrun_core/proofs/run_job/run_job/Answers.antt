@@ -7,10 +7,9 @@ use Rattle.osrun_core.proofs.Accepted.{only_memory}
 use Rattle.osrun_core.proofs.Came.{may_open_program, may_open_input, cause_of_program, cause_of_text, cause_of_input, program_read, only_fault, in_order_both, of_program, of_input}
 use Rattle.osrun_core.proofs.Ran.{answers}
 use Rattle.osrun_core.specs.Command.{job_of}
-use Rattle.osrun_core.specs.Loading.{FilesView, IsReadable}
+use Rattle.osrun_core.specs.Loading.{IsReadable}
 use Rattle.osrun_core.specs.Refusal.{IsRefusalOf}
 use Rattle.osrun_core.specs.RunOf.{IsRunOf}
-use Rattle.osrun_core.specs.Telling.{SinkView}
 use Rattle.osrun_core.specs.declared.refusal.Refusal.TheVariants as refusals
 use Rattle.osrun_core.specs.declared.refusal.Subject.TheVariants as subjects
 use Rattle.osrun_core.proofs.run_job.run_job.Goals as goal
@@ -27,8 +26,7 @@ pub returns-in_err-text-clause-complete : goal.returns-in_err-text-clause-comple
 returns-in_err-text-clause-complete g c h =
     let e = err_from_is_err_and c.from_residual.result c.from_residual.ensures.1 in
     let program = of_program (IsReadable (g.F.Files.holds c.args.files.now)) (job_of c.args.job.now) h in
-    let view : FilesView g.row.F.Denot = record { holds = g.F.Files.holds; opens = g.F.Files.opens; faults = g.F.Files.faults; given = g.F.Files.given } in
-    rw (e.1, e.2) (only_fault view c.args.files.now c.load.new.files subjects.Program c.args.job.now.program.now program.bytes c.in_err-text.field-0.0 program.told program.fits c.in_err-text.ensures.refused)
+    rw (e.1, e.2) (only_fault g.F.Files c.args.files.now c.load.new.files subjects.Program c.args.job.now.program.now program.bytes c.in_err-text.field-0.0 program.told program.fits c.in_err-text.ensures.refused)
 
 pub returns-in_err-checked-clause-refused : goal.returns-in_err-checked-clause-refused
 returns-in_err-checked-clause-refused g c =
@@ -41,8 +39,8 @@ pub returns-in_err-checked-clause-complete : goal.returns-in_err-checked-clause-
 returns-in_err-checked-clause-complete g c h =
     let e = err_from_is_err_and c.from_residual-in_err-checked.result c.from_residual-in_err-checked.ensures.1 in
     let program = of_program (IsReadable (g.F.Files.holds c.args.files.now)) (job_of c.args.job.now) h in
-    rw (e.1, e.2) (only_memory _ _ program.bytes c.in_ok-text.text.items c.deref.result.now program.serves.0 program.told
-    c.in_ok-text.ensures.loaded.is_held c.deref.ensures.value program.serves.1 c.in_err-checked.ensures.accepted)
+    rw (e.1, e.2) (only_memory _ _ program.bytes c.in_ok-text.text.items c.deref.result.now program.usable.0 program.told
+    c.in_ok-text.ensures.loaded.read.is_held c.deref.ensures.value program.usable.1 c.in_err-checked.ensures.accepted)
 
 pub load-requires-2 : goal.load-requires-2
 load-requires-2 g c =
@@ -61,25 +59,20 @@ pub returns-in_err-input-clause-complete : goal.returns-in_err-input-clause-comp
 returns-in_err-input-clause-complete g c h =
     let e = err_from_is_err_and c.from_residual-in_err-input.result c.from_residual-in_err-input.ensures.1 in
     let input = of_input (IsReadable (g.F.Files.holds c.args.files.now)) (job_of c.args.job.now) h in
-    let view : FilesView g.row.F.Denot = record { holds = g.F.Files.holds; opens = g.F.Files.opens; faults = g.F.Files.faults; given = g.F.Files.given } in
-    rw (e.1, e.2) (only_fault view c.load.new.files c.load-2.new.files subjects.Input c.args.job.now.input.now input.bytes c.in_err-input.field-0.0 (ap (λ holds. holds c.args.job.now.input.now) c.in_ok-text.ensures.holds ∙ input.told) input.fits c.in_err-input.ensures.refused)
+    rw (e.1, e.2) (only_fault g.F.Files c.load.new.files c.load-2.new.files subjects.Input c.args.job.now.input.now input.bytes c.in_err-input.field-0.0 (ap (λ holds. holds c.args.job.now.input.now) c.in_ok-text.ensures.holds ∙ input.told) input.fits c.in_err-input.ensures.refused)
 
 pub deliver-requires : goal.deliver-requires
 deliver-requires g c = c.in_ok-run.ensures.run.whole
 
 pub returns-clause-in_order : goal.returns-clause-in_order
 returns-clause-in_order g c =
-    let view : FilesView g.row.F.Denot = record { holds = g.F.Files.holds; opens = g.F.Files.opens; faults = g.F.Files.faults; given = g.F.Files.given } in
     let opened = c.in_ok-input.ensures.opens ∙ ap (λ n. raised n 1) c.in_ok-text.ensures.opens in
     let p = program_tree c.in_ok-checked.checked.program in
-    let read = program_read view (job_of c.args.job.now) c.args.files.now c.load.new.files c.in_ok-text.text.items p c.in_ok-text.ensures.loaded (subst (λ text. IsAccepted text p) c.deref.ensures.value c.in_ok-checked.ensures.program) in
-    in_order_both view (job_of c.args.job.now) c.args.files.now c.load-2.new.files read opened
+    let read = program_read g.F.Files (job_of c.args.job.now) c.args.files.now c.load.new.files c.in_ok-text.text.items p c.in_ok-text.ensures.loaded (subst (λ text. IsAccepted text p) c.deref.ensures.value c.in_ok-checked.ensures.program) in
+    in_order_both g.F.Files (job_of c.args.job.now) c.args.files.now c.load-2.new.files read opened
 
 pub returns-clause-run : goal.returns-clause-run
 returns-clause-run g c =
-    let view : FilesView g.row.F.Denot = record { holds = g.F.Files.holds; opens = g.F.Files.opens; faults = g.F.Files.faults; given = g.F.Files.given } in
-    let of_out : SinkView g.row.O.Denot = record { taken = g.O.Sink.taken; faults = g.O.Sink.faults; empty_takes = g.O.Sink.empty_takes } in
-    let of_report : SinkView g.row.E.Denot = record { taken = g.E.Sink.taken; faults = g.E.Sink.faults; empty_takes = g.E.Sink.empty_takes } in
     let opened = c.in_ok-input.ensures.opens ∙ ap (λ n. raised n 1) c.in_ok-text.ensures.opens in
     let p = program_tree c.in_ok-checked.checked.program in
     let run = c.in_ok-run.run' in
@@ -87,5 +80,5 @@ returns-clause-run g c =
     let input = c.in_ok-input.input.items in
     let accepted = subst (λ text. IsAccepted text p) c.deref.ensures.value c.in_ok-checked.ensures.program in
     let ran = subst (λ bytes. IsRunOf job.task_budget job.control_budget p bytes run.output.items run.layout run.ends run.control) c.deref-2.ensures.value c.in_ok-run.ensures.run in
-    answers job p input run.output.items run.layout run.ends run.control ran of_out c.args.out.now c.deliver.new.out of_report c.args.report.now c.deliver.new.report c.deliver.result
-    view c.args.files.now c.load.new.files c.load-2.new.files c.in_ok-text.text.items c.in_ok-text.ensures.loaded c.in_ok-input.ensures.loaded c.in_ok-text.ensures.holds opened accepted c.deliver.ensures
+    answers job p input run.output.items run.layout run.ends run.control ran g.O.Sink c.args.out.now c.deliver.new.out g.E.Sink c.args.report.now c.deliver.new.report c.deliver.result
+    g.F.Files c.args.files.now c.load.new.files c.load-2.new.files c.in_ok-text.text.items c.in_ok-text.ensures.loaded c.in_ok-input.ensures.loaded c.in_ok-text.ensures.holds opened accepted c.deliver.ensures

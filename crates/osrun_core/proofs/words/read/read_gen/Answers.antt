@@ -1,5 +1,5 @@
 use Rattle.std.proofs.Common.{◌≡◌, ℕ}
-use Rattle.osrun_core.specs.Command.{Gen, Request, gen, texts}
+use Rattle.osrun_core.specs.Command.{Gen, Request, gen_form, texts}
 use Rattle.osrun_core.proofs.CommandJobs.{request_read, refused}
 use Rattle.osrun_core.proofs.words.read.read_gen.Goals as goal
 
@@ -9,9 +9,9 @@ same_gen seed s blocks b workers w d e f = cc
 
 pub returns-clause-request : goal.returns-clause-request
 returns-clause-request c =
-    request_read gen (texts c.args.words.now) c.in_ok-matches.matches _ c.in_ok-matches.ensures.parsed
+    request_read gen_form (texts c.args.words.now) c.in_ok-matches.matches _ c.in_ok-matches.ensures.parsed
     (same_gen _ _ _ _ _ _ c.number_of.ensures.value c.number_of-2.ensures.value c.number_of-3.ensures.value)
 
 pub returns-in_err-matches-clause-refused : goal.returns-in_err-matches-clause-refused
 returns-in_err-matches-clause-refused c =
-    refused gen (texts c.args.words.now) c.from_residual.result c.in_err-matches.field-0.0 c.from_residual.ensures.1 c.in_err-matches.ensures.refused
+    refused gen_form (texts c.args.words.now) c.from_residual.result c.in_err-matches.field-0.0 c.from_residual.ensures.1 c.in_err-matches.ensures.refused
