@@ -1,30 +1,15 @@
 -- A loop goes on with one turn less.
-use Rattle.std.proofs.Common.{◌≡◌, ℕ, zero, suc, ◌+◌, ◌≤◌, Bool, true, false, not, if◌then◌else◌, Ok, ℤ, refl, ap, ◌∙◌, sym, subst, arith, ◌⊎◌, inl, inr}
+use Rattle.std.proofs.Common.{◌≡◌, ℕ, zero, suc, ◌+◌, ◌≤◌, Bool, true, false, not, if◌then◌else◌, Ok, ℤ, refl, ap, ◌∙◌, sym, arith}
 use Rattle.c_int.specs.Operators.{is_zero}
 use Rattle.cddf_meaning.specs.Answers.{Answer, Left, left}
 use Rattle.cddf_meaning.specs.Flow.{Ran, Went, Runs, given, goes_on, flows, loops}
 use Rattle.cddf_meaning.specs.Run.{loop}
 use Rattle.cddf_meaning.specs.State.{State}
 use Rattle.cddf_meaning.specs.declared.flow.Flow.{Flow}
-use Rattle.cddf_meaning.specs.declared.flow.Flow.TheVariants.{GoesOn, Breaks, Continues, Returns}
 
--- a flow with which a loop goes on
-pub data Again : Flow → Type 0 where
-  goes : Again GoesOn
-  continues : Again Continues
-
-pub again-goes : (flow : Flow) → flow ≡ GoesOn → Again flow
-again-goes flow h = subst Again (sym h) goes
-
-pub again-either : (flow : Flow) → (flow ≡ GoesOn) ⊎ (flow ≡ Continues) → Again flow
-again-either flow (inl h) = subst Again (sym h) goes
-again-either flow (inr h) = subst Again (sym h) continues
-
-loops-again : (flow : Flow) → Again flow → (next : Runs) (s : State) (turns : ℕ) → loops next (Went flow s turns) ≡ next s turns
-loops-again GoesOn goes next s turns = refl
-loops-again Continues continues next s turns = refl
-loops-again Breaks a next s turns = elim a [ ]
-loops-again (Returns v) a next s turns = elim a [ ]
+-- behind such a body a loop goes on
+abbrev pub Again : Flow → Type 0
+Again flow = (next : Runs) (s : State) (turns : ℕ) → loops next (Went flow s turns) ≡ next s turns
 
 one-turn : (m : ℕ) (test : State → ℕ → Answer (Left ℤ)) (body step : Runs) (s s2 s3 : State) (t t1 t2 t3 : ℕ) (n : ℤ) (flow : Flow) →
     test s t ≡ Ok (left n t1) → is_zero n ≡ false → body s t1 ≡ Went flow s2 t2 → Again flow → step s2 t2 ≡ goes_on s3 t3 →
@@ -33,7 +18,7 @@ one-turn m test body step s s2 s3 t t1 t2 t3 n flow et ez eb again es =
     let next : Runs = λ s turns. flows (loop m test body step) (step s turns) in
     ap (λ a. given a s (λ n. if is_zero n.value then goes_on s n.turns else loops next (body s n.turns))) et
     ∙ ap (λ (z : Bool). if z then goes_on s t1 else loops next (body s t1)) ez
-    ∙ ap (loops next) eb ∙ loops-again flow again next s2 t2 ∙ ap (flows (loop m test body step)) es
+    ∙ ap (loops next) eb ∙ again next s2 t2 ∙ ap (flows (loop m test body step)) es
 
 nothing-left : (t turns : ℕ) → turns ≤ 0 → turns ≡ t + 1 → ⊥
 nothing-left t turns h z = omega (arith, h, z)

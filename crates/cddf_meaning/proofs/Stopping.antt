@@ -23,6 +23,10 @@ pub stops-as : {A : Type 0} (reason : Stop) (a b : Answer A) → a ≡ b → Sto
 stops-as (stop.Ended ending) a b e h = e ∙ h
 stops-as stop.Memory a b e h = tt
 
+pub stops-then : {A B : Type 0} (reason : Stop) (a : Answer A) (next : A → Answer B) → Stops reason a → Stops reason (and_then a next)
+stops-then (stop.Ended ending) a next h = ap (λ x. and_then x next) h
+stops-then stop.Memory a next h = tt
+
 -- an answer that ends behind claims, ends without them
 pub stops-behind : (reason : Stop) (before : List Claim) (a : Answer (Left (List Claim))) → Stops reason (behind before a) → Stops reason a
 stops-behind (stop.Ended ending) before (Ok cs) h = cc

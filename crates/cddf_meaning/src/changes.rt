@@ -1,10 +1,12 @@
 //! Changes of variables.
 
-ghost use Rattle.std.specs.Prelude.{◌≡◌, ◌≤◌, map};
+ghost use Rattle.std.specs.Prelude.{◌≡◌, ◌≤◌, Ok, map, pos};
+ghost use Rattle.cddf_meaning.specs.Answers.{and_then};
 ghost use Rattle.cddf_meaning.specs.Functions.{file_of};
+ghost use Rattle.cddf_meaning.specs.Operators.{binary_value};
 ghost use Rattle.cddf_meaning.specs.Operators as operators;
-ghost use Rattle.cddf_meaning.specs.Run.{aim_at, assigned, old_value, run_change};
-ghost use Rattle.cddf_meaning.specs.Stops.{Comes, Gives, GoesOn};
+ghost use Rattle.cddf_meaning.specs.Run.{aim_at, assigned, old_value, run_change, written};
+ghost use Rattle.cddf_meaning.specs.Stops.{Comes, Gives, GoesOn, Now};
 ghost use Rattle.os_ast.specs.Views.{change_tree, item_tree, target_tree};
 
 use crate::aim::Aim;
@@ -12,7 +14,7 @@ use crate::operators::{binary, step_operator};
 use crate::state::State;
 use crate::stop::Stop;
 use crate::value::{scalar, value};
-use os_ast::{Assign, Change, Item, Target};
+use os_ast::{Assign, Change, Item, Mark, Step, Target};
 use std::alloc::Global;
 
 /// The target of a change, with its index checked.
@@ -65,6 +67,32 @@ fn assigned(
     }
 }
 
+/// Stores what an assignment gives where its right side has this value.
+fn assign(
+    file: &[Item],
+    assign: Assign,
+    mark: Mark,
+    aim: Aim,
+    right: i32,
+    state: &mut State,
+) -> Result<(), Stop>
+    ensures { Now result state.new state.old (and_then (assigned assign mark.line (old_value (file_of (map item_tree file.now)) state.old aim) right) (λ v. Ok (written state.old aim v))) }
+{
+    let number = assigned(file, state, aim, assign, mark.line, right)?;
+    state.write(aim, number);
+    Ok(())
+}
+
+/// Adds 1 to a target, or takes 1 from it.
+fn take_step(file: &[Item], step: Step, mark: Mark, aim: Aim, state: &mut State) -> Result<(), Stop>
+    ensures { Now result state.new state.old (and_then (binary_value (operators.step_operator step) mark.line (old_value (file_of (map item_tree file.now)) state.old aim) (pos 1)) (λ v. Ok (written state.old aim v))) }
+{
+    let old = old_value(file, state, aim)?;
+    let number = binary(step_operator(step), mark.line, old, 1)?;
+    state.write(aim, number);
+    Ok(())
+}
+
 /// Runs a change.
 #[cycle(meaning)]
 pub(crate) fn change(
@@ -78,18 +106,14 @@ pub(crate) fn change(
     ensures fewer { turns.new ≤ turns.old }
 {
     match change {
-        Change::Set(target, assign, mark, expr) => {
+        Change::Set(target, operator, mark, expr) => {
             let aim = aim_at(alloc, file, target, state, turns)?;
             let right = value(alloc, file, expr, state, turns)?;
-            let number = assigned(file, state, aim, *assign, mark.line, right)?;
-            state.write(aim, number);
+            assign(file, *operator, *mark, aim, right, state)
         }
         Change::After(target, step, mark) | Change::Before(target, step, mark) => {
             let aim = aim_at(alloc, file, target, state, turns)?;
-            let old = old_value(file, state, aim)?;
-            let number = binary(step_operator(*step), mark.line, old, 1)?;
-            state.write(aim, number);
+            take_step(file, *step, *mark, aim, state)
         }
     }
-    Ok(())
 }

@@ -11,7 +11,8 @@
 //!
 //! `plain_body` and `plain_control` compute them. They walk the tree and look each name up among all that are in scope, so
 //! they are for tests. Their parts: `tasks` finds `main` and its tasks, `naming` what a task takes from round it, `state`
-//! is what a body works on, and `value`, `changes`, `run`, `functions` and `streams` are one recursion over the trees.
+//! is what a body works on, and `value`, `changes`, `run`, `functions` and `streams` are one recursion over the trees. What
+//! it decides stands in functions outside of it: `operators` and `links`, `loops`, and those of `state`.
 #![tactic(auto)]
 
 mod aim;
@@ -25,6 +26,8 @@ mod found;
 mod functions;
 mod known;
 pub mod laws;
+mod links;
+mod loops;
 mod names;
 mod naming;
 mod operators;

@@ -3,7 +3,7 @@
 ghost use Rattle.std.specs.Prelude.{◌≡◌, ◌≤◌, map, option_map};
 ghost use Rattle.std.specs.Option.{option_copied};
 ghost use Rattle.cddf_meaning.specs.Functions.{file_of};
-ghost use Rattle.cddf_meaning.specs.Run.{run, run_all, run_declarator, run_declarators, run_scalar, run_start, run_test, array_size};
+ghost use Rattle.cddf_meaning.specs.Run.{run, run_all, run_declarator, run_declarators, run_scalar, run_start, run_step, run_test, array_size};
 ghost use Rattle.cddf_meaning.specs.Stops.{GoesOn, Leaves, Tests};
 ghost use Rattle.cddf_meaning.specs.Units.{repeated, unit_of};
 ghost use Rattle.os_ast.specs.Trees as tree;
@@ -12,13 +12,13 @@ ghost use Rattle.os_ast.specs.Views.{change_tree, declarator_tree, expr_tree, it
 use crate::changes::change;
 use crate::flow::Flow;
 use crate::functions::take_unit;
+use crate::loops::step_behind;
 use crate::operators::holds;
 use crate::state::State;
 use crate::stop::Stop;
 use crate::streams::{task, tick};
 use crate::unit::Unit;
 use crate::value::{called, value};
-use crate::variable::Variable;
 use os_ast::{Change, Declarator, Expr, Head, Item, Start, Stmt};
 use os_io::List;
 use std::alloc::Global;
@@ -190,13 +190,10 @@ fn repeat(
         if !tested(alloc, unit.file, test, state, turns)? {
             return Ok(Flow::GoesOn);
         }
-        match stmt(alloc, unit, body, state, turns)? {
-            Flow::GoesOn | Flow::Continues => {}
-            Flow::Breaks => return Ok(Flow::GoesOn),
-            Flow::Returns(number) => return Ok(Flow::Returns(number)),
-        }
-        if let Some(step) = step {
-            change(alloc, unit.file, step, state, turns)?;
+        let flow = stmt(alloc, unit, body, state, turns)?;
+        match step_behind(flow, step) {
+            Ok(next) => stepped(alloc, unit.file, next, state, turns)?,
+            Err(left) => return Ok(left),
         }
     }
 }
@@ -219,6 +216,24 @@ fn tested(
             let number = value(alloc, file, condition, state, turns)?;
             Ok(holds(number))
         }
+    }
+}
+
+/// Runs the step of a loop, where it has one.
+#[cycle(meaning)]
+fn stepped(
+    alloc: Global,
+    file: &[Item],
+    step: Option<&Change>,
+    state: &mut State,
+    turns: &mut u64,
+) -> Result<(), Stop>
+    ensures goes_on { GoesOn result state.new turns.new (run_step (file_of (map item_tree file.now)) (option_map change_tree (option_copied step.entry)) state.old turns.old) }
+    ensures fewer { turns.new ≤ turns.old }
+{
+    match step {
+        None => Ok(()),
+        Some(step) => change(alloc, file, step, state, turns),
     }
 }
 
@@ -291,7 +306,7 @@ fn scalar(
     ensures goes_on { GoesOn result state.new turns.new (run_scalar (file_of (map item_tree file.now)) declarator.now.name.id (option_map expr_tree declarator.now.first) state.old turns.old) }
     ensures fewer { turns.new ≤ turns.old }
 {
-    state.declare(declarator.name.id, Variable::Scalar(0))?;
+    state.declare_scalar(declarator.name.id)?;
     if let Some(first) = &declarator.first {
         let number = value(alloc, file, first, state, turns)?;
         state.store(declarator.name.id, number);

@@ -321,6 +321,14 @@ impl State {
         }
     }
 
+    /// Declares a scalar, which is 0 until it is set.
+    pub(crate) fn declare_scalar(&mut self, id: u32) -> Result<(), Stop>
+        ensures { Made result self.new (states.declared id (variables.Scalar (pos 0)) self.old) }
+    {
+        self.declare(id, Variable::Scalar(0))?;
+        Ok(())
+    }
+
     /// Declares a local array of so many zeros.
     pub(crate) fn declare_array(&mut self, alloc: Global, id: u32, size: u32) -> Result<(), Stop>
         ensures { Made result self.new (states.declared id (variables.Array (replicate size (pos 0))) self.old) }

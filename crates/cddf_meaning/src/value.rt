@@ -10,11 +10,12 @@ ghost use Rattle.cddf_meaning.specs.Value.{chained, linked, place_value, scalar_
 ghost use Rattle.os_ast.specs.Views.{args_tree, expr_tree, item_tree, links_tree, target_tree};
 
 use crate::functions::call_function;
+use crate::links::{link_value, needs_right};
 use crate::names::{Seen, int, seen_as};
-use crate::operators::{binary, holds, truth, unary};
+use crate::operators::{holds, unary};
 use crate::state::State;
 use crate::stop::Stop;
-use os_ast::{Binary, Call, Expr, Item, Link, Target};
+use os_ast::{Call, Expr, Item, Link, Target};
 use os_io::List;
 use std::alloc::Global;
 
@@ -107,8 +108,7 @@ fn chained(
     Ok(left)
 }
 
-/// An operator between a number and what stands on its right. The right side of `&&` and of `||` is evaluated
-/// only where it decides.
+/// An operator between a number and what stands on its right.
 #[cycle(meaning)]
 fn linked(
     alloc: Global,
@@ -121,18 +121,11 @@ fn linked(
     ensures gives { Gives result turns.new (linked link.now.op link.now.mark.line (pair left turns.old) (value (file_of (map item_tree file.now)) (expr_tree link.now.right) state.now)) }
     ensures fewer { turns.new ≤ turns.old }
 {
-    match link.op {
-        Binary::And if !holds(left) => Ok(0),
-        Binary::Or if holds(left) => Ok(1),
-        Binary::And | Binary::Or => {
-            let right = value(alloc, file, &link.right, state, turns)?;
-            Ok(truth(right))
-        }
-        operator => {
-            let right = value(alloc, file, &link.right, state, turns)?;
-            binary(operator, link.mark.line, left, right)
-        }
+    if !needs_right(link.op, left) {
+        return link_value(link, left, 0);
     }
+    let right = value(alloc, file, &link.right, state, turns)?;
+    link_value(link, left, right)
 }
 
 /// What a call gives.

@@ -1,4 +1,4 @@
-use Rattle.std.proofs.Common.{◌≡◌, ◌<◌, map, option_map, pos, arith, rules, refl, ap, ◌∙◌, sym, subst, Ok, length, get_or, [], to_z, of_z, w32, ℤ}
+use Rattle.std.proofs.Common.{◌≡◌, ◌<◌, map, option_map, pos, arith, rules, refl, ap, ◌∙◌, sym, subst, Ok, length, get_or, [], to_z, of_z, w32, ℕ, ℤ}
 use Rattle.std.specs.List.{take-map}
 use Rattle.std.specs.Option.{option_copied}
 use Rattle.os_ast.specs.Trees as ast
@@ -6,9 +6,9 @@ use Rattle.os_ast.specs.Parts as clauses
 use Rattle.os_ast.specs.declared.pragma.ClauseKind.{ClauseKind}
 use Rattle.cddf_meaning.specs.Answers.{Answer, Left, left}
 use Rattle.cddf_meaning.specs.Run.{run, run_step, run_test}
-use Rattle.cddf_meaning.specs.Stops.{Gives, Leaves}
+use Rattle.cddf_meaning.specs.Stops.{Gives, Leaves, Stops}
 use Rattle.cddf_meaning.specs.Streams.{items_claims}
-use Rattle.cddf_meaning.specs.Value.{chained, value}
+use Rattle.cddf_meaning.specs.Value.{chained, linked, value}
 use Rattle.std.proofs.lemmas.Result.{err_from_is_err_and}
 use Rattle.os_ast.proofs.Rows.{expr_tree-call, expr_tree-chain, stmt_tree-block}
 use Rattle.cddf_meaning.specs.Functions.{bind_params, file_of, result_of, returned}
@@ -18,9 +18,9 @@ use Rattle.cddf_meaning.specs.Weights.{args_weight, clause_weight, declarator_we
 use Rattle.os_ast.specs.Views.{args_tree, change_tree, clause_item_tree, clause_kind_tree, clause_tree, declarator_tree, expr_tree, item_tree, links_tree, stmt_tree, stmts_tree}
 use Rattle.cddf_meaning.proofs.Claiming.{clause-goes, clause-stops, privates-claim}
 use Rattle.cddf_meaning.proofs.Lighter.{arg-lighter, function-lighter, link-lighter, part-lighter, stmt-lighter}
-use Rattle.cddf_meaning.proofs.Looping.{Again, again-either, again-goes, loop-kept, not-zero}
+use Rattle.cddf_meaning.proofs.Looping.{loop-kept, not-zero}
 use Rattle.cddf_meaning.proofs.Reached.{call-one, call-zero, calls-none, calls-some}
-use Rattle.cddf_meaning.proofs.Stopping.{stops-as, stops-over, stops-returned, then-gives}
+use Rattle.cddf_meaning.proofs.Stopping.{stops-as, stops-over, stops-returned, stops-then, then-gives}
 use Rattle.cddf_meaning.proofs.+meaning.Goals as goal
 
 pub value::value-called-requires : goal.value::value-called-requires
@@ -56,6 +56,53 @@ value::value-returns-in_ok-number-in-Chain-clause-gives t c =
     (ap (λ e. value (file_of (map item_tree c.args.file.now)) (expr_tree e) c.args.state.now c.args.turns.now) same
     ∙ c.in_ok-number-in-Chain.ensures.gives)
     (subst Q fits c.chained.ensures.gives))
+
+pub value::linked-returns-then-not-needs_right-clause-gives : goal.value::linked-returns-then-not-needs_right-clause-gives
+value::linked-returns-then-not-needs_right-clause-gives t c =
+    let link = c.args.link.now in
+    let turns = c.args.turns.now in
+    let right : ℕ → Answer (Left ℤ) = value (file_of (map item_tree c.args.file.now)) (expr_tree link.right) c.args.state.now in
+    let fits : to_z w32 (of_z w32 c.args.left) ≡ c.args.left = first_of (search rules, grind (arith, rules)) in
+    let P : ℤ → Type 0 = λ a. Gives c.link_value.result turns (linked link.op link.mark.line (left a turns) right) in
+    let Q : Answer (Left ℤ) → Type 0 = λ x. Gives c.link_value.result turns x in
+    subst P fits
+    (subst Q (sym (c.needs_right.ensures.not_needed c.if-not-needs_right.true link.mark.line turns right (pos 0)))
+    (c.link_value.ensures turns))
+
+pub value::linked-returns-in_err-right-clause-gives : goal.value::linked-returns-in_err-right-clause-gives
+value::linked-returns-in_err-right-clause-gives t c =
+    let link = c.args.link.now in
+    let turns = c.args.turns.now in
+    let right : ℕ → Answer (Left ℤ) = value (file_of (map item_tree c.args.file.now)) (expr_tree link.right) c.args.state.now in
+    let a = to_z w32 (of_z w32 c.args.left) in
+    let fits : to_z w32 (of_z w32 c.args.left) ≡ c.args.left = first_of (search rules, grind (arith, rules)) in
+    let next : Left ℤ → Answer (Left ℤ) = λ b. linked link.op link.mark.line (left a b.turns) (λ turns. Ok (left b.value turns)) in
+    let reason = c.in_err-right.field-0.0 in
+    let P : ℤ → Type 0 = λ a. Stops reason (linked link.op link.mark.line (left a turns) right) in
+    let p = err_from_is_err_and c.from_residual.result c.from_residual.ensures.1 in
+    rw (p.1, p.2)
+    (subst P fits
+    (stops-as reason _ _ (c.needs_right.ensures.needed c.if-not-needs_right.false link.mark.line turns right)
+    (stops-then reason (right turns) next c.in_err-right.ensures.gives)))
+
+pub value::linked-returns-clause-gives : goal.value::linked-returns-clause-gives
+value::linked-returns-clause-gives t c =
+    let link = c.args.link.now in
+    let turns = c.args.turns.now in
+    let right : ℕ → Answer (Left ℤ) = value (file_of (map item_tree c.args.file.now)) (expr_tree link.right) c.args.state.now in
+    let a = to_z w32 (of_z w32 c.args.left) in
+    let fits : to_z w32 (of_z w32 c.args.left) ≡ c.args.left = first_of (search rules, grind (arith, rules)) in
+    let next : Left ℤ → Answer (Left ℤ) = λ b. linked link.op link.mark.line (left a b.turns) (λ turns. Ok (left b.value turns)) in
+    let rest = c.value.new.turns in
+    let number = c.in_ok-right.right in
+    let same : to_z w32 (of_z w32 number) ≡ number = first_of (search rules, grind (arith, rules)) in
+    let P : ℤ → Type 0 = λ a. Gives c.link_value-2.result rest (linked link.op link.mark.line (left a turns) right) in
+    let Q : Answer (Left ℤ) → Type 0 = λ x. Gives c.link_value-2.result rest x in
+    let R : ℤ → Type 0 = λ v. Gives c.link_value-2.result rest (next (left v rest)) in
+    subst P fits
+    (subst Q (sym (c.needs_right.ensures.needed c.if-not-needs_right.false link.mark.line turns right))
+    (then-gives c.link_value-2.result rest (right turns) (left number rest) next c.in_ok-right.ensures.gives
+    (subst R same (c.link_value-2.ensures rest))))
 
 pub value::arguments-value-requires : goal.value::arguments-value-requires
 value::arguments-value-requires t c =
@@ -147,51 +194,30 @@ streams::all_claims-loop-clause-preserved t c =
       omega (arith, c.loop-clause.invariant.1, c.in_ok-clause_claims.ensures.fewer),
     )
 
-pub run::repeat-loop-alloc-preserved-in_ok-change : goal.run::repeat-loop-alloc-preserved-in_ok-change
-run::repeat-loop-alloc-preserved-in_ok-change t c =
+pub run::repeat-loop-alloc-preserved : goal.run::repeat-loop-alloc-preserved
+run::repeat-loop-alloc-preserved t c =
     let u = unit_of c.args.unit.now in
     let test = c.in_ok-tested.ensures.gives in
     let nonzero = not-zero test.0 c.in_ok-tested.field-0 test.2 c.if-not-branch.false in
-    let again : Again c.in_ok-stmt.field-0 =
-    first_of (search (again-goes, c.in-GoesOn.is), search (again-either, c.in-GoesOn.is)) in
-    let stepped = ap (λ o. run_step u.file (option_map change_tree (option_copied o)) c.stmt.new.state c.stmt.new.turns) c.in-Some.is
-    ∙ c.in_ok-change.ensures.goes_on in
+    let stepped = ap (λ o. run_step u.file (option_map change_tree (option_copied o)) c.stmt.new.state c.stmt.new.turns) (sym c.in-Ok.ensures.step)
+    ∙ c.in_ok-stepped-in-Ok.ensures.goes_on in
     let kept = loop-kept c.loop-alloc.invariant.0 c.loop-alloc.turns c.take_unit.new.turns c.tested.new.turns c.stmt.new.turns
-    c.change.new.turns (run_test u.file (option_map expr_tree (option_copied c.args.test))) (run u (stmt_tree c.args.body.now))
-    (run_step u.file (option_map change_tree (option_copied c.args.step))) c.loop-alloc.state c.stmt.new.state c.change.new.state
-    test.0 c.in_ok-stmt.field-0 _ c.loop-alloc.invariant.1 c.in_ok-take_unit.ensures.taken c.loop-alloc.invariant.2 test.1 nonzero
-    c.in_ok-stmt.ensures.leaves again stepped
-    (omega (arith, c.in_ok-change.ensures.fewer, c.in_ok-stmt.ensures.fewer, c.in_ok-tested.ensures.fewer)) in (
+    c.stepped.new.turns (run_test u.file (option_map expr_tree (option_copied c.args.test))) (run u (stmt_tree c.args.body.now))
+    (run_step u.file (option_map change_tree (option_copied c.args.step))) c.loop-alloc.state c.stmt.new.state c.stepped.new.state
+    test.0 c.in_ok-flow.flow _ c.loop-alloc.invariant.1 c.in_ok-take_unit.ensures.taken c.loop-alloc.invariant.2 test.1 nonzero
+    c.in_ok-flow.ensures.leaves c.in-Ok.ensures.goes_on stepped
+    (omega (arith, c.in_ok-stepped-in-Ok.ensures.fewer, c.in_ok-flow.ensures.fewer, c.in_ok-tested.ensures.fewer)) in (
       kept.0,
       kept.1,
       kept.2,
       omega (
         arith,
         c.loop-alloc.invariant.3,
-        c.in_ok-change.ensures.fewer,
-        c.in_ok-stmt.ensures.fewer,
+        c.in_ok-stepped-in-Ok.ensures.fewer,
+        c.in_ok-flow.ensures.fewer,
         c.in_ok-tested.ensures.fewer,
         c.in_ok-take_unit.ensures.fewer,
       ),
-    )
-
-pub run::repeat-loop-alloc-preserved : goal.run::repeat-loop-alloc-preserved
-run::repeat-loop-alloc-preserved t c =
-    let u = unit_of c.args.unit.now in
-    let test = c.in_ok-tested.ensures.gives in
-    let nonzero = not-zero test.0 c.in_ok-tested.field-0 test.2 c.if-not-branch.false in
-    let again : Again c.in_ok-stmt.field-0 =
-    first_of (search (again-goes, c.in-GoesOn.is), search (again-either, c.in-GoesOn.is)) in
-    let stepped = ap (λ o. run_step u.file (option_map change_tree (option_copied o)) c.stmt.new.state c.stmt.new.turns) c.in_default.is in
-    let kept = loop-kept c.loop-alloc.invariant.0 c.loop-alloc.turns c.take_unit.new.turns c.tested.new.turns c.stmt.new.turns
-    c.stmt.new.turns (run_test u.file (option_map expr_tree (option_copied c.args.test))) (run u (stmt_tree c.args.body.now))
-    (run_step u.file (option_map change_tree (option_copied c.args.step))) c.loop-alloc.state c.stmt.new.state c.stmt.new.state
-    test.0 c.in_ok-stmt.field-0 _ c.loop-alloc.invariant.1 c.in_ok-take_unit.ensures.taken c.loop-alloc.invariant.2 test.1 nonzero
-    c.in_ok-stmt.ensures.leaves again stepped (omega (arith, c.in_ok-stmt.ensures.fewer, c.in_ok-tested.ensures.fewer)) in (
-      kept.0,
-      kept.1,
-      kept.2,
-      omega (arith, c.loop-alloc.invariant.3, c.in_ok-stmt.ensures.fewer, c.in_ok-tested.ensures.fewer, c.in_ok-take_unit.ensures.fewer),
     )
 
 pub functions::call_function-returns-in-None-clause-gives : goal.functions::call_function-returns-in-None-clause-gives

@@ -71,6 +71,9 @@ decreases-run::repeat l =
 abbrev pub decreases-run::tested : goal.decreases-run::tested
 decreases-run::tested l = in_file l.file.now + 1 + value_weight (option_map expr_tree (option_copied l.test))
 
+abbrev pub decreases-run::stepped : goal.decreases-run::stepped
+decreases-run::stepped l = in_file l.file.now + 1 + step_weight (option_map change_tree (option_copied l.step))
+
 abbrev pub decreases-run::declarators : goal.decreases-run::declarators
 decreases-run::declarators l = in_file l.unit.now.file.now + weights declarator_weight (map declarator_tree l.list.now)
 
