@@ -6,7 +6,7 @@ ghost use Rattle.os_ast.specs.declared.expr.Name.{Name};
 ghost use Rattle.os_ast.specs.Views.{expr_tree, target_tree, index_tree, join_tree, clause_item_tree, clause_kind_tree, clause_tree, stmt_tree};
 ghost use Rattle.os_parser.specs.Expressions.{below};
 ghost use Rattle.os_parser.specs.Reading.{Gives, Same, after};
-ghost use Rattle.os_parser.specs.Statements.{name, join, alone, clause_item, clause_kind, clause, clauses, first_clause, some_clauses, in_parens, tick, taskwait};
+ghost use Rattle.os_parser.specs.Statements.{name, join, alone, clause_item, clause_kind, clause, clauses, first_clause, some_clauses, in_parens, ticked, tick_tree, tick, taskwait};
 
 use crate::comma_list::{Part, comma_list};
 use crate::cursor::Cursor;
@@ -81,7 +81,7 @@ impl Part for InOrOut {
 }
 
 /// A `name` that a task takes a copy of.
-struct Copied {}
+struct Copied;
 
 impl Part for Copied {
     type Item = Name;
@@ -140,7 +140,7 @@ fn clause_kind(alloc: Global, cursor: &mut Cursor<'_>, depth: u32) -> Result<Cla
     }
     if cursor.is_at(Kind::Name(FIRSTPRIVATE)) {
         cursor.advance();
-        let names = in_parens(alloc, cursor, &Copied {})?;
+        let names = in_parens(alloc, cursor, &Copied)?;
         return Ok(ClauseKind::Firstprivate(names));
     }
     Err(ParseError::Syntax)
@@ -205,6 +205,32 @@ pub(crate) fn clauses(
     some_clauses(alloc, cursor, depth)
 }
 
+/// `"tick" "(" stream ">>" expr ")"`, from its word on.
+#[tactic(auto, unfolding(crate::specs::Statements::ticked))]
+fn ticked(
+    alloc: Global,
+    cursor: &mut Cursor<'_>,
+    mark: Mark,
+    depth: u32,
+) -> Result<TickSite, ParseError>
+    ensures gives { Gives tick_tree result cursor.new (ticked mark (below depth) cursor.old) }
+    ensures within { length cursor.new ≤ length cursor.old }
+{
+    let deeper_by_one = deeper(depth)?;
+    cursor.advance();
+    cursor.expect(Kind::Punct(Punct::OpenParen))?;
+    let stream = target(alloc, cursor, depth)?;
+    let arrow = cursor.expect(Kind::Punct(Punct::ShiftRight))?;
+    let amount = expr(alloc, cursor, deeper_by_one)?;
+    cursor.expect(Kind::Punct(Punct::CloseParen))?;
+    Ok(TickSite {
+        mark,
+        stream,
+        arrow,
+        amount,
+    })
+}
+
 /// `"tick" "(" stream ">>" expr ")" PragmaEnd`, from its word on.
 #[tactic(auto, unfolding(crate::specs::Statements::tick))]
 pub(crate) fn tick(
@@ -216,21 +242,10 @@ pub(crate) fn tick(
     ensures gives { Gives stmt_tree result cursor.new (tick mark (below depth) cursor.old) }
     ensures within { length cursor.new ≤ length cursor.old }
 {
-    let deeper_by_one = deeper(depth)?;
-    cursor.advance();
-    cursor.expect(Kind::Punct(Punct::OpenParen))?;
-    let stream = target(alloc, cursor, depth)?;
-    let arrow = cursor.expect(Kind::Punct(Punct::ShiftRight))?;
-    let amount = expr(alloc, cursor, deeper_by_one)?;
-    cursor.expect(Kind::Punct(Punct::CloseParen))?;
+    let site = ticked(alloc, cursor, mark, depth)?;
+    let site = Box::new(alloc, site)?;
     cursor.expect(Kind::PragmaEnd)?;
-    let site = TickSite {
-        mark,
-        stream,
-        arrow,
-        amount,
-    };
-    Ok(Stmt::Tick(Box::new(alloc, site)?))
+    Ok(Stmt::Tick(site))
 }
 
 /// `"taskwait" PragmaEnd`, from what follows its word.

@@ -18,7 +18,7 @@ use os_lexer::{Key, Kind, Punct};
 use std::alloc::Global;
 
 /// `"int" name`, a parameter of `params`.
-struct Param {}
+struct Param;
 
 impl Part for Param {
     type Item = Name;
@@ -49,7 +49,7 @@ fn params(alloc: Global, cursor: &mut Cursor<'_>) -> Result<Params, ParseError>
         cursor.advance();
         return Ok(Params::Void);
     }
-    let names = comma_list(alloc, cursor, &Param {})?;
+    let names = comma_list(alloc, cursor, &Param)?;
     Ok(Params::Names(names))
 }
 
