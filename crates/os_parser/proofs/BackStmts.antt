@@ -24,7 +24,7 @@ use Rattle.os_parser.specs.Beginners.{stmt_start, stmt_at}
 use Rattle.os_parser.specs.Expressions.{args, expr_on, layer, below}
 use Rattle.os_parser.specs.Kinds.{same}
 use Rattle.os_parser.specs.Reading.{got, begins}
-use Rattle.os_parser.specs.Statements.{Inner, inner, before, ended, named_stmt, block, condition, if_stmt, while_stmt, start, head_test, step, for_stmt, return_stmt, clauses, task, target, tick, taskwait, pragma, stmt_by, stmt_on}
+use Rattle.os_parser.specs.Statements.{Inner, inner, before, ended, named_stmt, block, condition, if_stmt, while_stmt, start, head_test, step, head, for_stmt, return_stmt, clauses, task, target, ticked, tick, taskwait, pragma, stmt_by, stmt_on}
 use Rattle.os_parser.specs.declared.starts.StmtStart.{StmtStart}
 use Rattle.os_parser.specs.declared.starts.StmtStart.TheVariants as starts
 use Rattle.os_parser.proofs.Depths.{readers_of-inner}
@@ -178,7 +178,7 @@ pub for-back : (c : ℕ) (st : StartTree) (e : Option ExprTree) (ch : Option Cha
     (t : Plain (kind.Key keys.For) p0 ts) → (o : Plain (kind.Punct puncts.OpenParen) p1 t.rest) → (x : Back (start (below (suc c))) st p2 o.rest) →
     (y : Back (head_test (layer (below c))) e p3 x.rest) → (z : Back (step (below (suc c))) ch p4 y.rest) → Back (stmt_on (inner c)) a ps z.rest →
     Back (stmt_by starts.For (inner (suc c))) (tree.For st e ch a) ps ts
-unfolding stmt_by for_stmt inner below
+unfolding stmt_by for_stmt head inner below
 for-back c st e ch a ps p0 p1 p2 p3 p4 ts t o x y z w =
     let s0 = ap length t.head in
     let s1 = ap length o.head in
@@ -240,7 +240,7 @@ pub tick-back : (c : ℕ) (m : Mark) (g : TargetTree) (a : Mark) (e : ExprTree) 
     (x : Back (target (below (suc c))) g p4 q.rest) → (r : Noted (kind.Punct puncts.ShiftRight) a p5 x.rest) → (y : Back (expr_on (below c)) e p6 r.rest) →
     (u : Plain (kind.Punct puncts.CloseParen) (bare kind.PragmaEnd ∷ ps) y.rest) → Plain kind.PragmaEnd ps u.rest →
     Back (stmt_by starts.Pragma (inner (suc c))) (tree.Tick m g a e) ps ts
-unfolding stmt_by pragma tick below
+unfolding stmt_by pragma tick ticked below
 tick-back c m g a e ps p0 p1 p2 p3 p4 p5 p6 ts t o w q x r y u v =
     let s0 = ap length t.head in
     let s1 = ap length o.head in

@@ -27,7 +27,7 @@ use Rattle.os_lexer.specs.declared.token.Punct.TheVariants as puncts
 use Rattle.os_parser.specs.Beginners.{stmt_start, punct_stmt, key_stmt}
 use Rattle.os_parser.specs.Expressions.{Readers, args, target_of, below}
 use Rattle.os_parser.specs.Reading.{Read, Reader, got, fails, after, mark_at, begins, expect}
-use Rattle.os_parser.specs.Statements.{Inner, deep, readers_of, inner, inner_item, list_of, name, target, declare, head_declare, change, change_begun, change_of, before, named_stmt, block_item, stmts, block, condition, if_stmt, while_stmt, start, head_test, step, for_stmt, return_stmt, clauses, task, tick, taskwait, pragma, stmt_by, stmt_on, param, params, function, number, minus, constant, item, is_more, program, number_by}
+use Rattle.os_parser.specs.Statements.{Inner, deep, readers_of, inner, inner_item, list_of, name, target, declare, head_declare, change, change_begun, change_of, before, named_stmt, block_item, stmts, block, condition, if_stmt, while_stmt, start, head_test, step, head, HeadTree, for_stmt, return_stmt, clauses, task, ticked, tick, taskwait, pragma, stmt_by, stmt_on, param, params, function, number, minus, constant, item, is_more, program, number_by}
 use Rattle.os_parser.specs.declared.starts.StmtStart.{StmtStart}
 use Rattle.os_parser.specs.declared.starts.StmtStart.TheVariants as starts
 use Rattle.os_parser.proofs.SameKinds.{same-self}
@@ -253,21 +253,49 @@ step-sound d b ts h =
     sound-then _ _ (expect (kind.Punct puncts.CloseParen) us) _ (expect-sound _ us) (λ _ vs closes.
     record { leveled = leveled.IsOptional.present rc.leveled; shallow = rc.shallow; takes = λ ps g. rc.takes _ (closes.plain ps g) })))
 
+-- the head of a for
+abbrev head_spelling : HeadTree → Printer
+head_spelling h =
+    spelling.in_parens (spelling.start h.start ⨾ spelling.optional spelling.expr h.test ⨾ spelling.punct puncts.Semicolon ⨾ spelling.optional spelling.change h.step)
+
+record ReadHead (d : ℕ) (ts : List Placed) (h : HeadTree) (rest : List Placed) : Type 0 where
+  start : IsStart h.start
+  start_shallow : start_depth h.start ≤ d
+  test : IsOptional IsExpr h.test
+  test_shallow : value_depth h.test ≤ d
+  step : IsOptional IsChange h.step
+  step_shallow : step_depth h.step ≤ d
+  takes : Takes (head_spelling h) ts rest
+
+head-sound : (d : ℕ) (r : Readers) (ts : List Placed) → SoundReaders d r → Sound (ReadHead d ts) (head (Some r) ts)
+unfolding head
+head-sound d r ts i =
+    sound-then _ _ (expect (kind.Punct puncts.OpenParen) ts) _ (expect-sound _ ts) (λ _ t1 opens.
+    sound-then _ _ (start (Some r) t1) _ (start-sound d (Some r) t1 i) (λ st t2 rs.
+    sound-then _ _ (head_test r t2) _ (test-sound d r t2 i) (λ e t3 re.
+    sound-then _ _ (step (Some r) t3) _ (step-sound d (Some r) t3 i) (λ c t4 rc.
+    record {
+      start = rs.leveled;
+      start_shallow = rs.shallow;
+      test = re.leveled;
+      test_shallow = re.shallow;
+      step = rc.leveled;
+      step_shallow = rc.shallow;
+      takes = λ ps g. opens.plain _ (rs.takes _ (re.takes _ (rc.takes ps g)));
+    }))))
+
 for-sound : (d : ℕ) (s : Option Inner) (ts : List Placed) → SoundDeep d s → begins (kind.Key keys.For) ts ≡ true →
     Sound (ReadStmt (suc d) ts) (for_stmt s ts)
 unfolding for_stmt
 for-sound d s ts h word =
-    sound-deep _ d s ts _ h (λ r i. sound-then _ _ (expect (kind.Punct puncts.OpenParen) (after ts)) _ (expect-sound _ (after ts)) (λ _ t1 opens.
-    sound-then _ _ (start (Some r.readers) t1) _ (start-sound d (Some r.readers) t1 i.readers) (λ st t2 rs.
-    sound-then _ _ (head_test r.readers t2) _ (test-sound d r.readers t2 i.readers) (λ e t3 re.
-    sound-then _ _ (step (Some r.readers) t3) _ (step-sound d (Some r.readers) t3 i.readers) (λ c t4 rc.
-    sound-then _ _ (r.stmt t4) _ (i.stmt t4) (λ x t5 rx.
+    sound-deep _ d s ts _ h (λ r i. sound-then _ _ (head (Some r.readers) (after ts)) _ (head-sound d r.readers (after ts) i.readers) (λ f us rf.
+    sound-then _ _ (r.stmt us) _ (i.stmt us) (λ x vs rx.
     record {
-      leveled = leveled.IsStmt.for rs.leveled re.leveled rc.leveled rx.leveled;
-      shallow = omega (arith, rs.shallow, re.shallow, rc.shallow, rx.shallow);
-      takes = λ ps g. begins-bare (kind.Key keys.For) ts word _ (opens.plain _ (rs.takes _ (re.takes _ (rc.takes _ (rx.takes ps g)))));
+      leveled = leveled.IsStmt.for rf.start rf.test rf.step rx.leveled;
+      shallow = omega (arith, rf.start_shallow, rf.test_shallow, rf.step_shallow, rx.shallow);
+      takes = λ ps g. begins-bare (kind.Key keys.For) ts word _ (rf.takes _ (rx.takes ps g));
       settled = rx.settled;
-    }))))))
+    })))
 
 -- a statement after which no `else` would be its own
 return-sound : (d : ℕ) (b : Option Readers) (ts : List Placed) → SoundBelow d b → begins (kind.Key keys.Return) ts ≡ true →
@@ -328,20 +356,21 @@ task-sound d m s us ts h opens =
 
 tick-sound : (d : ℕ) (m : Mark) (b : Option Readers) (us ts : List Placed) → SoundBelow d b → Takes (opened m tick_id) us (after ts) →
     Sound (ReadStmt (suc d) us) (tick m b ts)
-unfolding tick
+unfolding tick ticked
 tick-sound d m b us ts h opens =
-    sound-deeper _ d b ts _ h (λ r i. sound-then _ _ (expect (kind.Punct puncts.OpenParen) (after ts)) _ (expect-sound _ (after ts)) (λ _ t1 e1.
+    sound-then (λ x rest. (vs : List Placed) → Takes (spelling.token kind.PragmaEnd) rest vs → ReadStmt (suc d) us x vs) _ (ticked m b ts) _
+    (sound-deeper _ d b ts _ h (λ r i. sound-then _ _ (expect (kind.Punct puncts.OpenParen) (after ts)) _ (expect-sound _ (after ts)) (λ _ t1 e1.
     sound-then _ _ (target b t1) _ (target-sound d b t1 h) (λ t t2 rt.
     sound-then _ _ (expect (kind.Punct puncts.ShiftRight) t2) _ (expect-sound _ t2) (λ a t3 arrow.
     sound-then _ _ (r.expr t3) _ (i.expr t3) (λ e t4 re.
     sound-then _ _ (expect (kind.Punct puncts.CloseParen) t4) _ (expect-sound _ t4) (λ _ t5 e5.
-    sound-then _ _ (expect kind.PragmaEnd t5) _ (expect-sound _ t5) (λ _ t6 ends.
+    λ vs ends.
     record {
       leveled = leveled.IsStmt.tick rt.leveled re.leveled;
       shallow = omega (arith, rt.shallow, re.shallow);
-      takes = λ ps g. opens _ (e1.plain _ (rt.takes _ (arrow.noted _ (re.takes _ (e5.plain _ (ends.plain ps g))))));
+      takes = λ ps g. opens _ (e1.plain _ (rt.takes _ (arrow.noted _ (re.takes _ (e5.plain _ (ends ps g))))));
       settled = λ e. absurd (cc e);
-    })))))))
+    }))))))) (λ x rest f. sound-then _ _ (expect kind.PragmaEnd rest) _ (expect-sound _ rest) (λ _ vs ends. f vs ends.plain))
 
 taskwait-sound : (d : ℕ) (m : Mark) (us ts : List Placed) → Takes (opened m taskwait_id) us ts → Sound (ReadStmt (suc d) us) (taskwait m ts)
 unfolding taskwait

@@ -1,5 +1,5 @@
 -- What reading statements and programs gives: one definition for each function of the code.
-use Rattle.std.specs.Prelude.{ℕ, zero, suc, ◌+◌, ◌≡◌, Bool, true, false, not, List, [], ◌∷◌, length, Option, Some, None, Result, Ok, Err, if◌then◌else◌}
+use Rattle.std.specs.Prelude.{ℕ, zero, suc, ◌+◌, ◌≡◌, Bool, true, false, not, List, [], ◌∷◌, length, Option, Some, None, option_map, Result, Ok, Err, if◌then◌else◌}
 use Rattle.os_ast.specs.Means.{Placed}
 use Rattle.os_ast.specs.Trees as tree
 use Rattle.os_ast.specs.Trees.{ExprTree, TargetTree, IndexTree, Args, DeclaratorTree, ChangeTree, StartTree, JoinTree, ClauseItemTree, ClauseKindTree, ClauseTree, StmtTree, Stmts, ItemTree, ProgramTree}
@@ -7,6 +7,9 @@ use Rattle.os_ast.specs.declared.expr.Mark.{Mark}
 use Rattle.os_ast.specs.declared.expr.Name.{Name}
 use Rattle.os_ast.specs.declared.program.Params.{Params}
 use Rattle.os_ast.specs.declared.program.Params.TheVariants as params_of
+use Rattle.os_ast.specs.Views.{expr_tree, target_tree, start_tree, change_tree}
+use Rattle.os_ast.specs.declared.pragma.TickSite.{TickSite}
+use Rattle.os_ast.specs.declared.stmt.Head.{Head}
 use Rattle.os_ast.specs.declared.stmt.Step.{Step}
 use Rattle.os_lexer.specs.Names.{omp_id, task_id, tick_id, taskwait_id, input_id, output_id, firstprivate_id, stream_id}
 use Rattle.os_lexer.specs.declared.token.Key.TheVariants as keys
@@ -197,11 +200,25 @@ step b ts =
     if begins (kind.Punct puncts.CloseParen) ts then got None (after ts) else
     (change b ts >>= λ c us. expect (kind.Punct puncts.CloseParen) us >>= λ _ vs. got (Some c) vs)
 
+-- what stands in the head of a for
+pub record HeadTree : Type 0 where
+  pub start : StartTree
+  pub test : Option ExprTree
+  pub step : Option ChangeTree
+
+abbrev pub head_tree : Head → HeadTree
+head_tree h = record { start = start_tree h.start; test = option_map expr_tree h.test; step = option_map change_tree h.step }
+
+-- the head of a for, from its parenthesis on
+unfoldable pub head : Option Readers → Reader HeadTree
+head b ts =
+    deeper b ts (λ r. expect (kind.Punct puncts.OpenParen) ts >>= λ _ t1. start b t1 >>= λ st t2.
+    head_test r t2 >>= λ e t3. step b t3 >>= λ c t4. got (record { start = st; test = e; step = c }) t4)
+
 -- a for
 unfoldable pub for_stmt : Option Inner → Reader StmtTree
 for_stmt s ts =
-    deep s ts (λ r. expect (kind.Punct puncts.OpenParen) (after ts) >>= λ _ t1. start (Some r.readers) t1 >>= λ st t2.
-    head_test r.readers t2 >>= λ e t3. step (Some r.readers) t3 >>= λ c t4. r.stmt t4 >>= λ x t5. got (tree.For st e c x) t5)
+    deep s ts (λ r. head (Some r.readers) (after ts) >>= λ h us. r.stmt us >>= λ x vs. got (tree.For h.start h.test h.step x) vs)
 
 -- "return" expr ";"
 unfoldable pub return_stmt : Option Readers → Reader StmtTree
@@ -265,12 +282,19 @@ task m s ts =
     deep s ts (λ r. clauses (Some r.readers) (after ts) >>= λ cs us. expect kind.PragmaEnd us >>= λ _ vs. r.stmt vs >>= λ x ws.
     got (tree.Task m cs x) ws)
 
--- a tick, from its word on
-unfoldable pub tick : Mark → Option Readers → Reader StmtTree
-tick m b ts =
+-- what a tick holds, from its word on
+unfoldable pub ticked : Mark → Option Readers → Reader StmtTree
+ticked m b ts =
     deeper b ts (λ r. expect (kind.Punct puncts.OpenParen) (after ts) >>= λ _ t1. target b t1 >>= λ t t2.
     expect (kind.Punct puncts.ShiftRight) t2 >>= λ a t3. r.expr t3 >>= λ e t4. expect (kind.Punct puncts.CloseParen) t4 >>= λ _ t5.
-    expect kind.PragmaEnd t5 >>= λ _ t6. got (tree.Tick m t a e) t6)
+    got (tree.Tick m t a e) t5)
+
+abbrev pub tick_tree : TickSite → StmtTree
+tick_tree t = tree.Tick t.mark (target_tree t.stream) t.arrow (expr_tree t.amount)
+
+-- a tick, from its word on
+unfoldable pub tick : Mark → Option Readers → Reader StmtTree
+tick m b ts = ticked m b ts >>= λ t us. expect kind.PragmaEnd us >>= λ _ vs. got t vs
 
 -- a taskwait, behind its word
 unfoldable pub taskwait : Mark → Reader StmtTree

@@ -1,6 +1,6 @@
 //! Expressions, production by production.
 
-ghost use Rattle.std.specs.Prelude.{◌≡◌, ◌+◌, ◌-◌, ◌≤◌, ◌<◌, length, IfOk, IfErr};
+ghost use Rattle.std.specs.Prelude.{◌≡◌, ◌+◌, ◌-◌, ◌≤◌, ◌<◌, length, IfOk, IfErr, box_value};
 ghost use Rattle.os_ast.specs.Views.{expr_tree, target_tree, index_tree, args_tree, links_tree};
 ghost use Rattle.os_parser.specs.Expressions.{below, layer, chained, branches, operand, chains, linked, expr_on, named, target_of, index, args, some_args, paren, sign};
 ghost use Rattle.os_parser.specs.Reading.{Gives};
@@ -29,7 +29,18 @@ pub(crate) fn expr(alloc: Global, cursor: &mut Cursor<'_>, depth: u32) -> Result
     if !cursor.is_at(Kind::Punct(Punct::Question)) {
         return Ok(condition);
     }
+    let condition = Box::new(alloc, condition)?;
     branches(alloc, cursor, condition, depth)
+}
+
+/// `expr`, where it is a part of another.
+#[cycle(expressions)]
+fn boxed(alloc: Global, cursor: &mut Cursor<'_>, depth: u32) -> Result<Box<Expr>, ParseError>
+    ensures gives { Gives (λ e. expr_tree (box_value e)) result cursor.new (expr_on (below depth) cursor.old) }
+    ensures within { length cursor.new ≤ length cursor.old }
+{
+    let expr = expr(alloc, cursor, depth)?;
+    Ok(Box::new(alloc, expr)?)
 }
 
 /// `"?" expr ":" expr`, the rest of a choice, from its `?` on.
@@ -38,22 +49,18 @@ pub(crate) fn expr(alloc: Global, cursor: &mut Cursor<'_>, depth: u32) -> Result
 fn branches(
     alloc: Global,
     cursor: &mut Cursor<'_>,
-    condition: Expr,
+    condition: Box<Expr>,
     depth: u32,
 ) -> Result<Expr, ParseError>
-    ensures gives { Gives expr_tree result cursor.new (branches (below depth) (expr_tree condition) cursor.old) }
+    ensures gives { Gives expr_tree result cursor.new (branches (below depth) (expr_tree (box_value condition)) cursor.old) }
     ensures within { length cursor.new ≤ length cursor.old }
 {
     let depth = deeper(depth)?;
     cursor.advance();
-    let first = expr(alloc, cursor, depth)?;
+    let first = boxed(alloc, cursor, depth)?;
     cursor.expect(Kind::Punct(Punct::Colon))?;
-    let second = expr(alloc, cursor, depth)?;
-    Ok(Expr::Choice(
-        Box::new(alloc, condition)?,
-        Box::new(alloc, first)?,
-        Box::new(alloc, second)?,
-    ))
+    let second = boxed(alloc, cursor, depth)?;
+    Ok(Expr::Choice(condition, first, second))
 }
 
 /// The production of a rank: from 1 on `or`, `and`, `bor`, `bxor`, `band`, `equal`, `order`, `shift`, `sum`,
@@ -165,9 +172,9 @@ fn paren(alloc: Global, cursor: &mut Cursor<'_>, depth: u32) -> Result<Expr, Par
 {
     let depth = deeper(depth)?;
     cursor.advance();
-    let inner = expr(alloc, cursor, depth)?;
+    let inner = boxed(alloc, cursor, depth)?;
     cursor.expect(Kind::Punct(Punct::CloseParen))?;
-    Ok(Expr::Paren(Box::new(alloc, inner)?))
+    Ok(Expr::Paren(inner))
 }
 
 /// `target | call`, from what follows its name on.

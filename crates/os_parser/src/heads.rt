@@ -4,13 +4,14 @@ ghost use Rattle.std.specs.Prelude.{◌≡◌, ◌+◌, ◌-◌, ◌≤◌, ◌<
 ghost use Rattle.os_ast.specs.Views.{expr_tree, declarator_tree, change_tree, start_tree};
 ghost use Rattle.os_parser.specs.Expressions.{below, layer};
 ghost use Rattle.os_parser.specs.Reading.{Gives};
-ghost use Rattle.os_parser.specs.Statements.{condition, start, head_test, step, change, head_declare};
+ghost use Rattle.os_parser.specs.Statements.{condition, start, head_test, step, change, head_declare, head, head_tree};
 
 use crate::cursor::Cursor;
+use crate::depth::deeper;
 use crate::expressions::expr;
 use crate::parse_error::ParseError;
 use crate::statements::{change, head_declare};
-use os_ast::{Change, Expr, Start};
+use os_ast::{Change, Expr, Head, Start};
 use os_lexer::{Key, Kind, Punct};
 use std::alloc::Global;
 
@@ -32,7 +33,7 @@ pub(crate) fn condition(
 
 /// `declare1 | [ change ] ";"`, behind `for` and its parenthesis.
 #[tactic(auto, unfolding(crate::specs::Statements::start))]
-pub(crate) fn start(alloc: Global, cursor: &mut Cursor<'_>, depth: u32) -> Result<Start, ParseError>
+fn start(alloc: Global, cursor: &mut Cursor<'_>, depth: u32) -> Result<Start, ParseError>
     ensures gives { Gives start_tree result cursor.new (start (below depth) cursor.old) }
     ensures within { length cursor.new ≤ length cursor.old }
 {
@@ -51,11 +52,7 @@ pub(crate) fn start(alloc: Global, cursor: &mut Cursor<'_>, depth: u32) -> Resul
 
 /// `[ expr ] ";"`, in the middle of the head of a `for`.
 #[tactic(auto, unfolding(crate::specs::Statements::head_test))]
-pub(crate) fn test(
-    alloc: Global,
-    cursor: &mut Cursor<'_>,
-    depth: u32,
-) -> Result<Option<Expr>, ParseError>
+fn test(alloc: Global, cursor: &mut Cursor<'_>, depth: u32) -> Result<Option<Expr>, ParseError>
     ensures gives { Gives (λ e. option_map expr_tree e) result cursor.new (head_test (layer (below depth)) cursor.old) }
     ensures within { length cursor.new ≤ length cursor.old }
 {
@@ -70,11 +67,7 @@ pub(crate) fn test(
 
 /// `[ change ] ")"`, at the end of the head of a `for`.
 #[tactic(auto, unfolding(crate::specs::Statements::step))]
-pub(crate) fn step(
-    alloc: Global,
-    cursor: &mut Cursor<'_>,
-    depth: u32,
-) -> Result<Option<Change>, ParseError>
+fn step(alloc: Global, cursor: &mut Cursor<'_>, depth: u32) -> Result<Option<Change>, ParseError>
     ensures gives { Gives (λ c. option_map change_tree c) result cursor.new (step (below depth) cursor.old) }
     ensures within { length cursor.new ≤ length cursor.old }
 {
@@ -85,4 +78,18 @@ pub(crate) fn step(
     let change = change(alloc, cursor, depth)?;
     cursor.expect(Kind::Punct(Punct::CloseParen))?;
     Ok(Some(change))
+}
+
+/// `"(" ( declare1 | [ change ] ";" ) [ expr ] ";" [ change ] ")"`, behind `for`.
+#[tactic(auto, unfolding(crate::specs::Statements::head))]
+pub(crate) fn head(alloc: Global, cursor: &mut Cursor<'_>, depth: u32) -> Result<Head, ParseError>
+    ensures gives { Gives head_tree result cursor.new (head (below depth) cursor.old) }
+    ensures within { length cursor.new ≤ length cursor.old }
+{
+    let inner = deeper(depth)?;
+    cursor.expect(Kind::Punct(Punct::OpenParen))?;
+    let start = start(alloc, cursor, depth)?;
+    let test = test(alloc, cursor, inner)?;
+    let step = step(alloc, cursor, depth)?;
+    Ok(Head { start, test, step })
 }

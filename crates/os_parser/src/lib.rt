@@ -10,6 +10,7 @@
 //! spelled is given again.
 #![tactic(auto)]
 
+mod comma_list;
 mod cursor;
 mod depth;
 mod expressions;

@@ -1,11 +1,14 @@
 //! The clauses of tasks, and ticks.
 
 ghost use Rattle.std.specs.Prelude.{◌≡◌, ◌+◌, ◌-◌, ◌≤◌, ◌<◌, length, map, option_map, OnOk};
+ghost use Rattle.os_ast.specs.Trees.{ClauseItemTree};
+ghost use Rattle.os_ast.specs.declared.expr.Name.{Name};
 ghost use Rattle.os_ast.specs.Views.{expr_tree, target_tree, index_tree, join_tree, clause_item_tree, clause_kind_tree, clause_tree, stmt_tree};
 ghost use Rattle.os_parser.specs.Expressions.{below};
 ghost use Rattle.os_parser.specs.Reading.{Gives, Same, after};
-ghost use Rattle.os_parser.specs.Statements.{name, join, alone, clause_item, clause_kind, clause, clauses, first_clause, some_clauses, list_of, in_parens, tick, taskwait};
+ghost use Rattle.os_parser.specs.Statements.{name, join, alone, clause_item, clause_kind, clause, clauses, first_clause, some_clauses, in_parens, ticked, tick_tree, tick, taskwait};
 
+use crate::comma_list::{Part, comma_list};
 use crate::cursor::Cursor;
 use crate::depth::deeper;
 use crate::expressions::expr;
@@ -48,87 +51,66 @@ fn alone(cursor: &mut Cursor<'_>, stream: Target) -> Result<ClauseItem, ParseErr
 }
 
 /// `in = stream ">>" name [ "[" expr "]" ] | name`, or `out`, the same with `"<<"`.
-#[tactic(auto, unfolding(crate::specs::Statements::clause_item))]
-fn clause_item(
-    alloc: Global,
-    cursor: &mut Cursor<'_>,
+#[derive(Drop)]
+struct InOrOut {
     arrow: Punct,
     depth: u32,
-) -> Result<ClauseItem, ParseError>
-    ensures gives { Gives clause_item_tree result cursor.new (clause_item arrow (below depth) cursor.old) }
-    ensures within { length cursor.new ≤ length cursor.old }
-{
-    let stream = target(alloc, cursor, depth)?;
-    if !cursor.is_at(Kind::Punct(arrow)) {
-        return alone(cursor, stream);
-    }
-    let window = join(alloc, cursor, depth)?;
-    Ok(ClauseItem {
-        stream,
-        window: Some(window),
-    })
 }
 
-/// `in { "," in }`, or the same of `out`.
-fn clause_items(
-    alloc: Global,
-    cursor: &mut Cursor<'_>,
-    arrow: Punct,
-    depth: u32,
-) -> Result<List<ClauseItem>, ParseError>
-    ensures gives { Gives (map clause_item_tree) result cursor.new (list_of (clause_item arrow (below depth)) cursor.old) }
-    ensures within { length cursor.new ≤ length cursor.old }
-{
-    let mut items = List::new(alloc);
-    items.push(clause_item(alloc, cursor, arrow, depth)?)?;
-    while cursor.is_at(Kind::Punct(Punct::Comma)) {
-        cursor.advance();
-        items.push(clause_item(alloc, cursor, arrow, depth)?)?;
+impl Part for InOrOut {
+    type Item = ClauseItem;
+
+    ghost Tree = { ClauseItemTree };
+
+    ghost view = { clause_item_tree };
+
+    ghost reads = { λ part. clause_item part.arrow (below part.depth) };
+
+    #[tactic(auto, unfolding(crate::specs::Statements::clause_item))]
+    fn read(&self, alloc: Global, cursor: &mut Cursor<'_>) -> Result<ClauseItem, ParseError> {
+        let stream = target(alloc, cursor, self.depth)?;
+        if !cursor.is_at(Kind::Punct(self.arrow)) {
+            return alone(cursor, stream);
+        }
+        let window = join(alloc, cursor, self.depth)?;
+        Ok(ClauseItem {
+            stream,
+            window: Some(window),
+        })
     }
-    Ok(items)
 }
 
-/// `name { "," name }`
-fn names(alloc: Global, cursor: &mut Cursor<'_>) -> Result<List<Name>, ParseError>
-    ensures gives { Gives (map Same) result cursor.new (list_of name cursor.old) }
-    ensures within { length cursor.new ≤ length cursor.old }
-{
-    let mut names = List::new(alloc);
-    names.push(name(cursor)?)?;
-    while cursor.is_at(Kind::Punct(Punct::Comma)) {
-        cursor.advance();
-        names.push(name(cursor)?)?;
+/// A `name` that a task takes a copy of.
+struct Copied;
+
+impl Part for Copied {
+    type Item = Name;
+
+    ghost Tree = { Name };
+
+    ghost view = { Same };
+
+    ghost reads = { λ part. name };
+
+    fn read(&self, alloc: Global, cursor: &mut Cursor<'_>) -> Result<Name, ParseError> {
+        name(cursor)
     }
-    Ok(names)
 }
 
-/// `"(" in { "," in } ")"`, or the same of `out`.
+/// `"(" part { "," part } ")"`
 #[tactic(auto, unfolding(crate::specs::Statements::in_parens))]
-fn items_in_parens(
+fn in_parens<P: Part>(
     alloc: Global,
     cursor: &mut Cursor<'_>,
-    arrow: Punct,
-    depth: u32,
-) -> Result<List<ClauseItem>, ParseError>
-    ensures gives { Gives (map clause_item_tree) result cursor.new (in_parens (clause_item arrow (below depth)) cursor.old) }
+    part: &P,
+) -> Result<List<P::Item>, ParseError>
+    ensures gives { Gives (map P.view) result cursor.new (in_parens (P.reads part.now) cursor.old) }
     ensures within { length cursor.new ≤ length cursor.old }
 {
     cursor.expect(Kind::Punct(Punct::OpenParen))?;
-    let items = clause_items(alloc, cursor, arrow, depth)?;
+    let items = comma_list(alloc, cursor, part)?;
     cursor.expect(Kind::Punct(Punct::CloseParen))?;
     Ok(items)
-}
-
-/// `"(" name { "," name } ")"`
-#[tactic(auto, unfolding(crate::specs::Statements::in_parens))]
-fn names_in_parens(alloc: Global, cursor: &mut Cursor<'_>) -> Result<List<Name>, ParseError>
-    ensures gives { Gives (map Same) result cursor.new (in_parens name cursor.old) }
-    ensures within { length cursor.new ≤ length cursor.old }
-{
-    cursor.expect(Kind::Punct(Punct::OpenParen))?;
-    let names = names(alloc, cursor)?;
-    cursor.expect(Kind::Punct(Punct::CloseParen))?;
-    Ok(names)
 }
 
 /// `clause`: one of the words `"input"`, `"output"` and `"firstprivate"`, and what it lists.
@@ -140,17 +122,25 @@ fn clause_kind(alloc: Global, cursor: &mut Cursor<'_>, depth: u32) -> Result<Cla
 {
     if cursor.is_at(Kind::Name(INPUT)) {
         cursor.advance();
-        let items = items_in_parens(alloc, cursor, Punct::ShiftRight, depth)?;
+        let part = InOrOut {
+            arrow: Punct::ShiftRight,
+            depth,
+        };
+        let items = in_parens(alloc, cursor, &part)?;
         return Ok(ClauseKind::Input(items));
     }
     if cursor.is_at(Kind::Name(OUTPUT)) {
         cursor.advance();
-        let items = items_in_parens(alloc, cursor, Punct::ShiftLeft, depth)?;
+        let part = InOrOut {
+            arrow: Punct::ShiftLeft,
+            depth,
+        };
+        let items = in_parens(alloc, cursor, &part)?;
         return Ok(ClauseKind::Output(items));
     }
     if cursor.is_at(Kind::Name(FIRSTPRIVATE)) {
         cursor.advance();
-        let names = names_in_parens(alloc, cursor)?;
+        let names = in_parens(alloc, cursor, &Copied)?;
         return Ok(ClauseKind::Firstprivate(names));
     }
     Err(ParseError::Syntax)
@@ -215,6 +205,32 @@ pub(crate) fn clauses(
     some_clauses(alloc, cursor, depth)
 }
 
+/// `"tick" "(" stream ">>" expr ")"`, from its word on.
+#[tactic(auto, unfolding(crate::specs::Statements::ticked))]
+fn ticked(
+    alloc: Global,
+    cursor: &mut Cursor<'_>,
+    mark: Mark,
+    depth: u32,
+) -> Result<TickSite, ParseError>
+    ensures gives { Gives tick_tree result cursor.new (ticked mark (below depth) cursor.old) }
+    ensures within { length cursor.new ≤ length cursor.old }
+{
+    let deeper_by_one = deeper(depth)?;
+    cursor.advance();
+    cursor.expect(Kind::Punct(Punct::OpenParen))?;
+    let stream = target(alloc, cursor, depth)?;
+    let arrow = cursor.expect(Kind::Punct(Punct::ShiftRight))?;
+    let amount = expr(alloc, cursor, deeper_by_one)?;
+    cursor.expect(Kind::Punct(Punct::CloseParen))?;
+    Ok(TickSite {
+        mark,
+        stream,
+        arrow,
+        amount,
+    })
+}
+
 /// `"tick" "(" stream ">>" expr ")" PragmaEnd`, from its word on.
 #[tactic(auto, unfolding(crate::specs::Statements::tick))]
 pub(crate) fn tick(
@@ -226,21 +242,10 @@ pub(crate) fn tick(
     ensures gives { Gives stmt_tree result cursor.new (tick mark (below depth) cursor.old) }
     ensures within { length cursor.new ≤ length cursor.old }
 {
-    let deeper_by_one = deeper(depth)?;
-    cursor.advance();
-    cursor.expect(Kind::Punct(Punct::OpenParen))?;
-    let stream = target(alloc, cursor, depth)?;
-    let arrow = cursor.expect(Kind::Punct(Punct::ShiftRight))?;
-    let amount = expr(alloc, cursor, deeper_by_one)?;
-    cursor.expect(Kind::Punct(Punct::CloseParen))?;
+    let site = ticked(alloc, cursor, mark, depth)?;
+    let site = Box::new(alloc, site)?;
     cursor.expect(Kind::PragmaEnd)?;
-    let site = TickSite {
-        mark,
-        stream,
-        arrow,
-        amount,
-    };
-    Ok(Stmt::Tick(Box::new(alloc, site)?))
+    Ok(Stmt::Tick(site))
 }
 
 /// `"taskwait" PragmaEnd`, from what follows its word.

@@ -1,10 +1,12 @@
 //! Programs, functions and constants.
 
 ghost use Rattle.std.specs.Prelude.{◌≡◌, ◌+◌, ◌-◌, ◌≤◌, ◌<◌, length, map, OnOk};
+ghost use Rattle.os_ast.specs.declared.expr.Name.{Name};
 ghost use Rattle.os_ast.specs.Views.{stmts_tree, item_tree};
 ghost use Rattle.os_parser.specs.Reading.{Gives, Same, got, after};
-ghost use Rattle.os_parser.specs.Statements.{inner, param, params, list_of, function, number, minus, constant, item, is_more, program};
+ghost use Rattle.os_parser.specs.Statements.{inner, param, params, function, number, minus, constant, item, is_more, program};
 
+use crate::comma_list::{Part, comma_list};
 use crate::cursor::Cursor;
 use crate::parse_error::ParseError;
 use crate::starts::number_at;
@@ -16,27 +18,22 @@ use os_lexer::{Key, Kind, Punct};
 use std::alloc::Global;
 
 /// `"int" name`, a parameter of `params`.
-#[tactic(auto, unfolding(crate::specs::Statements::param))]
-fn param(cursor: &mut Cursor<'_>) -> Result<Name, ParseError>
-    ensures gives { Gives Same result cursor.new (param cursor.old) }
-    ensures within { length cursor.new ≤ length cursor.old }
-{
-    cursor.expect(Kind::Key(Key::Int))?;
-    name(cursor)
-}
+struct Param;
 
-/// `"int" name { "," "int" name }`, the parameters of `params`.
-fn param_list(alloc: Global, cursor: &mut Cursor<'_>) -> Result<List<Name>, ParseError>
-    ensures gives { Gives (map Same) result cursor.new (list_of param cursor.old) }
-    ensures within { length cursor.new ≤ length cursor.old }
-{
-    let mut names = List::new(alloc);
-    names.push(param(cursor)?)?;
-    while cursor.is_at(Kind::Punct(Punct::Comma)) {
-        cursor.advance();
-        names.push(param(cursor)?)?;
+impl Part for Param {
+    type Item = Name;
+
+    ghost Tree = { Name };
+
+    ghost view = { Same };
+
+    ghost reads = { λ part. param };
+
+    #[tactic(auto, unfolding(crate::specs::Statements::param))]
+    fn read(&self, alloc: Global, cursor: &mut Cursor<'_>) -> Result<Name, ParseError> {
+        cursor.expect(Kind::Key(Key::Int))?;
+        name(cursor)
     }
-    Ok(names)
 }
 
 /// `[ params ]`
@@ -52,7 +49,7 @@ fn params(alloc: Global, cursor: &mut Cursor<'_>) -> Result<Params, ParseError>
         cursor.advance();
         return Ok(Params::Void);
     }
-    let names = param_list(alloc, cursor)?;
+    let names = comma_list(alloc, cursor, &Param)?;
     Ok(Params::Names(names))
 }
 

@@ -2,11 +2,13 @@
 
 ghost use Rattle.std.specs.Prelude.{◌≡◌, ◌+◌, ◌-◌, ◌≤◌, ◌<◌, length, map, option_map, IfOk, IfErr, OnOk};
 ghost use Rattle.os_ast.specs.Trees as tree;
+ghost use Rattle.os_ast.specs.Trees.{DeclaratorTree};
 ghost use Rattle.os_ast.specs.Views.{expr_tree, target_tree, index_tree, declarator_tree, change_tree, start_tree, stmt_tree};
 ghost use Rattle.os_parser.specs.Expressions.{below};
 ghost use Rattle.os_parser.specs.Reading.{Gives, Same, after};
-ghost use Rattle.os_parser.specs.Statements.{name, target, size, value, attribute, scalar, declarator, head_declarator, declare, head_declare, list_of, change_of, change_by, before, change, ended, named_stmt, return_stmt};
+ghost use Rattle.os_parser.specs.Statements.{name, target, size, value, attribute, scalar, declarator, head_declarator, declare, head_declare, change_of, change_by, before, change, ended, named_stmt, return_stmt};
 
+use crate::comma_list::{Part, comma_list};
 use crate::cursor::Cursor;
 use crate::depth::deeper;
 use crate::expressions::{self, expr, index, named};
@@ -99,22 +101,34 @@ fn attribute(cursor: &mut Cursor<'_>) -> Result<bool, ParseError>
 }
 
 /// `declr`: a scalar, a window or an array, or streams.
-#[tactic(auto, unfolding(crate::specs::Statements::declarator))]
-fn declarator(alloc: Global, cursor: &mut Cursor<'_>, depth: u32) -> Result<Declarator, ParseError>
-    ensures gives { Gives declarator_tree result cursor.new (declarator (below depth) cursor.old) }
-    ensures within { length cursor.new ≤ length cursor.old }
-{
-    let name = name(cursor)?;
-    let size = size(alloc, cursor, depth)?;
-    let stream = attribute(cursor)?;
-    match size {
-        Some(size) => Ok(Declarator {
-            name,
-            size: Some(size),
-            stream,
-            first: None,
-        }),
-        None => scalar(alloc, cursor, name, stream, depth),
+#[derive(Drop)]
+struct Declr {
+    depth: u32,
+}
+
+impl Part for Declr {
+    type Item = Declarator;
+
+    ghost Tree = { DeclaratorTree };
+
+    ghost view = { declarator_tree };
+
+    ghost reads = { λ part. declarator (below part.depth) };
+
+    #[tactic(auto, unfolding(crate::specs::Statements::declarator))]
+    fn read(&self, alloc: Global, cursor: &mut Cursor<'_>) -> Result<Declarator, ParseError> {
+        let name = name(cursor)?;
+        let size = size(alloc, cursor, self.depth)?;
+        let stream = attribute(cursor)?;
+        match size {
+            Some(size) => Ok(Declarator {
+                name,
+                size: Some(size),
+                stream,
+                first: None,
+            }),
+            None => scalar(alloc, cursor, name, stream, self.depth),
+        }
     }
 }
 
@@ -147,17 +161,25 @@ fn scalar(
 }
 
 /// `name [ "=" expr ]`, a scalar of `declare1`.
-#[tactic(auto, unfolding(crate::specs::Statements::head_declarator))]
-fn head_declarator(
-    alloc: Global,
-    cursor: &mut Cursor<'_>,
+#[derive(Drop)]
+struct HeadDeclr {
     depth: u32,
-) -> Result<Declarator, ParseError>
-    ensures gives { Gives declarator_tree result cursor.new (head_declarator (below depth) cursor.old) }
-    ensures within { length cursor.new ≤ length cursor.old }
-{
-    let name = name(cursor)?;
-    scalar(alloc, cursor, name, false, depth)
+}
+
+impl Part for HeadDeclr {
+    type Item = Declarator;
+
+    ghost Tree = { DeclaratorTree };
+
+    ghost view = { declarator_tree };
+
+    ghost reads = { λ part. head_declarator (below part.depth) };
+
+    #[tactic(auto, unfolding(crate::specs::Statements::head_declarator))]
+    fn read(&self, alloc: Global, cursor: &mut Cursor<'_>) -> Result<Declarator, ParseError> {
+        let name = name(cursor)?;
+        scalar(alloc, cursor, name, false, self.depth)
+    }
 }
 
 /// `target assign expr | target ( "++" | "--" )`, from what follows the target of this `change`.
@@ -218,26 +240,8 @@ pub(crate) fn declare(
     ensures taken { OnOk result (length cursor.new ≤ length (after cursor.old)) }
 {
     cursor.advance();
-    let declarators = declarators(alloc, cursor, depth)?;
+    let declarators = comma_list(alloc, cursor, &Declr { depth })?;
     cursor.expect(Kind::Punct(Punct::Semicolon))?;
-    Ok(declarators)
-}
-
-/// `declr { "," declr }`, the declarators of `declare`.
-fn declarators(
-    alloc: Global,
-    cursor: &mut Cursor<'_>,
-    depth: u32,
-) -> Result<List<Declarator>, ParseError>
-    ensures gives { Gives (map declarator_tree) result cursor.new (list_of (declarator (below depth)) cursor.old) }
-    ensures within { length cursor.new ≤ length cursor.old }
-{
-    let mut declarators = List::new(alloc);
-    declarators.push(declarator(alloc, cursor, depth)?)?;
-    while cursor.is_at(Kind::Punct(Punct::Comma)) {
-        cursor.advance();
-        declarators.push(declarator(alloc, cursor, depth)?)?;
-    }
     Ok(declarators)
 }
 
@@ -252,26 +256,8 @@ pub(crate) fn head_declare(
     ensures within { length cursor.new ≤ length cursor.old }
 {
     cursor.advance();
-    let declarators = head_declarators(alloc, cursor, depth)?;
+    let declarators = comma_list(alloc, cursor, &HeadDeclr { depth })?;
     cursor.expect(Kind::Punct(Punct::Semicolon))?;
-    Ok(declarators)
-}
-
-/// `name [ "=" expr ] { "," name [ "=" expr ] }`, the declarators of `declare1`.
-fn head_declarators(
-    alloc: Global,
-    cursor: &mut Cursor<'_>,
-    depth: u32,
-) -> Result<List<Declarator>, ParseError>
-    ensures gives { Gives (map declarator_tree) result cursor.new (list_of (head_declarator (below depth)) cursor.old) }
-    ensures within { length cursor.new ≤ length cursor.old }
-{
-    let mut declarators = List::new(alloc);
-    declarators.push(head_declarator(alloc, cursor, depth)?)?;
-    while cursor.is_at(Kind::Punct(Punct::Comma)) {
-        cursor.advance();
-        declarators.push(head_declarator(alloc, cursor, depth)?)?;
-    }
     Ok(declarators)
 }
 

@@ -1,6 +1,6 @@
 //! Statements and blocks.
 
-ghost use Rattle.std.specs.Prelude.{◌≡◌, ◌+◌, ◌-◌, ◌≤◌, ◌<◌, length, map, OnOk};
+ghost use Rattle.std.specs.Prelude.{◌≡◌, ◌+◌, ◌-◌, ◌≤◌, ◌<◌, length, map, OnOk, box_value};
 ghost use Rattle.os_ast.specs.Views.{stmt_tree, stmts_tree, clause_tree};
 ghost use Rattle.os_parser.specs.Expressions.{below};
 ghost use Rattle.os_parser.specs.Reading.{Gives, after};
@@ -8,12 +8,12 @@ ghost use Rattle.os_parser.specs.Statements.{inner, inner_item, stmt_on, stmts, 
 
 use crate::cursor::Cursor;
 use crate::depth::deeper;
-use crate::heads::{condition, start, step, test};
+use crate::heads::{condition, head};
 use crate::parse_error::ParseError;
 use crate::pragmas::{clauses, taskwait, tick};
 use crate::starts::{StmtStart, stmt_at};
 use crate::statements::{before, declare, named_stmt, return_stmt};
-use os_ast::{Change, Head, Mark, Name, Stmt, TaskSite};
+use os_ast::{Change, Mark, Name, Stmt, TaskSite};
 use os_io::List;
 use os_lexer::names::{OMP, TASK, TASKWAIT, TICK};
 use os_lexer::{Key, Kind, Punct};
@@ -67,6 +67,16 @@ pub(crate) fn stmt(alloc: Global, cursor: &mut Cursor<'_>, depth: u32) -> Result
     }
 }
 
+/// `stmt`, where it is a part of another.
+#[cycle(statements)]
+fn boxed(alloc: Global, cursor: &mut Cursor<'_>, depth: u32) -> Result<Box<Stmt>, ParseError>
+    ensures gives { Gives (λ s. stmt_tree (box_value s)) result cursor.new (stmt_on (inner depth) cursor.old) }
+    ensures within { length cursor.new ≤ length cursor.old }
+{
+    let stmt = stmt(alloc, cursor, depth)?;
+    Ok(Box::new(alloc, stmt)?)
+}
+
 /// `block = "{" { declare | stmt } "}"`, from what follows its `{`.
 #[cycle(statements)]
 #[tactic(auto, unfolding(crate::specs::Statements::block))]
@@ -113,12 +123,12 @@ fn if_stmt(alloc: Global, cursor: &mut Cursor<'_>, depth: u32) -> Result<Stmt, P
     let depth = deeper(depth)?;
     cursor.advance();
     let condition = condition(alloc, cursor, depth)?;
-    let first = Box::new(alloc, stmt(alloc, cursor, depth)?)?;
+    let first = boxed(alloc, cursor, depth)?;
     if !cursor.is_at(Kind::Key(Key::Else)) {
         return Ok(Stmt::If(condition, first, None));
     }
     cursor.advance();
-    let second = Box::new(alloc, stmt(alloc, cursor, depth)?)?;
+    let second = boxed(alloc, cursor, depth)?;
     Ok(Stmt::If(condition, first, Some(second)))
 }
 
@@ -133,8 +143,8 @@ fn while_stmt(alloc: Global, cursor: &mut Cursor<'_>, depth: u32) -> Result<Stmt
     let depth = deeper(depth)?;
     cursor.advance();
     let condition = condition(alloc, cursor, depth)?;
-    let body = stmt(alloc, cursor, depth)?;
-    Ok(Stmt::While(condition, Box::new(alloc, body)?))
+    let body = boxed(alloc, cursor, depth)?;
+    Ok(Stmt::While(condition, body))
 }
 
 /// `"for" "(" ( declare1 | [ change ] ";" ) [ expr ] ";" [ change ] ")" stmt`, from its `for` on.
@@ -147,15 +157,10 @@ fn for_stmt(alloc: Global, cursor: &mut Cursor<'_>, depth: u32) -> Result<Stmt, 
 {
     let inner = deeper(depth)?;
     cursor.advance();
-    cursor.expect(Kind::Punct(Punct::OpenParen))?;
-    let start = start(alloc, cursor, depth)?;
-    let test = test(alloc, cursor, inner)?;
-    let step = step(alloc, cursor, depth)?;
-    let body = stmt(alloc, cursor, inner)?;
-    Ok(Stmt::For(
-        Box::new(alloc, Head { start, test, step })?,
-        Box::new(alloc, body)?,
-    ))
+    let head = head(alloc, cursor, depth)?;
+    let head = Box::new(alloc, head)?;
+    let body = boxed(alloc, cursor, inner)?;
+    Ok(Stmt::For(head, body))
 }
 
 /// `PragmaStart "omp"` and one of `"task"`, `"tick"` and `"taskwait"`, with what belongs to it.

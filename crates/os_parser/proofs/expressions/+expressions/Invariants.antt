@@ -8,6 +8,9 @@ use Rattle.os_parser.proofs.expressions.+expressions.Given as goal
 abbrev pub decreases-args : goal.decreases-args
 decreases-args l = 64 * l.depth + 8
 
+abbrev pub decreases-boxed : goal.decreases-boxed
+decreases-boxed l = 64 * l.depth + 61
+
 abbrev pub decreases-branches : goal.decreases-branches
 decreases-branches l = 64 * l.depth + 59
 

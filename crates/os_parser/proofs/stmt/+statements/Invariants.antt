@@ -9,6 +9,9 @@ decreases-block l = 16 * l.depth + 7
 abbrev pub decreases-block_item : goal.decreases-block_item
 decreases-block_item l = 16 * l.depth + 6
 
+abbrev pub decreases-boxed : goal.decreases-boxed
+decreases-boxed l = 16 * l.depth + 9
+
 abbrev pub decreases-for_stmt : goal.decreases-for_stmt
 decreases-for_stmt l = 16 * l.depth + 7
 
