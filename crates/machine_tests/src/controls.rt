@@ -1,13 +1,11 @@
 //! Control programs that were worked out by hand: what they make, and how they end.
 
-mod written;
-
+use crate::main_runs::run_written;
 use flow_core::{Claim, Control, ControlEnd};
 use os_code::{Binary, Instr, SiteItem, Unit};
 use os_io::Memory;
 use std::alloc::Global;
 use std::test::Fail;
-use written::run_written;
 
 fn trapped(code: u8, line: u32) -> ControlEnd {
     ControlEnd::Trapped { code, line }

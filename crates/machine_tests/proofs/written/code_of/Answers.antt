@@ -6,9 +6,9 @@ use Rattle.os_code.specs.Checking.{found_heights}
 use Rattle.os_code.specs.IsValid.{IsValid}
 use Rattle.os_code.specs.Parts.{made_of}
 use Rattle.os_code.proofs.Checked.{valid_from}
-use Rattle.task_vm.specs.Written.{written}
-use Rattle.task_vm.proofs.Written.{sites-are}
-use Rattle.task_vm.proofs.tests.written.code_of.Goals as goal
+use Rattle.machine_tests.specs.Written.{written}
+use Rattle.machine_tests.proofs.Fitting.{sites-are}
+use Rattle.machine_tests.proofs.written.code_of.Goals as goal
 
 pub new-requires : goal.new-requires
 new-requires c =

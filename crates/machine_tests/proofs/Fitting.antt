@@ -12,7 +12,7 @@ use Rattle.os_code.specs.declared.site.SiteItem.{SiteItem}
 use Rattle.os_code.specs.declared.unit.Unit.{Unit as CodeUnit}
 use Rattle.os_code.specs.Parts.{site_at}
 use Rattle.os_code.specs.Tasks.{ClaimFits, Fits}
-use Rattle.task_vm.specs.Written.{written, same_bool, single_fits, claim_fits, claims_fit, is_run}
+use Rattle.machine_tests.specs.Written.{written, same_bool, single_fits, claim_fits, claims_fit, is_run}
 
 -- what holds of each element holds of one
 pub of_each : {A : Type 0} (test : A → Bool) (xs : List A) (k : ℕ) (d : A) → k < length xs → list_all test xs ≡ true → test (get_or xs k d) ≡ true

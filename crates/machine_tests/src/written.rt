@@ -1,18 +1,17 @@
-//! Codes written out: a task that ends at once, and `main`, which is the last unit. There are three streams, and one
-//! site, at line 90.
+//! Codes written out: a task, the functions that it calls, and `main`, which is the last unit. There are three streams,
+//! and one site, at line 90.
 
 ghost use Rattle.std.specs.Prelude.{◌≡◌, ◌≤◌, length, true, IfOk};
 ghost use Rattle.os_code.specs.Checking.{is_valid};
-ghost use Rattle.task_vm.specs.Written.{written};
+ghost use Rattle.os_code.specs.Codes.{parts_of};
+ghost use Rattle.machine_tests.specs.Written.{written};
 
-use crate::run_control;
-use flow_core::Control;
 use os_code::{Code, Instr, Parts, Site, SiteItem, Unit};
 use os_io::{List, Memory};
 use std::alloc::Global;
 
 /// The items of a slice, as a list.
-fn list_of<T: Copy>(alloc: Global, items: &[T]) -> Result<List<T>, Memory>
+pub(crate) fn list_of<T: Copy>(alloc: Global, items: &[T]) -> Result<List<T>, Memory>
     ensures { IfOk result (λ list. list ≡ items.now) }
 {
     let mut list = List::new(alloc);
@@ -22,30 +21,28 @@ fn list_of<T: Copy>(alloc: Global, items: &[T]) -> Result<List<T>, Memory>
     Ok(list)
 }
 
-/// Runs `main` of the code of these instructions.
-pub(crate) fn run_written(
+/// The code of these instructions.
+pub(crate) fn code_of(
     alloc: Global,
     instrs: &[Instr],
     units: &[Unit],
+    task: u32,
     captured: &[u32],
     items: &[SiteItem],
-    input_len: u32,
-    budget: u64,
-) -> Result<Control, Memory>
+) -> Result<Code, Memory>
     requires some { 1 ≤ length units.now }
     requires few { length units.now ≤ 1000 }
-    requires valid { is_valid (written instrs.now units.now 0 captured.now items.now) ≡ true }
-    requires input { input_len ≤ 4194304 }
-    requires budget { budget ≤ 1000000000 }
+    requires valid { is_valid (written instrs.now units.now task captured.now items.now) ≡ true }
+    ensures { IfOk result (λ code. parts_of code ≡ written instrs.now units.now task captured.now items.now) }
 {
     let mut sites = List::new(alloc);
     sites.push(Site {
-        unit: 0,
+        unit: task,
         line: 90,
         captured: list_of(alloc, captured)?,
         items: list_of(alloc, items)?,
     })?;
-    let code = Code::new(
+    Code::new(
         alloc,
         Parts {
             instrs: list_of(alloc, instrs)?,
@@ -54,6 +51,5 @@ pub(crate) fn run_written(
             main: (units.len() - 1) as u32,
             streams: 3,
         },
-    )?;
-    run_control(alloc, &code, input_len, budget)
+    )
 }

@@ -1,6 +1,6 @@
 use Rattle.os_code.specs.Codes.{parts_of}
-use Rattle.task_vm.proofs.Written.{fits-written}
-use Rattle.task_vm.proofs.tests.written.run_twice.Goals as goal
+use Rattle.machine_tests.proofs.Fitting.{fits-written}
+use Rattle.machine_tests.proofs.task_runs.run_twice.Goals as goal
 
 pub run_task-end-requires-clause-fits : goal.run_task-end-requires-clause-fits
 run_task-end-requires-clause-fits c =

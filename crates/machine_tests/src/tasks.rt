@@ -3,12 +3,12 @@
 ghost use Rattle.std.specs.Prelude.{◌≡◌, true};
 ghost use Rattle.std.specs.List.{list_all};
 ghost use Rattle.os_code.specs.Checking.{is_valid};
-ghost use Rattle.task_vm.specs.Written.{alone};
+ghost use Rattle.machine_tests.specs.Written.{alone};
 
 mod alone;
 mod table;
-mod written;
 
+use crate::task_runs::{Ran, run_twice};
 use alone::run_alone;
 use flow_core::{Claim, TaskEnd};
 use os_code::{Binary, Instr, SiteItem, Unary, Unit};
@@ -17,7 +17,6 @@ use std::alloc::Global;
 use std::process::Abort;
 use std::test::Fail;
 use table::{CASES, Case, Run, SET};
-use written::{Ran, run_twice};
 
 /// The end of a task that is done, after so many steps.
 fn done(steps: u64) -> Ran {

@@ -3,9 +3,9 @@
 
 ghost use Rattle.std.specs.Prelude.{◌≡◌, ◌≤◌, ◌++◌, IfOk, length, true};
 ghost use Rattle.os_code.specs.Checking.{is_valid};
-ghost use Rattle.task_vm.specs.Written.{alone};
+ghost use Rattle.machine_tests.specs.Written.{alone};
 
-use super::written::{Ran, run_twice};
+use crate::task_runs::{Ran, run_twice};
 use flow_core::Claim;
 use os_code::{Binary, Instr, SiteItem, Unit};
 use os_io::Memory;
