@@ -11,15 +11,17 @@ for crate in os_io flow_core c_int os_code task_vm stream_match control_run; do
     cp -r "$top/crates/$crate" "$work/crates"
     grep -E "^$crate:" "$top/crates.txt" >>"$work/crates.txt"
 done
-echo 'control: control_run task_vm os_code flow_core os_io' >>"$work/crates.txt"
+echo 'control: control_run task_vm os_code flow_core c_int os_io' >>"$work/crates.txt"
 
 control=$work/crates/control
-mkdir -p "$control/src" "$control/proofs/written"
+tests=$top/crates/machine_tests
+mkdir -p "$control/src" "$control/proofs"
 cp "$top/bench/control.program" "$control/src/main.rt"
-sed 's/use crate::run_control/use control_run::run_control/' \
-    "$top/crates/control_run/src/tests/written.rt" >"$control/src/written.rt"
-cp -r "$top/crates/control_run/proofs/tests/written/." "$control/proofs/written"
-find "$control/proofs" -name '*.antt' -exec sed -i 's/control_run\.proofs\.tests\.written/control.proofs.written/' {} +
+cp "$tests/src/written.rt" "$tests/src/main_runs.rt" "$control/src"
+cp -r "$tests/specs" "$control"
+cp -r "$tests/proofs/Lib.antt" "$tests/proofs/Fitting.antt" "$tests/proofs/written" "$control/proofs"
+find "$control" \( -name '*.antt' -o -name '*.rt' \) \
+    -exec sed -i 's/machine_tests\.specs/control.specs/g; s/machine_tests\.proofs/control.proofs/g' {} +
 (cd "$control" && rt run -- 1) >"$work/log" 2>&1 || { cat "$work/log" >&2; exit 1; }
 
 printf '%10s %10s %13s\n' number ms microseconds

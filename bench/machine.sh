@@ -10,15 +10,17 @@ trap 'rm -rf "$work"' EXIT
 mkdir "$work/crates"
 for name in os_io flow_core c_int os_code task_vm; do cp -r "$top/crates/$name" "$work/crates"; done
 grep -E '^(os_io|flow_core|c_int|os_code|task_vm):' "$top/crates.txt" >"$work/crates.txt"
-echo 'machine: task_vm os_code flow_core os_io' >>"$work/crates.txt"
+echo 'machine: task_vm os_code flow_core c_int os_io' >>"$work/crates.txt"
 
 machine=$work/crates/machine
-mkdir -p "$machine/src" "$machine/proofs/written"
+tests=$top/crates/machine_tests
+mkdir -p "$machine/src" "$machine/proofs"
 cp "$top/bench/machine.program" "$machine/src/main.rt"
-sed 's/use crate::{Scratch, run_task}/use task_vm::{Scratch, run_task}/' \
-    "$top/crates/task_vm/src/tests/written.rt" >"$machine/src/written.rt"
-cp -r "$top/crates/task_vm/proofs/tests/written/." "$machine/proofs/written"
-find "$machine/proofs" -name '*.antt' -exec sed -i 's/task_vm\.proofs\.tests\.written/machine.proofs.written/' {} +
+cp "$tests/src/written.rt" "$tests/src/task_runs.rt" "$machine/src"
+cp -r "$tests/specs" "$machine"
+cp -r "$tests/proofs/Lib.antt" "$tests/proofs/Fitting.antt" "$tests/proofs/written" "$tests/proofs/task_runs" "$machine/proofs"
+find "$machine" \( -name '*.antt' -o -name '*.rt' \) \
+    -exec sed -i 's/machine_tests\.specs/machine.specs/g; s/machine_tests\.proofs/machine.proofs/g' {} +
 (cd "$machine" && rt run -- arithmetic 1) >"$work/log" 2>&1 || { cat "$work/log" >&2; exit 1; }
 
 # The same instructions in C. Like the machine it tests each result and each index, takes a unit of the budget at each

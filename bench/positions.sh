@@ -2,7 +2,7 @@
 # How the time of laying out and planning activations grows with their number, as a table: for each kind and each
 # number of activations the cells and pieces of the plan, the milliseconds of the quickest of five times, the test of
 # the conditions included, and how many times those of half the number. The program for it is proved and built in a
-# copy of the crates below; it tests the conditions as the tests of stream_match do.
+# copy of the crates below; it tests the conditions as runtime_tests does.
 set -eu
 top=$(cd "$(dirname "${BASH_SOURCE[0]}")/.." && pwd)
 work=$(mktemp -d)
@@ -15,11 +15,11 @@ echo 'positions: stream_match flow_core os_io' >>"$work/crates.txt"
 positions=$work/crates/positions
 mkdir -p "$positions/src"
 cp "$top/bench/positions.program" "$positions/src/main.rt"
-sed 's/crate::Layout/stream_match::Layout/' "$top/crates/stream_match/src/tests/lawful.rt" >"$positions/src/lawful.rt"
+cp "$top/crates/runtime_tests/src/lawful.rt" "$positions/src"
 mkdir "$positions/proofs"
-cp -r "$top/crates/stream_match/proofs/tests/lawful" "$positions/proofs"
+cp -r "$top/crates/runtime_tests/proofs/lawful" "$positions/proofs"
 find "$positions/proofs" -name '*.antt' \
-    -exec sed -i 's/stream_match\.proofs\.tests\.lawful/positions.proofs.lawful/' {} +
+    -exec sed -i 's/runtime_tests\.proofs\.lawful/positions.proofs.lawful/' {} +
 (cd "$positions" && rt run -- ones 1) >"$work/log" 2>&1 || { cat "$work/log" >&2; exit 1; }
 
 printf '%-10s %8s %8s %8s %10s %6s\n' kind number cells pieces ms ratio

@@ -18,11 +18,11 @@ cp "$top/HANDLES" "$work"
 rounds=$work/crates/rounds
 mkdir -p "$rounds/src" "$rounds/proofs"
 cp "$top/bench/rounds.program" "$rounds/src/main.rt"
-cp "$top/crates/runtime_tests/src/rounds/"*.rt "$rounds/src"
+cp "$top/crates/runtime_tests/src/lawful.rt" "$top/crates/runtime_tests/src/rounds/lasts.rt" "$rounds/src"
 cp -r "$top/crates/runtime_tests/specs" "$rounds"
-cp -r "$top/crates/runtime_tests/proofs/rounds/lawful" "$rounds/proofs"
+cp -r "$top/crates/runtime_tests/proofs/lawful" "$rounds/proofs"
 find "$rounds" \( -name '*.antt' -o -name '*.rt' \) \
-    -exec sed -i 's/runtime_tests\.proofs\.rounds\.lawful/rounds.proofs.lawful/; s/runtime_tests\.specs/rounds.specs/' {} +
+    -exec sed -i 's/runtime_tests\.proofs\.lawful/rounds.proofs.lawful/; s/runtime_tests\.specs/rounds.specs/' {} +
 (cd "$rounds" && rt run -- wide 1) >"$work/log" 2>&1 || { cat "$work/log" >&2; exit 1; }
 
 printf '%-8s %8s %8s %8s %8s\n' kind alone 1 2 4

@@ -16,8 +16,6 @@ mod lines;
 mod missing;
 mod output;
 mod report;
-#[cfg(test)]
-mod tests;
 
 pub use missing::{Missing, first_missing};
 pub use output::output_bytes;

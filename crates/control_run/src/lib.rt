@@ -18,6 +18,3 @@ mod running;
 mod spawning;
 
 pub use control::run_control;
-
-#[cfg(test)]
-mod tests;

@@ -136,6 +136,3 @@ pub fn execute_one<B: Bodies>(alloc: Global, plan: &Plan, bodies: &B) -> Result<
     let ends = board.close(alloc, plan)?;
     Ok(ends)
 }
-
-#[cfg(test)]
-mod tests;

@@ -86,25 +86,3 @@ impl<T: Drop> List<T> {
         Ok(())
     }
 }
-
-#[cfg(test)]
-mod tests {
-    use super::*;
-    use std::test::Fail;
-
-    #[test]
-    fn holds_what_is_pushed_and_written(rt: HostRuntime) -> Result<(), Fail> {
-        let mut list = List::with_capacity(rt.alloc(), 2)?;
-        list.reserve(3)?;
-        assert_eq!(rt; list.len(), 0);
-        for item in [2u32, 3, 5] {
-            list.push(item)?;
-        }
-        assert_eq!(rt; list.as_slice(), [2, 3, 5].as_slice());
-        for item in list.as_mut_slice().iter_mut() {
-            *item = 7;
-        }
-        assert_eq!(rt; list.as_slice(), [7, 7, 7].as_slice());
-        Ok(())
-    }
-}

@@ -1,7 +1,24 @@
-//! Runs of activations on several workers: they come to what a run on one thread comes to.
+//! Layouts, plans and runs of activations, and what is told of them.
 //!
-//! There is nothing here but tests. They lay activations out, plan their run, and count by hand how it ends.
+//! There is nothing here but tests. Layouts, plans and reports are compared with those that were found by hand, runs on
+//! several workers with a run on one thread, and runs with what a count by hand gives.
 #![tactic(auto)]
 
+#[cfg(test)]
+mod activations;
+#[cfg(test)]
+mod bytes;
+#[cfg(test)]
+mod lawful;
+#[cfg(test)]
+mod layouts;
+#[cfg(test)]
+mod lists;
+#[cfg(test)]
+mod literals;
+#[cfg(test)]
+mod one_thread;
+#[cfg(test)]
+mod reports;
 #[cfg(test)]
 mod rounds;

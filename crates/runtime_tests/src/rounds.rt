@@ -3,10 +3,9 @@
 ghost use Rattle.flow_core.specs.IsSound.{IsSound};
 
 mod lasts;
-mod lawful;
 
+use crate::lawful::lawful_layout;
 use crate::rounds::lasts::Lasts;
-use crate::rounds::lawful::lawful_layout;
 use flow_core::{Activation, Claim, Ends, Plan, TaskEnd, execute_one};
 use os_io::{List, Memory};
 use std::alloc::Global;
@@ -205,13 +204,11 @@ fn runs_by_hand<R: Threads + Abort + Sync>(
             worker: AtomicU32::new(0),
         };
         let many = execute_rounds(rt, alloc, plan, &bodies, workers, &calls)?;
-        assert_eq!(rt; many.ends.as_slice(), one.ends.as_slice());
-        assert_eq!(rt; many.output.as_slice(), one.output.as_slice());
+        assert!(rt; many.ends.as_slice() == one.ends.as_slice());
+        assert!(rt; many.output.as_slice() == one.output.as_slice());
         assert!(rt; calls.worker.load(Ordering::SeqCst) < workers);
-        assert_eq!(rt;
-            u64::from(calls.count.load(Ordering::SeqCst)),
-            u64::from(case.done) + u64::from(case.trapped) + u64::from(case.over_budget)
-        );
+        let ran = u64::from(case.done) + u64::from(case.trapped) + u64::from(case.over_budget);
+        assert!(rt; u64::from(calls.count.load(Ordering::SeqCst)) == ran);
     }
     Ok(())
 }
@@ -227,16 +224,12 @@ fn is_counted(rt: &impl Abort, case: &Case<'_>, ends: &Ends) {
             None => {}
         }
     }
-    assert_eq!(rt; ends.ends.len(), case.activations as usize);
-    assert_eq!(rt;
-        (done, trapped, over_budget),
-        (case.done, case.trapped, case.over_budget)
-    );
-    assert_eq!(rt; ends.output.len(), case.output);
+    assert!(rt; ends.ends.len() == case.activations as usize);
+    assert!(rt; done == case.done && trapped == case.trapped && over_budget == case.over_budget);
+    assert!(rt; ends.output.len() == case.output);
     for (place, element) in case.elements {
-        assert_eq!(rt;
-            ends.output.as_slice().get(*place),
-            Some(element),
+        assert!(rt;
+            ends.output.as_slice().get(*place) == Some(element),
             "{place}"
         );
     }

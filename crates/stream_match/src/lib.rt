@@ -20,8 +20,6 @@ mod plan;
 mod producer;
 mod span;
 mod stretch;
-#[cfg(test)]
-mod tests;
 
 pub use layout::Layout;
 pub use plan::build;

@@ -10,4 +10,3 @@ pub mod Calls
 pub mod Starting
 pub mod Looping
 pub mod Ending
-pub mod Written

@@ -5,5 +5,3 @@ pub mod Room
 pub mod Rows
 pub mod Halting
 pub mod Ending
--- What tests write out.
-pub mod Written

@@ -16,6 +16,3 @@ mod task;
 
 pub use scratch::Scratch;
 pub use task::run_task;
-
-#[cfg(test)]
-mod tests;

@@ -1,6 +1,0 @@
-use Rattle.std.proofs.Common.{All, take}
-use Rattle.collector.specs.Written.{IsByteIfThere}
-use Rattle.collector.proofs.tests.lawful.are_bytes.Given as goal
-
-abbrev pub invariant-loop-element : goal.invariant-loop-element
-invariant-loop-element l = All IsByteIfThere (take l.element-index l.elements)

@@ -1,5 +1,0 @@
-mod case;
-mod lawful;
-mod missing;
-mod reports;
-mod sinks;

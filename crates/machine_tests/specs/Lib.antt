@@ -1,0 +1,2 @@
+-- Codes that tests write out.
+pub mod Written
