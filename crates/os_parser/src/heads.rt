@@ -10,7 +10,7 @@ use crate::cursor::Cursor;
 use crate::depth::deeper;
 use crate::expressions::expr;
 use crate::parse_error::ParseError;
-use crate::statements::{change, head_declare};
+use crate::parts::{change, head_declare};
 use os_ast::{Change, Expr, Head, Start};
 use os_lexer::{Key, Kind, Punct};
 use std::alloc::Global;

@@ -17,11 +17,11 @@ mod expressions;
 mod heads;
 mod operators;
 mod parse_error;
+mod parts;
 mod pragmas;
 mod program;
 mod reading;
 mod starts;
-mod statements;
 mod stmt;
 
 pub use parse_error::ParseError;

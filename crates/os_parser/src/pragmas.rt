@@ -13,7 +13,7 @@ use crate::cursor::Cursor;
 use crate::depth::deeper;
 use crate::expressions::expr;
 use crate::parse_error::ParseError;
-use crate::statements::{name, size, target};
+use crate::parts::{name, size, target};
 use os_ast::{Clause, ClauseItem, ClauseKind, Join, Mark, Name, Stmt, Target, TickSite};
 use os_io::List;
 use os_lexer::names::{FIRSTPRIVATE, INPUT, OUTPUT};

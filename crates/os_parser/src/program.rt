@@ -9,8 +9,8 @@ ghost use Rattle.os_parser.specs.Statements.{inner, param, params, function, num
 use crate::comma_list::{Part, comma_list};
 use crate::cursor::Cursor;
 use crate::parse_error::ParseError;
+use crate::parts::name;
 use crate::starts::number_at;
-use crate::statements::name;
 use crate::stmt::block;
 use os_ast::{Constant, Function, Item, Name, Params};
 use os_io::List;

@@ -14,7 +14,7 @@ use Rattle.osrun_core.proofs.Came.{run_of_both}
 use Rattle.osrun_core.specs.Command.{Job}
 use Rattle.osrun_core.specs.HandsOver.{HandsOver}
 use Rattle.osrun_core.specs.JobAnswer.{AnswersRun, output_of, report_of, status_of}
-use Rattle.osrun_core.specs.Loads.{IsLoaded}
+use Rattle.osrun_core.specs.FileLoad.{IsLoaded}
 use Rattle.osrun_core.specs.Run.{ProgramRun}
 use Rattle.osrun_core.specs.RunOf.{IsRunOf}
 use Rattle.osrun_core.specs.declared.refusal.Subject.TheVariants as subjects

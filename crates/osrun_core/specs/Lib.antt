@@ -15,7 +15,7 @@ pub mod Accepting
 pub mod GenAnswer
 pub mod HandsOver
 pub mod JobAnswer
-pub mod Loads
+pub mod FileLoad
 pub mod Parsed
 pub mod Refuses
 pub mod RunOf

@@ -1,7 +1,7 @@
 ghost use Rattle.std.specs.Prelude.{◌≡◌, ◌≢◌, ◌≤◌, IsTrue, IfOk, IfErr, MatchResult};
 ghost use Rattle.os_io.specs.Counts.{raised};
 ghost use Rattle.osrun_core.specs.declared.status.Status.TheVariants.{ReadFault};
-ghost use Rattle.osrun_core.specs.Loads.{IsLoaded, IsLoadRefusal};
+ghost use Rattle.osrun_core.specs.FileLoad.{IsLoaded, IsLoadRefusal};
 ghost use Rattle.osrun_core.specs.Refusal.{refusal_status};
 
 use crate::refusal::{Refusal, Subject};
