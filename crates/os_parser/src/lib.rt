@@ -5,6 +5,8 @@
 //!
 //! The reader goes down the grammar with one function a production, over a `Cursor`, in time linear in the
 //! tokens. Chains are read by loops, and the depth that is left is carried along, so the stack is bounded.
+//! Lists with commas are read by one function, over the production that they are made of; only the arguments of
+//! a call, whose expressions lead back to calls, have a loop of their own.
 //! Each function's contract says that it gives, and leaves the cursor, as its definition in `specs/` says;
 //! the proofs show of these definitions that what they give is spelled by the tokens, and that what is
 //! spelled is given again.
