@@ -25,6 +25,8 @@ use os_code::{Code, Unit};
 /// The activation has to fit the code, and the scratch to be made for it, as it is again at every end. The outputs of
 /// a task that isn't `Done` are of no meaning. It takes no memory, and ends within `(budget + 1) * (code length + 1)`
 /// steps.
+// Inside a caller the loop would share its registers with what surrounds it.
+#[inline(never)]
 pub fn run_task(
     code: &Code,
     activation: &Activation,
