@@ -1,7 +1,8 @@
-ghost use Rattle.std.specs.Prelude.{◌≡◌, ◌≤◌, length, string_bytes, sum, IfOk};
+ghost use Rattle.std.specs.Prelude.{◌≡◌, ◌≤◌, ◌⊎◌, length, string_bytes, sum, IfErr, IfOk};
 ghost use Rattle.collector.specs.Status.{status as status_of};
 ghost use Rattle.osrun_core.specs.Command.{IsGenWithin, gen_of};
 ghost use Rattle.osrun_core.specs.Gen.{IsRunOfGen, counted_line, four_lines, gen_lines};
+ghost use Rattle.osrun_core.specs.Refusal.{IsRefusalOf};
 ghost use Rattle.osrun_core.specs.Run.{ProgramRun};
 
 use crate::accept::accept;
@@ -56,8 +57,8 @@ fn lines(alloc: Global, job: &GenJob, input: &[u8], run: &Run) -> Result<String,
     Ok(text)
 }
 
-/// Makes bytes from a seed, runs the kernel over them, and tells in four lines what came of it. An error other than want of
-/// memory would say that the text of the kernel is no program.
+/// Makes bytes from a seed, runs the kernel over them, and tells in four lines what came of it. An error is want of memory,
+/// or says why the text of the kernel is refused.
 pub fn gen_text<R: Threads + Sync, G: Gate>(
     rt: &R,
     alloc: Global,
@@ -65,8 +66,9 @@ pub fn gen_text<R: Threads + Sync, G: Gate>(
     gate: &G,
 ) -> Result<String, Refusal>
     requires { IsGenWithin (gen_of job.now) }
-    ensures { IfOk result (λ text. (run : ProgramRun) × IsRunOfGen (gen_of job.now) run
+    ensures run { IfOk result (λ text. (run : ProgramRun) × IsRunOfGen (gen_of job.now) run
         × (string_bytes text ≡ gen_lines (gen_of job.now) run)) }
+    ensures refused { IfErr result (λ refusal. (refusal ≡ Refusal.Memory) ⊎ IsRefusalOf LIFT.now refusal) }
 {
     let input = generate(alloc, job.seed, 4 * job.blocks)?;
     let kernel = accept(alloc, LIFT.as_bytes())?;
