@@ -8,7 +8,7 @@ use Rattle.cddf_meaning.specs.File.{File, variable}
 use Rattle.cddf_meaning.specs.Flow.{Ran, Went, Ended, Runs, given, goes_on, flows, loops, left_from}
 use Rattle.cddf_meaning.specs.Moves.{Falls, CallsFall, Keeps, item_lengths}
 use Rattle.cddf_meaning.specs.Operators.{binary_value, step_operator}
-use Rattle.cddf_meaning.specs.Run.{Around, loop, assigned, aim_at, old_value, written, changed, run_change, run_scalar, run_array, run_window, window_size, with_streams, run_streams, run_unsized_or, run_declarator, run_declarators, run_start, run_test, run_step, run, run_all, array_size}
+use Rattle.cddf_meaning.specs.Run.{Around, loop, assigned, aim_at, old_value, after_store, changed, run_change, run_scalar, run_array, run_window, window_size, with_streams, run_streams, run_unsized_or, run_declarator, run_declarators, run_start, run_test, run_step, run, run_all, array_size}
 use Rattle.cddf_meaning.specs.State.{State, declared, stored, stored_in, stored_in_at, with_element}
 use Rattle.cddf_meaning.specs.Streams.{stream_number, first_stream, stream_count, cursor_move, burst, burst_of, joined, item_claim, items_claims, claim_of, horizon_of, run_task, run_tick, tick_turn, unless_limited, with_activation, captured_by, task_number}
 use Rattle.cddf_meaning.specs.Value.{value, values, checked, elements, call_value}
@@ -101,9 +101,9 @@ stored_in_at-keeps (Some (Window h)) s id k v = refl
 stored_in_at-keeps (Some (Stream first count)) s id k v = refl
 stored_in_at-keeps None s id k v = refl
 
-written-keeps : (s : State) (aim : Aim) (v : ℤ) → item_lengths (written s aim v) ≡ item_lengths s
-written-keeps s (Name id) v = stored_in-keeps (find s.bound id) s id v
-written-keeps s (Element id k) v = stored_in_at-keeps (find s.bound id) s id k v
+after_store-keeps : (s : State) (aim : Aim) (v : ℤ) → item_lengths (after_store s aim v) ≡ item_lengths s
+after_store-keeps s (Name id) v = stored_in-keeps (find s.bound id) s id v
+after_store-keeps s (Element id k) v = stored_in_at-keeps (find s.bound id) s id k v
 
 aimed-falls : (a : Answer ℕ) (id turns : ℕ) → Falls turns (and_then a (λ k. Ok (left (Element id k) turns)))
 aimed-falls (Ok k) id turns = omega arith
@@ -121,11 +121,11 @@ changed-keeps : (file : File) → CallsFall file → (t : tree.TargetTree) (righ
     ((old : ℤ) (s : State) (turns : ℕ) → Falls turns (right old s turns)) → (s : State) (turns : ℕ) → Keeps s turns (changed file t right s turns)
 changed-keeps file calls t right f s turns =
     given-left s turns (aim_at file t s turns)
-    (λ a. given (right (old_value file s a.value) s a.turns) s (λ v. goes_on (written s a.value v.value) v.turns))
+    (λ a. given (right (old_value file s a.value) s a.turns) s (λ v. goes_on (after_store s a.value v.value) v.turns))
     (aim-falls file calls t s turns)
-    (λ a. given-left s a.turns (right (old_value file s a.value) s a.turns) (λ v. goes_on (written s a.value v.value) v.turns)
+    (λ a. given-left s a.turns (right (old_value file s a.value) s a.turns) (λ v. goes_on (after_store s a.value v.value) v.turns)
     (f (old_value file s a.value) s a.turns)
-    (λ v. keeps-on s (written s a.value v.value) v.turns (written-keeps s a.value v.value)))
+    (λ v. keeps-on s (after_store s a.value v.value) v.turns (after_store-keeps s a.value v.value)))
 
 change-keeps : (file : File) → CallsFall file → (c : tree.ChangeTree) (s : State) (turns : ℕ) → Keeps s turns (run_change file c s turns)
 change-keeps file calls (tree.Set t a m e) s turns =

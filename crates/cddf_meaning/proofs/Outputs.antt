@@ -1,7 +1,7 @@
 -- Where no item is left, nothing is written and nothing is asked of it.
 use Rattle.std.proofs.Common.{◌≡◌, ℕ, zero, suc, true, List, [], ◌∷◌, ◌++◌, ◌≤◌, length, drop, refl, ap, arith, ◌∙◌, ℤ}
 use Rattle.std.proofs.lemmas.List.{append-nil}
-use Rattle.cddf_meaning.specs.Body.{gives_bytes, written}
+use Rattle.cddf_meaning.specs.Body.{gives_bytes, outputs_of}
 use Rattle.flow_core.specs.declared.claim.Claim.{Claim}
 
 none-left : {A : Type 0} → (n : ℕ) (xs : List A) → length xs ≤ n → drop n xs ≡ []
@@ -14,12 +14,12 @@ gives-none : (cs : List Claim) → gives_bytes cs [] ≡ true
 gives-none [] = refl
 gives-none (c ∷ cs) = refl
 
-written-none : (cs : List Claim) → written cs [] ≡ []
-written-none [] = refl
-written-none (c ∷ cs) = refl
+outputs_of-none : (cs : List Claim) → outputs_of cs [] ≡ []
+outputs_of-none [] = refl
+outputs_of-none (c ∷ cs) = refl
 
 pub gives-end : (n : ℕ) (cs : List Claim) (items : List (List ℤ)) → length items ≤ n → gives_bytes cs (drop n items) ≡ true
 gives-end n cs items h = ap (gives_bytes cs) (none-left n items h) ∙ gives-none cs
 
-pub written-end : (n : ℕ) (cs : List Claim) (items : List (List ℤ)) (so : List ℤ) → length items ≤ n → so ++ written cs (drop n items) ≡ so
-written-end n cs items so h = ap (λ vs. so ++ vs) (ap (written cs) (none-left n items h) ∙ written-none cs) ∙ append-nil so
+pub outputs_of-end : (n : ℕ) (cs : List Claim) (items : List (List ℤ)) (so : List ℤ) → length items ≤ n → so ++ outputs_of cs (drop n items) ≡ so
+outputs_of-end n cs items so h = ap (λ vs. so ++ vs) (ap (outputs_of cs) (none-left n items h) ∙ outputs_of-none cs) ∙ append-nil so

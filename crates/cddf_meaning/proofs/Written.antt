@@ -1,7 +1,7 @@
 -- A body that is done writes as many elements as its write claims have horizons.
 use Rattle.std.proofs.Common.{◌≡◌, ℕ, ◌+◌, ◌≤◌, Bool, true, false, if◌then◌else◌, List, [], ◌∷◌, ◌++◌, length, map, take, drop, replicate, ℤ, pos, arith, refl, ap, ◌∙◌, length-append}
 use Rattle.std.proofs.lemmas.List.{length-take, length-drop, length-replicate}
-use Rattle.cddf_meaning.specs.Body.{item_lists, written, outcome, task_outcome, bound_round, gives_bytes, done, trapped}
+use Rattle.cddf_meaning.specs.Body.{item_lists, outputs_of, outcome, task_outcome, bound_round, gives_bytes, done, trapped}
 use Rattle.cddf_meaning.specs.Flow.{Ran, Went, Ended}
 use Rattle.cddf_meaning.specs.Functions.{file_of, in_function}
 use Rattle.cddf_meaning.specs.Moves.{Keeps, item_lengths, read_horizons, written_horizons}
@@ -42,17 +42,17 @@ first-of h = cc
 others-of : {a b : ℕ} {ms ns : List ℕ} → a ∷ ms ≡ b ∷ ns → ms ≡ ns
 others-of h = cc
 
-written-has : (claims : List Claim) (items : List (List ℤ)) → map length items ≡ map (λ (c : Claim). c.horizon) claims →
-    length (written claims items) ≡ written_horizons claims
-written-has [] items h = refl
-written-has (c ∷ cs) [] h = cc
-written-has (c ∷ cs) (vs ∷ items) h =
-    write-has c.write c.horizon (written_horizons cs) vs (written cs items) (first-of h) (written-has cs items (others-of h))
+outputs_of-has : (claims : List Claim) (items : List (List ℤ)) → map length items ≡ map (λ (c : Claim). c.horizon) claims →
+    length (outputs_of claims items) ≡ written_horizons claims
+outputs_of-has [] items h = refl
+outputs_of-has (c ∷ cs) [] h = cc
+outputs_of-has (c ∷ cs) (vs ∷ items) h =
+    write-has c.write c.horizon (written_horizons cs) vs (outputs_of cs items) (first-of h) (outputs_of-has cs items (others-of h))
 
 ended-has : (bytes : Bool) (line : ℕ) (claims : List Claim) (items : List (List ℤ)) → map length items ≡ map (λ (c : Claim). c.horizon) claims →
-    (if bytes then done (written claims items) else trapped 5 line).end ≡ end.Done →
-    length (if bytes then done (written claims items) else trapped 5 line).outputs ≡ written_horizons claims
-ended-has true line claims items h e = written-has claims items h
+    (if bytes then done (outputs_of claims items) else trapped 5 line).end ≡ end.Done →
+    length (if bytes then done (outputs_of claims items) else trapped 5 line).outputs ≡ written_horizons claims
+ended-has true line claims items h e = outputs_of-has claims items h
 ended-has false line claims items h e = cc
 
 outcome-has : (line : ℕ) (claims : List Claim) (s : State) (turns : ℕ) (r : Ran) → Keeps s turns r →

@@ -46,10 +46,10 @@ item_lists (c ∷ cs) inputs =
     else take c.horizon inputs ∷ item_lists cs (drop c.horizon inputs)
 
 -- The elements of the output items, one item after another; each has as many as its claim's horizon.
-abbrev pub written : List Claim → List (List ℤ) → List ℤ
-written [] items = []
-written (c ∷ cs) [] = []
-written (c ∷ cs) (vs ∷ items) = if c.write then vs ++ written cs items else written cs items
+abbrev pub outputs_of : List Claim → List (List ℤ) → List ℤ
+outputs_of [] items = []
+outputs_of (c ∷ cs) [] = []
+outputs_of (c ∷ cs) (vs ∷ items) = if c.write then vs ++ outputs_of cs items else outputs_of cs items
 
 -- an element that can be written as a byte
 abbrev pub is_byte : ℤ → Bool
@@ -79,7 +79,7 @@ over_budget = outcome_of end.OverBudget []
 -- A body that ended normally is done where each element that goes to `osout` is a byte; else it is trap 5, with the line
 -- of the pragma. `return` stands in no task, `break` and `continue` in its loops alone, and a task meets no limit.
 abbrev pub outcome : (line : ℕ) → List Claim → Ran → Outcome
-outcome line claims (Went flow s turns) = if gives_bytes claims s.items then done (written claims s.items) else trapped 5 line
+outcome line claims (Went flow s turns) = if gives_bytes claims s.items then done (outputs_of claims s.items) else trapped 5 line
 outcome line claims (Ended (Trapped code at) activations) = trapped code at
 outcome line claims (Ended OverBudget activations) = over_budget
 outcome line claims (Ended (Limited n) activations) = over_budget

@@ -1,6 +1,6 @@
 -- The ends of a body and of the control program, as the functions of the program give them.
 use Rattle.std.specs.Prelude.{◌≡◌, ℕ, List, if◌then◌else◌, ℤ}
-use Rattle.cddf_meaning.specs.Body.{done, gives_bytes, trapped, written}
+use Rattle.cddf_meaning.specs.Body.{done, gives_bytes, trapped, outputs_of}
 use Rattle.cddf_meaning.specs.declared.ending.Ending.TheVariants.{Trapped, OverBudget, Limited}
 use Rattle.cddf_meaning.specs.declared.ending.Ending.{Ending}
 use Rattle.flow_core.specs.declared.claim.Claim.{Claim}
@@ -14,7 +14,7 @@ IsOutcome end outputs o = (end ≡ o.end) × (outputs ≡ o.outputs)
 
 -- a body that ended normally
 abbrev pub finished : ℕ → List Claim → List (List ℤ) → Outcome
-finished line claims items = if gives_bytes claims items then done (written claims items) else trapped 5 line
+finished line claims items = if gives_bytes claims items then done (outputs_of claims items) else trapped 5 line
 
 -- a body that ended before its last statement
 abbrev pub task_end : Ending → TaskEnd

@@ -54,16 +54,16 @@ abbrev pub old_value : File → State → Aim → ℤ
 old_value file s (Name id) = scalar_value s (variable file s id)
 old_value file s (Element id k) = get_or (elements s (find s.bound id)) k (pos 0)
 
-abbrev pub written : State → Aim → ℤ → State
-written s (Name id) v = stored s id v
-written s (Element id k) v = stored_at s id k v
+abbrev pub after_store : State → Aim → ℤ → State
+after_store s (Name id) v = stored s id v
+after_store s (Element id k) v = stored_at s id k v
 
 -- A change: the target; then what is stored, which may be made of the old value; then it is stored. Expressions change
 -- no name, so that it makes no difference when the old value is read.
 abbrev pub changed : File → tree.TargetTree → (ℤ → State → ℕ → Answer (Left ℤ)) → Runs
 changed file t right s turns =
     given (aim_at file t s turns) s
-    (λ a. given (right (old_value file s a.value) s a.turns) s (λ v. goes_on (written s a.value v.value) v.turns))
+    (λ a. given (right (old_value file s a.value) s a.turns) s (λ v. goes_on (after_store s a.value v.value) v.turns))
 
 -- `x op= e` operates as `x op e`; `++` and `--` add or take 1. The line of a trap is the operator's. C11, 6.5.16,
 -- 6.5.2.4 and 6.5.3.1.

@@ -2,7 +2,7 @@
 
 ghost use Rattle.std.specs.Prelude.{◌≡◌, ◌++◌, IfOk, OnOk, drop, map, take};
 ghost use Rattle.std.specs.List.{list_all};
-ghost use Rattle.cddf_meaning.specs.Body.{bind_captured, body, bound_round, gives_bytes, is_byte, item_lists, task_outcome, written};
+ghost use Rattle.cddf_meaning.specs.Body.{bind_captured, body, bound_round, gives_bytes, is_byte, item_lists, task_outcome, outputs_of};
 ghost use Rattle.cddf_meaning.specs.Ends.{IsOutcome, finished, task_end};
 ghost use Rattle.cddf_meaning.specs.Functions.{file_of};
 ghost use Rattle.cddf_meaning.specs.Has.{clause_item_ids, clauses_item_ids};
@@ -175,8 +175,8 @@ fn gives_bytes(claims: &[Claim], items: &[List<i32>]) -> bool
 }
 
 /// The elements of the output items.
-fn written(alloc: Global, claims: &[Claim], items: &[List<i32>]) -> Result<Vec<i32>, Memory>
-    ensures { IfOk result (λ outputs. outputs.items ≡ written claims.now items.now) }
+fn outputs_of(alloc: Global, claims: &[Claim], items: &[List<i32>]) -> Result<Vec<i32>, Memory>
+    ensures { IfOk result (λ outputs. outputs.items ≡ outputs_of claims.now items.now) }
 {
     let mut outputs = Vec::new(alloc);
     for (place, claim) in claims.iter().enumerate() {
@@ -200,7 +200,7 @@ fn finished(
     ensures { IfOk result (λ r. IsOutcome r.0 r.1.items (finished line claims.now items.now)) }
 {
     if gives_bytes(claims, items) {
-        let outputs = written(alloc, claims, items)?;
+        let outputs = outputs_of(alloc, claims, items)?;
         Ok((TaskEnd::Done, outputs))
     } else {
         let end = TaskEnd::Trapped {

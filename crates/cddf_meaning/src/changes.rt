@@ -5,7 +5,7 @@ ghost use Rattle.cddf_meaning.specs.Answers.{and_then};
 ghost use Rattle.cddf_meaning.specs.Functions.{file_of};
 ghost use Rattle.cddf_meaning.specs.Operators.{binary_value};
 ghost use Rattle.cddf_meaning.specs.Operators as operators;
-ghost use Rattle.cddf_meaning.specs.Run.{aim_at, assigned, old_value, run_change, written};
+ghost use Rattle.cddf_meaning.specs.Run.{aim_at, assigned, old_value, run_change, after_store};
 ghost use Rattle.cddf_meaning.specs.Stops.{Comes, Gives, GoesOn, Now};
 ghost use Rattle.os_ast.specs.Views.{change_tree, item_tree, target_tree};
 
@@ -76,7 +76,7 @@ fn assign(
     right: i32,
     state: &mut State,
 ) -> Result<(), Stop>
-    ensures { Now result state.new state.old (and_then (assigned assign mark.line (old_value (file_of (map item_tree file.now)) state.old aim) right) (λ v. Ok (written state.old aim v))) }
+    ensures { Now result state.new state.old (and_then (assigned assign mark.line (old_value (file_of (map item_tree file.now)) state.old aim) right) (λ v. Ok (after_store state.old aim v))) }
 {
     let number = assigned(file, state, aim, assign, mark.line, right)?;
     state.write(aim, number);
@@ -85,7 +85,7 @@ fn assign(
 
 /// Adds 1 to a target, or takes 1 from it.
 fn take_step(file: &[Item], step: Step, mark: Mark, aim: Aim, state: &mut State) -> Result<(), Stop>
-    ensures { Now result state.new state.old (and_then (binary_value (operators.step_operator step) mark.line (old_value (file_of (map item_tree file.now)) state.old aim) (pos 1)) (λ v. Ok (written state.old aim v))) }
+    ensures { Now result state.new state.old (and_then (binary_value (operators.step_operator step) mark.line (old_value (file_of (map item_tree file.now)) state.old aim) (pos 1)) (λ v. Ok (after_store state.old aim v))) }
 {
     let old = old_value(file, state, aim)?;
     let number = binary(step_operator(step), mark.line, old, 1)?;

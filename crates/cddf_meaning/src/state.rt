@@ -5,7 +5,7 @@ ghost use Rattle.std.specs.Option.{option_copied};
 ghost use Rattle.cddf_meaning.specs.Answers.{and_then};
 ghost use Rattle.cddf_meaning.specs.Claims.{horizons, limit, skips_behind, skips_behind_all, with_skip, with_skips};
 ghost use Rattle.cddf_meaning.specs.Places.{IsInnermost};
-ghost use Rattle.cddf_meaning.specs.Run.{window_size, with_streams, written};
+ghost use Rattle.cddf_meaning.specs.Run.{window_size, with_streams, after_store};
 ghost use Rattle.cddf_meaning.specs.State as states;
 ghost use Rattle.cddf_meaning.specs.Stops.{Comes, Limits, Made, Now};
 ghost use Rattle.cddf_meaning.specs.Streams.{horizon_of, moved};
@@ -286,7 +286,7 @@ impl State {
 
     /// Sets the target of a change.
     pub(crate) fn write(&mut self, aim: Aim, number: i32)
-        ensures { self.new ≡ written self.old aim number }
+        ensures { self.new ≡ after_store self.old aim number }
     {
         match aim {
             Aim::Name(id) => self.store(id, number),

@@ -3,7 +3,7 @@ use Rattle.std.proofs.Common.{◌≡◌, ℕ, ℤ, pos, ◌+◌, Bool, true, fal
 use Rattle.std.specs.Prelude.{◌==◌, filter, sum_by}
 use Rattle.std.proofs.lemmas.List.{length-drop, length-replicate, length-take}
 use Rattle.std.proofs.lemmas.List.Sums.{sum_by-cons}
-use Rattle.cddf_meaning.specs.Body.{body, bound_round, chosen_outcome, done, gives_bytes, item_lists, outcome, outcome_in, over_budget, task_outcome, trapped, written}
+use Rattle.cddf_meaning.specs.Body.{body, bound_round, chosen_outcome, done, gives_bytes, item_lists, outcome, outcome_in, over_budget, task_outcome, trapped, outputs_of}
 use Rattle.cddf_meaning.specs.File.{File}
 use Rattle.cddf_meaning.specs.Flow.{Ran, Went, Ended}
 use Rattle.cddf_meaning.specs.Functions.{empty_file, file_of, in_function, with_item, with_items}
@@ -59,7 +59,7 @@ nothing : (x : Activation) (o : Outcome) → o.outputs ≡ [] → GivesBytes x o
 nothing x o empty k j c value at write stream lt is = absurd (let e : None ≡ Some value = sym (ap (λ vs. slice_get vs (offset_after (take k x.claims) c + j)) empty) ∙ is in cc)
 
 ended : (x : Activation) (line : ℕ) (items : List (List ℤ)) → map length items ≡ map (λ (c : Claim). c.horizon) x.claims → (b : Bool) → gives_bytes x.claims items ≡ b
-    → GivesBytes x (cond b (done (written x.claims items)) (trapped 5 line))
+    → GivesBytes x (cond b (done (outputs_of x.claims items)) (trapped 5 line))
 ended x line items long true gives = bytes_written x.claims items long gives
 ended x line items long false gives = nothing x (trapped 5 line) refl
 

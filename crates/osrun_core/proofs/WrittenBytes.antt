@@ -6,7 +6,7 @@ use Rattle.std.specs.List.{list_all}
 use Rattle.std.proofs.lemmas.Bool.{and_parts, ltb-true}
 use Rattle.std.proofs.lemmas.Int.{ints}
 use Rattle.std.proofs.lemmas.List.Sums.{sum_by-cons}
-use Rattle.cddf_meaning.specs.Body.{gives_bytes, is_byte, writes_output, written}
+use Rattle.cddf_meaning.specs.Body.{gives_bytes, is_byte, writes_output, outputs_of}
 use Rattle.flow_core.specs.Window.{is_alike, offset_after}
 use Rattle.flow_core.specs.declared.claim.Claim.{Claim}
 use Rattle.task_bodies.specs.Laws.{IsByte}
@@ -48,7 +48,7 @@ horizons claims = map (λ (c : Claim). c.horizon) claims
 
 pub bytes_written : (claims : List Claim) (items : List (List ℤ)) → map length items ≡ horizons claims → gives_bytes claims items ≡ true
     → (k j : ℕ) (c : Claim) (value : ℤ) → slice_get claims k ≡ Some c → c.write ≡ true → c.stream ≡ 1 → j < c.horizon
-    → slice_get (written claims items) (offset_after (take k claims) c + j) ≡ Some value → IsByte value
+    → slice_get (outputs_of claims items) (offset_after (take k claims) c + j) ≡ Some value → IsByte value
 bytes_written [] items long gives k j c value at write stream lt is = absurd (cc)
 bytes_written (d ∷ ds) [] long gives k j c value at write stream lt is = absurd (cc)
 bytes_written (d ∷ ds) (vs ∷ items) long gives zero j c value at write stream lt is =
@@ -57,13 +57,13 @@ bytes_written (d ∷ ds) (vs ∷ items) long gives zero j c value at write strea
     let bytes = claim_gives c vs write stream (subst (λ (e : Claim). (not (writes_output e) || list_all is_byte vs) ≡ true) same parts.0) in
     let size : length vs ≡ c.horizon = first-of long ∙ ap (λ (e : Claim). e.horizon) same in
     let writes : d.write ≡ true = ap (λ (e : Claim). e.write) same ∙ write in
-    let at_j : slice_get vs j ≡ Some value = sym (slice_get-first vs (written ds items) j (omega (arith, size, lt))) ∙ ap (slice_get (vs ++ written ds items)) (sym (zero-add j)) ∙ ap (λ b. slice_get (cond b (vs ++ written ds items) (written ds items)) (0 + j)) (sym writes) ∙ is in
+    let at_j : slice_get vs j ≡ Some value = sym (slice_get-first vs (outputs_of ds items) j (omega (arith, size, lt))) ∙ ap (slice_get (vs ++ outputs_of ds items)) (sym (zero-add j)) ∙ ap (λ b. slice_get (cond b (vs ++ outputs_of ds items) (outputs_of ds items)) (0 + j)) (sym writes) ∙ is in
     byte_at vs j value bytes at_j
 bytes_written (d ∷ ds) (vs ∷ items) long gives (suc k) j c value at write stream lt is =
     bytes_written ds items (others-of long) (and_parts (not (writes_output d) || list_all is_byte vs) (gives_bytes ds items) gives).1 k j c value at write stream lt (behind d.write refl)
   where
     rest : List ℤ
-    rest = written ds items
+    rest = outputs_of ds items
 
     -- a write claim before it takes its elements, and a read claim none
     behind : (w : Bool) → d.write ≡ w → slice_get rest (offset_after (take k ds) c + j) ≡ Some value

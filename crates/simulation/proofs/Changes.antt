@@ -4,7 +4,7 @@ use Rattle.cddf_meaning.specs.Answers.{Answer, and_then, Left, left, with_turns}
 use Rattle.cddf_meaning.specs.File.{variable}
 use Rattle.cddf_meaning.specs.Flow.{Ran, given, goes_on}
 use Rattle.cddf_meaning.specs.Operators.{binary_value, step_operator}
-use Rattle.cddf_meaning.specs.Run.{assigned, old_value, written, changed, run_change}
+use Rattle.cddf_meaning.specs.Run.{assigned, old_value, after_store, changed, run_change}
 use Rattle.cddf_meaning.specs.State.{State, stored, stored_at}
 use Rattle.cddf_meaning.specs.Value.{scalar_value, elements, checked, value}
 use Rattle.cddf_meaning.specs.Variables.{find}
@@ -107,7 +107,7 @@ module _ (c : Context) (callers : List Frame) (leaves : Instr) (total : ℕ) (s 
       let named = name c s es st m.slots n u tt ready.scope k ready.aligned in
       let line = open_mark.line in
       let size = length (elements st (find st.bound n.id)) in
-      let g : Left Aim → Ran = λ a. given (right (old_value c.file st a.value) st a.turns) st (λ v. goes_on (written st a.value v.value) v.turns) in
+      let g : Left Aim → Ran = λ a. given (right (old_value c.file st a.value) st a.turns) st (λ v. goes_on (after_store st a.value v.value) v.turns) in
       let f : Left ℤ → Answer (Left Aim) = λ i. and_then (checked size line i.value) (λ j. Ok (left (Element n.id j) i.turns)) in
       subst (Does c.code (at callers from stack m turns) (settled c callers leaves total to broke continued stack within es)) (given_then (value c.file e st turns) f st g)
       (given_does st m (λ i. given (f i) st g) refl ready.kept (expr_runs c callers s es st m ready e from h.0 stack turns agree.1 h.3)
@@ -137,7 +137,7 @@ module _ (c : Context) (callers : List Frame) (leaves : Instr) (total : ℕ) (s 
       let line = open_mark.line in
       let size = length (elements st (find st.bound n.id)) in
       let right : ℤ → State → ℕ → Answer (Left ℤ) = λ old s2 t. and_then (value c.file e s2 t) (λ n. with_turns n.turns (Ok n.value)) in
-      let g : Left Aim → Ran = λ a. given (right (old_value c.file st a.value) st a.turns) st (λ v. goes_on (written st a.value v.value) v.turns) in
+      let g : Left Aim → Ran = λ a. given (right (old_value c.file st a.value) st a.turns) st (λ v. goes_on (after_store st a.value v.value) v.turns) in
       let f : Left ℤ → Answer (Left Aim) = λ i. and_then (checked size line i.value) (λ j. Ok (left (Element n.id j) i.turns)) in
       subst (Does c.code (at callers from stack m turns) (settled c callers leaves total (end + 1) broke continued stack within es)) (given_then (value c.file i st turns) f st g)
       (given_does st m (λ x. given (f x) st g) refl ready.kept (expr_runs c callers s es st m ready i from mid stack turns places.1 has_i)

@@ -5,7 +5,7 @@ use Rattle.cddf_meaning.specs.Answers.{Answer, Left, left, and_then, with_turns}
 use Rattle.cddf_meaning.specs.File.{File, or_in_file}
 use Rattle.cddf_meaning.specs.Flow.{Ran, given, goes_on}
 use Rattle.cddf_meaning.specs.Operators.{binary_value, step_operator}
-use Rattle.cddf_meaning.specs.Run.{assigned, aim_at, old_value, written, changed, run_change, array_size, run_array, window_size, run_window, with_streams, run_sized, run_declarator, run_declarators, run_start}
+use Rattle.cddf_meaning.specs.Run.{assigned, aim_at, old_value, after_store, changed, run_change, array_size, run_array, window_size, run_window, with_streams, run_sized, run_declarator, run_declarators, run_start}
 use Rattle.cddf_meaning.specs.State.{State, declared, stored_in, stored, stored_in_at}
 use Rattle.cddf_meaning.specs.Value.{value, scalar_value, elements, checked}
 use Rattle.cddf_meaning.specs.Variables.{bind, find, assign}
@@ -121,7 +121,7 @@ module _ (file : File) (more : List Binding) (apart : AreElse file more) (st : S
   old_more (Name id) seen = scalar_more id seen
   old_more (Element id k) seen = ap (λ (xs : List ℤ). get_or xs k (pos 0)) (elements_more id seen)
 
-  written_more : (a : Aim) (v : ℤ) → Seen file st.bound (aimed_id a) → (written st2 a v ≡ with_more more (written st a v)) × (ids (written st a v).bound ≡ ids st.bound)
+  written_more : (a : Aim) (v : ℤ) → Seen file st.bound (aimed_id a) → (after_store st2 a v ≡ with_more more (after_store st a v)) × (ids (after_store st a v).bound ≡ ids st.bound)
   written_more (Name id) v seen =
       let h = stored_by more st id (find st.bound id) v refl in
       (ap (λ o. stored_in o st2 id v) (sym (same_found file st.bound more id apart seen)) ∙ h.0, h.1)
@@ -137,17 +137,17 @@ module _ (c : Context) (more : List Binding) (apart : AreElse c.file more) (site
       ((old : ℤ) (left_turns : ℕ) → right old st left_turns ≡ right old (with_more more st) left_turns) → Same es within (changed c.file t right st turns) (changed c.file t right (with_more more st) turns)
   changed_same t right st turns es within seen m same =
       given_same c more st (aim_at c.file t st turns) (aim_at c.file t (with_more more st) turns)
-      (λ a. given (right (old_value c.file st a.value) st a.turns) st (λ v. goes_on (written st a.value v.value) v.turns))
-      (λ a. given (right (old_value c.file (with_more more st) a.value) (with_more more st) a.turns) (with_more more st) (λ v. goes_on (written (with_more more st) a.value v.value) v.turns))
+      (λ a. given (right (old_value c.file st a.value) st a.turns) st (λ v. goes_on (after_store st a.value v.value) v.turns))
+      (λ a. given (right (old_value c.file (with_more more st) a.value) (with_more more st) a.turns) (with_more more st) (λ v. goes_on (after_store (with_more more st) a.value v.value) v.turns))
       (aim_more c.file more apart st t turns seen)
       (λ a e.
       let own : Seen c.file st.bound (aimed_id a.value) = subst (Seen c.file st.bound) (sym (aim_name c.file t st turns a e)) (own_seen c.file more apart st t seen) in
-      given_same c more st (right (old_value c.file st a.value) st a.turns) (right (old_value c.file (with_more more st) a.value) (with_more more st) a.turns) (λ v. goes_on (written st a.value v.value) v.turns)
-      (λ v. goes_on (written (with_more more st) a.value v.value) v.turns)
+      given_same c more st (right (old_value c.file st a.value) st a.turns) (right (old_value c.file (with_more more st) a.value) (with_more more st) a.turns) (λ v. goes_on (after_store st a.value v.value) v.turns)
+      (λ v. goes_on (after_store (with_more more st) a.value v.value) v.turns)
       (ap (λ old. right old st a.turns) (old_more c.file more apart st a.value own) ∙ same (old_value c.file (with_more more st) a.value) a.turns)
       (λ v q.
       let w = written_more c.file more apart st a.value v.value own in
-      subst (λ x. Same es within (goes_on (written st a.value v.value) v.turns) (goes_on x v.turns)) (sym w.0) (went (written st a.value v.value) v.turns (w.1 ∙ m))))
+      subst (λ x. Same es within (goes_on (after_store st a.value v.value) v.turns) (goes_on x v.turns)) (sym w.0) (went (after_store st a.value v.value) v.turns (w.1 ∙ m))))
 
   module _ (s : Scope) (es : List Entry) (is : In c s es) where
     pub change_same : (x : tree.ChangeTree) (st : State) (turns : ℕ) (within : List Entry → Type 0) → Matches c st.bound es → Agree c (change_notes s x) → Same es within (run_change c.file x st turns) (run_change c.file x (with_more more st) turns)

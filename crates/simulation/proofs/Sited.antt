@@ -11,7 +11,7 @@ use Rattle.cddf_meaning.specs.File.{File, variable}
 use Rattle.cddf_meaning.specs.Flow.{Ran, Runs, Went, Ended, given, goes_on, flows, loops, left_from}
 use Rattle.cddf_meaning.specs.Operators.{binary_value, step_operator}
 use Rattle.cddf_meaning.specs.Program.{Main, main_of}
-use Rattle.cddf_meaning.specs.Run.{Around, loop, assigned, aim_at, old_value, written, changed, run_change, run_scalar, array_size, run_array, run_window, window_size, with_streams, run_streams, run_unsized_or, run_declarator, run_declarators, run_start, run_test, run_step, run, run_all}
+use Rattle.cddf_meaning.specs.Run.{Around, loop, assigned, aim_at, old_value, after_store, changed, run_change, run_scalar, array_size, run_array, run_window, window_size, with_streams, run_streams, run_unsized_or, run_declarator, run_declarators, run_start, run_test, run_step, run, run_all}
 use Rattle.cddf_meaning.specs.State.{State, declared, stored, stored_in, stored_in_at}
 use Rattle.cddf_meaning.specs.Streams.{stream_number, cursor_move, items_claims, run_task, run_tick, tick_turn, unless_limited, with_activation, captured_by, task_number}
 use Rattle.cddf_meaning.specs.Tasks.{Task, sites_of}
@@ -68,9 +68,9 @@ stored_in_at-made (Some (Window h)) s id k v = refl
 stored_in_at-made (Some (Stream first count)) s id k v = refl
 stored_in_at-made None s id k v = refl
 
-written-made : (s : State) (aim : Aim) (v : ℤ) → (written s aim v).activations ≡ s.activations
-written-made s (Name id) v = stored_in-made (find s.bound id) s id v
-written-made s (Element id k) v = stored_in_at-made (find s.bound id) s id k v
+after_store-made : (s : State) (aim : Aim) (v : ℤ) → (after_store s aim v).activations ≡ s.activations
+after_store-made s (Name id) v = stored_in-made (find s.bound id) s id v
+after_store-made s (Element id k) v = stored_in_at-made (find s.bound id) s id k v
 
 module _ (n : ℕ) where
   abbrev Sited : Ran → Type 0
@@ -115,9 +115,9 @@ module _ (n : ℕ) where
   changed_sited : (file : File) (t : tree.TargetTree) (right : ℤ → State → ℕ → Answer (Left ℤ)) → RunsSited (changed file t right)
   changed_sited file t right s turns h =
       given_sited s (aim_at file t s turns)
-      (λ a. given (right (old_value file s a.value) s a.turns) s (λ v. goes_on (written s a.value v.value) v.turns)) h
-      (λ a. given_sited s (right (old_value file s a.value) s a.turns) (λ v. goes_on (written s a.value v.value) v.turns) h
-      (λ v. on_sited s (written s a.value v.value) v.turns (written-made s a.value v.value) h))
+      (λ a. given (right (old_value file s a.value) s a.turns) s (λ v. goes_on (after_store s a.value v.value) v.turns)) h
+      (λ a. given_sited s (right (old_value file s a.value) s a.turns) (λ v. goes_on (after_store s a.value v.value) v.turns) h
+      (λ v. on_sited s (after_store s a.value v.value) v.turns (after_store-made s a.value v.value) h))
 
   change_sited : (file : File) (c : tree.ChangeTree) → RunsSited (run_change file c)
   change_sited file (tree.Set t a m e) =

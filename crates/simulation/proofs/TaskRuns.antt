@@ -83,7 +83,7 @@ to_end code s last (steps {t = t} a l) is = let r = to_end code t last l is in (
 
 at_end : (code : Parts) (line : ℕ) (claims : List Claim) (m : Store) (items : List (List ℤ)) (s : machine.State) (q turns : ℕ) (stack : List ℤ) → Leads code s (at [] q stack m turns) → instr_at code q ≡ Some instr.End →
     map (λ (w : machine.TaskWindow). w.claim) m.windows ≡ claims → Windows m.windows items →
-    EndsIn code line s (if meaning.gives_bytes claims items then meaning.done (meaning.written claims items) else meaning.trapped 5 line)
+    EndsIn code line s (if meaning.gives_bytes claims items then meaning.done (meaning.outputs_of claims items) else meaning.trapped 5 line)
 at_end code line claims m items s q turns stack l is same windows = by_case (meaning.gives_bytes claims items) refl
   where
     last : machine.State
@@ -95,10 +95,10 @@ at_end code line claims m items s q turns stack l is same windows = by_case (mea
     bytes : meaning.gives_bytes claims items ≡ list_all tasks.sends_bytes m.windows
     bytes = subst (λ cs. meaning.gives_bytes cs items ≡ list_all tasks.sends_bytes m.windows) same (same_bytes m.windows items windows)
 
-    out : meaning.written claims items ≡ tasks.written m.windows
-    out = subst (λ cs. meaning.written cs items ≡ tasks.written m.windows) same (same_written m.windows items windows)
+    out : meaning.outputs_of claims items ≡ tasks.written m.windows
+    out = subst (λ cs. meaning.outputs_of cs items ≡ tasks.written m.windows) same (same_written m.windows items windows)
 
-    by_case : (t : Bool) → meaning.gives_bytes claims items ≡ t → EndsIn code line s (if t then meaning.done (meaning.written claims items) else meaning.trapped 5 line)
+    by_case : (t : Bool) → meaning.gives_bytes claims items ≡ t → EndsIn code line s (if t then meaning.done (meaning.outputs_of claims items) else meaning.trapped 5 line)
     by_case true e = record {
       halt = machine.Ended;
       last = at [] q stack m turns;

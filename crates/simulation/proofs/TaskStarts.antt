@@ -159,15 +159,15 @@ claims_start (c ∷ cs) inputs = by_case c.write (λ ins. claims_start cs ins)
     by_case false next = ap (λ xs. c ∷ xs) (next (drop c.horizon inputs))
 
 -- what was written
-pub same_written : (ws : List TaskWindow) (items : List (List ℤ)) → Windows ws items → meaning.written (map (λ (w : TaskWindow). w.claim) ws) items ≡ machine.written ws
+pub same_written : (ws : List TaskWindow) (items : List (List ℤ)) → Windows ws items → meaning.outputs_of (map (λ (w : TaskWindow). w.claim) ws) items ≡ machine.written ws
 same_written [] [] h = refl
 same_written [] (vs ∷ items) h = elim h [ ]
 same_written (w ∷ ws) [] h = elim h [ ]
 same_written (w ∷ ws) (vs ∷ items) h = by_case w.claim.write (same_written ws items h.3)
   where
-    by_case : (t : Bool) → meaning.written (map (λ (w : TaskWindow). w.claim) ws) items ≡ machine.written ws →
-        (if t then vs ++ meaning.written (map (λ (w : TaskWindow). w.claim) ws) items else meaning.written (map (λ (w : TaskWindow). w.claim) ws) items) ≡ (if t then w.elements else []) ++ machine.written ws
-    by_case true next = ap (λ xs. xs ++ meaning.written (map (λ (w : TaskWindow). w.claim) ws) items) (sym h.0) ∙ ap (λ xs. w.elements ++ xs) next
+    by_case : (t : Bool) → meaning.outputs_of (map (λ (w : TaskWindow). w.claim) ws) items ≡ machine.written ws →
+        (if t then vs ++ meaning.outputs_of (map (λ (w : TaskWindow). w.claim) ws) items else meaning.outputs_of (map (λ (w : TaskWindow). w.claim) ws) items) ≡ (if t then w.elements else []) ++ machine.written ws
+    by_case true next = ap (λ xs. xs ++ meaning.outputs_of (map (λ (w : TaskWindow). w.claim) ws) items) (sym h.0) ∙ ap (λ xs. w.elements ++ xs) next
     by_case false next = next
 
 bytes_same : (vs : List ℤ) → list_all meaning.is_byte vs ≡ list_all machine.is_byte vs
