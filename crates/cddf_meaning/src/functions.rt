@@ -1,6 +1,6 @@
 //! Calls of functions.
 
-ghost use Rattle.std.specs.Prelude.{◌≡◌, ◌+◌, ◌<◌, ◌≤◌, IfErr, IfOk, IfSome, [], length, map, option_map, slice_get};
+ghost use Rattle.std.specs.Prelude.{◌≡◌, ◌+◌, ◌<◌, ◌≤◌, IfErr, IfOk, IfSome, [], get_or, length, map, option_map, pos, slice_get};
 ghost use Rattle.cddf_meaning.specs.Functions.{bind_params, call_function, file_of, result_of};
 ghost use Rattle.cddf_meaning.specs.State as states;
 ghost use Rattle.std.specs.Option.{option_copied};
@@ -53,17 +53,23 @@ pub(crate) fn param_names(params: &Params) -> &[Name]
     }
 }
 
+/// The value of an argument; 0 where there is none.
+fn argument(args: &[i32], place: usize) -> i32
+    ensures { result ≡ get_or args.now place (pos 0) }
+{
+    match args.get(place) {
+        Some(number) => *number,
+        None => 0,
+    }
+}
+
 /// The state of a function's body, with its parameters set.
 fn with_params(alloc: Global, names: &[Name], args: &[i32]) -> Result<State, Memory>
     ensures { IfOk result (λ s. s ≡ states.state_of (bind_params names.now args.now []) []) }
 {
     let mut state = State::new(alloc, Vec::new(alloc));
     for (place, name) in names.iter().enumerate() {
-        let number = match args.get(place) {
-            Some(number) => *number,
-            None => 0,
-        };
-        state.declare(name.id, Variable::Scalar(number))?;
+        state.declare(name.id, Variable::Scalar(argument(args, place)))?;
     }
     Ok(state)
 }
