@@ -62,7 +62,19 @@ pub(crate) fn refuses(
 ) -> Result<(), Fail> {
     for (text, code, line) in cases {
         let judged = judge(alloc, *text)?;
-        assert_eq!(rt; judged.refusal(), Some((*code, *line)), "{text}");
+        assert!(rt; judged.refusal() == Some((*code, *line)), "{text}");
+    }
+    Ok(())
+}
+
+/// Each text of several tables is refused so.
+pub(crate) fn refuses_all(
+    rt: &impl Abort,
+    alloc: Global,
+    tables: &[&[(&str, u8, u32)]],
+) -> Result<(), Fail> {
+    for cases in tables {
+        refuses(rt, alloc, *cases)?;
     }
     Ok(())
 }
@@ -71,7 +83,6 @@ pub(crate) fn refuses(
 pub(crate) fn accepts(rt: &impl Abort, alloc: Global, texts: &[&str]) -> Result<(), Fail> {
     for text in texts {
         let judged = judge(alloc, *text)?;
-        assert_eq!(rt; judged.refusal(), None, "{text}");
         assert!(rt; judged.is_accepted(), "{text}");
     }
     Ok(())

@@ -184,28 +184,21 @@ const PASSED_PROGRAMS: [(u32, &str, u8, u32); 6] = [
     (16, "int g() { int a,\na[1]; } int main(void) { }", 12, 18),
 ];
 
+/// So many functions that are full of elements, a line each, and the rest of a program.
+fn filled(alloc: Global, functions: u32, rest: &str) -> Result<String, Fail> {
+    let mut text = numbered(alloc, "", functions, "int f", "() { int a[65536]; }\n")?;
+    text.push_str(rest)?;
+    Ok(text)
+}
+
 #[test]
 fn the_arrays_of_a_program_have_a_limit(rt: HostRuntime) -> Result<(), Fail> {
     for (functions, rest) in &FULL_PROGRAMS {
-        let mut text = numbered(
-            rt.alloc(),
-            "",
-            *functions,
-            "int f",
-            "() { int a[65536]; }\n",
-        )?;
-        text.push_str(*rest)?;
+        let text = filled(rt.alloc(), *functions, *rest)?;
         accepts(&rt, rt.alloc(), &[text.as_str()])?;
     }
     for (functions, rest, code, line) in &PASSED_PROGRAMS {
-        let mut text = numbered(
-            rt.alloc(),
-            "",
-            *functions,
-            "int f",
-            "() { int a[65536]; }\n",
-        )?;
-        text.push_str(*rest)?;
+        let text = filled(rt.alloc(), *functions, *rest)?;
         refuses(&rt, rt.alloc(), &[(text.as_str(), *code, *line)])?;
     }
     Ok(())

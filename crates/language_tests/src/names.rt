@@ -624,6 +624,9 @@ const BETWEEN_NAMES: [(u32, What); 8] = [
     (37, What::Scalar(2)),
 ];
 
+/// A text, how many streams its program has, and what its names mean by their places.
+type Meant = (&'static str, u32, &'static [(u32, What)]);
+
 /// The program is accepted, with so many streams and with these names.
 fn means(
     rt: &impl Abort,
@@ -635,38 +638,54 @@ fn means(
     let Judged::Accepted(checked) = judge(alloc, text)? else {
         return Err(Fail::from("a program without violations"));
     };
-    assert_eq!(rt; checked.streams, streams, "{text}");
-    assert_eq!(rt; checked.names.len(), names.len(), "{text}");
+    assert!(rt; checked.streams == streams, "{text}");
+    assert!(rt; checked.names.len() == names.len(), "{text}");
     for (resolved, (place, what)) in checked.names.as_slice().iter().zip(names) {
         let hand = Resolved {
             place: *place,
             what: *what,
         };
-        assert_eq!(rt; *resolved, hand, "{text}");
+        assert!(rt; *resolved == hand, "{text}");
     }
     Ok(())
 }
 
+/// The programs have these streams and names.
+fn all_mean(rt: &impl Abort, alloc: Global, rows: &[Meant]) -> Result<(), Fail> {
+    for (text, streams, names) in rows {
+        means(rt, alloc, *text, *streams, *names)?;
+    }
+    Ok(())
+}
+
+const DECLARED: [Meant; 11] = [
+    (SMOOTH, 2, &SMOOTH_NAMES),
+    (PIPELINE, 3, &PIPELINE_NAMES),
+    (BROADCAST, 5, &BROADCAST_NAMES),
+    (CALLS, 2, &CALLS_NAMES),
+    (CONSTANTS, 2, &CONSTANTS_NAMES),
+    (ARRAYS, 2, &ARRAYS_NAMES),
+    (CAPTURED, 2, &CAPTURED_NAMES),
+    (CLAUSES, 4, &CLAUSES_NAMES),
+    (ITEMS, 6, &ITEMS_NAMES),
+    (SHADOWS, 2, &SHADOWS_NAMES),
+    (LOOPS, 2, &LOOPS_NAMES),
+];
+
 #[test]
 fn each_name_means_what_is_declared(rt: HostRuntime) -> Result<(), Fail> {
-    means(&rt, rt.alloc(), SMOOTH, 2, &SMOOTH_NAMES)?;
-    means(&rt, rt.alloc(), PIPELINE, 3, &PIPELINE_NAMES)?;
-    means(&rt, rt.alloc(), BROADCAST, 5, &BROADCAST_NAMES)?;
-    means(&rt, rt.alloc(), CALLS, 2, &CALLS_NAMES)?;
-    means(&rt, rt.alloc(), CONSTANTS, 2, &CONSTANTS_NAMES)?;
-    means(&rt, rt.alloc(), ARRAYS, 2, &ARRAYS_NAMES)?;
-    means(&rt, rt.alloc(), CAPTURED, 2, &CAPTURED_NAMES)?;
-    means(&rt, rt.alloc(), CLAUSES, 4, &CLAUSES_NAMES)?;
-    means(&rt, rt.alloc(), ITEMS, 6, &ITEMS_NAMES)?;
-    means(&rt, rt.alloc(), SHADOWS, 2, &SHADOWS_NAMES)?;
-    means(&rt, rt.alloc(), LOOPS, 2, &LOOPS_NAMES)
+    all_mean(&rt, rt.alloc(), &DECLARED)
 }
+
+const PLACED: [Meant; 5] = [
+    (SIZED, 5, &SIZED_NAMES),
+    (LONG, 2, &LONG_NAMES),
+    (LONG_IN_TASK, 2, &LONG_IN_TASK_NAMES),
+    (BRANCHES, 2, &BRANCHES_NAMES),
+    (BETWEEN, 2, &BETWEEN_NAMES),
+];
 
 #[test]
 fn declarations_have_slots_of_their_own(rt: HostRuntime) -> Result<(), Fail> {
-    means(&rt, rt.alloc(), SIZED, 5, &SIZED_NAMES)?;
-    means(&rt, rt.alloc(), LONG, 2, &LONG_NAMES)?;
-    means(&rt, rt.alloc(), LONG_IN_TASK, 2, &LONG_IN_TASK_NAMES)?;
-    means(&rt, rt.alloc(), BRANCHES, 2, &BRANCHES_NAMES)?;
-    means(&rt, rt.alloc(), BETWEEN, 2, &BETWEEN_NAMES)
+    all_mean(&rt, rt.alloc(), &PLACED)
 }

@@ -1,7 +1,9 @@
 //! Texts that violate one rule, each in each of its cases. Those of the names without a declaration or of the wrong kind
 //! stand in `kinds`, those of the limits in `limits`, and programs that come close to a violation in `lawful`.
 
-use crate::judge::{accepts, judge, refuses};
+use crate::judge::{accepts, judge, refuses, refuses_all};
+use std::alloc::Global;
+use std::process::Abort;
 use std::test::Fail;
 
 /// Short texts, each against one rule.
@@ -531,20 +533,24 @@ const WINDOWS: [(&str, u8, u32); 12] = [
     ),
 ];
 
+const ALL: [&[(&str, u8, u32)]; 12] = [
+    &COMMON,
+    &ARGUMENTS,
+    &CHANGED,
+    &SIZE,
+    &NO_LOOP,
+    &MISPLACED,
+    &RETURNS,
+    &STREAMS,
+    &WRONG_END,
+    &LISTED_TWICE,
+    &NO_MAIN,
+    &WINDOWS,
+];
+
 #[test]
 fn each_rule_refuses_each_of_its_cases(rt: HostRuntime) -> Result<(), Fail> {
-    refuses(&rt, rt.alloc(), &COMMON)?;
-    refuses(&rt, rt.alloc(), &ARGUMENTS)?;
-    refuses(&rt, rt.alloc(), &CHANGED)?;
-    refuses(&rt, rt.alloc(), &SIZE)?;
-    refuses(&rt, rt.alloc(), &NO_LOOP)?;
-    refuses(&rt, rt.alloc(), &MISPLACED)?;
-    refuses(&rt, rt.alloc(), &RETURNS)?;
-    refuses(&rt, rt.alloc(), &STREAMS)?;
-    refuses(&rt, rt.alloc(), &WRONG_END)?;
-    refuses(&rt, rt.alloc(), &LISTED_TWICE)?;
-    refuses(&rt, rt.alloc(), &NO_MAIN)?;
-    refuses(&rt, rt.alloc(), &WINDOWS)
+    refuses_all(&rt, rt.alloc(), &ALL)
 }
 
 /// A program whose task is its line 6.
@@ -564,16 +570,35 @@ const DIVISION: [&str; 2] = [
 /// Tasks, with their refusals.
 const TASKS: [(&str, u8, u32); 2] = [("{ x = 1; y = z; }", 14, 6), ("{ y = z; x = 1; }", 10, 6)];
 
+/// The program of a task.
+fn divided(alloc: Global, task: &str) -> Result<String, Fail> {
+    let [head, tail] = DIVISION;
+    Ok(format!(in alloc; "{head}{task}{tail}")?)
+}
+
+/// Each task is refused so.
+fn tasks_are_refused(
+    rt: &impl Abort,
+    alloc: Global,
+    tasks: &[(&str, u8, u32)],
+) -> Result<(), Fail> {
+    for (task, code, line) in tasks {
+        let text = divided(alloc, *task)?;
+        refuses(rt, alloc, &[(text.as_str(), *code, *line)])?;
+    }
+    Ok(())
+}
+
+fn task_is_lawful(rt: &impl Abort, alloc: Global, task: &str) -> Result<(), Fail> {
+    let text = divided(alloc, task)?;
+    accepts(rt, alloc, &[text.as_str()])
+}
+
 #[test]
 fn a_task_is_refused_in_its_line(rt: HostRuntime) -> Result<(), Fail> {
-    let [head, tail] = DIVISION;
-    for (task, code, line) in &TASKS {
-        let text = format!(in rt.alloc(); "{head}{task}{tail}")?;
-        refuses(&rt, rt.alloc(), &[(text.as_str(), *code, *line)])?;
-    }
-    let lawful = format!(in rt.alloc(); "{head}y = 100 / x;{tail}")?;
-    accepts(&rt, rt.alloc(), &[lawful.as_str()])?;
-    let no_program = format!(in rt.alloc(); "{head}y = ;{tail}")?;
+    tasks_are_refused(&rt, rt.alloc(), &TASKS)?;
+    task_is_lawful(&rt, rt.alloc(), "y = 100 / x;")?;
+    let no_program = divided(rt.alloc(), "y = ;")?;
     let judged = judge(rt.alloc(), no_program.as_str())?;
     assert!(rt; judged.is_syntax());
     Ok(())

@@ -33,7 +33,7 @@ fn shown(rt: &impl Abort, alloc: Global, text: &[u8]) -> Result<String, Fail> {
 fn check_all(rt: &impl Abort, alloc: Global, cases: &[Case]) -> Result<(), Fail> {
     for (text, want) in cases {
         let got = shown(rt, alloc, *text)?;
-        assert_eq!(rt; got.as_str(), *want);
+        assert!(rt; got.as_str() == *want, "{got}");
     }
     Ok(())
 }

@@ -256,6 +256,3 @@ fn depth_of_links(links: &List<Link>) -> u32
     }
     deepest
 }
-
-#[cfg(test)]
-mod tests;

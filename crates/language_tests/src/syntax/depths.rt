@@ -2,7 +2,7 @@
 
 use super::token;
 use os_ast::depth;
-use os_lexer::{Key, Kind, Punct, lex};
+use os_lexer::{Key, Kind, Punct, Token, lex};
 use os_parser::{ParseError, parse};
 use std::alloc::{AllocError, Global};
 use std::process::Abort;
@@ -94,7 +94,7 @@ fn depth_of(rt: &impl Abort, alloc: Global, text: &str) -> Option<u32> {
     match parse(alloc, &tokens) {
         Ok(program) => Some(depth(&program)),
         Err(error) => {
-            assert_eq!(rt; error, ParseError::Syntax);
+            assert!(rt; error == ParseError::Syntax);
             None
         }
     }
@@ -106,7 +106,7 @@ fn a_depth_of_200_is_read_and_more_is_refused(rt: HostRuntime) -> Result<(), Fai
         assert!(rt; *most < 200);
         for (count, want) in [(*most, Some(200)), (*most + 1, None)] {
             let text = text_of(rt.alloc(), pieces, count)?;
-            assert_eq!(rt; depth_of(&rt, rt.alloc(), text.as_str()), want, "{text}");
+            assert!(rt; depth_of(&rt, rt.alloc(), text.as_str()) == want, "{text}");
         }
     }
     Ok(())
@@ -118,31 +118,36 @@ fn a_thread_reads_a_depth_of_200(rt: HostRuntime) -> Result<(), Fail> {
     for (pieces, most) in &NESTS {
         let text = text_of(rt.alloc(), pieces, *most)?;
         let reader = thread::spawn(&rt, move || depth_of(&rt, rt.alloc(), text.as_str()))?;
-        assert_eq!(rt; reader.join(&rt), Some(200));
+        assert!(rt; reader.join(&rt) == Some(200));
     }
     Ok(())
+}
+
+/// What stands before the value of a `return`.
+static HEAD: [Token; 7] = [
+    token!(Kind::Key(Key::Int)),
+    token!(Kind::Name(8)),
+    token!(Kind::Punct(Punct::OpenParen)),
+    token!(Kind::Key(Key::Void)),
+    token!(Kind::Punct(Punct::CloseParen)),
+    token!(Kind::Punct(Punct::OpenBrace)),
+    token!(Kind::Key(Key::Return)),
+];
+
+fn is_refused(alloc: Global, tokens: &[Token]) -> bool {
+    tokens.len() == 262_144 && matches!(parse(alloc, tokens), Err(ParseError::Syntax))
 }
 
 /// As many parentheses as there may be tokens: alone, and as many as fit behind a `return`.
 #[test]
 fn many_open_parentheses_are_refused(rt: HostRuntime) -> Result<(), Fail> {
-    let open = token(Kind::Punct(Punct::OpenParen));
+    let open = token!(Kind::Punct(Punct::OpenParen));
     let mut tokens = vec![in rt.alloc(); open; 262_144]?;
-    assert!(rt; matches!(parse(rt.alloc(), &tokens), Err(ParseError::Syntax)));
-    let head = [
-        Kind::Key(Key::Int),
-        Kind::Name(8),
-        Kind::Punct(Punct::OpenParen),
-        Kind::Key(Key::Void),
-        Kind::Punct(Punct::CloseParen),
-        Kind::Punct(Punct::OpenBrace),
-        Kind::Key(Key::Return),
-    ];
-    for (slot, kind) in tokens.iter_mut().zip(head) {
-        *slot = token(kind);
+    assert!(rt; is_refused(rt.alloc(), &tokens));
+    for (slot, token) in tokens.iter_mut().zip(&HEAD) {
+        *slot = *token;
     }
-    assert_eq!(rt; tokens.len(), 262_144);
-    assert!(rt; matches!(parse(rt.alloc(), &tokens), Err(ParseError::Syntax)));
+    assert!(rt; is_refused(rt.alloc(), &tokens));
     Ok(())
 }
 
@@ -151,6 +156,6 @@ fn many_open_parentheses_are_refused(rt: HostRuntime) -> Result<(), Fail> {
 fn a_long_chain_is_no_deeper(rt: HostRuntime) -> Result<(), Fail> {
     let pieces = ["return ", "", "1", "+1", ";"];
     let text = text_of(rt.alloc(), &pieces, 131_000)?;
-    assert_eq!(rt; depth_of(&rt, rt.alloc(), text.as_str()), Some(3));
+    assert!(rt; depth_of(&rt, rt.alloc(), text.as_str()) == Some(3));
     Ok(())
 }

@@ -1,6 +1,6 @@
 //! Texts that are no programs: for each production, tokens that can't stand at each of its places.
 
-use super::is_program;
+use super::none_is_program;
 use os_lexer::lex;
 use os_parser::{ParseError, parse};
 use std::test::Fail;
@@ -468,24 +468,11 @@ static BETWEEN: [&str; 16] = [
 
 #[test]
 fn a_wrong_token_is_refused(rt: HostRuntime) -> Result<(), Fail> {
-    for text in &ITEMS {
-        assert!(rt; !is_program(&rt, rt.alloc(), *text)?, "{text}");
-    }
-    for body in &BODIES {
-        let text = format!(in rt.alloc(); "int f() {{ {body} }}")?;
-        assert!(rt; !is_program(&rt, rt.alloc(), text.as_str())?, "{text}");
-    }
-    for value in &VALUES {
-        let text = format!(in rt.alloc(); "int f() {{ return {value}; }}")?;
-        assert!(rt; !is_program(&rt, rt.alloc(), text.as_str())?, "{text}");
-    }
-    for operator in &BETWEEN {
-        let text = format!(in rt.alloc(); "int f() {{ return a {operator}; }}")?;
-        assert!(rt; !is_program(&rt, rt.alloc(), text.as_str())?, "{text}");
-        let text = format!(in rt.alloc(); "int f() {{ return {operator} a; }}")?;
-        assert!(rt; !is_program(&rt, rt.alloc(), text.as_str())?, "{text}");
-    }
-    Ok(())
+    none_is_program(&rt, rt.alloc(), "", &ITEMS, "")?;
+    none_is_program(&rt, rt.alloc(), "int f() { ", &BODIES, " }")?;
+    none_is_program(&rt, rt.alloc(), "int f() { return ", &VALUES, "; }")?;
+    none_is_program(&rt, rt.alloc(), "int f() { return a ", &BETWEEN, "; }")?;
+    none_is_program(&rt, rt.alloc(), "int f() { return ", &BETWEEN, " a; }")
 }
 
 /// One function with each production of statements and expressions.

@@ -1,9 +1,9 @@
 //! What texts are read as. The shapes were written by hand, from the grammar.
 
-use super::shown::{Source, put_program};
+use super::shown::{Source, show};
 use super::token;
-use os_ast::{Expr, Item, Level, Mark, Stmt};
-use os_lexer::{Key, Kind, Punct, lex};
+use os_ast::{Expr, Item, Level, Link, Mark, Program, Stmt};
+use os_lexer::{Key, Kind, Punct, Token, lex};
 use os_parser::parse;
 use std::alloc::Global;
 use std::process::Abort;
@@ -12,17 +12,30 @@ use std::test::Fail;
 /// A text, and what it is read as.
 type Case = (&'static str, &'static str);
 
+/// What stands before and behind each text of a table, and before and behind what it is read as.
+type Around = [&'static str; 4];
+
 fn shown(rt: &impl Abort, alloc: Global, text: &str) -> Result<String, Fail> {
     assert!(rt; text.len() <= 262_144);
     let tokens = lex(alloc, text.as_bytes())?;
     let program = parse(alloc, &tokens)?;
-    let mut out = String::new(alloc);
     let source = Source {
         text: text.as_bytes(),
         tokens: &tokens,
     };
-    put_program(&mut out, &source, &program)?;
-    Ok(out)
+    show(alloc, source, &program)
+}
+
+/// Each text is read so.
+fn all_read(rt: &impl Abort, alloc: Global, around: Around, cases: &[Case]) -> Result<(), Fail> {
+    let [head, tail, shown_head, shown_tail] = around;
+    for (text, want) in cases {
+        let text = format!(in alloc; "{head}{text}{tail}")?;
+        let want = format!(in alloc; "{shown_head}{want}{shown_tail}")?;
+        let found = shown(rt, alloc, &text)?;
+        assert!(rt; found == want, "{found}");
+    }
+    Ok(())
 }
 
 static EXPRESSIONS: [Case; 40] = [
@@ -96,12 +109,8 @@ static EXPRESSIONS: [Case; 40] = [
 
 #[test]
 fn expressions_are_grouped_by_their_levels(rt: HostRuntime) -> Result<(), Fail> {
-    for (text, want) in &EXPRESSIONS {
-        let text = format!(in rt.alloc(); "int f() {{ return {text}; }}")?;
-        let want = format!(in rt.alloc(); "(function f _ (return {want}))")?;
-        assert_eq!(rt; shown(&rt, rt.alloc(), text.as_str())?, want);
-    }
-    Ok(())
+    let around = ["int f() { return ", "; }", "(function f _ (return ", "))"];
+    all_read(&rt, rt.alloc(), around, &EXPRESSIONS)
 }
 
 static STATEMENTS: [Case; 66] = [
@@ -249,12 +258,8 @@ static STATEMENTS: [Case; 66] = [
 
 #[test]
 fn statements_have_their_parts(rt: HostRuntime) -> Result<(), Fail> {
-    for (text, want) in &STATEMENTS {
-        let text = format!(in rt.alloc(); "int f() {{ {text} }}")?;
-        let want = format!(in rt.alloc(); "(function f _ {want})")?;
-        assert_eq!(rt; shown(&rt, rt.alloc(), text.as_str())?, want);
-    }
-    Ok(())
+    let around = ["int f() { ", " }", "(function f _ ", ")"];
+    all_read(&rt, rt.alloc(), around, &STATEMENTS)
 }
 
 static PROGRAMS: [Case; 10] = [
@@ -284,48 +289,69 @@ static PROGRAMS: [Case; 10] = [
 
 #[test]
 fn programs_have_their_items(rt: HostRuntime) -> Result<(), Fail> {
-    for (text, want) in &PROGRAMS {
-        assert_eq!(rt; shown(&rt, rt.alloc(), *text)?.as_str(), *want);
+    all_read(&rt, rt.alloc(), [""; 4], &PROGRAMS)
+}
+
+static TOKENS: [Token; 14] = [
+    token!(Kind::Key(Key::Int)),
+    token!(Kind::Name(13)),
+    token!(Kind::Punct(Punct::OpenParen)),
+    token!(Kind::Key(Key::Void)),
+    token!(Kind::Punct(Punct::CloseParen)),
+    token!(Kind::Punct(Punct::OpenBrace)),
+    token!(Kind::Key(Key::Return)),
+    token!(Kind::Number(1)),
+    token!(Kind::Punct(Punct::Minus)),
+    token!(Kind::Number(2)),
+    token!(Kind::Punct(Punct::Minus)),
+    token!(Kind::Number(3)),
+    token!(Kind::Punct(Punct::Semicolon)),
+    token!(Kind::Punct(Punct::CloseBrace)),
+];
+
+/// The value of the `return` that is all of a program's one function, with its mark.
+fn returned(program: &Program) -> Option<(Mark, &Expr)> {
+    let [Item::Function(function)] = program.items.as_slice() else {
+        return None;
+    };
+    match function.body.as_slice() {
+        [Stmt::Return(mark, value)] => Some((*mark, value)),
+        _ => None,
     }
-    Ok(())
+}
+
+/// The first part of a sum, and its two links.
+fn parts_of(value: &Expr) -> Option<(&Expr, &Link, &Link)> {
+    let Expr::Chain(Level::Sum, first, links) = value else {
+        return None;
+    };
+    match links.as_slice() {
+        [second, third] => Some((first, second, third)),
+        _ => None,
+    }
+}
+
+fn is_number(value: &Expr, number: u32) -> bool {
+    matches!(value, Expr::Number(found) if *found == number)
+}
+
+fn is_link(link: &Link, place: u32, number: u32) -> bool {
+    link.mark == Mark { place, line: 1 } && is_number(&link.right, number)
 }
 
 /// An operator's mark is its place among the tokens, and its line.
 #[test]
 fn links_have_the_marks_of_their_operators(rt: HostRuntime) -> Result<(), Fail> {
-    let tokens = [
-        Kind::Key(Key::Int),
-        Kind::Name(13),
-        Kind::Punct(Punct::OpenParen),
-        Kind::Key(Key::Void),
-        Kind::Punct(Punct::CloseParen),
-        Kind::Punct(Punct::OpenBrace),
-        Kind::Key(Key::Return),
-        Kind::Number(1),
-        Kind::Punct(Punct::Minus),
-        Kind::Number(2),
-        Kind::Punct(Punct::Minus),
-        Kind::Number(3),
-        Kind::Punct(Punct::Semicolon),
-        Kind::Punct(Punct::CloseBrace),
-    ]
-    .map(token);
-    let program = parse(rt.alloc(), &tokens)?;
-    let [Item::Function(function)] = program.items.as_slice() else {
-        return Err(Fail::from("one function"));
+    let program = parse(rt.alloc(), &TOKENS)?;
+    let Some((mark, value)) = returned(&program) else {
+        return Err(Fail::from("a function that returns"));
     };
-    let [Stmt::Return(mark, Expr::Chain(Level::Sum, first, links))] = function.body.as_slice()
-    else {
-        return Err(Fail::from("a return of a chain"));
+    assert!(rt; mark == Mark { place: 6, line: 1 });
+    let Some((first, second, third)) = parts_of(value) else {
+        return Err(Fail::from("a sum of three"));
     };
-    assert_eq!(rt; *mark, Mark { place: 6, line: 1 });
-    assert!(rt; matches!(&**first, Expr::Number(1)));
-    let [second, third] = links.as_slice() else {
-        return Err(Fail::from("two links"));
-    };
-    assert_eq!(rt; second.mark, Mark { place: 8, line: 1 });
-    assert!(rt; matches!(&second.right, Expr::Number(2)));
-    assert_eq!(rt; third.mark, Mark { place: 10, line: 1 });
-    assert!(rt; matches!(&third.right, Expr::Number(3)));
+    assert!(rt; is_number(first, 1));
+    assert!(rt; is_link(second, 8, 2));
+    assert!(rt; is_link(third, 10, 3));
     Ok(())
 }

@@ -8,7 +8,8 @@ use os_ast::{
     Index, Item, Mark, Name, Params, Program, Start, Stmt, Target,
 };
 use os_lexer::Token;
-use std::fmt::Write;
+use std::alloc::Global;
+use std::fmt::{Debug, Write};
 use std::test::Fail;
 
 /// What a tree was read from.
@@ -18,327 +19,353 @@ pub(super) struct Source<'a> {
     pub(super) tokens: &'a [Token],
 }
 
-fn put_mark(out: &mut String, source: &Source<'_>, mark: Mark) -> Result<(), Fail> {
-    let Some(token) = source.tokens.get(mark.place as usize) else {
-        return Err(Fail::from("a mark beyond the tokens"));
-    };
-    if token.line != mark.line {
-        return Err(Fail::from("a mark on another line"));
+impl<'a> Source<'a> {
+    /// How the token of a mark is spelled, if it is there, on the mark's line and text.
+    fn word(&self, mark: Mark) -> Option<&'a str> {
+        let token = self.tokens.get(mark.place as usize)?;
+        if token.line != mark.line {
+            return None;
+        }
+        let word = self.text.get(token.start as usize..token.end as usize)?;
+        str::from_utf8(word).ok()
     }
-    let Some(word) = source.text.get(token.start as usize..token.end as usize) else {
-        return Err(Fail::from("a token beyond the text"));
-    };
-    let Ok(word) = str::from_utf8(word) else {
-        return Err(Fail::from("a token that is no text"));
-    };
-    out.push_str(word)?;
-    Ok(())
 }
 
-fn put_names(out: &mut String, source: &Source<'_>, names: &[Name]) -> Result<(), Fail> {
-    for name in names {
-        write!(out, " ")?;
-        put_mark(out, source, name.mark)?;
-    }
-    Ok(())
+/// What was printed. Where something could not be, it is to be thrown away.
+#[derive(Drop)]
+struct Shown<'a> {
+    source: Source<'a>,
+    text: String,
+    failed: bool,
 }
 
-#[cycle(exprs)]
-fn put_expr(out: &mut String, source: &Source<'_>, expr: &Expr) -> Result<(), Fail> {
-    match expr {
-        Expr::Number(number) => write!(out, "{number}")?,
-        Expr::Place(target) => put_target(out, source, target)?,
-        Expr::Call(call) => put_call(out, source, call)?,
-        Expr::Paren(inner) => {
-            write!(out, "(paren ")?;
-            put_expr(out, source, inner)?;
-            write!(out, ")")?;
+impl<'a> Shown<'a> {
+    fn put(&mut self, word: &str) {
+        if self.text.push_str(word).is_err() {
+            self.failed = true;
         }
-        Expr::Unary(op, _, right) => {
-            write!(out, "({op:?} ")?;
-            put_expr(out, source, right)?;
-            write!(out, ")")?;
+    }
+
+    /// Prints what has a name of its own, or a number.
+    fn put_debug<D: Debug>(&mut self, value: &D) {
+        if write!(self.text, "{value:?}").is_err() {
+            self.failed = true;
         }
-        Expr::Chain(level, first, links) => {
-            write!(out, "({level:?} ")?;
-            put_expr(out, source, first)?;
-            for link in links.as_slice() {
-                write!(out, " {:?} ", link.op)?;
-                put_expr(out, source, &link.right)?;
+    }
+
+    fn put_mark(&mut self, mark: Mark) {
+        match self.source.word(mark) {
+            Some(word) => self.put(word),
+            None => self.failed = true,
+        }
+    }
+
+    fn put_names(&mut self, names: &[Name]) {
+        for name in names {
+            self.put(" ");
+            self.put_mark(name.mark);
+        }
+    }
+
+    #[cycle(exprs)]
+    fn put_expr(&mut self, expr: &Expr) {
+        match expr {
+            Expr::Number(number) => self.put_debug(number),
+            Expr::Place(target) => self.put_target(target),
+            Expr::Call(call) => self.put_call(call),
+            Expr::Paren(inner) => {
+                self.put("(paren ");
+                self.put_expr(inner);
+                self.put(")");
             }
-            write!(out, ")")?;
-        }
-        Expr::Choice(condition, first, second) => {
-            write!(out, "(choice ")?;
-            put_expr(out, source, condition)?;
-            write!(out, " ")?;
-            put_expr(out, source, first)?;
-            write!(out, " ")?;
-            put_expr(out, source, second)?;
-            write!(out, ")")?;
+            Expr::Unary(op, _, right) => {
+                self.put("(");
+                self.put_debug(op);
+                self.put(" ");
+                self.put_expr(right);
+                self.put(")");
+            }
+            Expr::Chain(level, first, links) => {
+                self.put("(");
+                self.put_debug(level);
+                self.put(" ");
+                self.put_expr(first);
+                for link in links.as_slice() {
+                    self.put(" ");
+                    self.put_debug(&link.op);
+                    self.put(" ");
+                    self.put_expr(&link.right);
+                }
+                self.put(")");
+            }
+            Expr::Choice(condition, first, second) => {
+                self.put("(choice ");
+                self.put_expr(condition);
+                self.put(" ");
+                self.put_expr(first);
+                self.put(" ");
+                self.put_expr(second);
+                self.put(")");
+            }
         }
     }
-    Ok(())
+
+    #[cycle(exprs)]
+    fn put_target(&mut self, target: &Target) {
+        let Some(index) = &target.index else {
+            self.put_mark(target.name.mark);
+            return;
+        };
+        self.put("(at ");
+        self.put_mark(target.name.mark);
+        self.put(" ");
+        self.put_expr(&index.value);
+        self.put(")");
+    }
+
+    #[cycle(exprs)]
+    fn put_call(&mut self, call: &Call) {
+        self.put("(call ");
+        self.put_mark(call.name.mark);
+        for arg in call.args.as_slice() {
+            self.put(" ");
+            self.put_expr(arg);
+        }
+        self.put(")");
+    }
+
+    /// ` [value]`, or nothing.
+    fn put_size(&mut self, size: &Option<Index>) {
+        if let Some(size) = size {
+            self.put(" [");
+            self.put_expr(&size.value);
+            self.put("]");
+        }
+    }
+
+    fn put_declarator(&mut self, declarator: &Declarator) {
+        self.put_mark(declarator.name.mark);
+        self.put_size(&declarator.size);
+        if declarator.stream {
+            self.put(" stream");
+        }
+        if let Some(first) = &declarator.first {
+            self.put(" = ");
+            self.put_expr(first);
+        }
+    }
+
+    fn put_declare(&mut self, declarators: &[Declarator]) {
+        self.put("(declare");
+        for declarator in declarators {
+            self.put(" ");
+            self.put_declarator(declarator);
+            self.put(",");
+        }
+        self.put(")");
+    }
+
+    fn put_change(&mut self, change: &Change) {
+        match change {
+            Change::Set(target, assign, _, value) => {
+                self.put("(set ");
+                self.put_target(target);
+                self.put(" ");
+                self.put_debug(assign);
+                self.put(" ");
+                self.put_expr(value);
+            }
+            Change::After(target, step, _) => {
+                self.put("(after ");
+                self.put_target(target);
+                self.put(" ");
+                self.put_debug(step);
+            }
+            Change::Before(target, step, _) => {
+                self.put("(before ");
+                self.put_debug(step);
+                self.put(" ");
+                self.put_target(target);
+            }
+        }
+        self.put(")");
+    }
+
+    fn put_start(&mut self, start: &Start) {
+        match start {
+            Start::Empty => self.put("_"),
+            Start::Declare(declarators) => self.put_declare(declarators.as_slice()),
+            Start::Change(change) => self.put_change(change),
+        }
+    }
+
+    fn put_head(&mut self, head: &Head) {
+        self.put_start(&head.start);
+        self.put(" ");
+        match &head.test {
+            None => self.put("_"),
+            Some(test) => self.put_expr(test),
+        }
+        self.put(" ");
+        match &head.step {
+            None => self.put("_"),
+            Some(step) => self.put_change(step),
+        }
+    }
+
+    fn put_clause_items(&mut self, items: &[ClauseItem]) {
+        for item in items {
+            self.put(" ");
+            self.put_target(&item.stream);
+            if let Some(join) = &item.window {
+                self.put(" ");
+                self.put_mark(join.mark);
+                self.put(" ");
+                self.put_mark(join.name.mark);
+                self.put_size(&join.burst);
+            }
+            self.put(",");
+        }
+    }
+
+    fn put_clause(&mut self, clause: &Clause) {
+        if clause.comma {
+            self.put(", ");
+        }
+        match &clause.kind {
+            ClauseKind::Input(items) => {
+                self.put("(input");
+                self.put_clause_items(items.as_slice());
+            }
+            ClauseKind::Output(items) => {
+                self.put("(output");
+                self.put_clause_items(items.as_slice());
+            }
+            ClauseKind::Firstprivate(names) => {
+                self.put("(firstprivate");
+                self.put_names(names.as_slice());
+            }
+        }
+        self.put(") ");
+    }
+
+    #[cycle(stmts)]
+    fn put_stmt(&mut self, stmt: &Stmt) {
+        match stmt {
+            Stmt::Empty => self.put(";"),
+            Stmt::Block(stmts) => {
+                self.put("(block");
+                for stmt in stmts.as_slice() {
+                    self.put(" ");
+                    self.put_stmt(stmt);
+                }
+                self.put(")");
+            }
+            Stmt::Declare(declarators) => self.put_declare(declarators.as_slice()),
+            Stmt::Change(change) => self.put_change(change),
+            Stmt::Call(call) => self.put_call(call),
+            Stmt::If(condition, first, second) => {
+                self.put("(if ");
+                self.put_expr(condition);
+                self.put(" ");
+                self.put_stmt(first);
+                if let Some(second) = second {
+                    self.put(" else ");
+                    self.put_stmt(second);
+                }
+                self.put(")");
+            }
+            Stmt::While(condition, body) => {
+                self.put("(while ");
+                self.put_expr(condition);
+                self.put(" ");
+                self.put_stmt(body);
+                self.put(")");
+            }
+            Stmt::For(head, body) => {
+                self.put("(for ");
+                self.put_head(head);
+                self.put(" ");
+                self.put_stmt(body);
+                self.put(")");
+            }
+            Stmt::Break(mark) | Stmt::Continue(mark) => self.put_mark(*mark),
+            Stmt::Return(_, value) => {
+                self.put("(return ");
+                self.put_expr(value);
+                self.put(")");
+            }
+            Stmt::Task(site) => {
+                self.put("(task ");
+                for clause in site.clauses.as_slice() {
+                    self.put_clause(clause);
+                }
+                self.put_stmt(&site.body);
+                self.put(")");
+            }
+            Stmt::Tick(site) => {
+                self.put("(tick ");
+                self.put_target(&site.stream);
+                self.put(" ");
+                self.put_mark(site.arrow);
+                self.put(" ");
+                self.put_expr(&site.amount);
+                self.put(")");
+            }
+            Stmt::Taskwait(_) => self.put("(taskwait)"),
+        }
+    }
+
+    fn put_constant(&mut self, constant: &Constant) {
+        self.put("(constant ");
+        self.put_mark(constant.name.mark);
+        if constant.minus {
+            self.put(" -");
+        }
+        self.put(" ");
+        self.put_debug(&constant.size);
+        self.put(")");
+    }
+
+    fn put_function(&mut self, function: &Function) {
+        self.put("(function ");
+        self.put_mark(function.name.mark);
+        match &function.params {
+            Params::Empty => self.put(" _"),
+            Params::Void => self.put(" void"),
+            Params::Names(names) => {
+                self.put(" (params");
+                self.put_names(names.as_slice());
+                self.put(")");
+            }
+        }
+        for stmt in function.body.as_slice() {
+            self.put(" ");
+            self.put_stmt(stmt);
+        }
+        self.put(")");
+    }
+
+    fn put_program(&mut self, program: &Program) {
+        for item in program.items.as_slice() {
+            match item {
+                Item::Constant(constant) => self.put_constant(constant),
+                Item::Function(function) => self.put_function(function),
+            }
+        }
+    }
 }
 
-#[cycle(exprs)]
-fn put_target(out: &mut String, source: &Source<'_>, target: &Target) -> Result<(), Fail> {
-    let Some(index) = &target.index else {
-        return put_mark(out, source, target.name.mark);
+/// A program, printed.
+pub(super) fn show(alloc: Global, source: Source<'_>, program: &Program) -> Result<String, Fail> {
+    let mut shown = Shown {
+        source,
+        text: String::new(alloc),
+        failed: false,
     };
-    write!(out, "(at ")?;
-    put_mark(out, source, target.name.mark)?;
-    write!(out, " ")?;
-    put_expr(out, source, &index.value)?;
-    write!(out, ")")?;
-    Ok(())
-}
-
-#[cycle(exprs)]
-fn put_call(out: &mut String, source: &Source<'_>, call: &Call) -> Result<(), Fail> {
-    write!(out, "(call ")?;
-    put_mark(out, source, call.name.mark)?;
-    for arg in call.args.as_slice() {
-        write!(out, " ")?;
-        put_expr(out, source, arg)?;
+    shown.put_program(program);
+    if shown.failed {
+        return Err(Fail::from("a tree that can't be printed"));
     }
-    write!(out, ")")?;
-    Ok(())
-}
-
-/// ` [value]`, or nothing.
-fn put_size(out: &mut String, source: &Source<'_>, size: &Option<Index>) -> Result<(), Fail> {
-    if let Some(size) = size {
-        write!(out, " [")?;
-        put_expr(out, source, &size.value)?;
-        write!(out, "]")?;
-    }
-    Ok(())
-}
-
-fn put_declarator(
-    out: &mut String,
-    source: &Source<'_>,
-    declarator: &Declarator,
-) -> Result<(), Fail> {
-    put_mark(out, source, declarator.name.mark)?;
-    put_size(out, source, &declarator.size)?;
-    if declarator.stream {
-        write!(out, " stream")?;
-    }
-    if let Some(first) = &declarator.first {
-        write!(out, " = ")?;
-        put_expr(out, source, first)?;
-    }
-    Ok(())
-}
-
-fn put_declare(
-    out: &mut String,
-    source: &Source<'_>,
-    declarators: &[Declarator],
-) -> Result<(), Fail> {
-    write!(out, "(declare")?;
-    for declarator in declarators {
-        write!(out, " ")?;
-        put_declarator(out, source, declarator)?;
-        write!(out, ",")?;
-    }
-    write!(out, ")")?;
-    Ok(())
-}
-
-fn put_change(out: &mut String, source: &Source<'_>, change: &Change) -> Result<(), Fail> {
-    match change {
-        Change::Set(target, assign, _, value) => {
-            write!(out, "(set ")?;
-            put_target(out, source, target)?;
-            write!(out, " {assign:?} ")?;
-            put_expr(out, source, value)?;
-        }
-        Change::After(target, step, _) => {
-            write!(out, "(after ")?;
-            put_target(out, source, target)?;
-            write!(out, " {step:?}")?;
-        }
-        Change::Before(target, step, _) => {
-            write!(out, "(before {step:?} ")?;
-            put_target(out, source, target)?;
-        }
-    }
-    write!(out, ")")?;
-    Ok(())
-}
-
-fn put_head(out: &mut String, source: &Source<'_>, head: &Head) -> Result<(), Fail> {
-    match &head.start {
-        Start::Empty => write!(out, "_")?,
-        Start::Declare(declarators) => put_declare(out, source, declarators.as_slice())?,
-        Start::Change(change) => put_change(out, source, change)?,
-    }
-    write!(out, " ")?;
-    match &head.test {
-        None => write!(out, "_")?,
-        Some(test) => put_expr(out, source, test)?,
-    }
-    write!(out, " ")?;
-    match &head.step {
-        None => write!(out, "_")?,
-        Some(step) => put_change(out, source, step)?,
-    }
-    Ok(())
-}
-
-fn put_clause_items(
-    out: &mut String,
-    source: &Source<'_>,
-    items: &[ClauseItem],
-) -> Result<(), Fail> {
-    for item in items {
-        write!(out, " ")?;
-        put_target(out, source, &item.stream)?;
-        if let Some(join) = &item.window {
-            write!(out, " ")?;
-            put_mark(out, source, join.mark)?;
-            write!(out, " ")?;
-            put_mark(out, source, join.name.mark)?;
-            put_size(out, source, &join.burst)?;
-        }
-        write!(out, ",")?;
-    }
-    Ok(())
-}
-
-fn put_clause(out: &mut String, source: &Source<'_>, clause: &Clause) -> Result<(), Fail> {
-    if clause.comma {
-        write!(out, ", ")?;
-    }
-    match &clause.kind {
-        ClauseKind::Input(items) => {
-            write!(out, "(input")?;
-            put_clause_items(out, source, items.as_slice())?;
-        }
-        ClauseKind::Output(items) => {
-            write!(out, "(output")?;
-            put_clause_items(out, source, items.as_slice())?;
-        }
-        ClauseKind::Firstprivate(names) => {
-            write!(out, "(firstprivate")?;
-            put_names(out, source, names.as_slice())?;
-        }
-    }
-    write!(out, ") ")?;
-    Ok(())
-}
-
-#[cycle(stmts)]
-fn put_stmt(out: &mut String, source: &Source<'_>, stmt: &Stmt) -> Result<(), Fail> {
-    match stmt {
-        Stmt::Empty => write!(out, ";")?,
-        Stmt::Block(stmts) => {
-            write!(out, "(block")?;
-            for stmt in stmts.as_slice() {
-                write!(out, " ")?;
-                put_stmt(out, source, stmt)?;
-            }
-            write!(out, ")")?;
-        }
-        Stmt::Declare(declarators) => put_declare(out, source, declarators.as_slice())?,
-        Stmt::Change(change) => put_change(out, source, change)?,
-        Stmt::Call(call) => put_call(out, source, call)?,
-        Stmt::If(condition, first, second) => {
-            write!(out, "(if ")?;
-            put_expr(out, source, condition)?;
-            write!(out, " ")?;
-            put_stmt(out, source, first)?;
-            if let Some(second) = second {
-                write!(out, " else ")?;
-                put_stmt(out, source, second)?;
-            }
-            write!(out, ")")?;
-        }
-        Stmt::While(condition, body) => {
-            write!(out, "(while ")?;
-            put_expr(out, source, condition)?;
-            write!(out, " ")?;
-            put_stmt(out, source, body)?;
-            write!(out, ")")?;
-        }
-        Stmt::For(head, body) => {
-            write!(out, "(for ")?;
-            put_head(out, source, head)?;
-            write!(out, " ")?;
-            put_stmt(out, source, body)?;
-            write!(out, ")")?;
-        }
-        Stmt::Break(mark) | Stmt::Continue(mark) => put_mark(out, source, *mark)?,
-        Stmt::Return(_, value) => {
-            write!(out, "(return ")?;
-            put_expr(out, source, value)?;
-            write!(out, ")")?;
-        }
-        Stmt::Task(site) => {
-            write!(out, "(task ")?;
-            for clause in site.clauses.as_slice() {
-                put_clause(out, source, clause)?;
-            }
-            put_stmt(out, source, &site.body)?;
-            write!(out, ")")?;
-        }
-        Stmt::Tick(site) => {
-            write!(out, "(tick ")?;
-            put_target(out, source, &site.stream)?;
-            write!(out, " ")?;
-            put_mark(out, source, site.arrow)?;
-            write!(out, " ")?;
-            put_expr(out, source, &site.amount)?;
-            write!(out, ")")?;
-        }
-        Stmt::Taskwait(_) => write!(out, "(taskwait)")?,
-    }
-    Ok(())
-}
-
-fn put_constant(out: &mut String, source: &Source<'_>, constant: &Constant) -> Result<(), Fail> {
-    write!(out, "(constant ")?;
-    put_mark(out, source, constant.name.mark)?;
-    if constant.minus {
-        write!(out, " -")?;
-    }
-    write!(out, " {})", constant.size)?;
-    Ok(())
-}
-
-fn put_function(out: &mut String, source: &Source<'_>, function: &Function) -> Result<(), Fail> {
-    write!(out, "(function ")?;
-    put_mark(out, source, function.name.mark)?;
-    match &function.params {
-        Params::Empty => write!(out, " _")?,
-        Params::Void => write!(out, " void")?,
-        Params::Names(names) => {
-            write!(out, " (params")?;
-            put_names(out, source, names.as_slice())?;
-            write!(out, ")")?;
-        }
-    }
-    for stmt in function.body.as_slice() {
-        write!(out, " ")?;
-        put_stmt(out, source, stmt)?;
-    }
-    write!(out, ")")?;
-    Ok(())
-}
-
-pub(super) fn put_program(
-    out: &mut String,
-    source: &Source<'_>,
-    program: &Program,
-) -> Result<(), Fail> {
-    for item in program.items.as_slice() {
-        match item {
-            Item::Constant(constant) => put_constant(out, source, constant)?,
-            Item::Function(function) => put_function(out, source, function)?,
-        }
-    }
-    Ok(())
+    Ok(shown.text)
 }
