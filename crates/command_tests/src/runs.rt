@@ -4,6 +4,7 @@ mod calls;
 mod control_ends;
 mod delivery;
 mod generated;
+mod jobs;
 mod kernel_runs;
 mod ordering;
 mod refusals;

@@ -6,6 +6,3 @@ mod words_error;
 
 pub use read::command;
 pub use words_error::WordsError;
-
-#[cfg(test)]
-mod tests;
