@@ -70,15 +70,15 @@ fn assigned(
 /// Stores what an assignment gives where its right side has this value.
 fn assign(
     file: &[Item],
-    assign: Assign,
+    operator: Assign,
     mark: Mark,
     aim: Aim,
     right: i32,
     state: &mut State,
 ) -> Result<(), Stop>
-    ensures { Now result state.new state.old (and_then (assigned assign mark.line (old_value (file_of (map item_tree file.now)) state.old aim) right) (λ v. Ok (after_store state.old aim v))) }
+    ensures { Now result state.new state.old (and_then (assigned operator mark.line (old_value (file_of (map item_tree file.now)) state.old aim) right) (λ v. Ok (after_store state.old aim v))) }
 {
-    let number = assigned(file, state, aim, assign, mark.line, right)?;
+    let number = assigned(file, state, aim, operator, mark.line, right)?;
     state.write(aim, number);
     Ok(())
 }

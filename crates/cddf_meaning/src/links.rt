@@ -1,10 +1,9 @@
 //! An operator of a chain, between the number on its left and what stands on its right.
 
-ghost use Rattle.std.specs.Prelude.{◌≡◌, ℕ, Ok, false, true};
+ghost use Rattle.std.specs.Prelude.{◌≡◌, ℕ, ℤ, Ok, false, true};
 ghost use Rattle.cddf_meaning.specs.Answers.{Answer, Left, and_then, left as pair};
 ghost use Rattle.cddf_meaning.specs.Stops.{Gives};
 ghost use Rattle.cddf_meaning.specs.Value.{linked};
-ghost use Rattle.std.specs.Prelude.{ℤ};
 
 use crate::operators::{binary, holds};
 use crate::stop::Stop;

@@ -102,11 +102,11 @@ fn attribute(cursor: &mut Cursor<'_>) -> Result<bool, ParseError>
 
 /// `declr`: a scalar, a window or an array, or streams.
 #[derive(Drop)]
-struct Declr {
+struct DeclaratorPart {
     depth: u32,
 }
 
-impl Part for Declr {
+impl Part for DeclaratorPart {
     type Item = Declarator;
 
     ghost Tree = { DeclaratorTree };
@@ -162,11 +162,11 @@ fn scalar(
 
 /// `name [ "=" expr ]`, a scalar of `declare1`.
 #[derive(Drop)]
-struct HeadDeclr {
+struct HeadDeclaratorPart {
     depth: u32,
 }
 
-impl Part for HeadDeclr {
+impl Part for HeadDeclaratorPart {
     type Item = Declarator;
 
     ghost Tree = { DeclaratorTree };
@@ -240,7 +240,7 @@ pub(crate) fn declare(
     ensures taken { OnOk result (length cursor.new ≤ length (after cursor.old)) }
 {
     cursor.advance();
-    let declarators = comma_list(alloc, cursor, &Declr { depth })?;
+    let declarators = comma_list(alloc, cursor, &DeclaratorPart { depth })?;
     cursor.expect(Kind::Punct(Punct::Semicolon))?;
     Ok(declarators)
 }
@@ -256,7 +256,7 @@ pub(crate) fn head_declare(
     ensures within { length cursor.new ≤ length cursor.old }
 {
     cursor.advance();
-    let declarators = comma_list(alloc, cursor, &HeadDeclr { depth })?;
+    let declarators = comma_list(alloc, cursor, &HeadDeclaratorPart { depth })?;
     cursor.expect(Kind::Punct(Punct::Semicolon))?;
     Ok(declarators)
 }

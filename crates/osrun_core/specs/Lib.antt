@@ -12,10 +12,10 @@ pub mod Defaults
 pub mod Laws
 -- What restates private functions.
 pub mod Accepting
+pub mod FileLoad
 pub mod GenAnswer
 pub mod HandsOver
 pub mod JobAnswer
-pub mod FileLoad
 pub mod Parsed
 pub mod Refuses
 pub mod RunOf

@@ -98,7 +98,7 @@ pub fn run_words<R: Threads + Sync, F: Files, O: Sink, E: Sink, G: Gate>(
     // With any status: a file is opened only after those before it were read.
     ensures in_order { IfSome (named_run (texts words.now)) (λ job. ReadsInOrder F.Files files.old files.new job) }
 
-    // Completeness of `run`: where all files are told, within their limits, and serve, and nothing fails, the run is
+    // Completeness of `run`: where all files are told, within their limits, and usable, and nothing fails, the run is
     // made and delivered, unless memory runs out.
     ensures complete { IfSome (named_run (texts words.now)) (λ job. All (IsReadable (F.holds files.old)) (files_of job)
         → (HasRisen (F.faults files.old) (F.faults files.new) → ⊥)

@@ -23,7 +23,7 @@ const PROBE: &str = r"int main(void) {
 }
 ";
 
-/// Counts the workers, which run as many frames as there are workers or more.
+/// Counts the workers that run frames.
 #[derive(Drop)]
 struct Counted {
     workers: AtomicU32,
@@ -326,9 +326,9 @@ const GEN: [(&str, u32, &str); 4] = [
         "seed 4294967295 blocks 65536\ninput 262144 sum 33388960\noutput 262144 sum 33467832\nstatus 0\n",
     ),
     (
-        "gen|--workers=64|+7|0001",
-        1,
-        "seed 7 blocks 1\ninput 4 sum 448\noutput 4 sum 480\nstatus 0\n",
+        "gen|--workers=64|+7|00064",
+        64,
+        "seed 7 blocks 64\ninput 256 sum 32578\noutput 256 sum 32682\nstatus 0\n",
     ),
     (
         "gen|1|--workers|1|2",

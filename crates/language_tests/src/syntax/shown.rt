@@ -20,7 +20,7 @@ pub(super) struct Source<'a> {
 }
 
 impl<'a> Source<'a> {
-    /// How the token of a mark is spelled, if it is there, on the mark's line and text.
+    /// How the token of a mark is spelled; `None` where there is no such token, it is on another line, or it isn't text.
     fn word(&self, mark: Mark) -> Option<&'a str> {
         let token = self.tokens.get(mark.place as usize)?;
         if token.line != mark.line {
@@ -46,7 +46,7 @@ impl<'a> Shown<'a> {
         }
     }
 
-    /// Prints what has a name of its own, or a number.
+    /// Prints an operator by its name in the tree, or a number.
     fn put_debug<D: Debug>(&mut self, value: &D) {
         if write!(self.text, "{value:?}").is_err() {
             self.failed = true;
