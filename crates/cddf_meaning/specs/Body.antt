@@ -1,5 +1,5 @@
 -- What a task's body makes of its captured scalars and its input windows.
-use Rattle.std.specs.Prelude.{ℕ, suc, ◌==◌, Bool, true, false, not, ◌&&◌, ◌||◌, if◌then◌else◌, ltb, List, [], ◌∷◌, ◌++◌, take, drop, replicate, slice_get, Option, Some, None, ℤ, pos, negsuc}
+use Rattle.std.specs.Prelude.{ℕ, suc, ◌==◌, Bool, true, false, not, ◌&&◌, ◌||◌, if◌then◌else◌, List, [], ◌∷◌, ◌++◌, take, drop, replicate, slice_get, Option, Some, None, ℤ, pos}
 use Rattle.std.specs.List.{list_all}
 use Rattle.cddf_meaning.specs.File.{File}
 use Rattle.cddf_meaning.specs.Flow.{Ran, Went, Ended}
@@ -12,6 +12,7 @@ use Rattle.cddf_meaning.specs.Variables.{bind}
 use Rattle.cddf_meaning.specs.declared.ending.Ending.TheVariants.{Trapped, OverBudget, Limited}
 use Rattle.cddf_meaning.specs.declared.variable.Binding.{Binding}
 use Rattle.cddf_meaning.specs.declared.variable.Variable.TheVariants.{Scalar, Item}
+use Rattle.flow_core.specs.Byte.{is_byte}
 use Rattle.flow_core.specs.Outcome.{outcome_of}
 use Rattle.flow_core.specs.declared.activation.Activation.{Activation}
 use Rattle.flow_core.specs.declared.claim.Claim.{Claim}
@@ -50,11 +51,6 @@ abbrev pub outputs_of : List Claim → List (List ℤ) → List ℤ
 outputs_of [] items = []
 outputs_of (c ∷ cs) [] = []
 outputs_of (c ∷ cs) (vs ∷ items) = if c.write then vs ++ outputs_of cs items else outputs_of cs items
-
--- an element that can be written as a byte
-abbrev pub is_byte : ℤ → Bool
-is_byte (pos n) = ltb n 256
-is_byte (negsuc n) = false
 
 -- whether a claim writes to `osout`, which is stream 1
 abbrev pub writes_output : Claim → Bool

@@ -2,7 +2,8 @@
 
 ghost use Rattle.std.specs.Prelude.{◌≡◌, ◌++◌, IfOk, OnOk, drop, map, take};
 ghost use Rattle.std.specs.List.{list_all};
-ghost use Rattle.cddf_meaning.specs.Body.{bind_captured, body, bound_round, gives_bytes, is_byte, item_lists, task_outcome, outputs_of};
+ghost use Rattle.flow_core.specs.Byte.{is_byte};
+ghost use Rattle.cddf_meaning.specs.Body.{bind_captured, body, bound_round, gives_bytes, item_lists, task_outcome, outputs_of};
 ghost use Rattle.cddf_meaning.specs.Ends.{IsOutcome, finished, task_end};
 ghost use Rattle.cddf_meaning.specs.Functions.{file_of};
 ghost use Rattle.cddf_meaning.specs.Has.{clause_item_ids, clauses_item_ids};

@@ -10,7 +10,7 @@ use Rattle.flow_core.specs.declared.activation.Activation.{Activation}
 use Rattle.flow_core.specs.declared.ends.Ends.{Ends}
 use Rattle.flow_core.specs.declared.task_end.TaskEnd.{TaskEnd}
 use Rattle.flow_core.specs.Place.{Place, input_places, output_places, written_count}
-use Rattle.flow_core.specs.There.{is_there, missing as missing_place}
+use Rattle.flow_core.specs.There.{is_there, missing_place}
 use Rattle.collector.specs.declared.missing.Missing.{Missing}
 use Rattle.collector.specs.Laws.{IsLongestPrefix, IsWrittenOf, IsFirstMissing}
 use Rattle.collector.specs.Missing.{missing_at}

@@ -9,7 +9,7 @@ use Rattle.flow_core.specs.declared.activation.Activation.{Activation}
 use Rattle.flow_core.specs.declared.task_end.TaskEnd.{TaskEnd}
 use Rattle.flow_core.specs.FirstPosition.{write_cursor}
 use Rattle.flow_core.specs.Place.{Place, places_of, input_places, written_count}
-use Rattle.flow_core.specs.There.{missing as missing_place}
+use Rattle.flow_core.specs.There.{missing_place}
 use Rattle.flow_core.specs.Window.{Window, windows, windows_of}
 use Rattle.stream_match.specs.declared.layout.Layout.{Layout}
 use Rattle.stream_match.specs.declared.span.Span.{Span}

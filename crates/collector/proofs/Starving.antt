@@ -15,7 +15,7 @@ use Rattle.flow_core.specs.Outcome.{State, ends_of, is_done, is_done_at, outcome
 use Rattle.flow_core.specs.Place.{Place, input_places, output_places}
 use Rattle.flow_core.specs.Round.{gathered}
 use Rattle.flow_core.specs.Streams.{stream_ends, stream_meaning, stream_reads, stream_source}
-use Rattle.flow_core.specs.There.{is_there, missing as missing_place}
+use Rattle.flow_core.specs.There.{is_there, missing_place}
 use Rattle.flow_core.specs.Window.{Window, producer}
 use Rattle.flow_core.specs.declared.activation.Activation.{Activation}
 use Rattle.flow_core.specs.declared.outcome.Outcome.{Outcome}

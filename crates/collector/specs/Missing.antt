@@ -5,7 +5,7 @@ use Rattle.flow_core.specs.declared.activation.Activation.{Activation}
 use Rattle.flow_core.specs.declared.task_end.TaskEnd.{TaskEnd}
 use Rattle.flow_core.specs.Window.{Window, producer}
 use Rattle.flow_core.specs.Place.{Place}
-use Rattle.flow_core.specs.There.{missing as missing_place}
+use Rattle.flow_core.specs.There.{missing_place}
 use Rattle.collector.specs.declared.missing.Missing.{Missing}
 
 -- The activation whose write claim covers a place, or none.

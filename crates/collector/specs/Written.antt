@@ -1,5 +1,6 @@
 -- What is written: the complete prefix of the output stream, as bytes.
-use Rattle.std.specs.Prelude.{ℕ, ℤ, pos, negsuc, ◌≤ℤ◌, List, [], ◌∷◌, Option, Some, None, map}
+use Rattle.std.specs.Prelude.{ℕ, ℤ, pos, negsuc, List, [], ◌∷◌, Option, Some, None, map}
+use Rattle.flow_core.specs.Byte.{IsByte}
 
 -- The elements before the first one that isn't there.
 abbrev pub complete_prefix : List (Option ℤ) → List ℤ
@@ -16,10 +17,6 @@ byte_of (negsuc n) = 0
 -- writing, each where it is there.
 abbrev pub written : List (Option ℤ) → List ℕ
 written output = map byte_of (complete_prefix output)
-
--- a number that is a byte
-abbrev pub IsByte : ℤ → Type 0
-IsByte value = (pos 0 ≤ℤ value) × (value ≤ℤ pos 255)
 
 -- an element that is a byte where it is there
 abbrev pub IsByteIfThere : Option ℤ → Type 0

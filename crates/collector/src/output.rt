@@ -1,5 +1,6 @@
 ghost use Rattle.std.specs.Prelude.{◌≡◌, All, IfOk};
-ghost use Rattle.collector.specs.Written.{IsByte, IsByteIfThere, byte_of, written};
+ghost use Rattle.flow_core.specs.Byte.{IsByte};
+ghost use Rattle.collector.specs.Written.{IsByteIfThere, byte_of, written};
 
 use flow_core::Ends;
 use os_io::Memory;

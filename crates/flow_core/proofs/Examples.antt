@@ -12,7 +12,7 @@ use Rattle.flow_core.specs.Window.{Window, windows}
 use Rattle.flow_core.specs.declared.plan.Plan.{Plan}
 use Rattle.std.proofs.lemmas.Option.{same_Some}
 use Rattle.flow_core.specs.Place.{input_places, output_places}
-use Rattle.flow_core.specs.There.{missing}
+use Rattle.flow_core.specs.There.{missing_place}
 use Rattle.flow_core.specs.Streams.{stream_source, stream_reads, stream_meaning, output_count}
 use Rattle.flow_core.specs.Plans.{frame_at, cell_source, plan_reads, plan_meaning, sink_elements}
 use Rattle.flow_core.specs.IsSound.{IsSound}
@@ -113,7 +113,7 @@ unfolding short windows input_places meaning rounds round
 short_means = refl
 
 -- the first missing elements: the input ends before position 2, and nobody is Done who writes to stream 2
-short_misses : map (missing short 2 (None ∷ None ∷ [])) (0 ∷ 1 ∷ []) ≡ Some (record { stream = 0; position = 2 }) ∷ Some (record { stream = 2; position = 0 }) ∷ []
+short_misses : map (missing_place short 2 (None ∷ None ∷ [])) (0 ∷ 1 ∷ []) ≡ Some (record { stream = 0; position = 2 }) ∷ Some (record { stream = 2; position = 0 }) ∷ []
 unfolding short windows input_places
 short_misses = refl
 

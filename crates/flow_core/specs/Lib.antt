@@ -1,5 +1,6 @@
 -- What a reader believes: how an activation ends, and the states of a run,
 pub mod Outcome
+pub mod Byte
 pub mod Element
 pub mod Round
 -- what a list of activations means,

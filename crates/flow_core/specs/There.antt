@@ -16,5 +16,5 @@ is_there activations input_len ends place =
 
 -- The first missing element of an activation: the first place of its input windows, in clause order
 -- and then by position, whose element isn't there.
-abbrev pub missing : List Activation → ℕ → List (Option TaskEnd) → ℕ → Option Place
-missing activations input_len ends a = find (λ place. not (is_there activations input_len ends place)) (input_places activations a)
+abbrev pub missing_place : List Activation → ℕ → List (Option TaskEnd) → ℕ → Option Place
+missing_place activations input_len ends a = find (λ place. not (is_there activations input_len ends place)) (input_places activations a)

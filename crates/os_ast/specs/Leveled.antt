@@ -2,7 +2,7 @@
 use Rattle.std.specs.Prelude.{◌≡◌, ℕ, ◌<◌, ◌≤◌, ◌^◌, Bool, true, false, List, [], ◌∷◌, Option, Some, None}
 use Rattle.os_ast.specs.Depth.{program_depth}
 use Rattle.os_ast.specs.Limits.{depth_limit}
-use Rattle.os_ast.specs.Operators.{level_of, rank, IsAssign}
+use Rattle.os_ast.specs.Operators.{level_of, precedence, IsAssign}
 use Rattle.os_ast.specs.Trees as tree
 use Rattle.os_ast.specs.declared.expr.Binary.{Binary}
 use Rattle.os_ast.specs.declared.expr.Level.{Level}
@@ -17,7 +17,7 @@ use Rattle.os_ast.specs.declared.stmt.Step.{Step}
 -- The level of an expression by number: from 0, a choice, to 12, what stands by itself.
 abbrev pub level : tree.ExprTree → ℕ
 level (tree.Choice c a b) = 0
-level (tree.Chain l first links) = rank l
+level (tree.Chain l first links) = precedence l
 level (tree.Unary op m e) = 11
 level (tree.Number n) = 12
 level (tree.Place t) = 12
@@ -30,7 +30,7 @@ mutual
   pub data IsExpr : tree.ExprTree → Type 0 where
     choice : {c a b : tree.ExprTree} → IsExpr c → 0 < level c → IsExpr a → IsExpr b → IsExpr (tree.Choice c a b)
     chain : {l : Level} {first e : tree.ExprTree} {op : Binary} {m : Mark} {rest : tree.Links} →
-        IsExpr first → rank l < level first → AreLinks l (tree.link op m e rest) →
+        IsExpr first → precedence l < level first → AreLinks l (tree.link op m e rest) →
         IsExpr (tree.Chain l first (tree.link op m e rest))
     unary : {op : operator.Unary} {m : Mark} {e : tree.ExprTree} → IsExpr e → 11 ≤ level e → IsExpr (tree.Unary op m e)
     number : {n : ℕ} → n < 2 ^ 31 → IsExpr (tree.Number n)
@@ -42,7 +42,7 @@ mutual
   pub data AreLinks : Level → tree.Links → Type 0 where
     no_links : {l : Level} → AreLinks l tree.no_links
     link : {l : Level} {op : Binary} {m : Mark} {e : tree.ExprTree} {rest : tree.Links} →
-        level_of op ≡ l → IsExpr e → rank l < level e → AreLinks l rest → AreLinks l (tree.link op m e rest)
+        level_of op ≡ l → IsExpr e → precedence l < level e → AreLinks l rest → AreLinks l (tree.link op m e rest)
 
   -- target = name [ "[" expr "]" ]
   pub data IsTarget : tree.TargetTree → Type 0 where

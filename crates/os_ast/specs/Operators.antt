@@ -64,17 +64,17 @@ level_of binary.Remainder = level.Product
 
 -- The levels of chains by number. A choice is at 0, a unary at 11, and a number, a target, a call or
 -- parentheses at 12. A higher number binds closer.
-abbrev pub rank : Level → ℕ
-rank level.Or = 1
-rank level.And = 2
-rank level.BitOr = 3
-rank level.BitXor = 4
-rank level.BitAnd = 5
-rank level.Equal = 6
-rank level.Order = 7
-rank level.Shift = 8
-rank level.Sum = 9
-rank level.Product = 10
+abbrev pub precedence : Level → ℕ
+precedence level.Or = 1
+precedence level.And = 2
+precedence level.BitOr = 3
+precedence level.BitXor = 4
+precedence level.BitAnd = 5
+precedence level.Equal = 6
+precedence level.Order = 7
+precedence level.Shift = 8
+precedence level.Sum = 9
+precedence level.Product = 10
 
 -- the operators that have an assigning form
 pub data HasAssigningForm : Binary → Type 0 where

@@ -23,14 +23,14 @@ abbrev pub violated : ℕ → ℕ → ℕ → Violation
 violated place code line = record { place = place; code = code; line = line }
 
 -- the violations of one token
-abbrev pub faults_at : Mark → List ℕ → List Violation
-faults_at m [] = []
-faults_at m (code ∷ rest) = violated m.place code m.line ∷ faults_at m rest
+abbrev pub violations_at : Mark → List ℕ → List Violation
+violations_at m [] = []
+violations_at m (code ∷ rest) = violated m.place code m.line ∷ violations_at m rest
 
 -- the violations of what stands in a program, or in a part of it
-abbrev pub faults : List Note → List Violation
-faults [] = []
-faults (n ∷ rest) = faults_at (mark_of n) (codes n) ++ faults rest
+abbrev pub violations_of : List Note → List Violation
+violations_of [] = []
+violations_of (n ∷ rest) = violations_at (mark_of n) (codes n) ++ violations_of rest
 
 abbrev pub declared_meaning : Mark → Owner → List ℕ → Option Entity → List Resolved
 declared_meaning m o captured None = []
@@ -85,7 +85,7 @@ no_main p = if has_main p then [] else violated (length (spell p)) no_main_code 
 
 -- The violations of a program. The list stands for the set of its members.
 abbrev pub violations : tree.ProgramTree → List Violation
-violations p = faults (program_notes p) ++ no_main p
+violations p = violations_of (program_notes p) ++ no_main p
 
 -- by place, and then by code
 pub data IsBefore (v w : Violation) : Type 0 where

@@ -6,7 +6,7 @@ use Rattle.os_ast.specs.Leveled as leveled
 use Rattle.os_ast.specs.Leveled.{IsExpr, AreLinks, AreArgs, IsTarget, level}
 use Rattle.os_ast.specs.Means as means
 use Rattle.os_ast.specs.Means.{Placed, placed, Fit}
-use Rattle.os_ast.specs.Operators.{level_of, rank, binary_mark, unary_mark}
+use Rattle.os_ast.specs.Operators.{level_of, precedence, binary_mark, unary_mark}
 use Rattle.os_ast.specs.Spelling as spelling
 use Rattle.os_ast.specs.Spelling.{Piece, Printer, bare, marked}
 use Rattle.os_ast.specs.Trees as tree
@@ -23,12 +23,12 @@ use Rattle.os_lexer.specs.declared.token.Kind.TheVariants as kind
 use Rattle.os_lexer.specs.declared.token.Punct.TheVariants as puncts
 use Rattle.os_parser.specs.Expressions.{Readers, index, target_of, more_args, some_args, args, named, paren, sign, operand_by, operand, links, linked, chains, branches, expr_on, layer, below}
 use Rattle.os_parser.specs.Kinds.{same}
-use Rattle.os_parser.specs.Operands.{operand_start, binary_of, of_rank, op_rank, operator_at, level_at}
+use Rattle.os_parser.specs.Operands.{operand_start, binary_of, of_precedence, op_precedence, operator_at, level_at}
 use Rattle.os_parser.specs.Reading.{Reader, got, begins, expect}
 use Rattle.os_parser.specs.declared.operators.OperandStart.TheVariants as starts
 use Rattle.os_parser.proofs.Chaining.{chains-next}
 use Rattle.os_parser.proofs.Follows.{Stops, stops-more, grows-operator, binary_of-mark, no-operator, no-token}
-use Rattle.os_parser.proofs.SoundExprs.{level_at-rank}
+use Rattle.os_parser.proofs.SoundExprs.{level_at-precedence}
 use Rattle.os_parser.proofs.SameKinds.{same-self}
 use Rattle.os_ast.specs.Beginnings as can
 use Rattle.os_ast.specs.Beginnings.{BeginsWith, CanBeginExpr}
@@ -120,21 +120,21 @@ pub expect-back : (k : Kind) (m : Mark) (ts : List Placed) → expect k (placed 
 unfolding expect
 expect-back k m ts = rw (same-self k) refl
 
-rank-most : (l : Level) → rank l ≤ 10
-rank-most levels.Or = omega arith
-rank-most levels.And = omega arith
-rank-most levels.BitOr = omega arith
-rank-most levels.BitXor = omega arith
-rank-most levels.BitAnd = omega arith
-rank-most levels.Equal = omega arith
-rank-most levels.Order = omega arith
-rank-most levels.Shift = omega arith
-rank-most levels.Sum = omega arith
-rank-most levels.Product = omega arith
+precedence-most : (l : Level) → precedence l ≤ 10
+precedence-most levels.Or = omega arith
+precedence-most levels.And = omega arith
+precedence-most levels.BitOr = omega arith
+precedence-most levels.BitXor = omega arith
+precedence-most levels.BitAnd = omega arith
+precedence-most levels.Equal = omega arith
+precedence-most levels.Order = omega arith
+precedence-most levels.Shift = omega arith
+precedence-most levels.Sum = omega arith
+precedence-most levels.Product = omega arith
 
 level-least : (e : ExprTree) → level e ≤ 12
 level-least (tree.Choice c a b) = omega arith
-level-least (tree.Chain l first rest) = let h = rank-most l in omega arith
+level-least (tree.Chain l first rest) = let h = precedence-most l in omega arith
 level-least (tree.Unary op m e) = omega arith
 level-least (tree.Number n) = omega arith
 level-least (tree.Place t) = omega arith
@@ -314,26 +314,26 @@ back-links_none : (f r : ℕ) (u : Reader ExprTree) (ps : List Piece) (ts : List
 back-links_none f r u ps ts s fit =
     record { rest = ts; read = links-none f r u ts (no-operator r ps ts s fit); fits = fit; within = omega arith }
 
-operator-of_rank : (r : ℕ) (op : Binary) → op_rank op ≡ r → of_rank r (binary_of (kind.Punct (binary_mark op))) ≡ Some op
-operator-of_rank r op e = rw (binary_of-mark op, eq-eqb _ _ e) refl
+operator-of_precedence : (r : ℕ) (op : Binary) → op_precedence op ≡ r → of_precedence r (binary_of (kind.Punct (binary_mark op))) ≡ Some op
+operator-of_precedence r op e = rw (binary_of-mark op, eq-eqb _ _ e) refl
 
-back-link : (f r : ℕ) (u : Reader ExprTree) (op : Binary) (m : Mark) (e : ExprTree) (ls : Links) (ps : List Piece) (ts : List Placed) → op_rank op ≡ r →
+back-link : (f r : ℕ) (u : Reader ExprTree) (op : Binary) (m : Mark) (e : ExprTree) (ls : Links) (ps : List Piece) (ts : List Placed) → op_precedence op ≡ r →
     (t : Noted (kind.Punct (binary_mark op)) m (spelling.expr e (spelling.links ls ps)) ts) →
     (a : Back u e (spelling.links ls ps) t.rest) → Back (links f r u) ls ps a.rest →
     Back (links (suc f) r u) (tree.link op m e ls) ps ts
 unfolding links
-back-link f r u op m e ls ps ts rank t a b =
+back-link f r u op m e ls ps ts precedence t a b =
     let size = ap length t.head in
-    record { rest = b.rest; read = rw (t.head, operator-of_rank r op rank, a.read, b.read) refl; fits = b.fits; within = omega (arith, a.within, b.within) }
+    record { rest = b.rest; read = rw (t.head, operator-of_precedence r op precedence, a.read, b.read) refl; fits = b.fits; within = omega (arith, a.within, b.within) }
 
-back-chain : (d r : ℕ) (l : Level) (first e : ExprTree) (op : Binary) (m : Mark) (rest : Links) (ps : List Piece) (ts : List Placed) → rank l ≡ r → 1 ≤ r →
+back-chain : (d r : ℕ) (l : Level) (first e : ExprTree) (op : Binary) (m : Mark) (rest : Links) (ps : List Piece) (ts : List Placed) → precedence l ≡ r → 1 ≤ r →
     (a : Back (at d (suc r)) first (spelling.links (tree.link op m e rest) ps) ts) →
     Back (links (suc (length a.rest)) r (at d (suc r))) (tree.link op m e rest) ps a.rest → Back (at d r) (tree.Chain l first (tree.link op m e rest)) ps ts
 unfolding linked
 back-chain d zero l first e op m rest ps ts is some a b = absurd (omega arith)
 back-chain d (suc n) l first e op m rest ps ts is some a b =
-    let most = rank-most l in
-    let level : level_at (suc n) ≡ l = ap level_at (sym is) ∙ level_at-rank l in
+    let most = precedence-most l in
+    let level : level_at (suc n) ≡ l = ap level_at (sym is) ∙ level_at-precedence l in
     let up : 10 - suc n + 1 ≡ 10 - n = omega arith in
     let next : linked (suc n) (chains (10 - suc n) (operand (below d))) first a.rest ≡ got (tree.Chain l first (tree.link op m e rest)) b.rest =
     rw (b.read, level) refl in
@@ -361,16 +361,16 @@ back-choice c e x y ps ts a t b u z =
       within = omega (arith, a.within, b.within, z.within);
     }
 
-operator-stops : (l : Level) (op : Binary) (m : Mark) (ps : List Piece) → level_of op ≡ l → Stops (suc (rank l)) (marked (kind.Punct (binary_mark op)) m ∷ ps)
-operator-stops l op m ps is = let h = grows-operator op in let same = ap rank is in record { least = omega (arith, h, same) }
+operator-stops : (l : Level) (op : Binary) (m : Mark) (ps : List Piece) → level_of op ≡ l → Stops (suc (precedence l)) (marked (kind.Punct (binary_mark op)) m ∷ ps)
+operator-stops l op m ps is = let h = grows-operator op in let same = ap precedence is in record { least = omega (arith, h, same) }
 
 pub closing : {n : ℕ} (ps : List Piece) → Stops n (bare (kind.Punct puncts.CloseParen) ∷ ps)
 closing ps = record { least = omega arith }
 
-links-stop : (r : ℕ) (l : Level) (ls : Links) (ps : List Piece) → rank l ≡ r → AreLinks l ls → Stops r ps → Stops (suc r) (spelling.links ls ps)
+links-stop : (r : ℕ) (l : Level) (ls : Links) (ps : List Piece) → precedence l ≡ r → AreLinks l ls → Stops r ps → Stops (suc r) (spelling.links ls ps)
 links-stop r l tree.no_links ps is none s = stops-more r (suc r) ps (omega arith) s
 links-stop r l (tree.link op m e rest) ps is (leveled.link level w x y) s =
-    stops-more (suc (rank l)) (suc r) _ (omega arith) (operator-stops l op m _ level)
+    stops-more (suc (precedence l)) (suc r) _ (omega arith) (operator-stops l op m _ level)
 
 asks : {n : ℕ} (ps : List Piece) → Stops (suc n) (bare (kind.Punct puncts.Question) ∷ ps)
 asks ps = record { least = omega arith }
@@ -381,17 +381,17 @@ colon ps = record { least = omega arith }
 pub bracket : {n : ℕ} (ps : List Piece) → Stops n (bare (kind.Punct puncts.CloseBracket) ∷ ps)
 bracket ps = record { least = omega arith }
 
-rank-least : (l : Level) → 1 ≤ rank l
-rank-least levels.Or = omega arith
-rank-least levels.And = omega arith
-rank-least levels.BitOr = omega arith
-rank-least levels.BitXor = omega arith
-rank-least levels.BitAnd = omega arith
-rank-least levels.Equal = omega arith
-rank-least levels.Order = omega arith
-rank-least levels.Shift = omega arith
-rank-least levels.Sum = omega arith
-rank-least levels.Product = omega arith
+precedence-least : (l : Level) → 1 ≤ precedence l
+precedence-least levels.Or = omega arith
+precedence-least levels.And = omega arith
+precedence-least levels.BitOr = omega arith
+precedence-least levels.BitXor = omega arith
+precedence-least levels.BitAnd = omega arith
+precedence-least levels.Equal = omega arith
+precedence-least levels.Order = omega arith
+precedence-least levels.Shift = omega arith
+precedence-least levels.Sum = omega arith
+precedence-least levels.Product = omega arith
 
 signed : (d : ℕ) {e : ExprTree} {ps : List Piece} {ts : List Placed} → Back (operand (below d)) e ps ts → Back (at d 11) e ps ts
 unfolding chains
@@ -429,9 +429,9 @@ mutual
       back-choice d c a b _ _ x t y u z
   base d (leveled.chain {l} {first} {e} {op} {m} {rest} one higher (leveled.link lv is above more)) h f s =
       let stop = operator-stops l op m (spelling.expr e (spelling.links rest _)) lv in
-      let x = raise d (suc (rank l)) first _ _ higher stop (base d one (omega arith) f (stops-more (suc (rank l)) (level first) _ higher stop)) in
-      let y = back-links (suc (length x.rest)) d (rank l) {ls = tree.link op m e rest} refl (leveled.link lv is above more) (omega arith) x.fits s (omega arith) in
-      back-chain d (rank l) l first e op m rest _ _ refl (rank-least l) x y
+      let x = raise d (suc (precedence l)) first _ _ higher stop (base d one (omega arith) f (stops-more (suc (precedence l)) (level first) _ higher stop)) in
+      let y = back-links (suc (length x.rest)) d (precedence l) {ls = tree.link op m e rest} refl (leveled.link lv is above more) (omega arith) x.fits s (omega arith) in
+      back-chain d (precedence l) l first e op m rest _ _ refl (precedence-least l) x y
 
   pub back-target : (d : ℕ) {t : TargetTree} {ps : List Piece} {ts : List Placed} → IsTarget t → target_depth t ≤ d →
       Fit (spelling.target t ps) ts → Stops 12 ps → BackTarget d t ps ts
@@ -463,7 +463,7 @@ mutual
       let a = raise c 0 e _ _ (omega arith) (more-stop es _) (base c first (omega arith) t.fits (stops-more 0 _ _ (omega arith) (more-stop es _))) in
       back-more f c e es _ _ t a (back-more_args f c rest (omega arith) a.fits (omega (arith, a.within, ap length t.head)))
 
-  back-links : (f d r : ℕ) {l : Level} {ls : Links} {ps : List Piece} {ts : List Placed} → rank l ≡ r → AreLinks l ls → links_depth ls ≤ suc d →
+  back-links : (f d r : ℕ) {l : Level} {ls : Links} {ps : List Piece} {ts : List Placed} → precedence l ≡ r → AreLinks l ls → links_depth ls ≤ suc d →
       Fit (spelling.links ls ps) ts → Stops r ps → length ts < f → Back (links f r (at d (suc r))) ls ps ts
   back-links zero d r is are h fit s less = absurd (omega arith)
   back-links (suc f) d r is leveled.no_links h fit s less = back-links_none f r (at d (suc r)) _ _ s fit
@@ -472,7 +472,7 @@ mutual
       let high : suc r ≤ leveled.level e = omega (arith, above, is) in
       let stop = links-stop r l rest _ is more s in
       let a = raise d (suc r) e _ _ high stop (base d right (omega arith) t.fits (stops-more (suc r) _ _ high stop)) in
-      back-link f r (at d (suc r)) op m e rest _ _ (ap rank lv ∙ is) t a
+      back-link f r (at d (suc r)) op m e rest _ _ (ap precedence lv ∙ is) t a
       (back-links f d r is more (omega arith) a.fits s (omega (arith, a.within, ap length t.head)))
 
 -- what is spelled as an expression is read back, where what follows doesn't go on

@@ -14,7 +14,7 @@ use Rattle.os_parser.specs.Operands.{operator_at, level_at}
 use Rattle.os_parser.specs.Expressions.{Readers, links, chains, linked, chained, more_args, some_args}
 use Rattle.os_parser.specs.Reading.{Read, Reader, got, fails, ◌>>=◌, after, mark_at, begins}
 
--- the readers of chains, from one rank to the next
+-- the readers of chains, from one precedence to the next
 pub chains-none : (n : ℕ) (u : Reader ExprTree) (ts : List Placed) → n ≡ 0 → chains n u ts ≡ u ts
 unfolding chains
 chains-none zero u ts e = refl
@@ -26,10 +26,10 @@ unfolding chains
 chains-more zero m r u ts e h = absurd (omega arith)
 chains-more (suc n) m r u ts e h =
     let same : n ≡ m = omega arith in
-    let rank : 10 - n ≡ r = omega arith in
-    rw (← rank, ← same) refl
+    let precedence : 10 - n ≡ r = omega arith in
+    rw (← precedence, ← same) refl
 
--- where a reader of chains fails, so does each for further ranks
+-- where a reader of chains fails, so does each for further precedences
 chains-up : (k n : ℕ) (u : Reader ExprTree) (ts us : List Placed) → chains n u ts ≡ fails us → chains (n + k) u ts ≡ fails us
 chains-up zero n u ts us e = let m : n + 0 ≡ n = omega arith in rw m e
 chains-up (suc k) n u ts us e =
@@ -44,13 +44,13 @@ chains-fails n u ts us e =
 
 pub chains-next : (n k r : ℕ) (u : Reader ExprTree) (ts us : List Placed) (first : ExprTree) (next : Read ExprTree) →
     chains n u ts ≡ got first us → k ≡ n → r ≡ 10 - n → linked r (chains k u) first us ≡ next → chains (n + 1) u ts ≡ next
-chains-next n k r u ts us first next e same rank is =
-    rw (chains-more (n + 1) n r u ts refl rank, e, ← same) is
+chains-next n k r u ts us first next e same precedence is =
+    rw (chains-more (n + 1) n r u ts refl precedence, e, ← same) is
 
 pub chains-stop : (n m k r : ℕ) (u : Reader ExprTree) (ts us vs : List Placed) (first : ExprTree) → n < m →
     chains n u ts ≡ got first us → k ≡ n → r ≡ 10 - n → linked r (chains k u) first us ≡ fails vs → chains m u ts ≡ fails vs
-chains-stop n m k r u ts us vs first lt e same rank is =
-    let next = chains-next n k r u ts us first (fails vs) e same rank is in
+chains-stop n m k r u ts us vs first lt e same precedence is =
+    let next = chains-next n k r u ts us first (fails vs) e same precedence is in
     let sum : n + 1 + (m - (n + 1)) ≡ m = omega arith in
     rw sum at (chains-up (m - (n + 1)) (n + 1) u ts vs next)
 
@@ -103,28 +103,28 @@ unfolding with_links links_onto
 with_links-start (got rest us) = refl
 with_links-start (fails us) = refl
 
-pub with_links-more : (F : ℕ) (ls : List Link) (rank : ℕ) (right : Reader ExprTree) (ts us : List Placed) (l : Link) →
-    length ls < F → operator_at rank ts ≡ Some l.op → mark_at ts ≡ l.mark → right (after ts) ≡ got (expr_tree l.right) us →
-    with_links ls (links (F - length ls) rank right ts) ≡ with_links (ls ++ l ∷ []) (links (F - length (ls ++ l ∷ [])) rank right us)
+pub with_links-more : (F : ℕ) (ls : List Link) (precedence : ℕ) (right : Reader ExprTree) (ts us : List Placed) (l : Link) →
+    length ls < F → operator_at precedence ts ≡ Some l.op → mark_at ts ≡ l.mark → right (after ts) ≡ got (expr_tree l.right) us →
+    with_links ls (links (F - length ls) precedence right ts) ≡ with_links (ls ++ l ∷ []) (links (F - length (ls ++ l ∷ [])) precedence right us)
 unfolding links
-with_links-more F ls rank right ts us l h op mark read =
+with_links-more F ls precedence right ts us l h op mark read =
     let f = fuel-left F (length ls) h in
     let n : length (ls ++ l ∷ []) ≡ length ls + 1 = length_push ls l in
-    rw (n, f.1, f.2, op, mark, read) (with_links-push ls l (links f.0 rank right us))
+    rw (n, f.1, f.2, op, mark, read) (with_links-push ls l (links f.0 precedence right us))
 
-pub with_links-fails : (F : ℕ) (ls : List Link) (rank : ℕ) (right : Reader ExprTree) (ts us : List Placed) (op : Binary) →
-    length ls < F → operator_at rank ts ≡ Some op → right (after ts) ≡ fails us →
-    with_links ls (links (F - length ls) rank right ts) ≡ fails us
+pub with_links-fails : (F : ℕ) (ls : List Link) (precedence : ℕ) (right : Reader ExprTree) (ts us : List Placed) (op : Binary) →
+    length ls < F → operator_at precedence ts ≡ Some op → right (after ts) ≡ fails us →
+    with_links ls (links (F - length ls) precedence right ts) ≡ fails us
 unfolding links with_links
-with_links-fails F ls rank right ts us op h is read =
+with_links-fails F ls precedence right ts us op h is read =
     let f = fuel-left F (length ls) h in
     rw (f.1, is, read) refl
 
-pub with_links-end : (F : ℕ) (ls : List Link) (rank : ℕ) (right : Reader ExprTree) (ts : List Placed) →
-    length ls < F → operator_at rank ts ≡ None →
-    with_links ls (links (F - length ls) rank right ts) ≡ got (links_tree ls) ts
+pub with_links-end : (F : ℕ) (ls : List Link) (precedence : ℕ) (right : Reader ExprTree) (ts : List Placed) →
+    length ls < F → operator_at precedence ts ≡ None →
+    with_links ls (links (F - length ls) precedence right ts) ≡ got (links_tree ls) ts
 unfolding links with_links
-with_links-end F ls rank right ts h is =
+with_links-end F ls precedence right ts h is =
     let f = fuel-left F (length ls) h in
     rw (f.1, is, links_onto-none ls) refl
 
@@ -176,26 +176,26 @@ with_args-end F es r ts h comma =
     let f = fuel-left F (length es) h in
     rw (f.1, comma, args_onto-none es) refl
 
-pub linked-fails : (rank : ℕ) (right : Reader ExprTree) (first : ExprTree) (ts us vs : List Placed) (ls : List Link) (op : Binary) →
-    links (suc (length ts)) rank right ts ≡ with_links ls (links (suc (length ts) - length ls) rank right us) →
-    length ls < suc (length ts) → operator_at rank us ≡ Some op → right (after us) ≡ fails vs →
-    linked rank right first ts ≡ fails vs
+pub linked-fails : (precedence : ℕ) (right : Reader ExprTree) (first : ExprTree) (ts us vs : List Placed) (ls : List Link) (op : Binary) →
+    links (suc (length ts)) precedence right ts ≡ with_links ls (links (suc (length ts) - length ls) precedence right us) →
+    length ls < suc (length ts) → operator_at precedence us ≡ Some op → right (after us) ≡ fails vs →
+    linked precedence right first ts ≡ fails vs
 unfolding linked
-linked-fails rank right first ts us vs ls op so_far h is read =
-    rw (so_far, with_links-fails (suc (length ts)) ls rank right us vs op h is read) refl
+linked-fails precedence right first ts us vs ls op so_far h is read =
+    rw (so_far, with_links-fails (suc (length ts)) ls precedence right us vs op h is read) refl
 
-pub linked-end : (rank : ℕ) (right : Reader ExprTree) (first : ExprTree) (ts us : List Placed) (ls : List Link) →
-    links (suc (length ts)) rank right ts ≡ with_links ls (links (suc (length ts) - length ls) rank right us) →
-    length ls < suc (length ts) → operator_at rank us ≡ None →
-    linked rank right first ts ≡ got (chained rank first (links_tree ls)) us
+pub linked-end : (precedence : ℕ) (right : Reader ExprTree) (first : ExprTree) (ts us : List Placed) (ls : List Link) →
+    links (suc (length ts)) precedence right ts ≡ with_links ls (links (suc (length ts) - length ls) precedence right us) →
+    length ls < suc (length ts) → operator_at precedence us ≡ None →
+    linked precedence right first ts ≡ got (chained precedence first (links_tree ls)) us
 unfolding linked
-linked-end rank right first ts us ls so_far h is =
-    rw (so_far, with_links-end (suc (length ts)) ls rank right us h is) refl
+linked-end precedence right first ts us ls so_far h is =
+    rw (so_far, with_links-end (suc (length ts)) ls precedence right us h is) refl
 
-pub chained-not_none : (rank : ℕ) (first : ExprTree) (ls : List Link) → 0 < length ls →
-    chained rank first (links_tree ls) ≡ tree.Chain (level_at rank) first (links_tree ls)
-chained-not_none rank first [] h = absurd (omega arith)
-chained-not_none rank first (l ∷ ls) h = refl
+pub chained-not_none : (precedence : ℕ) (first : ExprTree) (ls : List Link) → 0 < length ls →
+    chained precedence first (links_tree ls) ≡ tree.Chain (level_at precedence) first (links_tree ls)
+chained-not_none precedence first [] h = absurd (omega arith)
+chained-not_none precedence first (l ∷ ls) h = refl
 
 pub ruleset chaining = (chains-none, chains-more, with_links-start, with_links-more, with_links-fails, with_links-end)
 

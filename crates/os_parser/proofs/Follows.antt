@@ -10,7 +10,7 @@ use Rattle.os_lexer.specs.declared.token.Kind.{Kind}
 use Rattle.os_lexer.specs.declared.token.Kind.TheVariants as kind
 use Rattle.os_lexer.specs.declared.token.Punct.TheVariants as puncts
 use Rattle.os_parser.specs.Kinds.{same}
-use Rattle.os_parser.specs.Operands.{binary_of, of_rank, op_rank, operator_at}
+use Rattle.os_parser.specs.Operands.{binary_of, of_precedence, op_precedence, operator_at}
 use Rattle.os_parser.specs.Reading.{begins}
 use Rattle.os_parser.proofs.SameKinds.{same-equal}
 
@@ -22,7 +22,7 @@ grows_else (kind.Punct puncts.OpenBracket) = 13
 grows_else _ = 0
 
 abbrev pub grows_by : Option Binary → Kind → ℕ
-grows_by (Some op) k = suc (op_rank op)
+grows_by (Some op) k = suc (op_precedence op)
 grows_by None k = grows_else k
 
 -- from which level on readers do not go on at a token
@@ -40,7 +40,7 @@ pub record Stops (n : ℕ) (ps : List Piece) : Type 0 where
 pub stops-more : (m n : ℕ) (ps : List Piece) → m ≤ n → Stops m ps → Stops n ps
 stops-more m n ps h s = record { least = omega (arith, s.least) }
 
-pub grows-operator : (op : Binary) → grows (kind.Punct (binary_mark op)) ≡ suc (op_rank op)
+pub grows-operator : (op : Binary) → grows (kind.Punct (binary_mark op)) ≡ suc (op_precedence op)
 grows-operator binary.Or = refl
 grows-operator binary.And = refl
 grows-operator binary.BitOr = refl
@@ -80,21 +80,21 @@ binary_of-mark binary.Multiply = refl
 binary_of-mark binary.Divide = refl
 binary_of-mark binary.Remainder = refl
 
-unequal : (r : ℕ) (op : Binary) (b : Bool) → nat_eq (op_rank op) r ≡ b → suc (op_rank op) ≤ r → cond b (Some op) None ≡ None
-unequal r op true e h = let is : op_rank op ≡ r = eqb-true _ _ e in absurd (omega arith)
+unequal : (r : ℕ) (op : Binary) (b : Bool) → nat_eq (op_precedence op) r ≡ b → suc (op_precedence op) ≤ r → cond b (Some op) None ≡ None
+unequal r op true e h = let is : op_precedence op ≡ r = eqb-true _ _ e in absurd (omega arith)
 unequal r op false e h = refl
 
-of_rank-none : (r : ℕ) (o : Option Binary) (k : Kind) → grows_by o k ≤ r → of_rank r o ≡ None
-of_rank-none r None k h = refl
-of_rank-none r (Some op) k h = unequal r op (nat_eq (op_rank op) r) refl h
+of_precedence-none : (r : ℕ) (o : Option Binary) (k : Kind) → grows_by o k ≤ r → of_precedence r o ≡ None
+of_precedence-none r None k h = refl
+of_precedence-none r (Some op) k h = unequal r op (nat_eq (op_precedence op) r) refl h
 
 pub no-operator : (r : ℕ) (ps : List Piece) (ts : List Placed) → Stops r ps → Fit ps ts → operator_at r ts ≡ None
 no-operator r [] [] s means.none = refl
 no-operator r [] (_ ∷ ts) s f = elim f [ ]
 no-operator r (bare k ∷ ps) [] s f = elim f [ ]
 no-operator r (marked k n ∷ ps) [] s f = elim f [ ]
-no-operator r (bare k ∷ ps) (placed l m ∷ ts) s (means.bare f) = of_rank-none r (binary_of k) k s.least
-no-operator r (marked k n ∷ ps) (placed l m ∷ ts) s (means.marked f) = of_rank-none r (binary_of k) k s.least
+no-operator r (bare k ∷ ps) (placed l m ∷ ts) s (means.bare f) = of_precedence-none r (binary_of k) k s.least
+no-operator r (marked k n ∷ ps) (placed l m ∷ ts) s (means.marked f) = of_precedence-none r (binary_of k) k s.least
 
 differs : (k l : Kind) (b : Bool) → same k l ≡ b → grows k < grows l → b ≡ false
 differs k l true e h = let is : grows k ≡ grows l = ap grows (same-equal k l e) in absurd (omega arith)

@@ -6,7 +6,7 @@ use Rattle.os_ast.specs.Leveled as leveled
 use Rattle.os_ast.specs.Leveled.{IsExpr, AreLinks, AreArgs, IsTarget, level}
 use Rattle.os_ast.specs.Means as means
 use Rattle.os_ast.specs.Means.{Placed, placed, Fit}
-use Rattle.os_ast.specs.Operators.{level_of, rank, binary_mark, unary_mark}
+use Rattle.os_ast.specs.Operators.{level_of, precedence, binary_mark, unary_mark}
 use Rattle.os_ast.specs.Spelling as spelling
 use Rattle.os_ast.specs.Spelling.{Piece, Printer, bare, marked}
 use Rattle.os_ast.specs.Trees as tree
@@ -24,7 +24,7 @@ use Rattle.os_lexer.specs.declared.token.Kind.TheVariants as kind
 use Rattle.os_lexer.specs.declared.token.Punct.{Punct}
 use Rattle.os_lexer.specs.declared.token.Punct.TheVariants as puncts
 use Rattle.os_parser.specs.Expressions.{Readers, deeper, index, target_of, more_args, some_args, args, named, paren, sign, operand_by, operand, at_operator, links, chained, linked, chains, branches, expr_on, below}
-use Rattle.os_parser.specs.Operands.{operand_start, punct_start, punct_binary, binary_of, of_rank, op_rank, operator_at, level_at}
+use Rattle.os_parser.specs.Operands.{operand_start, punct_start, punct_binary, binary_of, of_precedence, op_precedence, operator_at, level_at}
 use Rattle.os_parser.specs.Reading.{Read, Reader, got, fails, after, mark_at, begins, expect}
 use Rattle.os_parser.specs.declared.operators.OperandStart.{OperandStart}
 use Rattle.os_parser.specs.declared.operators.OperandStart.TheVariants as starts
@@ -266,37 +266,37 @@ kind-operators (kind.Key k) = none
 kind-operators kind.PragmaStart = none
 kind-operators kind.PragmaEnd = none
 
-pub level_at-rank : (l : Level) → level_at (rank l) ≡ l
-level_at-rank levels.Or = refl
-level_at-rank levels.And = refl
-level_at-rank levels.BitOr = refl
-level_at-rank levels.BitXor = refl
-level_at-rank levels.BitAnd = refl
-level_at-rank levels.Equal = refl
-level_at-rank levels.Order = refl
-level_at-rank levels.Shift = refl
-level_at-rank levels.Sum = refl
-level_at-rank levels.Product = refl
+pub level_at-precedence : (l : Level) → level_at (precedence l) ≡ l
+level_at-precedence levels.Or = refl
+level_at-precedence levels.And = refl
+level_at-precedence levels.BitOr = refl
+level_at-precedence levels.BitXor = refl
+level_at-precedence levels.BitAnd = refl
+level_at-precedence levels.Equal = refl
+level_at-precedence levels.Order = refl
+level_at-precedence levels.Shift = refl
+level_at-precedence levels.Sum = refl
+level_at-precedence levels.Product = refl
 
--- an operator of a rank stands at the next token
+-- an operator of a precedence stands at the next token
 record Operator (r : ℕ) (ts : List Placed) (op : Binary) : Type 0 where
   pub level : level_of op ≡ level_at r
   pub takes : Takes (spelling.punct_at (binary_mark op) (mark_at ts)) ts (after ts)
 
-operator-level : (r : ℕ) (op : Binary) → nat_eq (op_rank op) r ≡ true → level_of op ≡ level_at r
-operator-level r op e = sym (level_at-rank (level_of op)) ∙ ap level_at (eqb-true _ _ e)
+operator-level : (r : ℕ) (op : Binary) → nat_eq (op_precedence op) r ≡ true → level_of op ≡ level_at r
+operator-level r op e = sym (level_at-precedence (level_of op)) ∙ ap level_at (eqb-true _ _ e)
 
-of_rank-cases : {A : Type 0} (Q : A → List Placed → Type 0) (r : ℕ) (op : Binary) (f : Binary → Read A) (n : Read A) (b : Bool) →
-    nat_eq (op_rank op) r ≡ b → (nat_eq (op_rank op) r ≡ true → Sound Q (f op)) → Sound Q n →
+of_precedence-cases : {A : Type 0} (Q : A → List Placed → Type 0) (r : ℕ) (op : Binary) (f : Binary → Read A) (n : Read A) (b : Bool) →
+    nat_eq (op_precedence op) r ≡ b → (nat_eq (op_precedence op) r ≡ true → Sound Q (f op)) → Sound Q n →
     Sound Q (at_operator (cond b (Some op) None) f n)
-of_rank-cases Q r op f n true e h g = h e
-of_rank-cases Q r op f n false e h g = g
+of_precedence-cases Q r op f n true e h g = h e
+of_precedence-cases Q r op f n false e h g = g
 
 at_operator-kind : {A : Type 0} (Q : A → List Placed → Type 0) (r : ℕ) {k : Kind} {o : Option Binary} (m : Mark) (ts : List Placed)
     (f : Binary → Read A) (n : Read A) → Operators k o →
-    ((op : Binary) → Operator r (placed k m ∷ ts) op → Sound Q (f op)) → Sound Q n → Sound Q (at_operator (of_rank r o) f n)
+    ((op : Binary) → Operator r (placed k m ∷ ts) op → Sound Q (f op)) → Sound Q n → Sound Q (at_operator (of_precedence r o) f n)
 at_operator-kind Q r m ts f n (some op) h g =
-    of_rank-cases Q r op f n (nat_eq (op_rank op) r) refl
+    of_precedence-cases Q r op f n (nat_eq (op_precedence op) r) refl
     (λ e. h op (record { level = operator-level r op e; takes = λ ps g. means.marked g })) g
 at_operator-kind Q r m ts f n none h g = g
 
@@ -309,7 +309,7 @@ at_operator-sound Q r (placed k m ∷ ts) f n h g = at_operator-kind Q r m ts f 
 abbrev SoundReader : ℕ → ℕ → Reader ExprTree → Type 0
 SoundReader n d u = (ts : List Placed) → Sound (ReadExpr n d ts) (u ts)
 
-links-sound : (f r n d : ℕ) (u : Reader ExprTree) (ts : List Placed) → rank (level_at r) < n → SoundReader n d u →
+links-sound : (f r n d : ℕ) (u : Reader ExprTree) (ts : List Placed) → precedence (level_at r) < n → SoundReader n d u →
     Sound (ReadLinks r d ts) (links f r u ts)
 unfolding links
 links-sound zero r n d u ts h s = tt
@@ -324,7 +324,7 @@ links-sound (suc f) r n d u ts h s =
     })))
     (record { leveled = leveled.no_links; shallow = omega arith; takes = λ ps g. g })
 
-chained-read : (r d : ℕ) (ts us vs : List Placed) (first : ExprTree) (ls : Links) → rank (level_at r) ≡ r →
+chained-read : (r d : ℕ) (ts us vs : List Placed) (first : ExprTree) (ls : Links) → precedence (level_at r) ≡ r →
     ReadExpr (suc r) d ts first us → ReadLinks r d us ls vs → ReadExpr r d ts (chained r first ls) vs
 chained-read r d ts us vs first tree.no_links is re rl =
     record { leveled = re.leveled; above = omega (arith, re.above); shallow = re.shallow; takes = λ ps g. re.takes _ (rl.takes ps g) }
@@ -336,26 +336,26 @@ chained-read r d ts us vs first (tree.link op m e rest) is re rl =
       takes = λ ps g. re.takes _ (rl.takes ps g);
     }
 
-rank-level_at : (r : ℕ) → 1 ≤ r → r ≤ 10 → rank (level_at r) ≡ r
-rank-level_at zero low high = absurd (omega arith)
-rank-level_at (suc zero) low high = refl
-rank-level_at (suc (suc zero)) low high = refl
-rank-level_at (suc (suc (suc zero))) low high = refl
-rank-level_at (suc (suc (suc (suc zero)))) low high = refl
-rank-level_at (suc (suc (suc (suc (suc zero))))) low high = refl
-rank-level_at (suc (suc (suc (suc (suc (suc zero)))))) low high = refl
-rank-level_at (suc (suc (suc (suc (suc (suc (suc zero))))))) low high = refl
-rank-level_at (suc (suc (suc (suc (suc (suc (suc (suc zero)))))))) low high = refl
-rank-level_at (suc (suc (suc (suc (suc (suc (suc (suc (suc zero))))))))) low high = refl
-rank-level_at (suc (suc (suc (suc (suc (suc (suc (suc (suc (suc zero)))))))))) low high = refl
-rank-level_at (suc (suc (suc (suc (suc (suc (suc (suc (suc (suc (suc r))))))))))) low high = absurd (omega arith)
+precedence-level_at : (r : ℕ) → 1 ≤ r → r ≤ 10 → precedence (level_at r) ≡ r
+precedence-level_at zero low high = absurd (omega arith)
+precedence-level_at (suc zero) low high = refl
+precedence-level_at (suc (suc zero)) low high = refl
+precedence-level_at (suc (suc (suc zero))) low high = refl
+precedence-level_at (suc (suc (suc (suc zero)))) low high = refl
+precedence-level_at (suc (suc (suc (suc (suc zero))))) low high = refl
+precedence-level_at (suc (suc (suc (suc (suc (suc zero)))))) low high = refl
+precedence-level_at (suc (suc (suc (suc (suc (suc (suc zero))))))) low high = refl
+precedence-level_at (suc (suc (suc (suc (suc (suc (suc (suc zero)))))))) low high = refl
+precedence-level_at (suc (suc (suc (suc (suc (suc (suc (suc (suc zero))))))))) low high = refl
+precedence-level_at (suc (suc (suc (suc (suc (suc (suc (suc (suc (suc zero)))))))))) low high = refl
+precedence-level_at (suc (suc (suc (suc (suc (suc (suc (suc (suc (suc (suc r))))))))))) low high = absurd (omega arith)
 
 chains-sound : (n d : ℕ) (u : Reader ExprTree) → n ≤ 10 → SoundReader 11 d u → SoundReader (11 - n) d (chains n u)
 unfolding chains linked
 chains-sound zero d u h s ts = s ts
 chains-sound (suc n) d u h s ts =
     let inner : SoundReader (11 - n) d (chains n u) = chains-sound n d u (omega arith) s in
-    let r : rank (level_at (10 - n)) ≡ 10 - n = rank-level_at (10 - n) (omega arith) (omega arith) in
+    let r : precedence (level_at (10 - n)) ≡ 10 - n = precedence-level_at (10 - n) (omega arith) (omega arith) in
     let up : 11 - n ≡ suc (10 - n) = omega arith in
     let down : 11 - suc n ≡ 10 - n = omega arith in
     sound-then _ _ (chains n u ts) _ (inner ts) (λ first us re.

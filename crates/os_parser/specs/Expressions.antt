@@ -92,24 +92,24 @@ abbrev pub at_operator : {A : Type 0} → Option Binary → (Binary → Read A) 
 at_operator (Some op) f r = f op
 at_operator None f r = r
 
--- { operator operand }, with operators of a rank
+-- { operator operand }, with operators of a precedence
 unfoldable pub links : ℕ → ℕ → Reader ExprTree → Reader Links
-links zero rank right ts = fails ts
-links (suc n) rank right ts =
-    at_operator (operator_at rank ts)
-    (λ op. right (after ts) >>= λ e us. links n rank right us >>= λ ls vs. got (tree.link op (mark_at ts) e ls) vs)
+links zero precedence right ts = fails ts
+links (suc n) precedence right ts =
+    at_operator (operator_at precedence ts)
+    (λ op. right (after ts) >>= λ e us. links n precedence right us >>= λ ls vs. got (tree.link op (mark_at ts) e ls) vs)
     (got tree.no_links ts)
 
--- a chain of a rank, or its first operand where it has no links
+-- a chain of a precedence, or its first operand where it has no links
 abbrev pub chained : ℕ → ExprTree → Links → ExprTree
-chained rank first tree.no_links = first
-chained rank first (tree.link op m e rest) = tree.Chain (level_at rank) first (tree.link op m e rest)
+chained precedence first tree.no_links = first
+chained precedence first (tree.link op m e rest) = tree.Chain (level_at precedence) first (tree.link op m e rest)
 
--- what follows the first operand of a chain of a rank
+-- what follows the first operand of a chain of a precedence
 unfoldable pub linked : ℕ → Reader ExprTree → ExprTree → Reader ExprTree
-linked rank right first ts = links (suc (length ts)) rank right ts >>= λ ls us. got (chained rank first ls) us
+linked precedence right first ts = links (suc (length ts)) precedence right ts >>= λ ls us. got (chained precedence first ls) us
 
--- the chains of the n ranks that bind closest
+-- the chains of the n precedences that bind closest
 unfoldable pub chains : ℕ → Reader ExprTree → Reader ExprTree
 chains zero operand ts = operand ts
 chains (suc n) operand ts = chains n operand ts >>= linked (10 - n) (chains n operand)

@@ -1,7 +1,7 @@
 -- What the next token says of an expression.
 use Rattle.std.specs.Prelude.{ℕ, List, [], ◌∷◌, Option, Some, None, nat_eq, nat_lt, ◌^◌, if◌then◌else◌}
 use Rattle.os_ast.specs.Means.{Placed, placed}
-use Rattle.os_ast.specs.Operators.{level_of, rank}
+use Rattle.os_ast.specs.Operators.{level_of, precedence}
 use Rattle.os_ast.specs.declared.expr.Binary.{Binary}
 use Rattle.os_ast.specs.declared.expr.Binary.TheVariants as binary
 use Rattle.os_ast.specs.declared.expr.Level.{Level}
@@ -128,21 +128,21 @@ binary_of (kind.Key k) = None
 binary_of kind.PragmaStart = None
 binary_of kind.PragmaEnd = None
 
--- the rank of an operator
-abbrev pub op_rank : Binary → ℕ
-op_rank op = rank (level_of op)
+-- the precedence of an operator
+abbrev pub op_precedence : Binary → ℕ
+op_precedence op = precedence (level_of op)
 
--- an operator, where it has a rank
-abbrev pub of_rank : ℕ → Option Binary → Option Binary
-of_rank r None = None
-of_rank r (Some op) = if nat_eq (op_rank op) r then Some op else None
+-- an operator, where it has a precedence
+abbrev pub of_precedence : ℕ → Option Binary → Option Binary
+of_precedence r None = None
+of_precedence r (Some op) = if nat_eq (op_precedence op) r then Some op else None
 
--- the operator of a rank that the next token spells
+-- the operator of a precedence that the next token spells
 abbrev pub operator_at : ℕ → List Placed → Option Binary
 operator_at r [] = None
-operator_at r (placed k m ∷ ts) = of_rank r (binary_of k)
+operator_at r (placed k m ∷ ts) = of_precedence r (binary_of k)
 
--- the level of a rank
+-- the level of a precedence
 abbrev pub level_at : ℕ → Level
 level_at r =
     if nat_eq r 1 then level.Or else

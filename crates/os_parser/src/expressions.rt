@@ -15,8 +15,8 @@ use os_io::List;
 use os_lexer::{Kind, Punct};
 use std::alloc::Global;
 
-/// The rank of a unary, one above that of the chains that bind closest.
-const UNARY_RANK: u32 = 11;
+/// The precedence of a unary, one above that of the chains that bind closest.
+const UNARY_PRECEDENCE: u32 = 11;
 
 /// `expr = or [ "?" expr ":" expr ]`
 #[cycle(expressions)]
@@ -63,7 +63,7 @@ fn branches(
     Ok(Expr::Choice(condition, first, second))
 }
 
-/// The production of a rank: from 1 on `or`, `and`, `bor`, `bxor`, `band`, `equal`, `order`, `shift`, `sum`,
+/// The production of a precedence: from 1 on `or`, `and`, `bor`, `bxor`, `band`, `equal`, `order`, `shift`, `sum`,
 /// `prod` and, at 11, `unary`.
 #[cycle(expressions)]
 #[tactic(auto, using(crate::proofs::Chaining::chaining))]
@@ -79,51 +79,51 @@ fn chain(
     ensures within { length cursor.new ≤ length cursor.old }
 {
     let mut first = operand(alloc, cursor, depth)?;
-    let mut rank = UNARY_RANK;
-    while lowest < rank {
-        rank -= 1;
-        first = linked(alloc, cursor, rank, first, depth)?;
+    let mut precedence = UNARY_PRECEDENCE;
+    while lowest < precedence {
+        precedence -= 1;
+        first = linked(alloc, cursor, precedence, first, depth)?;
     }
     Ok(first)
 }
 
-/// `{ operator operand }` with the operators of a rank: its chain, from what follows the first operand, or that
-/// operand where no operator of the rank follows.
+/// `{ operator operand }` with the operators of a precedence: its chain, from what follows the first operand, or that
+/// operand where no operator of the precedence follows.
 #[cycle(expressions)]
 #[tactic(auto, using(crate::proofs::Chaining::chaining), unfolding(crate::specs::Expressions::linked))]
 fn linked(
     alloc: Global,
     cursor: &mut Cursor<'_>,
-    rank: u32,
+    precedence: u32,
     first: Expr,
     depth: u32,
 ) -> Result<Expr, ParseError>
-    requires from { 1 ≤ rank }
-    requires to { rank ≤ 10 }
+    requires from { 1 ≤ precedence }
+    requires to { precedence ≤ 10 }
     ensures gives { Gives expr_tree result cursor.new
-        (linked rank (chains (10 - rank) (operand (below depth))) (expr_tree first) cursor.old) }
+        (linked precedence (chains (10 - precedence) (operand (below depth))) (expr_tree first) cursor.old) }
     ensures within { length cursor.new ≤ length cursor.old }
 {
     let mut links = List::new(alloc);
-    while let Some(op) = operator_at(rank, cursor) {
+    while let Some(op) = operator_at(precedence, cursor) {
         let mark = cursor.mark();
         cursor.advance();
-        let right = chain(alloc, cursor, rank + 1, depth)?;
+        let right = chain(alloc, cursor, precedence + 1, depth)?;
         links.push(Link { op, mark, right })?;
     }
-    chained(alloc, rank, first, links)
+    chained(alloc, precedence, first, links)
 }
 
 /// A chain with these links, or its first operand where there are none.
 #[tactic(auto, using(crate::proofs::Trees::trees))]
-fn chained(alloc: Global, rank: u32, first: Expr, links: List<Link>) -> Result<Expr, ParseError>
-    ensures chain { IfOk result (λ e. expr_tree e ≡ chained rank (expr_tree first) (links_tree links)) }
+fn chained(alloc: Global, precedence: u32, first: Expr, links: List<Link>) -> Result<Expr, ParseError>
+    ensures chain { IfOk result (λ e. expr_tree e ≡ chained precedence (expr_tree first) (links_tree links)) }
     ensures memory { IfErr result (λ e. e ≡ errors.Memory) }
 {
     if links.len() == 0 {
         return Ok(first);
     }
-    Ok(Expr::Chain(level_at(rank), Box::new(alloc, first)?, links))
+    Ok(Expr::Chain(level_at(precedence), Box::new(alloc, first)?, links))
 }
 
 /// `unary = ( "-" | "+" | "!" | "~" ) unary | primary`, and `primary = number | target | call | "(" expr ")"`.

@@ -3,7 +3,7 @@
 ghost use Rattle.std.specs.Prelude.{◌≡◌};
 ghost use Rattle.os_ast.specs.Operators.{level_of};
 ghost use Rattle.os_lexer.specs.declared.token.Kind.TheVariants as kind;
-ghost use Rattle.os_parser.specs.Operands.{punct_start, operand_start, start_at, punct_binary, binary_of, of_rank, op_rank, operator_at, level_at};
+ghost use Rattle.os_parser.specs.Operands.{punct_start, operand_start, start_at, punct_binary, binary_of, of_precedence, op_precedence, operator_at, level_at};
 ghost use Rattle.os_parser.specs.Reading.{kind_at};
 
 use crate::cursor::Cursor;
@@ -183,8 +183,8 @@ fn level_of(op: Binary) -> Level
 }
 
 /// How closely an operator binds: from 1, the least, to 10.
-fn op_rank(op: Binary) -> u32
-    ensures { result ≡ op_rank op }
+fn op_precedence(op: Binary) -> u32
+    ensures { result ≡ op_precedence op }
 {
     match level_of(op) {
         Level::Or => 1,
@@ -200,11 +200,11 @@ fn op_rank(op: Binary) -> u32
     }
 }
 
-/// The level of a rank.
-pub(crate) fn level_at(rank: u32) -> Level
-    ensures { result ≡ level_at rank }
+/// The level of a precedence.
+pub(crate) fn level_at(precedence: u32) -> Level
+    ensures { result ≡ level_at precedence }
 {
-    match rank {
+    match precedence {
         1 => Level::Or,
         2 => Level::And,
         3 => Level::BitOr,
@@ -218,21 +218,21 @@ pub(crate) fn level_at(rank: u32) -> Level
     }
 }
 
-fn of_rank(rank: u32, op: Option<Binary>) -> Option<Binary>
-    ensures { result ≡ of_rank rank op }
+fn of_precedence(precedence: u32, op: Option<Binary>) -> Option<Binary>
+    ensures { result ≡ of_precedence precedence op }
 {
     match op {
-        Some(op) => { if op_rank(op) == rank { Some(op) } else { None } }
+        Some(op) => { if op_precedence(op) == precedence { Some(op) } else { None } }
         None => None,
     }
 }
 
-/// The operator of a rank that the next token spells.
-pub(crate) fn operator_at(rank: u32, cursor: &Cursor<'_>) -> Option<Binary>
-    ensures { result ≡ operator_at rank cursor.now }
+/// The operator of a precedence that the next token spells.
+pub(crate) fn operator_at(precedence: u32, cursor: &Cursor<'_>) -> Option<Binary>
+    ensures { result ≡ operator_at precedence cursor.now }
 {
     match cursor.kind() {
-        Some(kind) => of_rank(rank, binary_of(kind)),
+        Some(kind) => of_precedence(precedence, binary_of(kind)),
         None => None,
     }
 }

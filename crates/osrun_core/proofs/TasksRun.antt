@@ -22,7 +22,8 @@ use Rattle.os_code.specs.declared.parts.Parts.{Parts}
 use Rattle.osrun_core.proofs.BodyBytes.{RunsKeep, body_gives}
 use Rattle.osrun_core.specs.Run.{body_at, ends_over}
 use Rattle.task_bodies.specs.Frames.{frame_outcome}
-use Rattle.task_bodies.specs.Laws.{Agree, AgreeingBodiesMeanOne, GivesBytes, IsByte, OutputsAreBytes}
+use Rattle.flow_core.specs.Byte.{IsByte}
+use Rattle.task_bodies.specs.Laws.{Agree, AgreeingBodiesMeanOne, GivesBytes, OutputsAreBytes}
 
 module _ (code : Parts) (p : ProgramTree) (activations : List Activation) (budget : ℕ) (runs : RunsBodies code p) (fit : All (Fits code) activations) where
   -- the machine makes of each activation what the body of its task does

@@ -9,6 +9,7 @@ use Rattle.cddf_meaning.specs.Moves.{read_horizons}
 use Rattle.cddf_meaning.specs.Variables.{bind}
 use Rattle.cddf_meaning.specs.declared.variable.Binding.{Binding}
 use Rattle.cddf_meaning.specs.declared.variable.Variable.TheVariants as variable
+use Rattle.flow_core.specs.Byte.{is_byte}
 use Rattle.flow_core.specs.declared.claim.Claim.{Claim}
 use Rattle.os_ast.specs.Captured.{Scalar, slots_of}
 use Rattle.os_ast.specs.Meanings.{meaning_in, place_in}
@@ -170,16 +171,11 @@ same_written (w ∷ ws) (vs ∷ items) h = by_case w.claim.write (same_written w
     by_case true next = ap (λ xs. xs ++ meaning.outputs_of (map (λ (w : TaskWindow). w.claim) ws) items) (sym h.0) ∙ ap (λ xs. w.elements ++ xs) next
     by_case false next = next
 
-bytes_same : (vs : List ℤ) → list_all meaning.is_byte vs ≡ list_all machine.is_byte vs
-bytes_same [] = refl
-bytes_same (pos n ∷ vs) = ap (λ b. meaning.is_byte (pos n) && b) (bytes_same vs)
-bytes_same (negsuc n ∷ vs) = refl
-
 pub same_bytes : (ws : List TaskWindow) (items : List (List ℤ)) → Windows ws items → meaning.gives_bytes (map (λ (w : TaskWindow). w.claim) ws) items ≡ list_all machine.sends_bytes ws
 same_bytes [] [] h = refl
 same_bytes [] (vs ∷ items) h = elim h [ ]
 same_bytes (w ∷ ws) [] h = elim h [ ]
 same_bytes (w ∷ ws) (vs ∷ items) h =
     let sends = not (w.claim.write && (w.claim.stream == 1)) in
-    ap (λ b. (sends || b) && meaning.gives_bytes (map (λ (y : TaskWindow). y.claim) ws) items) (bytes_same vs ∙ ap (list_all machine.is_byte) (sym h.0))
-    ∙ ap (λ b. (sends || list_all machine.is_byte w.elements) && b) (same_bytes ws items h.3)
+    ap (λ b. (sends || b) && meaning.gives_bytes (map (λ (y : TaskWindow). y.claim) ws) items) (ap (list_all is_byte) (sym h.0))
+    ∙ ap (λ b. (sends || list_all is_byte w.elements) && b) (same_bytes ws items h.3)

@@ -21,7 +21,8 @@ use Rattle.flow_core.specs.declared.activation.Activation.{Activation}
 use Rattle.flow_core.specs.declared.claim.Claim.{Claim}
 use Rattle.flow_core.specs.declared.outcome.Outcome.{Outcome}
 use Rattle.os_code.specs.Tasks.{input_count}
-use Rattle.task_bodies.specs.Laws.{GivesBytes, IsByte}
+use Rattle.flow_core.specs.Byte.{IsByte}
+use Rattle.task_bodies.specs.Laws.{GivesBytes}
 use Rattle.task_bodies.proofs.Counts.{length-reads}
 use Rattle.task_bodies.proofs.Serving.{no_activation}
 

@@ -1,6 +1,7 @@
 -- The laws of bodies, as statements.
-use Rattle.std.specs.Prelude.{◌≡◌, ℕ, ℤ, pos, ◌+◌, ◌<◌, ◌≤◌, ◌≤ℤ◌, true, All, List, Some, length, slice_get, take}
+use Rattle.std.specs.Prelude.{◌≡◌, ℕ, ℤ, ◌+◌, ◌<◌, ◌≤◌, true, All, List, Some, length, slice_get, take}
 use Rattle.std.specs.Option.{ForSome}
+use Rattle.flow_core.specs.Byte.{IsByte}
 use Rattle.flow_core.specs.Laws.{IsFilled}
 use Rattle.flow_core.specs.Serves.{Serves}
 use Rattle.flow_core.specs.StandsFor.{StandsFor}
@@ -30,9 +31,6 @@ Agree activations body other = (a : ℕ) (x : Activation) (inputs : List ℤ) �
 abbrev pub AgreeingBodiesMeanOne : Type 0
 AgreeingBodiesMeanOne = (activations : List Activation) (input : List ℕ) (body other : ℕ → List ℤ → Outcome) → Agree activations body other
     → stream_meaning activations input body ≡ stream_meaning activations input other
-
-abbrev pub IsByte : ℤ → Type 0
-IsByte value = (pos 0 ≤ℤ value) × (value ≤ℤ pos 255)
 
 -- what an activation writes to the output, which is stream 1, are bytes
 abbrev pub GivesBytes : Activation → Outcome → Type 0

@@ -11,11 +11,11 @@ use Rattle.os_ast.specs.declared.expr.Name.{Name}
 use Rattle.os_ast.specs.declared.names.Owner.TheVariants as owner
 use Rattle.window_check.proofs.HasRoom.{room_less, room_stmts, room_in_body, room_item, owner_item}
 use Rattle.window_check.proofs.Loops.{noted-loop}
-use Rattle.window_check.proofs.Blamed.{blames-global}
+use Rattle.window_check.proofs.AddedViolations.{adds_violation-global}
 use Rattle.window_check.proofs.Noted.{noted-append}
 use Rattle.window_check.proofs.Restored.{ended_function}
 use Rattle.window_check.specs.Codes.{least_code}
-use Rattle.window_check.specs.Findings.{note, noted, blames}
+use Rattle.window_check.specs.Findings.{note, noted, adds_violation}
 use Rattle.window_check.specs.declared.found.Found.{Found}
 use Rattle.window_check.specs.Room.{HasRoom, stmts_weight, item_weight, items_weight, room_end}
 use Rattle.window_check.specs.Scopes.{around_of, ended, with_function}
@@ -38,15 +38,15 @@ pub function-scope : (s inside after end : Scope) (names : List Name) (f : tree.
 function-scope s inside after end names f params body stmts ending =
     rw (ending, stmts, body, params) (ap (λ (e : Scope). with_function e f.name.id (length (param_names f.params))) (ended_function s f))
 
-pub function-found : (f blame given found : Found) (s begun inside : Scope) (names : List Name) (t : tree.FunctionTree) →
+pub function-found : (f add_violation given found : Found) (s begun inside : Scope) (names : List Name) (t : tree.FunctionTree) →
     names ≡ param_names t.params → begun ≡ in_function s t.name.id → inside ≡ in_body s t →
-    blame ≡ blames f t.name.mark (least_code (when (is_declared s t.name.id) 12)) → given ≡ noted blame (params_notes begun names) →
+    add_violation ≡ adds_violation f t.name.mark (least_code (when (is_declared s t.name.id) 12)) → given ≡ noted add_violation (params_notes begun names) →
     found ≡ noted given (stmts_notes inside t.body) → found ≡ noted f (item_notes s (tree.Function t))
-function-found f blame given found s begun inside names t params begin body blaming giving finding =
+function-found f add_violation given found s begun inside names t params begin body adding giving finding =
     let ps = params_notes (in_function s t.name.id) (param_names t.params) in
     let ss = stmts_notes (in_body s t) t.body in
-    rw (finding, giving, blaming, body, begin, params)
-    (ap (λ (g : Found). noted (noted g ps) ss) (blames-global f s t.name) ∙ sym (noted-append (note f (Global s t.name)) ps ss))
+    rw (finding, giving, adding, body, begin, params)
+    (ap (λ (g : Found). noted (noted g ps) ss) (adds_violation-global f s t.name) ∙ sym (noted-append (note f (Global s t.name)) ps ss))
 
 -- an item, and those behind it
 pub items_room-first : (s : Scope) (is rest : List tree.ItemTree) (i : tree.ItemTree) → is ≡ i ∷ rest → HasRoom s (items_weight is) → HasRoom s (item_weight i)

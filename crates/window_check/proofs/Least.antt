@@ -5,7 +5,7 @@ use Rattle.std.proofs.lemmas.Bool.Decides.{nat_tests}
 use Rattle.std.proofs.lemmas.List.Elements.{All-cons, All-nil}
 use Rattle.os_ast.specs.Notes.Kinds.{Note, mark_of}
 use Rattle.os_ast.specs.Rules.{codes}
-use Rattle.os_ast.specs.Violations.{violated, faults_at, faults, IsBefore, earlier, same_place}
+use Rattle.os_ast.specs.Violations.{violated, violations_at, violations_of, IsBefore, earlier, same_place}
 use Rattle.os_ast.specs.declared.expr.Mark.{Mark}
 use Rattle.os_ast.specs.declared.violation.Violation.{Violation}
 use Rattle.window_check.specs.Codes.{least_code, lesser_code}
@@ -22,15 +22,15 @@ lesser-codes : (least : Option Violation) (p c d l : ℕ) → lesser (Some (less
 lesser-codes None p c d l = grind (arith, nat_tests)
 lesser-codes (Some u) p c d l = grind (arith, nat_tests)
 
-blamed-again : (least : Option Violation) (m : Mark) (c : ℕ) (d : Option ℕ) →
+violation_added-again : (least : Option Violation) (m : Mark) (c : ℕ) (d : Option ℕ) →
     least_with (Some (lesser least (violated m.place c m.line))) m d ≡ least_with least m (lesser_code (Some c) d)
-blamed-again least m c None = refl
-blamed-again least m c (Some d) = ap Some (lesser-codes least m.place c d m.line)
+violation_added-again least m c None = refl
+violation_added-again least m c (Some d) = ap Some (lesser-codes least m.place c d m.line)
 
 -- one token that violates several
-least_at : (least : Option Violation) (m : Mark) (cs : List ℕ) → least_of least (faults_at m cs) ≡ least_with least m (least_code cs)
+least_at : (least : Option Violation) (m : Mark) (cs : List ℕ) → least_of least (violations_at m cs) ≡ least_with least m (least_code cs)
 least_at least m [] = refl
-least_at least m (c ∷ cs) = least_at (Some (lesser least (violated m.place c m.line))) m cs ∙ blamed-again least m c (least_code cs)
+least_at least m (c ∷ cs) = least_at (Some (lesser least (violated m.place c m.line))) m cs ∙ violation_added-again least m c (least_code cs)
 
 least_of-append : (least : Option Violation) (vs ws : List Violation) → least_of least (vs ++ ws) ≡ least_of (least_of least vs) ws
 least_of-append least [] ws = refl
@@ -45,13 +45,13 @@ pub noted-judging : (j : Judged) (ns : List Note) → noted (Judging j) ns ≡ J
 noted-judging j [] = refl
 noted-judging j (n ∷ ns) = noted-judging (judged j n) ns
 
--- the least violation is that of the faults
-pub noted-least : (j : Judged) (ns : List Note) → (judged_all j ns).least ≡ least_of j.least (faults ns)
+-- the least violation is that of the violations_of
+pub noted-least : (j : Judged) (ns : List Note) → (judged_all j ns).least ≡ least_of j.least (violations_of ns)
 noted-least j [] = refl
 noted-least j (n ∷ ns) =
     noted-least (judged j n) ns
-    ∙ ap (λ o. least_of o (faults ns)) (sym (least_at j.least (mark_of n) (codes n)))
-    ∙ sym (least_of-append j.least (faults_at (mark_of n) (codes n)) (faults ns))
+    ∙ ap (λ o. least_of o (violations_of ns)) (sym (least_at j.least (mark_of n) (codes n)))
+    ∙ sym (least_of-append j.least (violations_at (mark_of n) (codes n)) (violations_of ns))
 
 -- the least of one violation and others
 abbrev pub least_among : Violation → List Violation → Violation

@@ -9,7 +9,7 @@ use Rattle.os_ast.specs.Notes.Programs.{program_notes, file}
 use Rattle.os_ast.specs.Rules.{codes}
 use Rattle.os_ast.specs.Spelling.{Piece, bare, marked, kind_of, pieces, spell}
 use Rattle.os_ast.specs.Trees as tree
-use Rattle.os_ast.specs.Violations.{violated, faults_at, faults, resolutions_of, resolutions, captures_of, captures, captured_by_tasks, has_main, no_main, violations, names, IsBefore, earlier, same_place, IsRefusal}
+use Rattle.os_ast.specs.Violations.{violated, violations_at, violations_of, resolutions_of, resolutions, captures_of, captures, captured_by_tasks, has_main, no_main, violations, names, IsBefore, earlier, same_place, IsRefusal}
 use Rattle.os_ast.specs.declared.expr.Mark.{Mark}
 use Rattle.os_ast.specs.declared.violation.Violation.{Violation}
 use Rattle.window_check.specs.Findings.{nothing_found, noted, judged, judged_in, pushed}
@@ -24,18 +24,18 @@ below-length [] from n h f = tt
 below-length (bare k ∷ ps) from n h f = below-length ps (suc from) n (omega (arith, h)) (λ i m is. omega (arith, f (suc i) m is))
 below-length (marked k m ∷ ps) from n h f = (omega (arith, h, f 0 m (k, refl)), below-length ps (suc from) n (omega (arith, h)) (λ i q is. omega (arith, f (suc i) q is)))
 
-faults_at-below : (n : ℕ) (m : Mark) (cs : List ℕ) → m.place < n → All (λ v. v.place < n) (faults_at m cs)
-faults_at-below n m [] h = All-nil (λ v. v.place < n)
-faults_at-below n m (c ∷ cs) h = All-cons (λ v. v.place < n) (violated m.place c m.line) (faults_at m cs) h (faults_at-below n m cs h)
+violations_at-below : (n : ℕ) (m : Mark) (cs : List ℕ) → m.place < n → All (λ v. v.place < n) (violations_at m cs)
+violations_at-below n m [] h = All-nil (λ v. v.place < n)
+violations_at-below n m (c ∷ cs) h = All-cons (λ v. v.place < n) (violated m.place c m.line) (violations_at m cs) h (violations_at-below n m cs h)
 
-faults-below : (n : ℕ) (ns : List Note) → AreOf (λ m. m.place < n) ns → All (λ v. v.place < n) (faults ns)
-faults-below n [] h = All-nil (λ v. v.place < n)
-faults-below n (x ∷ ns) h =
-    All-append (λ v. v.place < n) (faults_at (mark_of x) (codes x)) (faults ns) (faults_at-below n (mark_of x) (codes x) h.0) (faults-below n ns h.1)
+violations_of-below : (n : ℕ) (ns : List Note) → AreOf (λ m. m.place < n) ns → All (λ v. v.place < n) (violations_of ns)
+violations_of-below n [] h = All-nil (λ v. v.place < n)
+violations_of-below n (x ∷ ns) h =
+    All-append (λ v. v.place < n) (violations_at (mark_of x) (codes x)) (violations_of ns) (violations_at-below n (mark_of x) (codes x) h.0) (violations_of-below n ns h.1)
 
-all-below : (p : tree.ProgramTree) → HasPlaces p → All (λ v. v.place < length (spell p)) (faults (program_notes p))
+all-below : (p : tree.ProgramTree) → HasPlaces p → All (λ v. v.place < length (spell p)) (violations_of (program_notes p))
 all-below p h =
-    faults-below (length (spell p)) (program_notes p)
+    violations_of-below (length (spell p)) (program_notes p)
     (of-program (λ m. m.place < length (spell p)) file p []
     (below-length (pieces p) 0 (length (spell p)) (omega (arith, length-map (pieces p) kind_of)) (λ i m is. omega (arith, h i m is)))).0
 
@@ -76,27 +76,27 @@ all_judged p = judged_in (noted (Judging nothing_found) (program_notes p))
 all-judged : (p : tree.ProgramTree) → all_judged p ≡ judged_all nothing_found (program_notes p)
 all-judged p = ap judged_in (noted-judging nothing_found (program_notes p))
 
-all-least : (p : tree.ProgramTree) → least_of None (faults (program_notes p)) ≡ (all_judged p).least
+all-least : (p : tree.ProgramTree) → least_of None (violations_of (program_notes p)) ≡ (all_judged p).least
 all-least p = sym (ap (λ (j : Judged). j.least) (all-judged p) ∙ noted-least nothing_found (program_notes p))
 
 -- what the walk found is the refusal
 pub refused : (p : tree.ProgramTree) (v : Violation) → HasPlaces p → (all_judged p).least ≡ Some v → IsRefusal p v
 refused p v h is =
-    let found = least-some (faults (program_notes p)) v (all-least p ∙ is) in
-    let below = among-below (length (spell p)) (faults (program_notes p)) v (all-below p h) found.among in
+    let found = least-some (violations_of (program_notes p)) v (all-least p ∙ is) in
+    let below = among-below (length (spell p)) (violations_of (program_notes p)) v (all-below p h) found.among in
     record {
-      among = Contains-append_left (faults (program_notes p)) (no_main p) v found.among;
-      least = All-append (IsBefore v) (faults (program_notes p)) (no_main p) found.least (before-end p v (has_main p) refl below);
+      among = Contains-append_left (violations_of (program_notes p)) (no_main p) v found.among;
+      least = All-append (IsBefore v) (violations_of (program_notes p)) (no_main p) found.least (before-end p v (has_main p) refl below);
     }
 
-no_faults : (p : tree.ProgramTree) → (all_judged p).least ≡ None → faults (program_notes p) ≡ []
-no_faults p is = least-none (faults (program_notes p)) (all-least p ∙ is)
+no_violations : (p : tree.ProgramTree) → (all_judged p).least ≡ None → violations_of (program_notes p) ≡ []
+no_violations p is = least-none (violations_of (program_notes p)) (all-least p ∙ is)
 
 -- nothing was found, and there is no `main`
 pub refused-end : (p : tree.ProgramTree) → (all_judged p).least ≡ None → has_main p ≡ false → IsRefusal p (violated (length (spell p)) 23 1)
 refused-end p is e =
     let v = violated (length (spell p)) 23 1 in
-    let all : violations p ≡ v ∷ [] = rw (no_faults p is, e) refl in
+    let all : violations p ≡ v ∷ [] = rw (no_violations p is, e) refl in
     record {
       among = rw all (0, omega arith, refl);
       least = rw all (All-cons (IsBefore v) v [] (same_place refl (omega arith)) (All-nil (IsBefore v)));
@@ -104,7 +104,7 @@ refused-end p is e =
 
 -- nothing was found, and there is a `main`
 pub lawful : (p : tree.ProgramTree) → (all_judged p).least ≡ None → has_main p ≡ true → violations p ≡ []
-lawful p is e = rw (no_faults p is, e) refl
+lawful p is e = rw (no_violations p is, e) refl
 
 pushed-all : {A : Type 0} (xs ys : List A) → pushed xs ys ≡ xs ++ ys
 pushed-all xs [] = sym (append-nil xs)

@@ -9,7 +9,7 @@ use Rattle.os_ast.specs.Parts.{Part, count_items}
 use Rattle.os_ast.specs.Trees as tree
 use Rattle.os_ast.specs.declared.expr.Mark.{Mark}
 use Rattle.os_ast.specs.declared.names.Owner.{Owner}
-use Rattle.window_check.proofs.Blamed.{started-task}
+use Rattle.window_check.proofs.AddedViolations.{started-task}
 use Rattle.window_check.proofs.HasRoom.{room_less, room_in_task, room_items, captured_few}
 use Rattle.window_check.proofs.Listing.{items-all, count-all}
 use Rattle.window_check.proofs.Named.{listed-captured}

@@ -7,7 +7,7 @@ use Rattle.os_ast.specs.Notes.Kinds.{Note, Used, mark_of}
 use Rattle.os_ast.specs.Notes.Programs.{program_notes}
 use Rattle.os_ast.specs.Rules.{Rule, rules, codes, codes_among, when}
 use Rattle.os_ast.specs.Trees.{ProgramTree}
-use Rattle.os_ast.specs.Violations.{violations, no_main, faults_at, faults, names, resolutions_of, resolutions, declared_meaning}
+use Rattle.os_ast.specs.Violations.{violations, no_main, violations_at, violations_of, names, resolutions_of, resolutions, declared_meaning}
 use Rattle.os_ast.specs.declared.expr.Mark.{Mark}
 use Rattle.os_ast.specs.declared.expr.Name.{Name}
 use Rattle.os_ast.specs.declared.names.Entity.{Entity}
@@ -89,17 +89,17 @@ keeps-among [] n h = tt
 keeps-among (r ∷ rs) n h =
     (not-when (r.is_violated n) r.code (first-none (when (r.is_violated n) r.code) (codes_among rs n) h), keeps-among rs n (rest-none (when (r.is_violated n) r.code) (codes_among rs n) h))
 
-no-faults_at : (m : Mark) (cs : List ℕ) → faults_at m cs ≡ [] → cs ≡ []
-no-faults_at m [] h = refl
-no-faults_at m (c ∷ cs) h = absurd (cc)
+no-violations_at : (m : Mark) (cs : List ℕ) → violations_at m cs ≡ [] → cs ≡ []
+no-violations_at m [] h = refl
+no-violations_at m (c ∷ cs) h = absurd (cc)
 
-keeps-notes : (ns : List Note) → faults ns ≡ [] → AreLawful ns
+keeps-notes : (ns : List Note) → violations_of ns ≡ [] → AreLawful ns
 keeps-notes [] h = tt
 keeps-notes (n ∷ ns) h =
-    (keeps-among rules n (no-faults_at (mark_of n) (codes n) (first-none (faults_at (mark_of n) (codes n)) (faults ns) h)), keeps-notes ns (rest-none (faults_at (mark_of n) (codes n)) (faults ns) h))
+    (keeps-among rules n (no-violations_at (mark_of n) (codes n) (first-none (violations_at (mark_of n) (codes n)) (violations_of ns) h)), keeps-notes ns (rest-none (violations_at (mark_of n) (codes n)) (violations_of ns) h))
 
 pub lawful-program : (p : ProgramTree) → violations p ≡ [] → AreLawful (program_notes p)
-lawful-program p h = keeps-notes (program_notes p) (first-none (faults (program_notes p)) (no_main p) h)
+lawful-program p h = keeps-notes (program_notes p) (first-none (violations_of (program_notes p)) (no_main p) h)
 
 -- a used name that keeps the rules is declared in scope
 declared-by : (d : Option Entity) → is_none d ≡ false → (e : Entity) × (d ≡ Some e)

@@ -55,12 +55,12 @@ noted f [] = f
 noted f (n ∷ ns) = noted (note f n) ns
 
 -- the steps of this: a violation, where there is a code
-abbrev pub blamed : Judged → Mark → Option ℕ → Judged
-blamed j m code = record j { least = least_with j.least m code }
+abbrev pub violation_added : Judged → Mark → Option ℕ → Judged
+violation_added j m code = record j { least = least_with j.least m code }
 
-abbrev pub blames : Found → Mark → Option ℕ → Found
-blames (Listing slots) m code = Listing slots
-blames (Judging j) m code = Judging (blamed j m code)
+abbrev pub adds_violation : Found → Mark → Option ℕ → Found
+adds_violation (Listing slots) m code = Listing slots
+adds_violation (Judging j) m code = Judging (violation_added j m code)
 
 -- what a name means
 abbrev pub named : Judged → Mark → What → Judged
@@ -82,7 +82,7 @@ task_codes owner.OfFunction items slots = 17 ∷ []
 task_codes owner.OfTask items slots = 17 ∷ []
 
 abbrev pub started_in : Judged → Owner → Mark → ℕ → List ℕ → Judged
-started_in j o m items slots = record (blamed j m (least_code (task_codes o items slots))) { captured = pushed j.captured (main_task o slots) }
+started_in j o m items slots = record (violation_added j m (least_code (task_codes o items slots))) { captured = pushed j.captured (main_task o slots) }
 
 abbrev pub started : Found → Owner → Mark → ℕ → List ℕ → Found
 started (Listing listed) o m items slots = Listing listed

@@ -48,7 +48,7 @@ fn window(
     ensures { OnOk result (found.new ≡ noted found.old (window_notes scopes.now listed.now.names (target_tree item.now.stream) (option_map join_tree item.now.window))) }
 {
     let name = item_name(item);
-    found.blame(name.mark, listed.again(name));
+    found.add_violation(name.mark, listed.again(name));
     match &item.window {
         None => Ok(()),
         Some(join) => joined(scopes, found, join),
@@ -101,7 +101,7 @@ fn private(
     ensures found { OnOk result (found.new ≡ noted found.old (part_notes scopes.now listed.old.names (Private name))) }
     ensures listed { OnOk result (listed.new ≡ after_part scopes.now listed.old (Private name)) }
 {
-    found.blame(name.mark, listed.again(name));
+    found.add_violation(name.mark, listed.again(name));
     used(scopes, found, name, Use::Private)?;
     listed.add_private(scopes, name)
 }

@@ -1,5 +1,5 @@
 ghost use Rattle.std.specs.Prelude.{◌≡◌, OnOk};
-ghost use Rattle.window_check.specs.Findings.{nothing_found, before, lesser, blames, blamed, means, named, constant_found, started, started_in, slots_found, judged_in};
+ghost use Rattle.window_check.specs.Findings.{nothing_found, before, lesser, adds_violation, violation_added, means, named, constant_found, started, started_in, slots_found, judged_in};
 ghost use Rattle.os_ast.specs.Rules.{when, takes_more};
 ghost use Rattle.window_check.specs.Codes.{least_code};
 
@@ -79,8 +79,8 @@ impl Judged {
     }
 
     /// A token violates a rule, where there is a code.
-    pub(crate) fn blame(&mut self, mark: Mark, code: Option<u8>)
-        ensures { self.new ≡ blamed self.old mark code }
+    pub(crate) fn add_violation(&mut self, mark: Mark, code: Option<u8>)
+        ensures { self.new ≡ violation_added self.old mark code }
     {
         if let Some(code) = code {
             let violation = Violation {
@@ -115,12 +115,12 @@ impl Judged {
     {
         match owner {
             Owner::OfMain => {
-                self.blame(mark, task_code(items, captured.len()));
+                self.add_violation(mark, task_code(items, captured.len()));
                 let slots = captured.in_order(alloc)?;
                 self.captured.push(slots)
             }
             Owner::OfFunction | Owner::OfTask => {
-                self.blame(mark, Some(codes::MISPLACED));
+                self.add_violation(mark, Some(codes::MISPLACED));
                 Ok(())
             }
         }
@@ -129,12 +129,12 @@ impl Judged {
 
 impl Found {
     /// A token violates a rule, where there is a code.
-    pub(crate) fn blame(&mut self, mark: Mark, code: Option<u8>)
-        ensures { self.new ≡ blames self.old mark code }
+    pub(crate) fn add_violation(&mut self, mark: Mark, code: Option<u8>)
+        ensures { self.new ≡ adds_violation self.old mark code }
     {
         match self {
             Found::Listing(_) => {}
-            Found::Judging(judged) => judged.blame(mark, code),
+            Found::Judging(judged) => judged.add_violation(mark, code),
         }
     }
 
@@ -149,9 +149,9 @@ impl Found {
 
     /// A name is declared, which violates a rule where there is a code, and means this.
     pub(crate) fn declare(&mut self, mark: Mark, code: Option<u8>, what: What) -> Result<(), Memory>
-        ensures { OnOk result (self.new ≡ means (blames self.old mark code) mark what) }
+        ensures { OnOk result (self.new ≡ means (adds_violation self.old mark code) mark what) }
     {
-        self.blame(mark, code);
+        self.add_violation(mark, code);
         self.name(mark, what)
     }
 

@@ -64,7 +64,7 @@ fn twice(scopes: &Scopes, name: Name) -> Option<u8>
 }
 
 /// A parameter.
-#[tactic(auto, using(crate::proofs::Blamed::blamed_notes))]
+#[tactic(auto, using(crate::proofs::AddedViolations::added_notes))]
 fn param(scopes: &mut Scopes, found: &mut Found, name: Name) -> Result<(), Memory>
     requires { HasRoom scopes.old 1 }
     ensures scopes { OnOk result (scopes.new ≡ after_param scopes.old name) }
@@ -89,14 +89,14 @@ fn params(scopes: &mut Scopes, found: &mut Found, names: &[Name]) -> Result<(), 
 }
 
 /// A constant.
-#[tactic(auto, using(crate::proofs::Blamed::blamed_notes))]
+#[tactic(auto, using(crate::proofs::AddedViolations::added_notes))]
 fn constant(scopes: &mut Scopes, found: &mut Found, constant: &Constant) -> Result<(), Memory>
     requires { constant.now.size < 2 ^ 31 }
     ensures scopes { OnOk result (scopes.new ≡ after_item scopes.old (tree.Constant constant.now)) }
     ensures found { OnOk result (found.new ≡ noted found.old (item_notes scopes.old (tree.Constant constant.now))) }
 {
     let name = constant.name;
-    found.blame(name.mark, twice(scopes, name));
+    found.add_violation(name.mark, twice(scopes, name));
     scopes.declare(name.id, Entity::Constant(constant_value(constant)))
 }
 
@@ -127,7 +127,7 @@ fn function(
 {
     let name = function.name;
     let names = param_names(&function.params);
-    found.blame(name.mark, twice(scopes, name));
+    found.add_violation(name.mark, twice(scopes, name));
     let around = begin_function(alloc, scopes, name.id)?;
     params(scopes, found, names)?;
     stmts(alloc, scopes, found, &function.body)?;

@@ -70,17 +70,17 @@ fn stmt(alloc: Global, scopes: &mut Scopes, found: &mut Found, stmt: &Stmt) -> R
         }
         Stmt::For(head, body) => for_loop(alloc, scopes, found, head, body),
         Stmt::Break(mark) | Stmt::Continue(mark) => {
-            found.blame(*mark, when(!scopes.in_loop(), codes::NO_LOOP));
+            found.add_violation(*mark, when(!scopes.in_loop(), codes::NO_LOOP));
             Ok(())
         }
         Stmt::Return(mark, value) => {
-            found.blame(*mark, return_code(scopes.owner()));
+            found.add_violation(*mark, return_code(scopes.owner()));
             expr(scopes, found, value)
         }
         Stmt::Task(site) => task(alloc, scopes, found, site),
         Stmt::Tick(site) => tick(scopes, found, site),
         Stmt::Taskwait(mark) => {
-            found.blame(*mark, pragma_code(scopes.owner()));
+            found.add_violation(*mark, pragma_code(scopes.owner()));
             Ok(())
         }
     }
@@ -182,11 +182,11 @@ fn for_loop(
 }
 
 /// A tick.
-#[tactic(auto, using(crate::proofs::Blamed::blamed_notes))]
+#[tactic(auto, using(crate::proofs::AddedViolations::added_notes))]
 fn tick(scopes: &Scopes, found: &mut Found, site: &TickSite) -> Result<(), Memory>
     ensures { OnOk result (found.new ≡ noted found.old (stmt_notes scopes.now (tree.Tick site.now.mark (target_tree site.now.stream) site.now.arrow (expr_tree site.now.amount)))) }
 {
-    found.blame(site.mark, pragma_code(scopes.owner()));
+    found.add_violation(site.mark, pragma_code(scopes.owner()));
     place(scopes, found, Role::Flow(Direction::Reads), &site.stream)?;
     expr(scopes, found, &site.amount)
 }

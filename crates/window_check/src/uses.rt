@@ -176,11 +176,11 @@ fn judge(scopes: &Scopes, all: &mut Judged, name: Name, usage: Use) -> Result<()
 {
     match scopes.entity(name.id) {
         None => {
-            all.blame(name.mark, Some(codes::UNKNOWN));
+            all.add_violation(name.mark, Some(codes::UNKNOWN));
             Ok(())
         }
         Some(entity) => {
-            all.blame(name.mark, use_code(name.id, usage, entity));
+            all.add_violation(name.mark, use_code(name.id, usage, entity));
             all.name(name.mark, scopes.meaning(entity))
         }
     }

@@ -1,6 +1,6 @@
 use Rattle.std.proofs.Common.{◌≡◌, drop}
 use Rattle.std.specs.List.{list_all}
-use Rattle.cddf_meaning.specs.Body.{is_byte}
+use Rattle.flow_core.specs.Byte.{is_byte}
 use Rattle.cddf_meaning.proofs.body.all_bytes.Given as goal
 
 abbrev pub invariant-loop-number : goal.invariant-loop-number

@@ -25,43 +25,43 @@ chain-returns-in_err-first-2-clause-gives t c =
     let p = err_from_is_err_and c.from_residual-in_err-first-2.result c.from_residual-in_err-first-2.ensures.1 in
     rw (p.1, p.2)
     (refuses-on c.in_err-first-2.field-0.0 c.linked.new.cursor _ _ c.in_err-first-2.ensures.gives
-    (λ e. chaining.chains-stop (11 - c.loop-rank.rank) _ _ _ _ _ _ _ _ (omega arith) c.loop-rank.invariant.read (omega arith) (omega arith) e))
+    (λ e. chaining.chains-stop (11 - c.loop-precedence.precedence) _ _ _ _ _ _ _ _ (omega arith) c.loop-precedence.invariant.read (omega arith) (omega arith) e))
 
-pub chain-loop-rank-preserved : goal.chain-loop-rank-preserved
-chain-loop-rank-preserved t c = record {
+pub chain-loop-precedence-preserved : goal.chain-loop-precedence-preserved
+chain-loop-precedence-preserved t c = record {
   from = omega arith;
   to = omega arith;
   read =
-      let n : 11 - (c.loop-rank.rank - 1) ≡ 11 - c.loop-rank.rank + 1 = omega arith in
-      rw n (chaining.chains-next (11 - c.loop-rank.rank) _ _ _ _ _ _ _ c.loop-rank.invariant.read (omega arith) (omega arith) c.in_ok-first-2.ensures.gives);
+      let n : 11 - (c.loop-precedence.precedence - 1) ≡ 11 - c.loop-precedence.precedence + 1 = omega arith in
+      rw n (chaining.chains-next (11 - c.loop-precedence.precedence) _ _ _ _ _ _ _ c.loop-precedence.invariant.read (omega arith) (omega arith) c.in_ok-first-2.ensures.gives);
   within = omega (arith, c.in_ok-first-2.ensures.within);
 }
 
 pub linked-returns-in_err-right-clause-gives : goal.linked-returns-in_err-right-clause-gives
 linked-returns-in_err-right-clause-gives t c =
     let p = err_from_is_err_and c.from_residual.result c.from_residual.ensures.1 in
-    let n : 11 - (c.args.rank + 1) ≡ 10 - c.args.rank = omega arith in
-    let op : operator_at c.args.rank c.loop-op.cursor ≡ Some c.in-Some.op = cc in
+    let n : 11 - (c.args.precedence + 1) ≡ 10 - c.args.precedence = omega arith in
+    let op : operator_at c.args.precedence c.loop-op.cursor ≡ Some c.in-Some.op = cc in
     rw (p.1, p.2)
     (refuses-on c.in_err-right.field-0.0 c.chain.new.cursor _ _ c.in_err-right.ensures.gives
-    (λ e. chaining.linked-fails c.args.rank (chains (10 - c.args.rank) (operand (below c.args.depth))) (expr_tree c.args.first)
+    (λ e. chaining.linked-fails c.args.precedence (chains (10 - c.args.precedence) (operand (below c.args.depth))) (expr_tree c.args.first)
     c.args.cursor.now c.loop-op.cursor c.chain.new.cursor c.loop-op.links c.in-Some.op c.loop-op.invariant.read (omega arith) op
     (rw (← n, ← c.advance.ensures) e)))
 
 pub linked-loop-op-preserved : goal.linked-loop-op-preserved
 linked-loop-op-preserved t c =
-    let n : 11 - (c.args.rank + 1) ≡ 10 - c.args.rank = omega arith in
-    let op : operator_at c.args.rank c.loop-op.cursor ≡ Some c.in-Some.op = cc in
+    let n : 11 - (c.args.precedence + 1) ≡ 10 - c.args.precedence = omega arith in
+    let op : operator_at c.args.precedence c.loop-op.cursor ≡ Some c.in-Some.op = cc in
     let l : Link = record { op = c.in-Some.op; mark = c.mark-mark.result; right = c.in_ok-right.right } in
     let pushed : c.push.new.self ≡ c.loop-op.links ++ l ∷ [] = c.in_ok-push.ensures.ok in
     let longer : length c.push.new.self ≡ length c.loop-op.links + 1 = ap length pushed ∙ length_push c.loop-op.links l in
     record {
       read = rw pushed (c.loop-op.invariant.read
-          ∙ chaining.with_links-more (suc (length c.args.cursor.now)) c.loop-op.links c.args.rank (chains (10 - c.args.rank) (operand (below c.args.depth)))
+          ∙ chaining.with_links-more (suc (length c.args.cursor.now)) c.loop-op.links c.args.precedence (chains (10 - c.args.precedence) (operand (below c.args.depth)))
           c.loop-op.cursor c.chain.new.cursor l (omega arith) op (sym c.mark-mark.ensures)
           (rw (← n, ← c.advance.ensures) c.in_ok-right.ensures.gives));
       within =
-          let past = operator-takes c.args.rank c.in-Some.op c.loop-op.cursor op in
+          let past = operator-takes c.args.precedence c.in-Some.op c.loop-op.cursor op in
           let rest : length c.advance.new.self ≡ length (after c.loop-op.cursor) = ap length c.advance.ensures in
           omega (arith, c.in_ok-right.ensures.within);
       same = c.loop-op.invariant.same;
@@ -69,10 +69,10 @@ linked-loop-op-preserved t c =
 
 pub linked-returns-clause-gives : goal.linked-returns-clause-gives
 linked-returns-clause-gives t c =
-    let none : operator_at c.args.rank c.loop-op.cursor ≡ None = cc in
-    gives-built expr_tree c.chained.result (chained c.args.rank (expr_tree c.args.first) (links_tree c.loop-op.links)) c.loop-op.cursor _
+    let none : operator_at c.args.precedence c.loop-op.cursor ≡ None = cc in
+    gives-built expr_tree c.chained.result (chained c.args.precedence (expr_tree c.args.first) (links_tree c.loop-op.links)) c.loop-op.cursor _
     (rw c.loop-op.invariant.same at c.chained.ensures.chain) c.chained.ensures.memory
-    (chaining.linked-end c.args.rank (chains (10 - c.args.rank) (operand (below c.args.depth))) (expr_tree c.args.first)
+    (chaining.linked-end c.args.precedence (chains (10 - c.args.precedence) (operand (below c.args.depth))) (expr_tree c.args.first)
     c.args.cursor.now c.loop-op.cursor c.loop-op.links c.loop-op.invariant.read (omega arith) none)
 
 pub named-returns-then-is_at-clause-gives : goal.named-returns-then-is_at-clause-gives

@@ -24,7 +24,7 @@ abbrev pub decreases-index : goal.decreases-index
 decreases-index l = 64 * l.depth + 7
 
 abbrev pub decreases-linked : goal.decreases-linked
-decreases-linked l = 64 * l.depth + 19 + 2 * (12 - l.rank)
+decreases-linked l = 64 * l.depth + 19 + 2 * (12 - l.precedence)
 
 abbrev pub decreases-named : goal.decreases-named
 decreases-named l = 64 * l.depth + 9
@@ -44,22 +44,22 @@ decreases-some_args l = 64 * l.depth + 61
 abbrev pub decreases-target : goal.decreases-target
 decreases-target l = 64 * l.depth + 8
 
-abbrev pub invariant-chain-loop-rank : goal.invariant-chain-loop-rank
-invariant-chain-loop-rank l = record {
-  from : l.lowest ≤ l.rank;
-  to : l.rank ≤ 11;
-  read : chains (11 - l.rank) (operand (below l.depth)) l.fn.cursor ≡ got (expr_tree l.first) l.cursor;
+abbrev pub invariant-chain-loop-precedence : goal.invariant-chain-loop-precedence
+invariant-chain-loop-precedence l = record {
+  from : l.lowest ≤ l.precedence;
+  to : l.precedence ≤ 11;
+  read : chains (11 - l.precedence) (operand (below l.depth)) l.fn.cursor ≡ got (expr_tree l.first) l.cursor;
   within : length l.cursor ≤ length l.fn.cursor;
 }
 
 -- proposed from the loop's first test
-abbrev pub decreases-chain-loop-rank : goal.decreases-chain-loop-rank
-decreases-chain-loop-rank l = l.rank - l.lowest
+abbrev pub decreases-chain-loop-precedence : goal.decreases-chain-loop-precedence
+decreases-chain-loop-precedence l = l.precedence - l.lowest
 
 abbrev pub invariant-linked-loop-op : goal.invariant-linked-loop-op
 invariant-linked-loop-op l = record {
-  read : links (suc (length l.fn.cursor)) l.rank (chains (10 - l.rank) (operand (below l.depth))) l.fn.cursor
-      ≡ with_links l.links (links (suc (length l.fn.cursor) - length l.links) l.rank (chains (10 - l.rank) (operand (below l.depth))) l.cursor);
+  read : links (suc (length l.fn.cursor)) l.precedence (chains (10 - l.precedence) (operand (below l.depth))) l.fn.cursor
+      ≡ with_links l.links (links (suc (length l.fn.cursor) - length l.links) l.precedence (chains (10 - l.precedence) (operand (below l.depth))) l.cursor);
   within : length l.links + length l.cursor ≤ length l.fn.cursor;
   same : expr_tree l.first ≡ expr_tree l.fn.first;
 }

@@ -8,7 +8,7 @@ use Rattle.os_parser.proofs.expressions.chained.Goals as goal
 pub returns-clause-chain : goal.returns-clause-chain
 returns-clause-chain c =
     let some : 0 < length c.args.links = omega arith in
-    let chain = chained-not_none c.args.rank (expr_tree c.args.first) c.args.links some in
+    let chain = chained-not_none c.args.precedence (expr_tree c.args.first) c.args.links some in
     let boxed : c.in_ok-new.field-0.value ≡ c.args.first = cc (c.in_ok-new.ensures.ok) in
     expr_tree-chain c.level_at.result c.in_ok-new.field-0 c.args.links
     ∙ ap (λ e. tree.Chain c.level_at.result (expr_tree e) (links_tree c.args.links)) boxed
