@@ -1,13 +1,10 @@
 -- What clauses list is what is said of them: the names, the items and the captured scalars.
-use Rattle.std.proofs.Common.{◌≡◌, ℕ, ◌+◌, Bool, true, false, List, [], ◌∷◌, ◌++◌, length, Option, Some, None, Ordering, refl, ap, sym, ◌∙◌, add-one, append_assoc, length-append, arith, eq-eqb, inl, inr}
+use Rattle.std.proofs.Common.{◌≡◌, ℕ, ◌+◌, Bool, true, false, List, [], ◌∷◌, ◌++◌, length, Option, Some, None, refl, ap, sym, ◌∙◌, add-one, append_assoc, length-append, arith, eq-eqb, inl, inr}
 use Rattle.std.specs.Prelude.{◌==◌, ◌||◌, is_some}
-use Rattle.std.specs.declared.cmp.Ordering.TheVariants.{Less, Equal, Greater}
 use Rattle.std.specs.BTreeMap.{is_at}
-use Rattle.std.specs.BTreeSet.{insert_key}
 use Rattle.std.specs.List.{list_any}
-use Rattle.std.specs.Ordering.{nat_cmp, match_ordering, is_eq}
+use Rattle.std.specs.Ordering.{nat_cmp, is_eq}
 use Rattle.std.proofs.lemmas.Bool.{cases_order, lt-ltb, le-ltb, ne_eqb}
-use Rattle.std.proofs.lemmas.Map.Lookups.{exact_unsigned}
 use Rattle.os_ast.specs.Names.{Scope, lookup, entity_of, declare}
 use Rattle.os_ast.specs.Notes.Clauses.{part_notes, parts_notes, window_notes, shape_of, with_items, named_entity}
 use Rattle.os_ast.specs.Notes.Expressions.{place_notes, index_notes}
@@ -21,40 +18,19 @@ use Rattle.os_ast.specs.declared.names.Entity.TheVariants as entity
 use Rattle.os_ast.specs.declared.names.Role.TheVariants as role
 use Rattle.os_ast.specs.declared.names.Use.TheVariants as usage
 use Rattle.os_ast.specs.Rules.{when}
+use Rattle.static_laws.proofs.Ascending.{is_in-insert_key}
 use Rattle.window_check.proofs.Noted.{noted-append}
 use Rattle.window_check.specs.Codes.{least_code}
 use Rattle.window_check.specs.Findings.{note, noted, least_with}
 use Rattle.window_check.specs.declared.found.Found.{Found}
 use Rattle.window_check.specs.declared.found.Found.TheVariants.{Listing, Judging}
-use Rattle.window_check.specs.CapturedByUse.{slots_named}
-use Rattle.window_check.specs.Slots.{with_slot, with_slots, control_slots}
+use Rattle.static_laws.specs.CapturedByUse.{slots_named}
+use Rattle.static_laws.specs.Slots.{with_slot, with_slots, control_slots}
 use Rattle.window_check.specs.declared.parts.ItemName.{ItemName}
 use Rattle.window_check.specs.Parts.{ListedParts, none_listed, inside, after_part, after_parts, listed_notes, after_names}
 
-or_other : (a b c : Bool) → (a || (b || c)) ≡ (b || (a || c))
-or_other true true c = refl
-or_other true false c = refl
-or_other false true c = refl
-or_other false false c = refl
-
-or_twice : (a c : Bool) → (a || c) ≡ (a || (a || c))
-or_twice true c = refl
-or_twice false c = refl
-
 abbrev SameNames : List ℕ → List ℕ → Type 0
 SameNames xs ys = (id : ℕ) → is_in id xs ≡ is_in id ys
-
-is_in-inserted : (id k x : ℕ) (xs : List ℕ) (r : Ordering) → nat_cmp k x ≡ r →
-    is_in id (insert_key nat_cmp xs k) ≡ ((k == id) || is_in id xs) →
-    is_in id (match_ordering r (k ∷ x ∷ xs) (x ∷ xs) (x ∷ insert_key nat_cmp xs k)) ≡ ((k == id) || is_in id (x ∷ xs))
-is_in-inserted id k x xs Less e same = refl
-is_in-inserted id k x xs Equal e same = rw (exact_unsigned k x e) (or_twice (x == id) (is_in id xs))
-is_in-inserted id k x xs Greater e same = rw same (or_other (x == id) (k == id) (is_in id xs))
-
--- the names in order, with one more
-pub is_in-insert_key : (id k : ℕ) (names : List ℕ) → is_in id (insert_key nat_cmp names k) ≡ ((k == id) || is_in id names)
-is_in-insert_key id k [] = refl
-is_in-insert_key id k (x ∷ xs) = is_in-inserted id k x xs (nat_cmp k x) refl (is_in-insert_key id k xs)
 
 equal-is : (id x : ℕ) → is_eq (nat_cmp id x) ≡ (x == id)
 equal-is id x = elim (cases_order id x) [

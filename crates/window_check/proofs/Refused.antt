@@ -16,7 +16,7 @@ use Rattle.window_check.specs.Findings.{nothing_found, noted, judged, judged_in,
 use Rattle.window_check.specs.declared.found.Found.TheVariants.{Judging}
 use Rattle.window_check.specs.declared.found.Judged.{Judged}
 use Rattle.window_check.proofs.Least.{least_of, least_among, least_of-some, judged_all, noted-judging, noted-least, least-first, least-others, least-among, contains-tail}
-use Rattle.window_check.proofs.Placed.{HasKept, AreOf, of-program}
+use Rattle.static_laws.proofs.Placed.{HasKept, AreOf, of-program}
 
 -- each mark is below the number of tokens
 below-length : (ps : List Piece) (from n : ℕ) → from + length ps ≤ n → ((i : ℕ) (m : Mark) → HasMark ps i m → m.place ≡ from + i) → HasKept (λ m. m.place < n) ps

@@ -10,13 +10,13 @@ use Rattle.os_ast.specs.Trees as tree
 use Rattle.os_ast.specs.declared.expr.Mark.{Mark}
 use Rattle.os_ast.specs.declared.names.Owner.{Owner}
 use Rattle.window_check.proofs.AddedViolations.{started-task}
-use Rattle.window_check.proofs.HasRoom.{room_less, room_in_task, room_items, captured_few}
+use Rattle.static_laws.proofs.HasRoom.{room_less, room_in_task, room_items, captured_few}
 use Rattle.window_check.proofs.Listing.{items-all, count-all}
-use Rattle.window_check.proofs.Named.{listed-captured}
+use Rattle.window_check.proofs.Capturing.{listed-captured}
 use Rattle.window_check.proofs.Noted.{noted-append}
 use Rattle.window_check.specs.Findings.{note, noted, started}
 use Rattle.window_check.specs.Parts.{ListedParts, none_listed, after_parts, after_names}
-use Rattle.window_check.specs.Room.{HasRoom, room_end}
+use Rattle.static_laws.specs.Room.{HasRoom, room_end}
 use Rattle.window_check.specs.Statements.{in_named_task, listed_in}
 use Rattle.window_check.specs.declared.found.Found.{Found}
 use Rattle.window_check.specs.declared.parts.ItemName.{ItemName}

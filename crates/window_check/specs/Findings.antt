@@ -11,7 +11,7 @@ use Rattle.os_ast.specs.declared.names.What.{What}
 use Rattle.os_ast.specs.declared.names.What.TheVariants as what
 use Rattle.os_ast.specs.declared.violation.Violation.{Violation}
 use Rattle.window_check.specs.Codes.{least_code}
-use Rattle.window_check.specs.Slots.{with_slots, named_slots}
+use Rattle.static_laws.specs.Slots.{with_slots, named_slots}
 use Rattle.window_check.specs.declared.found.Found.{Found}
 use Rattle.window_check.specs.declared.found.Found.TheVariants.{Listing, Judging}
 use Rattle.window_check.specs.declared.found.Judged.{Judged}

@@ -4,7 +4,7 @@ ghost use Rattle.std.specs.Prelude.{◌≡◌, ◌<◌, ◌≤◌, ◌^◌, [], 
 ghost use Rattle.std.specs.List.Sorted.{IsStrictlySortedBy};
 ghost use Rattle.std.specs.Ordering.{nat_cmp};
 ghost use Rattle.os_ast.specs.Meanings.{meaning_in_task, place_in};
-ghost use Rattle.window_check.specs.Slots.{with_slot, with_slots, control_slots};
+ghost use Rattle.static_laws.specs.Slots.{with_slot, with_slots, control_slots};
 
 use crate::meanings::meaning;
 use os_ast::{Entity, What};

@@ -7,7 +7,7 @@ ghost use Rattle.os_ast.specs.Views.{program_tree};
 ghost use Rattle.os_lexer.specs.Limits.{text_limit};
 ghost use Rattle.window_check.specs.Findings.{nothing_found, noted, judged_in};
 ghost use Rattle.window_check.specs.Refusal.{IsAnswer};
-ghost use Rattle.window_check.specs.Room.{HasRoom, items_weight};
+ghost use Rattle.static_laws.specs.Room.{HasRoom, items_weight};
 ghost use Rattle.window_check.specs.declared.found.Found.TheVariants as findings;
 
 use crate::check_error::CheckError;

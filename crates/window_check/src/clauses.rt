@@ -9,7 +9,7 @@ ghost use Rattle.os_ast.specs.Views.{clause_tree, clause_kind_tree, clause_item_
 ghost use Rattle.os_ast.specs.declared.names.Use.TheVariants as usage;
 ghost use Rattle.window_check.specs.Findings.{noted};
 ghost use Rattle.window_check.specs.Parts.{none_listed, after_part, after_parts, listed_notes};
-ghost use Rattle.window_check.specs.Room.{room_end};
+ghost use Rattle.static_laws.specs.Room.{room_end};
 
 use crate::expressions::{indexed, place};
 use crate::found::Found;

@@ -7,7 +7,7 @@ ghost use Rattle.os_ast.specs.Rules.{is_outermost, when};
 ghost use Rattle.os_ast.specs.Views.{declarator_tree, index_tree, start_tree};
 ghost use Rattle.window_check.specs.Codes.{least_code, lesser_code};
 ghost use Rattle.window_check.specs.Findings.{noted};
-ghost use Rattle.window_check.specs.Room.{HasRoom, declarator_weight, declarators_weight, start_weight};
+ghost use Rattle.static_laws.specs.Room.{HasRoom, declarator_weight, declarators_weight, start_weight};
 
 use crate::codes::{self, lesser, when};
 use crate::expressions::{change, expr, value};

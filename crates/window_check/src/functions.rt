@@ -13,7 +13,7 @@ ghost use Rattle.os_ast.specs.Violations.{is_main, has_main};
 ghost use Rattle.os_ast.specs.declared.names.Owner.TheVariants as owners;
 ghost use Rattle.os_ast.specs.declared.program.Item.TheVariants as variant;
 ghost use Rattle.window_check.specs.Findings.{note, noted};
-ghost use Rattle.window_check.specs.Room.{HasRoom, item_weight, items_weight, room_end};
+ghost use Rattle.static_laws.specs.Room.{HasRoom, item_weight, items_weight, room_end};
 ghost use Rattle.window_check.specs.Scopes.{around_of};
 
 use crate::codes::{self, when};

@@ -21,7 +21,6 @@ mod declared;
 mod expressions;
 mod found;
 mod functions;
-mod laws;
 mod meanings;
 mod parts;
 mod scopes;
@@ -32,9 +31,9 @@ mod uses;
 pub use check_error::CheckError;
 pub use checked::Checked;
 pub use checker::check;
-pub use laws::{
+pub use os_ast::{Resolved, What};
+pub use static_laws::{
     arrays_have_sizes, captured_scalars_are_used, functions_are_numbered, limits_are_kept,
     marks_have_places, names_are_known, names_are_the_name_tokens, names_in_order, names_tell,
     slots_are_stacked, slots_are_summed, used_names_are_told,
 };
-pub use os_ast::{Resolved, What};

@@ -4,7 +4,7 @@ ghost use Rattle.os_ast.specs.Rules.{when};
 ghost use Rattle.os_ast.specs.Views.{clause_item_tree, join_tree, target_tree};
 ghost use Rattle.window_check.specs.Codes.{least_code};
 ghost use Rattle.window_check.specs.Parts.{none_listed, after_names, after_part};
-ghost use Rattle.window_check.specs.Room.{room_end};
+ghost use Rattle.static_laws.specs.Room.{room_end};
 
 use crate::captures::Captured;
 use crate::codes::{self, when};

@@ -8,7 +8,7 @@ ghost use Rattle.os_ast.specs.Rules.{when};
 ghost use Rattle.os_ast.specs.declared.names.Form.TheVariants as form_of;
 ghost use Rattle.os_ast.specs.declared.names.Owner.TheVariants as owners;
 ghost use Rattle.window_check.specs.Codes.{least_code};
-ghost use Rattle.window_check.specs.Room.{HasRoom, form_weight, room_end};
+ghost use Rattle.static_laws.specs.Room.{HasRoom, form_weight, room_end};
 ghost use Rattle.window_check.specs.Sizes.{passes_limit};
 ghost use Rattle.window_check.specs.Scopes.{outer_of, around_of, returned, ended, with_function, with_totals};
 

@@ -10,7 +10,7 @@ ghost use Rattle.os_ast.specs.Views.{expr_tree, target_tree, change_tree, clause
 ghost use Rattle.std.specs.Prelude.{not};
 ghost use Rattle.window_check.specs.Codes.{least_code};
 ghost use Rattle.window_check.specs.Findings.{noted};
-ghost use Rattle.window_check.specs.Room.{HasRoom, stmt_weight, stmts_weight, start_weight, room_end};
+ghost use Rattle.static_laws.specs.Room.{HasRoom, stmt_weight, stmts_weight, start_weight, room_end};
 ghost use Rattle.window_check.specs.Statements.{else_tree, in_named_task, listed_in};
 ghost use Rattle.os_ast.specs.declared.names.Owner.TheVariants as owners;
 

@@ -3,7 +3,7 @@ use Rattle.os_ast.specs.Parts.{Part, parts, parts_of}
 use Rattle.os_ast.specs.Views.{clause_kind_tree, clause_tree}
 use Rattle.window_check.specs.Parts.{ListedParts}
 use Rattle.window_check.proofs.Lists.{items-parts, found-parts, listed-parts}
-use Rattle.window_check.proofs.Trees.{parts-drop}
+use Rattle.static_laws.proofs.Trees.{parts-drop}
 use Rattle.window_check.proofs.clauses.clauses.Goals as goal
 
 pub loop-next-preserved : goal.loop-next-preserved

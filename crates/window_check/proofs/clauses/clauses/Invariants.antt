@@ -4,7 +4,7 @@ use Rattle.os_ast.specs.Parts.{parts}
 use Rattle.os_ast.specs.Views.{clause_tree}
 use Rattle.window_check.specs.Findings.{noted}
 use Rattle.window_check.specs.Parts.{none_listed, after_parts, listed_notes}
-use Rattle.window_check.specs.Room.{room_end}
+use Rattle.static_laws.specs.Room.{room_end}
 use Rattle.window_check.proofs.clauses.clauses.Given as goal
 
 abbrev pub invariant-loop-next : goal.invariant-loop-next
