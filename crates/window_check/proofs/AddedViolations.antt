@@ -21,7 +21,7 @@ use Rattle.os_ast.specs.declared.names.Owner.{Owner}
 use Rattle.os_ast.specs.declared.names.Owner.TheVariants as owner
 use Rattle.window_check.specs.Codes.{least_code, lesser_code}
 use Rattle.window_check.specs.Findings.{note, adds_violation, means, constant_found, started, started_in, least_with, pushed}
-use Rattle.window_check.specs.Sizes.{passes_limit}
+use Rattle.symbol_table.specs.Sizes.{passes_limit}
 use Rattle.window_check.specs.declared.found.Found.{Found}
 use Rattle.window_check.specs.declared.found.Found.TheVariants.{Listing, Judging}
 use Rattle.window_check.specs.declared.found.Judged.{Judged}

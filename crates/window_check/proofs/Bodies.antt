@@ -18,7 +18,7 @@ use Rattle.window_check.specs.Codes.{least_code}
 use Rattle.window_check.specs.Findings.{note, noted, adds_violation}
 use Rattle.window_check.specs.declared.found.Found.{Found}
 use Rattle.static_laws.specs.Room.{HasRoom, stmts_weight, item_weight, items_weight, room_end}
-use Rattle.window_check.specs.Scopes.{around_of, ended, with_function}
+use Rattle.symbol_table.specs.Scopes.{around_of, ended, with_function}
 
 pub body-scope : (s begun inside : Scope) (names : List Name) (f : tree.FunctionTree) → names ≡ param_names f.params → begun ≡ in_function s f.name.id → inside ≡ after_params begun names → inside ≡ in_body s f
 body-scope s begun inside names f params begin given = rw (given, begin, params)

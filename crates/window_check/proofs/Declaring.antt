@@ -14,7 +14,7 @@ use Rattle.window_check.proofs.AddedViolations.{means-declared}
 use Rattle.window_check.proofs.Noted.{noted-append}
 use Rattle.window_check.specs.Codes.{least_code, lesser_code}
 use Rattle.window_check.specs.Findings.{note, noted, adds_violation, means}
-use Rattle.window_check.specs.Sizes.{passes_limit}
+use Rattle.symbol_table.specs.Sizes.{passes_limit}
 use Rattle.window_check.specs.declared.found.Found.{Found}
 
 pub declarator-steps : (f named size : Found) (s after declared : Scope) (d : tree.DeclaratorTree) (fm : Form) (e : Entity) (c code : Option ℕ) (w : What) →

@@ -1,5 +1,5 @@
 -- Behind a scope or a body what was entered is restored.
-use Rattle.std.proofs.Common.{◌≡◌, ℕ, ◌-◌, ◌≤◌, suc, List, [], ◌∷◌, length, drop, refl, ap, arith, ◌∙◌}
+use Rattle.std.proofs.Common.{◌≡◌, ℕ, List, [], ◌∷◌}
 use Rattle.os_ast.proofs.Kept.{keeps-declarators, keeps-stmt, keeps-stmts}
 use Rattle.os_ast.specs.Kept.{Keeps, same, more}
 use Rattle.os_ast.specs.Names.{Scope, declare, enter, in_loop, in_unit, leave, after_unit}
@@ -14,38 +14,11 @@ use Rattle.os_ast.specs.declared.names.Form.{Form}
 use Rattle.os_ast.specs.declared.names.Form.TheVariants as form_of
 use Rattle.os_ast.specs.declared.names.Owner.{Owner}
 use Rattle.os_ast.specs.declared.names.Owner.TheVariants as owner
+use Rattle.symbol_table.proofs.Restored.{keeps-then, returned_leave, ended_unit}
+use Rattle.symbol_table.specs.Scopes.{outer_of, around_of, returned, ended}
 use Rattle.window_check.specs.Parts.{after_names}
-use Rattle.window_check.specs.Scopes.{outer_of, around_of, returned, ended}
 use Rattle.window_check.specs.Statements.{in_named_task}
 use Rattle.window_check.specs.declared.parts.ItemName.{ItemName}
-
-keeps-then : {a b c : List Entry} → Keeps a b → Keeps b c → Keeps a c
-keeps-then h same = h
-keeps-then h (more k) = more (keeps-then h k)
-
-kept_length : {a b : List Entry} → Keeps a b → length a ≤ length b
-kept_length same = omega arith
-kept_length (more k) = let h = kept_length k in omega arith
-
-drop_more : (e : Entry) (b : List Entry) (n : ℕ) → n ≤ length b → drop (length (e ∷ b) - n) (e ∷ b) ≡ drop (length b - n) b
-drop_more e b n h =
-    let is : length (e ∷ b) - n ≡ suc (length b - n) = omega arith in
-    ap (λ (k : ℕ). drop k (e ∷ b)) is
-
--- without what was declared since then
-pub drop_kept : (a b : List Entry) → Keeps a b → drop (length b - length a) b ≡ a
-drop_kept a _ same = let none : length a - length a ≡ 0 = omega arith in ap (λ (k : ℕ). drop k a) none
-drop_kept a _ (more {e = e} {entries = b} k) = drop_more e b (length a) (kept_length k) ∙ drop_kept a b k
-
-pub returned_leave : (s inner : Scope) → Keeps s.entries inner.entries → returned (outer_of s) inner ≡ leave s inner
-returned_leave s inner k =
-    ap (λ (es : List Entry). record inner { entries = es; depth = s.depth; loop = s.loop }) (drop_kept s.entries inner.entries k)
-
-pub ended_unit : (s inner : Scope) → Keeps s.entries inner.entries → ended (around_of s) inner ≡ after_unit s inner
-ended_unit s inner k =
-    ap
-    (λ (es : List Entry). record inner { entries = es; depth = s.depth; loop = s.loop; owner = s.owner; captured = s.captured; slots = s.slots; elements = s.elements })
-    (drop_kept s.entries inner.entries k)
 
 -- a block
 pub returned_block : (s : Scope) (ss : tree.Stmts) → returned (outer_of s) (after_stmts (enter s) ss) ≡ leave s (after_stmts (enter s) ss)

@@ -4,8 +4,6 @@ pub mod Refusal
 pub mod Codes
 pub mod Findings
 pub mod Parts
-pub mod Rows
-pub mod Scopes
 pub mod Sizes
 pub mod Statements
 pub mod Uses

@@ -15,10 +15,10 @@ use crate::checked::Checked;
 use crate::codes;
 use crate::found::{Found, Judged};
 use crate::functions::{has_main, items};
-use crate::scopes::Scopes;
 use os_ast::Program;
 use os_io::Memory;
 use std::alloc::Global;
+use symbol_table::Scopes;
 
 /// What a walk over a program finds, where nothing is in scope yet.
 fn judge(alloc: Global, scopes: &mut Scopes, program: &Program) -> Result<Judged, Memory>

@@ -14,11 +14,11 @@ ghost use Rattle.static_laws.specs.Room.{room_end};
 use crate::expressions::{indexed, place};
 use crate::found::Found;
 use crate::parts::{Listed, item_name};
-use crate::scopes::Scopes;
 use crate::uses::used;
 use os_ast::{Clause, ClauseItem, ClauseKind, Direction, Index, Join, Name, Role, Shape, Use};
 use os_io::{List, Memory};
 use std::alloc::Global;
+use symbol_table::Scopes;
 
 /// Whether there is an index.
 fn shape_of(index: &Option<Index>) -> Shape

@@ -7,10 +7,10 @@ ghost use Rattle.os_ast.specs.Views.{expr_tree, target_tree, args_tree, links_tr
 ghost use Rattle.window_check.specs.Findings.{noted};
 
 use crate::found::Found;
-use crate::scopes::Scopes;
 use crate::uses::used;
 use os_ast::{Call, Change, Expr, Index, Link, Role, Shape, Target, Use};
 use os_io::{List, Memory};
+use symbol_table::Scopes;
 
 /// An expression.
 #[cycle(exprs)]

@@ -3,11 +3,11 @@ ghost use Rattle.window_check.specs.Findings.{nothing_found, before, lesser, add
 ghost use Rattle.os_ast.specs.Rules.{when, takes_more};
 ghost use Rattle.window_check.specs.Codes.{least_code};
 
-use crate::captures::Captured;
 use crate::codes::{self, when};
 use os_ast::{Mark, Owner, Resolved, Violation, What};
 use os_io::{List, Memory};
 use std::alloc::Global;
+use symbol_table::Captured;
 
 /// The most items of a task.
 const ITEMS_LIMIT: usize = 8;

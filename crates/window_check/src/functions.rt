@@ -14,17 +14,16 @@ ghost use Rattle.os_ast.specs.declared.names.Owner.TheVariants as owners;
 ghost use Rattle.os_ast.specs.declared.program.Item.TheVariants as variant;
 ghost use Rattle.window_check.specs.Findings.{note, noted};
 ghost use Rattle.static_laws.specs.Room.{HasRoom, item_weight, items_weight, room_end};
-ghost use Rattle.window_check.specs.Scopes.{around_of};
+ghost use Rattle.symbol_table.specs.Scopes.{around_of};
 
 use crate::codes::{self, when};
 use crate::found::Found;
-use crate::meanings::meaning;
-use crate::scopes::{Around, Scopes};
 use crate::statements::stmts;
 use os_ast::{Constant, Entity, Form, Function, Item, Name, Owner, Params};
 use os_io::{List, Memory};
 use os_lexer::names::MAIN;
 use std::alloc::Global;
+use symbol_table::{Around, Scopes, meaning};
 
 /// Whose body that of a function with this name is: the control program is the function `main`.
 fn owner_of(id: u32) -> Owner

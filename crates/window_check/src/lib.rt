@@ -10,20 +10,16 @@
 //! listed first, since that decides what its names mean.
 #![tactic(auto)]
 
-mod captures;
 mod check_error;
 mod checked;
 mod checker;
 mod clauses;
 mod codes;
 mod declarators;
-mod declared;
 mod expressions;
 mod found;
 mod functions;
-mod meanings;
 mod parts;
-mod scopes;
 mod sizes;
 mod statements;
 mod uses;

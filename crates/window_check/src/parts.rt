@@ -6,14 +6,13 @@ ghost use Rattle.window_check.specs.Codes.{least_code};
 ghost use Rattle.window_check.specs.Parts.{none_listed, after_names, after_part};
 ghost use Rattle.static_laws.specs.Room.{room_end};
 
-use crate::captures::Captured;
 use crate::codes::{self, when};
-use crate::scopes::Scopes;
 use os_ast::{ClauseItem, Direction, Entity, Name};
 use os_io::{List, Memory};
 use std::alloc::Global;
 use std::collections::BTreeSet;
 use std::marker::Model;
+use symbol_table::{Captured, Scopes};
 
 /// The name of a task's item, and what it is in the task's body.
 #[derive(Clone, Copy, Debug, PartialEq, Eq)]

@@ -7,9 +7,9 @@ ghost use Rattle.window_check.specs.Findings.{noted};
 ghost use Rattle.window_check.specs.Sizes.{bare_name};
 
 use crate::found::Found;
-use crate::scopes::Scopes;
 use os_ast::{Entity, Expr, Name, Target};
 use os_io::Memory;
+use symbol_table::Scopes;
 
 /// The most elements that a local array has, and the most streams of a stream array.
 const SIZE_LIMIT: u32 = 65_536;

@@ -14,17 +14,16 @@ ghost use Rattle.static_laws.specs.Room.{HasRoom, stmt_weight, stmts_weight, sta
 ghost use Rattle.window_check.specs.Statements.{else_tree, in_named_task, listed_in};
 ghost use Rattle.os_ast.specs.declared.names.Owner.TheVariants as owners;
 
-use crate::captures::{Captured, Slots};
 use crate::clauses::clauses;
 use crate::codes::{self, when};
 use crate::declarators::{declarators, start};
 use crate::expressions::{called, change, expr, place, step, value};
 use crate::found::Found;
 use crate::parts::{ItemName, declare_items};
-use crate::scopes::Scopes;
 use os_ast::{Direction, Head, Owner, Role, Stmt, TaskSite, TickSite};
 use os_io::{List, Memory};
 use std::alloc::Global;
+use symbol_table::{Captured, Scopes, Slots};
 
 /// A pragma stands outside `main` or inside a task.
 fn pragma_code(owner: Owner) -> Option<u8>

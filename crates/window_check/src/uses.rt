@@ -9,10 +9,10 @@ ghost use Rattle.window_check.specs.Uses.{no_index, one_index, only_read, value_
 
 use crate::codes::{self, lesser, when};
 use crate::found::{Found, Judged};
-use crate::scopes::Scopes;
 use os_ast::{Direction, Entity, Name, Role, Shape, Use};
 use os_io::Memory;
 use os_lexer::names::MAIN;
+use symbol_table::Scopes;
 
 /// Something that isn't an array stands with an index.
 fn no_index(shape: Shape) -> Option<u8>
