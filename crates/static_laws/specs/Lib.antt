@@ -8,5 +8,5 @@ pub mod Slots
 pub mod Sums
 pub mod Told
 pub mod UnitSlots
--- What the walk of the checks and the proofs ask for. No definition restates a private function.
+-- What the proofs and the walk of the checks ask for. No definition restates a private function.
 pub mod Room

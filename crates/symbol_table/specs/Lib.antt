@@ -1,5 +1,5 @@
--- What the contracts of the table name beside the scopes of os_ast.
+-- What a reader believes: the contracts of the table cite these beside the scopes of os_ast.
 pub mod Scopes
 pub mod Sizes
--- What restates the table's own parts.
+-- What restates the declarations as they are kept.
 pub mod Rows
