@@ -19,11 +19,11 @@ use Rattle.os_ast.specs.declared.names.Role.TheVariants as role
 use Rattle.os_ast.specs.declared.names.Use.TheVariants as usage
 use Rattle.os_ast.specs.Rules.{when}
 use Rattle.static_laws.proofs.Ascending.{is_in-insert_key}
-use Rattle.window_check.proofs.Noted.{noted-append}
-use Rattle.window_check.specs.Codes.{least_code}
-use Rattle.window_check.specs.Findings.{note, noted, least_with}
-use Rattle.window_check.specs.declared.found.Found.{Found}
-use Rattle.window_check.specs.declared.found.Found.TheVariants.{Listing, Judging}
+use Rattle.name_resolution.proofs.Noted.{noted-append}
+use Rattle.name_resolution.specs.Codes.{least_code}
+use Rattle.name_resolution.specs.Findings.{note, noted, least_with}
+use Rattle.name_resolution.specs.declared.found.Found.{Found}
+use Rattle.name_resolution.specs.declared.found.Found.TheVariants.{Listing, Judging}
 use Rattle.static_laws.specs.CapturedByUse.{slots_named}
 use Rattle.static_laws.specs.Slots.{with_slot, with_slots, control_slots}
 use Rattle.window_check.specs.declared.parts.ItemName.{ItemName}

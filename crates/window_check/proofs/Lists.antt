@@ -8,11 +8,11 @@ use Rattle.os_ast.specs.Views.{clause_item_tree}
 use Rattle.os_ast.specs.declared.expr.Name.{Name}
 use Rattle.os_ast.specs.declared.names.Direction.{Direction}
 use Rattle.os_ast.specs.declared.pragma.ClauseItem.{ClauseItem}
-use Rattle.window_check.specs.Findings.{noted}
-use Rattle.window_check.specs.declared.found.Found.{Found}
+use Rattle.name_resolution.specs.Findings.{noted}
+use Rattle.name_resolution.specs.declared.found.Found.{Found}
 use Rattle.window_check.specs.Parts.{ListedParts, after_part, after_parts, listed_notes}
 use Rattle.window_check.proofs.Listing.{after_parts-append, listed_notes-append}
-use Rattle.window_check.proofs.Noted.{noted-append}
+use Rattle.name_resolution.proofs.Noted.{noted-append}
 
 pub items-drop : (d : Direction) (xs : List ClauseItem) (i : ℕ) (x : ClauseItem) → i < length xs → x ≡ get_or xs i x →
     map (Item d) (map clause_item_tree (drop i xs)) ≡ Item d (clause_item_tree x) ∷ map (Item d) (map clause_item_tree (drop (i + 1) xs))

@@ -11,8 +11,8 @@ use Rattle.os_ast.specs.Trees as tree
 use Rattle.os_ast.specs.declared.expr.Name.{Name}
 use Rattle.os_ast.specs.declared.names.Owner.{Owner}
 use Rattle.os_ast.specs.declared.names.Owner.TheVariants as owner
-use Rattle.symbol_table.proofs.Restored.{keeps-then, returned_leave, ended_unit}
-use Rattle.symbol_table.specs.Scopes.{outer_of, around_of, returned, ended}
+use Rattle.name_resolution.proofs.Restored.{keeps-then, returned_leave, ended_unit}
+use Rattle.name_resolution.specs.Scopes.{outer_of, around_of, returned, ended}
 use Rattle.window_check.specs.Parts.{after_names}
 use Rattle.window_check.specs.Statements.{in_named_task}
 use Rattle.window_check.specs.declared.parts.ItemName.{ItemName}

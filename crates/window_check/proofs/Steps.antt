@@ -11,12 +11,12 @@ use Rattle.os_ast.specs.Views.{expr_tree, stmt_tree, stmts_tree}
 use Rattle.os_ast.specs.declared.expr.Expr.{Expr}
 use Rattle.os_ast.specs.declared.stmt.Stmt.{Stmt}
 use Rattle.os_ast.specs.declared.stmt.Stmt.TheVariants as variant
-use Rattle.window_check.specs.Findings.{noted}
+use Rattle.name_resolution.specs.Findings.{noted}
 use Rattle.static_laws.specs.Room.{HasRoom, stmt_weight, stmts_weight}
 use Rattle.window_check.specs.Statements.{else_tree}
-use Rattle.window_check.specs.declared.found.Found.{Found}
+use Rattle.name_resolution.specs.declared.found.Found.{Found}
 use Rattle.static_laws.proofs.HasRoom.{room_then, room_stmt}
-use Rattle.window_check.proofs.Noted.{noted-append}
+use Rattle.name_resolution.proofs.Noted.{noted-append}
 use Rattle.static_laws.proofs.Trees.{stmts_tree-drop}
 
 -- what is found of two parts

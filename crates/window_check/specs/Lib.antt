@@ -1,9 +1,5 @@
 -- What a reader believes: the clauses of `check` cite these.
 pub mod Refusal
 -- What restates the parts of the walk for their own contracts.
-pub mod Codes
-pub mod Findings
 pub mod Parts
-pub mod Sizes
 pub mod Statements
-pub mod Uses

@@ -7,18 +7,16 @@ ghost use Rattle.os_ast.specs.Notes.Kinds.{Used};
 ghost use Rattle.os_ast.specs.Parts.{Item, Private, parts, parts_of};
 ghost use Rattle.os_ast.specs.Views.{clause_tree, clause_kind_tree, clause_item_tree, join_tree, index_tree, target_tree};
 ghost use Rattle.os_ast.specs.declared.names.Use.TheVariants as usage;
-ghost use Rattle.window_check.specs.Findings.{noted};
+ghost use Rattle.name_resolution.specs.Findings.{noted};
 ghost use Rattle.window_check.specs.Parts.{none_listed, after_part, after_parts, listed_notes};
 ghost use Rattle.static_laws.specs.Room.{room_end};
 
 use crate::expressions::{indexed, place};
-use crate::found::Found;
 use crate::parts::{Listed, item_name};
-use crate::uses::used;
+use name_resolution::{Found, Scopes, used};
 use os_ast::{Clause, ClauseItem, ClauseKind, Direction, Index, Join, Name, Role, Shape, Use};
 use os_io::{List, Memory};
 use std::alloc::Global;
-use symbol_table::Scopes;
 
 /// Whether there is an index.
 fn shape_of(index: &Option<Index>) -> Shape

@@ -1,22 +1,19 @@
 //! Declarators: what they declare and take, and which rules they violate.
 
 ghost use Rattle.std.specs.Prelude.{◌≡◌, ◌&&◌, not, OnOk, map, option_map};
-ghost use Rattle.os_ast.specs.Notes.Declarators.{form, sized_form, is_window, sized_notes, declarator_notes, declarators_notes, taken, after_declarator, after_declarators, after_start, start_notes};
+ghost use Rattle.os_ast.specs.Notes.Declarators.{form, sized_form, is_window, sized_notes, declarator_notes, declarators_notes, after_declarator, after_declarators, after_start, start_notes};
 ghost use Rattle.os_ast.specs.Names.{is_declared};
 ghost use Rattle.os_ast.specs.Rules.{is_outermost, when};
 ghost use Rattle.os_ast.specs.Views.{declarator_tree, index_tree, start_tree};
-ghost use Rattle.window_check.specs.Codes.{least_code, lesser_code};
-ghost use Rattle.window_check.specs.Findings.{noted};
-ghost use Rattle.symbol_table.specs.Sizes.{passes_limit};
-ghost use Rattle.static_laws.specs.Room.{HasRoom, declarator_weight, declarators_weight, form_weight, start_weight};
+ghost use Rattle.name_resolution.specs.Codes.{least_code, lesser_code};
+ghost use Rattle.name_resolution.specs.Findings.{noted};
+ghost use Rattle.static_laws.specs.Room.{HasRoom, declarator_weight, declarators_weight, start_weight};
 
-use crate::codes::{self, lesser, when};
 use crate::expressions::{change, expr, value};
-use crate::found::Found;
-use crate::sizes::{size_name, size_of};
+use name_resolution::codes::{self, lesser, when};
+use name_resolution::{Found, Scopes, meaning, size_name, size_of};
 use os_ast::{Declarator, Form, Index, Owner, Start};
 use os_io::{List, Memory};
-use symbol_table::{Scopes, meaning};
 
 /// What a declarator with a size, which isn't a stream, declares.
 fn sized_form(owner: Owner, size: Option<u32>) -> Form
@@ -82,14 +79,6 @@ fn sized(
     }
 }
 
-/// The code of a declarator of this form, whose size is none, or passes a limit with what was taken before it.
-fn code_with(scopes: &Scopes, form: Form) -> Option<u8>
-    requires { HasRoom scopes.now (form_weight form) }
-    ensures { result ≡ least_code (when (passes_limit (taken scopes.now form) form) 15) }
-{
-    when(scopes.passes_limit(form), codes::SIZE)
-}
-
 /// The least code of a declarator's name but for the size, whose code is handed in.
 fn declarator_code(scopes: &Scopes, declarator: &Declarator, size: Option<u8>) -> Option<u8>
     ensures { result ≡ lesser_code (least_code (when (is_declared scopes.now declarator.now.name.id) 12)) (lesser_code size (least_code (when (declarator.now.stream && not (is_outermost scopes.now.owner scopes.now.depth)) 17))) }
@@ -110,7 +99,7 @@ fn declarator(scopes: &mut Scopes, found: &mut Found, declarator: &Declarator) -
 {
     let form = form(scopes, declarator);
     let entity = scopes.form_entity(form);
-    let code = declarator_code(scopes, declarator, code_with(scopes, form));
+    let code = declarator_code(scopes, declarator, scopes.code_with(form));
     found.declare(declarator.name.mark, code, meaning(entity))?;
     sized(scopes, found, declarator.stream, &declarator.size)?;
     scopes.take(form);

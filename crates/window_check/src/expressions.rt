@@ -4,13 +4,11 @@ ghost use Rattle.std.specs.Prelude.{◌≡◌, OnOk, option_map};
 ghost use Rattle.os_ast.specs.Notes.Expressions.{expr_notes, place_notes, args_notes, links_notes, value_notes, index_notes, change_notes, step_notes};
 ghost use Rattle.os_ast.specs.Trees as tree;
 ghost use Rattle.os_ast.specs.Views.{expr_tree, target_tree, args_tree, links_tree, index_tree, change_tree};
-ghost use Rattle.window_check.specs.Findings.{noted};
+ghost use Rattle.name_resolution.specs.Findings.{noted};
 
-use crate::found::Found;
-use crate::uses::used;
+use name_resolution::{Found, Scopes, used};
 use os_ast::{Call, Change, Expr, Index, Link, Role, Shape, Target, Use};
 use os_io::{List, Memory};
-use symbol_table::Scopes;
 
 /// An expression.
 #[cycle(exprs)]

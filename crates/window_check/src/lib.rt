@@ -4,9 +4,9 @@
 //! code, or the program with what each name means: the value of a constant, the number of a function, slots,
 //! streams and items. What a violation is and what a name means stand beside the trees, in os_ast.
 //!
-//! The walk goes over the program once, in the order of the text. `Scopes`, of symbol_table, is what is in scope at a
-//! place, and `Found` is what was found so far; each function of the walk says of these two what the definitions say of
-//! its part of the tree. It never stops early. The body of a task in `main` is walked twice: what it names of `main` is
+//! The walk goes over the program once, in the order of the text. `Scopes` is what is in scope at a place, and
+//! `Found` is what was found so far, both of name_resolution; each function of the walk says of these two what the
+//! definitions say of its part of the tree. It never stops early. The body of a task in `main` is walked twice: what it names of `main` is
 //! listed first, since that decides what its names mean. What the definitions come to is said by the laws of
 //! static_laws, which are given out here too.
 #![tactic(auto)]
@@ -15,15 +15,11 @@ mod check_error;
 mod checked;
 mod checker;
 mod clauses;
-mod codes;
 mod declarators;
 mod expressions;
-mod found;
 mod functions;
 mod parts;
-mod sizes;
 mod statements;
-mod uses;
 
 pub use check_error::CheckError;
 pub use checked::Checked;

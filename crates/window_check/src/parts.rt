@@ -2,17 +2,17 @@ ghost use Rattle.std.specs.Prelude.{◌≡◌, ◌≤◌, OnOk, length, option_m
 ghost use Rattle.os_ast.specs.Parts.{Item, Private, item_name, is_in};
 ghost use Rattle.os_ast.specs.Rules.{when};
 ghost use Rattle.os_ast.specs.Views.{clause_item_tree, join_tree, target_tree};
-ghost use Rattle.window_check.specs.Codes.{least_code};
+ghost use Rattle.name_resolution.specs.Codes.{least_code};
 ghost use Rattle.window_check.specs.Parts.{none_listed, after_names, after_part};
 ghost use Rattle.static_laws.specs.Room.{room_end};
 
-use crate::codes::{self, when};
+use name_resolution::codes::{self, when};
+use name_resolution::{Captured, Scopes};
 use os_ast::{ClauseItem, Direction, Entity, Name};
 use os_io::{List, Memory};
 use std::alloc::Global;
 use std::collections::BTreeSet;
 use std::marker::Model;
-use symbol_table::{Captured, Scopes};
 
 /// The name of a task's item, and what it is in the task's body.
 #[derive(Clone, Copy, Debug, PartialEq, Eq)]

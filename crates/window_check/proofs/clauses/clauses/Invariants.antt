@@ -2,7 +2,7 @@ use Rattle.std.proofs.Common.{◌≡◌, ◌+◌, ◌≤◌, [], length, map, dr
 use Rattle.os_ast.specs.Notes.Clauses.{parts_notes}
 use Rattle.os_ast.specs.Parts.{parts}
 use Rattle.os_ast.specs.Views.{clause_tree}
-use Rattle.window_check.specs.Findings.{noted}
+use Rattle.name_resolution.specs.Findings.{noted}
 use Rattle.window_check.specs.Parts.{none_listed, after_parts, listed_notes}
 use Rattle.static_laws.specs.Room.{room_end}
 use Rattle.window_check.proofs.clauses.clauses.Given as goal

@@ -1,7 +1,7 @@
 use Rattle.std.proofs.Common.{◌≡◌, ◌+◌, ◌≤◌, length, map, drop}
 use Rattle.os_ast.specs.Parts.{Item}
 use Rattle.os_ast.specs.Views.{clause_item_tree}
-use Rattle.window_check.specs.Findings.{noted}
+use Rattle.name_resolution.specs.Findings.{noted}
 use Rattle.window_check.specs.Parts.{after_parts, listed_notes}
 use Rattle.static_laws.specs.Room.{room_end}
 use Rattle.window_check.proofs.clauses.items.Given as goal

@@ -1,6 +1,6 @@
 use Rattle.std.proofs.Common.{◌≡◌, map, drop}
 use Rattle.os_ast.specs.Parts.{Private}
-use Rattle.window_check.specs.Findings.{noted}
+use Rattle.name_resolution.specs.Findings.{noted}
 use Rattle.window_check.specs.Parts.{after_parts, listed_notes}
 use Rattle.window_check.proofs.clauses.privates.Given as goal
 

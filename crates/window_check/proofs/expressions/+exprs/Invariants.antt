@@ -1,7 +1,7 @@
 use Rattle.std.proofs.Common.{◌≡◌, drop}
 use Rattle.os_ast.specs.Notes.Expressions.{args_notes, links_notes}
 use Rattle.os_ast.specs.Views.{args_tree, links_tree}
-use Rattle.window_check.specs.Findings.{noted}
+use Rattle.name_resolution.specs.Findings.{noted}
 use Rattle.window_check.proofs.expressions.+exprs.Given as goal
 
 abbrev pub invariant-args-loop-arg : goal.invariant-args-loop-arg

@@ -1,6 +1,6 @@
 use Rattle.std.proofs.Common.{◌≡◌, ◌-◌, drop, length}
 use Rattle.os_ast.specs.Notes.Programs.{after_params, params_notes}
-use Rattle.window_check.specs.Findings.{noted}
+use Rattle.name_resolution.specs.Findings.{noted}
 use Rattle.static_laws.specs.Room.{HasRoom}
 use Rattle.window_check.proofs.functions.params.Given as goal
 

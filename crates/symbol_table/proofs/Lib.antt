@@ -1,2 +1,0 @@
-pub mod Restored
-pub mod Rows
