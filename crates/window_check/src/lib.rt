@@ -6,9 +6,9 @@
 //!
 //! The walk goes over the program once, in the order of the text. `Scopes` is what is in scope at a place, and
 //! `Found` is what was found so far, both of name_resolution; each function of the walk says of these two what the
-//! definitions say of its part of the tree. It never stops early. The body of a task in `main` is walked twice: what it names of `main` is
-//! listed first, since that decides what its names mean. What the definitions come to is said by the laws of
-//! static_laws, which are given out here too.
+//! definitions say of its part of the tree. It never stops early. The body of a task in `main` is walked twice: what it
+//! names of `main` is listed first, since that decides what its names mean. What the definitions come to is said by the
+//! laws of static_laws, which are given out here too.
 #![tactic(auto)]
 
 mod check_error;
