@@ -15,9 +15,9 @@ use Rattle.static_laws.proofs.Collected.{collected}
 use Rattle.static_laws.proofs.Named.{named-body, slots_named-append}
 use Rattle.static_laws.specs.CapturedByUse.{used_slots, slots_named}
 use Rattle.static_laws.specs.Slots.{with_slots, named_slots}
-use Rattle.window_check.proofs.Listing.{slots-all, items-all, with_slots-append}
+use Rattle.name_resolution.proofs.Listing.{slots-all, items-all, with_slots-append}
 use Rattle.name_resolution.specs.Findings.{noted, slots_found}
-use Rattle.window_check.specs.Parts.{ListedParts, none_listed, after_parts, after_names}
+use Rattle.name_resolution.specs.Parts.{ListedParts, none_listed, after_parts, after_names}
 use Rattle.window_check.specs.Statements.{in_named_task, listed_in}
 use Rattle.name_resolution.specs.declared.found.Found.TheVariants.{Listing}
 

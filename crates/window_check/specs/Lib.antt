@@ -1,5 +1,4 @@
 -- What a reader believes: the clauses of `check` cite these.
 pub mod Refusal
 -- What restates the parts of the walk for their own contracts.
-pub mod Parts
 pub mod Statements

@@ -9,8 +9,8 @@ ghost use Rattle.name_resolution.specs.Codes.{least_code, lesser_code};
 ghost use Rattle.name_resolution.specs.Findings.{noted};
 ghost use Rattle.static_laws.specs.Room.{HasRoom, declarator_weight, declarators_weight, start_weight};
 
-use crate::expressions::{change, expr, value};
 use name_resolution::codes::{self, lesser, when};
+use name_resolution::expressions::{change, expr, value};
 use name_resolution::{Found, Scopes, meaning, size_name, size_of};
 use os_ast::{Declarator, Form, Index, Owner, Start};
 use os_io::{List, Memory};

@@ -14,11 +14,8 @@
 mod check_error;
 mod checked;
 mod checker;
-mod clauses;
 mod declarators;
-mod expressions;
 mod functions;
-mod parts;
 mod statements;
 
 pub use check_error::CheckError;

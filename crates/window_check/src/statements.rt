@@ -14,11 +14,11 @@ ghost use Rattle.static_laws.specs.Room.{HasRoom, stmt_weight, stmts_weight, sta
 ghost use Rattle.window_check.specs.Statements.{else_tree, in_named_task, listed_in};
 ghost use Rattle.os_ast.specs.declared.names.Owner.TheVariants as owners;
 
-use crate::clauses::clauses;
 use crate::declarators::{declarators, start};
-use crate::expressions::{called, change, expr, place, step, value};
-use crate::parts::{ItemName, declare_items};
+use name_resolution::clauses::clauses;
 use name_resolution::codes::{self, when};
+use name_resolution::expressions::{called, change, expr, place, step, value};
+use name_resolution::parts::{ItemName, declare_items};
 use name_resolution::{Captured, Found, Scopes, Slots};
 use os_ast::{Direction, Head, Owner, Role, Stmt, TaskSite, TickSite};
 use os_io::{List, Memory};

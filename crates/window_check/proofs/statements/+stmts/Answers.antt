@@ -13,7 +13,7 @@ use Rattle.static_laws.proofs.HasRoom.{room_in_for}
 use Rattle.window_check.proofs.Restored.{returned_block, returned_for, ended_task}
 use Rattle.window_check.proofs.Steps as step
 use Rattle.window_check.proofs.Tasks.{room-named, slots-captured, few-captured, few-slots, task-scopes, task-found}
-use Rattle.window_check.specs.Parts.{after_names}
+use Rattle.name_resolution.specs.Parts.{after_names}
 use Rattle.window_check.specs.Statements.{in_named_task}
 use Rattle.window_check.proofs.statements.+stmts.Goals as goal
 

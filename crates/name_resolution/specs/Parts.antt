@@ -10,7 +10,7 @@ use Rattle.os_ast.specs.declared.names.Direction.{Direction}
 use Rattle.os_ast.specs.declared.names.Entity.{Entity}
 use Rattle.os_ast.specs.declared.names.Entity.TheVariants as entity
 use Rattle.static_laws.specs.Slots.{with_slots, control_slots}
-use Rattle.window_check.specs.declared.parts.ItemName.{ItemName}
+use Rattle.name_resolution.specs.declared.parts.ItemName.{ItemName}
 
 -- the names that stood in the clauses, the items in their order, and the captured scalars that `firstprivate` gave
 pub record ListedParts : Type 0 where

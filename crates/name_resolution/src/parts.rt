@@ -3,11 +3,12 @@ ghost use Rattle.os_ast.specs.Parts.{Item, Private, item_name, is_in};
 ghost use Rattle.os_ast.specs.Rules.{when};
 ghost use Rattle.os_ast.specs.Views.{clause_item_tree, join_tree, target_tree};
 ghost use Rattle.name_resolution.specs.Codes.{least_code};
-ghost use Rattle.window_check.specs.Parts.{none_listed, after_names, after_part};
+ghost use Rattle.name_resolution.specs.Parts.{none_listed, after_names, after_part};
 ghost use Rattle.static_laws.specs.Room.{room_end};
 
-use name_resolution::codes::{self, when};
-use name_resolution::{Captured, Scopes};
+use crate::captures::Captured;
+use crate::codes::{self, when};
+use crate::scopes::Scopes;
 use os_ast::{ClauseItem, Direction, Entity, Name};
 use os_io::{List, Memory};
 use std::alloc::Global;
@@ -16,13 +17,13 @@ use std::marker::Model;
 
 /// The name of a task's item, and what it is in the task's body.
 #[derive(Clone, Copy, Debug, PartialEq, Eq)]
-pub(crate) struct ItemName {
-    pub(crate) id: u32,
-    pub(crate) entity: Entity,
+pub struct ItemName {
+    pub id: u32,
+    pub entity: Entity,
 }
 
 /// The name that an item has in the task's body: that behind the arrow, or the stream's where it stands alone.
-pub(crate) fn item_name(item: &ClauseItem) -> Name
+pub fn item_name(item: &ClauseItem) -> Name
     ensures { result ≡ item_name (target_tree item.now.stream) (option_map join_tree item.now.window) }
 {
     match &item.window {
@@ -33,14 +34,14 @@ pub(crate) fn item_name(item: &ClauseItem) -> Name
 
 /// What the clauses of a task list.
 #[derive(Drop)]
-pub(crate) struct Listed {
+pub struct Listed {
     names: BTreeSet<u32>,
     items: List<ItemName>,
     captured: Captured,
 }
 
 impl Model for Listed {
-    ghost use Rattle.window_check.specs.Parts.{ListedParts};
+    ghost use Rattle.name_resolution.specs.Parts.{ListedParts};
 
     ghost Value = { ListedParts };
 
@@ -49,7 +50,7 @@ impl Model for Listed {
 
 impl Listed {
     /// Nothing is listed.
-    pub(crate) fn new(alloc: Global) -> Listed
+    pub fn new(alloc: Global) -> Listed
         ensures { result ≡ none_listed }
     {
         Listed {
@@ -60,14 +61,14 @@ impl Listed {
     }
 
     /// The code of a name that is listed already.
-    pub(crate) fn again(&self, name: Name) -> Option<u8>
+    pub fn again(&self, name: Name) -> Option<u8>
         ensures { result ≡ least_code (when (is_in name.id self.now.names) 21) }
     {
         when(self.names.contains(&name.id), codes::LISTED_TWICE)
     }
 
     /// One more item, by the name that it has in the task's body.
-    pub(crate) fn add_item(
+    pub fn add_item(
         &mut self,
         scopes: &Scopes,
         direction: Direction,
@@ -87,7 +88,7 @@ impl Listed {
     }
 
     /// One more `firstprivate` name.
-    pub(crate) fn add_private(&mut self, scopes: &Scopes, name: Name) -> Result<(), Memory>
+    pub fn add_private(&mut self, scopes: &Scopes, name: Name) -> Result<(), Memory>
         ensures { OnOk result (self.new ≡ after_part scopes.now self.old (Private name)) }
     {
         self.names.insert(name.id)?;
@@ -95,7 +96,7 @@ impl Listed {
     }
 
     /// The items, and the captured scalars that `firstprivate` gave.
-    pub(crate) fn into_parts(self) -> (List<ItemName>, Captured)
+    pub fn into_parts(self) -> (List<ItemName>, Captured)
         ensures items { result.0 ≡ self.items }
         ensures captured { result.1 ≡ self.slots }
     {
@@ -109,7 +110,7 @@ impl Listed {
 }
 
 /// Declares the names of items.
-pub(crate) fn declare_items(scopes: &mut Scopes, items: &List<ItemName>) -> Result<(), Memory>
+pub fn declare_items(scopes: &mut Scopes, items: &List<ItemName>) -> Result<(), Memory>
     ensures { OnOk result (scopes.new ≡ after_names scopes.old items.now) }
 {
     for item in items.as_slice() {

@@ -1,8 +1,8 @@
 use Rattle.std.proofs.Common.{◌≡◌, map, drop}
 use Rattle.os_ast.specs.Parts.{Private}
 use Rattle.name_resolution.specs.Findings.{noted}
-use Rattle.window_check.specs.Parts.{after_parts, listed_notes}
-use Rattle.window_check.proofs.clauses.privates.Given as goal
+use Rattle.name_resolution.specs.Parts.{after_parts, listed_notes}
+use Rattle.name_resolution.proofs.clauses.privates.Given as goal
 
 abbrev pub invariant-loop-name : goal.invariant-loop-name
 invariant-loop-name l = record {

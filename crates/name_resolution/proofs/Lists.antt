@@ -10,8 +10,8 @@ use Rattle.os_ast.specs.declared.names.Direction.{Direction}
 use Rattle.os_ast.specs.declared.pragma.ClauseItem.{ClauseItem}
 use Rattle.name_resolution.specs.Findings.{noted}
 use Rattle.name_resolution.specs.declared.found.Found.{Found}
-use Rattle.window_check.specs.Parts.{ListedParts, after_part, after_parts, listed_notes}
-use Rattle.window_check.proofs.Listing.{after_parts-append, listed_notes-append}
+use Rattle.name_resolution.specs.Parts.{ListedParts, after_part, after_parts, listed_notes}
+use Rattle.name_resolution.proofs.Listing.{after_parts-append, listed_notes-append}
 use Rattle.name_resolution.proofs.Noted.{noted-append}
 
 pub items-drop : (d : Direction) (xs : List ClauseItem) (i : ℕ) (x : ClauseItem) → i < length xs → x ≡ get_or xs i x →

@@ -1,6 +1,6 @@
 use Rattle.std.proofs.Common.{◌≡◌, drop}
-use Rattle.window_check.specs.Parts.{after_names}
-use Rattle.window_check.proofs.parts.declare_items.Given as goal
+use Rattle.name_resolution.specs.Parts.{after_names}
+use Rattle.name_resolution.proofs.parts.declare_items.Given as goal
 
 -- the scope so far, with the names of the rest
 abbrev pub invariant-loop-item : goal.invariant-loop-item

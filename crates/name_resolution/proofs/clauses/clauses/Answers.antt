@@ -1,10 +1,10 @@
 use Rattle.std.proofs.Common.{List, ◌+◌, arith, drop, map, length, length-append, ap}
 use Rattle.os_ast.specs.Parts.{Part, parts, parts_of}
 use Rattle.os_ast.specs.Views.{clause_kind_tree, clause_tree}
-use Rattle.window_check.specs.Parts.{ListedParts}
-use Rattle.window_check.proofs.Lists.{items-parts, found-parts, listed-parts}
+use Rattle.name_resolution.specs.Parts.{ListedParts}
+use Rattle.name_resolution.proofs.Lists.{items-parts, found-parts, listed-parts}
 use Rattle.static_laws.proofs.Trees.{parts-drop}
-use Rattle.window_check.proofs.clauses.clauses.Goals as goal
+use Rattle.name_resolution.proofs.clauses.clauses.Goals as goal
 
 pub loop-next-preserved : goal.loop-next-preserved
 loop-next-preserved c =

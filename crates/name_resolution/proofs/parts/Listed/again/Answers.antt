@@ -2,9 +2,9 @@ use Rattle.std.proofs.Common.{ap, ◌∙◌, Bool}
 use Rattle.os_ast.specs.Parts.{is_in}
 use Rattle.os_ast.specs.Rules.{when}
 use Rattle.name_resolution.specs.Codes.{least_code}
-use Rattle.window_check.specs.Parts.{ListedParts}
-use Rattle.window_check.proofs.Listing.{list_any-is_in}
-use Rattle.window_check.proofs.parts.Listed.again.Goals as goal
+use Rattle.name_resolution.specs.Parts.{ListedParts}
+use Rattle.name_resolution.proofs.Listing.{list_any-is_in}
+use Rattle.name_resolution.proofs.parts.Listed.again.Goals as goal
 
 pub returns : goal.returns
 returns c =

@@ -3,9 +3,9 @@ use Rattle.os_ast.specs.Notes.Clauses.{parts_notes}
 use Rattle.os_ast.specs.Parts.{parts}
 use Rattle.os_ast.specs.Views.{clause_tree}
 use Rattle.name_resolution.specs.Findings.{noted}
-use Rattle.window_check.specs.Parts.{none_listed, after_parts, listed_notes}
+use Rattle.name_resolution.specs.Parts.{none_listed, after_parts, listed_notes}
 use Rattle.static_laws.specs.Room.{room_end}
-use Rattle.window_check.proofs.clauses.clauses.Given as goal
+use Rattle.name_resolution.proofs.clauses.clauses.Given as goal
 
 abbrev pub invariant-loop-next : goal.invariant-loop-next
 invariant-loop-next l = record {

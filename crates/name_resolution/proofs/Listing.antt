@@ -26,8 +26,8 @@ use Rattle.name_resolution.specs.declared.found.Found.{Found}
 use Rattle.name_resolution.specs.declared.found.Found.TheVariants.{Listing, Judging}
 use Rattle.static_laws.specs.CapturedByUse.{slots_named}
 use Rattle.static_laws.specs.Slots.{with_slot, with_slots, control_slots}
-use Rattle.window_check.specs.declared.parts.ItemName.{ItemName}
-use Rattle.window_check.specs.Parts.{ListedParts, none_listed, inside, after_part, after_parts, listed_notes, after_names}
+use Rattle.name_resolution.specs.declared.parts.ItemName.{ItemName}
+use Rattle.name_resolution.specs.Parts.{ListedParts, none_listed, inside, after_part, after_parts, listed_notes, after_names}
 
 abbrev SameNames : List ℕ → List ℕ → Type 0
 SameNames xs ys = (id : ℕ) → is_in id xs ≡ is_in id ys

@@ -6,14 +6,16 @@ ghost use Rattle.os_ast.specs.Trees as tree;
 ghost use Rattle.os_ast.specs.Views.{expr_tree, target_tree, args_tree, links_tree, index_tree, change_tree};
 ghost use Rattle.name_resolution.specs.Findings.{noted};
 
-use name_resolution::{Found, Scopes, used};
+use crate::found::Found;
+use crate::scopes::Scopes;
+use crate::uses::used;
 use os_ast::{Call, Change, Expr, Index, Link, Role, Shape, Target, Use};
 use os_io::{List, Memory};
 
 /// An expression.
 #[cycle(exprs)]
 #[tactic(auto, using(crate::proofs::Rules::exprs))]
-pub(crate) fn expr(scopes: &Scopes, found: &mut Found, expr: &Expr) -> Result<(), Memory>
+pub fn expr(scopes: &Scopes, found: &mut Found, expr: &Expr) -> Result<(), Memory>
     ensures { OnOk result (found.new ≡ noted found.old (expr_notes scopes.now (expr_tree expr.now))) }
 {
     match expr {
@@ -37,12 +39,7 @@ pub(crate) fn expr(scopes: &Scopes, found: &mut Found, expr: &Expr) -> Result<()
 /// A name with an index or without, by where it stands.
 #[cycle(exprs)]
 #[tactic(auto, using(crate::proofs::Rules::exprs))]
-pub(crate) fn place(
-    scopes: &Scopes,
-    found: &mut Found,
-    role: Role,
-    target: &Target,
-) -> Result<(), Memory>
+pub fn place(scopes: &Scopes, found: &mut Found, role: Role, target: &Target) -> Result<(), Memory>
     ensures { OnOk result (found.new ≡ noted found.old (place_notes scopes.now role (target_tree target.now))) }
 {
     match &target.index {
@@ -57,7 +54,7 @@ pub(crate) fn place(
 /// A call.
 #[cycle(exprs)]
 #[tactic(auto, using(crate::proofs::Rules::exprs))]
-pub(crate) fn called(scopes: &Scopes, found: &mut Found, call: &Call) -> Result<(), Memory>
+pub fn called(scopes: &Scopes, found: &mut Found, call: &Call) -> Result<(), Memory>
     ensures { OnOk result (found.new ≡ noted found.old (expr_notes scopes.now (tree.ExprTree.Call call.now.name (args_tree call.now.args)))) }
 {
     used(scopes, found, call.name, Use::Called(call.args.len()))?;
@@ -89,7 +86,7 @@ fn linked(scopes: &Scopes, found: &mut Found, links: &List<Link>) -> Result<(), 
 }
 
 /// An expression that may be left out.
-pub(crate) fn value(scopes: &Scopes, found: &mut Found, value: &Option<Expr>) -> Result<(), Memory>
+pub fn value(scopes: &Scopes, found: &mut Found, value: &Option<Expr>) -> Result<(), Memory>
     ensures { OnOk result (found.new ≡ noted found.old (value_notes scopes.now (option_map expr_tree value.now))) }
 {
     match value {
@@ -99,11 +96,7 @@ pub(crate) fn value(scopes: &Scopes, found: &mut Found, value: &Option<Expr>) ->
 }
 
 /// An index that may be left out.
-pub(crate) fn indexed(
-    scopes: &Scopes,
-    found: &mut Found,
-    index: &Option<Index>,
-) -> Result<(), Memory>
+pub fn indexed(scopes: &Scopes, found: &mut Found, index: &Option<Index>) -> Result<(), Memory>
     ensures { OnOk result (found.new ≡ noted found.old (index_notes scopes.now (option_map index_tree index.now))) }
 {
     match index {
@@ -114,7 +107,7 @@ pub(crate) fn indexed(
 
 /// A change.
 #[tactic(auto, using(crate::proofs::Rules::exprs))]
-pub(crate) fn change(scopes: &Scopes, found: &mut Found, change: &Change) -> Result<(), Memory>
+pub fn change(scopes: &Scopes, found: &mut Found, change: &Change) -> Result<(), Memory>
     ensures { OnOk result (found.new ≡ noted found.old (change_notes scopes.now (change_tree change.now))) }
 {
     match change {
@@ -129,7 +122,7 @@ pub(crate) fn change(scopes: &Scopes, found: &mut Found, change: &Change) -> Res
 }
 
 /// A change that may be left out.
-pub(crate) fn step(scopes: &Scopes, found: &mut Found, step: &Option<Change>) -> Result<(), Memory>
+pub fn step(scopes: &Scopes, found: &mut Found, step: &Option<Change>) -> Result<(), Memory>
     ensures { OnOk result (found.new ≡ noted found.old (step_notes scopes.now (option_map change_tree step.now))) }
 {
     match step {

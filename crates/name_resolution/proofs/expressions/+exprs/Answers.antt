@@ -5,7 +5,7 @@ use Rattle.os_ast.specs.Notes.Expressions.{expr_notes, links_notes}
 use Rattle.os_ast.specs.Trees as tree
 use Rattle.os_ast.specs.Views.{expr_tree, links_tree}
 use Rattle.name_resolution.proofs.Noted.{noted-append}
-use Rattle.window_check.proofs.expressions.+exprs.Goals as goal
+use Rattle.name_resolution.proofs.expressions.+exprs.Goals as goal
 
 pub expr-returns-in_ok-expr-in-Chain : goal.expr-returns-in_ok-expr-in-Chain
 expr-returns-in_ok-expr-in-Chain t c =

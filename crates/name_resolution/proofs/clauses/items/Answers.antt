@@ -1,9 +1,9 @@
 use Rattle.std.proofs.Common.{◌+◌, arith, length, ap, drop, map}
 use Rattle.os_ast.specs.Parts.{Item}
 use Rattle.os_ast.specs.Views.{clause_item_tree}
-use Rattle.window_check.specs.Parts.{ListedParts}
-use Rattle.window_check.proofs.Lists.{items-drop, items-part, found-part, listed-part}
-use Rattle.window_check.proofs.clauses.items.Goals as goal
+use Rattle.name_resolution.specs.Parts.{ListedParts}
+use Rattle.name_resolution.proofs.Lists.{items-drop, items-part, found-part, listed-part}
+use Rattle.name_resolution.proofs.clauses.items.Goals as goal
 
 pub loop-next-preserved : goal.loop-next-preserved
 loop-next-preserved c =

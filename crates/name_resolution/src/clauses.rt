@@ -8,12 +8,14 @@ ghost use Rattle.os_ast.specs.Parts.{Item, Private, parts, parts_of};
 ghost use Rattle.os_ast.specs.Views.{clause_tree, clause_kind_tree, clause_item_tree, join_tree, index_tree, target_tree};
 ghost use Rattle.os_ast.specs.declared.names.Use.TheVariants as usage;
 ghost use Rattle.name_resolution.specs.Findings.{noted};
-ghost use Rattle.window_check.specs.Parts.{none_listed, after_part, after_parts, listed_notes};
+ghost use Rattle.name_resolution.specs.Parts.{none_listed, after_part, after_parts, listed_notes};
 ghost use Rattle.static_laws.specs.Room.{room_end};
 
 use crate::expressions::{indexed, place};
+use crate::found::Found;
 use crate::parts::{Listed, item_name};
-use name_resolution::{Found, Scopes, used};
+use crate::scopes::Scopes;
+use crate::uses::used;
 use os_ast::{Clause, ClauseItem, ClauseKind, Direction, Index, Join, Name, Role, Shape, Use};
 use os_io::{List, Memory};
 use std::alloc::Global;
@@ -141,7 +143,7 @@ fn clause(
 
 /// The clauses of a task. The answer is what they list.
 #[tactic(auto, using(crate::proofs::Listing::listing))]
-pub(crate) fn clauses(
+pub fn clauses(
     alloc: Global,
     scopes: &Scopes,
     found: &mut Found,

@@ -2,7 +2,7 @@ use Rattle.std.proofs.Common.{◌≡◌, drop}
 use Rattle.os_ast.specs.Notes.Expressions.{args_notes, links_notes}
 use Rattle.os_ast.specs.Views.{args_tree, links_tree}
 use Rattle.name_resolution.specs.Findings.{noted}
-use Rattle.window_check.proofs.expressions.+exprs.Given as goal
+use Rattle.name_resolution.proofs.expressions.+exprs.Given as goal
 
 abbrev pub invariant-args-loop-arg : goal.invariant-args-loop-arg
 invariant-args-loop-arg l =

@@ -2,9 +2,9 @@ use Rattle.std.proofs.Common.{◌≡◌, ◌+◌, ◌≤◌, length, map, drop}
 use Rattle.os_ast.specs.Parts.{Item}
 use Rattle.os_ast.specs.Views.{clause_item_tree}
 use Rattle.name_resolution.specs.Findings.{noted}
-use Rattle.window_check.specs.Parts.{after_parts, listed_notes}
+use Rattle.name_resolution.specs.Parts.{after_parts, listed_notes}
 use Rattle.static_laws.specs.Room.{room_end}
-use Rattle.window_check.proofs.clauses.items.Given as goal
+use Rattle.name_resolution.proofs.clauses.items.Given as goal
 
 abbrev pub invariant-loop-next : goal.invariant-loop-next
 invariant-loop-next l = record {
