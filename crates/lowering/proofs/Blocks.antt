@@ -9,7 +9,7 @@ use Rattle.os_ast.specs.Views.{stmt_tree, stmts_tree}
 use Rattle.os_ast.specs.declared.names.What.{What}
 use Rattle.os_ast.specs.declared.stmt.Stmt.{Stmt}
 use Rattle.std.specs.Prelude.{Option}
-use Rattle.window_check.proofs.Trees.{stmts_tree-drop}
+use Rattle.static_laws.proofs.Trees.{stmts_tree-drop}
 
 -- a statement, and the ones behind it
 tail_step : (tells : ℕ → What) (a : tree.StmtTree) (rest : List Stmt) (x : Exits) (next : Option Label) (d : Draft)

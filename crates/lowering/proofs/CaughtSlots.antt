@@ -16,10 +16,10 @@ use Rattle.os_ast.specs.declared.expr.Name.{Name}
 use Rattle.os_ast.specs.declared.names.Owner.{Owner}
 use Rattle.os_ast.specs.declared.names.Owner.TheVariants as owner
 use Rattle.simulation.proofs.NoTasks.{IsOther, captures_both, items_owner, none_args, none_both, none_change, none_declarators, none_expr, none_parts, none_start, none_step, none_stmt, none_value}
-use Rattle.window_check.proofs.CaughtFew.{caught_few}
-use Rattle.window_check.proofs.HasRoom.{owner_item, room_enter, room_for_body, room_in_for, room_in_loop, room_item, room_less, room_stmt}
-use Rattle.window_check.proofs.NameCounts.{used_in, used_in-append}
-use Rattle.window_check.specs.Room.{HasRoom, item_weight, items_weight, stmt_weight, stmts_weight}
+use Rattle.static_laws.proofs.CaughtFew.{caught_few}
+use Rattle.static_laws.proofs.HasRoom.{owner_item, room_enter, room_for_body, room_in_for, room_in_loop, room_item, room_less, room_stmt}
+use Rattle.static_laws.proofs.NameCounts.{used_in, used_in-append}
+use Rattle.static_laws.specs.Room.{HasRoom, item_weight, items_weight, stmt_weight, stmts_weight}
 
 -- how many slots are captured in all
 abbrev pub total : List (List ℕ) → ℕ

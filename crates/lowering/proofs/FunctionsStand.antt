@@ -27,11 +27,11 @@ use Rattle.os_code.specs.declared.parts.Parts.{Parts}
 use Rattle.simulation.specs.Programs.{HasFunction, HasFunctions, HasMain, HasUnit, in_function, in_main, size_by}
 use Rattle.simulation.specs.Statements.{HasStmts}
 use Rattle.simulation.specs.Tasks.{TaskTree, all_tasks_of, program_tasks}
-use Rattle.window_check.proofs.Told.{lawful-rest}
-use Rattle.window_check.specs.Globals.{AreApart}
-use Rattle.window_check.specs.Room.{items_weight, stmts_weight}
-use Rattle.window_check.specs.Sums.{stmts_slots}
-use Rattle.window_check.specs.Told.{AreLawful}
+use Rattle.static_laws.proofs.Told.{lawful-rest}
+use Rattle.static_laws.specs.Globals.{AreApart}
+use Rattle.static_laws.specs.Room.{items_weight, stmts_weight}
+use Rattle.static_laws.specs.Sums.{stmts_slots}
+use Rattle.static_laws.specs.Told.{AreLawful}
 
 module _
     (tells : ℕ → What)

@@ -9,7 +9,7 @@ use Rattle.os_ast.specs.Parts.{is_in}
 use Rattle.os_ast.specs.Trees as tree
 use Rattle.os_ast.specs.declared.names.What.{What}
 use Rattle.simulation.specs.Tasks.{TaskTree}
-use Rattle.window_check.specs.Globals.{AreApart}
+use Rattle.static_laws.specs.Globals.{AreApart}
 
 -- `main` among the functions behind it
 abbrev pub NoMain : List tree.ItemTree → Type 0

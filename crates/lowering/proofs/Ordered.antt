@@ -5,8 +5,8 @@ use Rattle.os_ast.specs.Marks.{HasPlaces}
 use Rattle.os_ast.specs.Trees as tree
 use Rattle.os_ast.specs.Violations.{names}
 use Rattle.os_ast.specs.declared.names.Resolved.{Resolved}
-use Rattle.window_check.proofs.Ordered.{names_in_order}
-use Rattle.window_check.specs.Order.{InOrder, IsBelowNext}
+use Rattle.static_laws.proofs.Ordered.{names_in_order}
+use Rattle.static_laws.specs.Order.{InOrder, IsBelowNext}
 
 -- what stands behind a name has a greater place
 behind : (place : ℕ) (rs : List Resolved) (j : ℕ) → IsBelowNext place rs → j < length rs → place < (name_at rs j).place

@@ -19,14 +19,14 @@ use Rattle.simulation.proofs.Sizes.{stmt_sizes, stmts_sizes}
 use Rattle.simulation.specs.Names.{told_at}
 use Rattle.simulation.specs.Programs.{size_by}
 use Rattle.simulation.specs.Tasks.{TaskTree, all_tasks_of, program_tasks, tasks_of}
-use Rattle.window_check.proofs.DeclaredSlots.{items_arrays, declarators_paid, start_paid, params_paid, body_arrays}
-use Rattle.window_check.proofs.NameCounts.{declared_in, declared_in-append}
-use Rattle.window_check.proofs.Summed.{summed-stmt, summed-stmts}
-use Rattle.window_check.proofs.Told.{lawful-first, lawful-rest, tells-first, tells-rest}
-use Rattle.window_check.specs.Globals.{count_functions}
-use Rattle.window_check.specs.Order.{InOrder}
-use Rattle.window_check.specs.Sums.{stmt_slots, stmts_slots}
-use Rattle.window_check.specs.Told.{AreLawful, Tells}
+use Rattle.static_laws.proofs.DeclaredSlots.{items_arrays, declarators_paid, start_paid, params_paid, body_arrays}
+use Rattle.static_laws.proofs.NameCounts.{declared_in, declared_in-append}
+use Rattle.static_laws.proofs.Summed.{summed-stmt, summed-stmts}
+use Rattle.static_laws.proofs.Told.{lawful-first, lawful-rest, tells-first, tells-rest}
+use Rattle.static_laws.specs.Globals.{count_functions}
+use Rattle.static_laws.specs.Order.{InOrder}
+use Rattle.static_laws.specs.Sums.{stmt_slots, stmts_slots}
+use Rattle.static_laws.specs.Told.{AreLawful, Tells}
 
 module _ (rs : List Resolved) (ordered : InOrder rs) where
   abbrev pub size : tree.ExprTree → ℕ

@@ -12,8 +12,8 @@ use Rattle.os_ast.specs.declared.names.What.{What}
 use Rattle.os_ast.specs.declared.names.What.TheVariants as what
 use Rattle.simulation.specs.Programs.{constant_size, size_by}
 use Rattle.simulation.specs.Tasks.{TaskTree, all_tasks_of, tasks_of}
-use Rattle.window_check.specs.Room.{declarators_weight, start_weight, stmt_weight, stmts_weight}
-use Rattle.window_check.specs.Sums.{array_slots, declared_slots, declarators_slots, start_slots, stmt_slots, stmts_slots}
+use Rattle.static_laws.specs.Room.{declarators_weight, start_weight, stmt_weight, stmts_weight}
+use Rattle.static_laws.specs.Sums.{array_slots, declared_slots, declarators_slots, start_slots, stmt_slots, stmts_slots}
 
 -- a size is at most the limit
 chosen_small : (b : Bool) (n : ℕ) → (b ≡ true → n ≤ size_limit) → unwrap_or (if b then Some n else None) 0 ≤ size_limit

@@ -18,13 +18,13 @@ use Rattle.os_ast.specs.declared.names.Resolved.{Resolved}
 use Rattle.os_code.specs.declared.unit.Unit.{Unit as CodeUnit}
 use Rattle.simulation.specs.Names.{told_at}
 use Rattle.simulation.specs.Tasks.{TaskTree, program_tasks}
-use Rattle.window_check.proofs.NameCounts.{names_few}
-use Rattle.window_check.proofs.Ordered.{names_in_order}
-use Rattle.window_check.proofs.Told.{lawful-program, tells-program}
-use Rattle.window_check.proofs.Weights.{functions_few, room}
-use Rattle.window_check.proofs.Within.{within-items_of_file}
-use Rattle.window_check.specs.Order.{InOrder}
-use Rattle.window_check.specs.Sums.{stmt_slots, stmts_slots}
+use Rattle.static_laws.proofs.NameCounts.{names_few}
+use Rattle.static_laws.proofs.Ordered.{names_in_order}
+use Rattle.static_laws.proofs.Told.{lawful-program, tells-program}
+use Rattle.static_laws.proofs.Weights.{functions_few, room}
+use Rattle.static_laws.proofs.Within.{within-items_of_file}
+use Rattle.static_laws.specs.Order.{InOrder}
+use Rattle.static_laws.specs.Sums.{stmt_slots, stmts_slots}
 
 abbrev pub slots_in : List CodeUnit → ℕ
 slots_in units = sum_by (λ (unit : CodeUnit). unit.slots) units

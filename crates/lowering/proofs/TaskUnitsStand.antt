@@ -19,8 +19,8 @@ use Rattle.os_code.specs.declared.site.Site.{Site}
 use Rattle.simulation.specs.Programs.{HasTask, in_main, size_by}
 use Rattle.simulation.specs.Statements.{HasStmt}
 use Rattle.simulation.specs.Tasks.{TaskTree, site_items, tasks_of}
-use Rattle.window_check.specs.Room.{stmt_weight}
-use Rattle.window_check.specs.Sums.{stmt_slots}
+use Rattle.static_laws.specs.Room.{stmt_weight}
+use Rattle.static_laws.specs.Sums.{stmt_slots}
 
 module _
     (tells : ℕ → What)

@@ -27,8 +27,8 @@ use Rattle.simulation.proofs.Files.{params_owner}
 use Rattle.simulation.proofs.NoTasks.{IsOther, captures_both, items_owner, none_args, none_both, none_change, none_declarators, none_expr, none_parts, none_place, none_start, none_step, none_stmt, none_stmts, none_value}
 use Rattle.simulation.proofs.Static.{declarators_onward, start_onward, stmt_onward}
 use Rattle.simulation.specs.Tasks.{TaskTree, all_tasks_of, program_tasks, tasks_of}
-use Rattle.window_check.proofs.Told.{lawful-first, lawful-rest}
-use Rattle.window_check.specs.Told.{AreLawful}
+use Rattle.static_laws.proofs.Told.{lawful-first, lawful-rest}
+use Rattle.static_laws.specs.Told.{AreLawful}
 
 -- a pragma that keeps the rules stands in `main`
 pragma_owner : (o : Owner) → not (is_main_body o) ≡ false → o ≡ owner.OfMain

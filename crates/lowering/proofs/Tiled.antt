@@ -15,7 +15,7 @@ use Rattle.os_code.specs.declared.site.Site.{Site}
 use Rattle.os_code.specs.declared.unit.Unit.{Unit as CodeUnit}
 use Rattle.simulation.specs.Tasks.{TaskTree, program_tasks}
 use Rattle.simulation.specs.Tiling.{IsTiled, Tile}
-use Rattle.window_check.specs.Globals.{count_functions}
+use Rattle.static_laws.specs.Globals.{count_functions}
 
 tile_more : (us : List CodeUnit) (from mid : ℕ) (unit : CodeUnit) → Tile from mid us → unit.start ≡ mid → Tile from (mid + unit.stack) (us ++ unit ∷ [])
 tile_more [] from mid unit tiles starts = (starts ∙ sym tiles, ap (λ n. n + unit.stack) tiles)

@@ -20,11 +20,11 @@ use Rattle.os_ast.specs.Violations.{captured_by_tasks, streams, violations}
 use Rattle.os_ast.specs.declared.names.What.{What}
 use Rattle.simulation.specs.Programs.{HasProgram, HasTask}
 use Rattle.simulation.specs.Tasks.{TaskTree, all_tasks_of, program_tasks}
-use Rattle.window_check.proofs.Globals.{distinct-program}
-use Rattle.window_check.proofs.Told.{lawful-program}
-use Rattle.window_check.proofs.Weights.{weight-spell}
-use Rattle.window_check.specs.Room.{items_weight}
-use Rattle.window_check.specs.Told.{AreLawful}
+use Rattle.static_laws.proofs.Globals.{distinct-program}
+use Rattle.static_laws.proofs.Told.{lawful-program}
+use Rattle.static_laws.proofs.Weights.{weight-spell}
+use Rattle.static_laws.specs.Room.{items_weight}
+use Rattle.static_laws.specs.Told.{AreLawful}
 
 -- functions make no sites, and each task makes one
 functions_no_sites : (tells : ℕ → What) (is : List tree.ItemTree) (made : Units) → (with_functions tells is made).sites ≡ made.sites

@@ -11,7 +11,7 @@ ghost use Rattle.simulation.specs.Laws.{StandsFor};
 ghost use Rattle.simulation.specs.Names.{told_at};
 ghost use Rattle.simulation.specs.Tasks.{program_tasks};
 ghost use Rattle.simulation.specs.Tiling.{IsTiled};
-ghost use Rattle.window_check.specs.Globals.{count_functions};
+ghost use Rattle.static_laws.specs.Globals.{count_functions};
 
 use crate::resolve::resolve;
 use crate::tasks::add_program_tasks;

@@ -8,7 +8,7 @@ ghost use Rattle.simulation.specs.Names.{told_at};
 ghost use Rattle.os_ast.specs.declared.names.Owner.TheVariants as owner;
 ghost use Rattle.simulation.specs.Programs.{size_by};
 ghost use Rattle.simulation.specs.Tasks.{program_tasks};
-ghost use Rattle.window_check.specs.Sums.{stmt_slots};
+ghost use Rattle.static_laws.specs.Sums.{stmt_slots};
 
 use crate::sites::{captured_at, listed, site_items};
 use crate::slots::stmt_slots;

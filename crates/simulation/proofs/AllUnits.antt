@@ -34,11 +34,11 @@ use Rattle.simulation.proofs.TaskTexts.{TaskAt, strip, all_stripped, matched, ma
 use Rattle.simulation.proofs.TaskUnits.{task_unit}
 use Rattle.simulation.proofs.UnitKinds.{main_kind, function_kind, task_kind}
 use Rattle.simulation.proofs.ValidRegions.{AreLaid}
-use Rattle.window_check.specs.Globals.{AreApart, count_functions}
-use Rattle.window_check.specs.Order.{InOrder}
-use Rattle.window_check.proofs.Globals.{distinct-program}
-use Rattle.window_check.proofs.Ordered.{names_in_order}
-use Rattle.window_check.proofs.Told.{tells-program, lawful-program}
+use Rattle.static_laws.specs.Globals.{AreApart, count_functions}
+use Rattle.static_laws.specs.Order.{InOrder}
+use Rattle.static_laws.proofs.Globals.{distinct-program}
+use Rattle.static_laws.proofs.Ordered.{names_in_order}
+use Rattle.static_laws.proofs.Told.{tells-program, lawful-program}
 
 -- a lawful program, and a tiled code that stands for it
 pub record Standing (p : tree.ProgramTree) (code : Parts) : Type 0 where

@@ -13,8 +13,8 @@ use Rattle.os_ast.specs.Stacked as text
 use Rattle.os_ast.specs.declared.names.Entity.{Entity}
 use Rattle.os_ast.specs.declared.names.Entity.TheVariants as entity
 use Rattle.os_ast.specs.declared.names.Entry.{Entry}
-use Rattle.window_check.specs.CapturedByUse.{Ascends}
-use Rattle.window_check.specs.Slots.{control_slots}
+use Rattle.static_laws.specs.CapturedByUse.{Ascends}
+use Rattle.static_laws.specs.Slots.{control_slots}
 
 -- a scalar of the control program with this slot
 abbrev pub HasSlot : Option Entity → ℕ → Type 0

@@ -32,9 +32,9 @@ use Rattle.simulation.specs.Alignment.{Resources, Aligned}
 use Rattle.simulation.specs.Names.{told_at}
 use Rattle.simulation.proofs.Alignment.{Found, found, missed}
 use Rattle.simulation.proofs.Steps.{Store, at, pushed, onto, Meets}
-use Rattle.window_check.specs.Order.{IsBelowNext, InOrder}
-use Rattle.window_check.specs.Told.{AreIn, KeepsAll}
-use Rattle.window_check.proofs.Told.{told-use, declared-use, one-meaning}
+use Rattle.static_laws.specs.Order.{IsBelowNext, InOrder}
+use Rattle.static_laws.specs.Told.{AreIn, KeepsAll}
+use Rattle.static_laws.proofs.Told.{told-use, declared-use, one-meaning}
 
 -- the list tells at a place what it has for that place
 in_order_tail : (lo : ℕ) (rs : List Resolved) → IsBelowNext lo rs → InOrder rs

@@ -36,13 +36,13 @@ use Rattle.simulation.proofs.NoTasks.{IsOther, captures_both, none_both, none_st
 use Rattle.simulation.proofs.Sizes.{stmts_sizes}
 use Rattle.simulation.proofs.Steps.{at, pushed, onto, Meets}
 use Rattle.simulation.proofs.StreamCounts.{stmts_streams, body_streams, items_more}
-use Rattle.window_check.specs.Globals.{AreApart, global_id}
-use Rattle.window_check.specs.Order.{InOrder}
-use Rattle.window_check.specs.Sums.{stmts_slots}
-use Rattle.window_check.specs.Told.{Tells, AreLawful}
-use Rattle.window_check.proofs.Counted.{functions_behind}
-use Rattle.window_check.proofs.Summed.{summed-stmts}
-use Rattle.window_check.proofs.Told.{tells-first, tells-rest, lawful-first, lawful-rest}
+use Rattle.static_laws.specs.Globals.{AreApart, global_id}
+use Rattle.static_laws.specs.Order.{InOrder}
+use Rattle.static_laws.specs.Sums.{stmts_slots}
+use Rattle.static_laws.specs.Told.{Tells, AreLawful}
+use Rattle.static_laws.proofs.Counted.{functions_behind}
+use Rattle.static_laws.proofs.Summed.{summed-stmts}
+use Rattle.static_laws.proofs.Told.{tells-first, tells-rest, lawful-first, lawful-rest}
 
 -- what is lawful and told agrees with a context
 pub agrees : (c : Context) (ns : List Note) → AreLawful ns → Tells c.names ns → ((n : Note) → c.besides n) → Agree c ns

@@ -32,10 +32,10 @@ use Rattle.simulation.proofs.OwnNotes.{all_own_notes}
 use Rattle.simulation.proofs.Sizes.{stmts_sizes}
 use Rattle.simulation.proofs.TextStmts.{scalar_may, stmts_fit}
 use Rattle.simulation.proofs.Texts.{Text, May, AllMay, known_by, In}
-use Rattle.window_check.specs.Order.{InOrder}
-use Rattle.window_check.specs.Sums.{stmts_slots}
-use Rattle.window_check.specs.Told.{AreLawful, Tells}
-use Rattle.window_check.proofs.Summed.{summed-stmts}
+use Rattle.static_laws.specs.Order.{InOrder}
+use Rattle.static_laws.specs.Sums.{stmts_slots}
+use Rattle.static_laws.specs.Told.{AreLawful, Tells}
+use Rattle.static_laws.proofs.Summed.{summed-stmts}
 
 -- what the file declares behind so many functions: constants, and functions that may be called but for `main`
 abbrev pub FileMay : Parts → (number id : ℕ) → Entity → Type 0

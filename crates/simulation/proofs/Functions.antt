@@ -47,7 +47,7 @@ use Rattle.simulation.proofs.Owning.{nothing, all_own_nothing}
 use Rattle.simulation.proofs.Static.{made_all}
 use Rattle.simulation.proofs.Steps.{Store, with_slots, at, pushed, onto, Leads, one, leads_on, Stops, Meets, gives, halts, meets_from, acts, push, takes_turn, no_turn}
 use Rattle.simulation.proofs.Stmts.{stmts_does}
-use Rattle.window_check.specs.Order.{InOrder}
+use Rattle.static_laws.specs.Order.{InOrder}
 
 -- Arguments are popped in the order in which they were pushed.
 onto_is : (vs st : List ℤ) → onto vs st ≡ reverse vs ++ st

@@ -41,7 +41,7 @@ use Rattle.simulation.proofs.MainContexts.{main_context, forbidden, JoinAt, scal
 use Rattle.simulation.proofs.Names.{pushes}
 use Rattle.simulation.proofs.Steps.{Store, at, Behind, onto, Leads, stays, one, stops_at, Meets, gives, halts, meets_then, acts}
 use Rattle.simulation.proofs.StreamIndexes.{stream_of_is, amount_is, burst_in, target_stream}
-use Rattle.window_check.specs.Order.{InOrder}
+use Rattle.static_laws.specs.Order.{InOrder}
 
 -- equal numbers as the machine compares them
 equal_pos : (n k : ℕ) → (n == k) ≡ is_equal (pos n) (pos k)

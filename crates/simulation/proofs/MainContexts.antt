@@ -30,7 +30,7 @@ use Rattle.simulation.proofs.Exprs.{Ready}
 use Rattle.simulation.proofs.Functions.{Known, known_has, FileFits}
 use Rattle.simulation.proofs.Steps.{Store}
 use Rattle.simulation.proofs.TaskTexts.{IsOfMain}
-use Rattle.window_check.specs.Order.{InOrder}
+use Rattle.static_laws.specs.Order.{InOrder}
 
 -- the file declares nothing that only `main` does
 known_apart : (code : Parts) (file : File) (v : Option Variable) (d : Entity) → IsOfMain d → Known code file v d → ⊥

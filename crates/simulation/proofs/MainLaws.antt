@@ -43,12 +43,12 @@ use Rattle.simulation.proofs.Steps.{Store, at}
 use Rattle.simulation.proofs.TaskLaws.{round_of, main_body}
 use Rattle.simulation.proofs.TaskMarks.{Rising, tasks_rise}
 use Rattle.simulation.proofs.TaskTexts.{InMain, strip, all_stripped}
-use Rattle.window_check.specs.Order.{InOrder}
-use Rattle.window_check.specs.Sums.{stmts_slots}
-use Rattle.window_check.proofs.Globals.{distinct-program}
-use Rattle.window_check.proofs.Ordered.{names_in_order}
-use Rattle.window_check.proofs.Summed.{summed-stmts}
-use Rattle.window_check.proofs.Told.{tells-program, lawful-program}
+use Rattle.static_laws.specs.Order.{InOrder}
+use Rattle.static_laws.specs.Sums.{stmts_slots}
+use Rattle.static_laws.proofs.Globals.{distinct-program}
+use Rattle.static_laws.proofs.Ordered.{names_in_order}
+use Rattle.static_laws.proofs.Summed.{summed-stmts}
+use Rattle.static_laws.proofs.Told.{tells-program, lawful-program}
 
 -- a lawful program has a function `main` without parameters
 none_behind : (xs ys : List Violation) → xs ++ ys ≡ [] → ys ≡ []

@@ -54,10 +54,10 @@ use Rattle.simulation.proofs.Stmts.{HasRest, last, more, has_rest, stmt_does}
 use Rattle.simulation.proofs.StreamCounts.{sized_streams, stmt_streams}
 use Rattle.simulation.proofs.Ticks.{tick_does}
 use Rattle.simulation.proofs.Windows.{control_does, window_done}
-use Rattle.window_check.specs.Order.{InOrder}
-use Rattle.window_check.specs.Told.{Tells, AreLawful}
-use Rattle.window_check.proofs.Summed.{stays_in}
-use Rattle.window_check.proofs.Told.{tells-first, tells-rest, lawful-first, lawful-rest}
+use Rattle.static_laws.specs.Order.{InOrder}
+use Rattle.static_laws.specs.Told.{Tells, AreLawful}
+use Rattle.static_laws.proofs.Summed.{stays_in}
+use Rattle.static_laws.proofs.Told.{tells-first, tells-rest, lawful-first, lawful-rest}
 
 flows_on : (next first : Runs) (r : Ran) → flows next (flows first r) ≡ flows (λ st turns. flows next (first st turns)) r
 flows_on next first (Went GoesOn st turns) = refl

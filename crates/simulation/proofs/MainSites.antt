@@ -30,8 +30,8 @@ use Rattle.simulation.proofs.Owning.{OfTask, Owns, OwnsAll}
 use Rattle.simulation.proofs.Spawns.{IsSite}
 use Rattle.simulation.proofs.TaskMarks.{Rises, got, position_is, rises_mapped, rises_unmapped}
 use Rattle.simulation.proofs.TaskTexts.{InMain, Match, declarators_main, start_main, stmt_main, same_main, match_stmt, strip}
-use Rattle.window_check.specs.Told.{Tells, AreLawful}
-use Rattle.window_check.proofs.Told.{tells-first, tells-rest, lawful-first, lawful-rest}
+use Rattle.static_laws.specs.Told.{Tells, AreLawful}
+use Rattle.static_laws.proofs.Told.{tells-first, tells-rest, lawful-first, lawful-rest}
 
 -- a list stands in another one from a place on
 abbrev pub Stretch : {A : Type 0} → List A → ℕ → List A → Type 0

@@ -23,10 +23,10 @@ use Rattle.simulation.proofs.Files.{AllOfFile, params_owner, bare_main, none_fro
 use Rattle.simulation.proofs.FunctionUnits.{AllFileMay, all_later}
 use Rattle.simulation.proofs.NoTasks.{IsOther, captures_both, none_both, none_stmts}
 use Rattle.simulation.proofs.StreamCounts.{items_more}
-use Rattle.window_check.specs.Globals.{AreApart, count_functions}
-use Rattle.window_check.specs.Told.{AreLawful, Tells}
-use Rattle.window_check.proofs.Counted.{functions_behind}
-use Rattle.window_check.proofs.Told.{tells-first, tells-rest, lawful-first, lawful-rest}
+use Rattle.static_laws.specs.Globals.{AreApart, count_functions}
+use Rattle.static_laws.specs.Told.{AreLawful, Tells}
+use Rattle.static_laws.proofs.Counted.{functions_behind}
+use Rattle.static_laws.proofs.Told.{tells-first, tells-rest, lawful-first, lawful-rest}
 
 -- the functions of a file, in order
 abbrev pub functions_of : List tree.ItemTree → List tree.FunctionTree

@@ -48,11 +48,11 @@ use Rattle.simulation.proofs.TaskContexts.{made_items, items_onto, made_captured
 use Rattle.simulation.proofs.TaskLaws.{round_of, main_body}
 use Rattle.simulation.proofs.TaskMarks.{Rising, tasks_rise}
 use Rattle.simulation.proofs.TaskTexts.{TaskAt, InMain, all_stripped, matched, match_stmts}
-use Rattle.window_check.specs.Order.{InOrder}
-use Rattle.window_check.specs.Told.{Tells, AreLawful}
-use Rattle.window_check.proofs.Globals.{distinct-program}
-use Rattle.window_check.proofs.Ordered.{names_in_order}
-use Rattle.window_check.proofs.Told.{tells-program, lawful-program}
+use Rattle.static_laws.specs.Order.{InOrder}
+use Rattle.static_laws.specs.Told.{Tells, AreLawful}
+use Rattle.static_laws.proofs.Globals.{distinct-program}
+use Rattle.static_laws.proofs.Ordered.{names_in_order}
+use Rattle.static_laws.proofs.Told.{tells-program, lawful-program}
 
 -- what ends the same gives the same
 module _ (c : Context) (more : List Binding) (within : List Entry → Type 0) (after : List Entry) where

@@ -21,10 +21,10 @@ use Rattle.simulation.specs.Tasks.{all_tasks_of, program_tasks}
 use Rattle.simulation.proofs.Context.{IsCallable}
 use Rattle.simulation.proofs.Files.{AllOfFile, fits_more, same_calls, bare_main}
 use Rattle.simulation.proofs.Functions.{FileFits}
-use Rattle.window_check.specs.Globals.{AreApart, global_id}
-use Rattle.window_check.specs.Order.{InOrder}
-use Rattle.window_check.specs.Told.{Tells, AreLawful}
-use Rattle.window_check.proofs.Told.{tells-first, tells-rest, lawful-first, lawful-rest}
+use Rattle.static_laws.specs.Globals.{AreApart, global_id}
+use Rattle.static_laws.specs.Order.{InOrder}
+use Rattle.static_laws.specs.Told.{Tells, AreLawful}
+use Rattle.static_laws.proofs.Told.{tells-first, tells-rest, lawful-first, lawful-rest}
 
 -- Where there is no code, no call stands in it.
 abbrev pub no_code : Parts

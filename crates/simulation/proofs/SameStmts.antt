@@ -37,7 +37,7 @@ use Rattle.simulation.proofs.SameNames.{Matches, seen_used, seen_expr, seen_all,
 use Rattle.simulation.proofs.SameStreams.{SeesAll, IsNamed, task_same, tick_same}
 use Rattle.simulation.proofs.Static.{stmt_onward, made, made_first, made_all, none_made, first_extends, all_extend, extends_more, made_extends}
 use Rattle.simulation.proofs.Stmts.{main_pragma}
-use Rattle.window_check.proofs.Summed.{stays_in}
+use Rattle.static_laws.proofs.Summed.{stays_in}
 
 module _ (c : Context) (more : List Binding) (apart : AreElse c.file more) (sites : List Site) (known : OfTask) (sees : c.owner ≡ owner.OfMain → SeesAll c)
     (named : c.owner ≡ owner.OfMain → (s : Scope) (m : Mark) (cs : List tree.ClauseTree) (a : tree.StmtTree) → known s m cs a → IsNamed sites s m cs a) where

@@ -31,10 +31,10 @@ use Rattle.simulation.specs.Names.{told_at}
 use Rattle.simulation.specs.Programs.{constant_size, size_by}
 use Rattle.simulation.proofs.Context.{told_is}
 use Rattle.simulation.proofs.Declares.{or_first, not_false, size_known}
-use Rattle.window_check.specs.Order.{InOrder}
-use Rattle.window_check.specs.Sums.{HasSize, HasSizes, IsArraySize}
-use Rattle.window_check.specs.Told.{AreIn, Tells, AreLawful}
-use Rattle.window_check.proofs.Told.{tells-first, tells-rest, lawful-first, lawful-rest, told-use, declared-use}
+use Rattle.static_laws.specs.Order.{InOrder}
+use Rattle.static_laws.specs.Sums.{HasSize, HasSizes, IsArraySize}
+use Rattle.static_laws.specs.Told.{AreIn, Tells, AreLawful}
+use Rattle.static_laws.proofs.Told.{tells-first, tells-rest, lawful-first, lawful-rest, told-use, declared-use}
 
 -- a size that is known
 abbrev IsKnown : Scope → tree.ExprTree → Type 0

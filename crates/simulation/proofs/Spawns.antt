@@ -44,7 +44,7 @@ use Rattle.simulation.proofs.MainContexts.{main_context, scalar_held, held}
 use Rattle.simulation.proofs.Owning.{OfTask}
 use Rattle.simulation.proofs.Steps.{Store, at, onto, Leads, one, stops_at, acts}
 use Rattle.simulation.proofs.Stmts.{StmtDoes}
-use Rattle.window_check.specs.Order.{InOrder}
+use Rattle.static_laws.specs.Order.{InOrder}
 
 -- A task of `main`: its number in the meaning and in the code, and its site, whose captured slots are those of the
 -- scalars that it captures.

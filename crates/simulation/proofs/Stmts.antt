@@ -47,7 +47,7 @@ use Rattle.simulation.proofs.Flows.{After, Does, went, ended, given_does, exactl
 use Rattle.simulation.proofs.Owning.{OfTask, Owns, OwnsAll}
 use Rattle.simulation.proofs.Static.{Onward, declarators_onward, stmt_onward, stmts_onward, made, made_first, made_all, none_made, first_extends, all_extend, extends_more, made_extends}
 use Rattle.simulation.proofs.Steps.{Store, at, Leads, stays, drop_top, jump}
-use Rattle.window_check.proofs.Summed.{stays_in}
+use Rattle.static_laws.proofs.Summed.{stays_in}
 
 -- what stands behind the first statement of a block
 pub data HasRest (code : Parts) (b : Body) (rest : tree.Stmts) (broke continued next : ℕ) : (mid end to : ℕ) → Type 0 where

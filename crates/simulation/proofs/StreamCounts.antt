@@ -17,8 +17,8 @@ use Rattle.os_ast.specs.declared.names.Owner.{Owner}
 use Rattle.os_ast.specs.declared.names.Owner.TheVariants as owner
 use Rattle.simulation.proofs.NoTasks.{items_owner}
 use Rattle.simulation.proofs.Static.{items_streams, declarator_onward, declarators_onward, start_onward, stmt_onward, stmts_onward}
-use Rattle.window_check.specs.Told.{AreLawful}
-use Rattle.window_check.proofs.Told.{lawful-first, lawful-rest}
+use Rattle.static_laws.specs.Told.{AreLawful}
+use Rattle.static_laws.proofs.Told.{lawful-first, lawful-rest}
 
 -- in `main` at least so many scopes are round it
 abbrev pub AtLeast : ℕ → Scope → Type 0

@@ -31,7 +31,7 @@ use Rattle.simulation.proofs.Functions.{FileFits}
 use Rattle.simulation.proofs.MainContexts.{main_context, forbidden, stream_at}
 use Rattle.simulation.proofs.Names.{pushes, check_at}
 use Rattle.simulation.proofs.Steps.{Store, at, Behind, checked_index, Leads, stays, one, stops_at, Meets, gives, halts, meets_then, acts}
-use Rattle.window_check.specs.Order.{InOrder}
+use Rattle.static_laws.specs.Order.{InOrder}
 
 -- which stream an index picks
 pub stream_of_is : (all forbids first k : ℕ) → first + k < all → (first + k == forbids) ≡ false → stream_of all forbids first (pos k) ≡ Some (first + k)

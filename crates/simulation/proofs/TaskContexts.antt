@@ -31,12 +31,12 @@ use Rattle.simulation.proofs.Context.{InTask, Reaches, IsPlain, Context, Agree, 
 use Rattle.simulation.proofs.Functions.{Known, known_has, FileFits}
 use Rattle.simulation.proofs.NoTasks.{items_owner}
 use Rattle.simulation.proofs.TaskTexts.{IsOfMain, AllOfMain, TaskAt}
-use Rattle.window_check.specs.CapturedByUse.{used_slots, slots_named}
-use Rattle.window_check.specs.Order.{InOrder}
-use Rattle.window_check.specs.Slots.{control_slots, named_slots}
-use Rattle.window_check.specs.Sums.{extent_in}
-use Rattle.window_check.specs.Told.{KeepsAll, Tells, AreLawful}
-use Rattle.window_check.proofs.Named.{captured-members}
+use Rattle.static_laws.specs.CapturedByUse.{used_slots, slots_named}
+use Rattle.static_laws.specs.Order.{InOrder}
+use Rattle.static_laws.specs.Slots.{control_slots, named_slots}
+use Rattle.static_laws.specs.Sums.{extent_in}
+use Rattle.static_laws.specs.Told.{KeepsAll, Tells, AreLawful}
+use Rattle.static_laws.proofs.Named.{captured-members}
 
 -- the declarations of items, as they stand within others
 abbrev pub made_items : Scope → ℕ → ℕ → List Part → List Entry → List Entry

@@ -44,9 +44,9 @@ use Rattle.simulation.proofs.Files.{IsOfFile, AllOfFile, AtMain, finds_main, not
 use Rattle.simulation.proofs.Steps.{Stops, halt_of}
 use Rattle.simulation.proofs.TaskRuns.{claims_fit, EndsIn, no_limit, task_does}
 use Rattle.simulation.proofs.TaskTexts.{IsOfMain, InMain, TaskAt, strip, all_stripped, matched, match_stmts}
-use Rattle.window_check.specs.Sums.{extent_in}
-use Rattle.window_check.proofs.Ordered.{names_in_order}
-use Rattle.window_check.proofs.Told.{tells-program, lawful-program}
+use Rattle.static_laws.specs.Sums.{extent_in}
+use Rattle.static_laws.proofs.Ordered.{names_in_order}
+use Rattle.static_laws.proofs.Told.{tells-program, lawful-program}
 
 -- the file's declarations have no slots
 no_extent : (d : Entity) (top : ℕ) (es : List Entry) → IsOfFile d → text.Stacked main_extent top es → (text.ends (main_extent d) top ≤ top) × text.Stacked main_extent (text.begins (main_extent d) top) es

@@ -16,7 +16,7 @@ use Rattle.os_lexer.specs.declared.token.Key.TheVariants as keys
 use Rattle.os_lexer.specs.declared.token.Kind.{Kind}
 use Rattle.os_lexer.specs.declared.token.Punct.TheVariants as puncts
 use Rattle.simulation.specs.Tasks.{TaskTree, tasks_of, all_tasks_of, program_tasks}
-use Rattle.window_check.proofs.Ordered.{HasFrom}
+use Rattle.static_laws.proofs.Ordered.{HasFrom}
 
 -- places rise, from one on and below another
 abbrev pub Rises : {A : Type 0} → (A → ℕ) → ℕ → List A → ℕ → Type 0

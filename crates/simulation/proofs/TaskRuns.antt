@@ -50,11 +50,11 @@ use Rattle.simulation.proofs.Stmts.{stmt_does}
 use Rattle.simulation.proofs.TaskContexts.{items_onto, task_context, task_agrees, task_in, first_slots, inner, caught_all}
 use Rattle.simulation.proofs.TaskStarts.{points, captured_stacked, captured_aligned, items_stacked, items_aligned, AllSome, windows_start, claims_start, same_written, same_bytes}
 use Rattle.simulation.proofs.TaskTexts.{TaskAt, strip}
-use Rattle.window_check.specs.CapturedByUse.{Ascends}
-use Rattle.window_check.specs.Order.{InOrder}
-use Rattle.window_check.specs.Sums.{extent_in, stmt_slots}
-use Rattle.window_check.proofs.Collected.{captured-ascends}
-use Rattle.window_check.proofs.Summed.{summed-stmt}
+use Rattle.static_laws.specs.CapturedByUse.{Ascends}
+use Rattle.static_laws.specs.Order.{InOrder}
+use Rattle.static_laws.specs.Sums.{extent_in, stmt_slots}
+use Rattle.static_laws.proofs.Collected.{captured-ascends}
+use Rattle.static_laws.proofs.Summed.{summed-stmt}
 
 -- claims that fit the items of a site
 pub claims_fit : (streams : ℕ) (items : List SiteItem) (claims : List Claim) → AllZip (ClaimFits streams) items claims → (length items ≡ length claims) × AllSome claims

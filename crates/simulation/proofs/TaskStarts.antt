@@ -31,7 +31,7 @@ use Rattle.simulation.specs.Alignment.{Takes, Stacked, slot_at, Resources, Align
 use Rattle.simulation.proofs.Capturing.{HasSlot, AreScalars, at_place}
 use Rattle.simulation.proofs.Context.{InTask, resources, Windows}
 use Rattle.simulation.proofs.TaskContexts.{made_items, captured_entry, entity_or, made_captured}
-use Rattle.window_check.specs.CapturedByUse.{Ascends}
+use Rattle.static_laws.specs.CapturedByUse.{Ascends}
 
 -- each captured scalar is at its place
 abbrev pub Points : List ℕ → ℕ → List Scalar → Type 0

@@ -27,10 +27,10 @@ use Rattle.os_ast.specs.declared.names.Role.TheVariants as role
 use Rattle.simulation.specs.Tasks.{TaskTree, tasks_of, all_tasks_of}
 use Rattle.simulation.proofs.NoTasks.{captures_both, none_both, none_expr, none_place, none_args, none_value, none_change, none_step, none_parts, none_declarators, none_start, none_stmt, items_owner}
 use Rattle.simulation.proofs.Static.{entry, declarator_entries, declarator_onward, stmt_onward}
-use Rattle.window_check.specs.Sums.{extent_in}
-use Rattle.window_check.specs.Told.{Tells, AreLawful}
-use Rattle.window_check.proofs.Summed.{stays_in, stacked-declarator, stacked-stmt}
-use Rattle.window_check.proofs.Told.{tells-first, tells-rest, lawful-first, lawful-rest}
+use Rattle.static_laws.specs.Sums.{extent_in}
+use Rattle.static_laws.specs.Told.{Tells, AreLawful}
+use Rattle.static_laws.proofs.Summed.{stays_in, stacked-declarator, stacked-stmt}
+use Rattle.static_laws.proofs.Told.{tells-first, tells-rest, lawful-first, lawful-rest}
 
 -- what `main` declares
 abbrev pub IsOfMain : Entity → Type 0

@@ -37,13 +37,13 @@ use Rattle.simulation.proofs.TaskContexts.{Besides, made_items, items_entries, i
 use Rattle.simulation.proofs.TaskTexts.{IsOfMain, AllOfMain, TaskAt, strip}
 use Rattle.simulation.proofs.TextStmts.{stmt_fits}
 use Rattle.simulation.proofs.Texts.{Text, IsWritten, May, AllMay, Catches, Known, In}
-use Rattle.window_check.specs.CapturedByUse.{used_slots, slots_named}
-use Rattle.window_check.specs.Order.{InOrder}
-use Rattle.window_check.specs.Slots.{named_slots}
-use Rattle.window_check.specs.Sums.{stmt_slots}
-use Rattle.window_check.specs.Told.{AreLawful, Tells}
-use Rattle.window_check.proofs.Named.{captured-members}
-use Rattle.window_check.proofs.Summed.{summed-stmt}
+use Rattle.static_laws.specs.CapturedByUse.{used_slots, slots_named}
+use Rattle.static_laws.specs.Order.{InOrder}
+use Rattle.static_laws.specs.Slots.{named_slots}
+use Rattle.static_laws.specs.Sums.{stmt_slots}
+use Rattle.static_laws.specs.Told.{AreLawful, Tells}
+use Rattle.static_laws.proofs.Named.{captured-members}
+use Rattle.static_laws.proofs.Summed.{summed-stmt}
 
 all_may_both : (h : Home) (es fs : List Entry) → AllMay h owner.OfTask es → AllMay h owner.OfTask fs → AllMay h owner.OfTask (es ++ fs)
 all_may_both h [] fs a b = b

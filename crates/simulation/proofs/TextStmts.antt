@@ -28,8 +28,8 @@ use Rattle.simulation.proofs.OwnNotes.{own_notes, all_own_notes}
 use Rattle.simulation.proofs.Static.{declarator_entries, declarator_onward, declarators_onward, stmt_onward, stmts_onward}
 use Rattle.simulation.proofs.TextNotes.{expr_scoped, place_scoped, args_scoped, value_scoped, change_scoped, step_scoped, sized_scoped, parts_scoped}
 use Rattle.simulation.proofs.Texts.{or_none_first, may_found, Text, OfMainAlone, May, AllMay, In, Known, known_first, known_rest, scoped_both, all_fit}
-use Rattle.window_check.proofs.Summed.{stays_in}
-use Rattle.window_check.specs.Told.{KeepsAll}
+use Rattle.static_laws.proofs.Summed.{stays_in}
+use Rattle.static_laws.specs.Told.{KeepsAll}
 
 pub fit_both : (h : Home) (xs ys : List Note) → AllFit h xs → AllFit h ys → AllFit h (xs ++ ys)
 fit_both h [] ys a b = b

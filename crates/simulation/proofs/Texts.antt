@@ -36,10 +36,10 @@ use Rattle.simulation.proofs.Exprs.{same_count}
 use Rattle.simulation.proofs.Homes.{Home, tells, HasItem, HasOutput, IsCallee, IsCalled, Fits, IsOutput, FitsUse, FitsNote, AllFit}
 use Rattle.simulation.proofs.Names.{means_function}
 use Rattle.simulation.proofs.TaskContexts.{in_slots}
-use Rattle.window_check.specs.Order.{InOrder}
-use Rattle.window_check.specs.Slots.{control_slots}
-use Rattle.window_check.specs.Told.{AreIn, AreLawful, KeepsAll, Tells}
-use Rattle.window_check.proofs.Told.{told-use, declared-use}
+use Rattle.static_laws.specs.Order.{InOrder}
+use Rattle.static_laws.specs.Slots.{control_slots}
+use Rattle.static_laws.specs.Told.{AreIn, AreLawful, KeepsAll, Tells}
+use Rattle.static_laws.proofs.Told.{told-use, declared-use}
 
 -- a body in its unit, the names of its program, and what it captures
 pub record Text : Type 0 where

@@ -31,7 +31,7 @@ use Rattle.simulation.proofs.Owning.{OfTask}
 use Rattle.simulation.proofs.Steps.{Store, at, Leads, one, acts, takes_turn, no_turn}
 use Rattle.simulation.proofs.Stmts.{StmtDoes}
 use Rattle.simulation.proofs.StreamIndexes.{stream_of_is, amount_is, burst_in, target_stream}
-use Rattle.window_check.specs.Order.{InOrder}
+use Rattle.static_laws.specs.Order.{InOrder}
 
 module _ (code : Parts) (file : File) (falls : CallsFall file) (names : List Resolved) (ordered : InOrder names) (file_es : List Entry) (fits : FileFits code file file_es) (streams later : ℕ) (all : streams ≤ code.streams)
     (callers : List Frame) (leaves : Instr) (total : ℕ) (sites : List Site) (tasks : List TaskTree) (known : OfTask) where

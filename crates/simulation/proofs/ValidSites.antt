@@ -26,9 +26,9 @@ use Rattle.simulation.proofs.SitesFit.{IsCaught, caught_at, stmts_caught, ItemFi
 use Rattle.simulation.proofs.Spawned.{items_length}
 use Rattle.simulation.proofs.TaskLaws.{get_there}
 use Rattle.simulation.proofs.ValidRegions.{stands, found}
-use Rattle.window_check.specs.Globals.{IsWithin}
-use Rattle.window_check.proofs.Told.{lawful-program}
-use Rattle.window_check.proofs.Within.{within-items_of_file}
+use Rattle.static_laws.specs.Globals.{IsWithin}
+use Rattle.static_laws.proofs.Told.{lawful-program}
+use Rattle.static_laws.proofs.Within.{within-items_of_file}
 
 -- An instruction stands in the kind of unit that is its.
 kind_fits : (h : Home) (k : Kind) (i : Instr) → h.kind ≡ k → Suits h i → IsTrue (stands_in k i)

@@ -46,7 +46,7 @@ use Rattle.simulation.proofs.Functions.{FileFits}
 use Rattle.simulation.proofs.MainContexts.{main_context}
 use Rattle.simulation.proofs.Steps.{Store, with_slots, at, Behind, Leads, stays, one, stops_at, Meets, gives, halts, acts}
 use Rattle.simulation.proofs.Stores.{kept_slots}
-use Rattle.window_check.specs.Order.{InOrder}
+use Rattle.static_laws.specs.Order.{InOrder}
 
 -- a window is declared, in the next slot
 declared_window : (has : Resources) (means_of : Entity → What) (top : ℕ) (slots : List ℤ) (bound : List Binding) (es : List Entry) (e : Entry) (horizon : ℕ) → top < length slots → 1 ≤ horizon → horizon ≤ 65536 →

@@ -15,7 +15,7 @@ use Rattle.os_code.specs.Parts.{unit_at, site_at}
 use Rattle.simulation.specs.Expressions.{Stands}
 use Rattle.simulation.specs.Statements.{Body, HasStmt, HasStmts}
 use Rattle.simulation.specs.Tasks.{TaskTree, program_tasks, site_items}
-use Rattle.window_check.specs.Sums.{stmt_slots, stmts_slots}
+use Rattle.static_laws.specs.Sums.{stmt_slots, stmts_slots}
 
 -- the size of an array, by what the names of constants mean; where the size is wrong, 0 stands for it
 abbrev pub constant_size : What → ℕ

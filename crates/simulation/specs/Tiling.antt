@@ -6,7 +6,7 @@ use Rattle.os_code.specs.declared.site.Site.{Site}
 use Rattle.os_code.specs.declared.unit.Unit.{Unit as CodeUnit}
 use Rattle.os_code.specs.Parts.{site_at}
 use Rattle.simulation.specs.Tasks.{program_tasks}
-use Rattle.window_check.specs.Globals.{count_functions}
+use Rattle.static_laws.specs.Globals.{count_functions}
 
 -- units one behind another, each as long as its operand stack may grow
 abbrev pub Tile : (from to : ℕ) → List CodeUnit → Type 0

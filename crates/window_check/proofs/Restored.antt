@@ -1,51 +1,21 @@
--- Behind a scope or a body what was entered is restored.
-use Rattle.std.proofs.Common.{◌≡◌, ℕ, ◌-◌, ◌≤◌, suc, List, [], ◌∷◌, length, drop, refl, ap, arith, ◌∙◌}
+-- Behind a block, a `for`, a task and a function what was entered is restored.
+use Rattle.std.proofs.Common.{◌≡◌, ℕ, List, [], ◌∷◌}
 use Rattle.os_ast.proofs.Kept.{keeps-declarators, keeps-stmt, keeps-stmts}
 use Rattle.os_ast.specs.Kept.{Keeps, same, more}
 use Rattle.os_ast.specs.Names.{Scope, declare, enter, in_loop, in_unit, leave, after_unit}
 use Rattle.os_ast.specs.Notes.Clauses.{in_task}
-use Rattle.os_ast.specs.Notes.Declarators.{form, taken, after_declarator, after_declarators, after_start}
+use Rattle.os_ast.specs.Notes.Declarators.{after_start}
 use Rattle.os_ast.specs.Notes.Programs.{in_body, in_function, after_param, after_params, round_body, owner_of, param_names}
 use Rattle.os_ast.specs.Notes.Statements.{after_stmt, after_stmts}
 use Rattle.os_ast.specs.Trees as tree
 use Rattle.os_ast.specs.declared.expr.Name.{Name}
-use Rattle.os_ast.specs.declared.names.Entry.{Entry}
-use Rattle.os_ast.specs.declared.names.Form.{Form}
-use Rattle.os_ast.specs.declared.names.Form.TheVariants as form_of
 use Rattle.os_ast.specs.declared.names.Owner.{Owner}
 use Rattle.os_ast.specs.declared.names.Owner.TheVariants as owner
-use Rattle.window_check.specs.Parts.{after_names}
-use Rattle.window_check.specs.Scopes.{outer_of, around_of, returned, ended}
+use Rattle.name_resolution.proofs.Restored.{keeps-then, returned_leave, ended_unit}
+use Rattle.name_resolution.specs.Scopes.{outer_of, around_of, returned, ended}
+use Rattle.name_resolution.specs.Parts.{after_names}
 use Rattle.window_check.specs.Statements.{in_named_task}
-use Rattle.window_check.specs.declared.parts.ItemName.{ItemName}
-
-keeps-then : {a b c : List Entry} → Keeps a b → Keeps b c → Keeps a c
-keeps-then h same = h
-keeps-then h (more k) = more (keeps-then h k)
-
-kept_length : {a b : List Entry} → Keeps a b → length a ≤ length b
-kept_length same = omega arith
-kept_length (more k) = let h = kept_length k in omega arith
-
-drop_more : (e : Entry) (b : List Entry) (n : ℕ) → n ≤ length b → drop (length (e ∷ b) - n) (e ∷ b) ≡ drop (length b - n) b
-drop_more e b n h =
-    let is : length (e ∷ b) - n ≡ suc (length b - n) = omega arith in
-    ap (λ (k : ℕ). drop k (e ∷ b)) is
-
--- without what was declared since then
-pub drop_kept : (a b : List Entry) → Keeps a b → drop (length b - length a) b ≡ a
-drop_kept a _ same = let none : length a - length a ≡ 0 = omega arith in ap (λ (k : ℕ). drop k a) none
-drop_kept a _ (more {e = e} {entries = b} k) = drop_more e b (length a) (kept_length k) ∙ drop_kept a b k
-
-pub returned_leave : (s inner : Scope) → Keeps s.entries inner.entries → returned (outer_of s) inner ≡ leave s inner
-returned_leave s inner k =
-    ap (λ (es : List Entry). record inner { entries = es; depth = s.depth; loop = s.loop }) (drop_kept s.entries inner.entries k)
-
-pub ended_unit : (s inner : Scope) → Keeps s.entries inner.entries → ended (around_of s) inner ≡ after_unit s inner
-ended_unit s inner k =
-    ap
-    (λ (es : List Entry). record inner { entries = es; depth = s.depth; loop = s.loop; owner = s.owner; captured = s.captured; slots = s.slots; elements = s.elements })
-    (drop_kept s.entries inner.entries k)
+use Rattle.name_resolution.specs.declared.parts.ItemName.{ItemName}
 
 -- a block
 pub returned_block : (s : Scope) (ss : tree.Stmts) → returned (outer_of s) (after_stmts (enter s) ss) ≡ leave s (after_stmts (enter s) ss)
@@ -95,60 +65,3 @@ pub ended_function : (s : Scope) (f : tree.FunctionTree) →
     ended (around_of s) (after_stmts (in_body s f) f.body) ≡ after_unit s (after_stmts (in_body s f) f.body)
 ended_function s f =
     ended_unit s (after_stmts (in_body s f) f.body) (keeps-then (keeps_in_body s f) (keeps-stmts (in_body s f) f.body))
-
--- whose body it is stays
-
-owner_taken : (s : Scope) (f : Form) → (taken s f).owner ≡ s.owner
-owner_taken s form_of.Scalar = refl
-owner_taken s (form_of.Array n) = refl
-owner_taken s form_of.Window = refl
-owner_taken s form_of.Stream = refl
-owner_taken s (form_of.Streams n) = refl
-
-pub owner_declarator : (s : Scope) (d : tree.DeclaratorTree) → (after_declarator s d).owner ≡ s.owner
-owner_declarator s d = owner_taken s (form s d)
-
-pub owner_declarators : (s : Scope) (ds : List tree.DeclaratorTree) → (after_declarators s ds).owner ≡ s.owner
-owner_declarators s [] = refl
-owner_declarators s (d ∷ ds) = owner_declarators (after_declarator s d) ds ∙ owner_declarator s d
-
-pub owner_start : (s : Scope) (start : tree.StartTree) → (after_start s start).owner ≡ s.owner
-owner_start s tree.StartTree.Empty = refl
-owner_start s (tree.StartTree.Declare ds) = owner_declarators s ds
-owner_start s (tree.StartTree.Change c) = refl
-
-mutual
-  pub owner_stmt : (s : Scope) (a : tree.StmtTree) → (after_stmt s a).owner ≡ s.owner
-  owner_stmt s tree.StmtTree.Empty = refl
-  owner_stmt s (tree.Block ss) = owner_stmts (enter s) ss
-  owner_stmt s (tree.StmtTree.Declare ds) = owner_declarators s ds
-  owner_stmt s (tree.StmtTree.Change c) = refl
-  owner_stmt s (tree.StmtTree.Call f args) = refl
-  owner_stmt s (tree.If c a) = owner_stmt s a
-  owner_stmt s (tree.IfElse c a b) = owner_stmt (after_stmt s a) b ∙ owner_stmt s a
-  owner_stmt s (tree.While c a) = owner_stmt (in_loop s) a
-  owner_stmt s (tree.For start test step a) = owner_stmt (in_loop (after_start (enter s) start)) a ∙ owner_start (enter s) start
-  owner_stmt s (tree.Break m) = refl
-  owner_stmt s (tree.Continue m) = refl
-  owner_stmt s (tree.Return m e) = refl
-  owner_stmt s (tree.Task m cs a) = refl
-  owner_stmt s (tree.Tick m t arrow e) = refl
-  owner_stmt s (tree.Taskwait m) = refl
-
-  pub owner_stmts : (s : Scope) (ss : tree.Stmts) → (after_stmts s ss).owner ≡ s.owner
-  owner_stmts s tree.no_stmts = refl
-  owner_stmts s (tree.stmt a rest) = owner_stmts (after_stmt s a) rest ∙ owner_stmt s a
-
-pub owner_params : (s : Scope) (ns : List Name) → (after_params s ns).owner ≡ s.owner
-owner_params s [] = refl
-owner_params s (n ∷ ns) = owner_params (after_param s n) ns
-
-owner_round : (o : Owner) (s : Scope) → (round_body o s).owner ≡ s.owner
-owner_round owner.OfMain s = refl
-owner_round owner.OfFunction s = refl
-owner_round owner.OfTask s = refl
-
-pub owner_in_body : (s : Scope) (f : tree.FunctionTree) → (in_body s f).owner ≡ owner_of f.name.id
-owner_in_body s f =
-    let o = owner_of f.name.id in
-    owner_params (in_function s f.name.id) (param_names f.params) ∙ owner_round o (enter (in_unit o s))

@@ -1,8 +1,4 @@
--- What the walk's proofs cite.
-use Rattle.os_ast.proofs.Rows.{expr_tree-call, expr_tree-chain}
-use Rattle.window_check.proofs.Noted.{noted-append}
-use Rattle.window_check.proofs.Trees.{count_args-length, args_tree-drop, links_tree-drop, has_main-drop}
-
-pub ruleset exprs = (expr_tree-call, expr_tree-chain, noted-append, count_args-length, args_tree-drop, links_tree-drop)
+-- What the proofs of the items cite.
+use Rattle.static_laws.proofs.Trees.{has_main-drop}
 
 pub ruleset items = (has_main-drop)

@@ -8,20 +8,18 @@ ghost use Rattle.os_ast.specs.Rules.{is_main_body, is_task_body, when};
 ghost use Rattle.os_ast.specs.Trees as tree;
 ghost use Rattle.os_ast.specs.Views.{expr_tree, target_tree, change_tree, clause_tree, start_tree, stmt_tree, stmts_tree};
 ghost use Rattle.std.specs.Prelude.{not};
-ghost use Rattle.window_check.specs.Codes.{least_code};
-ghost use Rattle.window_check.specs.Findings.{noted};
-ghost use Rattle.window_check.specs.Room.{HasRoom, stmt_weight, stmts_weight, start_weight, room_end};
+ghost use Rattle.name_resolution.specs.Codes.{least_code};
+ghost use Rattle.name_resolution.specs.Findings.{noted};
+ghost use Rattle.static_laws.specs.Room.{HasRoom, stmt_weight, stmts_weight, start_weight, room_end};
 ghost use Rattle.window_check.specs.Statements.{else_tree, in_named_task, listed_in};
 ghost use Rattle.os_ast.specs.declared.names.Owner.TheVariants as owners;
 
-use crate::captures::{Captured, Slots};
-use crate::clauses::clauses;
-use crate::codes::{self, when};
 use crate::declarators::{declarators, start};
-use crate::expressions::{called, change, expr, place, step, value};
-use crate::found::Found;
-use crate::parts::{ItemName, declare_items};
-use crate::scopes::Scopes;
+use name_resolution::clauses::clauses;
+use name_resolution::codes::{self, when};
+use name_resolution::expressions::{called, change, expr, place, step, value};
+use name_resolution::parts::{ItemName, declare_items};
+use name_resolution::{Captured, Found, Scopes, Slots};
 use os_ast::{Direction, Head, Owner, Role, Stmt, TaskSite, TickSite};
 use os_io::{List, Memory};
 use std::alloc::Global;
@@ -182,7 +180,7 @@ fn for_loop(
 }
 
 /// A tick.
-#[tactic(auto, using(crate::proofs::AddedViolations::added_notes))]
+#[tactic(auto, using(name_resolution::proofs::AddedViolations::added_notes))]
 fn tick(scopes: &Scopes, found: &mut Found, site: &TickSite) -> Result<(), Memory>
     ensures { OnOk result (found.new ≡ noted found.old (stmt_notes scopes.now (tree.Tick site.now.mark (target_tree site.now.stream) site.now.arrow (expr_tree site.now.amount)))) }
 {

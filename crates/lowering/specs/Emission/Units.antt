@@ -22,7 +22,7 @@ use Rattle.os_code.specs.declared.parts.Parts.{Parts}
 use Rattle.os_code.specs.declared.site.Site.{Site}
 use Rattle.simulation.specs.Programs.{size_by}
 use Rattle.simulation.specs.Tasks.{TaskTree, program_tasks, site_items}
-use Rattle.window_check.specs.Sums.{stmt_slots, stmts_slots}
+use Rattle.static_laws.specs.Sums.{stmt_slots, stmts_slots}
 
 -- the tree of a function, and of a task's pragma
 abbrev pub function_tree : Function → tree.FunctionTree

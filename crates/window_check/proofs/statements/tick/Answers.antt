@@ -5,10 +5,10 @@ use Rattle.os_ast.specs.Notes.Kinds.{Pragma}
 use Rattle.os_ast.specs.Views.{expr_tree, target_tree}
 use Rattle.os_ast.specs.declared.names.Direction.TheVariants as direction
 use Rattle.os_ast.specs.declared.names.Role.TheVariants as role
-use Rattle.window_check.proofs.AddedViolations.{adds_violation-pragma}
-use Rattle.window_check.proofs.Noted.{noted-append}
-use Rattle.window_check.specs.Findings.{note, noted}
-use Rattle.window_check.specs.declared.found.Found.{Found}
+use Rattle.name_resolution.proofs.AddedViolations.{adds_violation-pragma}
+use Rattle.name_resolution.proofs.Noted.{noted-append}
+use Rattle.name_resolution.specs.Findings.{note, noted}
+use Rattle.name_resolution.specs.declared.found.Found.{Found}
 use Rattle.window_check.proofs.statements.tick.Goals as goal
 
 pub returns : goal.returns

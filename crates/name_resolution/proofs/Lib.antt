@@ -1,0 +1,9 @@
+pub mod AddedViolations
+pub mod ByCode
+pub mod Listing
+pub mod Lists
+pub mod Noted
+pub mod Restored
+pub mod Rows
+pub mod Rules
+pub mod UsedNames

@@ -1,0 +1,9 @@
+-- What a reader believes: the contracts of what is public here cite these.
+pub mod Codes
+pub mod Findings
+pub mod Parts
+pub mod Scopes
+pub mod Sizes
+-- What restates the parts of this for their own contracts.
+pub mod Rows
+pub mod Uses
