@@ -1,11 +1,11 @@
 //! Lists of parts with commas between them.
 
 ghost use Rattle.std.specs.Prelude.{◌≡◌, ◌+◌, ◌-◌, ◌≤◌, ◌<◌, length, map};
-ghost use Rattle.os_parser.specs.Reading.{Reader, Gives};
-ghost use Rattle.os_parser.specs.Statements.{list_of};
+ghost use Rattle.productions.specs.Reading.{Reader};
+ghost use Rattle.expr_parser.specs.Gives.{Gives};
+ghost use Rattle.productions.specs.Statements.{list_of};
 
-use crate::cursor::Cursor;
-use crate::parse_error::ParseError;
+use expr_parser::{Cursor, ParseError};
 use os_io::List;
 use os_lexer::{Kind, Punct};
 use std::alloc::Global;

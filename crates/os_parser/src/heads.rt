@@ -2,21 +2,18 @@
 
 ghost use Rattle.std.specs.Prelude.{◌≡◌, ◌+◌, ◌-◌, ◌≤◌, ◌<◌, length, map, option_map};
 ghost use Rattle.os_ast.specs.Views.{expr_tree, declarator_tree, change_tree, start_tree};
-ghost use Rattle.os_parser.specs.Expressions.{below, layer};
-ghost use Rattle.os_parser.specs.Reading.{Gives};
-ghost use Rattle.os_parser.specs.Statements.{condition, start, head_test, step, change, head_declare, head, head_tree};
+ghost use Rattle.productions.specs.Expressions.{below, layer};
+ghost use Rattle.expr_parser.specs.Gives.{Gives};
+ghost use Rattle.productions.specs.Statements.{condition, start, head_test, step, change, head_declare, head, head_tree};
 
-use crate::cursor::Cursor;
-use crate::depth::deeper;
-use crate::expressions::expr;
-use crate::parse_error::ParseError;
 use crate::parts::{change, head_declare};
+use expr_parser::{Cursor, ParseError, deeper, expr};
 use os_ast::{Change, Expr, Head, Start};
 use os_lexer::{Key, Kind, Punct};
 use std::alloc::Global;
 
 /// `"(" expr ")"`, behind `if` and `while`.
-#[tactic(auto, unfolding(crate::specs::Statements::condition))]
+#[tactic(auto, unfolding(productions::specs::Statements::condition))]
 pub(crate) fn condition(
     alloc: Global,
     cursor: &mut Cursor<'_>,
@@ -32,7 +29,7 @@ pub(crate) fn condition(
 }
 
 /// `declare1 | [ change ] ";"`, behind `for` and its parenthesis.
-#[tactic(auto, unfolding(crate::specs::Statements::start))]
+#[tactic(auto, unfolding(productions::specs::Statements::start))]
 fn start(alloc: Global, cursor: &mut Cursor<'_>, depth: u32) -> Result<Start, ParseError>
     ensures gives { Gives start_tree result cursor.new (start (below depth) cursor.old) }
     ensures within { length cursor.new ≤ length cursor.old }
@@ -51,7 +48,7 @@ fn start(alloc: Global, cursor: &mut Cursor<'_>, depth: u32) -> Result<Start, Pa
 }
 
 /// `[ expr ] ";"`, in the middle of the head of a `for`.
-#[tactic(auto, unfolding(crate::specs::Statements::head_test))]
+#[tactic(auto, unfolding(productions::specs::Statements::head_test))]
 fn test(alloc: Global, cursor: &mut Cursor<'_>, depth: u32) -> Result<Option<Expr>, ParseError>
     ensures gives { Gives (λ e. option_map expr_tree e) result cursor.new (head_test (layer (below depth)) cursor.old) }
     ensures within { length cursor.new ≤ length cursor.old }
@@ -66,7 +63,7 @@ fn test(alloc: Global, cursor: &mut Cursor<'_>, depth: u32) -> Result<Option<Exp
 }
 
 /// `[ change ] ")"`, at the end of the head of a `for`.
-#[tactic(auto, unfolding(crate::specs::Statements::step))]
+#[tactic(auto, unfolding(productions::specs::Statements::step))]
 fn step(alloc: Global, cursor: &mut Cursor<'_>, depth: u32) -> Result<Option<Change>, ParseError>
     ensures gives { Gives (λ c. option_map change_tree c) result cursor.new (step (below depth) cursor.old) }
     ensures within { length cursor.new ≤ length cursor.old }
@@ -81,7 +78,7 @@ fn step(alloc: Global, cursor: &mut Cursor<'_>, depth: u32) -> Result<Option<Cha
 }
 
 /// `"(" ( declare1 | [ change ] ";" ) [ expr ] ";" [ change ] ")"`, behind `for`.
-#[tactic(auto, unfolding(crate::specs::Statements::head))]
+#[tactic(auto, unfolding(productions::specs::Statements::head))]
 pub(crate) fn head(alloc: Global, cursor: &mut Cursor<'_>, depth: u32) -> Result<Head, ParseError>
     ensures gives { Gives head_tree result cursor.new (head (below depth) cursor.old) }
     ensures within { length cursor.new ≤ length cursor.old }

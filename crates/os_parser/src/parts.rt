@@ -4,24 +4,23 @@ ghost use Rattle.std.specs.Prelude.{◌≡◌, ◌+◌, ◌-◌, ◌≤◌, ◌<
 ghost use Rattle.os_ast.specs.Trees as tree;
 ghost use Rattle.os_ast.specs.Trees.{DeclaratorTree};
 ghost use Rattle.os_ast.specs.Views.{expr_tree, target_tree, index_tree, declarator_tree, change_tree, start_tree, stmt_tree};
-ghost use Rattle.os_parser.specs.Expressions.{below};
-ghost use Rattle.os_parser.specs.Reading.{Gives, Same, after};
-ghost use Rattle.os_parser.specs.Statements.{name, target, size, value, attribute, scalar, declarator, head_declarator, declare, head_declare, change_of, change_by, before, change, ended, named_stmt, return_stmt};
+ghost use Rattle.productions.specs.Expressions.{below};
+ghost use Rattle.expr_parser.specs.Gives.{Gives};
+ghost use Rattle.productions.specs.Reading.{Same, after};
+ghost use Rattle.productions.specs.Statements.{name, target, size, value, attribute, scalar, declarator, head_declarator, declare, head_declare, change_of, change_by, before, change, ended, named_stmt, return_stmt};
 
 use crate::comma_list::{Part, comma_list};
-use crate::cursor::Cursor;
-use crate::depth::deeper;
-use crate::expressions::{self, expr, index, named};
-use crate::parse_error::ParseError;
-use crate::starts::{ChangeSign, StmtStart, change_at, name_at, stmt_at};
+use crate::starts::{change_at, name_at, stmt_at};
+use expr_parser::{Cursor, ParseError, deeper, expr, index};
 use os_ast::{Assign, Call, Change, Declarator, Expr, Index, Mark, Name, Step, Stmt, Target};
 use os_io::List;
 use os_lexer::names::STREAM;
 use os_lexer::{Key, Kind, Punct};
+use productions::{ChangeSign, StmtStart};
 use std::alloc::Global;
 
 /// `name`
-#[tactic(auto, unfolding(crate::specs::Statements::name))]
+#[tactic(auto, unfolding(productions::specs::Statements::name))]
 pub(crate) fn name(cursor: &mut Cursor<'_>) -> Result<Name, ParseError>
     ensures gives { Gives Same result cursor.new (name cursor.old) }
     ensures within { length cursor.new ≤ length cursor.old }
@@ -37,7 +36,7 @@ pub(crate) fn name(cursor: &mut Cursor<'_>) -> Result<Name, ParseError>
 }
 
 /// `target = name [ "[" expr "]" ]`, which is also `stream`.
-#[tactic(auto, unfolding(crate::specs::Statements::target))]
+#[tactic(auto, unfolding(productions::specs::Statements::target))]
 pub(crate) fn target(
     alloc: Global,
     cursor: &mut Cursor<'_>,
@@ -47,11 +46,11 @@ pub(crate) fn target(
     ensures within { length cursor.new ≤ length cursor.old }
 {
     let name = name(cursor)?;
-    expressions::target(alloc, cursor, name, depth)
+    expr_parser::target(alloc, cursor, name, depth)
 }
 
 /// `[ "[" expr "]" ]`, the size of a `declr`, or the burst of an `in` or `out`.
-#[tactic(auto, unfolding(crate::specs::Statements::size))]
+#[tactic(auto, unfolding(productions::specs::Statements::size))]
 pub(crate) fn size(
     alloc: Global,
     cursor: &mut Cursor<'_>,
@@ -68,7 +67,7 @@ pub(crate) fn size(
 }
 
 /// `[ "=" expr ]`, the first value of a scalar.
-#[tactic(auto, unfolding(crate::specs::Statements::value))]
+#[tactic(auto, unfolding(productions::specs::Statements::value))]
 fn value(alloc: Global, cursor: &mut Cursor<'_>, depth: u32) -> Result<Option<Expr>, ParseError>
     ensures gives { Gives (λ e. option_map expr_tree e) result cursor.new (value (below depth) cursor.old) }
     ensures within { length cursor.new ≤ length cursor.old }
@@ -83,7 +82,7 @@ fn value(alloc: Global, cursor: &mut Cursor<'_>, depth: u32) -> Result<Option<Ex
 }
 
 /// `[ "__attribute__" "(" "(" "stream" ")" ")" ]`, and whether it is there.
-#[tactic(auto, unfolding(crate::specs::Statements::attribute))]
+#[tactic(auto, unfolding(productions::specs::Statements::attribute))]
 fn attribute(cursor: &mut Cursor<'_>) -> Result<bool, ParseError>
     ensures gives { Gives Same result cursor.new (attribute cursor.old) }
     ensures within { length cursor.new ≤ length cursor.old }
@@ -115,7 +114,7 @@ impl Part for DeclaratorPart {
 
     ghost reads = { λ part. declarator (below part.depth) };
 
-    #[tactic(auto, unfolding(crate::specs::Statements::declarator))]
+    #[tactic(auto, unfolding(productions::specs::Statements::declarator))]
     fn read(&self, alloc: Global, cursor: &mut Cursor<'_>) -> Result<Declarator, ParseError> {
         let name = name(cursor)?;
         let size = size(alloc, cursor, self.depth)?;
@@ -175,7 +174,7 @@ impl Part for HeadDeclaratorPart {
 
     ghost reads = { λ part. head_declarator (below part.depth) };
 
-    #[tactic(auto, unfolding(crate::specs::Statements::head_declarator))]
+    #[tactic(auto, unfolding(productions::specs::Statements::head_declarator))]
     fn read(&self, alloc: Global, cursor: &mut Cursor<'_>) -> Result<Declarator, ParseError> {
         let name = name(cursor)?;
         scalar(alloc, cursor, name, false, self.depth)
@@ -183,7 +182,7 @@ impl Part for HeadDeclaratorPart {
 }
 
 /// `target assign expr | target ( "++" | "--" )`, from what follows the target of this `change`.
-#[tactic(auto, unfolding(crate::specs::Statements::change_of))]
+#[tactic(auto, unfolding(productions::specs::Statements::change_of))]
 fn change_of(
     alloc: Global,
     cursor: &mut Cursor<'_>,
@@ -211,7 +210,7 @@ fn change_of(
 }
 
 /// `( "++" | "--" ) target`, a `change` from its first token on.
-#[tactic(auto, unfolding(crate::specs::Statements::before))]
+#[tactic(auto, unfolding(productions::specs::Statements::before))]
 pub(crate) fn before(
     alloc: Global,
     cursor: &mut Cursor<'_>,
@@ -229,7 +228,7 @@ pub(crate) fn before(
 }
 
 /// `declare = "int" declr { "," declr } ";"`, from its `int` on.
-#[tactic(auto, unfolding(crate::specs::Statements::declare))]
+#[tactic(auto, unfolding(productions::specs::Statements::declare))]
 pub(crate) fn declare(
     alloc: Global,
     cursor: &mut Cursor<'_>,
@@ -246,7 +245,7 @@ pub(crate) fn declare(
 }
 
 /// `declare1 = "int" name [ "=" expr ] { "," name [ "=" expr ] } ";"`, from its `int` on.
-#[tactic(auto, unfolding(crate::specs::Statements::head_declare))]
+#[tactic(auto, unfolding(productions::specs::Statements::head_declare))]
 pub(crate) fn head_declare(
     alloc: Global,
     cursor: &mut Cursor<'_>,
@@ -262,7 +261,7 @@ pub(crate) fn head_declare(
 }
 
 /// `change`
-#[tactic(auto, unfolding(crate::specs::Statements::change))]
+#[tactic(auto, unfolding(productions::specs::Statements::change))]
 pub(crate) fn change(
     alloc: Global,
     cursor: &mut Cursor<'_>,
@@ -306,7 +305,7 @@ fn changed(
 }
 
 /// `change ";" | call ";"` where it begins with a name, from what follows the name.
-#[tactic(auto, using(crate::proofs::Trees::trees), unfolding(crate::specs::Statements::named_stmt))]
+#[tactic(auto, using(expr_parser::proofs::Trees::trees), unfolding(productions::specs::Statements::named_stmt))]
 pub(crate) fn named_stmt(
     alloc: Global,
     cursor: &mut Cursor<'_>,
@@ -317,16 +316,16 @@ pub(crate) fn named_stmt(
     ensures within { length cursor.new ≤ length cursor.old }
 {
     if cursor.is_at(Kind::Punct(Punct::OpenParen)) {
-        let args = expressions::args(alloc, cursor, depth)?;
+        let args = expr_parser::args(alloc, cursor, depth)?;
         cursor.expect(Kind::Punct(Punct::Semicolon))?;
         return Ok(Stmt::Call(Call { name, args }));
     }
-    let target = expressions::target(alloc, cursor, name, depth)?;
+    let target = expr_parser::target(alloc, cursor, name, depth)?;
     changed(alloc, cursor, target, depth)
 }
 
 /// `"return" expr ";"`, from its `return` on.
-#[tactic(auto, unfolding(crate::specs::Statements::return_stmt))]
+#[tactic(auto, unfolding(productions::specs::Statements::return_stmt))]
 pub(crate) fn return_stmt(
     alloc: Global,
     cursor: &mut Cursor<'_>,

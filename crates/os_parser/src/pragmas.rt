@@ -4,16 +4,14 @@ ghost use Rattle.std.specs.Prelude.{◌≡◌, ◌+◌, ◌-◌, ◌≤◌, ◌<
 ghost use Rattle.os_ast.specs.Trees.{ClauseItemTree};
 ghost use Rattle.os_ast.specs.declared.expr.Name.{Name};
 ghost use Rattle.os_ast.specs.Views.{expr_tree, target_tree, index_tree, join_tree, clause_item_tree, clause_kind_tree, clause_tree, stmt_tree};
-ghost use Rattle.os_parser.specs.Expressions.{below};
-ghost use Rattle.os_parser.specs.Reading.{Gives, Same, after};
-ghost use Rattle.os_parser.specs.Statements.{name, join, alone, clause_item, clause_kind, clause, clauses, first_clause, some_clauses, in_parens, ticked, tick_tree, tick, taskwait};
+ghost use Rattle.productions.specs.Expressions.{below};
+ghost use Rattle.expr_parser.specs.Gives.{Gives};
+ghost use Rattle.productions.specs.Reading.{Same, after};
+ghost use Rattle.productions.specs.Statements.{name, join, alone, clause_item, clause_kind, clause, clauses, first_clause, some_clauses, in_parens, ticked, tick_tree, tick, taskwait};
 
 use crate::comma_list::{Part, comma_list};
-use crate::cursor::Cursor;
-use crate::depth::deeper;
-use crate::expressions::expr;
-use crate::parse_error::ParseError;
 use crate::parts::{name, size, target};
+use expr_parser::{Cursor, ParseError, deeper, expr};
 use os_ast::{Clause, ClauseItem, ClauseKind, Join, Mark, Name, Stmt, Target, TickSite};
 use os_io::List;
 use os_lexer::names::{FIRSTPRIVATE, INPUT, OUTPUT};
@@ -21,7 +19,7 @@ use os_lexer::{Kind, Punct};
 use std::alloc::Global;
 
 /// `">>" name [ "[" expr "]" ]` of an `in`, or the same of an `out` with `"<<"`, from the arrow on.
-#[tactic(auto, unfolding(crate::specs::Statements::join))]
+#[tactic(auto, unfolding(productions::specs::Statements::join))]
 fn join(alloc: Global, cursor: &mut Cursor<'_>, depth: u32) -> Result<Join, ParseError>
     ensures gives { Gives join_tree result cursor.new (join (below depth) cursor.old) }
     ensures within { length cursor.new ≤ length cursor.old }
@@ -66,7 +64,7 @@ impl Part for InOrOut {
 
     ghost reads = { λ part. clause_item part.arrow (below part.depth) };
 
-    #[tactic(auto, unfolding(crate::specs::Statements::clause_item))]
+    #[tactic(auto, unfolding(productions::specs::Statements::clause_item))]
     fn read(&self, alloc: Global, cursor: &mut Cursor<'_>) -> Result<ClauseItem, ParseError> {
         let stream = target(alloc, cursor, self.depth)?;
         if !cursor.is_at(Kind::Punct(self.arrow)) {
@@ -98,7 +96,7 @@ impl Part for Copied {
 }
 
 /// `"(" part { "," part } ")"`
-#[tactic(auto, unfolding(crate::specs::Statements::in_parens))]
+#[tactic(auto, unfolding(productions::specs::Statements::in_parens))]
 fn in_parens<P: Part>(
     alloc: Global,
     cursor: &mut Cursor<'_>,
@@ -114,7 +112,7 @@ fn in_parens<P: Part>(
 }
 
 /// `clause`: one of the words `"input"`, `"output"` and `"firstprivate"`, and what it lists.
-#[tactic(auto, using(crate::proofs::Lists::same), unfolding(crate::specs::Statements::clause_kind))]
+#[tactic(auto, using(productions::proofs::Lists::same), unfolding(productions::specs::Statements::clause_kind))]
 fn clause_kind(alloc: Global, cursor: &mut Cursor<'_>, depth: u32) -> Result<ClauseKind, ParseError>
     ensures gives { Gives clause_kind_tree result cursor.new (clause_kind (below depth) cursor.old) }
     ensures within { length cursor.new ≤ length cursor.old }
@@ -147,7 +145,7 @@ fn clause_kind(alloc: Global, cursor: &mut Cursor<'_>, depth: u32) -> Result<Cla
 }
 
 /// The first `clause` of a task, before which no comma stands.
-#[tactic(auto, unfolding(crate::specs::Statements::first_clause))]
+#[tactic(auto, unfolding(productions::specs::Statements::first_clause))]
 fn first_clause(alloc: Global, cursor: &mut Cursor<'_>, depth: u32) -> Result<Clause, ParseError>
     ensures gives { Gives clause_tree result cursor.new (first_clause (below depth) cursor.old) }
     ensures within { length cursor.new ≤ length cursor.old }
@@ -157,7 +155,7 @@ fn first_clause(alloc: Global, cursor: &mut Cursor<'_>, depth: u32) -> Result<Cl
 }
 
 /// `[ "," ] clause`, a later one of a task.
-#[tactic(auto, using(crate::proofs::Tokens::lengths), unfolding(crate::specs::Statements::clause))]
+#[tactic(auto, using(productions::proofs::Tokens::lengths), unfolding(productions::specs::Statements::clause))]
 fn clause(alloc: Global, cursor: &mut Cursor<'_>, depth: u32) -> Result<Clause, ParseError>
     ensures gives { Gives clause_tree result cursor.new (clause (below depth) cursor.old) }
     ensures within { length cursor.new ≤ length cursor.old }
@@ -190,7 +188,7 @@ fn some_clauses(
 }
 
 /// `{ [ "," ] clause }`, to the end of the task's line.
-#[tactic(auto, unfolding(crate::specs::Statements::clauses))]
+#[tactic(auto, unfolding(productions::specs::Statements::clauses))]
 pub(crate) fn clauses(
     alloc: Global,
     cursor: &mut Cursor<'_>,
@@ -206,7 +204,7 @@ pub(crate) fn clauses(
 }
 
 /// `"tick" "(" stream ">>" expr ")"`, from its word on.
-#[tactic(auto, unfolding(crate::specs::Statements::ticked))]
+#[tactic(auto, unfolding(productions::specs::Statements::ticked))]
 fn ticked(
     alloc: Global,
     cursor: &mut Cursor<'_>,
@@ -232,7 +230,7 @@ fn ticked(
 }
 
 /// `"tick" "(" stream ">>" expr ")" PragmaEnd`, from its word on.
-#[tactic(auto, unfolding(crate::specs::Statements::tick))]
+#[tactic(auto, unfolding(productions::specs::Statements::tick))]
 pub(crate) fn tick(
     alloc: Global,
     cursor: &mut Cursor<'_>,
@@ -249,7 +247,7 @@ pub(crate) fn tick(
 }
 
 /// `"taskwait" PragmaEnd`, from what follows its word.
-#[tactic(auto, unfolding(crate::specs::Statements::taskwait))]
+#[tactic(auto, unfolding(productions::specs::Statements::taskwait))]
 pub(crate) fn taskwait(cursor: &mut Cursor<'_>, mark: Mark) -> Result<Stmt, ParseError>
     ensures gives { Gives stmt_tree result cursor.new (taskwait mark cursor.old) }
     ensures within { length cursor.new ≤ length cursor.old }

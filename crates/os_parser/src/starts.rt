@@ -2,37 +2,12 @@
 
 ghost use Rattle.std.specs.Prelude.{◌≡◌};
 ghost use Rattle.os_lexer.specs.declared.token.Kind.TheVariants as kind;
-ghost use Rattle.os_parser.specs.Beginners.{punct_stmt, key_stmt, stmt_start, stmt_at, punct_change, change_sign, change_at, name_of, name_at, number_of, number_at};
+ghost use Rattle.productions.specs.Beginners.{punct_stmt, key_stmt, stmt_start, stmt_at, punct_change, change_sign, change_at, name_of, name_at, number_of, number_at};
 
-use crate::cursor::Cursor;
-use crate::operators::NUMBER_BOUND;
+use expr_parser::{Cursor, NUMBER_BOUND};
 use os_ast::{Assign, Binary, Step};
 use os_lexer::{Key, Kind, Punct};
-
-/// How a statement begins.
-#[derive(Clone, Copy)]
-pub(crate) enum StmtStart {
-    Semicolon,
-    Brace,
-    Name(u32),
-    Step(Step),
-    If,
-    While,
-    For,
-    Break,
-    Continue,
-    Return,
-    Pragma,
-    Other,
-}
-
-/// What a token behind a target makes of it.
-#[derive(Clone, Copy)]
-pub(crate) enum ChangeSign {
-    Assign(Assign),
-    Step(Step),
-    Other,
-}
+use productions::{ChangeSign, StmtStart};
 
 fn punct_stmt(punct: Punct) -> StmtStart
     ensures { result ≡ punct_stmt punct }

@@ -3,11 +3,11 @@ use Rattle.std.proofs.lemmas.Result.{err_from_is_err_and}
 use Rattle.std.proofs.lemmas.List.{length_push}
 use Rattle.os_lexer.specs.declared.token.Kind.TheVariants as kind
 use Rattle.os_lexer.specs.declared.token.Punct.TheVariants as puncts
-use Rattle.os_parser.specs.Reading.{after, begins}
-use Rattle.os_parser.specs.Statements.{list_of}
-use Rattle.os_parser.proofs.Lists as lists
-use Rattle.os_parser.proofs.Refusals.{refuses-on}
-use Rattle.os_parser.proofs.Tokens.{begins-takes}
+use Rattle.productions.specs.Reading.{after, begins}
+use Rattle.productions.specs.Statements.{list_of}
+use Rattle.productions.proofs.Lists as lists
+use Rattle.expr_parser.proofs.Refusals.{refuses-on}
+use Rattle.productions.proofs.Tokens.{begins-takes}
 use Rattle.os_parser.proofs.comma_list.comma_list.Goals as goal
 
 pub returns-in_err-read-clause-gives : goal.returns-in_err-read-clause-gives

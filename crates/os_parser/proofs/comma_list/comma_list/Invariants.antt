@@ -1,6 +1,6 @@
 use Rattle.std.proofs.Common.{◌≡◌, ◌+◌, ◌-◌, ◌≤◌, length}
-use Rattle.os_parser.specs.Statements.{list_of, commas}
-use Rattle.os_parser.proofs.Lists.{with_list}
+use Rattle.productions.specs.Statements.{list_of, commas}
+use Rattle.productions.proofs.Lists.{with_list}
 use Rattle.os_parser.proofs.comma_list.comma_list.Given as goal
 
 abbrev pub invariant-loop-alloc : goal.invariant-loop-alloc

@@ -2,11 +2,11 @@ use Rattle.std.proofs.Common.{◌≡◌, ◌+◌, [], ◌∷◌, ◌++◌, lengt
 use Rattle.std.proofs.lemmas.Result.{err_from_is_err_and}
 use Rattle.std.proofs.lemmas.List.{length_push}
 use Rattle.os_ast.specs.Views.{clause_tree}
-use Rattle.os_parser.specs.Expressions.{below}
-use Rattle.os_parser.specs.Statements.{line_goes_on, clause, first_clause, some_clauses}
-use Rattle.os_parser.proofs.Lists as lists
-use Rattle.os_parser.proofs.Refusals.{refuses-on}
-use Rattle.os_parser.proofs.Taken.{clause-some}
+use Rattle.productions.specs.Expressions.{below}
+use Rattle.productions.specs.Statements.{line_goes_on, clause, first_clause, some_clauses}
+use Rattle.productions.proofs.Lists as lists
+use Rattle.expr_parser.proofs.Refusals.{refuses-on}
+use Rattle.productions.proofs.Taken.{clause-some}
 use Rattle.os_parser.proofs.pragmas.some_clauses.Goals as goal
 
 pub returns-in_err-first_clause-clause-gives : goal.returns-in_err-first_clause-clause-gives

@@ -1,8 +1,8 @@
 use Rattle.std.proofs.Common.{◌≡◌, ◌+◌, ◌-◌, ◌≤◌, length}
 use Rattle.os_ast.specs.Views.{clause_tree}
-use Rattle.os_parser.specs.Expressions.{below}
-use Rattle.os_parser.specs.Statements.{many, line_goes_on, clause, some_clauses}
-use Rattle.os_parser.proofs.Lists.{with_list}
+use Rattle.productions.specs.Expressions.{below}
+use Rattle.productions.specs.Statements.{many, line_goes_on, clause, some_clauses}
+use Rattle.productions.proofs.Lists.{with_list}
 use Rattle.os_parser.proofs.pragmas.some_clauses.Given as goal
 
 abbrev pub invariant-loop-alloc : goal.invariant-loop-alloc
