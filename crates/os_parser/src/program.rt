@@ -7,14 +7,12 @@ ghost use Rattle.expr_parser.specs.Gives.{Gives};
 ghost use Rattle.productions.specs.Reading.{Same, got, after};
 ghost use Rattle.productions.specs.Statements.{inner, param, params, function, number, minus, constant, item, is_more, program};
 
-use crate::comma_list::{Part, comma_list};
-use crate::parts::name;
-use crate::starts::number_at;
 use crate::stmt::block;
 use expr_parser::{Cursor, ParseError};
 use os_ast::{Constant, Function, Item, Name, Params};
 use os_io::List;
 use os_lexer::{Key, Kind, Punct};
+use stmt_parts::{Part, comma_list, name, number_at};
 use std::alloc::Global;
 
 /// `"int" name`, a parameter of `params`.

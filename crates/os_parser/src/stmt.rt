@@ -7,16 +7,13 @@ ghost use Rattle.expr_parser.specs.Gives.{Gives};
 ghost use Rattle.productions.specs.Reading.{after};
 ghost use Rattle.productions.specs.Statements.{inner, inner_item, stmt_on, stmts, block, block_item, if_stmt, while_stmt, for_stmt, task, pragma};
 
-use crate::heads::{condition, head};
-use crate::parts::{before, declare, named_stmt, return_stmt};
-use crate::pragmas::{clauses, taskwait, tick};
-use crate::starts::stmt_at;
 use expr_parser::{Cursor, ParseError, deeper};
 use os_ast::{Change, Mark, Name, Stmt, TaskSite};
 use os_io::List;
 use os_lexer::names::{OMP, TASK, TASKWAIT, TICK};
 use os_lexer::{Key, Kind, Punct};
 use productions::StmtStart;
+use stmt_parts::{before, clauses, condition, declare, head, named_stmt, return_stmt, stmt_at, taskwait, tick};
 use std::alloc::Global;
 
 /// `stmt`

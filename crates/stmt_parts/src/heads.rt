@@ -14,7 +14,7 @@ use std::alloc::Global;
 
 /// `"(" expr ")"`, behind `if` and `while`.
 #[tactic(auto, unfolding(productions::specs::Statements::condition))]
-pub(crate) fn condition(
+pub fn condition(
     alloc: Global,
     cursor: &mut Cursor<'_>,
     depth: u32,
@@ -79,7 +79,7 @@ fn step(alloc: Global, cursor: &mut Cursor<'_>, depth: u32) -> Result<Option<Cha
 
 /// `"(" ( declare1 | [ change ] ";" ) [ expr ] ";" [ change ] ")"`, behind `for`.
 #[tactic(auto, unfolding(productions::specs::Statements::head))]
-pub(crate) fn head(alloc: Global, cursor: &mut Cursor<'_>, depth: u32) -> Result<Head, ParseError>
+pub fn head(alloc: Global, cursor: &mut Cursor<'_>, depth: u32) -> Result<Head, ParseError>
     ensures gives { Gives head_tree result cursor.new (head (below depth) cursor.old) }
     ensures within { length cursor.new ≤ length cursor.old }
 {

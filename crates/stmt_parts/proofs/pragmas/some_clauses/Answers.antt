@@ -7,7 +7,7 @@ use Rattle.productions.specs.Statements.{line_goes_on, clause, first_clause, som
 use Rattle.productions.proofs.Lists as lists
 use Rattle.expr_parser.proofs.Refusals.{refuses-on}
 use Rattle.productions.proofs.Taken.{clause-some}
-use Rattle.os_parser.proofs.pragmas.some_clauses.Goals as goal
+use Rattle.stmt_parts.proofs.pragmas.some_clauses.Goals as goal
 
 pub returns-in_err-first_clause-clause-gives : goal.returns-in_err-first_clause-clause-gives
 unfolding some_clauses

@@ -8,7 +8,7 @@ use Rattle.productions.specs.Statements.{list_of}
 use Rattle.productions.proofs.Lists as lists
 use Rattle.expr_parser.proofs.Refusals.{refuses-on}
 use Rattle.productions.proofs.Tokens.{begins-takes}
-use Rattle.os_parser.proofs.comma_list.comma_list.Goals as goal
+use Rattle.stmt_parts.proofs.comma_list.comma_list.Goals as goal
 
 pub returns-in_err-read-clause-gives : goal.returns-in_err-read-clause-gives
 unfolding list_of

@@ -189,7 +189,7 @@ fn some_clauses(
 
 /// `{ [ "," ] clause }`, to the end of the task's line.
 #[tactic(auto, unfolding(productions::specs::Statements::clauses))]
-pub(crate) fn clauses(
+pub fn clauses(
     alloc: Global,
     cursor: &mut Cursor<'_>,
     depth: u32,
@@ -231,7 +231,7 @@ fn ticked(
 
 /// `"tick" "(" stream ">>" expr ")" PragmaEnd`, from its word on.
 #[tactic(auto, unfolding(productions::specs::Statements::tick))]
-pub(crate) fn tick(
+pub fn tick(
     alloc: Global,
     cursor: &mut Cursor<'_>,
     mark: Mark,
@@ -248,7 +248,7 @@ pub(crate) fn tick(
 
 /// `"taskwait" PragmaEnd`, from what follows its word.
 #[tactic(auto, unfolding(productions::specs::Statements::taskwait))]
-pub(crate) fn taskwait(cursor: &mut Cursor<'_>, mark: Mark) -> Result<Stmt, ParseError>
+pub fn taskwait(cursor: &mut Cursor<'_>, mark: Mark) -> Result<Stmt, ParseError>
     ensures gives { Gives stmt_tree result cursor.new (taskwait mark cursor.old) }
     ensures within { length cursor.new ≤ length cursor.old }
 {

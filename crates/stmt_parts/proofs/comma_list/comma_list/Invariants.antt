@@ -1,7 +1,7 @@
 use Rattle.std.proofs.Common.{◌≡◌, ◌+◌, ◌-◌, ◌≤◌, length}
 use Rattle.productions.specs.Statements.{list_of, commas}
 use Rattle.productions.proofs.Lists.{with_list}
-use Rattle.os_parser.proofs.comma_list.comma_list.Given as goal
+use Rattle.stmt_parts.proofs.comma_list.comma_list.Given as goal
 
 abbrev pub invariant-loop-alloc : goal.invariant-loop-alloc
 invariant-loop-alloc g l = record {

@@ -3,7 +3,7 @@ use Rattle.os_ast.specs.Views.{clause_tree}
 use Rattle.productions.specs.Expressions.{below}
 use Rattle.productions.specs.Statements.{many, line_goes_on, clause, some_clauses}
 use Rattle.productions.proofs.Lists.{with_list}
-use Rattle.os_parser.proofs.pragmas.some_clauses.Given as goal
+use Rattle.stmt_parts.proofs.pragmas.some_clauses.Given as goal
 
 abbrev pub invariant-loop-alloc : goal.invariant-loop-alloc
 invariant-loop-alloc l = record {

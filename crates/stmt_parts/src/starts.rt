@@ -87,7 +87,7 @@ fn stmt_start(kind: Kind) -> StmtStart
 }
 
 /// How a statement may begin with the next token.
-pub(crate) fn stmt_at(cursor: &Cursor<'_>) -> StmtStart
+pub fn stmt_at(cursor: &Cursor<'_>) -> StmtStart
     ensures { result ≡ stmt_at cursor.now }
 {
     match cursor.kind() {
@@ -207,7 +207,7 @@ fn number_of(kind: Kind) -> Option<u32>
 }
 
 /// The next token's number, where it is one that a program may have.
-pub(crate) fn number_at(cursor: &Cursor<'_>) -> Option<u32>
+pub fn number_at(cursor: &Cursor<'_>) -> Option<u32>
     ensures { result ≡ number_at cursor.now }
 {
     match cursor.kind() {

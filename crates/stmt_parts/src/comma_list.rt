@@ -11,7 +11,7 @@ use os_lexer::{Kind, Punct};
 use std::alloc::Global;
 
 /// A production that lists are made of, with what reading it takes beside the tokens.
-pub(crate) trait Part {
+pub trait Part {
     type Item: Drop;
 
     ghost Tree: { Type 0 };
@@ -29,7 +29,7 @@ pub(crate) trait Part {
 }
 
 /// `part { "," part }`
-pub(crate) fn comma_list<P: Part>(
+pub fn comma_list<P: Part>(
     alloc: Global,
     cursor: &mut Cursor<'_>,
     part: &P,

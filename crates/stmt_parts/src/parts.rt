@@ -21,7 +21,7 @@ use std::alloc::Global;
 
 /// `name`
 #[tactic(auto, unfolding(productions::specs::Statements::name))]
-pub(crate) fn name(cursor: &mut Cursor<'_>) -> Result<Name, ParseError>
+pub fn name(cursor: &mut Cursor<'_>) -> Result<Name, ParseError>
     ensures gives { Gives Same result cursor.new (name cursor.old) }
     ensures within { length cursor.new ≤ length cursor.old }
 {
@@ -211,7 +211,7 @@ fn change_of(
 
 /// `( "++" | "--" ) target`, a `change` from its first token on.
 #[tactic(auto, unfolding(productions::specs::Statements::before))]
-pub(crate) fn before(
+pub fn before(
     alloc: Global,
     cursor: &mut Cursor<'_>,
     step: Step,
@@ -229,7 +229,7 @@ pub(crate) fn before(
 
 /// `declare = "int" declr { "," declr } ";"`, from its `int` on.
 #[tactic(auto, unfolding(productions::specs::Statements::declare))]
-pub(crate) fn declare(
+pub fn declare(
     alloc: Global,
     cursor: &mut Cursor<'_>,
     depth: u32,
@@ -306,7 +306,7 @@ fn changed(
 
 /// `change ";" | call ";"` where it begins with a name, from what follows the name.
 #[tactic(auto, using(expr_parser::proofs::Trees::trees), unfolding(productions::specs::Statements::named_stmt))]
-pub(crate) fn named_stmt(
+pub fn named_stmt(
     alloc: Global,
     cursor: &mut Cursor<'_>,
     name: Name,
@@ -326,7 +326,7 @@ pub(crate) fn named_stmt(
 
 /// `"return" expr ";"`, from its `return` on.
 #[tactic(auto, unfolding(productions::specs::Statements::return_stmt))]
-pub(crate) fn return_stmt(
+pub fn return_stmt(
     alloc: Global,
     cursor: &mut Cursor<'_>,
     depth: u32,
