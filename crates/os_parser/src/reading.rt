@@ -3,15 +3,16 @@ ghost use Rattle.os_ast.specs.Means.{Means, OneReading};
 ghost use Rattle.os_ast.specs.Trees.{ProgramTree};
 ghost use Rattle.os_ast.specs.Views.{program_tree};
 ghost use Rattle.os_lexer.specs.Limits.{text_limit};
-ghost use Rattle.os_parser.specs.declared.parse_error.ParseError.TheVariants as errors;
+ghost use Rattle.expr_parser.specs.declared.parse_error.ParseError.TheVariants as errors;
 
-use crate::cursor::Cursor;
-use crate::depth::DEPTH_LIMIT;
-use crate::parse_error::ParseError;
 use crate::program::program;
+use expr_parser::{Cursor, ParseError};
 use os_ast::Program;
 use os_lexer::Token;
 use std::alloc::Global;
+
+/// How deep a program may be.
+const DEPTH_LIMIT: u32 = 200;
 
 /// The program that the tokens mean. It takes time linear in the tokens, and stack for the limit of depth.
 pub fn parse(alloc: Global, tokens: &[Token]) -> Result<Program, ParseError>
@@ -27,7 +28,7 @@ pub fn parse(alloc: Global, tokens: &[Token]) -> Result<Program, ParseError>
 }
 
 /// A list of tokens has at most one reading. This is a law: it takes nothing and does nothing.
-#[tactic(auto, using(crate::proofs::Programs::one))]
+#[tactic(auto, using(productions::proofs::Programs::one))]
 pub fn one_reading()
     ensures { OneReading }
 {}

@@ -2,26 +2,23 @@
 
 ghost use Rattle.std.specs.Prelude.{◌≡◌, ◌+◌, ◌-◌, ◌≤◌, ◌<◌, length, map, OnOk, box_value};
 ghost use Rattle.os_ast.specs.Views.{stmt_tree, stmts_tree, clause_tree};
-ghost use Rattle.os_parser.specs.Expressions.{below};
-ghost use Rattle.os_parser.specs.Reading.{Gives, after};
-ghost use Rattle.os_parser.specs.Statements.{inner, inner_item, stmt_on, stmts, block, block_item, if_stmt, while_stmt, for_stmt, task, pragma};
+ghost use Rattle.productions.specs.Expressions.{below};
+ghost use Rattle.expr_parser.specs.Gives.{Gives};
+ghost use Rattle.productions.specs.Reading.{after};
+ghost use Rattle.productions.specs.Statements.{inner, inner_item, stmt_on, stmts, block, block_item, if_stmt, while_stmt, for_stmt, task, pragma};
 
-use crate::cursor::Cursor;
-use crate::depth::deeper;
-use crate::heads::{condition, head};
-use crate::parse_error::ParseError;
-use crate::parts::{before, declare, named_stmt, return_stmt};
-use crate::pragmas::{clauses, taskwait, tick};
-use crate::starts::{StmtStart, stmt_at};
+use expr_parser::{Cursor, ParseError, deeper};
 use os_ast::{Change, Mark, Name, Stmt, TaskSite};
 use os_io::List;
 use os_lexer::names::{OMP, TASK, TASKWAIT, TICK};
 use os_lexer::{Key, Kind, Punct};
+use productions::StmtStart;
+use stmt_parts::{before, clauses, condition, declare, head, named_stmt, return_stmt, stmt_at, taskwait, tick};
 use std::alloc::Global;
 
 /// `stmt`
 #[cycle(statements)]
-#[tactic(auto, using(crate::proofs::Depths::readers, crate::proofs::Trees::trees), unfolding(crate::specs::Statements::stmt_on, crate::specs::Statements::stmt_by))]
+#[tactic(auto, using(productions::proofs::Depths::readers, expr_parser::proofs::Trees::trees), unfolding(productions::specs::Statements::stmt_on, productions::specs::Statements::stmt_by))]
 pub(crate) fn stmt(alloc: Global, cursor: &mut Cursor<'_>, depth: u32) -> Result<Stmt, ParseError>
     ensures gives { Gives stmt_tree result cursor.new (stmt_on (inner depth) cursor.old) }
     ensures within { length cursor.new ≤ length cursor.old }
@@ -79,7 +76,7 @@ fn boxed(alloc: Global, cursor: &mut Cursor<'_>, depth: u32) -> Result<Box<Stmt>
 
 /// `block = "{" { declare | stmt } "}"`, from what follows its `{`.
 #[cycle(statements)]
-#[tactic(auto, unfolding(crate::specs::Statements::block))]
+#[tactic(auto, unfolding(productions::specs::Statements::block))]
 pub(crate) fn block(
     alloc: Global,
     cursor: &mut Cursor<'_>,
@@ -98,7 +95,7 @@ pub(crate) fn block(
 
 /// `declare | stmt`, a part of `block`.
 #[cycle(statements)]
-#[tactic(auto, unfolding(crate::specs::Statements::inner_item, crate::specs::Statements::block_item))]
+#[tactic(auto, unfolding(productions::specs::Statements::inner_item, productions::specs::Statements::block_item))]
 fn block_item(alloc: Global, cursor: &mut Cursor<'_>, depth: u32) -> Result<Stmt, ParseError>
     ensures gives { Gives stmt_tree result cursor.new (inner_item (inner depth) cursor.old) }
     ensures within { length cursor.new ≤ length cursor.old }
@@ -114,7 +111,7 @@ fn block_item(alloc: Global, cursor: &mut Cursor<'_>, depth: u32) -> Result<Stmt
 
 /// `"if" "(" expr ")" stmt [ "else" stmt ]`, from its `if` on.
 #[cycle(statements)]
-#[tactic(auto, unfolding(crate::specs::Statements::if_stmt))]
+#[tactic(auto, unfolding(productions::specs::Statements::if_stmt))]
 fn if_stmt(alloc: Global, cursor: &mut Cursor<'_>, depth: u32) -> Result<Stmt, ParseError>
     ensures gives { Gives stmt_tree result cursor.new (if_stmt (inner depth) cursor.old) }
     ensures within { length cursor.new ≤ length cursor.old }
@@ -134,7 +131,7 @@ fn if_stmt(alloc: Global, cursor: &mut Cursor<'_>, depth: u32) -> Result<Stmt, P
 
 /// `"while" "(" expr ")" stmt`, from its `while` on.
 #[cycle(statements)]
-#[tactic(auto, unfolding(crate::specs::Statements::while_stmt))]
+#[tactic(auto, unfolding(productions::specs::Statements::while_stmt))]
 fn while_stmt(alloc: Global, cursor: &mut Cursor<'_>, depth: u32) -> Result<Stmt, ParseError>
     ensures gives { Gives stmt_tree result cursor.new (while_stmt (inner depth) cursor.old) }
     ensures within { length cursor.new ≤ length cursor.old }
@@ -149,7 +146,7 @@ fn while_stmt(alloc: Global, cursor: &mut Cursor<'_>, depth: u32) -> Result<Stmt
 
 /// `"for" "(" ( declare1 | [ change ] ";" ) [ expr ] ";" [ change ] ")" stmt`, from its `for` on.
 #[cycle(statements)]
-#[tactic(auto, unfolding(crate::specs::Statements::for_stmt))]
+#[tactic(auto, unfolding(productions::specs::Statements::for_stmt))]
 fn for_stmt(alloc: Global, cursor: &mut Cursor<'_>, depth: u32) -> Result<Stmt, ParseError>
     ensures gives { Gives stmt_tree result cursor.new (for_stmt (inner depth) cursor.old) }
     ensures within { length cursor.new ≤ length cursor.old }
@@ -165,7 +162,7 @@ fn for_stmt(alloc: Global, cursor: &mut Cursor<'_>, depth: u32) -> Result<Stmt, 
 
 /// `PragmaStart "omp"` and one of `"task"`, `"tick"` and `"taskwait"`, with what belongs to it.
 #[cycle(statements)]
-#[tactic(auto, using(crate::proofs::Depths::readers), unfolding(crate::specs::Statements::pragma))]
+#[tactic(auto, using(productions::proofs::Depths::readers), unfolding(productions::specs::Statements::pragma))]
 fn pragma(alloc: Global, cursor: &mut Cursor<'_>, depth: u32) -> Result<Stmt, ParseError>
     ensures gives { Gives stmt_tree result cursor.new (pragma (inner depth) cursor.old) }
     ensures within { length cursor.new ≤ length cursor.old }
@@ -189,7 +186,7 @@ fn pragma(alloc: Global, cursor: &mut Cursor<'_>, depth: u32) -> Result<Stmt, Pa
 
 /// `"task" { [ "," ] clause } PragmaEnd stmt`, from its word on.
 #[cycle(statements)]
-#[tactic(auto, unfolding(crate::specs::Statements::task))]
+#[tactic(auto, unfolding(productions::specs::Statements::task))]
 fn task(alloc: Global, cursor: &mut Cursor<'_>, mark: Mark, depth: u32) -> Result<Stmt, ParseError>
     ensures gives { Gives stmt_tree result cursor.new (task mark (inner depth) cursor.old) }
     ensures within { length cursor.new ≤ length cursor.old }
