@@ -7,7 +7,7 @@ use crate::case::Case;
 use crate::flows::FLOWS;
 use crate::programs::PROGRAMS;
 use crate::values::{FUNCTIONS, TABLE};
-use cddf_meaning::{plain_body, plain_control};
+use plain_meaning::{plain_body, plain_control};
 use flow_core::{Activation, Claim, Control, ControlEnd, TaskEnd};
 use front_end::read_program;
 use os_ast::Program;

@@ -2,7 +2,7 @@
 
 use super::accepted;
 use crate::counted::COUNTED;
-use cddf_meaning::{plain_body, plain_control};
+use plain_meaning::{plain_body, plain_control};
 use flow_core::{Claim, ControlEnd, TaskEnd};
 use std::alloc::Global;
 use std::process::Abort;

@@ -1,0 +1,3 @@
+pub mod Horizons
+pub mod Places
+pub mod Reached

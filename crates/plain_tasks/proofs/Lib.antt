@@ -1,0 +1,6 @@
+pub mod Bound
+pub mod Finding
+pub mod HasNames
+pub mod Mains
+pub mod Numbered
+pub mod Outputs

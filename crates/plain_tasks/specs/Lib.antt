@@ -1,0 +1,6 @@
+-- what a reader believes
+pub mod Ends
+pub mod Units
+-- what restates private functions
+pub mod Has
+pub mod Sought

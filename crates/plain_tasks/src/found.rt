@@ -1,0 +1,9 @@
+use os_ast::TaskSite;
+use os_io::List;
+
+/// A task of the control program, with the names of the scalars that it captures, in the order of their declarations.
+#[derive(Drop)]
+pub struct Found<'p> {
+    pub site: &'p TaskSite,
+    pub captured: List<u32>,
+}
