@@ -13,7 +13,8 @@ use os_ast::{Item, Program};
 use os_io::Memory;
 use plain_state::Stop;
 use plain_tasks::body::{finished, state_round, task_end};
-use plain_tasks::{Found, Unit, main_of, tasks};
+use plain_tasks::tasks::{main_of, tasks};
+use plain_tasks::{Found, Unit};
 use std::alloc::Global;
 
 /// Runs the body of a task that stands behind these items of the file.

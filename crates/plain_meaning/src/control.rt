@@ -12,7 +12,8 @@ use os_ast::Program;
 use os_io::{List, Memory};
 use plain_state::Stop;
 use plain_tasks::control::{control_end, state_round};
-use plain_tasks::{Main, Sites, Unit, main_of, sites_of, tasks};
+use plain_tasks::tasks::{Main, main_of, tasks};
+use plain_tasks::{Sites, Unit, sites_of};
 use std::alloc::Global;
 
 /// Runs the body of `main`.

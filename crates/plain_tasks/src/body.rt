@@ -115,7 +115,7 @@ fn bind_items(state: &mut State, ids: &[u32]) -> Result<(), Memory>
     Ok(())
 }
 
-/// The state round the body of a task.
+/// The state round the body of a task, for the elements of its input items, one item after another.
 #[tactic(auto, using(crate::proofs::Bound::items_bound))]
 pub fn state_round(
     alloc: Global,
@@ -185,7 +185,8 @@ fn outputs_of(alloc: Global, claims: &[Claim], items: &[List<i32>]) -> Result<Ve
     Ok(outputs)
 }
 
-/// What an activation comes to whose body ended normally, with these elements in its items.
+/// What an activation comes to whose body ended normally, with these elements in its items. The line is that of the
+/// task's pragma.
 pub fn finished(
     alloc: Global,
     line: u32,

@@ -10,7 +10,8 @@ use plain_state::names::int;
 use plain_state::{State, Stop};
 use std::alloc::Global;
 
-/// The state round the body of `main`: `osin` is stream 0, `osout` stream 1.
+/// The state round the body of `main`: `osin` is stream 0, `osout` stream 1, and `osin_len` the length of the input in
+/// bytes. That is an `int`, and else the answer is `Memory`.
 pub fn state_round(alloc: Global, input_len: u32) -> Result<State, Stop>
     ensures { IfOk result (λ s. s ≡ control_state input_len) }
 {
@@ -21,7 +22,7 @@ pub fn state_round(alloc: Global, input_len: u32) -> Result<State, Stop>
     Ok(state)
 }
 
-/// How the control program ended whose body ended before its last statement.
+/// The end of a control program that ended before its last statement.
 pub fn control_end(ending: Ending) -> ControlEnd
     ensures { result ≡ control_end ending }
 {

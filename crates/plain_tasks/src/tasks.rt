@@ -28,7 +28,9 @@ use std::alloc::Global;
 /// The function `main`, and the items before it.
 #[derive(Clone, Copy)]
 pub struct Main<'p> {
+    /// The items before it.
     pub file: &'p [Item],
+    /// The function `main`.
     pub function: &'p Function,
 }
 
@@ -263,7 +265,7 @@ fn known_in_file(alloc: Global, file: &[Item]) -> Result<Vec<Known>, Memory>
     Ok(known)
 }
 
-/// The tasks of the control program, in the order of the text.
+/// The tasks of the control program, in the order of the text. Their numbers are their places.
 pub fn tasks<'p>(alloc: Global, main: &Main<'p>) -> Result<Vec<Found<'p>>, Memory>
     requires { main.now.function.now.name.id ≡ main_id }
     ensures { IfOk result (λ tasks. map task_of tasks.items ≡ tasks_in_all (in_body (after_items notes.file (map item_tree main.now.file.now)) (function_tree main.now.function.now)) (stmts_tree main.now.function.now.body)) }

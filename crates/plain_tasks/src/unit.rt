@@ -7,7 +7,9 @@ use os_ast::Item;
 /// What is round a body: the items of the file before it, and for the control program its tasks.
 #[derive(Clone, Copy)]
 pub struct Unit<'p> {
+    /// The items of the file before it.
     pub file: &'p [Item],
+    /// The tasks of the program, where the body is the control program.
     pub control: Option<&'p Sites>,
 }
 
