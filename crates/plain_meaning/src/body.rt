@@ -4,15 +4,15 @@ ghost use Rattle.std.specs.Prelude.{IfOk, map};
 ghost use Rattle.cddf_meaning.specs.Body.{body, task_outcome};
 ghost use Rattle.cddf_meaning.specs.Functions.{file_of};
 ghost use Rattle.os_ast.specs.Views.{item_tree, program_tree};
-ghost use Rattle.plain_tasks.specs.Ends.{IsOutcome};
+ghost use Rattle.plain_state.specs.Ends.{IsOutcome};
 ghost use Rattle.plain_tasks.specs.Sought.{task_of};
 
 use crate::run::stmt;
 use flow_core::{Activation, TaskEnd};
 use os_ast::{Item, Program};
 use os_io::Memory;
-use plain_state::Stop;
-use plain_tasks::body::{finished, state_round, task_end};
+use plain_state::ends::outcome_of;
+use plain_tasks::body::state_round;
 use plain_tasks::tasks::{main_of, tasks};
 use plain_tasks::{Found, Unit};
 use std::alloc::Global;
@@ -34,16 +34,14 @@ fn run_body(
         control: None,
     };
     let mut turns = budget;
-    match stmt(alloc, &unit, &task.site.body, &mut state, &mut turns) {
-        Ok(_) => finished(
-            alloc,
-            task.site.mark.line,
-            activation.claims.as_slice(),
-            state.items(),
-        ),
-        Err(Stop::Ended(ending)) => Ok((task_end(ending), Vec::new(alloc))),
-        Err(Stop::Memory) => Err(Memory),
-    }
+    let came = stmt(alloc, &unit, &task.site.body, &mut state, &mut turns);
+    outcome_of(
+        alloc,
+        task.site.mark.line,
+        activation.claims.as_slice(),
+        came,
+        state.items(),
+    )
 }
 
 /// How an activation ends for its inputs, and the elements that it writes: those of its output items, in the order of

@@ -1,4 +1,5 @@
 -- what a reader believes
+pub mod Ends
 pub mod Seen
 pub mod Stops
 -- what restates functions

@@ -60,7 +60,13 @@ pub fn assign(
 }
 
 /// Adds 1 to a target, or takes 1 from it.
-pub fn take_step(file: &[Item], step: Step, mark: Mark, aim: Aim, state: &mut State) -> Result<(), Stop>
+pub fn take_step(
+    file: &[Item],
+    step: Step,
+    mark: Mark,
+    aim: Aim,
+    state: &mut State,
+) -> Result<(), Stop>
     ensures { Now result state.new state.old (and_then (binary_value (operators.step_operator step) mark.line (old_value (file_of (map item_tree file.now)) state.old aim) (pos 1)) (λ v. Ok (after_store state.old aim v))) }
 {
     let old = old_value(file, state, aim)?;

@@ -17,7 +17,7 @@ use os_ast::{Function, Item, Name, Params};
 use os_io::Memory;
 use std::alloc::Global;
 
-/// Takes a unit.
+/// Takes a unit of the turns that are left.
 pub fn take_unit(turns: &mut u64) -> Result<(), Stop>
     ensures taken { IfOk result (λ _. turns.old ≡ turns.new + 1) }
     ensures none { IfErr result (λ stop. (stop ≡ stops.Ended endings.OverBudget) × (turns.old ≡ 0)) }
@@ -40,7 +40,7 @@ pub fn result_of(flow: Flow) -> i32
     }
 }
 
-/// The names of the parameters.
+/// The names of the parameters, in the order of the text.
 pub fn param_names(params: &Params) -> &[Name]
     ensures { result.now ≡ param_names params.now }
 {
@@ -60,7 +60,7 @@ fn argument(args: &[i32], place: usize) -> i32
     }
 }
 
-/// The state of a function's body, with its parameters set.
+/// The state of a function's body, with its parameters set. One that has no argument is 0.
 pub fn with_params(alloc: Global, names: &[Name], args: &[i32]) -> Result<State, Memory>
     ensures { IfOk result (λ s. s ≡ states.state_of (bind_params names.now args.now []) []) }
 {
@@ -71,7 +71,7 @@ pub fn with_params(alloc: Global, names: &[Name], args: &[i32]) -> Result<State,
     Ok(state)
 }
 
-/// The function at a place of the file.
+/// The function at a place of the file; none where no item or another one stands there.
 pub fn function_at(file: &[Item], place: usize) -> Option<&Function>
     ensures function { option_map function_tree (option_copied result) ≡ function_of (slice_get (map item_tree file.now) place) }
     ensures inside { IfSome result (λ _. place < length file.now) }

@@ -26,7 +26,7 @@ pub enum Seen {
     Other,
 }
 
-/// A number of the text as an `int`.
+/// A number of the text as an `int`; `Memory` where it is past one.
 pub fn int(number: u32) -> Result<i32, Stop>
     ensures { Comes result (Ok (pos number)) }
 {
@@ -88,7 +88,7 @@ pub fn seen_as(file: &[Item], state: &State, id: u32) -> Result<Seen, Stop>
     }
 }
 
-/// The value of a name without an index.
+/// The value of a name without an index; 0 where the name has none.
 pub fn scalar(file: &[Item], state: &State, id: u32) -> Result<i32, Stop>
     ensures { Comes result (Ok (scalar_value state.now (variable (file_of (map item_tree file.now)) state.now id))) }
 {

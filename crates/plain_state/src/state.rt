@@ -38,7 +38,9 @@ const HORIZONS_LIMIT: u64 = 4_194_304;
 /// The numbers of a stream or an array of streams.
 #[derive(Clone, Copy, Debug, PartialEq, Eq)]
 pub struct Streams {
+    /// The number of the first.
     pub first: u32,
+    /// How many streams they are.
     pub count: u32,
 }
 
@@ -359,7 +361,7 @@ impl State {
         Ok(())
     }
 
-    /// The streams that a name stands for.
+    /// The streams that a name stands for; none where it stands for no stream.
     pub fn streams(&self, id: u32) -> Streams
         ensures { result ≡ streams_of (find self.now.bound id) }
     {
@@ -372,7 +374,7 @@ impl State {
         }
     }
 
-    /// The horizon of a window; a scalar has horizon 1.
+    /// The horizon of a window, in positions; a scalar has horizon 1.
     pub fn horizon(&self, id: u32) -> u32
         ensures { result ≡ horizon_of (find self.now.bound id) }
     {
@@ -382,7 +384,7 @@ impl State {
         }
     }
 
-    /// A tick moves the read cursor of a stream.
+    /// A tick moves the read cursor of a stream by so many positions.
     pub fn tick(&mut self, stream: u32, amount: u32) -> Result<(), Stop>
         ensures { Made result self.new (moved stream amount self.old) }
     {

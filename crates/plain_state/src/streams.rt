@@ -21,7 +21,7 @@ const OUTPUT_BURST: u8 = 8;
 /// A cursor moves by no more.
 const MOVE_LIMIT: u32 = 65_536;
 
-/// By how much a cursor moves, with the line that a trap has.
+/// By how much a cursor moves, 0 to 65,536 positions, with the line that a trap has.
 pub fn cursor_move(line: u32, number: i32) -> Result<u32, Stop>
     ensures { Comes result (cursor_move line number) }
 {
@@ -64,7 +64,7 @@ pub fn claim_of(direction: Direction, stream: u32, horizon: u32, burst: u32) -> 
     }
 }
 
-/// The number of a task as an activation has it.
+/// The number of a task as an activation has it; `Memory` where it has more than 32 bits.
 pub fn site_number(number: usize) -> Result<u32, Stop>
     ensures { Comes result (Ok number) }
 {
@@ -74,7 +74,7 @@ pub fn site_number(number: usize) -> Result<u32, Stop>
     }
 }
 
-/// The values of captured scalars.
+/// The values of captured scalars, by the numbers of their names.
 pub fn captured_values(
     alloc: Global,
     file: &[Item],

@@ -3,4 +3,3 @@ pub mod Finding
 pub mod HasNames
 pub mod Mains
 pub mod Numbered
-pub mod Outputs

@@ -1,5 +1,4 @@
 -- what a reader believes
-pub mod Ends
 pub mod Units
 -- what restates private functions
 pub mod Has

@@ -1,28 +1,20 @@
-//! What stands round a task's body, and what comes of its end.
+//! What stands round a task's body.
 
-ghost use Rattle.std.specs.List.{list_all};
 ghost use Rattle.std.specs.Prelude.{◌≡◌, ◌++◌, IfOk, OnOk, drop, map, take};
-ghost use Rattle.cddf_meaning.specs.Body.{bind_captured, bound_round, gives_bytes, item_lists, outputs_of};
+ghost use Rattle.cddf_meaning.specs.Body.{bind_captured, bound_round, item_lists};
 ghost use Rattle.cddf_meaning.specs.State as states;
-ghost use Rattle.flow_core.specs.Byte.{is_byte};
 ghost use Rattle.os_ast.specs.Views.{clause_item_tree, clause_kind_tree, clause_tree};
-ghost use Rattle.plain_tasks.specs.Ends.{IsOutcome, finished, task_end};
 ghost use Rattle.plain_tasks.specs.Has.{clause_item_ids, clauses_item_ids};
 ghost use Rattle.plain_tasks.specs.Sought.{bind_ids, item_names, task_of};
 
 use crate::found::Found;
 use crate::naming::item_name;
-use cddf_meaning::{Ending, Variable};
-use flow_core::{Activation, Claim, TaskEnd};
+use cddf_meaning::Variable;
+use flow_core::{Activation, Claim};
 use os_ast::{Clause, ClauseItem, ClauseKind};
 use os_io::{List, Memory};
 use plain_state::{State, zeros};
 use std::alloc::Global;
-
-/// The number of the stream `osout`, which takes bytes alone.
-const OUTPUT: u32 = 1;
-/// The code of an element for `osout` that is no byte.
-const NO_BYTE: u8 = 5;
 
 /// The first numbers of an input, so many where they are there, and the others.
 fn window(inputs: &[i32], horizon: u32) -> (&[i32], &[i32])
@@ -135,84 +127,4 @@ pub fn state_round(
     )?;
     bind_items(&mut state, ids.as_slice())?;
     Ok(state)
-}
-
-fn is_byte(number: i32) -> bool
-    ensures { result ≡ is_byte number }
-{
-    u8::try_from(number).is_ok()
-}
-
-fn all_bytes(numbers: &[i32]) -> bool
-    ensures { result ≡ list_all is_byte numbers.now }
-{
-    for number in numbers {
-        if !is_byte(*number) {
-            return false;
-        }
-    }
-    true
-}
-
-/// Whether every element that goes to `osout` is a byte.
-fn gives_bytes(claims: &[Claim], items: &[List<i32>]) -> bool
-    ensures { result ≡ gives_bytes claims.now items.now }
-{
-    for (place, claim) in claims.iter().enumerate() {
-        let Some(item) = items.get(place) else {
-            return true;
-        };
-        if claim.write && claim.stream == OUTPUT && !all_bytes(item.as_slice()) {
-            return false;
-        }
-    }
-    true
-}
-
-/// The elements of the output items.
-fn outputs_of(alloc: Global, claims: &[Claim], items: &[List<i32>]) -> Result<Vec<i32>, Memory>
-    ensures { IfOk result (λ outputs. outputs.items ≡ outputs_of claims.now items.now) }
-{
-    let mut outputs = Vec::new(alloc);
-    for (place, claim) in claims.iter().enumerate() {
-        let Some(item) = items.get(place) else {
-            return Ok(outputs);
-        };
-        if claim.write {
-            outputs.extend_from_slice(item.as_slice())?;
-        }
-    }
-    Ok(outputs)
-}
-
-/// What an activation comes to whose body ended normally, with these elements in its items. The line is that of the
-/// task's pragma.
-pub fn finished(
-    alloc: Global,
-    line: u32,
-    claims: &[Claim],
-    items: &[List<i32>],
-) -> Result<(TaskEnd, Vec<i32>), Memory>
-    ensures { IfOk result (λ r. IsOutcome r.0 r.1.items (finished line claims.now items.now)) }
-{
-    if gives_bytes(claims, items) {
-        let outputs = outputs_of(alloc, claims, items)?;
-        Ok((TaskEnd::Done, outputs))
-    } else {
-        let end = TaskEnd::Trapped {
-            code: NO_BYTE,
-            line,
-        };
-        Ok((end, Vec::new(alloc)))
-    }
-}
-
-/// The end of an activation whose body ended before its last statement.
-pub fn task_end(ending: Ending) -> TaskEnd
-    ensures { result ≡ task_end ending }
-{
-    match ending {
-        Ending::Trapped { code, line } => TaskEnd::Trapped { code, line },
-        Ending::OverBudget | Ending::Limited(_) => TaskEnd::OverBudget,
-    }
 }

@@ -2,7 +2,7 @@
 //!
 //! In `tasks`, `main_of` finds `main`, and `tasks` its tasks in the order of the text, each with the scalars that it captures: `naming`
 //! says what a task takes from round it. `sites_of` numbers them by their pragmas. A `Unit` is what is round a body.
-//! `body` and `control` have the states in which a task's body and that of `main` begin, and what comes of their ends.
+//! `body` and `control` have the states in which a task's body and that of `main` begin.
 //! All are slow, and for tests; `plain_meaning` runs what stands between.
 #![tactic(auto)]
 

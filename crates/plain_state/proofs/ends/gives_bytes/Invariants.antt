@@ -1,6 +1,6 @@
 use Rattle.std.proofs.Common.{◌≡◌, drop}
 use Rattle.cddf_meaning.specs.Body.{gives_bytes}
-use Rattle.plain_tasks.proofs.body.gives_bytes.Given as goal
+use Rattle.plain_state.proofs.ends.gives_bytes.Given as goal
 
 abbrev pub invariant-loop-place : goal.invariant-loop-place
 invariant-loop-place l =

@@ -1,6 +1,6 @@
 use Rattle.std.proofs.Common.{◌≡◌, ◌++◌, drop}
 use Rattle.cddf_meaning.specs.Body.{outputs_of}
-use Rattle.plain_tasks.proofs.body.outputs_of.Given as goal
+use Rattle.plain_state.proofs.ends.outputs_of.Given as goal
 
 abbrev pub invariant-loop-place : goal.invariant-loop-place
 invariant-loop-place l =
