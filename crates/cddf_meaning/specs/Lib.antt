@@ -18,12 +18,3 @@ pub mod Control
 pub mod Examples
 pub mod Moves
 pub mod Skips
--- what restates private functions
-pub mod Ends
-pub mod Has
-pub mod Places
-pub mod Seen
-pub mod Sought
-pub mod Stops
-pub mod Units
-pub mod Weights

@@ -8,7 +8,7 @@ use Rattle.cddf_meaning.specs.Value.{value, values}
 use Rattle.cddf_meaning.specs.Variables.{find}
 use Rattle.cddf_meaning.specs.declared.variable.Binding.{Binding}
 use Rattle.cddf_meaning.specs.declared.variable.Variable.{Variable}
-use Rattle.cddf_meaning.proofs.HasNames.{in-append}
+use Rattle.cddf_meaning.proofs.IsIn.{in-append}
 use Rattle.os_ast.specs.FreeNames.{expr_names, target_names, args_names, links_names}
 use Rattle.os_ast.specs.Names.{Scope, lookup, entity_of}
 use Rattle.os_ast.specs.Notes.Declarators.{size_value}

@@ -1,0 +1,4 @@
+-- what restates private functions
+pub mod Calls
+pub mod Loops
+pub mod Weights

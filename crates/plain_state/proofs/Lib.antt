@@ -1,0 +1,4 @@
+pub mod Horizons
+pub mod Outputs
+pub mod Places
+pub mod Reached

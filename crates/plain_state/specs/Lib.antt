@@ -1,0 +1,8 @@
+-- what a reader believes
+pub mod Ends
+pub mod Seen
+pub mod Stops
+-- what restates functions
+pub mod Claimed
+pub mod FunctionTrees
+pub mod Places

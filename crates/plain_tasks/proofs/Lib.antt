@@ -1,0 +1,5 @@
+pub mod Bound
+pub mod Finding
+pub mod HasNames
+pub mod Mains
+pub mod Numbered
