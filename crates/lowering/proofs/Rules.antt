@@ -2,7 +2,7 @@
 use Rattle.os_ast.proofs.Rows.{expr_tree-call, expr_tree-chain, stmt_tree-block}
 use Rattle.window_check.proofs.Ascending.{is_in-append}
 use Rattle.window_check.proofs.Trees.{args_tree-drop, links_tree-drop, map-drop, stmts_tree-drop}
-use Rattle.lowering.proofs.Parts.{items_code-append, parts-drop}
+use Rattle.emission.proofs.Parts.{items_code-append, parts-drop}
 use Rattle.lowering.proofs.TaskParts.{block_tasks-listed, site_items-append, site_items_private}
 use Rattle.lowering.proofs.Sums.{capped_sum}
 

@@ -2,16 +2,16 @@
 
 ghost use Rattle.std.specs.Prelude.{◌≡◌, OnOk, false, true};
 ghost use Rattle.cddf_meaning.specs.Operators.{step_operator};
-ghost use Rattle.lowering.specs.Draft.{with_instrs};
-ghost use Rattle.lowering.specs.Emission.Changes.{aim_code, change_code, changed_code, operated_code, plain_code, store_code, stepped_code};
+ghost use Rattle.emission.specs.Draft.{with_instrs};
+ghost use Rattle.emission.specs.Emission.Changes.{aim_code, change_code, changed_code, operated_code, plain_code, store_code, stepped_code};
 ghost use Rattle.os_ast.specs.Views.{change_tree, expr_tree, target_tree};
 ghost use Rattle.simulation.specs.Names.{aiming, checking_at, fetching_at, storing, storing_at, told_at};
 
-use crate::draft::Draft;
 use crate::expressions::{emit_expr, emit_reading, reading_at};
 use crate::operators::{emit_operation, step_operator};
 use crate::quiet::is_quiet;
 use crate::told::Told;
+use emission::Draft;
 use os_ast::{Assign, Binary, Change, Expr, Mark, Step, Target, What};
 use os_code::Instr;
 use os_io::Memory;

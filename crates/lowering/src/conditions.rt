@@ -1,15 +1,15 @@
 //! Conditions: their code goes on where the value isn't 0, and jumps where it is.
 
 ghost use Rattle.std.specs.Prelude.{◌≡◌, OnOk};
-ghost use Rattle.lowering.specs.Draft.{with_instr};
-ghost use Rattle.lowering.specs.Emission.Conditions.{condition_code, conditions_code};
-ghost use Rattle.lowering.specs.Emission.Expressions.{expr_code};
+ghost use Rattle.emission.specs.Draft.{with_instr};
+ghost use Rattle.emission.specs.Emission.Conditions.{condition_code, conditions_code};
+ghost use Rattle.emission.specs.Emission.Expressions.{expr_code};
 ghost use Rattle.os_ast.specs.Views.{expr_tree, links_tree};
 ghost use Rattle.simulation.specs.Names.{told_at};
 
-use crate::draft::{Draft, Label};
 use crate::expressions::emit_expr;
 use crate::told::Told;
+use emission::{Draft, Label};
 use os_ast::{Expr, Level, Link};
 use os_code::Instr;
 use os_io::{List, Memory};

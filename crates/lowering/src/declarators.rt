@@ -1,15 +1,15 @@
 //! Declarations: each sets its variable, each time.
 
 ghost use Rattle.std.specs.Prelude.{◌≡◌, OnOk, map, option_map};
-ghost use Rattle.lowering.specs.Emission.Declarators.{declarators_code, declared_code, scalar_code, start_code, window_code, zeroed_code};
+ghost use Rattle.emission.specs.Emission.Declarators.{declarators_code, declared_code, scalar_code, start_code, window_code, zeroed_code};
 ghost use Rattle.os_ast.specs.Views.{declarator_tree, expr_tree, index_tree, start_tree};
 ghost use Rattle.simulation.specs.Names.{told_at};
 
 use crate::changes::emit_change;
-use crate::draft::Draft;
 use crate::expressions::emit_expr;
 use crate::mentions::mentions;
 use crate::told::Told;
+use emission::Draft;
 use os_ast::{Declarator, Expr, Index, Start, What};
 use os_code::Instr;
 use os_io::{List, Memory};

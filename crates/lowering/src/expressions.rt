@@ -1,17 +1,17 @@
 //! Expressions: their code pushes their value.
 
 ghost use Rattle.std.specs.Prelude.{◌≡◌, OnOk, [], ◌∷◌};
-ghost use Rattle.lowering.specs.Draft.{with_instrs};
-ghost use Rattle.lowering.specs.Emission.Expressions.{args_code, expr_code, links_code, place_code, with_link, with_unary, worked_out};
+ghost use Rattle.emission.specs.Draft.{with_instrs};
+ghost use Rattle.emission.specs.Emission.Expressions.{args_code, expr_code, links_code, place_code, with_link, with_unary, worked_out};
 ghost use Rattle.c_int.specs.declared.operators.Unary.TheVariants as int_unary;
 ghost use Rattle.os_ast.specs.Trees as tree;
 ghost use Rattle.os_ast.specs.Views.{args_tree, expr_tree, links_tree, target_tree};
 ghost use Rattle.simulation.specs.Names.{calling, reading, reading_at, told_at};
 
-use crate::draft::Draft;
 use crate::operators::{emit_operation, literal, operator_of_one};
 use crate::told::Told;
 use c_int::apply_unary;
+use emission::Draft;
 use os_ast::{Binary, Call, Expr, Link, Mark, Target, Unary, What};
 use os_code::Instr;
 use os_io::{List, Memory};

@@ -2,11 +2,11 @@
 
 ghost use Rattle.std.specs.Prelude.{◌≡◌, OnOk, pos, min};
 ghost use Rattle.cddf_meaning.specs.Operators.{operator_of_one, operator_of_two, step_operator};
-ghost use Rattle.lowering.specs.Draft.{with_instrs};
-ghost use Rattle.lowering.specs.Emission.Expressions.{literal};
+ghost use Rattle.emission.specs.Draft.{with_instrs};
+ghost use Rattle.emission.specs.Emission.Expressions.{literal};
 ghost use Rattle.simulation.specs.Expressions.{operation};
 
-use crate::draft::Draft;
+use emission::Draft;
 use os_ast::{Binary, Step, Unary};
 use os_code::Instr;
 use os_io::Memory;

@@ -1,10 +1,10 @@
 //! Labels give way to their places.
 
 ghost use Rattle.std.specs.Prelude.{◌≡◌, map};
-ghost use Rattle.lowering.specs.Draft.{with_places};
-ghost use Rattle.lowering.specs.Emission.Units.{place_in, resolved};
+ghost use Rattle.emission.specs.Draft.{with_places};
+ghost use Rattle.emission.specs.Emission.Units.{place_in, resolved};
 
-use crate::draft::Draft;
+use emission::Draft;
 use os_code::Instr;
 use os_io::List;
 

@@ -1,7 +1,7 @@
 //! How many slots a body takes: the sum over its declarations.
 
 ghost use Rattle.std.specs.Prelude.{◌≡◌, map, option_map, unwrap_or};
-ghost use Rattle.lowering.specs.Emission.Units.{capped};
+ghost use Rattle.emission.specs.Emission.Units.{capped};
 ghost use Rattle.os_ast.specs.Notes.Declarators.{within_limit};
 ghost use Rattle.os_ast.specs.Views.{declarator_tree, expr_tree, index_tree, start_tree, stmt_tree, stmts_tree};
 ghost use Rattle.simulation.specs.Names.{told_at};

@@ -1,5 +1,5 @@
 use Rattle.std.proofs.Common.{◌≡◌, drop}
-use Rattle.lowering.specs.Emission.Conditions.{conditions_code}
+use Rattle.emission.specs.Emission.Conditions.{conditions_code}
 use Rattle.os_ast.specs.Views.{links_tree}
 use Rattle.simulation.specs.Names.{told_at}
 use Rattle.lowering.proofs.conditions.+conditions.Given as goal

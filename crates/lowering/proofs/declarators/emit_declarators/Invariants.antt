@@ -1,5 +1,5 @@
 use Rattle.std.proofs.Common.{◌≡◌, drop, map}
-use Rattle.lowering.specs.Emission.Declarators.{declarators_code}
+use Rattle.emission.specs.Emission.Declarators.{declarators_code}
 use Rattle.os_ast.specs.Views.{declarator_tree}
 use Rattle.simulation.specs.Names.{told_at}
 use Rattle.lowering.proofs.declarators.emit_declarators.Given as goal

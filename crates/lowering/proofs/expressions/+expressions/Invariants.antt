@@ -1,5 +1,5 @@
 use Rattle.std.proofs.Common.{◌≡◌, drop}
-use Rattle.lowering.specs.Emission.Expressions.{args_code, links_code}
+use Rattle.emission.specs.Emission.Expressions.{args_code, links_code}
 use Rattle.os_ast.specs.Views.{args_tree, links_tree}
 use Rattle.simulation.specs.Names.{told_at}
 use Rattle.lowering.proofs.expressions.+expressions.Given as goal

@@ -1,6 +1,6 @@
 use Rattle.lowering.proofs.Resolving.{next_resolved}
-use Rattle.lowering.specs.Draft.{with_places}
-use Rattle.lowering.specs.Emission.Units.{place_in}
+use Rattle.emission.specs.Draft.{with_places}
+use Rattle.emission.specs.Emission.Units.{place_in}
 use Rattle.lowering.proofs.resolve.resolve_all.Goals as goal
 
 pub loop-at-preserved : goal.loop-at-preserved

@@ -1,6 +1,6 @@
 use Rattle.std.proofs.Common.{◌≡◌, ◌++◌, drop, map, take}
-use Rattle.lowering.specs.Draft.{with_places}
-use Rattle.lowering.specs.Emission.Units.{place_in}
+use Rattle.emission.specs.Draft.{with_places}
+use Rattle.emission.specs.Emission.Units.{place_in}
 use Rattle.lowering.proofs.resolve.resolve_all.Given as goal
 
 abbrev pub invariant-loop-at : goal.invariant-loop-at
