@@ -1,7 +1,6 @@
 pub mod Blocks
 pub mod Loops
 pub mod Ordered
-mod Placed
 pub mod ProgramRuns
 pub mod Resolving
 pub mod Rules

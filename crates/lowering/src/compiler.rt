@@ -15,9 +15,9 @@ ghost use Rattle.window_check.specs.Globals.{count_functions};
 
 use crate::resolve::resolve;
 use crate::tasks::add_program_tasks;
-use crate::told::Told;
 use crate::units::add_functions;
 use emission::Units;
+use expr_lowering::Told;
 use os_code::{Code, Parts};
 use os_io::Memory;
 use std::alloc::Global;

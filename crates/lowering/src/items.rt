@@ -7,9 +7,8 @@ ghost use Rattle.os_ast.specs.Views.{clause_item_tree, clause_kind_tree, clause_
 ghost use Rattle.simulation.specs.Names.{count_of, first_of, told_at};
 ghost use Rattle.simulation.specs.Tasks.{bursting};
 
-use crate::expressions::emit_expr;
-use crate::told::Told;
 use emission::Draft;
+use expr_lowering::{Told, emit_expr};
 use os_ast::{Clause, ClauseItem, ClauseKind, Direction, Index, Join, Target, TickSite, What};
 use os_code::Instr;
 use os_io::{List, Memory};

@@ -8,21 +8,13 @@
 //! creates what the control program creates, and there are at most 8 instructions a token.
 #![tactic(auto)]
 
-mod changes;
 mod compiler;
-mod conditions;
-mod declarators;
-mod expressions;
 mod items;
-mod mentions;
-mod operators;
-mod quiet;
 mod resolve;
 mod sites;
 mod slots;
 mod statements;
 mod tasks;
-mod told;
 mod units;
 
 pub use compiler::{LowerError, lower};

@@ -7,7 +7,7 @@ ghost use Rattle.simulation.specs.Names.{told_at};
 ghost use Rattle.simulation.specs.Tasks.{is_write, site_item, site_items, slot_of, window_of};
 
 use crate::items::first_of;
-use crate::told::Told;
+use expr_lowering::Told;
 use os_ast::{Clause, ClauseItem, ClauseKind, Direction, Join, What};
 use os_code::SiteItem;
 use os_io::{List, Memory};

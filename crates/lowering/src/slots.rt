@@ -8,7 +8,7 @@ ghost use Rattle.simulation.specs.Names.{told_at};
 ghost use Rattle.simulation.specs.Programs.{constant_size, size_by};
 ghost use Rattle.window_check.specs.Sums.{declarators_slots, declared_slots, start_slots, stmt_slots, stmts_slots};
 
-use crate::told::Told;
+use expr_lowering::Told;
 use os_ast::{Declarator, Expr, Owner, Start, Stmt, Target, What};
 use os_io::List;
 

@@ -10,13 +10,9 @@ ghost use Rattle.os_ast.specs.Parts.{parts};
 ghost use Rattle.os_ast.specs.Views.{change_tree, clause_tree, expr_tree, start_tree, stmt_tree, stmts_tree};
 ghost use Rattle.simulation.specs.Names.{told_at};
 
-use crate::changes::emit_change;
-use crate::conditions::emit_condition;
-use crate::declarators::{emit_declarators, emit_start};
-use crate::expressions::{emit_call, emit_expr};
 use crate::items::{emit_items, emit_tick};
-use crate::told::Told;
 use emission::{Draft, Exits, Label};
+use expr_lowering::{Told, emit_call, emit_change, emit_condition, emit_declarators, emit_expr, emit_start};
 use os_ast::{Change, Clause, Expr, Head, Stmt};
 use os_code::Instr;
 use os_io::{List, Memory};

@@ -12,9 +12,9 @@ ghost use Rattle.window_check.specs.Sums.{stmt_slots};
 
 use crate::sites::{captured_at, listed, site_items};
 use crate::slots::stmt_slots;
-use crate::told::Told;
 use crate::units::{emit_task_body, is_main};
 use emission::Units;
+use expr_lowering::Told;
 use os_ast::{Item, Owner, Stmt, TaskSite};
 use os_code::Site;
 use os_io::{List, Memory};

@@ -19,15 +19,15 @@ ghost use Rattle.simulation.specs.Names.{told_at};
 
 use crate::slots::stmts_slots;
 use crate::statements::{emit_block, emit_stmt};
-use crate::told::Told;
 use emission::{Draft, Exits, Label, Units};
+use expr_lowering::Told;
 use os_ast::{Function, Item, Name, Owner, Params, Stmt};
 use os_code::Instr;
 use os_io::{List, Memory};
 use os_lexer::names::MAIN;
 
 /// The functions, in the order of the text.
-#[tactic(auto, using(crate::proofs::Rules::declarators))]
+#[tactic(auto, using(crate::proofs::Rules::units))]
 pub(crate) fn add_functions(
     made: &mut Units,
     told: &Told<'_>,
