@@ -27,7 +27,9 @@ pub mod Numbering
 pub mod Paid
 pub mod Parts
 pub mod Paying
+mod Placed
 pub mod ProgramLaws
+pub mod Resolving
 pub mod SimpleStand
 pub mod SlotsFit
 pub mod SlotsSum

@@ -4,5 +4,6 @@ pub mod Few
 pub mod Given
 pub mod Going
 pub mod Laws
--- The code as a function of the tree.
+-- The code as a function of the tree, and names in the order of their places.
+pub mod Ascending
 pub mod Emission

@@ -1,2 +1,1 @@
-mod Placed
 pub mod Rules

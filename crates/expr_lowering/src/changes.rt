@@ -5,14 +5,15 @@ ghost use Rattle.cddf_meaning.specs.Operators.{step_operator};
 ghost use Rattle.emission.specs.Draft.{with_instrs};
 ghost use Rattle.emission.specs.Emission.Changes.{aim_code, change_code, changed_code, operated_code, plain_code, store_code, stepped_code};
 ghost use Rattle.os_ast.specs.Views.{change_tree, expr_tree, target_tree};
-ghost use Rattle.simulation.specs.Names.{aiming, checking_at, fetching_at, storing, storing_at, told_at};
+ghost use Rattle.simulation.specs.Names.{told_at};
 
-use crate::expressions::{emit_expr, emit_reading, reading_at};
-use crate::operators::{emit_operation, step_operator};
+use crate::expressions::emit_expr;
 use crate::quiet::is_quiet;
-use crate::told::Told;
-use emission::Draft;
-use os_ast::{Assign, Binary, Change, Expr, Mark, Step, Target, What};
+use emission::{
+    Draft, Told, checking_at, emit_aiming, emit_element, emit_operation, emit_reading,
+    step_operator, storing, storing_at,
+};
+use os_ast::{Assign, Binary, Change, Expr, Mark, Step, Target};
 use os_code::Instr;
 use os_io::Memory;
 
@@ -120,14 +121,6 @@ fn emit_fetch(draft: &mut Draft, told: &Told<'_>, target: &Target) -> Result<(),
     }
 }
 
-/// The element at an index, which stays on the stack.
-fn emit_element(draft: &mut Draft, what: What, line: u32) -> Result<(), Memory>
-    ensures { OnOk result (draft.new ≡ with_instrs draft.old (fetching_at true what line)) }
-{
-    draft.emit(Instr::Copy)?;
-    draft.emit(reading_at(what, line))
-}
-
 /// Stores what is on the stack, behind what stands before it.
 fn emit_store(draft: &mut Draft, told: &Told<'_>, target: &Target) -> Result<(), Memory>
     ensures { OnOk result (draft.new ≡ store_code (told_at told.now.names.now) (target_tree target.now) draft.old) }
@@ -137,69 +130,5 @@ fn emit_store(draft: &mut Draft, told: &Told<'_>, target: &Target) -> Result<(),
     match &target.index {
         None => draft.emit(storing(what, name.mark.line)),
         Some(index) => draft.emit(storing_at(what, index.mark.line)),
-    }
-}
-
-/// The index of an item's one element is 0.
-fn emit_aiming(draft: &mut Draft, what: What) -> Result<(), Memory>
-    ensures { OnOk result (draft.new ≡ with_instrs draft.old (aiming what)) }
-{
-    match what {
-        What::Element(_) | What::View(_) => draft.emit(Instr::Push(0)),
-        What::Constant(_)
-        | What::Function(_)
-        | What::Scalar(_)
-        | What::Array { .. }
-        | What::Window(_)
-        | What::Stream { .. } => Ok(()),
-    }
-}
-
-/// Checks an index, which stays on the stack.
-fn checking_at(what: What, line: u32) -> Instr
-    ensures { result ≡ checking_at what line }
-{
-    match what {
-        What::Array { first: _, size } => Instr::CheckAt { size, line },
-        What::Element(item) | What::View(item) => Instr::ItemCheck { item, line },
-        What::Constant(_)
-        | What::Function(_)
-        | What::Scalar(_)
-        | What::Window(_)
-        | What::Stream { .. } => Instr::CheckAt { size: 0, line },
-    }
-}
-
-/// Stores into a name without an index.
-fn storing(what: What, line: u32) -> Instr
-    ensures { result ≡ storing what line }
-{
-    match what {
-        What::Scalar(slot) => Instr::Store(slot),
-        What::Element(item) | What::View(item) => Instr::ItemStore { item, line },
-        What::Constant(_)
-        | What::Function(_)
-        | What::Array { .. }
-        | What::Window(_)
-        | What::Stream { .. } => Instr::Drop,
-    }
-}
-
-/// Stores into a name whose index stands below the value.
-fn storing_at(what: What, line: u32) -> Instr
-    ensures { result ≡ storing_at what line }
-{
-    match what {
-        What::Array { first, size } => Instr::StoreAt { first, size, line },
-        What::Element(item) | What::View(item) => Instr::ItemStore { item, line },
-        What::Constant(_)
-        | What::Function(_)
-        | What::Scalar(_)
-        | What::Window(_)
-        | What::Stream { .. } => Instr::StoreAt {
-            first: 0,
-            size: 0,
-            line,
-        },
     }
 }

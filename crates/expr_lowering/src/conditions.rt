@@ -8,8 +8,7 @@ ghost use Rattle.os_ast.specs.Views.{expr_tree, links_tree};
 ghost use Rattle.simulation.specs.Names.{told_at};
 
 use crate::expressions::emit_expr;
-use crate::told::Told;
-use emission::{Draft, Label};
+use emission::{Draft, Label, Told};
 use os_ast::{Expr, Level, Link};
 use os_code::Instr;
 use os_io::{List, Memory};

@@ -6,13 +6,13 @@ ghost use Rattle.emission.specs.Emission.Expressions.{args_code, expr_code, link
 ghost use Rattle.c_int.specs.declared.operators.Unary.TheVariants as int_unary;
 ghost use Rattle.os_ast.specs.Trees as tree;
 ghost use Rattle.os_ast.specs.Views.{args_tree, expr_tree, links_tree, target_tree};
-ghost use Rattle.simulation.specs.Names.{calling, reading, reading_at, told_at};
+ghost use Rattle.simulation.specs.Names.{told_at};
 
-use crate::operators::{emit_operation, literal, operator_of_one};
-use crate::told::Told;
 use c_int::apply_unary;
-use emission::Draft;
-use os_ast::{Binary, Call, Expr, Link, Mark, Target, Unary, What};
+use emission::{
+    Draft, Told, calling, emit_operation, emit_reading, literal, operator_of_one, reading_at,
+};
+use os_ast::{Binary, Call, Expr, Link, Mark, Target, Unary};
 use os_code::Instr;
 use os_io::{List, Memory};
 
@@ -201,55 +201,4 @@ fn emit_truth(draft: &mut Draft, line: u32) -> Result<(), Memory>
         op: c_int::Unary::Not,
         line,
     })
-}
-
-/// Reads a name without an index. An item's one element has index 0.
-pub(crate) fn emit_reading(draft: &mut Draft, what: What, line: u32) -> Result<(), Memory>
-    ensures { OnOk result (draft.new ≡ with_instrs draft.old (reading what line)) }
-{
-    match what {
-        What::Constant(value) => draft.emit(Instr::Push(value)),
-        What::Scalar(slot) => draft.emit(Instr::Load(slot)),
-        What::Element(item) | What::View(item) => {
-            draft.emit(Instr::Push(0))?;
-            draft.emit(Instr::ItemLoad { item, line })
-        }
-        What::Function(_) | What::Array { .. } | What::Window(_) | What::Stream { .. } =>
-            draft.emit(Instr::Push(0)),
-    }
-}
-
-/// Reads a name whose index is on the stack.
-pub(crate) fn reading_at(what: What, line: u32) -> Instr
-    ensures { result ≡ reading_at what line }
-{
-    match what {
-        What::Array { first, size } => Instr::LoadAt { first, size, line },
-        What::Element(item) | What::View(item) => Instr::ItemLoad { item, line },
-        What::Constant(_)
-        | What::Function(_)
-        | What::Scalar(_)
-        | What::Window(_)
-        | What::Stream { .. } => Instr::LoadAt {
-            first: 0,
-            size: 0,
-            line,
-        },
-    }
-}
-
-/// Calls a function.
-fn calling(what: What) -> Instr
-    ensures { result ≡ calling what }
-{
-    match what {
-        What::Function(number) => Instr::Call(number),
-        What::Constant(_)
-        | What::Scalar(_)
-        | What::Array { .. }
-        | What::Window(_)
-        | What::Stream { .. }
-        | What::Element(_)
-        | What::View(_) => Instr::Drop,
-    }
 }

@@ -9,12 +9,9 @@ mod conditions;
 mod declarators;
 mod expressions;
 mod mentions;
-mod operators;
 mod quiet;
-mod told;
 
 pub use changes::emit_change;
 pub use conditions::emit_condition;
 pub use declarators::{emit_declarators, emit_start};
 pub use expressions::{emit_call, emit_expr};
-pub use told::Told;

@@ -2,7 +2,6 @@ pub mod Blocks
 pub mod Loops
 pub mod Ordered
 pub mod ProgramRuns
-pub mod Resolving
 pub mod Rules
 pub mod Sums
 pub mod TaskParts

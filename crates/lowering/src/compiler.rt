@@ -13,11 +13,9 @@ ghost use Rattle.simulation.specs.Tasks.{program_tasks};
 ghost use Rattle.simulation.specs.Tiling.{IsTiled};
 ghost use Rattle.window_check.specs.Globals.{count_functions};
 
-use crate::resolve::resolve;
 use crate::tasks::add_program_tasks;
 use crate::units::add_functions;
-use emission::Units;
-use expr_lowering::Told;
+use emission::{Told, Units, resolve};
 use os_code::{Code, Parts};
 use os_io::Memory;
 use std::alloc::Global;

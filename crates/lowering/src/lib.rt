@@ -10,7 +10,6 @@
 
 mod compiler;
 mod items;
-mod resolve;
 mod sites;
 mod slots;
 mod statements;

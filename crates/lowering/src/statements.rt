@@ -11,8 +11,10 @@ ghost use Rattle.os_ast.specs.Views.{change_tree, clause_tree, expr_tree, start_
 ghost use Rattle.simulation.specs.Names.{told_at};
 
 use crate::items::{emit_items, emit_tick};
-use emission::{Draft, Exits, Label};
-use expr_lowering::{Told, emit_call, emit_change, emit_condition, emit_declarators, emit_expr, emit_start};
+use emission::{Draft, Exits, Label, Told};
+use expr_lowering::{
+    emit_call, emit_change, emit_condition, emit_declarators, emit_expr, emit_start,
+};
 use os_ast::{Change, Clause, Expr, Head, Stmt};
 use os_code::Instr;
 use os_io::{List, Memory};

@@ -19,8 +19,7 @@ ghost use Rattle.simulation.specs.Names.{told_at};
 
 use crate::slots::stmts_slots;
 use crate::statements::{emit_block, emit_stmt};
-use emission::{Draft, Exits, Label, Units};
-use expr_lowering::Told;
+use emission::{Draft, Exits, Label, Told, Units};
 use os_ast::{Function, Item, Name, Owner, Params, Stmt};
 use os_code::Instr;
 use os_io::{List, Memory};

@@ -1,6 +1,6 @@
 ghost use Rattle.std.specs.Prelude.{◌≡◌};
 ghost use Rattle.simulation.specs.Names.{told_at};
-ghost use Rattle.expr_lowering.specs.Ascending.{Ascends};
+ghost use Rattle.emission.specs.Ascending.{Ascends};
 
 use os_ast::{Resolved, What};
 

@@ -1,6 +1,6 @@
 use Rattle.std.proofs.Common.{◌-◌, ◌<◌, ◌≤◌, ℕ, length}
-use Rattle.expr_lowering.specs.Ascending.{name_at}
-use Rattle.expr_lowering.proofs.told.Told.at.Given as goal
+use Rattle.emission.specs.Ascending.{name_at}
+use Rattle.emission.proofs.told.Told.at.Given as goal
 
 -- the names before `low` have smaller places, those from `high` on have greater ones
 abbrev pub invariant-loop-low : goal.invariant-loop-low

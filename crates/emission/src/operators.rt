@@ -6,19 +6,20 @@ ghost use Rattle.emission.specs.Draft.{with_instrs};
 ghost use Rattle.emission.specs.Emission.Expressions.{literal};
 ghost use Rattle.simulation.specs.Expressions.{operation};
 
-use emission::Draft;
+use crate::draft::Draft;
 use os_ast::{Binary, Step, Unary};
 use os_code::Instr;
 use os_io::Memory;
 
 /// The number that a token has, which is at most 2,147,483,647.
-pub(crate) fn literal(number: u32) -> i32
+pub fn literal(number: u32) -> i32
     ensures { result ≡ literal number }
 {
     number.min(2_147_483_647) as i32
 }
 
-pub(crate) fn operator_of_one(operator: Unary) -> c_int::Unary
+/// An operator with one operand.
+pub fn operator_of_one(operator: Unary) -> c_int::Unary
     ensures { result ≡ operator_of_one operator }
 {
     match operator {
@@ -55,7 +56,7 @@ fn operator_of_two(operator: Binary) -> Option<c_int::Binary>
 }
 
 /// `++` adds 1, and `--` takes 1.
-pub(crate) fn step_operator(step: Step) -> Binary
+pub fn step_operator(step: Step) -> Binary
     ensures { result ≡ step_operator step }
 {
     match step {
@@ -65,7 +66,7 @@ pub(crate) fn step_operator(step: Step) -> Binary
 }
 
 /// The operator on two numbers that are on the stack.
-pub(crate) fn emit_operation(draft: &mut Draft, operator: Binary, line: u32) -> Result<(), Memory>
+pub fn emit_operation(draft: &mut Draft, operator: Binary, line: u32) -> Result<(), Memory>
     ensures { OnOk result (draft.new ≡ with_instrs draft.old (operation operator line)) }
 {
     match operator_of_two(operator) {

@@ -4,12 +4,12 @@ ghost use Rattle.std.specs.Prelude.{◌≡◌, map};
 ghost use Rattle.emission.specs.Draft.{with_places};
 ghost use Rattle.emission.specs.Emission.Units.{place_in, resolved};
 
-use emission::Draft;
+use crate::draft::Draft;
 use os_code::Instr;
 use os_io::List;
 
 /// The instructions of a draft, in which each label gives way to its place.
-pub(crate) fn resolve(draft: Draft) -> List<Instr>
+pub fn resolve(draft: Draft) -> List<Instr>
     ensures { result ≡ resolved draft }
 {
     let Draft {

@@ -1,7 +1,7 @@
 -- What a list of names in order tells of a place.
 use Rattle.std.proofs.Common.{◌≡◌, ◌≢◌, ◌∙◌, ℕ, zero, suc, ◌<◌, if◌then◌else◌, List, [], ◌∷◌, length, ap, refl, arith, pos}
 use Rattle.std.proofs.lemmas.Bool.{ne_eqb, eq-eqb}
-use Rattle.expr_lowering.specs.Ascending.{Ascends, name_at}
+use Rattle.emission.specs.Ascending.{Ascends, name_at}
 use Rattle.os_ast.specs.declared.names.Resolved.{Resolved}
 use Rattle.os_ast.specs.declared.names.What.TheVariants as what
 use Rattle.simulation.specs.Names.{told_at}
