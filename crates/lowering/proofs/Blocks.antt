@@ -1,9 +1,9 @@
 -- The statements of a block, one by one.
 use Rattle.std.proofs.Common.{◌≡◌, ◌∙◌, ℕ, ◌+◌, ◌<◌, List, [], ◌∷◌, length, get_or, drop, length-drop, ap, refl, arith}
-use Rattle.lowering.specs.Emission.Statements.{block_code, next_behind, stmt_code, tail_code}
-use Rattle.lowering.specs.declared.draft.Draft.{Draft}
-use Rattle.lowering.specs.declared.draft.Label.{Label}
-use Rattle.lowering.specs.declared.exits.Exits.{Exits}
+use Rattle.emission.specs.Emission.Statements.{block_code, next_behind, stmt_code, tail_code}
+use Rattle.emission.specs.declared.draft.Draft.{Draft}
+use Rattle.emission.specs.declared.draft.Label.{Label}
+use Rattle.emission.specs.declared.exits.Exits.{Exits}
 use Rattle.os_ast.specs.Trees as tree
 use Rattle.os_ast.specs.Views.{stmt_tree, stmts_tree}
 use Rattle.os_ast.specs.declared.names.What.{What}

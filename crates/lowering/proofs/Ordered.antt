@@ -1,6 +1,6 @@
 -- The names of a program stand in the order of their places.
 use Rattle.std.proofs.Common.{◌≡◌, ℕ, zero, suc, ◌<◌, List, [], ◌∷◌, length, subst, sym, arith}
-use Rattle.lowering.specs.Ascending.{Ascends, name_at}
+use Rattle.emission.specs.Ascending.{Ascends, name_at}
 use Rattle.os_ast.specs.Marks.{HasPlaces}
 use Rattle.os_ast.specs.Trees as tree
 use Rattle.os_ast.specs.Violations.{names}

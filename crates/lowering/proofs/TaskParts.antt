@@ -1,8 +1,8 @@
 -- The items of a site, and the tasks of a body, one part after another.
 use Rattle.std.proofs.Common.{◌≡◌, ◌∙◌, ℕ, List, [], ◌∷◌, ◌++◌, map, ap, sym, refl, append-nil}
-use Rattle.lowering.specs.Emission.TaskUnits.{with_block_tasks, with_stmt_tasks}
-use Rattle.lowering.specs.Emission.Units.{with_task, with_tasks}
-use Rattle.lowering.specs.declared.units.Units.{Units}
+use Rattle.emission.specs.Emission.TaskUnits.{with_block_tasks, with_stmt_tasks}
+use Rattle.emission.specs.Emission.Units.{with_task, with_tasks}
+use Rattle.emission.specs.declared.units.Units.{Units}
 use Rattle.os_ast.specs.Parts.{Part, Item, Private}
 use Rattle.os_ast.specs.Trees as tree
 use Rattle.os_ast.specs.declared.expr.Name.{Name}

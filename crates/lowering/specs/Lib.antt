@@ -1,10 +1,2 @@
--- What a reader believes: what a draft becomes, and the laws of it.
-pub mod Draft
-pub mod Few
-pub mod Given
-pub mod Going
-pub mod Laws
+-- What a reader believes: what the code of a program does.
 pub mod Meanings
--- What restates private functions: the code as a function of the tree.
-pub mod Ascending
-pub mod Emission

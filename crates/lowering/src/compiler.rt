@@ -1,7 +1,7 @@
 //! The compiler: a code of a whole program.
 
 ghost use Rattle.std.specs.Prelude.{◌≡◌, ◌≤◌, ◌+◌, ◌*◌, IfOk, length};
-ghost use Rattle.lowering.specs.Emission.Units.{parts_made, program_units};
+ghost use Rattle.emission.specs.Emission.Units.{parts_made, program_units};
 ghost use Rattle.lowering.specs.Meanings.{RunsBodies, RunsControl};
 ghost use Rattle.lowering.specs.declared.compiler.LowerError.TheVariants as errors;
 ghost use Rattle.os_ast.specs.Spelling.{spell};
@@ -13,10 +13,9 @@ ghost use Rattle.simulation.specs.Tasks.{program_tasks};
 ghost use Rattle.simulation.specs.Tiling.{IsTiled};
 ghost use Rattle.static_laws.specs.Globals.{count_functions};
 
-use crate::resolve::resolve;
 use crate::tasks::add_program_tasks;
-use crate::told::Told;
-use crate::units::{Units, add_functions};
+use crate::units::add_functions;
+use emission::{Told, Units, resolve};
 use os_code::{Code, Parts};
 use os_io::Memory;
 use std::alloc::Global;

@@ -1,16 +1,14 @@
 //! The items of a task's clauses, and ticks.
 
 ghost use Rattle.std.specs.Prelude.{◌≡◌, OnOk, map, option_map};
-ghost use Rattle.lowering.specs.Emission.Tasks.{burst_code, item_code, items_code, join_code, stream_code, tick_code};
+ghost use Rattle.emission.specs.Emission.Tasks.{burst_code, item_code, items_code, join_code, stream_code, tick_code};
 ghost use Rattle.os_ast.specs.Parts.{Item, parts, parts_of};
 ghost use Rattle.os_ast.specs.Views.{clause_item_tree, clause_kind_tree, clause_tree, expr_tree, index_tree, join_tree, target_tree};
-ghost use Rattle.simulation.specs.Names.{count_of, first_of, told_at};
-ghost use Rattle.simulation.specs.Tasks.{bursting};
+ghost use Rattle.simulation.specs.Names.{told_at};
 
-use crate::draft::Draft;
-use crate::expressions::emit_expr;
-use crate::told::Told;
-use os_ast::{Clause, ClauseItem, ClauseKind, Direction, Index, Join, Target, TickSite, What};
+use emission::{Draft, Told, bursting, count_of, first_of};
+use expr_lowering::emit_expr;
+use os_ast::{Clause, ClauseItem, ClauseKind, Direction, Index, Join, Target, TickSite};
 use os_code::Instr;
 use os_io::{List, Memory};
 
@@ -30,7 +28,7 @@ pub(crate) fn emit_items(
 }
 
 /// The items of a clause.
-#[tactic(auto, using(crate::proofs::Parts::items_code_private))]
+#[tactic(auto, using(emission::proofs::Parts::items_code_private))]
 fn emit_clause(draft: &mut Draft, told: &Told<'_>, kind: &ClauseKind) -> Result<(), Memory>
     ensures { OnOk result (draft.new ≡ items_code (told_at told.now.names.now) (parts_of (clause_kind_tree kind.now)) draft.old) }
 {
@@ -121,55 +119,4 @@ pub(crate) fn emit_tick(draft: &mut Draft, told: &Told<'_>, tick: &TickSite) -> 
     })?;
     draft.emit(Instr::Turn)?;
     draft.emit(Instr::Tick(first_of(told.at(tick.stream.name.mark.place))))
-}
-
-/// Checks a burst: that of an output item is its window's horizon.
-fn bursting(direction: Direction, window: What, line: u32) -> Instr
-    ensures { result ≡ bursting direction window line }
-{
-    match direction {
-        Direction::Reads => Instr::BurstIn { line },
-        Direction::Writes => match window {
-            What::Window(slot) => Instr::BurstOut { slot, line },
-            What::Constant(_)
-            | What::Function(_)
-            | What::Scalar(_)
-            | What::Array { .. }
-            | What::Stream { .. }
-            | What::Element(_)
-            | What::View(_) => Instr::BurstIn { line },
-        },
-    }
-}
-
-/// The first number of a stream or of an array of streams.
-pub(crate) fn first_of(what: What) -> u32
-    ensures { result ≡ first_of what }
-{
-    match what {
-        What::Stream { first, count: _ } => first,
-        What::Constant(_)
-        | What::Function(_)
-        | What::Scalar(_)
-        | What::Array { .. }
-        | What::Window(_)
-        | What::Element(_)
-        | What::View(_) => 0,
-    }
-}
-
-/// How many streams there are.
-fn count_of(what: What) -> u32
-    ensures { result ≡ count_of what }
-{
-    match what {
-        What::Stream { first: _, count } => count,
-        What::Constant(_)
-        | What::Function(_)
-        | What::Scalar(_)
-        | What::Array { .. }
-        | What::Window(_)
-        | What::Element(_)
-        | What::View(_) => 0,
-    }
 }

@@ -4,11 +4,10 @@ ghost use Rattle.std.specs.Prelude.{◌≡◌, ◌++◌, [], IfOk, OnOk, get_or,
 ghost use Rattle.os_ast.specs.Parts.{Item, parts, parts_of};
 ghost use Rattle.os_ast.specs.Views.{clause_item_tree, clause_kind_tree, clause_tree, join_tree};
 ghost use Rattle.simulation.specs.Names.{told_at};
-ghost use Rattle.simulation.specs.Tasks.{is_write, site_item, site_items, slot_of, window_of};
+ghost use Rattle.simulation.specs.Tasks.{is_write, site_item, site_items, window_of};
 
-use crate::items::first_of;
-use crate::told::Told;
-use os_ast::{Clause, ClauseItem, ClauseKind, Direction, Join, What};
+use emission::{Told, first_of, slot_of};
+use os_ast::{Clause, ClauseItem, ClauseKind, Direction, Join};
 use os_code::SiteItem;
 use os_io::{List, Memory};
 use std::alloc::Global;
@@ -106,20 +105,5 @@ fn window_of(told: &Told<'_>, window: &Option<Join>) -> Option<u32>
     match window {
         None => None,
         Some(join) => slot_of(told.at(join.name.mark.place)),
-    }
-}
-
-fn slot_of(what: What) -> Option<u32>
-    ensures { result ≡ slot_of what }
-{
-    match what {
-        What::Window(slot) => Some(slot),
-        What::Constant(_)
-        | What::Function(_)
-        | What::Scalar(_)
-        | What::Array { .. }
-        | What::Stream { .. }
-        | What::Element(_)
-        | What::View(_) => None,
     }
 }

@@ -1,8 +1,8 @@
 //! The units and sites of tasks, in the order of the text.
 
 ghost use Rattle.std.specs.Prelude.{◌≡◌, ◌+◌, OnOk, map};
-ghost use Rattle.lowering.specs.Emission.TaskUnits.{with_block_tasks, with_stmt_tasks};
-ghost use Rattle.lowering.specs.Emission.Units.{capped, task_code, task_tree, with_task, with_tasks, with_unit};
+ghost use Rattle.emission.specs.Emission.TaskUnits.{with_block_tasks, with_stmt_tasks};
+ghost use Rattle.emission.specs.Emission.Units.{capped, task_code, task_tree, with_task, with_tasks, with_unit};
 ghost use Rattle.os_ast.specs.Views.{item_tree, stmt_tree, stmts_tree};
 ghost use Rattle.simulation.specs.Names.{told_at};
 ghost use Rattle.os_ast.specs.declared.names.Owner.TheVariants as owner;
@@ -12,8 +12,8 @@ ghost use Rattle.static_laws.specs.Sums.{stmt_slots};
 
 use crate::sites::{captured_at, listed, site_items};
 use crate::slots::stmt_slots;
-use crate::told::Told;
-use crate::units::{Units, emit_task_body, is_main};
+use crate::units::{emit_task_body, is_main};
+use emission::{Told, Units};
 use os_ast::{Item, Owner, Stmt, TaskSite};
 use os_code::Site;
 use os_io::{List, Memory};

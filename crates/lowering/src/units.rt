@@ -1,14 +1,12 @@
 //! The units of functions and of tasks: a body each, and behind it what it does where it falls off its end.
 
 ghost use Rattle.std.specs.Prelude.{◌≡◌, ◌==◌, OnOk, map};
-ghost use Rattle.lowering.specs.Emission.Units.{
+ghost use Rattle.emission.specs.Emission.Units.{
   exits_of,
   function_code,
   function_tree,
   main_code,
-  no_units,
   task_code,
-  unit_from,
   with_functions,
   with_item,
   with_main,
@@ -19,60 +17,16 @@ ghost use Rattle.os_ast.specs.Notes.Programs.{param_names};
 ghost use Rattle.os_ast.specs.Views.{item_tree, stmt_tree, stmts_tree};
 ghost use Rattle.simulation.specs.Names.{told_at};
 
-use crate::draft::{Draft, Label};
-use crate::exits::Exits;
 use crate::slots::stmts_slots;
 use crate::statements::{emit_block, emit_stmt};
-use crate::told::Told;
+use emission::{Draft, Exits, Label, Told, Units};
 use os_ast::{Function, Item, Name, Owner, Params, Stmt};
-use os_code::{Instr, Site, Unit};
+use os_code::Instr;
 use os_io::{List, Memory};
 use os_lexer::names::MAIN;
-use std::alloc::Global;
-
-/// A code while it is made: the draft of its instructions, and its units and sites so far.
-#[derive(Debug, Drop)]
-pub struct Units {
-    pub draft: Draft,
-    pub units: List<Unit>,
-    pub sites: List<Site>,
-    /// The number of the unit of `main`, once it is there.
-    pub main: u32,
-}
-
-impl Units {
-    /// No unit yet.
-    pub(crate) fn new(alloc: Global) -> Units
-        ensures { result ≡ no_units }
-    {
-        Units {
-            draft: Draft::new(alloc),
-            units: List::new(alloc),
-            sites: List::new(alloc),
-            main: 0,
-        }
-    }
-
-    /// A unit of the code from a place on, which has been drafted.
-    pub(crate) fn add(&mut self, start: usize, args: u32, slots: u32) -> Result<(), Memory>
-        ensures { OnOk result (self.new ≡ unit_from start args slots self.old) }
-    {
-        // So many instructions leave no memory for another one.
-        let stack = u32::try_from(self.draft.instrs.len().saturating_sub(start)).map_err(
-            |_| Memory,
-        )?;
-        let start = u32::try_from(start).map_err(|_| Memory)?;
-        self.units.push(Unit {
-            start,
-            args,
-            slots,
-            stack,
-        })
-    }
-}
 
 /// The functions, in the order of the text.
-#[tactic(auto, using(crate::proofs::Rules::declarators))]
+#[tactic(auto, using(crate::proofs::Rules::units))]
 pub(crate) fn add_functions(
     made: &mut Units,
     told: &Told<'_>,

@@ -1,5 +1,5 @@
 use Rattle.std.proofs.Common.{◌≡◌, drop, map}
-use Rattle.lowering.specs.Emission.Tasks.{items_code}
+use Rattle.emission.specs.Emission.Tasks.{items_code}
 use Rattle.os_ast.specs.Parts.{parts}
 use Rattle.os_ast.specs.Views.{clause_tree}
 use Rattle.simulation.specs.Names.{told_at}

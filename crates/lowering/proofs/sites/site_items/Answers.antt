@@ -1,5 +1,5 @@
 use Rattle.std.proofs.Common.{◌≡◌, ◌∙◌, ◌+◌, ◌<◌, List, ◌++◌, length, drop, get_or, map, ap, sym, subst, append_assoc}
-use Rattle.lowering.proofs.Parts.{parts-drop}
+use Rattle.emission.proofs.Parts.{parts-drop}
 use Rattle.lowering.proofs.TaskParts.{site_items-append}
 use Rattle.os_ast.specs.Parts.{parts, parts_of}
 use Rattle.os_ast.specs.Views.{clause_kind_tree, clause_tree}

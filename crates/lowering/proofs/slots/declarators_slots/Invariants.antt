@@ -1,5 +1,5 @@
 use Rattle.std.proofs.Common.{◌≡◌, ◌+◌, ◌-◌, ◌^◌, ◌≤◌, drop, map}
-use Rattle.lowering.specs.Emission.Units.{capped}
+use Rattle.emission.specs.Emission.Units.{capped}
 use Rattle.os_ast.specs.Views.{declarator_tree}
 use Rattle.simulation.specs.Names.{told_at}
 use Rattle.simulation.specs.Programs.{size_by}

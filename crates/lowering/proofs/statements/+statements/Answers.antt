@@ -1,7 +1,7 @@
 use Rattle.std.proofs.Common.{◌≡◌, ◌∙◌, ◌+◌, ◌-◌, ◌<◌, List, Some, None, length, drop, get_or, option_map, ap, sym, subst, arith}
 use Rattle.lowering.proofs.Blocks.{tail_all, tail_next}
 use Rattle.lowering.proofs.Loops.{for_made, for_with_step_made}
-use Rattle.lowering.specs.Emission.Statements.{stmt_code, tail_code}
+use Rattle.emission.specs.Emission.Statements.{stmt_code, tail_code}
 use Rattle.os_ast.specs.Trees as tree
 use Rattle.os_ast.specs.Views.{change_tree, expr_tree, start_tree, stmt_tree, stmts_tree}
 use Rattle.os_ast.specs.declared.stmt.Head.{Head}

@@ -1,5 +1,5 @@
 use Rattle.std.proofs.Common.{◌≡◌, ◌+◌, drop, length}
-use Rattle.lowering.specs.Emission.Statements.{block_code, tail_code}
+use Rattle.emission.specs.Emission.Statements.{block_code, tail_code}
 use Rattle.os_ast.specs.Views.{stmts_tree}
 use Rattle.simulation.specs.Names.{told_at}
 use Rattle.lowering.proofs.statements.+statements.Given as goal

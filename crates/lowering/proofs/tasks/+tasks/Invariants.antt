@@ -1,5 +1,5 @@
 use Rattle.std.proofs.Common.{◌≡◌, drop}
-use Rattle.lowering.specs.Emission.TaskUnits.{with_block_tasks}
+use Rattle.emission.specs.Emission.TaskUnits.{with_block_tasks}
 use Rattle.os_ast.specs.Views.{stmts_tree}
 use Rattle.simulation.specs.Names.{told_at}
 use Rattle.lowering.proofs.tasks.+tasks.Given as goal

@@ -1,5 +1,5 @@
 use Rattle.std.proofs.Common.{◌≡◌, drop, map}
-use Rattle.lowering.specs.Emission.Units.{with_functions}
+use Rattle.emission.specs.Emission.Units.{with_functions}
 use Rattle.os_ast.specs.Views.{item_tree}
 use Rattle.simulation.specs.Names.{told_at}
 use Rattle.lowering.proofs.units.add_functions.Given as goal
