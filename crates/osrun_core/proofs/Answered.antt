@@ -14,9 +14,9 @@ use Rattle.osrun_core.specs.declared.refusal.Refusal.TheVariants as refusals
 use Rattle.osrun_core.specs.declared.refusal.Subject.TheVariants as subjects
 use Rattle.osrun_core.specs.declared.status.Status.{Status}
 use Rattle.osrun_core.specs.declared.status.Status.TheVariants as statuses
-use Rattle.osrun_core.specs.Command.{Job, JobFile, files_of}
+use Rattle.command_line.specs.Command.{Job}
 use Rattle.osrun_core.specs.JobAnswer.{AnswersJob, status_of}
-use Rattle.osrun_core.specs.Loading.{IsCauseOf}
+use Rattle.osrun_core.specs.Loading.{JobFile, IsCauseOf, files_of}
 use Rattle.osrun_core.specs.Refusal.{limit_of, refusal_line, refusal_status}
 use Rattle.osrun_core.specs.Run.{ProgramRun, IsRunOfJob}
 use Rattle.osrun_core.specs.Status.{number_of}

@@ -14,8 +14,8 @@ use Rattle.osrun_core.specs.declared.refusal.Refusal.{Refusal}
 use Rattle.osrun_core.specs.declared.refusal.Refusal.TheVariants as refusals
 use Rattle.osrun_core.specs.declared.refusal.Subject.{Subject}
 use Rattle.osrun_core.specs.declared.refusal.Subject.TheVariants as subjects
-use Rattle.osrun_core.specs.Command.{Job, JobFile, files_of}
-use Rattle.osrun_core.specs.Loading.{AreBytesOf, MayOpen, IsRead, CameTo, IsCauseOf, ReadsInOrder}
+use Rattle.command_line.specs.Command.{Job}
+use Rattle.osrun_core.specs.Loading.{JobFile, AreBytesOf, MayOpen, IsRead, CameTo, IsCauseOf, ReadsInOrder, files_of}
 use Rattle.osrun_core.specs.FileLoad.{IsLoaded, IsLoadRefusal}
 use Rattle.osrun_core.specs.Refusal.{IsRefusalOf, limit_of, refusal_status}
 use Rattle.osrun_core.specs.declared.status.Status.TheVariants as statuses

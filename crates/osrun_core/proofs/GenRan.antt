@@ -8,7 +8,7 @@ use Rattle.front_end.specs.Texts.{IsAccepted}
 use Rattle.kernels.specs.Generated.{byte, generated}
 use Rattle.kernels.specs.declared.texts.TheConstants.{LIFT}
 use Rattle.os_ast.specs.Trees.{ProgramTree}
-use Rattle.osrun_core.specs.Command.{GenJob}
+use Rattle.command_line.specs.Command.{GenJob}
 use Rattle.osrun_core.specs.Gen.{IsRunOfGen, four_lines, gen_budget, gen_lines}
 use Rattle.osrun_core.specs.Run.{ProgramRun}
 use Rattle.osrun_core.specs.RunOf.{IsRunOf}

@@ -11,7 +11,7 @@ use Rattle.os_io.specs.Counts.{raised}
 use Rattle.os_io.specs.declared.files.Files.{Ghosts as FilesView}
 use Rattle.os_io.specs.declared.sink.Sink.{Ghosts as SinkView}
 use Rattle.osrun_core.proofs.Came.{run_of_both}
-use Rattle.osrun_core.specs.Command.{Job}
+use Rattle.command_line.specs.Command.{Job}
 use Rattle.osrun_core.specs.HandsOver.{HandsOver}
 use Rattle.osrun_core.specs.JobAnswer.{AnswersRun, output_of, report_of, status_of}
 use Rattle.osrun_core.specs.FileLoad.{IsLoaded}

@@ -20,7 +20,7 @@ use Rattle.simulation.specs.Laws.{BodiesFill}
 use Rattle.task_bodies.specs.Laws.{FilledBodiesFill, OutputsAreBytes}
 use Rattle.osrun_core.proofs.BodyBytes.{RunsKeep}
 use Rattle.osrun_core.proofs.TasksRun.{bytes_are}
-use Rattle.osrun_core.specs.Command.{Job}
+use Rattle.command_line.specs.Command.{Job}
 use Rattle.osrun_core.specs.Laws.{GivesOnlyBytes, IsOfAState, OfRuns, TellsAllButDone, WritesAllAtZero}
 use Rattle.osrun_core.specs.Run.{IsRunOfJob, ProgramRun, body_at}
 

@@ -6,9 +6,9 @@ use Rattle.collector.specs.Written.{written}
 use Rattle.os_io.specs.Counts.{raised}
 use Rattle.os_io.specs.declared.files.Files.{Ghosts as FilesView}
 use Rattle.os_io.specs.declared.sink.Sink.{Ghosts as SinkView}
-use Rattle.osrun_core.specs.Command.{Job, files_of}
+use Rattle.command_line.specs.Command.{Job}
 use Rattle.osrun_core.specs.HandsOver.{HandsOver}
-use Rattle.osrun_core.specs.Loading.{IsCauseOf}
+use Rattle.osrun_core.specs.Loading.{IsCauseOf, files_of}
 use Rattle.osrun_core.specs.Refuses.{Refuses}
 use Rattle.osrun_core.specs.Run.{ProgramRun, IsRunOfJob}
 use Rattle.osrun_core.specs.declared.refusal.Refusal.{Refusal}

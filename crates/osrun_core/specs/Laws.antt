@@ -9,7 +9,7 @@ use Rattle.flow_core.specs.Place.{written_count}
 use Rattle.flow_core.specs.declared.activation.Activation.{Activation}
 use Rattle.os_ast.specs.Trees.{ProgramTree}
 use Rattle.os_code.specs.Tasks.{input_count}
-use Rattle.osrun_core.specs.Command.{Job}
+use Rattle.command_line.specs.Command.{Job}
 use Rattle.osrun_core.specs.Run.{IsRunOfJob, ProgramRun}
 use Rattle.task_bodies.specs.Laws.{GivesBytes}
 

@@ -1,7 +1,7 @@
 -- What a job finds in its files, which are read one after the other. Files are seen by the members that their trait declares,
 -- each by its name: what a name holds, where that is told, the numbers of openings and of faults, and how many bytes were
 -- given since the last opening.
-use Rattle.std.specs.Prelude.{◌≡◌, ℕ, ◌+◌, ◌<◌, ◌≤◌, Bool, List, Option, Some, All, IfSome, IsTrue, length, max, slice_get, take}
+use Rattle.std.specs.Prelude.{◌≡◌, ℕ, ◌+◌, ◌<◌, ◌≤◌, Bool, List, [], ◌∷◌, Option, Some, All, IfSome, IsTrue, length, max, slice_get, take}
 use Rattle.front_end.specs.Texts.{IsAccepted}
 use Rattle.os_ast.specs.Trees.{ProgramTree}
 use Rattle.os_io.specs.Counts.{HasRisen, raised, last_count}
@@ -10,8 +10,18 @@ use Rattle.osrun_core.specs.declared.refusal.Subject.{Subject}
 use Rattle.osrun_core.specs.declared.refusal.Subject.TheVariants as subjects
 use Rattle.osrun_core.specs.declared.refusal.Refusal.{Refusal}
 use Rattle.osrun_core.specs.declared.refusal.Refusal.TheVariants as refusal
-use Rattle.osrun_core.specs.Command.{Job, JobFile, files_of}
+use Rattle.command_line.specs.Command.{Job}
 use Rattle.osrun_core.specs.Refusal.{IsRefusalOf, limit_of}
+
+-- a file that a job reads: what it is to the job, and its name
+pub record JobFile : Type 0 where
+  pub subject : Subject
+  pub name : List ℕ
+
+-- the files of a job, in the order of reading
+abbrev pub files_of : Job → List JobFile
+files_of job =
+    record { subject = subjects.Program; name = job.program } ∷ record { subject = subjects.Input; name = job.input } ∷ []
 
 -- each opening that a job makes is allowed: the first file's at the number of openings so far, and the k-th one's at
 -- that number plus k, as far as it isn't past the last value of the count

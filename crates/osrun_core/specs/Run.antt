@@ -10,7 +10,7 @@ use Rattle.flow_core.specs.declared.ends.Ends.{Ends}
 use Rattle.flow_core.specs.declared.outcome.Outcome.{Outcome}
 use Rattle.front_end.specs.Texts.{IsAccepted}
 use Rattle.os_ast.specs.Trees.{ProgramTree}
-use Rattle.osrun_core.specs.Command.{Job}
+use Rattle.command_line.specs.Command.{Job}
 use Rattle.osrun_core.specs.Loading.{AreBytesOf}
 use Rattle.osrun_core.specs.declared.refusal.Subject.TheVariants.{Program, Input}
 

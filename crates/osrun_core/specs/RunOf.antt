@@ -7,7 +7,7 @@ use Rattle.flow_core.specs.declared.control.ControlEnd.{ControlEnd}
 use Rattle.flow_core.specs.declared.ends.Ends.{Ends}
 use Rattle.os_ast.specs.Trees.{ProgramTree}
 use Rattle.osrun_core.specs.Run.{ends_over}
-use Rattle.osrun_core.specs.declared.job.Terms.{Terms}
+use Rattle.command_line.specs.declared.job.Terms.{Terms}
 use Rattle.stream_match.specs.Layout.{IsLayout, IsLayoutOf}
 use Rattle.stream_match.specs.declared.layout.Layout.{Layout}
 

@@ -3,12 +3,12 @@ ghost use Rattle.std.specs.Io.KnownBytes.{append_known};
 ghost use Rattle.std.specs.Option.{ForSome};
 ghost use Rattle.os_io.specs.Counts.{HasRisen, last_count, raised};
 ghost use Rattle.osrun_core.specs.declared.refusal.Refusal.{Refusal as Cause};
-ghost use Rattle.osrun_core.specs.Command.{IsRequestWithin, JobFile, command, files_of, named_gen, named_run, texts};
+ghost use Rattle.command_line.specs.Command.{IsRequestWithin, command, named_gen, named_run, texts};
 ghost use Rattle.osrun_core.specs.Gen.{IsRunOfGen, gen_lines};
 ghost use Rattle.collector.specs.Report.{report as report_of};
 ghost use Rattle.collector.specs.Status.{status as status_of};
 ghost use Rattle.collector.specs.Written.{written};
-ghost use Rattle.osrun_core.specs.Loading.{MayOpen, IsCauseOf, IsReadable, IsRejected, ReadsInOrder};
+ghost use Rattle.osrun_core.specs.Loading.{JobFile, MayOpen, IsCauseOf, IsReadable, IsRejected, ReadsInOrder, files_of};
 ghost use Rattle.osrun_core.specs.Refusal.{limit_of, refusal_line, refusal_status, usage_line};
 ghost use Rattle.osrun_core.specs.Run.{ProgramRun, IsRunOfJob};
 ghost use Rattle.osrun_core.specs.Status.{number_of};
@@ -16,10 +16,9 @@ ghost use Rattle.osrun_core.specs.Telling.{HasTrouble, IsCutShort, IsUndelivered
 
 use crate::answer_gen::answer_gen;
 use crate::answer_job::answer_job;
-use crate::job::Request;
 use crate::status::Status;
 use crate::tell::tell;
-use crate::words::{WordsError, command};
+use command_line::{Request, WordsError, command};
 use os_io::{Files, Sink};
 use std::alloc::Global;
 use std::thread::Threads;

@@ -1,13 +1,13 @@
 ghost use Rattle.std.specs.Prelude.{◌≡◌, ◌≤◌, ◌⊎◌, length, string_bytes, sum, IfErr, IfOk};
 ghost use Rattle.collector.specs.Status.{status as status_of};
-ghost use Rattle.osrun_core.specs.Command.{IsGenWithin, gen_of};
+ghost use Rattle.command_line.specs.Command.{IsGenWithin, gen_of};
 ghost use Rattle.osrun_core.specs.Gen.{IsRunOfGen, counted_line, four_lines, gen_lines};
 ghost use Rattle.osrun_core.specs.Refusal.{IsRefusalOf};
 ghost use Rattle.osrun_core.specs.Run.{ProgramRun};
 
 use crate::accept::accept;
 use crate::deliver::run_status;
-use crate::job::{GenJob, Terms};
+use command_line::{GenJob, Terms};
 use crate::refusal::Refusal;
 use crate::run_program::{Run, run_program};
 use kernels::{LIFT, generate};

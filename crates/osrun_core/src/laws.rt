@@ -1,7 +1,8 @@
 //! Laws of programs, of their runs and of words. Each is a call that does nothing and ensures its law.
 
-ghost use Rattle.osrun_core.specs.Defaults.{HasDefaults, TakesOptions};
 ghost use Rattle.osrun_core.specs.Laws.{BodiesGiveBytes, GivesOnlyBytes, IsOfAState, OfRuns, TellsAllButDone, WritesAllAtZero};
+
+pub use command_line::laws::words_have_defaults;
 
 use cddf_meaning::laws::turns_never_grow;
 use collector::laws::{all_but_done_have_lines, all_is_written, meanings_are_states};
@@ -36,10 +37,3 @@ pub fn runs_are_of_states()
     all_but_done_have_lines();
     all_is_written();
 }
-
-/// Words that give no option name a job with four workers and a million turns for each task and for the control program;
-/// options may stand anywhere behind the first word, as in a second list of words.
-pub fn words_have_defaults()
-    ensures defaults { HasDefaults }
-    ensures options { TakesOptions }
-{}

@@ -12,7 +12,6 @@ mod answer_job;
 mod command;
 mod deliver;
 mod gen_text;
-mod job;
 pub mod laws;
 mod lay_out;
 mod load;
@@ -22,7 +21,6 @@ mod run_program;
 mod run_tasks;
 mod status;
 mod tell;
-mod words;
 
 pub use command::run_words;
 pub use task_workers::{Gate, NoGate};

@@ -2,7 +2,7 @@ ghost use Rattle.std.specs.Prelude.{◌≡◌, ◌≤◌, length, IfOk, IfErr};
 ghost use Rattle.os_ast.specs.Views.{program_tree};
 ghost use Rattle.osrun_core.specs.RunOf.{AreTerms, IsRunOf};
 
-use crate::job::Terms;
+use command_line::Terms;
 use crate::lay_out::lay_out;
 use crate::refusal::Refusal;
 use crate::run_tasks::run_tasks;

@@ -8,7 +8,7 @@ ghost use Rattle.os_code.specs.Codes.{parts_of};
 ghost use Rattle.os_code.specs.Tasks.{Fits};
 ghost use Rattle.osrun_core.specs.Run.{ends_over};
 
-use crate::job::Terms;
+use command_line::Terms;
 use cddf_meaning::laws::turns_never_grow;
 use flow_core::{Control, Ends, Plan, laws};
 use os_code::Code;

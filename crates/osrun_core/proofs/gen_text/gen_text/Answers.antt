@@ -4,7 +4,7 @@ use Rattle.collector.specs.Status.{status}
 use Rattle.front_end.specs.Texts.{IsAccepted}
 use Rattle.os_ast.specs.Views.{program_tree}
 use Rattle.osrun_core.proofs.GenRan.{generated_few, told}
-use Rattle.osrun_core.specs.Command.{gen_of}
+use Rattle.command_line.specs.Command.{gen_of}
 use Rattle.osrun_core.specs.Gen.{four_lines, gen_budget}
 use Rattle.osrun_core.specs.Refusal.{IsRefusalOf}
 use Rattle.osrun_core.specs.RunOf.{IsRunOf}

@@ -6,7 +6,7 @@ use Rattle.os_io.specs.Counts.{raised}
 use Rattle.osrun_core.proofs.Accepted.{only_memory}
 use Rattle.osrun_core.proofs.Came.{may_open_program, may_open_input, cause_of_program, cause_of_text, cause_of_input, program_read, only_fault, in_order_both, of_program, of_input}
 use Rattle.osrun_core.proofs.Ran.{answers}
-use Rattle.osrun_core.specs.Command.{job_of}
+use Rattle.command_line.specs.Command.{job_of}
 use Rattle.osrun_core.specs.Loading.{IsReadable}
 use Rattle.osrun_core.specs.Refusal.{IsRefusalOf}
 use Rattle.osrun_core.specs.RunOf.{IsRunOf}
