@@ -7,7 +7,8 @@ use Rattle.clap.specs.Words.{IsUnsignedIn, Kinds, ReadsOne, Text, fault_of, foun
 use Rattle.clap.specs.declared.parser.matches.ArgMatches.{ArgMatches}
 use Rattle.clap.proofs.WalkLemmas.{one_text-rows}
 use Rattle.command_line.specs.Arguments.{Argument, name, number, option, id_of, number_in}
-use Rattle.command_line.specs.Command.{CommandForm, Request, app_of_form, request_by, unless}
+use Rattle.command_line.specs.Command.{CommandForm, app_of_form, request_by, unless}
+use Rattle.command_line.specs.Jobs.{Request}
 use Rattle.command_line.specs.Parsed.{IsNumber, IsNumberGiven, IsParsedBy}
 use Rattle.command_line.specs.declared.job.Request.{Request as Lent}
 use Rattle.command_line.specs.declared.words_error.WordsError.{WordsError}

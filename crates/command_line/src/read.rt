@@ -1,16 +1,15 @@
 ghost use Rattle.std.specs.Prelude.{◌≡◌, ◌≤◌, IfOk, Err, None, Some};
 ghost use Rattle.clap.specs.Words.{found_of, rows_of};
 ghost use Rattle.command_line.specs.Arguments.{argument_of, id_of, name_in, number_in};
-ghost use Rattle.command_line.specs.Command.{IsRequestWithin, command, gen_form, request_by, request_of, run_form, texts};
+ghost use Rattle.command_line.specs.Jobs.{IsRequestWithin, request_of};
+ghost use Rattle.command_line.specs.Command.{command, gen_form, request_by, run_form, texts};
 ghost use Rattle.command_line.specs.Parsed.{IsNumberFor, IsNumberGiven};
 ghost use Rattle.command_line.specs.declared.words_error.WordsError.TheVariants as errors;
 
-use crate::job::{GenJob, Job, Request, Terms};
 use crate::argument::Argument;
+use crate::job::{GenJob, Job, Request, Terms};
 use crate::parse::parse;
-use crate::table::{
-    BLOCKS, CONTROL_BUDGET, GEN, INPUT, PROGRAM, RUN, SEED, TASK_BUDGET, WORKERS,
-};
+use crate::table::{BLOCKS, CONTROL_BUDGET, GEN, INPUT, PROGRAM, RUN, SEED, TASK_BUDGET, WORKERS};
 use crate::words_error::WordsError;
 use clap::ArgMatches;
 use std::alloc::Global;

@@ -1,10 +1,5 @@
 pub mod Accepted
 pub mod Answered
-pub mod BodyBytes
 pub mod Came
-pub mod FewWritten
 pub mod GenRan
 pub mod Ran
-pub mod RunLaws
-pub mod TasksRun
-pub mod WrittenBytes

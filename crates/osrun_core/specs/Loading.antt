@@ -6,12 +6,12 @@ use Rattle.front_end.specs.Texts.{IsAccepted}
 use Rattle.os_ast.specs.Trees.{ProgramTree}
 use Rattle.os_io.specs.Counts.{HasRisen, raised, last_count}
 use Rattle.os_io.specs.declared.files.Files.{Ghosts as FilesView}
-use Rattle.osrun_core.specs.declared.refusal.Subject.{Subject}
-use Rattle.osrun_core.specs.declared.refusal.Subject.TheVariants as subjects
-use Rattle.osrun_core.specs.declared.refusal.Refusal.{Refusal}
-use Rattle.osrun_core.specs.declared.refusal.Refusal.TheVariants as refusal
-use Rattle.command_line.specs.Command.{Job}
-use Rattle.osrun_core.specs.Refusal.{IsRefusalOf, limit_of}
+use Rattle.program_run.specs.declared.refusal.Subject.{Subject}
+use Rattle.program_run.specs.declared.refusal.Subject.TheVariants as subjects
+use Rattle.program_run.specs.declared.refusal.Refusal.{Refusal}
+use Rattle.program_run.specs.declared.refusal.Refusal.TheVariants as refusal
+use Rattle.command_line.specs.Jobs.{Job}
+use Rattle.program_run.specs.Refusal.{IsRefusalOf, limit_of}
 
 -- a file that a job reads: what it is to the job, and its name
 pub record JobFile : Type 0 where
@@ -28,11 +28,6 @@ files_of job =
 abbrev pub MayOpen : (ℕ → List ℕ → Bool) → ℕ → List JobFile → Type 0
 MayOpen may opens files =
     (k : ℕ) (file : JobFile) → slice_get files k ≡ Some file → opens + k ≤ max opens last_count → IsTrue (may (opens + k) file.name)
-
--- the bytes were read of such a file: they are those that it holds, where that is told, and within its limit
-pub record AreBytesOf (held : Option (List ℕ)) (subject : Subject) (bytes : List ℕ) : Type 0 where
-  pub is_held : IfSome held (λ told. bytes ≡ told)
-  pub fits : length bytes ≤ limit_of subject
 
 -- bytes that are usable as such a file: those of the program are accepted as one
 abbrev pub IsUsable : Subject → List ℕ → Type 0

@@ -2,15 +2,17 @@ ghost use Rattle.std.specs.Prelude.{◌≡◌, ◌<◌, ◌≤◌, ◌+◌, ◌�
 ghost use Rattle.std.specs.Io.KnownBytes.{append_known};
 ghost use Rattle.std.specs.Option.{ForSome};
 ghost use Rattle.os_io.specs.Counts.{HasRisen, last_count, raised};
-ghost use Rattle.osrun_core.specs.declared.refusal.Refusal.{Refusal as Cause};
-ghost use Rattle.command_line.specs.Command.{IsRequestWithin, command, named_gen, named_run, texts};
+ghost use Rattle.program_run.specs.declared.refusal.Refusal.{Refusal as Cause};
+ghost use Rattle.command_line.specs.Jobs.{IsRequestWithin};
+ghost use Rattle.command_line.specs.Command.{command, named_gen, named_run, texts};
 ghost use Rattle.osrun_core.specs.Gen.{IsRunOfGen, gen_lines};
 ghost use Rattle.collector.specs.Report.{report as report_of};
 ghost use Rattle.collector.specs.Status.{status as status_of};
 ghost use Rattle.collector.specs.Written.{written};
 ghost use Rattle.osrun_core.specs.Loading.{JobFile, MayOpen, IsCauseOf, IsReadable, IsRejected, ReadsInOrder, files_of};
-ghost use Rattle.osrun_core.specs.Refusal.{limit_of, refusal_line, refusal_status, usage_line};
-ghost use Rattle.osrun_core.specs.Run.{ProgramRun, IsRunOfJob};
+ghost use Rattle.program_run.specs.Refusal.{limit_of};
+ghost use Rattle.osrun_core.specs.Refusal.{refusal_line, refusal_status, usage_line};
+ghost use Rattle.program_run.specs.Run.{ProgramRun, IsRunOfJob};
 ghost use Rattle.osrun_core.specs.Status.{number_of};
 ghost use Rattle.osrun_core.specs.Telling.{HasTrouble, IsCutShort, IsUndelivered, Tells};
 

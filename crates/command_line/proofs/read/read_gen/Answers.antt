@@ -1,5 +1,6 @@
 use Rattle.std.proofs.Common.{◌≡◌, ℕ}
-use Rattle.command_line.specs.Command.{Gen, Request, gen_form, texts}
+use Rattle.command_line.specs.Jobs.{Gen, Request}
+use Rattle.command_line.specs.Command.{gen_form, texts}
 use Rattle.command_line.proofs.CommandJobs.{request_read, refused}
 use Rattle.command_line.proofs.read.read_gen.Goals as goal
 

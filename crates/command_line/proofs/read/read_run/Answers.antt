@@ -1,6 +1,7 @@
 use Rattle.std.proofs.Common.{◌≡◌, ℕ}
 use Rattle.clap.specs.Words.{Text}
-use Rattle.command_line.specs.Command.{Request, Run, run_form, texts}
+use Rattle.command_line.specs.Jobs.{Request, Run}
+use Rattle.command_line.specs.Command.{run_form, texts}
 use Rattle.command_line.proofs.CommandJobs.{request_read, refused}
 use Rattle.command_line.proofs.read.read_run.Goals as goal
 
