@@ -12,6 +12,7 @@ use Rattle.program_run.specs.declared.refusal.Refusal.{Refusal}
 use Rattle.program_run.specs.declared.refusal.Refusal.TheVariants as refusal
 use Rattle.command_line.specs.Jobs.{Job}
 use Rattle.program_run.specs.Refusal.{IsRefusalOf, limit_of}
+use Rattle.program_run.specs.Run.{AreBytesOf}
 
 -- a file that a job reads: what it is to the job, and its name
 pub record JobFile : Type 0 where
