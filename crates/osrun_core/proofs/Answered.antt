@@ -9,16 +9,17 @@ use Rattle.collector.specs.Written.{written}
 use Rattle.os_io.specs.Counts.{last_count, raised}
 use Rattle.os_io.specs.declared.files.Files.{Ghosts as FilesView}
 use Rattle.os_io.specs.declared.sink.Sink.{Ghosts as SinkView}
-use Rattle.osrun_core.specs.declared.refusal.Refusal.{Refusal}
-use Rattle.osrun_core.specs.declared.refusal.Refusal.TheVariants as refusals
-use Rattle.osrun_core.specs.declared.refusal.Subject.TheVariants as subjects
+use Rattle.program_run.specs.declared.refusal.Refusal.{Refusal}
+use Rattle.program_run.specs.declared.refusal.Refusal.TheVariants as refusals
+use Rattle.program_run.specs.declared.refusal.Subject.TheVariants as subjects
 use Rattle.osrun_core.specs.declared.status.Status.{Status}
 use Rattle.osrun_core.specs.declared.status.Status.TheVariants as statuses
-use Rattle.osrun_core.specs.Command.{Job, JobFile, files_of}
+use Rattle.command_line.specs.Jobs.{Job}
 use Rattle.osrun_core.specs.JobAnswer.{AnswersJob, status_of}
-use Rattle.osrun_core.specs.Loading.{IsCauseOf}
-use Rattle.osrun_core.specs.Refusal.{limit_of, refusal_line, refusal_status}
-use Rattle.osrun_core.specs.Run.{ProgramRun, IsRunOfJob}
+use Rattle.osrun_core.specs.Loading.{JobFile, IsCauseOf, files_of}
+use Rattle.program_run.specs.Refusal.{limit_of}
+use Rattle.osrun_core.specs.Refusal.{refusal_line, refusal_status}
+use Rattle.program_run.specs.Run.{ProgramRun, IsRunOfJob}
 use Rattle.osrun_core.specs.Status.{number_of}
 use Rattle.osrun_core.specs.Telling.{IsUndelivered, Tells}
 

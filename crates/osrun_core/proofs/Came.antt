@@ -9,15 +9,16 @@ use Rattle.front_end.specs.Texts.{IsAccepted}
 use Rattle.os_ast.specs.Trees.{ProgramTree}
 use Rattle.os_io.specs.Counts.{raised, last_count}
 use Rattle.os_io.specs.declared.files.Files.{Ghosts as FilesView}
-use Rattle.osrun_core.specs.Run.{IsRunOfJob, ends_over}
-use Rattle.osrun_core.specs.declared.refusal.Refusal.{Refusal}
-use Rattle.osrun_core.specs.declared.refusal.Refusal.TheVariants as refusals
-use Rattle.osrun_core.specs.declared.refusal.Subject.{Subject}
-use Rattle.osrun_core.specs.declared.refusal.Subject.TheVariants as subjects
-use Rattle.osrun_core.specs.Command.{Job, JobFile, files_of}
-use Rattle.osrun_core.specs.Loading.{AreBytesOf, MayOpen, IsRead, CameTo, IsCauseOf, ReadsInOrder}
+use Rattle.program_run.specs.Run.{IsRunOfJob, ends_over, AreBytesOf}
+use Rattle.program_run.specs.declared.refusal.Refusal.{Refusal}
+use Rattle.program_run.specs.declared.refusal.Refusal.TheVariants as refusals
+use Rattle.program_run.specs.declared.refusal.Subject.{Subject}
+use Rattle.program_run.specs.declared.refusal.Subject.TheVariants as subjects
+use Rattle.command_line.specs.Jobs.{Job}
+use Rattle.osrun_core.specs.Loading.{JobFile, MayOpen, IsRead, CameTo, IsCauseOf, ReadsInOrder, files_of}
 use Rattle.osrun_core.specs.FileLoad.{IsLoaded, IsLoadRefusal}
-use Rattle.osrun_core.specs.Refusal.{IsRefusalOf, limit_of, refusal_status}
+use Rattle.program_run.specs.Refusal.{IsRefusalOf, limit_of}
+use Rattle.osrun_core.specs.Refusal.{refusal_status}
 use Rattle.osrun_core.specs.declared.status.Status.TheVariants as statuses
 
 -- the files of a job by their subjects

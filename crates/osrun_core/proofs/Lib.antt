@@ -1,15 +1,5 @@
 pub mod Accepted
 pub mod Answered
-pub mod ArgumentValues
-pub mod BodyBytes
 pub mod Came
-pub mod CommandJobs
-pub mod CommandParses
-pub mod Defaults
-pub mod FewWritten
 pub mod GenRan
-pub mod GivenNumbers
 pub mod Ran
-pub mod RunLaws
-pub mod TasksRun
-pub mod WrittenBytes

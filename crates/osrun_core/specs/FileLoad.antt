@@ -2,11 +2,11 @@
 use Rattle.std.specs.Prelude.{◌≡◌, ℕ, ◌+◌, ◌<◌, ◌≤◌, List, IfSome, length}
 use Rattle.os_io.specs.Counts.{HasRisen}
 use Rattle.os_io.specs.declared.files.Files.{Ghosts as FilesView}
-use Rattle.osrun_core.specs.declared.refusal.Subject.{Subject}
-use Rattle.osrun_core.specs.declared.refusal.Refusal.{Refusal}
-use Rattle.osrun_core.specs.declared.refusal.Refusal.TheVariants as refusal
-use Rattle.osrun_core.specs.Loading.{AreBytesOf}
-use Rattle.osrun_core.specs.Refusal.{limit_of}
+use Rattle.program_run.specs.declared.refusal.Subject.{Subject}
+use Rattle.program_run.specs.declared.refusal.Refusal.{Refusal}
+use Rattle.program_run.specs.declared.refusal.Refusal.TheVariants as refusal
+use Rattle.program_run.specs.Run.{AreBytesOf}
+use Rattle.program_run.specs.Refusal.{limit_of}
 
 -- the bytes are all those of the file, and within its limit
 pub record IsLoaded {F : Type 0} (view : FilesView F) (old new : F) (subject : Subject) (name bytes : List ℕ) : Type 0 where

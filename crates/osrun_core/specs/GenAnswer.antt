@@ -1,9 +1,9 @@
 -- What the command does where bytes are to be made.
 use Rattle.std.specs.Prelude.{◌≡◌, ◌⊎◌}
 use Rattle.os_io.specs.declared.sink.Sink.{Ghosts as SinkView}
-use Rattle.osrun_core.specs.Command.{GenJob}
+use Rattle.command_line.specs.Jobs.{GenJob}
 use Rattle.osrun_core.specs.Gen.{IsRunOfGen, gen_lines}
-use Rattle.osrun_core.specs.Run.{ProgramRun}
+use Rattle.program_run.specs.Run.{ProgramRun}
 use Rattle.osrun_core.specs.Telling.{Took, IsCutShort}
 use Rattle.osrun_core.specs.declared.status.Status.{Status}
 use Rattle.osrun_core.specs.declared.status.Status.TheVariants.{AllDone, WriteFault, NoMemory}

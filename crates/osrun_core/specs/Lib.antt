@@ -1,21 +1,12 @@
--- What a reader believes: what the words name, what a run comes to, why none is made, what is told and delivered of it.
-pub mod Arguments
-pub mod Command
+-- What a reader believes: what is read of the files, what is told of a run or a refusal, and what `gen` makes.
 pub mod Gen
 pub mod Loading
 pub mod Refusal
-pub mod Run
 pub mod Status
 pub mod Telling
--- The laws of programs, of their runs and of words.
-pub mod Defaults
-pub mod Laws
 -- What restates private functions.
-pub mod Accepting
 pub mod FileLoad
 pub mod GenAnswer
 pub mod HandsOver
 pub mod JobAnswer
-pub mod Parsed
 pub mod Refuses
-pub mod RunOf

@@ -1,28 +1,34 @@
 -- What a job finds in its files, which are read one after the other. Files are seen by the members that their trait declares,
 -- each by its name: what a name holds, where that is told, the numbers of openings and of faults, and how many bytes were
 -- given since the last opening.
-use Rattle.std.specs.Prelude.{◌≡◌, ℕ, ◌+◌, ◌<◌, ◌≤◌, Bool, List, Option, Some, All, IfSome, IsTrue, length, max, slice_get, take}
+use Rattle.std.specs.Prelude.{◌≡◌, ℕ, ◌+◌, ◌<◌, ◌≤◌, Bool, List, [], ◌∷◌, Option, Some, All, IfSome, IsTrue, length, max, slice_get, take}
 use Rattle.front_end.specs.Texts.{IsAccepted}
 use Rattle.os_ast.specs.Trees.{ProgramTree}
 use Rattle.os_io.specs.Counts.{HasRisen, raised, last_count}
 use Rattle.os_io.specs.declared.files.Files.{Ghosts as FilesView}
-use Rattle.osrun_core.specs.declared.refusal.Subject.{Subject}
-use Rattle.osrun_core.specs.declared.refusal.Subject.TheVariants as subjects
-use Rattle.osrun_core.specs.declared.refusal.Refusal.{Refusal}
-use Rattle.osrun_core.specs.declared.refusal.Refusal.TheVariants as refusal
-use Rattle.osrun_core.specs.Command.{Job, JobFile, files_of}
-use Rattle.osrun_core.specs.Refusal.{IsRefusalOf, limit_of}
+use Rattle.program_run.specs.declared.refusal.Subject.{Subject}
+use Rattle.program_run.specs.declared.refusal.Subject.TheVariants as subjects
+use Rattle.program_run.specs.declared.refusal.Refusal.{Refusal}
+use Rattle.program_run.specs.declared.refusal.Refusal.TheVariants as refusal
+use Rattle.command_line.specs.Jobs.{Job}
+use Rattle.program_run.specs.Refusal.{IsRefusalOf, limit_of}
+use Rattle.program_run.specs.Run.{AreBytesOf}
+
+-- a file that a job reads: what it is to the job, and its name
+pub record JobFile : Type 0 where
+  pub subject : Subject
+  pub name : List ℕ
+
+-- the files of a job, in the order of reading
+abbrev pub files_of : Job → List JobFile
+files_of job =
+    record { subject = subjects.Program; name = job.program } ∷ record { subject = subjects.Input; name = job.input } ∷ []
 
 -- each opening that a job makes is allowed: the first file's at the number of openings so far, and the k-th one's at
 -- that number plus k, as far as it isn't past the last value of the count
 abbrev pub MayOpen : (ℕ → List ℕ → Bool) → ℕ → List JobFile → Type 0
 MayOpen may opens files =
     (k : ℕ) (file : JobFile) → slice_get files k ≡ Some file → opens + k ≤ max opens last_count → IsTrue (may (opens + k) file.name)
-
--- the bytes were read of such a file: they are those that it holds, where that is told, and within its limit
-pub record AreBytesOf (held : Option (List ℕ)) (subject : Subject) (bytes : List ℕ) : Type 0 where
-  pub is_held : IfSome held (λ told. bytes ≡ told)
-  pub fits : length bytes ≤ limit_of subject
 
 -- bytes that are usable as such a file: those of the program are accepted as one
 abbrev pub IsUsable : Subject → List ℕ → Type 0

@@ -1,21 +1,13 @@
--- Why no run is made, and the lines that tell it.
+-- The lines that tell why no run is made, and the statuses.
 use Rattle.std.specs.Prelude.{ℕ, List, ◌++◌, codes}
 use Rattle.std.specs.Fmt.{decimal}
 use Rattle.collector.specs.Line.{line}
-use Rattle.front_end.specs.Texts.{IsRefused}
-use Rattle.os_lexer.specs.Limits.{text_limit}
-use Rattle.front_end.specs.declared.text_error.TextError.TheVariants as errors
-use Rattle.osrun_core.specs.declared.refusal.Subject.{Subject}
-use Rattle.osrun_core.specs.declared.refusal.Subject.TheVariants.{Program, Input}
-use Rattle.osrun_core.specs.declared.refusal.Refusal.{Refusal}
-use Rattle.osrun_core.specs.declared.refusal.Refusal.TheVariants as refusal
+use Rattle.program_run.specs.declared.refusal.Subject.{Subject}
+use Rattle.program_run.specs.declared.refusal.Subject.TheVariants.{Program, Input}
+use Rattle.program_run.specs.declared.refusal.Refusal.{Refusal}
+use Rattle.program_run.specs.declared.refusal.Refusal.TheVariants as refusal
 use Rattle.osrun_core.specs.declared.status.Status.{Status}
 use Rattle.osrun_core.specs.declared.status.Status.TheVariants as status
-
--- how many bytes a file may have
-abbrev pub limit_of : Subject → ℕ
-limit_of Program = text_limit
-limit_of Input = 4194304
 
 abbrev pub subject_name : Subject → List ℕ
 subject_name Program = codes "program"
@@ -24,14 +16,6 @@ subject_name Input = codes "input"
 -- the line that is told where the words name no job
 abbrev pub usage_line : List ℕ
 usage_line = line (codes "usage")
-
--- The text is refused so: by the first of its first fault, that it is no program, its least violation.
-abbrev pub IsRefusalOf : List ℕ → Refusal → Type 0
-IsRefusalOf text (refusal.Text code line_number) = IsRefused text (errors.Refused code line_number)
-IsRefusalOf text refusal.NoProgram = IsRefused text errors.Syntax
-IsRefusalOf text (refusal.TooLong subject) = ⊥
-IsRefusalOf text (refusal.ReadFault subject) = ⊥
-IsRefusalOf text refusal.Memory = ⊥
 
 -- the line that tells a refusal; want of memory has none
 abbrev pub refusal_line : Refusal → List ℕ

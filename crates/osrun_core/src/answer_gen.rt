@@ -1,9 +1,9 @@
-ghost use Rattle.osrun_core.specs.Command.{IsGenWithin, gen_of};
+ghost use Rattle.command_line.specs.Jobs.{IsGenWithin, gen_of};
 ghost use Rattle.osrun_core.specs.GenAnswer.{AnswersGen};
 
 use crate::gen_text::gen_text;
-use crate::job::GenJob;
 use crate::status::Status;
+use command_line::GenJob;
 use os_io::{Sink, write_whole};
 use std::alloc::Global;
 use std::thread::Threads;

@@ -6,11 +6,11 @@ ghost use Rattle.osrun_core.specs.HandsOver.{HandsOver};
 ghost use Rattle.osrun_core.specs.Status.{number_of};
 ghost use Rattle.stream_match.specs.Layout.{IsLayout, IsLayoutOf};
 
-use crate::run_program::Run;
 use crate::status::Status;
 use collector::report_lines;
 use flow_core::{ControlEnd, Ends, TaskEnd};
 use os_io::{Sink, write_whole};
+use program_run::Run;
 
 /// Writes the output of a run, and then its report.
 pub fn deliver<O: Sink, E: Sink>(out: &mut O, report: &mut E, run: &Run) -> Status

@@ -1,17 +1,15 @@
 ghost use Rattle.std.specs.Prelude.{◌≡◌, ◌≤◌, ◌⊎◌, length, string_bytes, sum, IfErr, IfOk};
 ghost use Rattle.collector.specs.Status.{status as status_of};
-ghost use Rattle.osrun_core.specs.Command.{IsGenWithin, gen_of};
+ghost use Rattle.command_line.specs.Jobs.{IsGenWithin, gen_of};
 ghost use Rattle.osrun_core.specs.Gen.{IsRunOfGen, counted_line, four_lines, gen_lines};
-ghost use Rattle.osrun_core.specs.Refusal.{IsRefusalOf};
-ghost use Rattle.osrun_core.specs.Run.{ProgramRun};
+ghost use Rattle.program_run.specs.Refusal.{IsRefusalOf};
+ghost use Rattle.program_run.specs.Run.{ProgramRun};
 
-use crate::accept::accept;
 use crate::deliver::run_status;
-use crate::job::{GenJob, Terms};
-use crate::refusal::Refusal;
-use crate::run_program::{Run, run_program};
+use command_line::{GenJob, Terms};
 use kernels::{LIFT, generate};
 use os_io::Memory;
+use program_run::{Refusal, Run, accept, run_program};
 use std::alloc::Global;
 use std::thread::Threads;
 use task_workers::Gate;

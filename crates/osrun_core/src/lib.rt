@@ -1,28 +1,21 @@
 //! The command `osrun`: from words and files to output, report and status.
 //!
 //! `run_words` takes the words of a command, files, and two sinks for output and report, and answers the status of the
-//! process. `run_job` goes from the files to the sinks, and `run_program` is the way between, stop by stop. What is written
+//! process. `run_job` goes from the files to the sinks, and `run_program` of `program_run` is the way between. What is written
 //! and reported is the control-driven data-flow meaning of the program over the input, and the contract says so for every
 //! program, input, file and sink. `gen` makes the input itself and runs a kernel over it, by the same `run_program`.
 #![tactic(auto)]
 
-mod accept;
 mod answer_gen;
 mod answer_job;
 mod command;
 mod deliver;
 mod gen_text;
-mod job;
 pub mod laws;
-mod lay_out;
 mod load;
-mod refusal;
 mod run_job;
-mod run_program;
-mod run_tasks;
 mod status;
 mod tell;
-mod words;
 
 pub use command::run_words;
 pub use task_workers::{Gate, NoGate};

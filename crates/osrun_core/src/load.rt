@@ -4,8 +4,8 @@ ghost use Rattle.osrun_core.specs.declared.status.Status.TheVariants.{ReadFault}
 ghost use Rattle.osrun_core.specs.FileLoad.{IsLoaded, IsLoadRefusal};
 ghost use Rattle.osrun_core.specs.Refusal.{refusal_status};
 
-use crate::refusal::{Refusal, Subject};
 use os_io::{Files, Loaded, ReadError, read_whole};
+use program_run::{Refusal, Subject};
 use std::alloc::Global;
 
 /// Reads one of the two files, as far as its limit.

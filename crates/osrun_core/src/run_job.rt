@@ -1,18 +1,16 @@
 ghost use Rattle.std.specs.Prelude.{◌≡◌, ◌≢◌, ◌≤◌, ◌⊎◌, All, IfOk, IfErr, MatchResult};
 ghost use Rattle.osrun_core.specs.declared.status.Status.TheVariants.{TooLong, ReadFault, NoMemory};
-ghost use Rattle.osrun_core.specs.Command.{IsWithin, files_of, job_of};
+ghost use Rattle.command_line.specs.Jobs.{IsWithin, job_of};
 ghost use Rattle.osrun_core.specs.JobAnswer.{AnswersRun};
-ghost use Rattle.osrun_core.specs.Loading.{MayOpen, IsCauseOf, IsReadable, IsRejected, ReadsInOrder};
+ghost use Rattle.osrun_core.specs.Loading.{MayOpen, IsCauseOf, IsReadable, IsRejected, ReadsInOrder, files_of};
 ghost use Rattle.osrun_core.specs.Refusal.{refusal_status};
 
-use crate::accept::accept;
 use crate::deliver::deliver;
-use crate::job::Job;
 use crate::load::load;
-use crate::refusal::{Refusal, Subject};
-use crate::run_program::run_program;
 use crate::status::Status;
+use command_line::Job;
 use os_io::{Files, Sink};
+use program_run::{Refusal, Subject, accept, run_program};
 use std::alloc::Global;
 use std::thread::Threads;
 use task_workers::Gate;

@@ -3,9 +3,9 @@ ghost use Rattle.osrun_core.specs.Refusal.{refusal_line, refusal_status};
 ghost use Rattle.osrun_core.specs.Telling.{Tells};
 ghost use Rattle.osrun_core.specs.Refuses.{Refuses};
 
-use crate::refusal::{Refusal, Subject};
 use crate::status::Status;
 use os_io::{Sink, write_whole};
+use program_run::{Refusal, Subject};
 use std::alloc::{AllocError, Global};
 
 /// Writes a line. Where the sink fails, a front of the line was written.

@@ -1,0 +1,41 @@
+/// On which terms a program is run.
+#[derive(Clone, Copy, Debug)]
+pub struct Terms {
+    /// How many workers make the run, 1 to 64.
+    pub workers: u32,
+    /// How many turns each task may take, up to 1,000,000,000.
+    pub task_budget: u64,
+    /// How many turns the control program may take, up to 1,000,000,000.
+    pub control_budget: u64,
+}
+
+/// A run of a program over an input. Both are names of files.
+#[derive(Clone, Copy, Debug)]
+pub struct Job<'w> {
+    /// The name of the program's file.
+    pub program: &'w str,
+    /// The name of the input's file.
+    pub input: &'w str,
+    /// With how many workers and turns.
+    pub terms: Terms,
+}
+
+/// A run of the kernel `lift` over bytes that are made from a seed.
+#[derive(Clone, Copy, Debug)]
+pub struct GenJob {
+    /// What the bytes are made from, any 32 bits.
+    pub seed: u32,
+    /// How many blocks of four bytes are made, 1 to 65,536.
+    pub blocks: u32,
+    /// How many workers make the run, 1 to 64.
+    pub workers: u32,
+}
+
+/// What the words ask for.
+#[derive(Clone, Copy, Debug)]
+pub enum Request<'w> {
+    /// To run a program over an input.
+    Run(Job<'w>),
+    /// To make bytes, and to run a kernel over them.
+    Gen(GenJob),
+}

@@ -1,0 +1,19 @@
+//! The words of the command: which job they name.
+//!
+//! `command` answers the request that words name, or that they name none. The first word picks one of two commands, `run` and
+//! `gen`; a table says which arguments each takes, within which bounds and with which defaults, and clap reads all words by it.
+//! What words name is a matter of the words alone: nothing is read or written here. `laws` has two lists of words with what they
+//! name.
+#![tactic(auto)]
+
+mod argument;
+mod job;
+pub mod laws;
+mod parse;
+mod read;
+mod table;
+mod words_error;
+
+pub use job::{GenJob, Job, Request, Terms};
+pub use read::command;
+pub use words_error::WordsError;

@@ -1,0 +1,65 @@
+use crate::argument::Argument;
+
+/// A command: the first word, which picks it, and what it takes.
+#[derive(Clone, Copy)]
+pub struct CommandForm<'a> {
+    pub word: &'a str,
+    /// In the order in which those without a long name stand in the words.
+    pub arguments: &'a [Argument<'a>],
+}
+
+/// The name of the program's file.
+pub const PROGRAM: Argument<'static> = Argument::Name { id: "PROGRAM" };
+
+/// The name of the input's file.
+pub const INPUT: Argument<'static> = Argument::Name { id: "INPUT" };
+
+/// How many workers make a run.
+pub const WORKERS: Argument<'static> = Argument::Option {
+    id: "workers",
+    default: "4",
+    least: 1,
+    most: 64,
+};
+
+/// How many turns each task of a run may take.
+pub const TASK_BUDGET: Argument<'static> = Argument::Option {
+    id: "budget",
+    default: "1000000",
+    least: 0,
+    most: 1_000_000_000,
+};
+
+/// How many turns the control program of a run may take.
+pub const CONTROL_BUDGET: Argument<'static> = Argument::Option {
+    id: "control",
+    default: "1000000",
+    least: 0,
+    most: 1_000_000_000,
+};
+
+/// What the bytes are made from.
+pub const SEED: Argument<'static> = Argument::Number {
+    id: "SEED",
+    least: 0,
+    most: 4_294_967_295,
+};
+
+/// How many blocks of four bytes are made.
+pub const BLOCKS: Argument<'static> = Argument::Number {
+    id: "BLOCKS",
+    least: 1,
+    most: 65_536,
+};
+
+/// Runs a program over an input.
+pub const RUN: CommandForm<'static> = CommandForm {
+    word: "run",
+    arguments: &[PROGRAM, INPUT, WORKERS, TASK_BUDGET, CONTROL_BUDGET],
+};
+
+/// Makes bytes and runs a kernel over them.
+pub const GEN: CommandForm<'static> = CommandForm {
+    word: "gen",
+    arguments: &[SEED, BLOCKS, WORKERS],
+};

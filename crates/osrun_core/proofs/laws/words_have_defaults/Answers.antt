@@ -1,5 +1,0 @@
-use Rattle.osrun_core.proofs.Defaults as named
-use Rattle.osrun_core.proofs.laws.words_have_defaults.Goals as goal
-
-pub returns : goal.returns
-returns c = record { defaults = named.defaults; options = named.options }

@@ -1,0 +1,8 @@
+-- What a reader believes: what a run of a program over an input comes to, and why a text is refused.
+pub mod Refusal
+pub mod Run
+pub mod RunOf
+-- The laws of programs and of their runs.
+pub mod Laws
+-- What restates private functions.
+pub mod Accepting
