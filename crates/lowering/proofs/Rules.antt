@@ -3,7 +3,7 @@ use Rattle.emission.proofs.Parts.{items_code-append, parts-drop}
 use Rattle.lowering.proofs.Sums.{capped_sum}
 use Rattle.lowering.proofs.TaskParts.{block_tasks-listed, site_items-append, site_items_private}
 use Rattle.os_ast.proofs.Rows.{stmt_tree-block}
-use Rattle.window_check.proofs.Trees.{map-drop, stmts_tree-drop}
+use Rattle.static_laws.proofs.Trees.{map-drop, stmts_tree-drop}
 
 pub ruleset items = (map-drop, items_code-append, parts-drop)
 

@@ -2,7 +2,7 @@ use Rattle.std.proofs.Common.{◌≡◌, ◌∙◌, ap, rules}
 use Rattle.os_ast.proofs.Rows.{expr_tree-chain}
 use Rattle.os_ast.specs.Trees as tree
 use Rattle.os_ast.specs.Views.{expr_tree, links_tree}
-use Rattle.window_check.proofs.Ascending.{is_in-append}
+use Rattle.static_laws.proofs.Ascending.{is_in-append}
 use Rattle.expr_lowering.proofs.mentions.+mentions.Goals as goal
 
 pub mentions-returns-else-mentions : goal.mentions-returns-else-mentions
