@@ -55,7 +55,7 @@ pub(crate) fn control_beside(
 {
     let control = run_control(alloc, &compiled.code, input_len, budget)?;
     let meant = plain_control(alloc, &compiled.checked.program, input_len, budget)?;
-    assert_eq!(rt; control.end, meant.end, "budget {budget}");
+    assert!(rt; control.end == meant.end, "budget {budget}");
     assert!(rt; is_same(&control, &meant), "budget {budget}");
     Ok(control)
 }
@@ -128,11 +128,11 @@ pub(crate) fn body_beside(
         inputs.as_slice(),
         budget,
     )?;
-    assert_eq!(rt; end, meant, "budget {budget}");
+    assert!(rt; end == meant, "budget {budget}");
     if end != TaskEnd::Done {
         outputs.clear();
     }
-    assert_eq!(rt; outputs.as_slice(), elements.as_slice(), "budget {budget}");
+    assert!(rt; outputs.as_slice() == elements.as_slice(), "budget {budget}");
     Ok((end, outputs))
 }
 

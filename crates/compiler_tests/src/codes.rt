@@ -108,7 +108,7 @@ fn codes_are_those_that_were_written_out(rt: HostRuntime) -> Result<(), Fail> {
     for (text, shown) in &CODES {
         let compiled = compile(&rt, rt.alloc(), text)?;
         let found = code_text(rt.alloc(), &compiled.code)?;
-        assert_eq!(rt; found.as_str(), *shown, "{text}");
+        assert!(rt; found.as_str() == *shown, "{text}");
     }
     Ok(())
 }

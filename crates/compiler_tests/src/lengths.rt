@@ -26,7 +26,7 @@ fn links_have_seven_instructions_for_two_tokens(rt: HostRuntime) -> Result<(), F
     let compiled = compile(&rt, rt.alloc(), text.as_str())?;
     assert!(rt; text.len() <= 262_144);
     let tokens = lex(rt.alloc(), text.as_bytes())?;
-    assert_eq!(rt; tokens.len(), 24 + 2 * 1_000);
-    assert_eq!(rt; compiled.code.instrs.len(), 11 + 7 * 1_000);
+    assert!(rt; tokens.len() == 24 + 2 * 1_000);
+    assert!(rt; compiled.code.instrs.len() == 11 + 7 * 1_000);
     Ok(())
 }

@@ -59,7 +59,7 @@ fn pairs_beside(rt: &impl Abort, alloc: Global, body: &str) -> Result<(), Fail> 
     let text = pairs_text(alloc, body)?;
     let compiled = compile(rt, alloc, text.as_str())?;
     let control = control_beside(rt, alloc, &compiled, 0, 1_000)?;
-    assert_eq!(rt; control.activations.len(), 81, "{body}");
+    assert!(rt; control.activations.len() == 81, "{body}");
     bodies_within(rt, alloc, &compiled, &control, 0)
 }
 

@@ -11,7 +11,7 @@ use Rattle.os_ast.specs.Notes.Programs.{file, program_notes}
 use Rattle.os_ast.specs.Rules.{codes}
 use Rattle.os_ast.specs.Spelling.{Piece, bare, kind_of, marked, pieces, spell}
 use Rattle.os_ast.specs.Trees.{ProgramTree}
-use Rattle.os_ast.specs.Violations.{IsBefore, IsRefusal, earlier, faults, faults_at, has_main, no_main, same_place, violated, violations}
+use Rattle.os_ast.specs.Violations.{IsBefore, IsRefusal, earlier, violations_of, violations_at, has_main, no_main, same_place, violated, violations}
 use Rattle.os_ast.specs.declared.expr.Mark.{Mark}
 use Rattle.os_ast.specs.declared.violation.Violation.{Violation}
 use Rattle.os_lexer.specs.declared.token.Kind.TheVariants as kind
@@ -47,13 +47,13 @@ module _ (tokens : List Token) where
       own : IsMarkOf tokens (from + 0) m
       own = f 0 m (k, refl)
 
-  lined_at : (m : Mark) (cs : List ℕ) → Stands m → All IsLined (faults_at m cs)
+  lined_at : (m : Mark) (cs : List ℕ) → Stands m → All IsLined (violations_at m cs)
   lined_at m [] h = All-nil IsLined
-  lined_at m (c ∷ cs) h = All-cons IsLined (violated m.place c m.line) (faults_at m cs) (inl h) (lined_at m cs h)
+  lined_at m (c ∷ cs) h = All-cons IsLined (violated m.place c m.line) (violations_at m cs) (inl h) (lined_at m cs h)
 
-  all_lined : (ns : List Note) → AreOf Stands ns → All IsLined (faults ns)
+  all_lined : (ns : List Note) → AreOf Stands ns → All IsLined (violations_of ns)
   all_lined [] h = All-nil IsLined
-  all_lined (n ∷ ns) h = All-append IsLined (faults_at (mark_of n) (codes n)) (faults ns) (lined_at (mark_of n) (codes n) h.0) (all_lined ns h.1)
+  all_lined (n ∷ ns) h = All-append IsLined (violations_at (mark_of n) (codes n)) (violations_of ns) (lined_at (mark_of n) (codes n) h.0) (all_lined ns h.1)
 
   -- two violations at one place have one line
   one_line : (v w : Violation) → IsLined v → IsLined w → v.place ≡ w.place → v.line ≡ w.line
@@ -79,7 +79,7 @@ module _ (marks : MarksAreOfTokens) (kinds : KindsAreSpelled) (tokens : List Tok
 
   violations_lined : All (IsLined tokens) (violations p)
   violations_lined =
-      All-append (IsLined tokens) (faults (program_notes p)) (no_main p)
+      All-append (IsLined tokens) (violations_of (program_notes p)) (no_main p)
       (all_lined tokens (program_notes p)
       (of-program (Stands tokens) file p []
       (marks_stand tokens (pieces p) 0 (omega (arith, as_long, length-map (pieces p) kind_of))

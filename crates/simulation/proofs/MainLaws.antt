@@ -17,7 +17,7 @@ use Rattle.os_ast.specs.Notes.Programs as programs
 use Rattle.os_ast.specs.Notes.Statements.{after_stmts, stmts_notes}
 use Rattle.os_ast.specs.Spelling.{spell}
 use Rattle.os_ast.specs.Trees as tree
-use Rattle.os_ast.specs.Violations.{faults, names, captures, captured_by_tasks, is_empty, has_main, no_main, violated, violations}
+use Rattle.os_ast.specs.Violations.{violations_of, names, captures, captured_by_tasks, is_empty, has_main, no_main, violated, violations}
 use Rattle.os_ast.specs.Notes.Programs.{program_notes}
 use Rattle.os_ast.specs.declared.names.Entity.TheVariants as entity
 use Rattle.os_ast.specs.declared.names.Entry.{Entry}
@@ -56,7 +56,7 @@ none_behind [] ys h = h
 none_behind (x ∷ xs) ys h = absurd (cc)
 
 pub main_there : (p : tree.ProgramTree) → violations p ≡ [] → has_main p ≡ true
-main_there p h = by_case (has_main p) refl (none_behind (faults (program_notes p)) (no_main p) h)
+main_there p h = by_case (has_main p) refl (none_behind (violations_of (program_notes p)) (no_main p) h)
   where
     by_case : (t : Bool) → has_main p ≡ t → no_main p ≡ [] → t ≡ true
     by_case true e k = refl
