@@ -117,7 +117,12 @@ fn linked(
 
 /// A chain with these links, or its first operand where there are none.
 #[tactic(auto, using(crate::proofs::Trees::trees))]
-fn chained(alloc: Global, precedence: u32, first: Expr, links: List<Link>) -> Result<Expr, ParseError>
+fn chained(
+    alloc: Global,
+    precedence: u32,
+    first: Expr,
+    links: List<Link>,
+) -> Result<Expr, ParseError>
     ensures chain { IfOk result (λ e. expr_tree e ≡ chained precedence (expr_tree first) (links_tree links)) }
     ensures memory { IfErr result (λ e. e ≡ errors.Memory) }
 {
@@ -181,12 +186,7 @@ fn paren(alloc: Global, cursor: &mut Cursor<'_>, depth: u32) -> Result<Expr, Par
 /// `target | call`, from what follows its name on.
 #[cycle(expressions)]
 #[tactic(auto, using(crate::proofs::Trees::trees), unfolding(productions::specs::Expressions::named))]
-fn named(
-    alloc: Global,
-    cursor: &mut Cursor<'_>,
-    name: Name,
-    depth: u32,
-) -> Result<Expr, ParseError>
+fn named(alloc: Global, cursor: &mut Cursor<'_>, name: Name, depth: u32) -> Result<Expr, ParseError>
     ensures gives { Gives expr_tree result cursor.new (named (below depth) name cursor.old) }
     ensures within { length cursor.new ≤ length cursor.old }
 {
@@ -238,11 +238,7 @@ pub fn index(alloc: Global, cursor: &mut Cursor<'_>, depth: u32) -> Result<Index
 /// `"(" [ expr { "," expr } ] ")"`, what follows the name of a `call`.
 #[cycle(expressions)]
 #[tactic(auto, unfolding(productions::specs::Expressions::args))]
-pub fn args(
-    alloc: Global,
-    cursor: &mut Cursor<'_>,
-    depth: u32,
-) -> Result<List<Expr>, ParseError>
+pub fn args(alloc: Global, cursor: &mut Cursor<'_>, depth: u32) -> Result<List<Expr>, ParseError>
     ensures gives { Gives args_tree result cursor.new (args (below depth) cursor.old) }
     ensures within { length cursor.new ≤ length cursor.old }
 {

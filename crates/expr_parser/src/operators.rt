@@ -213,7 +213,13 @@ fn of_precedence(precedence: u32, op: Option<Binary>) -> Option<Binary>
     ensures { result ≡ of_precedence precedence op }
 {
     match op {
-        Some(op) => { if op_precedence(op) == precedence { Some(op) } else { None } }
+        Some(op) => {
+            if op_precedence(op) == precedence {
+                Some(op)
+            } else {
+                None
+            }
+        }
         None => None,
     }
 }

@@ -12,8 +12,9 @@ use expr_parser::{Cursor, ParseError};
 use os_ast::{Constant, Function, Item, Name, Params};
 use os_io::List;
 use os_lexer::{Key, Kind, Punct};
-use stmt_parts::{Part, comma_list, name, number_at};
 use std::alloc::Global;
+use stmt_parts::comma_list::{Part, comma_list};
+use stmt_parts::{name, number_at};
 
 /// `"int" name`, a parameter of `params`.
 struct Param;

@@ -13,8 +13,10 @@ use os_io::List;
 use os_lexer::names::{OMP, TASK, TASKWAIT, TICK};
 use os_lexer::{Key, Kind, Punct};
 use productions::StmtStart;
-use stmt_parts::{before, clauses, condition, declare, head, named_stmt, return_stmt, stmt_at, taskwait, tick};
 use std::alloc::Global;
+use stmt_parts::{
+    before, clauses, condition, declare, head, named_stmt, return_stmt, stmt_at, taskwait, tick,
+};
 
 /// `stmt`
 #[cycle(statements)]

@@ -1,4 +1,4 @@
--- What the production of a program gives of all of the tokens, where its depth is at most 200.
+-- What the production of a program, at most 200 deep, gives of all of the tokens.
 use Rattle.std.specs.Prelude.{◌≡◌, List, []}
 use Rattle.os_ast.specs.Means.{Placed, placed_from, Means}
 use Rattle.os_ast.specs.Trees.{ProgramTree}

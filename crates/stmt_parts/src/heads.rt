@@ -14,11 +14,7 @@ use std::alloc::Global;
 
 /// `"(" expr ")"`, behind `if` and `while`.
 #[tactic(auto, unfolding(productions::specs::Statements::condition))]
-pub fn condition(
-    alloc: Global,
-    cursor: &mut Cursor<'_>,
-    depth: u32,
-) -> Result<Expr, ParseError>
+pub fn condition(alloc: Global, cursor: &mut Cursor<'_>, depth: u32) -> Result<Expr, ParseError>
     ensures gives { Gives expr_tree result cursor.new (condition (layer (below depth)) cursor.old) }
     ensures within { length cursor.new ≤ length cursor.old }
 {

@@ -7,13 +7,12 @@
 //! Each function's contract says that it gives, and leaves the cursor, as its definition in `productions` says.
 #![tactic(auto)]
 
-mod comma_list;
+pub mod comma_list;
 mod heads;
 mod parts;
 mod pragmas;
 mod starts;
 
-pub use comma_list::{Part, comma_list};
 pub use heads::{condition, head};
 pub use parts::{before, declare, name, named_stmt, return_stmt};
 pub use pragmas::{clauses, taskwait, tick};

@@ -326,11 +326,7 @@ pub fn named_stmt(
 
 /// `"return" expr ";"`, from its `return` on.
 #[tactic(auto, unfolding(productions::specs::Statements::return_stmt))]
-pub fn return_stmt(
-    alloc: Global,
-    cursor: &mut Cursor<'_>,
-    depth: u32,
-) -> Result<Stmt, ParseError>
+pub fn return_stmt(alloc: Global, cursor: &mut Cursor<'_>, depth: u32) -> Result<Stmt, ParseError>
     ensures gives { Gives stmt_tree result cursor.new (return_stmt (below depth) cursor.old) }
     ensures within { length cursor.new ≤ length cursor.old }
     ensures taken { OnOk result (length cursor.new ≤ length (after cursor.old)) }
