@@ -10,22 +10,22 @@
 
 mod draft;
 mod exits;
+mod labels;
 pub mod laws;
 mod names;
 mod operators;
-mod resolve;
 mod sizes;
 mod told;
 mod units;
 
 pub use draft::{Draft, Label};
 pub use exits::Exits;
+pub use labels::resolve;
 pub use names::{
     bursting, calling, checking_at, count_of, emit_aiming, emit_element, emit_reading, first_of,
     reading_at, slot_of, storing, storing_at,
 };
 pub use operators::{emit_operation, literal, operator_of_one, step_operator};
-pub use resolve::resolve;
 pub use sizes::{constant_size, limited};
 pub use told::Told;
 pub use units::Units;
