@@ -4,7 +4,7 @@ use Rattle.os_ast.specs.Views.{declarator_tree}
 use Rattle.simulation.specs.Names.{told_at}
 use Rattle.simulation.specs.Programs.{size_by}
 use Rattle.window_check.specs.Sums.{declarators_slots}
-use Rattle.lowering.proofs.slots.declarators_slots.Given as goal
+use Rattle.emission.proofs.slots.declarators_slots.Given as goal
 
 abbrev pub invariant-loop-declarator : goal.invariant-loop-declarator
 invariant-loop-declarator l = record {
