@@ -30,12 +30,15 @@ pub mod Paying
 mod Placed
 pub mod ProgramLaws
 pub mod Resolving
+mod Rules
 pub mod SimpleStand
 pub mod SlotsFit
 pub mod SlotsSum
 pub mod Spawning
 pub mod StatementsStand
+pub mod Sums
 pub mod TaskNumbers
+pub mod TaskParts
 pub mod TaskUnitsStand
 pub mod TasksInMain
 pub mod TasksStand

@@ -184,7 +184,7 @@ pub fn count_of(what: What) -> u32
     }
 }
 
-pub fn slot_of(what: What) -> Option<u32>
+pub(crate) fn slot_of(what: What) -> Option<u32>
     ensures { result ≡ slot_of what }
 {
     match what {

@@ -3,5 +3,3 @@ pub mod Loops
 pub mod Ordered
 pub mod ProgramRuns
 pub mod Rules
-pub mod Sums
-pub mod TaskParts

@@ -1,17 +1,12 @@
 -- What proofs of the walk use: the parts of a tree one by one, and what a tree of the code holds as a row.
 use Rattle.emission.proofs.Parts.{items_code-append, parts-drop}
-use Rattle.lowering.proofs.Sums.{capped_sum}
-use Rattle.lowering.proofs.TaskParts.{block_tasks-listed, site_items-append, site_items_private}
+use Rattle.emission.proofs.TaskParts.{block_tasks-listed}
 use Rattle.os_ast.proofs.Rows.{stmt_tree-block}
 use Rattle.static_laws.proofs.Trees.{map-drop, stmts_tree-drop}
 
 pub ruleset items = (map-drop, items_code-append, parts-drop)
 
 pub ruleset statements = (stmt_tree-block, stmts_tree-drop)
-
-pub ruleset sites = (map-drop, site_items-append, site_items_private, parts-drop)
-
-pub ruleset slots = (stmt_tree-block, stmts_tree-drop, map-drop, capped_sum)
 
 pub ruleset tasks = (stmt_tree-block, stmts_tree-drop, map-drop, block_tasks-listed)
 

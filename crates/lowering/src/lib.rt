@@ -10,8 +10,6 @@
 
 mod compiler;
 mod items;
-mod sites;
-mod slots;
 mod statements;
 mod tasks;
 mod units;

@@ -10,10 +10,8 @@ ghost use Rattle.simulation.specs.Programs.{size_by};
 ghost use Rattle.simulation.specs.Tasks.{program_tasks};
 ghost use Rattle.static_laws.specs.Sums.{stmt_slots};
 
-use crate::sites::{captured_at, listed, site_items};
-use crate::slots::stmt_slots;
 use crate::units::{emit_task_body, is_main};
-use emission::{Told, Units};
+use emission::{Told, Units, captured_at, listed, site_items, stmt_slots};
 use os_ast::{Item, Owner, Stmt, TaskSite};
 use os_code::Site;
 use os_io::{List, Memory};

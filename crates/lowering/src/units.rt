@@ -17,9 +17,8 @@ ghost use Rattle.os_ast.specs.Notes.Programs.{param_names};
 ghost use Rattle.os_ast.specs.Views.{item_tree, stmt_tree, stmts_tree};
 ghost use Rattle.simulation.specs.Names.{told_at};
 
-use crate::slots::stmts_slots;
 use crate::statements::{emit_block, emit_stmt};
-use emission::{Draft, Exits, Label, Told, Units};
+use emission::{Draft, Exits, Label, Told, Units, stmts_slots};
 use os_ast::{Function, Item, Name, Owner, Params, Stmt};
 use os_code::Instr;
 use os_io::{List, Memory};

@@ -1,20 +1,24 @@
 //! How many slots a body takes: the sum over its declarations.
 
-ghost use Rattle.std.specs.Prelude.{◌≡◌, map, option_map};
+ghost use Rattle.std.specs.Prelude.{◌≡◌, map, option_map, unwrap_or};
 ghost use Rattle.emission.specs.Emission.Units.{capped};
+ghost use Rattle.os_ast.specs.Notes.Declarators.{within_limit};
 ghost use Rattle.os_ast.specs.Views.{declarator_tree, expr_tree, index_tree, start_tree, stmt_tree, stmts_tree};
 ghost use Rattle.simulation.specs.Names.{told_at};
-ghost use Rattle.simulation.specs.Programs.{size_by};
-ghost use Rattle.static_laws.specs.Sums.{declarators_slots, declared_slots, start_slots, stmt_slots, stmts_slots};
+ghost use Rattle.simulation.specs.Programs.{constant_size, size_by};
+ghost use Rattle.window_check.specs.Sums.{declarators_slots, declared_slots, start_slots, stmt_slots, stmts_slots};
 
-use emission::{Told, constant_size, limited};
-use os_ast::{Declarator, Expr, Owner, Start, Stmt, Target};
+use crate::told::Told;
+use os_ast::{Declarator, Expr, Owner, Start, Stmt, Target, What};
 use os_io::List;
+
+/// The most elements that a local array has.
+const SIZE_LIMIT: i64 = 65_536;
 
 /// The slots of a statement, as far as a `u32` goes.
 #[cycle(slots)]
 #[tactic(auto, using(crate::proofs::Rules::slots))]
-pub(crate) fn stmt_slots(told: &Told<'_>, owner: Owner, stmt: &Stmt) -> u32
+pub fn stmt_slots(told: &Told<'_>, owner: Owner, stmt: &Stmt) -> u32
     ensures { result ≡ capped (stmt_slots owner (size_by (told_at told.now.names.now)) (stmt_tree stmt.now)) }
 {
     match stmt {
@@ -43,7 +47,7 @@ pub(crate) fn stmt_slots(told: &Told<'_>, owner: Owner, stmt: &Stmt) -> u32
 /// The slots of the statements of a block.
 #[cycle(slots)]
 #[tactic(auto, using(crate::proofs::Rules::slots))]
-pub(crate) fn stmts_slots(told: &Told<'_>, owner: Owner, stmts: &List<Stmt>) -> u32
+pub fn stmts_slots(told: &Told<'_>, owner: Owner, stmts: &List<Stmt>) -> u32
     ensures { result ≡ capped (stmts_slots owner (size_by (told_at told.now.names.now)) (stmts_tree stmts.now)) }
 {
     let mut sum: u32 = 0;
@@ -99,5 +103,32 @@ fn size_by(told: &Told<'_>, size: &Expr) -> u32
         Expr::Number(number) => limited(i64::from(*number)),
         Expr::Place(Target { name, index: None }) => constant_size(told.at(name.mark.place)),
         _ => 0,
+    }
+}
+
+/// The size that the name of a constant is.
+fn constant_size(what: What) -> u32
+    ensures { result ≡ constant_size what }
+{
+    match what {
+        What::Constant(value) => limited(i64::from(value)),
+        What::Function(_)
+        | What::Scalar(_)
+        | What::Array { .. }
+        | What::Window(_)
+        | What::Stream { .. }
+        | What::Element(_)
+        | What::View(_) => 0,
+    }
+}
+
+/// A size from 1 to the limit, or 0.
+fn limited(value: i64) -> u32
+    ensures { result ≡ unwrap_or (within_limit value) 0 }
+{
+    if value >= 1 && value <= SIZE_LIMIT {
+        value as u32
+    } else {
+        0
     }
 }

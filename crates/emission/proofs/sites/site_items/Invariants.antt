@@ -3,7 +3,7 @@ use Rattle.os_ast.specs.Parts.{parts}
 use Rattle.os_ast.specs.Views.{clause_tree}
 use Rattle.simulation.specs.Names.{told_at}
 use Rattle.simulation.specs.Tasks.{site_items}
-use Rattle.lowering.proofs.sites.site_items.Given as goal
+use Rattle.emission.proofs.sites.site_items.Given as goal
 
 abbrev pub invariant-loop-clause : goal.invariant-loop-clause
 invariant-loop-clause l =

@@ -3,7 +3,7 @@ use Rattle.os_ast.specs.Parts.{Item}
 use Rattle.os_ast.specs.Views.{clause_item_tree}
 use Rattle.simulation.specs.Names.{told_at}
 use Rattle.simulation.specs.Tasks.{site_items}
-use Rattle.lowering.proofs.sites.add_items.Given as goal
+use Rattle.emission.proofs.sites.add_items.Given as goal
 
 abbrev pub invariant-loop-item : goal.invariant-loop-item
 invariant-loop-item l =

@@ -6,14 +6,15 @@ ghost use Rattle.os_ast.specs.Views.{clause_item_tree, clause_kind_tree, clause_
 ghost use Rattle.simulation.specs.Names.{told_at};
 ghost use Rattle.simulation.specs.Tasks.{is_write, site_item, site_items, window_of};
 
-use emission::{Told, first_of, slot_of};
+use crate::names::{first_of, slot_of};
+use crate::told::Told;
 use os_ast::{Clause, ClauseItem, ClauseKind, Direction, Join};
 use os_code::SiteItem;
 use os_io::{List, Memory};
 use std::alloc::Global;
 
 /// The slots of `main` that the task of this number captures.
-pub(crate) fn captured_at(captured: &[List<u32>], number: usize) -> &[u32]
+pub fn captured_at(captured: &[List<u32>], number: usize) -> &[u32]
     ensures { result.now ≡ get_or captured.now number [] }
 {
     match captured.get(number) {
@@ -23,7 +24,7 @@ pub(crate) fn captured_at(captured: &[List<u32>], number: usize) -> &[u32]
 }
 
 /// A list of these slots.
-pub(crate) fn listed(alloc: Global, slots: &[u32]) -> Result<List<u32>, Memory>
+pub fn listed(alloc: Global, slots: &[u32]) -> Result<List<u32>, Memory>
     ensures { IfOk result (λ list. list ≡ slots.now) }
 {
     let mut list = List::new(alloc);
@@ -36,7 +37,7 @@ pub(crate) fn listed(alloc: Global, slots: &[u32]) -> Result<List<u32>, Memory>
 
 /// The items of a task's clauses.
 #[tactic(auto, using(crate::proofs::Rules::sites))]
-pub(crate) fn site_items(
+pub fn site_items(
     alloc: Global,
     told: &Told<'_>,
     clauses: &List<Clause>,

@@ -1,12 +1,12 @@
 use Rattle.std.proofs.Common.{◌≤◌, List, drop, length, ap, subst}
 use Rattle.std.proofs.Math.ListN.{drop_of_length-le}
-use Rattle.lowering.proofs.Sums.{sum_done}
+use Rattle.emission.proofs.Sums.{sum_done}
 use Rattle.os_ast.specs.Views.{stmts_tree}
 use Rattle.os_ast.specs.declared.stmt.Stmt.{Stmt}
 use Rattle.simulation.specs.Names.{told_at}
 use Rattle.simulation.specs.Programs.{size_by}
-use Rattle.static_laws.specs.Sums.{stmts_slots}
-use Rattle.lowering.proofs.slots.+slots.Goals as goal
+use Rattle.window_check.specs.Sums.{stmts_slots}
+use Rattle.emission.proofs.slots.+slots.Goals as goal
 
 pub stmts_slots-returns : goal.stmts_slots-returns
 stmts_slots-returns t c =

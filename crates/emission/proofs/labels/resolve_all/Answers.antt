@@ -1,7 +1,7 @@
 use Rattle.emission.proofs.Resolving.{next_resolved}
 use Rattle.emission.specs.Draft.{with_places}
 use Rattle.emission.specs.Emission.Units.{place_in}
-use Rattle.emission.proofs.resolve.resolve_all.Goals as goal
+use Rattle.emission.proofs.labels.resolve_all.Goals as goal
 
 pub loop-at-preserved : goal.loop-at-preserved
 loop-at-preserved c =

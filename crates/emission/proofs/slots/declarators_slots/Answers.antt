@@ -1,12 +1,12 @@
 use Rattle.std.proofs.Common.{◌≤◌, List, drop, length, map, ap, subst}
 use Rattle.std.proofs.Math.ListN.{drop_of_length-le}
-use Rattle.lowering.proofs.Sums.{sum_done}
+use Rattle.emission.proofs.Sums.{sum_done}
 use Rattle.os_ast.specs.Views.{declarator_tree}
 use Rattle.os_ast.specs.declared.stmt.Declarator.{Declarator}
 use Rattle.simulation.specs.Names.{told_at}
 use Rattle.simulation.specs.Programs.{size_by}
-use Rattle.static_laws.specs.Sums.{declarators_slots}
-use Rattle.lowering.proofs.slots.declarators_slots.Goals as goal
+use Rattle.window_check.specs.Sums.{declarators_slots}
+use Rattle.emission.proofs.slots.declarators_slots.Goals as goal
 
 pub returns : goal.returns
 returns c =

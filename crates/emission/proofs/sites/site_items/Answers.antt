@@ -1,12 +1,12 @@
 use Rattle.std.proofs.Common.{◌≡◌, ◌∙◌, ◌+◌, ◌<◌, List, ◌++◌, length, drop, get_or, map, ap, sym, subst, append_assoc}
 use Rattle.emission.proofs.Parts.{parts-drop}
-use Rattle.lowering.proofs.TaskParts.{site_items-append}
+use Rattle.emission.proofs.TaskParts.{site_items-append}
 use Rattle.os_ast.specs.Parts.{parts, parts_of}
 use Rattle.os_ast.specs.Views.{clause_kind_tree, clause_tree}
 use Rattle.os_ast.specs.declared.pragma.Clause.{Clause}
 use Rattle.simulation.specs.Names.{told_at}
 use Rattle.simulation.specs.Tasks.{site_items}
-use Rattle.lowering.proofs.sites.site_items.Goals as goal
+use Rattle.emission.proofs.sites.site_items.Goals as goal
 
 pub loop-clause-preserved : goal.loop-clause-preserved
 loop-clause-preserved c =
