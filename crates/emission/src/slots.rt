@@ -6,7 +6,7 @@ ghost use Rattle.os_ast.specs.Notes.Declarators.{within_limit};
 ghost use Rattle.os_ast.specs.Views.{declarator_tree, expr_tree, index_tree, start_tree, stmt_tree, stmts_tree};
 ghost use Rattle.simulation.specs.Names.{told_at};
 ghost use Rattle.simulation.specs.Programs.{constant_size, size_by};
-ghost use Rattle.window_check.specs.Sums.{declarators_slots, declared_slots, start_slots, stmt_slots, stmts_slots};
+ghost use Rattle.static_laws.specs.Sums.{declarators_slots, declared_slots, start_slots, stmt_slots, stmts_slots};
 
 use crate::told::Told;
 use os_ast::{Declarator, Expr, Owner, Start, Stmt, Target, What};

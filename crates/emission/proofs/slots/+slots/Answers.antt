@@ -5,7 +5,7 @@ use Rattle.os_ast.specs.Views.{stmts_tree}
 use Rattle.os_ast.specs.declared.stmt.Stmt.{Stmt}
 use Rattle.simulation.specs.Names.{told_at}
 use Rattle.simulation.specs.Programs.{size_by}
-use Rattle.window_check.specs.Sums.{stmts_slots}
+use Rattle.static_laws.specs.Sums.{stmts_slots}
 use Rattle.emission.proofs.slots.+slots.Goals as goal
 
 pub stmts_slots-returns : goal.stmts_slots-returns

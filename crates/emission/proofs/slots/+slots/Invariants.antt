@@ -3,7 +3,7 @@ use Rattle.emission.specs.Emission.Units.{capped}
 use Rattle.os_ast.specs.Views.{stmts_tree}
 use Rattle.simulation.specs.Names.{told_at}
 use Rattle.simulation.specs.Programs.{size_by}
-use Rattle.window_check.specs.Sums.{stmts_slots}
+use Rattle.static_laws.specs.Sums.{stmts_slots}
 use Rattle.emission.proofs.slots.+slots.Given as goal
 
 abbrev pub invariant-stmts_slots-loop-stmt : goal.invariant-stmts_slots-loop-stmt

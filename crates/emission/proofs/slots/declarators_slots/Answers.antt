@@ -5,7 +5,7 @@ use Rattle.os_ast.specs.Views.{declarator_tree}
 use Rattle.os_ast.specs.declared.stmt.Declarator.{Declarator}
 use Rattle.simulation.specs.Names.{told_at}
 use Rattle.simulation.specs.Programs.{size_by}
-use Rattle.window_check.specs.Sums.{declarators_slots}
+use Rattle.static_laws.specs.Sums.{declarators_slots}
 use Rattle.emission.proofs.slots.declarators_slots.Goals as goal
 
 pub returns : goal.returns

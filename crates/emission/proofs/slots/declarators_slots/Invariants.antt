@@ -3,7 +3,7 @@ use Rattle.emission.specs.Emission.Units.{capped}
 use Rattle.os_ast.specs.Views.{declarator_tree}
 use Rattle.simulation.specs.Names.{told_at}
 use Rattle.simulation.specs.Programs.{size_by}
-use Rattle.window_check.specs.Sums.{declarators_slots}
+use Rattle.static_laws.specs.Sums.{declarators_slots}
 use Rattle.emission.proofs.slots.declarators_slots.Given as goal
 
 abbrev pub invariant-loop-declarator : goal.invariant-loop-declarator
