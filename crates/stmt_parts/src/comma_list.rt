@@ -12,6 +12,7 @@ use std::alloc::Global;
 
 /// A production that lists are made of, with what reading it takes beside the tokens.
 pub trait Part {
+    /// What is read.
     type Item: Drop;
 
     ghost Tree: { Type 0 };
