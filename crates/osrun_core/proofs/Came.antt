@@ -16,10 +16,10 @@ use Rattle.program_run.specs.declared.refusal.Subject.{Subject}
 use Rattle.program_run.specs.declared.refusal.Subject.TheVariants as subjects
 use Rattle.command_line.specs.Jobs.{Job}
 use Rattle.osrun_core.specs.Loading.{JobFile, MayOpen, IsRead, CameTo, IsCauseOf, ReadsInOrder, files_of}
-use Rattle.osrun_core.specs.FileLoad.{IsLoaded, IsLoadRefusal}
+use Rattle.command_io.specs.FileLoad.{IsLoaded, IsLoadRefusal}
 use Rattle.program_run.specs.Refusal.{IsRefusalOf, limit_of}
-use Rattle.osrun_core.specs.Refusal.{refusal_status}
-use Rattle.osrun_core.specs.declared.status.Status.TheVariants as statuses
+use Rattle.command_io.specs.Refusal.{refusal_status}
+use Rattle.command_io.specs.declared.status.Status.TheVariants as statuses
 
 -- the files of a job by their subjects
 abbrev pub program_file : Job → JobFile

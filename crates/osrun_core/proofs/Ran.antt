@@ -12,13 +12,13 @@ use Rattle.os_io.specs.declared.files.Files.{Ghosts as FilesView}
 use Rattle.os_io.specs.declared.sink.Sink.{Ghosts as SinkView}
 use Rattle.osrun_core.proofs.Came.{run_of_both}
 use Rattle.command_line.specs.Jobs.{Job}
-use Rattle.osrun_core.specs.HandsOver.{HandsOver}
+use Rattle.command_io.specs.HandsOver.{HandsOver}
 use Rattle.osrun_core.specs.JobAnswer.{AnswersRun, output_of, report_of, status_of}
-use Rattle.osrun_core.specs.FileLoad.{IsLoaded}
+use Rattle.command_io.specs.FileLoad.{IsLoaded}
 use Rattle.program_run.specs.Run.{ProgramRun}
 use Rattle.program_run.specs.RunOf.{IsRunOf}
 use Rattle.program_run.specs.declared.refusal.Subject.TheVariants as subjects
-use Rattle.osrun_core.specs.declared.status.Status.{Status}
+use Rattle.command_io.specs.declared.status.Status.{Status}
 use Rattle.stream_match.specs.Layout.{IsLayoutOf}
 use Rattle.stream_match.specs.declared.layout.Layout.{Layout}
 

@@ -2,7 +2,7 @@ ghost use Rattle.command_line.specs.Jobs.{IsGenWithin, gen_of};
 ghost use Rattle.osrun_core.specs.GenAnswer.{AnswersGen};
 
 use crate::gen_text::gen_text;
-use crate::status::Status;
+use command_io::Status;
 use command_line::GenJob;
 use os_io::{Sink, write_whole};
 use std::alloc::Global;

@@ -3,12 +3,11 @@ ghost use Rattle.os_io.specs.Counts.{HasRisen};
 ghost use Rattle.command_line.specs.Jobs.{IsWithin, job_of};
 ghost use Rattle.osrun_core.specs.JobAnswer.{AnswersJob};
 ghost use Rattle.osrun_core.specs.Loading.{MayOpen, IsReadable, IsRejected, ReadsInOrder, files_of};
-ghost use Rattle.osrun_core.specs.Status.{number_of};
-ghost use Rattle.osrun_core.specs.Telling.{HasTrouble};
+ghost use Rattle.command_io.specs.Status.{number_of};
+ghost use Rattle.command_io.specs.Telling.{HasTrouble};
 
 use crate::run_job::run_job;
-use crate::status::Status;
-use crate::tell::refuse;
+use command_io::{Status, refuse};
 use command_line::Job;
 use os_io::{Files, Sink};
 use std::alloc::Global;

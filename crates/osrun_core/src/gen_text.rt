@@ -5,7 +5,7 @@ ghost use Rattle.osrun_core.specs.Gen.{IsRunOfGen, counted_line, four_lines, gen
 ghost use Rattle.program_run.specs.Refusal.{IsRefusalOf};
 ghost use Rattle.program_run.specs.Run.{ProgramRun};
 
-use crate::deliver::run_status;
+use command_io::run_status;
 use command_line::{GenJob, Terms};
 use kernels::{LIFT, generate};
 use os_io::Memory;

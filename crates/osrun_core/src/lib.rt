@@ -9,13 +9,9 @@
 mod answer_gen;
 mod answer_job;
 mod command;
-mod deliver;
 mod gen_text;
 pub mod laws;
-mod load;
 mod run_job;
-mod status;
-mod tell;
 
 pub use command::run_words;
 pub use task_workers::{Gate, NoGate};

@@ -1,13 +1,11 @@
 ghost use Rattle.std.specs.Prelude.{◌≡◌, ◌≢◌, ◌≤◌, ◌⊎◌, All, IfOk, IfErr, MatchResult};
-ghost use Rattle.osrun_core.specs.declared.status.Status.TheVariants.{TooLong, ReadFault, NoMemory};
+ghost use Rattle.command_io.specs.declared.status.Status.TheVariants.{TooLong, ReadFault, NoMemory};
 ghost use Rattle.command_line.specs.Jobs.{IsWithin, job_of};
 ghost use Rattle.osrun_core.specs.JobAnswer.{AnswersRun};
 ghost use Rattle.osrun_core.specs.Loading.{MayOpen, IsCauseOf, IsReadable, IsRejected, ReadsInOrder, files_of};
-ghost use Rattle.osrun_core.specs.Refusal.{refusal_status};
+ghost use Rattle.command_io.specs.Refusal.{refusal_status};
 
-use crate::deliver::deliver;
-use crate::load::load;
-use crate::status::Status;
+use command_io::{Status, deliver, load};
 use command_line::Job;
 use os_io::{Files, Sink};
 use program_run::{Refusal, Subject, accept, run_program};

@@ -1,4 +1,4 @@
-//! A run of a program over an input, in memory: from the two texts to what the run comes to.
+//! A run of a program over an input, in memory: from the text and the input to what the run comes to.
 //!
 //! `accept` is the program that a text stands for, or says why it is refused. `run_program` is the way from a program and an
 //! input to the bytes that are written and to what the report tells, stop by stop: the program is compiled, its control program

@@ -1,5 +1,5 @@
 use Rattle.std.proofs.Common.{rules, append_assoc}
-use Rattle.osrun_core.proofs.tell.text_line.Goals as goal
+use Rattle.command_io.proofs.telling.text_line.Goals as goal
 
 pub returns : goal.returns
 returns c = search (rules, append_assoc)

@@ -2,11 +2,11 @@
 use Rattle.std.specs.Prelude.{◌≡◌, ◌≤◌, ◌⊎◌}
 use Rattle.os_io.specs.declared.sink.Sink.{Ghosts as SinkView}
 use Rattle.program_run.specs.declared.refusal.Refusal.{Refusal}
-use Rattle.osrun_core.specs.declared.status.Status.{Status}
-use Rattle.osrun_core.specs.declared.status.Status.TheVariants.{NoMemory}
-use Rattle.osrun_core.specs.Refusal.{refusal_line, refusal_status}
-use Rattle.osrun_core.specs.Status.{number_of}
-use Rattle.osrun_core.specs.Telling.{Tells}
+use Rattle.command_io.specs.declared.status.Status.{Status}
+use Rattle.command_io.specs.declared.status.Status.TheVariants.{NoMemory}
+use Rattle.command_io.specs.Refusal.{refusal_line, refusal_status}
+use Rattle.command_io.specs.Status.{number_of}
+use Rattle.command_io.specs.Telling.{Tells}
 
 -- the refusal's line was told and its status answered, or memory could not be had and the sink is as it was
 abbrev pub Refuses : {S : Type 0} → SinkView S → S → S → Refusal → Status → Type 0

@@ -6,8 +6,8 @@ use Rattle.program_run.specs.declared.refusal.Subject.{Subject}
 use Rattle.program_run.specs.declared.refusal.Subject.TheVariants.{Program, Input}
 use Rattle.program_run.specs.declared.refusal.Refusal.{Refusal}
 use Rattle.program_run.specs.declared.refusal.Refusal.TheVariants as refusal
-use Rattle.osrun_core.specs.declared.status.Status.{Status}
-use Rattle.osrun_core.specs.declared.status.Status.TheVariants as status
+use Rattle.command_io.specs.declared.status.Status.{Status}
+use Rattle.command_io.specs.declared.status.Status.TheVariants as status
 
 abbrev pub subject_name : Subject → List ℕ
 subject_name Program = codes "program"

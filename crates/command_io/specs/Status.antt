@@ -1,7 +1,7 @@
 -- The statuses of the command.
 use Rattle.std.specs.Prelude.{ℕ}
-use Rattle.osrun_core.specs.declared.status.Status.{Status}
-use Rattle.osrun_core.specs.declared.status.Status.TheVariants.{AllDone, NotAllDone, BadWords, Refused, TooLong, ReadFault, WriteFault, NoMemory}
+use Rattle.command_io.specs.declared.status.Status.{Status}
+use Rattle.command_io.specs.declared.status.Status.TheVariants.{AllDone, NotAllDone, BadWords, Refused, TooLong, ReadFault, WriteFault, NoMemory}
 
 -- the number with which the process ends
 abbrev pub number_of : Status → ℕ

@@ -1,10 +1,10 @@
 -- How a run is handed over to its sinks.
 use Rattle.std.specs.Prelude.{◌≡◌, List, ℕ, ◌⊎◌}
 use Rattle.os_io.specs.declared.sink.Sink.{Ghosts as SinkView}
-use Rattle.osrun_core.specs.Status.{number_of}
-use Rattle.osrun_core.specs.Telling.{Took, IsUndelivered}
-use Rattle.osrun_core.specs.declared.status.Status.{Status}
-use Rattle.osrun_core.specs.declared.status.Status.TheVariants.{WriteFault}
+use Rattle.command_io.specs.Status.{number_of}
+use Rattle.command_io.specs.Telling.{Took, IsUndelivered}
+use Rattle.command_io.specs.declared.status.Status.{Status}
+use Rattle.command_io.specs.declared.status.Status.TheVariants.{WriteFault}
 
 -- all was delivered and the number of the run's own status is answered, or not all was delivered
 abbrev pub HandsOver : {O E : Type 0} → SinkView O → O → O → List ℕ → SinkView E → E → E → List ℕ → ℕ → Status → Type 0

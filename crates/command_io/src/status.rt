@@ -1,5 +1,5 @@
 ghost use Rattle.std.specs.Prelude.{◌≡◌};
-ghost use Rattle.osrun_core.specs.Status.{number_of};
+ghost use Rattle.command_io.specs.Status.{number_of};
 
 /// How a call of the command ended. The number of each is the status of the process.
 #[derive(Clone, Copy, Debug, PartialEq, Eq)]

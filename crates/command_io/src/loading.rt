@@ -1,8 +1,8 @@
 ghost use Rattle.std.specs.Prelude.{◌≡◌, ◌≢◌, ◌≤◌, IsTrue, IfOk, IfErr, MatchResult};
 ghost use Rattle.os_io.specs.Counts.{raised};
-ghost use Rattle.osrun_core.specs.declared.status.Status.TheVariants.{ReadFault};
-ghost use Rattle.osrun_core.specs.FileLoad.{IsLoaded, IsLoadRefusal};
-ghost use Rattle.osrun_core.specs.Refusal.{refusal_status};
+ghost use Rattle.command_io.specs.declared.status.Status.TheVariants.{ReadFault};
+ghost use Rattle.command_io.specs.FileLoad.{IsLoaded, IsLoadRefusal};
+ghost use Rattle.command_io.specs.Refusal.{refusal_status};
 
 use os_io::{Files, Loaded, ReadError, read_whole};
 use program_run::{Refusal, Subject};

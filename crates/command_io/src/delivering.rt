@@ -2,8 +2,8 @@ ghost use Rattle.std.specs.Prelude.{◌≡◌, List};
 ghost use Rattle.collector.specs.Report.{report as report_of};
 ghost use Rattle.collector.specs.Status.{has_done, is_done_control, status as status_of};
 ghost use Rattle.flow_core.specs.declared.activation.Activation.{Activation};
-ghost use Rattle.osrun_core.specs.HandsOver.{HandsOver};
-ghost use Rattle.osrun_core.specs.Status.{number_of};
+ghost use Rattle.command_io.specs.HandsOver.{HandsOver};
+ghost use Rattle.command_io.specs.Status.{number_of};
 ghost use Rattle.stream_match.specs.Layout.{IsLayout, IsLayoutOf};
 
 use crate::status::Status;

@@ -4,7 +4,7 @@ use Rattle.std.specs.List.{list_all}
 use Rattle.std.proofs.lemmas.Iterator.{YieldsList-from_slice}
 use Rattle.std.proofs.lemmas.Iterator.Search.{all_from_yields_List}
 use Rattle.collector.specs.Status.{has_done, is_done_control}
-use Rattle.osrun_core.proofs.deliver.run_status.Goals as goal
+use Rattle.command_io.proofs.delivering.run_status.Goals as goal
 
 pub returns-then-all : goal.returns-then-all
 returns-then-all c =

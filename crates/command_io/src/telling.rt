@@ -1,7 +1,7 @@
 ghost use Rattle.std.specs.Prelude.{◌≡◌, IfOk, string_bytes};
-ghost use Rattle.osrun_core.specs.Refusal.{refusal_line, refusal_status};
-ghost use Rattle.osrun_core.specs.Telling.{Tells};
-ghost use Rattle.osrun_core.specs.Refuses.{Refuses};
+ghost use Rattle.command_io.specs.Refusal.{refusal_line, refusal_status};
+ghost use Rattle.command_io.specs.Telling.{Tells};
+ghost use Rattle.command_io.specs.Refuses.{Refuses};
 
 use crate::status::Status;
 use os_io::{Sink, write_whole};
