@@ -1,5 +1,5 @@
 -- What a task's body makes of its captured scalars and its input windows.
-use Rattle.std.specs.Prelude.{ℕ, suc, ◌==◌, Bool, true, false, not, ◌&&◌, ◌||◌, if◌then◌else◌, List, [], ◌∷◌, ◌++◌, take, drop, replicate, slice_get, Option, Some, None, ℤ, pos}
+use Rattle.std.specs.Prelude.{ℕ, suc, ◌==◌, Bool, true, not, ◌&&◌, ◌||◌, if◌then◌else◌, List, [], ◌∷◌, ◌++◌, take, drop, replicate, slice_get, Option, Some, None, ℤ, pos}
 use Rattle.std.specs.List.{list_all}
 use Rattle.cddf_meaning.specs.File.{File}
 use Rattle.cddf_meaning.specs.Flow.{Ran, Went, Ended}
