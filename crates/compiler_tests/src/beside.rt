@@ -132,7 +132,10 @@ pub(crate) fn body_beside(
     if end != TaskEnd::Done {
         outputs.clear();
     }
-    assert!(rt; outputs.as_slice() == elements.as_slice(), "budget {budget}");
+    assert!(rt;
+        outputs.as_slice() == elements.as_slice(),
+        "budget {budget}"
+    );
     Ok((end, outputs))
 }
 
