@@ -1,7 +1,7 @@
 //! The operators of the trees, by those on numbers.
 
 ghost use Rattle.std.specs.Prelude.{◌≡◌, not};
-ghost use Rattle.c_int.specs.Operators.{is_zero, truth};
+ghost use Rattle.c_int.specs.Operators.{is_zero};
 ghost use Rattle.cddf_meaning.specs.Answers.{at_line};
 ghost use Rattle.cddf_meaning.specs.Operators.{binary_value, operator_of_one, operator_of_two, step_operator, unary_value};
 ghost use Rattle.plain_state.specs.Stops.{Comes};
@@ -99,11 +99,4 @@ pub fn holds(number: i32) -> bool
     ensures { result ≡ not (is_zero number) }
 {
     number != 0
-}
-
-/// 1 where a condition holds, and else 0.
-pub(crate) fn truth(number: i32) -> i32
-    ensures { result ≡ truth (not (is_zero number)) }
-{
-    i32::from(holds(number))
 }
