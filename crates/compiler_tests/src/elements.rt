@@ -33,13 +33,18 @@ pub(crate) fn outputs_of(alloc: Global, claims: &[Claim]) -> Result<Vec<i32>, Me
     Ok(outputs)
 }
 
-/// Adds so many bytes; each stands once among 256 in a row.
+/// The byte at a place of the inputs; each stands once among 256 in a row.
+fn byte_at(place: usize) -> u8 {
+    ((place % 256) as u8).wrapping_mul(37).wrapping_add(3)
+}
+
+/// Adds so many bytes.
 fn add_bytes(inputs: &mut Vec<i32>, count: u32) -> Result<(), Memory>
     ensures { OnOk result (length inputs.new.items ≡ length inputs.old.items + count) }
 {
     for _ in 0..count {
-        let place = (inputs.len() % 256) as u8;
-        inputs.push(i32::from(place.wrapping_mul(37).wrapping_add(3)))?;
+        let byte = byte_at(inputs.len());
+        inputs.push(i32::from(byte))?;
     }
     Ok(())
 }
