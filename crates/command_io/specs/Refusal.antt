@@ -1,4 +1,4 @@
--- The lines that tell why no run is made, and the statuses.
+-- The lines that tell why no run is made, and the status of each.
 use Rattle.std.specs.Prelude.{ℕ, List, ◌++◌, codes}
 use Rattle.std.specs.Fmt.{decimal}
 use Rattle.collector.specs.Line.{line}

@@ -2,7 +2,6 @@
 
 ghost use Rattle.std.specs.Prelude.{◌≡◌, OnOk, false, true};
 ghost use Rattle.cddf_meaning.specs.Operators.{step_operator};
-ghost use Rattle.emission.specs.Draft.{with_instrs};
 ghost use Rattle.emission.specs.Emission.Changes.{aim_code, change_code, changed_code, operated_code, plain_code, store_code, stepped_code};
 ghost use Rattle.os_ast.specs.Views.{change_tree, expr_tree, target_tree};
 ghost use Rattle.simulation.specs.Names.{told_at};

@@ -64,7 +64,7 @@ fn branches(
     Ok(Expr::Choice(condition, first, second))
 }
 
-/// The production of a precedence: from 1 on `or`, `and`, `bor`, `bxor`, `band`, `equal`, `order`, `shift`, `sum`,
+/// The production of this precedence: from 1 on `or`, `and`, `bor`, `bxor`, `band`, `equal`, `order`, `shift`, `sum`,
 /// `prod` and, at 11, `unary`.
 #[cycle(expressions)]
 #[tactic(auto, using(productions::proofs::Chaining::chaining))]
@@ -88,7 +88,7 @@ fn chain(
     Ok(first)
 }
 
-/// `{ operator operand }` with the operators of a precedence: its chain, from what follows the first operand, or that
+/// `{ operator operand }` with the operators of one precedence: its chain, from what follows the first operand, or that
 /// operand where no operator of the precedence follows.
 #[cycle(expressions)]
 #[tactic(auto, using(productions::proofs::Chaining::chaining), unfolding(productions::specs::Expressions::linked))]

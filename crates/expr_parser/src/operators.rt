@@ -191,7 +191,7 @@ fn op_precedence(op: Binary) -> u32
     }
 }
 
-/// The level of a precedence.
+/// The level that has this precedence.
 pub(crate) fn level_at(precedence: u32) -> Level
     ensures { result ≡ level_at precedence }
 {
@@ -224,7 +224,7 @@ fn of_precedence(precedence: u32, op: Option<Binary>) -> Option<Binary>
     }
 }
 
-/// The operator of a precedence that the next token spells.
+/// The operator of this precedence that the next token spells.
 pub(crate) fn operator_at(precedence: u32, cursor: &Cursor<'_>) -> Option<Binary>
     ensures { result ≡ operator_at precedence cursor.now }
 {

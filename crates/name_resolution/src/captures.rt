@@ -54,7 +54,7 @@ impl Captured {
     }
 
     /// One more, where the name is declared as a scalar of the control program.
-    pub fn add(&mut self, entity: Option<Entity>) -> Result<(), Memory>
+    pub(crate) fn add(&mut self, entity: Option<Entity>) -> Result<(), Memory>
         ensures { OnOk result (self.new ≡ with_slots (control_slots entity) self.old) }
     {
         match entity {

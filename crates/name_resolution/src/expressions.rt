@@ -96,7 +96,11 @@ pub fn value(scopes: &Scopes, found: &mut Found, value: &Option<Expr>) -> Result
 }
 
 /// An index that may be left out.
-pub fn indexed(scopes: &Scopes, found: &mut Found, index: &Option<Index>) -> Result<(), Memory>
+pub(crate) fn indexed(
+    scopes: &Scopes,
+    found: &mut Found,
+    index: &Option<Index>,
+) -> Result<(), Memory>
     ensures { OnOk result (found.new ≡ noted found.old (index_notes scopes.now (option_map index_tree index.now))) }
 {
     match index {

@@ -93,7 +93,7 @@ impl Judged {
     }
 
     /// A name means this.
-    pub fn name(&mut self, mark: Mark, what: What) -> Result<(), Memory>
+    pub(crate) fn name(&mut self, mark: Mark, what: What) -> Result<(), Memory>
         ensures { OnOk result (self.new ≡ named self.old mark what) }
     {
         self.names.push(Resolved {
@@ -156,7 +156,7 @@ impl Found {
     }
 
     /// A name stands as a size, and is that of a constant where there is a value.
-    pub fn constant(&mut self, mark: Mark, value: Option<i32>) -> Result<(), Memory>
+    pub(crate) fn constant(&mut self, mark: Mark, value: Option<i32>) -> Result<(), Memory>
         ensures { OnOk result (self.new ≡ constant_found self.old mark value) }
     {
         match value {

@@ -27,4 +27,3 @@ pub use found::{Found, Judged};
 pub use meanings::meaning;
 pub use scopes::{Around, Outer, Scopes, Totals};
 pub use sizes::{size_name, size_of};
-pub use uses::used;

@@ -23,7 +23,7 @@ pub struct ItemName {
 }
 
 /// The name that an item has in the task's body: that behind the arrow, or the stream's where it stands alone.
-pub fn item_name(item: &ClauseItem) -> Name
+pub(crate) fn item_name(item: &ClauseItem) -> Name
     ensures { result ≡ item_name (target_tree item.now.stream) (option_map join_tree item.now.window) }
 {
     match &item.window {
@@ -61,14 +61,14 @@ impl Listed {
     }
 
     /// The code of a name that is listed already.
-    pub fn again(&self, name: Name) -> Option<u8>
+    pub(crate) fn again(&self, name: Name) -> Option<u8>
         ensures { result ≡ least_code (when (is_in name.id self.now.names) 21) }
     {
         when(self.names.contains(&name.id), codes::LISTED_TWICE)
     }
 
     /// One more item, by the name that it has in the task's body.
-    pub fn add_item(
+    pub(crate) fn add_item(
         &mut self,
         scopes: &Scopes,
         direction: Direction,
@@ -88,7 +88,7 @@ impl Listed {
     }
 
     /// One more `firstprivate` name.
-    pub fn add_private(&mut self, scopes: &Scopes, name: Name) -> Result<(), Memory>
+    pub(crate) fn add_private(&mut self, scopes: &Scopes, name: Name) -> Result<(), Memory>
         ensures { OnOk result (self.new ≡ after_part scopes.now self.old (Private name)) }
     {
         self.names.insert(name.id)?;

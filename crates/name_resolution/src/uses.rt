@@ -160,7 +160,7 @@ fn use_code(id: u32, usage: Use, entity: Entity) -> Option<u8>
 
 /// A name is used.
 #[tactic(auto, using(crate::proofs::UsedNames::uses))]
-pub fn used(scopes: &Scopes, found: &mut Found, name: Name, usage: Use) -> Result<(), Memory>
+pub(crate) fn used(scopes: &Scopes, found: &mut Found, name: Name, usage: Use) -> Result<(), Memory>
     ensures { OnOk result (found.new ≡ note found.old (Used scopes.now name usage)) }
 {
     match found {

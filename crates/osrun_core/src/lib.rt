@@ -10,7 +10,6 @@ mod answer_gen;
 mod answer_job;
 mod command;
 mod gen_text;
-pub mod laws;
 mod run_job;
 
 pub use command::run_words;

@@ -1,4 +1,4 @@
--- What reading an expression gives: one definition for each function of the code.
+-- What reading an expression gives: one definition for each production.
 use Rattle.std.specs.Prelude.{ℕ, zero, suc, ◌-◌, List, length, Option, Some, None, if◌then◌else◌}
 use Rattle.os_ast.specs.Means.{Placed}
 use Rattle.os_ast.specs.Trees as tree
@@ -90,7 +90,7 @@ abbrev pub at_operator : {A : Type 0} → Option Binary → (Binary → Read A) 
 at_operator (Some op) f r = f op
 at_operator None f r = r
 
--- { operator operand }, with operators of a precedence
+-- { operator operand }, with operators of one precedence
 unfoldable pub links : ℕ → ℕ → Reader ExprTree → Reader Links
 links zero precedence right ts = fails ts
 links (suc n) precedence right ts =
@@ -98,16 +98,16 @@ links (suc n) precedence right ts =
     (λ op. right (after ts) >>= λ e us. links n precedence right us >>= λ ls vs. got (tree.link op (mark_at ts) e ls) vs)
     (got tree.no_links ts)
 
--- a chain of a precedence, or its first operand where it has no links
+-- a chain of one precedence, or its first operand where it has no links
 abbrev pub chained : ℕ → ExprTree → Links → ExprTree
 chained precedence first tree.no_links = first
 chained precedence first (tree.link op m e rest) = tree.Chain (level_at precedence) first (tree.link op m e rest)
 
--- what follows the first operand of a chain of a precedence
+-- what follows the first operand of a chain of one precedence
 unfoldable pub linked : ℕ → Reader ExprTree → ExprTree → Reader ExprTree
 linked precedence right first ts = links (suc (length ts)) precedence right ts >>= λ ls us. got (chained precedence first ls) us
 
--- the chains of the n precedences that bind closest
+-- the chains of the n highest precedences
 unfoldable pub chains : ℕ → Reader ExprTree → Reader ExprTree
 chains zero operand ts = operand ts
 chains (suc n) operand ts = chains n operand ts >>= linked (10 - n) (chains n operand)

@@ -137,12 +137,12 @@ abbrev pub of_precedence : ℕ → Option Binary → Option Binary
 of_precedence r None = None
 of_precedence r (Some op) = if nat_eq (op_precedence op) r then Some op else None
 
--- the operator of a precedence that the next token spells
+-- the operator of this precedence that the next token spells
 abbrev pub operator_at : ℕ → List Placed → Option Binary
 operator_at r [] = None
 operator_at r (placed k m ∷ ts) = of_precedence r (binary_of k)
 
--- the level of a precedence
+-- the level that has this precedence
 abbrev pub level_at : ℕ → Level
 level_at r =
     if nat_eq r 1 then level.Or else

@@ -1,4 +1,4 @@
--- What reading statements and programs gives: one definition for each function of the code.
+-- What reading statements and programs gives: one definition for each production.
 use Rattle.std.specs.Prelude.{ℕ, zero, suc, Bool, true, false, not, List, [], ◌∷◌, length, Option, Some, None, option_map, if◌then◌else◌}
 use Rattle.os_ast.specs.Means.{Placed}
 use Rattle.os_ast.specs.Trees as tree

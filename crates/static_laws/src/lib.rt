@@ -7,7 +7,7 @@
 //! capture, by what stands in their bodies.
 //!
 //! `specs/` has the sums and relations that the laws name, and `proofs/` the lemmas, which `window_check` cites for its
-//! walk, and `simulation` and `lowering` for code. `Room` alone stands in no law: it says how much of each count a part
+//! walk, and `simulation` and `emission` for code. `Room` alone stands in no law: it says how much of each count a part
 //! of a tree takes at most.
 #![tactic(auto)]
 

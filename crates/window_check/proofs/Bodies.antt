@@ -38,11 +38,11 @@ pub function-scope : (s inside after end : Scope) (names : List Name) (f : tree.
 function-scope s inside after end names f params body stmts ending =
     rw (ending, stmts, body, params) (ap (λ (e : Scope). with_function e f.name.id (length (param_names f.params))) (ended_function s f))
 
-pub function-found : (f add_violation given found : Found) (s begun inside : Scope) (names : List Name) (t : tree.FunctionTree) →
+pub function-found : (f named given found : Found) (s begun inside : Scope) (names : List Name) (t : tree.FunctionTree) →
     names ≡ param_names t.params → begun ≡ in_function s t.name.id → inside ≡ in_body s t →
-    add_violation ≡ adds_violation f t.name.mark (least_code (when (is_declared s t.name.id) 12)) → given ≡ noted add_violation (params_notes begun names) →
+    named ≡ adds_violation f t.name.mark (least_code (when (is_declared s t.name.id) 12)) → given ≡ noted named (params_notes begun names) →
     found ≡ noted given (stmts_notes inside t.body) → found ≡ noted f (item_notes s (tree.Function t))
-function-found f add_violation given found s begun inside names t params begin body adding giving finding =
+function-found f named given found s begun inside names t params begin body adding giving finding =
     let ps = params_notes (in_function s t.name.id) (param_names t.params) in
     let ss = stmts_notes (in_body s t) t.body in
     rw (finding, giving, adding, body, begin, params)

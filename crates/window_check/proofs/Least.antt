@@ -45,7 +45,7 @@ pub noted-judging : (j : Judged) (ns : List Note) → noted (Judging j) ns ≡ J
 noted-judging j [] = refl
 noted-judging j (n ∷ ns) = noted-judging (judged j n) ns
 
--- the least violation is that of the violations_of
+-- the least violation is that of all violations of the notes
 pub noted-least : (j : Judged) (ns : List Note) → (judged_all j ns).least ≡ least_of j.least (violations_of ns)
 noted-least j [] = refl
 noted-least j (n ∷ ns) =
