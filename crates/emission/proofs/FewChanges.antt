@@ -14,7 +14,7 @@ use Rattle.emission.specs.declared.draft.Draft.{Draft}
 use Rattle.os_ast.specs.FreeNames.{expr_names}
 use Rattle.os_ast.specs.Parts.{is_in}
 use Rattle.os_ast.specs.Spelling as spelling
-use Rattle.os_ast.specs.Spelling.{Piece, Printer, bare, marked, attribute, change, declarator, each, expr, first_value, index, listed, optional, start, target, ◌⨾◌, punct}
+use Rattle.os_ast.specs.Spelling.{Symbol, Printer, bare, marked, attribute, change, declarator, each, expr, first_value, index, listed, optional, start, target, ◌⨾◌, punct}
 use Rattle.os_ast.specs.Operators.{assign_mark, step_mark}
 use Rattle.os_ast.specs.Trees as tree
 use Rattle.os_ast.specs.declared.expr.Binary.{Binary}
@@ -38,7 +38,7 @@ fetching_at_few false w line = omega arith
 
 module _ (tells : ℕ → What) where
   -- A target pays for what stands before its value and for its store, and 4 more.
-  aim_pays : (old : Bool) (t : tree.TargetTree) (d : Draft) (rest : List Piece)
+  aim_pays : (old : Bool) (t : tree.TargetTree) (d : Draft) (rest : List Symbol)
       → length (aim_code tells old t d).instrs + 5 + 8 * length rest ≤ length d.instrs + 8 * length (target t rest)
   aim_pays old (tree.Variable n) d rest =
       let w = tells n.mark.place in
@@ -58,7 +58,7 @@ module _ (tells : ℕ → What) where
         fetching_at_few old w m.line,
       )
 
-  plain_aim_pays : (quiet : Bool) (t : tree.TargetTree) (d : Draft) (rest : List Piece)
+  plain_aim_pays : (quiet : Bool) (t : tree.TargetTree) (d : Draft) (rest : List Symbol)
       → length (plain_aim tells quiet t d).instrs + 5 + 8 * length rest ≤ length d.instrs + 8 * length (target t rest)
   plain_aim_pays true (tree.Variable n) d rest = aim_pays false (tree.Variable n) d rest
   plain_aim_pays true (tree.Element n m i) d rest = omega (arith, expr_pays tells i d (bare (kind.Punct puncts.CloseBracket) ∷ rest))
@@ -104,20 +104,20 @@ module _ (tells : ℕ → What) where
       omega (arith, aim_pays true t d rest, length-stepped (step_operator p) m.line aimed, length-store t stepped)
 
   -- what is printed is no shorter than what follows
-  expr_grows : (e : tree.ExprTree) (rest : List Piece) → length rest ≤ length (expr e rest)
+  expr_grows : (e : tree.ExprTree) (rest : List Symbol) → length rest ≤ length (expr e rest)
   expr_grows e rest =
       let none : Draft = record { instrs = []; places = []; spawned = 0 } in
       omega (arith, expr_pays tells e none rest, (expr_kept tells e none).no_shorter)
 
-  index_grows : (size : Option tree.IndexTree) (rest : List Piece) → length rest ≤ length (optional index size rest)
+  index_grows : (size : Option tree.IndexTree) (rest : List Symbol) → length rest ≤ length (optional index size rest)
   index_grows None rest = omega arith
   index_grows (Some i) rest = omega (arith, expr_grows i.value (bare (kind.Punct puncts.CloseBracket) ∷ rest))
 
-  first_grows : (first : Option tree.ExprTree) (rest : List Piece) → length rest ≤ length (optional first_value first rest)
+  first_grows : (first : Option tree.ExprTree) (rest : List Symbol) → length rest ≤ length (optional first_value first rest)
   first_grows None rest = omega arith
   first_grows (Some e) rest = omega (arith, expr_grows e rest)
 
-  attribute_grows : (stream : Bool) (rest : List Piece) → length rest ≤ length (attribute stream rest)
+  attribute_grows : (stream : Bool) (rest : List Symbol) → length rest ≤ length (attribute stream rest)
   attribute_grows true rest = omega arith
   attribute_grows false rest = omega arith
 
@@ -141,7 +141,7 @@ module _ (tells : ℕ → What) where
       )
 
   -- a declarator for which nothing is done
-  quiet_pays : (x : tree.DeclaratorTree) (rest : List Piece) → length rest + 1 ≤ length (declarator x rest)
+  quiet_pays : (x : tree.DeclaratorTree) (rest : List Symbol) → length rest + 1 ≤ length (declarator x rest)
   quiet_pays x rest =
       omega (
         arith,
@@ -184,7 +184,7 @@ module _ (tells : ℕ → What) where
       omega (arith, declared_pays (tells x.name.mark.place) x d more, more_pay ds made rest)
 
   -- A declaration's key word and semicolon pay for more.
-  pub declarators_pay : (ds : List tree.DeclaratorTree) (d : Draft) (rest : List Piece)
+  pub declarators_pay : (ds : List tree.DeclaratorTree) (d : Draft) (rest : List Symbol)
       → length (declarators_code tells ds d).instrs + 16 + 8 * length rest ≤ length d.instrs + 8 * length (spelling.declare ds rest)
   declarators_pay ds d rest = omega (arith, listed_pay ds d (bare (kind.Punct puncts.Semicolon) ∷ rest))
 

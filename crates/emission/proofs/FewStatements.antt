@@ -19,7 +19,7 @@ use Rattle.emission.specs.declared.exits.Exits.{Exits}
 use Rattle.os_ast.proofs.Prints.{prints_stmt}
 use Rattle.os_ast.specs.Parts.{parts}
 use Rattle.os_ast.specs.Spelling as spelling
-use Rattle.os_ast.specs.Spelling.{Piece, Printer, bare, change, clause, each, expr, optional, params, stmt, stmts, ◌⨾◌}
+use Rattle.os_ast.specs.Spelling.{Symbol, Printer, bare, change, clause, each, expr, optional, params, stmt, stmts, ◌⨾◌}
 use Rattle.os_ast.specs.Trees as tree
 use Rattle.os_ast.specs.declared.expr.Name.{Name}
 use Rattle.os_ast.specs.declared.names.What.{What}
@@ -34,7 +34,7 @@ use Rattle.simulation.specs.Tasks.{TaskTree, all_tasks_of, tasks_of}
 
 -- The tokens of a part pay for its code and for the units of its tasks, and so many more instructions are there.
 abbrev PartPays : Part → Printer → (units more : ℕ) → Type 0
-PartPays f p units more = (x : Exits) (next : Option Label) (d : Draft) (rest : List Piece) →
+PartPays f p units more = (x : Exits) (next : Option Label) (d : Draft) (rest : List Symbol) →
     length (f x next d).instrs + units + 8 * length rest ≤ length d.instrs + 8 * length (p rest) + more
 
 pub units_most-append : (ts us : List TaskTree) → units_most (ts ++ us) ≡ units_most ts + units_most us
@@ -53,8 +53,8 @@ length-closed : (next : Option Label) (end : Label) (d : Draft) → length (clos
 length-closed None end d = omega arith
 length-closed (Some next) end d = omega arith
 
-stmt_tokens : (a : tree.StmtTree) (rest : List Piece) → length (stmt a rest) ≡ length (stmt a []) + length rest
-stmt_tokens a rest = ap (λ (ps : List Piece). length ps) ((prints_stmt a).in_front rest) ∙ length-append (stmt a []) rest
+stmt_tokens : (a : tree.StmtTree) (rest : List Symbol) → length (stmt a rest) ≡ length (stmt a []) + length rest
+stmt_tokens a rest = ap (λ (ps : List Symbol). length ps) ((prints_stmt a).in_front rest) ∙ length-append (stmt a []) rest
 
 module _ (tells : ℕ → What) where
   test_pays : (test : Option tree.ExprTree) (end : Label) → Pays (test_code tells test end) (optional expr test) 1
@@ -63,7 +63,7 @@ module _ (tells : ℕ → What) where
 
   -- A loop, by the tokens of its test, its step and its body; its unit, its test and its jump are three more.
   loop_few : (test : Option tree.ExprTree) (step : Option tree.ChangeTree) (x : Exits) (end : Label) (a : Part) (p : Printer) (units : ℕ) → PartPays a p units 0
-      → (d : Draft) (rest between behind : List Piece)
+      → (d : Draft) (rest between behind : List Symbol)
       → length (loop_code tells test step x end a d).instrs + units + 8 * (length rest + length between + length behind)
       ≤ length d.instrs + 8 * (length (p rest) + length (optional expr test between) + length (optional change step behind)) + 3
   loop_few test None x end a p units pays d rest between behind =
@@ -89,7 +89,7 @@ module _ (tells : ℕ → What) where
         length-instr (change_code tells c ds) (Jump again.number),
       )
 
-  abbrev punct : Kind → List Piece → List Piece
+  abbrev punct : Kind → List Symbol → List Symbol
   punct k rest = bare k ∷ rest
 
   mutual
@@ -191,7 +191,7 @@ module _ (tells : ℕ → What) where
         )
 
     rest_pays : (more : tree.Stmts) (a : Part) (p : Printer) (units : ℕ) → PartPays a p units 0
-        → (x : Exits) (next : Option Label) (d : Draft) (rest : List Piece)
+        → (x : Exits) (next : Option Label) (d : Draft) (rest : List Symbol)
         → length (rest_code tells more x next a d).instrs + (units + units_most (all_tasks_of more)) + 8 * length rest
         ≤ length d.instrs + 8 * length (p (stmts more rest))
     rest_pays tree.no_stmts a p units pays x next d rest = omega (arith, pays x next d rest)
@@ -204,12 +204,12 @@ module _ (tells : ℕ → What) where
         )
 
 -- parameters behind the first one
-names_grow : (ns : List Name) (rest : List Piece)
+names_grow : (ns : List Name) (rest : List Symbol)
     → length rest ≤ length (each (λ y. spelling.punct puncts.Comma ⨾ (spelling.key keys.Int ⨾ spelling.name y)) ns rest)
 names_grow [] rest = omega arith
 names_grow (n ∷ ns) rest = omega (arith, names_grow ns rest)
 
-params_grow : (ps : Params) (rest : List Piece) → length rest ≤ length (params ps rest)
+params_grow : (ps : Params) (rest : List Symbol) → length rest ≤ length (params ps rest)
 params_grow params_of.Empty rest = omega arith
 params_grow params_of.Void rest = omega arith
 params_grow (params_of.Names []) rest = omega arith

@@ -10,7 +10,7 @@ use Rattle.emission.specs.Emission.Tasks.{burst_code, item_code, items_code, joi
 use Rattle.emission.specs.declared.draft.Draft.{Draft}
 use Rattle.os_ast.specs.Parts.{Item, Private, parts, parts_of, target_name}
 use Rattle.os_ast.specs.Spelling as spelling
-use Rattle.os_ast.specs.Spelling.{Piece, Printer, bare, marked, clause, clause_item, clause_kind, comma, each, expr, index, join, listed, name, optional, punct, target, ◌⨾◌}
+use Rattle.os_ast.specs.Spelling.{Symbol, Printer, bare, marked, clause, clause_item, clause_kind, comma, each, expr, index, join, listed, name, optional, punct, target, ◌⨾◌}
 use Rattle.os_ast.specs.Trees as tree
 use Rattle.os_ast.specs.declared.expr.Mark.{Mark}
 use Rattle.os_ast.specs.declared.expr.Name.{Name}
@@ -25,17 +25,17 @@ use Rattle.simulation.specs.Names.{count_of, first_of}
 use Rattle.simulation.specs.Tasks.{bursting}
 
 -- names of `firstprivate` behind the first one
-names_grow : (ns : List Name) (rest : List Piece) → length rest ≤ length (each (λ y. punct puncts.Comma ⨾ name y) ns rest)
+names_grow : (ns : List Name) (rest : List Symbol) → length rest ≤ length (each (λ y. punct puncts.Comma ⨾ name y) ns rest)
 names_grow [] rest = omega arith
 names_grow (n ∷ ns) rest = omega (arith, names_grow ns rest)
 
-listed_grow : (ns : List Name) (rest : List Piece) → length rest ≤ length (listed name ns rest)
+listed_grow : (ns : List Name) (rest : List Symbol) → length rest ≤ length (listed name ns rest)
 listed_grow [] rest = omega arith
 listed_grow (n ∷ ns) rest = omega (arith, names_grow ns rest)
 
 module _ (tells : ℕ → What) where
   -- A stream pays for its code, and 7 more.
-  stream_pays : (t : tree.TargetTree) (d : Draft) (rest : List Piece)
+  stream_pays : (t : tree.TargetTree) (d : Draft) (rest : List Symbol)
       → length (stream_code tells t d).instrs + 7 + 8 * length rest ≤ length d.instrs + 8 * length (target t rest)
   stream_pays (tree.Variable n) d rest = omega (arith, length-instr d (Push (pos 0)))
   stream_pays (tree.Element n m e) d rest =
@@ -84,7 +84,7 @@ module _ (tells : ℕ → What) where
   kind_pays (tree.Firstprivate ns) d rest =
       omega (arith, ap (λ (e : Draft). length e.instrs) (privates_code ns d), listed_grow ns (bare (kind.Punct puncts.CloseParen) ∷ rest))
 
-  comma_grows : (b : Bool) (rest : List Piece) → length rest ≤ length (comma b rest)
+  comma_grows : (b : Bool) (rest : List Symbol) → length rest ≤ length (comma b rest)
   comma_grows true rest = omega arith
   comma_grows false rest = omega arith
 

@@ -11,14 +11,14 @@ use Rattle.emission.specs.Few.{UnitsAreFew, units_most}
 use Rattle.emission.specs.declared.units.Units.{Units}
 use Rattle.os_ast.specs.Names.{main_id}
 use Rattle.os_ast.specs.Spelling as spelling
-use Rattle.os_ast.specs.Spelling.{Piece, each, item, kind_of, pieces, sign}
+use Rattle.os_ast.specs.Spelling.{Symbol, each, item, kind_of, symbols, sign}
 use Rattle.os_ast.specs.Trees as tree
 use Rattle.os_ast.specs.declared.names.What.{What}
 use Rattle.os_code.specs.declared.instr.Instr.TheVariants.{End, Push, Return}
 use Rattle.os_lexer.specs.declared.token.Punct.TheVariants as puncts
 use Rattle.simulation.specs.Tasks.{TaskTree, all_tasks_of, program_tasks}
 
-sign_grows : (minus : Bool) (rest : List Piece) → length rest ≤ length (sign minus rest)
+sign_grows : (minus : Bool) (rest : List Symbol) → length rest ≤ length (sign minus rest)
 sign_grows true rest = omega arith
 sign_grows false rest = omega arith
 
@@ -27,7 +27,7 @@ chosen_few true ts us = omega arith
 chosen_few false ts us = omega arith
 
 module _ (tells : ℕ → What) where
-  function_few : (is_main : Bool) (f : tree.FunctionTree) (made : Units) (rest : List Piece)
+  function_few : (is_main : Bool) (f : tree.FunctionTree) (made : Units) (rest : List Symbol)
       → length (with_function is_main tells f made).draft.instrs + units_most (all_tasks_of f.body) + 8 * length rest
       ≤ length made.draft.instrs + 8 * length (item (tree.Function f) rest)
   function_few true f made rest =
@@ -43,7 +43,7 @@ module _ (tells : ℕ → What) where
         length-instrs (with_place body (next_label d)) (Push (pos 0) ∷ Return ∷ []),
       )
 
-  functions_few : (is : List tree.ItemTree) (made : Units) (rest : List Piece)
+  functions_few : (is : List tree.ItemTree) (made : Units) (rest : List Symbol)
       → length (with_functions tells is made).draft.instrs + units_most (program_tasks is) + 8 * length rest ≤ length made.draft.instrs + 8 * length
       (each item is rest)
   functions_few [] made rest = omega arith
@@ -74,4 +74,4 @@ module _ (tells : ℕ → What) where
 pub program_few : UnitsAreFew
 program_few tells captured p =
     let functions = with_functions tells p no_units in
-    omega (arith, functions_few tells p no_units [], tasks_few tells captured (program_tasks p) functions, length-map (pieces p) kind_of)
+    omega (arith, functions_few tells p no_units [], tasks_few tells captured (program_tasks p) functions, length-map (symbols p) kind_of)

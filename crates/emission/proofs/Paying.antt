@@ -4,7 +4,7 @@ use Rattle.emission.proofs.ExpressionsStand.{length-instr}
 use Rattle.emission.specs.Draft.{with_instr, with_instrs}
 use Rattle.emission.specs.Emission.Expressions.{Emission}
 use Rattle.emission.specs.declared.draft.Draft.{Draft}
-use Rattle.os_ast.specs.Spelling.{Piece, Printer}
+use Rattle.os_ast.specs.Spelling.{Symbol, Printer}
 use Rattle.os_ast.specs.declared.expr.Binary.{Binary}
 use Rattle.os_ast.specs.declared.names.What.{What}
 use Rattle.os_ast.specs.declared.names.What.TheVariants as what
@@ -16,7 +16,7 @@ use Rattle.simulation.specs.Names.{aiming, reading}
 
 -- Between what follows and the whole, each token pays 8 instructions, and so many more are there.
 abbrev pub Pays : Emission → Printer → (more : ℕ) → Type 0
-Pays f p more = (d : Draft) (rest : List Piece) → length (f d).instrs + 8 * length rest ≤ length d.instrs + 8 * length (p rest) + more
+Pays f p more = (d : Draft) (rest : List Symbol) → length (f d).instrs + 8 * length rest ≤ length d.instrs + 8 * length (p rest) + more
 
 -- one instruction and several
 pub length-instrs : (d : Draft) (is : List Instr) → length (with_instrs d is).instrs ≡ length d.instrs + length is

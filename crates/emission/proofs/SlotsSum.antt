@@ -10,7 +10,7 @@ use Rattle.emission.specs.declared.units.Units.{Units}
 use Rattle.os_ast.specs.Marks.{HasPlaces}
 use Rattle.os_ast.specs.Names.{main_id}
 use Rattle.os_ast.specs.Notes.Programs.{file, param_names}
-use Rattle.os_ast.specs.Spelling.{kind_of, pieces, spell}
+use Rattle.os_ast.specs.Spelling.{kind_of, symbols, spell}
 use Rattle.os_ast.specs.Trees as tree
 use Rattle.os_ast.specs.Violations.{captured_by_tasks, names, violations}
 use Rattle.os_ast.specs.declared.names.Owner.TheVariants as owner
@@ -95,7 +95,7 @@ program_slots p places none few =
       items_use p file refl (room p few),
       names_few p places lawful,
       functions_few p,
-      length-map (pieces p) kind_of,
+      length-map (symbols p) kind_of,
       (within-items_of_file file p (record { streams = omega arith; arrays = omega arith }) lawful).arrays,
       few,
     )

@@ -10,7 +10,7 @@ use Rattle.os_ast.specs.Marks.{HasMark, HasPlaces}
 use Rattle.os_ast.specs.Names.{main_id}
 use Rattle.os_ast.specs.Operators.{assign_mark, step_mark}
 use Rattle.os_ast.specs.Spelling as spelling
-use Rattle.os_ast.specs.Spelling.{Piece, bare, marked, pieces, ◌⨾◌}
+use Rattle.os_ast.specs.Spelling.{Symbol, bare, marked, symbols, ◌⨾◌}
 use Rattle.os_ast.specs.Trees as tree
 use Rattle.os_ast.specs.declared.expr.Mark.{Mark}
 use Rattle.os_ast.specs.declared.expr.Name.{Name}
@@ -22,62 +22,62 @@ use Rattle.os_lexer.specs.declared.token.Kind.TheVariants as kind
 use Rattle.os_lexer.specs.declared.token.Punct.TheVariants as puncts
 use Rattle.simulation.specs.Tasks.{TaskTree, tasks_of, all_tasks_of, program_tasks, number_of}
 
--- the PragmaStarts of these tasks stand among pieces, in order
-data Among : List TaskTree → List Piece → Type 0 where
-  none : {ps : List Piece} → Among [] ps
-  skip : {ts : List TaskTree} {p : Piece} {ps : List Piece} → Among ts ps → Among ts (p ∷ ps)
-  take : {t : TaskTree} {ts : List TaskTree} {k : Kind} {ps : List Piece} → Among ts ps → Among (t ∷ ts) (marked k t.mark ∷ ps)
+-- the PragmaStarts of these tasks stand among symbols, in order
+data Among : List TaskTree → List Symbol → Type 0 where
+  none : {ps : List Symbol} → Among [] ps
+  skip : {ts : List TaskTree} {p : Symbol} {ps : List Symbol} → Among ts ps → Among ts (p ∷ ps)
+  take : {t : TaskTree} {ts : List TaskTree} {k : Kind} {ps : List Symbol} → Among ts ps → Among (t ∷ ts) (marked k t.mark ∷ ps)
 
-among_behind : (front : List Piece) {ts : List TaskTree} {ps : List Piece} → Among ts ps → Among ts (front ++ ps)
+among_behind : (front : List Symbol) {ts : List TaskTree} {ps : List Symbol} → Among ts ps → Among ts (front ++ ps)
 among_behind [] h = h
 among_behind (p ∷ front) h = skip (among_behind front h)
 
 -- an expression, and a statement of which no task is told
-past_expr : (e : tree.ExprTree) (rest : List Piece) (ts : List TaskTree) → Among ts rest → Among ts (spelling.expr e rest)
+past_expr : (e : tree.ExprTree) (rest : List Symbol) (ts : List TaskTree) → Among ts rest → Among ts (spelling.expr e rest)
 past_expr e rest ts h = subst (Among ts) (sym ((prints_expr e).in_front rest)) (among_behind (spelling.expr e []) h)
 
-past_stmt : (a : tree.StmtTree) (rest : List Piece) (ts : List TaskTree) → Among ts rest → Among ts (spelling.stmt a rest)
+past_stmt : (a : tree.StmtTree) (rest : List Symbol) (ts : List TaskTree) → Among ts rest → Among ts (spelling.stmt a rest)
 past_stmt a rest ts h = subst (Among ts) (sym ((prints_stmt a).in_front rest)) (among_behind (spelling.stmt a []) h)
 
-past_item : (i : tree.ItemTree) (rest : List Piece) (ts : List TaskTree) → Among ts rest → Among ts (spelling.item i rest)
+past_item : (i : tree.ItemTree) (rest : List Symbol) (ts : List TaskTree) → Among ts rest → Among ts (spelling.item i rest)
 past_item i rest ts h = subst (Among ts) (sym ((prints_item i).in_front rest)) (among_behind (spelling.item i []) h)
 
-past_test : (test : Option tree.ExprTree) (rest : List Piece) (ts : List TaskTree) → Among ts rest → Among ts (spelling.optional spelling.expr test rest)
+past_test : (test : Option tree.ExprTree) (rest : List Symbol) (ts : List TaskTree) → Among ts rest → Among ts (spelling.optional spelling.expr test rest)
 past_test None rest ts h = h
 past_test (Some e) rest ts h = past_expr e rest ts h
 
-past_change : (c : tree.ChangeTree) (rest : List Piece) (ts : List TaskTree) → Among ts rest → Among ts (spelling.change c rest)
+past_change : (c : tree.ChangeTree) (rest : List Symbol) (ts : List TaskTree) → Among ts rest → Among ts (spelling.change c rest)
 past_change (tree.Set t a m e) rest ts h =
     past_expr (tree.Place t) (spelling.punct_at (assign_mark a) m (spelling.expr e rest)) ts (skip (past_expr e rest ts h))
 past_change (tree.After t s m) rest ts h = past_expr (tree.Place t) (spelling.punct_at (step_mark s) m rest) ts (skip h)
 past_change (tree.Before t s m) rest ts h = skip (past_expr (tree.Place t) rest ts h)
 
-past_step : (c : Option tree.ChangeTree) (rest : List Piece) (ts : List TaskTree) → Among ts rest → Among ts (spelling.optional spelling.change c rest)
+past_step : (c : Option tree.ChangeTree) (rest : List Symbol) (ts : List TaskTree) → Among ts rest → Among ts (spelling.optional spelling.change c rest)
 past_step None rest ts h = h
 past_step (Some c) rest ts h = past_change c rest ts h
 
-past_start : (t : tree.StartTree) (rest : List Piece) (ts : List TaskTree) → Among ts rest → Among ts (spelling.start t rest)
+past_start : (t : tree.StartTree) (rest : List Symbol) (ts : List TaskTree) → Among ts rest → Among ts (spelling.start t rest)
 past_start tree.StartTree.Empty rest ts h = skip h
 past_start (tree.StartTree.Declare ds) rest ts h = past_stmt (tree.StmtTree.Declare ds) rest ts h
 past_start (tree.StartTree.Change c) rest ts h = past_change c (spelling.punct puncts.Semicolon rest) ts (skip h)
 
-more_params : (ns : List Name) (rest : List Piece) (ts : List TaskTree) → Among ts rest →
+more_params : (ns : List Name) (rest : List Symbol) (ts : List TaskTree) → Among ts rest →
     Among ts (spelling.each (λ n. spelling.punct puncts.Comma ⨾ (spelling.key keys.Int ⨾ spelling.name n)) ns rest)
 more_params [] rest ts h = h
 more_params (n ∷ ns) rest ts h = skip (skip (skip (more_params ns rest ts h)))
 
-past_params : (ps : Params) (rest : List Piece) (ts : List TaskTree) → Among ts rest → Among ts (spelling.params ps rest)
+past_params : (ps : Params) (rest : List Symbol) (ts : List TaskTree) → Among ts rest → Among ts (spelling.params ps rest)
 past_params params_of.Empty rest ts h = h
 past_params params_of.Void rest ts h = skip h
 past_params (params_of.Names []) rest ts h = h
 past_params (params_of.Names (n ∷ ns)) rest ts h = skip (skip (more_params ns rest ts h))
 
--- a task, whose PragmaStart is its first piece
-abbrev tail_of : List Piece → List Piece
+-- a task, whose PragmaStart is its first symbol
+abbrev tail_of : List Symbol → List Symbol
 tail_of [] = []
 tail_of (p ∷ ps) = ps
 
-past_task : (m : Mark) (cs : List tree.ClauseTree) (a : tree.StmtTree) (t : TaskTree) (rest : List Piece) (ts : List TaskTree) → t.mark ≡ m → Among ts rest →
+past_task : (m : Mark) (cs : List tree.ClauseTree) (a : tree.StmtTree) (t : TaskTree) (rest : List Symbol) (ts : List TaskTree) → t.mark ≡ m → Among ts rest →
     Among (t ∷ ts) (spelling.stmt (tree.Task m cs a) rest)
 past_task m cs a t rest ts is h =
     subst (Among (t ∷ ts)) (sym ((prints_stmt (tree.Task m cs a)).in_front rest))
@@ -85,7 +85,7 @@ past_task m cs a t rest ts is h =
     (take (among_behind (tail_of (spelling.stmt (tree.Task m cs a) [])) h)))
 
 mutual
-  among_stmt : (a : tree.StmtTree) (rest : List Piece) (ts : List TaskTree) → Among ts rest → Among (tasks_of a ++ ts) (spelling.stmt a rest)
+  among_stmt : (a : tree.StmtTree) (rest : List Symbol) (ts : List TaskTree) → Among ts rest → Among (tasks_of a ++ ts) (spelling.stmt a rest)
   among_stmt tree.StmtTree.Empty rest ts h = skip h
   among_stmt (tree.Block ss) rest ts h = skip (among_stmts ss (spelling.punct puncts.CloseBrace rest) ts (skip h))
   among_stmt (tree.StmtTree.Declare ds) rest ts h = past_stmt (tree.StmtTree.Declare ds) rest ts h
@@ -114,7 +114,7 @@ mutual
   among_stmt (tree.Tick m t arrow e) rest ts h = past_stmt (tree.Tick m t arrow e) rest ts h
   among_stmt (tree.Taskwait m) rest ts h = past_stmt (tree.Taskwait m) rest ts h
 
-  among_stmts : (ss : tree.Stmts) (rest : List Piece) (ts : List TaskTree) → Among ts rest → Among (all_tasks_of ss ++ ts) (spelling.stmts ss rest)
+  among_stmts : (ss : tree.Stmts) (rest : List Symbol) (ts : List TaskTree) → Among ts rest → Among (all_tasks_of ss ++ ts) (spelling.stmts ss rest)
   among_stmts tree.no_stmts rest ts h = h
   among_stmts (tree.stmt a ss) rest ts h =
       subst (λ us. Among us (spelling.stmts (tree.stmt a ss) rest)) (sym (append_assoc (tasks_of a) (all_tasks_of ss) ts))
@@ -125,7 +125,7 @@ append_none [] = refl
 append_none (t ∷ ts) = ap (λ us. t ∷ us) (append_none ts)
 
 -- the tasks of a function, and those of a program
-among_function : (f : tree.FunctionTree) (rest : List Piece) → Among (all_tasks_of f.body) (spelling.item (tree.Function f) rest)
+among_function : (f : tree.FunctionTree) (rest : List Symbol) → Among (all_tasks_of f.body) (spelling.item (tree.Function f) rest)
 among_function f rest =
     let body = spelling.stmts f.body (spelling.punct puncts.CloseBrace rest) in
     let behind = spelling.punct puncts.CloseParen (spelling.punct puncts.OpenBrace body) in
@@ -138,7 +138,7 @@ among_program [] = none
 among_program (tree.Constant c ∷ is) = past_item (tree.Constant c) (spelling.each spelling.item is []) (program_tasks is) (among_program is)
 among_program (tree.Function f ∷ is) = by_case (f.name.id == main_id) (among_program is)
   where
-    all : List Piece
+    all : List Symbol
     all = spelling.item (tree.Function f) (spelling.each spelling.item is [])
 
     by_case : (t : Bool) → Among (program_tasks is) (spelling.each spelling.item is []) → Among (if t then all_tasks_of f.body else program_tasks is) all
@@ -154,8 +154,8 @@ lower : (lo from : ℕ) (ts : List TaskTree) → lo ≤ from → Ascend from ts 
 lower lo from [] le a = tt
 lower lo from (t ∷ ts) le a = (omega (arith, le, a.0), a.1)
 
--- what stands among pieces that have their places ascends
-ascending : (ts : List TaskTree) (ps : List Piece) (from : ℕ) → ((i : ℕ) (m : Mark) → HasMark ps i m → m.place ≡ from + i) → Among ts ps → Ascend from ts
+-- what stands among symbols that have their places ascends
+ascending : (ts : List TaskTree) (ps : List Symbol) (from : ℕ) → ((i : ℕ) (m : Mark) → HasMark ps i m → m.place ≡ from + i) → Among ts ps → Ascend from ts
 ascending [] ps from f none = tt
 ascending ts (p ∷ ps) from f (skip h) = lower from (suc from) ts (omega arith) (ascending ts ps (suc from) (λ i m is. omega (arith, f (suc i) m is)) h)
 ascending (t ∷ ts) (marked k m ∷ ps) from f (take h) =
@@ -196,4 +196,4 @@ numbered lo ts k t a is =
 pub program_numbered : (p : tree.ProgramTree) → HasPlaces p → (k : ℕ) (t : TaskTree) → slice_get (program_tasks p) k ≡ Some t →
     number_of (program_tasks p) t.mark ≡ Some k
 program_numbered p places k t is =
-    numbered 0 (program_tasks p) k t (ascending (program_tasks p) (pieces p) 0 (λ i m has. omega (arith, places i m has)) (among_program p)) is
+    numbered 0 (program_tasks p) k t (ascending (program_tasks p) (symbols p) 0 (λ i m has. omega (arith, places i m has)) (among_program p)) is

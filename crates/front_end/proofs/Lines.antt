@@ -9,7 +9,7 @@ use Rattle.os_ast.specs.Means.{Means}
 use Rattle.os_ast.specs.Notes.Kinds.{Note, mark_of}
 use Rattle.os_ast.specs.Notes.Programs.{file, program_notes}
 use Rattle.os_ast.specs.Rules.{codes}
-use Rattle.os_ast.specs.Spelling.{Piece, bare, kind_of, marked, pieces, spell}
+use Rattle.os_ast.specs.Spelling.{Symbol, bare, kind_of, marked, symbols, spell}
 use Rattle.os_ast.specs.Trees.{ProgramTree}
 use Rattle.os_ast.specs.Violations.{IsBefore, IsRefusal, earlier, violations_of, violations_at, has_main, no_main, same_place, violated, violations}
 use Rattle.os_ast.specs.declared.expr.Mark.{Mark}
@@ -34,7 +34,7 @@ module _ (tokens : List Token) where
   abbrev IsLined : Violation → Type 0
   IsLined v = IsLineAt v.place v.line ⊎ ((v.place ≡ length tokens) × (v.line ≡ 1))
 
-  marks_stand : (ps : List Piece) (from : ℕ) → from + length ps ≤ length tokens
+  marks_stand : (ps : List Symbol) (from : ℕ) → from + length ps ≤ length tokens
       → ((i : ℕ) (m : Mark) → HasMark ps i m → IsMarkOf tokens (from + i) m) → HasKept Stands ps
   marks_stand [] from h f = tt
   marks_stand (bare k ∷ ps) from h f =
@@ -67,7 +67,7 @@ module _ (tokens : List Token) where
 
 -- what the marks and kinds of a program's tokens are, as a law of the trees says
 abbrev pub MarksAreOfTokens : Type 0
-MarksAreOfTokens = (tokens : List Token) (p : ProgramTree) (place : ℕ) (mark : Mark) → Means tokens p → HasMark (pieces p) place mark
+MarksAreOfTokens = (tokens : List Token) (p : ProgramTree) (place : ℕ) (mark : Mark) → Means tokens p → HasMark (symbols p) place mark
     → IsMarkOf tokens place mark
 
 abbrev pub KindsAreSpelled : Type 0
@@ -82,7 +82,7 @@ module _ (marks : MarksAreOfTokens) (kinds : KindsAreSpelled) (tokens : List Tok
       All-append (IsLined tokens) (violations_of (program_notes p)) (no_main p)
       (all_lined tokens (program_notes p)
       (of-program (Stands tokens) file p []
-      (marks_stand tokens (pieces p) 0 (omega (arith, as_long, length-map (pieces p) kind_of))
+      (marks_stand tokens (symbols p) 0 (omega (arith, as_long, length-map (symbols p) kind_of))
       (λ i m is. subst (λ n. IsMarkOf tokens n m) (sym (zero-add i)) (marks tokens p i m means is)))).0)
       (end_lined (has_main p) refl)
     where

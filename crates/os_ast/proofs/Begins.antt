@@ -2,12 +2,12 @@
 use Rattle.std.proofs.Common.{List}
 use Rattle.os_ast.specs.Beginnings as can
 use Rattle.os_ast.specs.Beginnings.{BeginsWith, begins, CanBeginExpr, CanBeginStmt, CanBeginItem}
-use Rattle.os_ast.specs.Spelling.{Piece, expr, target, stmt, change, item}
+use Rattle.os_ast.specs.Spelling.{Symbol, expr, target, stmt, change, item}
 use Rattle.os_ast.specs.Trees as tree
 use Rattle.os_ast.specs.declared.expr.Unary.TheVariants as unary
 use Rattle.os_ast.specs.declared.stmt.Step.TheVariants as step
 
-pub expr-begins : (e : tree.ExprTree) (rest : List Piece) → BeginsWith CanBeginExpr (expr e rest)
+pub expr-begins : (e : tree.ExprTree) (rest : List Symbol) → BeginsWith CanBeginExpr (expr e rest)
 expr-begins (tree.Choice c a b) rest = expr-begins c _
 expr-begins (tree.Chain level first links) rest = expr-begins first _
 expr-begins (tree.Unary unary.Minus m e) rest = begins can.CanBeginExpr.minus
@@ -20,17 +20,17 @@ expr-begins (tree.Place (tree.Element n m e)) rest = begins can.CanBeginExpr.nam
 expr-begins (tree.ExprTree.Call f es) rest = begins can.CanBeginExpr.name
 expr-begins (tree.Paren e) rest = begins can.CanBeginExpr.paren
 
-target-begins : (t : tree.TargetTree) (rest : List Piece) → BeginsWith CanBeginStmt (target t rest)
+target-begins : (t : tree.TargetTree) (rest : List Symbol) → BeginsWith CanBeginStmt (target t rest)
 target-begins (tree.Variable n) rest = begins can.CanBeginStmt.name
 target-begins (tree.Element n m e) rest = begins can.CanBeginStmt.name
 
-change-begins : (c : tree.ChangeTree) (rest : List Piece) → BeginsWith CanBeginStmt (change c rest)
+change-begins : (c : tree.ChangeTree) (rest : List Symbol) → BeginsWith CanBeginStmt (change c rest)
 change-begins (tree.Set t a m e) rest = target-begins t _
 change-begins (tree.After t s m) rest = target-begins t _
 change-begins (tree.Before t step.Up m) rest = begins can.up
 change-begins (tree.Before t step.Down m) rest = begins can.down
 
-pub stmt-begins : (s : tree.StmtTree) (rest : List Piece) → BeginsWith CanBeginStmt (stmt s rest)
+pub stmt-begins : (s : tree.StmtTree) (rest : List Symbol) → BeginsWith CanBeginStmt (stmt s rest)
 stmt-begins tree.StmtTree.Empty rest = begins can.semicolon
 stmt-begins (tree.Block ss) rest = begins can.brace
 stmt-begins (tree.StmtTree.Declare ds) rest = begins can.CanBeginStmt.int
@@ -47,6 +47,6 @@ stmt-begins (tree.Task m cs s) rest = begins can.pragma
 stmt-begins (tree.Tick m t a e) rest = begins can.pragma
 stmt-begins (tree.Taskwait m) rest = begins can.pragma
 
-pub item-begins : (i : tree.ItemTree) (rest : List Piece) → BeginsWith CanBeginItem (item i rest)
+pub item-begins : (i : tree.ItemTree) (rest : List Symbol) → BeginsWith CanBeginItem (item i rest)
 item-begins (tree.Constant c) rest = begins can.const
 item-begins (tree.Function f) rest = begins can.CanBeginItem.int

@@ -5,13 +5,13 @@ use Rattle.os_ast.specs.Leveled.{IsLeveled}
 use Rattle.os_ast.specs.Marks.{HasMark, IsMarkOf}
 use Rattle.os_ast.specs.Means as means
 use Rattle.os_ast.specs.Means.{Fit, Means, placed_from, placed, Placed}
-use Rattle.os_ast.specs.Spelling.{Piece, bare, marked, kind_of, pieces, spell}
+use Rattle.os_ast.specs.Spelling.{Symbol, bare, marked, kind_of, symbols, spell}
 use Rattle.os_ast.specs.Trees.{ProgramTree}
 use Rattle.os_ast.specs.declared.expr.Mark.{Mark}
 use Rattle.os_lexer.specs.declared.token.Kind.{Kind}
 use Rattle.os_lexer.specs.declared.token.Token.{Token}
 
-fit-kinds : {ps : List Piece} (k : ℕ) (ts : List Token) → Fit ps (placed_from k ts) → map kind_of ps ≡ map (λ (t : Token). t.kind) ts
+fit-kinds : {ps : List Symbol} (k : ℕ) (ts : List Token) → Fit ps (placed_from k ts) → map kind_of ps ≡ map (λ (t : Token). t.kind) ts
 fit-kinds k [] means.none = refl
 fit-kinds k (t ∷ ts) (means.bare f) = ap (λ ks. t.kind ∷ ks) (fit-kinds (suc k) ts f)
 fit-kinds k (t ∷ ts) (means.marked f) = ap (λ ks. t.kind ∷ ks) (fit-kinds (suc k) ts f)
@@ -21,7 +21,7 @@ record IsMarkFrom (k : ℕ) (tokens : List Token) (i : ℕ) (mark : Mark) : Type
   pub place : mark.place ≡ k + i
   pub line : (token : Token) → slice_get tokens i ≡ Some token → mark.line ≡ token.line
 
-fit-marks : {ps : List Piece} (k : ℕ) (ts : List Token) → Fit ps (placed_from k ts) → (i : ℕ) (m : Mark) (kind : Kind) →
+fit-marks : {ps : List Symbol} (k : ℕ) (ts : List Token) → Fit ps (placed_from k ts) → (i : ℕ) (m : Mark) (kind : Kind) →
     slice_get ps i ≡ Some (marked kind m) → IsMarkFrom k ts i m
 fit-marks k [] means.none i m kind e = absurd (cc e)
 fit-marks k (t ∷ ts) (means.bare f) zero m kind e = absurd (cc e)
@@ -38,7 +38,7 @@ fit-marks k (t ∷ ts) (means.marked f) (suc i) m kind e =
     let h = fit-marks (suc k) ts f i m kind e in
     record { place = omega (arith, h.place); line = h.line }
 
-fit-made : (k : ℕ) (ps : List Piece) (ts : List Token) → map kind_of ps ≡ map (λ (t : Token). t.kind) ts →
+fit-made : (k : ℕ) (ps : List Symbol) (ts : List Token) → map kind_of ps ≡ map (λ (t : Token). t.kind) ts →
     ((i : ℕ) (m : Mark) (kind : Kind) → slice_get ps i ≡ Some (marked kind m) → IsMarkFrom k ts i m) →
     Fit ps (placed_from k ts)
 fit-made k [] [] e marks = means.none
@@ -67,23 +67,23 @@ pub means-kinds : (tokens : List Token) (p : ProgramTree) → Means tokens p →
 means-kinds tokens p h = fit-kinds 0 tokens h.spelled
 
 pub means-marks : (tokens : List Token) (p : ProgramTree) (place : ℕ) (mark : Mark) →
-    Means tokens p → HasMark (pieces p) place mark → IsMarkOf tokens place mark
+    Means tokens p → HasMark (symbols p) place mark → IsMarkOf tokens place mark
 means-marks tokens p place mark h has =
     let from = fit-marks 0 tokens h.spelled place mark has.0 has.1 in
     record { place = omega (arith, from.place); line = from.line }
 
 pub means-made : (tokens : List Token) (p : ProgramTree) → IsLeveled p →
     spell p ≡ map (λ (t : Token). t.kind) tokens →
-    ((place : ℕ) (mark : Mark) → HasMark (pieces p) place mark → IsMarkOf tokens place mark) →
+    ((place : ℕ) (mark : Mark) → HasMark (symbols p) place mark → IsMarkOf tokens place mark) →
     Means tokens p
 means-made tokens p leveled spelled marks = record {
   leveled = leveled;
-  spelled = fit-made 0 (pieces p) tokens spelled
+  spelled = fit-made 0 (symbols p) tokens spelled
       (λ i m kind is. let h = marks i m (kind, is) in record { place = omega (arith, h.place); line = h.line });
 }
 
--- the pieces with the kinds and marks of the tokens in place of their own
-unfoldable pub replaced : List Piece → List Placed → List Piece
+-- the symbols with the kinds and marks of the tokens in place of their own
+unfoldable pub replaced : List Symbol → List Placed → List Symbol
 replaced [] [] = []
 replaced [] (placed k m ∷ ts) = bare k ∷ []
 replaced (p ∷ ps) [] = []
@@ -91,7 +91,7 @@ replaced (bare k ∷ ps) (placed l n ∷ ts) = bare l ∷ replaced ps ts
 replaced (marked k m ∷ ps) (placed l n ∷ ts) = marked l n ∷ replaced ps ts
 
 -- for a spelling and tokens that are written out
-pub fit-computed : (ps : List Piece) (ts : List Placed) → ps ≡ replaced ps ts → Fit ps ts
+pub fit-computed : (ps : List Symbol) (ts : List Placed) → ps ≡ replaced ps ts → Fit ps ts
 unfolding replaced
 fit-computed [] [] same = means.none
 fit-computed [] (placed k m ∷ ts) same = absurd (cc same)

@@ -1,7 +1,7 @@
--- A printer puts the same pieces in front of whatever follows.
+-- A printer puts the same symbols in front of whatever follows.
 use Rattle.std.proofs.Common.{◌≡◌, Bool, true, false, List, [], ◌∷◌, ◌++◌, Option, Some, None, refl, sym, append_assoc}
 use Rattle.os_ast.specs.Spelling as s
-use Rattle.os_ast.specs.Spelling.{Piece, Printer, ◌⨾◌}
+use Rattle.os_ast.specs.Spelling.{Symbol, Printer, ◌⨾◌}
 use Rattle.os_ast.specs.Trees as tree
 use Rattle.os_ast.specs.declared.expr.Mark.{Mark}
 use Rattle.os_ast.specs.declared.program.Params.{Params}
@@ -12,7 +12,7 @@ use Rattle.os_lexer.specs.declared.token.Punct.{Punct}
 use Rattle.os_lexer.specs.declared.token.Punct.TheVariants as puncts
 
 pub record Prints (p : Printer) : Type 0 where
-  pub in_front : (rest : List Piece) → p rest ≡ p [] ++ rest
+  pub in_front : (rest : List Symbol) → p rest ≡ p [] ++ rest
 
 nothing : Prints s.nothing
 nothing = record { in_front = λ rest. refl }

@@ -1,14 +1,14 @@
 -- The tokens with which parts of a program begin.
 use Rattle.std.specs.Prelude.{ℕ, List, ◌∷◌}
-use Rattle.os_ast.specs.Spelling.{Piece, kind_of}
+use Rattle.os_ast.specs.Spelling.{Symbol, kind_of}
 use Rattle.os_lexer.specs.declared.token.Key.TheVariants as keys
 use Rattle.os_lexer.specs.declared.token.Kind.{Kind}
 use Rattle.os_lexer.specs.declared.token.Kind.TheVariants as kind
 use Rattle.os_lexer.specs.declared.token.Punct.TheVariants as puncts
 
--- the first piece has a kind of which P holds
-pub data BeginsWith (P : Kind → Type 0) : List Piece → Type 0 where
-  begins : {p : Piece} {rest : List Piece} → P (kind_of p) → BeginsWith P (p ∷ rest)
+-- the first symbol has a kind of which P holds
+pub data BeginsWith (P : Kind → Type 0) : List Symbol → Type 0 where
+  begins : {p : Symbol} {rest : List Symbol} → P (kind_of p) → BeginsWith P (p ∷ rest)
 
 -- a number, a name, `(`, or an operator with one operand
 pub data CanBeginExpr : Kind → Type 0 where

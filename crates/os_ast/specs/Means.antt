@@ -15,20 +15,20 @@ abbrev pub placed_from : ℕ → List Token → List Placed
 placed_from k [] = []
 placed_from k (t ∷ ts) = placed t.kind (record { place = k; line = t.line }) ∷ placed_from (suc k) ts
 
--- The pieces of a spelling fit the tokens, one by one: the kinds are equal, and so is each mark that the
+-- The symbols of a spelling fit the tokens, one by one: the kinds are equal, and so is each mark that the
 -- tree keeps.
-pub data Fit : List spelling.Piece → List Placed → Type 0 where
+pub data Fit : List spelling.Symbol → List Placed → Type 0 where
   none : Fit [] []
-  bare : {k : Kind} {m : Mark} {pieces : List spelling.Piece} {tokens : List Placed} →
-      Fit pieces tokens → Fit (spelling.bare k ∷ pieces) (placed k m ∷ tokens)
-  marked : {k : Kind} {m : Mark} {pieces : List spelling.Piece} {tokens : List Placed} →
-      Fit pieces tokens → Fit (spelling.marked k m ∷ pieces) (placed k m ∷ tokens)
+  bare : {k : Kind} {m : Mark} {symbols : List spelling.Symbol} {tokens : List Placed} →
+      Fit symbols tokens → Fit (spelling.bare k ∷ symbols) (placed k m ∷ tokens)
+  marked : {k : Kind} {m : Mark} {symbols : List spelling.Symbol} {tokens : List Placed} →
+      Fit symbols tokens → Fit (spelling.marked k m ∷ symbols) (placed k m ∷ tokens)
 
 -- The tokens mean the leveled program whose spelling is the list of their kinds, and whose every mark has
 -- its place in the list and that token's line.
 pub record Means (tokens : List Token) (p : ProgramTree) : Type 0 where
   pub leveled : IsLeveled p
-  pub spelled : Fit (spelling.pieces p) (placed_from 0 tokens)
+  pub spelled : Fit (spelling.symbols p) (placed_from 0 tokens)
 
 -- a list of tokens has at most one reading
 abbrev pub OneReading : Type 0

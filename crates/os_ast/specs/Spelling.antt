@@ -16,19 +16,19 @@ use Rattle.os_lexer.specs.declared.token.Kind.TheVariants as kind
 use Rattle.os_lexer.specs.declared.token.Punct.{Punct}
 use Rattle.os_lexer.specs.declared.token.Punct.TheVariants as puncts
 
--- A piece of a spelling: the kind of a token, or the kind with the mark that the tree keeps of the token.
-pub data Piece : Type 0 where
-  bare : Kind → Piece
-  marked : Kind → Mark → Piece
+-- A symbol of a spelling: the kind of a token, or the kind with the mark that the tree keeps of the token.
+pub data Symbol : Type 0 where
+  bare : Kind → Symbol
+  marked : Kind → Mark → Symbol
 
--- the kind of a piece
-abbrev pub kind_of : Piece → Kind
+-- the kind of a symbol
+abbrev pub kind_of : Symbol → Kind
 kind_of (bare k) = k
 kind_of (marked k m) = k
 
--- A printer puts the pieces of a part in front of what follows.
+-- A printer puts the symbols of a part in front of what follows.
 abbrev pub Printer : Type 0
-Printer = List Piece → List Piece
+Printer = List Symbol → List Symbol
 
 -- one printer after the other, as parts stand side by side in a production
 infixr 20 ◌⨾◌
@@ -288,10 +288,10 @@ item (tree.Function f) = function f
 abbrev pub program : tree.ProgramTree → Printer
 program p = each item p
 
--- the pieces of a whole program
-abbrev pub pieces : tree.ProgramTree → List Piece
-pieces p = program p []
+-- the symbols of a whole program
+abbrev pub symbols : tree.ProgramTree → List Symbol
+symbols p = program p []
 
 -- the kinds of the tokens that print a program
 abbrev pub spell : tree.ProgramTree → List Kind
-spell p = map kind_of (pieces p)
+spell p = map kind_of (symbols p)

@@ -8,7 +8,7 @@ ghost use Rattle.os_ast.specs.Marks.{HasMark, IsMarkOf};
 ghost use Rattle.os_ast.specs.Means.{Means};
 ghost use Rattle.os_ast.specs.Names.{Scope};
 ghost use Rattle.os_ast.specs.Notes.Statements.{after_stmt, after_stmts};
-ghost use Rattle.os_ast.specs.Spelling.{Piece, expr, stmt, item, pieces, spell};
+ghost use Rattle.os_ast.specs.Spelling.{Symbol, expr, stmt, item, symbols, spell};
 ghost use Rattle.os_ast.specs.Trees as tree;
 ghost use Rattle.os_ast.specs.declared.expr.Binary.{Binary};
 ghost use Rattle.os_ast.specs.declared.expr.Level.{Level};
@@ -18,16 +18,16 @@ ghost use Rattle.os_lexer.specs.declared.token.Token.{Token};
 /// What a part is spelled with begins with a token that can begin such a part, so nothing is spelled by
 /// no token: no expression, statement, declaration, constant or function.
 pub fn parts_begin()
-    ensures expressions { (e : tree.ExprTree) (rest : List Piece) → BeginsWith CanBeginExpr (expr e rest) }
-    ensures statements { (s : tree.StmtTree) (rest : List Piece) → BeginsWith CanBeginStmt (stmt s rest) }
-    ensures items { (i : tree.ItemTree) (rest : List Piece) → BeginsWith CanBeginItem (item i rest) }
+    ensures expressions { (e : tree.ExprTree) (rest : List Symbol) → BeginsWith CanBeginExpr (expr e rest) }
+    ensures statements { (s : tree.StmtTree) (rest : List Symbol) → BeginsWith CanBeginStmt (stmt s rest) }
+    ensures items { (i : tree.ItemTree) (rest : List Symbol) → BeginsWith CanBeginItem (item i rest) }
 {}
 
 /// A part is spelled in the same way whatever follows it.
 pub fn parts_stand_alone()
-    ensures expressions { (e : tree.ExprTree) (rest : List Piece) → expr e rest ≡ expr e [] ++ rest }
-    ensures statements { (s : tree.StmtTree) (rest : List Piece) → stmt s rest ≡ stmt s [] ++ rest }
-    ensures items { (i : tree.ItemTree) (rest : List Piece) → item i rest ≡ item i [] ++ rest }
+    ensures expressions { (e : tree.ExprTree) (rest : List Symbol) → expr e rest ≡ expr e [] ++ rest }
+    ensures statements { (s : tree.StmtTree) (rest : List Symbol) → stmt s rest ≡ stmt s [] ++ rest }
+    ensures items { (i : tree.ItemTree) (rest : List Symbol) → item i rest ≡ item i [] ++ rest }
 {}
 
 /// Parentheses are nodes: `(a)` isn't spelled as `a`.
@@ -55,10 +55,10 @@ pub fn else_is_the_nearest()
 pub fn meaning_by_tokens()
     ensures kinds { (tokens : List Token) (p : tree.ProgramTree) → Means tokens p → spell p ≡ map (λ t. t.kind) tokens }
     ensures marks { (tokens : List Token) (p : tree.ProgramTree) (place : ℕ) (mark : Mark) →
-        Means tokens p → HasMark (pieces p) place mark → IsMarkOf tokens place mark }
+        Means tokens p → HasMark (symbols p) place mark → IsMarkOf tokens place mark }
     ensures only { (tokens : List Token) (p : tree.ProgramTree) → IsLeveled p →
         spell p ≡ map (λ t. t.kind) tokens →
-        ((place : ℕ) (mark : Mark) → HasMark (pieces p) place mark → IsMarkOf tokens place mark) →
+        ((place : ℕ) (mark : Mark) → HasMark (symbols p) place mark → IsMarkOf tokens place mark) →
         Means tokens p }
 {}
 

@@ -4,16 +4,16 @@ use Rattle.std.proofs.lemmas.Bool.{cases_lt}
 use Rattle.std.proofs.lemmas.List.{drop-take}
 use Rattle.std.specs.Prelude.{count_by, bytes_eq, position, unwrap_or, not}
 use Rattle.os_lexer.specs.Bytes.{is_line_feed}
-use Rattle.os_lexer.specs.Cover.{Place, token_of, effect_at, Step, skips, gives, Leads, here, on, tokens_at_end, IsTokenCover, IsFirstFault}
+use Rattle.os_lexer.specs.Cover.{Point, token_of, effect_at, Step, skips, gives, Leads, here, on, tokens_at_end, IsTokenCover, IsFirstFault}
 use Rattle.os_lexer.specs.Effects.{effect}
-use Rattle.os_lexer.specs.Forms.{IsForm, IsPiece}
+use Rattle.os_lexer.specs.Forms.{IsForm, IsLexeme}
 use Rattle.os_lexer.specs.Laws.{CoverBeforeFault}
 use Rattle.os_lexer.specs.Lines.{line_of}
 use Rattle.os_lexer.specs.Names.{fixed_names, spelling, first_index, name_number}
 use Rattle.os_lexer.specs.declared.form.Form.{Form}
 use Rattle.os_lexer.specs.declared.token.Token.{Token}
 use Rattle.os_lexer.proofs.Cuts.{leads_within, fault_within, last_at_fault, one_way}
-use Rattle.os_lexer.proofs.PlaceCuts.{place_to_fault, place_kept}
+use Rattle.os_lexer.proofs.PointCuts.{point_to_fault, point_kept}
 
 -- the tokens stand in the first c bytes
 abbrev AreWithin : ℕ → List Token → Type 0
@@ -55,49 +55,49 @@ module _ (text : List ℕ) (c : ℕ) (inside : c ≤ length text) where
   number_before : (name : List ℕ) (tokens : List Token) → AreWithin c tokens → name_number (take c text) tokens name ≡ name_number text tokens name
   number_before name tokens within = ap (λ i. unwrap_or (position (bytes_eq name) fixed_names) (12 + i)) (index_before name tokens within)
 
-  effect_before : (p : Place) (f : Form) (n : ℕ) → AreWithin c p.tokens → p.at + n ≤ c → effect_at (take c text) p f n ≡ effect_at text p f n
+  effect_before : (p : Point) (f : Form) (n : ℕ) → AreWithin c p.tokens → p.at + n ≤ c → effect_at (take c text) p f n ≡ effect_at text p f n
   effect_before p f n within high =
       let slice = slice_before p.at n (omega arith) high in
       ap (λ s. effect p.mode (name_number (take c text) p.tokens s) f s) slice ∙ ap (λ k. effect p.mode k f (take n (drop p.at text))) (number_before (take n (drop p.at text)) p.tokens within)
 
-  piece_before : (at n : ℕ) (f : Form) → at + n ≤ c → IsPiece (drop at text) f n → IsPiece (drop at (take c text)) f n
-  piece_before at n f high is_piece =
+  lexeme_before : (at n : ℕ) (f : Form) → at + n ≤ c → IsLexeme (drop at text) f n → IsLexeme (drop at (take c text)) f n
+  lexeme_before at n f high is_lexeme =
       let low : at ≤ c = omega arith in
       let rest_is : length (drop at (take c text)) ≡ c - at = length-drop at (take c text) ∙ ap (λ k. k - at) before_length in
       record {
         within = omega arith;
-        of_form = subst (IsForm f) (sym (slice_before at n low high)) is_piece.of_form;
-        longest = λ other m within is_form. is_piece.longest other m (omega (arith, length-drop at text)) (subst (IsForm other) (slice_before at m low (omega arith)) is_form);
+        of_form = subst (IsForm f) (sym (slice_before at n low high)) is_lexeme.of_form;
+        longest = λ other m within is_form. is_lexeme.longest other m (omega (arith, length-drop at text)) (subst (IsForm other) (slice_before at m low (omega arith)) is_form);
       }
 
   -- a step within the first bytes is one of theirs
-  step_before : {p q : Place} → Step text p q → AreWithin c p.tokens → q.at ≤ c → Step (take c text) p q × AreWithin c q.tokens
-  step_before (skips {p = p} {form = form} {n = n} {mode = mode} is_piece e) within high =
-      (skips (piece_before p.at n form high is_piece) (effect_before p form n within high ∙ e), within)
-  step_before (gives {p = p} {form = form} {n = n} {kind = kind} {mode = mode} is_piece e) within high =
+  step_before : {p q : Point} → Step text p q → AreWithin c p.tokens → q.at ≤ c → Step (take c text) p q × AreWithin c q.tokens
+  step_before (skips {p = p} {form = form} {n = n} {mode = mode} is_lexeme e) within high =
+      (skips (lexeme_before p.at n form high is_lexeme) (effect_before p form n within high ∙ e), within)
+  step_before (gives {p = p} {form = form} {n = n} {kind = kind} {mode = mode} is_lexeme e) within high =
       let low : p.at ≤ c = omega arith in (
         subst (λ line. Step (take c text) p (record { at = p.at + n; mode = mode; tokens = p.tokens ++ record { kind = kind; start = p.at; end = p.at + n; line = line } ∷ [] }))
             (line_before p.at low)
-            (gives (piece_before p.at n form high is_piece) (effect_before p form n within high ∙ e)),
+            (gives (lexeme_before p.at n form high is_lexeme) (effect_before p form n within high ∙ e)),
         AreWithin-push c p.tokens (token_of text kind p.at (p.at + n)) within low high,
       )
 
-  leads_before : {p q : Place} → Leads text p q → AreWithin c p.tokens → q.at ≤ c → Leads (take c text) p q
+  leads_before : {p q : Point} → Leads text p q → AreWithin c p.tokens → q.at ≤ c → Leads (take c text) p q
   leads_before here within high = here
   leads_before (on s l) within high =
       let first = step_before s within (omega (arith, leads_within text l)) in
       on first.0 (leads_before l first.1 high)
 
 before_fault : (text : List ℕ) (code line : ℕ) (f : IsFirstFault text code line) →
-    (f.place.at < length text) × ((tokens : List Token) × IsTokenCover (take f.place.at text) tokens)
+    (f.point.at < length text) × ((tokens : List Token) × IsTokenCover (take f.point.at text) tokens)
 before_fault text code line f =
-    let p = f.place in
+    let p = f.point in
     let inside = fault_within text f.stands in (
       inside,
       (
         p.tokens ++ tokens_at_end (take p.at text) p.mode,
         record {
-          place = p;
+          point = p;
           reached = leads_before text p.at (omega (arith, inside)) f.reached tt (omega arith);
           ends = sym (before_length text p.at (omega (arith, inside)));
           all_tokens = refl;
@@ -105,21 +105,21 @@ before_fault text code line f =
       ),
     )
 
-one_place : (text : List ℕ) (code line code' line' : ℕ) (f : IsFirstFault text code line) (g : IsFirstFault text code' line') → f.place ≡ g.place
-one_place text code line code' line' f g =
-    one_way text f.reached g.reached (last_at_fault text f.place f.wrong f.stands) (last_at_fault text g.place g.wrong g.stands)
+one_point : (text : List ℕ) (code line code' line' : ℕ) (f : IsFirstFault text code line) (g : IsFirstFault text code' line') → f.point ≡ g.point
+one_point text code line code' line' f g =
+    one_way text f.reached g.reached (last_at_fault text f.point f.wrong f.stands) (last_at_fault text g.point g.wrong g.stands)
 
 pub cover_before_fault : CoverBeforeFault
-cover_before_fault text code place f =
-    let first = place_to_fault text code place f in
-    let here : first.place.at ≡ place = place_kept text code place f in
-    let before = before_fault text code (line_of text place) first in (
+cover_before_fault text code point f =
+    let first = point_to_fault text code point f in
+    let here : first.point.at ≡ point = point_kept text code point f in
+    let before = before_fault text code (line_of text point) first in (
       omega (arith, before.0, here),
       subst (λ at. (tokens : List Token) × IsTokenCover (take at text) tokens) here before.1,
       (λ other code' g.
-          let second = place_to_fault text code' other g in
-          let there : second.place.at ≡ other = place_kept text code' other g in
-          let same : first.place ≡ second.place = one_place text code (line_of text place) code' (line_of text other) first second in
-          let at_same : first.place.at ≡ second.place.at = ap (λ p. p.at) same in
+          let second = point_to_fault text code' other g in
+          let there : second.point.at ≡ other = point_kept text code' other g in
+          let same : first.point ≡ second.point = one_point text code (line_of text point) code' (line_of text other) first second in
+          let at_same : first.point.at ≡ second.point.at = ap (λ p. p.at) same in
           omega (arith, at_same, here, there)),
     )

@@ -1,56 +1,56 @@
 -- The searches in a slice, step by step.
 use Rattle.std.proofs.Common.{◌≡◌, ℕ, ◌+◌, ◌<◌, ◌≤◌, true, false, List, length}
 use Rattle.os_lexer.specs.Reading.{ends_run, ends_blanks, ends_line, closes, run_end, blanks_end, line_end, comment_end}
-use Rattle.os_lexer.proofs.FirstPlaces.{first_from-more, first_from-here, first_from-past}
+use Rattle.os_lexer.proofs.FirstPoints.{first_from-more, first_from-here, first_from-past}
 
-module _ (bytes : List ℕ) (place : ℕ) where
-  pub run_end_more : place < length bytes → ends_run bytes place ≡ false → run_end bytes place ≡ run_end bytes (place + 1)
+module _ (bytes : List ℕ) (point : ℕ) where
+  pub run_end_more : point < length bytes → ends_run bytes point ≡ false → run_end bytes point ≡ run_end bytes (point + 1)
   unfolding run_end
-  run_end_more below fails = first_from-more (ends_run bytes) (length bytes) place below fails
+  run_end_more below fails = first_from-more (ends_run bytes) (length bytes) point below fails
 
-  pub run_end_here : place < length bytes → ends_run bytes place ≡ true → run_end bytes place ≡ place
+  pub run_end_here : point < length bytes → ends_run bytes point ≡ true → run_end bytes point ≡ point
   unfolding run_end
-  run_end_here below holds = first_from-here (ends_run bytes) (length bytes) place below holds
+  run_end_here below holds = first_from-here (ends_run bytes) (length bytes) point below holds
 
-  pub run_end_past : length bytes ≤ place → run_end bytes place ≡ place
+  pub run_end_past : length bytes ≤ point → run_end bytes point ≡ point
   unfolding run_end
-  run_end_past past = first_from-past (ends_run bytes) (length bytes) place past
+  run_end_past past = first_from-past (ends_run bytes) (length bytes) point past
 
-  pub blanks_end_more : place < length bytes → ends_blanks bytes place ≡ false → blanks_end bytes place ≡ blanks_end bytes (place + 1)
+  pub blanks_end_more : point < length bytes → ends_blanks bytes point ≡ false → blanks_end bytes point ≡ blanks_end bytes (point + 1)
   unfolding blanks_end
-  blanks_end_more below fails = first_from-more (ends_blanks bytes) (length bytes) place below fails
+  blanks_end_more below fails = first_from-more (ends_blanks bytes) (length bytes) point below fails
 
-  pub blanks_end_here : place < length bytes → ends_blanks bytes place ≡ true → blanks_end bytes place ≡ place
+  pub blanks_end_here : point < length bytes → ends_blanks bytes point ≡ true → blanks_end bytes point ≡ point
   unfolding blanks_end
-  blanks_end_here below holds = first_from-here (ends_blanks bytes) (length bytes) place below holds
+  blanks_end_here below holds = first_from-here (ends_blanks bytes) (length bytes) point below holds
 
-  pub blanks_end_past : length bytes ≤ place → blanks_end bytes place ≡ place
+  pub blanks_end_past : length bytes ≤ point → blanks_end bytes point ≡ point
   unfolding blanks_end
-  blanks_end_past past = first_from-past (ends_blanks bytes) (length bytes) place past
+  blanks_end_past past = first_from-past (ends_blanks bytes) (length bytes) point past
 
-  pub line_end_more : place < length bytes → ends_line bytes place ≡ false → line_end bytes place ≡ line_end bytes (place + 1)
+  pub line_end_more : point < length bytes → ends_line bytes point ≡ false → line_end bytes point ≡ line_end bytes (point + 1)
   unfolding line_end
-  line_end_more below fails = first_from-more (ends_line bytes) (length bytes) place below fails
+  line_end_more below fails = first_from-more (ends_line bytes) (length bytes) point below fails
 
-  pub line_end_here : place < length bytes → ends_line bytes place ≡ true → line_end bytes place ≡ place
+  pub line_end_here : point < length bytes → ends_line bytes point ≡ true → line_end bytes point ≡ point
   unfolding line_end
-  line_end_here below holds = first_from-here (ends_line bytes) (length bytes) place below holds
+  line_end_here below holds = first_from-here (ends_line bytes) (length bytes) point below holds
 
-  pub line_end_past : length bytes ≤ place → line_end bytes place ≡ place
+  pub line_end_past : length bytes ≤ point → line_end bytes point ≡ point
   unfolding line_end
-  line_end_past past = first_from-past (ends_line bytes) (length bytes) place past
+  line_end_past past = first_from-past (ends_line bytes) (length bytes) point past
 
-  pub comment_end_more : place < length bytes → closes bytes place ≡ false → comment_end bytes place ≡ comment_end bytes (place + 1)
+  pub comment_end_more : point < length bytes → closes bytes point ≡ false → comment_end bytes point ≡ comment_end bytes (point + 1)
   unfolding comment_end
-  comment_end_more below fails = first_from-more (closes bytes) (length bytes) place below fails
+  comment_end_more below fails = first_from-more (closes bytes) (length bytes) point below fails
 
-  pub comment_end_here : place < length bytes → closes bytes place ≡ true → comment_end bytes place ≡ place
+  pub comment_end_here : point < length bytes → closes bytes point ≡ true → comment_end bytes point ≡ point
   unfolding comment_end
-  comment_end_here below holds = first_from-here (closes bytes) (length bytes) place below holds
+  comment_end_here below holds = first_from-here (closes bytes) (length bytes) point below holds
 
-  pub comment_end_past : length bytes ≤ place → comment_end bytes place ≡ place
+  pub comment_end_past : length bytes ≤ point → comment_end bytes point ≡ point
   unfolding comment_end
-  comment_end_past past = first_from-past (closes bytes) (length bytes) place past
+  comment_end_past past = first_from-past (closes bytes) (length bytes) point past
 
 pub ruleset run_ends = (run_end_more, run_end_here, run_end_past)
 

@@ -4,9 +4,9 @@ use Rattle.std.proofs.lemmas.Bool.{cond_both}
 use Rattle.std.specs.List.{list_any}
 use Rattle.std.specs.Prelude.{nat_le}
 use Rattle.os_lexer.specs.Bytes.{is_line_feed}
-use Rattle.os_lexer.specs.Cover.{Place, token_of, effect_at, Step, skips, gives, Leads, here, on, tokens_at_end}
+use Rattle.os_lexer.specs.Cover.{Point, token_of, effect_at, Step, skips, gives, Leads, here, on, tokens_at_end}
 use Rattle.os_lexer.specs.Effects.{effect, directive_effect, space_effect, number_effect, word_kind, mode_after_token, mode_after_gap}
-use Rattle.os_lexer.specs.Forms.{IsForm, IsPiece}
+use Rattle.os_lexer.specs.Forms.{IsForm, IsLexeme}
 use Rattle.os_lexer.specs.Keywords.{key_of}
 use Rattle.os_lexer.specs.Laws.{FewTokens}
 use Rattle.os_lexer.specs.Names.{name_number}
@@ -20,7 +20,7 @@ use Rattle.os_lexer.specs.declared.mode.Mode.{Mode}
 use Rattle.os_lexer.specs.declared.mode.Mode.TheVariants.{LineStart, InLine, InPragma}
 use Rattle.os_lexer.specs.declared.token.Kind.{Kind}
 use Rattle.os_lexer.specs.declared.token.Kind.TheVariants as kind
-use Rattle.os_lexer.proofs.Cuts.{IsPiece-some}
+use Rattle.os_lexer.proofs.Cuts.{IsLexeme-some}
 
 -- within a pragma's line one more token is to come, its end
 abbrev owed : Mode → ℕ
@@ -76,21 +76,21 @@ effect_owes mode name n form.Number s some long p = number_owes mode n (number_v
 effect_owes mode name n (form.Mark k) s some long p = token_owes mode n (kind.Punct k) some
 
 -- there are at least as many bytes as tokens, the one that is owed included
-abbrev Pays : Place → Type 0
+abbrev Pays : Point → Type 0
 Pays p = length p.tokens + owed p.mode ≤ p.at
 
 module _ (text : List ℕ) where
-  piece_owes : (p : Place) (f : Form) (n : ℕ) (e : Effect) → IsPiece (drop p.at text) f n → effect_at text p f n ≡ e → OwesNoMore (owed p.mode) n e
-  piece_owes p f n e is_piece is =
-      let some = IsPiece-some (drop p.at text) f n is_piece in
-      subst (OwesNoMore (owed p.mode) n) is (effect_owes p.mode (name_number text p.tokens (take n (drop p.at text))) n f (take n (drop p.at text)) some.0 (length-take-le n (drop p.at text) some.1) is_piece.of_form)
+  lexeme_owes : (p : Point) (f : Form) (n : ℕ) (e : Effect) → IsLexeme (drop p.at text) f n → effect_at text p f n ≡ e → OwesNoMore (owed p.mode) n e
+  lexeme_owes p f n e is_lexeme is =
+      let some = IsLexeme-some (drop p.at text) f n is_lexeme in
+      subst (OwesNoMore (owed p.mode) n) is (effect_owes p.mode (name_number text p.tokens (take n (drop p.at text))) n f (take n (drop p.at text)) some.0 (length-take-le n (drop p.at text) some.1) is_lexeme.of_form)
 
-  step_pays : {p q : Place} → Step text p q → Pays p → Pays q
-  step_pays (skips {p = p} {form = form} {n = n} {mode = mode} is_piece e) pays = omega (arith, pays, piece_owes p form n (Skip mode) is_piece e)
-  step_pays (gives {p = p} {form = form} {n = n} {kind = kind} {mode = mode} is_piece e) pays =
-      omega (arith, pays, piece_owes p form n (Give kind mode) is_piece e, length-append p.tokens (token_of text kind p.at (p.at + n) ∷ []))
+  step_pays : {p q : Point} → Step text p q → Pays p → Pays q
+  step_pays (skips {p = p} {form = form} {n = n} {mode = mode} is_lexeme e) pays = omega (arith, pays, lexeme_owes p form n (Skip mode) is_lexeme e)
+  step_pays (gives {p = p} {form = form} {n = n} {kind = kind} {mode = mode} is_lexeme e) pays =
+      omega (arith, pays, lexeme_owes p form n (Give kind mode) is_lexeme e, length-append p.tokens (token_of text kind p.at (p.at + n) ∷ []))
 
-  leads_pays : {p q : Place} → Leads text p q → Pays p → Pays q
+  leads_pays : {p q : Point} → Leads text p q → Pays p → Pays q
   leads_pays here pays = pays
   leads_pays (on s l) pays = leads_pays l (step_pays s pays)
 
@@ -102,4 +102,4 @@ module _ (text : List ℕ) where
 pub few_tokens : FewTokens
 few_tokens text tokens cover =
     let pays = leads_pays text cover.reached (omega arith) in
-    omega (arith, pays, cover.ends, ap length cover.all_tokens, length-append cover.place.tokens (tokens_at_end text cover.place.mode), length-end text cover.place.mode)
+    omega (arith, pays, cover.ends, ap length cover.all_tokens, length-append cover.point.tokens (tokens_at_end text cover.point.mode), length-end text cover.point.mode)

@@ -10,31 +10,31 @@ use Rattle.os_lexer.specs.Bytes.{is_white, is_blank, is_letter, is_digit, is_wor
 use Rattle.os_lexer.specs.Lines.{EndsJoinedLine}
 use Rattle.os_lexer.specs.Forms.{IsRun, IsWord, IsHashTo, IsForm}
 use Rattle.os_lexer.specs.Marks.{mark_spelling}
-use Rattle.os_lexer.specs.Reading.{class_of, ends_run, ends_blanks, ends_line, is_joined, closes, run_end, blanks_end, line_end, comment_end, piece, joined_line_at, mark_at, comment_at, slash_at, named_directive, directive_at, piece_of, piece_at}
+use Rattle.os_lexer.specs.Reading.{class_of, ends_run, ends_blanks, ends_line, is_joined, closes, run_end, blanks_end, line_end, comment_end, lexeme, joined_line_at, mark_at, comment_at, slash_at, named_directive, directive_at, lexeme_of, lexeme_at}
 use Rattle.os_lexer.specs.declared.bytes.Class.{Class}
 use Rattle.os_lexer.specs.declared.bytes.Class.TheVariants.{White, Letter, Digit, Backslash, Slash, Hash, Other}
 use Rattle.os_lexer.specs.declared.form.Form.TheVariants as form
-use Rattle.os_lexer.specs.declared.form.Piece.{Piece}
+use Rattle.os_lexer.specs.declared.form.Lexeme.{Lexeme}
 use Rattle.os_lexer.proofs.Classes.{is_white-of_class, is_letter-of_class, is_digit-of_class, backslash-of_class, slash-of_class, hash-of_class, letter_is_word_byte, digit_is_word_byte}
-use Rattle.os_lexer.proofs.FirstPlaces.{IsFirst}
+use Rattle.os_lexer.proofs.FirstPoints.{IsFirst}
 use Rattle.os_lexer.proofs.Longest.{run_end-first, blanks_end-first, line_end-first, comment_end-first, has_second}
 use Rattle.os_lexer.proofs.MarkSpellings.{length-spelling, mark_at-is}
 
--- what a piece that is found says of the bytes
-pub record IsFound (bytes : List ℕ) (p : Piece) : Type 0 where
+-- what a lexeme that is found says of the bytes
+pub record IsFound (bytes : List ℕ) (p : Lexeme) : Type 0 where
   pub some : 0 < p.length
   pub within : p.length ≤ length bytes
   pub of_form : IsForm p.form (take p.length bytes)
 
--- the answer is such a piece, if it is one
-abbrev Finds : List ℕ → Option Piece → Type 0
-Finds bytes found = (p : Piece) → found ≡ Some p → IsFound bytes p
+-- the answer is such a lexeme, if it is one
+abbrev Finds : List ℕ → Option Lexeme → Type 0
+Finds bytes found = (p : Lexeme) → found ≡ Some p → IsFound bytes p
 
 finds_none : (bytes : List ℕ) → Finds bytes None
 finds_none bytes p e = cc
 
-finds_piece : (bytes : List ℕ) (p : Piece) → IsFound bytes p → Finds bytes (Some p)
-finds_piece bytes p found q e = let same : p ≡ q = cc in subst (IsFound bytes) same found
+finds_lexeme : (bytes : List ℕ) (p : Lexeme) → IsFound bytes p → Finds bytes (Some p)
+finds_lexeme bytes p found q e = let same : p ≡ q = cc in subst (IsFound bytes) same found
 
 two_bytes : (bytes : List ℕ) (a b : ℕ) → 2 ≤ length bytes → slice_index bytes 0 ≡ a → slice_index bytes 1 ≡ b → take 2 bytes ≡ a ∷ b ∷ []
 two_bytes [] a b long e f = absurd (omega arith)
@@ -73,7 +73,7 @@ module _ (bytes : List ℕ) (nonempty : 0 < length bytes) where
   front_at : (m i : ℕ) → i < m → slice_index (take m bytes) i ≡ slice_index bytes i
   front_at m i below = get_or-take m bytes i 0 below
 
-  finds-white : is_white (slice_index bytes 0) ≡ true → IsFound bytes (piece form.Space 1)
+  finds-white : is_white (slice_index bytes 0) ≡ true → IsFound bytes (lexeme form.Space 1)
   finds-white white = record {
     some = omega arith;
     within = omega arith;
@@ -93,7 +93,7 @@ module _ (bytes : List ℕ) (nonempty : 0 < length bytes) where
             (cases_lt i 1),
       )
 
-  finds-letter : is_letter (slice_index bytes 0) ≡ true → IsFound bytes (piece form.Word (run_end bytes 1))
+  finds-letter : is_letter (slice_index bytes 0) ≡ true → IsFound bytes (lexeme form.Word (run_end bytes 1))
   finds-letter letter =
       let first = run_end-first bytes 1 (omega arith) in
       record {
@@ -102,7 +102,7 @@ module _ (bytes : List ℕ) (nonempty : 0 < length bytes) where
         of_form = record { run = run_to (letter_is_word_byte (slice_index bytes 0) letter); begins = ap is_letter (front_at (run_end bytes 1) 0 (omega (arith, first.low))) ∙ letter };
       }
 
-  finds-digit : is_digit (slice_index bytes 0) ≡ true → IsFound bytes (piece form.Number (run_end bytes 1))
+  finds-digit : is_digit (slice_index bytes 0) ≡ true → IsFound bytes (lexeme form.Number (run_end bytes 1))
   finds-digit digit =
       let first = run_end-first bytes 1 (omega arith) in
       record {
@@ -118,13 +118,13 @@ module _ (bytes : List ℕ) (nonempty : 0 < length bytes) where
       (λ e.
       let second : slice_index bytes 1 ≡ 10 = eqb-true _ _ e in
       let long = has_second bytes 10 second (omega arith) in
-      finds_piece bytes (piece form.JoinedLine 2) (record { some = omega arith; within = long; of_form = inl (two_bytes bytes 92 10 long first second) }))
+      finds_lexeme bytes (lexeme form.JoinedLine 2) (record { some = omega arith; within = long; of_form = inl (two_bytes bytes 92 10 long first second) }))
       (λ no_feed. cond_both (slice_index bytes 1 == 13 && slice_index bytes 2 == 10) _ _ (Finds bytes)
       (λ e.
       let second : slice_index bytes 1 ≡ 13 = eqb-true (slice_index bytes 1) 13 (and_parts (slice_index bytes 1 == 13) (slice_index bytes 2 == 10) e).0 in
       let third : slice_index bytes 2 ≡ 10 = eqb-true (slice_index bytes 2) 10 (and_parts (slice_index bytes 1 == 13) (slice_index bytes 2 == 10) e).1 in
       let long = has_third bytes 10 third (omega arith) in
-      finds_piece bytes (piece form.JoinedLine 3) (record { some = omega arith; within = long; of_form = inr (three_bytes bytes 92 13 10 long first second third) }))
+      finds_lexeme bytes (lexeme form.JoinedLine 3) (record { some = omega arith; within = long; of_form = inr (three_bytes bytes 92 13 10 long first second third) }))
       (λ no_return. finds_none bytes))
 
   finds-mark : Finds bytes (mark_at bytes)
@@ -133,7 +133,7 @@ module _ (bytes : List ℕ) (nonempty : 0 < length bytes) where
       let n = found.0 in
       let m = found.1.mark in
       let is_length : length (mark_spelling m) ≡ n = sym (ap length found.1.spelled) ∙ front_length n found.1.within in
-      subst (IsFound bytes) (sym found.1.is_piece) (record { some = omega (arith, (length-spelling m).0); within = found.1.within; of_form = found.1.spelled })
+      subst (IsFound bytes) (sym found.1.is_lexeme) (record { some = omega (arith, (length-spelling m).0); within = found.1.within; of_form = found.1.spelled })
 
   -- two bytes at the front
   pair_at_front : (m b : ℕ) → m ≤ length bytes → 2 ≤ m → slice_index bytes 0 ≡ 47 → slice_index bytes 1 ≡ b → IsPairAt (take m bytes) 0 47 b
@@ -153,7 +153,7 @@ module _ (bytes : List ℕ) (nonempty : 0 < length bytes) where
       (λ return. inr (front_at m (i - 1) (omega arith) ∙ eqb-true _ _ (and_parts _ _ return).0, front_at m (i - 2) (omega arith) ∙ eqb-true _ _ (and_parts _ _ return).1))
       (or_cases _ _ joined)
 
-  finds-line_comment : slice_index bytes 0 ≡ 47 → slice_index bytes 1 ≡ 47 → IsFound bytes (piece form.LineComment (line_end bytes 2))
+  finds-line_comment : slice_index bytes 0 ≡ 47 → slice_index bytes 1 ≡ 47 → IsFound bytes (lexeme form.LineComment (line_end bytes 2))
   finds-line_comment first second =
       let long = has_second bytes 47 second (omega arith) in
       let line = line_end-first bytes 2 long in
@@ -172,7 +172,7 @@ module _ (bytes : List ℕ) (nonempty : 0 < length bytes) where
         };
       }
 
-  -- a `*/` at a place of the bytes is within them
+  -- a `*/` at a point of the bytes is within them
   closes_within : (i : ℕ) → closes bytes i ≡ true → i + 2 ≤ length bytes
   closes_within i e =
       let second : slice_index bytes (i + 1) ≡ 47 = eqb-true (slice_index bytes (i + 1)) 47 (and_parts (slice_index bytes i == 42) (slice_index bytes (i + 1) == 47) e).1 in
@@ -197,7 +197,7 @@ module _ (bytes : List ℕ) (nonempty : 0 < length bytes) where
       let long = has_second bytes 42 second (omega arith) in
       let search_is = comment_end-first bytes 2 long in
       let end = comment_end bytes 2 in
-      cond_both (nat_lt end (length bytes)) (piece form.BlockComment (end + 2)) (piece form.OpenComment (length bytes)) (IsFound bytes)
+      cond_both (nat_lt end (length bytes)) (lexeme form.BlockComment (end + 2)) (lexeme form.OpenComment (length bytes)) (IsFound bytes)
       (λ below.
       let inside : end < length bytes = ltb-true _ _ below in
       let passes = search_is.here inside in
@@ -231,9 +231,9 @@ module _ (bytes : List ℕ) (nonempty : 0 < length bytes) where
   unfolding slash_at
   finds-slash first =
       cond_both (slice_index bytes 1 == 47) _ _ (Finds bytes)
-      (λ e. finds_piece bytes _ (finds-line_comment first (eqb-true _ _ e)))
+      (λ e. finds_lexeme bytes _ (finds-line_comment first (eqb-true _ _ e)))
       (λ no_line. cond_both (slice_index bytes 1 == 42) _ _ (Finds bytes)
-      (λ e. finds_piece bytes _ (finds-comment first (eqb-true _ _ e)))
+      (λ e. finds_lexeme bytes _ (finds-comment first (eqb-true _ _ e)))
       (λ no_comment. finds-mark))
 
   -- the word behind a `#`
@@ -286,7 +286,7 @@ module _ (bytes : List ℕ) (nonempty : 0 < length bytes) where
         (cases_lt i k))
         (cases_lt i 1)
 
-    finds-include : slice_range bytes k (run_end bytes k) ≡ codes "include" → IsFound bytes (piece form.IncludeLine (line_end bytes (run_end bytes k)))
+    finds-include : slice_range bytes k (run_end bytes k) ≡ codes "include" → IsFound bytes (lexeme form.IncludeLine (line_end bytes (run_end bytes k)))
     finds-include named =
         let e = run_end bytes k in
         let line = line_end-first bytes e the_run.high in
@@ -306,8 +306,8 @@ module _ (bytes : List ℕ) (nonempty : 0 < length bytes) where
             hash = hash_to n (omega (arith, line.low)) line.high;
             named = name_is;
             whole_word = λ inside.
-                let place : e ≡ k + 7 = omega arith in
-                ap is_word_byte (front_at n (k + 7) (omega arith) ∙ ap (λ j. slice_index bytes j) (sym place)) ∙ true_not (the_run.here (omega (arith, line.high)));
+                let point : e ≡ k + 7 = omega arith in
+                ap is_word_byte (front_at n (k + 7) (omega arith) ∙ ap (λ j. slice_index bytes j) (sym point)) ∙ true_not (the_run.here (omega (arith, line.high)));
             on_line = λ i below feed.
                 let inside : i < n = omega arith in
                 ⊎_elim
@@ -323,13 +323,13 @@ module _ (bytes : List ℕ) (nonempty : 0 < length bytes) where
         let e = run_end bytes k in
         let some = word_some in
         let same_name : slice_range bytes k e ≡ drop k (take e bytes) = between_is bytes k e in
-        cond_both (bytes_eq (slice_range bytes k e) (codes "pragma")) (piece form.PragmaStart e) _ (IsFound bytes)
+        cond_both (bytes_eq (slice_range bytes k e) (codes "pragma")) (lexeme form.PragmaStart e) _ (IsFound bytes)
         (λ is_pragma. record {
           some = omega arith;
           within = the_run.high;
           of_form = record { name_at = k; hash = hash_to e the_run.low the_run.high; named = sym same_name ∙ (bytes_eq-Decides _ _).0 is_pragma };
         })
-        (λ no_pragma. cond_both (bytes_eq (slice_range bytes k e) (codes "include")) (piece form.IncludeLine (line_end bytes e)) (piece form.OtherDirective e) (IsFound bytes)
+        (λ no_pragma. cond_both (bytes_eq (slice_range bytes k e) (codes "include")) (lexeme form.IncludeLine (line_end bytes e)) (lexeme form.OtherDirective e) (IsFound bytes)
         (λ is_include. finds-include ((bytes_eq-Decides _ _).0 is_include))
         (λ no_include. record {
           some = omega arith;
@@ -348,18 +348,18 @@ module _ (bytes : List ℕ) (nonempty : 0 < length bytes) where
   finds-hash first =
       let k = blanks_end bytes 1 in
       cond_both (is_letter (slice_index bytes k)) (Some (named_directive bytes k)) None (Finds bytes)
-      (λ letter. finds_piece bytes _ (finds-named first k (blanks_end-first bytes 1 nonempty) letter))
+      (λ letter. finds_lexeme bytes _ (finds-named first k (blanks_end-first bytes 1 nonempty) letter))
       (λ no_word. finds_none bytes)
 
-  finds-class : (c : Class) → class_of (slice_index bytes 0) ≡ c → Finds bytes (piece_of c bytes)
-  finds-class White e = finds_piece bytes _ (finds-white (is_white-of_class (slice_index bytes 0) e))
-  finds-class Letter e = finds_piece bytes _ (finds-letter (is_letter-of_class (slice_index bytes 0) e))
-  finds-class Digit e = finds_piece bytes _ (finds-digit (is_digit-of_class (slice_index bytes 0) e))
+  finds-class : (c : Class) → class_of (slice_index bytes 0) ≡ c → Finds bytes (lexeme_of c bytes)
+  finds-class White e = finds_lexeme bytes _ (finds-white (is_white-of_class (slice_index bytes 0) e))
+  finds-class Letter e = finds_lexeme bytes _ (finds-letter (is_letter-of_class (slice_index bytes 0) e))
+  finds-class Digit e = finds_lexeme bytes _ (finds-digit (is_digit-of_class (slice_index bytes 0) e))
   finds-class Backslash e = finds-backslash (backslash-of_class (slice_index bytes 0) e)
   finds-class Slash e = finds-slash (slash-of_class (slice_index bytes 0) e)
   finds-class Hash e = finds-hash (hash-of_class (slice_index bytes 0) e)
   finds-class Other e = finds-mark
 
-  pub found_is : (p : Piece) → piece_at bytes ≡ Some p → IsFound bytes p
-  unfolding piece_at
+  pub found_is : (p : Lexeme) → lexeme_at bytes ≡ Some p → IsFound bytes p
+  unfolding lexeme_at
   found_is p e = finds-class (class_of (slice_index bytes 0)) refl p e

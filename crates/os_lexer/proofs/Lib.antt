@@ -1,4 +1,4 @@
-pub mod FirstPlaces
+pub mod FirstPoints
 pub mod Classes
 pub mod MarkSpellings
 pub mod Longest
@@ -10,7 +10,7 @@ pub mod Values
 pub mod Positions
 pub mod NamedTokens
 pub mod Advance
-pub mod PlaceCuts
+pub mod PointCuts
 pub mod BeforeFaults
 pub mod Outcomes
 pub mod FewTokens

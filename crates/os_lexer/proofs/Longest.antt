@@ -11,16 +11,16 @@ use Rattle.os_lexer.specs.Bytes.{is_white, is_blank, is_letter, is_digit, is_wor
 use Rattle.os_lexer.specs.Lines.{EndsJoinedLine, StaysOnLine}
 use Rattle.os_lexer.specs.Forms.{IsSpace, IsJoinedLine, IsLineComment, IsBlockComment, IsOpenComment, IsRun, IsWord, IsNumberRun, IsHashTo, IsIncludeLine, IsPragmaStart, IsOtherDirective, IsForm}
 use Rattle.os_lexer.specs.Marks.{mark_spelling}
-use Rattle.os_lexer.specs.Reading.{class_of, ends_run, ends_blanks, ends_line, is_joined, closes, run_end, blanks_end, line_end, comment_end, piece, joined_line_at, mark_at, comment_at, slash_at, named_directive, directive_at, piece_of, piece_at}
+use Rattle.os_lexer.specs.Reading.{class_of, ends_run, ends_blanks, ends_line, is_joined, closes, run_end, blanks_end, line_end, comment_end, lexeme, joined_line_at, mark_at, comment_at, slash_at, named_directive, directive_at, lexeme_of, lexeme_at}
 use Rattle.os_lexer.specs.declared.bytes.Class.{Class}
 use Rattle.os_lexer.specs.declared.bytes.Class.TheVariants.{White, Letter, Digit, Backslash, Slash, Hash, Other}
 use Rattle.os_lexer.specs.declared.form.Form.{Form}
 use Rattle.os_lexer.specs.declared.form.Form.TheVariants as form
-use Rattle.os_lexer.specs.declared.form.Piece.{Piece}
+use Rattle.os_lexer.specs.declared.form.Lexeme.{Lexeme}
 use Rattle.os_lexer.specs.declared.token.Punct.{Punct}
 use Rattle.os_lexer.specs.declared.token.Punct.TheVariants as mark
 use Rattle.os_lexer.proofs.Classes.{class_of-white, class_of-letter, class_of-digit}
-use Rattle.os_lexer.proofs.FirstPlaces.{IsFirst, IsFirst-in, IsFirst-passes, IsFirst-is}
+use Rattle.os_lexer.proofs.FirstPoints.{IsFirst, IsFirst-in, IsFirst-passes, IsFirst-is}
 use Rattle.os_lexer.proofs.MarkSpellings.{FindsAtLeast, length-spelling, mark_at-finds}
 
 -- the searches in a slice
@@ -69,18 +69,18 @@ unfolding named_directive
 named_directive-as_long bytes k within =
     let end = run_end bytes k in
     let line = line_end-first bytes end (run_end-first bytes k within).high in
-    let P : Piece → Type 0 = λ p. end ≤ p.length in
+    let P : Lexeme → Type 0 = λ p. end ≤ p.length in
     cond_both (bytes_eq (slice_range bytes k end) (codes "pragma")) _ _ P (λ _. omega arith)
     (λ _. cond_both (bytes_eq (slice_range bytes k end) (codes "include")) _ _ P (λ _. line.low) (λ _. omega arith))
 
 -- the class of the first byte says what is found
-pub piece_at-of_class : (bytes : List ℕ) (c : Class) → class_of (slice_index bytes 0) ≡ c → piece_at bytes ≡ piece_of c bytes
-unfolding piece_at
-piece_at-of_class bytes c e = ap (λ k. piece_of k bytes) e
+pub lexeme_at-of_class : (bytes : List ℕ) (c : Class) → class_of (slice_index bytes 0) ≡ c → lexeme_at bytes ≡ lexeme_of c bytes
+unfolding lexeme_at
+lexeme_at-of_class bytes c e = ap (λ k. lexeme_of k bytes) e
 
--- a piece of the same form that is as long or longer
-found_longer : (found : Option Piece) (form : Form) (n m : ℕ) → found ≡ Some (piece form m) → n ≤ m → FindsAtLeast found n (piece form n)
-found_longer found form n m e longer = record { piece_found = piece form m; is_found = e; as_long = longer; same = λ same. ap (piece form) (sym same) }
+-- a lexeme of the same form that is as long or longer
+found_longer : (found : Option Lexeme) (form : Form) (n m : ℕ) → found ≡ Some (lexeme form m) → n ≤ m → FindsAtLeast found n (lexeme form n)
+found_longer found form n m e longer = record { lexeme_found = lexeme form m; is_found = e; as_long = longer; same = λ same. ap (lexeme form) (sym same) }
 
 -- a mark begins with a slash, or with a byte that begins no other form
 mark_class : (m : Punct) → (class_of (slice_index (mark_spelling m) 0) ≡ Other) ⊎ ((m ≡ mark.Slash) ⊎ (m ≡ mark.DivideSet))
@@ -128,8 +128,8 @@ mark_class mark.CloseBracket = inl refl
 mark_class mark.OpenBrace = inl refl
 mark_class mark.CloseBrace = inl refl
 
-finds_along : {found other : Option Piece} {n : ℕ} {p : Piece} → found ≡ other → FindsAtLeast other n p → FindsAtLeast found n p
-finds_along e finds = record { piece_found = finds.piece_found; is_found = e ∙ finds.is_found; as_long = finds.as_long; same = finds.same }
+finds_along : {found other : Option Lexeme} {n : ℕ} {p : Lexeme} → found ≡ other → FindsAtLeast other n p → FindsAtLeast found n p
+finds_along e finds = record { lexeme_found = finds.lexeme_found; is_found = e ∙ finds.is_found; as_long = finds.as_long; same = finds.same }
 
 -- the first m bytes
 module _ (bytes : List ℕ) (m : ℕ) (within : m ≤ length bytes) where
@@ -139,13 +139,13 @@ module _ (bytes : List ℕ) (m : ℕ) (within : m ≤ length bytes) where
   front_at : (i : ℕ) → i < m → slice_index (take m bytes) i ≡ slice_index bytes i
   front_at i below = get_or-take m bytes i 0 below
 
-  longest-space : IsSpace (take m bytes) → FindsAtLeast (piece_at bytes) m (piece form.Space m)
+  longest-space : IsSpace (take m bytes) → FindsAtLeast (lexeme_at bytes) m (lexeme form.Space m)
   longest-space s =
       let one : m ≡ 1 = sym front_length ∙ s.single in
       let white : is_white (slice_index bytes 0) ≡ true = ap is_white (sym (front_at 0 (omega arith))) ∙ s.white in
-      found_longer _ form.Space m 1 (piece_at-of_class bytes White (class_of-white (slice_index bytes 0) white)) (omega arith)
+      found_longer _ form.Space m 1 (lexeme_at-of_class bytes White (class_of-white (slice_index bytes 0) white)) (omega arith)
 
-  longest-run : (form : Form) → IsRun (take m bytes) → piece_at bytes ≡ Some (piece form (run_end bytes 1)) → FindsAtLeast (piece_at bytes) m (piece form m)
+  longest-run : (form : Form) → IsRun (take m bytes) → lexeme_at bytes ≡ Some (lexeme form (run_end bytes 1)) → FindsAtLeast (lexeme_at bytes) m (lexeme form m)
   longest-run form run is_found =
       let some : 1 ≤ m = omega (arith, run.0, front_length) in
       let passes : m ≤ run_end bytes 1 = IsFirst-passes (run_end-first bytes 1 (omega arith)) m within
@@ -153,17 +153,17 @@ module _ (bytes : List ℕ) (m : ℕ) (within : m ≤ length bytes) where
       in
       found_longer _ form m _ is_found passes
 
-  longest-word : IsWord (take m bytes) → FindsAtLeast (piece_at bytes) m (piece form.Word m)
+  longest-word : IsWord (take m bytes) → FindsAtLeast (lexeme_at bytes) m (lexeme form.Word m)
   longest-word s =
       let some : 0 < m = omega (arith, s.run.0, front_length) in
       let begins : is_letter (slice_index bytes 0) ≡ true = ap is_letter (sym (front_at 0 some)) ∙ s.begins in
-      longest-run form.Word s.run (piece_at-of_class bytes Letter (class_of-letter (slice_index bytes 0) begins))
+      longest-run form.Word s.run (lexeme_at-of_class bytes Letter (class_of-letter (slice_index bytes 0) begins))
 
-  longest-number : IsNumberRun (take m bytes) → FindsAtLeast (piece_at bytes) m (piece form.Number m)
+  longest-number : IsNumberRun (take m bytes) → FindsAtLeast (lexeme_at bytes) m (lexeme form.Number m)
   longest-number s =
       let some : 0 < m = omega (arith, s.run.0, front_length) in
       let begins : is_digit (slice_index bytes 0) ≡ true = ap is_digit (sym (front_at 0 some)) ∙ s.begins in
-      longest-run form.Number s.run (piece_at-of_class bytes Digit (class_of-digit (slice_index bytes 0) begins))
+      longest-run form.Number s.run (lexeme_at-of_class bytes Digit (class_of-digit (slice_index bytes 0) begins))
 
   -- a slice that is known byte by byte
   known_at : (s : List ℕ) → take m bytes ≡ s → (i : ℕ) → i < length s → slice_index bytes i ≡ slice_index s i
@@ -172,16 +172,16 @@ module _ (bytes : List ℕ) (m : ℕ) (within : m ≤ length bytes) where
   known_length : (s : List ℕ) → take m bytes ≡ s → m ≡ length s
   known_length s e = sym front_length ∙ ap length e
 
-  longest-joined_short : take m bytes ≡ 92 ∷ 10 ∷ [] → FindsAtLeast (piece_at bytes) m (piece form.JoinedLine m)
+  longest-joined_short : take m bytes ≡ 92 ∷ 10 ∷ [] → FindsAtLeast (lexeme_at bytes) m (lexeme form.JoinedLine m)
   unfolding joined_line_at
   longest-joined_short e =
       let first : slice_index bytes 0 ≡ 92 = known_at _ e 0 (omega arith) in
       let second : slice_index bytes 1 ≡ 10 = known_at _ e 1 (omega arith) in
       let two : m ≡ 2 = known_length _ e in
       found_longer _ form.JoinedLine m 2
-      (piece_at-of_class bytes Backslash (ap class_of first) ∙ cond-true (slice_index bytes 1 == 10) _ _ (eq-eqb _ _ second)) (omega arith)
+      (lexeme_at-of_class bytes Backslash (ap class_of first) ∙ cond-true (slice_index bytes 1 == 10) _ _ (eq-eqb _ _ second)) (omega arith)
 
-  longest-joined_long : take m bytes ≡ 92 ∷ 13 ∷ 10 ∷ [] → FindsAtLeast (piece_at bytes) m (piece form.JoinedLine m)
+  longest-joined_long : take m bytes ≡ 92 ∷ 13 ∷ 10 ∷ [] → FindsAtLeast (lexeme_at bytes) m (lexeme form.JoinedLine m)
   unfolding joined_line_at
   longest-joined_long e =
       let first : slice_index bytes 0 ≡ 92 = known_at _ e 0 (omega arith) in
@@ -189,9 +189,9 @@ module _ (bytes : List ℕ) (m : ℕ) (within : m ≤ length bytes) where
       let third : slice_index bytes 2 ≡ 10 = known_at _ e 2 (omega arith) in
       let three : m ≡ 3 = known_length _ e in
       found_longer _ form.JoinedLine m 3
-      (piece_at-of_class bytes Backslash (ap class_of first) ∙ cond-false (slice_index bytes 1 == 10) _ _ (ap (λ b. b == 10) second) ∙ ap₂ (λ a b. cond (a == 13 && b == 10) (Some (piece form.JoinedLine 3)) None) second third) (omega arith)
+      (lexeme_at-of_class bytes Backslash (ap class_of first) ∙ cond-false (slice_index bytes 1 == 10) _ _ (ap (λ b. b == 10) second) ∙ ap₂ (λ a b. cond (a == 13 && b == 10) (Some (lexeme form.JoinedLine 3)) None) second third) (omega arith)
 
-  longest-joined : IsJoinedLine (take m bytes) → FindsAtLeast (piece_at bytes) m (piece form.JoinedLine m)
+  longest-joined : IsJoinedLine (take m bytes) → FindsAtLeast (lexeme_at bytes) m (lexeme form.JoinedLine m)
   longest-joined s = ⊎_elim longest-joined_short longest-joined_long s
 
   -- the two bytes at the front
@@ -220,10 +220,10 @@ module _ (bytes : List ℕ) (m : ℕ) (within : m ≤ length bytes) where
       false≢true (sym unjoined ∙ joined))
 
   -- what a slash begins
-  at_slash : slice_index bytes 0 ≡ 47 → piece_at bytes ≡ slash_at bytes
-  at_slash e = piece_at-of_class bytes Slash (ap class_of e)
+  at_slash : slice_index bytes 0 ≡ 47 → lexeme_at bytes ≡ slash_at bytes
+  at_slash e = lexeme_at-of_class bytes Slash (ap class_of e)
 
-  longest-line_comment : IsLineComment (take m bytes) → FindsAtLeast (piece_at bytes) m (piece form.LineComment m)
+  longest-line_comment : IsLineComment (take m bytes) → FindsAtLeast (lexeme_at bytes) m (lexeme form.LineComment m)
   unfolding slash_at
   longest-line_comment s =
       let two : 2 ≤ m = omega (arith, s.opened.within, front_length) in
@@ -231,11 +231,11 @@ module _ (bytes : List ℕ) (m : ℕ) (within : m ≤ length bytes) where
       let passes : m ≤ line_end bytes 2 = IsFirst-passes (line_end-first bytes 2 (omega arith)) m within (λ i low high. stays_here s.on_line i high) in
       found_longer _ form.LineComment m _ (at_slash (pair_first 47 47 s.opened) ∙ cond-true (slice_index bytes 1 == 47) _ _ (eq-eqb _ _ second)) passes
 
-  at_comment : IsPairAt (take m bytes) 0 47 42 → piece_at bytes ≡ Some (comment_at bytes)
+  at_comment : IsPairAt (take m bytes) 0 47 42 → lexeme_at bytes ≡ Some (comment_at bytes)
   unfolding slash_at
   at_comment opened =
       let second : slice_index bytes 1 ≡ 42 = pair_second 47 42 opened in
-      at_slash (pair_first 47 42 opened) ∙ ap (λ b. cond (b == 47) (Some (piece form.LineComment (line_end bytes 2))) (cond (b == 42) (Some (comment_at bytes)) (mark_at bytes))) second
+      at_slash (pair_first 47 42 opened) ∙ ap (λ b. cond (b == 47) (Some (lexeme form.LineComment (line_end bytes 2))) (cond (b == 42) (Some (comment_at bytes)) (mark_at bytes))) second
 
   -- a `*/` in the slice is one in the bytes, and the other way round
   closes_from : (i : ℕ) → IsPairAt (take m bytes) i 42 47 → closes bytes i ≡ true
@@ -254,7 +254,7 @@ module _ (bytes : List ℕ) (m : ℕ) (within : m ≤ length bytes) where
         second = front_at (i + 1) (omega arith) ∙ second;
       }
 
-  longest-block_comment : IsBlockComment (take m bytes) → FindsAtLeast (piece_at bytes) m (piece form.BlockComment m)
+  longest-block_comment : IsBlockComment (take m bytes) → FindsAtLeast (lexeme_at bytes) m (lexeme form.BlockComment m)
   unfolding comment_at
   longest-block_comment s =
       let end = s.closed.0 in
@@ -267,7 +267,7 @@ module _ (bytes : List ℕ) (m : ℕ) (within : m ≤ length bytes) where
       found_longer _ form.BlockComment m (comment_end bytes 2 + 2)
       (at_comment s.opened ∙ ap Some (cond-true (nat_lt (comment_end bytes 2) (length bytes)) _ _ (lt-ltb _ _ (omega arith)))) (omega arith)
 
-  longest-open_comment : IsOpenComment (take m bytes) → FindsAtLeast (piece_at bytes) m (piece form.OpenComment m)
+  longest-open_comment : IsOpenComment (take m bytes) → FindsAtLeast (lexeme_at bytes) m (lexeme form.OpenComment m)
   unfolding comment_at
   longest-open_comment s =
       let two : 2 ≤ m = omega (arith, s.opened.within, front_length) in
@@ -277,7 +277,7 @@ module _ (bytes : List ℕ) (m : ℕ) (within : m ≤ length bytes) where
       (λ closed.
       let later : m < end + 2 = ⊎_elim (λ l. l) (λ early. absurd (s.never_closed end first.low (closes_to end early (first.here closed)))) (cases_lt m (end + 2)) in
       record {
-        piece_found = piece form.BlockComment (end + 2);
+        lexeme_found = lexeme form.BlockComment (end + 2);
         is_found = at_comment s.opened ∙ ap Some (cond-true (nat_lt end (length bytes)) _ _ (lt-ltb _ _ closed));
         as_long = omega arith;
         same = λ e. absurd (omega (arith, e));
@@ -286,7 +286,7 @@ module _ (bytes : List ℕ) (m : ℕ) (within : m ≤ length bytes) where
       (at_comment s.opened ∙ ap Some (cond-false (nat_lt end (length bytes)) _ _ (le-ltb end (length bytes) open_to_end))) within)
       (cases_lt end (length bytes))
 
-  -- what a `#` begins: the blanks end at place k, where a word begins
+  -- what a `#` begins: the blanks end at point k, where a word begins
   blanks_end-hash : (k : ℕ) → IsHashTo (take m bytes) k → k < m → is_letter (slice_index bytes k) ≡ true → blanks_end bytes 1 ≡ k
   blanks_end-hash k hash below letter =
       let unblank : is_blank (slice_index bytes k) ≡ false = letter_unblank (slice_index bytes k) letter in
@@ -294,17 +294,17 @@ module _ (bytes : List ℕ) (m : ℕ) (within : m ≤ length bytes) where
       (λ i low high. not_from_true _ (ap is_blank (sym (front_at i (omega arith))) ∙ hash.blank i low high))
       (not_from_false _ unblank)
 
-  at_hash : (k : ℕ) → IsHashTo (take m bytes) k → k < m → is_letter (slice_index bytes k) ≡ true → piece_at bytes ≡ Some (named_directive bytes k)
+  at_hash : (k : ℕ) → IsHashTo (take m bytes) k → k < m → is_letter (slice_index bytes k) ≡ true → lexeme_at bytes ≡ Some (named_directive bytes k)
   unfolding directive_at
   at_hash k hash below letter =
       let first : slice_index bytes 0 ≡ 35 = sym (front_at 0 (omega arith)) ∙ hash.hash in
-      piece_at-of_class bytes Hash (ap class_of first) ∙ ap (λ i. cond (is_letter (slice_index bytes i)) (Some (named_directive bytes i)) None) (blanks_end-hash k hash below letter) ∙ cond-true (is_letter (slice_index bytes k)) _ _ letter
+      lexeme_at-of_class bytes Hash (ap class_of first) ∙ ap (λ i. cond (is_letter (slice_index bytes i)) (Some (named_directive bytes i)) None) (blanks_end-hash k hash below letter) ∙ cond-true (is_letter (slice_index bytes k)) _ _ letter
 
   -- the bytes of a word behind the hash
   name_at : (k : ℕ) → k ≤ m → (i : ℕ) → k ≤ i → i < m → slice_index (drop k (take m bytes)) (i - k) ≡ slice_index bytes i
   name_at k low i from below =
-      let place : k + (i - k) ≡ i = omega arith in
-      get_or-drop k (take m bytes) (i - k) 0 ∙ ap (λ j. slice_index (take m bytes) j) place ∙ front_at i below
+      let point : k + (i - k) ≡ i = omega arith in
+      get_or-drop k (take m bytes) (i - k) 0 ∙ ap (λ j. slice_index (take m bytes) j) point ∙ front_at i below
 
   name_length : (k : ℕ) → length (drop k (take m bytes)) ≡ m - k
   name_length k = length-drop k (take m bytes) ∙ ap (λ n. n - k) front_length
@@ -326,24 +326,24 @@ module _ (bytes : List ℕ) (m : ℕ) (within : m ≤ length bytes) where
   name_is : (k : ℕ) → run_end bytes k ≡ m → slice_range bytes k (run_end bytes k) ≡ drop k (take m bytes)
   name_is k e = ap (λ j. slice_range bytes k j) e ∙ between_is bytes k m
 
-  finds_directive : (k : ℕ) (form : Form) → k ≤ m → piece_at bytes ≡ Some (named_directive bytes k) → m ≤ run_end bytes k → (run_end bytes k ≡ m → named_directive bytes k ≡ piece form m) → FindsAtLeast (piece_at bytes) m (piece form m)
+  finds_directive : (k : ℕ) (form : Form) → k ≤ m → lexeme_at bytes ≡ Some (named_directive bytes k) → m ≤ run_end bytes k → (run_end bytes k ≡ m → named_directive bytes k ≡ lexeme form m) → FindsAtLeast (lexeme_at bytes) m (lexeme form m)
   finds_directive k form low is_found reaches at_end =
       let longer = named_directive-as_long bytes k (omega arith) in
       ⊎_elim
-      (λ below. record { piece_found = named_directive bytes k; is_found = is_found; as_long = omega (arith, longer, reaches); same = λ e. absurd (omega (arith, e, longer, below)) })
+      (λ below. record { lexeme_found = named_directive bytes k; is_found = is_found; as_long = omega (arith, longer, reaches); same = λ e. absurd (omega (arith, e, longer, below)) })
       (λ over. let e : run_end bytes k ≡ m = omega (arith, over, reaches) in found_longer _ form m m (is_found ∙ ap Some (at_end e)) (omega arith))
       (cases_lt m (run_end bytes k))
 
-  longest-pragma_start : IsPragmaStart (take m bytes) → FindsAtLeast (piece_at bytes) m (piece form.PragmaStart m)
+  longest-pragma_start : IsPragmaStart (take m bytes) → FindsAtLeast (lexeme_at bytes) m (lexeme form.PragmaStart m)
   unfolding named_directive
   longest-pragma_start s =
       let k = s.name_at in
       let low : k ≤ m = omega (arith, s.hash.within, front_length) in
       let word : IsWord (drop k (take m bytes)) = subst IsWord (sym s.named) pragma_word in
       finds_directive k form.PragmaStart low (at_hash k s.hash (word_some k low word) (word_letter k low word)) (word_reaches k low word)
-      (λ e. cond-true (bytes_eq (slice_range bytes k (run_end bytes k)) (codes "pragma")) _ _ (ap (λ n. bytes_eq n (codes "pragma")) (name_is k e ∙ s.named)) ∙ ap (piece form.PragmaStart) e)
+      (λ e. cond-true (bytes_eq (slice_range bytes k (run_end bytes k)) (codes "pragma")) _ _ (ap (λ n. bytes_eq n (codes "pragma")) (name_is k e ∙ s.named)) ∙ ap (lexeme form.PragmaStart) e)
 
-  longest-other_directive : IsOtherDirective (take m bytes) → FindsAtLeast (piece_at bytes) m (piece form.OtherDirective m)
+  longest-other_directive : IsOtherDirective (take m bytes) → FindsAtLeast (lexeme_at bytes) m (lexeme form.OtherDirective m)
   unfolding named_directive
   longest-other_directive s =
       let k = s.name_at in
@@ -353,7 +353,7 @@ module _ (bytes : List ℕ) (m : ℕ) (within : m ≤ length bytes) where
       (λ e.
       let no_pragma = false_from_ne_true (bytes_eq (slice_range bytes k (run_end bytes k)) (codes "pragma")) (λ t. s.no_pragma (sym (name_is k e) ∙ (bytes_eq-Decides _ _).0 t)) in
       let no_include = false_from_ne_true (bytes_eq (slice_range bytes k (run_end bytes k)) (codes "include")) (λ t. s.no_include (sym (name_is k e) ∙ (bytes_eq-Decides _ _).0 t)) in
-      cond-false _ _ _ no_pragma ∙ cond-false _ _ _ no_include ∙ ap (piece form.OtherDirective) e)
+      cond-false _ _ _ no_pragma ∙ cond-false _ _ _ no_include ∙ ap (lexeme form.OtherDirective) e)
 
   -- the word `include` behind the hash
   include_at : (k : ℕ) → k ≤ m → take 7 (drop k (take m bytes)) ≡ codes "include" → (i : ℕ) → i < 7 → slice_index bytes (k + i) ≡ slice_index (codes "include") i
@@ -362,7 +362,7 @@ module _ (bytes : List ℕ) (m : ℕ) (within : m ≤ length bytes) where
       let there : slice_index (drop k (take m bytes)) i ≡ slice_index bytes (k + i) = get_or-drop k (take m bytes) i 0 ∙ front_at (k + i) (omega (arith, name_length k)) in
       sym there ∙ sym (get_or-take 7 (drop k (take m bytes)) i 0 below) ∙ ap (λ l. slice_index l i) named
 
-  longest-include_line : IsIncludeLine (take m bytes) → FindsAtLeast (piece_at bytes) m (piece form.IncludeLine m)
+  longest-include_line : IsIncludeLine (take m bytes) → FindsAtLeast (lexeme_at bytes) m (lexeme form.IncludeLine m)
   unfolding named_directive
   longest-include_line s =
       let k = s.name_at in
@@ -374,8 +374,8 @@ module _ (bytes : List ℕ) (m : ℕ) (within : m ≤ length bytes) where
       let letter : is_letter (slice_index bytes k) ≡ true = ap is_letter (ap (λ i. slice_index bytes i) (sym (add-zero k)) ∙ first_is) in
       let is_found = at_hash k s.hash (omega arith) letter in
       let passes_word : (i : ℕ) → k ≤ i → i < k + 7 → ends_run bytes i ≡ false = λ i from below. not_from_true _
-      (let place : k + (i - k) ≡ i = omega arith in
-      ap is_word_byte (ap (λ j. slice_index bytes j) (sym place) ∙ bytes_are (i - k) (omega arith)) ∙ include_word.run.1 (i - k) (omega arith))
+      (let point : k + (i - k) ≡ i = omega arith in
+      ap is_word_byte (ap (λ j. slice_index bytes j) (sym point) ∙ bytes_are (i - k) (omega arith)) ∙ include_word.run.1 (i - k) (omega arith))
       in
       let first = run_end-first bytes k (omega arith) in
       let reaches : k + 7 ≤ run_end bytes k = IsFirst-passes first (k + 7) (omega arith) passes_word in
@@ -386,34 +386,34 @@ module _ (bytes : List ℕ) (m : ℕ) (within : m ≤ length bytes) where
       (λ inside. absurd (false≢true (sym (first.before (k + 7) (omega arith) over) ∙ not_from_false _ (ap is_word_byte (sym (front_at (k + 7) inside)) ∙ s.whole_word (omega (arith, front_length))))))
       (λ l. l) (cases_lt (k + 7) m)
       in
-      record { piece_found = named_directive bytes k; is_found = is_found; as_long = omega (arith, longer); same = λ e. absurd (omega (arith, e, longer)) })
+      record { lexeme_found = named_directive bytes k; is_found = is_found; as_long = omega (arith, longer); same = λ e. absurd (omega (arith, e, longer)) })
       (λ exact.
       let end_is : run_end bytes k ≡ k + 7 = omega (arith, exact, reaches) in
       let name : slice_range bytes k (run_end bytes k) ≡ codes "include" =
       ap (λ j. slice_range bytes k j) end_is ∙ between_is bytes k (k + 7) ∙ drop-take k 7 bytes ∙ sym (ap (λ l. take 7 l) (sym (between_is bytes k m)) ∙ take-take 7 (m - k) (drop k bytes) (omega arith)) ∙ s.named
       in
-      let is_include : named_directive bytes k ≡ piece form.IncludeLine (line_end bytes (run_end bytes k)) =
-      ap (λ n. cond (bytes_eq n (codes "pragma")) (piece form.PragmaStart (run_end bytes k)) (cond (bytes_eq n (codes "include")) (piece form.IncludeLine (line_end bytes (run_end bytes k))) (piece form.OtherDirective (run_end bytes k)))) name
+      let is_include : named_directive bytes k ≡ lexeme form.IncludeLine (line_end bytes (run_end bytes k)) =
+      ap (λ n. cond (bytes_eq n (codes "pragma")) (lexeme form.PragmaStart (run_end bytes k)) (cond (bytes_eq n (codes "include")) (lexeme form.IncludeLine (line_end bytes (run_end bytes k))) (lexeme form.OtherDirective (run_end bytes k)))) name
       in
       let passes : m ≤ line_end bytes (run_end bytes k) = IsFirst-passes (line_end-first bytes (run_end bytes k) (omega arith)) m within (λ i from below. stays_here s.on_line i below) in
       found_longer _ form.IncludeLine m _ (is_found ∙ ap Some is_include) passes)
       (cases_lt (k + 7) (run_end bytes k))
 
-  -- a longer piece in place of a slash
-  longer_than_slash : (found : Option Piece) (p : Piece) → found ≡ Some p → 2 ≤ p.length → FindsAtLeast found 1 (piece (form.Mark mark.Slash) 1)
-  longer_than_slash found p e two = record { piece_found = p; is_found = e; as_long = omega arith; same = λ one. absurd (omega (arith, one)) }
+  -- a longer lexeme in place of a slash
+  longer_than_slash : (found : Option Lexeme) (p : Lexeme) → found ≡ Some p → 2 ≤ p.length → FindsAtLeast found 1 (lexeme (form.Mark mark.Slash) 1)
+  longer_than_slash found p e two = record { lexeme_found = p; is_found = e; as_long = omega arith; same = λ one. absurd (omega (arith, one)) }
 
   comment_two : 2 ≤ length bytes → 2 ≤ (comment_at bytes).length
   unfolding comment_at
   comment_two two =
-      let P : Piece → Type 0 = λ p. 2 ≤ p.length in
+      let P : Lexeme → Type 0 = λ p. 2 ≤ p.length in
       cond_both (nat_lt (comment_end bytes 2) (length bytes)) _ _ P (λ _. omega arith) (λ _. two)
 
-  longest-slash : m ≡ 1 → take m bytes ≡ mark_spelling mark.Slash → FindsAtLeast (piece_at bytes) 1 (piece (form.Mark mark.Slash) 1)
+  longest-slash : m ≡ 1 → take m bytes ≡ mark_spelling mark.Slash → FindsAtLeast (lexeme_at bytes) 1 (lexeme (form.Mark mark.Slash) 1)
   unfolding slash_at
   longest-slash one spelled =
       let first : slice_index bytes 0 ≡ 47 = known_at _ spelled 0 (omega arith) in
-      let P : Option Piece → Type 0 = λ found. FindsAtLeast found 1 (piece (form.Mark mark.Slash) 1) in
+      let P : Option Lexeme → Type 0 = λ found. FindsAtLeast found 1 (lexeme (form.Mark mark.Slash) 1) in
       finds_along (at_slash first)
       (cond_both (slice_index bytes 1 == 47) _ _ P
       (λ e. let two : 2 ≤ length bytes = has_second bytes 47 (eqb-true _ _ e) (omega arith) in longer_than_slash _ _ refl (line_end-first bytes 2 two).low)
@@ -421,29 +421,29 @@ module _ (bytes : List ℕ) (m : ℕ) (within : m ≤ length bytes) where
       (λ e. let two : 2 ≤ length bytes = has_second bytes 42 (eqb-true _ _ e) (omega arith) in longer_than_slash _ _ refl (comment_two two))
       (λ no_comment. mark_at-finds bytes 1 mark.Slash (omega arith) (ap (λ n. take n bytes) (sym one) ∙ spelled))))
 
-  longest-divide_set : m ≡ 2 → take m bytes ≡ mark_spelling mark.DivideSet → FindsAtLeast (piece_at bytes) m (piece (form.Mark mark.DivideSet) m)
+  longest-divide_set : m ≡ 2 → take m bytes ≡ mark_spelling mark.DivideSet → FindsAtLeast (lexeme_at bytes) m (lexeme (form.Mark mark.DivideSet) m)
   unfolding slash_at
   longest-divide_set two spelled =
       let first : slice_index bytes 0 ≡ 47 = known_at _ spelled 0 (omega arith) in
       let second : slice_index bytes 1 ≡ 61 = known_at _ spelled 1 (omega arith) in
-      finds_along (at_slash first ∙ ap (λ b. cond (b == 47) (Some (piece form.LineComment (line_end bytes 2))) (cond (b == 42) (Some (comment_at bytes)) (mark_at bytes))) second)
+      finds_along (at_slash first ∙ ap (λ b. cond (b == 47) (Some (lexeme form.LineComment (line_end bytes 2))) (cond (b == 42) (Some (comment_at bytes)) (mark_at bytes))) second)
       (mark_at-finds bytes m mark.DivideSet within spelled)
 
-  longest-mark : (k : Punct) → take m bytes ≡ mark_spelling k → FindsAtLeast (piece_at bytes) m (piece (form.Mark k) m)
+  longest-mark : (k : Punct) → take m bytes ≡ mark_spelling k → FindsAtLeast (lexeme_at bytes) m (lexeme (form.Mark k) m)
   longest-mark k spelled =
       let some : 0 < length (mark_spelling k) = omega (arith, (length-spelling k).0) in
       let first : slice_index bytes 0 ≡ slice_index (mark_spelling k) 0 = known_at _ spelled 0 some in
-      let P : Punct → Type 0 = λ j. take m bytes ≡ mark_spelling j → FindsAtLeast (piece_at bytes) m (piece (form.Mark j) m) in
+      let P : Punct → Type 0 = λ j. take m bytes ≡ mark_spelling j → FindsAtLeast (lexeme_at bytes) m (lexeme (form.Mark j) m) in
       ⊎_elim
-      (λ other. finds_along (piece_at-of_class bytes Other (ap class_of first ∙ other)) (mark_at-finds bytes m k within spelled))
+      (λ other. finds_along (lexeme_at-of_class bytes Other (ap class_of first ∙ other)) (mark_at-finds bytes m k within spelled))
       (λ slashes. ⊎_elim
-      (λ is_slash. subst P (sym is_slash) (λ e. let one : m ≡ 1 = known_length _ e in subst (λ n. FindsAtLeast (piece_at bytes) n (piece (form.Mark mark.Slash) n)) (sym one) (longest-slash one e)) spelled)
+      (λ is_slash. subst P (sym is_slash) (λ e. let one : m ≡ 1 = known_length _ e in subst (λ n. FindsAtLeast (lexeme_at bytes) n (lexeme (form.Mark mark.Slash) n)) (sym one) (longest-slash one e)) spelled)
       (λ is_set. subst P (sym is_set) (λ e. longest-divide_set (known_length _ e) e) spelled)
       slashes)
       (mark_class k)
 
   -- whatever form the first m bytes have, it is found, or a longer one
-  pub longest : (f : Form) → IsForm f (take m bytes) → FindsAtLeast (piece_at bytes) m (piece f m)
+  pub longest : (f : Form) → IsForm f (take m bytes) → FindsAtLeast (lexeme_at bytes) m (lexeme f m)
   longest form.Space s = longest-space s
   longest form.JoinedLine s = longest-joined s
   longest form.LineComment s = longest-line_comment s

@@ -7,9 +7,9 @@ use Rattle.std.proofs.lemmas.Slice.Eq.{bytes_eq-Decides}
 use Rattle.std.specs.Prelude.{slice_index, nat_lt, ◌==◌}
 use Rattle.std.specs.List.{list_all}
 use Rattle.os_lexer.specs.Marks.{mark_spelling}
-use Rattle.os_lexer.specs.Reading.{all_marks, mark_from, mark_of, mark_front, mark_or, mark_piece, mark_at, piece}
+use Rattle.os_lexer.specs.Reading.{all_marks, mark_from, mark_of, mark_front, mark_or, mark_lexeme, mark_at, lexeme}
 use Rattle.os_lexer.specs.declared.form.Form.TheVariants as form
-use Rattle.os_lexer.specs.declared.form.Piece.{Piece}
+use Rattle.os_lexer.specs.declared.form.Lexeme.{Lexeme}
 use Rattle.os_lexer.specs.declared.token.Punct.{Punct}
 use Rattle.os_lexer.specs.declared.token.Punct.TheVariants as mark
 
@@ -121,9 +121,9 @@ unfolding mark_of
 mark_of-is s m e = mark_from-is all_marks s m e
 
 -- at the front of a slice, at one length
-pub record IsMarkPiece (bytes : List ℕ) (n : ℕ) (p : Piece) : Type 0 where
+pub record IsMarkLexeme (bytes : List ℕ) (n : ℕ) (p : Lexeme) : Type 0 where
   pub mark : Punct
-  pub is_piece : p ≡ piece (form.Mark mark) n
+  pub is_lexeme : p ≡ lexeme (form.Mark mark) n
   pub within : n ≤ length bytes
   pub spelled : take n bytes ≡ mark_spelling mark
 
@@ -144,56 +144,56 @@ pub mark_front-short : (bytes : List ℕ) (n : ℕ) → length bytes < n → mar
 unfolding mark_front
 mark_front-short bytes n short = cond-true (nat_lt (length bytes) n) _ _ (lt-ltb (length bytes) n short)
 
-mark_piece-cases : (bytes : List ℕ) (n : ℕ) (other : Option Piece) (p : Piece) (found : Option Punct) → mark_front bytes n ≡ found → mark_piece found n other ≡ Some p → IsMarkPiece bytes n p ⊎ (other ≡ Some p)
-mark_piece-cases bytes n other p None was e = inr e
-mark_piece-cases bytes n other p (Some m) was e =
-    let there = mark_front-is bytes n m was in inl (record { mark = m; is_piece = cc; within = there.0; spelled = there.1 })
+mark_lexeme-cases : (bytes : List ℕ) (n : ℕ) (other : Option Lexeme) (p : Lexeme) (found : Option Punct) → mark_front bytes n ≡ found → mark_lexeme found n other ≡ Some p → IsMarkLexeme bytes n p ⊎ (other ≡ Some p)
+mark_lexeme-cases bytes n other p None was e = inr e
+mark_lexeme-cases bytes n other p (Some m) was e =
+    let there = mark_front-is bytes n m was in inl (record { mark = m; is_lexeme = cc; within = there.0; spelled = there.1 })
 
-pub mark_or-is : (bytes : List ℕ) (n : ℕ) (other : Option Piece) (p : Piece) → mark_or bytes n other ≡ Some p → IsMarkPiece bytes n p ⊎ (other ≡ Some p)
-mark_or-is bytes n other p e = mark_piece-cases bytes n other p (mark_front bytes n) refl e
+pub mark_or-is : (bytes : List ℕ) (n : ℕ) (other : Option Lexeme) (p : Lexeme) → mark_or bytes n other ≡ Some p → IsMarkLexeme bytes n p ⊎ (other ≡ Some p)
+mark_or-is bytes n other p e = mark_lexeme-cases bytes n other p (mark_front bytes n) refl e
 
 -- a mark of this length is found
-pub mark_or-here : (bytes : List ℕ) (n : ℕ) (other : Option Piece) (m : Punct) → n ≤ length bytes → take n bytes ≡ mark_spelling m → mark_or bytes n other ≡ Some (piece (form.Mark m) n)
+pub mark_or-here : (bytes : List ℕ) (n : ℕ) (other : Option Lexeme) (m : Punct) → n ≤ length bytes → take n bytes ≡ mark_spelling m → mark_or bytes n other ≡ Some (lexeme (form.Mark m) n)
 mark_or-here bytes n other m within spelled =
-    ap (λ found. mark_piece found n other) (mark_front-long bytes n within ∙ ap mark_of spelled ∙ mark_of-spelling m)
+    ap (λ found. mark_lexeme found n other) (mark_front-long bytes n within ∙ ap mark_of spelled ∙ mark_of-spelling m)
 
-mark_piece-goes : (n : ℕ) (other : Option Piece) (found : Option Punct) → ((m : Punct) × (mark_piece found n other ≡ Some (piece (form.Mark m) n))) ⊎ (mark_piece found n other ≡ other)
-mark_piece-goes n other None = inr refl
-mark_piece-goes n other (Some m) = inl (m, refl)
+mark_lexeme-goes : (n : ℕ) (other : Option Lexeme) (found : Option Punct) → ((m : Punct) × (mark_lexeme found n other ≡ Some (lexeme (form.Mark m) n))) ⊎ (mark_lexeme found n other ≡ other)
+mark_lexeme-goes n other None = inr refl
+mark_lexeme-goes n other (Some m) = inl (m, refl)
 
 -- a mark of this length or the other answer
-pub mark_or-goes : (bytes : List ℕ) (n : ℕ) (other : Option Piece) → ((m : Punct) × (mark_or bytes n other ≡ Some (piece (form.Mark m) n))) ⊎ (mark_or bytes n other ≡ other)
-mark_or-goes bytes n other = mark_piece-goes n other (mark_front bytes n)
+pub mark_or-goes : (bytes : List ℕ) (n : ℕ) (other : Option Lexeme) → ((m : Punct) × (mark_or bytes n other ≡ Some (lexeme (form.Mark m) n))) ⊎ (mark_or bytes n other ≡ other)
+mark_or-goes bytes n other = mark_lexeme-goes n other (mark_front bytes n)
 
 -- A mark at the front is found, or a longer one.
-pub record FindsAtLeast (found : Option Piece) (n : ℕ) (p : Piece) : Type 0 where
-  pub piece_found : Piece
-  pub is_found : found ≡ Some piece_found
-  pub as_long : n ≤ piece_found.length
-  pub same : n ≡ piece_found.length → piece_found ≡ p
+pub record FindsAtLeast (found : Option Lexeme) (n : ℕ) (p : Lexeme) : Type 0 where
+  pub lexeme_found : Lexeme
+  pub is_found : found ≡ Some lexeme_found
+  pub as_long : n ≤ lexeme_found.length
+  pub same : n ≡ lexeme_found.length → lexeme_found ≡ p
 
-finds_longer : (bytes : List ℕ) (n k : ℕ) (other : Option Piece) (p : Piece) → n < k → FindsAtLeast other n p → FindsAtLeast (mark_or bytes k other) n p
+finds_longer : (bytes : List ℕ) (n k : ℕ) (other : Option Lexeme) (p : Lexeme) → n < k → FindsAtLeast other n p → FindsAtLeast (mark_or bytes k other) n p
 finds_longer bytes n k other p below finds =
     ⊎_elim
-    (λ longer. record { piece_found = piece (form.Mark longer.0) k; is_found = longer.1; as_long = omega arith; same = λ e. absurd (omega (arith, e)) })
-    (λ goes. record { piece_found = finds.piece_found; is_found = goes ∙ finds.is_found; as_long = finds.as_long; same = finds.same })
+    (λ longer. record { lexeme_found = lexeme (form.Mark longer.0) k; is_found = longer.1; as_long = omega arith; same = λ e. absurd (omega (arith, e)) })
+    (λ goes. record { lexeme_found = finds.lexeme_found; is_found = goes ∙ finds.is_found; as_long = finds.as_long; same = finds.same })
     (mark_or-goes bytes k other)
 
-finds_here : (bytes : List ℕ) (n : ℕ) (other : Option Piece) (m : Punct) → n ≤ length bytes → take n bytes ≡ mark_spelling m → FindsAtLeast (mark_or bytes n other) n (piece (form.Mark m) n)
+finds_here : (bytes : List ℕ) (n : ℕ) (other : Option Lexeme) (m : Punct) → n ≤ length bytes → take n bytes ≡ mark_spelling m → FindsAtLeast (mark_or bytes n other) n (lexeme (form.Mark m) n)
 finds_here bytes n other m within spelled = record {
-  piece_found = piece (form.Mark m) n;
+  lexeme_found = lexeme (form.Mark m) n;
   is_found = mark_or-here bytes n other m within spelled;
   as_long = omega arith;
   same = λ e. refl;
 }
 
-pub mark_at-finds : (bytes : List ℕ) (n : ℕ) (m : Punct) → n ≤ length bytes → take n bytes ≡ mark_spelling m → FindsAtLeast (mark_at bytes) n (piece (form.Mark m) n)
+pub mark_at-finds : (bytes : List ℕ) (n : ℕ) (m : Punct) → n ≤ length bytes → take n bytes ≡ mark_spelling m → FindsAtLeast (mark_at bytes) n (lexeme (form.Mark m) n)
 unfolding mark_at
 mark_at-finds bytes n m within spelled =
     let n_is : length (mark_spelling m) ≡ n = sym (ap length spelled) ∙ length-take-le n bytes within in
     let low : 1 ≤ n = omega (arith, (length-spelling m).0) in
     let high : n ≤ 3 = omega (arith, (length-spelling m).1) in
-    let F : ℕ → Type 0 = λ k. (k ≤ length bytes → take k bytes ≡ mark_spelling m → FindsAtLeast (mark_at bytes) k (piece (form.Mark m) k)) in
+    let F : ℕ → Type 0 = λ k. (k ≤ length bytes → take k bytes ≡ mark_spelling m → FindsAtLeast (mark_at bytes) k (lexeme (form.Mark m) k)) in
     let one : F 1 = λ w s. finds_longer bytes 1 3 _ _ (omega arith) (finds_longer bytes 1 2 _ _ (omega arith) (finds_here bytes 1 None m w s)) in
     let two : F 2 = λ w s. finds_longer bytes 2 3 _ _ (omega arith) (finds_here bytes 2 _ m w s) in
     let three : F 3 = λ w s. finds_here bytes 3 _ m w s in
@@ -203,7 +203,7 @@ mark_at-finds bytes n m within spelled =
     (cases_lt n 3)
 
 -- what is found is a mark at the front
-pub mark_at-is : (bytes : List ℕ) (p : Piece) → mark_at bytes ≡ Some p → (n : ℕ) × IsMarkPiece bytes n p
+pub mark_at-is : (bytes : List ℕ) (p : Lexeme) → mark_at bytes ≡ Some p → (n : ℕ) × IsMarkLexeme bytes n p
 unfolding mark_at
 mark_at-is bytes p e =
     ⊎_elim (λ found. (3, found)) (λ goes. ⊎_elim (λ found. (2, found)) (λ again. ⊎_elim (λ found. (1, found)) (λ none. cc) (mark_or-is bytes 1 _ p again)) (mark_or-is bytes 2 _ p goes)) (mark_or-is bytes 3 _ p e)

@@ -8,7 +8,7 @@ use Rattle.os_lexer.specs.Effects.{effect, word_kind, mode_after_token}
 use Rattle.os_lexer.specs.Forms.{IsWord, IsForm}
 use Rattle.os_lexer.specs.Keywords.{key_of}
 use Rattle.os_lexer.specs.Names.{fixed_names, spelling, first_index, name_number}
-use Rattle.os_lexer.specs.Reading.{piece, piece_at}
+use Rattle.os_lexer.specs.Reading.{lexeme, lexeme_at}
 use Rattle.os_lexer.specs.States.{is_name, is_named, KnowsSpellings, IsNameWhereSpelledSo, number_in}
 use Rattle.os_lexer.specs.declared.effect.Effect.TheVariants.{Give}
 use Rattle.os_lexer.specs.declared.form.Form.{Form}
@@ -19,17 +19,17 @@ use Rattle.os_lexer.specs.declared.token.Key.{Key}
 use Rattle.os_lexer.specs.declared.token.Kind.{Kind}
 use Rattle.os_lexer.specs.declared.token.Kind.TheVariants as kind
 use Rattle.os_lexer.specs.declared.token.Token.{Token}
-use Rattle.os_lexer.proofs.Cuts.{piece_at-is}
+use Rattle.os_lexer.proofs.Cuts.{lexeme_at-is}
 use Rattle.os_lexer.proofs.Positions.{unwrap_or-position}
 
 -- a slice has one form
-whole : (f : Form) (s : List ℕ) → IsForm f s → piece_at s ≡ Some (piece f (length s))
+whole : (f : Form) (s : List ℕ) → IsForm f s → lexeme_at s ≡ Some (lexeme f (length s))
 whole f s is_form =
     let all : take (length s) s ≡ s = take_all (length s) s (omega arith) in
-    piece_at-is s f (length s) (record { within = omega arith; of_form = subst (IsForm f) (sym all) is_form; longest = λ other m within other_is. within })
+    lexeme_at-is s f (length s) (record { within = omega arith; of_form = subst (IsForm f) (sym all) is_form; longest = λ other m within other_is. within })
 
 pub one_form : (f g : Form) (s : List ℕ) → IsForm f s → IsForm g s → f ≡ g
-one_form f g s is_f is_g = ap (λ o. (unwrap_or o (piece f 0)).form) (sym (whole f s is_f) ∙ whole g s is_g)
+one_form f g s is_f is_g = ap (λ o. (unwrap_or o (lexeme f 0)).form) (sym (whole f s is_f) ∙ whole g s is_g)
 
 -- a word that is no keyword is given as a name
 name_given : (key : Option Key) (number : ℕ) (k : Kind) (m m' : Mode) → key ≡ None → Give (word_kind key number) m ≡ Give k m' → is_name k ≡ true
@@ -41,7 +41,7 @@ word_given : (f : Form) (s : List ℕ) (mode m : Mode) (k : Kind) (number : ℕ)
 word_given f s mode m k number e does none =
     name_given (key_of s) number k (mode_after_token mode) m none (ap (λ g. effect mode number g s) (sym e) ∙ does)
 
--- the token that a piece gives
+-- the token that a lexeme gives
 module _ (text : List ℕ) (at n : ℕ) (f : Form) (mode m : Mode) (k : Kind) (number : ℕ) where
   pub named_by_form : slice_range text at (at + n) ≡ take n (drop at text) → IsForm f (take n (drop at text)) →
       effect mode number f (slice_range text at (at + n)) ≡ Give k m → IsWord (slice_range text at (at + n)) →
@@ -81,7 +81,7 @@ module _ (text : List ℕ) (tokens : List Token) (spellings : Spellings) (known 
   word_alike None name e word = ap kind.Name (number_in-is name word e)
   word_alike (Some key) name e word = refl
 
-  -- what a piece does, by the map
+  -- what a lexeme does, by the map
   pub effect_by_name : (mode : Mode) (f : Form) (s : List ℕ) → IsForm f s →
       effect mode (number_in spellings (length tokens) s) f s ≡ effect mode (name_number text tokens s) f s
   effect_by_name mode form.Space s is_form = refl

@@ -1,4 +1,4 @@
--- The first place in a list at which a test passes.
+-- The first point in a list at which a test passes.
 use Rattle.std.proofs.Common.{◌≡◌, ℕ, ◌+◌, ◌<◌, ◌≤◌, Bool, true, false, cond, List, [], ◌∷◌, ◌++◌, length, get_or, Some, None, position, unwrap_or, refl, sym, ap, ◌∙◌, ⊎_elim, arith, length-append, add-zero, eqb, lt-ltb, le-ltb, eq-eqb, eqb-true}
 use Rattle.std.proofs.lemmas.Bool.{cond-true, cond-false, cases_lt, cond_both, false_from_ne_true}
 use Rattle.std.proofs.lemmas.List.Folds.{position_or_len_push}

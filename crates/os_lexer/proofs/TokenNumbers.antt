@@ -5,7 +5,7 @@ use Rattle.std.proofs.lemmas.List.Elements.{All-append, All-push}
 use Rattle.std.specs.List.{list_any}
 use Rattle.std.specs.Prelude.{nat_le}
 use Rattle.os_lexer.specs.Bytes.{is_line_feed}
-use Rattle.os_lexer.specs.Cover.{Place, token_of, Step, skips, gives, Leads, here, on, tokens_at_end}
+use Rattle.os_lexer.specs.Cover.{Point, token_of, Step, skips, gives, Leads, here, on, tokens_at_end}
 use Rattle.os_lexer.specs.Effects.{effect, directive_effect, space_effect, number_effect, word_kind, mode_after_token}
 use Rattle.os_lexer.specs.Keywords.{key_of}
 use Rattle.os_lexer.specs.Laws.{HasSmallNumber, SmallNumbers}
@@ -63,13 +63,13 @@ abbrev AreSmall : List Token → Type 0
 AreSmall tokens = All (λ token. HasSmallNumber token.kind) tokens
 
 module _ (text : List ℕ) where
-  step_small : {p q : Place} → Step text p q → AreSmall p.tokens → AreSmall q.tokens
-  step_small (skips {p = p} {form = form} {n = n} {mode = mode} is_piece e) small = small
-  step_small (gives {p = p} {form = form} {n = n} {kind = kind} {mode = mode} is_piece e) small =
+  step_small : {p q : Point} → Step text p q → AreSmall p.tokens → AreSmall q.tokens
+  step_small (skips {p = p} {form = form} {n = n} {mode = mode} is_lexeme e) small = small
+  step_small (gives {p = p} {form = form} {n = n} {kind = kind} {mode = mode} is_lexeme e) small =
       let slice = take n (drop p.at text) in
       All-push (λ token. HasSmallNumber token.kind) p.tokens (token_of text kind p.at (p.at + n)) small (subst GivesSmall e (effect_small p.mode (name_number text p.tokens slice) form slice))
 
-  leads_small : {p q : Place} → Leads text p q → AreSmall p.tokens → AreSmall q.tokens
+  leads_small : {p q : Point} → Leads text p q → AreSmall p.tokens → AreSmall q.tokens
   leads_small here small = small
   leads_small (on s l) small = leads_small l (step_small s small)
 
@@ -84,4 +84,4 @@ module _ (text : List ℕ) where
 pub small_numbers : SmallNumbers
 small_numbers text tokens cover =
     let P : Token → Type 0 = λ token. HasSmallNumber token.kind in
-    subst AreSmall (sym cover.all_tokens) (All-append P cover.place.tokens (tokens_at_end text cover.place.mode) (leads_small text cover.reached (none_small text)) (end_small text cover.place.mode))
+    subst AreSmall (sym cover.all_tokens) (All-append P cover.point.tokens (tokens_at_end text cover.point.mode) (leads_small text cover.reached (none_small text)) (end_small text cover.point.mode))

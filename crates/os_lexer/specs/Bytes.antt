@@ -1,4 +1,4 @@
--- The classes of bytes, and bytes at their places in a slice.
+-- The classes of bytes, and bytes at their points in a slice.
 use Rattle.std.specs.Prelude.{◌≡◌, ℕ, ◌+◌, ◌≤◌, Bool, ◌&&◌, ◌||◌, List, length, nat_le, ◌==◌, slice_index}
 
 -- white space is space, tab, carriage return, line feed, vertical tab and form feed
@@ -25,7 +25,7 @@ is_letter b = (nat_le 65 b && nat_le b 90) || (nat_le 97 b && nat_le b 122) || b
 abbrev pub is_word_byte : ℕ → Bool
 is_word_byte b = is_letter b || is_digit b
 
--- the two bytes from place i on are a and b
+-- the two bytes from point i on are a and b
 pub record IsPairAt (s : List ℕ) (i a b : ℕ) : Type 0 where
   pub within : i + 2 ≤ length s
   pub first : slice_index s i ≡ a

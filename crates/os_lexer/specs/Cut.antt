@@ -1,11 +1,11 @@
--- The cut of a text, told at each place by the tokens before it alone: whether one of them stands on its line, and
+-- The cut of a text, told at each point by the tokens before it alone: whether one of them stands on its line, and
 -- whether they leave a pragma's line open. The text has a token cover where it is cut to its end, and a first fault where
--- it is cut to a place at which a fault stands: `cover_cuts` and `cover_before_fault` say so.
+-- it is cut to a point at which a fault stands: `cover_cuts` and `cover_before_fault` say so.
 use Rattle.std.specs.Prelude.{◌≡◌, ℕ, ◌+◌, ◌<◌, Bool, true, false, List, [], ◌∷◌, ◌++◌, length, take, drop, fold, nat_lt, if◌then◌else◌}
 use Rattle.std.specs.List.{list_all}
 use Rattle.os_lexer.specs.Cover.{token_of, IsFormless}
 use Rattle.os_lexer.specs.Effects.{code_of, effect}
-use Rattle.os_lexer.specs.Forms.{IsPiece}
+use Rattle.os_lexer.specs.Forms.{IsLexeme}
 use Rattle.os_lexer.specs.Lines.{line_of}
 use Rattle.os_lexer.specs.Names.{name_number}
 use Rattle.os_lexer.specs.declared.effect.Effect.{Effect}
@@ -32,16 +32,16 @@ opens_pragma kind.PragmaEnd round = false
 abbrev pub is_in_pragma : List Token → Bool
 is_in_pragma tokens = fold (λ inside token. opens_pragma token.kind inside) false tokens
 
--- no token stands on the line of the place
+-- no token stands on the line of the point
 abbrev pub is_first_on_line : List ℕ → List Token → ℕ → Bool
 is_first_on_line text tokens at = list_all (λ token. nat_lt token.line (line_of text at)) tokens
 
--- what stands before a place on its line
+-- what stands before a point on its line
 abbrev pub mode_at : List ℕ → List Token → ℕ → Mode
 mode_at text tokens at =
     if is_in_pragma tokens then InPragma else (if is_first_on_line text tokens at then LineStart else InLine)
 
--- what the piece of this form and length does at a place behind these tokens
+-- what the lexeme of this form and length does at a point behind these tokens
 abbrev pub does : List ℕ → List Token → ℕ → Form → ℕ → Effect
 does text tokens at form n =
     let slice = take n (drop at text) in effect (mode_at text tokens at) (name_number text tokens slice) form slice
@@ -64,13 +64,13 @@ IsFail f (Skip mode) = ⊥
 IsFail f (Give kind mode) = ⊥
 IsFail f (Fail wrong) = wrong ≡ f
 
--- From its start to a place the text is cut into pieces, each the longest form there: these tokens, and what is skipped.
+-- From its start to a point the text is cut into lexemes, each the longest form there: these tokens, and what is skipped.
 pub data IsCutTo (text : List ℕ) : List Token → ℕ → Type 0 where
   start : IsCutTo text [] 0
   gap : {tokens : List Token} {at n : ℕ} {form : Form} → IsCutTo text tokens at →
-      IsPiece (drop at text) form n → IsSkip (does text tokens at form n) → IsCutTo text tokens (at + n)
+      IsLexeme (drop at text) form n → IsSkip (does text tokens at form n) → IsCutTo text tokens (at + n)
   token : {tokens : List Token} {at n : ℕ} {form : Form} (kind : Kind) → IsCutTo text tokens at →
-      IsPiece (drop at text) form n → IsGive kind (does text tokens at form n) →
+      IsLexeme (drop at text) form n → IsGive kind (does text tokens at form n) →
       IsCutTo text (tokens ++ token_of text kind at (at + n) ∷ []) (at + n)
 
 -- a pragma's line that is open at the end of the text ends there, in an empty slice
@@ -83,16 +83,16 @@ pub record IsCut (text : List ℕ) (tokens : List Token) : Type 0 where
   pub to_end : IsCutTo text before (length text)
   pub all_tokens : tokens ≡ before ++ pragma_end text before
 
--- a fault stands at the place behind these tokens: no form, or a form that is one
+-- a fault stands at the point behind these tokens: no form, or a form that is one
 pub data StandsAt (text : List ℕ) (tokens : List Token) (at : ℕ) : Fault → Type 0 where
   formless : at < length text → IsFormless (drop at text) → StandsAt text tokens at fault.BadByte
   faulty : {form : Form} {n : ℕ} {wrong : Fault} →
-      IsPiece (drop at text) form n → IsFail wrong (does text tokens at form n) → StandsAt text tokens at wrong
+      IsLexeme (drop at text) form n → IsFail wrong (does text tokens at form n) → StandsAt text tokens at wrong
 
--- the text is cut to a place at which a fault of this code stands
-pub record IsFaultPlace (text : List ℕ) (code place : ℕ) : Type 0 where
+-- the text is cut to a point at which a fault of this code stands
+pub record IsFaultPoint (text : List ℕ) (code point : ℕ) : Type 0 where
   pub before : List Token
   pub wrong : Fault
-  pub cut : IsCutTo text before place
-  pub stands : StandsAt text before place wrong
+  pub cut : IsCutTo text before point
+  pub stands : StandsAt text before point wrong
   pub coded : code ≡ code_of wrong

@@ -1,4 +1,4 @@
--- What a piece of a text does: it is skipped, is a token, or is a fault. One row for each form.
+-- What a lexeme of a text does: it is skipped, is a token, or is a fault. One row for each form.
 use Rattle.std.specs.Prelude.{ℕ, List, Option, Some, None, nat_le, if◌then◌else◌}
 use Rattle.std.specs.List.{list_any}
 use Rattle.os_lexer.specs.Bytes.{is_line_feed}
@@ -57,7 +57,7 @@ abbrev pub word_kind : Option Key → ℕ → Kind
 word_kind None name = kind.Name name
 word_kind (Some key) name = kind.Key key
 
--- What the slice s of a form does at a place of this mode. As a name it has the number given.
+-- What the slice s of a form does at a point of this mode. As a name it has the number given.
 abbrev pub effect : Mode → ℕ → Form → List ℕ → Effect
 effect mode name form.Space s = space_effect mode s
 effect mode name form.JoinedLine s = Skip (mode_after_gap mode s)

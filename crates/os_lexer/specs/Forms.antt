@@ -47,7 +47,7 @@ pub record IsNumberRun (s : List ℕ) : Type 0 where
   pub run : IsRun s
   pub begins : IsTrue (is_digit (slice_index s 0))
 
--- `#`, and then spaces and tabs up to place k: the start of a directive (C11, 6.10)
+-- `#`, and then spaces and tabs up to point k: the start of a directive (C11, 6.10)
 pub record IsHashTo (s : List ℕ) (k : ℕ) : Type 0 where
   pub hash : slice_index s 0 ≡ 35
   pub behind : 1 ≤ k
@@ -91,7 +91,7 @@ IsForm form.Number s = IsNumberRun s
 IsForm (form.Mark mark) s = s ≡ mark_spelling mark
 
 -- The first n bytes of rest are of the form, and no form is longer there.
-pub record IsPiece (rest : List ℕ) (form : Form) (n : ℕ) : Type 0 where
+pub record IsLexeme (rest : List ℕ) (form : Form) (n : ℕ) : Type 0 where
   pub within : n ≤ length rest
   pub of_form : IsForm form (take n rest)
   pub longest : (other : Form) (m : ℕ) → m ≤ length rest → IsForm other (take m rest) → m ≤ n

@@ -1,7 +1,7 @@
 -- What follows of the token cover and the first fault: that the definitions are the ones meant.
 use Rattle.std.specs.Prelude.{◌≡◌, ℕ, ◌<◌, ◌≤◌, ◌⊎◌, ◌↔◌, List, length, take, All, Option, Some, position, codes, bytes_eq}
 use Rattle.os_lexer.specs.Cover.{IsTokenCover, IsFirstFault}
-use Rattle.os_lexer.specs.Cut.{IsCut, IsFaultPlace}
+use Rattle.os_lexer.specs.Cut.{IsCut, IsFaultPoint}
 use Rattle.os_lexer.specs.Lines.{line_of}
 use Rattle.os_lexer.specs.Names.{fixed_names, omp_id, task_id, tick_id, taskwait_id, input_id, output_id, firstprivate_id, stream_id, main_id, osin_id, osout_id, osin_len_id}
 use Rattle.os_lexer.specs.declared.token.Kind.{Kind}
@@ -34,18 +34,18 @@ NeverBoth =
 abbrev pub CoverCuts : Type 0
 CoverCuts = (text : List ℕ) (tokens : List Token) → IsTokenCover text tokens ↔ IsCut text tokens
 
--- the first fault stands at the place that the text is cut to, on its line
-abbrev pub FaultPlaces : Type 0
-FaultPlaces =
+-- the first fault stands at the point that the text is cut to, on its line
+abbrev pub FaultPoints : Type 0
+FaultPoints =
     (text : List ℕ) (code line : ℕ) →
-    IsFirstFault text code line ↔ ((place : ℕ) × IsFaultPlace text code place × (line ≡ line_of text place))
+    IsFirstFault text code line ↔ ((point : ℕ) × IsFaultPoint text code point × (line ≡ line_of text point))
 
--- the text before that place has a cover, and no fault stands at an earlier place that the text is cut to
+-- the text before that point has a cover, and no fault stands at an earlier point that the text is cut to
 abbrev pub CoverBeforeFault : Type 0
 CoverBeforeFault =
-    (text : List ℕ) (code place : ℕ) → IsFaultPlace text code place →
-    (place < length text) × ((tokens : List Token) × IsTokenCover (take place text) tokens) ×
-    ((other code' : ℕ) → IsFaultPlace text code' other → place ≤ other)
+    (text : List ℕ) (code point : ℕ) → IsFaultPoint text code point →
+    (point < length text) × ((tokens : List Token) × IsTokenCover (take point text) tokens) ×
+    ((other code' : ℕ) → IsFaultPoint text code' other → point ≤ other)
 
 -- a text has at least as many bytes as tokens
 abbrev pub FewTokens : Type 0

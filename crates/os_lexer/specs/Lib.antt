@@ -1,4 +1,4 @@
--- What a reader believes: the forms of pieces and what each does, names and their numbers, the token cover with the
+-- What a reader believes: the forms of lexemes and what each does, names and their numbers, the token cover with the
 -- first fault, and what follows of them.
 pub mod Bytes
 pub mod Lines

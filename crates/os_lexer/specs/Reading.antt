@@ -1,5 +1,5 @@
 -- What the private functions give, one definition for each. The promises of `lex` don't cite them: that they find the
--- pieces of the text is proved.
+-- lexemes of the text is proved.
 use Rattle.std.specs.Prelude.{ℕ, zero, suc, min, ◌+◌, ◌-◌, Bool, not, ◌&&◌, ◌||◌, List, [], ◌∷◌, length, take, Option, Some, None, map, position, codes, bytes_eq, nat_lt, ◌==◌, slice_index, slice_range, if◌then◌else◌}
 use Rattle.std.specs.Map.{lookup}
 use Rattle.os_lexer.specs.Bytes.{is_white, is_blank, is_letter, is_digit, is_word_byte}
@@ -7,7 +7,7 @@ use Rattle.os_lexer.specs.Marks.{mark_spelling}
 use Rattle.os_lexer.specs.declared.bytes.Class.{Class}
 use Rattle.os_lexer.specs.declared.bytes.Class.TheVariants.{White, Letter, Digit, Backslash, Slash, Hash, Other}
 use Rattle.os_lexer.specs.declared.form.Form.TheVariants as form
-use Rattle.os_lexer.specs.declared.form.Piece.{Piece}
+use Rattle.os_lexer.specs.declared.form.Lexeme.{Lexeme}
 use Rattle.os_lexer.specs.declared.form.Form.{Form}
 use Rattle.std.specs.Borrow.{Bor}
 use Rattle.os_lexer.specs.declared.token.Key.{Key}
@@ -25,37 +25,37 @@ class_of b =
     else (if b == 35 then Hash
     else Other)))))
 
--- the first place from one on at which the test holds, among so many places, or the place behind them
+-- the first point from one on at which the test holds, among so many points, or the point behind them
 abbrev pub first_from : (ℕ → Bool) → ℕ → ℕ → ℕ
-first_from test zero place = place
-first_from test (suc n) place = if test place then place else first_from test n (place + 1)
+first_from test zero point = point
+first_from test (suc n) point = if test point then point else first_from test n (point + 1)
 
 -- the same in a slice, to its end
 abbrev pub first_in : (List ℕ → ℕ → Bool) → List ℕ → ℕ → ℕ
 first_in test bytes from = first_from (test bytes) (length bytes - from) from
 
--- a byte at the place that no run has
+-- a byte at the point that no run has
 abbrev pub ends_run : List ℕ → ℕ → Bool
 ends_run bytes i = not (is_word_byte (slice_index bytes i))
 
--- a byte at the place that is neither space nor tab
+-- a byte at the point that is neither space nor tab
 abbrev pub ends_blanks : List ℕ → ℕ → Bool
 ends_blanks bytes i = not (is_blank (slice_index bytes i))
 
--- a line feed at the place is that of a joined line
+-- a line feed at the point is that of a joined line
 abbrev pub is_joined : List ℕ → ℕ → Bool
 is_joined bytes i =
     slice_index bytes (i - 1) == 92 || (slice_index bytes (i - 1) == 13 && slice_index bytes (i - 2) == 92)
 
--- a line feed at the place that isn't that of a joined line
+-- a line feed at the point that isn't that of a joined line
 abbrev pub ends_line : List ℕ → ℕ → Bool
 ends_line bytes i = slice_index bytes i == 10 && not (is_joined bytes i)
 
--- a `*/` at the place
+-- a `*/` at the point
 abbrev pub closes : List ℕ → ℕ → Bool
 closes bytes i = slice_index bytes i == 42 && slice_index bytes (i + 1) == 47
 
--- where a run, blanks, a line and a comment end, each from a place on
+-- where a run, blanks, a line and a comment end, each from a point on
 unfoldable pub run_end : List ℕ → ℕ → ℕ
 run_end = first_in ends_run
 
@@ -69,14 +69,14 @@ unfoldable pub comment_end : List ℕ → ℕ → ℕ
 comment_end = first_in closes
 
 -- a form of so many bytes
-abbrev pub piece : Form → ℕ → Piece
-piece form n = record { form = form; length = n }
+abbrev pub lexeme : Form → ℕ → Lexeme
+lexeme form n = record { form = form; length = n }
 
 -- the joined line that a backslash at the front begins
-unfoldable pub joined_line_at : List ℕ → Option Piece
+unfoldable pub joined_line_at : List ℕ → Option Lexeme
 joined_line_at bytes =
-    if slice_index bytes 1 == 10 then Some (piece form.JoinedLine 2)
-    else (if slice_index bytes 1 == 13 && slice_index bytes 2 == 10 then Some (piece form.JoinedLine 3) else None)
+    if slice_index bytes 1 == 10 then Some (lexeme form.JoinedLine 2)
+    else (if slice_index bytes 1 == 13 && slice_index bytes 2 == 10 then Some (lexeme form.JoinedLine 3) else None)
 
 -- the marks in the order in which the longest is sought
 abbrev pub all_marks : List Punct
@@ -105,57 +105,57 @@ mark_of s = mark_from all_marks s
 unfoldable pub mark_front : List ℕ → ℕ → Option Punct
 mark_front bytes n = if nat_lt (length bytes) n then None else mark_of (take n bytes)
 
--- the piece of a mark that was found, and else the other answer
-abbrev pub mark_piece : Option Punct → ℕ → Option Piece → Option Piece
-mark_piece None n other = other
-mark_piece (Some m) n other = Some (piece (form.Mark m) n)
+-- the lexeme of a mark that was found, and else the other answer
+abbrev pub mark_lexeme : Option Punct → ℕ → Option Lexeme → Option Lexeme
+mark_lexeme None n other = other
+mark_lexeme (Some m) n other = Some (lexeme (form.Mark m) n)
 
 -- the mark of n bytes at the front, and else the other answer
-abbrev pub mark_or : List ℕ → ℕ → Option Piece → Option Piece
-mark_or bytes n other = mark_piece (mark_front bytes n) n other
+abbrev pub mark_or : List ℕ → ℕ → Option Lexeme → Option Lexeme
+mark_or bytes n other = mark_lexeme (mark_front bytes n) n other
 
 -- the longest mark at the front
-unfoldable pub mark_at : List ℕ → Option Piece
+unfoldable pub mark_at : List ℕ → Option Lexeme
 mark_at bytes = mark_or bytes 3 (mark_or bytes 2 (mark_or bytes 1 None))
 
 -- the comment that a `/*` at the front begins
-unfoldable pub comment_at : List ℕ → Piece
+unfoldable pub comment_at : List ℕ → Lexeme
 comment_at bytes =
-    if nat_lt (comment_end bytes 2) (length bytes) then piece form.BlockComment (comment_end bytes 2 + 2)
-    else piece form.OpenComment (length bytes)
+    if nat_lt (comment_end bytes 2) (length bytes) then lexeme form.BlockComment (comment_end bytes 2 + 2)
+    else lexeme form.OpenComment (length bytes)
 
 -- what a slash at the front begins
-unfoldable pub slash_at : List ℕ → Option Piece
+unfoldable pub slash_at : List ℕ → Option Lexeme
 slash_at bytes =
-    if slice_index bytes 1 == 47 then Some (piece form.LineComment (line_end bytes 2))
+    if slice_index bytes 1 == 47 then Some (lexeme form.LineComment (line_end bytes 2))
     else (if slice_index bytes 1 == 42 then Some (comment_at bytes) else mark_at bytes)
 
--- the directive at the front whose word begins at a place
-unfoldable pub named_directive : List ℕ → ℕ → Piece
+-- the directive at the front whose word begins at a point
+unfoldable pub named_directive : List ℕ → ℕ → Lexeme
 named_directive bytes name_at =
     let name = slice_range bytes name_at (run_end bytes name_at) in
-    if bytes_eq name (codes "pragma") then piece form.PragmaStart (run_end bytes name_at)
-    else (if bytes_eq name (codes "include") then piece form.IncludeLine (line_end bytes (run_end bytes name_at))
-    else piece form.OtherDirective (run_end bytes name_at))
+    if bytes_eq name (codes "pragma") then lexeme form.PragmaStart (run_end bytes name_at)
+    else (if bytes_eq name (codes "include") then lexeme form.IncludeLine (line_end bytes (run_end bytes name_at))
+    else lexeme form.OtherDirective (run_end bytes name_at))
 
 -- the directive that a `#` at the front begins
-unfoldable pub directive_at : List ℕ → Option Piece
+unfoldable pub directive_at : List ℕ → Option Lexeme
 directive_at bytes =
     if is_letter (slice_index bytes (blanks_end bytes 1)) then Some (named_directive bytes (blanks_end bytes 1)) else None
 
--- the piece that begins with a byte of this class
-abbrev pub piece_of : Class → List ℕ → Option Piece
-piece_of White bytes = Some (piece form.Space 1)
-piece_of Letter bytes = Some (piece form.Word (run_end bytes 1))
-piece_of Digit bytes = Some (piece form.Number (run_end bytes 1))
-piece_of Backslash bytes = joined_line_at bytes
-piece_of Slash bytes = slash_at bytes
-piece_of Hash bytes = directive_at bytes
-piece_of Other bytes = mark_at bytes
+-- the lexeme that begins with a byte of this class
+abbrev pub lexeme_of : Class → List ℕ → Option Lexeme
+lexeme_of White bytes = Some (lexeme form.Space 1)
+lexeme_of Letter bytes = Some (lexeme form.Word (run_end bytes 1))
+lexeme_of Digit bytes = Some (lexeme form.Number (run_end bytes 1))
+lexeme_of Backslash bytes = joined_line_at bytes
+lexeme_of Slash bytes = slash_at bytes
+lexeme_of Hash bytes = directive_at bytes
+lexeme_of Other bytes = mark_at bytes
 
 -- the longest form at the front
-unfoldable pub piece_at : List ℕ → Option Piece
-piece_at bytes = piece_of (class_of (slice_index bytes 0)) bytes
+unfoldable pub lexeme_at : List ℕ → Option Lexeme
+lexeme_at bytes = lexeme_of (class_of (slice_index bytes 0)) bytes
 
 -- a value as far as it is read
 abbrev pub capped : Option ℕ → Option ℕ

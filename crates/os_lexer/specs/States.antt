@@ -1,6 +1,6 @@
--- What the reader of a text knows at a place.
+-- What the reader of a text knows at a point.
 use Rattle.std.specs.Prelude.{◌≡◌, ℕ, ◌+◌, ◌≤◌, Bool, true, false, ◌&&◌, List, [], ◌∷◌, length, None, position, unwrap_or, bytes_eq, All}
-use Rattle.os_lexer.specs.Cover.{Place, IsFaultAt}
+use Rattle.os_lexer.specs.Cover.{Point, IsFaultAt}
 use Rattle.os_lexer.specs.Forms.{IsWord}
 use Rattle.os_lexer.specs.Keywords.{key_of}
 use Rattle.os_lexer.specs.Limits.{text_limit}
@@ -20,9 +20,9 @@ use Rattle.os_lexer.specs.declared.token.Kind.{Kind}
 use Rattle.os_lexer.specs.declared.token.Kind.TheVariants as kind
 use Rattle.os_lexer.specs.declared.token.Token.{Token}
 
--- the place
-abbrev pub place_of : Lexer → Place
-place_of lexer = record { at = lexer.at; mode = lexer.mode; tokens = lexer.tokens.items }
+-- the point
+abbrev pub point_of : Lexer → Point
+point_of lexer = record { at = lexer.at; mode = lexer.mode; tokens = lexer.tokens.items }
 
 -- whether a kind is that of a name
 abbrev pub is_name : Kind → Bool
@@ -75,8 +75,8 @@ IfWord form.Word P = P
 IfWord form.Number P = Unit {0}
 IfWord (form.Mark mark) P = Unit {0}
 
--- the error is a fault that stands at the place, on its line
-abbrev pub IsFaultHere : List ℕ → Place → LexError → Type 0
+-- the error is a fault that stands at the point, on its line
+abbrev pub IsFaultHere : List ℕ → Point → LexError → Type 0
 IsFaultHere text p (BadByte line) = IsFaultAt text p fault.BadByte × (line ≡ line_of text p.at)
 IsFaultHere text p (OpenComment line) = IsFaultAt text p fault.OpenComment × (line ≡ line_of text p.at)
 IsFaultHere text p (BigNumber line) = IsFaultAt text p fault.BigNumber × (line ≡ line_of text p.at)

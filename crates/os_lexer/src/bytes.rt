@@ -47,9 +47,9 @@ pub(crate) fn is_line_feed(byte: u8) -> bool
     byte == b'\n'
 }
 
-/// The byte at a place, or 0 past the end. No form of two bytes or more has a 0 behind its first.
-pub(crate) fn byte_at(bytes: &[u8], place: usize) -> u8
-    ensures { result ≡ slice_index bytes.now place }
+/// The byte at a point, or 0 past the end. No form of two bytes or more has a 0 behind its first.
+pub(crate) fn byte_at(bytes: &[u8], point: usize) -> u8
+    ensures { result ≡ slice_index bytes.now point }
 {
-    if place < bytes.len() { bytes[place] } else { 0 }
+    if point < bytes.len() { bytes[point] } else { 0 }
 }

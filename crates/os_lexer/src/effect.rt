@@ -10,7 +10,7 @@ use crate::numbers::number_value;
 use crate::token::Kind;
 use crate::words::key_of;
 
-/// What a piece of the text does: the mode is that of the place behind it.
+/// What a lexeme of the text does: the mode is that of the point behind it.
 #[derive(Clone, Copy)]
 pub(crate) enum Effect {
     Skip(Mode),
@@ -18,7 +18,7 @@ pub(crate) enum Effect {
     Fail(Fault),
 }
 
-/// What the slice of a form does at a place of this mode. As a name it has the number given.
+/// What the slice of a form does at a point of this mode. As a name it has the number given.
 pub(crate) fn effect_of(mode: Mode, name: u32, form: Form, slice: &[u8]) -> Effect
     ensures { result ≡ effect mode name form slice.now }
 {

@@ -2,7 +2,7 @@ use os_io::Memory;
 use std::alloc::AllocFailed;
 use thiserror::Error;
 
-/// Why a text has no tokens, and the line of the first place where it is so. Lines count from 1.
+/// Why a text has no tokens, and the line of the first point where it is so. Lines count from 1.
 #[derive(Clone, Copy, Debug, PartialEq, Eq, Error)]
 pub enum LexError {
     /// A byte, a `#` or a run of letters and digits that begins no form. It has the code 1.
@@ -19,7 +19,7 @@ pub enum LexError {
     Memory,
 }
 
-/// What is wrong at a place.
+/// What is wrong at a point.
 #[derive(Clone, Copy)]
 pub(crate) enum Fault {
     BadByte,

@@ -1,6 +1,6 @@
 use crate::token::Punct;
 
-/// What may stand at a place of a text: the longest one that does is the next piece of the text.
+/// What may stand at a point of a text: the longest one that does is the next lexeme of the text.
 #[derive(Clone, Copy)]
 pub(crate) enum Form {
     /// One byte of white space.
@@ -24,7 +24,7 @@ pub(crate) enum Form {
 
 /// A form and how many bytes it takes.
 #[derive(Clone, Copy)]
-pub(crate) struct Piece {
+pub(crate) struct Lexeme {
     pub form: Form,
     pub length: usize,
 }

@@ -1,5 +1,5 @@
 //! Laws of the token cover and the first fault. These functions do nothing: their contracts are the laws.
-ghost use Rattle.os_lexer.specs.Laws.{OneCover, OneFault, CoverOrFault, NeverBoth, CoverCuts, FaultPlaces, CoverBeforeFault, FewTokens, SmallNumbers, FixedNamesAreNumbered};
+ghost use Rattle.os_lexer.specs.Laws.{OneCover, OneFault, CoverOrFault, NeverBoth, CoverCuts, FaultPoints, CoverBeforeFault, FewTokens, SmallNumbers, FixedNamesAreNumbered};
 
 /// Each text has one outcome.
 pub fn one_cover()
@@ -9,7 +9,7 @@ pub fn one_cover()
     ensures never_both { NeverBoth }
 {}
 
-/// The token cover is the cut of the whole text into pieces, each the longest form at its place, with the kinds and
+/// The token cover is the cut of the whole text into lexemes, each the longest form at its point, with the kinds and
 /// lines of the tokens. It has at most as many tokens as the text has bytes, and no number above 2,147,483,647.
 pub fn cover_cuts()
     ensures cuts { CoverCuts }
@@ -17,10 +17,10 @@ pub fn cover_cuts()
     ensures small { SmallNumbers }
 {}
 
-/// The first fault stands at the place that the text is cut to. The text before it has a cover, and no fault stands at an
-/// earlier place that the text is cut to.
+/// The first fault stands at the point that the text is cut to. The text before it has a cover, and no fault stands at an
+/// earlier point that the text is cut to.
 pub fn cover_before_fault()
-    ensures places { FaultPlaces }
+    ensures points { FaultPoints }
     ensures before { CoverBeforeFault }
 {}
 

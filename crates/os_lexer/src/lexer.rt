@@ -4,15 +4,15 @@ ghost use Rattle.os_lexer.specs.Bytes.{is_line_feed};
 use crate::bytes::is_line_feed;
 use crate::effect::{Effect, effect_of};
 use crate::fault::{Fault, LexError};
-use crate::form::{Form, Piece};
+use crate::form::{Form, Lexeme};
+use crate::lexemes::lexeme_at;
 use crate::mode::Mode;
-use crate::pieces::piece_at;
 use crate::spellings::Spellings;
 use crate::token::{Kind, Token};
 use crate::words::fixed_number;
 use std::alloc::Global;
 
-/// A place in a text, with what is known of the bytes before it.
+/// A point in a text, with what is known of the bytes before it.
 #[derive(Drop)]
 pub(crate) struct Lexer<'a> {
     at: usize,
@@ -26,14 +26,14 @@ impl<'a> Lexer<'a> {
     ghost use Rattle.os_lexer.specs.Answer.{IsMemory};
     ghost use Rattle.os_lexer.specs.Cover.{text_start, Step};
     ghost use Rattle.os_lexer.specs.Effects.{effect};
-    ghost use Rattle.os_lexer.specs.Forms.{IsPiece};
+    ghost use Rattle.os_lexer.specs.Forms.{IsLexeme};
     ghost use Rattle.os_lexer.specs.Limits.{text_limit};
     ghost use Rattle.os_lexer.specs.Spellings.{first_of};
-    ghost use Rattle.os_lexer.specs.States.{place_of, end_of, is_name, number_in, IsState, IsFaultHere, IfWord};
+    ghost use Rattle.os_lexer.specs.States.{point_of, end_of, is_name, number_in, IsState, IsFaultHere, IfWord};
 
     /// The start of a text.
     pub(crate) fn new(alloc: Global) -> Lexer<'a>
-        ensures start { place_of result ≡ text_start }
+        ensures start { point_of result ≡ text_start }
         ensures state { (text : List ℕ) → length text ≤ text_limit → IsState text result }
     {
         Lexer {
@@ -45,37 +45,37 @@ impl<'a> Lexer<'a> {
         }
     }
 
-    /// How many bytes stand before the place.
+    /// How many bytes stand before the point.
     pub(crate) fn at(&self) -> usize
         ensures { result ≡ self.now.at }
     {
         self.at
     }
 
-    /// Goes on behind the piece at the place.
+    /// Goes on behind the lexeme at the point.
     pub(crate) fn advance(&mut self, text: &'a [u8]) -> Result<(), LexError>
         requires state { IsState text.now self.old }
         requires inside { self.old.at < length text.now }
-        ensures step { OnOk result (Step text.now (place_of self.old) (place_of self.new)) }
+        ensures step { OnOk result (Step text.now (point_of self.old) (point_of self.new)) }
         ensures state { OnOk result (IsState text.now self.new) }
-        ensures fault { IfErr result (IsFaultHere text.now (place_of self.old)) }
+        ensures fault { IfErr result (IsFaultHere text.now (point_of self.old)) }
     {
-        match piece_at(&text[self.at..]) {
-            Some(piece) => self.take(text, piece),
+        match lexeme_at(&text[self.at..]) {
+            Some(lexeme) => self.take(text, lexeme),
             None => Err(Fault::BadByte.on_line(self.line)),
         }
     }
 
-    /// Goes on behind a piece.
-    fn take(&mut self, text: &'a [u8], piece: Piece) -> Result<(), LexError>
+    /// Goes on behind a lexeme.
+    fn take(&mut self, text: &'a [u8], lexeme: Lexeme) -> Result<(), LexError>
         requires state { IsState text.now self.old }
-        requires piece { IsPiece (drop self.old.at text.now) piece.form piece.length }
-        ensures step { OnOk result (Step text.now (place_of self.old) (place_of self.new)) }
+        requires lexeme { IsLexeme (drop self.old.at text.now) lexeme.form lexeme.length }
+        ensures step { OnOk result (Step text.now (point_of self.old) (point_of self.new)) }
         ensures state { OnOk result (IsState text.now self.new) }
-        ensures fault { IfErr result (IsFaultHere text.now (place_of self.old)) }
+        ensures fault { IfErr result (IsFaultHere text.now (point_of self.old)) }
     {
-        let slice = &text[self.at..self.at + piece.length];
-        match self.effect(piece.form, slice) {
+        let slice = &text[self.at..self.at + lexeme.length];
+        match self.effect(lexeme.form, slice) {
             Effect::Skip(mode) => {
                 self.pass(slice, mode);
                 Ok(())
@@ -89,7 +89,7 @@ impl<'a> Lexer<'a> {
         }
     }
 
-    /// What the slice of a form does at the place.
+    /// What the slice of a form does at the point.
     fn effect(&self, form: Form, slice: &[u8]) -> Effect
         requires { 12 + unwrap_or (first_of self.now.spellings slice.now) (length self.now.tokens.items) < 2 ^ 32 }
         ensures { result ≡ effect self.now.mode
@@ -132,7 +132,7 @@ impl<'a> Lexer<'a> {
         }
     }
 
-    /// Adds the token that begins at the place.
+    /// Adds the token that begins at the point.
     fn give(&mut self, slice: &'a [u8], kind: Kind) -> Result<(), LexError>
         requires short { self.old.at + length slice.now < 2 ^ 32 }
         requires few { length self.old.tokens.items < 2 ^ 32 }
@@ -164,7 +164,7 @@ impl<'a> Lexer<'a> {
         Ok(())
     }
 
-    /// Leaves the slice at the place behind.
+    /// Leaves the slice at the point behind.
     fn pass(&mut self, slice: &[u8], mode: Mode)
         requires short { self.old.at + length slice.now < 2 ^ 32 }
         requires lines { self.old.line + count_by is_line_feed slice.now < 2 ^ 32 }
@@ -179,7 +179,7 @@ impl<'a> Lexer<'a> {
         self.mode = mode;
     }
 
-    /// The tokens of the text that ends at the place.
+    /// The tokens of the text that ends at the point.
     pub(crate) fn finish(self) -> Result<Vec<Token>, LexError>
         requires { self.at < 2 ^ 32 }
         ensures tokens { IfOk result (λ tokens. tokens.items ≡ self.entry.tokens.items ++ end_of self.entry) }
@@ -192,12 +192,12 @@ impl<'a> Lexer<'a> {
             mut tokens,
             spellings: _,
         } = self;
-        let place = at as u32;
+        let point = at as u32;
         if let Mode::InPragma = mode {
             tokens.push(Token {
                 kind: Kind::PragmaEnd,
-                start: place,
-                end: place,
+                start: point,
+                end: point,
                 line,
             })?;
         }

@@ -3,8 +3,8 @@
 //! `lex` takes the bytes of a text and gives its tokens: what each is, its slice of the text and its line. It is
 //! the first stop on the way from a text to a run, and what stands above it sees tokens alone.
 //!
-//! Its promise is the token cover. From its start on the text is cut into pieces, each the longest form at its
-//! place, and the tokens are the pieces that aren't skipped. A text without a cover has a first fault, with a code
+//! Its promise is the token cover. From its start on the text is cut into lexemes, each the longest form at its
+//! point, and the tokens are the lexemes that aren't skipped. A text without a cover has a first fault, with a code
 //! and a line. `lex` answers each of the two exactly where it is so, unless memory runs out.
 //!
 //! `specs/Cover.antt` is where a reader begins: it says what a cover and a first fault are, over the forms of
@@ -19,13 +19,13 @@ mod effect;
 mod fault;
 mod form;
 mod laws;
+mod lexemes;
 mod lexer;
 mod limits;
 mod marks;
 mod mode;
 pub mod names;
 mod numbers;
-mod pieces;
 mod scans;
 mod spellings;
 mod token;

@@ -3,29 +3,29 @@ ghost use Rattle.std.specs.Prelude.{◌≡◌, ◌<◌, [], ◌∷◌, length};
 ghost use Rattle.os_lexer.specs.Reading.{mark_at, mark_front, mark_of};
 
 use crate::bytes::byte_at;
-use crate::form::{Form, Piece};
+use crate::form::{Form, Lexeme};
 use crate::token::Punct;
 
 /// The longest mark at the front of the bytes.
 #[tactic(auto, unfolding(crate::specs::Reading::mark_at))]
-pub(crate) fn mark_at(bytes: &[u8]) -> Option<Piece>
+pub(crate) fn mark_at(bytes: &[u8]) -> Option<Lexeme>
     requires { 0 < length bytes.now }
     ensures { result ≡ mark_at bytes.now }
 {
     if let Some(mark) = triple_mark(bytes) {
-        return Some(Piece {
+        return Some(Lexeme {
             form: Form::Mark(mark),
             length: 3,
         });
     }
     if let Some(mark) = pair_mark(bytes) {
-        return Some(Piece {
+        return Some(Lexeme {
             form: Form::Mark(mark),
             length: 2,
         });
     }
     if let Some(mark) = front_mark(bytes) {
-        return Some(Piece {
+        return Some(Lexeme {
             form: Form::Mark(mark),
             length: 1,
         });

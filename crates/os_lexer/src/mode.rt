@@ -5,7 +5,7 @@ ghost use Rattle.os_lexer.specs.Effects.{mode_after_token, mode_after_gap};
 
 use crate::bytes::is_line_feed;
 
-/// What stands before a place on its line.
+/// What stands before a point on its line.
 #[derive(Clone, Copy)]
 pub(crate) enum Mode {
     /// White space and comments alone, so that a `#` may begin a directive.

@@ -1,10 +1,10 @@
-//! Where a part of a piece ends: the first place from a given one on at which a test holds.
+//! Where a part of a lexeme ends: the first point from a given one on at which a test holds.
 ghost use Rattle.std.specs.Prelude.{◌≡◌, ◌<◌, ◌≤◌, length};
 ghost use Rattle.os_lexer.specs.Reading.{run_end, blanks_end, line_end, comment_end, ends_line, is_joined, closes};
 
 use crate::bytes::{byte_at, is_blank, is_word_byte};
 
-/// The end of the letters, digits and `_` from a place on.
+/// The end of the letters, digits and `_` from a point on.
 #[tactic(auto, using(crate::proofs::Ends::run_ends))]
 pub(crate) fn run_end(bytes: &[u8], from: usize) -> usize
     requires { from ≤ length bytes.now }
@@ -12,15 +12,15 @@ pub(crate) fn run_end(bytes: &[u8], from: usize) -> usize
     ensures from { from ≤ result }
     ensures within { result ≤ length bytes.now }
 {
-    for place in from..bytes.len() {
-        if !is_word_byte(bytes[place]) {
-            return place;
+    for point in from..bytes.len() {
+        if !is_word_byte(bytes[point]) {
+            return point;
         }
     }
     bytes.len()
 }
 
-/// The end of the spaces and tabs from a place on.
+/// The end of the spaces and tabs from a point on.
 #[tactic(auto, using(crate::proofs::Ends::blanks_ends))]
 pub(crate) fn blanks_end(bytes: &[u8], from: usize) -> usize
     requires { from ≤ length bytes.now }
@@ -28,9 +28,9 @@ pub(crate) fn blanks_end(bytes: &[u8], from: usize) -> usize
     ensures from { from ≤ result }
     ensures within { result ≤ length bytes.now }
 {
-    for place in from..bytes.len() {
-        if !is_blank(bytes[place]) {
-            return place;
+    for point in from..bytes.len() {
+        if !is_blank(bytes[point]) {
+            return point;
         }
     }
     bytes.len()
@@ -45,34 +45,34 @@ pub(crate) fn line_end(bytes: &[u8], from: usize) -> usize
     ensures from { from ≤ result }
     ensures within { result ≤ length bytes.now }
 {
-    for place in from..bytes.len() {
-        if ends_line(bytes, place) {
-            return place;
+    for point in from..bytes.len() {
+        if ends_line(bytes, point) {
+            return point;
         }
     }
     bytes.len()
 }
 
-/// Whether a line feed that is no joined line's stands at the place.
-fn ends_line(bytes: &[u8], place: usize) -> bool
-    requires low { 2 ≤ place }
-    requires within { place ≤ length bytes.now }
-    ensures { result ≡ ends_line bytes.now place }
+/// Whether a line feed that is no joined line's stands at the point.
+fn ends_line(bytes: &[u8], point: usize) -> bool
+    requires low { 2 ≤ point }
+    requires within { point ≤ length bytes.now }
+    ensures { result ≡ ends_line bytes.now point }
 {
-    byte_at(bytes, place) == b'\n' && !is_joined(bytes, place)
+    byte_at(bytes, point) == b'\n' && !is_joined(bytes, point)
 }
 
-/// Whether a line feed at the place would be that of a joined line.
-fn is_joined(bytes: &[u8], place: usize) -> bool
-    requires low { 2 ≤ place }
-    requires within { place ≤ length bytes.now }
-    ensures { result ≡ is_joined bytes.now place }
+/// Whether a line feed at the point would be that of a joined line.
+fn is_joined(bytes: &[u8], point: usize) -> bool
+    requires low { 2 ≤ point }
+    requires within { point ≤ length bytes.now }
+    ensures { result ≡ is_joined bytes.now point }
 {
-    let before = byte_at(bytes, place - 1);
-    before == b'\\' || (before == b'\r' && byte_at(bytes, place - 2) == b'\\')
+    let before = byte_at(bytes, point - 1);
+    before == b'\\' || (before == b'\r' && byte_at(bytes, point - 2) == b'\\')
 }
 
-/// The place of the next `*/`, or the end of the text.
+/// The point of the next `*/`, or the end of the text.
 #[tactic(auto, using(crate::proofs::Ends::comment_ends))]
 pub(crate) fn comment_end(bytes: &[u8], from: usize) -> usize
     requires { from ≤ length bytes.now }
@@ -80,18 +80,18 @@ pub(crate) fn comment_end(bytes: &[u8], from: usize) -> usize
     ensures from { from ≤ result }
     ensures within { result ≤ length bytes.now }
 {
-    for place in from..bytes.len() {
-        if closes(bytes, place) {
-            return place;
+    for point in from..bytes.len() {
+        if closes(bytes, point) {
+            return point;
         }
     }
     bytes.len()
 }
 
-/// Whether a `*/` stands at the place.
-fn closes(bytes: &[u8], place: usize) -> bool
-    requires { place < length bytes.now }
-    ensures { result ≡ closes bytes.now place }
+/// Whether a `*/` stands at the point.
+fn closes(bytes: &[u8], point: usize) -> bool
+    requires { point < length bytes.now }
+    ensures { result ≡ closes bytes.now point }
 {
-    bytes[place] == b'*' && byte_at(bytes, place + 1) == b'/'
+    bytes[point] == b'*' && byte_at(bytes, point + 1) == b'/'
 }

@@ -40,7 +40,7 @@ pub enum Key {
     Other,
 }
 
-/// A mark, in the order in which the longest one at a place is sought.
+/// A mark, in the order in which the longest one at a point is sought.
 #[derive(Clone, Copy, Debug, PartialEq, Eq)]
 pub enum Punct {
     /// `<<=`

@@ -7,7 +7,7 @@ use Rattle.os_ast.specs.Leveled as leveled
 use Rattle.os_ast.specs.Leveled.{IsExpr, IsChange, takes_else, IsStmt, AreStmts, AreAll, IsParams, IsItem}
 use Rattle.os_ast.specs.Means.{Placed, Fit}
 use Rattle.os_ast.specs.Spelling as spelling
-use Rattle.os_ast.specs.Spelling.{Piece, Printer, bare, marked}
+use Rattle.os_ast.specs.Spelling.{Symbol, Printer, bare, marked}
 use Rattle.os_ast.specs.Trees as tree
 use Rattle.os_ast.specs.Trees.{ExprTree, Args, TargetTree, DeclaratorTree, StartTree, ChangeTree, ClauseTree, StmtTree, Stmts, ItemTree}
 use Rattle.os_ast.specs.declared.expr.Name.{Name}
@@ -29,7 +29,7 @@ use Rattle.productions.proofs.BackClauses.{back-clauses}
 use Rattle.productions.proofs.BackStmts.{stmt-some, print-less, lift, not-other, empty-back, block-back, named-change, stepped-back, call-back, back-condition, if-back, if_else-back, while-back, for-back, break-back, continue-back, return-back, task-back, tick-back, taskwait-back}
 
 -- no `else` follows
-abbrev pub Free : List Piece → Type 0
+abbrev pub Free : List Symbol → Type 0
 Free ps = (us : List Placed) → Fit ps us → begins (kind.Key keys.Else) us ≡ false
 
 stmt-else : (l : Kind) → CanBeginStmt l → same l (kind.Key keys.Else) ≡ false
@@ -71,50 +71,50 @@ inside-else : (l : Kind) → Inside l → same l (kind.Key keys.Else) ≡ false
 inside-else l (part p) = stmt-else l p
 inside-else l close = refl
 
-as-inside : (ps : List Piece) → BeginsWith CanBeginStmt ps → BeginsWith Inside ps
+as-inside : (ps : List Symbol) → BeginsWith CanBeginStmt ps → BeginsWith Inside ps
 as-inside (p ∷ ps) (can.begins b) = can.begins (part b)
 as-inside [] b = elim b [ ]
 
-stmts-inside : (ss : Stmts) (ps : List Piece) → BeginsWith Inside (spelling.stmts ss (bare (kind.Punct puncts.CloseBrace) ∷ ps))
+stmts-inside : (ss : Stmts) (ps : List Symbol) → BeginsWith Inside (spelling.stmts ss (bare (kind.Punct puncts.CloseBrace) ∷ ps))
 stmts-inside tree.no_stmts ps = can.begins close
 stmts-inside (tree.stmt s ss) ps = as-inside _ (stmt-begins s _)
 
-stmts-free : (ss : Stmts) (ps : List Piece) → Free (spelling.stmts ss (bare (kind.Punct puncts.CloseBrace) ∷ ps))
+stmts-free : (ss : Stmts) (ps : List Symbol) → Free (spelling.stmts ss (bare (kind.Punct puncts.CloseBrace) ∷ ps))
 stmts-free ss ps us f = begins-not (kind.Key keys.Else) _ us (stmts-inside ss ps) inside-else f
 
 -- blocks
-stmts-none : (f : ℕ) (r : Reader StmtTree) (ps : List Piece) (ts : List Placed) → Plain (kind.Punct puncts.CloseBrace) ps ts → Back (stmts (suc f) r) tree.no_stmts ps ts
+stmts-none : (f : ℕ) (r : Reader StmtTree) (ps : List Symbol) (ts : List Placed) → Plain (kind.Punct puncts.CloseBrace) ps ts → Back (stmts (suc f) r) tree.no_stmts ps ts
 unfolding stmts
 stmts-none f r ps ts t =
     let size = ap length t.head in
     record { rest = t.rest; read = rw t.head refl; fits = t.fits; within = omega arith }
 
-stmts-more : (f : ℕ) (r : Reader StmtTree) (s : StmtTree) (ss : Stmts) (ps p0 : List Piece) (ts : List Placed) → begins (kind.Punct puncts.CloseBrace) ts ≡ false →
+stmts-more : (f : ℕ) (r : Reader StmtTree) (s : StmtTree) (ss : Stmts) (ps p0 : List Symbol) (ts : List Placed) → begins (kind.Punct puncts.CloseBrace) ts ≡ false →
     (a : Back r s p0 ts) → Back (stmts f r) ss ps a.rest → Back (stmts (suc f) r) (tree.stmt s ss) ps ts
 unfolding stmts
 stmts-more f r s ss ps p0 ts off a b = record { rest = b.rest; read = rw (off, a.read, b.read) refl; fits = b.fits; within = omega (arith, a.within, b.within) }
 
-pub block-read : (s : Option Inner) (ss : Stmts) (ps : List Piece) (ts : List Placed) → Back (stmts (suc (length ts)) (inner_item s)) ss ps ts → Back (block s) ss ps ts
+pub block-read : (s : Option Inner) (ss : Stmts) (ps : List Symbol) (ts : List Placed) → Back (stmts (suc (length ts)) (inner_item s)) ss ps ts → Back (block s) ss ps ts
 unfolding block
 block-read s ss ps ts b = record { rest = b.rest; read = b.read; fits = b.fits; within = b.within }
 
-declare-item : (c : ℕ) (ds : List DeclaratorTree) (ps p0 : List Piece) (ts : List Placed) → Plain (kind.Key keys.Int) p0 ts → Back (declare (below c)) ds ps ts →
+declare-item : (c : ℕ) (ds : List DeclaratorTree) (ps p0 : List Symbol) (ts : List Placed) → Plain (kind.Key keys.Int) p0 ts → Back (declare (below c)) ds ps ts →
     Back (inner_item (inner (suc c))) (tree.StmtTree.Declare ds) ps ts
 unfolding inner_item block_item inner
 declare-item c ds ps p0 ts t b =
     let int : begins (kind.Key keys.Int) ts ≡ true = rw t.head refl in
     record { rest = b.rest; read = rw (int, b.read) refl; fits = b.fits; within = b.within }
 
-stmt-item : (c : ℕ) (s : StmtTree) (ps : List Piece) (ts : List Placed) → begins (kind.Key keys.Int) ts ≡ false → Back (stmt_on (inner c)) s ps ts → Back (inner_item (inner (suc c))) s ps ts
+stmt-item : (c : ℕ) (s : StmtTree) (ps : List Symbol) (ts : List Placed) → begins (kind.Key keys.Int) ts ≡ false → Back (stmt_on (inner c)) s ps ts → Back (inner_item (inner (suc c))) s ps ts
 unfolding inner_item block_item inner
 stmt-item c s ps ts off b = record { rest = b.rest; read = rw off b.read; fits = b.fits; within = b.within }
 
 -- a change and its semicolon
-targeted-stmt : (d : ℕ) (c : ChangeTree) (ps : List Piece) (ts : List Placed) → Targeted d c (bare (kind.Punct puncts.Semicolon) ∷ ps) ts → Back (stmt_on (inner d)) (tree.StmtTree.Change c) ps ts
+targeted-stmt : (d : ℕ) (c : ChangeTree) (ps : List Symbol) (ts : List Placed) → Targeted d c (bare (kind.Punct puncts.Semicolon) ∷ ps) ts → Back (stmt_on (inner d)) (tree.StmtTree.Change c) ps ts
 targeted-stmt d c ps ts g =
     lift {st = starts.Name (name_of g.target).id} (inner d) _ ps ts (rw g.begun.head refl) (named-change d c ps ts g (plain-back g.back.fits))
 
-change-stmt : (d : ℕ) {c : ChangeTree} (ps : List Piece) (ts : List Placed) → IsChange c → change_depth c ≤ d →
+change-stmt : (d : ℕ) {c : ChangeTree} (ps : List Symbol) (ts : List Placed) → IsChange c → change_depth c ≤ d →
     Fit (spelling.stmt (tree.StmtTree.Change c) ps) ts → Back (stmt_on (inner d)) (tree.StmtTree.Change c) ps ts
 change-stmt d ps ts (leveled.IsChange.set it ia ie) h f = targeted-stmt d _ ps ts (back-set d _ ts it ia ie h (ending ps) f)
 change-stmt d ps ts (leveled.IsChange.after it) h f = targeted-stmt d _ ps ts (back-after d _ ts it h f)
@@ -122,7 +122,7 @@ change-stmt d ps ts (leveled.IsChange.before {t} {s} {m} it) h f =
     let g = back-before d _ ts it h (ending ps) f in
     lift {st = starts.Step s} (inner d) _ ps ts (rw g.head (step-starts s)) (stepped-back d s _ ps ts (ended-back (before s (below d)) tree.StmtTree.Change (tree.Before t s m) ps ts g.back))
 
-call-stmt : (d : ℕ) (n : Name) (es : Args) (ps : List Piece) (ts : List Placed) → (t : Noted (kind.Name n.id) n.mark (spelling.in_parens (spelling.args es) (bare (kind.Punct puncts.Semicolon) ∷ ps)) ts) →
+call-stmt : (d : ℕ) (n : Name) (es : Args) (ps : List Symbol) (ts : List Placed) → (t : Noted (kind.Name n.id) n.mark (spelling.in_parens (spelling.args es) (bare (kind.Punct puncts.Semicolon) ∷ ps)) ts) →
     Back (args (below d)) es (bare (kind.Punct puncts.Semicolon) ∷ ps) t.rest → Back (stmt_on (inner d)) (tree.StmtTree.Call n es) ps ts
 call-stmt d n es ps ts t b =
     let u = plain-back t.fits in
@@ -130,7 +130,7 @@ call-stmt d n es ps ts t b =
     lift {st = starts.Name n.id} (inner d) _ ps ts (rw t.head refl) (call-back d n es ps _ ts t opens b (plain-back b.fits))
 
 mutual
-  pub back-stmt : (d : ℕ) {s : StmtTree} {ps : List Piece} {ts : List Placed} → IsStmt s → stmt_depth s ≤ suc d → (takes_else s ≡ true → Free ps) →
+  pub back-stmt : (d : ℕ) {s : StmtTree} {ps : List Symbol} {ts : List Placed} → IsStmt s → stmt_depth s ≤ suc d → (takes_else s ≡ true → Free ps) →
       Fit (spelling.stmt s ps) ts → Back (stmt_on (inner d)) s ps ts
   back-stmt d leveled.IsStmt.empty h e f = let t = plain-back f in lift {st = starts.Semicolon} (inner d) _ _ _ (rw t.head refl) (empty-back (inner d) _ _ t)
   back-stmt d (leveled.IsStmt.block {ss} are) h e f =
@@ -201,7 +201,7 @@ mutual
       let w = plain-back o.fits in
       lift {st = starts.Pragma} (inner d) _ _ _ (rw t.head refl) (taskwait-back (inner d) m _ _ _ _ _ t o w (plain-back w.fits))
 
-  pub back-stmts : (f d : ℕ) {ss : Stmts} {ps : List Piece} {ts : List Placed} → AreStmts ss → stmts_depth ss ≤ d →
+  pub back-stmts : (f d : ℕ) {ss : Stmts} {ps : List Symbol} {ts : List Placed} → AreStmts ss → stmts_depth ss ≤ d →
       Fit (spelling.stmts ss (bare (kind.Punct puncts.CloseBrace) ∷ ps)) ts → length ts < f → Back (stmts f (inner_item (inner d))) ss ps ts
   back-stmts zero d are h fit less = absurd (omega arith)
   back-stmts (suc f) d leveled.AreStmts.no_stmts h fit less = stmts-none f (inner_item (inner d)) _ _ (plain-back fit)

@@ -8,7 +8,7 @@ use Rattle.os_ast.specs.Leveled.{IsExpr, IsTarget, AreAll, AreListed, IsOptional
 use Rattle.os_ast.specs.Means as means
 use Rattle.os_ast.specs.Means.{Placed, placed, Fit}
 use Rattle.os_ast.specs.Spelling as spelling
-use Rattle.os_ast.specs.Spelling.{Piece, Printer, bare, marked, ◌⨾◌}
+use Rattle.os_ast.specs.Spelling.{Symbol, Printer, bare, marked, ◌⨾◌}
 use Rattle.os_ast.specs.Trees.{ExprTree, TargetTree, IndexTree, DeclaratorTree}
 use Rattle.os_ast.specs.declared.expr.Name.{Name}
 use Rattle.os_lexer.specs.Names.{stream_id}
@@ -24,7 +24,7 @@ use Rattle.productions.proofs.Follows.{Stops, grows, no-token}
 use Rattle.productions.proofs.BackExprs.{Back, Plain, plain-back, Noted, noted-back, expect-back, depth-some, BackTarget, back-index, bracket, back-expr}
 
 -- what follows is of a kind, so it is of no other
-pub begins-not : {Q : Kind → Type 0} (k : Kind) (ps : List Piece) (ts : List Placed) → BeginsWith Q ps → ((l : Kind) → Q l → same l k ≡ false) →
+pub begins-not : {Q : Kind → Type 0} (k : Kind) (ps : List Symbol) (ts : List Placed) → BeginsWith Q ps → ((l : Kind) → Q l → same l k ≡ false) →
     Fit ps ts → begins k ts ≡ false
 begins-not k (bare l ∷ ps) (placed j m ∷ ts) (can.begins q) h (means.bare f) = h l q
 begins-not k (marked l n ∷ ps) (placed j m ∷ ts) (can.begins q) h (means.marked f) = h l q
@@ -32,7 +32,7 @@ begins-not k [] ts q h f = elim q [ ]
 begins-not k (bare l ∷ ps) [] q h f = elim f [ ]
 begins-not k (marked l n ∷ ps) [] q h f = elim f [ ]
 
-pub begins-stops : {Q : Kind → Type 0} (n : ℕ) (ps : List Piece) → BeginsWith Q ps → ((l : Kind) → Q l → grows l ≤ n) → Stops n ps
+pub begins-stops : {Q : Kind → Type 0} (n : ℕ) (ps : List Symbol) → BeginsWith Q ps → ((l : Kind) → Q l → grows l ≤ n) → Stops n ps
 begins-stops n (bare l ∷ ps) (can.begins q) h = record { least = h l q }
 begins-stops n (marked l m ∷ ps) (can.begins q) h = record { least = h l q }
 begins-stops n [] q h = elim q [ ]
@@ -48,16 +48,16 @@ ends-least n l comma = omega arith
 ends-least n l semicolon = omega arith
 ends-least n l paren = omega arith
 
-pub ends-stop : (n : ℕ) (ps : List Piece) → BeginsWith Ends ps → Stops n ps
+pub ends-stop : (n : ℕ) (ps : List Symbol) → BeginsWith Ends ps → Stops n ps
 ends-stop n ps b = begins-stops n ps b (ends-least n)
 
 -- lists of parts
-pub record Taken {A : Type 0} (goes : List Placed → Bool) (part : Reader A) (x : A) (ps : List Piece) (ts : List Placed) : Type 0 where
+pub record Taken {A : Type 0} (goes : List Placed → Bool) (part : Reader A) (x : A) (ps : List Symbol) (ts : List Placed) : Type 0 where
   pub on : goes ts ≡ true
   pub back : Back part x ps ts
   pub less : length back.rest < length ts
 
-each-follows : {A : Type 0} (p : A → Printer) (F : List Piece → Type 0) (xs : List A) (ps : List Piece) → ((x : A) (qs : List Piece) → F (p x qs)) → F ps →
+each-follows : {A : Type 0} (p : A → Printer) (F : List Symbol → Type 0) (xs : List A) (ps : List Symbol) → ((x : A) (qs : List Symbol) → F (p x qs)) → F ps →
     F (spelling.each p xs ps)
 each-follows p F [] ps h f = f
 each-follows p F (x ∷ xs) ps h f = h x (spelling.each p xs ps)
@@ -71,10 +71,10 @@ many-some : {A : Type 0} (f : ℕ) (goes : List Placed → Bool) (part : Reader 
 unfolding many
 many-some f goes part x xs ts us vs on read rest = rw (on, read, rest) refl
 
-pub back-many : {A : Type 0} (f : ℕ) (Is : A → Type 0) (p : A → Printer) (F : List Piece → Type 0) (goes : List Placed → Bool) (part : Reader A)
-    {xs : List A} (ps : List Piece) (ts : List Placed) → AreAll Is xs →
-    ((x : A) (qs : List Piece) → F (p x qs)) →
-    ((x : A) (qs : List Piece) (us : List Placed) → Is x → F qs → Fit (p x qs) us → Taken goes part x qs us) →
+pub back-many : {A : Type 0} (f : ℕ) (Is : A → Type 0) (p : A → Printer) (F : List Symbol → Type 0) (goes : List Placed → Bool) (part : Reader A)
+    {xs : List A} (ps : List Symbol) (ts : List Placed) → AreAll Is xs →
+    ((x : A) (qs : List Symbol) → F (p x qs)) →
+    ((x : A) (qs : List Symbol) (us : List Placed) → Is x → F qs → Fit (p x qs) us → Taken goes part x qs us) →
     F ps → ((us : List Placed) → Fit ps us → goes us ≡ false) → Fit (spelling.each p xs ps) ts → length ts < f →
     Back (many f goes part) xs ps ts
 back-many zero Is p F goes part ps ts all next one fps off fit less = absurd (omega arith)
@@ -85,7 +85,7 @@ back-many (suc f) Is p F goes part ps ts (leveled.AreAll.cons {x} {xs} is all) n
     let b = back-many f Is p F goes part ps a.back.rest all next one fps off a.back.fits (omega (arith, a.less)) in
     record { rest = b.rest; read = many-some f goes part x xs ts a.back.rest b.rest a.on a.back.read b.read; fits = b.fits; within = omega (arith, a.less, b.within) }
 
-comma-taken : {A : Type 0} (part : Reader A) (x : A) (qs : List Piece) (us : List Placed) (p : A → Printer) →
+comma-taken : {A : Type 0} (part : Reader A) (x : A) (qs : List Symbol) (us : List Placed) (p : A → Printer) →
     (t : Plain (kind.Punct puncts.Comma) (p x qs) us) → Back part x qs t.rest →
     Taken (begins (kind.Punct puncts.Comma)) (λ vs. part (after vs)) x qs us
 comma-taken part x qs us p t b =
@@ -114,12 +114,12 @@ list_of-read : {A : Type 0} (part : Reader A) (x : A) (xs : List A) (ts us vs : 
 unfolding list_of
 list_of-read part x xs ts us vs read rest = rw (read, rest) refl
 
-pub back-list : {A : Type 0} (Is : A → Type 0) (p : A → Printer) (part : Reader A) (k : Kind) {xs : List A} (ps : List Piece) (ts : List Placed) →
+pub back-list : {A : Type 0} (Is : A → Type 0) (p : A → Printer) (part : Reader A) (k : Kind) {xs : List A} (ps : List Symbol) (ts : List Placed) →
     AreListed Is xs → EndsList k →
-    ((x : A) (qs : List Piece) (us : List Placed) → Is x → BeginsWith Ends qs → Fit (p x qs) us → Back part x qs us) →
+    ((x : A) (qs : List Symbol) (us : List Placed) → Is x → BeginsWith Ends qs → Fit (p x qs) us → Back part x qs us) →
     Fit (spelling.listed p xs (bare k ∷ ps)) ts → Back (list_of part) xs (bare k ∷ ps) ts
 back-list Is p part k ps ts (leveled.AreListed.listed {x} {xs} is all) e one fit =
-    let next : (y : _) (qs : List Piece) → BeginsWith Ends ((spelling.punct puncts.Comma ⨾ p y) qs) = λ y qs. can.begins Ends.comma in
+    let next : (y : _) (qs : List Symbol) → BeginsWith Ends ((spelling.punct puncts.Comma ⨾ p y) qs) = λ y qs. can.begins Ends.comma in
     let last : BeginsWith Ends (bare k ∷ ps) = can.begins (ends-list e) in
     let a = one x (spelling.each (λ y. spelling.punct puncts.Comma ⨾ p y) xs (bare k ∷ ps)) ts is
     (each-follows (λ y. spelling.punct puncts.Comma ⨾ p y) (BeginsWith Ends) xs (bare k ∷ ps) next last) fit in
@@ -138,22 +138,22 @@ pub listed-within : {A : Type 0} {Is : A → Type 0} (depth : A → ℕ) (d : �
 listed-within depth d (leveled.AreListed.listed is all) h = leveled.AreListed.listed (is, omega (arith, h)) (all-within depth d all (omega (arith, h)))
 
 -- names and targets
-name-back : (n : Name) (ps : List Piece) (ts : List Placed) → Noted (kind.Name n.id) n.mark ps ts → Back name n ps ts
+name-back : (n : Name) (ps : List Symbol) (ts : List Placed) → Noted (kind.Name n.id) n.mark ps ts → Back name n ps ts
 unfolding name
 name-back n ps ts t =
     let size = ap length t.head in
     record { rest = t.rest; read = rw t.head refl; fits = t.fits; within = omega arith }
 
-pub back-name : (n : Name) (ps : List Piece) (ts : List Placed) → Fit (spelling.name n ps) ts → Back name n ps ts
+pub back-name : (n : Name) (ps : List Symbol) (ts : List Placed) → Fit (spelling.name n ps) ts → Back name n ps ts
 back-name n ps ts f = name-back n ps ts (noted-back f)
 
-pub back-whole : (d : ℕ) (t : TargetTree) (ps : List Piece) (ts : List Placed) → BackTarget d t ps ts → Back (target (below d)) t ps ts
+pub back-whole : (d : ℕ) (t : TargetTree) (ps : List Symbol) (ts : List Placed) → BackTarget d t ps ts → Back (target (below d)) t ps ts
 unfolding target name
 back-whole d t ps ts b =
     let size = ap length b.head in
     record { rest = b.back.rest; read = rw (b.head, b.back.read) refl; fits = b.back.fits; within = omega (arith, b.back.within) }
 
-pub back-size : (d : ℕ) {s : Option IndexTree} (ps : List Piece) (ts : List Placed) → IsOptional IsIndex s → index_depth s ≤ d → Stops 12 ps →
+pub back-size : (d : ℕ) {s : Option IndexTree} (ps : List Symbol) (ts : List Placed) → IsOptional IsIndex s → index_depth s ≤ d → Stops 12 ps →
     Fit (spelling.optional spelling.index s ps) ts → Back (size (below d)) s ps ts
 unfolding size
 back-size d ps ts leveled.IsOptional.absent h s f =
@@ -171,18 +171,18 @@ no-set l Ends.comma = refl
 no-set l Ends.semicolon = refl
 no-set l Ends.paren = refl
 
-no-value : (d : ℕ) (ps : List Piece) (ts : List Placed) → BeginsWith Ends ps → Fit ps ts → Back (value (below d)) None ps ts
+no-value : (d : ℕ) (ps : List Symbol) (ts : List Placed) → BeginsWith Ends ps → Fit ps ts → Back (value (below d)) None ps ts
 unfolding value
 no-value d ps ts e f = record { rest = ts; read = rw (begins-not (kind.Punct puncts.Set) ps ts e no-set f) refl; fits = f; within = omega arith }
 
-value-back : (c : ℕ) (x : ExprTree) (ps : List Piece) (ts : List Placed) → (t : Plain (kind.Punct puncts.Set) (spelling.expr x ps) ts) → Back (expr_on (below c)) x ps t.rest →
+value-back : (c : ℕ) (x : ExprTree) (ps : List Symbol) (ts : List Placed) → (t : Plain (kind.Punct puncts.Set) (spelling.expr x ps) ts) → Back (expr_on (below c)) x ps t.rest →
     Back (value (below (suc c))) (Some x) ps ts
 unfolding value below
 value-back c x ps ts t b =
     let size = ap length t.head in
     record { rest = b.rest; read = rw (t.head, b.read) refl; fits = b.fits; within = omega (arith, b.within) }
 
-pub back-value : (d : ℕ) {v : Option ExprTree} (ps : List Piece) (ts : List Placed) → IsOptional IsExpr v → value_depth v ≤ d → BeginsWith Ends ps →
+pub back-value : (d : ℕ) {v : Option ExprTree} (ps : List Symbol) (ts : List Placed) → IsOptional IsExpr v → value_depth v ≤ d → BeginsWith Ends ps →
     Fit (spelling.optional spelling.first_value v ps) ts → Back (value (below d)) v ps ts
 back-value d ps ts leveled.IsOptional.absent h e f = no-value d ps ts e f
 back-value zero ps ts (leveled.IsOptional.present {x} is) h e f = let some = depth-some x in absurd (omega (arith, h))
@@ -208,20 +208,20 @@ no-attribute : (l : Kind) → Tails l → same l (kind.Key keys.Attribute) ≡ f
 no-attribute l (end e) = end-attribute l e
 no-attribute l set = refl
 
-as-tail : (ps : List Piece) → BeginsWith Ends ps → BeginsWith Tails ps
+as-tail : (ps : List Symbol) → BeginsWith Ends ps → BeginsWith Tails ps
 as-tail (p ∷ ps) (can.begins e) = can.begins (end e)
 as-tail [] e = elim e [ ]
 
-value-tail : (v : Option ExprTree) (ps : List Piece) → BeginsWith Ends ps → BeginsWith Tails (spelling.optional spelling.first_value v ps)
+value-tail : (v : Option ExprTree) (ps : List Symbol) → BeginsWith Ends ps → BeginsWith Tails (spelling.optional spelling.first_value v ps)
 value-tail None ps e = as-tail ps e
 value-tail (Some x) ps e = can.begins set
 
-back-plain_attribute : (ps : List Piece) (ts : List Placed) → BeginsWith Tails ps → Fit ps ts → Back attribute false ps ts
+back-plain_attribute : (ps : List Symbol) (ts : List Placed) → BeginsWith Tails ps → Fit ps ts → Back attribute false ps ts
 unfolding attribute
 back-plain_attribute ps ts e f =
     record { rest = ts; read = rw (begins-not (kind.Key keys.Attribute) ps ts e no-attribute f) refl; fits = f; within = omega arith }
 
-attribute-back : {p0 p1 p2 p3 p4 : List Piece} (ps : List Piece) (ts : List Placed) → (t0 : Plain (kind.Key keys.Attribute) p0 ts) →
+attribute-back : {p0 p1 p2 p3 p4 : List Symbol} (ps : List Symbol) (ts : List Placed) → (t0 : Plain (kind.Key keys.Attribute) p0 ts) →
     (t1 : Plain (kind.Punct puncts.OpenParen) p1 t0.rest) → (t2 : Plain (kind.Punct puncts.OpenParen) p2 t1.rest) → (t3 : Plain (kind.Name stream_id) p3 t2.rest) →
     (t4 : Plain (kind.Punct puncts.CloseParen) p4 t3.rest) → Plain (kind.Punct puncts.CloseParen) ps t4.rest → Back attribute true ps ts
 unfolding attribute
@@ -251,7 +251,7 @@ attribute-back ps ts t0 t1 t2 t3 t4 t5 =
       within = omega arith;
     }
 
-back-attribute : (ps : List Piece) (ts : List Placed) → Fit (spelling.attribute true ps) ts → Back attribute true ps ts
+back-attribute : (ps : List Symbol) (ts : List Placed) → Fit (spelling.attribute true ps) ts → Back attribute true ps ts
 back-attribute ps ts f =
     let t0 = plain-back f in
     let t1 = plain-back t0.fits in
@@ -260,10 +260,10 @@ back-attribute ps ts f =
     let t4 = plain-back t3.fits in
     attribute-back ps ts t0 t1 t2 t3 t4 (plain-back t4.fits)
 
-word-stops : {n : ℕ} (ps : List Piece) → Stops n (bare (kind.Key keys.Attribute) ∷ ps)
+word-stops : {n : ℕ} (ps : List Symbol) → Stops n (bare (kind.Key keys.Attribute) ∷ ps)
 word-stops ps = record { least = omega arith }
 
-pub back-declarator : (d : ℕ) {x : DeclaratorTree} (ps : List Piece) (ts : List Placed) → IsDeclarator x → declarator_depth x ≤ d → BeginsWith Ends ps →
+pub back-declarator : (d : ℕ) {x : DeclaratorTree} (ps : List Symbol) (ts : List Placed) → IsDeclarator x → declarator_depth x ≤ d → BeginsWith Ends ps →
     Fit (spelling.declarator x ps) ts → Back (declarator (below d)) x ps ts
 unfolding declarator
 back-declarator d ps ts (leveled.IsDeclarator.scalar {n} {first} is) h e f =
@@ -290,7 +290,7 @@ back-declarator d ps ts (leveled.IsDeclarator.stream {n} (leveled.IsOptional.pre
     let w = back-attribute ps s.rest s.fits in
     record { rest = w.rest; read = rw (a.read, s.read, w.read) refl; fits = w.fits; within = omega (arith, a.within, s.within, w.within) }
 
-pub back-head_declarator : (d : ℕ) {x : DeclaratorTree} (ps : List Piece) (ts : List Placed) → IsHeadDeclarator x → declarator_depth x ≤ d → BeginsWith Ends ps →
+pub back-head_declarator : (d : ℕ) {x : DeclaratorTree} (ps : List Symbol) (ts : List Placed) → IsHeadDeclarator x → declarator_depth x ≤ d → BeginsWith Ends ps →
     Fit (spelling.declarator x ps) ts → Back (head_declarator (below d)) x ps ts
 unfolding head_declarator
 back-head_declarator d ps ts (leveled.IsHeadDeclarator.head {n} is) h e f =
@@ -298,7 +298,7 @@ back-head_declarator d ps ts (leveled.IsHeadDeclarator.head {n} is) h e f =
     let v = back-value d ps a.rest is (omega (arith, h)) e a.fits in
     record { rest = v.rest; read = rw (a.read, v.read) refl; fits = v.fits; within = omega (arith, a.within, v.within) }
 
-declare-read : (d : ℕ) (ds : List DeclaratorTree) (ps qs : List Piece) (ts : List Placed) → (t : Plain (kind.Key keys.Int) qs ts) →
+declare-read : (d : ℕ) (ds : List DeclaratorTree) (ps qs : List Symbol) (ts : List Placed) → (t : Plain (kind.Key keys.Int) qs ts) →
     (l : Back (list_of (declarator (below d))) ds (bare (kind.Punct puncts.Semicolon) ∷ ps) t.rest) → Plain (kind.Punct puncts.Semicolon) ps l.rest →
     Back (declare (below d)) ds ps ts
 unfolding declare
@@ -307,7 +307,7 @@ declare-read d ds ps qs ts t l u =
     let s1 = ap length u.head in
     record { rest = u.rest; read = rw (t.head, l.read, u.head, expect-back (kind.Punct puncts.Semicolon) u.mark u.rest) refl; fits = u.fits; within = omega (arith, l.within) }
 
-pub back-declare : (d : ℕ) {ds : List DeclaratorTree} (ps : List Piece) (ts : List Placed) → AreListed IsDeclarator ds → deepest declarator_depth ds ≤ d →
+pub back-declare : (d : ℕ) {ds : List DeclaratorTree} (ps : List Symbol) (ts : List Placed) → AreListed IsDeclarator ds → deepest declarator_depth ds ≤ d →
     Fit (spelling.declare ds ps) ts → Back (declare (below d)) ds ps ts
 back-declare d {ds} ps ts is h f =
     let t = plain-back f in
@@ -315,7 +315,7 @@ back-declare d {ds} ps ts is h f =
     (listed-within declarator_depth d is h) EndsList.semicolon (λ x qs us i e g. back-declarator d qs us i.0 i.1 e g) t.fits in
     declare-read d ds ps _ ts t l (plain-back l.fits)
 
-head_declare-read : (d : ℕ) (ds : List DeclaratorTree) (ps qs : List Piece) (ts : List Placed) → (t : Plain (kind.Key keys.Int) qs ts) →
+head_declare-read : (d : ℕ) (ds : List DeclaratorTree) (ps qs : List Symbol) (ts : List Placed) → (t : Plain (kind.Key keys.Int) qs ts) →
     (l : Back (list_of (head_declarator (below d))) ds (bare (kind.Punct puncts.Semicolon) ∷ ps) t.rest) → Plain (kind.Punct puncts.Semicolon) ps l.rest →
     Back (head_declare (below d)) ds ps ts
 unfolding head_declare
@@ -324,7 +324,7 @@ head_declare-read d ds ps qs ts t l u =
     let s1 = ap length u.head in
     record { rest = u.rest; read = rw (t.head, l.read, u.head, expect-back (kind.Punct puncts.Semicolon) u.mark u.rest) refl; fits = u.fits; within = omega (arith, l.within) }
 
-pub back-head_declare : (d : ℕ) {ds : List DeclaratorTree} (ps : List Piece) (ts : List Placed) → AreListed IsHeadDeclarator ds → deepest declarator_depth ds ≤ d →
+pub back-head_declare : (d : ℕ) {ds : List DeclaratorTree} (ps : List Symbol) (ts : List Placed) → AreListed IsHeadDeclarator ds → deepest declarator_depth ds ≤ d →
     Fit (spelling.declare ds ps) ts → Back (head_declare (below d)) ds ps ts
 back-head_declare d {ds} ps ts is h f =
     let t = plain-back f in

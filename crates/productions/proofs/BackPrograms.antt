@@ -6,7 +6,7 @@ use Rattle.os_ast.specs.Leveled as leveled
 use Rattle.os_ast.specs.Leveled.{IsExpr, IsChange, takes_else, IsStmt, AreStmts, AreAll, IsParams, IsItem}
 use Rattle.os_ast.specs.Means.{Placed, placed, Fit}
 use Rattle.os_ast.specs.Spelling as spelling
-use Rattle.os_ast.specs.Spelling.{Piece, Printer, bare, marked}
+use Rattle.os_ast.specs.Spelling.{Symbol, Printer, bare, marked}
 use Rattle.os_ast.specs.Trees as tree
 use Rattle.os_ast.specs.Trees.{ExprTree, Args, TargetTree, DeclaratorTree, StartTree, ChangeTree, ClauseTree, StmtTree, Stmts, ItemTree}
 use Rattle.os_ast.specs.declared.expr.Name.{Name}
@@ -31,34 +31,34 @@ use Rattle.productions.proofs.BackBlocks.{back-stmts, block-read}
 abbrev parameter : Name → Printer
 parameter n rest = bare (kind.Key keys.Int) ∷ spelling.name n rest
 
-param-back : (n : Name) (ps qs : List Piece) (ts : List Placed) → (t : Plain (kind.Key keys.Int) qs ts) → Back name n ps t.rest → Back param n ps ts
+param-back : (n : Name) (ps qs : List Symbol) (ts : List Placed) → (t : Plain (kind.Key keys.Int) qs ts) → Back name n ps t.rest → Back param n ps ts
 unfolding param
 param-back n ps qs ts t b =
     let size = ap length t.head in
     record { rest = b.rest; read = rw (t.head, expect-back (kind.Key keys.Int) t.mark t.rest, b.read) refl; fits = b.fits; within = omega (arith, b.within) }
 
-back-param : (n : Name) (ps : List Piece) (ts : List Placed) → Fit (parameter n ps) ts → Back param n ps ts
+back-param : (n : Name) (ps : List Symbol) (ts : List Placed) → Fit (parameter n ps) ts → Back param n ps ts
 back-param n ps ts f = let t = plain-back f in param-back n ps _ ts t (back-name n ps t.rest t.fits)
 
-params-none : (ps : List Piece) (ts : List Placed) → Fit (bare (kind.Punct puncts.CloseParen) ∷ ps) ts → Plain (kind.Punct puncts.CloseParen) ps ts →
+params-none : (ps : List Symbol) (ts : List Placed) → Fit (bare (kind.Punct puncts.CloseParen) ∷ ps) ts → Plain (kind.Punct puncts.CloseParen) ps ts →
     Back params params_of.Empty (bare (kind.Punct puncts.CloseParen) ∷ ps) ts
 unfolding params
 params-none ps ts f t = record { rest = ts; read = let closes : begins (kind.Punct puncts.CloseParen) ts ≡ true = rw t.head refl in rw closes refl; fits = f; within = omega arith }
 
-params-void : (ps : List Piece) (ts : List Placed) → Plain (kind.Key keys.Void) ps ts → Back params params_of.Void ps ts
+params-void : (ps : List Symbol) (ts : List Placed) → Plain (kind.Key keys.Void) ps ts → Back params params_of.Void ps ts
 unfolding params
 params-void ps ts t =
     let size = ap length t.head in
     record { rest = t.rest; read = rw t.head refl; fits = t.fits; within = omega arith }
 
-params-some : (ns : List Name) (ps qs : List Piece) (ts : List Placed) → Plain (kind.Key keys.Int) qs ts → Back (list_of param) ns ps ts → Back params (params_of.Names ns) ps ts
+params-some : (ns : List Name) (ps qs : List Symbol) (ts : List Placed) → Plain (kind.Key keys.Int) qs ts → Back (list_of param) ns ps ts → Back params (params_of.Names ns) ps ts
 unfolding params
 params-some ns ps qs ts t b =
     let off : begins (kind.Punct puncts.CloseParen) ts ≡ false = rw t.head refl in
     let out : begins (kind.Key keys.Void) ts ≡ false = rw t.head refl in
     record { rest = b.rest; read = rw (off, out, b.read) refl; fits = b.fits; within = b.within }
 
-back-params : {x : Params} (ps : List Piece) (ts : List Placed) → IsParams x → Fit (spelling.params x (bare (kind.Punct puncts.CloseParen) ∷ ps)) ts →
+back-params : {x : Params} (ps : List Symbol) (ts : List Placed) → IsParams x → Fit (spelling.params x (bare (kind.Punct puncts.CloseParen) ∷ ps)) ts →
     Back params x (bare (kind.Punct puncts.CloseParen) ∷ ps) ts
 back-params ps ts leveled.IsParams.empty f = params-none ps ts f (plain-back f)
 back-params ps ts leveled.IsParams.void f = params-void _ ts (plain-back f)
@@ -66,7 +66,7 @@ back-params ps ts (leveled.IsParams.names {n} {ns}) f =
     params-some (n ∷ ns) _ _ ts (plain-back f)
     (back-list IsName parameter param (kind.Punct puncts.CloseParen) ps ts (leveled.AreListed.listed any_name (all-names ns)) EndsList.paren (λ x qs us i e g. back-param x qs us g) f)
 
-function-back : (d : ℕ) (n : Name) (x : Params) (ss : Stmts) (ps p0 p1 p2 p3 p4 : List Piece) (ts : List Placed) → (t : Plain (kind.Key keys.Int) p0 ts) →
+function-back : (d : ℕ) (n : Name) (x : Params) (ss : Stmts) (ps p0 p1 p2 p3 p4 : List Symbol) (ts : List Placed) → (t : Plain (kind.Key keys.Int) p0 ts) →
     (a : Back name n p1 t.rest) → (o : Plain (kind.Punct puncts.OpenParen) p2 a.rest) → (b : Back params x p3 o.rest) → (c : Plain (kind.Punct puncts.CloseParen) p4 b.rest) →
     (g : Plain (kind.Punct puncts.OpenBrace) (spelling.stmts ss (bare (kind.Punct puncts.CloseBrace) ∷ ps)) c.rest) → Back (block (inner d)) ss ps g.rest →
     Back (function (inner d)) (tree.Function (record { name = n; params = x; body = ss })) ps ts
@@ -94,42 +94,42 @@ function-back d n x ss ps p0 p1 p2 p3 p4 ts t a o b c g y =
       within = omega (arith, a.within, b.within, y.within);
     }
 
-function-item : (d : ℕ) (x : ItemTree) (ps qs : List Piece) (ts : List Placed) → Plain (kind.Key keys.Int) qs ts → Back (function (inner d)) x ps ts → Back (item (inner d)) x ps ts
+function-item : (d : ℕ) (x : ItemTree) (ps qs : List Symbol) (ts : List Placed) → Plain (kind.Key keys.Int) qs ts → Back (function (inner d)) x ps ts → Back (item (inner d)) x ps ts
 unfolding item
 function-item d x ps qs ts t b =
     let off : begins (kind.Key keys.Const) ts ≡ false = rw t.head refl in
     let int : begins (kind.Key keys.Int) ts ≡ true = rw t.head refl in
     record { rest = b.rest; read = rw (off, int) b.read; fits = b.fits; within = b.within }
 
-constant-item : (d : ℕ) (x : ItemTree) (ps qs : List Piece) (ts : List Placed) → Plain (kind.Key keys.Const) qs ts → Back constant x ps ts → Back (item (inner d)) x ps ts
+constant-item : (d : ℕ) (x : ItemTree) (ps qs : List Symbol) (ts : List Placed) → Plain (kind.Key keys.Const) qs ts → Back constant x ps ts → Back (item (inner d)) x ps ts
 unfolding item
 constant-item d x ps qs ts t b =
     let on : begins (kind.Key keys.Const) ts ≡ true = rw t.head refl in
     record { rest = b.rest; read = rw on b.read; fits = b.fits; within = b.within }
 
-minus-some : (ps : List Piece) (ts : List Placed) → Plain (kind.Punct puncts.Minus) ps ts → Back minus true ps ts
+minus-some : (ps : List Symbol) (ts : List Placed) → Plain (kind.Punct puncts.Minus) ps ts → Back minus true ps ts
 unfolding minus
 minus-some ps ts t =
     let size = ap length t.head in
     record { rest = t.rest; read = rw t.head refl; fits = t.fits; within = omega arith }
 
-minus-none : (v : ℕ) (ps : List Piece) (ts : List Placed) → Fit (bare (kind.Number v) ∷ ps) ts → Plain (kind.Number v) ps ts → Back minus false (bare (kind.Number v) ∷ ps) ts
+minus-none : (v : ℕ) (ps : List Symbol) (ts : List Placed) → Fit (bare (kind.Number v) ∷ ps) ts → Plain (kind.Number v) ps ts → Back minus false (bare (kind.Number v) ∷ ps) ts
 unfolding minus
 minus-none v ps ts f t =
     let off : begins (kind.Punct puncts.Minus) ts ≡ false = rw t.head refl in
     record { rest = ts; read = rw off refl; fits = f; within = omega arith }
 
-back-minus : (m : Bool) (v : ℕ) (ps : List Piece) (ts : List Placed) → Fit (spelling.sign m (bare (kind.Number v) ∷ ps)) ts → Back minus m (bare (kind.Number v) ∷ ps) ts
+back-minus : (m : Bool) (v : ℕ) (ps : List Symbol) (ts : List Placed) → Fit (spelling.sign m (bare (kind.Number v) ∷ ps)) ts → Back minus m (bare (kind.Number v) ∷ ps) ts
 back-minus true v ps ts f = minus-some _ ts (plain-back f)
 back-minus false v ps ts f = minus-none v ps ts f (plain-back f)
 
-number-back : (v : ℕ) (ps : List Piece) (ts : List Placed) → v < 2 ^ 31 → Plain (kind.Number v) ps ts → Back number v ps ts
+number-back : (v : ℕ) (ps : List Symbol) (ts : List Placed) → v < 2 ^ 31 → Plain (kind.Number v) ps ts → Back number v ps ts
 unfolding number
 number-back v ps ts small t =
     let size = ap length t.head in
     record { rest = t.rest; read = rw (t.head, lt-ltb v (2 ^ 31) small) refl; fits = t.fits; within = omega arith }
 
-constant-back : (n : Name) (m : Bool) (v : ℕ) (ps p0 p1 p2 p3 p4 p5 : List Piece) (ts : List Placed) → (t : Plain (kind.Key keys.Const) p0 ts) → (i : Plain (kind.Key keys.Int) p1 t.rest) →
+constant-back : (n : Name) (m : Bool) (v : ℕ) (ps p0 p1 p2 p3 p4 p5 : List Symbol) (ts : List Placed) → (t : Plain (kind.Key keys.Const) p0 ts) → (i : Plain (kind.Key keys.Int) p1 t.rest) →
     (a : Back name n p2 i.rest) → (e : Plain (kind.Punct puncts.Set) p3 a.rest) → (b : Back minus m p4 e.rest) → (c : Back number v p5 b.rest) → Plain (kind.Punct puncts.Semicolon) ps c.rest →
     Back constant (tree.Constant (record { name = n; minus = m; size = v })) ps ts
 unfolding constant
@@ -156,7 +156,7 @@ constant-back n m v ps p0 p1 p2 p3 p4 p5 ts t i a e b c u =
       within = omega (arith, a.within, b.within, c.within);
     }
 
-back-item : (d : ℕ) {x : ItemTree} (ps : List Piece) (ts : List Placed) → IsItem x → item_depth x ≤ suc d → Fit (spelling.item x ps) ts → Back (item (inner d)) x ps ts
+back-item : (d : ℕ) {x : ItemTree} (ps : List Symbol) (ts : List Placed) → IsItem x → item_depth x ≤ suc d → Fit (spelling.item x ps) ts → Back (item (inner d)) x ps ts
 back-item d ps ts (leveled.IsItem.constant {n = n} {minus = m} {size = v} small) h f =
     let t = plain-back f in
     let i = plain-back t.fits in
@@ -175,13 +175,13 @@ back-item d ps ts (leveled.IsItem.function {n = n} {params = x} {body = ss} ip i
     let y = block-read (inner d) ss ps g.rest (back-stmts (suc (length g.rest)) d is (omega (arith, h)) g.fits (omega arith)) in
     function-item d _ ps _ ts t (function-back d n x ss ps _ _ _ _ _ ts t a o b c g y)
 
-has-more : (p : Piece) (ps : List Piece) (ts : List Placed) → Fit (p ∷ ps) ts → is_more ts ≡ true
+has-more : (p : Symbol) (ps : List Symbol) (ts : List Placed) → Fit (p ∷ ps) ts → is_more ts ≡ true
 has-more (bare k) ps (placed l m ∷ ts) f = refl
 has-more (marked k n) ps (placed l m ∷ ts) f = refl
 has-more (bare k) ps [] f = elim f [ ]
 has-more (marked k n) ps [] f = elim f [ ]
 
-some-more : {P : Kind → Type 0} (ps : List Piece) (ts : List Placed) → BeginsWith P ps → Fit ps ts → is_more ts ≡ true
+some-more : {P : Kind → Type 0} (ps : List Symbol) (ts : List Placed) → BeginsWith P ps → Fit ps ts → is_more ts ≡ true
 some-more (p ∷ ps) ts b f = has-more p ps ts f
 some-more [] ts b f = elim b [ ]
 
@@ -189,7 +189,7 @@ no-more : (ts : List Placed) → Fit [] ts → is_more ts ≡ false
 no-more [] f = refl
 no-more (t ∷ ts) f = elim f [ ]
 
-item-taken : (d : ℕ) (x : ItemTree) (ps : List Piece) (ts : List Placed) → IsItem x × (item_depth x ≤ suc d) → Fit (spelling.item x ps) ts → Taken is_more (item (inner d)) x ps ts
+item-taken : (d : ℕ) (x : ItemTree) (ps : List Symbol) (ts : List Placed) → IsItem x × (item_depth x ≤ suc d) → Fit (spelling.item x ps) ts → Taken is_more (item (inner d)) x ps ts
 item-taken d x ps ts is f =
     let b = back-item d ps ts is.0 is.1 f in
     record { on = some-more _ ts (item-begins x ps) f; back = b; less = print-less ps ts b.rest (prints_item x) (item-begins x []) f b.fits }
@@ -199,7 +199,7 @@ unfolding program
 program-read s p ts b = record { rest = b.rest; read = b.read; fits = b.fits; within = b.within }
 
 -- what is spelled as a program is read back
-pub back-program : (d : ℕ) {p : List ItemTree} (ts : List Placed) → AreAll IsItem p → program_depth p ≤ suc d → Fit (spelling.pieces p) ts → Back (program (inner d)) p [] ts
+pub back-program : (d : ℕ) {p : List ItemTree} (ts : List Placed) → AreAll IsItem p → program_depth p ≤ suc d → Fit (spelling.symbols p) ts → Back (program (inner d)) p [] ts
 back-program d ts all h f =
     program-read (inner d) _ ts
     (back-many (suc (length ts)) (λ x. IsItem x × (item_depth x ≤ suc d)) spelling.item (λ _. Unit {0}) is_more (item (inner d)) [] ts (all-within item_depth (suc d) all h)

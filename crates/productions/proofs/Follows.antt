@@ -3,7 +3,7 @@ use Rattle.std.proofs.Common.{◌≡◌, ℕ, suc, ◌≤◌, ◌<◌, Bool, tru
 use Rattle.os_ast.specs.Means as means
 use Rattle.os_ast.specs.Means.{Placed, placed, Fit}
 use Rattle.os_ast.specs.Operators.{binary_mark}
-use Rattle.os_ast.specs.Spelling.{Piece, bare, marked, kind_of}
+use Rattle.os_ast.specs.Spelling.{Symbol, bare, marked, kind_of}
 use Rattle.os_ast.specs.declared.expr.Binary.{Binary}
 use Rattle.os_ast.specs.declared.expr.Binary.TheVariants as binary
 use Rattle.os_lexer.specs.declared.token.Kind.{Kind}
@@ -29,15 +29,15 @@ grows_by None k = grows_else k
 abbrev pub grows : Kind → ℕ
 grows k = grows_by (binary_of k) k
 
-abbrev pub grows_at : List Piece → ℕ
+abbrev pub grows_at : List Symbol → ℕ
 grows_at [] = 0
 grows_at (p ∷ ps) = grows (kind_of p)
 
--- a reader of a level does not go on where these pieces follow
-pub record Stops (n : ℕ) (ps : List Piece) : Type 0 where
+-- a reader of a level does not go on where these symbols follow
+pub record Stops (n : ℕ) (ps : List Symbol) : Type 0 where
   pub least : grows_at ps ≤ n
 
-pub stops-more : (m n : ℕ) (ps : List Piece) → m ≤ n → Stops m ps → Stops n ps
+pub stops-more : (m n : ℕ) (ps : List Symbol) → m ≤ n → Stops m ps → Stops n ps
 stops-more m n ps h s = record { least = omega (arith, s.least) }
 
 pub grows-operator : (op : Binary) → grows (kind.Punct (binary_mark op)) ≡ suc (op_precedence op)
@@ -88,7 +88,7 @@ of_precedence-none : (r : ℕ) (o : Option Binary) (k : Kind) → grows_by o k �
 of_precedence-none r None k h = refl
 of_precedence-none r (Some op) k h = unequal r op (nat_eq (op_precedence op) r) refl h
 
-pub no-operator : (r : ℕ) (ps : List Piece) (ts : List Placed) → Stops r ps → Fit ps ts → operator_at r ts ≡ None
+pub no-operator : (r : ℕ) (ps : List Symbol) (ts : List Placed) → Stops r ps → Fit ps ts → operator_at r ts ≡ None
 no-operator r [] [] s means.none = refl
 no-operator r [] (_ ∷ ts) s f = elim f [ ]
 no-operator r (bare k ∷ ps) [] s f = elim f [ ]
@@ -104,7 +104,7 @@ other-kind : (k l : Kind) → grows k < grows l → same k l ≡ false
 other-kind k l h = differs k l (same k l) refl h
 
 -- no token follows at which a reader would go on
-pub no-token : (n : ℕ) (l : Kind) (ps : List Piece) (ts : List Placed) → Stops n ps → n < grows l → Fit ps ts → begins l ts ≡ false
+pub no-token : (n : ℕ) (l : Kind) (ps : List Symbol) (ts : List Placed) → Stops n ps → n < grows l → Fit ps ts → begins l ts ≡ false
 no-token n l [] [] s h means.none = refl
 no-token n l [] (_ ∷ ts) s h f = elim f [ ]
 no-token n l (bare k ∷ ps) [] s h f = elim f [ ]

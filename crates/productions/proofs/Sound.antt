@@ -3,7 +3,7 @@ use Rattle.std.proofs.Common.{◌≡◌, Bool, true, false, List, [], ◌∷◌,
 use Rattle.os_ast.specs.Means as means
 use Rattle.os_ast.specs.Means.{Placed, placed, Fit}
 use Rattle.os_ast.specs.Spelling as spelling
-use Rattle.os_ast.specs.Spelling.{Piece, Printer, bare, marked}
+use Rattle.os_ast.specs.Spelling.{Symbol, Printer, bare, marked}
 use Rattle.os_ast.specs.declared.expr.Mark.{Mark}
 use Rattle.os_lexer.specs.declared.token.Kind.{Kind}
 use Rattle.productions.specs.Reading.{Read, Reader, got, fails, ◌>>=◌, after, mark_at, begins, expect}
@@ -11,7 +11,7 @@ use Rattle.productions.proofs.SameKinds.{same-equal}
 
 -- the tokens up to the rest fit what the printer puts in front
 abbrev pub Takes : Printer → List Placed → List Placed → Type 0
-Takes p ts rest = (ps : List Piece) → Fit ps rest → Fit (p ps) ts
+Takes p ts rest = (ps : List Symbol) → Fit ps rest → Fit (p ps) ts
 
 -- what holds of what was read and of the tokens that are left
 abbrev pub Sound : {A : Type 0} → (A → List Placed → Type 0) → Read A → Type 0

@@ -8,7 +8,7 @@ use Rattle.os_ast.specs.Means as means
 use Rattle.os_ast.specs.Means.{Placed, placed, Fit}
 use Rattle.os_ast.specs.Operators.{level_of, precedence, binary_mark, unary_mark}
 use Rattle.os_ast.specs.Spelling as spelling
-use Rattle.os_ast.specs.Spelling.{Piece, Printer, bare, marked}
+use Rattle.os_ast.specs.Spelling.{Symbol, Printer, bare, marked}
 use Rattle.os_ast.specs.Trees as tree
 use Rattle.os_ast.specs.Trees.{ExprTree, TargetTree, IndexTree, Args, Links}
 use Rattle.os_ast.specs.declared.expr.Binary.{Binary}

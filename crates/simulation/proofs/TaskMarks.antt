@@ -5,7 +5,7 @@ use Rattle.std.proofs.lemmas.List.Sums.{position_or_len_is}
 use Rattle.os_ast.specs.Marks.{HasMark, HasPlaces}
 use Rattle.os_ast.specs.Names.{main_id}
 use Rattle.os_ast.specs.Spelling as spelling
-use Rattle.os_ast.specs.Spelling.{Piece, bare, marked, Printer, ◌⨾◌, pieces}
+use Rattle.os_ast.specs.Spelling.{Symbol, bare, marked, Printer, ◌⨾◌, symbols}
 use Rattle.os_ast.specs.Trees as tree
 use Rattle.os_ast.specs.declared.expr.Mark.{Mark}
 use Rattle.os_ast.specs.declared.expr.Name.{Name}
@@ -39,15 +39,15 @@ rises_higher lo [] mid hi h a = omega (arith, h, a)
 rises_higher lo (t ∷ ts) mid hi h a = (a.0, rises_higher (suc t.mark.place) ts mid hi h a.1)
 
 -- the tasks of a part rise, and what follows it has its places
-record Walked (lo : ℕ) (ts : List TaskTree) (rest : List Piece) : Type 0 where
+record Walked (lo : ℕ) (ts : List TaskTree) (rest : List Symbol) : Type 0 where
   to : ℕ
   order : Rises place_of lo ts to
   after : HasFrom to rest
 
 record Walks (p : Printer) (ts : List TaskTree) : Type 0 where
-  walk : (lo : ℕ) (rest : List Piece) → HasFrom lo (p rest) → Walked lo ts rest
+  walk : (lo : ℕ) (rest : List Symbol) → HasFrom lo (p rest) → Walked lo ts rest
 
-behind : (front rest : List Piece) (lo : ℕ) → HasFrom lo (front ++ rest) → (to : ℕ) × (to ≡ lo + length front) × HasFrom to rest
+behind : (front rest : List Symbol) (lo : ℕ) → HasFrom lo (front ++ rest) → (to : ℕ) × (to ≡ lo + length front) × HasFrom to rest
 behind [] rest lo h = (lo, omega arith, h)
 behind (bare k ∷ front) rest lo h = let r = behind front rest (suc lo) h in (r.0, (let e = r.1 in omega (arith, e)), r.2)
 behind (marked k m ∷ front) rest lo h = let r = behind front rest (suc lo) h.1 in (r.0, (let e = r.1 in omega (arith, e)), r.2)
@@ -165,13 +165,13 @@ walks_items (tree.Function f ∷ is) lo h = by_case (f.name.id == main_id) (λ f
         let r = (silent (prints_item (tree.Function f))).walk lo (spelling.each spelling.item is []) h in
         next r.to r.after
 
-has_from : (ps : List Piece) (from : ℕ) → ((i : ℕ) (m : Mark) → HasMark ps i m → m.place ≡ from + i) → HasFrom from ps
+has_from : (ps : List Symbol) (from : ℕ) → ((i : ℕ) (m : Mark) → HasMark ps i m → m.place ≡ from + i) → HasFrom from ps
 has_from [] from f = tt
 has_from (bare k ∷ ps) from f = has_from ps (suc from) (λ i m is. omega (arith, f (suc i) m is))
 has_from (marked k m ∷ ps) from f = (omega (arith, f 0 m (k, refl)), has_from ps (suc from) (λ i q is. omega (arith, f (suc i) q is)))
 
 pub tasks_rise : (p : tree.ProgramTree) → HasPlaces p → Rising (program_tasks p)
-tasks_rise p h = walks_items p 0 (has_from (pieces p) 0 (λ i m is. omega (arith, h i m is)))
+tasks_rise p h = walks_items p 0 (has_from (symbols p) 0 (λ i m is. omega (arith, h i m is)))
 
 pub got : {A : Type 0} (xs : List A) (k : ℕ) (x d : A) → slice_get xs k ≡ Some x → get_or xs k d ≡ x
 got xs k x d is = sym (unwrap_or-slice_get xs k d) ∙ ap (λ o. unwrap_or o d) is

@@ -7,7 +7,7 @@ use Rattle.os_ast.specs.Names.{entity_of, lookup}
 use Rattle.os_ast.specs.Notes.Declarators.{constant_of}
 use Rattle.os_ast.specs.Notes.Kinds.{Declared, Given, Global, Left, Listed, Note, Pragma, Returned, Sized, Task, Used}
 use Rattle.os_ast.specs.Notes.Programs.{file, program_notes}
-use Rattle.os_ast.specs.Spelling.{Piece, bare, kind_of, marked, pieces, spell}
+use Rattle.os_ast.specs.Spelling.{Symbol, bare, kind_of, marked, symbols, spell}
 use Rattle.os_ast.specs.Trees as tree
 use Rattle.os_ast.specs.Violations.{constant_meaning, declared_meaning, names, resolutions, resolutions_of}
 use Rattle.os_ast.specs.declared.expr.Mark.{Mark}
@@ -93,8 +93,8 @@ few : (n : ℕ) (rs : List Resolved) → InOrder rs → Below n rs → length rs
 few n [] order below = omega arith
 few n (r ∷ rs) order below = omega (arith, few_behind r.place n rs order below.1 below.0)
 
--- each mark is below the number of pieces
-kept_below : (ps : List Piece) (from n : ℕ) → from + length ps ≤ n → ((i : ℕ) (m : Mark) → HasMark ps i m → m.place ≡ from + i)
+-- each mark is below the number of symbols
+kept_below : (ps : List Symbol) (from n : ℕ) → from + length ps ≤ n → ((i : ℕ) (m : Mark) → HasMark ps i m → m.place ≡ from + i)
     → HasKept (λ m. m.place < n) ps
 kept_below [] from n h f = tt
 kept_below (bare k ∷ ps) from n h f = kept_below ps (suc from) n (omega (arith, h)) (λ i m is. omega (arith, f (suc i) m is))
@@ -133,7 +133,7 @@ all_below n (x ∷ ns) h = below_both n (resolutions_of x) (resolutions ns) (eac
 pub names_few : (p : tree.ProgramTree) → HasPlaces p → AreLawful (program_notes p)
     → declared_in (program_notes p) + used_in (program_notes p) ≤ length (spell p)
 names_few p places lawful =
-    let long : length (pieces p) ≡ length (spell p) = sym (length-map (pieces p) kind_of) in
-    let kept = kept_below (pieces p) 0 (length (spell p)) (omega (arith, long)) (λ i m is. omega (arith, places i m is)) in
+    let long : length (symbols p) ≡ length (spell p) = sym (length-map (symbols p) kind_of) in
+    let kept = kept_below (symbols p) 0 (length (spell p)) (omega (arith, long)) (λ i m is. omega (arith, places i m is)) in
     let below = all_below (length (spell p)) (program_notes p) (of-program (λ m. m.place < length (spell p)) file p [] kept).0 in
     omega (arith, counted (program_notes p) lawful, few (length (spell p)) (names p) (names_in_order p places) below)

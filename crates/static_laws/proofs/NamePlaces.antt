@@ -14,7 +14,7 @@ use Rattle.os_ast.specs.Notes.Statements.{stmt_notes, stmts_notes, after_stmt}
 use Rattle.os_ast.specs.Parts.{Part, Item, Private, parts, parts_of, part_name, count_items}
 use Rattle.os_ast.specs.Rules.{rules, has_no_size, has_too_many}
 use Rattle.os_ast.specs.Spelling as spelling
-use Rattle.os_ast.specs.Spelling.{Piece, ◌⨾◌}
+use Rattle.os_ast.specs.Spelling.{Symbol, ◌⨾◌}
 use Rattle.os_ast.specs.Trees as tree
 use Rattle.os_ast.specs.Violations.{names, resolutions_of, resolutions, declared_meaning, constant_meaning}
 use Rattle.os_ast.specs.declared.expr.Mark.{Mark}
@@ -66,7 +66,7 @@ used s n u ns {x} z h e =
     ∙ ap (λ ws. (ws ++ told ns) ++ z) (sym (known n.mark s.owner s.captured (entity_of (lookup s.entries n.id)) h.0))
 
 mutual
-  at-expr : (s : Scope) (e : tree.ExprTree) (rest : List Piece) → AreLawful (expr_notes s e) → name_places (spelling.expr e rest) ≡ told (expr_notes s e) ++ name_places rest
+  at-expr : (s : Scope) (e : tree.ExprTree) (rest : List Symbol) → AreLawful (expr_notes s e) → name_places (spelling.expr e rest) ≡ told (expr_notes s e) ++ name_places rest
   at-expr s (tree.Number n) rest h = refl
   at-expr s (tree.Place t) rest h = at-place s role.Value t rest h
   at-expr s (tree.ExprTree.Call f es) rest h =
@@ -86,49 +86,49 @@ mutual
       (at-expr s a (spelling.punct puncts.Colon last) (lawful-rest (expr_notes s c) (expr_notes s a) one)))
       (at-expr s b rest (lawful-rest front (expr_notes s b) h))
 
-  at-place : (s : Scope) (r : Role) (t : tree.TargetTree) (rest : List Piece) → AreLawful (place_notes s r t) → name_places (spelling.target t rest) ≡ told (place_notes s r t) ++ name_places rest
+  at-place : (s : Scope) (r : Role) (t : tree.TargetTree) (rest : List Symbol) → AreLawful (place_notes s r t) → name_places (spelling.target t rest) ≡ told (place_notes s r t) ++ name_places rest
   at-place s r (tree.Variable n) rest h = used s n (usage.Place r shape.Bare) [] (name_places rest) h.0 refl
   at-place s r (tree.Element n m e) rest h =
       used s n (usage.Place r shape.Indexed) (expr_notes s e) _ h.0 (at-expr s e (spelling.punct puncts.CloseBracket rest) h.1)
 
-  at-args : (s : Scope) (es : tree.Args) (rest : List Piece) → AreLawful (args_notes s es) → name_places (spelling.args es rest) ≡ told (args_notes s es) ++ name_places rest
+  at-args : (s : Scope) (es : tree.Args) (rest : List Symbol) → AreLawful (args_notes s es) → name_places (spelling.args es rest) ≡ told (args_notes s es) ++ name_places rest
   at-args s tree.no_args rest h = refl
   at-args s (tree.arg e es) rest h =
       joined _ (expr_notes s e) (args_notes s es) (at-expr s e (spelling.more_args es rest) (lawful-first (expr_notes s e) (args_notes s es) h))
       (at-more_args s es rest (lawful-rest (expr_notes s e) (args_notes s es) h))
 
-  at-more_args : (s : Scope) (es : tree.Args) (rest : List Piece) → AreLawful (args_notes s es) → name_places (spelling.more_args es rest) ≡ told (args_notes s es) ++ name_places rest
+  at-more_args : (s : Scope) (es : tree.Args) (rest : List Symbol) → AreLawful (args_notes s es) → name_places (spelling.more_args es rest) ≡ told (args_notes s es) ++ name_places rest
   at-more_args s tree.no_args rest h = refl
   at-more_args s (tree.arg e es) rest h =
       joined _ (expr_notes s e) (args_notes s es) (at-expr s e (spelling.more_args es rest) (lawful-first (expr_notes s e) (args_notes s es) h))
       (at-more_args s es rest (lawful-rest (expr_notes s e) (args_notes s es) h))
 
-  at-links : (s : Scope) (ls : tree.Links) (rest : List Piece) → AreLawful (links_notes s ls) → name_places (spelling.links ls rest) ≡ told (links_notes s ls) ++ name_places rest
+  at-links : (s : Scope) (ls : tree.Links) (rest : List Symbol) → AreLawful (links_notes s ls) → name_places (spelling.links ls rest) ≡ told (links_notes s ls) ++ name_places rest
   at-links s tree.no_links rest h = refl
   at-links s (tree.link op m e ls) rest h =
       joined _ (expr_notes s e) (links_notes s ls) (at-expr s e (spelling.links ls rest) (lawful-first (expr_notes s e) (links_notes s ls) h))
       (at-links s ls rest (lawful-rest (expr_notes s e) (links_notes s ls) h))
 
-at-value : (s : Scope) (e : Option tree.ExprTree) (rest : List Piece) → AreLawful (value_notes s e) → name_places (spelling.optional spelling.expr e rest) ≡ told (value_notes s e) ++ name_places rest
+at-value : (s : Scope) (e : Option tree.ExprTree) (rest : List Symbol) → AreLawful (value_notes s e) → name_places (spelling.optional spelling.expr e rest) ≡ told (value_notes s e) ++ name_places rest
 at-value s None rest h = refl
 at-value s (Some e) rest h = at-expr s e rest h
 
-at-first : (s : Scope) (e : Option tree.ExprTree) (rest : List Piece) → AreLawful (value_notes s e) → name_places (spelling.optional spelling.first_value e rest) ≡ told (value_notes s e) ++ name_places rest
+at-first : (s : Scope) (e : Option tree.ExprTree) (rest : List Symbol) → AreLawful (value_notes s e) → name_places (spelling.optional spelling.first_value e rest) ≡ told (value_notes s e) ++ name_places rest
 at-first s None rest h = refl
 at-first s (Some e) rest h = at-expr s e rest h
 
-at-index : (s : Scope) (i : Option tree.IndexTree) (rest : List Piece) → AreLawful (index_notes s i) → name_places (spelling.optional spelling.index i rest) ≡ told (index_notes s i) ++ name_places rest
+at-index : (s : Scope) (i : Option tree.IndexTree) (rest : List Symbol) → AreLawful (index_notes s i) → name_places (spelling.optional spelling.index i rest) ≡ told (index_notes s i) ++ name_places rest
 at-index s None rest h = refl
 at-index s (Some i) rest h = at-expr s i.value (spelling.punct puncts.CloseBracket rest) h
 
-at-change : (s : Scope) (c : tree.ChangeTree) (rest : List Piece) → AreLawful (change_notes s c) → name_places (spelling.change c rest) ≡ told (change_notes s c) ++ name_places rest
+at-change : (s : Scope) (c : tree.ChangeTree) (rest : List Symbol) → AreLawful (change_notes s c) → name_places (spelling.change c rest) ≡ told (change_notes s c) ++ name_places rest
 at-change s (tree.Set t a m e) rest h =
     joined _ (place_notes s role.Changed t) (expr_notes s e) (at-place s role.Changed t _ (lawful-first (place_notes s role.Changed t) (expr_notes s e) h))
     (at-expr s e rest (lawful-rest (place_notes s role.Changed t) (expr_notes s e) h))
 at-change s (tree.After t step m) rest h = at-place s role.Changed t _ h
 at-change s (tree.Before t step m) rest h = at-place s role.Changed t rest h
 
-at-step : (s : Scope) (c : Option tree.ChangeTree) (rest : List Piece) → AreLawful (step_notes s c) → name_places (spelling.optional spelling.change c rest) ≡ told (step_notes s c) ++ name_places rest
+at-step : (s : Scope) (c : Option tree.ChangeTree) (rest : List Symbol) → AreLawful (step_notes s c) → name_places (spelling.optional spelling.change c rest) ≡ told (step_notes s c) ++ name_places rest
 at-step s None rest h = refl
 at-step s (Some c) rest h = at-change s c rest h
 
@@ -137,7 +137,7 @@ constant-place : (m : Mark) (v : Option ℤ) → is_size v ≡ true → map (λ 
 constant-place m None h = absurd (cc)
 constant-place m (Some v) h = refl
 
-at-size : (s : Scope) (e : tree.ExprTree) (rest : List Piece) → is_size (size_value s e) ≡ true → name_places (spelling.expr e rest) ≡ told (size_notes s e) ++ name_places rest
+at-size : (s : Scope) (e : tree.ExprTree) (rest : List Symbol) → is_size (size_value s e) ≡ true → name_places (spelling.expr e rest) ≡ told (size_notes s e) ++ name_places rest
 at-size s (tree.Number n) rest h = refl
 at-size s (tree.Place (tree.Variable n)) rest h =
     ap (λ ws. (ws ++ []) ++ name_places rest) (sym (constant-place n.mark (constant_of (entity_of (lookup s.entries n.id))) h))
@@ -162,18 +162,18 @@ is-sized : (s : Scope) (stream : Bool) (i : tree.IndexTree) → has_no_size (for
 is-sized s true i h k = not-false (is_size (size_value s i.value)) h
 is-sized s false i h k = array-sized s.owner (size_of s i.value) (size_value s i.value) h k
 
-at-either : (s : Scope) (b : Bool) (e : tree.ExprTree) (rest : List Piece) → (b ≡ false → is_size (size_value s e) ≡ true) → AreLawful (if b then expr_notes s e else size_notes s e) →
+at-either : (s : Scope) (b : Bool) (e : tree.ExprTree) (rest : List Symbol) → (b ≡ false → is_size (size_value s e) ≡ true) → AreLawful (if b then expr_notes s e else size_notes s e) →
     name_places (spelling.expr e rest) ≡ told (if b then expr_notes s e else size_notes s e) ++ name_places rest
 at-either s true e rest h k = at-expr s e rest k
 at-either s false e rest h k = at-size s e rest (h refl)
 
-at-sized : (s : Scope) (stream : Bool) (i : Option tree.IndexTree) (rest : List Piece) → has_no_size (form_with s stream i) (size_told s i) ≡ false → AreLawful (sized_notes s stream i) →
+at-sized : (s : Scope) (stream : Bool) (i : Option tree.IndexTree) (rest : List Symbol) → has_no_size (form_with s stream i) (size_told s i) ≡ false → AreLawful (sized_notes s stream i) →
     name_places (spelling.optional spelling.index i rest) ≡ told (sized_notes s stream i) ++ name_places rest
 at-sized s stream None rest h k = refl
 at-sized s stream (Some i) rest h k =
     at-either s (is_window s.owner && not stream) i.value (spelling.punct puncts.CloseBracket rest) (λ e. is-sized s stream i h e) k
 
-at-attribute : (stream : Bool) (rest : List Piece) → name_places (spelling.attribute stream rest) ≡ name_places rest
+at-attribute : (stream : Bool) (rest : List Symbol) → name_places (spelling.attribute stream rest) ≡ name_places rest
 at-attribute false rest = refl
 at-attribute true rest = refl
 
@@ -181,7 +181,7 @@ or-first : (a b : Bool) → (a || b) ≡ false → a ≡ false
 or-first true b h = absurd (cc)
 or-first false b h = refl
 
-at-declarator : (s : Scope) (d : tree.DeclaratorTree) (rest : List Piece) → AreLawful (declarator_notes s d) → name_places (spelling.declarator d rest) ≡ told (declarator_notes s d) ++ name_places rest
+at-declarator : (s : Scope) (d : tree.DeclaratorTree) (rest : List Symbol) → AreLawful (declarator_notes s d) → name_places (spelling.declarator d rest) ≡ told (declarator_notes s d) ++ name_places rest
 at-declarator s d rest h =
     let last = spelling.optional spelling.first_value d.first rest in
     let sized = sized_notes s d.stream d.size in
@@ -193,40 +193,40 @@ at-declarator s d rest h =
     (at-sized s d.stream d.size (spelling.attribute d.stream last) size (lawful-first sized first h.1) ∙ ap (λ ws. told sized ++ ws) (at-attribute d.stream last))
     (at-first (after_declarator s d) d.first rest (lawful-rest sized first h.1)))
 
-at-declarators : (s : Scope) (ds : List tree.DeclaratorTree) (rest : List Piece) → AreLawful (declarators_notes s ds) →
+at-declarators : (s : Scope) (ds : List tree.DeclaratorTree) (rest : List Symbol) → AreLawful (declarators_notes s ds) →
     name_places (spelling.each (λ d. spelling.punct puncts.Comma ⨾ spelling.declarator d) ds rest) ≡ told (declarators_notes s ds) ++ name_places rest
 at-declarators s [] rest h = refl
 at-declarators s (d ∷ ds) rest h =
     let more = declarators_notes (after_declarator s d) ds in
     joined _ (declarator_notes s d) more (at-declarator s d _ (lawful-first (declarator_notes s d) more h)) (at-declarators (after_declarator s d) ds rest (lawful-rest (declarator_notes s d) more h))
 
-at-listed : (s : Scope) (ds : List tree.DeclaratorTree) (rest : List Piece) → AreLawful (declarators_notes s ds) →
+at-listed : (s : Scope) (ds : List tree.DeclaratorTree) (rest : List Symbol) → AreLawful (declarators_notes s ds) →
     name_places (spelling.listed spelling.declarator ds rest) ≡ told (declarators_notes s ds) ++ name_places rest
 at-listed s [] rest h = refl
 at-listed s (d ∷ ds) rest h =
     let more = declarators_notes (after_declarator s d) ds in
     joined _ (declarator_notes s d) more (at-declarator s d _ (lawful-first (declarator_notes s d) more h)) (at-declarators (after_declarator s d) ds rest (lawful-rest (declarator_notes s d) more h))
 
-at-start : (s : Scope) (st : tree.StartTree) (rest : List Piece) → AreLawful (start_notes s st) → name_places (spelling.start st rest) ≡ told (start_notes s st) ++ name_places rest
+at-start : (s : Scope) (st : tree.StartTree) (rest : List Symbol) → AreLawful (start_notes s st) → name_places (spelling.start st rest) ≡ told (start_notes s st) ++ name_places rest
 at-start s tree.StartTree.Empty rest h = refl
 at-start s (tree.StartTree.Declare ds) rest h = at-listed s ds (spelling.punct puncts.Semicolon rest) h
 at-start s (tree.StartTree.Change c) rest h = at-change s c (spelling.punct puncts.Semicolon rest) h
 
 -- clauses
-at-window : (s : Scope) (before : List ℕ) (arrow : Punct) (t : tree.TargetTree) (w : Option tree.JoinTree) (rest : List Piece) → AreLawful (window_notes s before t w) →
+at-window : (s : Scope) (before : List ℕ) (arrow : Punct) (t : tree.TargetTree) (w : Option tree.JoinTree) (rest : List Symbol) → AreLawful (window_notes s before t w) →
     name_places (spelling.optional (spelling.join arrow) w rest) ≡ told (window_notes s before t w) ++ name_places rest
 at-window s before arrow t None rest h = refl
 at-window s before arrow t (Some j) rest h =
     used s j.name (usage.Joined (shape_of j.burst)) (index_notes s j.burst) _ h.1.0 (at-index s j.burst rest h.1.1)
 
-at-item : (s : Scope) (before : List ℕ) (d : Direction) (arrow : Punct) (i : tree.ClauseItemTree) (rest : List Piece) → AreLawful (part_notes s before (Item d i)) →
+at-item : (s : Scope) (before : List ℕ) (d : Direction) (arrow : Punct) (i : tree.ClauseItemTree) (rest : List Symbol) → AreLawful (part_notes s before (Item d i)) →
     name_places (spelling.clause_item arrow i rest) ≡ told (part_notes s before (Item d i)) ++ name_places rest
 at-item s before d arrow i rest h =
     let stream = place_notes s (role.Flow d) i.stream in
     let window = window_notes s before i.stream i.window in
     joined _ stream window (at-place s (role.Flow d) i.stream _ (lawful-first stream window h)) (at-window s before arrow i.stream i.window rest (lawful-rest stream window h))
 
-at-items : (s : Scope) (before : List ℕ) (d : Direction) (arrow : Punct) (is : List tree.ClauseItemTree) (rest : List Piece) → AreLawful (parts_notes s before (map (Item d) is)) →
+at-items : (s : Scope) (before : List ℕ) (d : Direction) (arrow : Punct) (is : List tree.ClauseItemTree) (rest : List Symbol) → AreLawful (parts_notes s before (map (Item d) is)) →
     name_places (spelling.each (λ i. spelling.punct puncts.Comma ⨾ spelling.clause_item arrow i) is rest) ≡ told (parts_notes s before (map (Item d) is)) ++ name_places rest
 at-items s before d arrow [] rest h = refl
 at-items s before d arrow (i ∷ is) rest h =
@@ -234,7 +234,7 @@ at-items s before d arrow (i ∷ is) rest h =
     let more = parts_notes s ((part_name (Item d i)).id ∷ before) (map (Item d) is) in
     joined _ here more (at-item s before d arrow i _ (lawful-first here more h)) (at-items s ((part_name (Item d i)).id ∷ before) d arrow is rest (lawful-rest here more h))
 
-at-item_list : (s : Scope) (before : List ℕ) (d : Direction) (arrow : Punct) (is : List tree.ClauseItemTree) (rest : List Piece) → AreLawful (parts_notes s before (map (Item d) is)) →
+at-item_list : (s : Scope) (before : List ℕ) (d : Direction) (arrow : Punct) (is : List tree.ClauseItemTree) (rest : List Symbol) → AreLawful (parts_notes s before (map (Item d) is)) →
     name_places (spelling.listed (spelling.clause_item arrow) is rest) ≡ told (parts_notes s before (map (Item d) is)) ++ name_places rest
 at-item_list s before d arrow [] rest h = refl
 at-item_list s before d arrow (i ∷ is) rest h =
@@ -242,25 +242,25 @@ at-item_list s before d arrow (i ∷ is) rest h =
     let more = parts_notes s ((part_name (Item d i)).id ∷ before) (map (Item d) is) in
     joined _ here more (at-item s before d arrow i _ (lawful-first here more h)) (at-items s ((part_name (Item d i)).id ∷ before) d arrow is rest (lawful-rest here more h))
 
-at-privates : (s : Scope) (before : List ℕ) (ns : List Name) (rest : List Piece) → AreLawful (parts_notes s before (map Private ns)) →
+at-privates : (s : Scope) (before : List ℕ) (ns : List Name) (rest : List Symbol) → AreLawful (parts_notes s before (map Private ns)) →
     name_places (spelling.each (λ n. spelling.punct puncts.Comma ⨾ spelling.name n) ns rest) ≡ told (parts_notes s before (map Private ns)) ++ name_places rest
 at-privates s before [] rest h = refl
 at-privates s before (n ∷ ns) rest h =
     used s n usage.Private (parts_notes s (n.id ∷ before) (map Private ns)) _ h.1.0 (at-privates s (n.id ∷ before) ns rest h.1.1)
 
-at-private_list : (s : Scope) (before : List ℕ) (ns : List Name) (rest : List Piece) → AreLawful (parts_notes s before (map Private ns)) →
+at-private_list : (s : Scope) (before : List ℕ) (ns : List Name) (rest : List Symbol) → AreLawful (parts_notes s before (map Private ns)) →
     name_places (spelling.listed spelling.name ns rest) ≡ told (parts_notes s before (map Private ns)) ++ name_places rest
 at-private_list s before [] rest h = refl
 at-private_list s before (n ∷ ns) rest h =
     used s n usage.Private (parts_notes s (n.id ∷ before) (map Private ns)) _ h.1.0 (at-privates s (n.id ∷ before) ns rest h.1.1)
 
-at-kind : (s : Scope) (before : List ℕ) (k : tree.ClauseKindTree) (rest : List Piece) → AreLawful (parts_notes s before (parts_of k)) →
+at-kind : (s : Scope) (before : List ℕ) (k : tree.ClauseKindTree) (rest : List Symbol) → AreLawful (parts_notes s before (parts_of k)) →
     name_places (spelling.clause_kind k rest) ≡ told (parts_notes s before (parts_of k)) ++ name_places rest
 at-kind s before (tree.Input is) rest h = at-item_list s before direction.Reads puncts.ShiftRight is (spelling.punct puncts.CloseParen rest) h
 at-kind s before (tree.Output is) rest h = at-item_list s before direction.Writes puncts.ShiftLeft is (spelling.punct puncts.CloseParen rest) h
 at-kind s before (tree.Firstprivate ns) rest h = at-private_list s before ns (spelling.punct puncts.CloseParen rest) h
 
-at-comma : (comma : Bool) (ps : List Piece) → name_places (spelling.comma comma ps) ≡ name_places ps
+at-comma : (comma : Bool) (ps : List Symbol) → name_places (spelling.comma comma ps) ≡ name_places ps
 at-comma false ps = refl
 at-comma true ps = refl
 
@@ -274,7 +274,7 @@ parts-append s before (p ∷ ps) qs =
     ap (λ ns. part_notes s before p ++ ns) (parts-append s ((part_name p).id ∷ before) ps qs)
     ∙ sym (append_assoc (part_notes s before p) (parts_notes s ((part_name p).id ∷ before) ps) (parts_notes s (names_behind before (p ∷ ps)) qs))
 
-at-clauses : (s : Scope) (before : List ℕ) (cs : List tree.ClauseTree) (rest : List Piece) → AreLawful (parts_notes s before (parts cs)) →
+at-clauses : (s : Scope) (before : List ℕ) (cs : List tree.ClauseTree) (rest : List Symbol) → AreLawful (parts_notes s before (parts cs)) →
     name_places (spelling.each spelling.clause cs rest) ≡ told (parts_notes s before (parts cs)) ++ name_places rest
 at-clauses s before [] rest h = refl
 at-clauses s before (c ∷ cs) rest h =
@@ -288,7 +288,7 @@ at-clauses s before (c ∷ cs) rest h =
     ∙ ap (λ (ns : List Note). told ns ++ name_places rest) (sym split)
 
 mutual
-  at-stmt : (s : Scope) (a : tree.StmtTree) (rest : List Piece) → AreLawful (stmt_notes s a) → name_places (spelling.stmt a rest) ≡ told (stmt_notes s a) ++ name_places rest
+  at-stmt : (s : Scope) (a : tree.StmtTree) (rest : List Symbol) → AreLawful (stmt_notes s a) → name_places (spelling.stmt a rest) ≡ told (stmt_notes s a) ++ name_places rest
   at-stmt s tree.StmtTree.Empty rest h = refl
   at-stmt s (tree.Block ss) rest h = at-stmts (enter s) ss (spelling.punct puncts.CloseBrace rest) h
   at-stmt s (tree.StmtTree.Declare ds) rest h = at-listed s ds (spelling.punct puncts.Semicolon rest) h
@@ -345,19 +345,19 @@ mutual
       (at-expr s e _ (lawful-rest stream (expr_notes s e) h.1))
   at-stmt s (tree.Taskwait m) rest h = refl
 
-  at-stmts : (s : Scope) (ss : tree.Stmts) (rest : List Piece) → AreLawful (stmts_notes s ss) → name_places (spelling.stmts ss rest) ≡ told (stmts_notes s ss) ++ name_places rest
+  at-stmts : (s : Scope) (ss : tree.Stmts) (rest : List Symbol) → AreLawful (stmts_notes s ss) → name_places (spelling.stmts ss rest) ≡ told (stmts_notes s ss) ++ name_places rest
   at-stmts s tree.no_stmts rest h = refl
   at-stmts s (tree.stmt a ss) rest h =
       let here = stmt_notes s a in
       let more = stmts_notes (after_stmt s a) ss in
       joined _ here more (at-stmt s a (spelling.stmts ss rest) (lawful-first here more h)) (at-stmts (after_stmt s a) ss rest (lawful-rest here more h))
 
-at-params : (s : Scope) (ns : List Name) (rest : List Piece) →
+at-params : (s : Scope) (ns : List Name) (rest : List Symbol) →
     name_places (spelling.each (λ n. spelling.punct puncts.Comma ⨾ (spelling.key keys.Int ⨾ spelling.name n)) ns rest) ≡ told (params_notes s ns) ++ name_places rest
 at-params s [] rest = refl
 at-params s (n ∷ ns) rest = ap (λ ws. n.mark.place ∷ ws) (at-params (after_param s n) ns rest)
 
-at-param_list : (s : Scope) (ps : Params) (rest : List Piece) → name_places (spelling.params ps rest) ≡ told (params_notes s (param_names ps)) ++ name_places rest
+at-param_list : (s : Scope) (ps : Params) (rest : List Symbol) → name_places (spelling.params ps rest) ≡ told (params_notes s (param_names ps)) ++ name_places rest
 at-param_list s params_of.Empty rest = refl
 at-param_list s params_of.Void rest = refl
 at-param_list s (params_of.Names []) rest = refl

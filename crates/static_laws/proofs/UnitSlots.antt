@@ -12,7 +12,7 @@ use Rattle.os_ast.specs.Notes.Kinds.{Global, Note}
 use Rattle.os_ast.specs.Notes.Programs.{after_item, after_items, file, in_body, in_function, item_notes, items_notes, owner_of, param_names, params_notes}
 use Rattle.os_ast.specs.Notes.Statements.{after_stmt, after_stmts, stmt_notes, stmts_notes}
 use Rattle.os_ast.specs.Parts.{parts}
-use Rattle.os_ast.specs.Spelling.{kind_of, pieces, spell}
+use Rattle.os_ast.specs.Spelling.{kind_of, symbols, spell}
 use Rattle.os_ast.specs.Trees as tree
 use Rattle.os_ast.specs.Violations.{violations}
 use Rattle.os_ast.specs.declared.names.Owner.{Owner}
@@ -201,7 +201,7 @@ units-few p places none few =
       items-paid p file refl (room p few),
       names_few p places lawful,
       functions_few p,
-      length-map (pieces p) kind_of,
+      length-map (symbols p) kind_of,
       (within-items_of_file file p (record { streams = omega arith; arrays = omega arith }) lawful).arrays,
       few,
     )

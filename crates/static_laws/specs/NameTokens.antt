@@ -1,7 +1,7 @@
 -- The tokens of names in a spelling. The words of pragmas and of the attribute are spelled without a mark, and are none.
 use Rattle.std.specs.Prelude.{ℕ, List, [], ◌∷◌, ◌++◌}
 use Rattle.os_ast.specs.Spelling as spelling
-use Rattle.os_ast.specs.Spelling.{Piece, bare, marked}
+use Rattle.os_ast.specs.Spelling.{Symbol, bare, marked}
 use Rattle.os_ast.specs.Trees as tree
 use Rattle.os_ast.specs.declared.expr.Mark.{Mark}
 use Rattle.os_lexer.specs.declared.token.Kind.{Kind}
@@ -12,7 +12,7 @@ abbrev pub name_place : Kind → Mark → List ℕ
 name_place (kind.Name id) m = m.place ∷ []
 name_place _ m = []
 
-abbrev pub name_places : List Piece → List ℕ
+abbrev pub name_places : List Symbol → List ℕ
 name_places [] = []
 name_places (bare k ∷ ps) = name_places ps
 name_places (marked k m ∷ ps) = name_place k m ++ name_places ps

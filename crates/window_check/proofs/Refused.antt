@@ -7,7 +7,7 @@ use Rattle.os_ast.specs.Marks.{HasMark, HasPlaces}
 use Rattle.os_ast.specs.Notes.Kinds.{Note, mark_of}
 use Rattle.os_ast.specs.Notes.Programs.{program_notes, file}
 use Rattle.os_ast.specs.Rules.{codes}
-use Rattle.os_ast.specs.Spelling.{Piece, bare, marked, kind_of, pieces, spell}
+use Rattle.os_ast.specs.Spelling.{Symbol, bare, marked, kind_of, symbols, spell}
 use Rattle.os_ast.specs.Trees as tree
 use Rattle.os_ast.specs.Violations.{violated, violations_at, violations_of, resolutions_of, resolutions, captures_of, captures, captured_by_tasks, has_main, no_main, violations, names, IsBefore, earlier, same_place, IsRefusal}
 use Rattle.os_ast.specs.declared.expr.Mark.{Mark}
@@ -19,7 +19,7 @@ use Rattle.window_check.proofs.Least.{least_of, least_among, least_of-some, judg
 use Rattle.static_laws.proofs.Placed.{HasKept, AreOf, of-program}
 
 -- each mark is below the number of tokens
-below-length : (ps : List Piece) (from n : ℕ) → from + length ps ≤ n → ((i : ℕ) (m : Mark) → HasMark ps i m → m.place ≡ from + i) → HasKept (λ m. m.place < n) ps
+below-length : (ps : List Symbol) (from n : ℕ) → from + length ps ≤ n → ((i : ℕ) (m : Mark) → HasMark ps i m → m.place ≡ from + i) → HasKept (λ m. m.place < n) ps
 below-length [] from n h f = tt
 below-length (bare k ∷ ps) from n h f = below-length ps (suc from) n (omega (arith, h)) (λ i m is. omega (arith, f (suc i) m is))
 below-length (marked k m ∷ ps) from n h f = (omega (arith, h, f 0 m (k, refl)), below-length ps (suc from) n (omega (arith, h)) (λ i q is. omega (arith, f (suc i) q is)))
@@ -37,7 +37,7 @@ all-below : (p : tree.ProgramTree) → HasPlaces p → All (λ v. v.place < leng
 all-below p h =
     violations_of-below (length (spell p)) (program_notes p)
     (of-program (λ m. m.place < length (spell p)) file p []
-    (below-length (pieces p) 0 (length (spell p)) (omega (arith, length-map (pieces p) kind_of)) (λ i m is. omega (arith, h i m is)))).0
+    (below-length (symbols p) 0 (length (spell p)) (omega (arith, length-map (symbols p) kind_of)) (λ i m is. omega (arith, h i m is)))).0
 
 -- the least of no violation and of some
 least-none : (vs : List Violation) → least_of None vs ≡ None → vs ≡ []

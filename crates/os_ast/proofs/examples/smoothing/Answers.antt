@@ -1,7 +1,7 @@
 use Rattle.std.proofs.Common.{rules, refl, arith}
 use Rattle.os_ast.specs.Examples.Smooth.{tokens, program}
 use Rattle.os_ast.specs.Means.{placed_from}
-use Rattle.os_ast.specs.Spelling.{pieces}
+use Rattle.os_ast.specs.Spelling.{symbols}
 use Rattle.os_ast.proofs.Fits.{fit-computed, replaced}
 use Rattle.os_ast.proofs.Leveling.{levels}
 use Rattle.os_ast.proofs.examples.smoothing.Goals as goal
@@ -10,5 +10,5 @@ pub returns : goal.returns
 unfolding replaced
 returns c = record {
   leveled = record { items = search (levels, rules) depth 60 fits 20000; depth = omega arith };
-  spelled = fit-computed (pieces program) (placed_from 0 tokens) refl;
+  spelled = fit-computed (symbols program) (placed_from 0 tokens) refl;
 }

@@ -1,4 +1,4 @@
-use Rattle.os_lexer.proofs.PlaceCuts.{cover_cuts}
+use Rattle.os_lexer.proofs.PointCuts.{cover_cuts}
 use Rattle.os_lexer.proofs.FewTokens.{few_tokens}
 use Rattle.os_lexer.proofs.TokenNumbers.{small_numbers}
 use Rattle.os_lexer.proofs.laws.cover_cuts.Goals as goal

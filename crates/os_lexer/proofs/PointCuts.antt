@@ -1,4 +1,4 @@
--- The walk over the places of a text, and its cut told by the tokens alone, are the same.
+-- The walk over the points of a text, and its cut told by the tokens alone, are the same.
 use Rattle.std.proofs.Common.{◌≡◌, ℕ, suc, ◌+◌, ◌-◌, ◌<◌, ◌≤◌, ◌⊎◌, Bool, true, false, cond, List, [], ◌∷◌, ◌++◌, length, take, drop, Option, Some, None, unwrap_or, refl, sym, ap, ap₂, ◌∙◌, subst, inl, inr, ⊎_elim, arith, All, length-take-le, length-drop, add-zero, get_or-take, get_or-drop, lt-ltb, ltb-true, le-ltb, eqb-true}
 use Rattle.std.proofs.lemmas.Bool.{cond-true, cond-false, cond_both, cases_lt, and_parts, false≢true}
 use Rattle.std.proofs.lemmas.Bool.Decides.{nat_tests}
@@ -8,18 +8,18 @@ use Rattle.std.proofs.lemmas.List.Sums.{fold_push, sum_by-append}
 use Rattle.std.specs.List.{list_all, list_any}
 use Rattle.std.specs.Prelude.{count_by, nat_le, nat_lt, not, ◌&&◌, ◌||◌, ◌==◌, slice_index}
 use Rattle.os_lexer.specs.Bytes.{is_line_feed, is_word_byte}
-use Rattle.os_lexer.specs.Cover.{Place, text_start, token_of, effect_at, skipped_to, given_to, Step, skips, gives, Leads, here, on, tokens_at_end, IsTokenCover, IsFaultAt, IsFirstFault}
+use Rattle.os_lexer.specs.Cover.{Point, text_start, token_of, effect_at, skipped_to, given_to, Step, skips, gives, Leads, here, on, tokens_at_end, IsTokenCover, IsFaultAt, IsFirstFault}
 use Rattle.os_lexer.specs.Cover as walk
-use Rattle.os_lexer.specs.Cut.{opens_pragma, is_in_pragma, is_first_on_line, mode_at, does, IsSkip, IsGive, IsFail, IsCutTo, start, gap, token, pragma_end, IsCut, StandsAt, formless, faulty, IsFaultPlace}
+use Rattle.os_lexer.specs.Cut.{opens_pragma, is_in_pragma, is_first_on_line, mode_at, does, IsSkip, IsGive, IsFail, IsCutTo, start, gap, token, pragma_end, IsCut, StandsAt, formless, faulty, IsFaultPoint}
 use Rattle.os_lexer.specs.Effects.{effect, directive_effect, space_effect, number_effect, word_kind, mode_after_token, mode_after_gap}
-use Rattle.os_lexer.specs.Forms.{IsRun, IsForm, IsPiece}
+use Rattle.os_lexer.specs.Forms.{IsRun, IsForm, IsLexeme}
 use Rattle.os_lexer.specs.Keywords.{key_of}
-use Rattle.os_lexer.specs.Laws.{CoverCuts, FaultPlaces}
+use Rattle.os_lexer.specs.Laws.{CoverCuts, FaultPoints}
 use Rattle.os_lexer.specs.Lines.{line_of}
 use Rattle.os_lexer.specs.Marks.{mark_spelling}
 use Rattle.os_lexer.specs.Names.{name_number}
 use Rattle.os_lexer.specs.Numbers.{number_value}
-use Rattle.os_lexer.specs.Reading.{class_of, piece, piece_at, all_marks, mark_of}
+use Rattle.os_lexer.specs.Reading.{class_of, lexeme, lexeme_at, all_marks, mark_of}
 use Rattle.os_lexer.specs.declared.bytes.Class.TheVariants.{White}
 use Rattle.os_lexer.specs.declared.effect.Effect.{Effect}
 use Rattle.os_lexer.specs.declared.effect.Effect.TheVariants.{Skip, Give, Fail}
@@ -35,8 +35,8 @@ use Rattle.os_lexer.specs.declared.token.Kind.TheVariants as kind
 use Rattle.os_lexer.specs.declared.token.Punct.{Punct}
 use Rattle.os_lexer.specs.declared.token.Token.{Token}
 use Rattle.os_lexer.proofs.Advance.{line_of-later}
-use Rattle.os_lexer.proofs.Cuts.{IsPiece-some, piece_at-is, leads_on}
-use Rattle.os_lexer.proofs.Longest.{piece_at-of_class}
+use Rattle.os_lexer.proofs.Cuts.{IsLexeme-some, lexeme_at-is, leads_on}
+use Rattle.os_lexer.proofs.Longest.{lexeme_at-of_class}
 use Rattle.os_lexer.proofs.MarkSpellings.{mark_of-spelling, tested}
 
 -- ---- line feeds
@@ -111,7 +111,7 @@ not_first ts t l over =
 pragma_push : (ts : List Token) (t : Token) → is_in_pragma (ts ++ t ∷ []) ≡ opens_pragma t.kind (is_in_pragma ts)
 pragma_push ts t = fold_push (λ inside token. opens_pragma token.kind inside) false ts t
 
--- ---- what a piece does to the mode
+-- ---- what a lexeme does to the mode
 pragma_skip : (m : Mode) (b : Bool) → cond b (Give kind.PragmaEnd LineStart) (Skip InPragma) ≡ Skip m → m ≡ InPragma
 pragma_skip m true e = absurd (cc e)
 pragma_skip m false e = cc e
@@ -213,7 +213,7 @@ give_mode mode m name form.Number s k p e = number_gives mode m s k (number_valu
 give_mode mode m name (form.Mark mark) s k p e = gives_along e (plain (λ b. refl) (ap (list_any is_line_feed) p ∙ mark_unfeed mark))
 
 module _ (text : List ℕ) where
-  -- the place is the end of the text, or has a line feed
+  -- the point is the end of the text, or has a line feed
   abbrev pub IsAtFeed : ℕ → Type 0
   IsAtFeed at = at < length text → slice_index text at ≡ 10
 
@@ -223,24 +223,24 @@ module _ (text : List ℕ) where
   Agrees InLine ts at = (is_in_pragma ts ≡ false) × ((is_first_on_line text ts at ≡ false) ⊎ IsAtFeed at)
   Agrees InPragma ts at = is_in_pragma ts ≡ true
 
-  pub record Knows (p : Place) : Type 0 where
+  pub record Knows (p : Point) : Type 0 where
     pub before : All (λ (t : Token). t.line ≤ line_of text p.at) p.tokens
     pub agrees : Agrees p.mode p.tokens p.at
 
-  -- ---- a piece at a line feed, and the end of a line comment
-  feed_space : (at n : ℕ) (f : Form) → IsPiece (drop at text) f n → IsAtFeed at → f ≡ form.Space
-  feed_space at n f is_piece feed =
+  -- ---- a lexeme at a line feed, and the end of a line comment
+  feed_space : (at n : ℕ) (f : Form) → IsLexeme (drop at text) f n → IsAtFeed at → f ≡ form.Space
+  feed_space at n f is_lexeme feed =
       let rest = drop at text in
-      let some = IsPiece-some rest f n is_piece in
+      let some = IsLexeme-some rest f n is_lexeme in
       let byte : slice_index rest 0 ≡ 10 = get_or-drop at text 0 0 ∙ ap (λ i. slice_index text i) (add-zero at) ∙ feed (omega
       (arith, some, length-drop at text)) in
-      let found : piece_at rest ≡ Some (piece form.Space 1) = piece_at-of_class rest White (ap class_of byte) in
-      ap (λ o. (unwrap_or o (piece f 0)).form) (sym (piece_at-is rest f n is_piece) ∙ found)
+      let found : lexeme_at rest ≡ Some (lexeme form.Space 1) = lexeme_at-of_class rest White (ap class_of byte) in
+      ap (λ o. (unwrap_or o (lexeme f 0)).form) (sym (lexeme_at-is rest f n is_lexeme) ∙ found)
 
-  feed_in_slice : (at n : ℕ) (f : Form) → IsPiece (drop at text) f n → IsAtFeed at → list_any is_line_feed (take n (drop at text)) ≡ true
-  feed_in_slice at n f is_piece feed =
+  feed_in_slice : (at n : ℕ) (f : Form) → IsLexeme (drop at text) f n → IsAtFeed at → list_any is_line_feed (take n (drop at text)) ≡ true
+  feed_in_slice at n f is_lexeme feed =
       let rest = drop at text in
-      let some = IsPiece-some rest f n is_piece in
+      let some = IsLexeme-some rest f n is_lexeme in
       let byte : slice_index rest 0 ≡ 10 = get_or-drop at text 0 0 ∙ ap (λ i. slice_index text i) (add-zero at) ∙ feed (omega
       (arith, some, length-drop at text)) in
       any_head (take n rest) (omega (arith, some, length-take-le n rest some.1)) (get_or-take n rest 0 0 some.0 ∙ byte)
@@ -268,8 +268,8 @@ module _ (text : List ℕ) where
             (cases_lt i n);
       }
 
-  comment_feed : (at n : ℕ) → IsPiece (drop at text) form.LineComment n → IsAtFeed (at + n)
-  comment_feed at n is_piece inside =
+  comment_feed : (at n : ℕ) → IsLexeme (drop at text) form.LineComment n → IsAtFeed (at + n)
+  comment_feed at n is_lexeme inside =
       let rest = drop at text in
       let room : n < length rest = omega (arith, inside, length-drop at text) in
       let there : slice_index rest n ≡ slice_index text (at + n) = get_or-drop at text n 0 in
@@ -279,17 +279,17 @@ module _ (text : List ℕ) where
           slice_index (drop at text) n ≡ slice_index text (at + n) → slice_index text (at + n) ≡ 10
       by_test true e room there = sym there ∙ eqb-true _ _ e
       by_test false e room there =
-          absurd (let over = is_piece.longest form.LineComment (n + 1) (omega (arith, room)) (longer_comment
-          (drop at text) n room is_piece.of_form e) in omega (arith, over))
+          absurd (let over = is_lexeme.longest form.LineComment (n + 1) (omega (arith, room)) (longer_comment
+          (drop at text) n room is_lexeme.of_form e) in omega (arith, over))
 
   -- ---- lines go on
-  module _ (at n : ℕ) (f : Form) (is_piece : IsPiece (drop at text) f n) where
+  module _ (at n : ℕ) (f : Form) (is_lexeme : IsLexeme (drop at text) f n) where
     abbrev slice : List ℕ
     slice = take n (drop at text)
 
     line_is : line_of text (at + n) ≡ line_of text at + count_by is_line_feed slice
     line_is =
-        let some = IsPiece-some (drop at text) f n is_piece in
+        let some = IsLexeme-some (drop at text) f n is_lexeme in
         line_of-later text at n (omega (arith, some, length-drop at text))
 
     gap_agrees : (mode : Mode) (ts : List Token) → All (λ (t : Token). t.line ≤ line_of text at) ts → Agrees mode ts at →
@@ -303,14 +303,14 @@ module _ (text : List ℕ) where
           ⊎_elim
               (λ e. let line : line_of text (at + n) ≡ line_of text at = omega (arith, line_is, none_count slice none) in
               inl (ap (λ l. list_all (λ (t : Token). nat_lt t.line l) ts) line ∙ e))
-              (λ feed. absurd (false≢true (sym none ∙ feed_in_slice at n f is_piece feed)))
+              (λ feed. absurd (false≢true (sym none ∙ feed_in_slice at n f is_lexeme feed)))
               a.1,
         ))
     gap_agrees InPragma ts all a = a
 
     comment_agrees : f ≡ form.LineComment → (mode : Mode) (ts : List Token) → Agrees mode ts at → Agrees mode ts (at + n)
     comment_agrees e LineStart ts a = (a.0, first_kept ts (line_of text at) (line_of text (at + n)) (omega (arith, line_is)) a.1)
-    comment_agrees e InLine ts a = (a.0, inr (comment_feed at n (subst (λ g. IsPiece (drop at text) g n) e is_piece)))
+    comment_agrees e InLine ts a = (a.0, inr (comment_feed at n (subst (λ g. IsLexeme (drop at text) g n) e is_lexeme)))
     comment_agrees e InPragma ts a = a
 
     give_agrees : {mode m : Mode} {k : Kind} (ts : List Token) → Gives mode slice k m → All (λ (t : Token). t.line ≤ line_of text at) ts → Agrees mode ts at →
@@ -331,26 +331,26 @@ module _ (text : List ℕ) where
     give_agrees {mode = InPragma} {k = k} ts (plain same none) all a =
         let t = token_of text k at (at + n) in pragma_push ts t ∙ same (is_in_pragma ts) ∙ a
 
-  gap_knows : (p : Place) (f : Form) (n : ℕ) (m : Mode) → Knows p → IsPiece (drop p.at text) f n → effect_at text p f n ≡ Skip m → Knows (skipped_to p n m)
-  gap_knows p f n m k is_piece e = record {
-    before = are_later p.tokens (line_of text p.at) (line_of text (p.at + n)) (omega (arith, line_is p.at n f is_piece)) k.before;
+  gap_knows : (p : Point) (f : Form) (n : ℕ) (m : Mode) → Knows p → IsLexeme (drop p.at text) f n → effect_at text p f n ≡ Skip m → Knows (skipped_to p n m)
+  gap_knows p f n m k is_lexeme e = record {
+    before = are_later p.tokens (line_of text p.at) (line_of text (p.at + n)) (omega (arith, line_is p.at n f is_lexeme)) k.before;
     agrees = ⊎_elim
-        (λ same. subst (λ x. Agrees x p.tokens (p.at + n)) (sym same) (gap_agrees p.at n f is_piece p.mode p.tokens k.before k.agrees))
-        (λ comment. subst (λ x. Agrees x p.tokens (p.at + n)) (sym comment.1) (comment_agrees p.at n f is_piece comment.0 p.mode p.tokens k.agrees))
+        (λ same. subst (λ x. Agrees x p.tokens (p.at + n)) (sym same) (gap_agrees p.at n f is_lexeme p.mode p.tokens k.before k.agrees))
+        (λ comment. subst (λ x. Agrees x p.tokens (p.at + n)) (sym comment.1) (comment_agrees p.at n f is_lexeme comment.0 p.mode p.tokens k.agrees))
         (skip_mode p.mode m _ f _ e);
   }
 
-  give_knows : (p : Place) (f : Form) (n : ℕ) (k : Kind) (m : Mode) → Knows p → IsPiece (drop p.at text) f n → effect_at text p f n ≡ Give k m →
+  give_knows : (p : Point) (f : Form) (n : ℕ) (k : Kind) (m : Mode) → Knows p → IsLexeme (drop p.at text) f n → effect_at text p f n ≡ Give k m →
       Knows (given_to text p n k m)
-  give_knows p f n k m known is_piece e =
+  give_knows p f n k m known is_lexeme e =
       let t = token_of text k p.at (p.at + n) in
-      let later = are_later p.tokens (line_of text p.at) (line_of text (p.at + n)) (omega (arith, line_is p.at n f is_piece)) known.before in
+      let later = are_later p.tokens (line_of text p.at) (line_of text (p.at + n)) (omega (arith, line_is p.at n f is_lexeme)) known.before in
       record {
-        before = All-push (λ (u : Token). u.line ≤ line_of text (p.at + n)) p.tokens t later (omega (arith, line_is p.at n f is_piece));
-        agrees = give_agrees p.at n f is_piece p.tokens (give_mode p.mode m _ f _ k is_piece.of_form e) known.before known.agrees;
+        before = All-push (λ (u : Token). u.line ≤ line_of text (p.at + n)) p.tokens t later (omega (arith, line_is p.at n f is_lexeme));
+        agrees = give_agrees p.at n f is_lexeme p.tokens (give_mode p.mode m _ f _ k is_lexeme.of_form e) known.before known.agrees;
       }
 
-  -- ---- the piece does the same by the mode and by the tokens, but where a line feed is skipped
+  -- ---- the lexeme does the same by the mode and by the tokens, but where a line feed is skipped
   abbrev ModeIs : Mode → List Token → ℕ → Type 0
   ModeIs mode ts at = (mode_at text ts at ≡ mode) ⊎ ((mode ≡ InLine) × (mode_at text ts at ≡ LineStart) × IsAtFeed at)
 
@@ -371,7 +371,7 @@ module _ (text : List ℕ) where
   abbrev IsBlind : (Effect → Type 0) → Type 0
   IsBlind P = (a b : Mode) → P (Skip a) → P (Skip b)
 
-  module _ (p : Place) (f : Form) (n : ℕ) (known : Knows p) (is_piece : IsPiece (drop p.at text) f n) (P : Effect → Type 0) (blind : IsBlind P) where
+  module _ (p : Point) (f : Form) (n : ℕ) (known : Knows p) (is_lexeme : IsLexeme (drop p.at text) f n) (P : Effect → Type 0) (blind : IsBlind P) where
     number : ℕ
     number = name_number text p.tokens (take n (drop p.at text))
 
@@ -382,7 +382,7 @@ module _ (text : List ℕ) where
         ⊎_elim
         (λ same. subst P (sym (ap (λ m. effect m i f s) same)) h)
         (λ (x : (p.mode ≡ InLine) × (mode_at text p.tokens p.at ≡ LineStart) × IsAtFeed p.at).
-        let is_space = feed_space p.at n f is_piece x.2 in
+        let is_space = feed_space p.at n f is_lexeme x.2 in
         let skipped : effect_at text p f n ≡ Skip (mode_after_gap InLine s) = ap₂ (λ m g. effect m i g s) x.0 is_space in
         let cut : does text p.tokens p.at f n ≡ Skip LineStart = ap₂ (λ m g. effect m i g s) x.1 is_space in
         subst P (sym cut) (blind (mode_after_gap InLine s) LineStart (subst P skipped h)))
@@ -395,7 +395,7 @@ module _ (text : List ℕ) where
         ⊎_elim
         (λ same. subst P (ap (λ m. effect m i f s) same) h)
         (λ (x : (p.mode ≡ InLine) × (mode_at text p.tokens p.at ≡ LineStart) × IsAtFeed p.at).
-        let is_space = feed_space p.at n f is_piece x.2 in
+        let is_space = feed_space p.at n f is_lexeme x.2 in
         let skipped : effect_at text p f n ≡ Skip (mode_after_gap InLine s) = ap₂ (λ m g. effect m i g s) x.0 is_space in
         let cut : does text p.tokens p.at f n ≡ Skip LineStart = ap₂ (λ m g. effect m i g s) x.1 is_space in
         subst P (sym skipped) (blind LineStart (mode_after_gap InLine s) (subst P cut h)))
@@ -426,45 +426,45 @@ module _ (text : List ℕ) where
   is_fail w (Fail v) h = ap Fail h
 
   -- ---- from the walk to the cut
-  abbrev pub CutAt : Place → Type 0
+  abbrev pub CutAt : Point → Type 0
   CutAt p = IsCutTo text p.tokens p.at × Knows p
 
-  step_cut : {p q : Place} → Step text p q → CutAt p → CutAt q
-  step_cut (skips {p = p} {form = form} {n = n} {mode = mode} is_piece e) c = (
-    gap c.0 is_piece (to_cut p form n c.1 is_piece IsSkip skip_blind (subst IsSkip (sym e) tt)),
-    gap_knows p form n mode c.1 is_piece e,
+  step_cut : {p q : Point} → Step text p q → CutAt p → CutAt q
+  step_cut (skips {p = p} {form = form} {n = n} {mode = mode} is_lexeme e) c = (
+    gap c.0 is_lexeme (to_cut p form n c.1 is_lexeme IsSkip skip_blind (subst IsSkip (sym e) tt)),
+    gap_knows p form n mode c.1 is_lexeme e,
   )
-  step_cut (gives {p = p} {form = form} {n = n} {kind = kind} {mode = mode} is_piece e) c = (
-    token kind c.0 is_piece (to_cut p form n c.1 is_piece (IsGive kind) (give_blind kind) (subst (IsGive kind) (sym e) refl)),
-    give_knows p form n kind mode c.1 is_piece e,
+  step_cut (gives {p = p} {form = form} {n = n} {kind = kind} {mode = mode} is_lexeme e) c = (
+    token kind c.0 is_lexeme (to_cut p form n c.1 is_lexeme (IsGive kind) (give_blind kind) (subst (IsGive kind) (sym e) refl)),
+    give_knows p form n kind mode c.1 is_lexeme e,
   )
 
-  walk_cut : {p q : Place} → Leads text p q → CutAt p → CutAt q
+  walk_cut : {p q : Point} → Leads text p q → CutAt p → CutAt q
   walk_cut here c = c
   walk_cut (on s l) c = walk_cut l (step_cut s c)
 
   at_start : Knows text_start
   at_start = record { before = λ k d below. absurd (omega arith); agrees = (refl, refl) }
 
-  pub reached_cut : {q : Place} → Leads text text_start q → CutAt q
+  pub reached_cut : {q : Point} → Leads text text_start q → CutAt q
   reached_cut l = walk_cut l (start, at_start)
 
   -- ---- and back
-  abbrev pub place_at : List Token → ℕ → Mode → Place
-  place_at ts at mode = record { at = at; mode = mode; tokens = ts }
+  abbrev pub point_at : List Token → ℕ → Mode → Point
+  point_at ts at mode = record { at = at; mode = mode; tokens = ts }
 
-  pub cut_walk : {ts : List Token} {at : ℕ} → IsCutTo text ts at → (mode : Mode) × Leads text text_start (place_at ts at mode) × Knows (place_at ts at mode)
+  pub cut_walk : {ts : List Token} {at : ℕ} → IsCutTo text ts at → (mode : Mode) × Leads text text_start (point_at ts at mode) × Knows (point_at ts at mode)
   cut_walk start = (LineStart, here, at_start)
-  cut_walk (gap {tokens = ts} {at = at} {n = n} {form = form} c is_piece h) =
+  cut_walk (gap {tokens = ts} {at = at} {n = n} {form = form} c is_lexeme h) =
       let w = cut_walk c in
-      let p = place_at ts at w.0 in
-      let e = is_skip _ (to_walk p form n w.2 is_piece IsSkip skip_blind h) in
-      (e.0, leads_on text w.1 (skips {p = p} is_piece e.1), gap_knows p form n e.0 w.2 is_piece e.1)
-  cut_walk (token {tokens = ts} {at = at} {n = n} {form = form} kind c is_piece h) =
+      let p = point_at ts at w.0 in
+      let e = is_skip _ (to_walk p form n w.2 is_lexeme IsSkip skip_blind h) in
+      (e.0, leads_on text w.1 (skips {p = p} is_lexeme e.1), gap_knows p form n e.0 w.2 is_lexeme e.1)
+  cut_walk (token {tokens = ts} {at = at} {n = n} {form = form} kind c is_lexeme h) =
       let w = cut_walk c in
-      let p = place_at ts at w.0 in
-      let e = is_give kind _ (to_walk p form n w.2 is_piece (IsGive kind) (give_blind kind) h) in
-      (e.0, leads_on text w.1 (gives {p = p} is_piece e.1), give_knows p form n kind e.0 w.2 is_piece e.1)
+      let p = point_at ts at w.0 in
+      let e = is_give kind _ (to_walk p form n w.2 is_lexeme (IsGive kind) (give_blind kind) h) in
+      (e.0, leads_on text w.1 (gives {p = p} is_lexeme e.1), give_knows p form n kind e.0 w.2 is_lexeme e.1)
 
   -- ---- the end, and faults
   end_same : (mode : Mode) (ts : List Token) (at : ℕ) → Agrees mode ts at → tokens_at_end text mode ≡ pragma_end text ts
@@ -472,47 +472,47 @@ module _ (text : List ℕ) where
   end_same InLine ts at a = sym (cond-false (is_in_pragma ts) _ _ a.0)
   end_same InPragma ts at a = sym (cond-true (is_in_pragma ts) _ _ a)
 
-  fault_cut : {p : Place} {w : Fault} → Knows p → IsFaultAt text p w → StandsAt text p.tokens p.at w
+  fault_cut : {p : Point} {w : Fault} → Knows p → IsFaultAt text p w → StandsAt text p.tokens p.at w
   fault_cut k (walk.formless inside none) = formless inside none
-  fault_cut {p = p} k (walk.faulty {form = form} {n = n} {wrong = wrong} is_piece e) =
-      faulty is_piece (to_cut p form n k is_piece (IsFail wrong) (fail_blind wrong) (subst (IsFail wrong) (sym e) refl))
+  fault_cut {p = p} k (walk.faulty {form = form} {n = n} {wrong = wrong} is_lexeme e) =
+      faulty is_lexeme (to_cut p form n k is_lexeme (IsFail wrong) (fail_blind wrong) (subst (IsFail wrong) (sym e) refl))
 
-  fault_walk : {ts : List Token} {at : ℕ} {w : Fault} (mode : Mode) → Knows (place_at ts at mode) → StandsAt text ts at w →
-      IsFaultAt text (place_at ts at mode) w
+  fault_walk : {ts : List Token} {at : ℕ} {w : Fault} (mode : Mode) → Knows (point_at ts at mode) → StandsAt text ts at w →
+      IsFaultAt text (point_at ts at mode) w
   fault_walk mode k (formless inside none) = walk.formless inside none
-  fault_walk {ts = ts} {at = at} mode k (faulty {form = form} {n = n} {wrong = wrong} is_piece h) =
-      let p = place_at ts at mode in
-      walk.faulty is_piece (is_fail wrong _ (to_walk p form n k is_piece (IsFail wrong) (fail_blind wrong) h))
+  fault_walk {ts = ts} {at = at} mode k (faulty {form = form} {n = n} {wrong = wrong} is_lexeme h) =
+      let p = point_at ts at mode in
+      walk.faulty is_lexeme (is_fail wrong _ (to_walk p form n k is_lexeme (IsFail wrong) (fail_blind wrong) h))
 
   pub cover_to_cut : (tokens : List Token) → IsTokenCover text tokens → IsCut text tokens
   cover_to_cut tokens p =
       let c = reached_cut p.reached in
       record {
-        before = p.place.tokens;
-        to_end = subst (λ at. IsCutTo text p.place.tokens at) p.ends c.0;
-        all_tokens = p.all_tokens ∙ ap (λ ts. p.place.tokens ++ ts) (end_same p.place.mode p.place.tokens p.place.at c.1.agrees);
+        before = p.point.tokens;
+        to_end = subst (λ at. IsCutTo text p.point.tokens at) p.ends c.0;
+        all_tokens = p.all_tokens ∙ ap (λ ts. p.point.tokens ++ ts) (end_same p.point.mode p.point.tokens p.point.at c.1.agrees);
       }
 
   pub cut_to_cover : (tokens : List Token) → IsCut text tokens → IsTokenCover text tokens
   cut_to_cover tokens c =
       let w = cut_walk c.to_end in
       record {
-        place = place_at c.before (length text) w.0;
+        point = point_at c.before (length text) w.0;
         reached = w.1;
         ends = refl;
         all_tokens = c.all_tokens ∙ ap (λ ts. c.before ++ ts) (sym (end_same w.0 c.before (length text) w.2.agrees));
       }
 
-  pub fault_to_place : (code line : ℕ) (f : IsFirstFault text code line) → IsFaultPlace text code f.place.at
-  fault_to_place code line f =
+  pub fault_to_point : (code line : ℕ) (f : IsFirstFault text code line) → IsFaultPoint text code f.point.at
+  fault_to_point code line f =
       let c = reached_cut f.reached in
-      record { before = f.place.tokens; wrong = f.wrong; cut = c.0; stands = fault_cut c.1 f.stands; coded = f.coded }
+      record { before = f.point.tokens; wrong = f.wrong; cut = c.0; stands = fault_cut c.1 f.stands; coded = f.coded }
 
-  pub place_to_fault : (code place : ℕ) (f : IsFaultPlace text code place) → IsFirstFault text code (line_of text place)
-  place_to_fault code place f =
+  pub point_to_fault : (code point : ℕ) (f : IsFaultPoint text code point) → IsFirstFault text code (line_of text point)
+  point_to_fault code point f =
       let w = cut_walk f.cut in
       record {
-        place = place_at f.before place w.0;
+        point = point_at f.before point w.0;
         wrong = f.wrong;
         reached = w.1;
         stands = fault_walk w.0 w.2 f.stands;
@@ -520,15 +520,15 @@ module _ (text : List ℕ) where
         lined = refl;
       }
 
-  pub place_kept : (code place : ℕ) (f : IsFaultPlace text code place) → (place_to_fault code place f).place.at ≡ place
-  unfolding place_to_fault
-  place_kept code place f = refl
+  pub point_kept : (code point : ℕ) (f : IsFaultPoint text code point) → (point_to_fault code point f).point.at ≡ point
+  unfolding point_to_fault
+  point_kept code point f = refl
 
 pub cover_cuts : CoverCuts
 cover_cuts text tokens = (cover_to_cut text tokens, cut_to_cover text tokens)
 
-pub fault_places : FaultPlaces
-fault_places text code line = (
-  (λ f. (f.place.at, fault_to_place text code line f, f.lined)),
-  (λ x. subst (λ l. IsFirstFault text code l) (sym x.2) (place_to_fault text code x.0 x.1)),
+pub fault_points : FaultPoints
+fault_points text code line = (
+  (λ f. (f.point.at, fault_to_point text code line f, f.lined)),
+  (λ x. subst (λ l. IsFirstFault text code l) (sym x.2) (point_to_fault text code x.0 x.1)),
 )

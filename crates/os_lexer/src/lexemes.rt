@@ -1,28 +1,28 @@
-//! The piece of the text at a place: the longest form that stands there.
+//! The lexeme of the text at a point: the longest form that stands there.
 ghost use Rattle.std.specs.Prelude.{◌≡◌, ◌<◌, ◌≤◌, length, codes, IfSome};
-ghost use Rattle.os_lexer.specs.Reading.{piece_at, joined_line_at, slash_at, comment_at, directive_at, named_directive};
+ghost use Rattle.os_lexer.specs.Reading.{lexeme_at, joined_line_at, slash_at, comment_at, directive_at, named_directive};
 
 use crate::bytes::{Class, byte_at, class_of};
-use crate::form::{Form, Piece};
+use crate::form::{Form, Lexeme};
 use crate::marks::mark_at;
 use crate::scans::{blanks_end, comment_end, line_end, run_end};
 
 /// The longest form at the front of the bytes.
-#[tactic(auto, unfolding(crate::specs::Reading::piece_at))]
-pub(crate) fn piece_at(bytes: &[u8]) -> Option<Piece>
+#[tactic(auto, unfolding(crate::specs::Reading::lexeme_at))]
+pub(crate) fn lexeme_at(bytes: &[u8]) -> Option<Lexeme>
     requires { 0 < length bytes.now }
-    ensures { result ≡ piece_at bytes.now }
+    ensures { result ≡ lexeme_at bytes.now }
 {
     match class_of(bytes[0]) {
-        Class::White => Some(Piece {
+        Class::White => Some(Lexeme {
             form: Form::Space,
             length: 1,
         }),
-        Class::Letter => Some(Piece {
+        Class::Letter => Some(Lexeme {
             form: Form::Word,
             length: run_end(bytes, 1),
         }),
-        Class::Digit => Some(Piece {
+        Class::Digit => Some(Lexeme {
             form: Form::Number,
             length: run_end(bytes, 1),
         }),
@@ -35,17 +35,17 @@ pub(crate) fn piece_at(bytes: &[u8]) -> Option<Piece>
 
 /// The joined line that a backslash begins.
 #[tactic(auto, unfolding(crate::specs::Reading::joined_line_at))]
-fn joined_line_at(bytes: &[u8]) -> Option<Piece>
+fn joined_line_at(bytes: &[u8]) -> Option<Lexeme>
     ensures { result ≡ joined_line_at bytes.now }
 {
     if byte_at(bytes, 1) == b'\n' {
-        return Some(Piece {
+        return Some(Lexeme {
             form: Form::JoinedLine,
             length: 2,
         });
     }
     if byte_at(bytes, 1) == b'\r' && byte_at(bytes, 2) == b'\n' {
-        return Some(Piece {
+        return Some(Lexeme {
             form: Form::JoinedLine,
             length: 3,
         });
@@ -55,12 +55,12 @@ fn joined_line_at(bytes: &[u8]) -> Option<Piece>
 
 /// The comment or the mark that a slash begins.
 #[tactic(auto, unfolding(crate::specs::Reading::slash_at))]
-fn slash_at(bytes: &[u8]) -> Option<Piece>
+fn slash_at(bytes: &[u8]) -> Option<Lexeme>
     requires { 0 < length bytes.now }
     ensures { result ≡ slash_at bytes.now }
 {
     match byte_at(bytes, 1) {
-        b'/' => Some(Piece {
+        b'/' => Some(Lexeme {
             form: Form::LineComment,
             length: line_end(bytes, 2),
         }),
@@ -71,18 +71,18 @@ fn slash_at(bytes: &[u8]) -> Option<Piece>
 
 /// The comment that a `/*` begins.
 #[tactic(auto, unfolding(crate::specs::Reading::comment_at))]
-fn comment_at(bytes: &[u8]) -> Piece
+fn comment_at(bytes: &[u8]) -> Lexeme
     requires { 2 ≤ length bytes.now }
     ensures { result ≡ comment_at bytes.now }
 {
     let end = comment_end(bytes, 2);
     if end < bytes.len() {
-        Piece {
+        Lexeme {
             form: Form::BlockComment,
             length: end + 2,
         }
     } else {
-        Piece {
+        Lexeme {
             form: Form::OpenComment,
             length: bytes.len(),
         }
@@ -91,7 +91,7 @@ fn comment_at(bytes: &[u8]) -> Piece
 
 /// The directive that a `#` begins, up to the end of its word, and of its line for `include`.
 #[tactic(auto, unfolding(crate::specs::Reading::directive_at))]
-fn directive_at(bytes: &[u8]) -> Option<Piece>
+fn directive_at(bytes: &[u8]) -> Option<Lexeme>
     requires { 0 < length bytes.now }
     ensures { result ≡ directive_at bytes.now }
 {
@@ -103,7 +103,7 @@ fn directive_at(bytes: &[u8]) -> Option<Piece>
 }
 
 #[tactic(auto, unfolding(crate::specs::Reading::named_directive))]
-fn named_directive(bytes: &[u8], name_at: usize) -> Piece
+fn named_directive(bytes: &[u8], name_at: usize) -> Lexeme
     requires low { 1 ≤ name_at }
     requires within { name_at ≤ length bytes.now }
     ensures { result ≡ named_directive bytes.now name_at }
@@ -111,17 +111,17 @@ fn named_directive(bytes: &[u8], name_at: usize) -> Piece
     let end = run_end(bytes, name_at);
     let name = &bytes[name_at..end];
     if name == b"pragma".as_slice() {
-        Piece {
+        Lexeme {
             form: Form::PragmaStart,
             length: end,
         }
     } else if name == b"include".as_slice() {
-        Piece {
+        Lexeme {
             form: Form::IncludeLine,
             length: line_end(bytes, end),
         }
     } else {
-        Piece {
+        Lexeme {
             form: Form::OtherDirective,
             length: end,
         }
