@@ -20,7 +20,7 @@ use Rattle.os_ast.specs.declared.names.Form.TheVariants as form_of
 use Rattle.os_ast.specs.declared.names.Owner.{Owner}
 use Rattle.os_ast.specs.declared.names.Owner.TheVariants as owner
 use Rattle.name_resolution.specs.Codes.{least_code, lesser_code}
-use Rattle.name_resolution.specs.Findings.{note, adds_violation, means, constant_found, started, started_in, least_with, pushed}
+use Rattle.name_resolution.specs.Findings.{note, with_violation, means, constant_found, started, started_in, least_with, pushed}
 use Rattle.name_resolution.specs.Sizes.{passes_limit}
 use Rattle.name_resolution.specs.declared.found.Found.{Found}
 use Rattle.name_resolution.specs.declared.found.Found.TheVariants.{Listing, Judging}
@@ -32,33 +32,33 @@ alone true c = refl
 alone false c = refl
 
 -- another code of the same token
-recoded : (j : Judged) (m : Mark) {c d : Option ℕ} → c ≡ d → adds_violation (Judging j) m c ≡ adds_violation (Judging j) m d
-recoded j m h = ap (adds_violation (Judging j) m) h
+recoded : (j : Judged) (m : Mark) {c d : Option ℕ} → c ≡ d → with_violation (Judging j) m c ≡ with_violation (Judging j) m d
+recoded j m h = ap (with_violation (Judging j) m) h
 
 -- `break` and `continue`
-pub adds_violation-left : (f : Found) (s : Scope) (m : Mark) → adds_violation f m (least_code (when (not s.loop) 16)) ≡ note f (Left s m)
-adds_violation-left (Listing slots) s m = refl
-adds_violation-left (Judging j) s m = recoded j m (alone (not s.loop) 16)
+pub with_violation-left : (f : Found) (s : Scope) (m : Mark) → with_violation f m (least_code (when (not s.loop) 16)) ≡ note f (Left s m)
+with_violation-left (Listing slots) s m = refl
+with_violation-left (Judging j) s m = recoded j m (alone (not s.loop) 16)
 
-pub adds_violation-returned : (f : Found) (s : Scope) (m : Mark) → adds_violation f m (least_code (when (is_task_body s.owner) 18)) ≡ note f (Returned s m)
-adds_violation-returned (Listing slots) s m = refl
-adds_violation-returned (Judging j) s m = recoded j m (alone (is_task_body s.owner) 18)
+pub with_violation-returned : (f : Found) (s : Scope) (m : Mark) → with_violation f m (least_code (when (is_task_body s.owner) 18)) ≡ note f (Returned s m)
+with_violation-returned (Listing slots) s m = refl
+with_violation-returned (Judging j) s m = recoded j m (alone (is_task_body s.owner) 18)
 
-pub adds_violation-pragma : (f : Found) (s : Scope) (m : Mark) → adds_violation f m (least_code (when (not (is_main_body s.owner)) 17)) ≡ note f (Pragma s m)
-adds_violation-pragma (Listing slots) s m = refl
-adds_violation-pragma (Judging j) s m = recoded j m (alone (not (is_main_body s.owner)) 17)
+pub with_violation-pragma : (f : Found) (s : Scope) (m : Mark) → with_violation f m (least_code (when (not (is_main_body s.owner)) 17)) ≡ note f (Pragma s m)
+with_violation-pragma (Listing slots) s m = refl
+with_violation-pragma (Judging j) s m = recoded j m (alone (not (is_main_body s.owner)) 17)
 
-pub adds_violation-global : (f : Found) (s : Scope) (n : Name) → adds_violation f n.mark (least_code (when (is_declared s n.id) 12)) ≡ note f (Global s n)
-adds_violation-global (Listing slots) s n = refl
-adds_violation-global (Judging j) s n = recoded j n.mark (alone (is_declared s n.id) 12)
+pub with_violation-global : (f : Found) (s : Scope) (n : Name) → with_violation f n.mark (least_code (when (is_declared s n.id) 12)) ≡ note f (Global s n)
+with_violation-global (Listing slots) s n = refl
+with_violation-global (Judging j) s n = recoded j n.mark (alone (is_declared s n.id) 12)
 
-pub adds_violation-listed : (f : Found) (before : List ℕ) (n : Name) → adds_violation f n.mark (least_code (when (is_in n.id before) 21)) ≡ note f (Listed before n)
-adds_violation-listed (Listing slots) before n = refl
-adds_violation-listed (Judging j) before n = recoded j n.mark (alone (is_in n.id before) 21)
+pub with_violation-listed : (f : Found) (before : List ℕ) (n : Name) → with_violation f n.mark (least_code (when (is_in n.id before) 21)) ≡ note f (Listed before n)
+with_violation-listed (Listing slots) before n = refl
+with_violation-listed (Judging j) before n = recoded j n.mark (alone (is_in n.id before) 21)
 
 -- a parameter
 pub means-given : (f : Found) (s : Scope) (n : Name) →
-    means (adds_violation f n.mark (least_code (when (is_declared s n.id) 12))) n.mark (meaning (scalar_entity s.owner s.slots)) ≡ note f (Given s n)
+    means (with_violation f n.mark (least_code (when (is_declared s n.id) 12))) n.mark (meaning (scalar_entity s.owner s.slots)) ≡ note f (Given s n)
 means-given (Listing slots) s n = refl
 means-given (Judging j) s n =
     ap (λ f. means f n.mark (meaning (scalar_entity s.owner s.slots))) (recoded j n.mark (alone (is_declared s n.id) 12))
@@ -109,7 +109,7 @@ passes-same s d = same (form s d)
 
 pub means-declared : (f : Found) (s : Scope) (d : DeclaratorTree) →
     means
-    (adds_violation f d.name.mark
+    (with_violation f d.name.mark
     (lesser_code (least_code (when (is_declared s d.name.id) 12))
     (lesser_code (least_code (when (passes_limit (taken s (form s d)) (form s d)) 15)) (least_code (when (d.stream && not (is_outermost s.owner s.depth)) 17)))))
     d.name.mark (meaning (declared_entity s d))
@@ -164,4 +164,4 @@ started-task (Judging j) s m items cs =
     (λ (n : ℕ). Judging (record j { least = least_with j.least m (least_code (when (not (is_main_body s.owner)) 17 ++ (when (takes_more items n) 22 ++ []))); captured = pushed j.captured (main_task s.owner (slots_of cs)) }))
     (length-map cs (λ (c : Scalar). c.slot))
 
-pub ruleset added_notes = (adds_violation-left, adds_violation-returned, adds_violation-pragma, adds_violation-global, adds_violation-listed, means-given)
+pub ruleset added_notes = (with_violation-left, with_violation-returned, with_violation-pragma, with_violation-global, with_violation-listed, means-given)

@@ -12,7 +12,7 @@ use Rattle.os_ast.specs.declared.names.Use.{Use}
 use Rattle.name_resolution.proofs.AddedViolations.{constant-sized}
 use Rattle.name_resolution.proofs.ByCode.{by_code, used_codes}
 use Rattle.name_resolution.specs.Codes.{least_code}
-use Rattle.name_resolution.specs.Findings.{note, noted, judged, violation_added, named, constant_found, least_with, pushed}
+use Rattle.name_resolution.specs.Findings.{note, noted, judged, judged_with_violation, named, constant_found, least_with, pushed}
 use Rattle.name_resolution.specs.Sizes.{bare_name}
 use Rattle.name_resolution.specs.Uses.{use_codes}
 use Rattle.name_resolution.specs.declared.found.Found.{Found}
@@ -27,15 +27,15 @@ judged-by j s n u d h =
     h
 
 -- a name without a declaration
-pub judged-unknown : (j : Judged) (s : Scope) (n : Name) (u : Use) → None ≡ entity_of (lookup s.entries n.id) → violation_added j n.mark (Some 10) ≡ judged j (Used s n u)
+pub judged-unknown : (j : Judged) (s : Scope) (n : Name) (u : Use) → None ≡ entity_of (lookup s.entries n.id) → judged_with_violation j n.mark (Some 10) ≡ judged j (Used s n u)
 judged-unknown j s n u h = judged-by j s n u None h
 
 -- a name with one
 pub judged-known : (j : Judged) (s : Scope) (n : Name) (u : Use) (e : Entity) → Some e ≡ entity_of (lookup s.entries n.id) →
-    named (violation_added j n.mark (least_code (use_codes n.id u e))) n.mark (meaning_in s.owner s.captured e) ≡ judged j (Used s n u)
+    named (judged_with_violation j n.mark (least_code (use_codes n.id u e))) n.mark (meaning_in s.owner s.captured e) ≡ judged j (Used s n u)
 judged-known j s n u e h =
     ap
-    (λ (cs : List ℕ). named (violation_added j n.mark (least_code cs)) n.mark (meaning_in s.owner s.captured e))
+    (λ (cs : List ℕ). named (judged_with_violation j n.mark (least_code cs)) n.mark (meaning_in s.owner s.captured e))
     (by_code n.id u e)
     ∙ judged-by j s n u (Some e) h
 

@@ -55,12 +55,12 @@ noted f [] = f
 noted f (n ∷ ns) = noted (note f n) ns
 
 -- the steps of this: a violation, where there is a code
-abbrev pub violation_added : Judged → Mark → Option ℕ → Judged
-violation_added j m code = record j { least = least_with j.least m code }
+abbrev pub judged_with_violation : Judged → Mark → Option ℕ → Judged
+judged_with_violation j m code = record j { least = least_with j.least m code }
 
-abbrev pub adds_violation : Found → Mark → Option ℕ → Found
-adds_violation (Listing slots) m code = Listing slots
-adds_violation (Judging j) m code = Judging (violation_added j m code)
+abbrev pub with_violation : Found → Mark → Option ℕ → Found
+with_violation (Listing slots) m code = Listing slots
+with_violation (Judging j) m code = Judging (judged_with_violation j m code)
 
 -- what a name means
 abbrev pub named : Judged → Mark → What → Judged
@@ -82,7 +82,7 @@ task_codes owner.OfFunction items slots = 17 ∷ []
 task_codes owner.OfTask items slots = 17 ∷ []
 
 abbrev pub started_in : Judged → Owner → Mark → ℕ → List ℕ → Judged
-started_in j o m items slots = record (violation_added j m (least_code (task_codes o items slots))) { captured = pushed j.captured (main_task o slots) }
+started_in j o m items slots = record (judged_with_violation j m (least_code (task_codes o items slots))) { captured = pushed j.captured (main_task o slots) }
 
 abbrev pub started : Found → Owner → Mark → ℕ → List ℕ → Found
 started (Listing listed) o m items slots = Listing listed

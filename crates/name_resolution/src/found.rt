@@ -1,5 +1,5 @@
 ghost use Rattle.std.specs.Prelude.{◌≡◌, OnOk};
-ghost use Rattle.name_resolution.specs.Findings.{nothing_found, before, lesser, adds_violation, violation_added, means, named, constant_found, started, started_in, slots_found, judged_in};
+ghost use Rattle.name_resolution.specs.Findings.{nothing_found, before, lesser, with_violation, judged_with_violation, means, named, constant_found, started, started_in, slots_found, judged_in};
 ghost use Rattle.os_ast.specs.Rules.{when, takes_more};
 ghost use Rattle.name_resolution.specs.Codes.{least_code};
 
@@ -80,7 +80,7 @@ impl Judged {
 
     /// A token violates a rule, where there is a code.
     pub fn add_violation(&mut self, mark: Mark, code: Option<u8>)
-        ensures { self.new ≡ violation_added self.old mark code }
+        ensures { self.new ≡ judged_with_violation self.old mark code }
     {
         if let Some(code) = code {
             let violation = Violation {
@@ -130,7 +130,7 @@ impl Judged {
 impl Found {
     /// A token violates a rule, where there is a code.
     pub fn add_violation(&mut self, mark: Mark, code: Option<u8>)
-        ensures { self.new ≡ adds_violation self.old mark code }
+        ensures { self.new ≡ with_violation self.old mark code }
     {
         match self {
             Found::Listing(_) => {}
@@ -149,7 +149,7 @@ impl Found {
 
     /// A name is declared, which violates a rule where there is a code, and means this.
     pub fn declare(&mut self, mark: Mark, code: Option<u8>, what: What) -> Result<(), Memory>
-        ensures { OnOk result (self.new ≡ means (adds_violation self.old mark code) mark what) }
+        ensures { OnOk result (self.new ≡ means (with_violation self.old mark code) mark what) }
     {
         self.add_violation(mark, code);
         self.name(mark, what)

@@ -11,11 +11,11 @@ use Rattle.os_ast.specs.declared.expr.Name.{Name}
 use Rattle.os_ast.specs.declared.names.Owner.TheVariants as owner
 use Rattle.static_laws.proofs.HasRoom.{room_less, room_stmts, room_in_body, room_item, owner_item}
 use Rattle.window_check.proofs.Loops.{noted-loop}
-use Rattle.name_resolution.proofs.AddedViolations.{adds_violation-global}
+use Rattle.name_resolution.proofs.AddedViolations.{with_violation-global}
 use Rattle.name_resolution.proofs.Noted.{noted-append}
 use Rattle.window_check.proofs.Restored.{ended_function}
 use Rattle.name_resolution.specs.Codes.{least_code}
-use Rattle.name_resolution.specs.Findings.{note, noted, adds_violation}
+use Rattle.name_resolution.specs.Findings.{note, noted, with_violation}
 use Rattle.name_resolution.specs.declared.found.Found.{Found}
 use Rattle.static_laws.specs.Room.{HasRoom, stmts_weight, item_weight, items_weight, room_end}
 use Rattle.name_resolution.specs.Scopes.{around_of, ended, with_function}
@@ -40,13 +40,13 @@ function-scope s inside after end names f params body stmts ending =
 
 pub function-found : (f named given found : Found) (s begun inside : Scope) (names : List Name) (t : tree.FunctionTree) →
     names ≡ param_names t.params → begun ≡ in_function s t.name.id → inside ≡ in_body s t →
-    named ≡ adds_violation f t.name.mark (least_code (when (is_declared s t.name.id) 12)) → given ≡ noted named (params_notes begun names) →
+    named ≡ with_violation f t.name.mark (least_code (when (is_declared s t.name.id) 12)) → given ≡ noted named (params_notes begun names) →
     found ≡ noted given (stmts_notes inside t.body) → found ≡ noted f (item_notes s (tree.Function t))
 function-found f named given found s begun inside names t params begin body adding giving finding =
     let ps = params_notes (in_function s t.name.id) (param_names t.params) in
     let ss = stmts_notes (in_body s t) t.body in
     rw (finding, giving, adding, body, begin, params)
-    (ap (λ (g : Found). noted (noted g ps) ss) (adds_violation-global f s t.name) ∙ sym (noted-append (note f (Global s t.name)) ps ss))
+    (ap (λ (g : Found). noted (noted g ps) ss) (with_violation-global f s t.name) ∙ sym (noted-append (note f (Global s t.name)) ps ss))
 
 -- an item, and those behind it
 pub items_room-first : (s : Scope) (is rest : List tree.ItemTree) (i : tree.ItemTree) → is ≡ i ∷ rest → HasRoom s (items_weight is) → HasRoom s (item_weight i)

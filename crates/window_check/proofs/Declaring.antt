@@ -13,7 +13,7 @@ use Rattle.os_ast.specs.declared.names.What.{What}
 use Rattle.name_resolution.proofs.AddedViolations.{means-declared}
 use Rattle.name_resolution.proofs.Noted.{noted-append}
 use Rattle.name_resolution.specs.Codes.{least_code, lesser_code}
-use Rattle.name_resolution.specs.Findings.{note, noted, adds_violation, means}
+use Rattle.name_resolution.specs.Findings.{note, noted, with_violation, means}
 use Rattle.name_resolution.specs.Sizes.{passes_limit}
 use Rattle.name_resolution.specs.declared.found.Found.{Found}
 
@@ -22,7 +22,7 @@ pub declarator-steps : (f named size : Found) (s after declared : Scope) (d : tr
     code
     ≡ lesser_code (least_code (when (is_declared s d.name.id) 12))
     (lesser_code c (least_code (when (d.stream && not (is_outermost s.owner s.depth)) 17))) →
-    w ≡ meaning e → named ≡ means (adds_violation f d.name.mark code) d.name.mark w →
+    w ≡ meaning e → named ≡ means (with_violation f d.name.mark code) d.name.mark w →
     size ≡ noted named (sized_notes s d.stream d.size) → after ≡ taken s fm → declared ≡ declare after d.name.id e →
     noted size (value_notes declared d.first) ≡ noted f (declarator_notes s d)
 declarator-steps f named size s after declared d fm e c code w hfm he hc hcode hw hnamed hsize hafter hdeclared =

@@ -22,15 +22,15 @@ lesser-codes : (least : Option Violation) (p c d l : ℕ) → lesser (Some (less
 lesser-codes None p c d l = grind (arith, nat_tests)
 lesser-codes (Some u) p c d l = grind (arith, nat_tests)
 
-violation_added-again : (least : Option Violation) (m : Mark) (c : ℕ) (d : Option ℕ) →
+judged_with_violation-again : (least : Option Violation) (m : Mark) (c : ℕ) (d : Option ℕ) →
     least_with (Some (lesser least (violated m.place c m.line))) m d ≡ least_with least m (lesser_code (Some c) d)
-violation_added-again least m c None = refl
-violation_added-again least m c (Some d) = ap Some (lesser-codes least m.place c d m.line)
+judged_with_violation-again least m c None = refl
+judged_with_violation-again least m c (Some d) = ap Some (lesser-codes least m.place c d m.line)
 
 -- one token that violates several
 least_at : (least : Option Violation) (m : Mark) (cs : List ℕ) → least_of least (violations_at m cs) ≡ least_with least m (least_code cs)
 least_at least m [] = refl
-least_at least m (c ∷ cs) = least_at (Some (lesser least (violated m.place c m.line))) m cs ∙ violation_added-again least m c (least_code cs)
+least_at least m (c ∷ cs) = least_at (Some (lesser least (violated m.place c m.line))) m cs ∙ judged_with_violation-again least m c (least_code cs)
 
 least_of-append : (least : Option Violation) (vs ws : List Violation) → least_of least (vs ++ ws) ≡ least_of (least_of least vs) ws
 least_of-append least [] ws = refl

@@ -6,7 +6,7 @@ use Rattle.os_ast.specs.Views.{stmts_tree}
 use Rattle.os_ast.specs.declared.program.Function.{Function}
 use Rattle.window_check.proofs.Bodies.{body-scope, function-room, function-scope, function-found}
 use Rattle.static_laws.proofs.HasRoom.{room_for_body}
-use Rattle.name_resolution.specs.Findings.{adds_violation}
+use Rattle.name_resolution.specs.Findings.{with_violation}
 use Rattle.name_resolution.specs.Scopes.{around_of, ended}
 use Rattle.window_check.proofs.functions.function.Goals as goal
 
@@ -54,7 +54,7 @@ returns-clause-found c =
     let begun = c.begin_function.new.scopes in
     let inside = c.params.new.scopes in
     let body : inside ≡ in_body s f = body-scope s begun inside names f c.param_names-names.ensures c.in_ok-around.ensures.scopes c.in_ok-params.ensures.scopes in
-    let adding = c.add_violation.ensures ∙ ap (adds_violation c.args.found.now f.name.mark) c.twice.ensures in
+    let adding = c.add_violation.ensures ∙ ap (with_violation c.args.found.now f.name.mark) c.twice.ensures in
     let found = function-found c.args.found.now c.add_violation.new.self c.params.new.found c.stmts.new.found s begun inside names f
     c.param_names-names.ensures c.in_ok-around.ensures.scopes body adding c.in_ok-params.ensures.found c.in_ok-stmts.ensures.found in
     on_ok_weaker c.declare_function.result (λ _. found) c.declare_function.ensures
