@@ -63,7 +63,7 @@ keeps_place {d} {m} a label new = record {
   front = a.front;
 }
 
--- a stretch of code keeps the labels that are there
+-- added code keeps the labels that are there
 abbrev pub KeepsLabels : Emission → Type 0
 KeepsLabels f = (d : Draft) → Keeps d (f d)
 

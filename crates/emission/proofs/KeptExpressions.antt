@@ -24,7 +24,7 @@ use Rattle.os_code.specs.declared.instr.Instr.TheVariants.{Jump, JumpZero, Push,
 use Rattle.simulation.specs.Expressions.{operation}
 use Rattle.simulation.specs.Names.{aiming, calling, fetching, fetching_at, reading, reading_at, storing, storing_at}
 
--- a stretch of code behind what keeps the labels
+-- code behind what keeps the labels
 pub and_then_kept : {d m : Draft} {f : Emission} → Keeps d m → KeepsLabels f → Keeps d (f m)
 and_then_kept {d} {m} a k = then_kept a (k m)
 

@@ -32,7 +32,7 @@ use Rattle.simulation.specs.Names.{aiming, calling, fetching, fetching_at, readi
 use Rattle.simulation.specs.Tasks.{all_tasks_of, tasks_of}
 use Rattle.std.specs.Prelude.{pos}
 
--- a stretch of code that spawns nothing
+-- added code that spawns nothing
 abbrev pub SpawnsNothing : Emission → Type 0
 SpawnsNothing f = (d : Draft) → (f d).spawned ≡ d.spawned
 
