@@ -1,7 +1,8 @@
 //! What stands round the body of `main`, and what comes of its end.
 
-ghost use Rattle.std.specs.Prelude.{◌≡◌, IfOk};
+ghost use Rattle.std.specs.Prelude.{◌≡◌, IfErr, IfOk};
 ghost use Rattle.cddf_meaning.specs.Control.{control_end, control_state};
+ghost use Rattle.plain_state.specs.declared.stop.Stop.TheVariants as stops;
 
 use cddf_meaning::{Ending, Variable};
 use flow_core::ControlEnd;
@@ -13,7 +14,8 @@ use std::alloc::Global;
 /// The state round the body of `main`: `osin` is stream 0, `osout` stream 1, and `osin_len` the length of the input in
 /// bytes. That is an `int`, and else the answer is `Memory`.
 pub fn state_round(alloc: Global, input_len: u32) -> Result<State, Stop>
-    ensures { IfOk result (λ s. s ≡ control_state input_len) }
+    ensures state { IfOk result (λ s. s ≡ control_state input_len) }
+    ensures memory { IfErr result (λ stop. stop ≡ stops.Memory) }
 {
     let mut state = State::new(alloc, Vec::new(alloc));
     state.declare_streams(OSIN, 1)?;
