@@ -4,12 +4,10 @@ ghost use Rattle.flow_core.specs.Plans.{plan_meaning, sink_elements};
 ghost use Rattle.flow_core.specs.IsSound.{IsSound};
 ghost use Rattle.flow_core.specs.Serves.{Serves};
 
-use crate::gate::Gate;
-use crate::results::Results;
 use crate::rounds::run_rounds;
-use crate::worker::hire;
 use flow_core::{Board, Bodies, Ends, Plan};
 use os_io::{List, Memory};
+use round_workers::{Gate, Results, hire};
 use std::alloc::Global;
 use std::thread::Threads;
 

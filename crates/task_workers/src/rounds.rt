@@ -5,14 +5,11 @@ ghost use Rattle.flow_core.specs.IsSound.{IsSound};
 ghost use Rattle.flow_core.specs.Serves.{Serves};
 ghost use Rattle.flow_core.specs.Waits.{OpensMore};
 ghost use Rattle.flow_core.specs.Board.{IsRun};
-ghost use Rattle.task_workers.specs.Results.{AreResults, room_of};
+ghost use Rattle.round_workers.specs.Results.{AreResults, room_of};
 
-use crate::gate::Gate;
-use crate::halves::run_by;
-use crate::results::outputs_of;
-use crate::worker::Worker;
 use flow_core::{Board, Bodies, Plan, TaskEnd};
 use os_io::Memory;
+use round_workers::{Gate, Worker, outputs_of, run_by};
 use std::thread::Threads;
 
 /// How many frames are worth a thread, however short they are.

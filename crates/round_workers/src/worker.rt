@@ -4,7 +4,7 @@ ghost use Rattle.flow_core.specs.IsSound.{IsSound};
 ghost use Rattle.flow_core.specs.Serves.{Serves};
 ghost use Rattle.flow_core.specs.Counted.{IsCounted};
 ghost use Rattle.flow_core.specs.Shows.{Shows, Gives};
-ghost use Rattle.task_workers.specs.Results.{AreResults, MayRun, outputs_of, room_of};
+ghost use Rattle.round_workers.specs.Results.{AreResults, MayRun, outputs_of, room_of};
 
 use crate::gate::Gate;
 use flow_core::{Board, Bodies, Plan, TaskEnd, gather};
@@ -13,9 +13,10 @@ use std::alloc::Global;
 
 /// A worker: its number, its scratch, and the inputs of the frame that it runs.
 #[derive(Drop)]
-pub(crate) struct Worker<S> {
+pub struct Worker<S> {
     pub(crate) number: u32,
-    pub(crate) scratch: S,
+    /// What the bodies work on.
+    pub scratch: S,
     pub(crate) inputs: Vec<i32>,
 }
 
@@ -88,8 +89,9 @@ pub(crate) fn run_frames<B: Bodies, G: Gate>(
     Ok(())
 }
 
-/// So many workers, each with a scratch and with room for the inputs of any frame of a plan.
-pub(crate) fn hire<B: Bodies>(
+/// So many workers, up to 64, numbered from 0 on, each with a scratch and with room for the inputs of any
+/// frame of a plan.
+pub fn hire<B: Bodies>(
     alloc: Global,
     plan: &Plan,
     bodies: &B,

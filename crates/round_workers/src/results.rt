@@ -1,6 +1,6 @@
 ghost use Rattle.std.specs.Prelude.{◌≡◌, ◌≤◌, ◌+◌, IfOk, length, sum_by};
 ghost use Rattle.flow_core.specs.IsSound.{IsSound};
-ghost use Rattle.task_workers.specs.Results.{room_of};
+ghost use Rattle.round_workers.specs.Results.{room_of};
 
 use flow_core::{Plan, TaskEnd};
 use os_io::Memory;
@@ -8,14 +8,16 @@ use std::alloc::Global;
 
 /// Room for what the frames of a round come to.
 #[derive(Drop)]
-pub(crate) struct Results {
-    pub(crate) ends: Vec<TaskEnd>,
-    pub(crate) outputs: Vec<i32>,
+pub struct Results {
+    /// An end for each frame, in the order of the frames.
+    pub ends: Vec<TaskEnd>,
+    /// The elements that the frames write, those of one frame behind those of another.
+    pub outputs: Vec<i32>,
 }
 
 impl Results {
-    /// Room for each frame of a plan.
-    pub(crate) fn new(alloc: Global, plan: &Plan) -> Result<Results, Memory>
+    /// Room for all frames of a plan, so for those of any of its rounds.
+    pub fn new(alloc: Global, plan: &Plan) -> Result<Results, Memory>
         requires { IsSound plan.now }
         ensures ends { IfOk result (λ r. length r.ends.items ≡ length plan.now.frames) }
         ensures outputs { IfOk result (λ r. length r.outputs.items
@@ -41,8 +43,8 @@ fn all_outputs(plan: &Plan) -> usize
     count
 }
 
-/// How many elements these frames write.
-pub(crate) fn outputs_of(plan: &Plan, frames: &[u32]) -> usize
+/// How many elements these frames write together.
+pub fn outputs_of(plan: &Plan, frames: &[u32]) -> usize
     requires { room_of plan.now frames.now ≤ 4194304 }
     ensures { result ≡ room_of plan.now frames.now }
 {

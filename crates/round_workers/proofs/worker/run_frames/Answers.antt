@@ -1,7 +1,7 @@
 use Rattle.std.proofs.Common.{ap, arith, rules}
 use Rattle.flow_core.specs.declared.plan.FramePlan.{FramePlan}
-use Rattle.task_workers.proofs.Joining.{room_within, HaveRun-more}
-use Rattle.task_workers.proofs.worker.run_frames.Goals as goal
+use Rattle.round_workers.proofs.Joining.{room_within, HaveRun-more}
+use Rattle.round_workers.proofs.worker.run_frames.Goals as goal
 
 pub slice_bounds-stretch-end : goal.slice_bounds-stretch-end
 slice_bounds-stretch-end g c =

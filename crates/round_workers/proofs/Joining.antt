@@ -1,6 +1,7 @@
 -- What frames came to, one frame more, and two lists of frames as one.
 use Rattle.std.proofs.Common.{◌≡◌, ℕ, ◌+◌, ◌-◌, ◌<◌, ◌≤◌, ℤ, List, ◌++◌, length, set, take, drop, refl, sym, ap, ◌∙◌, subst, ◌⊎◌, inl, inr, arith}
-use Rattle.std.specs.Prelude.{slice_index, slice_index_or}
+use Rattle.std.specs.Prelude.{slice_index, slice_index_or, Ok, Err, OnOk}
+use Rattle.std.specs.declared.result.Result.{Result}
 use Rattle.std.specs.List.{between}
 use Rattle.std.proofs.lemmas.Bool.{cases_lt}
 use Rattle.std.proofs.lemmas.List.{get_or-set_same, get_or-set_other, length-set, length-append, get_or_append_left, get_or-append_right, take-append-le, drop_at, drop-drop, take-take, take-append-drop, length-take-le, length-drop, take_at, append_assoc}
@@ -12,7 +13,7 @@ use Rattle.flow_core.specs.declared.task_end.TaskEnd.{TaskEnd}
 use Rattle.flow_core.specs.declared.task_end.TaskEnd.TheVariants.{Done}
 use Rattle.flow_core.specs.Outcome.{State}
 use Rattle.flow_core.specs.Shows.{Gives}
-use Rattle.task_workers.specs.Results.{outputs_of, room_of, outputs_at, AreResults}
+use Rattle.round_workers.specs.Results.{outputs_of, room_of, outputs_at, AreResults}
 
 -- what a frame came to, said of equals
 pub Gives-same : (m : State) (f g : ℕ) (d e : TaskEnd) (xs ys : List ℤ) → f ≡ g → d ≡ e → xs ≡ ys → Gives m f d xs → Gives m g e ys
@@ -137,3 +138,8 @@ pub AreResults-both : (plan : Plan) (m : State) (frames front back : List ℕ) (
 AreResults-both plan m frames front back n front_ends back_ends front_outputs back_outputs at_front at_back end_each room in_front in_back =
     subst (λ (xs : List ℕ). AreResults plan m xs (front_ends ++ back_ends) (front_outputs ++ back_outputs)) (ap (λ (xs : List ℕ). xs ++ back) at_front ∙ ap (λ (xs : List ℕ). take n frames ++ xs) at_back ∙ take-append-drop n frames)
     (AreResults-append plan m front back front_ends back_ends front_outputs back_outputs end_each room in_front in_back)
+
+-- the same, where both parts were run
+pub AreResults-ran : {T E : Type 0} (r : Result T E) (plan : Plan) (m : State) (frames front back : List ℕ) (n : ℕ) (front_ends back_ends : List TaskEnd) (front_outputs back_outputs : List ℤ) → front ≡ take n frames → back ≡ drop n frames → length front_ends ≡ length front → length front_outputs ≡ room_of plan front → OnOk r (AreResults plan m front front_ends front_outputs × AreResults plan m back back_ends back_outputs) → OnOk r (AreResults plan m frames (front_ends ++ back_ends) (front_outputs ++ back_outputs))
+AreResults-ran (Ok x) plan m frames front back n front_ends back_ends front_outputs back_outputs at_front at_back end_each room both = AreResults-both plan m frames front back n front_ends back_ends front_outputs back_outputs at_front at_back end_each room both.0 both.1
+AreResults-ran (Err e) plan m frames front back n front_ends back_ends front_outputs back_outputs at_front at_back end_each room both = tt

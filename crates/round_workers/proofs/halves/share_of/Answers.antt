@@ -1,7 +1,7 @@
 use Rattle.std.proofs.Common.{arith, ◌*◌, ◌≤◌, subst}
 use Rattle.std.proofs.Math.Nat.{div-le_of_le-mul, mul_comm}
 use Rattle.std.proofs.lemmas.Nat.{mul-le}
-use Rattle.task_workers.proofs.halves.share_of.Goals as goal
+use Rattle.round_workers.proofs.halves.share_of.Goals as goal
 
 pub overflow_mul-result : goal.overflow_mul-result
 overflow_mul-result c = omega (arith, mul-le c.args.frames c.args.some 65536 64 c.requires.frames (omega (arith, c.requires.workers.0, c.requires.workers.2)))

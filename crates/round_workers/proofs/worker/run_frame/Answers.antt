@@ -3,7 +3,7 @@ use Rattle.flow_core.specs.Plans.{frame_at}
 use Rattle.flow_core.specs.Round.{gathered}
 use Rattle.flow_core.proofs.Gathering.{length-gathered}
 use Rattle.flow_core.proofs.Showing.{inputs_there, outcome_meant, part_read, length-stretch, IsSome-from}
-use Rattle.task_workers.proofs.worker.run_frame.Goals as goal
+use Rattle.round_workers.proofs.worker.run_frame.Goals as goal
 
 pub gather-requires : goal.gather-requires
 gather-requires g c =

@@ -1,11 +1,12 @@
-ghost use Rattle.std.specs.Prelude.{◌≡◌, ◌<◌, ◌≤◌, ◌+◌, All, OnOk, length};
+ghost use Rattle.std.specs.Prelude.{◌≡◌, ◌<◌, ◌≤◌, All, OnOk, length};
 ghost use denote.Param.Send.{IsSync, IsSend};
 ghost use Rattle.flow_core.specs.Plans.{plan_meaning};
 ghost use Rattle.flow_core.specs.IsSound.{IsSound};
 ghost use Rattle.flow_core.specs.Serves.{Serves};
 ghost use Rattle.flow_core.specs.Counted.{IsCounted};
 ghost use Rattle.flow_core.specs.Shows.{Shows};
-ghost use Rattle.task_workers.specs.Results.{AreResults, MayRun, room_of};
+ghost use Rattle.round_workers.specs.Results.{AreResults, MayRun, room_of};
+ghost use Rattle.round_workers.specs.Parts.{IsReadable, IsPart};
 
 use crate::gate::Gate;
 use crate::results::outputs_of;
@@ -14,9 +15,14 @@ use flow_core::{Board, Bodies, Plan, TaskEnd};
 use os_io::Memory;
 use std::thread::{Threads, join_mut};
 
-/// Runs the frames of a round by workers in threads: a part of the frames by each half of the workers.
-#[cycle(halves)]
-pub(crate) fn run_by<R: Threads + Sync, B: Bodies<Scratch = S>, G: Gate, S: Send + Drop>(
+/// Runs frames of a round by so many workers, 1 to 64, each in a thread: a part of the frames by each half
+/// of the workers. Where no thread can be made, the caller does the work.
+///
+/// The ends stand in the order of the frames, and so do the outputs, those of one frame behind those of
+/// another; what stands for the outputs of a frame that isn't done means nothing. The board is only
+/// read. The gate is called with the number of the worker and the frame before each frame runs. An error
+/// is want of memory; frames may have run then.
+pub fn run_by<R: Threads + Sync, B: Bodies<Scratch = S>, G: Gate, S: Send + Drop>(
     rt: &R,
     plan: &Plan,
     bodies: &B,
@@ -39,6 +45,31 @@ pub(crate) fn run_by<R: Threads + Sync, B: Bodies<Scratch = S>, G: Gate, S: Send
     requires frames_are_few { length frames.now ≤ 65536 }
     requires some { (0 < length workers.old) × (length workers.old ≤ 64) }
     requires fitting { All (λ w. B.fits bodies.now w.scratch) workers.old }
+    ensures results { OnOk result (AreResults plan.now (plan_meaning plan.now (B.outcome bodies.now))
+        frames.now ends.new outputs.new) }
+    ensures fitting { All (λ w. B.fits bodies.now w.scratch) workers.new }
+{
+    run_part(
+        rt, plan, bodies, board, gate, frames, ends, outputs, workers,
+    )
+}
+
+/// Runs a part of a round: by one worker in this thread, by more in halves.
+#[cycle(halves)]
+fn run_part<R: Threads + Sync, B: Bodies<Scratch = S>, G: Gate, S: Send + Drop>(
+    rt: &R,
+    plan: &Plan,
+    bodies: &B,
+    board: &Board,
+    gate: &G,
+    frames: &[u32],
+    ends: &mut [TaskEnd],
+    outputs: &mut [i32],
+    workers: &mut [Worker<S>],
+) -> Result<(), Memory>
+    requires readable { IsReadable plan.now (B.outcome bodies.now) (B.takes bodies.now) board.now }
+    requires part { IsPart plan.now board.now.waits (λ w. B.fits bodies.now w.scratch)
+        frames.now ends.old outputs.old workers.old }
     ensures results { OnOk result (AreResults plan.now (plan_meaning plan.now (B.outcome bodies.now))
         frames.now ends.new outputs.new) }
     ensures fitting { All (λ w. B.fits bodies.now w.scratch) workers.new }
@@ -74,8 +105,7 @@ pub(crate) fn run_by<R: Threads + Sync, B: Bodies<Scratch = S>, G: Gate, S: Send
         back_ends,
         back_outputs,
         second,
-    )?;
-    Ok(())
+    )
 }
 
 /// How many of the frames so many of the workers run.
@@ -87,6 +117,7 @@ fn share_of(frames: usize, some: usize, workers: usize) -> usize
     frames * some / workers
 }
 
+/// Runs two parts of a round at a time.
 #[cycle(halves)]
 fn both_halves<R: Threads + Sync, B: Bodies<Scratch = S>, G: Gate, S: Send + Drop>(
     rt: &R,
@@ -103,47 +134,28 @@ fn both_halves<R: Threads + Sync, B: Bodies<Scratch = S>, G: Gate, S: Send + Dro
     back_outputs: &mut [i32],
     second: &mut [Worker<S>],
 ) -> Result<(), Memory>
-    requires sound { IsSound plan.now }
-    requires served { Serves plan.now (B.outcome bodies.now) (B.takes bodies.now) }
-    requires counted { IsCounted plan.now board.now.cells.items board.now.waits }
-    requires shows { Shows plan.now (plan_meaning plan.now (B.outcome bodies.now))
-        board.now.cells.items board.now.ends.items }
-    requires may_run { All (MayRun plan.now board.now.waits) front.now
-        × All (MayRun plan.now board.now.waits) back.now }
-    requires end_each { (length front_ends.old ≡ length front.now) × (length back_ends.old ≡ length back.now) }
-    requires room { (length front_outputs.old ≡ room_of plan.now front.now)
-        × (length back_outputs.old ≡ room_of plan.now back.now) }
-    requires few { (room_of plan.now front.now ≤ 4194304) × (room_of plan.now back.now ≤ 4194304) }
-    requires frames_are_few { (length front.now ≤ 65536) × (length back.now ≤ 65536) }
-    requires some { (0 < length first.old) × (length first.old ≤ 64)
-        × (0 < length second.old) × (length second.old ≤ 64) }
-    requires fitting_first { All (λ w. B.fits bodies.now w.scratch) first.old }
-    requires fitting_second { All (λ w. B.fits bodies.now w.scratch) second.old }
-    ensures front { OnOk result (AreResults plan.now (plan_meaning plan.now (B.outcome bodies.now))
-        front.now front_ends.new front_outputs.new) }
-    ensures back { OnOk result (AreResults plan.now (plan_meaning plan.now (B.outcome bodies.now))
+    requires readable { IsReadable plan.now (B.outcome bodies.now) (B.takes bodies.now) board.now }
+    requires front { IsPart plan.now board.now.waits (λ w. B.fits bodies.now w.scratch)
+        front.now front_ends.old front_outputs.old first.old }
+    requires back { IsPart plan.now board.now.waits (λ w. B.fits bodies.now w.scratch)
+        back.now back_ends.old back_outputs.old second.old }
+    ensures results { OnOk result (AreResults plan.now (plan_meaning plan.now (B.outcome bodies.now))
+        front.now front_ends.new front_outputs.new
+        × AreResults plan.now (plan_meaning plan.now (B.outcome bodies.now))
         back.now back_ends.new back_outputs.new) }
-    ensures fitting_first { All (λ w. B.fits bodies.now w.scratch) first.new }
-    ensures fitting_second { All (λ w. B.fits bodies.now w.scratch) second.new }
+    ensures fitting { All (λ w. B.fits bodies.now w.scratch) first.new
+        × All (λ w. B.fits bodies.now w.scratch) second.new }
 {
     let mut one = || -> Result<(), Memory>
         requires { IsSync R.row × IsSync B.row × IsSync G.row × IsSend S.row
-            × IsSound plan.now
-            × Serves plan.now (B.outcome bodies.now) (B.takes bodies.now)
-            × IsCounted plan.now board.now.cells.items board.now.waits
-            × Shows plan.now (plan_meaning plan.now (B.outcome bodies.now)) board.now.cells.items board.now.ends.items
-            × All (MayRun plan.now board.now.waits) front.now
-            × (length front_ends.now ≡ length front.now)
-            × (length front_outputs.now ≡ room_of plan.now front.now)
-            × (room_of plan.now front.now ≤ 4194304)
-            × (length front.now ≤ 65536)
-            × (0 < length first.now) × (length first.now ≤ 64)
-            × All (λ w. B.fits bodies.now w.scratch) first.now }
+            × IsReadable plan.now (B.outcome bodies.now) (B.takes bodies.now) board.now
+            × IsPart plan.now board.now.waits (λ w. B.fits bodies.now w.scratch)
+            front.now front_ends.now front_outputs.now first.now }
         ensures { OnOk result (AreResults plan.entry.now (plan_meaning plan.entry.now (B.outcome bodies.entry.now))
             front.entry.now front_ends.exit.now front_outputs.exit.now)
             × All (λ w. B.fits bodies.entry.now w.scratch) first.exit.now }
     {
-        run_by(
+        run_part(
             rt,
             plan,
             bodies,
@@ -157,22 +169,14 @@ fn both_halves<R: Threads + Sync, B: Bodies<Scratch = S>, G: Gate, S: Send + Dro
     };
     let mut other = || -> Result<(), Memory>
         requires { IsSync R.row × IsSync B.row × IsSync G.row × IsSend S.row
-            × IsSound plan.now
-            × Serves plan.now (B.outcome bodies.now) (B.takes bodies.now)
-            × IsCounted plan.now board.now.cells.items board.now.waits
-            × Shows plan.now (plan_meaning plan.now (B.outcome bodies.now)) board.now.cells.items board.now.ends.items
-            × All (MayRun plan.now board.now.waits) back.now
-            × (length back_ends.now ≡ length back.now)
-            × (length back_outputs.now ≡ room_of plan.now back.now)
-            × (room_of plan.now back.now ≤ 4194304)
-            × (length back.now ≤ 65536)
-            × (0 < length second.now) × (length second.now ≤ 64)
-            × All (λ w. B.fits bodies.now w.scratch) second.now }
+            × IsReadable plan.now (B.outcome bodies.now) (B.takes bodies.now) board.now
+            × IsPart plan.now board.now.waits (λ w. B.fits bodies.now w.scratch)
+            back.now back_ends.now back_outputs.now second.now }
         ensures { OnOk result (AreResults plan.entry.now (plan_meaning plan.entry.now (B.outcome bodies.entry.now))
             back.entry.now back_ends.exit.now back_outputs.exit.now)
             × All (λ w. B.fits bodies.entry.now w.scratch) second.exit.now }
     {
-        run_by(
+        run_part(
             rt,
             plan,
             bodies,
@@ -185,7 +189,5 @@ fn both_halves<R: Threads + Sync, B: Bodies<Scratch = S>, G: Gate, S: Send + Dro
         )
     };
     let (a, b) = join_mut(rt, &mut one, &mut other);
-    a?;
-    b?;
-    Ok(())
+    a.and(b)
 }

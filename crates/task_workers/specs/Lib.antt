@@ -1,2 +1,0 @@
--- What the frames of a round came to.
-pub mod Results
