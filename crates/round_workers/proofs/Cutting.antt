@@ -14,10 +14,10 @@ use Rattle.flow_core.specs.Serves.{Serves}
 use Rattle.flow_core.specs.Counted.{IsCounted}
 use Rattle.flow_core.specs.Shows.{Shows}
 use Rattle.round_workers.specs.Results.{MayRun, outputs_of, room_of}
-use Rattle.round_workers.specs.Parts.{IsReadable, IsPart}
+use Rattle.round_workers.specs.Parts.{IsShared, IsPart}
 
-pub IsReadable-from : (plan : Plan) (outcome : ℕ → List ℤ → Outcome) (takes : ℕ → ℕ → ℕ → Type 0) (board : Board) → IsSound plan → Serves plan outcome takes → IsCounted plan board.cells.items board.waits → Shows plan (plan_meaning plan outcome) board.cells.items board.ends.items → IsReadable plan outcome takes board
-IsReadable-from plan outcome takes board is served counts shown = record { sound = is; served = served; counted = counts; shows = shown }
+pub IsShared-from : (plan : Plan) (outcome : ℕ → List ℤ → Outcome) (takes : ℕ → ℕ → ℕ → Type 0) (board : Board) → IsSound plan → Serves plan outcome takes → IsCounted plan board.cells.items board.waits → Shows plan (plan_meaning plan outcome) board.cells.items board.ends.items → IsShared plan outcome takes board
+IsShared-from plan outcome takes board is served counts shown = record { sound = is; served = served; counted = counts; shows = shown }
 
 pub IsPart-from : {W : Type 0} (plan : Plan) (waits : Waits) (fits : W → Type 0) (frames : List ℕ) (ends : List TaskEnd) (outputs : List ℤ) (workers : List W) → All (MayRun plan waits) frames → length ends ≡ length frames → length outputs ≡ room_of plan frames → room_of plan frames ≤ 4194304 → length frames ≤ 65536 → (0 < length workers) × (length workers ≤ 64) → All fits workers → IsPart plan waits fits frames ends outputs workers
 IsPart-from plan waits fits frames ends outputs workers may each room_is few short count fit = record { may_run = may; end_each = each; room = room_is; few = few; frames_are_few = short; some = count.0; at_most = count.1; fitting = fit }

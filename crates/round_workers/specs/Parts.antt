@@ -12,8 +12,8 @@ use Rattle.flow_core.specs.Counted.{IsCounted}
 use Rattle.flow_core.specs.Shows.{Shows}
 use Rattle.round_workers.specs.Results.{MayRun, room_of}
 
--- What all workers read: a sound plan, bodies that serve it, and a board that shows what they mean.
-pub record IsReadable (plan : Plan) (outcome : ℕ → List ℤ → Outcome) (takes : ℕ → ℕ → ℕ → Type 0) (board : Board) : Type 0 where
+-- What all workers share: a sound plan, bodies that serve it, and a board that shows what they mean.
+pub record IsShared (plan : Plan) (outcome : ℕ → List ℤ → Outcome) (takes : ℕ → ℕ → ℕ → Type 0) (board : Board) : Type 0 where
   pub sound : IsSound plan
   pub served : Serves plan outcome takes
   pub counted : IsCounted plan board.cells.items board.waits

@@ -6,7 +6,7 @@ ghost use Rattle.flow_core.specs.Serves.{Serves};
 ghost use Rattle.flow_core.specs.Counted.{IsCounted};
 ghost use Rattle.flow_core.specs.Shows.{Shows};
 ghost use Rattle.round_workers.specs.Results.{AreResults, MayRun, room_of};
-ghost use Rattle.round_workers.specs.Parts.{IsReadable, IsPart};
+ghost use Rattle.round_workers.specs.Parts.{IsShared, IsPart};
 
 use crate::gate::Gate;
 use crate::results::outputs_of;
@@ -67,7 +67,7 @@ fn run_part<R: Threads + Sync, B: Bodies<Scratch = S>, G: Gate, S: Send + Drop>(
     outputs: &mut [i32],
     workers: &mut [Worker<S>],
 ) -> Result<(), Memory>
-    requires readable { IsReadable plan.now (B.outcome bodies.now) (B.takes bodies.now) board.now }
+    requires shared { IsShared plan.now (B.outcome bodies.now) (B.takes bodies.now) board.now }
     requires part { IsPart plan.now board.now.waits (λ w. B.fits bodies.now w.scratch)
         frames.now ends.old outputs.old workers.old }
     ensures results { OnOk result (AreResults plan.now (plan_meaning plan.now (B.outcome bodies.now))
@@ -134,7 +134,7 @@ fn both_halves<R: Threads + Sync, B: Bodies<Scratch = S>, G: Gate, S: Send + Dro
     back_outputs: &mut [i32],
     second: &mut [Worker<S>],
 ) -> Result<(), Memory>
-    requires readable { IsReadable plan.now (B.outcome bodies.now) (B.takes bodies.now) board.now }
+    requires shared { IsShared plan.now (B.outcome bodies.now) (B.takes bodies.now) board.now }
     requires front { IsPart plan.now board.now.waits (λ w. B.fits bodies.now w.scratch)
         front.now front_ends.old front_outputs.old first.old }
     requires back { IsPart plan.now board.now.waits (λ w. B.fits bodies.now w.scratch)
@@ -148,7 +148,7 @@ fn both_halves<R: Threads + Sync, B: Bodies<Scratch = S>, G: Gate, S: Send + Dro
 {
     let mut one = || -> Result<(), Memory>
         requires { IsSync R.row × IsSync B.row × IsSync G.row × IsSend S.row
-            × IsReadable plan.now (B.outcome bodies.now) (B.takes bodies.now) board.now
+            × IsShared plan.now (B.outcome bodies.now) (B.takes bodies.now) board.now
             × IsPart plan.now board.now.waits (λ w. B.fits bodies.now w.scratch)
             front.now front_ends.now front_outputs.now first.now }
         ensures { OnOk result (AreResults plan.entry.now (plan_meaning plan.entry.now (B.outcome bodies.entry.now))
@@ -169,7 +169,7 @@ fn both_halves<R: Threads + Sync, B: Bodies<Scratch = S>, G: Gate, S: Send + Dro
     };
     let mut other = || -> Result<(), Memory>
         requires { IsSync R.row × IsSync B.row × IsSync G.row × IsSend S.row
-            × IsReadable plan.now (B.outcome bodies.now) (B.takes bodies.now) board.now
+            × IsShared plan.now (B.outcome bodies.now) (B.takes bodies.now) board.now
             × IsPart plan.now board.now.waits (λ w. B.fits bodies.now w.scratch)
             back.now back_ends.now back_outputs.now second.now }
         ensures { OnOk result (AreResults plan.entry.now (plan_meaning plan.entry.now (B.outcome bodies.entry.now))
