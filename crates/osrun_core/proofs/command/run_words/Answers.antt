@@ -1,4 +1,4 @@
-use Rattle.std.proofs.Common.{◌∙◌, Some, ap}
+use Rattle.std.proofs.Common.{◌∙◌, Some, ap, refl}
 use Rattle.std.specs.Prelude.{option_and_then}
 use Rattle.command_line.specs.Jobs.{request_of, run_in}
 use Rattle.osrun_core.proofs.Answered.{untroubled_answer, delivered_answer, opened_answer, refused_answer, undelivered_answer, too_long_answer}
@@ -35,3 +35,9 @@ returns-in-Ok-Run-clause-complete g c =
 pub returns-in-Ok-Run-clause-all_opened : goal.returns-in-Ok-Run-clause-all_opened
 returns-in-Ok-Run-clause-all_opened g c =
     rw (c.in-Ok-Run.ensures.request, c.in-Ok-Run.field-0-is, c.number.ensures) (opened_answer _ _ _ _ _ _ _ _ _ _ _ c.answer_job.ensures.answers)
+
+pub returns-in-Err-Refused-clause-nothing_read : goal.returns-in-Err-Refused-clause-nothing_read
+returns-in-Err-Refused-clause-nothing_read g c = λ _. refl
+
+pub returns-in-Err-Refused-clause-no_read_fault : goal.returns-in-Err-Refused-clause-no_read_fault
+returns-in-Err-Refused-clause-no_read_fault g c = λ _ _. refl
