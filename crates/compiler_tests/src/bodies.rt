@@ -11,6 +11,10 @@ use std::alloc::Global;
 use std::process::Abort;
 use std::test::Fail;
 
+/// The lines before the body of a row.
+const TASK: &str =
+    "int main(void) {\nint s __attribute__((stream)); int y;\n#pragma omp task output(s << y)\n";
+
 /// The bodies end as they mean, round the budgets that just suffice.
 fn statements_beside(rt: &impl Abort, alloc: Global, bodies: &[&str]) -> Result<(), Fail> {
     for body in bodies {
@@ -69,28 +73,38 @@ fn calls_give_what_they_mean(rt: HostRuntime) -> Result<(), Fail> {
     statements_beside(&rt, rt.alloc(), &CALLS)
 }
 
-#[test]
-fn bodies_worked_out_by_hand_end_as_they_mean(rt: HostRuntime) -> Result<(), Fail> {
-    for (body, _, _) in &BODIES {
-        let text = format!(in rt.alloc(); "{BEFORE}{body}\n}}\n")?;
-        whole_beside(&rt, rt.alloc(), text.as_str(), 0)?;
+/// The bodies of a table end as they mean; it has their ends too.
+fn bodies_beside(rt: &impl Abort, alloc: Global, rows: &[(&str, u64, &str)]) -> Result<(), Fail> {
+    for (body, _, _) in rows {
+        let text = format!(in alloc; "{BEFORE}{body}\n}}\n")?;
+        whole_beside(rt, alloc, text.as_str(), 0)?;
     }
     Ok(())
 }
 
-/// A row whose first part has a `;` is a body; any other is an expression.
 #[test]
-fn expressions_have_the_values_of_their_meaning(rt: HostRuntime) -> Result<(), Fail> {
-    let before =
-        "int main(void) {\nint s __attribute__((stream)); int y;\n#pragma omp task output(s << y)\n";
-    for (part, _) in &TABLE {
-        let body = if part.find(";").is_some() {
-            format!(in rt.alloc(); "{part}")?
-        } else {
-            format!(in rt.alloc(); "y = {part};")?
-        };
-        let text = format!(in rt.alloc(); "{FUNCTIONS}{before}{{ {body} }}\n}}\n")?;
-        whole_beside(&rt, rt.alloc(), text.as_str(), 0)?;
+fn bodies_worked_out_by_hand_end_as_they_mean(rt: HostRuntime) -> Result<(), Fail> {
+    bodies_beside(&rt, rt.alloc(), &BODIES)
+}
+
+/// The program of a row: a row whose first part has a `;` is the body of its task, and any other an expression.
+fn row_text(alloc: Global, part: &str) -> Result<String, Fail> {
+    if part.find(";").is_some() {
+        return Ok(format!(in alloc; "{FUNCTIONS}{TASK}{{ {part} }}\n}}\n")?);
+    }
+    Ok(format!(in alloc; "{FUNCTIONS}{TASK}{{ y = {part}; }}\n}}\n")?)
+}
+
+/// The expressions and bodies of a table end as they mean; it has their values too.
+fn values_beside(rt: &impl Abort, alloc: Global, rows: &[(&str, i32)]) -> Result<(), Fail> {
+    for (part, _) in rows {
+        let text = row_text(alloc, *part)?;
+        whole_beside(rt, alloc, text.as_str(), 0)?;
     }
     Ok(())
+}
+
+#[test]
+fn expressions_have_the_values_of_their_meaning(rt: HostRuntime) -> Result<(), Fail> {
+    values_beside(&rt, rt.alloc(), &TABLE)
 }

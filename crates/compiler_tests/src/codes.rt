@@ -8,6 +8,7 @@
 use crate::compiled::compile;
 use os_code::{Code, Site};
 use std::alloc::Global;
+use std::process::Abort;
 use std::test::Fail;
 
 const CODES: [(&str, &str); 9] = [
@@ -103,12 +104,17 @@ fn code_text(alloc: Global, code: &Code) -> Result<String, Fail> {
     Ok(text)
 }
 
-#[test]
-fn codes_are_those_that_were_written_out(rt: HostRuntime) -> Result<(), Fail> {
-    for (text, shown) in &CODES {
-        let compiled = compile(&rt, rt.alloc(), text)?;
-        let found = code_text(rt.alloc(), &compiled.code)?;
+/// Each text of a table is compiled to the code beside it.
+fn are_compiled_so(rt: &impl Abort, alloc: Global, rows: &[(&str, &str)]) -> Result<(), Fail> {
+    for (text, shown) in rows {
+        let compiled = compile(rt, alloc, *text)?;
+        let found = code_text(alloc, &compiled.code)?;
         assert!(rt; found.as_str() == *shown, "{text}");
     }
     Ok(())
+}
+
+#[test]
+fn codes_are_those_that_were_written_out(rt: HostRuntime) -> Result<(), Fail> {
+    are_compiled_so(&rt, rt.alloc(), &CODES)
 }

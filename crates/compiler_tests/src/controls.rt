@@ -1,10 +1,15 @@
 //! Each control program of the tables beside what it means.
 
+ghost use Rattle.std.specs.Prelude.{All, IfOk};
+ghost use Rattle.os_code.specs.Codes.{parts_of};
+ghost use Rattle.os_code.specs.Tasks.{Fits};
+
 use crate::beside::{bodies_beside, control_beside, whole_beside};
-use crate::compiled::compile;
+use crate::compiled::{Compiled, compile};
 use crate::programs::{BRANCHES, CAPTURES, CLAUSES, HIDING, OUTPUTS, SIZES, TICKS, TRAPS, WINDOWS};
 use control_run::run_control;
-use meaning_tests::case::Case;
+use flow_core::Control;
+use meaning_tests::case::{Case, Run};
 use meaning_tests::counted::{COUNTED, Counted};
 use meaning_tests::flows::FLOWS;
 use meaning_tests::programs::PROGRAMS as WORKED;
@@ -17,30 +22,61 @@ const MOST: u64 = 1_000_000_000;
 /// The longest input.
 const LONGEST: u32 = 4_194_304;
 
+/// A run of a control program, with what it makes.
+fn run_beside(
+    rt: &impl Abort,
+    alloc: Global,
+    compiled: &Compiled,
+    run: &Run,
+) -> Result<Control, Fail>
+    ensures fit { IfOk result (λ control. All (Fits (parts_of compiled.now.code)) control.activations) }
+{
+    let (input_len, budget, _) = *run;
+    control_beside(
+        rt,
+        alloc,
+        compiled,
+        input_len.min(LONGEST),
+        budget.min(MOST),
+    )
+}
+
+/// Runs of a control program, and the bodies of the first.
+fn runs_beside(
+    rt: &impl Abort,
+    alloc: Global,
+    compiled: &Compiled,
+    runs: &[Run],
+) -> Result<(), Fail> {
+    for run in runs {
+        run_beside(rt, alloc, compiled, run)?;
+    }
+    let Some(first) = runs.first() else {
+        return Ok(());
+    };
+    let control = run_beside(rt, alloc, compiled, first)?;
+    bodies_beside(rt, alloc, compiled, &control)
+}
+
 /// The runs of a case, and the bodies of the first.
 fn case_beside(rt: &impl Abort, alloc: Global, case: &Case) -> Result<(), Fail> {
     let (text, runs, _) = *case;
     let compiled = compile(rt, alloc, text)?;
-    for (number, (input_len, budget, _)) in runs.iter().enumerate() {
-        let input_len = (*input_len).min(LONGEST);
-        let budget = (*budget).min(MOST);
-        let control = control_beside(rt, alloc, &compiled, input_len, budget)?;
-        if number == 0 {
-            bodies_beside(rt, alloc, &compiled, &control)?;
-        }
+    runs_beside(rt, alloc, &compiled, runs)
+}
+
+/// Each case of a table.
+fn cases_beside(rt: &impl Abort, alloc: Global, cases: &[Case]) -> Result<(), Fail> {
+    for case in cases {
+        case_beside(rt, alloc, case)?;
     }
     Ok(())
 }
 
 #[test]
 fn worked_programs_run_as_they_mean(rt: HostRuntime) -> Result<(), Fail> {
-    for case in &WORKED {
-        case_beside(&rt, rt.alloc(), case)?;
-    }
-    for case in &FLOWS {
-        case_beside(&rt, rt.alloc(), case)?;
-    }
-    Ok(())
+    cases_beside(&rt, rt.alloc(), &WORKED)?;
+    cases_beside(&rt, rt.alloc(), &FLOWS)
 }
 
 /// Control programs and their bodies end as they mean, round the budgets that just suffice; a budget of 0 is among them.
@@ -100,28 +136,37 @@ fn counts_so(rt: &impl Abort, alloc: Global, case: &Counted) -> Result<(), Fail>
     Ok(())
 }
 
-#[test]
-fn limits_come_where_they_should(rt: HostRuntime) -> Result<(), Fail> {
-    for case in &COUNTED {
-        counts_so(&rt, rt.alloc(), case)?;
+/// Each case of a table.
+fn all_count_so(rt: &impl Abort, alloc: Global, cases: &[Counted]) -> Result<(), Fail> {
+    for case in cases {
+        counts_so(rt, alloc, case)?;
     }
     Ok(())
 }
 
-/// The program that makes 65,536 activations under a budget of 1,000,000.
 #[test]
-fn as_many_activations_as_may_be_are_those_that_are_meant(rt: HostRuntime) -> Result<(), Fail> {
-    for (text, input_len, budget, _, _) in &COUNTED {
+fn limits_come_where_they_should(rt: HostRuntime) -> Result<(), Fail> {
+    all_count_so(&rt, rt.alloc(), &COUNTED)
+}
+
+/// The programs of a table that run under a budget of 1,000,000.
+fn those_of_a_million_beside(
+    rt: &impl Abort,
+    alloc: Global,
+    cases: &[Counted],
+) -> Result<(), Fail> {
+    for (text, input_len, budget, _, _) in cases {
         if *budget == 1_000_000 {
-            let compiled = compile(&rt, rt.alloc(), *text)?;
-            control_beside(
-                &rt,
-                rt.alloc(),
-                &compiled,
-                (*input_len).min(LONGEST),
-                1_000_000,
-            )?;
+            let compiled = compile(rt, alloc, *text)?;
+            let input_len = (*input_len).min(LONGEST);
+            control_beside(rt, alloc, &compiled, input_len, 1_000_000)?;
         }
     }
     Ok(())
+}
+
+/// The program that makes 65,536 activations is among them.
+#[test]
+fn as_many_activations_as_may_be_are_those_that_are_meant(rt: HostRuntime) -> Result<(), Fail> {
+    those_of_a_million_beside(&rt, rt.alloc(), &COUNTED)
 }

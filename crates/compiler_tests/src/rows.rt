@@ -1,8 +1,11 @@
 //! Bodies whose ends follow from the rules of the language, worked out by hand.
 
+ghost use Rattle.os_code.specs.Codes.{parts_of};
+ghost use Rattle.os_code.specs.Tasks.{Fits};
+
 use crate::beside::{body_beside, control_beside};
-use crate::compiled::compile;
-use flow_core::TaskEnd;
+use crate::compiled::{Compiled, compile};
+use flow_core::{Activation, TaskEnd};
 use std::alloc::Global;
 use std::process::Abort;
 use std::test::Fail;
@@ -39,19 +42,50 @@ fn is_so(wanted: End, found: TaskEnd, elements: &[i32]) -> bool {
     }
 }
 
-/// The bodies end so on the machine, and so they mean.
+/// The activation ends so on the machine, and so it means.
+fn activation_ends_so(
+    rt: &impl Abort,
+    alloc: Global,
+    compiled: &Compiled,
+    activation: &Activation,
+    row: Row,
+) -> Result<(), Fail>
+    requires { Fits (parts_of compiled.now.code) activation.now }
+{
+    let (body, budget, end) = row;
+    let mut scratch = Scratch::new(alloc, &compiled.code)?;
+    let budget = budget.min(1_000);
+    let (found, outputs) = body_beside(rt, alloc, compiled, activation, &mut scratch, budget)?;
+    assert!(rt; is_so(end, found, outputs.as_slice()), "{body}");
+    Ok(())
+}
+
+/// The first activation of a program ends so.
+fn first_ends_so(
+    rt: &impl Abort,
+    alloc: Global,
+    compiled: &Compiled,
+    row: Row,
+) -> Result<(), Fail> {
+    let control = control_beside(rt, alloc, compiled, 0, 0)?;
+    let Some(activation) = control.activations.as_slice().first() else {
+        return Err(Fail::from("an activation"));
+    };
+    activation_ends_so(rt, alloc, compiled, activation, row)
+}
+
+/// The body of a row ends so.
+fn row_ends_so(rt: &impl Abort, alloc: Global, row: Row) -> Result<(), Fail> {
+    let (body, _, _) = row;
+    let text = format!(in alloc; "{BEFORE}{body}\n}}\n")?;
+    let compiled = compile(rt, alloc, text.as_str())?;
+    first_ends_so(rt, alloc, &compiled, row)
+}
+
+/// The bodies end so.
 fn ends_so(rt: &impl Abort, alloc: Global, rows: &[Row]) -> Result<(), Fail> {
-    for (body, budget, end) in rows {
-        let text = format!(in alloc; "{BEFORE}{body}\n}}\n")?;
-        let compiled = compile(rt, alloc, text.as_str())?;
-        let control = control_beside(rt, alloc, &compiled, 0, 0)?;
-        let Some(activation) = control.activations.as_slice().first() else {
-            return Err(Fail::from("an activation"));
-        };
-        let mut scratch = Scratch::new(alloc, &compiled.code)?;
-        let budget = (*budget).min(1_000);
-        let (found, outputs) = body_beside(rt, alloc, &compiled, activation, &mut scratch, budget)?;
-        assert!(rt; is_so(*end, found, outputs.as_slice()), "{body}");
+    for row in rows {
+        row_ends_so(rt, alloc, *row)?;
     }
     Ok(())
 }
