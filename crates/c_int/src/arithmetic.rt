@@ -9,7 +9,11 @@ use crate::trap::Trap;
 pub fn add(a: i32, b: i32) -> Result<i32, Trap>
     ensures { result ≡ operator.sum a b }
 {
-    fitting(i64::from(a) + i64::from(b), Trap::Overflow)
+    let exact = i64::from(a) + i64::from(b);
+    if (exact + 2147483648).cast_unsigned() > 4294967295 {
+        return Err(Trap::Overflow);
+    }
+    Ok(exact as i32)
 }
 
 /// `a - b`

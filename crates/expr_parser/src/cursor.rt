@@ -49,6 +49,14 @@ impl<'a> Cursor<'a> {
         }
     }
 
+    /// How many tokens are left.
+    #[tactic(auto, using(productions::proofs::Tokens::lengths))]
+    pub fn left(&self) -> usize
+        ensures { result ≡ length self.now }
+    {
+        self.rest.len()
+    }
+
     /// What the next token is.
     #[tactic(auto, using(productions::proofs::Tokens::lengths))]
     pub fn kind(&self) -> Option<Kind>

@@ -18,3 +18,4 @@ pub mod Refused
 pub mod Keeping
 pub mod Proper
 pub mod Small
+pub mod Patterns

@@ -8,7 +8,7 @@ there [] n h = absurd (omega arith)
 there (x ∷ xs) zero h = (x, refl)
 there (x ∷ xs) (suc n) h = there xs n (omega arith)
 
-slice_get-drop : {A : Type 0} (n : ℕ) (xs : List A) (k : ℕ) → slice_get (drop n xs) k ≡ slice_get xs (n + k)
+pub slice_get-drop : {A : Type 0} (n : ℕ) (xs : List A) (k : ℕ) → slice_get (drop n xs) k ≡ slice_get xs (n + k)
 slice_get-drop zero xs k = ap (slice_get xs) (let e : k ≡ 0 + k = omega arith in e)
 slice_get-drop (suc n) [] k = refl
 slice_get-drop (suc n) (x ∷ xs) k = slice_get-drop n xs k ∙ ap (slice_get (x ∷ xs)) (let e : suc (n + k) ≡ suc n + k = omega arith in e)
@@ -37,3 +37,8 @@ pub slice_get-in_range : {A : Type 0} (xs : List A) (from to place : ℕ) (x : A
 slice_get-in_range xs from to place x low high is =
     slice_get-take (to - from) (drop from xs) (place - from) (omega arith) ∙ slice_get-drop from xs (place - from)
     ∙ ap (slice_get xs) (let e : from + (place - from) ≡ place = omega arith in e) ∙ is
+
+pub within-length : {A : Type 0} (xs : List A) (n : ℕ) (x : A) → slice_get xs n ≡ Some x → n < length xs
+within-length [] n x is = cc
+within-length (y ∷ xs) zero x is = omega arith
+within-length (y ∷ xs) (suc n) x is = let low = within-length xs n x is in omega (arith, low)

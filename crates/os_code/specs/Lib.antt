@@ -20,3 +20,4 @@ pub mod Refusals
 -- What restates private functions.
 pub mod Needs
 pub mod NeedTables
+pub mod Forms

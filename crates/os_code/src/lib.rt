@@ -10,6 +10,8 @@
 #![tactic(auto)]
 
 mod code;
+mod form;
+mod forms;
 mod instr;
 pub mod laws;
 mod needs;
@@ -19,6 +21,7 @@ mod unit;
 
 pub use c_int::{Binary, Unary};
 pub use code::Code;
+pub use form::Form;
 pub use instr::Instr;
 pub use parts::Parts;
 pub use site::{Site, SiteItem};

@@ -17,4 +17,4 @@ mod reading;
 mod stmt;
 
 pub use expr_parser::ParseError;
-pub use reading::{one_reading, parse};
+pub use reading::{PlacedError, one_reading, parse, parse_placed};

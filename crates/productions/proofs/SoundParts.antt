@@ -63,7 +63,7 @@ many-sound (suc f) Is depth p d goes part ts h =
     (λ _. record { leveled = leveled.AreAll.nil; shallow = omega arith; takes = λ ps g. g })
 
 -- a part behind a comma
-comma-sound : {A : Type 0} (Is : A → Type 0) (depth : A → ℕ) (p : A → Printer) (d : ℕ) (ts : List Placed) (r : Read A) →
+pub comma-sound : {A : Type 0} (Is : A → Type 0) (depth : A → ℕ) (p : A → Printer) (d : ℕ) (ts : List Placed) (r : Read A) →
     begins (kind.Punct puncts.Comma) ts ≡ true → Sound (ReadPart Is depth p d (after ts)) r →
     Sound (ReadPart Is depth (λ y. spelling.punct puncts.Comma ⨾ p y) d ts) r
 comma-sound Is depth p d ts (got x rest) comma rx = record {
@@ -138,13 +138,13 @@ attribute-sound ts =
     λ ps g. begins-bare (kind.Key keys.Attribute) ts word _ (e1.plain _ (e2.plain _ (e3.plain _ (e4.plain _ (e5.plain ps g)))))))))))
     (λ _ ps g. g)
 
-present-is : {A : Type 0} {P : A → Type 0} {x : A} → IsOptional P (Some x) → P x
+pub present-is : {A : Type 0} {P : A → Type 0} {x : A} → IsOptional P (Some x) → P x
 present-is (leveled.IsOptional.present p) = p
 
-abbrev Sizes : ℕ → List Placed → Option IndexTree → List Placed → Type 0
+abbrev pub Sizes : ℕ → List Placed → Option IndexTree → List Placed → Type 0
 Sizes d = ReadPart (IsOptional IsIndex) index_depth (spelling.optional spelling.index) d
 
-declarator_by-sound : (d : ℕ) (b : Option Readers) (n : Name) (s : Option IndexTree) (a : Bool) (ts t1 t2 t3 : List Placed) → SoundBelow d b →
+pub declarator_by-sound : (d : ℕ) (b : Option Readers) (n : Name) (s : Option IndexTree) (a : Bool) (ts t1 t2 t3 : List Placed) → SoundBelow d b →
     Takes (spelling.name n) ts t1 → Sizes d t1 s t2 → Takes (spelling.attribute a) t2 t3 →
     Sound (ReadPart IsDeclarator declarator_depth spelling.declarator d ts) (declarator_by b n s a t3)
 declarator_by-sound d b n (Some i) true ts t1 t2 t3 h rn rs ra =
@@ -201,12 +201,12 @@ head_declare-sound d b ts h int =
     }))
 
 -- changes
-data ChangeSigns : Kind → ChangeSign → Type 0 where
+pub data ChangeSigns : Kind → ChangeSign → Type 0 where
   a_set : (a : Assign) → IsAssign a → ChangeSigns (kind.Punct (assign_mark a)) (signs.Assign a)
   a_step : (s : Step) → ChangeSigns (kind.Punct (step_mark s)) (signs.Step s)
   another : {k : Kind} → ChangeSigns k signs.Other
 
-punct-changes : (p : Punct) → ChangeSigns (kind.Punct p) (punct_change p)
+pub punct-changes : (p : Punct) → ChangeSigns (kind.Punct p) (punct_change p)
 punct-changes puncts.Set = a_set assign.Plain operators.IsAssign.plain
 punct-changes puncts.AddSet = a_set (assign.With binary.Add) (operators.IsAssign.with operators.HasAssigningForm.add)
 punct-changes puncts.SubtractSet = a_set (assign.With binary.Subtract) (operators.IsAssign.with operators.HasAssigningForm.subtract)
@@ -222,7 +222,7 @@ punct-changes puncts.Up = a_step step_of.Up
 punct-changes puncts.Down = a_step step_of.Down
 punct-changes _ = another
 
-kind-changes : (k : Kind) → ChangeSigns k (change_sign k)
+pub kind-changes : (k : Kind) → ChangeSigns k (change_sign k)
 kind-changes (kind.Punct p) = punct-changes p
 kind-changes (kind.Number n) = another
 kind-changes (kind.Name n) = another
@@ -233,7 +233,7 @@ kind-changes kind.PragmaEnd = another
 abbrev pub Changes : ℕ → List Placed → ChangeTree → List Placed → Type 0
 Changes d = ReadPart IsChange change_depth spelling.change d
 
-change_by-sound : {k : Kind} {c : ChangeSign} (d : ℕ) (b : Option Readers) (t : TargetTree) (m : Mark) (us ts : List Placed) → SoundBelow d b →
+pub change_by-sound : {k : Kind} {c : ChangeSign} (d : ℕ) (b : Option Readers) (t : TargetTree) (m : Mark) (us ts : List Placed) → SoundBelow d b →
     ReadTarget d us t (placed k m ∷ ts) → ChangeSigns k c → Sound (Changes d us) (change_by c b t (placed k m ∷ ts))
 change_by-sound d b t m us ts h rt (a_set a is) =
     sound-deeper _ d b (placed _ m ∷ ts) _ h (λ r s. sound-then _ _ (r.expr ts) _ (s.expr ts) (λ e vs re.
@@ -272,10 +272,10 @@ ended-sound P Q r f h k =
     k x us vs rx semicolon.plain))
 
 -- clauses
-abbrev Joins : Punct → ℕ → List Placed → JoinTree → List Placed → Type 0
+abbrev pub Joins : Punct → ℕ → List Placed → JoinTree → List Placed → Type 0
 Joins arrow d = ReadPart (λ j. IsOptional IsIndex j.burst) (λ j. index_depth j.burst) (spelling.join arrow) d
 
-join-sound : (arrow : Punct) (d : ℕ) (b : Option Readers) (ts : List Placed) → SoundBelow d b → begins (kind.Punct arrow) ts ≡ true →
+pub join-sound : (arrow : Punct) (d : ℕ) (b : Option Readers) (ts : List Placed) → SoundBelow d b → begins (kind.Punct arrow) ts ≡ true →
     Sound (Joins arrow d ts) (join b ts)
 unfolding join
 join-sound arrow d b ts h is =
@@ -283,14 +283,14 @@ join-sound arrow d b ts h is =
     sound-then _ _ (size b us) _ (size-sound d b us h) (λ i vs ri.
     record { leveled = ri.leveled; shallow = ri.shallow; takes = λ ps g. begins-marked (kind.Punct arrow) ts is _ (rn _ (ri.takes ps g)) }))
 
-abbrev Items : Punct → ℕ → List Placed → ClauseItemTree → List Placed → Type 0
+abbrev pub Items : Punct → ℕ → List Placed → ClauseItemTree → List Placed → Type 0
 Items arrow d = ReadPart IsClauseItem clause_item_depth (spelling.clause_item arrow) d
 
-alone-sound : (arrow : Punct) (d : ℕ) (t : TargetTree) (ts us : List Placed) → ReadTarget d ts t us → Sound (Items arrow d ts) (alone t us)
+pub alone-sound : (arrow : Punct) (d : ℕ) (t : TargetTree) (ts us : List Placed) → ReadTarget d ts t us → Sound (Items arrow d ts) (alone t us)
 alone-sound arrow d (tree.Variable n) ts us rt = record { leveled = leveled.IsClauseItem.alone; shallow = omega arith; takes = rt.takes }
 alone-sound arrow d (tree.Element n m e) ts us rt = tt
 
-clause_item-sound : (arrow : Punct) (d : ℕ) (b : Option Readers) (ts : List Placed) → SoundBelow d b → Sound (Items arrow d ts) (clause_item arrow b ts)
+pub clause_item-sound : (arrow : Punct) (d : ℕ) (b : Option Readers) (ts : List Placed) → SoundBelow d b → Sound (Items arrow d ts) (clause_item arrow b ts)
 unfolding clause_item
 clause_item-sound arrow d b ts h =
     sound-then _ _ (target b ts) _ (target-sound d b ts h) (λ t us rt.
@@ -303,7 +303,7 @@ clause_item-sound arrow d b ts h =
     }))
     (λ _. alone-sound arrow d t ts us rt))
 
-in_parens-sound : {A : Type 0} (Is : A → Type 0) (depth : A → ℕ) (p : A → Printer) (d : ℕ) (part : Reader A) (ts : List Placed) →
+pub in_parens-sound : {A : Type 0} (Is : A → Type 0) (depth : A → ℕ) (p : A → Printer) (d : ℕ) (part : Reader A) (ts : List Placed) →
     ((us : List Placed) → Sound (ReadPart Is depth p d us) (part us)) →
     Sound (ReadPart (AreListed Is) (deepest depth) (λ xs. spelling.in_parens (spelling.listed p xs)) d ts) (in_parens part ts)
 unfolding in_parens
@@ -314,18 +314,18 @@ in_parens-sound Is depth p d part ts h =
     record { leveled = rxs.leveled; shallow = rxs.shallow; takes = λ ps g. opens.plain _ (rxs.takes _ (closes.plain ps g)) })))
 
 -- a name, as a part
-data IsName : Name → Type 0 where
+pub data IsName : Name → Type 0 where
   a_name : {n : Name} → IsName n
 
-no_depth : Name → ℕ
+unfoldable pub no_depth : Name → ℕ
 no_depth n = 0
 
-name-part : (d : ℕ) (ts : List Placed) (r : Read Name) → Sound (Spelled spelling.name ts) r → Sound (ReadPart IsName no_depth spelling.name d ts) r
+pub name-part : (d : ℕ) (ts : List Placed) (r : Read Name) → Sound (Spelled spelling.name ts) r → Sound (ReadPart IsName no_depth spelling.name d ts) r
 unfolding no_depth
 name-part d ts (got n rest) h = record { leveled = a_name; shallow = omega arith; takes = h }
 name-part d ts (fails rest) h = tt
 
-firstprivate-is : {ns : List Name} → AreListed IsName ns → IsClauseKind (tree.Firstprivate ns)
+pub firstprivate-is : {ns : List Name} → AreListed IsName ns → IsClauseKind (tree.Firstprivate ns)
 firstprivate-is (leveled.AreListed.listed x xs) = leveled.IsClauseKind.firstprivate
 
 pub clause_kind-sound : (d : ℕ) (b : Option Readers) (ts : List Placed) → SoundBelow d b →
@@ -346,10 +346,10 @@ clause_kind-sound d b ts h =
     record { leveled = firstprivate-is rxs.leveled; shallow = omega arith; takes = λ ps g. begins-bare (kind.Name firstprivate_id) ts word _ (rxs.takes ps g) }))
     (λ _. tt)))
 
-abbrev ReadClause : ℕ → List Placed → ClauseTree → List Placed → Type 0
+abbrev pub ReadClause : ℕ → List Placed → ClauseTree → List Placed → Type 0
 ReadClause d = ReadPart IsClause clause_depth spelling.clause d
 
-clause-sound : (d : ℕ) (b : Option Readers) (ts : List Placed) → SoundBelow d b → Sound (ReadClause d ts) (clause b ts)
+pub clause-sound : (d : ℕ) (b : Option Readers) (ts : List Placed) → SoundBelow d b → Sound (ReadClause d ts) (clause b ts)
 unfolding clause
 clause-sound d b ts h =
     sound-if _ (begins (kind.Punct puncts.Comma) ts) _ _
@@ -358,17 +358,17 @@ clause-sound d b ts h =
     (λ _. sound-then _ _ (clause_kind b ts) _ (clause_kind-sound d b ts h) (λ k us rk.
     record { leveled = leveled.IsClause.clause rk.leveled; shallow = rk.shallow; takes = rk.takes }))
 
-abbrev IsFirst : ClauseTree → Type 0
+abbrev pub IsFirst : ClauseTree → Type 0
 IsFirst c = (c.comma ≡ false) × IsClauseKind c.kind
 
-first_clause-sound : (d : ℕ) (b : Option Readers) (ts : List Placed) → SoundBelow d b →
+pub first_clause-sound : (d : ℕ) (b : Option Readers) (ts : List Placed) → SoundBelow d b →
     Sound (ReadPart IsFirst clause_depth spelling.clause d ts) (first_clause b ts)
 unfolding first_clause
 first_clause-sound d b ts h =
     sound-then _ _ (clause_kind b ts) _ (clause_kind-sound d b ts h) (λ k us rk.
     record { leveled = (refl, rk.leveled); shallow = rk.shallow; takes = rk.takes })
 
-are-clauses : (comma : Bool) (k : ClauseKindTree) (cs : List ClauseTree) → comma ≡ false → IsClauseKind k → AreAll IsClause cs →
+pub are-clauses : (comma : Bool) (k : ClauseKindTree) (cs : List ClauseTree) → comma ≡ false → IsClauseKind k → AreAll IsClause cs →
     AreClauses (record { comma = comma; kind = k } ∷ cs)
 are-clauses false k cs e is all = leveled.AreClauses.clauses is all
 are-clauses true k cs e is all = absurd (cc e)

@@ -59,24 +59,24 @@ abbrev pub SoundDeep : ℕ → Option Inner → Type 0
 SoundDeep d None = Unit {0}
 SoundDeep d (Some r) = SoundInner d r
 
-sound-deep : {A : Type 0} (P : A → List Placed → Type 0) (d : ℕ) (s : Option Inner) (ts : List Placed) (f : Inner → Read A) →
+pub sound-deep : {A : Type 0} (P : A → List Placed → Type 0) (d : ℕ) (s : Option Inner) (ts : List Placed) (f : Inner → Read A) →
     SoundDeep d s → ((r : Inner) → SoundInner d r → Sound P (f r)) → Sound P (deep s ts f)
 sound-deep P d None ts f h k = tt
 sound-deep P d (Some r) ts f h k = k r h
 
-readers_of-sound : (d : ℕ) (s : Option Inner) → SoundDeep d s → SoundBelow d (readers_of s)
+pub readers_of-sound : (d : ℕ) (s : Option Inner) → SoundDeep d s → SoundBelow d (readers_of s)
 readers_of-sound d None h = tt
 readers_of-sound d (Some r) h = h.readers
 
 -- blocks
-are-more : {s : StmtTree} {ss : Stmts} → IsInner s → AreStmts ss → AreStmts (tree.stmt s ss)
+pub are-more : {s : StmtTree} {ss : Stmts} → IsInner s → AreStmts ss → AreStmts (tree.stmt s ss)
 are-more (a_declare ds) rest = leveled.AreStmts.declare ds rest
 are-more (a_stmt s) rest = leveled.AreStmts.stmt s rest
 
-abbrev closed : Stmts → Printer
+abbrev pub closed : Stmts → Printer
 closed ss = spelling.stmts ss ⨾ spelling.punct puncts.CloseBrace
 
-stmts-sound : (f d : ℕ) (item : Reader StmtTree) (ts : List Placed) → ((us : List Placed) → Sound (ReadInner d us) (item us)) →
+pub stmts-sound : (f d : ℕ) (item : Reader StmtTree) (ts : List Placed) → ((us : List Placed) → Sound (ReadInner d us) (item us)) →
     Sound (ReadPart AreStmts stmts_depth closed d ts) (stmts f item ts)
 unfolding stmts
 stmts-sound zero d item ts h = tt
@@ -91,15 +91,15 @@ stmts-sound (suc f) d item ts h =
       takes = λ ps g. rs.takes _ (rss.takes ps g);
     })))
 
-block-sound : (d : ℕ) (s : Option Inner) (ts : List Placed) → SoundDeep d s → Sound (ReadPart AreStmts stmts_depth closed d ts) (block s ts)
+pub block-sound : (d : ℕ) (s : Option Inner) (ts : List Placed) → SoundDeep d s → Sound (ReadPart AreStmts stmts_depth closed d ts) (block s ts)
 unfolding block inner_item
 block-sound d s ts h = stmts-sound (suc (length ts)) d (inner_item s) ts (λ us. sound-deep _ d s us _ h (λ r i. i.item us))
 
-as-inner : (d : ℕ) (ts : List Placed) (r : Read StmtTree) → Sound (ReadStmt d ts) r → Sound (ReadInner d ts) r
+pub as-inner : (d : ℕ) (ts : List Placed) (r : Read StmtTree) → Sound (ReadStmt d ts) r → Sound (ReadInner d ts) r
 as-inner d ts (got s rest) h = record { leveled = a_stmt h.leveled; shallow = h.shallow; takes = h.takes }
 as-inner d ts (fails rest) h = tt
 
-block_item-sound : (d : ℕ) (b : Option Readers) (stmt : Reader StmtTree) (ts : List Placed) → SoundBelow d b →
+pub block_item-sound : (d : ℕ) (b : Option Readers) (stmt : Reader StmtTree) (ts : List Placed) → SoundBelow d b →
     Sound (ReadStmt (suc d) ts) (stmt ts) → Sound (ReadInner (suc d) ts) (block_item b stmt ts)
 unfolding block_item
 block_item-sound d b stmt ts h s =
@@ -109,7 +109,7 @@ block_item-sound d b stmt ts h s =
     (λ _. as-inner (suc d) ts (stmt ts) s)
 
 -- conditions
-condition-sound : (d : ℕ) (r : Readers) (ts : List Placed) → SoundReaders d r →
+pub condition-sound : (d : ℕ) (r : Readers) (ts : List Placed) → SoundReaders d r →
     Sound (ReadPart IsExpr expr_depth (λ e. spelling.in_parens (spelling.expr e)) d ts) (condition r ts)
 unfolding condition
 condition-sound d r ts s =
@@ -118,16 +118,16 @@ condition-sound d r ts s =
     sound-then _ _ (expect (kind.Punct puncts.CloseParen) vs) _ (expect-sound _ vs) (λ _ ws closes.
     record { leveled = re.leveled; shallow = re.shallow; takes = λ ps g. opens.plain _ (re.takes _ (closes.plain ps g)) })))
 
-clash : (b : Bool) → b ≡ true → (b ≡ true → ⊥) → b ≡ false
+pub clash : (b : Bool) → b ≡ true → (b ≡ true → ⊥) → b ≡ false
 clash true e h = absurd (h e)
 clash false e h = refl
 
-none-left : (s : StmtTree) (rest : List Placed) (b : Bool) → takes_else s ≡ b → (takes_else s ≡ true → begins (kind.Key keys.Else) rest ≡ false) →
+pub none-left : (s : StmtTree) (rest : List Placed) (b : Bool) → takes_else s ≡ b → (takes_else s ≡ true → begins (kind.Key keys.Else) rest ≡ false) →
     begins (kind.Key keys.Else) rest ≡ true → takes_else s ≡ false
 none-left s rest true is settled e = absurd (cc (settled is, e))
 none-left s rest false is settled e = is
 
-if-sound : (d : ℕ) (s : Option Inner) (ts : List Placed) → SoundDeep d s → begins (kind.Key keys.If) ts ≡ true →
+pub if-sound : (d : ℕ) (s : Option Inner) (ts : List Placed) → SoundDeep d s → begins (kind.Key keys.If) ts ≡ true →
     Sound (ReadStmt (suc d) ts) (if_stmt s ts)
 unfolding if_stmt
 if-sound d s ts h word =
@@ -148,7 +148,7 @@ if-sound d s ts h word =
       settled = λ _. none;
     }))))
 
-while-sound : (d : ℕ) (s : Option Inner) (ts : List Placed) → SoundDeep d s → begins (kind.Key keys.While) ts ≡ true →
+pub while-sound : (d : ℕ) (s : Option Inner) (ts : List Placed) → SoundDeep d s → begins (kind.Key keys.While) ts ≡ true →
     Sound (ReadStmt (suc d) ts) (while_stmt s ts)
 unfolding while_stmt
 while-sound d s ts h word =
@@ -162,7 +162,7 @@ while-sound d s ts h word =
     })))
 
 -- how tokens begin a statement
-data Starts : Kind → StmtStart → Type 0 where
+pub data Starts : Kind → StmtStart → Type 0 where
   a_semicolon : Starts (kind.Punct puncts.Semicolon) starts.Semicolon
   a_brace : Starts (kind.Punct puncts.OpenBrace) starts.Brace
   a_name : (n : ℕ) → Starts (kind.Name n) (starts.Name n)
@@ -176,14 +176,14 @@ data Starts : Kind → StmtStart → Type 0 where
   a_pragma : Starts kind.PragmaStart starts.Pragma
   another : {k : Kind} → Starts k starts.Other
 
-punct-starts : (p : Punct) → Starts (kind.Punct p) (punct_stmt p)
+pub punct-starts : (p : Punct) → Starts (kind.Punct p) (punct_stmt p)
 punct-starts puncts.Semicolon = a_semicolon
 punct-starts puncts.OpenBrace = a_brace
 punct-starts puncts.Up = a_step step_of.Up
 punct-starts puncts.Down = a_step step_of.Down
 punct-starts _ = another
 
-key-starts : (k : Key) → Starts (kind.Key k) (key_stmt k)
+pub key-starts : (k : Key) → Starts (kind.Key k) (key_stmt k)
 key-starts keys.If = an_if
 key-starts keys.While = a_while
 key-starts keys.For = a_for
@@ -192,7 +192,7 @@ key-starts keys.Continue = a_continue
 key-starts keys.Return = a_return
 key-starts _ = another
 
-kind-starts : (k : Kind) → Starts k (stmt_start k)
+pub kind-starts : (k : Kind) → Starts k (stmt_start k)
 kind-starts (kind.Name n) = a_name n
 kind-starts (kind.Punct p) = punct-starts p
 kind-starts (kind.Key k) = key-starts k
@@ -201,7 +201,7 @@ kind-starts kind.PragmaStart = a_pragma
 kind-starts kind.PragmaEnd = another
 
 -- heads of for
-change-begun : {k : Kind} {st : StmtStart} (d : ℕ) (b : Option Readers) (m : Mark) (ts : List Placed) → SoundBelow d b → Starts k st →
+pub change-begun : {k : Kind} {st : StmtStart} (d : ℕ) (b : Option Readers) (m : Mark) (ts : List Placed) → SoundBelow d b → Starts k st →
     Sound (Changes d (placed k m ∷ ts)) (change_begun st b (placed k m ∷ ts))
 change-begun d b m ts h (a_name n) =
     sound-then _ _ (target b (placed (kind.Name n) m ∷ ts)) _ (target-sound d b _ h) (λ t us rt. change_of-sound d b t _ us h rt)
@@ -217,12 +217,12 @@ change-begun d b m ts h a_return = tt
 change-begun d b m ts h a_pragma = tt
 change-begun d b m ts h another = tt
 
-change-sound : (d : ℕ) (b : Option Readers) (ts : List Placed) → SoundBelow d b → Sound (Changes d ts) (change b ts)
+pub change-sound : (d : ℕ) (b : Option Readers) (ts : List Placed) → SoundBelow d b → Sound (Changes d ts) (change b ts)
 unfolding change
 change-sound d b [] h = tt
 change-sound d b (placed k m ∷ ts) h = change-begun d b m ts h (kind-starts k)
 
-start-sound : (d : ℕ) (b : Option Readers) (ts : List Placed) → SoundBelow d b →
+pub start-sound : (d : ℕ) (b : Option Readers) (ts : List Placed) → SoundBelow d b →
     Sound (ReadPart IsStart start_depth spelling.start d ts) (start b ts)
 unfolding start
 start-sound d b ts h =
@@ -234,7 +234,7 @@ start-sound d b ts h =
     (λ _. ended-sound (Changes d ts) _ (change b ts) tree.StartTree.Change (change-sound d b ts h) (λ c us vs rc semicolon.
     record { leveled = leveled.IsStart.change rc.leveled; shallow = rc.shallow; takes = λ ps g. rc.takes _ (semicolon ps g) })))
 
-test-sound : (d : ℕ) (r : Readers) (ts : List Placed) → SoundReaders d r →
+pub test-sound : (d : ℕ) (r : Readers) (ts : List Placed) → SoundReaders d r →
     Sound (ReadPart (IsOptional IsExpr) value_depth (λ e. spelling.optional spelling.expr e ⨾ spelling.punct puncts.Semicolon) d ts) (head_test r ts)
 unfolding head_test
 test-sound d r ts s =
@@ -243,7 +243,7 @@ test-sound d r ts s =
     (λ _. ended-sound _ _ (r.expr ts) Some (s.expr ts) (λ e us vs re semicolon.
     record { leveled = leveled.IsOptional.present re.leveled; shallow = re.shallow; takes = λ ps g. re.takes _ (semicolon ps g) }))
 
-step-sound : (d : ℕ) (b : Option Readers) (ts : List Placed) → SoundBelow d b →
+pub step-sound : (d : ℕ) (b : Option Readers) (ts : List Placed) → SoundBelow d b →
     Sound (ReadPart (IsOptional IsChange) step_depth (λ c. spelling.optional spelling.change c ⨾ spelling.punct puncts.CloseParen) d ts) (step b ts)
 unfolding step
 step-sound d b ts h =
@@ -254,20 +254,20 @@ step-sound d b ts h =
     record { leveled = leveled.IsOptional.present rc.leveled; shallow = rc.shallow; takes = λ ps g. rc.takes _ (closes.plain ps g) })))
 
 -- the head of a for
-abbrev head_spelling : HeadTree → Printer
+abbrev pub head_spelling : HeadTree → Printer
 head_spelling h =
     spelling.in_parens (spelling.start h.start ⨾ spelling.optional spelling.expr h.test ⨾ spelling.punct puncts.Semicolon ⨾ spelling.optional spelling.change h.step)
 
-record ReadHead (d : ℕ) (ts : List Placed) (h : HeadTree) (rest : List Placed) : Type 0 where
-  start : IsStart h.start
-  start_shallow : start_depth h.start ≤ d
-  test : IsOptional IsExpr h.test
-  test_shallow : value_depth h.test ≤ d
-  step : IsOptional IsChange h.step
-  step_shallow : step_depth h.step ≤ d
-  takes : Takes (head_spelling h) ts rest
+pub record ReadHead (d : ℕ) (ts : List Placed) (h : HeadTree) (rest : List Placed) : Type 0 where
+  pub start : IsStart h.start
+  pub start_shallow : start_depth h.start ≤ d
+  pub test : IsOptional IsExpr h.test
+  pub test_shallow : value_depth h.test ≤ d
+  pub step : IsOptional IsChange h.step
+  pub step_shallow : step_depth h.step ≤ d
+  pub takes : Takes (head_spelling h) ts rest
 
-head-sound : (d : ℕ) (r : Readers) (ts : List Placed) → SoundReaders d r → Sound (ReadHead d ts) (head (Some r) ts)
+pub head-sound : (d : ℕ) (r : Readers) (ts : List Placed) → SoundReaders d r → Sound (ReadHead d ts) (head (Some r) ts)
 unfolding head
 head-sound d r ts i =
     sound-then _ _ (expect (kind.Punct puncts.OpenParen) ts) _ (expect-sound _ ts) (λ _ t1 opens.
@@ -284,7 +284,7 @@ head-sound d r ts i =
       takes = λ ps g. opens.plain _ (rs.takes _ (re.takes _ (rc.takes ps g)));
     }))))
 
-for-sound : (d : ℕ) (s : Option Inner) (ts : List Placed) → SoundDeep d s → begins (kind.Key keys.For) ts ≡ true →
+pub for-sound : (d : ℕ) (s : Option Inner) (ts : List Placed) → SoundDeep d s → begins (kind.Key keys.For) ts ≡ true →
     Sound (ReadStmt (suc d) ts) (for_stmt s ts)
 unfolding for_stmt
 for-sound d s ts h word =
@@ -298,7 +298,7 @@ for-sound d s ts h word =
     })))
 
 -- a statement after which no `else` would be its own
-return-sound : (d : ℕ) (b : Option Readers) (ts : List Placed) → SoundBelow d b → begins (kind.Key keys.Return) ts ≡ true →
+pub return-sound : (d : ℕ) (b : Option Readers) (ts : List Placed) → SoundBelow d b → begins (kind.Key keys.Return) ts ≡ true →
     Sound (ReadStmt (suc d) ts) (return_stmt b ts)
 unfolding return_stmt
 return-sound d b ts h word =
@@ -310,7 +310,7 @@ return-sound d b ts h word =
       settled = λ e. absurd (cc e);
     }))
 
-changed : (d : ℕ) (us : List Placed) (c : ChangeTree) (ws xs : List Placed) → Changes d us c ws → Takes (spelling.punct puncts.Semicolon) ws xs →
+pub changed : (d : ℕ) (us : List Placed) (c : ChangeTree) (ws xs : List Placed) → Changes d us c ws → Takes (spelling.punct puncts.Semicolon) ws xs →
     ReadStmt (suc d) us (tree.StmtTree.Change c) xs
 changed d us c ws xs rc semicolon = record {
   leveled = leveled.IsStmt.change rc.leveled;
@@ -320,7 +320,7 @@ changed d us c ws xs rc semicolon = record {
 }
 
 -- the name stands before the tokens
-named-sound : (d : ℕ) (b : Option Readers) (n : Name) (us ts : List Placed) → SoundBelow d b → Takes (spelling.name n) us ts →
+pub named-sound : (d : ℕ) (b : Option Readers) (n : Name) (us ts : List Placed) → SoundBelow d b → Takes (spelling.name n) us ts →
     Sound (ReadStmt (suc d) us) (named_stmt b n ts)
 unfolding named_stmt
 named-sound d b n us ts h name =
@@ -337,10 +337,10 @@ named-sound d b n us ts h name =
     changed d us c ws xs rc semicolon)))
 
 -- pragmas
-abbrev opened : Mark → ℕ → Printer
+abbrev pub opened : Mark → ℕ → Printer
 opened m word = spelling.pragma m ⨾ spelling.omp ⨾ spelling.word word
 
-task-sound : (d : ℕ) (m : Mark) (s : Option Inner) (us ts : List Placed) → SoundDeep d s → Takes (opened m task_id) us (after ts) →
+pub task-sound : (d : ℕ) (m : Mark) (s : Option Inner) (us ts : List Placed) → SoundDeep d s → Takes (opened m task_id) us (after ts) →
     Sound (ReadStmt (suc d) us) (task m s ts)
 unfolding task
 task-sound d m s us ts h opens =
@@ -354,7 +354,7 @@ task-sound d m s us ts h opens =
       settled = rx.settled;
     }))))
 
-tick-sound : (d : ℕ) (m : Mark) (b : Option Readers) (us ts : List Placed) → SoundBelow d b → Takes (opened m tick_id) us (after ts) →
+pub tick-sound : (d : ℕ) (m : Mark) (b : Option Readers) (us ts : List Placed) → SoundBelow d b → Takes (opened m tick_id) us (after ts) →
     Sound (ReadStmt (suc d) us) (tick m b ts)
 unfolding tick ticked
 tick-sound d m b us ts h opens =
@@ -372,7 +372,7 @@ tick-sound d m b us ts h opens =
       settled = λ e. absurd (cc e);
     }))))))) (λ x rest f. sound-then _ _ (expect kind.PragmaEnd rest) _ (expect-sound _ rest) (λ _ vs ends. f vs ends.plain))
 
-taskwait-sound : (d : ℕ) (m : Mark) (us ts : List Placed) → Takes (opened m taskwait_id) us ts → Sound (ReadStmt (suc d) us) (taskwait m ts)
+pub taskwait-sound : (d : ℕ) (m : Mark) (us ts : List Placed) → Takes (opened m taskwait_id) us ts → Sound (ReadStmt (suc d) us) (taskwait m ts)
 unfolding taskwait
 taskwait-sound d m us ts opens =
     sound-then _ _ (expect kind.PragmaEnd ts) _ (expect-sound _ ts) (λ _ vs ends.
@@ -383,7 +383,7 @@ taskwait-sound d m us ts opens =
       settled = λ e. absurd (cc e);
     })
 
-pragma-sound : (d : ℕ) (s : Option Inner) (ts : List Placed) → SoundDeep d s → begins kind.PragmaStart ts ≡ true →
+pub pragma-sound : (d : ℕ) (s : Option Inner) (ts : List Placed) → SoundDeep d s → begins kind.PragmaStart ts ≡ true →
     Sound (ReadStmt (suc d) ts) (pragma s ts)
 unfolding pragma
 pragma-sound d s ts h is =
@@ -397,7 +397,7 @@ pragma-sound d s ts h is =
     (λ _. tt))))
 
 -- statements
-stmt-starts : {k : Kind} {st : StmtStart} (d : ℕ) (s : Option Inner) (m : Mark) (ts : List Placed) → SoundDeep d s → Starts k st →
+pub stmt-starts : {k : Kind} {st : StmtStart} (d : ℕ) (s : Option Inner) (m : Mark) (ts : List Placed) → SoundDeep d s → Starts k st →
     Sound (ReadStmt (suc d) (placed k m ∷ ts)) (stmt_by st s (placed k m ∷ ts))
 unfolding stmt_by
 stmt-starts d s m ts h a_semicolon =
@@ -428,7 +428,7 @@ stmt-starts d s m ts h a_return = return-sound d (readers_of s) _ (readers_of-so
 stmt-starts d s m ts h a_pragma = pragma-sound d s _ h (same-self kind.PragmaStart)
 stmt-starts d s m ts h another = tt
 
-stmt-sound : (d : ℕ) (s : Option Inner) (ts : List Placed) → SoundDeep d s → Sound (ReadStmt (suc d) ts) (stmt_on s ts)
+pub stmt-sound : (d : ℕ) (s : Option Inner) (ts : List Placed) → SoundDeep d s → Sound (ReadStmt (suc d) ts) (stmt_on s ts)
 unfolding stmt_on stmt_by
 stmt-sound d s [] h = tt
 stmt-sound d s (placed k m ∷ ts) h = stmt-starts d s m ts h (kind-starts k)
@@ -446,34 +446,34 @@ inner-sound (suc d) = record {
 }
 
 -- functions and constants
-data IsName : Name → Type 0 where
+pub data IsName : Name → Type 0 where
   any_name : {n : Name} → IsName n
 
-no_depth : Name → ℕ
+unfoldable pub no_depth : Name → ℕ
 no_depth n = 0
 
-abbrev parameter : Name → Printer
+abbrev pub parameter : Name → Printer
 parameter n = spelling.key keys.Int ⨾ spelling.name n
 
-param-part : (ts us : List Placed) (r : Read Name) → Takes (spelling.key keys.Int) ts us → Sound (Spelled spelling.name us) r →
+pub param-part : (ts us : List Placed) (r : Read Name) → Takes (spelling.key keys.Int) ts us → Sound (Spelled spelling.name us) r →
     Sound (ReadPart IsName no_depth parameter 0 ts) r
 unfolding no_depth
 param-part ts us (got n rest) int h = record { leveled = any_name; shallow = omega arith; takes = λ ps g. int _ (h ps g) }
 param-part ts us (fails rest) int h = tt
 
-param-sound : (ts : List Placed) → Sound (ReadPart IsName no_depth parameter 0 ts) (param ts)
+pub param-sound : (ts : List Placed) → Sound (ReadPart IsName no_depth parameter 0 ts) (param ts)
 unfolding param
 param-sound ts =
     sound-then _ _ (expect (kind.Key keys.Int) ts) _ (expect-sound _ ts) (λ _ us int. param-part ts us (name us) int.plain (name-sound us))
 
-names-are : {ns : List Name} → AreListed IsName ns → IsParams (params_of.Names ns)
+pub names-are : {ns : List Name} → AreListed IsName ns → IsParams (params_of.Names ns)
 names-are (leveled.AreListed.listed x xs) = leveled.IsParams.names
 
-record ReadParams (ts : List Placed) (p : Params) (rest : List Placed) : Type 0 where
+pub record ReadParams (ts : List Placed) (p : Params) (rest : List Placed) : Type 0 where
   pub leveled : IsParams p
   pub takes : Takes (spelling.params p) ts rest
 
-params-sound : (ts : List Placed) → Sound (ReadParams ts) (params ts)
+pub params-sound : (ts : List Placed) → Sound (ReadParams ts) (params ts)
 unfolding params
 params-sound ts =
     sound-if _ (begins (kind.Punct puncts.CloseParen) ts) _ _
@@ -483,10 +483,10 @@ params-sound ts =
     (λ _. sound-then _ _ (list_of param ts) _ (list_of-sound IsName no_depth parameter 0 param ts param-sound) (λ ns us rns.
     record { leveled = names-are rns.leveled; takes = rns.takes })))
 
-abbrev ReadItem : ℕ → List Placed → ItemTree → List Placed → Type 0
+abbrev pub ReadItem : ℕ → List Placed → ItemTree → List Placed → Type 0
 ReadItem d = ReadPart IsItem item_depth spelling.item d
 
-function-sound : (d : ℕ) (s : Option Inner) (ts : List Placed) → SoundDeep d s → begins (kind.Key keys.Int) ts ≡ true →
+pub function-sound : (d : ℕ) (s : Option Inner) (ts : List Placed) → SoundDeep d s → begins (kind.Key keys.Int) ts ≡ true →
     Sound (ReadItem (suc d) ts) (function s ts)
 unfolding function
 function-sound d s ts h int =
@@ -502,16 +502,16 @@ function-sound d s ts h int =
       takes = λ qs g. begins-bare (kind.Key keys.Int) ts int _ (rn _ (e2.plain _ (rps.takes _ (e4.plain _ (e5.plain _ (rss.takes qs g))))));
     }))))))
 
-record ReadNumber (ts : List Placed) (n : ℕ) (rest : List Placed) : Type 0 where
+pub record ReadNumber (ts : List Placed) (n : ℕ) (rest : List Placed) : Type 0 where
   pub small : n < 2 ^ 31
   pub takes : Takes (spelling.number n) ts rest
 
-number-cases : (n : ℕ) (m : Mark) (ts : List Placed) (b : Bool) → nat_lt n (2 ^ 31) ≡ b →
+pub number-cases : (n : ℕ) (m : Mark) (ts : List Placed) (b : Bool) → nat_lt n (2 ^ 31) ≡ b →
     Sound (ReadNumber (placed (kind.Number n) m ∷ ts)) (number_by (cond b (Some n) None) (placed (kind.Number n) m ∷ ts))
 number-cases n m ts true e = record { small = ltb-true n _ e; takes = λ ps g. means.bare g }
 number-cases n m ts false e = tt
 
-number-sound : (ts : List Placed) → Sound (ReadNumber ts) (number ts)
+pub number-sound : (ts : List Placed) → Sound (ReadNumber ts) (number ts)
 unfolding number
 number-sound [] = tt
 number-sound (placed (kind.Number n) m ∷ ts) = number-cases n m ts (nat_lt n (2 ^ 31)) refl
@@ -521,14 +521,14 @@ number-sound (placed (kind.Key k) m ∷ ts) = tt
 number-sound (placed kind.PragmaStart m ∷ ts) = tt
 number-sound (placed kind.PragmaEnd m ∷ ts) = tt
 
-minus-sound : (ts : List Placed) → Sound (Spelled spelling.sign ts) (minus ts)
+pub minus-sound : (ts : List Placed) → Sound (Spelled spelling.sign ts) (minus ts)
 unfolding minus
 minus-sound ts =
     sound-if _ (begins (kind.Punct puncts.Minus) ts) _ _
     (λ is ps g. begins-bare (kind.Punct puncts.Minus) ts is ps g)
     (λ _ ps g. g)
 
-constant-sound : (d : ℕ) (ts : List Placed) → begins (kind.Key keys.Const) ts ≡ true → Sound (ReadItem d ts) (constant ts)
+pub constant-sound : (d : ℕ) (ts : List Placed) → begins (kind.Key keys.Const) ts ≡ true → Sound (ReadItem d ts) (constant ts)
 unfolding constant
 constant-sound d ts word =
     sound-then _ _ (expect (kind.Key keys.Int) (after ts)) _ (expect-sound _ (after ts)) (λ _ t1 e1.
@@ -543,7 +543,7 @@ constant-sound d ts word =
       takes = λ ps g. begins-bare (kind.Key keys.Const) ts word _ (e1.plain _ (rn _ (e3.plain _ (rm _ (rv.takes _ (e6.plain ps g))))));
     }))))))
 
-item-sound : (d : ℕ) (s : Option Inner) (ts : List Placed) → SoundDeep d s → Sound (ReadItem (suc d) ts) (item s ts)
+pub item-sound : (d : ℕ) (s : Option Inner) (ts : List Placed) → SoundDeep d s → Sound (ReadItem (suc d) ts) (item s ts)
 unfolding item
 item-sound d s ts h =
     sound-if _ (begins (kind.Key keys.Const) ts) _ _

@@ -7,3 +7,9 @@ pub mod Stretch
 pub mod Writers
 pub mod Adding
 pub mod Walking
+-- A plan over frames, numbers and reaches, whatever they are; and the plan of an epoch.
+pub mod Weave
+pub mod EpochPlan
+pub mod Cursors
+pub mod EpochCode
+pub mod Whole

@@ -41,7 +41,7 @@ fn add_cells(cells: &mut List<Option<i32>>, input: &[u8], stretch: Stretch) -> R
 }
 
 /// The value at opening of the element at a position of a stream.
-fn opening_value(input: &[u8], stream: u32, position: u64) -> Option<i32>
+pub(crate) fn opening_value(input: &[u8], stream: u32, position: u64) -> Option<i32>
     ensures { result ≡ opening_value input.now stream position }
 {
     if stream != 0 {

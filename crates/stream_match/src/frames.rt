@@ -56,15 +56,15 @@ pub(crate) fn make_frames(alloc: Global, layout: &Layout, counts: &[u32]) -> Res
 /// How many elements spans read and write, and how many of those that they read have no value at
 /// opening.
 #[derive(Clone, Copy)]
-struct Tally {
-    inputs: u32,
-    outputs: u32,
+pub(crate) struct Tally {
+    pub(crate) inputs: u32,
+    pub(crate) outputs: u32,
     wait: u32,
 }
 
 impl Layout {
     /// The tally of the spans of a frame.
-    fn tally(&self, frame: usize) -> Tally
+    pub(crate) fn tally(&self, frame: usize) -> Tally
         requires layout { IsLayout self.now }
         requires exists { frame < frame_count self.now }
         ensures inputs { result.inputs ≡ sum_by read_count (spans_of self.now frame) }

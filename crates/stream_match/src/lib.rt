@@ -12,15 +12,29 @@
 #![tactic(auto)]
 
 mod cells;
+mod cursors;
+mod epoch;
+mod epoch_frames;
+pub mod epoch_laws;
+mod filling;
 mod frames;
+mod gather;
+mod kept;
 pub mod laws;
 mod layout;
+mod look_up;
+mod numbers;
 mod pieces;
+mod place;
 mod plan;
 mod producer;
+mod reaching;
 mod span;
 mod stretch;
 
+pub use epoch::{EpochPlan, build_epoch};
+pub use kept::Kept;
 pub use layout::Layout;
+pub use place::Place;
 pub use plan::build;
 pub use span::Span;

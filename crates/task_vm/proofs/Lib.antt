@@ -10,3 +10,4 @@ pub mod Calls
 pub mod Starting
 pub mod Looping
 pub mod Ending
+pub mod Forms

@@ -1,0 +1,56 @@
+use Rattle.std.proofs.Common.{◌+◌, ◌<◌, ◌++◌, ◌^◌, ◌∙◌, ℕ, length, get_or, take, map, ap, sym, subst, arith}
+use Rattle.std.specs.Prelude.{sum_by}
+use Rattle.std.proofs.lemmas.List.Sums.{sum_by-append}
+use Rattle.stream_match.specs.declared.span.Span.{Span}
+use Rattle.stream_match.specs.Stretch.{spans_of}
+use Rattle.stream_match.specs.Weave.{Reach, total}
+use Rattle.stream_match.specs.EpochPlan.{staying, leaving_reach, leaving_reaches}
+use Rattle.stream_match.specs.EpochCode.{stretches_from}
+use Rattle.stream_match.proofs.Behind.{few_frames, frame_few, left_few, spans_exist, spans_small, leaving_more, stretches-append}
+use Rattle.stream_match.proofs.reaching.leaving.Goals as goal
+
+pub overflow_cast-frames : goal.overflow_cast-frames
+overflow_cast-frames c = omega (arith, few_frames c.args.layout.now c.requires.layout c.args.frames.now c.requires.frames)
+
+pub add_leaving-requires-clause-room : goal.add_leaving-requires-clause-room
+add_leaving-requires-clause-room c =
+    let layout = c.args.layout.now in
+    let frames = c.args.frames.now in
+    let k = c.loop-frame.frame-index in
+    omega (arith, c.loop-frame.invariant.next, c.requires.next, left_few layout c.requires.layout frames c.requires.frames c.args.cursors.now k, frame_few layout c.requires.layout frames c.requires.frames (get_or frames k 0), ap (λ xs. sum_by (λ (s : Span). s.count) xs) c.spans_of.ensures)
+
+pub add_leaving-requires-clause-exist : goal.add_leaving-requires-clause-exist
+add_leaving-requires-clause-exist c =
+    let layout = c.args.layout.now in
+    let a = get_or c.args.frames.now c.loop-frame.frame-index 0 in
+    subst (λ xs. (k : ℕ) (d : Span) → k < length xs → (get_or xs k d).stream < length c.args.cursors.now) (sym c.spans_of.ensures)
+    (λ k d lt. subst (λ n. (get_or (spans_of layout a) k d).stream < n) (sym c.requires.cursors) (spans_exist layout c.requires.layout a k d (c.requires.frames.exist c.loop-frame.frame-index c.loop-frame-test.true) lt))
+
+pub add_leaving-requires-clause-small : goal.add_leaving-requires-clause-small
+add_leaving-requires-clause-small c =
+    let layout = c.args.layout.now in
+    let a = get_or c.args.frames.now c.loop-frame.frame-index 0 in
+    subst (λ xs. (k : ℕ) (d : Span) → k < length xs → (get_or xs k d).first + staying c.args.cursors.now (get_or xs k d) < 2 ^ 63) (sym c.spans_of.ensures)
+    (λ k d lt. spans_small layout c.requires.layout c.args.cursors.now c.requires.cursors c.requires.small a k d (c.requires.frames.exist c.loop-frame.frame-index c.loop-frame-test.true) lt)
+
+pub loop-frame-preserved : goal.loop-frame-preserved
+loop-frame-preserved c =
+    let layout = c.args.layout.now in
+    let frames = c.args.frames.now in
+    let cursors = c.args.cursors.now in
+    let k = c.loop-frame.frame-index in
+    let n = length frames in
+    let i = c.loop-frame.invariant in
+    let before = leaving_reaches layout (take k frames) cursors in
+    let here = map (leaving_reach cursors) (spans_of layout (get_or frames k 0)) in
+    let more = leaving_more layout c.requires.layout frames cursors k c.loop-frame-test.true in
+    record {
+      stretches = c.in_ok-add_leaving.ensures.stretches
+          ∙ ap (λ xs. c.loop-frame.leaving.stretches ++ stretches_from n c.loop-frame.leaving.next (map (leaving_reach cursors) xs)) c.spans_of.ensures
+          ∙ ap (λ xs. xs ++ stretches_from n c.loop-frame.leaving.next here) i.stretches
+          ∙ ap (λ m. stretches_from n c.args.next before ++ stretches_from n m here) i.next
+          ∙ sym (ap (stretches_from n c.args.next) more ∙ stretches-append n c.args.next before here);
+      next = (let a = ap total more ∙ sum_by-append (λ (x : Reach). x.count) before here in
+          let b = c.in_ok-add_leaving.ensures.next ∙ ap (λ xs. c.loop-frame.leaving.next + total (map (leaving_reach cursors) xs)) c.spans_of.ensures in
+          omega (arith, a, b, i.next));
+    }

@@ -1,0 +1,84 @@
+-- What restates private functions of the plan of an epoch.
+use Rattle.std.specs.Prelude.{◌≡◌, ℕ, ℤ, ◌+◌, ◌<◌, ◌≤◌, ◌⊎◌, List, [], ◌∷◌, Option, Some, slice_get, slice_index, length, map, sum_by, take, drop, count_by, is_none}
+use Rattle.std.specs.Option.{option_map_or}
+use Rattle.std.specs.List.{flat_map, range_with_len}
+use Rattle.flow_core.specs.declared.activation.Activation.{Activation}
+use Rattle.stream_match.specs.Layout.{IsLayoutOf}
+use Rattle.flow_core.specs.declared.plan.FramePlan.{FramePlan}
+use Rattle.flow_core.specs.declared.plan.Piece.{Piece}
+use Rattle.flow_core.specs.Place as streams
+use Rattle.flow_core.specs.Place.{places_from}
+use Rattle.epoch_law.specs.Epoch as epoch
+use Rattle.epoch_law.specs.Epoch.{number_in}
+use Rattle.stream_match.specs.declared.kept.Kept.{Kept}
+use Rattle.stream_match.specs.declared.place.Place.{Place}
+use Rattle.stream_match.specs.declared.layout.Layout.{Layout}
+use Rattle.stream_match.specs.declared.stretch.Stretch.{Stretch}
+use Rattle.stream_match.specs.Stretch.{read_count, write_count, spans_of, pieces_into, pieces_from, by_frame}
+use Rattle.stream_match.specs.Weave.{Reach}
+use Rattle.stream_match.specs.EpochPlan.{read_reach, epoch_value}
+
+-- a place, and a kept element, as the meaning has them
+abbrev pub place_of : Place → streams.Place
+place_of p = record { stream = p.stream; position = p.position }
+
+abbrev pub kept_of : Kept → epoch.Kept
+kept_of k = record { place = record { stream = k.stream; position = k.position }; value = k.value }
+
+-- the numbers ascend
+abbrev pub Ascend : List ℕ → Type 0
+Ascend frames = (i j : ℕ) → i < j → j < length frames → slice_index frames i < slice_index frames j
+
+-- a kept element lies before a place: on an earlier stream, or at an earlier position
+abbrev pub LiesBefore : ℕ → ℕ → Kept → Type 0
+LiesBefore stream position k = (k.stream < stream) ⊎ ((k.stream ≡ stream) × (k.position < position))
+
+-- kept elements by their places
+abbrev pub AreSorted : List Kept → Type 0
+AreSorted kept = (i j : ℕ) (k l : Kept) → i < j → slice_get kept i ≡ Some k → slice_get kept j ≡ Some l → (k.stream < l.stream) ⊎ ((k.stream ≡ l.stream) × (k.position ≤ l.position))
+
+-- a piece by the number of its frame, or none where it comes from no frame
+abbrev pub renumbered : List ℕ → Piece → List Piece
+renumbered frames p = option_map_or (λ f. record { from = f; to = p.to; first = p.first; count = p.count; at = p.at } ∷ []) (number_in frames p.from) []
+
+-- the pieces into a stretch from the frames
+abbrev pub pieces_for : Layout → List ℕ → Stretch → List Piece
+pieces_for layout frames stretch = flat_map (renumbered frames) (pieces_into layout stretch)
+
+-- the cells of a stretch
+abbrev pub filled_cells : List ℕ → List Kept → Stretch → List (Option ℤ)
+filled_cells input kept stretch = map (epoch_value input (map kept_of kept) stretch.stream) (range_with_len stretch.first stretch.count)
+
+-- the places of a stretch
+abbrev pub stretch_places : Stretch → List streams.Place
+stretch_places stretch = places_from stretch.stream stretch.first stretch.count
+
+-- the stretches of reaches into a frame, from a first cell on
+abbrev pub stretches_from : ℕ → ℕ → List Reach → List Stretch
+stretches_from to at [] = []
+stretches_from to at (r ∷ rs) = record { to = to; stream = r.stream; first = r.first; count = r.count; at = at } ∷ stretches_from to (at + r.count) rs
+
+-- how many cells the first frames read
+abbrev pub reads_before : Layout → List ℕ → ℕ → ℕ
+reads_before layout frames f = sum_by (λ a. sum_by read_count (spans_of layout a)) (take f frames)
+
+-- what the frame of a number reads
+abbrev pub read_part : Layout → List ℕ → ℕ → List Stretch
+read_part layout frames f = stretches_from f (reads_before layout frames f) (map read_reach (spans_of layout (slice_index frames f)))
+
+-- the frame of a number, by all pieces and cells
+abbrev pub epoch_frame : Layout → List ℕ → List Piece → List (Option ℤ) → ℕ → FramePlan
+epoch_frame layout frames pieces cells f = record {
+  cell = reads_before layout frames f;
+  inputs = sum_by read_count (spans_of layout (slice_index frames f));
+  outputs = sum_by write_count (spans_of layout (slice_index frames f));
+  wait = count_by is_none (take (sum_by read_count (spans_of layout (slice_index frames f))) (drop (reads_before layout frames f) cells));
+  piece = length (by_frame pieces f);
+  pieces = length (pieces_from pieces f);
+}
+
+-- What is kept lies outside of the frames, for some activations of the layout.
+pub record IsKeptOutside (layout : Layout) (frames : List ℕ) (kept : List epoch.Kept) : Type 0 where
+  pub activations : List Activation
+  pub is_of : IsLayoutOf layout activations
+  pub outside : epoch.IsOutside activations frames kept

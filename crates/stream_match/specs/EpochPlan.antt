@@ -1,0 +1,87 @@
+-- The plan of an epoch, by the layout of all activations so far.
+use Rattle.std.specs.Prelude.{◌≡◌, ℕ, ℤ, ◌+◌, ◌-◌, ◌<◌, ◌==◌, nat_lt, if◌then◌else◌, List, Option, Some, None, All, slice_index, length, map, sum_by}
+use Rattle.std.specs.Option.{option_map_or}
+use Rattle.std.specs.List.{flat_map, range_with_len}
+use Rattle.flow_core.specs.declared.activation.Activation.{Activation}
+use Rattle.flow_core.specs.declared.plan.Plan.{Plan}
+use Rattle.flow_core.specs.IsSound.{IsSound}
+use Rattle.flow_core.specs.Window.{Window, producer}
+use Rattle.flow_core.specs.Place.{Place}
+use Rattle.epoch_law.specs.Epoch.{Kept, number_in, value_kept, read_from, StandsForEpoch}
+use Rattle.stream_match.specs.declared.span.Span.{Span}
+use Rattle.stream_match.specs.declared.layout.Layout.{Layout}
+use Rattle.stream_match.specs.Layout.{IsLayout, IsLayoutOf}
+use Rattle.stream_match.specs.Stretch.{frame_count, read_count, write_count, spans_of, opening_value}
+use Rattle.stream_match.specs.Weave.{Reach, Weave, IsWoven, reach_places}
+
+-- Activations of a layout, ascending.
+pub record AreFrames (layout : Layout) (frames : List ℕ) : Type 0 where
+  pub exist : (i : ℕ) → i < length frames → slice_index frames i < frame_count layout
+  pub ascend : (i j : ℕ) → i < j → j < length frames → slice_index frames i < slice_index frames j
+
+-- each kept element was written by an activation that is no frame
+abbrev pub WrittenOutside : List Activation → List ℕ → List Kept → Type 0
+WrittenOutside activations frames kept = All (λ (k : Kept). (w : Window) × (producer activations k.place.stream k.place.position ≡ Some w) × (number_in frames w.activation ≡ None)) kept
+
+-- what a span reads
+abbrev pub read_reach : Span → Reach
+read_reach span = record { stream = span.stream; first = span.first; count = read_count span }
+
+-- from where on the elements of a stream leave an epoch, by the least positions that are still read
+abbrev pub leaves_from : List ℕ → ℕ → ℕ
+leaves_from cursors stream = if stream == 1 then 0 else slice_index cursors stream
+
+-- how many positions of a span lie before the first one that leaves
+abbrev pub staying : List ℕ → Span → ℕ
+staying cursors span = leaves_from cursors span.stream - span.first
+
+-- what a span writes that leaves
+abbrev pub leaving_reach : List ℕ → Span → Reach
+leaving_reach cursors span = record { stream = span.stream; first = span.first + staying cursors span; count = write_count span - staying cursors span }
+
+-- what leaves the frames
+abbrev pub leaving_reaches : Layout → List ℕ → List ℕ → List Reach
+leaving_reaches layout frames cursors = flat_map (λ a. map (leaving_reach cursors) (spans_of layout a)) frames
+
+-- the reaches of the frame of a number, and of the sink
+abbrev pub reaches_over : Layout → List ℕ → List Reach → ℕ → List Reach
+reaches_over layout frames sink f = if nat_lt f (length frames) then map read_reach (spans_of layout (slice_index frames f)) else sink
+
+abbrev pub epoch_reaches : Layout → List ℕ → List ℕ → ℕ → List Reach
+epoch_reaches layout frames cursors = reaches_over layout frames (leaving_reaches layout frames cursors)
+
+-- the value at opening: what is kept, or else the input's byte
+abbrev pub epoch_value : List ℕ → List Kept → ℕ → ℕ → Option ℤ
+epoch_value input kept stream position = option_map_or (λ v. Some v) (value_kept kept (record { stream = stream; position = position })) (opening_value input stream position)
+
+-- frames of a layout that read what they read, and a sink
+abbrev pub weave_over : Layout → List ℕ → List ℕ → List Kept → List Reach → Weave
+weave_over layout input frames kept sink = record {
+  frames = length frames;
+  number = number_in frames;
+  reaches = reaches_over layout frames sink;
+  value = epoch_value input kept;
+  outputs = λ f. sum_by write_count (spans_of layout (slice_index frames f));
+}
+
+-- an epoch: the sink takes what leaves
+abbrev pub epoch_weave : Layout → List ℕ → List ℕ → List Kept → List ℕ → Weave
+epoch_weave layout input frames kept cursors = weave_over layout input frames kept (leaving_reaches layout frames cursors)
+
+-- The plan of an epoch, and the places of its sink cells.
+pub record IsEpochPlanOf (layout : Layout) (input : List ℕ) (frames : List ℕ) (kept : List Kept) (cursors : List ℕ) (plan : Plan) (places : List Place) : Type 0 where
+  pub woven : IsWoven layout (epoch_weave layout input frames kept cursors) plan
+  pub places_are : places ≡ flat_map reach_places (leaving_reaches layout frames cursors)
+
+-- Each such plan is sound, where what is kept was written by others.
+abbrev pub EpochPlansAreSound : Type 0
+EpochPlansAreSound =
+    (layout : Layout) (input : List ℕ) (frames : List ℕ) (kept : List Kept) (cursors : List ℕ) (plan : Plan) (places : List Place) (activations : List Activation)
+    → IsLayout layout → IsLayoutOf layout activations → AreFrames layout frames → WrittenOutside activations frames kept → IsEpochPlanOf layout input frames kept cursors plan places → IsSound plan
+
+-- And it stands for the epoch, where the cursors say what is still read.
+abbrev pub EpochPlansStand : Type 0
+EpochPlansStand =
+    (layout : Layout) (input : List ℕ) (frames : List ℕ) (kept : List Kept) (cursors : List ℕ) (plan : Plan) (places : List Place) (activations : List Activation)
+    → IsLayout layout → IsLayoutOf layout activations → AreFrames layout frames → WrittenOutside activations frames kept → cursors ≡ map (read_from activations frames) (range_with_len 0 (length layout.writers))
+    → IsEpochPlanOf layout input frames kept cursors plan places → StandsForEpoch plan activations input frames kept places

@@ -1,0 +1,30 @@
+-- The plan of a whole run, as a plan over reaches: all activations are frames, nothing is kept, and the sink
+-- takes the output from its beginning.
+use Rattle.std.specs.Prelude.{ℕ, List, [], ◌∷◌, slice_index}
+use Rattle.std.specs.List.{range_with_len}
+use Rattle.flow_core.specs.declared.activation.Activation.{Activation}
+use Rattle.flow_core.specs.declared.plan.Plan.{Plan}
+use Rattle.flow_core.specs.IsSound.{IsSound}
+use Rattle.flow_core.specs.StandsFor.{StandsFor}
+use Rattle.stream_match.specs.declared.layout.Layout.{Layout}
+use Rattle.stream_match.specs.Layout.{IsLayout, IsLayoutOf}
+use Rattle.stream_match.specs.Stretch.{frame_count}
+use Rattle.stream_match.specs.Weave.{Reach, Weave, IsWoven}
+use Rattle.stream_match.specs.EpochPlan.{weave_over}
+
+abbrev pub all_frames : Layout → List ℕ
+all_frames layout = range_with_len 0 (frame_count layout)
+
+abbrev pub output_reach : Layout → Reach
+output_reach layout = record { stream = 1; first = 0; count = slice_index layout.writes 1 }
+
+abbrev pub whole_weave : Layout → List ℕ → Weave
+whole_weave layout input = weave_over layout input (all_frames layout) [] (output_reach layout ∷ [])
+
+-- such a plan is sound
+abbrev pub WholePlansAreSound : Type 0
+WholePlansAreSound = (layout : Layout) (input : List ℕ) (plan : Plan) → IsLayout layout → IsWoven layout (whole_weave layout input) plan → IsSound plan
+
+-- and stands for the activations and the input
+abbrev pub WholePlansStand : Type 0
+WholePlansStand = (layout : Layout) (input : List ℕ) (plan : Plan) (activations : List Activation) → IsLayout layout → IsLayoutOf layout activations → IsWoven layout (whole_weave layout input) plan → StandsFor plan activations input

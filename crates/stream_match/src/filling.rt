@@ -1,0 +1,84 @@
+ghost use Rattle.std.specs.Prelude.{◌≡◌, ◌+◌, ◌++◌, ◌^◌, ◌<◌, ◌≤◌, All, IfOk, OnOk, count_by, is_none, length, map};
+ghost use Rattle.std.specs.List.{flat_map};
+ghost use Rattle.stream_match.specs.declared.stretch.Stretch.{Stretch};
+ghost use Rattle.stream_match.specs.EpochCode.{AreSorted, filled_cells, place_of, stretch_places};
+
+use crate::kept::Kept;
+use crate::look_up::epoch_value;
+use crate::place::Place;
+use crate::stretch::Stretch;
+use os_io::{List, Memory};
+
+/// Adds the cells of stretches, with their values at opening.
+pub(crate) fn fill(
+    cells: &mut List<Option<i32>>,
+    kept: &[Kept],
+    input: &[u8],
+    stretches: &[Stretch],
+) -> Result<(), Memory>
+    requires kept { AreSorted kept.now }
+    requires small { All (λ (s : Stretch). s.first + s.count < 2 ^ 64) stretches.now }
+    ensures { OnOk result (cells.new ≡ cells.old ++ flat_map (filled_cells input.now kept.now) stretches.now) }
+{
+    for stretch in stretches {
+        fill_one(cells, kept, input, *stretch)?;
+    }
+    Ok(())
+}
+
+/// Adds the cells of a stretch.
+fn fill_one(
+    cells: &mut List<Option<i32>>,
+    kept: &[Kept],
+    input: &[u8],
+    stretch: Stretch,
+) -> Result<(), Memory>
+    requires kept { AreSorted kept.now }
+    requires small { stretch.first + stretch.count < 2 ^ 64 }
+    ensures { OnOk result (cells.new ≡ cells.old ++ filled_cells input.now kept.now stretch) }
+{
+    for offset in 0..stretch.count {
+        let position = stretch.first + u64::from(offset);
+        cells.push(epoch_value(kept, input, stretch.stream, position))?;
+    }
+    Ok(())
+}
+
+/// Adds the places of stretches.
+pub(crate) fn add_places(places: &mut List<Place>, stretches: &[Stretch]) -> Result<(), Memory>
+    requires small { All (λ (s : Stretch). s.first + s.count < 2 ^ 64) stretches.now }
+    ensures { OnOk result (map place_of places.new ≡ map place_of places.old ++ flat_map stretch_places stretches.now) }
+{
+    for stretch in stretches {
+        add_places_of(places, *stretch)?;
+    }
+    Ok(())
+}
+
+/// Adds the places of a stretch.
+fn add_places_of(places: &mut List<Place>, stretch: Stretch) -> Result<(), Memory>
+    requires small { stretch.first + stretch.count < 2 ^ 64 }
+    ensures { OnOk result (map place_of places.new ≡ map place_of places.old ++ stretch_places stretch) }
+{
+    for offset in 0..stretch.count {
+        places.push(Place {
+            stream: stretch.stream,
+            position: stretch.first + u64::from(offset),
+        })?;
+    }
+    Ok(())
+}
+
+/// How many cells have no value.
+pub(crate) fn empty(cells: &[Option<i32>]) -> u32
+    requires { length cells.now < 2 ^ 32 }
+    ensures { result ≡ count_by is_none cells.now }
+{
+    let mut count = 0;
+    for cell in cells {
+        if cell.is_none() {
+            count += 1;
+        }
+    }
+    count
+}
