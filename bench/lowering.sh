@@ -8,9 +8,9 @@ top=$(cd "$(dirname "${BASH_SOURCE[0]}")/.." && pwd)
 work=$(mktemp -d)
 trap 'rm -rf "$work"' EXIT
 mkdir "$work/crates"
-for crate in os_io c_int flow_core os_lexer os_ast productions expr_parser stmt_parts os_parser static_laws \
-    name_resolution window_check front_end cddf_meaning os_code simulation \
-    emission expr_lowering lowering kernels; do
+for crate in os_io c_int flow_core os_lexer os_ast os_parser_grammar os_parser_expressions os_parser_parts os_parser window_check_laws \
+    window_check_names window_check front_end cddf_meaning os_code lowering_relation \
+    lowering_draft lowering_expressions lowering kernels; do
     cp -r "$top/crates/$crate" "$work/crates"
     grep -E "^$crate:" "$top/crates.txt" >>"$work/crates.txt"
 done

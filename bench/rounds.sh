@@ -8,7 +8,7 @@ top=$(cd "$(dirname "${BASH_SOURCE[0]}")/.." && pwd)
 work=$(mktemp -d)
 trap 'rm -rf "$work"' EXIT
 mkdir "$work/crates"
-for crate in os_io flow_core stream_match round_workers task_workers; do
+for crate in os_io flow_core stream_match task_workers_round task_workers; do
     cp -r "$top/crates/$crate" "$work/crates"
     grep -E "^$crate:" "$top/crates.txt" >>"$work/crates.txt"
 done

@@ -9,7 +9,7 @@
 //! A definition is total over every tree. Where no program that keeps the rules comes, it says something, and a comment
 //! says so. `laws` shows that the definitions are the ones that were meant, and `examples` works some out by hand.
 //!
-//! There is no code here but laws and the types that the definitions name. `plain_meaning` computes what they say.
+//! There is no code here but laws and the types that the definitions name. `cddf_meaning_plain` computes what they say.
 #![tactic(auto)]
 
 mod aim;

@@ -7,11 +7,11 @@ ghost use Rattle.task_vm.specs.Space.{IsMadeFor};
 
 use crate::compiled::{Compiled, compile};
 use crate::elements::{inputs_of, outputs_of};
+use cddf_meaning_plain::{plain_body, plain_control};
 use control_run::run_control;
 use flow_core::{Activation, Control, ControlEnd, TaskEnd};
 use os_ast::Program;
 use os_io::Memory;
-use plain_meaning::{plain_body, plain_control};
 use std::alloc::Global;
 use std::process::Abort;
 use std::test::Fail;

@@ -17,11 +17,11 @@ use Rattle.os_lexer.specs.Laws as laws
 use Rattle.os_lexer.specs.declared.fault.LexError.{LexError}
 use Rattle.os_lexer.specs.declared.fault.LexError.TheVariants as lex
 use Rattle.os_lexer.specs.declared.token.Token.{Token}
-use Rattle.productions.proofs.Programs.{never, whole}
-use Rattle.productions.specs.Reading.{Read, fails, got}
-use Rattle.productions.specs.Statements.{inner, program}
-use Rattle.expr_parser.specs.declared.parse_error.ParseError.{ParseError}
-use Rattle.expr_parser.specs.declared.parse_error.ParseError.TheVariants as parse
+use Rattle.os_parser_grammar.proofs.Programs.{never, whole}
+use Rattle.os_parser_grammar.specs.Reading.{Read, fails, got}
+use Rattle.os_parser_grammar.specs.Statements.{inner, program}
+use Rattle.os_parser_expressions.specs.declared.parse_error.ParseError.{ParseError}
+use Rattle.os_parser_expressions.specs.declared.parse_error.ParseError.TheVariants as parse
 use Rattle.window_check.proofs.Least.{contains-tail, least-among, least-first, least-others, least_among}
 use Rattle.window_check.specs.Refusal.{IsAnswer}
 use Rattle.window_check.specs.declared.check_error.CheckError.{CheckError}

@@ -16,7 +16,7 @@ use Rattle.os_ast.specs.declared.expr.Mark.{Mark}
 use Rattle.os_ast.specs.declared.violation.Violation.{Violation}
 use Rattle.os_lexer.specs.declared.token.Kind.TheVariants as kind
 use Rattle.os_lexer.specs.declared.token.Token.{Token}
-use Rattle.static_laws.proofs.Placed.{AreOf, HasKept, of-program}
+use Rattle.window_check_laws.proofs.Placed.{AreOf, HasKept, of-program}
 
 one_on : (from i : ℕ) → from + suc i ≡ suc from + i
 one_on from i = omega arith

@@ -1,15 +1,15 @@
 -- The statements of a block, one by one.
 use Rattle.std.proofs.Common.{◌≡◌, ◌∙◌, ℕ, ◌+◌, ◌<◌, List, [], ◌∷◌, length, get_or, drop, length-drop, ap, refl, arith}
-use Rattle.emission.specs.Emission.Statements.{block_code, next_behind, stmt_code, tail_code}
-use Rattle.emission.specs.declared.draft.Draft.{Draft}
-use Rattle.emission.specs.declared.draft.Label.{Label}
-use Rattle.emission.specs.declared.exits.Exits.{Exits}
+use Rattle.lowering_draft.specs.Emission.Statements.{block_code, next_behind, stmt_code, tail_code}
+use Rattle.lowering_draft.specs.declared.draft.Draft.{Draft}
+use Rattle.lowering_draft.specs.declared.draft.Label.{Label}
+use Rattle.lowering_draft.specs.declared.exits.Exits.{Exits}
 use Rattle.os_ast.specs.Trees as tree
 use Rattle.os_ast.specs.Views.{stmt_tree, stmts_tree}
 use Rattle.os_ast.specs.declared.names.What.{What}
 use Rattle.os_ast.specs.declared.stmt.Stmt.{Stmt}
 use Rattle.std.specs.Prelude.{Option}
-use Rattle.static_laws.proofs.Trees.{stmts_tree-drop}
+use Rattle.window_check_laws.proofs.Trees.{stmts_tree-drop}
 
 -- a statement, and the ones behind it
 tail_step : (tells : ℕ → What) (a : tree.StmtTree) (rest : List Stmt) (x : Exits) (next : Option Label) (d : Draft)

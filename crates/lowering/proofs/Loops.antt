@@ -1,12 +1,12 @@
 -- The code of a `for`, put together.
 use Rattle.std.proofs.Common.{◌≡◌, ℕ, Option, Some, None, refl}
-use Rattle.emission.specs.Draft.{next_label, with_instr, with_label, with_place}
-use Rattle.emission.specs.Emission.Changes.{change_code}
-use Rattle.emission.specs.Emission.Declarators.{start_code}
-use Rattle.emission.specs.Emission.Statements.{begin_code, closed, end_of, in_loop, opened, stmt_code, test_code}
-use Rattle.emission.specs.declared.draft.Draft.{Draft}
-use Rattle.emission.specs.declared.draft.Label.{Label}
-use Rattle.emission.specs.declared.exits.Exits.{Exits}
+use Rattle.lowering_draft.specs.Draft.{next_label, with_instr, with_label, with_place}
+use Rattle.lowering_draft.specs.Emission.Changes.{change_code}
+use Rattle.lowering_draft.specs.Emission.Declarators.{start_code}
+use Rattle.lowering_draft.specs.Emission.Statements.{begin_code, closed, end_of, in_loop, opened, stmt_code, test_code}
+use Rattle.lowering_draft.specs.declared.draft.Draft.{Draft}
+use Rattle.lowering_draft.specs.declared.draft.Label.{Label}
+use Rattle.lowering_draft.specs.declared.exits.Exits.{Exits}
 use Rattle.os_ast.specs.Trees as tree
 use Rattle.os_ast.specs.declared.names.What.{What}
 use Rattle.os_code.specs.declared.instr.Instr.TheVariants.{Jump}

@@ -1,12 +1,12 @@
 -- The names of a program stand in the order of their places.
 use Rattle.std.proofs.Common.{◌≡◌, ℕ, zero, suc, ◌<◌, List, [], ◌∷◌, length, subst, sym, arith}
-use Rattle.emission.specs.Ascending.{Ascends, name_at}
+use Rattle.lowering_draft.specs.Ascending.{Ascends, name_at}
 use Rattle.os_ast.specs.Marks.{HasPlaces}
 use Rattle.os_ast.specs.Trees as tree
 use Rattle.os_ast.specs.Violations.{names}
 use Rattle.os_ast.specs.declared.names.Resolved.{Resolved}
-use Rattle.static_laws.proofs.Ordered.{names_in_order}
-use Rattle.static_laws.specs.Order.{InOrder, IsBelowNext}
+use Rattle.window_check_laws.proofs.Ordered.{names_in_order}
+use Rattle.window_check_laws.specs.Order.{InOrder, IsBelowNext}
 
 -- what stands behind a name has a greater place
 behind : (place : ℕ) (rs : List Resolved) (j : ℕ) → IsBelowNext place rs → j < length rs → place < (name_at rs j).place

@@ -9,9 +9,9 @@ use Rattle.os_ast.specs.Trees as tree
 use Rattle.os_code.proofs.Halting.{main_ends, tasks_end}
 use Rattle.os_code.specs.Outcomes as machine
 use Rattle.os_code.specs.declared.parts.Parts.{Parts}
-use Rattle.simulation.proofs.MainLaws.{main_ends_only_so}
-use Rattle.simulation.proofs.TaskLaws.{ends_only_so}
-use Rattle.simulation.specs.Laws.{StandsFor}
+use Rattle.lowering_relation.proofs.MainLaws.{main_ends_only_so}
+use Rattle.lowering_relation.proofs.TaskLaws.{ends_only_so}
+use Rattle.lowering_relation.specs.Laws.{StandsFor}
 
 -- what an activation reads, as the machine and the meaning count it
 same_count : (claims : List Claim) → sum_by (λ (claim : Claim). claim.horizon) (filter (λ (claim : Claim). not claim.write) claims) ≡ read_horizons claims

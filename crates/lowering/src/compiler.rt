@@ -1,21 +1,21 @@
 //! The compiler: a code of a whole program.
 
 ghost use Rattle.std.specs.Prelude.{◌≡◌, ◌≤◌, ◌+◌, ◌*◌, IfOk, length};
-ghost use Rattle.emission.specs.Emission.Units.{parts_made, program_units};
+ghost use Rattle.lowering_draft.specs.Emission.Units.{parts_made, program_units};
 ghost use Rattle.lowering.specs.Meanings.{RunsBodies, RunsControl};
 ghost use Rattle.lowering.specs.declared.compiler.LowerError.TheVariants as errors;
 ghost use Rattle.os_ast.specs.Spelling.{spell};
 ghost use Rattle.os_ast.specs.Views.{program_tree};
 ghost use Rattle.os_code.specs.Codes.{parts_of};
-ghost use Rattle.simulation.specs.Laws.{StandsFor};
-ghost use Rattle.simulation.specs.Names.{told_at};
-ghost use Rattle.simulation.specs.Tasks.{program_tasks};
-ghost use Rattle.simulation.specs.Tiling.{IsTiled};
-ghost use Rattle.static_laws.specs.Globals.{count_functions};
+ghost use Rattle.lowering_relation.specs.Laws.{StandsFor};
+ghost use Rattle.lowering_relation.specs.Names.{told_at};
+ghost use Rattle.lowering_relation.specs.Tasks.{program_tasks};
+ghost use Rattle.lowering_relation.specs.Tiling.{IsTiled};
+ghost use Rattle.window_check_laws.specs.Globals.{count_functions};
 
 use crate::tasks::add_program_tasks;
 use crate::units::add_functions;
-use emission::{Told, Units, resolve};
+use lowering_draft::{Told, Units, resolve};
 use os_code::{Code, Parts};
 use os_io::Memory;
 use std::alloc::Global;

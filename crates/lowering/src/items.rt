@@ -1,13 +1,13 @@
 //! The items of a task's clauses, and ticks.
 
 ghost use Rattle.std.specs.Prelude.{◌≡◌, OnOk, map, option_map};
-ghost use Rattle.emission.specs.Emission.Tasks.{burst_code, item_code, items_code, join_code, stream_code, tick_code};
+ghost use Rattle.lowering_draft.specs.Emission.Tasks.{burst_code, item_code, items_code, join_code, stream_code, tick_code};
 ghost use Rattle.os_ast.specs.Parts.{Item, parts, parts_of};
 ghost use Rattle.os_ast.specs.Views.{clause_item_tree, clause_kind_tree, clause_tree, expr_tree, index_tree, join_tree, target_tree};
-ghost use Rattle.simulation.specs.Names.{told_at};
+ghost use Rattle.lowering_relation.specs.Names.{told_at};
 
-use emission::{Draft, Told, bursting, count_of, first_of};
-use expr_lowering::emit_expr;
+use lowering_draft::{Draft, Told, bursting, count_of, first_of};
+use lowering_expressions::emit_expr;
 use os_ast::{Clause, ClauseItem, ClauseKind, Direction, Index, Join, Target, TickSite};
 use os_code::Instr;
 use os_io::{List, Memory};
@@ -28,7 +28,7 @@ pub(crate) fn emit_items(
 }
 
 /// The items of a clause.
-#[tactic(auto, using(emission::proofs::Parts::items_code_private))]
+#[tactic(auto, using(lowering_draft::proofs::Parts::items_code_private))]
 fn emit_clause(draft: &mut Draft, told: &Told<'_>, kind: &ClauseKind) -> Result<(), Memory>
     ensures { OnOk result (draft.new ≡ items_code (told_at told.now.names.now) (parts_of (clause_kind_tree kind.now)) draft.old) }
 {

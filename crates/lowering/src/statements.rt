@@ -1,18 +1,18 @@
 //! Statements. Behind a statement the code goes on at the next place, or at a label.
 
 ghost use Rattle.std.specs.Prelude.{◌≡◌, IfOk, OnOk, map, option_map};
-ghost use Rattle.emission.specs.Draft.{next_label, with_instr, with_label, with_place, with_spawn};
-ghost use Rattle.emission.specs.Emission.Changes.{change_code};
-ghost use Rattle.emission.specs.Emission.Declarators.{start_code};
-ghost use Rattle.emission.specs.Emission.Tasks.{items_code};
-ghost use Rattle.emission.specs.Emission.Statements.{begin_code, block_code, closed, end_of, jump_on, next_behind, opened, stmt_code, test_code};
+ghost use Rattle.lowering_draft.specs.Draft.{next_label, with_instr, with_label, with_place, with_spawn};
+ghost use Rattle.lowering_draft.specs.Emission.Changes.{change_code};
+ghost use Rattle.lowering_draft.specs.Emission.Declarators.{start_code};
+ghost use Rattle.lowering_draft.specs.Emission.Tasks.{items_code};
+ghost use Rattle.lowering_draft.specs.Emission.Statements.{begin_code, block_code, closed, end_of, jump_on, next_behind, opened, stmt_code, test_code};
 ghost use Rattle.os_ast.specs.Parts.{parts};
 ghost use Rattle.os_ast.specs.Views.{change_tree, clause_tree, expr_tree, start_tree, stmt_tree, stmts_tree};
-ghost use Rattle.simulation.specs.Names.{told_at};
+ghost use Rattle.lowering_relation.specs.Names.{told_at};
 
 use crate::items::{emit_items, emit_tick};
-use emission::{Draft, Exits, Label, Told};
-use expr_lowering::{
+use lowering_draft::{Draft, Exits, Label, Told};
+use lowering_expressions::{
     emit_call, emit_change, emit_condition, emit_declarators, emit_expr, emit_start,
 };
 use os_ast::{Change, Clause, Expr, Head, Stmt};

@@ -1,17 +1,17 @@
 //! The units and sites of tasks, in the order of the text.
 
 ghost use Rattle.std.specs.Prelude.{◌≡◌, ◌+◌, OnOk, map};
-ghost use Rattle.emission.specs.Emission.TaskUnits.{with_block_tasks, with_stmt_tasks};
-ghost use Rattle.emission.specs.Emission.Units.{capped, task_code, task_tree, with_task, with_tasks, with_unit};
+ghost use Rattle.lowering_draft.specs.Emission.TaskUnits.{with_block_tasks, with_stmt_tasks};
+ghost use Rattle.lowering_draft.specs.Emission.Units.{capped, task_code, task_tree, with_task, with_tasks, with_unit};
 ghost use Rattle.os_ast.specs.Views.{item_tree, stmt_tree, stmts_tree};
-ghost use Rattle.simulation.specs.Names.{told_at};
+ghost use Rattle.lowering_relation.specs.Names.{told_at};
 ghost use Rattle.os_ast.specs.declared.names.Owner.TheVariants as owner;
-ghost use Rattle.simulation.specs.Programs.{size_by};
-ghost use Rattle.simulation.specs.Tasks.{program_tasks};
-ghost use Rattle.static_laws.specs.Sums.{stmt_slots};
+ghost use Rattle.lowering_relation.specs.Programs.{size_by};
+ghost use Rattle.lowering_relation.specs.Tasks.{program_tasks};
+ghost use Rattle.window_check_laws.specs.Sums.{stmt_slots};
 
 use crate::units::{emit_task_body, is_main};
-use emission::{Told, Units, captured_at, listed, site_items, stmt_slots};
+use lowering_draft::{Told, Units, captured_at, listed, site_items, stmt_slots};
 use os_ast::{Item, Owner, Stmt, TaskSite};
 use os_code::Site;
 use os_io::{List, Memory};

@@ -1,7 +1,7 @@
 //! The units of functions and of tasks: a body each, and behind it what it does where it falls off its end.
 
 ghost use Rattle.std.specs.Prelude.{◌≡◌, ◌==◌, OnOk, map};
-ghost use Rattle.emission.specs.Emission.Units.{
+ghost use Rattle.lowering_draft.specs.Emission.Units.{
   exits_of,
   function_code,
   function_tree,
@@ -15,10 +15,10 @@ ghost use Rattle.emission.specs.Emission.Units.{
 ghost use Rattle.os_ast.specs.Names.{main_id};
 ghost use Rattle.os_ast.specs.Notes.Programs.{param_names};
 ghost use Rattle.os_ast.specs.Views.{item_tree, stmt_tree, stmts_tree};
-ghost use Rattle.simulation.specs.Names.{told_at};
+ghost use Rattle.lowering_relation.specs.Names.{told_at};
 
 use crate::statements::{emit_block, emit_stmt};
-use emission::{Draft, Exits, Label, Told, Units, stmts_slots};
+use lowering_draft::{Draft, Exits, Label, Told, Units, stmts_slots};
 use os_ast::{Function, Item, Name, Owner, Params, Stmt};
 use os_code::Instr;
 use os_io::{List, Memory};

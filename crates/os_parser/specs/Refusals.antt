@@ -6,7 +6,7 @@ use Rattle.os_ast.specs.Trees.{ProgramTree}
 use Rattle.os_lexer.specs.declared.token.Token.{Token}
 use Rattle.os_parser.specs.declared.reading.PlacedError.{PlacedError}
 use Rattle.os_parser.specs.declared.reading.PlacedError.TheVariants as placed
-use Rattle.refusal_places.specs.Places.{IsPlace}
+use Rattle.os_parser_places.specs.Places.{IsPlace}
 
 abbrev pub line_or : Option Token → ℕ → ℕ
 line_or (Some t) n = t.line

@@ -3,18 +3,18 @@
 ghost use Rattle.std.specs.Prelude.{◌≡◌, ◌+◌, ◌-◌, ◌≤◌, ◌<◌, length, map, OnOk};
 ghost use Rattle.os_ast.specs.declared.expr.Name.{Name};
 ghost use Rattle.os_ast.specs.Views.{stmts_tree, item_tree};
-ghost use Rattle.expr_parser.specs.Gives.{Gives};
-ghost use Rattle.productions.specs.Reading.{Same, got, after};
-ghost use Rattle.productions.specs.Statements.{inner, param, params, function, number, minus, constant, item, is_more, program};
+ghost use Rattle.os_parser_expressions.specs.Gives.{Gives};
+ghost use Rattle.os_parser_grammar.specs.Reading.{Same, got, after};
+ghost use Rattle.os_parser_grammar.specs.Statements.{inner, param, params, function, number, minus, constant, item, is_more, program};
 
 use crate::stmt::block;
-use expr_parser::{Cursor, ParseError};
 use os_ast::{Constant, Function, Item, Name, Params};
 use os_io::List;
 use os_lexer::{Key, Kind, Punct};
+use os_parser_expressions::{Cursor, ParseError};
+use os_parser_parts::comma_list::{Part, comma_list};
+use os_parser_parts::{name, number_at};
 use std::alloc::Global;
-use stmt_parts::comma_list::{Part, comma_list};
-use stmt_parts::{name, number_at};
 
 /// `"int" name`, a parameter of `params`.
 struct Param;
@@ -28,7 +28,7 @@ impl Part for Param {
 
     ghost reads = { λ part. param };
 
-    #[tactic(auto, unfolding(productions::specs::Statements::param))]
+    #[tactic(auto, unfolding(os_parser_grammar::specs::Statements::param))]
     fn read(&self, alloc: Global, cursor: &mut Cursor<'_>) -> Result<Name, ParseError> {
         cursor.expect(Kind::Key(Key::Int))?;
         name(cursor)
@@ -36,7 +36,7 @@ impl Part for Param {
 }
 
 /// `[ params ]`
-#[tactic(auto, using(productions::proofs::Lists::same), unfolding(productions::specs::Statements::params))]
+#[tactic(auto, using(os_parser_grammar::proofs::Lists::same), unfolding(os_parser_grammar::specs::Statements::params))]
 fn params(alloc: Global, cursor: &mut Cursor<'_>) -> Result<Params, ParseError>
     ensures gives { Gives Same result cursor.new (params cursor.old) }
     ensures within { length cursor.new ≤ length cursor.old }
@@ -53,7 +53,7 @@ fn params(alloc: Global, cursor: &mut Cursor<'_>) -> Result<Params, ParseError>
 }
 
 /// `function = "int" name "(" [ params ] ")" block`, from its `int` on.
-#[tactic(auto, unfolding(productions::specs::Statements::function))]
+#[tactic(auto, unfolding(os_parser_grammar::specs::Statements::function))]
 fn function(alloc: Global, cursor: &mut Cursor<'_>, depth: u32) -> Result<Item, ParseError>
     ensures gives { Gives item_tree result cursor.new (function (inner depth) cursor.old) }
     ensures within { length cursor.new ≤ length cursor.old }
@@ -70,7 +70,7 @@ fn function(alloc: Global, cursor: &mut Cursor<'_>, depth: u32) -> Result<Item, 
 }
 
 /// `number`, which is below 2^31.
-#[tactic(auto, unfolding(productions::specs::Statements::number))]
+#[tactic(auto, unfolding(os_parser_grammar::specs::Statements::number))]
 fn number(cursor: &mut Cursor<'_>) -> Result<u32, ParseError>
     ensures gives { Gives Same result cursor.new (number cursor.old) }
     ensures within { length cursor.new ≤ length cursor.old }
@@ -85,7 +85,7 @@ fn number(cursor: &mut Cursor<'_>) -> Result<u32, ParseError>
 }
 
 /// `[ "-" ]`, and whether it is there.
-#[tactic(auto, using(productions::proofs::Tokens::lengths), unfolding(productions::specs::Statements::minus))]
+#[tactic(auto, using(os_parser_grammar::proofs::Tokens::lengths), unfolding(os_parser_grammar::specs::Statements::minus))]
 fn minus(cursor: &mut Cursor<'_>) -> bool
     ensures gives { minus cursor.old ≡ got result cursor.new }
     ensures within { length cursor.new ≤ length cursor.old }
@@ -98,7 +98,7 @@ fn minus(cursor: &mut Cursor<'_>) -> bool
 }
 
 /// `constant = "const" "int" name "=" [ "-" ] number ";"`, from its `const` on.
-#[tactic(auto, unfolding(productions::specs::Statements::constant))]
+#[tactic(auto, unfolding(os_parser_grammar::specs::Statements::constant))]
 fn constant(cursor: &mut Cursor<'_>) -> Result<Item, ParseError>
     ensures gives { Gives item_tree result cursor.new (constant cursor.old) }
     ensures within { length cursor.new ≤ length cursor.old }
@@ -115,7 +115,7 @@ fn constant(cursor: &mut Cursor<'_>) -> Result<Item, ParseError>
 }
 
 /// `constant | function`
-#[tactic(auto, unfolding(productions::specs::Statements::item))]
+#[tactic(auto, unfolding(os_parser_grammar::specs::Statements::item))]
 fn item(alloc: Global, cursor: &mut Cursor<'_>, depth: u32) -> Result<Item, ParseError>
     ensures gives { Gives item_tree result cursor.new (item (inner depth) cursor.old) }
     ensures within { length cursor.new ≤ length cursor.old }

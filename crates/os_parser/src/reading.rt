@@ -5,12 +5,12 @@ ghost use Rattle.os_ast.specs.Means.{Means, OneReading};
 ghost use Rattle.os_ast.specs.Trees.{ProgramTree};
 ghost use Rattle.os_ast.specs.Views.{program_tree};
 ghost use Rattle.os_lexer.specs.Limits.{text_limit};
-ghost use Rattle.expr_parser.specs.declared.parse_error.ParseError.TheVariants as errors;
+ghost use Rattle.os_parser_expressions.specs.declared.parse_error.ParseError.TheVariants as errors;
 
 use crate::program::program;
-use expr_parser::{Cursor, ParseError};
 use os_ast::Program;
 use os_lexer::Token;
+use os_parser_expressions::{Cursor, ParseError};
 use std::alloc::Global;
 
 /// How deep a program may be.
@@ -89,7 +89,7 @@ pub fn parse_placed(alloc: Global, tokens: &[Token]) -> Result<Program, PlacedEr
 }
 
 /// A list of tokens has at most one reading. This is a law: it takes nothing and does nothing.
-#[tactic(auto, using(productions::proofs::Programs::one))]
+#[tactic(auto, using(os_parser_grammar::proofs::Programs::one))]
 pub fn one_reading()
     ensures { OneReading }
 {}

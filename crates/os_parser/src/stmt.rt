@@ -2,25 +2,25 @@
 
 ghost use Rattle.std.specs.Prelude.{◌≡◌, ◌+◌, ◌-◌, ◌≤◌, ◌<◌, length, map, OnOk, box_value};
 ghost use Rattle.os_ast.specs.Views.{stmt_tree, stmts_tree, clause_tree};
-ghost use Rattle.productions.specs.Expressions.{below};
-ghost use Rattle.expr_parser.specs.Gives.{Gives};
-ghost use Rattle.productions.specs.Reading.{after};
-ghost use Rattle.productions.specs.Statements.{inner, inner_item, stmt_on, stmts, block, block_item, if_stmt, while_stmt, for_stmt, task, pragma};
+ghost use Rattle.os_parser_grammar.specs.Expressions.{below};
+ghost use Rattle.os_parser_expressions.specs.Gives.{Gives};
+ghost use Rattle.os_parser_grammar.specs.Reading.{after};
+ghost use Rattle.os_parser_grammar.specs.Statements.{inner, inner_item, stmt_on, stmts, block, block_item, if_stmt, while_stmt, for_stmt, task, pragma};
 
-use expr_parser::{Cursor, ParseError, deeper};
 use os_ast::{Change, Mark, Name, Stmt, TaskSite};
 use os_io::List;
 use os_lexer::names::{OMP, TASK, TASKWAIT, TICK};
 use os_lexer::{Key, Kind, Punct};
-use productions::StmtStart;
-use std::alloc::Global;
-use stmt_parts::{
+use os_parser_expressions::{Cursor, ParseError, deeper};
+use os_parser_grammar::StmtStart;
+use os_parser_parts::{
     before, clauses, condition, declare, head, named_stmt, return_stmt, stmt_at, taskwait, tick,
 };
+use std::alloc::Global;
 
 /// `stmt`
 #[cycle(statements)]
-#[tactic(auto, using(productions::proofs::Depths::readers, expr_parser::proofs::Trees::trees), unfolding(productions::specs::Statements::stmt_on, productions::specs::Statements::stmt_by))]
+#[tactic(auto, using(os_parser_grammar::proofs::Depths::readers, os_parser_expressions::proofs::Trees::trees), unfolding(os_parser_grammar::specs::Statements::stmt_on, os_parser_grammar::specs::Statements::stmt_by))]
 pub(crate) fn stmt(alloc: Global, cursor: &mut Cursor<'_>, depth: u32) -> Result<Stmt, ParseError>
     ensures gives { Gives stmt_tree result cursor.new (stmt_on (inner depth) cursor.old) }
     ensures within { length cursor.new ≤ length cursor.old }
@@ -78,7 +78,7 @@ fn boxed(alloc: Global, cursor: &mut Cursor<'_>, depth: u32) -> Result<Box<Stmt>
 
 /// `block = "{" { declare | stmt } "}"`, from what follows its `{`.
 #[cycle(statements)]
-#[tactic(auto, unfolding(productions::specs::Statements::block))]
+#[tactic(auto, unfolding(os_parser_grammar::specs::Statements::block))]
 pub(crate) fn block(
     alloc: Global,
     cursor: &mut Cursor<'_>,
@@ -97,7 +97,7 @@ pub(crate) fn block(
 
 /// `declare | stmt`, a part of `block`.
 #[cycle(statements)]
-#[tactic(auto, unfolding(productions::specs::Statements::inner_item, productions::specs::Statements::block_item))]
+#[tactic(auto, unfolding(os_parser_grammar::specs::Statements::inner_item, os_parser_grammar::specs::Statements::block_item))]
 fn block_item(alloc: Global, cursor: &mut Cursor<'_>, depth: u32) -> Result<Stmt, ParseError>
     ensures gives { Gives stmt_tree result cursor.new (inner_item (inner depth) cursor.old) }
     ensures within { length cursor.new ≤ length cursor.old }
@@ -113,7 +113,7 @@ fn block_item(alloc: Global, cursor: &mut Cursor<'_>, depth: u32) -> Result<Stmt
 
 /// `"if" "(" expr ")" stmt [ "else" stmt ]`, from its `if` on.
 #[cycle(statements)]
-#[tactic(auto, unfolding(productions::specs::Statements::if_stmt))]
+#[tactic(auto, unfolding(os_parser_grammar::specs::Statements::if_stmt))]
 fn if_stmt(alloc: Global, cursor: &mut Cursor<'_>, depth: u32) -> Result<Stmt, ParseError>
     ensures gives { Gives stmt_tree result cursor.new (if_stmt (inner depth) cursor.old) }
     ensures within { length cursor.new ≤ length cursor.old }
@@ -133,7 +133,7 @@ fn if_stmt(alloc: Global, cursor: &mut Cursor<'_>, depth: u32) -> Result<Stmt, P
 
 /// `"while" "(" expr ")" stmt`, from its `while` on.
 #[cycle(statements)]
-#[tactic(auto, unfolding(productions::specs::Statements::while_stmt))]
+#[tactic(auto, unfolding(os_parser_grammar::specs::Statements::while_stmt))]
 fn while_stmt(alloc: Global, cursor: &mut Cursor<'_>, depth: u32) -> Result<Stmt, ParseError>
     ensures gives { Gives stmt_tree result cursor.new (while_stmt (inner depth) cursor.old) }
     ensures within { length cursor.new ≤ length cursor.old }
@@ -148,7 +148,7 @@ fn while_stmt(alloc: Global, cursor: &mut Cursor<'_>, depth: u32) -> Result<Stmt
 
 /// `"for" "(" ( declare1 | [ change ] ";" ) [ expr ] ";" [ change ] ")" stmt`, from its `for` on.
 #[cycle(statements)]
-#[tactic(auto, unfolding(productions::specs::Statements::for_stmt))]
+#[tactic(auto, unfolding(os_parser_grammar::specs::Statements::for_stmt))]
 fn for_stmt(alloc: Global, cursor: &mut Cursor<'_>, depth: u32) -> Result<Stmt, ParseError>
     ensures gives { Gives stmt_tree result cursor.new (for_stmt (inner depth) cursor.old) }
     ensures within { length cursor.new ≤ length cursor.old }
@@ -164,7 +164,7 @@ fn for_stmt(alloc: Global, cursor: &mut Cursor<'_>, depth: u32) -> Result<Stmt, 
 
 /// `PragmaStart "omp"` and one of `"task"`, `"tick"` and `"taskwait"`, with what belongs to it.
 #[cycle(statements)]
-#[tactic(auto, using(productions::proofs::Depths::readers), unfolding(productions::specs::Statements::pragma))]
+#[tactic(auto, using(os_parser_grammar::proofs::Depths::readers), unfolding(os_parser_grammar::specs::Statements::pragma))]
 fn pragma(alloc: Global, cursor: &mut Cursor<'_>, depth: u32) -> Result<Stmt, ParseError>
     ensures gives { Gives stmt_tree result cursor.new (pragma (inner depth) cursor.old) }
     ensures within { length cursor.new ≤ length cursor.old }
@@ -188,7 +188,7 @@ fn pragma(alloc: Global, cursor: &mut Cursor<'_>, depth: u32) -> Result<Stmt, Pa
 
 /// `"task" { [ "," ] clause } PragmaEnd stmt`, from its word on.
 #[cycle(statements)]
-#[tactic(auto, unfolding(productions::specs::Statements::task))]
+#[tactic(auto, unfolding(os_parser_grammar::specs::Statements::task))]
 fn task(alloc: Global, cursor: &mut Cursor<'_>, mark: Mark, depth: u32) -> Result<Stmt, ParseError>
     ensures gives { Gives stmt_tree result cursor.new (task mark (inner depth) cursor.old) }
     ensures within { length cursor.new ≤ length cursor.old }

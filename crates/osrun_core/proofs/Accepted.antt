@@ -2,10 +2,10 @@
 use Rattle.std.proofs.Common.{◌≡◌, ◌∙◌, ◌⊎◌, inr, ℕ, List, Option, Some, IfSome, sym, ap, subst}
 use Rattle.front_end.specs.Texts.{IsAccepted}
 use Rattle.os_ast.specs.Trees.{ProgramTree}
-use Rattle.command_io.specs.Refusal.{refusal_status}
-use Rattle.program_run.specs.declared.refusal.Refusal.{Refusal}
-use Rattle.program_run.specs.declared.refusal.Refusal.TheVariants as refusals
-use Rattle.command_io.specs.declared.status.Status.TheVariants as statuses
+use Rattle.osrun_core_files.specs.Refusal.{refusal_status}
+use Rattle.osrun_core_run.specs.declared.refusal.Refusal.{Refusal}
+use Rattle.osrun_core_run.specs.declared.refusal.Refusal.TheVariants as refusals
+use Rattle.osrun_core_files.specs.declared.status.Status.TheVariants as statuses
 
 -- a text that is told is the one that was read, and where that is a program, memory alone was wanted
 pub only_memory : (r : Refusal) (told : Option (List ℕ)) (held read text : List ℕ) (p : ProgramTree) → told ≡ Some held → IfSome told (λ bytes. read ≡ bytes) → text ≡ read

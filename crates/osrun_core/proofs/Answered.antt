@@ -9,19 +9,19 @@ use Rattle.collector.specs.Written.{written}
 use Rattle.os_io.specs.Counts.{last_count, raised}
 use Rattle.os_io.specs.declared.files.Files.{Ghosts as FilesView}
 use Rattle.os_io.specs.declared.sink.Sink.{Ghosts as SinkView}
-use Rattle.program_run.specs.declared.refusal.Refusal.{Refusal}
-use Rattle.program_run.specs.declared.refusal.Refusal.TheVariants as refusals
-use Rattle.program_run.specs.declared.refusal.Subject.TheVariants as subjects
-use Rattle.command_io.specs.declared.status.Status.{Status}
-use Rattle.command_io.specs.declared.status.Status.TheVariants as statuses
-use Rattle.command_line.specs.Jobs.{Job}
+use Rattle.osrun_core_run.specs.declared.refusal.Refusal.{Refusal}
+use Rattle.osrun_core_run.specs.declared.refusal.Refusal.TheVariants as refusals
+use Rattle.osrun_core_run.specs.declared.refusal.Subject.TheVariants as subjects
+use Rattle.osrun_core_files.specs.declared.status.Status.{Status}
+use Rattle.osrun_core_files.specs.declared.status.Status.TheVariants as statuses
+use Rattle.osrun_core_words.specs.Jobs.{Job}
 use Rattle.osrun_core.specs.JobAnswer.{AnswersJob, status_of}
 use Rattle.osrun_core.specs.Loading.{JobFile, IsCauseOf, files_of}
-use Rattle.program_run.specs.Refusal.{limit_of}
-use Rattle.command_io.specs.Refusal.{refusal_line, refusal_status}
-use Rattle.program_run.specs.Run.{ProgramRun, IsRunOfJob}
-use Rattle.command_io.specs.Status.{number_of}
-use Rattle.command_io.specs.Telling.{IsUndelivered, Tells}
+use Rattle.osrun_core_run.specs.Refusal.{limit_of}
+use Rattle.osrun_core_files.specs.Refusal.{refusal_line, refusal_status}
+use Rattle.osrun_core_run.specs.Run.{ProgramRun, IsRunOfJob}
+use Rattle.osrun_core_files.specs.Status.{number_of}
+use Rattle.osrun_core_files.specs.Telling.{IsUndelivered, Tells}
 
 -- a choice between 0 and 1 is below 2
 choice_small : (b : Bool) (n : ℕ) → n ≡ cond b 0 1 → n < 2

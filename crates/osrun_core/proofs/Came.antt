@@ -9,17 +9,17 @@ use Rattle.front_end.specs.Texts.{IsAccepted}
 use Rattle.os_ast.specs.Trees.{ProgramTree}
 use Rattle.os_io.specs.Counts.{raised, last_count}
 use Rattle.os_io.specs.declared.files.Files.{Ghosts as FilesView}
-use Rattle.program_run.specs.Run.{IsRunOfJob, ends_over, AreBytesOf}
-use Rattle.program_run.specs.declared.refusal.Refusal.{Refusal}
-use Rattle.program_run.specs.declared.refusal.Refusal.TheVariants as refusals
-use Rattle.program_run.specs.declared.refusal.Subject.{Subject}
-use Rattle.program_run.specs.declared.refusal.Subject.TheVariants as subjects
-use Rattle.command_line.specs.Jobs.{Job}
+use Rattle.osrun_core_run.specs.Run.{IsRunOfJob, ends_over, AreBytesOf}
+use Rattle.osrun_core_run.specs.declared.refusal.Refusal.{Refusal}
+use Rattle.osrun_core_run.specs.declared.refusal.Refusal.TheVariants as refusals
+use Rattle.osrun_core_run.specs.declared.refusal.Subject.{Subject}
+use Rattle.osrun_core_run.specs.declared.refusal.Subject.TheVariants as subjects
+use Rattle.osrun_core_words.specs.Jobs.{Job}
 use Rattle.osrun_core.specs.Loading.{JobFile, MayOpen, IsRead, CameTo, IsCauseOf, ReadsInOrder, files_of}
-use Rattle.command_io.specs.FileLoad.{IsLoaded, IsLoadRefusal}
-use Rattle.program_run.specs.Refusal.{IsRefusalOf, limit_of}
-use Rattle.command_io.specs.Refusal.{refusal_status}
-use Rattle.command_io.specs.declared.status.Status.TheVariants as statuses
+use Rattle.osrun_core_files.specs.FileLoad.{IsLoaded, IsLoadRefusal}
+use Rattle.osrun_core_run.specs.Refusal.{IsRefusalOf, limit_of}
+use Rattle.osrun_core_files.specs.Refusal.{refusal_status}
+use Rattle.osrun_core_files.specs.declared.status.Status.TheVariants as statuses
 
 -- the files of a job by their subjects
 abbrev pub program_file : Job → JobFile

@@ -8,10 +8,10 @@ use Rattle.front_end.specs.Texts.{IsAccepted}
 use Rattle.kernels.specs.Generated.{byte, generated}
 use Rattle.kernels.specs.declared.texts.TheConstants.{LIFT}
 use Rattle.os_ast.specs.Trees.{ProgramTree}
-use Rattle.command_line.specs.Jobs.{GenJob}
+use Rattle.osrun_core_words.specs.Jobs.{GenJob}
 use Rattle.osrun_core.specs.Gen.{IsRunOfGen, four_lines, gen_budget, gen_lines}
-use Rattle.program_run.specs.Run.{ProgramRun}
-use Rattle.program_run.specs.RunOf.{IsRunOf}
+use Rattle.osrun_core_run.specs.Run.{ProgramRun}
+use Rattle.osrun_core_run.specs.RunOf.{IsRunOf}
 use Rattle.stream_match.specs.declared.layout.Layout.{Layout}
 
 -- as many bytes are made as an input may have

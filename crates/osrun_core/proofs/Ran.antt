@@ -11,14 +11,14 @@ use Rattle.os_io.specs.Counts.{raised}
 use Rattle.os_io.specs.declared.files.Files.{Ghosts as FilesView}
 use Rattle.os_io.specs.declared.sink.Sink.{Ghosts as SinkView}
 use Rattle.osrun_core.proofs.Came.{run_of_both}
-use Rattle.command_line.specs.Jobs.{Job}
-use Rattle.command_io.specs.HandsOver.{HandsOver}
+use Rattle.osrun_core_words.specs.Jobs.{Job}
+use Rattle.osrun_core_files.specs.HandsOver.{HandsOver}
 use Rattle.osrun_core.specs.JobAnswer.{AnswersRun, output_of, report_of, status_of}
-use Rattle.command_io.specs.FileLoad.{IsLoaded}
-use Rattle.program_run.specs.Run.{ProgramRun}
-use Rattle.program_run.specs.RunOf.{IsRunOf}
-use Rattle.program_run.specs.declared.refusal.Subject.TheVariants as subjects
-use Rattle.command_io.specs.declared.status.Status.{Status}
+use Rattle.osrun_core_files.specs.FileLoad.{IsLoaded}
+use Rattle.osrun_core_run.specs.Run.{ProgramRun}
+use Rattle.osrun_core_run.specs.RunOf.{IsRunOf}
+use Rattle.osrun_core_run.specs.declared.refusal.Subject.TheVariants as subjects
+use Rattle.osrun_core_files.specs.declared.status.Status.{Status}
 use Rattle.stream_match.specs.Layout.{IsLayoutOf}
 use Rattle.stream_match.specs.declared.layout.Layout.{Layout}
 

@@ -9,8 +9,8 @@ use Rattle.front_end.specs.Texts.{IsAccepted}
 use Rattle.kernels.specs.Generated.{generated}
 use Rattle.kernels.specs.declared.texts.TheConstants.{LIFT}
 use Rattle.os_ast.specs.Trees.{ProgramTree}
-use Rattle.command_line.specs.Jobs.{GenJob}
-use Rattle.program_run.specs.Run.{ProgramRun, ends_over}
+use Rattle.osrun_core_words.specs.Jobs.{GenJob}
+use Rattle.osrun_core_run.specs.Run.{ProgramRun, ends_over}
 
 -- the turns that each task may take, and those that the control program may take
 abbrev pub gen_budget : ℕ

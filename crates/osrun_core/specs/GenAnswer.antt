@@ -1,12 +1,12 @@
 -- What the command does where bytes are to be made.
 use Rattle.std.specs.Prelude.{◌≡◌, ◌⊎◌}
 use Rattle.os_io.specs.declared.sink.Sink.{Ghosts as SinkView}
-use Rattle.command_line.specs.Jobs.{GenJob}
+use Rattle.osrun_core_words.specs.Jobs.{GenJob}
 use Rattle.osrun_core.specs.Gen.{IsRunOfGen, gen_lines}
-use Rattle.program_run.specs.Run.{ProgramRun}
-use Rattle.command_io.specs.Telling.{Took, IsCutShort}
-use Rattle.command_io.specs.declared.status.Status.{Status}
-use Rattle.command_io.specs.declared.status.Status.TheVariants.{AllDone, WriteFault, NoMemory}
+use Rattle.osrun_core_run.specs.Run.{ProgramRun}
+use Rattle.osrun_core_files.specs.Telling.{Took, IsCutShort}
+use Rattle.osrun_core_files.specs.declared.status.Status.{Status}
+use Rattle.osrun_core_files.specs.declared.status.Status.TheVariants.{AllDone, WriteFault, NoMemory}
 
 -- a run was made, and its lines were written as far as the sink took them
 pub record WritesGen {O : Type 0} (of_out : SinkView O) (out_old out_new : O) (job : GenJob) (answered : Status) : Type 0 where

@@ -6,14 +6,14 @@ use Rattle.collector.specs.Written.{written}
 use Rattle.os_io.specs.Counts.{raised}
 use Rattle.os_io.specs.declared.files.Files.{Ghosts as FilesView}
 use Rattle.os_io.specs.declared.sink.Sink.{Ghosts as SinkView}
-use Rattle.command_line.specs.Jobs.{Job}
-use Rattle.command_io.specs.HandsOver.{HandsOver}
+use Rattle.osrun_core_words.specs.Jobs.{Job}
+use Rattle.osrun_core_files.specs.HandsOver.{HandsOver}
 use Rattle.osrun_core.specs.Loading.{IsCauseOf, files_of}
-use Rattle.command_io.specs.Refuses.{Refuses}
-use Rattle.program_run.specs.Run.{ProgramRun, IsRunOfJob}
-use Rattle.program_run.specs.declared.refusal.Refusal.{Refusal}
-use Rattle.program_run.specs.declared.refusal.Refusal.TheVariants.{Memory}
-use Rattle.command_io.specs.declared.status.Status.{Status}
+use Rattle.osrun_core_files.specs.Refuses.{Refuses}
+use Rattle.osrun_core_run.specs.Run.{ProgramRun, IsRunOfJob}
+use Rattle.osrun_core_run.specs.declared.refusal.Refusal.{Refusal}
+use Rattle.osrun_core_run.specs.declared.refusal.Refusal.TheVariants.{Memory}
+use Rattle.osrun_core_files.specs.declared.status.Status.{Status}
 
 -- what a run writes and reports, and the number of its status
 abbrev pub output_of : ProgramRun → List ℕ

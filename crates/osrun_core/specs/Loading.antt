@@ -6,13 +6,13 @@ use Rattle.front_end.specs.Texts.{IsAccepted}
 use Rattle.os_ast.specs.Trees.{ProgramTree}
 use Rattle.os_io.specs.Counts.{HasRisen, raised, last_count}
 use Rattle.os_io.specs.declared.files.Files.{Ghosts as FilesView}
-use Rattle.program_run.specs.declared.refusal.Subject.{Subject}
-use Rattle.program_run.specs.declared.refusal.Subject.TheVariants as subjects
-use Rattle.program_run.specs.declared.refusal.Refusal.{Refusal}
-use Rattle.program_run.specs.declared.refusal.Refusal.TheVariants as refusal
-use Rattle.command_line.specs.Jobs.{Job}
-use Rattle.program_run.specs.Refusal.{IsRefusalOf, limit_of}
-use Rattle.program_run.specs.Run.{AreBytesOf}
+use Rattle.osrun_core_run.specs.declared.refusal.Subject.{Subject}
+use Rattle.osrun_core_run.specs.declared.refusal.Subject.TheVariants as subjects
+use Rattle.osrun_core_run.specs.declared.refusal.Refusal.{Refusal}
+use Rattle.osrun_core_run.specs.declared.refusal.Refusal.TheVariants as refusal
+use Rattle.osrun_core_words.specs.Jobs.{Job}
+use Rattle.osrun_core_run.specs.Refusal.{IsRefusalOf, limit_of}
+use Rattle.osrun_core_run.specs.Run.{AreBytesOf}
 
 -- a file that a job reads: what it is to the job, and its name
 pub record JobFile : Type 0 where

@@ -1,10 +1,10 @@
-ghost use Rattle.command_line.specs.Jobs.{IsGenWithin, gen_of};
+ghost use Rattle.osrun_core_words.specs.Jobs.{IsGenWithin, gen_of};
 ghost use Rattle.osrun_core.specs.GenAnswer.{AnswersGen};
 
 use crate::gen_text::gen_text;
-use command_io::Status;
-use command_line::GenJob;
 use os_io::{Sink, write_whole};
+use osrun_core_files::Status;
+use osrun_core_words::GenJob;
 use std::alloc::Global;
 use std::thread::Threads;
 use task_workers::Gate;

@@ -1,15 +1,15 @@
 ghost use Rattle.std.specs.Prelude.{◌≡◌, ◌≢◌, ◌<◌, ◌≤◌, ◌⊎◌, All};
 ghost use Rattle.os_io.specs.Counts.{HasRisen};
-ghost use Rattle.command_line.specs.Jobs.{IsWithin, job_of};
+ghost use Rattle.osrun_core_words.specs.Jobs.{IsWithin, job_of};
 ghost use Rattle.osrun_core.specs.JobAnswer.{AnswersJob};
 ghost use Rattle.osrun_core.specs.Loading.{MayOpen, IsReadable, IsRejected, ReadsInOrder, files_of};
-ghost use Rattle.command_io.specs.Status.{number_of};
-ghost use Rattle.command_io.specs.Telling.{HasTrouble};
+ghost use Rattle.osrun_core_files.specs.Status.{number_of};
+ghost use Rattle.osrun_core_files.specs.Telling.{HasTrouble};
 
 use crate::run_job::run_job;
-use command_io::{Status, refuse};
-use command_line::Job;
 use os_io::{Files, Sink};
+use osrun_core_files::{Status, refuse};
+use osrun_core_words::Job;
 use std::alloc::Global;
 use std::thread::Threads;
 use task_workers::Gate;

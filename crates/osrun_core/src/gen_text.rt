@@ -1,15 +1,15 @@
 ghost use Rattle.std.specs.Prelude.{◌≡◌, ◌≤◌, ◌⊎◌, length, string_bytes, sum, IfErr, IfOk};
 ghost use Rattle.collector.specs.Status.{status as status_of};
-ghost use Rattle.command_line.specs.Jobs.{IsGenWithin, gen_of};
+ghost use Rattle.osrun_core_words.specs.Jobs.{IsGenWithin, gen_of};
 ghost use Rattle.osrun_core.specs.Gen.{IsRunOfGen, counted_line, four_lines, gen_lines};
-ghost use Rattle.program_run.specs.Refusal.{IsRefusalOf};
-ghost use Rattle.program_run.specs.Run.{ProgramRun};
+ghost use Rattle.osrun_core_run.specs.Refusal.{IsRefusalOf};
+ghost use Rattle.osrun_core_run.specs.Run.{ProgramRun};
 
-use command_io::run_status;
-use command_line::{GenJob, Terms};
 use kernels::{LIFT, generate};
 use os_io::Memory;
-use program_run::{Refusal, Run, accept, run_program};
+use osrun_core_files::run_status;
+use osrun_core_run::{Refusal, Run, accept, run_program};
+use osrun_core_words::{GenJob, Terms};
 use std::alloc::Global;
 use std::thread::Threads;
 use task_workers::Gate;

@@ -1,14 +1,14 @@
 ghost use Rattle.std.specs.Prelude.{◌≡◌, ◌≢◌, ◌≤◌, ◌⊎◌, All, IfOk, IfErr, MatchResult};
-ghost use Rattle.command_io.specs.declared.status.Status.TheVariants.{TooLong, ReadFault, NoMemory};
-ghost use Rattle.command_line.specs.Jobs.{IsWithin, job_of};
+ghost use Rattle.osrun_core_files.specs.declared.status.Status.TheVariants.{TooLong, ReadFault, NoMemory};
+ghost use Rattle.osrun_core_words.specs.Jobs.{IsWithin, job_of};
 ghost use Rattle.osrun_core.specs.JobAnswer.{AnswersRun};
 ghost use Rattle.osrun_core.specs.Loading.{MayOpen, IsCauseOf, IsReadable, IsRejected, ReadsInOrder, files_of};
-ghost use Rattle.command_io.specs.Refusal.{refusal_status};
+ghost use Rattle.osrun_core_files.specs.Refusal.{refusal_status};
 
-use command_io::{Status, deliver, load};
-use command_line::Job;
 use os_io::{Files, Sink};
-use program_run::{Refusal, Subject, accept, run_program};
+use osrun_core_files::{Status, deliver, load};
+use osrun_core_run::{Refusal, Subject, accept, run_program};
+use osrun_core_words::Job;
 use std::alloc::Global;
 use std::thread::Threads;
 use task_workers::Gate;

@@ -10,8 +10,8 @@ use Rattle.std.proofs.lemmas.Option.{slice_get-get_or, slice_get_within, get_or_
 use Rattle.flow_core.specs.declared.plan.Piece.{Piece}
 use Rattle.flow_core.proofs.Stretches.{flat_map-range_more}
 use Rattle.flow_core.specs.Window.{Window, windows, windows_of}
-use Rattle.epoch_law.proofs.Members.{Has, of_map}
-use Rattle.epoch_law.proofs.Written.{has_window}
+use Rattle.flow_core_epochs.proofs.Members.{Has, of_map}
+use Rattle.flow_core_epochs.proofs.Written.{has_window}
 use Rattle.stream_match.specs.declared.span.Span.{Span}
 use Rattle.stream_match.specs.declared.layout.Layout.{Layout}
 use Rattle.stream_match.specs.declared.stretch.Stretch.{Stretch}

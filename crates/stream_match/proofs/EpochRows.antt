@@ -11,10 +11,10 @@ use Rattle.std.proofs.lemmas.List.Sums.{sum_by-cons}
 use Rattle.std.proofs.lemmas.Option.{slice_get-get_or, slice_get_within, get_or_from_slice_get}
 use Rattle.flow_core.specs.declared.plan.FramePlan.{FramePlan}
 use Rattle.flow_core.specs.declared.plan.Piece.{Piece}
-use Rattle.epoch_law.specs.Epoch.{number_in}
-use Rattle.epoch_law.proofs.Frames.{numbers_back}
-use Rattle.epoch_law.proofs.Members.{Has, of_map, of_flat_map, of_range}
-use Rattle.epoch_law.proofs.Carried.{all_has, has_all}
+use Rattle.flow_core_epochs.specs.Epoch.{number_in}
+use Rattle.flow_core_epochs.proofs.Frames.{numbers_back}
+use Rattle.flow_core_epochs.proofs.Members.{Has, of_map, of_flat_map, of_range}
+use Rattle.flow_core_epochs.proofs.Carried.{all_has, has_all}
 use Rattle.stream_match.specs.declared.kept.Kept.{Kept}
 use Rattle.stream_match.specs.declared.layout.Layout.{Layout}
 use Rattle.stream_match.specs.declared.stretch.Stretch.{Stretch}

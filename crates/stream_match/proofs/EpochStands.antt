@@ -20,8 +20,8 @@ use Rattle.flow_core.specs.Place.{Place, places_from, places_of, input_places}
 use Rattle.flow_core.specs.Streams.{input_source, produced_source, stream_source, output_count}
 use Rattle.flow_core.specs.Plans.{frame_at, cell_source, plan_reads}
 use Rattle.flow_core.proofs.Windows.{written, producer_by_number, claims_at-slice_get}
-use Rattle.epoch_law.specs.Epoch.{Kept, number_in, value_kept, among, epoch_source, written_places, read_from, StandsForEpoch}
-use Rattle.epoch_law.proofs.Members.{Has, has_head, has_tail, in_map}
+use Rattle.flow_core_epochs.specs.Epoch.{Kept, number_in, value_kept, among, epoch_source, written_places, read_from, StandsForEpoch}
+use Rattle.flow_core_epochs.proofs.Members.{Has, has_head, has_tail, in_map}
 use Rattle.stream_match.specs.declared.span.Span.{Span}
 use Rattle.stream_match.specs.declared.layout.Layout.{Layout}
 use Rattle.stream_match.specs.Layout.{span_of, IsLayout, IsLayoutOf}
@@ -99,13 +99,13 @@ module _ (layout : Layout) (is : IsLayout layout) (activations : List Activation
           let is_producer : producer activations stream at ≡ Some (window_number activations n) = producer_by_number activations stream at ∙ ap (option_and_then (λ m. slice_get (windows activations) m)) e ∙ there activations n passes.0 in
           of_frame (window_number activations n) is_producer
           (λ g numbered.
-              let writes : WritesAt layout w stream at place g = record {
-                within = place_lt;
-                from = subst (λ (s : Span). s.first ≤ at) (sym span) u.from;
-                to = subst (λ (s : Span). at < end_of s) (sym span) u.to;
-                is_frame = ap (λ (s : Span). number_in frames s.frame) span ∙ numbered;
-              } in
-              fed_by layout w can plan laid f i k place g le lt kl writes ∙ ap (λ (s : Span). fed g (s.offset + (at - s.first))) span)
+          let writes : WritesAt layout w stream at place g = record {
+            within = place_lt;
+            from = subst (λ (s : Span). s.first ≤ at) (sym span) u.from;
+            to = subst (λ (s : Span). at < end_of s) (sym span) u.to;
+            is_frame = ap (λ (s : Span). number_in frames s.frame) span ∙ numbered;
+          } in
+          fed_by layout w can plan laid f i k place g le lt kl writes ∙ ap (λ (s : Span). fed g (s.offset + (at - s.first))) span)
           v (number_in frames (window_number activations n).activation) refl
           ∙ sym (ap (λ o. among frames (option_map_or (λ (x : Window). fed x.activation (x.offset + (at - x.first))) o nobody)) is_producer)
 

@@ -12,9 +12,9 @@ use Rattle.flow_core.specs.Element.{given}
 use Rattle.flow_core.specs.Window.{Window, claims_of, producer}
 use Rattle.flow_core.specs.Place.{Place, input_places}
 use Rattle.flow_core.specs.Streams.{stream_source}
-use Rattle.epoch_law.specs.Epoch as epoch
-use Rattle.epoch_law.specs.Epoch.{number_in, value_kept, among, epoch_source, read_from, StandsForEpoch}
-use Rattle.epoch_law.proofs.Reading.{read_from_cursor}
+use Rattle.flow_core_epochs.specs.Epoch as epoch
+use Rattle.flow_core_epochs.specs.Epoch.{number_in, value_kept, among, epoch_source, read_from, StandsForEpoch}
+use Rattle.flow_core_epochs.proofs.Reading.{read_from_cursor}
 use Rattle.stream_match.specs.declared.kept.Kept.{Kept}
 use Rattle.stream_match.specs.declared.layout.Layout.{Layout}
 use Rattle.stream_match.specs.Layout.{IsLayout}

@@ -13,11 +13,11 @@ use Rattle.flow_core.specs.Window.{Window, windows, windows_of, producer}
 use Rattle.flow_core.specs.Place.{Place}
 use Rattle.flow_core.proofs.Sources.{find_passes}
 use Rattle.flow_core.proofs.Windows.{producer_by_number}
-use Rattle.epoch_law.specs.Epoch.{Kept, number_in, is_at, value_kept}
-use Rattle.epoch_law.proofs.Members.{Has, of_map, of_flat_map}
-use Rattle.epoch_law.proofs.Carried.{all_has, has_all}
-use Rattle.epoch_law.proofs.Frames.{numbers_back}
-use Rattle.epoch_law.proofs.Written.{has_window}
+use Rattle.flow_core_epochs.specs.Epoch.{Kept, number_in, is_at, value_kept}
+use Rattle.flow_core_epochs.proofs.Members.{Has, of_map, of_flat_map}
+use Rattle.flow_core_epochs.proofs.Carried.{all_has, has_all}
+use Rattle.flow_core_epochs.proofs.Frames.{numbers_back}
+use Rattle.flow_core_epochs.proofs.Written.{has_window}
 use Rattle.stream_match.specs.declared.span.Span.{Span}
 use Rattle.stream_match.specs.declared.layout.Layout.{Layout}
 use Rattle.stream_match.specs.Lawful.{IsLawfulClaim}

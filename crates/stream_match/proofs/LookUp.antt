@@ -10,9 +10,9 @@ use Rattle.std.proofs.lemmas.Option.{slice_get-get_or, slice_get_within, get_or_
 use Rattle.std.proofs.lemmas.List.Sorted.{IsPermutation-map, IsPermutation-sym, Contains-permutation}
 use Rattle.flow_core.specs.Place as streams
 use Rattle.flow_core.proofs.Sources.{position_only, find_passes}
-use Rattle.epoch_law.specs.Epoch as epoch
-use Rattle.epoch_law.specs.Epoch.{number_in, is_at, value_kept, PlacesDiffer}
-use Rattle.epoch_law.proofs.Reading.{has_contained}
+use Rattle.flow_core_epochs.specs.Epoch as epoch
+use Rattle.flow_core_epochs.specs.Epoch.{number_in, is_at, value_kept, PlacesDiffer}
+use Rattle.flow_core_epochs.proofs.Reading.{has_contained}
 use Rattle.stream_match.specs.declared.kept.Kept.{Kept}
 use Rattle.stream_match.specs.EpochCode.{kept_of, Ascend, LiesBefore, AreSorted}
 use Rattle.stream_match.proofs.Counting.{same_test}

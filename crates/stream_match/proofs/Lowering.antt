@@ -17,9 +17,9 @@ use Rattle.stream_match.specs.Stretch.{frame_count, spans_of}
 use Rattle.stream_match.proofs.FrameSpans.{spans_of-windows}
 use Rattle.stream_match.proofs.Tallies.{frame_count-is}
 use Rattle.stream_match.proofs.Windows.{claims_in-windows}
-use Rattle.epoch_law.specs.Epoch.{read_from}
-use Rattle.epoch_law.proofs.Members.{Has, of_map, has_tail}
-use Rattle.epoch_law.proofs.Carried.{all_has, has_all, has_claim}
+use Rattle.flow_core_epochs.specs.Epoch.{read_from}
+use Rattle.flow_core_epochs.proofs.Members.{Has, of_map, has_tail}
+use Rattle.flow_core_epochs.proofs.Carried.{all_has, has_all, has_claim}
 use Rattle.stream_match.specs.Cursors.{is_read_on, firsts, lowered}
 
 map_append : {A B : Type 0} (f : A → B) (xs ys : List A) → map f (xs ++ ys) ≡ map f xs ++ map f ys

@@ -18,7 +18,7 @@ use Rattle.flow_core.specs.Streams.{input_source, produced_source, stream_source
 use Rattle.flow_core.specs.Plans.{plan_reads}
 use Rattle.flow_core.proofs.Sources.{find_passes}
 use Rattle.flow_core.proofs.Windows.{is_window}
-use Rattle.epoch_law.specs.Epoch.{number_in, among, epoch_source}
+use Rattle.flow_core_epochs.specs.Epoch.{number_in, among, epoch_source}
 use Rattle.stream_match.specs.declared.layout.Layout.{Layout}
 use Rattle.stream_match.specs.Layout.{claims_in, IsLayout, IsLayoutOf}
 use Rattle.stream_match.specs.Stretch.{frame_count, read_count}

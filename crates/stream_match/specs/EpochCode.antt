@@ -8,8 +8,8 @@ use Rattle.flow_core.specs.declared.plan.FramePlan.{FramePlan}
 use Rattle.flow_core.specs.declared.plan.Piece.{Piece}
 use Rattle.flow_core.specs.Place as streams
 use Rattle.flow_core.specs.Place.{places_from}
-use Rattle.epoch_law.specs.Epoch as epoch
-use Rattle.epoch_law.specs.Epoch.{number_in}
+use Rattle.flow_core_epochs.specs.Epoch as epoch
+use Rattle.flow_core_epochs.specs.Epoch.{number_in}
 use Rattle.stream_match.specs.declared.kept.Kept.{Kept}
 use Rattle.stream_match.specs.declared.place.Place.{Place}
 use Rattle.stream_match.specs.declared.layout.Layout.{Layout}

@@ -7,7 +7,7 @@ use Rattle.flow_core.specs.declared.plan.Plan.{Plan}
 use Rattle.flow_core.specs.IsSound.{IsSound}
 use Rattle.flow_core.specs.Window.{Window, producer}
 use Rattle.flow_core.specs.Place.{Place}
-use Rattle.epoch_law.specs.Epoch.{Kept, number_in, value_kept, read_from, StandsForEpoch}
+use Rattle.flow_core_epochs.specs.Epoch.{Kept, number_in, value_kept, read_from, StandsForEpoch}
 use Rattle.stream_match.specs.declared.span.Span.{Span}
 use Rattle.stream_match.specs.declared.layout.Layout.{Layout}
 use Rattle.stream_match.specs.Layout.{IsLayout, IsLayoutOf}

@@ -4,16 +4,20 @@ ghost use Rattle.flow_core.specs.declared.activation.Activation.{Activation};
 ghost use Rattle.stream_match.specs.declared.span.Span.{Span};
 ghost use Rattle.stream_match.specs.Layout.{IsLayout, IsLayoutOf};
 ghost use Rattle.stream_match.specs.Stretch.{frame_count, spans_of, start_of};
-ghost use Rattle.epoch_law.specs.Epoch.{read_from};
+ghost use Rattle.flow_core_epochs.specs.Epoch.{read_from};
 ghost use Rattle.stream_match.specs.Cursors.{firsts, lowered};
 
-use os_io::Memory;
-use std::alloc::Global;
 use crate::layout::Layout;
 use crate::span::Span;
+use os_io::Memory;
+use std::alloc::Global;
 
 /// For each stream the least position that frames, or activations behind the layout's, read.
-pub(crate) fn read_cursors(alloc: Global, layout: &Layout, frames: &[u32]) -> Result<Vec<u64>, Memory>
+pub(crate) fn read_cursors(
+    alloc: Global,
+    layout: &Layout,
+    frames: &[u32],
+) -> Result<Vec<u64>, Memory>
     requires layout { IsLayout layout.now }
     requires exist { All (λ f. f < frame_count layout.now) frames.now }
     ensures { IfOk result (λ cursors. (activations : List Activation) → IsLayoutOf layout.now activations

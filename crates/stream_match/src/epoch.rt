@@ -2,7 +2,7 @@ ghost use Rattle.std.specs.Prelude.{◌≡◌, ◌+◌, ◌++◌, ◌^◌, ◌<�
 ghost use Rattle.std.specs.List.{flat_map};
 ghost use Rattle.flow_core.specs.declared.activation.Activation.{Activation};
 ghost use Rattle.flow_core.specs.IsSound.{IsSound};
-ghost use Rattle.epoch_law.specs.Epoch.{IsOutside, StandsForEpoch};
+ghost use Rattle.flow_core_epochs.specs.Epoch.{IsOutside, StandsForEpoch};
 ghost use Rattle.stream_match.specs.declared.stretch.Stretch.{Stretch};
 ghost use Rattle.stream_match.specs.Layout.{IsLayout, IsLayoutOf};
 ghost use Rattle.stream_match.specs.Walking.{IsStretch};

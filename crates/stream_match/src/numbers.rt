@@ -1,5 +1,5 @@
 ghost use Rattle.std.specs.Prelude.{◌≡◌, ◌^◌, ◌<◌, length};
-ghost use Rattle.epoch_law.specs.Epoch.{number_in};
+ghost use Rattle.flow_core_epochs.specs.Epoch.{number_in};
 ghost use Rattle.stream_match.specs.EpochCode.{Ascend};
 
 /// The number of an activation among frames, found by halving.

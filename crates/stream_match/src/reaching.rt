@@ -141,7 +141,11 @@ fn leaves_from(cursors: &[u64], stream: u32) -> u64
     requires { stream < length cursors.now }
     ensures { result ≡ leaves_from cursors.now stream }
 {
-    if stream == 1 { 0 } else { cursors[stream as usize] }
+    if stream == 1 {
+        0
+    } else {
+        cursors[stream as usize]
+    }
 }
 
 /// How many positions a span writes behind those that stay.

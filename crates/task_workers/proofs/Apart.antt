@@ -7,7 +7,7 @@ use Rattle.flow_core.specs.declared.plan.FramePlan.{FramePlan}
 use Rattle.flow_core.specs.declared.plan.Plan.{Plan}
 use Rattle.flow_core.specs.declared.waits.Waits.{Waits}
 use Rattle.flow_core.specs.Waits.{OpensFull}
-use Rattle.round_workers.specs.Results.{room_of}
+use Rattle.task_workers_round.specs.Results.{room_of}
 
 -- numbers below n, of which no two are equal
 pub record AreApart (n : ℕ) (xs : List ℕ) : Type 0 where

@@ -16,8 +16,8 @@ use Rattle.flow_core.specs.Board.{IsRun}
 use Rattle.flow_core.proofs.Carrying.{OpensMore-trans, OpensMore-none}
 use Rattle.flow_core.proofs.Showing.{AreEmpty-waiting}
 use Rattle.flow_core.proofs.Running.{IsRun-more, IsRun-fewer}
-use Rattle.round_workers.specs.Results.{AreResults, outputs_of, outputs_at, room_of}
-use Rattle.round_workers.proofs.Joining.{Gives-same, room_more, room_within}
+use Rattle.task_workers_round.specs.Results.{AreResults, outputs_of, outputs_at, room_of}
+use Rattle.task_workers_round.proofs.Joining.{Gives-same, room_more, room_within}
 
 -- the frames of the round that begins at a turn
 abbrev pub round_of : Board → ℕ → List ℕ

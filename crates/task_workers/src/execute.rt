@@ -7,9 +7,9 @@ ghost use Rattle.flow_core.specs.Serves.{Serves};
 use crate::rounds::run_rounds;
 use flow_core::{Board, Bodies, Ends, Plan};
 use os_io::{List, Memory};
-use round_workers::{Gate, Results, hire};
 use std::alloc::Global;
 use std::thread::Threads;
+use task_workers_round::{Gate, Results, hire};
 
 /// Runs a plan round by round on so many workers, 1 to 64. The frames of a round that may run are given
 /// to the workers by halves of their list, and what they came to is delivered before the next round.

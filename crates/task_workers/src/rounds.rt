@@ -5,12 +5,12 @@ ghost use Rattle.flow_core.specs.IsSound.{IsSound};
 ghost use Rattle.flow_core.specs.Serves.{Serves};
 ghost use Rattle.flow_core.specs.Waits.{OpensMore};
 ghost use Rattle.flow_core.specs.Board.{IsRun};
-ghost use Rattle.round_workers.specs.Results.{AreResults, room_of};
+ghost use Rattle.task_workers_round.specs.Results.{AreResults, room_of};
 
 use flow_core::{Board, Bodies, Plan, TaskEnd};
 use os_io::Memory;
-use round_workers::{Gate, Worker, outputs_of, run_by};
 use std::thread::Threads;
+use task_workers_round::{Gate, Worker, outputs_of, run_by};
 
 /// How many frames are worth a thread, however short they are.
 const FRAMES_A_THREAD: usize = 512;

@@ -9,16 +9,16 @@ use Rattle.os_ast.specs.Trees as tree
 use Rattle.os_ast.specs.Rules.{when}
 use Rattle.os_ast.specs.declared.expr.Name.{Name}
 use Rattle.os_ast.specs.declared.names.Owner.TheVariants as owner
-use Rattle.static_laws.proofs.HasRoom.{room_less, room_stmts, room_in_body, room_item, owner_item}
+use Rattle.window_check_laws.proofs.HasRoom.{room_less, room_stmts, room_in_body, room_item, owner_item}
 use Rattle.window_check.proofs.Loops.{noted-loop}
-use Rattle.name_resolution.proofs.AddedViolations.{with_violation-global}
-use Rattle.name_resolution.proofs.Noted.{noted-append}
+use Rattle.window_check_names.proofs.AddedViolations.{with_violation-global}
+use Rattle.window_check_names.proofs.Noted.{noted-append}
 use Rattle.window_check.proofs.Restored.{ended_function}
-use Rattle.name_resolution.specs.Codes.{least_code}
-use Rattle.name_resolution.specs.Findings.{note, noted, with_violation}
-use Rattle.name_resolution.specs.declared.found.Found.{Found}
-use Rattle.static_laws.specs.Room.{HasRoom, stmts_weight, item_weight, items_weight, room_end}
-use Rattle.name_resolution.specs.Scopes.{around_of, ended, with_function}
+use Rattle.window_check_names.specs.Codes.{least_code}
+use Rattle.window_check_names.specs.Findings.{note, noted, with_violation}
+use Rattle.window_check_names.specs.declared.found.Found.{Found}
+use Rattle.window_check_laws.specs.Room.{HasRoom, stmts_weight, item_weight, items_weight, room_end}
+use Rattle.window_check_names.specs.Scopes.{around_of, ended, with_function}
 
 pub body-scope : (s begun inside : Scope) (names : List Name) (f : tree.FunctionTree) → names ≡ param_names f.params → begun ≡ in_function s f.name.id → inside ≡ after_params begun names → inside ≡ in_body s f
 body-scope s begun inside names f params begin given = rw (given, begin, params)

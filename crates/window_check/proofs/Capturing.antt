@@ -11,15 +11,15 @@ use Rattle.os_ast.specs.Stacked.{Stacked, main_extent}
 use Rattle.os_ast.specs.Trees as tree
 use Rattle.os_ast.specs.declared.names.Owner.{Owner}
 use Rattle.os_ast.specs.declared.names.Owner.TheVariants as owner
-use Rattle.static_laws.proofs.Collected.{collected}
-use Rattle.static_laws.proofs.Named.{named-body, slots_named-append}
-use Rattle.static_laws.specs.CapturedByUse.{used_slots, slots_named}
-use Rattle.static_laws.specs.Slots.{with_slots, named_slots}
-use Rattle.name_resolution.proofs.Listing.{slots-all, items-all, with_slots-append}
-use Rattle.name_resolution.specs.Findings.{noted, slots_found}
-use Rattle.name_resolution.specs.Parts.{ListedParts, none_listed, after_parts, after_names}
+use Rattle.window_check_laws.proofs.Collected.{collected}
+use Rattle.window_check_laws.proofs.Named.{named-body, slots_named-append}
+use Rattle.window_check_laws.specs.CapturedByUse.{used_slots, slots_named}
+use Rattle.window_check_laws.specs.Slots.{with_slots, named_slots}
+use Rattle.window_check_names.proofs.Listing.{slots-all, items-all, with_slots-append}
+use Rattle.window_check_names.specs.Findings.{noted, slots_found}
+use Rattle.window_check_names.specs.Parts.{ListedParts, none_listed, after_parts, after_names}
 use Rattle.window_check.specs.Statements.{in_named_task, listed_in}
-use Rattle.name_resolution.specs.declared.found.Found.TheVariants.{Listing}
+use Rattle.window_check_names.specs.declared.found.Found.TheVariants.{Listing}
 
 -- what a walk lists
 listed-all : (ns : List Note) (slots : List ℕ) → slots_found (noted (Listing slots) ns) ≡ with_slots (used_slots ns) slots

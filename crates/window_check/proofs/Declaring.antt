@@ -10,12 +10,12 @@ use Rattle.os_ast.specs.Trees as tree
 use Rattle.os_ast.specs.declared.names.Entity.{Entity}
 use Rattle.os_ast.specs.declared.names.Form.{Form}
 use Rattle.os_ast.specs.declared.names.What.{What}
-use Rattle.name_resolution.proofs.AddedViolations.{means-declared}
-use Rattle.name_resolution.proofs.Noted.{noted-append}
-use Rattle.name_resolution.specs.Codes.{least_code, lesser_code}
-use Rattle.name_resolution.specs.Findings.{note, noted, with_violation, means}
-use Rattle.name_resolution.specs.Sizes.{passes_limit}
-use Rattle.name_resolution.specs.declared.found.Found.{Found}
+use Rattle.window_check_names.proofs.AddedViolations.{means-declared}
+use Rattle.window_check_names.proofs.Noted.{noted-append}
+use Rattle.window_check_names.specs.Codes.{least_code, lesser_code}
+use Rattle.window_check_names.specs.Findings.{note, noted, with_violation, means}
+use Rattle.window_check_names.specs.Sizes.{passes_limit}
+use Rattle.window_check_names.specs.declared.found.Found.{Found}
 
 pub declarator-steps : (f named size : Found) (s after declared : Scope) (d : tree.DeclaratorTree) (fm : Form) (e : Entity) (c code : Option ℕ) (w : What) →
     fm ≡ form s d → e ≡ form_entity s fm → c ≡ least_code (when (passes_limit (taken s fm) fm) 15) →

@@ -8,10 +8,10 @@ use Rattle.os_ast.specs.Rules.{codes}
 use Rattle.os_ast.specs.Violations.{violated, violations_at, violations_of, IsBefore, earlier, same_place}
 use Rattle.os_ast.specs.declared.expr.Mark.{Mark}
 use Rattle.os_ast.specs.declared.violation.Violation.{Violation}
-use Rattle.name_resolution.specs.Codes.{least_code, lesser_code}
-use Rattle.name_resolution.specs.Findings.{before, lesser, least_with, judged, noted}
-use Rattle.name_resolution.specs.declared.found.Found.TheVariants.{Judging}
-use Rattle.name_resolution.specs.declared.found.Judged.{Judged}
+use Rattle.window_check_names.specs.Codes.{least_code, lesser_code}
+use Rattle.window_check_names.specs.Findings.{before, lesser, least_with, judged, noted}
+use Rattle.window_check_names.specs.declared.found.Found.TheVariants.{Judging}
+use Rattle.window_check_names.specs.declared.found.Judged.{Judged}
 
 abbrev pub least_of : Option Violation → List Violation → Option Violation
 least_of o [] = o

@@ -9,12 +9,12 @@ use Rattle.os_ast.specs.Views.{declarator_tree}
 use Rattle.os_ast.specs.declared.expr.Name.{Name}
 use Rattle.os_ast.specs.declared.stmt.Declarator.{Declarator}
 use Rattle.std.proofs.Math.Seq.{drop-cons}
-use Rattle.static_laws.proofs.HasRoom.{room_less, room_declarator, room_param}
-use Rattle.name_resolution.proofs.Noted.{noted-append}
-use Rattle.static_laws.proofs.Trees.{map-drop, declarators_notes-drop, after_declarators-drop}
-use Rattle.name_resolution.specs.Findings.{note, noted}
-use Rattle.name_resolution.specs.declared.found.Found.{Found}
-use Rattle.static_laws.specs.Room.{HasRoom, declarator_weight, declarators_weight}
+use Rattle.window_check_laws.proofs.HasRoom.{room_less, room_declarator, room_param}
+use Rattle.window_check_names.proofs.Noted.{noted-append}
+use Rattle.window_check_laws.proofs.Trees.{map-drop, declarators_notes-drop, after_declarators-drop}
+use Rattle.window_check_names.specs.Findings.{note, noted}
+use Rattle.window_check_names.specs.declared.found.Found.{Found}
+use Rattle.window_check_laws.specs.Room.{HasRoom, declarator_weight, declarators_weight}
 
 pub noted-loop : (f after : Found) (whole part rest : List Note) → whole ≡ part ++ rest → after ≡ noted f part → noted after rest ≡ noted f whole
 noted-loop f after whole part rest split step = rw (split, step) (sym (noted-append f part rest))

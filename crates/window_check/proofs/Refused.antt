@@ -12,11 +12,11 @@ use Rattle.os_ast.specs.Trees as tree
 use Rattle.os_ast.specs.Violations.{violated, violations_at, violations_of, resolutions_of, resolutions, captures_of, captures, captured_by_tasks, has_main, no_main, violations, names, IsBefore, earlier, same_place, IsRefusal}
 use Rattle.os_ast.specs.declared.expr.Mark.{Mark}
 use Rattle.os_ast.specs.declared.violation.Violation.{Violation}
-use Rattle.name_resolution.specs.Findings.{nothing_found, noted, judged, judged_in, pushed}
-use Rattle.name_resolution.specs.declared.found.Found.TheVariants.{Judging}
-use Rattle.name_resolution.specs.declared.found.Judged.{Judged}
+use Rattle.window_check_names.specs.Findings.{nothing_found, noted, judged, judged_in, pushed}
+use Rattle.window_check_names.specs.declared.found.Found.TheVariants.{Judging}
+use Rattle.window_check_names.specs.declared.found.Judged.{Judged}
 use Rattle.window_check.proofs.Least.{least_of, least_among, least_of-some, judged_all, noted-judging, noted-least, least-first, least-others, least-among, contains-tail}
-use Rattle.static_laws.proofs.Placed.{HasKept, AreOf, of-program}
+use Rattle.window_check_laws.proofs.Placed.{HasKept, AreOf, of-program}
 
 -- each mark is below the number of tokens
 below-length : (ps : List Symbol) (from n : ℕ) → from + length ps ≤ n → ((i : ℕ) (m : Mark) → HasMark ps i m → m.place ≡ from + i) → HasKept (λ m. m.place < n) ps

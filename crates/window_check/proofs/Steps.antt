@@ -11,13 +11,13 @@ use Rattle.os_ast.specs.Views.{expr_tree, stmt_tree, stmts_tree}
 use Rattle.os_ast.specs.declared.expr.Expr.{Expr}
 use Rattle.os_ast.specs.declared.stmt.Stmt.{Stmt}
 use Rattle.os_ast.specs.declared.stmt.Stmt.TheVariants as variant
-use Rattle.name_resolution.specs.Findings.{noted}
-use Rattle.static_laws.specs.Room.{HasRoom, stmt_weight, stmts_weight}
+use Rattle.window_check_names.specs.Findings.{noted}
+use Rattle.window_check_laws.specs.Room.{HasRoom, stmt_weight, stmts_weight}
 use Rattle.window_check.specs.Statements.{else_tree}
-use Rattle.name_resolution.specs.declared.found.Found.{Found}
-use Rattle.static_laws.proofs.HasRoom.{room_then, room_stmt}
-use Rattle.name_resolution.proofs.Noted.{noted-append}
-use Rattle.static_laws.proofs.Trees.{stmts_tree-drop}
+use Rattle.window_check_names.specs.declared.found.Found.{Found}
+use Rattle.window_check_laws.proofs.HasRoom.{room_then, room_stmt}
+use Rattle.window_check_names.proofs.Noted.{noted-append}
+use Rattle.window_check_laws.proofs.Trees.{stmts_tree-drop}
 
 -- what is found of two parts
 pub found-two : (f g h : Found) (a b : List Note) → g ≡ noted f a → h ≡ noted g b → h ≡ noted f (a ++ b)

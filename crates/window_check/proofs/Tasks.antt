@@ -9,17 +9,17 @@ use Rattle.os_ast.specs.Parts.{Part, count_items}
 use Rattle.os_ast.specs.Trees as tree
 use Rattle.os_ast.specs.declared.expr.Mark.{Mark}
 use Rattle.os_ast.specs.declared.names.Owner.{Owner}
-use Rattle.name_resolution.proofs.AddedViolations.{started-task}
-use Rattle.static_laws.proofs.HasRoom.{room_less, room_in_task, room_items, captured_few}
-use Rattle.name_resolution.proofs.Listing.{items-all, count-all}
+use Rattle.window_check_names.proofs.AddedViolations.{started-task}
+use Rattle.window_check_laws.proofs.HasRoom.{room_less, room_in_task, room_items, captured_few}
+use Rattle.window_check_names.proofs.Listing.{items-all, count-all}
 use Rattle.window_check.proofs.Capturing.{listed-captured}
-use Rattle.name_resolution.proofs.Noted.{noted-append}
-use Rattle.name_resolution.specs.Findings.{note, noted, started}
-use Rattle.name_resolution.specs.Parts.{ListedParts, none_listed, after_parts, after_names}
-use Rattle.static_laws.specs.Room.{HasRoom, room_end}
+use Rattle.window_check_names.proofs.Noted.{noted-append}
+use Rattle.window_check_names.specs.Findings.{note, noted, started}
+use Rattle.window_check_names.specs.Parts.{ListedParts, none_listed, after_parts, after_names}
+use Rattle.window_check_laws.specs.Room.{HasRoom, room_end}
 use Rattle.window_check.specs.Statements.{in_named_task, listed_in}
-use Rattle.name_resolution.specs.declared.found.Found.{Found}
-use Rattle.name_resolution.specs.declared.parts.ItemName.{ItemName}
+use Rattle.window_check_names.specs.declared.found.Found.{Found}
+use Rattle.window_check_names.specs.declared.parts.ItemName.{ItemName}
 
 named-scope : (s : Scope) (slots : List ℕ) (l : ListedParts) (ps : List Part) (items : List ItemName) → l ≡ after_parts s none_listed ps → items ≡ l.items →
     in_named_task s slots items ≡ with_items s (in_task s slots) 0 ps

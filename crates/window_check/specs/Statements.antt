@@ -11,10 +11,10 @@ use Rattle.os_ast.specs.Views.{stmt_tree}
 use Rattle.os_ast.specs.declared.names.Owner.{Owner}
 use Rattle.os_ast.specs.declared.names.Owner.TheVariants as owner
 use Rattle.os_ast.specs.declared.stmt.Stmt.{Stmt}
-use Rattle.name_resolution.specs.Findings.{noted, slots_found}
-use Rattle.name_resolution.specs.Parts.{after_names}
-use Rattle.name_resolution.specs.declared.found.Found.TheVariants.{Listing}
-use Rattle.name_resolution.specs.declared.parts.ItemName.{ItemName}
+use Rattle.window_check_names.specs.Findings.{noted, slots_found}
+use Rattle.window_check_names.specs.Parts.{after_names}
+use Rattle.window_check_names.specs.declared.found.Found.TheVariants.{Listing}
+use Rattle.window_check_names.specs.declared.parts.ItemName.{ItemName}
 
 -- what stands behind `else`: where there is none, it is as if nothing stood there
 abbrev pub else_tree : Option (Box Stmt Global) → tree.StmtTree

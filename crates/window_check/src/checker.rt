@@ -5,18 +5,18 @@ ghost use Rattle.os_ast.specs.Notes.Programs.{file, after_items, program_notes};
 ghost use Rattle.os_ast.specs.Spelling.{spell};
 ghost use Rattle.os_ast.specs.Views.{program_tree};
 ghost use Rattle.os_lexer.specs.Limits.{text_limit};
-ghost use Rattle.name_resolution.specs.Findings.{nothing_found, noted, judged_in};
+ghost use Rattle.window_check_names.specs.Findings.{nothing_found, noted, judged_in};
 ghost use Rattle.window_check.specs.Refusal.{IsAnswer};
-ghost use Rattle.static_laws.specs.Room.{HasRoom, items_weight};
-ghost use Rattle.name_resolution.specs.declared.found.Found.TheVariants as findings;
+ghost use Rattle.window_check_laws.specs.Room.{HasRoom, items_weight};
+ghost use Rattle.window_check_names.specs.declared.found.Found.TheVariants as findings;
 
 use crate::check_error::CheckError;
 use crate::checked::Checked;
 use crate::functions::{has_main, items};
-use name_resolution::{Found, Judged, Scopes, codes};
 use os_ast::Program;
 use os_io::Memory;
 use std::alloc::Global;
+use window_check_names::{Found, Judged, Scopes, codes};
 
 /// What a walk over a program finds, where nothing is in scope yet.
 fn judge(alloc: Global, scopes: &mut Scopes, program: &Program) -> Result<Judged, Memory>

@@ -5,15 +5,15 @@ ghost use Rattle.os_ast.specs.Notes.Declarators.{form, sized_form, is_window, si
 ghost use Rattle.os_ast.specs.Names.{is_declared};
 ghost use Rattle.os_ast.specs.Rules.{is_outermost, when};
 ghost use Rattle.os_ast.specs.Views.{declarator_tree, index_tree, start_tree};
-ghost use Rattle.name_resolution.specs.Codes.{least_code, lesser_code};
-ghost use Rattle.name_resolution.specs.Findings.{noted};
-ghost use Rattle.static_laws.specs.Room.{HasRoom, declarator_weight, declarators_weight, start_weight};
+ghost use Rattle.window_check_names.specs.Codes.{least_code, lesser_code};
+ghost use Rattle.window_check_names.specs.Findings.{noted};
+ghost use Rattle.window_check_laws.specs.Room.{HasRoom, declarator_weight, declarators_weight, start_weight};
 
-use name_resolution::codes::{self, lesser, when};
-use name_resolution::expressions::{change, expr, value};
-use name_resolution::{Found, Scopes, meaning, size_name, size_of};
 use os_ast::{Declarator, Form, Index, Owner, Start};
 use os_io::{List, Memory};
+use window_check_names::codes::{self, lesser, when};
+use window_check_names::expressions::{change, expr, value};
+use window_check_names::{Found, Scopes, meaning, size_name, size_of};
 
 /// What a declarator with a size, which isn't a stream, declares.
 fn sized_form(owner: Owner, size: Option<u32>) -> Form

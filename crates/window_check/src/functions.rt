@@ -4,7 +4,7 @@ ghost use Rattle.std.specs.Prelude.{◌≡◌, ◌≤◌, ◌<◌, ◌+◌, ◌^
 ghost use Rattle.os_ast.specs.Leveled.{IsItem, AreAll};
 ghost use Rattle.os_ast.specs.Names.{constant_value, is_declared};
 ghost use Rattle.os_ast.specs.Rules.{when};
-ghost use Rattle.name_resolution.specs.Codes.{least_code};
+ghost use Rattle.window_check_names.specs.Codes.{least_code};
 ghost use Rattle.os_ast.specs.Notes.Kinds.{Given};
 ghost use Rattle.os_ast.specs.Notes.Programs.{owner_of, param_names, after_param, after_params, params_notes, after_item, item_notes, after_items, items_notes, in_function};
 ghost use Rattle.os_ast.specs.Trees as tree;
@@ -12,17 +12,17 @@ ghost use Rattle.os_ast.specs.Views.{item_tree};
 ghost use Rattle.os_ast.specs.Violations.{is_main, has_main};
 ghost use Rattle.os_ast.specs.declared.names.Owner.TheVariants as owners;
 ghost use Rattle.os_ast.specs.declared.program.Item.TheVariants as variant;
-ghost use Rattle.name_resolution.specs.Findings.{note, noted};
-ghost use Rattle.static_laws.specs.Room.{HasRoom, item_weight, items_weight, room_end};
-ghost use Rattle.name_resolution.specs.Scopes.{around_of};
+ghost use Rattle.window_check_names.specs.Findings.{note, noted};
+ghost use Rattle.window_check_laws.specs.Room.{HasRoom, item_weight, items_weight, room_end};
+ghost use Rattle.window_check_names.specs.Scopes.{around_of};
 
 use crate::statements::stmts;
-use name_resolution::codes::{self, when};
-use name_resolution::{Around, Found, Scopes, meaning};
 use os_ast::{Constant, Entity, Form, Function, Item, Name, Owner, Params};
 use os_io::{List, Memory};
 use os_lexer::names::MAIN;
 use std::alloc::Global;
+use window_check_names::codes::{self, when};
+use window_check_names::{Around, Found, Scopes, meaning};
 
 /// Whose body that of a function with this name is: the control program is the function `main`.
 fn owner_of(id: u32) -> Owner
@@ -62,7 +62,7 @@ fn twice(scopes: &Scopes, name: Name) -> Option<u8>
 }
 
 /// A parameter.
-#[tactic(auto, using(name_resolution::proofs::AddedViolations::added_notes))]
+#[tactic(auto, using(window_check_names::proofs::AddedViolations::added_notes))]
 fn param(scopes: &mut Scopes, found: &mut Found, name: Name) -> Result<(), Memory>
     requires { HasRoom scopes.old 1 }
     ensures scopes { OnOk result (scopes.new ≡ after_param scopes.old name) }
@@ -87,7 +87,7 @@ fn params(scopes: &mut Scopes, found: &mut Found, names: &[Name]) -> Result<(), 
 }
 
 /// A constant.
-#[tactic(auto, using(name_resolution::proofs::AddedViolations::added_notes))]
+#[tactic(auto, using(window_check_names::proofs::AddedViolations::added_notes))]
 fn constant(scopes: &mut Scopes, found: &mut Found, constant: &Constant) -> Result<(), Memory>
     requires { constant.now.size < 2 ^ 31 }
     ensures scopes { OnOk result (scopes.new ≡ after_item scopes.old (tree.Constant constant.now)) }

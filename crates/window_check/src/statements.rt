@@ -8,21 +8,21 @@ ghost use Rattle.os_ast.specs.Rules.{is_main_body, is_task_body, when};
 ghost use Rattle.os_ast.specs.Trees as tree;
 ghost use Rattle.os_ast.specs.Views.{expr_tree, target_tree, change_tree, clause_tree, start_tree, stmt_tree, stmts_tree};
 ghost use Rattle.std.specs.Prelude.{not};
-ghost use Rattle.name_resolution.specs.Codes.{least_code};
-ghost use Rattle.name_resolution.specs.Findings.{noted};
-ghost use Rattle.static_laws.specs.Room.{HasRoom, stmt_weight, stmts_weight, start_weight, room_end};
+ghost use Rattle.window_check_names.specs.Codes.{least_code};
+ghost use Rattle.window_check_names.specs.Findings.{noted};
+ghost use Rattle.window_check_laws.specs.Room.{HasRoom, stmt_weight, stmts_weight, start_weight, room_end};
 ghost use Rattle.window_check.specs.Statements.{else_tree, in_named_task, listed_in};
 ghost use Rattle.os_ast.specs.declared.names.Owner.TheVariants as owners;
 
 use crate::declarators::{declarators, start};
-use name_resolution::clauses::clauses;
-use name_resolution::codes::{self, when};
-use name_resolution::expressions::{called, change, expr, place, step, value};
-use name_resolution::parts::{ItemName, declare_items};
-use name_resolution::{Captured, Found, Scopes, Slots};
 use os_ast::{Direction, Head, Owner, Role, Stmt, TaskSite, TickSite};
 use os_io::{List, Memory};
 use std::alloc::Global;
+use window_check_names::clauses::clauses;
+use window_check_names::codes::{self, when};
+use window_check_names::expressions::{called, change, expr, place, step, value};
+use window_check_names::parts::{ItemName, declare_items};
+use window_check_names::{Captured, Found, Scopes, Slots};
 
 /// A pragma stands outside `main` or inside a task.
 fn pragma_code(owner: Owner) -> Option<u8>
@@ -180,7 +180,7 @@ fn for_loop(
 }
 
 /// A tick.
-#[tactic(auto, using(name_resolution::proofs::AddedViolations::added_notes))]
+#[tactic(auto, using(window_check_names::proofs::AddedViolations::added_notes))]
 fn tick(scopes: &Scopes, found: &mut Found, site: &TickSite) -> Result<(), Memory>
     ensures { OnOk result (found.new ≡ noted found.old (stmt_notes scopes.now (tree.Tick site.now.mark (target_tree site.now.stream) site.now.arrow (expr_tree site.now.amount)))) }
 {

@@ -2,8 +2,8 @@
 
 use super::accepted;
 use crate::counted::COUNTED;
+use cddf_meaning_plain::{plain_body, plain_control};
 use flow_core::{Claim, ControlEnd, TaskEnd};
-use plain_meaning::{plain_body, plain_control};
 use std::alloc::Global;
 use std::process::Abort;
 use std::test::Fail;

@@ -2,7 +2,7 @@ use Rattle.std.proofs.Common.{subst, sym}
 use Rattle.lowering.proofs.ProgramRuns.{runs_bodies, runs_control}
 use Rattle.os_ast.specs.Views.{program_tree}
 use Rattle.os_code.specs.Codes.{parts_of}
-use Rattle.simulation.specs.Laws.{StandsFor}
+use Rattle.lowering_relation.specs.Laws.{StandsFor}
 use Rattle.lowering.proofs.compiler.lower.Goals as goal
 
 pub returns-clause-bodies : goal.returns-clause-bodies

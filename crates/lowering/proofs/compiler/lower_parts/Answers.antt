@@ -1,4 +1,4 @@
-use Rattle.emission.proofs.ProgramLaws.{few_instrs, is_tiled, stands_for}
+use Rattle.lowering_draft.proofs.ProgramLaws.{few_instrs, is_tiled, stands_for}
 use Rattle.lowering.proofs.compiler.lower_parts.Goals as goal
 
 pub returns-clause-stands : goal.returns-clause-stands

@@ -1,8 +1,8 @@
 use Rattle.std.proofs.Common.{◌≡◌, drop, map}
-use Rattle.emission.specs.Emission.Tasks.{items_code}
+use Rattle.lowering_draft.specs.Emission.Tasks.{items_code}
 use Rattle.os_ast.specs.Parts.{Item}
 use Rattle.os_ast.specs.Views.{clause_item_tree}
-use Rattle.simulation.specs.Names.{told_at}
+use Rattle.lowering_relation.specs.Names.{told_at}
 use Rattle.lowering.proofs.items.emit_all.Given as goal
 
 abbrev pub invariant-loop-item : goal.invariant-loop-item

@@ -1,8 +1,8 @@
 use Rattle.std.proofs.Common.{◌≡◌, drop, map}
-use Rattle.emission.specs.Emission.Tasks.{items_code}
+use Rattle.lowering_draft.specs.Emission.Tasks.{items_code}
 use Rattle.os_ast.specs.Parts.{parts}
 use Rattle.os_ast.specs.Views.{clause_tree}
-use Rattle.simulation.specs.Names.{told_at}
+use Rattle.lowering_relation.specs.Names.{told_at}
 use Rattle.lowering.proofs.items.emit_items.Given as goal
 
 abbrev pub invariant-loop-clause : goal.invariant-loop-clause

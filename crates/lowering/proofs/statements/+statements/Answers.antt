@@ -1,12 +1,12 @@
 use Rattle.std.proofs.Common.{◌≡◌, ◌∙◌, ◌+◌, ◌-◌, ◌<◌, List, Some, None, length, drop, get_or, option_map, ap, sym, subst, arith}
 use Rattle.lowering.proofs.Blocks.{tail_all, tail_next}
 use Rattle.lowering.proofs.Loops.{for_made, for_with_step_made}
-use Rattle.emission.specs.Emission.Statements.{stmt_code, tail_code}
+use Rattle.lowering_draft.specs.Emission.Statements.{stmt_code, tail_code}
 use Rattle.os_ast.specs.Trees as tree
 use Rattle.os_ast.specs.Views.{change_tree, expr_tree, start_tree, stmt_tree, stmts_tree}
 use Rattle.os_ast.specs.declared.stmt.Head.{Head}
 use Rattle.os_ast.specs.declared.stmt.Stmt.{Stmt}
-use Rattle.simulation.specs.Names.{told_at}
+use Rattle.lowering_relation.specs.Names.{told_at}
 use Rattle.lowering.proofs.statements.+statements.Goals as goal
 
 pub emit_block-loop-stmt-init : goal.emit_block-loop-stmt-init

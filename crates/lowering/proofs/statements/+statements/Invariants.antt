@@ -1,7 +1,7 @@
 use Rattle.std.proofs.Common.{◌≡◌, ◌+◌, drop, length}
-use Rattle.emission.specs.Emission.Statements.{block_code, tail_code}
+use Rattle.lowering_draft.specs.Emission.Statements.{block_code, tail_code}
 use Rattle.os_ast.specs.Views.{stmts_tree}
-use Rattle.simulation.specs.Names.{told_at}
+use Rattle.lowering_relation.specs.Names.{told_at}
 use Rattle.lowering.proofs.statements.+statements.Given as goal
 
 abbrev pub invariant-emit_block-loop-stmt : goal.invariant-emit_block-loop-stmt

@@ -1,7 +1,7 @@
 use Rattle.std.proofs.Common.{◌≡◌, drop}
-use Rattle.emission.specs.Emission.TaskUnits.{with_block_tasks}
+use Rattle.lowering_draft.specs.Emission.TaskUnits.{with_block_tasks}
 use Rattle.os_ast.specs.Views.{stmts_tree}
-use Rattle.simulation.specs.Names.{told_at}
+use Rattle.lowering_relation.specs.Names.{told_at}
 use Rattle.lowering.proofs.tasks.+tasks.Given as goal
 
 abbrev pub invariant-add_all_tasks-loop-stmt : goal.invariant-add_all_tasks-loop-stmt

@@ -1,6 +1,6 @@
 use Rattle.std.proofs.Common.{◌≡◌, drop, map}
 use Rattle.os_ast.specs.Views.{item_tree}
-use Rattle.simulation.specs.Tasks.{program_tasks}
+use Rattle.lowering_relation.specs.Tasks.{program_tasks}
 use Rattle.lowering.proofs.tasks.add_program_tasks.Given as goal
 
 abbrev pub invariant-loop-item : goal.invariant-loop-item

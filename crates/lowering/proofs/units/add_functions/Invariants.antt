@@ -1,7 +1,7 @@
 use Rattle.std.proofs.Common.{◌≡◌, drop, map}
-use Rattle.emission.specs.Emission.Units.{with_functions}
+use Rattle.lowering_draft.specs.Emission.Units.{with_functions}
 use Rattle.os_ast.specs.Views.{item_tree}
-use Rattle.simulation.specs.Names.{told_at}
+use Rattle.lowering_relation.specs.Names.{told_at}
 use Rattle.lowering.proofs.units.add_functions.Given as goal
 
 abbrev pub invariant-loop-item : goal.invariant-loop-item

@@ -2,10 +2,10 @@ use Rattle.std.proofs.Common.{◌≡◌, ◌+◌, ◌-◌, suc, [], ◌∷◌, �
 use Rattle.std.proofs.lemmas.Result.{err_from_is_err_and}
 use Rattle.std.proofs.lemmas.List.{length_push}
 use Rattle.os_ast.specs.Views.{item_tree}
-use Rattle.productions.specs.Statements.{inner, many, is_more, item, program}
-use Rattle.productions.proofs.Lists as lists
-use Rattle.expr_parser.proofs.Refusals.{refuses-on}
-use Rattle.productions.proofs.Taken.{item-some}
+use Rattle.os_parser_grammar.specs.Statements.{inner, many, is_more, item, program}
+use Rattle.os_parser_grammar.proofs.Lists as lists
+use Rattle.os_parser_expressions.proofs.Refusals.{refuses-on}
+use Rattle.os_parser_grammar.proofs.Taken.{item-some}
 use Rattle.os_parser.proofs.program.program.Goals as goal
 
 pub loop-alloc-init : goal.loop-alloc-init

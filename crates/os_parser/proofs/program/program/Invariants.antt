@@ -1,7 +1,7 @@
 use Rattle.std.proofs.Common.{◌≡◌, ◌+◌, ◌-◌, ◌≤◌, suc, length}
 use Rattle.os_ast.specs.Views.{item_tree}
-use Rattle.productions.specs.Statements.{inner, many, is_more, item, program}
-use Rattle.productions.proofs.Lists.{with_list}
+use Rattle.os_parser_grammar.specs.Statements.{inner, many, is_more, item, program}
+use Rattle.os_parser_grammar.proofs.Lists.{with_list}
 use Rattle.os_parser.proofs.program.program.Given as goal
 
 abbrev pub invariant-loop-alloc : goal.invariant-loop-alloc

@@ -1,10 +1,10 @@
 use Rattle.std.proofs.Common.{◌≡◌, map}
 use Rattle.std.proofs.lemmas.Result.{err_from_is_err_and}
 use Rattle.os_ast.specs.Views.{item_tree}
-use Rattle.productions.specs.Statements.{inner, program}
-use Rattle.expr_parser.specs.Gives.{Refuses}
-use Rattle.expr_parser.specs.declared.parse_error.ParseError.TheVariants as errors
-use Rattle.productions.proofs.Programs.{whole, never}
+use Rattle.os_parser_grammar.specs.Statements.{inner, program}
+use Rattle.os_parser_expressions.specs.Gives.{Refuses}
+use Rattle.os_parser_expressions.specs.declared.parse_error.ParseError.TheVariants as errors
+use Rattle.os_parser_grammar.proofs.Programs.{whole, never}
 use Rattle.os_parser.proofs.reading.parse.Goals as goal
 
 pub returns-in_err-items-clause-refused : goal.returns-in_err-items-clause-refused

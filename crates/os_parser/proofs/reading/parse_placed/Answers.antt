@@ -2,13 +2,13 @@ use Rattle.std.proofs.Common.{◌≡◌, ◌≤◌, ◌-◌, length, List, map, 
 use Rattle.os_ast.specs.Means.{Placed, placed_from}
 use Rattle.os_ast.specs.Views.{item_tree}
 use Rattle.os_lexer.specs.declared.token.Token.{Token}
-use Rattle.productions.specs.Reading.{fails}
-use Rattle.productions.specs.Statements.{inner, program}
-use Rattle.expr_parser.specs.Gives.{Refuses}
-use Rattle.expr_parser.specs.declared.parse_error.ParseError.TheVariants as errors
+use Rattle.os_parser_grammar.specs.Reading.{fails}
+use Rattle.os_parser_grammar.specs.Statements.{inner, program}
+use Rattle.os_parser_expressions.specs.Gives.{Refuses}
+use Rattle.os_parser_expressions.specs.declared.parse_error.ParseError.TheVariants as errors
 use Rattle.os_parser.specs.Refusals.{line_at, IsPlaced}
-use Rattle.productions.proofs.Programs.{whole, never}
-use Rattle.refusal_places.proofs.PlaceOfRefusal.{place, rest-within}
+use Rattle.os_parser_grammar.proofs.Programs.{whole, never}
+use Rattle.os_parser_places.proofs.PlaceOfRefusal.{place, rest-within}
 use Rattle.os_parser.proofs.reading.parse_placed.Goals as goal
 
 pub syntax_error-requires-clause-left : goal.syntax_error-requires-clause-left

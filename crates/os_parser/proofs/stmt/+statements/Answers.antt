@@ -4,11 +4,11 @@ use Rattle.std.proofs.lemmas.List.{length_push}
 use Rattle.os_ast.specs.Views.{stmt_tree}
 use Rattle.os_lexer.specs.declared.token.Kind.TheVariants as kind
 use Rattle.os_lexer.specs.declared.token.Punct.TheVariants as puncts
-use Rattle.productions.specs.Reading.{begins}
-use Rattle.productions.specs.Statements.{inner, inner_item, stmts, block}
-use Rattle.productions.proofs.Blocks as blocks
-use Rattle.expr_parser.proofs.Refusals.{refuses-on}
-use Rattle.productions.proofs.Taken.{inner_item-some}
+use Rattle.os_parser_grammar.specs.Reading.{begins}
+use Rattle.os_parser_grammar.specs.Statements.{inner, inner_item, stmts, block}
+use Rattle.os_parser_grammar.proofs.Blocks as blocks
+use Rattle.os_parser_expressions.proofs.Refusals.{refuses-on}
+use Rattle.os_parser_grammar.proofs.Taken.{inner_item-some}
 use Rattle.os_parser.proofs.stmt.+statements.Goals as goal
 
 pub block-loop-alloc-init : goal.block-loop-alloc-init

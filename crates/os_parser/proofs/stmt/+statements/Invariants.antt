@@ -1,6 +1,6 @@
 use Rattle.std.proofs.Common.{◌-◌, ◌≡◌, ◌+◌, ◌≤◌, length, suc, ◌*◌}
-use Rattle.productions.specs.Statements.{inner, inner_item, stmts, block}
-use Rattle.productions.proofs.Blocks.{with_stmts}
+use Rattle.os_parser_grammar.specs.Statements.{inner, inner_item, stmts, block}
+use Rattle.os_parser_grammar.proofs.Blocks.{with_stmts}
 use Rattle.os_parser.proofs.stmt.+statements.Given as goal
 
 abbrev pub decreases-block : goal.decreases-block

@@ -1,5 +1,5 @@
 use Rattle.std.proofs.Common.{inr, subst}
-use Rattle.command_io.specs.Refuses.{Refuses}
+use Rattle.osrun_core_files.specs.Refuses.{Refuses}
 use Rattle.osrun_core.proofs.answer_job.answer_job.Goals as goal
 
 pub returns-in-Err-clause-answers : goal.returns-in-Err-clause-answers

@@ -1,6 +1,6 @@
 use Rattle.std.proofs.Common.{◌∙◌, Some, ap, refl}
 use Rattle.std.specs.Prelude.{option_and_then}
-use Rattle.command_line.specs.Jobs.{request_of, run_in}
+use Rattle.osrun_core_words.specs.Jobs.{request_of, run_in}
 use Rattle.osrun_core.proofs.Answered.{untroubled_answer, delivered_answer, opened_answer, refused_answer, undelivered_answer, too_long_answer}
 use Rattle.osrun_core.proofs.command.run_words.Goals as goal
 

@@ -4,11 +4,11 @@ use Rattle.collector.specs.Status.{status}
 use Rattle.front_end.specs.Texts.{IsAccepted}
 use Rattle.os_ast.specs.Views.{program_tree}
 use Rattle.osrun_core.proofs.GenRan.{generated_few, told}
-use Rattle.command_line.specs.Jobs.{gen_of}
+use Rattle.osrun_core_words.specs.Jobs.{gen_of}
 use Rattle.osrun_core.specs.Gen.{four_lines, gen_budget}
-use Rattle.program_run.specs.Refusal.{IsRefusalOf}
-use Rattle.program_run.specs.RunOf.{IsRunOf}
-use Rattle.program_run.specs.declared.refusal.Refusal.TheVariants as refusals
+use Rattle.osrun_core_run.specs.Refusal.{IsRefusalOf}
+use Rattle.osrun_core_run.specs.RunOf.{IsRunOf}
+use Rattle.osrun_core_run.specs.declared.refusal.Refusal.TheVariants as refusals
 use Rattle.osrun_core.proofs.gen_text.gen_text.Goals as goal
 
 pub run_program-requires-clause-few : goal.run_program-requires-clause-few

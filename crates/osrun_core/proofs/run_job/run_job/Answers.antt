@@ -6,12 +6,12 @@ use Rattle.os_io.specs.Counts.{raised}
 use Rattle.osrun_core.proofs.Accepted.{only_memory}
 use Rattle.osrun_core.proofs.Came.{may_open_program, may_open_input, cause_of_program, cause_of_text, cause_of_input, program_read, only_fault, in_order_both, of_program, of_input}
 use Rattle.osrun_core.proofs.Ran.{answers}
-use Rattle.command_line.specs.Jobs.{job_of}
+use Rattle.osrun_core_words.specs.Jobs.{job_of}
 use Rattle.osrun_core.specs.Loading.{IsReadable}
-use Rattle.program_run.specs.Refusal.{IsRefusalOf}
-use Rattle.program_run.specs.RunOf.{IsRunOf}
-use Rattle.program_run.specs.declared.refusal.Refusal.TheVariants as refusals
-use Rattle.program_run.specs.declared.refusal.Subject.TheVariants as subjects
+use Rattle.osrun_core_run.specs.Refusal.{IsRefusalOf}
+use Rattle.osrun_core_run.specs.RunOf.{IsRunOf}
+use Rattle.osrun_core_run.specs.declared.refusal.Refusal.TheVariants as refusals
+use Rattle.osrun_core_run.specs.declared.refusal.Subject.TheVariants as subjects
 use Rattle.osrun_core.proofs.run_job.run_job.Goals as goal
 
 pub load-requires : goal.load-requires

@@ -1,5 +1,5 @@
 use Rattle.std.proofs.Common.{◌∙◌, map, sym, subst, ap}
-use Rattle.epoch_law.specs.Epoch.{value_kept}
+use Rattle.flow_core_epochs.specs.Epoch.{value_kept}
 use Rattle.stream_match.specs.EpochPlan.{WrittenOutside, epoch_weave}
 use Rattle.stream_match.specs.EpochCode.{kept_of, place_of}
 use Rattle.stream_match.proofs.EpochWeave.{can_weave}

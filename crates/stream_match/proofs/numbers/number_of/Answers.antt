@@ -11,7 +11,7 @@ returns-in-Ok c =
     let xs = c.args.frames.now in
     let x = c.args.activation in
     let s = subst (λ r. MatchResult r (λ i. (i < length xs) × (get_or xs i 0 ≡ x)) (λ i. (i ≤ length xs) × ((k : ℕ) → k < i → get_or xs k 0 < x) × ((k : ℕ) → i ≤ k → k < length xs → x < get_or xs k 0))) c.in-Ok.is
-        (searched xs x c.binary_search.result c.binary_search.ensures.position (ascend-rise xs c.requires.ascend)) in
+    (searched xs x c.binary_search.result c.binary_search.ensures.position (ascend-rise xs c.requires.ascend)) in
     sym (found_number xs x c.in-Ok.number c.requires.ascend s.0 s.1)
 
 pub returns-in-Err : goal.returns-in-Err
@@ -19,5 +19,5 @@ returns-in-Err c =
     let xs = c.args.frames.now in
     let x = c.args.activation in
     let s = subst (λ r. MatchResult r (λ i. (i < length xs) × (get_or xs i 0 ≡ x)) (λ i. (i ≤ length xs) × ((k : ℕ) → k < i → get_or xs k 0 < x) × ((k : ℕ) → i ≤ k → k < length xs → x < get_or xs k 0))) c.in-Err.is
-        (searched xs x c.binary_search.result c.binary_search.ensures.position (ascend-rise xs c.requires.ascend)) in
+    (searched xs x c.binary_search.result c.binary_search.ensures.position (ascend-rise xs c.requires.ascend)) in
     sym (no_number xs x (λ k lt e. elim (cases_lt k c.in-Err.field-0) [ inl less ↦ absurd (omega (arith, s.1 k less)) | inr ge ↦ absurd (omega (arith, s.2 k ge lt)) ]))

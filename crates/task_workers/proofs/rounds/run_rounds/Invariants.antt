@@ -2,7 +2,7 @@ use Rattle.std.proofs.Common.{◌≤◌, length, count_by, All}
 use Rattle.std.specs.Prelude.{is_none}
 use Rattle.flow_core.specs.Plans.{plan_meaning}
 use Rattle.flow_core.specs.Board.{IsRun}
-use Rattle.round_workers.specs.declared.worker.Worker.{Worker}
+use Rattle.task_workers_round.specs.declared.worker.Worker.{Worker}
 use Rattle.task_workers.proofs.rounds.run_rounds.Given as goal
 
 abbrev pub invariant-loop-turn : goal.invariant-loop-turn

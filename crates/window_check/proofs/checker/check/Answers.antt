@@ -5,11 +5,11 @@ use Rattle.os_ast.specs.Spelling.{spell}
 use Rattle.os_ast.specs.Trees.{ProgramTree}
 use Rattle.os_ast.specs.Views.{program_tree}
 use Rattle.os_ast.specs.declared.violation.Violation.{Violation}
-use Rattle.static_laws.specs.Room.{items_weight, room_end}
-use Rattle.name_resolution.specs.declared.found.Judged.{Judged}
-use Rattle.static_laws.proofs.HasRoom.{room_less, room_items_of_file}
+use Rattle.window_check_laws.specs.Room.{items_weight, room_end}
+use Rattle.window_check_names.specs.declared.found.Judged.{Judged}
+use Rattle.window_check_laws.proofs.HasRoom.{room_less, room_items_of_file}
 use Rattle.window_check.proofs.Refused.{all_judged, refused, refused-end, lawful, found-names, found-captured}
-use Rattle.static_laws.proofs.Weights.{room}
+use Rattle.window_check_laws.proofs.Weights.{room}
 use Rattle.window_check.proofs.checker.check.Goals as goal
 
 -- how many streams it has

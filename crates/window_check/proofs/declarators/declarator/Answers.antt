@@ -1,7 +1,7 @@
 use Rattle.std.proofs.lemmas.Result.{IfOk-equal}
 use Rattle.os_ast.specs.Views.{declarator_tree}
 use Rattle.window_check.proofs.Declaring.{declarator-steps}
-use Rattle.static_laws.proofs.HasRoom.{room_form}
+use Rattle.window_check_laws.proofs.HasRoom.{room_form}
 use Rattle.window_check.proofs.declarators.declarator.Goals as goal
 
 pub form_entity-entity-requires : goal.form_entity-entity-requires

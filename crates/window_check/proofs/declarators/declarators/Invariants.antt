@@ -1,8 +1,8 @@
 use Rattle.std.proofs.Common.{◌≡◌, drop, map}
 use Rattle.os_ast.specs.Notes.Declarators.{after_declarators, declarators_notes}
 use Rattle.os_ast.specs.Views.{declarator_tree}
-use Rattle.name_resolution.specs.Findings.{noted}
-use Rattle.static_laws.specs.Room.{HasRoom, declarators_weight}
+use Rattle.window_check_names.specs.Findings.{noted}
+use Rattle.window_check_laws.specs.Room.{HasRoom, declarators_weight}
 use Rattle.window_check.proofs.declarators.declarators.Given as goal
 
 abbrev pub invariant-loop-next : goal.invariant-loop-next

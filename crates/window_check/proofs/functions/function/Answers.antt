@@ -5,9 +5,9 @@ use Rattle.os_ast.specs.Trees as tree
 use Rattle.os_ast.specs.Views.{stmts_tree}
 use Rattle.os_ast.specs.declared.program.Function.{Function}
 use Rattle.window_check.proofs.Bodies.{body-scope, function-room, function-scope, function-found}
-use Rattle.static_laws.proofs.HasRoom.{room_for_body}
-use Rattle.name_resolution.specs.Findings.{with_violation}
-use Rattle.name_resolution.specs.Scopes.{around_of, ended}
+use Rattle.window_check_laws.proofs.HasRoom.{room_for_body}
+use Rattle.window_check_names.specs.Findings.{with_violation}
+use Rattle.window_check_names.specs.Scopes.{around_of, ended}
 use Rattle.window_check.proofs.functions.function.Goals as goal
 
 abbrev viewed : Function → tree.FunctionTree

@@ -1,7 +1,7 @@
 use Rattle.std.proofs.Common.{◌<◌, ◌+◌, ◌≡◌, ◌∷◌, length, get_or, drop, map, ap, arith}
 use Rattle.os_ast.specs.Views.{item_tree}
 use Rattle.window_check.proofs.Bodies.{items_room-first, items_room-rest, items_leveled-first, items_leveled-rest, items_scopes-rest, items_found-rest, items_owner-rest}
-use Rattle.static_laws.proofs.Trees.{map-drop}
+use Rattle.window_check_laws.proofs.Trees.{map-drop}
 use Rattle.window_check.proofs.functions.items.Goals as goal
 
 pub item-requires-clause-room : goal.item-requires-clause-room

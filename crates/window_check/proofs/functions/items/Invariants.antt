@@ -3,8 +3,8 @@ use Rattle.os_ast.specs.Leveled.{AreAll, IsItem}
 use Rattle.os_ast.specs.Notes.Programs.{after_items, items_notes}
 use Rattle.os_ast.specs.Views.{item_tree}
 use Rattle.os_ast.specs.declared.names.Owner.TheVariants as owner
-use Rattle.name_resolution.specs.Findings.{noted}
-use Rattle.static_laws.specs.Room.{HasRoom, items_weight}
+use Rattle.window_check_names.specs.Findings.{noted}
+use Rattle.window_check_laws.specs.Room.{HasRoom, items_weight}
 use Rattle.window_check.proofs.functions.items.Given as goal
 
 abbrev pub invariant-loop-next : goal.invariant-loop-next

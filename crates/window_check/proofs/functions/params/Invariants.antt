@@ -1,7 +1,7 @@
 use Rattle.std.proofs.Common.{◌≡◌, ◌-◌, drop, length}
 use Rattle.os_ast.specs.Notes.Programs.{after_params, params_notes}
-use Rattle.name_resolution.specs.Findings.{noted}
-use Rattle.static_laws.specs.Room.{HasRoom}
+use Rattle.window_check_names.specs.Findings.{noted}
+use Rattle.window_check_laws.specs.Room.{HasRoom}
 use Rattle.window_check.proofs.functions.params.Given as goal
 
 abbrev pub invariant-loop-name : goal.invariant-loop-name

@@ -8,12 +8,12 @@ use Rattle.os_ast.specs.Names.{Scope, enter, in_loop}
 use Rattle.os_ast.specs.Parts.{parts}
 use Rattle.os_ast.specs.Views.{expr_tree, change_tree, start_tree, stmt_tree, stmts_tree, clause_tree}
 use Rattle.os_ast.specs.declared.stmt.Stmt.{the_lemmas}
-use Rattle.static_laws.specs.Room.{stmt_weight}
-use Rattle.static_laws.proofs.HasRoom.{room_in_for}
+use Rattle.window_check_laws.specs.Room.{stmt_weight}
+use Rattle.window_check_laws.proofs.HasRoom.{room_in_for}
 use Rattle.window_check.proofs.Restored.{returned_block, returned_for, ended_task}
 use Rattle.window_check.proofs.Steps as step
 use Rattle.window_check.proofs.Tasks.{room-named, slots-captured, few-captured, few-slots, task-scopes, task-found}
-use Rattle.name_resolution.specs.Parts.{after_names}
+use Rattle.window_check_names.specs.Parts.{after_names}
 use Rattle.window_check.specs.Statements.{in_named_task}
 use Rattle.window_check.proofs.statements.+stmts.Goals as goal
 

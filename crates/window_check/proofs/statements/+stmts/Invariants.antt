@@ -1,8 +1,8 @@
 use Rattle.std.proofs.Common.{◌≡◌, drop}
 use Rattle.os_ast.specs.Notes.Statements.{after_stmts, stmts_notes}
 use Rattle.os_ast.specs.Views.{stmts_tree}
-use Rattle.name_resolution.specs.Findings.{noted}
-use Rattle.static_laws.specs.Room.{HasRoom, stmts_weight}
+use Rattle.window_check_names.specs.Findings.{noted}
+use Rattle.window_check_laws.specs.Room.{HasRoom, stmts_weight}
 use Rattle.window_check.proofs.statements.+stmts.Given as goal
 
 abbrev pub invariant-stmts-loop-next : goal.invariant-stmts-loop-next

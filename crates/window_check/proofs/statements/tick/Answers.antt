@@ -5,10 +5,10 @@ use Rattle.os_ast.specs.Notes.Kinds.{Pragma}
 use Rattle.os_ast.specs.Views.{expr_tree, target_tree}
 use Rattle.os_ast.specs.declared.names.Direction.TheVariants as direction
 use Rattle.os_ast.specs.declared.names.Role.TheVariants as role
-use Rattle.name_resolution.proofs.AddedViolations.{with_violation-pragma}
-use Rattle.name_resolution.proofs.Noted.{noted-append}
-use Rattle.name_resolution.specs.Findings.{note, noted}
-use Rattle.name_resolution.specs.declared.found.Found.{Found}
+use Rattle.window_check_names.proofs.AddedViolations.{with_violation-pragma}
+use Rattle.window_check_names.proofs.Noted.{noted-append}
+use Rattle.window_check_names.specs.Findings.{note, noted}
+use Rattle.window_check_names.specs.declared.found.Found.{Found}
 use Rattle.window_check.proofs.statements.tick.Goals as goal
 
 pub returns : goal.returns

@@ -1,0 +1,303 @@
+//! What a statement does.
+
+ghost use Rattle.std.specs.Option.{option_copied};
+ghost use Rattle.std.specs.Prelude.{◌≤◌, map, option_map};
+ghost use Rattle.cddf_meaning.specs.Functions.{file_of};
+ghost use Rattle.cddf_meaning.specs.Run.{run, run_all, run_declarator, run_declarators, run_scalar, run_start, run_step, run_test};
+ghost use Rattle.os_ast.specs.Trees as tree;
+ghost use Rattle.os_ast.specs.Views.{change_tree, declarator_tree, expr_tree, item_tree, start_tree, stmt_tree, stmts_tree};
+ghost use Rattle.cddf_meaning_plain.specs.Loops.{repeated};
+ghost use Rattle.cddf_meaning_plain_state.specs.Stops.{GoesOn, Leaves, Tests};
+ghost use Rattle.cddf_meaning_plain_tasks.specs.Units.{unit_of};
+
+use crate::changes::change;
+use crate::streams::{task, tick};
+use crate::value::{called, value};
+use cddf_meaning::Flow;
+use cddf_meaning_plain_state::functions::take_unit;
+use cddf_meaning_plain_state::loops::step_behind;
+use cddf_meaning_plain_state::operators::holds;
+use cddf_meaning_plain_state::sizes::array_size;
+use cddf_meaning_plain_state::{State, Stop};
+use cddf_meaning_plain_tasks::Unit;
+use os_ast::{Change, Declarator, Expr, Head, Item, Start, Stmt};
+use os_io::List;
+use std::alloc::Global;
+
+/// Runs a statement or a declaration.
+#[cycle(meaning)]
+pub(crate) fn stmt(
+    alloc: Global,
+    unit: &Unit<'_>,
+    stmt: &Stmt,
+    state: &mut State,
+    turns: &mut u64,
+) -> Result<Flow, Stop>
+    ensures leaves { Leaves result state.new turns.new (run (unit_of unit.now) (stmt_tree stmt.now) state.old turns.old) }
+    ensures fewer { turns.new ≤ turns.old }
+{
+    match stmt {
+        Stmt::Empty | Stmt::Taskwait(_) => Ok(Flow::GoesOn),
+        Stmt::Block(list) => block(alloc, unit, list, state, turns),
+        Stmt::Declare(list) => {
+            declarators(alloc, unit, list, state, turns)?;
+            Ok(Flow::GoesOn)
+        }
+        Stmt::Change(next) => {
+            change(alloc, unit.file, next, state, turns)?;
+            Ok(Flow::GoesOn)
+        }
+        Stmt::Call(call) => {
+            called(alloc, unit.file, call, state, turns)?;
+            Ok(Flow::GoesOn)
+        }
+        Stmt::If(condition, first, second) => {
+            let chosen = value(alloc, unit.file, condition, state, turns)?;
+            if holds(chosen) {
+                self::stmt(alloc, unit, first, state, turns)
+            } else {
+                match second {
+                    None => Ok(Flow::GoesOn),
+                    Some(second) => self::stmt(alloc, unit, second, state, turns),
+                }
+            }
+        }
+        Stmt::While(condition, body) => {
+            repeat(alloc, unit, Some(condition), body, None, state, turns)
+        }
+        Stmt::For(head, body) => for_loop(alloc, unit, head, body, state, turns),
+        Stmt::Break(_) => Ok(Flow::Breaks),
+        Stmt::Continue(_) => Ok(Flow::Continues),
+        Stmt::Return(_, expr) => {
+            let number = value(alloc, unit.file, expr, state, turns)?;
+            Ok(Flow::Returns(number))
+        }
+        Stmt::Task(site) => {
+            task(alloc, unit, site, state, turns)?;
+            Ok(Flow::GoesOn)
+        }
+        Stmt::Tick(site) => {
+            tick(alloc, unit.file, site, state, turns)?;
+            Ok(Flow::GoesOn)
+        }
+    }
+}
+
+/// Runs the statements and declarations of a block, one after another, until one leaves it.
+#[cycle(meaning)]
+pub(crate) fn stmts(
+    alloc: Global,
+    unit: &Unit<'_>,
+    list: &List<Stmt>,
+    state: &mut State,
+    turns: &mut u64,
+) -> Result<Flow, Stop>
+    ensures leaves { Leaves result state.new turns.new (run_all (unit_of unit.now) (stmts_tree list.now) state.old turns.old) }
+    ensures fewer { turns.new ≤ turns.old }
+{
+    for next in list.as_slice() {
+        let flow = stmt(alloc, unit, next, state, turns)?;
+        if flow != Flow::GoesOn {
+            return Ok(flow);
+        }
+    }
+    Ok(Flow::GoesOn)
+}
+
+/// Runs a block. What was declared in it is gone behind it.
+#[cycle(meaning)]
+fn block(
+    alloc: Global,
+    unit: &Unit<'_>,
+    list: &List<Stmt>,
+    state: &mut State,
+    turns: &mut u64,
+) -> Result<Flow, Stop>
+    ensures leaves { Leaves result state.new turns.new (run (unit_of unit.now) (tree.Block (stmts_tree list.now)) state.old turns.old) }
+    ensures fewer { turns.new ≤ turns.old }
+{
+    let outer = state.declared();
+    let flow = stmts(alloc, unit, list, state, turns)?;
+    state.leave(outer);
+    Ok(flow)
+}
+
+/// Runs a `for`.
+#[cycle(meaning)]
+fn for_loop(
+    alloc: Global,
+    unit: &Unit<'_>,
+    head: &Head,
+    body: &Stmt,
+    state: &mut State,
+    turns: &mut u64,
+) -> Result<Flow, Stop>
+    ensures leaves { Leaves result state.new turns.new (run (unit_of unit.now) (tree.For (start_tree head.now.start) (option_map expr_tree head.now.test) (option_map change_tree head.now.step) (stmt_tree body.now)) state.old turns.old) }
+    ensures fewer { turns.new ≤ turns.old }
+{
+    let outer = state.declared();
+    start(alloc, unit, &head.start, state, turns)?;
+    let flow = repeat(
+        alloc,
+        unit,
+        head.test.as_ref(),
+        body,
+        head.step.as_ref(),
+        state,
+        turns,
+    )?;
+    state.leave(outer);
+    Ok(flow)
+}
+
+/// Runs what stands before the first `;` of a `for`.
+#[cycle(meaning)]
+fn start(
+    alloc: Global,
+    unit: &Unit<'_>,
+    start: &Start,
+    state: &mut State,
+    turns: &mut u64,
+) -> Result<(), Stop>
+    ensures goes_on { GoesOn result state.new turns.new (run_start (unit_of unit.now) (start_tree start.now) state.old turns.old) }
+    ensures fewer { turns.new ≤ turns.old }
+{
+    match start {
+        Start::Empty => Ok(()),
+        Start::Declare(list) => declarators(alloc, unit, list, state, turns),
+        Start::Change(first) => change(alloc, unit.file, first, state, turns),
+    }
+}
+
+/// Takes a unit, tests, and runs the body and the step, over and over.
+#[cycle(meaning)]
+fn repeat(
+    alloc: Global,
+    unit: &Unit<'_>,
+    test: Option<&Expr>,
+    body: &Stmt,
+    step: Option<&Change>,
+    state: &mut State,
+    turns: &mut u64,
+) -> Result<Flow, Stop>
+    ensures leaves { Leaves result state.new turns.new (repeated (unit_of unit.now) (option_copied test.entry) body.now (option_copied step.entry) state.old turns.old) }
+    ensures fewer { turns.new ≤ turns.old }
+{
+    loop {
+        take_unit(turns)?;
+        if !tested(alloc, unit.file, test, state, turns)? {
+            return Ok(Flow::GoesOn);
+        }
+        let flow = stmt(alloc, unit, body, state, turns)?;
+        match step_behind(flow, step) {
+            Ok(next) => stepped(alloc, unit.file, next, state, turns)?,
+            Err(left) => return Ok(left),
+        }
+    }
+}
+
+/// Whether the condition of a loop holds; without one it does.
+#[cycle(meaning)]
+fn tested(
+    alloc: Global,
+    file: &[Item],
+    test: Option<&Expr>,
+    state: &State,
+    turns: &mut u64,
+) -> Result<bool, Stop>
+    ensures gives { Tests result turns.new (run_test (file_of (map item_tree file.now)) (option_map expr_tree (option_copied test.entry)) state.now turns.old) }
+    ensures fewer { turns.new ≤ turns.old }
+{
+    match test {
+        None => Ok(true),
+        Some(condition) => {
+            let number = value(alloc, file, condition, state, turns)?;
+            Ok(holds(number))
+        }
+    }
+}
+
+/// Runs the step of a loop, where it has one.
+#[cycle(meaning)]
+fn stepped(
+    alloc: Global,
+    file: &[Item],
+    step: Option<&Change>,
+    state: &mut State,
+    turns: &mut u64,
+) -> Result<(), Stop>
+    ensures goes_on { GoesOn result state.new turns.new (run_step (file_of (map item_tree file.now)) (option_map change_tree (option_copied step.entry)) state.old turns.old) }
+    ensures fewer { turns.new ≤ turns.old }
+{
+    match step {
+        None => Ok(()),
+        Some(step) => change(alloc, file, step, state, turns),
+    }
+}
+
+/// Runs the declarators of a declaration.
+#[cycle(meaning)]
+fn declarators(
+    alloc: Global,
+    unit: &Unit<'_>,
+    list: &List<Declarator>,
+    state: &mut State,
+    turns: &mut u64,
+) -> Result<(), Stop>
+    ensures goes_on { GoesOn result state.new turns.new (run_declarators (unit_of unit.now) (map declarator_tree list.now) state.old turns.old) }
+    ensures fewer { turns.new ≤ turns.old }
+{
+    for next in list.as_slice() {
+        declarator(alloc, unit, next, state, turns)?;
+    }
+    Ok(())
+}
+
+/// Runs a declarator.
+#[cycle(meaning)]
+fn declarator(
+    alloc: Global,
+    unit: &Unit<'_>,
+    declarator: &Declarator,
+    state: &mut State,
+    turns: &mut u64,
+) -> Result<(), Stop>
+    ensures goes_on { GoesOn result state.new turns.new (run_declarator (unit_of unit.now) (declarator_tree declarator.now) state.old turns.old) }
+    ensures fewer { turns.new ≤ turns.old }
+{
+    let id = declarator.name.id;
+    match &declarator.size {
+        None if declarator.stream => state.declare_streams(id, 1),
+        None => scalar(alloc, unit.file, declarator, state, turns),
+        Some(size) => {
+            let number = value(alloc, unit.file, &size.value, state, turns)?;
+            if declarator.stream {
+                state.declare_streams(id, array_size(number))
+            } else if unit.is_control() {
+                state.declare_window(id, size.mark.line, number)
+            } else {
+                state.declare_array(alloc, id, array_size(number))
+            }
+        }
+    }
+}
+
+/// Declares a scalar. It is 0 while its first value is evaluated.
+#[cycle(meaning)]
+fn scalar(
+    alloc: Global,
+    file: &[Item],
+    declarator: &Declarator,
+    state: &mut State,
+    turns: &mut u64,
+) -> Result<(), Stop>
+    ensures goes_on { GoesOn result state.new turns.new (run_scalar (file_of (map item_tree file.now)) declarator.now.name.id (option_map expr_tree declarator.now.first) state.old turns.old) }
+    ensures fewer { turns.new ≤ turns.old }
+{
+    state.declare_scalar(declarator.name.id)?;
+    if let Some(first) = &declarator.first {
+        let number = value(alloc, file, first, state, turns)?;
+        state.store(declarator.name.id, number);
+    }
+    Ok(())
+}

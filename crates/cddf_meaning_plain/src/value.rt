@@ -1,0 +1,156 @@
+//! The value of an expression.
+
+ghost use Rattle.std.specs.Prelude.{◌≤◌, map};
+ghost use Rattle.cddf_meaning.specs.Answers.{left as pair};
+ghost use Rattle.cddf_meaning.specs.Functions.{file_of};
+ghost use Rattle.cddf_meaning.specs.Value.{chained, linked, place_value, value, values};
+ghost use Rattle.os_ast.specs.Views.{args_tree, expr_tree, item_tree, links_tree, target_tree};
+ghost use Rattle.cddf_meaning_plain.specs.Calls.{called};
+ghost use Rattle.cddf_meaning_plain_state.specs.Stops.{Gives};
+
+use crate::functions::call_function;
+use cddf_meaning_plain_state::links::{link_value, needs_right};
+use cddf_meaning_plain_state::names::{Seen, int, scalar, seen_as};
+use cddf_meaning_plain_state::operators::{holds, unary};
+use cddf_meaning_plain_state::{State, Stop};
+use os_ast::{Call, Expr, Item, Link, Target};
+use os_io::List;
+use std::alloc::Global;
+
+/// The value of an expression.
+#[cycle(meaning)]
+pub(crate) fn value(
+    alloc: Global,
+    file: &[Item],
+    expr: &Expr,
+    state: &State,
+    turns: &mut u64,
+) -> Result<i32, Stop>
+    ensures gives { Gives result turns.new (value (file_of (map item_tree file.now)) (expr_tree expr.now) state.now turns.old) }
+    ensures fewer { turns.new ≤ turns.old }
+{
+    match expr {
+        Expr::Number(number) => int(*number),
+        Expr::Place(target) => place(alloc, file, target, state, turns),
+        Expr::Call(call) => called(alloc, file, call, state, turns),
+        Expr::Paren(inner) => value(alloc, file, inner, state, turns),
+        Expr::Unary(operator, mark, operand) => {
+            let number = value(alloc, file, operand, state, turns)?;
+            unary(*operator, mark.line, number)
+        }
+        Expr::Chain(_, first, links) => {
+            let number = value(alloc, file, first, state, turns)?;
+            chained(alloc, file, number, links, state, turns)
+        }
+        Expr::Choice(condition, first, second) => {
+            let chosen = value(alloc, file, condition, state, turns)?;
+            if holds(chosen) {
+                value(alloc, file, first, state, turns)
+            } else {
+                value(alloc, file, second, state, turns)
+            }
+        }
+    }
+}
+
+/// The value of a name, without an index or with one.
+#[cycle(meaning)]
+fn place(
+    alloc: Global,
+    file: &[Item],
+    target: &Target,
+    state: &State,
+    turns: &mut u64,
+) -> Result<i32, Stop>
+    ensures gives { Gives result turns.new (place_value (file_of (map item_tree file.now)) (target_tree target.now) state.now turns.old) }
+    ensures fewer { turns.new ≤ turns.old }
+{
+    let id = target.name.id;
+    match &target.index {
+        None => scalar(file, state, id),
+        Some(index) => {
+            let at = value(alloc, file, &index.value, state, turns)?;
+            let place = state.checked(id, index.mark.line, at)?;
+            Ok(state.element(id, place))
+        }
+    }
+}
+
+/// The links of a chain behind a number.
+#[cycle(meaning)]
+fn chained(
+    alloc: Global,
+    file: &[Item],
+    first: i32,
+    links: &List<Link>,
+    state: &State,
+    turns: &mut u64,
+) -> Result<i32, Stop>
+    ensures gives { Gives result turns.new (chained (file_of (map item_tree file.now)) (links_tree links.now) state.now (pair first turns.old)) }
+    ensures fewer { turns.new ≤ turns.old }
+{
+    let mut left = first;
+    for link in links.as_slice() {
+        left = linked(alloc, file, left, link, state, turns)?;
+    }
+    Ok(left)
+}
+
+/// An operator between a number and what stands on its right.
+#[cycle(meaning)]
+fn linked(
+    alloc: Global,
+    file: &[Item],
+    left: i32,
+    link: &Link,
+    state: &State,
+    turns: &mut u64,
+) -> Result<i32, Stop>
+    ensures gives { Gives result turns.new (linked link.now.op link.now.mark.line (pair left turns.old) (value (file_of (map item_tree file.now)) (expr_tree link.now.right) state.now)) }
+    ensures fewer { turns.new ≤ turns.old }
+{
+    if !needs_right(link.op, left) {
+        return link_value(link, left, 0);
+    }
+    let right = value(alloc, file, &link.right, state, turns)?;
+    link_value(link, left, right)
+}
+
+/// What a call gives.
+#[cycle(meaning)]
+pub(crate) fn called(
+    alloc: Global,
+    file: &[Item],
+    call: &Call,
+    state: &State,
+    turns: &mut u64,
+) -> Result<i32, Stop>
+    ensures gives { Gives result turns.new (called (file_of (map item_tree file.now)) call.now.name.id (args_tree call.now.args) state.now turns.old) }
+    ensures fewer { turns.new ≤ turns.old }
+{
+    let args = arguments(alloc, file, &call.args, state, turns)?;
+    match seen_as(file, state, call.name.id)? {
+        Seen::Function(function) => call_function(alloc, file, function, args.as_slice(), turns),
+        Seen::Number(_) | Seen::Other => Ok(0),
+    }
+}
+
+/// The values of the arguments of a call.
+#[cycle(meaning)]
+fn arguments(
+    alloc: Global,
+    file: &[Item],
+    args: &List<Expr>,
+    state: &State,
+    turns: &mut u64,
+) -> Result<List<i32>, Stop>
+    ensures gives { Gives result turns.new (values (file_of (map item_tree file.now)) (args_tree args.now) state.now turns.old) }
+    ensures fewer { turns.new ≤ turns.old }
+{
+    let mut values = List::new(alloc);
+    for arg in args.as_slice() {
+        let number = value(alloc, file, arg, state, turns)?;
+        values.push(number)?;
+    }
+    Ok(values)
+}

@@ -1,0 +1,10 @@
+use Rattle.std.proofs.Common.{◌≡◌, ◌++◌, drop, map}
+use Rattle.cddf_meaning_plain_tasks.specs.Sought.{known_in_main, known_param}
+use Rattle.cddf_meaning_plain_state.specs.FunctionTrees.{function_tree}
+use Rattle.os_ast.specs.Views.{item_tree}
+use Rattle.cddf_meaning_plain_tasks.proofs.tasks.known_in_main.Given as goal
+
+abbrev pub invariant-loop-name : goal.invariant-loop-name
+invariant-loop-name l =
+    l.known.items ++ map known_param (drop l.name-index l.name-items)
+    ≡ known_in_main (map item_tree l.main.file.now) (function_tree l.main.function.now)

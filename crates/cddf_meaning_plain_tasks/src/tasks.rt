@@ -1,0 +1,277 @@
+//! The control program of a program, and its tasks.
+
+ghost use Rattle.std.specs.Prelude.{◌≡◌, ◌++◌, if◌then◌else◌, List, [], ◌∷◌, IfOk, IfSome, OnOk, map, None, Some};
+ghost use Rattle.cddf_meaning.specs.File.{File};
+ghost use Rattle.cddf_meaning.specs.Functions.{file_of, with_item};
+ghost use Rattle.cddf_meaning.specs.Program.{main_at, main_behind, main_of};
+ghost use Rattle.cddf_meaning.specs.Tasks.{tasks_in_all};
+ghost use Rattle.os_ast.specs.FreeNames.{task_names};
+ghost use Rattle.os_ast.specs.Names.{Scope, main_id};
+ghost use Rattle.os_ast.specs.Notes.Programs as notes;
+ghost use Rattle.os_ast.specs.Notes.Programs.{after_item, after_items, in_body};
+ghost use Rattle.os_ast.specs.Parts.{is_in, parts};
+ghost use Rattle.os_ast.specs.Trees as tree;
+ghost use Rattle.os_ast.specs.Views.{clause_tree, declarator_tree, item_tree, start_tree, stmt_tree, stmts_tree};
+ghost use Rattle.cddf_meaning_plain_state.specs.FunctionTrees.{function_tree};
+ghost use Rattle.cddf_meaning_plain_tasks.specs.Sought.{among, found_at, found_in, found_in_all, known_behind, known_declarator, known_in_main, known_item, known_start, others, task_of, with_all_known, with_known};
+
+use crate::found::Found;
+use crate::known::Known;
+use crate::naming::in_task;
+use cddf_meaning_plain_state::functions::param_names;
+use cddf_meaning_plain_state::names::item_id;
+use os_ast::{Declarator, Function, Head, Item, Start, Stmt, TaskSite};
+use os_io::{List, Memory};
+use os_lexer::names::{MAIN, OSIN, OSIN_LEN, OSOUT};
+use std::alloc::Global;
+
+/// The function `main`, and the items before it.
+#[derive(Clone, Copy)]
+pub struct Main<'p> {
+    /// The items before it.
+    pub file: &'p [Item],
+    /// The function `main`.
+    pub function: &'p Function,
+}
+
+/// The function `main`, where an item is that.
+fn main_in(item: &Item) -> Option<&Function>
+    ensures main { IfSome result (λ f. item_tree item.now ≡ tree.Function (function_tree f.now)) }
+    ensures named { IfSome result (λ f. f.now.name.id ≡ main_id) }
+    ensures other { result ≡ None → (file : File) (s : Scope) (rest : List tree.ItemTree) →
+        main_behind file s (item_tree item.now ∷ rest) ≡ main_behind (with_item file (item_tree item.now)) (after_item s (item_tree item.now)) rest }
+{
+    match item {
+        Item::Function(function) if function.name.id == MAIN => Some(function),
+        Item::Constant(_) | Item::Function(_) => None,
+    }
+}
+
+/// The first function `main`.
+pub fn main_of(items: &[Item]) -> Option<Main<'_>>
+    ensures main { IfSome result (λ m. main_of (map item_tree items.now) ≡ Some (main_at (file_of (map item_tree m.file.now)) (after_items notes.file (map item_tree m.file.now)) (function_tree m.function.now))) }
+    ensures named { IfSome result (λ m. m.function.now.name.id ≡ main_id) }
+    ensures none { result ≡ None → main_of (map item_tree items.now) ≡ None }
+{
+    for (place, item) in items.iter().enumerate() {
+        if let Some(function) = main_in(item) {
+            return Some(Main {
+                file: &items[..place],
+                function,
+            });
+        }
+    }
+    None
+}
+
+/// Takes a name away.
+fn forget(ids: &mut Vec<u32>, id: u32)
+    ensures { ids.new.items ≡ others id ids.old.items }
+{
+    ids.retain(|next| *next != id);
+}
+
+/// Takes the scalar of a name away, and adds its newest declaration, where that is a scalar.
+fn with_known(ids: &mut Vec<u32>, known: Known) -> Result<(), Memory>
+    ensures { OnOk result (ids.new.items ≡ with_known ids.old.items known) }
+{
+    forget(ids, known.id);
+    if known.scalar {
+        ids.push(known.id)?;
+    }
+    Ok(())
+}
+
+/// The scalars in scope, in the order of their declarations.
+fn scalars(alloc: Global, known: &[Known]) -> Result<Vec<u32>, Memory>
+    ensures { IfOk result (λ ids. ids.items ≡ with_all_known [] known.now) }
+{
+    let mut ids = Vec::new(alloc);
+    for next in known {
+        with_known(&mut ids, *next)?;
+    }
+    Ok(ids)
+}
+
+/// Whether a task takes this name from round it.
+#[tactic(auto, using(crate::proofs::HasNames::task_has))]
+fn captures(site: &TaskSite, id: u32) -> bool
+    ensures { result ≡ is_in id (task_names (parts (map clause_tree site.now.clauses)) (stmt_tree site.now.body)) }
+{
+    in_task(site, id)
+}
+
+/// Adds a scalar, where a task captures it.
+fn capture(site: &TaskSite, id: u32, captured: &mut List<u32>) -> Result<(), Memory>
+    ensures { OnOk result (captured.new ≡ captured.old ++ (if is_in id (task_names (parts (map clause_tree site.now.clauses)) (stmt_tree site.now.body)) then id ∷ [] else [])) }
+{
+    if captures(site, id) {
+        captured.push(id)?;
+    }
+    Ok(())
+}
+
+/// The names of the scalars that a task captures.
+fn captured(alloc: Global, site: &TaskSite, known: &[Known]) -> Result<List<u32>, Memory>
+    ensures { IfOk result (λ ids. ids ≡ among (task_names (parts (map clause_tree site.now.clauses)) (stmt_tree site.now.body)) (with_all_known [] known.now)) }
+{
+    let scalars = scalars(alloc, known)?;
+    let mut captured = List::new(alloc);
+    for id in scalars.as_slice() {
+        capture(site, *id, &mut captured)?;
+    }
+    Ok(captured)
+}
+
+/// Adds what declarators declare.
+fn declare(declarators: &List<Declarator>, known: &mut Vec<Known>) -> Result<(), Memory>
+    ensures { OnOk result (known.new.items ≡ known.old.items ++ map known_declarator (map declarator_tree declarators.now)) }
+{
+    for declarator in declarators.as_slice() {
+        known.push(Known {
+            id: declarator.name.id,
+            scalar: !declarator.stream && declarator.size.is_none(),
+        })?;
+    }
+    Ok(())
+}
+
+/// Adds what stands before the first `;` of a `for`.
+fn declare_start(start: &Start, known: &mut Vec<Known>) -> Result<(), Memory>
+    ensures { OnOk result (known.new.items ≡ known.old.items ++ known_start (start_tree start.now)) }
+{
+    match start {
+        Start::Declare(declarators) => declare(declarators, known),
+        Start::Empty | Start::Change(_) => Ok(()),
+    }
+}
+
+/// Adds a task.
+fn add_task<'p>(
+    alloc: Global,
+    site: &'p TaskSite,
+    known: &[Known],
+    tasks: &mut Vec<Found<'p>>,
+) -> Result<(), Memory>
+    ensures { OnOk result (map task_of tasks.new.items ≡ map task_of tasks.old.items ++ found_at known.now site.now.mark (map clause_tree site.now.clauses) (stmt_tree site.now.body) ∷ []) }
+{
+    let captured = captured(alloc, site, known)?;
+    tasks.push(Found { site, captured })?;
+    Ok(())
+}
+
+/// Adds the tasks in a statement, and what it declares in the scope in which it stands.
+#[cycle(tasks)]
+fn tasks_in<'p>(
+    alloc: Global,
+    stmt: &'p Stmt,
+    known: &mut Vec<Known>,
+    tasks: &mut Vec<Found<'p>>,
+) -> Result<(), Memory>
+    ensures tasks { OnOk result (map task_of tasks.new.items ≡ map task_of tasks.old.items ++ found_in known.old.items (stmt_tree stmt.now)) }
+    ensures known { OnOk result (known.new.items ≡ known.old.items ++ known_behind (stmt_tree stmt.now)) }
+{
+    match stmt {
+        Stmt::Block(stmts) => tasks_in_block(alloc, stmts, known, tasks),
+        Stmt::Declare(declarators) => declare(declarators, known),
+        Stmt::If(_, first, second) => {
+            tasks_in(alloc, first, known, tasks)?;
+            match second {
+                None => Ok(()),
+                Some(second) => tasks_in(alloc, second, known, tasks),
+            }
+        }
+        Stmt::While(_, body) => tasks_in(alloc, body, known, tasks),
+        Stmt::For(head, body) => tasks_in_for(alloc, head, body, known, tasks),
+        Stmt::Task(site) => add_task(alloc, site, known.as_slice(), tasks),
+        _ => Ok(()),
+    }
+}
+
+/// Adds the tasks in a `for`. What it declares is gone behind it.
+#[cycle(tasks)]
+fn tasks_in_for<'p>(
+    alloc: Global,
+    head: &Head,
+    body: &'p Stmt,
+    known: &mut Vec<Known>,
+    tasks: &mut Vec<Found<'p>>,
+) -> Result<(), Memory>
+    ensures tasks { OnOk result (map task_of tasks.new.items ≡ map task_of tasks.old.items ++ found_in (known.old.items ++ known_start (start_tree head.now.start)) (stmt_tree body.now)) }
+    ensures known { OnOk result (known.new.items ≡ known.old.items) }
+{
+    let outer = known.len();
+    declare_start(&head.start, known)?;
+    tasks_in(alloc, body, known, tasks)?;
+    known.truncate(outer);
+    Ok(())
+}
+
+/// Adds the tasks in a block. What it declares is gone behind it.
+#[cycle(tasks)]
+fn tasks_in_block<'p>(
+    alloc: Global,
+    stmts: &'p List<Stmt>,
+    known: &mut Vec<Known>,
+    tasks: &mut Vec<Found<'p>>,
+) -> Result<(), Memory>
+    ensures tasks { OnOk result (map task_of tasks.new.items ≡ map task_of tasks.old.items ++ found_in_all known.old.items (stmts_tree stmts.now)) }
+    ensures known { OnOk result (known.new.items ≡ known.old.items) }
+{
+    let outer = known.len();
+    for stmt in stmts.as_slice() {
+        tasks_in(alloc, stmt, known, tasks)?;
+    }
+    known.truncate(outer);
+    Ok(())
+}
+
+/// What is in scope round the body of `main`.
+fn known_in_main(alloc: Global, main: &Main<'_>) -> Result<Vec<Known>, Memory>
+    ensures { IfOk result (λ known. known.items ≡ known_in_main (map item_tree main.now.file.now) (function_tree main.now.function.now)) }
+{
+    let mut known = known_in_file(alloc, main.file)?;
+    known.push(Known {
+        id: OSIN,
+        scalar: false,
+    })?;
+    known.push(Known {
+        id: OSOUT,
+        scalar: false,
+    })?;
+    known.push(Known {
+        id: OSIN_LEN,
+        scalar: true,
+    })?;
+    for name in param_names(&main.function.params) {
+        known.push(Known {
+            id: name.id,
+            scalar: true,
+        })?;
+    }
+    Ok(known)
+}
+
+fn known_in_file(alloc: Global, file: &[Item]) -> Result<Vec<Known>, Memory>
+    ensures { IfOk result (λ known. known.items ≡ map known_item (map item_tree file.now)) }
+{
+    let mut known = Vec::new(alloc);
+    for item in file {
+        known.push(Known {
+            id: item_id(item),
+            scalar: false,
+        })?;
+    }
+    Ok(known)
+}
+
+/// The tasks of the control program, in the order of the text. Their numbers are their places.
+pub fn tasks<'p>(alloc: Global, main: &Main<'p>) -> Result<Vec<Found<'p>>, Memory>
+    requires { main.now.function.now.name.id ≡ main_id }
+    ensures { IfOk result (λ tasks. map task_of tasks.items ≡ tasks_in_all (in_body (after_items notes.file (map item_tree main.now.file.now)) (function_tree main.now.function.now)) (stmts_tree main.now.function.now.body)) }
+{
+    let mut known = known_in_main(alloc, main)?;
+    let mut tasks = Vec::new(alloc);
+    tasks_in_block(alloc, &main.function.body, &mut known, &mut tasks)?;
+    Ok(tasks)
+}

@@ -1,0 +1,21 @@
+-- What is carried over by the cursors of the streams.
+use Rattle.std.specs.Prelude.{ℕ, ℤ, Bool, ◌&&◌, nat_le, List, ◌++◌, Option, filter, slice_index}
+use Rattle.flow_core.specs.Place as streams
+use Rattle.flow_core_epochs.specs.Epoch as epoch
+use Rattle.epoch_run_carrying.specs.declared.kept.Kept.{Kept}
+use Rattle.epoch_run_carrying.specs.declared.place.Place.{Place}
+
+-- a place, and a kept element, as the meaning has them
+abbrev pub place_of : Place → streams.Place
+place_of p = record { stream = p.stream; position = p.position }
+
+abbrev pub kept_of : Kept → epoch.Kept
+kept_of k = record { place = record { stream = k.stream; position = k.position }; value = k.value }
+
+-- whether an element is of a declared stream, and at its cursor or behind
+abbrev pub is_behind : List ℕ → epoch.Kept → Bool
+is_behind cursors k = nat_le 2 k.place.stream && nat_le (slice_index cursors k.place.stream) k.place.position
+
+-- what is carried over by cursors
+abbrev pub carried_by : List ℕ → List epoch.Kept → List streams.Place → List (Option ℤ) → List epoch.Kept
+carried_by cursors kept places values = filter (is_behind cursors) (kept ++ epoch.elements_at places values)

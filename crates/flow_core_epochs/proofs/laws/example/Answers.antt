@@ -1,0 +1,57 @@
+use Rattle.std.proofs.Common.{◌≡◌, ◌≢◌, ℕ, zero, suc, [], ◌∷◌, ◌++◌, Some, map, refl, ap, ◌∙◌, arith}
+use Rattle.std.specs.Prelude.{slice_get, All, IsSome}
+use Rattle.std.proofs.lemmas.Option.{same_Some}
+use Rattle.flow_core.specs.declared.activation.Activation.{Activation}
+use Rattle.flow_core.specs.Element.{element}
+use Rattle.flow_core.specs.Window.{windows}
+use Rattle.flow_core.specs.Place.{Place, input_places}
+use Rattle.flow_core.specs.Round.{meaning, rounds, round}
+use Rattle.flow_core.specs.Streams.{stream_source, stream_meaning, output_count}
+use Rattle.flow_core.specs.Plans.{cell_source, frame_at, plan_reads}
+use Rattle.flow_core.proofs.SoundTests.{IsSound-from_tests}
+use Rattle.flow_core_epochs.specs.Epoch.{Kept, IsKeptFor, StandsForEpoch, epoch_source, value_kept}
+use Rattle.flow_core_epochs.specs.Example.{before, new, body, kept, plan, places}
+use Rattle.flow_core_epochs.proofs.laws.example.Goals as goal
+
+kept_well : IsKeptFor (before ++ new) [] (stream_meaning before [] body) (1 ∷ 2 ∷ []) kept
+unfolding windows input_places meaning rounds round
+kept_well = record { were_written = written; none_is_missing = frames }
+  where
+    written : All (λ (k : Kept). (k.place.stream ≢ 0) × (element (stream_meaning before [] body) (stream_source (before ++ new) [] k.place) ≡ Some k.value)) kept
+    written zero d lt = ((λ z. absurd (omega arith)), refl)
+    written (suc k) d lt = absurd (omega arith)
+
+    places_of_reader : All (λ (p : Place). p.stream ≢ 0 → IsSome (element (stream_meaning before [] body) (stream_source (before ++ new) [] p)) → IsSome (value_kept kept p)) (input_places (before ++ new) 1)
+    places_of_reader zero d lt other there = refl
+    places_of_reader (suc zero) d lt other there = absurd (cc)
+    places_of_reader (suc (suc k)) d lt other there = absurd (omega arith)
+
+    frames : All (λ a. All (λ (p : Place). p.stream ≢ 0 → IsSome (element (stream_meaning before [] body) (stream_source (before ++ new) [] p)) → IsSome (value_kept kept p)) (input_places (before ++ new) a)) (1 ∷ 2 ∷ [])
+    frames zero d lt = places_of_reader
+    frames (suc zero) d lt = λ k e l. absurd (omega arith)
+    frames (suc (suc k)) d lt = absurd (omega arith)
+
+stands : StandsForEpoch plan (before ++ new) [] (1 ∷ 2 ∷ []) kept places
+unfolding windows input_places cell_source
+stands = record { frames_are_these = refl; outputs_are_written = outputs; cells_are_window_elements = cells; places_leave = refl; sink_is_places = refl }
+  where
+    outputs : (f a : ℕ) (x : Activation) → slice_get (1 ∷ 2 ∷ []) f ≡ Some a → slice_get (before ++ new) a ≡ Some x → (frame_at plan f).outputs ≡ output_count x
+    outputs zero a x f_is x_is = ap output_count (same_Some _ x (ap (slice_get (before ++ new)) (same_Some 1 a f_is) ∙ x_is))
+    outputs (suc zero) a x f_is x_is = ap output_count (same_Some _ x (ap (slice_get (before ++ new)) (same_Some 2 a f_is) ∙ x_is))
+    outputs (suc (suc f)) a x f_is x_is = absurd (cc)
+
+    cells : (f a : ℕ) → slice_get (1 ∷ 2 ∷ []) f ≡ Some a → plan_reads plan f ≡ map (epoch_source (before ++ new) [] (1 ∷ 2 ∷ []) kept) (input_places (before ++ new) a)
+    cells zero a f_is = ap (λ b. map (epoch_source (before ++ new) [] (1 ∷ 2 ∷ []) kept) (input_places (before ++ new) b)) (same_Some 1 a f_is)
+    cells (suc zero) a f_is = ap (λ b. map (epoch_source (before ++ new) [] (1 ∷ 2 ∷ []) kept) (input_places (before ++ new) b)) (same_Some 2 a f_is)
+    cells (suc (suc f)) a f_is = absurd (cc)
+
+pub returns-clause-is_epoch : goal.returns-clause-is_epoch
+unfolding windows input_places meaning rounds round
+returns-clause-is_epoch c = record { frames_are_open = refl; has_kept = kept_well; plan_stands = stands }
+
+pub returns-clause-sound : goal.returns-clause-sound
+returns-clause-sound c = IsSound-from_tests plan refl refl refl refl refl refl refl refl refl refl refl refl
+
+pub returns-clause-put_over : goal.returns-clause-put_over
+unfolding windows input_places meaning rounds round cell_source
+returns-clause-put_over c = refl

@@ -1,0 +1,110 @@
+//! The sites of tasks: what each captures, and its clause items.
+
+ghost use Rattle.std.specs.Prelude.{◌≡◌, ◌++◌, [], IfOk, OnOk, get_or, map, option_map};
+ghost use Rattle.os_ast.specs.Parts.{Item, parts, parts_of};
+ghost use Rattle.os_ast.specs.Views.{clause_item_tree, clause_kind_tree, clause_tree, join_tree};
+ghost use Rattle.lowering_relation.specs.Names.{told_at};
+ghost use Rattle.lowering_relation.specs.Tasks.{is_write, site_item, site_items, window_of};
+
+use crate::names::{first_of, slot_of};
+use crate::told::Told;
+use os_ast::{Clause, ClauseItem, ClauseKind, Direction, Join};
+use os_code::SiteItem;
+use os_io::{List, Memory};
+use std::alloc::Global;
+
+/// The slots of `main` that the task of this number captures.
+pub fn captured_at(captured: &[List<u32>], number: usize) -> &[u32]
+    ensures { result.now ≡ get_or captured.now number [] }
+{
+    match captured.get(number) {
+        Some(slots) => slots.as_slice(),
+        None => &[],
+    }
+}
+
+/// A list of these slots.
+pub fn listed(alloc: Global, slots: &[u32]) -> Result<List<u32>, Memory>
+    ensures { IfOk result (λ list. list ≡ slots.now) }
+{
+    let mut list = List::new(alloc);
+    list.reserve(slots.len())?;
+    for slot in slots {
+        list.push(*slot)?;
+    }
+    Ok(list)
+}
+
+/// The items of a task's clauses.
+#[tactic(auto, using(crate::proofs::Rules::sites))]
+pub fn site_items(
+    alloc: Global,
+    told: &Told<'_>,
+    clauses: &List<Clause>,
+) -> Result<List<SiteItem>, Memory>
+    ensures { IfOk result (λ made. made ≡ site_items (told_at told.now.names.now) (parts (map clause_tree clauses.now))) }
+{
+    let mut made = List::new(alloc);
+    for clause in clauses.as_slice() {
+        add_clause(&mut made, told, &clause.kind)?;
+    }
+    Ok(made)
+}
+
+/// The items of a clause.
+#[tactic(auto, using(crate::proofs::Rules::sites))]
+fn add_clause(made: &mut List<SiteItem>, told: &Told<'_>, kind: &ClauseKind) -> Result<(), Memory>
+    ensures { OnOk result (made.new ≡ made.old ++ site_items (told_at told.now.names.now) (parts_of (clause_kind_tree kind.now))) }
+{
+    match kind {
+        ClauseKind::Input(items) => add_items(made, told, Direction::Reads, items),
+        ClauseKind::Output(items) => add_items(made, told, Direction::Writes, items),
+        ClauseKind::Firstprivate(_) => Ok(()),
+    }
+}
+
+/// Items of one direction.
+#[tactic(auto, using(crate::proofs::Rules::sites))]
+fn add_items(
+    made: &mut List<SiteItem>,
+    told: &Told<'_>,
+    direction: Direction,
+    items: &List<ClauseItem>,
+) -> Result<(), Memory>
+    ensures { OnOk result (made.new ≡ made.old ++ site_items (told_at told.now.names.now) (map (Item direction) (map clause_item_tree items.now))) }
+{
+    for item in items.as_slice() {
+        made.push(site_item(told, direction, item))?;
+    }
+    Ok(())
+}
+
+/// An item: its stream, and the slot of its window.
+fn site_item(told: &Told<'_>, direction: Direction, item: &ClauseItem) -> SiteItem
+    ensures { result ≡ site_item (told_at told.now.names.now) direction (clause_item_tree item.now) }
+{
+    SiteItem {
+        write: is_write(direction),
+        stream: first_of(told.at(item.stream.name.mark.place)),
+        window: window_of(told, &item.window),
+    }
+}
+
+fn is_write(direction: Direction) -> bool
+    ensures { result ≡ is_write direction }
+{
+    match direction {
+        Direction::Reads => false,
+        Direction::Writes => true,
+    }
+}
+
+/// The slot of an item's window.
+fn window_of(told: &Told<'_>, window: &Option<Join>) -> Option<u32>
+    ensures { result ≡ window_of (told_at told.now.names.now) (option_map join_tree window.now) }
+{
+    match window {
+        None => None,
+        Some(join) => slot_of(told.at(join.name.mark.place)),
+    }
+}

@@ -1,0 +1,13 @@
+use Rattle.std.proofs.Common.{◌≡◌, ◌∙◌, ap, rules}
+use Rattle.os_ast.proofs.Rows.{expr_tree-chain}
+use Rattle.os_ast.specs.Trees as tree
+use Rattle.os_ast.specs.Views.{expr_tree, links_tree}
+use Rattle.lowering_expressions.proofs.quiet.+quiet.Goals as goal
+
+pub is_quiet-returns-then-is_quiet : goal.is_quiet-returns-then-is_quiet
+is_quiet-returns-then-is_quiet t c =
+    let first = c.in-Chain.first.value in
+    let links = c.in-Chain.links in
+    let chain : expr_tree c.args.expr.now ≡ tree.Chain c.in-Chain.field-0 (expr_tree first) (links_tree links) =
+    ap expr_tree c.in-Chain.is ∙ expr_tree-chain c.in-Chain.field-0 c.in-Chain.first links in
+    rw chain (search rules)

@@ -1,0 +1,72 @@
+-- What a run on the machine comes to is what the program's activations come to.
+use Rattle.std.proofs.Common.{◌≡◌, ℕ, ℤ, List, All, Option, Some, None, length, get_or, slice_get, refl, sym, ap, ◌∙◌, subst}
+use Rattle.std.specs.Prelude.{IfOk, Result, Ok, Err}
+use Rattle.std.specs.Option.{ForSome, option_map_or}
+use Rattle.std.proofs.lemmas.List.Elements.{All-get_or}
+use Rattle.std.proofs.lemmas.Option.{get_or_from_slice_get, slice_get_within}
+use Rattle.cddf_meaning.specs.Body.{body, over_budget}
+use Rattle.collector.specs.Written.{IsByteIfThere}
+use Rattle.flow_core.specs.Laws.{MeansTheStreams, SinkIsTheOutput}
+use Rattle.flow_core.specs.Outcome.{ends_of}
+use Rattle.flow_core.specs.Plans.{plan_meaning, sink_elements}
+use Rattle.flow_core.specs.StandsFor.{StandsFor}
+use Rattle.flow_core.specs.Streams.{output_elements, stream_meaning}
+use Rattle.flow_core.specs.declared.activation.Activation.{Activation}
+use Rattle.flow_core.specs.declared.ends.Ends.{Ends}
+use Rattle.flow_core.specs.declared.plan.Plan.{Plan}
+use Rattle.lowering.specs.Meanings.{RunsBodies}
+use Rattle.os_ast.specs.Trees.{ProgramTree}
+use Rattle.os_code.specs.Outcomes as machine
+use Rattle.os_code.specs.Tasks.{Fits, input_count}
+use Rattle.os_code.specs.declared.parts.Parts.{Parts}
+use Rattle.osrun_core_run.proofs.BodyBytes.{RunsKeep, body_gives}
+use Rattle.osrun_core_run.specs.Run.{body_at, ends_over}
+use Rattle.task_bodies.specs.Frames.{frame_outcome}
+use Rattle.flow_core.specs.Byte.{IsByte}
+use Rattle.task_bodies.specs.Laws.{Agree, AgreeingBodiesMeanOne, GivesBytes, OutputsAreBytes}
+
+module _ (code : Parts) (p : ProgramTree) (activations : List Activation) (budget : ℕ) (runs : RunsBodies code p) (fit : All (Fits code) activations) where
+  -- the machine makes of each activation what the body of its task does
+  agree : Agree activations (frame_outcome code activations budget) (body_at p activations budget)
+  agree a x inputs at long =
+      let fits : Fits code x = subst (Fits code) (get_or_from_slice_get activations a x x at) (All-get_or (Fits code) activations a x (slice_get_within activations a x at) fit) in
+      ap (λ o. option_map_or (λ (y : Activation). machine.task_outcome code y inputs budget) o machine.over_budget) at
+      ∙ runs x inputs budget fits long
+      ∙ sym (ap (λ o. option_map_or (λ (y : Activation). body p y inputs budget) o over_budget) at)
+
+  pub ends_are : AgreeingBodiesMeanOne → MeansTheStreams → SinkIsTheOutput → (plan : Plan) (input : List ℕ) (ends : Ends) → StandsFor plan activations input
+      → ends.ends ≡ ends_of (plan_meaning plan (frame_outcome code activations budget)) → ends.output ≡ sink_elements plan (plan_meaning plan (frame_outcome code activations budget))
+      → ends ≡ ends_over p activations input budget
+  ends_are one means sink plan input ends stands of_ends of_output =
+      let state = stream_meaning activations input (body_at p activations budget) in
+      let meant : plan_meaning plan (frame_outcome code activations budget) ≡ state =
+      means plan activations input (frame_outcome code activations budget) stands ∙ one activations input (frame_outcome code activations budget) (body_at p activations budget) agree in
+      let es : ends.ends ≡ ends_of state = of_ends ∙ ap ends_of meant in
+      let os : ends.output ≡ output_elements activations input state = of_output ∙ ap (sink_elements plan) meant ∙ sink plan activations input state stands in
+      ap (λ xs. record { ends = xs; output = ends.output }) es ∙ ap (λ xs. record { ends = ends_of state; output = xs }) os
+
+  pub ends_if : {E : Type 0} → AgreeingBodiesMeanOne → MeansTheStreams → SinkIsTheOutput → (plan : Plan) (input : List ℕ) → StandsFor plan activations input → (r : Result Ends E)
+      → IfOk r (λ (e : Ends). e.ends ≡ ends_of (plan_meaning plan (frame_outcome code activations budget)))
+      → IfOk r (λ (e : Ends). e.output ≡ sink_elements plan (plan_meaning plan (frame_outcome code activations budget)))
+      → IfOk r (λ (e : Ends). e ≡ ends_over p activations input budget)
+  ends_if one means sink plan input stands (Ok ends) of_ends of_output = ends_are one means sink plan input ends stands of_ends of_output
+  ends_if one means sink plan input stands (Err error) of_ends of_output = tt
+
+-- the output of a program has only bytes
+pub bytes_are : RunsKeep → OutputsAreBytes → (p : ProgramTree) (activations : List Activation) (input : List ℕ) (budget : ℕ) → All IsByteIfThere (ends_over p activations input budget).output
+bytes_are keep bytes p activations input budget =
+    let all = bytes activations input (body_at p activations budget) gives in
+    λ k d lt. there (get_or (ends_over p activations input budget).output k d) (all k d lt)
+  where
+    gives : (a : ℕ) (x : Activation) (inputs : List ℤ) → slice_get activations a ≡ Some x → length inputs ≡ input_count x → GivesBytes x (body_at p activations budget a inputs)
+    gives a x inputs at long = subst (GivesBytes x) (sym (ap (λ o. option_map_or (λ (y : Activation). body p y inputs budget) o over_budget) at)) (body_gives keep p x inputs budget long)
+
+    there : (e : Option ℤ) → ForSome e IsByte → IsByteIfThere e
+    there None h = tt
+    there (Some value) h = h value refl
+
+pub bytes_if : {E : Type 0} → RunsKeep → OutputsAreBytes → (p : ProgramTree) (activations : List Activation) (input : List ℕ) (budget : ℕ) (r : Result Ends E)
+    → IfOk r (λ (e : Ends). e ≡ ends_over p activations input budget) → IfOk r (λ (e : Ends). All IsByteIfThere e.output)
+bytes_if keep bytes p activations input budget (Ok ends) is =
+    subst (λ (e : Ends). All IsByteIfThere e.output) (sym is) (bytes_are keep bytes p activations input budget)
+bytes_if keep bytes p activations input budget (Err error) is = tt

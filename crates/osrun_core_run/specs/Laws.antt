@@ -1,0 +1,42 @@
+-- What holds of every program and of every run of a job, as statements.
+use Rattle.std.specs.Prelude.{◌≡◌, ℕ, ℤ, All, List, Option, length}
+use Rattle.cddf_meaning.specs.Body.{body}
+use Rattle.collector.specs.Laws.{HasItsLines}
+use Rattle.collector.specs.Reported.{AreOfState}
+use Rattle.collector.specs.Status.{status}
+use Rattle.collector.specs.Written.{IsByteIfThere, written}
+use Rattle.flow_core.specs.Place.{written_count}
+use Rattle.flow_core.specs.declared.activation.Activation.{Activation}
+use Rattle.os_ast.specs.Trees.{ProgramTree}
+use Rattle.os_code.specs.Tasks.{input_count}
+use Rattle.osrun_core_words.specs.Jobs.{Job}
+use Rattle.osrun_core_run.specs.Run.{IsRunOfJob, ProgramRun}
+use Rattle.task_bodies.specs.Laws.{GivesBytes}
+
+-- The body of a task that has its inputs writes nothing but bytes to the output, which is stream 1, for every program and
+-- every activation.
+abbrev pub BodiesGiveBytes : Type 0
+BodiesGiveBytes = (p : ProgramTree) (a : Activation) (inputs : List ℤ) (budget : ℕ) → length inputs ≡ input_count a
+    → GivesBytes a (body p a inputs budget)
+
+-- a fact of every run of a job
+abbrev pub OfRuns : (ProgramRun → Type 0) → Type 0
+OfRuns fact = (holds : List ℕ → Option (List ℕ)) (job : Job) (run : ProgramRun) → IsRunOfJob holds job run → fact run
+
+-- Each activation that is done filled its output windows, so that what is there by the ends, as the report tells it, is
+-- what is there by the elements, of which the output is written.
+abbrev pub IsOfAState : ProgramRun → Type 0
+IsOfAState run = AreOfState run.control.activations (length run.input) run.ends
+
+-- the elements of the output that are there are bytes
+abbrev pub GivesOnlyBytes : ProgramRun → Type 0
+GivesOnlyBytes run = All IsByteIfThere run.ends.output
+
+-- at status 0 as many bytes are written as positions of the output are claimed for writing
+abbrev pub WritesAllAtZero : ProgramRun → Type 0
+WritesAllAtZero run =
+    status run.ends.ends run.control.end ≡ 0 → length (written run.ends.output) ≡ written_count run.control.activations 1
+
+-- each activation that isn't done has a line in the report, and no other has one
+abbrev pub TellsAllButDone : ProgramRun → Type 0
+TellsAllButDone run = HasItsLines run.control.activations (length run.input) run.ends

@@ -1,0 +1,32 @@
+-- What a run that was made has to do with the program's meaning.
+use Rattle.std.specs.Prelude.{◌≡◌, ◌≤◌, ℕ, List, length}
+use Rattle.cddf_meaning.specs.Control.{control}
+use Rattle.collector.specs.Written.{written}
+use Rattle.flow_core.specs.declared.control.Control.{Control}
+use Rattle.flow_core.specs.declared.control.ControlEnd.{ControlEnd}
+use Rattle.flow_core.specs.declared.ends.Ends.{Ends}
+use Rattle.os_ast.specs.Trees.{ProgramTree}
+use Rattle.osrun_core_run.specs.Run.{ends_over}
+use Rattle.osrun_core_words.specs.declared.job.Terms.{Terms}
+use Rattle.stream_match.specs.Layout.{IsLayout, IsLayoutOf}
+use Rattle.stream_match.specs.declared.layout.Layout.{Layout}
+
+-- the terms are within their bounds
+pub record AreTerms (terms : Terms) : Type 0 where
+  pub some_workers : 1 ≤ terms.workers
+  pub few_workers : terms.workers ≤ 64
+  pub task_turns : terms.task_budget ≤ 1000000000
+  pub control_turns : terms.control_budget ≤ 1000000000
+
+-- The output, the layout and the ends are those of the activations that the control program creates, with
+-- these budgets.
+pub record IsRunOf (task_budget control_budget : ℕ) (p : ProgramTree) (input output : List ℕ) (layout : Layout) (ends : Ends) (end : ControlEnd) : Type 0 where
+  pub made : Control
+  pub made_is : made ≡ control p (length input) control_budget
+  pub end_is : end ≡ made.end
+  pub whole : IsLayout layout
+  pub laid : IsLayoutOf layout made.activations
+  pub over : layout.input_len ≡ length input
+  pub ends_are : ends ≡ ends_over p made.activations input task_budget
+  pub writes : output ≡ written ends.output
+  pub few : length output ≤ 4194304

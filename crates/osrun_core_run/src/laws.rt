@@ -1,0 +1,37 @@
+//! Laws of programs and of their runs. Each is a call that does nothing and ensures its law.
+
+ghost use Rattle.osrun_core_run.specs.Laws.{BodiesGiveBytes, GivesOnlyBytes, IsOfAState, OfRuns, TellsAllButDone, WritesAllAtZero};
+
+use cddf_meaning::laws::turns_never_grow;
+use collector::laws::{all_but_done_have_lines, all_is_written, meanings_are_states};
+use lowering_relation::laws::bodies_fill_their_outputs;
+use task_bodies::laws::{filled_bodies_fill, outputs_are_bytes};
+
+/// The body of a task that has its inputs writes nothing but bytes to the output.
+pub fn bodies_give_bytes()
+    ensures { BodiesGiveBytes }
+{
+    turns_never_grow();
+}
+
+/// The output of a run has nothing but bytes.
+pub fn runs_give_bytes()
+    ensures { OfRuns GivesOnlyBytes }
+{
+    turns_never_grow();
+    outputs_are_bytes();
+}
+
+/// What a run comes to is of one state: the report tells of the elements of which the output is written. So it has a line
+/// for each activation that isn't done, and at status 0 as many bytes are written as positions are claimed.
+pub fn runs_are_of_states()
+    ensures state { OfRuns IsOfAState }
+    ensures lines { OfRuns TellsAllButDone }
+    ensures all_is_written { OfRuns WritesAllAtZero }
+{
+    bodies_fill_their_outputs();
+    filled_bodies_fill();
+    meanings_are_states();
+    all_but_done_have_lines();
+    all_is_written();
+}

@@ -1,0 +1,93 @@
+-- What the words of a command name.
+use Rattle.std.specs.Prelude.{List, [], ◌∷◌, Option, Some, None, codes, find, map, option_and_then, string_bytes}
+use Rattle.std.specs.Str.{bytes_eq}
+use Rattle.std.specs.declared.string.String.{String}
+use Rattle.std.specs.declared.alloc.Global.{Global}
+use Rattle.clap.specs.Words.{App, Kinds, Row, Text, fault_of, matches_of}
+use Rattle.osrun_core_words.specs.Arguments.{Argument, name, number, option, name_in, number_in, simple_command}
+use Rattle.osrun_core_words.specs.Jobs.{Gen, GenJob, Job, Request, Run, gen_in, run_in}
+
+-- ---- the commands
+
+-- a command: the word that picks it, its arguments, and what is asked for where these are given
+pub record CommandForm : Type 0 where
+  pub word : Text
+  pub arguments : List Argument
+  pub request : List Row → Request
+
+abbrev pub workers : Argument
+workers = option (codes "workers") (codes "4") 1 64
+
+abbrev pub task_budget : Argument
+task_budget = option (codes "budget") (codes "1000000") 0 1000000000
+
+abbrev pub control_budget : Argument
+control_budget = option (codes "control") (codes "1000000") 0 1000000000
+
+-- `run PROGRAM INPUT [--workers N] [--budget N] [--control N]`
+abbrev pub run_form : CommandForm
+run_form = record {
+  word = codes "run";
+  arguments =
+      name (codes "PROGRAM") ∷ name (codes "INPUT") ∷ workers ∷ task_budget ∷ control_budget ∷ [];
+  request = λ rows. Run (record {
+    program = name_in rows (codes "PROGRAM");
+    input = name_in rows (codes "INPUT");
+    workers = number_in rows (codes "workers");
+    task_budget = number_in rows (codes "budget");
+    control_budget = number_in rows (codes "control");
+  });
+}
+
+-- `gen SEED BLOCKS [--workers N]`
+abbrev pub gen_form : CommandForm
+gen_form = record {
+  word = codes "gen";
+  arguments =
+      number (codes "SEED") 0 4294967295 ∷ number (codes "BLOCKS") 1 65536 ∷ workers ∷ [];
+  request = λ rows. Gen (record {
+    seed = number_in rows (codes "SEED");
+    blocks = number_in rows (codes "BLOCKS");
+    workers = number_in rows (codes "workers");
+  });
+}
+
+abbrev pub commands : List CommandForm
+commands = run_form ∷ gen_form ∷ []
+
+-- ---- the words
+
+-- the simple command of clap that reads the words
+abbrev pub app_of_form : CommandForm → App
+app_of_form form = simple_command form.word form.arguments
+
+-- a request, unless there is a fault
+abbrev pub unless : Kinds → Request → Option Request
+unless [] request = Some request
+unless (fault ∷ more) request = None
+
+-- what the matches of the simple command ask for, unless the words have a fault
+unfoldable pub request_by : CommandForm → List Text → Option Request
+request_by form words =
+    unless (fault_of (app_of_form form) words) (form.request (matches_of (app_of_form form) words))
+
+-- What the words ask for. The first word picks the command, and all words are read by it: the first one
+-- stands in the place of the program's name.
+abbrev pub command : List Text → Option Request
+command [] = None
+command (first ∷ rest) =
+    option_and_then (λ form. request_by form (first ∷ rest)) (find (λ form. bytes_eq form.word first) commands)
+
+-- the run that the words name
+abbrev pub named_run : List Text → Option Job
+named_run words = option_and_then run_in (command words)
+
+-- the bytes that the words ask to be made
+abbrev pub named_gen : List Text → Option GenJob
+named_gen words = option_and_then gen_in (command words)
+
+-- ---- what the code's values show
+
+-- the texts of the words
+abbrev pub texts : List (String Global) → List Text
+texts words = map string_bytes words

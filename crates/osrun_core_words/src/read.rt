@@ -1,0 +1,79 @@
+ghost use Rattle.std.specs.Prelude.{◌≡◌, ◌≤◌, IfOk, Err, None, Some};
+ghost use Rattle.clap.specs.Words.{found_of, rows_of};
+ghost use Rattle.osrun_core_words.specs.Arguments.{argument_of, id_of, name_in, number_in};
+ghost use Rattle.osrun_core_words.specs.Jobs.{IsRequestWithin, request_of};
+ghost use Rattle.osrun_core_words.specs.Command.{command, gen_form, request_by, run_form, texts};
+ghost use Rattle.osrun_core_words.specs.Parsed.{IsNumberFor, IsNumberGiven};
+ghost use Rattle.osrun_core_words.specs.declared.words_error.WordsError.TheVariants as errors;
+
+use crate::argument::Argument;
+use crate::job::{GenJob, Job, Request, Terms};
+use crate::parse::parse;
+use crate::table::{BLOCKS, CONTROL_BUDGET, GEN, INPUT, PROGRAM, RUN, SEED, TASK_BUDGET, WORKERS};
+use crate::words_error::WordsError;
+use clap::ArgMatches;
+use std::alloc::Global;
+
+/// The name that an argument was given.
+fn name_of<'w>(matches: &ArgMatches<'w>, argument: Argument<'_>) -> &'w str
+    ensures { result.now ≡ name_in (rows_of (found_of matches.now)) (id_of (argument_of argument.entry)) }
+{
+    matches.get_str(argument.id()).unwrap_or("")
+}
+
+/// The number that an argument was given.
+fn number_of(matches: &ArgMatches<'_>, argument: Argument<'_>) -> u64
+    requires { IsNumberGiven matches.now (argument_of argument) }
+    ensures value { result ≡ number_in (rows_of (found_of matches.now)) (id_of (argument_of argument.entry)) }
+    ensures within { IsNumberFor (argument_of argument.entry) result }
+{
+    matches.get_one::<u64>(argument.id()).unwrap_or(0)
+}
+
+/// The job of `run`.
+fn read_run<'w>(alloc: Global, words: &'w [String]) -> Result<Request<'w>, WordsError>
+    ensures request { IfOk result (λ request. request_by run_form (texts words.entry.now) ≡ Some (request_of request)) }
+    ensures within { IfOk result (λ request. IsRequestWithin (request_of request)) }
+    ensures refused { result ≡ Err errors.Refused → request_by run_form (texts words.entry.now) ≡ None }
+{
+    let matches = parse(alloc, RUN, words)?;
+    Ok(Request::Run(Job {
+        program: name_of(&matches, PROGRAM),
+        input: name_of(&matches, INPUT),
+        terms: Terms {
+            workers: number_of(&matches, WORKERS) as u32,
+            task_budget: number_of(&matches, TASK_BUDGET),
+            control_budget: number_of(&matches, CONTROL_BUDGET),
+        },
+    }))
+}
+
+/// The job of `gen`.
+fn read_gen<'w>(alloc: Global, words: &'w [String]) -> Result<Request<'w>, WordsError>
+    ensures request { IfOk result (λ request. request_by gen_form (texts words.entry.now) ≡ Some (request_of request)) }
+    ensures within { IfOk result (λ request. IsRequestWithin (request_of request)) }
+    ensures refused { result ≡ Err errors.Refused → request_by gen_form (texts words.entry.now) ≡ None }
+{
+    let matches = parse(alloc, GEN, words)?;
+    Ok(Request::Gen(GenJob {
+        seed: number_of(&matches, SEED) as u32,
+        blocks: number_of(&matches, BLOCKS) as u32,
+        workers: number_of(&matches, WORKERS) as u32,
+    }))
+}
+
+/// What the words ask for.
+pub fn command<'w>(alloc: Global, words: &'w [String]) -> Result<Request<'w>, WordsError>
+    ensures request { IfOk result (λ request. command (texts words.entry.now) ≡ Some (request_of request)) }
+    ensures within { IfOk result (λ request. IsRequestWithin (request_of request)) }
+    ensures refused { result ≡ Err errors.Refused → command (texts words.entry.now) ≡ None }
+{
+    let Some(first) = words.first() else {
+        return Err(WordsError::Refused);
+    };
+    match first.as_str() {
+        "run" => read_run(alloc, words),
+        "gen" => read_gen(alloc, words),
+        _ => Err(WordsError::Refused),
+    }
+}

@@ -1,8 +1,0 @@
-use Rattle.std.proofs.Common.{◌≡◌, drop}
-use Rattle.cddf_meaning.specs.Body.{bind_captured}
-use Rattle.plain_tasks.proofs.body.bind_captured.Given as goal
-
-abbrev pub invariant-loop-place : goal.invariant-loop-place
-invariant-loop-place l =
-    (l.state ≡ record l.initial.state { bound = l.state.bound })
-    × (bind_captured l.ids l.values l.initial.state.bound ≡ bind_captured (drop l.place l.ids) (drop l.place l.values) l.state.bound)

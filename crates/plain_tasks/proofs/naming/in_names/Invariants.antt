@@ -1,8 +1,0 @@
-use Rattle.std.proofs.Common.{◌≡◌, drop}
-use Rattle.os_ast.specs.Parts.{is_in}
-use Rattle.plain_tasks.specs.Sought.{ids_of}
-use Rattle.plain_tasks.proofs.naming.in_names.Given as goal
-
-abbrev pub invariant-loop-name : goal.invariant-loop-name
-invariant-loop-name l =
-    is_in l.id (ids_of (drop l.name-index l.names)) ≡ is_in l.id (ids_of l.names)

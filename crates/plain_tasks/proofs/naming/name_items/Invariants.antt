@@ -1,9 +1,0 @@
-use Rattle.std.proofs.Common.{◌≡◌, drop, map}
-use Rattle.os_ast.specs.Parts.{is_in}
-use Rattle.plain_tasks.specs.Sought.{item_names}
-use Rattle.os_ast.specs.Views.{clause_item_tree}
-use Rattle.plain_tasks.proofs.naming.name_items.Given as goal
-
-abbrev pub invariant-loop-item : goal.invariant-loop-item
-invariant-loop-item l =
-    is_in l.id (item_names (map clause_item_tree (drop l.item-index l.items))) ≡ is_in l.id (item_names (map clause_item_tree l.items))

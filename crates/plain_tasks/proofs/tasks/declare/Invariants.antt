@@ -1,9 +1,0 @@
-use Rattle.std.proofs.Common.{◌≡◌, ◌++◌, drop, map}
-use Rattle.plain_tasks.specs.Sought.{known_declarator}
-use Rattle.os_ast.specs.Views.{declarator_tree}
-use Rattle.plain_tasks.proofs.tasks.declare.Given as goal
-
-abbrev pub invariant-loop-declarator : goal.invariant-loop-declarator
-invariant-loop-declarator l =
-    l.known.items ++ map known_declarator (map declarator_tree (drop l.declarator-index l.declarators))
-    ≡ l.initial.known.items ++ map known_declarator (map declarator_tree l.declarators)

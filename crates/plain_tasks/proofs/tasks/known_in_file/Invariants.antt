@@ -1,9 +1,0 @@
-use Rattle.std.proofs.Common.{◌≡◌, ◌++◌, drop, map}
-use Rattle.plain_tasks.specs.Sought.{known_item}
-use Rattle.os_ast.specs.Views.{item_tree}
-use Rattle.plain_tasks.proofs.tasks.known_in_file.Given as goal
-
-abbrev pub invariant-loop-item : goal.invariant-loop-item
-invariant-loop-item l =
-    l.known.items ++ map known_item (map item_tree (drop l.item-index l.file))
-    ≡ map known_item (map item_tree l.file)

@@ -1,5 +1,0 @@
-use Rattle.productions.proofs.Programs.{whole, again, never}
-use Rattle.productions.proofs.laws.programs_are_what_tokens_mean.Goals as goal
-
-pub returns : goal.returns
-returns c = record { given = whole; taken = again; refused = never }

@@ -1,6 +1,0 @@
-use Rattle.flow_core.specs.Plans.{plan_meaning}
-use Rattle.round_workers.proofs.Joining.{HaveRun}
-use Rattle.round_workers.proofs.worker.run_frames.Given as goal
-
-abbrev pub invariant-loop-k : goal.invariant-loop-k
-invariant-loop-k g l = HaveRun l.plan (plan_meaning l.plan (g.B.Bodies.outcome l.bodies)) l.frames l.ends l.outputs l.first l.k × g.B.Bodies.fits l.bodies l.worker.scratch

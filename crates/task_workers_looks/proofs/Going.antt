@@ -1,0 +1,67 @@
+-- What a worker may do next with the frame that it runs.
+use Rattle.std.proofs.Common.{◌≡◌, ℕ, ℤ, ◌+◌, ◌<◌, ◌≤◌, Bool, List, Option, Some, length, get_or, refl, sym, ap, ◌∙◌, arith}
+use Rattle.std.specs.Prelude.{slice_get}
+use Rattle.std.specs.Option.{option_map, option_map_or}
+use Rattle.std.proofs.lemmas.Option.{slice_get-get_or}
+use Rattle.flow_core.specs.declared.outcome.Outcome.{Outcome}
+use Rattle.flow_core.specs.declared.plan.FramePlan.{FramePlan}
+use Rattle.flow_core.specs.declared.plan.Plan.{Plan}
+use Rattle.flow_core.specs.declared.plan.Piece.{Piece}
+use Rattle.flow_core.specs.declared.task_end.TaskEnd.TheVariants.{Done}
+use Rattle.flow_core.specs.declared.concurrent.known.Known.{Known}
+use Rattle.flow_core.specs.declared.concurrent.view.Run.{Run}
+use Rattle.flow_core.specs.declared.concurrent.view.View.{View}
+use Rattle.flow_core.specs.Outcome.{outcome_at}
+use Rattle.flow_core.specs.Element.{element}
+use Rattle.flow_core.specs.Round.{inputs_in}
+use Rattle.flow_core.specs.Plans.{frame_at, plan_reads, plan_meaning}
+use Rattle.flow_core.specs.Concurrent.Laws.{IsFit}
+use Rattle.flow_core.specs.Concurrent.Steps.{with_sub}
+use Rattle.flow_core.proofs.Rounds.{element-extends, outcome_at-meaning}
+use Rattle.frame_table.specs.Seats.{MayDeliver, at}
+use Rattle.frame_table.specs.Plays.{subbed}
+use Rattle.task_workers_looks.specs.Left.{Stays}
+
+-- the next piece of the frame that a seat runs
+pub next_piece : (known : Known) (v : View) (f n : ℕ) (o : Outcome) → IsFit known → f < length known.plan.frames → (frame_at known.plan f).piece ≤ n → n < (frame_at known.plan f).piece + (frame_at known.plan f).pieces → outcome_at known.meaning f ≡ Some o → o.end ≡ Done → v.run ≡ Some (at f n 0) → (p : Piece) × (slice_get known.plan.pieces n ≡ Some p) × MayDeliver known v n p o
+next_piece known v f n o fit exists low high meant done runs =
+    let ends = fit.plan_is_sound.pieces_exist f (omega (arith, exists)) in
+    let none : Piece = record { from = 0; to = 0; first = 0; count = 0; at = 0 } in
+    let p : Piece = get_or known.plan.pieces n none in
+    let here : slice_get known.plan.pieces n ≡ Some p = slice_get-get_or known.plan.pieces n none (omega (arith, ends, high)) in
+    let from : p.from ≡ f = (fit.plan_is_sound.pieces_stand_together f n p (omega (arith, exists)) here).1 (low, high) in (
+      p,
+      here,
+      record {
+        runs = runs ∙ ap (λ g. Some (at g n 0)) (sym from);
+        stands = record { has_number = here; is_its_own = refl };
+        is_meant = ap (outcome_at known.meaning) from ∙ meant;
+        is_done = done;
+      },
+    )
+
+pub gone_on : (v w : View) (f n to : ℕ) (opens : Bool) → v.run ≡ Some (at f n 0) → w ≡ subbed v to opens → (w.run ≡ Some (at f (n + 1) 0)) × Stays v w
+gone_on v w f n to opens runs is =
+    let e : w ≡ with_sub v (at f n 0) to opens = is ∙ ap (λ (r : Option Run). option_map_or (λ (r : Run). with_sub v r to opens) r v) runs in
+    (ap (λ (u : View). u.run) e, record { ran = ap (λ (u : View). u.ran) e; shares = ap (λ (u : View). u.shares) e })
+
+pub stays_on : (u v w : View) → Stays u v → Stays v w → Stays u w
+stays_on u v w a b = record { ran = b.ran ∙ a.ran; shares = b.shares ∙ a.shares }
+
+-- a frame whose inputs are there has the outcome of its body
+pub meant_outcome : (known : Known) (outcome : ℕ → List ℤ → Outcome) (f : ℕ) (inputs : List ℤ) → known.meaning ≡ plan_meaning known.plan outcome → f < length known.plan.frames → inputs_in element (plan_reads known.plan) known.meaning f ≡ Some inputs → outcome_at known.meaning f ≡ Some (outcome f inputs)
+meant_outcome known outcome f inputs meant exists there =
+    ap (λ m. outcome_at m f) meant
+    ∙ outcome_at-meaning element element-extends (plan_reads known.plan) outcome (length known.plan.frames) f exists
+    ∙ ap (option_map (outcome f)) (ap (λ m. inputs_in element (plan_reads known.plan) m f) (sym meant) ∙ there)
+
+-- a frame's place as the code finds it
+pub place_of : (known plan : Plan) (f : ℕ) (place : FramePlan) → known ≡ plan → place ≡ frame_at plan f → frame_at known f ≡ place
+place_of known plan f place is found = ap (λ (p : Plan). frame_at p f) is ∙ sym found
+
+pub few_of : (known : Known) (plan : Plan) (f : ℕ) → IsFit known → known.plan ≡ plan → f < length plan.frames → (frame_at known.plan f).piece + (frame_at known.plan f).pieces ≤ length plan.pieces
+few_of known plan f fit is exists =
+    let n : length known.plan.frames ≡ length plan.frames = ap (λ (p : Plan). length p.frames) is in
+    let m : length known.plan.pieces ≡ length plan.pieces = ap (λ (p : Plan). length p.pieces) is in
+    let a = fit.plan_is_sound.pieces_exist f (omega (arith, n, exists)) in
+    omega (arith, a, m)

@@ -1,0 +1,44 @@
+use Rattle.std.proofs.Common.{arith, ap, ◌∙◌, ◌≡◌, ◌+◌, length, subst, Some}
+use Rattle.std.specs.Prelude.{slice_get}
+use Rattle.flow_core.specs.declared.plan.FramePlan.{FramePlan}
+use Rattle.flow_core.specs.declared.plan.Plan.{Plan}
+use Rattle.flow_core.specs.Plans.{frame_at}
+use Rattle.frame_table.specs.Tokens.{known_of, view_of}
+use Rattle.task_workers_looks.proofs.Going.{next_piece, gone_on, stays_on, place_of, few_of}
+use Rattle.task_workers_looks.proofs.worker.give.Goals as goal
+
+pub overflow_add-piece-end : goal.overflow_add-piece-end
+overflow_add-piece-end c =
+    let t = c.args.table.now in
+    let e = place_of (known_of t).plan t.plan.now c.args.frame c.frame-place.result t.plan_is (c.frame-place.ensures ∙ ap (λ (p : Plan). frame_at p c.args.frame) c.plan.ensures) in
+    let p = few_of (known_of t) t.plan.now c.args.frame t.fit t.plan_is c.requires.exists in
+    let f : (frame_at (known_of t).plan c.args.frame).piece + (frame_at (known_of t).plan c.args.frame).pieces ≡ c.frame-place.result.piece + c.frame-place.result.pieces = ap (λ (f : FramePlan). f.piece + f.pieces) e in
+    let few = c.requires.few_pieces in
+    omega (arith, p, f, few)
+
+pub deliver-requires-clause-may_deliver : goal.deliver-requires-clause-may_deliver
+deliver-requires-clause-may_deliver c =
+    let t = c.args.table.now in
+    let done = c.requires.done in
+    let l = c.loop-piece.invariant in
+    let e = place_of (known_of t).plan t.plan.now c.args.frame c.frame-place.result t.plan_is (c.frame-place.ensures ∙ ap (λ (p : Plan). frame_at p c.args.frame) c.plan.ensures) in
+    let f : (frame_at (known_of t).plan c.args.frame).piece + (frame_at (known_of t).plan c.args.frame).pieces ≡ c.frame-place.result.piece + c.frame-place.result.pieces = ap (λ (f : FramePlan). f.piece + f.pieces) e in
+    let n : length (known_of t).plan.frames ≡ length t.plan.now.frames = ap (λ (p : Plan). length p.frames) t.plan_is in
+    let high = c.loop-piece-test.true in
+    let r = next_piece (known_of t) (view_of c.loop-piece.seat) c.args.frame c.loop-piece.piece done.0 t.fit (omega (arith, n, c.requires.exists)) l.3 (omega (arith, f, high)) done.1 done.2 l.1 in
+    (r.0, done.0, r.2, done.3)
+
+pub loop-piece-preserved : goal.loop-piece-preserved
+loop-piece-preserved c =
+    let t = c.args.table.now in
+    let done = c.requires.done in
+    let l = c.loop-piece.invariant in
+    let e = place_of (known_of t).plan t.plan.now c.args.frame c.frame-place.result t.plan_is (c.frame-place.ensures ∙ ap (λ (p : Plan). frame_at p c.args.frame) c.plan.ensures) in
+    let f : (frame_at (known_of t).plan c.args.frame).piece + (frame_at (known_of t).plan c.args.frame).pieces ≡ c.frame-place.result.piece + c.frame-place.result.pieces = ap (λ (f : FramePlan). f.piece + f.pieces) e in
+    let n : length (known_of t).plan.frames ≡ length t.plan.now.frames = ap (λ (p : Plan). length p.frames) t.plan_is in
+    let high = c.loop-piece-test.true in
+    let r = next_piece (known_of t) (view_of c.loop-piece.seat) c.args.frame c.loop-piece.piece done.0 t.fit (omega (arith, n, c.requires.exists)) l.3 (omega (arith, f, high)) done.1 done.2 l.1 in
+    let step = c.deliver.ensures.step r.0 (subst (λ (p : Plan). slice_get p.pieces c.loop-piece.piece ≡ Some r.0) t.plan_is r.1) in
+    let g = gone_on (view_of c.loop-piece.seat) (view_of c.deliver.new.seat) c.args.frame c.loop-piece.piece r.0.to c.deliver.result l.1 step in
+    let low = l.3 in
+    (c.deliver.ensures.of_this_table, g.0, stays_on _ _ _ l.2 g.1, omega (arith, low))

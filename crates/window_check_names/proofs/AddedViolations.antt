@@ -1,0 +1,167 @@
+-- What is found of a token that is no used name: the code's steps are those of its note.
+use Rattle.std.proofs.Common.{◌≡◌, ℕ, ◌&&◌, ◌||◌, Bool, true, false, not, if◌then◌else◌, ltb, List, [], ◌∷◌, ◌++◌, length, Option, Some, None, ℤ, pos, negsuc, refl, ap, sym, ◌∙◌}
+use Rattle.std.specs.Prelude.{is_none}
+use Rattle.std.proofs.lemmas.List.{length-map}
+use Rattle.os_ast.specs.Captured.{Scalar, slots_of}
+use Rattle.os_ast.specs.Limits.{is_size, elements_limit, arrays_limit, streams_limit}
+use Rattle.os_ast.specs.Meanings.{meaning}
+use Rattle.os_ast.specs.Names.{Scope, declare, is_declared, lookup, entity_of}
+use Rattle.os_ast.specs.Notes.Clauses.{captured_in}
+use Rattle.os_ast.specs.Notes.Declarators.{form, form_with, sized_form, limited, size_value, size_told, taken, after_declarator, scalar_entity, declared_entity, constant_of}
+use Rattle.os_ast.specs.Notes.Kinds.{Sized, Declared, Given, Global, Left, Returned, Pragma, Task, Listed}
+use Rattle.os_ast.specs.Rules.{when, is_main_body, is_task_body, is_outermost, has_no_size, has_too_many, takes_more}
+use Rattle.os_ast.specs.Trees.{DeclaratorTree, IndexTree}
+use Rattle.os_ast.specs.Violations.{constant_meaning, main_task}
+use Rattle.os_ast.specs.declared.expr.Mark.{Mark}
+use Rattle.os_ast.specs.declared.expr.Name.{Name}
+use Rattle.os_ast.specs.Parts.{is_in}
+use Rattle.os_ast.specs.declared.names.Form.{Form}
+use Rattle.os_ast.specs.declared.names.Form.TheVariants as form_of
+use Rattle.os_ast.specs.declared.names.Owner.{Owner}
+use Rattle.os_ast.specs.declared.names.Owner.TheVariants as owner
+use Rattle.window_check_names.specs.Codes.{least_code, lesser_code}
+use Rattle.window_check_names.specs.Findings.{note, with_violation, means, constant_found, started, started_in, least_with, pushed}
+use Rattle.window_check_names.specs.Sizes.{passes_limit}
+use Rattle.window_check_names.specs.declared.found.Found.{Found}
+use Rattle.window_check_names.specs.declared.found.Found.TheVariants.{Listing, Judging}
+use Rattle.window_check_names.specs.declared.found.Judged.{Judged}
+
+-- one rule alone
+alone : (b : Bool) (c : ℕ) → least_code (when b c) ≡ least_code (when b c ++ [])
+alone true c = refl
+alone false c = refl
+
+-- another code of the same token
+recoded : (j : Judged) (m : Mark) {c d : Option ℕ} → c ≡ d → with_violation (Judging j) m c ≡ with_violation (Judging j) m d
+recoded j m h = ap (with_violation (Judging j) m) h
+
+-- `break` and `continue`
+pub with_violation-left : (f : Found) (s : Scope) (m : Mark) → with_violation f m (least_code (when (not s.loop) 16)) ≡ note f (Left s m)
+with_violation-left (Listing slots) s m = refl
+with_violation-left (Judging j) s m = recoded j m (alone (not s.loop) 16)
+
+pub with_violation-returned : (f : Found) (s : Scope) (m : Mark) → with_violation f m (least_code (when (is_task_body s.owner) 18)) ≡ note f (Returned s m)
+with_violation-returned (Listing slots) s m = refl
+with_violation-returned (Judging j) s m = recoded j m (alone (is_task_body s.owner) 18)
+
+pub with_violation-pragma : (f : Found) (s : Scope) (m : Mark) → with_violation f m (least_code (when (not (is_main_body s.owner)) 17)) ≡ note f (Pragma s m)
+with_violation-pragma (Listing slots) s m = refl
+with_violation-pragma (Judging j) s m = recoded j m (alone (not (is_main_body s.owner)) 17)
+
+pub with_violation-global : (f : Found) (s : Scope) (n : Name) → with_violation f n.mark (least_code (when (is_declared s n.id) 12)) ≡ note f (Global s n)
+with_violation-global (Listing slots) s n = refl
+with_violation-global (Judging j) s n = recoded j n.mark (alone (is_declared s n.id) 12)
+
+pub with_violation-listed : (f : Found) (before : List ℕ) (n : Name) → with_violation f n.mark (least_code (when (is_in n.id before) 21)) ≡ note f (Listed before n)
+with_violation-listed (Listing slots) before n = refl
+with_violation-listed (Judging j) before n = recoded j n.mark (alone (is_in n.id before) 21)
+
+-- a parameter
+pub means-given : (f : Found) (s : Scope) (n : Name) →
+    means (with_violation f n.mark (least_code (when (is_declared s n.id) 12))) n.mark (meaning (scalar_entity s.owner s.slots)) ≡ note f (Given s n)
+means-given (Listing slots) s n = refl
+means-given (Judging j) s n =
+    ap (λ f. means f n.mark (meaning (scalar_entity s.owner s.slots))) (recoded j n.mark (alone (is_declared s n.id) 12))
+
+-- a declarator
+three : (a b c : Bool) → lesser_code (least_code (when a 12)) (lesser_code (least_code (when b 15)) (least_code (when c 17))) ≡ least_code (when a 12 ++ (when b 15 ++ (when c 17 ++ [])))
+three true true true = refl
+three true true false = refl
+three true false true = refl
+three true false false = refl
+three false true true = refl
+three false true false = refl
+three false false true = refl
+three false false false = refl
+
+-- the size of a declarator, as the code finds it
+limited-none : (v : Option ℤ) → is_none (limited v) ≡ not (is_size v)
+limited-none None = refl
+limited-none (Some (pos n)) = chosen (is_size (Some (pos n)))
+  where
+    chosen : (b : Bool) → is_none (if b then Some n else None) ≡ not b
+    chosen true = refl
+    chosen false = refl
+limited-none (Some (negsuc n)) = refl
+
+wrong-sized : (o : Owner) (s : Scope) (after : Scope) (v : Option ℤ) → has_no_size (sized_form o (limited v)) v || has_too_many after (sized_form o (limited v)) ≡ passes_limit after (sized_form o (limited v))
+wrong-sized owner.OfMain s after v = refl
+wrong-sized owner.OfFunction s after v = ap (λ b. b || (ltb elements_limit after.elements || ltb arrays_limit after.arrays)) (sym (limited-none v))
+wrong-sized owner.OfTask s after v = ap (λ b. b || (ltb elements_limit after.elements || ltb arrays_limit after.arrays)) (sym (limited-none v))
+
+wrong-size : (s after : Scope) (stream : Bool) (i : Option IndexTree) →
+    has_no_size (form_with s stream i) (size_told s i) || has_too_many after (form_with s stream i) ≡ passes_limit after (form_with s stream i)
+wrong-size s after false None = refl
+wrong-size s after false (Some i) = wrong-sized s.owner s after (size_value s i.value)
+wrong-size s after true None = refl
+wrong-size s after true (Some i) = ap (λ b. b || ltb streams_limit after.streams) (sym (limited-none (size_value s i.value)))
+
+-- behind a declarator as much is taken as by its form
+passes-same : (s : Scope) (d : DeclaratorTree) → passes_limit (after_declarator s d) (form s d) ≡ passes_limit (taken s (form s d)) (form s d)
+passes-same s d = same (form s d)
+  where
+    same : (f : Form) → passes_limit (declare (taken s f) d.name.id (declared_entity s d)) f ≡ passes_limit (taken s f) f
+    same form_of.Scalar = refl
+    same (form_of.Array n) = refl
+    same form_of.Window = refl
+    same form_of.Stream = refl
+    same (form_of.Streams n) = refl
+
+pub means-declared : (f : Found) (s : Scope) (d : DeclaratorTree) →
+    means
+    (with_violation f d.name.mark
+    (lesser_code (least_code (when (is_declared s d.name.id) 12))
+    (lesser_code (least_code (when (passes_limit (taken s (form s d)) (form s d)) 15)) (least_code (when (d.stream && not (is_outermost s.owner s.depth)) 17)))))
+    d.name.mark (meaning (declared_entity s d))
+    ≡ note f (Declared s d)
+means-declared (Listing slots) s d = refl
+means-declared (Judging j) s d =
+    let twice = is_declared s d.name.id in
+    let apart = d.stream && not (is_outermost s.owner s.depth) in
+    ap
+    (λ f. means f d.name.mark (meaning (declared_entity s d)))
+    (recoded j d.name.mark
+    (three twice (passes_limit (taken s (form s d)) (form s d)) apart
+    ∙ ap
+    (λ b. least_code (when twice 12 ++ (when b 15 ++ (when apart 17 ++ []))))
+    (sym (wrong-size s (after_declarator s d) d.stream d.size ∙ passes-same s d))))
+
+-- the name of a size
+constant-sized-in : (j : Judged) (m : Mark) (v : Option ℤ) → constant_found (Judging j) m v ≡ Judging (record j { names = pushed j.names (constant_meaning m v) })
+constant-sized-in j m None = refl
+constant-sized-in j m (Some v) = refl
+
+pub constant-sized : (f : Found) (s : Scope) (n : Name) → constant_found f n.mark (constant_of (entity_of (lookup s.entries n.id))) ≡ note f (Sized s n)
+constant-sized (Listing slots) s n = listing (constant_of (entity_of (lookup s.entries n.id)))
+  where
+    listing : (v : Option ℤ) → constant_found (Listing slots) n.mark v ≡ Listing slots
+    listing None = refl
+    listing (Some v) = refl
+constant-sized (Judging j) s n = constant-sized-in j n.mark (constant_of (entity_of (lookup s.entries n.id)))
+
+-- the start of a task: where it stands elsewhere than in `main`, that is the least violation
+behind : (b : Bool) → least_code (17 ∷ []) ≡ least_code (when true 17 ++ (when b 22 ++ []))
+behind true = refl
+behind false = refl
+
+with_task : (j : Judged) (m : Mark) (xs : List (List ℕ)) {c d : Option ℕ} → c ≡ d →
+    Judging (record j { least = least_with j.least m c; captured = xs }) ≡ Judging (record j { least = least_with j.least m d; captured = xs })
+with_task j m xs h = ap (λ c. Judging (record j { least = least_with j.least m c; captured = xs })) h
+
+starts-in : (j : Judged) (o : Owner) (m : Mark) (items : ℕ) (slots : List ℕ) →
+    Judging (started_in j o m items (captured_in o slots))
+    ≡ Judging (record j { least = least_with j.least m (least_code (when (not (is_main_body o)) 17 ++ (when (takes_more items (length slots)) 22 ++ []))); captured = pushed j.captured (main_task o slots) })
+starts-in j owner.OfMain m items slots = with_task j m _ (alone (takes_more items (length slots)) 22)
+starts-in j owner.OfFunction m items slots = with_task j m _ (behind (takes_more items (length slots)))
+starts-in j owner.OfTask m items slots = with_task j m _ (behind (takes_more items (length slots)))
+
+pub started-task : (f : Found) (s : Scope) (m : Mark) (items : ℕ) (cs : List Scalar) →
+    started f s.owner m items (captured_in s.owner (slots_of cs)) ≡ note f (Task s m items cs)
+started-task (Listing listed) s m items cs = refl
+started-task (Judging j) s m items cs =
+    starts-in j s.owner m items (slots_of cs)
+    ∙ ap
+    (λ (n : ℕ). Judging (record j { least = least_with j.least m (least_code (when (not (is_main_body s.owner)) 17 ++ (when (takes_more items n) 22 ++ []))); captured = pushed j.captured (main_task s.owner (slots_of cs)) }))
+    (length-map cs (λ (c : Scalar). c.slot))
+
+pub ruleset added_notes = (with_violation-left, with_violation-returned, with_violation-pragma, with_violation-global, with_violation-listed, means-given)

@@ -1,0 +1,13 @@
+use Rattle.std.proofs.Common.{ap, ◌∙◌, Bool}
+use Rattle.os_ast.specs.Parts.{is_in}
+use Rattle.os_ast.specs.Rules.{when}
+use Rattle.window_check_names.specs.Codes.{least_code}
+use Rattle.window_check_names.specs.Parts.{ListedParts}
+use Rattle.window_check_names.proofs.Listing.{list_any-is_in}
+use Rattle.window_check_names.proofs.parts.Listed.again.Goals as goal
+
+pub returns : goal.returns
+returns c =
+    c.when.ensures
+    ∙ ap (λ (b : Bool). least_code (when b 21)) (c.contains.ensures ∙ list_any-is_in c.args.name.id c.self.inside.names.keys)
+    ∙ ap (λ (l : ListedParts). least_code (when (is_in c.args.name.id l.names) 21)) c.self.view_is

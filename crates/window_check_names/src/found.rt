@@ -1,0 +1,214 @@
+ghost use Rattle.std.specs.Prelude.{◌≡◌, OnOk};
+ghost use Rattle.window_check_names.specs.Findings.{nothing_found, before, lesser, with_violation, judged_with_violation, means, named, constant_found, started, started_in, slots_found, judged_in};
+ghost use Rattle.os_ast.specs.Rules.{when, takes_more};
+ghost use Rattle.window_check_names.specs.Codes.{least_code};
+
+use crate::captures::Captured;
+use crate::codes::{self, when};
+use os_ast::{Mark, Owner, Resolved, Violation, What};
+use os_io::{List, Memory};
+use std::alloc::Global;
+
+/// The most items of a task.
+const ITEMS_LIMIT: usize = 8;
+/// The most scalars that a task captures.
+const CAPTURED_LIMIT: usize = 64;
+
+/// What a walk over a part of a program finds.
+#[derive(Drop)]
+pub enum Found {
+    /// The scalars of the control program that the part names.
+    Listing(Captured),
+    /// What the rules and the names say of it.
+    Judging(Judged),
+}
+
+/// The least violation so far, what each name means, and what each task captures.
+#[derive(Drop)]
+pub struct Judged {
+    least: Option<Violation>,
+    names: List<Resolved>,
+    captured: List<List<u32>>,
+}
+
+/// Whether a violation comes before another: by place, then by code, then by line.
+fn is_before(violation: Violation, other: Violation) -> bool
+    ensures { result ≡ before violation other }
+{
+    violation.place < other.place
+        || (violation.place == other.place
+            && (violation.code < other.code
+                || (violation.code == other.code && violation.line < other.line)))
+}
+
+/// The lesser of a violation and the least one so far.
+fn lesser(least: Option<Violation>, violation: Violation) -> Violation
+    ensures { result ≡ lesser least violation }
+{
+    match least {
+        Some(least) if is_before(violation, least) => violation,
+        Some(least) => least,
+        None => violation,
+    }
+}
+
+impl Judged {
+    /// Nothing is found yet.
+    pub fn new(alloc: Global) -> Judged
+        ensures { result ≡ nothing_found }
+    {
+        Judged {
+            least: None,
+            names: List::new(alloc),
+            captured: List::new(alloc),
+        }
+    }
+
+    /// The least violation, the names, and what the tasks capture.
+    pub fn into_parts(self) -> (Option<Violation>, List<Resolved>, List<List<u32>>)
+        ensures least { result.0 ≡ self.least }
+        ensures names { result.1 ≡ self.names }
+        ensures captured { result.2 ≡ self.captured }
+    {
+        let Judged {
+            least,
+            names,
+            captured,
+        } = self;
+        (least, names, captured)
+    }
+
+    /// A token violates a rule, where there is a code.
+    pub fn add_violation(&mut self, mark: Mark, code: Option<u8>)
+        ensures { self.new ≡ judged_with_violation self.old mark code }
+    {
+        if let Some(code) = code {
+            let violation = Violation {
+                place: mark.place,
+                code,
+                line: mark.line,
+            };
+            self.least = Some(lesser(self.least, violation));
+        }
+    }
+
+    /// A name means this.
+    pub(crate) fn name(&mut self, mark: Mark, what: What) -> Result<(), Memory>
+        ensures { OnOk result (self.new ≡ named self.old mark what) }
+    {
+        self.names.push(Resolved {
+            place: mark.place,
+            what,
+        })
+    }
+
+    /// A task starts in `main`, which captures these scalars, or elsewhere, where none may stand.
+    fn task(
+        &mut self,
+        alloc: Global,
+        owner: Owner,
+        mark: Mark,
+        items: usize,
+        captured: &Captured,
+    ) -> Result<(), Memory>
+        ensures { OnOk result (self.new ≡ started_in self.old owner mark items captured.now) }
+    {
+        match owner {
+            Owner::OfMain => {
+                self.add_violation(mark, task_code(items, captured.len()));
+                let slots = captured.in_order(alloc)?;
+                self.captured.push(slots)
+            }
+            Owner::OfFunction | Owner::OfTask => {
+                self.add_violation(mark, Some(codes::MISPLACED));
+                Ok(())
+            }
+        }
+    }
+}
+
+impl Found {
+    /// A token violates a rule, where there is a code.
+    pub fn add_violation(&mut self, mark: Mark, code: Option<u8>)
+        ensures { self.new ≡ with_violation self.old mark code }
+    {
+        match self {
+            Found::Listing(_) => {}
+            Found::Judging(judged) => judged.add_violation(mark, code),
+        }
+    }
+
+    fn name(&mut self, mark: Mark, what: What) -> Result<(), Memory>
+        ensures { OnOk result (self.new ≡ means self.old mark what) }
+    {
+        match self {
+            Found::Listing(_) => Ok(()),
+            Found::Judging(judged) => judged.name(mark, what),
+        }
+    }
+
+    /// A name is declared, which violates a rule where there is a code, and means this.
+    pub fn declare(&mut self, mark: Mark, code: Option<u8>, what: What) -> Result<(), Memory>
+        ensures { OnOk result (self.new ≡ means (with_violation self.old mark code) mark what) }
+    {
+        self.add_violation(mark, code);
+        self.name(mark, what)
+    }
+
+    /// A name stands as a size, and is that of a constant where there is a value.
+    pub(crate) fn constant(&mut self, mark: Mark, value: Option<i32>) -> Result<(), Memory>
+        ensures { OnOk result (self.new ≡ constant_found self.old mark value) }
+    {
+        match value {
+            None => Ok(()),
+            Some(value) => self.name(mark, What::Constant(value)),
+        }
+    }
+
+    /// A task starts in a body of this owner, with so many items, and captures these scalars.
+    pub fn task(
+        &mut self,
+        alloc: Global,
+        owner: Owner,
+        mark: Mark,
+        items: usize,
+        captured: &Captured,
+    ) -> Result<(), Memory>
+        ensures { OnOk result (self.new ≡ started self.old owner mark items captured.now) }
+    {
+        match self {
+            Found::Listing(_) => Ok(()),
+            Found::Judging(judged) => judged.task(alloc, owner, mark, items, captured),
+        }
+    }
+
+    /// The scalars that were listed; none, where the walk judged.
+    pub fn into_listed(self, alloc: Global) -> Captured
+        ensures { result ≡ slots_found self }
+    {
+        match self {
+            Found::Listing(captured) => captured,
+            Found::Judging(_) => Captured::new(alloc),
+        }
+    }
+
+    /// What was judged; nothing, where the walk listed.
+    pub fn into_judged(self, alloc: Global) -> Judged
+        ensures { result ≡ judged_in self }
+    {
+        match self {
+            Found::Listing(_) => Judged::new(alloc),
+            Found::Judging(judged) => judged,
+        }
+    }
+}
+
+/// A task has more items than it may have, or captures more scalars.
+fn task_code(items: usize, scalars: usize) -> Option<u8>
+    ensures { result ≡ least_code (when (takes_more items scalars) 22) }
+{
+    when(
+        ITEMS_LIMIT < items || CAPTURED_LIMIT < scalars,
+        codes::TASK_LIMIT,
+    )
+}
