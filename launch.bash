@@ -15,8 +15,19 @@ case $head in
 esac
 [ -n "$commit" ] || commit=$(git -C "$top" rev-parse HEAD 2>/dev/null)
 
+# What is told of refused words on a terminal, behind what the program told.
+synopsis() {
+    [ "$name" = osrun ] && [ "$1" = 2 ] && [ -t 2 ] || return 0
+    echo "osrun run PROGRAM INPUT [--workers N] [--budget N] [--control N]" >&2
+    echo "osrun gen SEED BLOCKS [--workers N]" >&2
+}
+
 if [ -f "$program.stamp" ] && read -r stamp <"$program.stamp" && [ "$stamp" = "${commit:-none}" ]; then
-    exec "$program" "$@"
+    [ -t 2 ] || exec "$program" "$@"
+    "$program" "$@"
+    status=$?
+    synopsis "$status"
+    exit "$status"
 fi
 
 if ! command -v rt >/dev/null; then
@@ -26,15 +37,24 @@ fi
 echo "$name: this machine hasn't proved the program yet: it runs by the toolchain with run-time checks, slowly; ./build proves and builds it" >&2
 
 # The toolchain runs it in a folder of its own, with a copy of each file that a word names: under its own name where that
-# stays below the folder, and else under another one. The value of an option names none.
+# stays below the folder, and else under another one. The value of an option names none. What a pipe has, as that of a
+# process substitution, is read into a file first.
 files=()
 words=()
 names=()
 before=''
+room=$(mktemp -d)
+trap 'rm -rf "$room"' EXIT
+said=$room/said
 for word in "$@"; do
     copy=$word
     case $before in --*=*) before='' ;; esac
-    if [ "${before#--}" = "$before" ] && [ -f "$word" ] && [ -r "$word" ]; then
+    if [ "${before#--}" = "$before" ] && [ -p "$word" ] && [ -r "$word" ]; then
+        copy=file${#words[@]}
+        names+=(-e "s|^$copy:|$word:|")
+        cat "$word" >"$room/$copy"
+        files+=(--data "$copy=$room/$copy")
+    elif [ "${before#--}" = "$before" ] && [ -f "$word" ] && [ -r "$word" ]; then
         case $word in
             /* | ../* | */../* | program* | stdin* | stdout* | stderr*)
                 copy=file${#words[@]}
@@ -46,8 +66,6 @@ for word in "$@"; do
     words+=("$copy")
     before=$word
 done
-said=$(mktemp)
-trap 'rm -f "$said"' EXIT
 try() {
     (cd "$top/crates/$name" && rt try "${files[@]}" -- "${words[@]}") 2>"$said"
 }
@@ -65,4 +83,5 @@ if ! tail -n 1 "$said" | grep -q '^run=ended '; then
     exit 70
 fi
 grep -v -e '^checked: ' -e '^races: ' -e '^run=ended ' "$said" >&2
+synopsis "$status"
 exit "$status"

@@ -1,0 +1,98 @@
+#!/usr/bin/env python3
+"""bench/gate.py [--write]: runs the gate, `rt ci`, in this checkout, and tells the processor minutes of each crate.
+
+Call it in a fresh clone on a machine that has kept nothing, where the time from nothing is wanted: what an earlier run
+passed is not proved again. It prints a table of the minutes that proofs, tests and must-fail edits took, by crate in the
+order of crates.txt, and their sum beside that of the whole run (which builds and runs programs too). With --write it puts
+the table into docs/WORKING.md. It looks at the processes once a second, so up to a second of each is missed.
+Its status is that of the gate."""
+import os
+import resource
+import subprocess
+import sys
+import time
+
+TOP = os.path.dirname(os.path.dirname(os.path.abspath(__file__)))
+TICKS = os.sysconf("SC_CLK_TCK")
+KINDS = ["proof", "tests", "edits"]
+
+
+def crates():
+    """The crates that crates.txt lists, in its order."""
+    with open(f"{TOP}/crates.txt") as lines:
+        return [line.split(":")[0] for line in lines if ":" in line and not line.startswith("#")]
+
+
+def processes():
+    """The processes there are: number, parent, words, folder, seconds of processor so far, moment of its start."""
+    for number in filter(str.isdigit, os.listdir("/proc")):
+        try:
+            with open(f"/proc/{number}/cmdline") as words, open(f"/proc/{number}/stat") as stat:
+                fields = stat.read().rpartition(") ")[2].split()
+                seconds = (int(fields[11]) + int(fields[12])) / TICKS
+                yield int(number), int(fields[1]), words.read().split("\0"), os.readlink(f"/proc/{number}/cwd"), seconds, fields[19]
+        except (OSError, IndexError):
+            # it ended meanwhile
+            continue
+
+
+def checks_below(root):
+    """The checks among the processes below that number: crate, kind, seconds so far, by what tells one process from another."""
+    there = {number: (parent, *rest) for number, parent, *rest in processes()}
+
+    def is_below(number):
+        while number in there and number != root:
+            number = there[number][0]
+        return number == root
+
+    for number, (_, words, folder, seconds, start) in there.items():
+        if words[0].endswith("rattle") and "--crate-name" in words and is_below(number):
+            crate = words[words.index("--crate-name") + 1]
+            own = folder == f"{TOP}/crates/{crate}"
+            yield (number, start), crate, ("tests" if "--test" in words else "proof") if own else "edits", seconds
+
+
+def table(minutes):
+    """The rows of the table, and the sums of its columns."""
+    rows, sums = ["| crate | proof | tests | edits |", "|---|---|---|---|"], [0.0, 0.0, 0.0]
+    for crate in crates():
+        row = [minutes.get((crate, kind), 0) for kind in KINDS]
+        sums = [one + other for one, other in zip(sums, row)]
+        rows.append(f"| `{crate}` | " + " | ".join(f"{it:.1f}" if it >= 0.05 else "-" for it in row) + " |")
+    return rows, sums
+
+
+def write(rows):
+    """Puts the rows in the place of the table in docs/WORKING.md."""
+    path = f"{TOP}/docs/WORKING.md"
+    with open(path) as page:
+        lines = page.read().split("\n")
+    first = lines.index(rows[0])
+    behind = next(at for at in range(first, len(lines)) if not lines[at].startswith("|"))
+    with open(path, "w") as page:
+        page.write("\n".join(lines[:first] + rows + lines[behind:]))
+
+
+def main():
+    begun = time.time()
+    gate = subprocess.Popen(["rt", "ci"], cwd=TOP)
+    seen = {}
+    while gate.poll() is None:
+        for key, crate, kind, seconds in checks_below(gate.pid):
+            seen[key] = crate, kind, seconds
+        time.sleep(1)
+    minutes = {}
+    for crate, kind, seconds in seen.values():
+        minutes[crate, kind] = minutes.get((crate, kind), 0) + seconds / 60
+    rows, sums = table(minutes)
+    used = resource.getrusage(resource.RUSAGE_CHILDREN)
+    print("\n".join(rows))
+    print(f"proofs {sums[0]:.0f}, tests {sums[1]:.0f}, edits {sums[2]:.0f}: {sum(sums):.0f} of {(used.ru_utime + used.ru_stime) / 60:.0f} processor minutes")
+    print(f"{(time.time() - begun) / 60:.0f} minutes, status {gate.returncode}")
+    if "--write" in sys.argv[1:]:
+        write(rows)
+    return gate.returncode
+
+
+if __name__ == "__main__":
+    sys.exit(main())
