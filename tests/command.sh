@@ -115,6 +115,13 @@ check "two kinds of tasks with a stream between them" 0 01000300 "control done /
 run run "$top/examples/broadcast.c" in.bin
 check "an array of streams" 0 010000020100030100040201 "control done / output 12 of 12"
 
+printf '\020\004\200\377' >loud.bin
+run run "$top/examples/gain.c" loud.bin
+check "a parameter in front of the input" 0 08ffff "control done / output 3 of 3"
+printf '\020\200\377' >dark.bin
+run run "$top/examples/curve.c" dark.bin
+check "a table that all tasks read" 0 0140ff "control done / output 3 of 3"
+
 printf '\002\000\005' >zero.bin
 run run "$top/examples/divide.c" zero.bin
 check "a byte that traps" 1 32 "trapped 1 code 2 line 8 / control done / output 1 of 3"
@@ -142,9 +149,10 @@ for shown in shown.*; do
     fi
 done
 
-# The programs that tests of crates have as texts stand in the examples, word for word.
+# The programs that tests of crates have as texts stand in the examples, word for word. These two are run here alone.
 texts=$(cat "$top/crates/kernels/src/texts.rt" "$top/crates/compiler_tests/src/examples.rt")
 for example in "$top"/examples/*.c; do
+    case ${example##*/} in gain.c | curve.c) continue ;; esac
     if [[ $texts == *'r"'"$(cat "$example")"$'\n";'* ]]; then
         passed=$((passed + 1))
     else
@@ -354,6 +362,79 @@ check "a full standard error" 6 04030201 ""
 status=$?
 : >"$work/report"
 check "a refusal and a full standard error" 3 "" ""
+
+# Each limit, at it and one past it.
+# repeat COUNT TEXT: the text so many times, with its number, from 0 on, in the place of each %.
+repeat() {
+    awk -v count="$1" -v text="$2" 'BEGIN { for (k = 0; k < count; k++) { line = text; gsub(/%/, k, line); printf "%s", line } }'
+}
+# judged NAME STATUS REPORT TEXT INPUT WORD..: runs a text over an input, and compares what it reports; it writes nothing.
+judged() {
+    printf '%b' "$4" >judged.c
+    run run judged.c "$5" "${@:6}"
+    check "$1" "$2" "" "$3"
+}
+head -c 65536 /dev/zero >window.bin
+fine="control done / output 0 of 0"
+head -c 262144 <(printf 'int main(void) { }'; head -c 262144 /dev/zero | tr '\0' ' ') >longest.c
+run run longest.c short.bin
+check "the longest program" 0 "" "$fine"
+judged "a program without its end" 3 "refused 4 line 1" 'int main(void) {' short.bin
+judged "a bracket too many" 3 "refused 4 line 2" 'int main(void) { }\n}' short.bin
+judged "an else without its if" 3 "refused 4 line 2" 'int main(void) {\nelse ; }' short.bin
+judged "a program of depth 200" 0 "$fine" "int main(void) { return\n$(repeat 197 '(\n')1$(repeat 197 ')'); }" short.bin
+judged "a program of depth 201" 3 "refused 4 line 200" "int main(void) {\nreturn$(repeat 198 '\n(')" short.bin
+windows="int main(void) {\nint w0[1], w1[1], w2[1], w3[1], w4[1], w5[1], w6[1], w7[1], w8[1];\n#pragma omp task"
+judged "8 items of a task" 0 "$fine" "$windows $(repeat 8 'input(osin >> w%[0]) ')\n;\n}" short.bin
+judged "9 items of a task" 3 "refused 22 line 3" "$windows $(repeat 9 'input(osin >> w%[0]) ')\n;\n}" short.bin
+captures() {
+    printf '%s' "int main(void) {\nint v$(repeat "$1" ', v%');\n#pragma omp task\n{ int x; $(repeat "$1" 'x = v%; ')}\n}"
+}
+judged "64 captured scalars" 0 "$fine" "$(captures 64)" short.bin
+judged "65 captured scalars" 3 "refused 22 line 3" "$(captures 65)" short.bin
+judged "65,536 array elements of a task" 0 "$fine" 'int main(void) {\n#pragma omp task\n{ int a[65535]; int b[1]; }\n}' short.bin
+judged "65,537 array elements of a task" 3 "refused 15 line 3" 'int main(void) {\n#pragma omp task\n{ int a[65535]; int b[2]; }\n}' short.bin
+judged "1,048,576 array elements of a program" 0 "$fine" "$(repeat 16 'int f%(void) { int a[65536]; }\n')int main(void) { }" short.bin
+judged "more array elements of a program" 3 "refused 15 line 17" "$(repeat 16 'int f%(void) { int a[65536]; }\n')int g(void) { int a[1]; }\nint main(void) { }" short.bin
+judged "65,536 streams" 0 "$fine" 'int main(void) { int s[65536] __attribute__((stream)); }' short.bin
+judged "65,537 streams" 3 "refused 15 line 1" 'int main(void) { int s[65536] __attribute__((stream)), t __attribute__((stream)); }' short.bin
+activations='int main(void) {\nint i;\nfor (i = 0; i < %s; i++) {\n#pragma omp task\n;\n}\n}'
+judged "65,536 activations" 0 "$fine" "${activations/\%s/65536}" short.bin
+judged "65,537 activations" 1 "control limit 1 / output 0 of 0" "${activations/\%s/65537}" short.bin
+wide='int main(void) {\nint i, w[65536];\nfor (i = 0; i < %s; i++) {\n#pragma omp task input(osin >> w[0])\n;\n}\n}'
+judged "windows over 4,194,304 elements" 0 "$fine" "${wide/\%s/64}" window.bin
+judged "windows over more elements" 1 "control limit 2 / output 0 of 0" "${wide/\%s/65}" window.bin
+judged "calls that double" 1 "over-budget 0 / control done / output 0 of 1" "int f0(void) { return 0; }
+$(for k in $(seq 1 63); do printf 'int f%s(void) { return f%s() + f%s(); }\\n' "$k" $((k - 1)) $((k - 1)); done)
+int main(void) { int y;\n#pragma omp task output(osout << y)\ny = f63();\n}" short.bin --budget 1
+for workers in 0 65; do
+    run run first.c in.bin --workers "$workers"
+    check "$workers workers" 2 "" usage
+done
+for workers in 1 64; do
+    run run first.c in.bin --workers "$workers"
+    check "$workers workers" 0 04030201 "control done / output 4 of 4"
+done
+for option in --budget --control; do
+    run run first.c in.bin "$option" 1000000000
+    check "the largest $option" 0 04030201 "control done / output 4 of 4"
+    run run first.c in.bin "$option" 1000000001
+    check "a larger $option" 2 "" usage
+done
+
+# A chain of 65,536 activations, each of which waits for the one before it, or for the one behind it.
+middle='for (i = 0; i < 65534; i++) {\n#pragma omp task input(s >> x) output(s << y)\ny = x + 1;\n}\n'
+first='#pragma omp task output(s << x)\nx = 0;\n'
+last='#pragma omp task input(s >> x) output(osout << y)\ny = x & 255;\n'
+begin='int main(void) {\nint s __attribute__((stream));\nint i, x, y;\n'
+printf '%b' "$begin$first$middle$last}\n" >forward.c
+printf '%b' "$begin$last$middle$first}\n" >backward.c
+for chain in forward backward; do
+    for workers in 1 4; do
+        run run "$chain.c" short.bin --workers "$workers"
+        check "a $chain chain by $workers workers" 0 fe "control done / output 1 of 1"
+    done
+done
 
 # Whichever allocation fails, the status is 7 and nothing is written, or the answer is that of ample memory. A run
 # makes fewer than 400 of them, and so do bytes that are made and bad words.
