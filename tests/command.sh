@@ -115,6 +115,14 @@ check "two kinds of tasks with a stream between them" 0 01000300 "control done /
 run run "$top/examples/broadcast.c" in.bin
 check "an array of streams" 0 010000020100030100040201 "control done / output 12 of 12"
 
+# Means of three by any number of workers: the middle byte, but where the bytes begin anew.
+bytes 4000 "k % 251" >counting.bin
+bytes 3998 "k % 251 == 249 ? 166 : k % 251 == 250 ? 83 : k % 251 + 1" >means.bin
+for workers in 1 2 7 64; do
+    run run "$top/examples/smooth.c" counting.bin --workers "$workers"
+    agree "means by $workers workers" 0 means.bin "control done / output 3998 of 3998"
+done
+
 printf '\020\004\200\377' >loud.bin
 run run "$top/examples/gain.c" loud.bin
 check "a parameter in front of the input" 0 08ffff "control done / output 3 of 3"
@@ -407,6 +415,17 @@ judged "windows over more elements" 1 "control limit 2 / output 0 of 0" "${wide/
 judged "calls that double" 1 "over-budget 0 / control done / output 0 of 1" "int f0(void) { return 0; }
 $(for k in $(seq 1 63); do printf 'int f%s(void) { return f%s() + f%s(); }\\n' "$k" $((k - 1)) $((k - 1)); done)
 int main(void) { int y;\n#pragma omp task output(osout << y)\ny = f63();\n}" short.bin --budget 1
+# What was created before a limit runs.
+printf 'int main(void) {\nint i, y;\nfor (i = 0; i < 70000; i++) {\n#pragma omp task output(osout << y)\ny = i & 255;\n}\n}\n' >many.c
+bytes 65536 "k % 256" >many.bin
+run run many.c short.bin
+agree "more activations than may be" 1 many.bin "control limit 1 / output 65536 of 65536"
+printf 'int main(void) {\nint s __attribute__((stream));\nint i, y;\nfor (i = 0; i < 100; i++) {\nint w[65536];\n' >much.c
+printf '#pragma omp task output(osout << y, s << w[65536])\ny = i;\n}\n}\n' >>much.c
+head -c 63 many.bin >much.bin
+run run much.c short.bin
+agree "windows over more elements than may be" 1 much.bin "control limit 2 / output 63 of 63"
+
 for workers in 0 65; do
     run run first.c in.bin --workers "$workers"
     check "$workers workers" 2 "" usage
@@ -501,6 +520,13 @@ check "a program of another commit" 0 04030201 "control done / output 4 of 4"
 (cd "$work/folder" && PATH=/usr/bin:/bin "$copy/osrun" run ../first.c ../in.bin >"$work/out" 2>"$work/report")
 status=$?
 check "no toolchain" 69 "" "osrun: the command rt of the Rattle kit isn't here; README.md, \"Two commands\", says what it is for"
+
+# The rows of tests/rows.
+counted=$("$top/tests/rows.py")
+echo "$counted" | head -n -1
+read -r rows_passed _ rows_failed _ < <(echo "$counted" | tail -n 1)
+passed=$((passed + rows_passed))
+failed=$((failed + rows_failed))
 
 echo "$passed passed, $failed failed"
 [ "$failed" = 0 ]

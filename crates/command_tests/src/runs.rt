@@ -1,15 +1,11 @@
 //! Runs of the command over a program `p.c` and an input `in`.
 
 mod calls;
-mod control_ends;
 mod delivery;
 mod generated;
 mod jobs;
-mod kernel_runs;
-mod ordering;
 mod refusals;
-mod streams;
-mod traps;
+mod whole_runs;
 mod words;
 mod workers;
 

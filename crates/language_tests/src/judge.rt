@@ -67,18 +67,6 @@ pub(crate) fn refuses(
     Ok(())
 }
 
-/// Each text of several tables is refused so.
-pub(crate) fn refuses_all(
-    rt: &impl Abort,
-    alloc: Global,
-    tables: &[&[(&str, u8, u32)]],
-) -> Result<(), Fail> {
-    for cases in tables {
-        refuses(rt, alloc, *cases)?;
-    }
-    Ok(())
-}
-
 /// Each text is accepted.
 pub(crate) fn accepts(rt: &impl Abort, alloc: Global, texts: &[&str]) -> Result<(), Fail> {
     for text in texts {

@@ -1,7 +1,7 @@
 //! Texts and files that are refused: nothing is written, and the report says why.
 
 use super::calls::{ALL, call, call_run, failing};
-use super::{Run, has_left, shows};
+use super::has_left;
 use kernels::INVERT;
 use std::alloc::Global;
 use std::test::Fail;
@@ -143,19 +143,4 @@ fn files_have_as_many_bytes_as_their_limit(rt: HostRuntime) -> Result<(), Fail> 
         has_left(&rt, &left, out, report, status)?;
     }
     Ok(())
-}
-
-#[test]
-fn a_lawful_text_runs_over_an_empty_input(rt: HostRuntime) -> Result<(), Fail> {
-    shows(
-        &rt,
-        &Run {
-            options: &[],
-            program: INVERT,
-            input: &[],
-            out: &[],
-            report: "control done\noutput 0 of 0\n",
-            status: 0,
-        },
-    )
 }
