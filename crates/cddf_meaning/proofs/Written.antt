@@ -9,9 +9,9 @@ use Rattle.cddf_meaning.specs.Run.{run}
 use Rattle.cddf_meaning.specs.State.{State, state_of}
 use Rattle.cddf_meaning.specs.Tasks.{Task}
 use Rattle.cddf_meaning.specs.declared.ending.Ending.TheVariants.{Trapped, OverBudget, Limited}
-use Rattle.flow_core.specs.declared.activation.Activation.{Activation}
-use Rattle.flow_core.specs.declared.claim.Claim.{Claim}
-use Rattle.flow_core.specs.declared.task_end.TaskEnd.TheVariants as end
+use Rattle.flow_core_laws.specs.declared.activation.Activation.{Activation}
+use Rattle.flow_core_laws.specs.declared.claim.Claim.{Claim}
+use Rattle.flow_core_laws.specs.declared.task_end.TaskEnd.TheVariants as end
 use Rattle.os_ast.specs.Trees as tree
 use Rattle.cddf_meaning.proofs.Files.{calls-fall}
 use Rattle.cddf_meaning.proofs.Keeps.{run-keeps}

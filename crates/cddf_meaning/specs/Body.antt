@@ -12,12 +12,12 @@ use Rattle.cddf_meaning.specs.Variables.{bind}
 use Rattle.cddf_meaning.specs.declared.ending.Ending.TheVariants.{Trapped, OverBudget, Limited}
 use Rattle.cddf_meaning.specs.declared.variable.Binding.{Binding}
 use Rattle.cddf_meaning.specs.declared.variable.Variable.TheVariants.{Scalar, Item}
-use Rattle.flow_core.specs.Byte.{is_byte}
-use Rattle.flow_core.specs.Outcome.{outcome_of}
-use Rattle.flow_core.specs.declared.activation.Activation.{Activation}
-use Rattle.flow_core.specs.declared.claim.Claim.{Claim}
-use Rattle.flow_core.specs.declared.outcome.Outcome.{Outcome}
-use Rattle.flow_core.specs.declared.task_end.TaskEnd.TheVariants as end
+use Rattle.flow_core_laws.specs.Byte.{is_byte}
+use Rattle.flow_core_laws.specs.Outcome.{outcome_of}
+use Rattle.flow_core_laws.specs.declared.activation.Activation.{Activation}
+use Rattle.flow_core_laws.specs.declared.claim.Claim.{Claim}
+use Rattle.flow_core_laws.specs.declared.outcome.Outcome.{Outcome}
+use Rattle.flow_core_laws.specs.declared.task_end.TaskEnd.TheVariants as end
 use Rattle.os_ast.specs.Parts as clauses
 use Rattle.os_ast.specs.Trees as tree
 

@@ -1,8 +1,8 @@
 -- The claims of an activation on streams, and the limits of the control program.
 use Rattle.std.specs.Prelude.{ℕ, ◌+◌, true, false, if◌then◌else◌, ltb, leb, List, [], ◌∷◌, length, get_or, set, Option, Some, None}
 use Rattle.std.specs.List.{sum_by}
-use Rattle.flow_core.specs.declared.activation.Activation.{Activation}
-use Rattle.flow_core.specs.declared.claim.Claim.{Claim}
+use Rattle.flow_core_laws.specs.declared.activation.Activation.{Activation}
+use Rattle.flow_core_laws.specs.declared.claim.Claim.{Claim}
 
 abbrev pub read_claim : (stream horizon burst : ℕ) → Claim
 read_claim stream horizon burst = record { stream = stream; write = false; horizon = horizon; burst = burst; skip = 0 }

@@ -10,9 +10,9 @@ use Rattle.cddf_meaning.specs.declared.ending.Ending.TheVariants.{Trapped, OverB
 use Rattle.cddf_meaning.specs.declared.ending.Ending.{Ending}
 use Rattle.cddf_meaning.specs.declared.variable.Binding.{Binding}
 use Rattle.cddf_meaning.specs.declared.variable.Variable.TheVariants.{Scalar, Stream}
-use Rattle.flow_core.specs.declared.control.Control.{Control}
-use Rattle.flow_core.specs.declared.control.ControlEnd.TheVariants as end
-use Rattle.flow_core.specs.declared.control.ControlEnd.{ControlEnd}
+use Rattle.flow_core_laws.specs.declared.control.Control.{Control}
+use Rattle.flow_core_laws.specs.declared.control.ControlEnd.TheVariants as end
+use Rattle.flow_core_laws.specs.declared.control.ControlEnd.{ControlEnd}
 use Rattle.os_ast.specs.Names.{osin_id, osout_id, osin_len_id}
 use Rattle.os_ast.specs.Trees as tree
 

@@ -1,9 +1,9 @@
 -- What programs mean, worked out by hand.
 use Rattle.std.specs.Prelude.{ℕ, [], ◌∷◌, pos}
 use Rattle.cddf_meaning.specs.Claims.{read_claim, write_claim}
-use Rattle.flow_core.specs.declared.activation.Activation.{Activation}
-use Rattle.flow_core.specs.declared.control.Control.{Control}
-use Rattle.flow_core.specs.declared.control.ControlEnd.TheVariants as end
+use Rattle.flow_core_laws.specs.declared.activation.Activation.{Activation}
+use Rattle.flow_core_laws.specs.declared.control.Control.{Control}
+use Rattle.flow_core_laws.specs.declared.control.ControlEnd.TheVariants as end
 
 -- a block of so many bytes of the input, as captured and claimed
 abbrev pub inverted_block : ℕ → Activation

@@ -6,7 +6,7 @@ use Rattle.cddf_meaning.specs.Variables.{leave}
 use Rattle.cddf_meaning.specs.declared.ending.Ending.{Ending}
 use Rattle.cddf_meaning.specs.declared.flow.Flow.TheVariants.{GoesOn, Breaks, Continues, Returns}
 use Rattle.cddf_meaning.specs.declared.flow.Flow.{Flow}
-use Rattle.flow_core.specs.declared.activation.Activation.{Activation}
+use Rattle.flow_core_laws.specs.declared.activation.Activation.{Activation}
 
 -- A statement leaves a state and turns behind it, or the body ends in it. What the control program created before its
 -- end stands.

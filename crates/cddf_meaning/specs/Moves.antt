@@ -4,7 +4,7 @@ use Rattle.cddf_meaning.specs.Answers.{Answer, Left}
 use Rattle.cddf_meaning.specs.File.{File}
 use Rattle.cddf_meaning.specs.Flow.{Ran, Went, Ended}
 use Rattle.cddf_meaning.specs.State.{State}
-use Rattle.flow_core.specs.declared.claim.Claim.{Claim}
+use Rattle.flow_core_laws.specs.declared.claim.Claim.{Claim}
 
 -- the turns that are left are no more than there were
 abbrev pub Falls : {A : Type 0} → ℕ → Answer (Left A) → Type 0

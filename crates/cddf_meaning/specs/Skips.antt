@@ -1,7 +1,7 @@
 -- What ticks took from streams, as sums over what was done to them.
 use Rattle.std.specs.Prelude.{ℕ, ◌+◌, ◌==◌, Bool, not, ◌&&◌, if◌then◌else◌, List, [], ◌∷◌, replicate}
 use Rattle.cddf_meaning.specs.Claims.{ticked, skips_behind}
-use Rattle.flow_core.specs.declared.claim.Claim.{Claim}
+use Rattle.flow_core_laws.specs.declared.claim.Claim.{Claim}
 
 -- what is done to the read cursor of a stream: a tick of an amount, or a claim
 pub data Move : Type 0 where

@@ -4,7 +4,7 @@ use Rattle.cddf_meaning.specs.Variables.{find, assign, bind}
 use Rattle.cddf_meaning.specs.declared.variable.Binding.{Binding}
 use Rattle.cddf_meaning.specs.declared.variable.Variable.TheVariants.{Scalar, Array, Item}
 use Rattle.cddf_meaning.specs.declared.variable.Variable.{Variable}
-use Rattle.flow_core.specs.declared.activation.Activation.{Activation}
+use Rattle.flow_core_laws.specs.declared.activation.Activation.{Activation}
 
 pub record State : Type 0 where
   -- the declarations in scope, within those of the file

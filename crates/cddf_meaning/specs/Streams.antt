@@ -11,7 +11,7 @@ use Rattle.cddf_meaning.specs.Value.{value, checked, scalar_value}
 use Rattle.cddf_meaning.specs.declared.ending.Ending.TheVariants.{OverBudget, Limited}
 use Rattle.cddf_meaning.specs.declared.variable.Variable.TheVariants.{Window, Stream}
 use Rattle.cddf_meaning.specs.declared.variable.Variable.{Variable}
-use Rattle.flow_core.specs.declared.claim.Claim.{Claim}
+use Rattle.flow_core_laws.specs.declared.claim.Claim.{Claim}
 use Rattle.os_ast.specs.Parts.{Part, Item, Private}
 use Rattle.os_ast.specs.Trees as tree
 use Rattle.os_ast.specs.declared.expr.Mark.{Mark}

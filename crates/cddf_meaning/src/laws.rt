@@ -14,8 +14,8 @@ ghost use Rattle.cddf_meaning.specs.Skips.{Move, since_read, skips_of};
 ghost use Rattle.cddf_meaning.specs.State.{State};
 ghost use Rattle.cddf_meaning.specs.Tasks.{Task};
 ghost use Rattle.cddf_meaning.specs.Value.{value};
-ghost use Rattle.flow_core.specs.declared.activation.Activation.{Activation};
-ghost use Rattle.flow_core.specs.declared.task_end.TaskEnd.TheVariants as ends;
+ghost use Rattle.flow_core_laws.specs.declared.activation.Activation.{Activation};
+ghost use Rattle.flow_core_laws.specs.declared.task_end.TaskEnd.TheVariants as ends;
 ghost use Rattle.os_ast.specs.Trees as tree;
 
 /// Turns never grow: not in an expression, and not in a statement, which also keeps the length of each item's list.

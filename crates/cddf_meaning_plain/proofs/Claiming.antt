@@ -9,7 +9,7 @@ use Rattle.cddf_meaning.specs.Streams.{items_claims, item_claim}
 use Rattle.cddf_meaning_plain_state.specs.Claimed.{behind}
 use Rattle.cddf_meaning_plain_state.specs.declared.stop.Stop.{Stop}
 use Rattle.cddf_meaning_plain_state.specs.declared.stop.Stop.TheVariants as stop
-use Rattle.flow_core.specs.declared.claim.Claim.{Claim}
+use Rattle.flow_core_laws.specs.declared.claim.Claim.{Claim}
 use Rattle.os_ast.specs.Parts as clause
 use Rattle.os_ast.specs.Views.{clause_tree, clause_kind_tree}
 use Rattle.os_ast.specs.declared.expr.Name.{Name}

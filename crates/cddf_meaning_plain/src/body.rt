@@ -12,7 +12,7 @@ use cddf_meaning_plain_state::ends::outcome_of;
 use cddf_meaning_plain_tasks::body::state_round;
 use cddf_meaning_plain_tasks::tasks::{main_of, tasks};
 use cddf_meaning_plain_tasks::{Found, Unit};
-use flow_core::{Activation, TaskEnd};
+use flow_core_laws::{Activation, TaskEnd};
 use os_ast::{Item, Program};
 use os_io::Memory;
 use std::alloc::Global;

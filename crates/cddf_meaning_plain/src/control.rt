@@ -11,7 +11,7 @@ use cddf_meaning_plain_state::Stop;
 use cddf_meaning_plain_tasks::control::{control_end, state_round};
 use cddf_meaning_plain_tasks::tasks::{Main, main_of, tasks};
 use cddf_meaning_plain_tasks::{Sites, Unit, sites_of};
-use flow_core::{Control, ControlEnd};
+use flow_core_laws::{Control, ControlEnd};
 use os_ast::Program;
 use os_io::{List, Memory};
 use std::alloc::Global;

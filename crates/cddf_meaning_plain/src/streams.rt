@@ -17,7 +17,7 @@ use cddf_meaning_plain_state::streams::{
 };
 use cddf_meaning_plain_state::{State, Stop};
 use cddf_meaning_plain_tasks::Unit;
-use flow_core::Claim;
+use flow_core_laws::Claim;
 use os_ast::{Clause, ClauseItem, ClauseKind, Direction, Item, Join, Target, TaskSite, TickSite};
 use os_io::List;
 use std::alloc::Global;

@@ -2,7 +2,7 @@
 use Rattle.std.proofs.Common.{◌≡◌, ℕ, zero, suc, true, List, [], ◌∷◌, ◌++◌, ◌≤◌, length, drop, refl, ap, arith, ◌∙◌, ℤ}
 use Rattle.std.proofs.lemmas.List.{append-nil}
 use Rattle.cddf_meaning.specs.Body.{gives_bytes, outputs_of}
-use Rattle.flow_core.specs.declared.claim.Claim.{Claim}
+use Rattle.flow_core_laws.specs.declared.claim.Claim.{Claim}
 
 none-left : {A : Type 0} → (n : ℕ) (xs : List A) → length xs ≤ n → drop n xs ≡ []
 none-left zero [] h = refl

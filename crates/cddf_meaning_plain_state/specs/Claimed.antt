@@ -6,7 +6,7 @@ use Rattle.cddf_meaning.specs.State.{State}
 use Rattle.cddf_meaning.specs.Streams.{first_stream, stream_count}
 use Rattle.cddf_meaning.specs.Value.{checked}
 use Rattle.cddf_meaning.specs.declared.variable.Variable.{Variable}
-use Rattle.flow_core.specs.declared.claim.Claim.{Claim}
+use Rattle.flow_core_laws.specs.declared.claim.Claim.{Claim}
 use Rattle.cddf_meaning_plain_state.specs.declared.state.Streams.{Streams}
 
 -- claims, behind others

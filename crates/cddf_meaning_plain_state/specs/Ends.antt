@@ -3,10 +3,10 @@ use Rattle.std.specs.Prelude.{◌≡◌, ℕ, List, if◌then◌else◌, ℤ}
 use Rattle.cddf_meaning.specs.Body.{done, gives_bytes, trapped, outputs_of}
 use Rattle.cddf_meaning.specs.declared.ending.Ending.TheVariants.{Trapped, OverBudget, Limited}
 use Rattle.cddf_meaning.specs.declared.ending.Ending.{Ending}
-use Rattle.flow_core.specs.declared.claim.Claim.{Claim}
-use Rattle.flow_core.specs.declared.outcome.Outcome.{Outcome}
-use Rattle.flow_core.specs.declared.task_end.TaskEnd.TheVariants as end
-use Rattle.flow_core.specs.declared.task_end.TaskEnd.{TaskEnd}
+use Rattle.flow_core_laws.specs.declared.claim.Claim.{Claim}
+use Rattle.flow_core_laws.specs.declared.outcome.Outcome.{Outcome}
+use Rattle.flow_core_laws.specs.declared.task_end.TaskEnd.TheVariants as end
+use Rattle.flow_core_laws.specs.declared.task_end.TaskEnd.{TaskEnd}
 
 -- an end and what was written are those of an outcome
 abbrev pub IsOutcome : TaskEnd → List ℤ → Outcome → Type 0

@@ -9,8 +9,8 @@ use Rattle.cddf_meaning.specs.declared.ending.Ending.TheVariants.{Limited}
 use Rattle.cddf_meaning.specs.declared.flow.Flow.{Flow}
 use Rattle.cddf_meaning_plain_state.specs.declared.stop.Stop.{Stop}
 use Rattle.cddf_meaning_plain_state.specs.declared.stop.Stop.TheVariants as stop
-use Rattle.flow_core.specs.declared.activation.Activation.{Activation}
-use Rattle.flow_core.specs.declared.claim.Claim.{Claim}
+use Rattle.flow_core_laws.specs.declared.activation.Activation.{Activation}
+use Rattle.flow_core_laws.specs.declared.claim.Claim.{Claim}
 
 -- an evaluation ends so
 abbrev pub Stops : {A : Type 0} → Stop → Answer A → Type 0

@@ -5,13 +5,13 @@ ghost use Rattle.std.specs.List.{list_all};
 ghost use Rattle.cddf_meaning.specs.Body.{gives_bytes, outcome, outputs_of};
 ghost use Rattle.cddf_meaning.specs.Flow.{Ran};
 ghost use Rattle.cddf_meaning.specs.State as states;
-ghost use Rattle.flow_core.specs.Byte.{is_byte};
+ghost use Rattle.flow_core_laws.specs.Byte.{is_byte};
 ghost use Rattle.cddf_meaning_plain_state.specs.Ends.{IsOutcome, finished, task_end};
 ghost use Rattle.cddf_meaning_plain_state.specs.Stops.{Leaves};
 
 use crate::stop::Stop;
 use cddf_meaning::{Ending, Flow};
-use flow_core::{Claim, TaskEnd};
+use flow_core_laws::{Claim, TaskEnd};
 use os_io::{List, Memory};
 use std::alloc::Global;
 

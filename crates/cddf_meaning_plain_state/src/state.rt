@@ -18,7 +18,7 @@ ghost use Rattle.cddf_meaning_plain_state.specs.Stops.{Comes, Limits, Made, Now}
 use crate::names::Seen;
 use crate::stop::Stop;
 use cddf_meaning::{Aim, Binding, Ending, Variable};
-use flow_core::{Activation, Claim};
+use flow_core_laws::{Activation, Claim};
 use os_io::{List, Memory};
 use std::alloc::Global;
 use std::marker::Model;

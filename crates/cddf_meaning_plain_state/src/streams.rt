@@ -9,7 +9,7 @@ ghost use Rattle.cddf_meaning_plain_state.specs.Stops.{Comes};
 use crate::names::scalar;
 use crate::state::State;
 use crate::stop::Stop;
-use flow_core::Claim;
+use flow_core_laws::Claim;
 use os_ast::{Direction, Item};
 use os_io::List;
 use std::alloc::Global;

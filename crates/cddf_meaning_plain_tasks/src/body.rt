@@ -11,7 +11,7 @@ use crate::found::Found;
 use crate::naming::item_name;
 use cddf_meaning::Variable;
 use cddf_meaning_plain_state::{State, zeros};
-use flow_core::{Activation, Claim};
+use flow_core_laws::{Activation, Claim};
 use os_ast::{Clause, ClauseItem, ClauseKind};
 use os_io::{List, Memory};
 use std::alloc::Global;

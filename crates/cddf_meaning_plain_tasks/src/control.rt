@@ -7,7 +7,7 @@ ghost use Rattle.cddf_meaning_plain_state.specs.declared.stop.Stop.TheVariants a
 use cddf_meaning::{Ending, Variable};
 use cddf_meaning_plain_state::names::int;
 use cddf_meaning_plain_state::{State, Stop};
-use flow_core::ControlEnd;
+use flow_core_laws::ControlEnd;
 use os_lexer::names::{OSIN, OSIN_LEN, OSOUT};
 use std::alloc::Global;
 

@@ -8,16 +8,16 @@ use Rattle.std.proofs.lemmas.List.{take_all, take_more}
 use Rattle.std.proofs.lemmas.List.Elements.{filter-append}
 use Rattle.std.proofs.lemmas.List.Sums.{sum_by-append}
 use Rattle.std.proofs.lemmas.Option.{slice_get-get_or, get_or_from_slice_get, slice_get_within}
-use Rattle.flow_core.specs.declared.claim.Claim.{Claim}
-use Rattle.flow_core.specs.declared.activation.Activation.{Activation}
-use Rattle.flow_core.specs.declared.control.ControlEnd.{ControlEnd}
-use Rattle.flow_core.specs.declared.ends.Ends.{Ends}
-use Rattle.flow_core.specs.FirstPosition.{is_write_to, write_cursor, first_position}
-use Rattle.flow_core.specs.Outcome.{is_done_at}
-use Rattle.flow_core.specs.Place.{written_count}
-use Rattle.flow_core.specs.There.{is_there}
-use Rattle.flow_core.specs.Window.{Window, windows, claims_of, no_claim, is_written_by}
-use Rattle.flow_core.proofs.Windows.{length-windows, window_at, is_window, first_of_write, producer_of}
+use Rattle.flow_core_laws.specs.declared.claim.Claim.{Claim}
+use Rattle.flow_core_laws.specs.declared.activation.Activation.{Activation}
+use Rattle.flow_core_laws.specs.declared.control.ControlEnd.{ControlEnd}
+use Rattle.flow_core_laws.specs.declared.ends.Ends.{Ends}
+use Rattle.flow_core_laws.specs.FirstPosition.{is_write_to, write_cursor, first_position}
+use Rattle.flow_core_laws.specs.Outcome.{is_done_at}
+use Rattle.flow_core_laws.specs.Place.{written_count}
+use Rattle.flow_core_laws.specs.There.{is_there}
+use Rattle.flow_core_laws.specs.Window.{Window, windows, claims_of, no_claim, is_written_by}
+use Rattle.flow_core_laws.proofs.Windows.{length-windows, window_at, is_window, first_of_write, producer_of}
 use Rattle.collector.specs.Reported.{AreOfState}
 use Rattle.collector.specs.Status.{has_done, is_done_control, status}
 use Rattle.collector.specs.Written.{written}

@@ -5,13 +5,13 @@ use Rattle.std.specs.Option.{option_map, option_map_or}
 use Rattle.std.proofs.lemmas.Bool.{le-leb, lt-ltb}
 use Rattle.std.proofs.lemmas.Bool.Decides.{nat_tests}
 use Rattle.std.proofs.lemmas.Option.{same_Some, slice_get-map, slice_get_within}
-use Rattle.flow_core.specs.declared.activation.Activation.{Activation}
-use Rattle.flow_core.specs.declared.task_end.TaskEnd.{TaskEnd}
-use Rattle.flow_core.specs.FirstPosition.{is_write_to}
-use Rattle.flow_core.specs.Outcome.{is_done_at}
-use Rattle.flow_core.specs.Window.{Window, windows, is_written_by, producer, producer_number}
-use Rattle.flow_core.proofs.Sources.{find_passes}
-use Rattle.flow_core.proofs.Windows.{written, producer_of, producer_by_number}
+use Rattle.flow_core_laws.specs.declared.activation.Activation.{Activation}
+use Rattle.flow_core_laws.specs.declared.task_end.TaskEnd.{TaskEnd}
+use Rattle.flow_core_laws.specs.FirstPosition.{is_write_to}
+use Rattle.flow_core_laws.specs.Outcome.{is_done_at}
+use Rattle.flow_core_laws.specs.Window.{Window, windows, is_written_by, producer, producer_number}
+use Rattle.flow_core_laws.proofs.Sources.{find_passes}
+use Rattle.flow_core_laws.proofs.Windows.{written, producer_of, producer_by_number}
 use Rattle.stream_match.specs.declared.layout.Layout.{Layout}
 use Rattle.stream_match.specs.declared.span.Span.{Span}
 use Rattle.stream_match.specs.Layout.{IsLayout, IsLayoutOf, span_of}

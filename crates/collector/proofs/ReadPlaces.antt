@@ -5,12 +5,12 @@ use Rattle.std.specs.List.{flat_map, range_with_len}
 use Rattle.std.specs.Option.{option_map, option_or}
 use Rattle.std.proofs.lemmas.Bool.{lt-ltb, le-ltb}
 use Rattle.std.proofs.lemmas.List.FromFn.{get_or-map-range_with_len}
-use Rattle.flow_core.specs.declared.activation.Activation.{Activation}
-use Rattle.flow_core.specs.declared.task_end.TaskEnd.{TaskEnd}
-use Rattle.flow_core.specs.FirstPosition.{write_cursor}
-use Rattle.flow_core.specs.Place.{Place, places_of, input_places, written_count}
-use Rattle.flow_core.specs.There.{missing_place}
-use Rattle.flow_core.specs.Window.{Window, windows, windows_of}
+use Rattle.flow_core_laws.specs.declared.activation.Activation.{Activation}
+use Rattle.flow_core_laws.specs.declared.task_end.TaskEnd.{TaskEnd}
+use Rattle.flow_core_laws.specs.FirstPosition.{write_cursor}
+use Rattle.flow_core_laws.specs.Place.{Place, places_of, input_places, written_count}
+use Rattle.flow_core_laws.specs.There.{missing_place}
+use Rattle.flow_core_laws.specs.Window.{Window, windows, windows_of}
 use Rattle.stream_match.specs.declared.layout.Layout.{Layout}
 use Rattle.stream_match.specs.declared.span.Span.{Span}
 use Rattle.stream_match.specs.Layout.{IsLayout, IsLayoutOf, span_of, claims_in}

@@ -1,10 +1,10 @@
 -- The parts of a report, one behind the other.
 use Rattle.std.proofs.Common.{◌≡◌, ℕ, suc, ◌+◌, ◌-◌, ◌<◌, List, [], ◌++◌, length, get_or, sym, ap, ◌∙◌, append_assoc, append-nil, arith, zero-add}
 use Rattle.std.specs.List.{flat_map, range_with_len}
-use Rattle.flow_core.specs.declared.activation.Activation.{Activation}
-use Rattle.flow_core.specs.declared.control.ControlEnd.{ControlEnd}
-use Rattle.flow_core.specs.declared.ends.Ends.{Ends}
-use Rattle.flow_core.specs.Place.{written_count}
+use Rattle.flow_core_laws.specs.declared.activation.Activation.{Activation}
+use Rattle.flow_core_laws.specs.declared.control.ControlEnd.{ControlEnd}
+use Rattle.flow_core_laws.specs.declared.ends.Ends.{Ends}
+use Rattle.flow_core_laws.specs.Place.{written_count}
 use Rattle.stream_match.specs.declared.layout.Layout.{Layout}
 use Rattle.stream_match.specs.Layout.{IsLayoutOf}
 use Rattle.stream_match.specs.Stretch.{frame_count}

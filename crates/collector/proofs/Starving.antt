@@ -6,21 +6,21 @@ use Rattle.std.specs.Option.{option_map, option_map_or}
 use Rattle.std.proofs.lemmas.Bool.{eqb-true}
 use Rattle.std.proofs.lemmas.List.{get_or-map, length-map}
 use Rattle.std.proofs.lemmas.Option.{same_Some}
-use Rattle.flow_core.proofs.Gathering.{gathered_there}
-use Rattle.flow_core.proofs.Rounds.{element-extends, length-meaning, outcome_at-meaning}
-use Rattle.flow_core.proofs.There.{there_by_ends}
-use Rattle.flow_core.specs.Element.{element}
-use Rattle.flow_core.specs.Laws.{IsFilled}
-use Rattle.flow_core.specs.Outcome.{State, ends_of, is_done, is_done_at, outcome_at}
-use Rattle.flow_core.specs.Place.{Place, input_places, output_places}
-use Rattle.flow_core.specs.Round.{gathered}
-use Rattle.flow_core.specs.Streams.{stream_ends, stream_meaning, stream_reads, stream_source}
-use Rattle.flow_core.specs.There.{is_there, missing_place}
-use Rattle.flow_core.specs.Window.{Window, producer}
-use Rattle.flow_core.specs.declared.activation.Activation.{Activation}
-use Rattle.flow_core.specs.declared.outcome.Outcome.{Outcome}
-use Rattle.flow_core.specs.declared.task_end.TaskEnd.{TaskEnd}
-use Rattle.flow_core.specs.declared.task_end.TaskEnd.TheVariants.{Done, Trapped, OverBudget}
+use Rattle.flow_core_laws.proofs.Gathering.{gathered_there}
+use Rattle.flow_core_laws.proofs.Rounds.{element-extends, length-meaning, outcome_at-meaning}
+use Rattle.flow_core_laws.proofs.There.{there_by_ends}
+use Rattle.flow_core_laws.specs.Element.{element}
+use Rattle.flow_core_laws.specs.Laws.{IsFilled}
+use Rattle.flow_core_laws.specs.Outcome.{State, ends_of, is_done, is_done_at, outcome_at}
+use Rattle.flow_core_laws.specs.Place.{Place, input_places, output_places}
+use Rattle.flow_core_laws.specs.Round.{gathered}
+use Rattle.flow_core_laws.specs.Streams.{stream_ends, stream_meaning, stream_reads, stream_source}
+use Rattle.flow_core_laws.specs.There.{is_there, missing_place}
+use Rattle.flow_core_laws.specs.Window.{Window, producer}
+use Rattle.flow_core_laws.specs.declared.activation.Activation.{Activation}
+use Rattle.flow_core_laws.specs.declared.outcome.Outcome.{Outcome}
+use Rattle.flow_core_laws.specs.declared.task_end.TaskEnd.{TaskEnd}
+use Rattle.flow_core_laws.specs.declared.task_end.TaskEnd.TheVariants.{Done, Trapped, OverBudget}
 use Rattle.collector.proofs.Firsts.{one_found}
 use Rattle.collector.specs.Laws.{HasItsLines, ProducersAreNotDone}
 use Rattle.collector.specs.Line.{line}

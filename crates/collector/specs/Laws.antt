@@ -1,14 +1,14 @@
 -- The laws of what is written and missing, as statements.
 use Rattle.std.specs.Prelude.{◌≡◌, ◌≢◌, ℕ, ℤ, ◌<◌, ◌⊎◌, true, false, List, [], Option, Some, None, IsSome, All, length, slice_get, slice_index_or}
-use Rattle.flow_core.specs.declared.activation.Activation.{Activation}
-use Rattle.flow_core.specs.declared.ends.Ends.{Ends}
-use Rattle.flow_core.specs.declared.outcome.Outcome.{Outcome}
-use Rattle.flow_core.specs.declared.task_end.TaskEnd.{TaskEnd}
-use Rattle.flow_core.specs.Laws.{IsFilled}
-use Rattle.flow_core.specs.Outcome.{is_done_at}
-use Rattle.flow_core.specs.Place.{Place, input_places, written_count}
-use Rattle.flow_core.specs.Streams.{stream_ends, stream_meaning}
-use Rattle.flow_core.specs.There.{is_there}
+use Rattle.flow_core_laws.specs.declared.activation.Activation.{Activation}
+use Rattle.flow_core_laws.specs.declared.ends.Ends.{Ends}
+use Rattle.flow_core_laws.specs.declared.outcome.Outcome.{Outcome}
+use Rattle.flow_core_laws.specs.declared.task_end.TaskEnd.{TaskEnd}
+use Rattle.flow_core_laws.specs.Laws.{IsFilled}
+use Rattle.flow_core_laws.specs.Outcome.{is_done_at}
+use Rattle.flow_core_laws.specs.Place.{Place, input_places, written_count}
+use Rattle.flow_core_laws.specs.Streams.{stream_ends, stream_meaning}
+use Rattle.flow_core_laws.specs.There.{is_there}
 use Rattle.collector.specs.declared.missing.Missing.{Missing}
 use Rattle.collector.specs.Missing.{missing, missing_at}
 use Rattle.collector.specs.Report.{activation_line}

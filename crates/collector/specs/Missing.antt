@@ -1,11 +1,11 @@
 -- What is missing: the first element for which an activation waits, and who should give it.
 use Rattle.std.specs.Prelude.{ℕ, List, Option}
 use Rattle.std.specs.Option.{option_map}
-use Rattle.flow_core.specs.declared.activation.Activation.{Activation}
-use Rattle.flow_core.specs.declared.task_end.TaskEnd.{TaskEnd}
-use Rattle.flow_core.specs.Window.{Window, producer}
-use Rattle.flow_core.specs.Place.{Place}
-use Rattle.flow_core.specs.There.{missing_place}
+use Rattle.flow_core_laws.specs.declared.activation.Activation.{Activation}
+use Rattle.flow_core_laws.specs.declared.task_end.TaskEnd.{TaskEnd}
+use Rattle.flow_core_laws.specs.Window.{Window, producer}
+use Rattle.flow_core_laws.specs.Place.{Place}
+use Rattle.flow_core_laws.specs.There.{missing_place}
 use Rattle.collector.specs.declared.missing.Missing.{Missing}
 
 -- The activation whose write claim covers a place, or none.

@@ -3,13 +3,13 @@ use Rattle.std.specs.Prelude.{ℕ, List, [], ◌++◌, Option, None, length, cod
 use Rattle.std.specs.Option.{option_map_or}
 use Rattle.std.specs.List.{range_with_len, flat_map}
 use Rattle.std.specs.Fmt.{decimal}
-use Rattle.flow_core.specs.declared.activation.Activation.{Activation}
-use Rattle.flow_core.specs.declared.task_end.TaskEnd.{TaskEnd}
-use Rattle.flow_core.specs.declared.task_end.TaskEnd.TheVariants as task_end
-use Rattle.flow_core.specs.declared.control.ControlEnd.{ControlEnd}
-use Rattle.flow_core.specs.declared.control.ControlEnd.TheVariants as control_end
-use Rattle.flow_core.specs.declared.ends.Ends.{Ends}
-use Rattle.flow_core.specs.Place.{written_count}
+use Rattle.flow_core_laws.specs.declared.activation.Activation.{Activation}
+use Rattle.flow_core_laws.specs.declared.task_end.TaskEnd.{TaskEnd}
+use Rattle.flow_core_laws.specs.declared.task_end.TaskEnd.TheVariants as task_end
+use Rattle.flow_core_laws.specs.declared.control.ControlEnd.{ControlEnd}
+use Rattle.flow_core_laws.specs.declared.control.ControlEnd.TheVariants as control_end
+use Rattle.flow_core_laws.specs.declared.ends.Ends.{Ends}
+use Rattle.flow_core_laws.specs.Place.{written_count}
 use Rattle.collector.specs.declared.missing.Missing.{Missing}
 use Rattle.collector.specs.Line.{line}
 use Rattle.collector.specs.Missing.{missing}

@@ -1,9 +1,9 @@
 -- The states whose output is written.
 use Rattle.std.specs.Prelude.{◌≡◌, ℕ, List, is_some, length, map}
-use Rattle.flow_core.specs.declared.activation.Activation.{Activation}
-use Rattle.flow_core.specs.declared.ends.Ends.{Ends}
-use Rattle.flow_core.specs.Place.{output_places}
-use Rattle.flow_core.specs.There.{is_there}
+use Rattle.flow_core_laws.specs.declared.activation.Activation.{Activation}
+use Rattle.flow_core_laws.specs.declared.ends.Ends.{Ends}
+use Rattle.flow_core_laws.specs.Place.{output_places}
+use Rattle.flow_core_laws.specs.There.{is_there}
 
 -- The ends and the output of a state: an end, or none, for each activation, and an element, or none, for each
 -- position of the output that is claimed for writing, none exactly where it isn't there in that state.

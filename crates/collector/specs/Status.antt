@@ -2,10 +2,10 @@
 use Rattle.std.specs.Prelude.{ℕ, List, Option, Bool, true, false, ◌&&◌, if◌then◌else◌}
 use Rattle.std.specs.Option.{option_map_or}
 use Rattle.std.specs.List.{list_all}
-use Rattle.flow_core.specs.declared.task_end.TaskEnd.{TaskEnd}
-use Rattle.flow_core.specs.declared.control.ControlEnd.{ControlEnd}
-use Rattle.flow_core.specs.declared.control.ControlEnd.TheVariants as control_end
-use Rattle.flow_core.specs.Outcome.{is_done}
+use Rattle.flow_core_laws.specs.declared.task_end.TaskEnd.{TaskEnd}
+use Rattle.flow_core_laws.specs.declared.control.ControlEnd.{ControlEnd}
+use Rattle.flow_core_laws.specs.declared.control.ControlEnd.TheVariants as control_end
+use Rattle.flow_core_laws.specs.Outcome.{is_done}
 
 -- whether an activation with this end, or none, is Done
 abbrev pub has_done : Option TaskEnd → Bool

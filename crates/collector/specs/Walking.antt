@@ -1,10 +1,10 @@
 -- Going over spans and positions in search of what is missing.
 use Rattle.std.specs.Prelude.{◌≡◌, ℕ, ◌+◌, ◌^◌, ◌<◌, ◌≤◌, Bool, not, true, false, List, [], Option, None, Some, find, length, if◌then◌else◌}
 use Rattle.std.specs.List.{range_with_len}
-use Rattle.flow_core.specs.declared.activation.Activation.{Activation}
-use Rattle.flow_core.specs.declared.task_end.TaskEnd.{TaskEnd}
-use Rattle.flow_core.specs.Place.{Place, places_from}
-use Rattle.flow_core.specs.There.{is_there}
+use Rattle.flow_core_laws.specs.declared.activation.Activation.{Activation}
+use Rattle.flow_core_laws.specs.declared.task_end.TaskEnd.{TaskEnd}
+use Rattle.flow_core_laws.specs.Place.{Place, places_from}
+use Rattle.flow_core_laws.specs.There.{is_there}
 use Rattle.stream_match.specs.declared.layout.Layout.{Layout}
 use Rattle.stream_match.specs.declared.span.Span.{Span}
 use Rattle.stream_match.specs.Stretch.{read_count}

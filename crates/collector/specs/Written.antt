@@ -1,6 +1,6 @@
 -- What is written: the complete prefix of the output stream, as bytes.
 use Rattle.std.specs.Prelude.{ℕ, ℤ, pos, negsuc, List, [], ◌∷◌, Option, Some, None, map}
-use Rattle.flow_core.specs.Byte.{IsByte}
+use Rattle.flow_core_laws.specs.Byte.{IsByte}
 
 -- The elements before the first one that isn't there.
 abbrev pub complete_prefix : List (Option ℤ) → List ℤ

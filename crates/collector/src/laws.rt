@@ -1,11 +1,11 @@
 //! Laws of what is written and missing. Each is a call that does nothing and ensures its law.
 
 ghost use Rattle.std.specs.Prelude.{◌≡◌, ℕ, ℤ, List, Option, length};
-ghost use Rattle.flow_core.specs.declared.activation.Activation.{Activation};
-ghost use Rattle.flow_core.specs.declared.control.ControlEnd.{ControlEnd};
-ghost use Rattle.flow_core.specs.declared.ends.Ends.{Ends};
-ghost use Rattle.flow_core.specs.declared.task_end.TaskEnd.{TaskEnd};
-ghost use Rattle.flow_core.specs.Place.{written_count};
+ghost use Rattle.flow_core_laws.specs.declared.activation.Activation.{Activation};
+ghost use Rattle.flow_core_laws.specs.declared.control.ControlEnd.{ControlEnd};
+ghost use Rattle.flow_core_laws.specs.declared.ends.Ends.{Ends};
+ghost use Rattle.flow_core_laws.specs.declared.task_end.TaskEnd.{TaskEnd};
+ghost use Rattle.flow_core_laws.specs.Place.{written_count};
 ghost use Rattle.collector.specs.Laws.{HasItsLines, IsFirstMissing, IsLongestPrefix, IsWrittenOf, OfFilled, ProducersAreNotDone};
 ghost use Rattle.collector.specs.Reported.{AreOfState};
 ghost use Rattle.collector.specs.Status.{status};

@@ -7,7 +7,7 @@ ghost use Rattle.collector.specs.Report.{control_line, end_line, ending, output_
 
 use crate::line_buffer::LineBuffer;
 use crate::missing::{Missing, end_of};
-use flow_core::{ControlEnd, Ends, TaskEnd};
+use flow_core_laws::{ControlEnd, Ends, TaskEnd};
 use os_io::{Sink, WriteError};
 
 impl LineBuffer {

@@ -1,15 +1,15 @@
 ghost use Rattle.std.specs.Prelude.{◌≡◌, ◌<◌, ◌≤◌, ◌-◌, None, false, All, IfSome, List, drop, find, length, slice_get, slice_index_or, take};
 ghost use Rattle.std.specs.List.{flat_map, range_with_len};
 ghost use Rattle.std.specs.Option.{option_map};
-ghost use Rattle.flow_core.specs.declared.activation.Activation.{Activation};
-ghost use Rattle.flow_core.specs.Outcome.{is_done_at};
-ghost use Rattle.flow_core.specs.Window.{producer};
+ghost use Rattle.flow_core_laws.specs.declared.activation.Activation.{Activation};
+ghost use Rattle.flow_core_laws.specs.Outcome.{is_done_at};
+ghost use Rattle.flow_core_laws.specs.Window.{producer};
 ghost use Rattle.stream_match.specs.Layout.{IsLayout, IsLayoutOf, span_of};
 ghost use Rattle.stream_match.specs.Stretch.{frame_count, spans_of, start_of};
 ghost use Rattle.collector.specs.Missing.{missing};
 ghost use Rattle.collector.specs.Walking.{IsSpanIn, Reaches, is_gap, is_missing, first_gap, place_of, read_places};
 
-use flow_core::{Ends, TaskEnd};
+use flow_core_laws::{Ends, TaskEnd};
 use stream_match::{Layout, Span};
 
 /// An element that isn't there, which a starved activation waits for.

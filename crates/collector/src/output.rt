@@ -1,8 +1,8 @@
 ghost use Rattle.std.specs.Prelude.{◌≡◌, All, IfOk};
-ghost use Rattle.flow_core.specs.Byte.{IsByte};
+ghost use Rattle.flow_core_laws.specs.Byte.{IsByte};
 ghost use Rattle.collector.specs.Written.{IsByteIfThere, byte_of, written};
 
-use flow_core::Ends;
+use flow_core_laws::Ends;
 use os_io::Memory;
 use std::alloc::Global;
 

@@ -1,6 +1,6 @@
 ghost use Rattle.std.specs.Prelude.{◌≡◌, ◌≢◌, ◌≤◌, ◌<◌, List, length, IsErrOf, OnOk, OnErr};
 ghost use Rattle.std.specs.Io.KnownBytes.{append_known};
-ghost use Rattle.flow_core.specs.declared.activation.Activation.{Activation};
+ghost use Rattle.flow_core_laws.specs.declared.activation.Activation.{Activation};
 ghost use Rattle.os_io.specs.Counts.{HasRisen};
 ghost use Rattle.os_io.specs.Writing.{TookProperPrefix};
 ghost use Rattle.stream_match.specs.Layout.{IsLayout, IsLayoutOf};
@@ -11,7 +11,7 @@ ghost use Rattle.collector.specs.Written.{written};
 
 use crate::line_buffer::LineBuffer;
 use crate::missing::{end_of, first_missing};
-use flow_core::{ControlEnd, Ends};
+use flow_core_laws::{ControlEnd, Ends};
 use os_io::{Sink, WriteError};
 use stream_match::Layout;
 

@@ -9,7 +9,7 @@ use crate::compiled::{Compiled, compile};
 use crate::elements::{inputs_of, outputs_of};
 use cddf_meaning_plain::{plain_body, plain_control};
 use control_run::run_control;
-use flow_core::{Activation, Control, ControlEnd, TaskEnd};
+use flow_core_laws::{Activation, Control, ControlEnd, TaskEnd};
 use os_ast::Program;
 use os_io::Memory;
 use std::alloc::Global;

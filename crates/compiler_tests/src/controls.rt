@@ -8,7 +8,7 @@ use crate::beside::{bodies_beside, control_beside, whole_beside};
 use crate::compiled::{Compiled, compile};
 use crate::programs::{BRANCHES, CAPTURES, CLAUSES, HIDING, OUTPUTS, SIZES, TICKS, TRAPS, WINDOWS};
 use control_run::run_control;
-use flow_core::Control;
+use flow_core_laws::Control;
 use meaning_tests::case::{Case, Run};
 use meaning_tests::counted::{COUNTED, Counted};
 use meaning_tests::flows::FLOWS;

@@ -1,9 +1,9 @@
 //! The elements of an activation's windows.
 
 ghost use Rattle.std.specs.Prelude.{◌≡◌, ◌+◌, IfOk, OnOk, length, not, filter, sum_by};
-ghost use Rattle.flow_core.specs.declared.claim.Claim.{Claim as TheClaim};
+ghost use Rattle.flow_core_laws.specs.declared.claim.Claim.{Claim as TheClaim};
 
-use flow_core::Claim;
+use flow_core_laws::Claim;
 use os_io::Memory;
 use std::alloc::Global;
 

@@ -5,7 +5,7 @@ ghost use Rattle.os_code.specs.Tasks.{Fits};
 
 use crate::beside::{body_beside, control_beside};
 use crate::compiled::{Compiled, compile};
-use flow_core::{Activation, TaskEnd};
+use flow_core_laws::{Activation, TaskEnd};
 use std::alloc::Global;
 use std::process::Abort;
 use std::test::Fail;

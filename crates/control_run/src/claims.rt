@@ -1,12 +1,12 @@
 //! The claims that a `Spawn` makes.
 
 ghost use Rattle.std.specs.Prelude.{◌≡◌, ℕ, ◌*◌, ◌<◌, ◌≤◌, All, length, map, Some, pos, slice_index_or, IfOk};
-ghost use Rattle.flow_core.specs.declared.claim.Claim.{Claim as TheClaim};
+ghost use Rattle.flow_core_laws.specs.declared.claim.Claim.{Claim as TheClaim};
 ghost use Rattle.os_code.specs.Machine as machine;
 ghost use Rattle.control_run.specs.Spawning.{HasWindow};
 
 use crate::numbers::{amount_of, size_of, stream_of};
-use flow_core::Claim;
+use flow_core_laws::Claim;
 use os_code::SiteItem;
 use os_io::{List, Memory};
 use std::alloc::Global;

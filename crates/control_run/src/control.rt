@@ -7,7 +7,7 @@ ghost use Rattle.stream_match.specs.Lawful.{AreLawful};
 use crate::machine::Machine;
 use crate::made::Made;
 use crate::running::run;
-use flow_core::Control;
+use flow_core_laws::Control;
 use os_code::Code;
 use os_io::Memory;
 use std::alloc::Global;

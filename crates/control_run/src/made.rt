@@ -1,9 +1,9 @@
 ghost use Rattle.std.specs.Prelude.{◌≡◌, [], ◌+◌, ◌^◌, ◌<◌, All, length, replicate, slice_set, IfOk};
-ghost use Rattle.flow_core.specs.declared.claim.Claim.{Claim as TheClaim};
+ghost use Rattle.flow_core_laws.specs.declared.claim.Claim.{Claim as TheClaim};
 ghost use Rattle.os_code.specs.Machine.{skip_at, claims_with_skips, skips_after_all};
 ghost use Rattle.control_run.specs.Spawning.{limit_of};
 
-use flow_core::{Activation, Claim};
+use flow_core_laws::{Activation, Claim};
 use os_io::{List, Memory};
 use std::alloc::Global;
 

@@ -4,7 +4,7 @@ ghost use Rattle.control_run.specs.Spawning.{HasWindow, spawn_end, spawn_made};
 
 use crate::claims::{captured_of, claims_of, horizons};
 use crate::made::{Made, take_skips};
-use flow_core::{Activation, ControlEnd};
+use flow_core_laws::{Activation, ControlEnd};
 use os_code::Site;
 use os_io::Memory;
 use std::alloc::Global;

@@ -4,10 +4,10 @@ use Rattle.std.specs.Prelude.{filter, All, nat_le, ◌&&◌}
 use Rattle.std.specs.List.{range_with_len}
 use Rattle.std.proofs.lemmas.List.FromFn.{get_or-map-range_with_len}
 use Rattle.std.proofs.lemmas.Option.{same_Some}
-use Rattle.flow_core.specs.declared.activation.Activation.{Activation}
+use Rattle.flow_core_laws.specs.declared.activation.Activation.{Activation}
 use Rattle.std.proofs.lemmas.List.{take_more, take_all, append_assoc, map-append}
 use Rattle.std.proofs.lemmas.List.Elements.{filter-append}
-use Rattle.flow_core.specs.Place as streams
+use Rattle.flow_core_laws.specs.Place as streams
 use Rattle.flow_core_epochs.specs.Epoch as epoch
 use Rattle.flow_core_epochs.specs.Epoch.{elements_at, read_from}
 use Rattle.flow_core_epochs.proofs.Members.{Has, of_map, of_append, has_tail}

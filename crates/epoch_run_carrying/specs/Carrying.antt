@@ -1,6 +1,6 @@
 -- What is carried over by the cursors of the streams.
 use Rattle.std.specs.Prelude.{ℕ, ℤ, Bool, ◌&&◌, nat_le, List, ◌++◌, Option, filter, slice_index}
-use Rattle.flow_core.specs.Place as streams
+use Rattle.flow_core_laws.specs.Place as streams
 use Rattle.flow_core_epochs.specs.Epoch as epoch
 use Rattle.epoch_run_carrying.specs.declared.kept.Kept.{Kept}
 use Rattle.epoch_run_carrying.specs.declared.place.Place.{Place}

@@ -1,5 +1,5 @@
 ghost use Rattle.std.specs.Prelude.{◌≡◌, ◌<◌, [], ◌∷◌, ◌++◌, All, List, IfOk, OnOk, length, map, filter, nat_le, slice_index, ◌&&◌};
-ghost use Rattle.flow_core.specs.declared.activation.Activation.{Activation};
+ghost use Rattle.flow_core_laws.specs.declared.activation.Activation.{Activation};
 ghost use Rattle.stream_match.specs.Layout.{IsLayout, IsLayoutOf};
 ghost use Rattle.stream_match.specs.Stretch.{frame_count};
 ghost use Rattle.flow_core_epochs.specs.Epoch.{elements_at, carried_over};

@@ -1,6 +1,6 @@
 ghost use Rattle.std.specs.Prelude.{◌≡◌, ℕ, ◌-◌, ◌<◌, ◌≤◌, min, All, List, IfOk, drop, fold, length, map, slice_index, take};
 ghost use Rattle.std.specs.List.{range_with_len};
-ghost use Rattle.flow_core.specs.declared.activation.Activation.{Activation};
+ghost use Rattle.flow_core_laws.specs.declared.activation.Activation.{Activation};
 ghost use Rattle.stream_match.specs.declared.span.Span.{Span};
 ghost use Rattle.stream_match.specs.Layout.{IsLayout, IsLayoutOf};
 ghost use Rattle.stream_match.specs.Stretch.{frame_count, spans_of, start_of};

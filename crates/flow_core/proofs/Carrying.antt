@@ -4,14 +4,14 @@ use Rattle.std.specs.Prelude.{is_none, slice_get}
 use Rattle.std.proofs.lemmas.Bool.{cases_lt, cases_eq}
 use Rattle.std.proofs.lemmas.List.{get_or-set_same, get_or-set_other, length-set, get_or-take, get_or-drop, length-take, length-drop}
 use Rattle.std.proofs.lemmas.Option.{slice_get-get_or, same_Some}
-use Rattle.flow_core.specs.declared.plan.Piece.{Piece}
-use Rattle.flow_core.specs.declared.plan.Plan.{Plan}
+use Rattle.flow_core_laws.specs.declared.plan.Piece.{Piece}
+use Rattle.flow_core_laws.specs.declared.plan.Plan.{Plan}
 use Rattle.flow_core.specs.declared.waits.Waits.{Waits}
-use Rattle.flow_core.specs.Plans.{frame_at, value_at, missing_of}
-use Rattle.flow_core.specs.IsSound.{Covers, IsSound, IsSoundPiece}
+use Rattle.flow_core_laws.specs.Plans.{frame_at, value_at, missing_of}
+use Rattle.flow_core_laws.specs.IsSound.{Covers, IsSound, IsSoundPiece}
 use Rattle.flow_core.specs.Waits.{OpensFull, OpensMore}
 use Rattle.flow_core.specs.Counted.{IsCounted, Carries, AreEmpty}
-use Rattle.flow_core.proofs.Counting.{passing-same, passing-lowered}
+use Rattle.flow_core_laws.proofs.Counting.{passing-same, passing-lowered}
 
 -- the cells that the piece of a number covers
 pub covered : (plan : Plan) (number c : ℕ) (p : Piece) → slice_get plan.pieces number ≡ Some p → Covers plan number c → (p.at ≤ c) × (c < p.at + p.count)

@@ -1,14 +1,3 @@
-pub mod Counting
-pub mod Sources
 pub mod Carrying
-pub mod Gathering
-pub mod Rounds
 pub mod Showing
 pub mod Running
-pub mod Examples
-pub mod Stretches
-pub mod Windows
-pub mod There
-pub mod Orders
-pub mod SoundTests
-pub mod Seats

@@ -7,25 +7,26 @@ use Rattle.std.proofs.lemmas.Bool.{cases_lt, cases_eq}
 use Rattle.std.proofs.lemmas.Option.{option_and_then_some, slice_get-get_or, slice_get-map, get_or_from_slice_get}
 use Rattle.std.proofs.lemmas.List.{get_or-set_same, get_or-set_other, same_lists, get_or_past, get_or_default, length-map}
 use Rattle.std.proofs.lemmas.List.Sums.{sum_by-set}
-use Rattle.flow_core.specs.declared.plan.FramePlan.{FramePlan}
-use Rattle.flow_core.specs.declared.plan.Piece.{Piece}
-use Rattle.flow_core.specs.declared.plan.Plan.{Plan}
+use Rattle.flow_core_laws.specs.declared.plan.FramePlan.{FramePlan}
+use Rattle.flow_core_laws.specs.declared.plan.Piece.{Piece}
+use Rattle.flow_core_laws.specs.declared.plan.Plan.{Plan}
 use Rattle.flow_core.specs.declared.board.Board.{Board}
-use Rattle.flow_core.specs.declared.task_end.TaskEnd.{TaskEnd}
+use Rattle.flow_core_laws.specs.declared.task_end.TaskEnd.{TaskEnd}
 use Rattle.flow_core.specs.declared.waits.Waits.{Waits}
-use Rattle.flow_core.specs.declared.outcome.Outcome.{Outcome}
-use Rattle.flow_core.specs.Outcome.{State, outcome_at, ends_of}
-use Rattle.flow_core.specs.Element.{Source, given, fed, nobody, element, output_at}
-use Rattle.flow_core.specs.Round.{gathered}
-use Rattle.flow_core.specs.Plans.{frame_at, cells_of, value_at, cell_source, piece_at, plan_reads, plan_meaning, sink_elements}
-use Rattle.flow_core.specs.IsSound.{IsSound}
+use Rattle.flow_core_laws.specs.declared.outcome.Outcome.{Outcome}
+use Rattle.flow_core_laws.specs.Outcome.{State, outcome_at, ends_of}
+use Rattle.flow_core_laws.specs.Element.{Source, given, fed, nobody, element, output_at}
+use Rattle.flow_core_laws.specs.Round.{gathered}
+use Rattle.flow_core_laws.specs.Plans.{frame_at, cells_of, value_at, cell_source, piece_at, plan_reads, plan_meaning, sink_elements}
+use Rattle.flow_core_laws.specs.IsSound.{IsSound}
 use Rattle.flow_core.specs.Waits.{OpensFull, OpensMore}
 use Rattle.flow_core.specs.Counted.{IsCounted}
 use Rattle.flow_core.specs.Shows.{end_at, shown, Shows}
 use Rattle.flow_core.specs.Board.{IsRun}
-use Rattle.flow_core.proofs.Gathering.{gathered-cons, gathered_there, none_missing}
-use Rattle.flow_core.proofs.Rounds.{Extends, element-extends, IsClosed, passes_from_closed}
-use Rattle.flow_core.proofs.Showing.{map_map, part_of, stretch_of}
+use Rattle.flow_core_laws.proofs.Gathering.{gathered-cons, gathered_there, none_missing}
+use Rattle.flow_core_laws.proofs.Rounds.{Extends, element-extends, IsClosed, passes_from_closed}
+use Rattle.flow_core_laws.proofs.Sources.{map_map}
+use Rattle.flow_core.proofs.Showing.{part_of, stretch_of}
 
 -- nothing has an end at the opening
 no_end : (frames : List FramePlan) (f : ℕ) → end_at (map (λ (p : FramePlan). None) frames) f ≡ None

@@ -6,24 +6,24 @@ use Rattle.std.specs.List.{range_with_len}
 use Rattle.std.proofs.lemmas.Bool.{cases_lt, cases_eq}
 use Rattle.std.proofs.lemmas.List.{get_or-set_same, get_or-set_other, length-set, same_lists, get_or_past, get_or-take, get_or-drop, length-take, length-drop, get_or_default}
 use Rattle.std.proofs.lemmas.List.FromFn.{length-map-range_with_len, get_or-map-range_with_len}
-use Rattle.flow_core.specs.declared.plan.FramePlan.{FramePlan}
-use Rattle.flow_core.specs.declared.plan.Piece.{Piece}
-use Rattle.flow_core.specs.declared.plan.Plan.{Plan}
-use Rattle.flow_core.specs.declared.task_end.TaskEnd.{TaskEnd}
-use Rattle.flow_core.specs.declared.task_end.TaskEnd.TheVariants.{Done}
+use Rattle.flow_core_laws.specs.declared.plan.FramePlan.{FramePlan}
+use Rattle.flow_core_laws.specs.declared.plan.Piece.{Piece}
+use Rattle.flow_core_laws.specs.declared.plan.Plan.{Plan}
+use Rattle.flow_core_laws.specs.declared.task_end.TaskEnd.{TaskEnd}
+use Rattle.flow_core_laws.specs.declared.task_end.TaskEnd.TheVariants.{Done}
 use Rattle.flow_core.specs.declared.waits.Waits.{Waits}
-use Rattle.flow_core.specs.declared.outcome.Outcome.{Outcome}
-use Rattle.flow_core.specs.Outcome.{State, outcome_at}
-use Rattle.flow_core.specs.Element.{Source, given, fed, nobody, element, output_at}
-use Rattle.flow_core.specs.Round.{gathered}
-use Rattle.flow_core.specs.Plans.{frame_at, cells_of, value_at, cell_source, plan_reads, plan_meaning}
-use Rattle.flow_core.specs.IsSound.{Covers, IsSound}
+use Rattle.flow_core_laws.specs.declared.outcome.Outcome.{Outcome}
+use Rattle.flow_core_laws.specs.Outcome.{State, outcome_at}
+use Rattle.flow_core_laws.specs.Element.{Source, given, fed, nobody, element, output_at}
+use Rattle.flow_core_laws.specs.Round.{gathered}
+use Rattle.flow_core_laws.specs.Plans.{frame_at, cells_of, value_at, cell_source, plan_reads, plan_meaning}
+use Rattle.flow_core_laws.specs.IsSound.{Covers, IsSound}
 use Rattle.flow_core.specs.Counted.{IsCounted, Carries, AreEmpty}
 use Rattle.flow_core.specs.Shows.{end_at, shown, Shows, Gives}
 use Rattle.flow_core.proofs.Carrying.{piece_fits}
-use Rattle.flow_core.proofs.Gathering.{gathered-weaker, all_gathered}
-use Rattle.flow_core.proofs.Rounds.{element-extends, outcome_at-meaning}
-use Rattle.flow_core.proofs.Sources.{cell_source-covered, fed-covered}
+use Rattle.flow_core_laws.proofs.Gathering.{gathered-weaker, all_gathered}
+use Rattle.flow_core_laws.proofs.Rounds.{element-extends, outcome_at-meaning}
+use Rattle.flow_core_laws.proofs.Sources.{cell_source-covered, fed-covered, map_map}
 
 -- the pieces of a frame
 from_frame : (plan : Plan) (f number : ℕ) (p : Piece) → IsSound plan → f < length plan.frames → slice_get plan.pieces number ≡ Some p → (frame_at plan f).piece ≤ number → number < (frame_at plan f).piece + (frame_at plan f).pieces → p.from ≡ f
@@ -141,11 +141,6 @@ stretch cells from n le = same_lists (take (from + n - from) (drop from cells)) 
   where
     at : (k : ℕ) (d : Option ℤ) → k < n → get_or (take (from + n - from) (drop from cells)) k d ≡ get_or (map (value_at cells) (range_with_len from n)) k d
     at k d lt = get_or-take (from + n - from) (drop from cells) k d (omega arith) ∙ get_or-drop from cells k d ∙ get_or_default cells (from + k) d None (omega arith) ∙ sym (get_or-map-range_with_len (value_at cells) from n k (from + k) d lt refl)
-
--- the sources of cells, one by one
-pub map_map : (f : ℕ → Source) (g : Source → Option ℤ) (xs : List ℕ) → map g (map f xs) ≡ map (λ x. g (f x)) xs
-map_map f g [] = refl
-map_map f g (x ∷ xs) = ap (λ (ys : List (Option ℤ)). g (f x) ∷ ys) (map_map f g xs)
 
 pub stretch_of : (plan : Plan) (cells : List (Option ℤ)) (waits : Waits) (f : ℕ) → IsSound plan → IsCounted plan cells waits → f ≤ length plan.frames → take ((frame_at plan f).cell + (frame_at plan f).inputs - (frame_at plan f).cell) (drop (frame_at plan f).cell cells) ≡ map (value_at cells) (cells_of plan f)
 stretch_of plan cells waits f sound counted le =

@@ -1,8 +1,8 @@
 -- Where a run of a plan stands, by the plan and its meaning.
 use Rattle.std.specs.Prelude.{◌≡◌, ℕ, ◌<◌, ◌≤◌, true, None, is_some, length, slice_index}
-use Rattle.flow_core.specs.declared.plan.Plan.{Plan}
+use Rattle.flow_core_laws.specs.declared.plan.Plan.{Plan}
 use Rattle.flow_core.specs.declared.board.Board.{Board}
-use Rattle.flow_core.specs.Outcome.{State}
+use Rattle.flow_core_laws.specs.Outcome.{State}
 use Rattle.flow_core.specs.Counted.{IsCounted}
 use Rattle.flow_core.specs.Shows.{Shows, end_at}
 

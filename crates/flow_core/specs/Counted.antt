@@ -1,10 +1,10 @@
 -- The cells of a run, their counters, and what a piece carries into them.
 use Rattle.std.specs.Prelude.{◌≡◌, ℕ, ℤ, ◌+◌, ◌-◌, ◌<◌, ◌≤◌, List, Option, Some, None, length, slice_get, slice_index}
-use Rattle.flow_core.specs.declared.plan.Piece.{Piece}
-use Rattle.flow_core.specs.declared.plan.Plan.{Plan}
+use Rattle.flow_core_laws.specs.declared.plan.Piece.{Piece}
+use Rattle.flow_core_laws.specs.declared.plan.Plan.{Plan}
 use Rattle.flow_core.specs.declared.waits.Waits.{Waits}
-use Rattle.flow_core.specs.Plans.{frame_at, value_at, missing_of}
-use Rattle.flow_core.specs.IsSound.{Covers}
+use Rattle.flow_core_laws.specs.Plans.{frame_at, value_at, missing_of}
+use Rattle.flow_core_laws.specs.IsSound.{Covers}
 use Rattle.flow_core.specs.Waits.{OpensFull}
 
 -- The counters are those of the cells, and the opened frames are those that miss nothing.

@@ -1,13 +1,13 @@
 -- What a run shows of the meaning.
 use Rattle.std.specs.Prelude.{◌≡◌, ℕ, ℤ, ◌<◌, List, Option, Some, None, is_some, if◌then◌else◌, length, slice_index_or}
 use Rattle.std.specs.Option.{option_map}
-use Rattle.flow_core.specs.declared.plan.Plan.{Plan}
-use Rattle.flow_core.specs.declared.task_end.TaskEnd.{TaskEnd}
-use Rattle.flow_core.specs.declared.task_end.TaskEnd.TheVariants.{Done}
-use Rattle.flow_core.specs.declared.outcome.Outcome.{Outcome}
-use Rattle.flow_core.specs.Outcome.{State, outcome_at}
-use Rattle.flow_core.specs.Element.{Source, given, fed, nobody, output_at}
-use Rattle.flow_core.specs.Plans.{value_at, cell_source}
+use Rattle.flow_core_laws.specs.declared.plan.Plan.{Plan}
+use Rattle.flow_core_laws.specs.declared.task_end.TaskEnd.{TaskEnd}
+use Rattle.flow_core_laws.specs.declared.task_end.TaskEnd.TheVariants.{Done}
+use Rattle.flow_core_laws.specs.declared.outcome.Outcome.{Outcome}
+use Rattle.flow_core_laws.specs.Outcome.{State, outcome_at}
+use Rattle.flow_core_laws.specs.Element.{Source, given, fed, nobody, output_at}
+use Rattle.flow_core_laws.specs.Plans.{value_at, cell_source}
 
 -- the end of a frame so far
 abbrev pub end_at : List (Option TaskEnd) → ℕ → Option TaskEnd

@@ -1,17 +1,15 @@
 ghost use Rattle.std.specs.Prelude.{◌≡◌, ◌+◌, ◌-◌, ◌<◌, ◌≤◌, ℕ, IsSome, Some, None, OnOk, IfOk, length, slice_get, slice_set, slice_range, map};
-ghost use Rattle.flow_core.specs.Plans.{value_at, frame_at};
-ghost use Rattle.flow_core.specs.Round.{gathered};
-ghost use Rattle.flow_core.specs.IsSound.{IsSound};
+ghost use Rattle.flow_core_laws.specs.Plans.{value_at, frame_at};
+ghost use Rattle.flow_core_laws.specs.Round.{gathered};
+ghost use Rattle.flow_core_laws.specs.IsSound.{IsSound};
 ghost use Rattle.flow_core.specs.Waits.{OpensFull, OpensMore};
 ghost use Rattle.flow_core.specs.Counted.{IsCounted, Carries, AreEmpty, IsUnfed, Delivers};
 ghost use Rattle.flow_core.specs.Shows.{Shows, Gives, end_at};
-ghost use Rattle.flow_core.specs.Outcome.{State};
+ghost use Rattle.flow_core_laws.specs.Outcome.{State};
 
 use crate::cells::fill;
-use crate::ends::Ends;
-use crate::plan::Plan;
-use crate::task_end::TaskEnd;
 use crate::waits::Waits;
+use flow_core_laws::{Ends, Plan, TaskEnd};
 use os_io::{List, Memory};
 use std::alloc::Global;
 

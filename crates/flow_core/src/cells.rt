@@ -1,6 +1,6 @@
 ghost use Rattle.std.specs.Prelude.{◌≡◌, ◌+◌, ◌<◌, ◌≤◌, ℕ, IsSome, OnOk, length, slice_get};
-ghost use Rattle.flow_core.specs.Plans.{value_at};
-ghost use Rattle.flow_core.specs.Round.{gathered};
+ghost use Rattle.flow_core_laws.specs.Plans.{value_at};
+ghost use Rattle.flow_core_laws.specs.Round.{gathered};
 
 use os_io::Memory;
 

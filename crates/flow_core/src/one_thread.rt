@@ -1,21 +1,18 @@
 ghost use Rattle.std.specs.Prelude.{◌≡◌, ◌+◌, ◌<◌, ◌≤◌, ℕ, Some, None, IsSome, OnOk, IfOk, length, slice_index, slice_set};
-ghost use Rattle.flow_core.specs.Outcome.{ends_of};
-ghost use Rattle.flow_core.specs.Round.{gathered};
-ghost use Rattle.flow_core.specs.Plans.{plan_meaning, sink_elements};
-ghost use Rattle.flow_core.specs.IsSound.{IsSound};
-ghost use Rattle.flow_core.specs.declared.task_end.TaskEnd.{TaskEnd};
-ghost use Rattle.flow_core.specs.Serves.{Serves};
+ghost use Rattle.flow_core_laws.specs.Outcome.{ends_of};
+ghost use Rattle.flow_core_laws.specs.Round.{gathered};
+ghost use Rattle.flow_core_laws.specs.Plans.{plan_meaning, sink_elements};
+ghost use Rattle.flow_core_laws.specs.IsSound.{IsSound};
+ghost use Rattle.flow_core_laws.specs.declared.task_end.TaskEnd.{TaskEnd};
+ghost use Rattle.flow_core_laws.specs.Serves.{Serves};
 ghost use Rattle.flow_core.specs.Waits.{OpensMore};
 ghost use Rattle.flow_core.specs.Counted.{IsCounted};
 ghost use Rattle.flow_core.specs.Shows.{Shows, end_at};
 ghost use Rattle.flow_core.specs.Board.{IsRun};
 
 use crate::board::Board;
-use crate::bodies::Bodies;
 use crate::cells::gather;
-use crate::ends::Ends;
-use crate::plan::{FramePlan, Plan};
-use crate::task_end::TaskEnd;
+use flow_core_laws::{Bodies, Ends, FramePlan, Plan, TaskEnd};
 use os_io::Memory;
 use std::alloc::Global;
 

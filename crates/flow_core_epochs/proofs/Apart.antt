@@ -3,11 +3,11 @@ use Rattle.std.proofs.Common.{◌≡◌, ℕ, zero, suc, ◌+◌, ◌<◌, ℤ, 
 use Rattle.std.specs.Prelude.{slice_get, filter, ◌==◌, ◌||◌, nat_le}
 use Rattle.std.specs.List.{range_with_len, flat_map}
 use Rattle.std.proofs.lemmas.Option.{same_Some}
-use Rattle.flow_core.specs.declared.activation.Activation.{Activation}
-use Rattle.flow_core.specs.Window.{Window, windows_of, windows, is_written_by}
-use Rattle.flow_core.specs.Place.{Place, places_of}
-use Rattle.flow_core.proofs.Stretches.{stands_at, parts_before}
-use Rattle.flow_core.proofs.Windows.{one_writer_of}
+use Rattle.flow_core_laws.specs.declared.activation.Activation.{Activation}
+use Rattle.flow_core_laws.specs.Window.{Window, windows_of, windows, is_written_by}
+use Rattle.flow_core_laws.specs.Place.{Place, places_of}
+use Rattle.flow_core_laws.proofs.Stretches.{stands_at, parts_before}
+use Rattle.flow_core_laws.proofs.Windows.{one_writer_of}
 use Rattle.flow_core_epochs.specs.Epoch.{Kept, elements_at, written_places, leaving_places, read_from}
 use Rattle.flow_core_epochs.proofs.Members.{Has, of_map, of_append, of_filter, of_flat_map, of_range, has_tail}
 use Rattle.flow_core_epochs.proofs.Written.{has_window, window_activation, lies_in, written_in, is_written_test}

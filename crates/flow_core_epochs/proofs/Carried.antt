@@ -6,20 +6,20 @@ use Rattle.std.specs.List.{range_with_len, flat_map}
 use Rattle.std.proofs.lemmas.Bool.{cases_lt, cases_eq, eq-eqb, eqb-true, and_parts}
 use Rattle.std.proofs.lemmas.Bool.Decides.{nat_tests}
 use Rattle.std.proofs.lemmas.Option.{same_Some, slice_get_within, slice_get-get_or, get_or_from_slice_get}
-use Rattle.flow_core.specs.declared.claim.Claim.{Claim}
-use Rattle.flow_core.specs.declared.activation.Activation.{Activation}
-use Rattle.flow_core.specs.declared.plan.Plan.{Plan}
-use Rattle.flow_core.specs.declared.outcome.Outcome.{Outcome}
-use Rattle.flow_core.specs.Outcome.{State, outcome_at}
-use Rattle.flow_core.specs.Element.{fed, nobody, element, output_at}
-use Rattle.flow_core.specs.FirstPosition.{is_read_of}
-use Rattle.flow_core.specs.Window.{Window, window_of, windows_of, windows, claims_of, claims_at, is_written_by, producer}
-use Rattle.flow_core.specs.Place.{Place, places_of, input_places}
-use Rattle.flow_core.specs.Plans.{sink_elements}
-use Rattle.flow_core.specs.Streams.{input_source, produced_source, stream_source, stream_reads, stream_meaning}
-use Rattle.flow_core.proofs.Sources.{find_passes}
-use Rattle.flow_core.proofs.Rounds.{element-extends, outcome_at_past, length-meaning}
-use Rattle.flow_core.proofs.Windows.{is_window, window_at, producer_of, written}
+use Rattle.flow_core_laws.specs.declared.claim.Claim.{Claim}
+use Rattle.flow_core_laws.specs.declared.activation.Activation.{Activation}
+use Rattle.flow_core_laws.specs.declared.plan.Plan.{Plan}
+use Rattle.flow_core_laws.specs.declared.outcome.Outcome.{Outcome}
+use Rattle.flow_core_laws.specs.Outcome.{State, outcome_at}
+use Rattle.flow_core_laws.specs.Element.{fed, nobody, element, output_at}
+use Rattle.flow_core_laws.specs.FirstPosition.{is_read_of}
+use Rattle.flow_core_laws.specs.Window.{Window, window_of, windows_of, windows, claims_of, claims_at, is_written_by, producer}
+use Rattle.flow_core_laws.specs.Place.{Place, places_of, input_places}
+use Rattle.flow_core_laws.specs.Plans.{sink_elements}
+use Rattle.flow_core_laws.specs.Streams.{input_source, produced_source, stream_source, stream_reads, stream_meaning}
+use Rattle.flow_core_laws.proofs.Sources.{find_passes}
+use Rattle.flow_core_laws.proofs.Rounds.{element-extends, outcome_at_past, length-meaning}
+use Rattle.flow_core_laws.proofs.Windows.{is_window, window_at, producer_of, written}
 use Rattle.flow_core_epochs.specs.Epoch.{Kept, is_at, value_kept, number_in, open_in, written_places, read_from, elements_at, is_readable, carried_over, IsKeptFor, IsCarried, IsOutside, PlacesDiffer, ReadNoOutput, epoch_meaning}
 use Rattle.flow_core_epochs.proofs.Members.{Has, in_map, of_append, in_left, in_right, of_filter, in_filter, of_flat_map, in_flat_map, of_range, in_range, has_tail}
 use Rattle.flow_core_epochs.proofs.Prefixes.{element_more, producer_more, prefix_extends}

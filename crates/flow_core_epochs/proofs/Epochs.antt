@@ -7,17 +7,17 @@ use Rattle.std.proofs.lemmas.Bool.{eqb-true, and_parts}
 use Rattle.std.proofs.lemmas.List.{same_lists, get_or_default}
 use Rattle.std.proofs.lemmas.List.FromFn.{get_or-map-range_with_len, length-map-range_with_len}
 use Rattle.std.proofs.lemmas.Option.{same_Some, slice_get_within, slice_get-get_or, get_or_from_slice_get}
-use Rattle.flow_core.specs.declared.activation.Activation.{Activation}
-use Rattle.flow_core.specs.declared.plan.Plan.{Plan}
-use Rattle.flow_core.specs.declared.outcome.Outcome.{Outcome}
-use Rattle.flow_core.specs.Outcome.{State, outcome_at}
-use Rattle.flow_core.specs.Element.{Source, given, fed, nobody, element, output_at}
-use Rattle.flow_core.specs.Place.{Place, input_places}
-use Rattle.flow_core.specs.Streams.{input_source, produced_source, stream_source, stream_reads, stream_meaning}
-use Rattle.flow_core.specs.Plans.{plan_reads, plan_meaning}
-use Rattle.flow_core.specs.Round.{gathered, inputs_in}
-use Rattle.flow_core.proofs.Sources.{find_passes}
-use Rattle.flow_core.proofs.Rounds.{Extends, element-extends, gathered-extends, outcome_at-meaning, length-meaning}
+use Rattle.flow_core_laws.specs.declared.activation.Activation.{Activation}
+use Rattle.flow_core_laws.specs.declared.plan.Plan.{Plan}
+use Rattle.flow_core_laws.specs.declared.outcome.Outcome.{Outcome}
+use Rattle.flow_core_laws.specs.Outcome.{State, outcome_at}
+use Rattle.flow_core_laws.specs.Element.{Source, given, fed, nobody, element, output_at}
+use Rattle.flow_core_laws.specs.Place.{Place, input_places}
+use Rattle.flow_core_laws.specs.Streams.{input_source, produced_source, stream_source, stream_reads, stream_meaning}
+use Rattle.flow_core_laws.specs.Plans.{plan_reads, plan_meaning}
+use Rattle.flow_core_laws.specs.Round.{gathered, inputs_in}
+use Rattle.flow_core_laws.proofs.Sources.{find_passes}
+use Rattle.flow_core_laws.proofs.Rounds.{Extends, element-extends, gathered-extends, outcome_at-meaning, length-meaning}
 use Rattle.flow_core_epochs.specs.Epoch.{Kept, is_at, value_kept, number_in, among, epoch_source, put_over, IsKeptFor, StandsForEpoch}
 use Rattle.flow_core_epochs.proofs.Holding.{gathered_both, holds_in_meaning}
 use Rattle.flow_core_epochs.proofs.Prefixes.{prefix_extends}

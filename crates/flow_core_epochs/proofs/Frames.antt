@@ -4,9 +4,9 @@ use Rattle.std.specs.Prelude.{slice_get, is_none, ◌==◌}
 use Rattle.std.proofs.lemmas.Bool.{eqb-true, eq-eqb, cases_order}
 use Rattle.std.proofs.lemmas.List.Quantifiers.{position-Some}
 use Rattle.std.proofs.lemmas.Option.{slice_get_within, slice_get-get_or, get_or_from_slice_get}
-use Rattle.flow_core.specs.declared.outcome.Outcome.{Outcome}
-use Rattle.flow_core.specs.Outcome.{State, outcome_at}
-use Rattle.flow_core.proofs.Sources.{position_only}
+use Rattle.flow_core_laws.specs.declared.outcome.Outcome.{Outcome}
+use Rattle.flow_core_laws.specs.Outcome.{State, outcome_at}
+use Rattle.flow_core_laws.proofs.Sources.{position_only}
 use Rattle.flow_core_epochs.specs.Epoch.{open_in, number_in}
 use Rattle.flow_core_epochs.proofs.Filtered.{filtered_each, filtered_ascends, filtered_all}
 

@@ -10,23 +10,23 @@ use Rattle.std.proofs.lemmas.List.Sums.{sum_by-append, fails_before_first}
 use Rattle.std.proofs.lemmas.List.FromFn.{get_or-map-range_with_len, length-map-range_with_len}
 use Rattle.std.proofs.lemmas.List.Quantifiers.{position-Some}
 use Rattle.std.proofs.lemmas.Option.{slice_get_within, slice_get-get_or, get_or_from_slice_get}
-use Rattle.flow_core.specs.declared.claim.Claim.{Claim}
-use Rattle.flow_core.specs.declared.activation.Activation.{Activation}
-use Rattle.flow_core.specs.declared.task_end.TaskEnd.{TaskEnd}
-use Rattle.flow_core.specs.declared.outcome.Outcome.{Outcome}
-use Rattle.flow_core.specs.declared.ends.Ends.{Ends}
-use Rattle.flow_core.specs.declared.plan.Plan.{Plan}
-use Rattle.flow_core.specs.Outcome.{State, outcome_at, ends_of}
-use Rattle.flow_core.specs.Element.{element}
-use Rattle.flow_core.specs.Round.{meaning, rounds}
-use Rattle.flow_core.specs.FirstPosition.{is_write_to, write_cursor}
-use Rattle.flow_core.specs.Window.{Window, windows, claims_of, is_written_by, producer}
-use Rattle.flow_core.specs.Place.{Place, written_count}
-use Rattle.flow_core.specs.Plans.{sink_elements}
-use Rattle.flow_core.specs.Streams.{stream_source, stream_reads, stream_meaning, output_elements}
-use Rattle.flow_core.proofs.Sources.{find_passes}
-use Rattle.flow_core.proofs.Rounds.{length-meaning}
-use Rattle.flow_core.proofs.Windows.{window_at, written, first_of_write}
+use Rattle.flow_core_laws.specs.declared.claim.Claim.{Claim}
+use Rattle.flow_core_laws.specs.declared.activation.Activation.{Activation}
+use Rattle.flow_core_laws.specs.declared.task_end.TaskEnd.{TaskEnd}
+use Rattle.flow_core_laws.specs.declared.outcome.Outcome.{Outcome}
+use Rattle.flow_core_laws.specs.declared.ends.Ends.{Ends}
+use Rattle.flow_core_laws.specs.declared.plan.Plan.{Plan}
+use Rattle.flow_core_laws.specs.Outcome.{State, outcome_at, ends_of}
+use Rattle.flow_core_laws.specs.Element.{element}
+use Rattle.flow_core_laws.specs.Round.{meaning, rounds}
+use Rattle.flow_core_laws.specs.FirstPosition.{is_write_to, write_cursor}
+use Rattle.flow_core_laws.specs.Window.{Window, windows, claims_of, is_written_by, producer}
+use Rattle.flow_core_laws.specs.Place.{Place, written_count}
+use Rattle.flow_core_laws.specs.Plans.{sink_elements}
+use Rattle.flow_core_laws.specs.Streams.{stream_source, stream_reads, stream_meaning, output_elements}
+use Rattle.flow_core_laws.proofs.Sources.{find_passes}
+use Rattle.flow_core_laws.proofs.Rounds.{length-meaning}
+use Rattle.flow_core_laws.proofs.Windows.{window_at, written, first_of_write}
 use Rattle.flow_core_epochs.specs.Epoch.{Kept, open_in, number_in, put_over, carried_over, is_output_at, output_over, IsKeptFor, IsCarried, IsOutside, ReadNoOutput, StandsForEpoch, IsEpoch, IsHeld, IsHeldAfter, epoch_meaning}
 use Rattle.flow_core_epochs.proofs.Members.{Has}
 use Rattle.flow_core_epochs.proofs.Epochs.{HasEpoch, over_frame, over_other, over_is_whole}

@@ -4,14 +4,14 @@ use Rattle.std.specs.Prelude.{slice_get, ◌==◌, ◌||◌, nat_le, option_and_
 use Rattle.std.specs.Option.{option_map_or}
 use Rattle.std.specs.List.{flat_map}
 use Rattle.std.proofs.lemmas.Bool.{cases_eq}
-use Rattle.flow_core.specs.declared.activation.Activation.{Activation}
-use Rattle.flow_core.specs.declared.plan.Plan.{Plan}
-use Rattle.flow_core.specs.declared.outcome.Outcome.{Outcome}
-use Rattle.flow_core.specs.Outcome.{State}
-use Rattle.flow_core.specs.Element.{Source, given, fed, nobody, element}
-use Rattle.flow_core.specs.Place.{Place}
-use Rattle.flow_core.specs.Streams.{input_source, produced_source, stream_source}
-use Rattle.flow_core.specs.Plans.{plan_reads, sink_elements}
+use Rattle.flow_core_laws.specs.declared.activation.Activation.{Activation}
+use Rattle.flow_core_laws.specs.declared.plan.Plan.{Plan}
+use Rattle.flow_core_laws.specs.declared.outcome.Outcome.{Outcome}
+use Rattle.flow_core_laws.specs.Outcome.{State}
+use Rattle.flow_core_laws.specs.Element.{Source, given, fed, nobody, element}
+use Rattle.flow_core_laws.specs.Place.{Place}
+use Rattle.flow_core_laws.specs.Streams.{input_source, produced_source, stream_source}
+use Rattle.flow_core_laws.specs.Plans.{plan_reads, sink_elements}
 use Rattle.flow_core_epochs.specs.Epoch.{Kept, value_kept, among, epoch_source, written_places, leaving_places, read_from}
 use Rattle.flow_core_epochs.proofs.Members.{Has, of_filter, of_flat_map, has_tail}
 use Rattle.flow_core_epochs.proofs.Written.{written_source}

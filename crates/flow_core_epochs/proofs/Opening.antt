@@ -1,10 +1,10 @@
 -- What an epoch gives to the proofs.
 use Rattle.std.proofs.Common.{ℕ, ℤ, List, ◌++◌, length}
-use Rattle.flow_core.specs.declared.activation.Activation.{Activation}
-use Rattle.flow_core.specs.declared.plan.Plan.{Plan}
-use Rattle.flow_core.specs.declared.outcome.Outcome.{Outcome}
-use Rattle.flow_core.specs.Place.{Place}
-use Rattle.flow_core.specs.Streams.{stream_meaning}
+use Rattle.flow_core_laws.specs.declared.activation.Activation.{Activation}
+use Rattle.flow_core_laws.specs.declared.plan.Plan.{Plan}
+use Rattle.flow_core_laws.specs.declared.outcome.Outcome.{Outcome}
+use Rattle.flow_core_laws.specs.Place.{Place}
+use Rattle.flow_core_laws.specs.Streams.{stream_meaning}
 use Rattle.flow_core_epochs.specs.Epoch.{Kept, IsEpoch}
 use Rattle.flow_core_epochs.proofs.Frames.{AreOpen-frames}
 use Rattle.flow_core_epochs.proofs.Epochs.{HasEpoch}

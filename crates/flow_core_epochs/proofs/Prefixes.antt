@@ -5,20 +5,20 @@ use Rattle.std.specs.List.{flat_map}
 use Rattle.std.specs.Option.{option_map, option_map_or}
 use Rattle.std.proofs.lemmas.List.{take-append-le, length-append}
 use Rattle.std.proofs.lemmas.Option.{slice_get-get_or}
-use Rattle.flow_core.specs.declared.claim.Claim.{Claim}
-use Rattle.flow_core.specs.declared.activation.Activation.{Activation}
-use Rattle.flow_core.specs.declared.outcome.Outcome.{Outcome}
-use Rattle.flow_core.specs.Outcome.{State, outcome_at}
-use Rattle.flow_core.specs.Element.{fed, nobody, element}
-use Rattle.flow_core.specs.FirstPosition.{first_position}
-use Rattle.flow_core.specs.Window.{Window, windows, windows_behind, claims_of, claims_at, no_claim, offset_after, is_written_by, producer}
-use Rattle.flow_core.specs.Place.{Place, input_places, places_of}
-use Rattle.flow_core.specs.Streams.{input_source, produced_source, stream_source, stream_reads, stream_meaning}
-use Rattle.flow_core.specs.Round.{gathered, inputs_in}
-use Rattle.flow_core.proofs.Sources.{find_passes}
-use Rattle.flow_core.proofs.Stretches.{slice_get-append_left}
-use Rattle.flow_core.proofs.Windows.{is_window, window_stands, claims_at-slice_get, producer_of}
-use Rattle.flow_core.proofs.Rounds.{Extends, element-extends, outcome_at-meaning}
+use Rattle.flow_core_laws.specs.declared.claim.Claim.{Claim}
+use Rattle.flow_core_laws.specs.declared.activation.Activation.{Activation}
+use Rattle.flow_core_laws.specs.declared.outcome.Outcome.{Outcome}
+use Rattle.flow_core_laws.specs.Outcome.{State, outcome_at}
+use Rattle.flow_core_laws.specs.Element.{fed, nobody, element}
+use Rattle.flow_core_laws.specs.FirstPosition.{first_position}
+use Rattle.flow_core_laws.specs.Window.{Window, windows, windows_behind, claims_of, claims_at, no_claim, offset_after, is_written_by, producer}
+use Rattle.flow_core_laws.specs.Place.{Place, input_places, places_of}
+use Rattle.flow_core_laws.specs.Streams.{input_source, produced_source, stream_source, stream_reads, stream_meaning}
+use Rattle.flow_core_laws.specs.Round.{gathered, inputs_in}
+use Rattle.flow_core_laws.proofs.Sources.{find_passes}
+use Rattle.flow_core_laws.proofs.Stretches.{slice_get-append_left}
+use Rattle.flow_core_laws.proofs.Windows.{is_window, window_stands, claims_at-slice_get, producer_of}
+use Rattle.flow_core_laws.proofs.Rounds.{Extends, element-extends, outcome_at-meaning}
 use Rattle.flow_core_epochs.proofs.Holding.{gathered_both, holds_in_meaning}
 
 pub no_activation : Activation

@@ -8,8 +8,8 @@ use Rattle.std.proofs.lemmas.Bool.{cases_lt, cases_eq, eq-eqb, eqb-true}
 use Rattle.std.proofs.lemmas.List.{same_lists, get_or-set_same, get_or-set_other, get_or_default, append-nil}
 use Rattle.std.proofs.lemmas.List.FromFn.{get_or-map-range_with_len, length-map-range_with_len}
 use Rattle.std.proofs.lemmas.Option.{same_Some, slice_get_within, slice_get-get_or}
-use Rattle.flow_core.specs.Outcome.{outcome_at}
-use Rattle.flow_core.proofs.Sources.{position_only}
+use Rattle.flow_core_laws.specs.Outcome.{outcome_at}
+use Rattle.flow_core_laws.proofs.Sources.{position_only}
 use Rattle.flow_core_epochs.specs.Epoch.{open_in, number_in, put_over}
 use Rattle.flow_core_epochs.proofs.Frames.{numbers_back}
 

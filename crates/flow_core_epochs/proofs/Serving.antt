@@ -4,13 +4,13 @@ use Rattle.std.specs.Prelude.{slice_get, slice_index, All}
 use Rattle.std.proofs.lemmas.List.{length-map}
 use Rattle.std.proofs.lemmas.List.FromFn.{length-map-range_with_len}
 use Rattle.std.proofs.lemmas.Option.{slice_get-get_or}
-use Rattle.flow_core.specs.declared.activation.Activation.{Activation}
-use Rattle.flow_core.specs.declared.outcome.Outcome.{Outcome}
-use Rattle.flow_core.specs.declared.plan.Plan.{Plan}
-use Rattle.flow_core.specs.Place.{Place, input_places}
-use Rattle.flow_core.specs.Plans.{cell_source, frame_at}
-use Rattle.flow_core.specs.Serves.{Serves}
-use Rattle.flow_core.specs.Streams.{output_count}
+use Rattle.flow_core_laws.specs.declared.activation.Activation.{Activation}
+use Rattle.flow_core_laws.specs.declared.outcome.Outcome.{Outcome}
+use Rattle.flow_core_laws.specs.declared.plan.Plan.{Plan}
+use Rattle.flow_core_laws.specs.Place.{Place, input_places}
+use Rattle.flow_core_laws.specs.Plans.{cell_source, frame_at}
+use Rattle.flow_core_laws.specs.Serves.{Serves}
+use Rattle.flow_core_laws.specs.Streams.{output_count}
 use Rattle.flow_core_epochs.specs.Epoch.{Kept, StandsForEpoch, ServesAll, epoch_source}
 use Rattle.flow_core_epochs.proofs.Prefixes.{no_activation}
 

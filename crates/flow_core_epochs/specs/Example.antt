@@ -2,13 +2,13 @@
 -- there waits. In the second one a second writer puts 9 behind them, and the reader gives the sum to the
 -- output: it is frame 0, reads 8 from what was kept, and 9 from frame 1.
 use Rattle.std.specs.Prelude.{ℕ, ℤ, pos, ◌+ℤ◌, true, false, ◌==◌, if◌then◌else◌, List, [], ◌∷◌, Some, None, fold}
-use Rattle.flow_core.specs.declared.claim.Claim.{Claim}
-use Rattle.flow_core.specs.declared.activation.Activation.{Activation}
-use Rattle.flow_core.specs.declared.outcome.Outcome.{Outcome}
-use Rattle.flow_core.specs.declared.task_end.TaskEnd.TheVariants.{Done}
-use Rattle.flow_core.specs.declared.plan.Plan.{Plan}
-use Rattle.flow_core.specs.Outcome.{outcome_of}
-use Rattle.flow_core.specs.Place.{Place}
+use Rattle.flow_core_laws.specs.declared.claim.Claim.{Claim}
+use Rattle.flow_core_laws.specs.declared.activation.Activation.{Activation}
+use Rattle.flow_core_laws.specs.declared.outcome.Outcome.{Outcome}
+use Rattle.flow_core_laws.specs.declared.task_end.TaskEnd.TheVariants.{Done}
+use Rattle.flow_core_laws.specs.declared.plan.Plan.{Plan}
+use Rattle.flow_core_laws.specs.Outcome.{outcome_of}
+use Rattle.flow_core_laws.specs.Place.{Place}
 use Rattle.flow_core_epochs.specs.Epoch.{Kept}
 
 abbrev pub writes : ℕ → ℕ → Claim

@@ -1,16 +1,16 @@
 -- The laws of runs in parts, as statements.
 use Rattle.std.specs.Prelude.{◌≡◌, ℕ, ℤ, ◌≤◌, ◌<◌, ◌⊎◌, List, [], ◌++◌, Option, Some, All, Contains, slice_get, slice_index, map, length}
-use Rattle.flow_core.specs.declared.activation.Activation.{Activation}
-use Rattle.flow_core.specs.declared.plan.Plan.{Plan}
-use Rattle.flow_core.specs.declared.outcome.Outcome.{Outcome}
-use Rattle.flow_core.specs.declared.task_end.TaskEnd.{TaskEnd}
-use Rattle.flow_core.specs.declared.ends.Ends.{Ends}
-use Rattle.flow_core.specs.Outcome.{outcome_at, ends_of}
-use Rattle.flow_core.specs.Element.{element}
-use Rattle.flow_core.specs.Place.{Place, input_places}
-use Rattle.flow_core.specs.Streams.{stream_source, stream_meaning}
-use Rattle.flow_core.specs.Plans.{sink_elements}
-use Rattle.flow_core.specs.Serves.{Serves}
+use Rattle.flow_core_laws.specs.declared.activation.Activation.{Activation}
+use Rattle.flow_core_laws.specs.declared.plan.Plan.{Plan}
+use Rattle.flow_core_laws.specs.declared.outcome.Outcome.{Outcome}
+use Rattle.flow_core_laws.specs.declared.task_end.TaskEnd.{TaskEnd}
+use Rattle.flow_core_laws.specs.declared.ends.Ends.{Ends}
+use Rattle.flow_core_laws.specs.Outcome.{outcome_at, ends_of}
+use Rattle.flow_core_laws.specs.Element.{element}
+use Rattle.flow_core_laws.specs.Place.{Place, input_places}
+use Rattle.flow_core_laws.specs.Streams.{stream_source, stream_meaning}
+use Rattle.flow_core_laws.specs.Plans.{sink_elements}
+use Rattle.flow_core_laws.specs.Serves.{Serves}
 use Rattle.flow_core_epochs.specs.Epoch.{Kept, open_in, put_over, IsKeptFor, StandsForEpoch, IsEpoch, epoch_meaning, read_from, carried_over, IsCarried, IsOutside, ReadNoOutput, IsHeld, IsHeldAfter, ServesAll}
 
 -- an activation with an outcome has the same one with more activations behind

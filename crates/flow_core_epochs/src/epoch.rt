@@ -1,11 +1,8 @@
-ghost use Rattle.std.specs.Prelude.{◌≡◌, ◌<◌, ℕ, Some, IfOk, OnOk, is_none, length, slice_get, slice_index};
-ghost use Rattle.flow_core.specs.Outcome.{outcome_at, ends_of};
-ghost use Rattle.flow_core.specs.IsSound.{IsSound};
-ghost use Rattle.flow_core.specs.Serves.{Serves};
-ghost use Rattle.flow_core.specs.Plans.{sink_elements};
-ghost use Rattle.flow_core_epochs.specs.Epoch.{open_in, put_over, epoch_meaning};
+ghost use Rattle.std.specs.Prelude.{◌≡◌, ◌<◌, ℕ, Some, IfOk, is_none, length, slice_get};
+ghost use Rattle.flow_core_laws.specs.Outcome.{outcome_at};
+ghost use Rattle.flow_core_epochs.specs.Epoch.{open_in, put_over};
 
-use flow_core::{Bodies, Ends, Plan, TaskEnd, execute_one};
+use flow_core_laws::{Bodies, TaskEnd};
 use os_io::{List, Memory};
 use std::alloc::Global;
 
@@ -64,22 +61,6 @@ pub fn open_frames(alloc: Global, ends: &[Option<TaskEnd>], count: u32) -> Resul
         }
     }
     Ok(frames)
-}
-
-/// Runs the plan of an epoch.
-pub fn run_frames<B: Bodies>(
-    alloc: Global,
-    plan: &Plan,
-    frames: &[u32],
-    bodies: &B,
-) -> Result<Ends, Memory>
-    requires sound { IsSound plan.now }
-    requires served { Serves plan.now (λ f. B.outcome bodies.now (slice_index frames.now f)) (λ f inputs outputs. (f < length frames.now) × B.takes bodies.now (slice_index frames.now f) inputs outputs) }
-    ensures ends { IfOk result (λ e. e.ends ≡ ends_of (epoch_meaning plan.now frames.now (B.outcome bodies.now))) }
-    ensures output { IfOk result (λ e. e.output ≡ sink_elements plan.now (epoch_meaning plan.now frames.now (B.outcome bodies.now))) }
-{
-    let ends = execute_one(alloc, plan, &FrameBodies { bodies, frames })?;
-    Ok(ends)
 }
 
 /// Puts the ends of frames over those of all activations.

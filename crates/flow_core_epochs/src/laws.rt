@@ -1,15 +1,15 @@
 //! The laws. Each is a call that does nothing and ensures its law.
 
 ghost use Rattle.std.specs.Prelude.{◌≡◌, [], ◌∷◌, Some, pos};
-ghost use Rattle.flow_core.specs.declared.task_end.TaskEnd.TheVariants.{Done};
-ghost use Rattle.flow_core.specs.Outcome.{outcome_of};
-ghost use Rattle.flow_core.specs.Streams.{stream_meaning};
-ghost use Rattle.flow_core.specs.IsSound.{IsSound};
+ghost use Rattle.flow_core_laws.specs.declared.task_end.TaskEnd.TheVariants.{Done};
+ghost use Rattle.flow_core_laws.specs.Outcome.{outcome_of};
+ghost use Rattle.flow_core_laws.specs.Streams.{stream_meaning};
+ghost use Rattle.flow_core_laws.specs.IsSound.{IsSound};
 ghost use Rattle.flow_core_epochs.specs.Epoch.{IsEpoch, put_over, epoch_meaning};
 ghost use Rattle.flow_core_epochs.specs.Example as example;
 ghost use Rattle.flow_core_epochs.specs.Laws.{KeepsPrefixes, AddsUp, FramesEnd, SinkIsWhatLeaves, ReadsLieBehind, NothingAtFirst, ServesNext, CarriesOver, OutputStays, HeldAtFirst, BeginsEpoch, EndsEpoch, ServesFrames};
 
-use flow_core::Bodies;
+use flow_core_laws::Bodies;
 
 /// An outcome stays the same as more activations come.
 pub fn prefix_law()

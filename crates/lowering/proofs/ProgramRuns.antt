@@ -3,7 +3,7 @@ use Rattle.std.proofs.Common.{◌≡◌, ◌∙◌, ◌+◌, Bool, true, false, 
 use Rattle.std.specs.Prelude.{filter, sum_by}
 use Rattle.std.proofs.lemmas.List.Sums.{sum_by-append}
 use Rattle.cddf_meaning.specs.Moves.{read_horizons}
-use Rattle.flow_core.specs.declared.claim.Claim.{Claim}
+use Rattle.flow_core_laws.specs.declared.claim.Claim.{Claim}
 use Rattle.lowering.specs.Meanings.{RunsBodies, RunsControl}
 use Rattle.os_ast.specs.Trees as tree
 use Rattle.os_code.proofs.Halting.{main_ends, tasks_end}

@@ -2,7 +2,7 @@
 use Rattle.std.specs.Prelude.{◌≡◌, ℕ, ℤ, List, length}
 use Rattle.cddf_meaning.specs.Body.{body}
 use Rattle.cddf_meaning.specs.Control as meaning
-use Rattle.flow_core.specs.declared.activation.Activation.{Activation}
+use Rattle.flow_core_laws.specs.declared.activation.Activation.{Activation}
 use Rattle.os_ast.specs.Trees.{ProgramTree}
 use Rattle.os_code.specs.Outcomes.{control, task_outcome}
 use Rattle.os_code.specs.Tasks.{Fits, input_count}

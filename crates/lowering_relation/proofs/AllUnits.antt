@@ -6,7 +6,7 @@ use Rattle.std.proofs.lemmas.Option.{slice_get_within, slice_get-map}
 use Rattle.std.specs.Option.{option_map}
 use Rattle.std.specs.Prelude.{◌⊎◌}
 use Rattle.cddf_meaning.specs.Tasks.{Task as MeaningTask, task_at, tasks_in_all}
-use Rattle.flow_core.proofs.Stretches.{slice_get-append_left}
+use Rattle.flow_core_laws.proofs.Stretches.{slice_get-append_left}
 use Rattle.os_ast.specs.Leveled.{IsLeveled}
 use Rattle.os_ast.specs.Marks.{HasPlaces}
 use Rattle.os_ast.specs.Names.{Scope, main_id}

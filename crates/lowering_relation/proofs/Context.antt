@@ -7,8 +7,8 @@ use Rattle.cddf_meaning.specs.State.{State}
 use Rattle.cddf_meaning.specs.Variables.{find}
 use Rattle.cddf_meaning.specs.declared.variable.Variable.{Variable}
 use Rattle.cddf_meaning.specs.declared.variable.Variable.TheVariants as variable
-use Rattle.flow_core.specs.declared.activation.Activation.{Activation}
-use Rattle.flow_core.specs.declared.claim.Claim.{Claim}
+use Rattle.flow_core_laws.specs.declared.activation.Activation.{Activation}
+use Rattle.flow_core_laws.specs.declared.claim.Claim.{Claim}
 use Rattle.os_ast.specs.Meanings.{meaning_in, resolved}
 use Rattle.os_ast.specs.Names.{Scope, lookup, entity_of}
 use Rattle.os_ast.specs.Notes.Kinds.{Note, Used}

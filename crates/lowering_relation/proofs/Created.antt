@@ -3,9 +3,9 @@ use Rattle.std.proofs.Common.{◌≡◌, ℕ, ◌+◌, ◌<◌, Bool, true, fals
 use Rattle.std.proofs.lemmas.List.{set-append_left, get_or_append_left}
 use Rattle.std.proofs.lemmas.List.Sums.{sum_by-append, sum_by-cons}
 use Rattle.cddf_meaning.specs.Claims.{with_skip, skips_behind, with_skips, skips_behind_all, horizons, all_horizons}
-use Rattle.flow_core.specs.declared.activation.Activation.{Activation}
-use Rattle.flow_core.specs.declared.claim.Claim.{Claim}
-use Rattle.flow_core.specs.Window.{claims_of}
+use Rattle.flow_core_laws.specs.declared.activation.Activation.{Activation}
+use Rattle.flow_core_laws.specs.declared.claim.Claim.{Claim}
+use Rattle.flow_core_laws.specs.Window.{claims_of}
 use Rattle.os_code.specs.Machine as machine
 use Rattle.os_code.specs.Machine.{horizon_sum, claims_with_skips, skips_after, skips_after_all}
 use Rattle.lowering_relation.proofs.ItemClaims.{AllBelow}

@@ -7,8 +7,8 @@ use Rattle.cddf_meaning.specs.Body.{body, chosen_outcome, outcome_in, task_outco
 use Rattle.cddf_meaning.specs.Functions.{empty_file, file_of}
 use Rattle.cddf_meaning.specs.Moves.{read_horizons, written_horizons}
 use Rattle.cddf_meaning.specs.Program.{Main}
-use Rattle.flow_core.specs.declared.claim.Claim.{Claim}
-use Rattle.flow_core.specs.declared.outcome.Outcome.{Outcome}
+use Rattle.flow_core_laws.specs.declared.claim.Claim.{Claim}
+use Rattle.flow_core_laws.specs.declared.outcome.Outcome.{Outcome}
 use Rattle.os_ast.specs.Notes.Programs as notes
 use Rattle.lowering_relation.proofs.SamePlaces.{main_in}
 use Rattle.lowering_relation.proofs.Sited.{has_task}

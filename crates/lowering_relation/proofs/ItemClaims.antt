@@ -10,7 +10,7 @@ use Rattle.cddf_meaning.specs.State.{State}
 use Rattle.cddf_meaning.specs.Streams.{horizon_of, output_burst, burst_of, burst, claim_of, joined, item_claim, items_claims}
 use Rattle.cddf_meaning.specs.Variables.{find}
 use Rattle.cddf_meaning.specs.declared.ending.Ending.TheVariants as ending
-use Rattle.flow_core.specs.declared.claim.Claim.{Claim}
+use Rattle.flow_core_laws.specs.declared.claim.Claim.{Claim}
 use Rattle.os_ast.specs.Names.{Scope}
 use Rattle.os_ast.specs.Notes.Clauses.{shape_of, window_notes, part_notes, parts_notes}
 use Rattle.os_ast.specs.Notes.Expressions.{place_notes, index_notes}

@@ -9,8 +9,8 @@ use Rattle.cddf_meaning.specs.Program.{Main, main_at, main_behind, main_of}
 use Rattle.cddf_meaning.specs.Run.{run_all}
 use Rattle.cddf_meaning.specs.Tasks.{tasks_in_all, sites_of}
 use Rattle.cddf_meaning.specs.declared.site.Site.{Site}
-use Rattle.flow_core.specs.declared.control.Control.{Control}
-use Rattle.flow_core.proofs.Stretches.{slice_get-append_left}
+use Rattle.flow_core_laws.specs.declared.control.Control.{Control}
+use Rattle.flow_core_laws.proofs.Stretches.{slice_get-append_left}
 use Rattle.os_ast.specs.Names.{Scope, main_id, osin_id, osout_id, osin_len_id}
 use Rattle.os_ast.specs.Notes.Programs.{owner_of, param_names, round_body, after_params, after_item, in_body, items_notes}
 use Rattle.os_ast.specs.Notes.Programs as programs

@@ -5,7 +5,7 @@ use Rattle.std.specs.Option.{option_map}
 use Rattle.cddf_meaning.specs.Streams.{task_number, captured_by}
 use Rattle.cddf_meaning.specs.Tasks.{Task as MeaningTask, task_at, tasks_in, tasks_in_all, sites_of}
 use Rattle.cddf_meaning.specs.declared.site.Site.{Site as MeaningSite}
-use Rattle.flow_core.proofs.Stretches.{slice_get-append_left, slice_get-append_right}
+use Rattle.flow_core_laws.proofs.Stretches.{slice_get-append_left, slice_get-append_right}
 use Rattle.os_ast.specs.Captured.{Scalar, captured, slots_of}
 use Rattle.os_ast.specs.Leveled.{IsStmt, AreStmts}
 use Rattle.os_ast.specs.Names.{Scope, enter, in_loop}

@@ -12,8 +12,8 @@ use Rattle.cddf_meaning.specs.Tasks.{Task, task_at, tasks_in_all, sites_of}
 use Rattle.cddf_meaning.specs.Variables.{bind, find}
 use Rattle.cddf_meaning.specs.declared.variable.Binding.{Binding}
 use Rattle.cddf_meaning.specs.declared.variable.Variable.TheVariants.{Scalar, Item}
-use Rattle.flow_core.specs.declared.activation.Activation.{Activation}
-use Rattle.flow_core.specs.declared.claim.Claim.{Claim}
+use Rattle.flow_core_laws.specs.declared.activation.Activation.{Activation}
+use Rattle.flow_core_laws.specs.declared.claim.Claim.{Claim}
 use Rattle.os_ast.specs.Captured as captures
 use Rattle.os_ast.specs.Captured.{captured}
 use Rattle.os_ast.specs.Leveled.{AreAll, IsItem}

@@ -23,7 +23,7 @@ use Rattle.cddf_meaning.specs.declared.flow.Flow.TheVariants.{GoesOn, Breaks, Co
 use Rattle.cddf_meaning.specs.declared.site.Site.{Site}
 use Rattle.cddf_meaning.specs.declared.variable.Variable.{Variable}
 use Rattle.cddf_meaning.specs.declared.variable.Variable.TheVariants.{Constant, Function, Scalar, Array, Window, Stream, Item}
-use Rattle.flow_core.specs.declared.activation.Activation.{Activation}
+use Rattle.flow_core_laws.specs.declared.activation.Activation.{Activation}
 use Rattle.os_ast.specs.Parts.{Part, parts}
 use Rattle.os_ast.specs.Trees as tree
 use Rattle.os_ast.specs.declared.expr.Mark.{Mark}

@@ -8,9 +8,9 @@ use Rattle.cddf_meaning.specs.Streams.{captured_values, with_activation, unless_
 use Rattle.cddf_meaning.specs.Value.{scalar_value}
 use Rattle.cddf_meaning.specs.declared.ending.Ending.TheVariants as ending
 use Rattle.cddf_meaning.specs.declared.site.Site.{Site as MeaningSite}
-use Rattle.flow_core.specs.declared.activation.Activation.{Activation}
-use Rattle.flow_core.specs.declared.claim.Claim.{Claim}
-use Rattle.flow_core.specs.Window.{claims_of}
+use Rattle.flow_core_laws.specs.declared.activation.Activation.{Activation}
+use Rattle.flow_core_laws.specs.declared.claim.Claim.{Claim}
+use Rattle.flow_core_laws.specs.Window.{claims_of}
 use Rattle.os_ast.specs.Captured.{Scalar, captured, slots_of}
 use Rattle.os_ast.specs.Names.{Scope, lookup, entity_of}
 use Rattle.os_ast.specs.Notes.Clauses.{in_task_body, parts_notes, clauses_notes}

@@ -10,7 +10,7 @@ use Rattle.cddf_meaning.specs.Answers.{Answer, traps, and_then, at_line, Left, l
 use Rattle.cddf_meaning.specs.Value.{checked}
 use Rattle.cddf_meaning.specs.declared.ending.Ending.{Ending}
 use Rattle.cddf_meaning.specs.declared.ending.Ending.TheVariants as ending
-use Rattle.flow_core.specs.declared.activation.Activation.{Activation}
+use Rattle.flow_core_laws.specs.declared.activation.Activation.{Activation}
 use Rattle.os_code.specs.declared.instr.Instr.{Instr}
 use Rattle.os_code.specs.declared.instr.Instr.TheVariants as instr
 use Rattle.os_code.specs.declared.parts.Parts.{Parts}

@@ -11,8 +11,8 @@ use Rattle.cddf_meaning.specs.Program.{Main, main_at, main_behind, main_of}
 use Rattle.cddf_meaning.specs.Tasks.{Task as MeaningTask, task_at, tasks_in_all}
 use Rattle.cddf_meaning.specs.declared.ending.Ending.{Ending}
 use Rattle.cddf_meaning.specs.declared.ending.Ending.TheVariants as ending
-use Rattle.flow_core.specs.declared.activation.Activation.{Activation}
-use Rattle.flow_core.specs.declared.outcome.Outcome.{Outcome}
+use Rattle.flow_core_laws.specs.declared.activation.Activation.{Activation}
+use Rattle.flow_core_laws.specs.declared.outcome.Outcome.{Outcome}
 use Rattle.os_ast.specs.Names.{Scope, enter, in_unit, main_id}
 use Rattle.os_ast.specs.Notes.Declarators.{scalar_entity}
 use Rattle.os_ast.specs.Notes.Programs.{owner_of, param_names, round_body, after_param, after_params, after_item, in_body, program_notes, items_notes}

@@ -9,8 +9,8 @@ use Rattle.cddf_meaning.specs.Moves.{read_horizons}
 use Rattle.cddf_meaning.specs.Variables.{bind}
 use Rattle.cddf_meaning.specs.declared.variable.Binding.{Binding}
 use Rattle.cddf_meaning.specs.declared.variable.Variable.TheVariants as variable
-use Rattle.flow_core.specs.Byte.{is_byte}
-use Rattle.flow_core.specs.declared.claim.Claim.{Claim}
+use Rattle.flow_core_laws.specs.Byte.{is_byte}
+use Rattle.flow_core_laws.specs.declared.claim.Claim.{Claim}
 use Rattle.os_ast.specs.Captured.{Scalar, slots_of}
 use Rattle.os_ast.specs.Meanings.{meaning_in, place_in}
 use Rattle.os_ast.specs.Names.{Scope, lookup, entity_of}

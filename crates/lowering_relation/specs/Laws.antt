@@ -3,11 +3,11 @@ use Rattle.std.specs.Prelude.{◌≡◌, ℕ, ◌≤◌, List, [], length, slice
 use Rattle.cddf_meaning.specs.Body.{body}
 use Rattle.cddf_meaning.specs.Control.{control}
 use Rattle.cddf_meaning.specs.Moves.{read_horizons}
-use Rattle.flow_core.specs.declared.activation.Activation.{Activation}
-use Rattle.flow_core.specs.declared.control.Control.{Control}
-use Rattle.flow_core.specs.declared.outcome.Outcome.{Outcome}
-use Rattle.flow_core.specs.declared.task_end.TaskEnd.TheVariants.{Done}
-use Rattle.flow_core.specs.Streams.{output_count}
+use Rattle.flow_core_laws.specs.declared.activation.Activation.{Activation}
+use Rattle.flow_core_laws.specs.declared.control.Control.{Control}
+use Rattle.flow_core_laws.specs.declared.outcome.Outcome.{Outcome}
+use Rattle.flow_core_laws.specs.declared.task_end.TaskEnd.TheVariants.{Done}
+use Rattle.flow_core_laws.specs.Streams.{output_count}
 use Rattle.os_ast.specs.Leveled.{IsLeveled}
 use Rattle.os_ast.specs.Marks.{HasPlaces}
 use Rattle.os_ast.specs.Trees as tree

@@ -1,7 +1,7 @@
 //! Control programs that were worked out by hand: what they make, and how they end.
 
 use crate::main_runs::run_written;
-use flow_core::{Claim, Control, ControlEnd};
+use flow_core_laws::{Claim, Control, ControlEnd};
 use os_code::{Binary, Instr, SiteItem, Unit};
 use os_io::Memory;
 use std::alloc::Global;

@@ -6,7 +6,7 @@ ghost use Rattle.machine_tests.specs.Written.{written};
 
 use crate::written::code_of;
 use control_run::run_control;
-use flow_core::Control;
+use flow_core_laws::Control;
 use os_code::{Instr, SiteItem, Unit};
 use os_io::Memory;
 use std::alloc::Global;

@@ -5,7 +5,7 @@ ghost use Rattle.os_code.specs.Checking.{is_valid};
 ghost use Rattle.machine_tests.specs.Written.{is_run, written};
 
 use crate::written::{code_of, list_of};
-use flow_core::{Activation, Claim, TaskEnd};
+use flow_core_laws::{Activation, Claim, TaskEnd};
 use os_code::{Instr, SiteItem, Unit};
 use os_io::Memory;
 use std::alloc::Global;

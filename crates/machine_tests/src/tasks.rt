@@ -10,7 +10,7 @@ mod table;
 
 use crate::task_runs::{Ran, run_twice};
 use alone::run_alone;
-use flow_core::{Claim, TaskEnd};
+use flow_core_laws::{Claim, TaskEnd};
 use os_code::{Binary, Instr, SiteItem, Unary, Unit};
 use os_io::Memory;
 use std::alloc::Global;

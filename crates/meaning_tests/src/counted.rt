@@ -1,6 +1,6 @@
 //! Control programs with as many activations, and windows of as many elements, as there may be.
 
-use flow_core::ControlEnd;
+use flow_core_laws::ControlEnd;
 
 /// A program, the length of its input, a budget, how many activations there are, and the end.
 pub type Counted = (&'static str, u32, u64, usize, ControlEnd);

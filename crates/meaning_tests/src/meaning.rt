@@ -8,7 +8,7 @@ use crate::flows::FLOWS;
 use crate::programs::PROGRAMS;
 use crate::values::{FUNCTIONS, TABLE};
 use cddf_meaning_plain::{plain_body, plain_control};
-use flow_core::{Activation, Claim, Control, ControlEnd, TaskEnd};
+use flow_core_laws::{Activation, Claim, Control, ControlEnd, TaskEnd};
 use front_end::read_program;
 use os_ast::Program;
 use std::alloc::Global;

@@ -2,8 +2,8 @@
 use Rattle.std.proofs.Common.{◌≡◌, ◌∙◌, ◌*◌, ◌≤◌, ℕ, List, ap, ap₂, arith, length}
 use Rattle.std.proofs.lemmas.List.FromFn.{length-map-range_with_len}
 use Rattle.collector.specs.Status.{status}
-use Rattle.flow_core.specs.declared.control.ControlEnd.{ControlEnd}
-use Rattle.flow_core.specs.declared.ends.Ends.{Ends}
+use Rattle.flow_core_laws.specs.declared.control.ControlEnd.{ControlEnd}
+use Rattle.flow_core_laws.specs.declared.ends.Ends.{Ends}
 use Rattle.front_end.specs.Texts.{IsAccepted}
 use Rattle.kernels.specs.Generated.{byte, generated}
 use Rattle.kernels.specs.declared.texts.TheConstants.{LIFT}

@@ -1,14 +1,14 @@
 ghost use Rattle.std.specs.Prelude.{◌≡◌, List};
 ghost use Rattle.collector.specs.Report.{report as report_of};
 ghost use Rattle.collector.specs.Status.{has_done, is_done_control, status as status_of};
-ghost use Rattle.flow_core.specs.declared.activation.Activation.{Activation};
+ghost use Rattle.flow_core_laws.specs.declared.activation.Activation.{Activation};
 ghost use Rattle.osrun_core_files.specs.HandsOver.{HandsOver};
 ghost use Rattle.osrun_core_files.specs.Status.{number_of};
 ghost use Rattle.stream_match.specs.Layout.{IsLayout, IsLayoutOf};
 
 use crate::status::Status;
 use collector::report_lines;
-use flow_core::{ControlEnd, Ends, TaskEnd};
+use flow_core_laws::{ControlEnd, Ends, TaskEnd};
 use os_io::{Sink, write_whole};
 use osrun_core_run::Run;
 

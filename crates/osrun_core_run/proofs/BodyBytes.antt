@@ -13,10 +13,10 @@ use Rattle.cddf_meaning.specs.Run.{Around, run}
 use Rattle.cddf_meaning.specs.State.{State, state_of}
 use Rattle.cddf_meaning.specs.Tasks.{Task}
 use Rattle.cddf_meaning.specs.declared.ending.Ending.TheVariants.{Trapped, OverBudget, Limited}
-use Rattle.flow_core.specs.Window.{offset_after}
-use Rattle.flow_core.specs.declared.activation.Activation.{Activation}
-use Rattle.flow_core.specs.declared.claim.Claim.{Claim}
-use Rattle.flow_core.specs.declared.outcome.Outcome.{Outcome}
+use Rattle.flow_core_laws.specs.Window.{offset_after}
+use Rattle.flow_core_laws.specs.declared.activation.Activation.{Activation}
+use Rattle.flow_core_laws.specs.declared.claim.Claim.{Claim}
+use Rattle.flow_core_laws.specs.declared.outcome.Outcome.{Outcome}
 use Rattle.os_ast.specs.Names.{Scope, main_id}
 use Rattle.os_ast.specs.Notes.Programs.{after_item}
 use Rattle.os_ast.specs.Notes.Programs as notes

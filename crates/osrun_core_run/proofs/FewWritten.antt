@@ -5,14 +5,14 @@ use Rattle.std.proofs.lemmas.List.{length-map}
 use Rattle.std.proofs.lemmas.List.Filters.{sum_by-filter_both}
 use Rattle.std.proofs.lemmas.List.FromFn.{length-map-range_with_len}
 use Rattle.collector.specs.Written.{byte_of, complete_prefix, written}
-use Rattle.flow_core.specs.declared.activation.Activation.{Activation}
-use Rattle.flow_core.specs.declared.claim.Claim.{Claim}
-use Rattle.flow_core.specs.Element.{element}
-use Rattle.flow_core.specs.FirstPosition.{is_write_to}
-use Rattle.flow_core.specs.Outcome.{State}
-use Rattle.flow_core.specs.Place.{output_places, written_count}
-use Rattle.flow_core.specs.Streams.{output_elements, stream_source}
-use Rattle.flow_core.specs.Window.{claims_of}
+use Rattle.flow_core_laws.specs.declared.activation.Activation.{Activation}
+use Rattle.flow_core_laws.specs.declared.claim.Claim.{Claim}
+use Rattle.flow_core_laws.specs.Element.{element}
+use Rattle.flow_core_laws.specs.FirstPosition.{is_write_to}
+use Rattle.flow_core_laws.specs.Outcome.{State}
+use Rattle.flow_core_laws.specs.Place.{output_places, written_count}
+use Rattle.flow_core_laws.specs.Streams.{output_elements, stream_source}
+use Rattle.flow_core_laws.specs.Window.{claims_of}
 use Rattle.stream_match.specs.Lawful.{AreLawful}
 
 prefix_short : (xs : List (Option ℤ)) → length (complete_prefix xs) ≤ length xs

@@ -7,14 +7,14 @@ use Rattle.collector.specs.Laws.{HasItsLines, OfFilled}
 use Rattle.collector.specs.Reported.{AreOfState}
 use Rattle.collector.specs.Status.{status}
 use Rattle.collector.specs.Written.{IsByteIfThere, written}
-use Rattle.flow_core.specs.Laws.{IsFilled}
-use Rattle.flow_core.specs.Place.{written_count}
-use Rattle.flow_core.specs.Streams.{stream_meaning}
-use Rattle.flow_core.specs.declared.activation.Activation.{Activation}
-use Rattle.flow_core.specs.declared.control.Control.{Control}
-use Rattle.flow_core.specs.declared.control.ControlEnd.{ControlEnd}
-use Rattle.flow_core.specs.declared.ends.Ends.{Ends}
-use Rattle.flow_core.specs.declared.outcome.Outcome.{Outcome}
+use Rattle.flow_core_laws.specs.Laws.{IsFilled}
+use Rattle.flow_core_laws.specs.Place.{written_count}
+use Rattle.flow_core_laws.specs.Streams.{stream_meaning}
+use Rattle.flow_core_laws.specs.declared.activation.Activation.{Activation}
+use Rattle.flow_core_laws.specs.declared.control.Control.{Control}
+use Rattle.flow_core_laws.specs.declared.control.ControlEnd.{ControlEnd}
+use Rattle.flow_core_laws.specs.declared.ends.Ends.{Ends}
+use Rattle.flow_core_laws.specs.declared.outcome.Outcome.{Outcome}
 use Rattle.os_ast.specs.Trees.{ProgramTree}
 use Rattle.lowering_relation.specs.Laws.{BodiesFill}
 use Rattle.task_bodies.specs.Laws.{FilledBodiesFill, OutputsAreBytes}

@@ -6,14 +6,14 @@ use Rattle.std.proofs.lemmas.List.Elements.{All-get_or}
 use Rattle.std.proofs.lemmas.Option.{get_or_from_slice_get, slice_get_within}
 use Rattle.cddf_meaning.specs.Body.{body, over_budget}
 use Rattle.collector.specs.Written.{IsByteIfThere}
-use Rattle.flow_core.specs.Laws.{MeansTheStreams, SinkIsTheOutput}
-use Rattle.flow_core.specs.Outcome.{ends_of}
-use Rattle.flow_core.specs.Plans.{plan_meaning, sink_elements}
-use Rattle.flow_core.specs.StandsFor.{StandsFor}
-use Rattle.flow_core.specs.Streams.{output_elements, stream_meaning}
-use Rattle.flow_core.specs.declared.activation.Activation.{Activation}
-use Rattle.flow_core.specs.declared.ends.Ends.{Ends}
-use Rattle.flow_core.specs.declared.plan.Plan.{Plan}
+use Rattle.flow_core_laws.specs.Laws.{MeansTheStreams, SinkIsTheOutput}
+use Rattle.flow_core_laws.specs.Outcome.{ends_of}
+use Rattle.flow_core_laws.specs.Plans.{plan_meaning, sink_elements}
+use Rattle.flow_core_laws.specs.StandsFor.{StandsFor}
+use Rattle.flow_core_laws.specs.Streams.{output_elements, stream_meaning}
+use Rattle.flow_core_laws.specs.declared.activation.Activation.{Activation}
+use Rattle.flow_core_laws.specs.declared.ends.Ends.{Ends}
+use Rattle.flow_core_laws.specs.declared.plan.Plan.{Plan}
 use Rattle.lowering.specs.Meanings.{RunsBodies}
 use Rattle.os_ast.specs.Trees.{ProgramTree}
 use Rattle.os_code.specs.Outcomes as machine
@@ -22,7 +22,7 @@ use Rattle.os_code.specs.declared.parts.Parts.{Parts}
 use Rattle.osrun_core_run.proofs.BodyBytes.{RunsKeep, body_gives}
 use Rattle.osrun_core_run.specs.Run.{body_at, ends_over}
 use Rattle.task_bodies.specs.Frames.{frame_outcome}
-use Rattle.flow_core.specs.Byte.{IsByte}
+use Rattle.flow_core_laws.specs.Byte.{IsByte}
 use Rattle.task_bodies.specs.Laws.{Agree, AgreeingBodiesMeanOne, GivesBytes, OutputsAreBytes}
 
 module _ (code : Parts) (p : ProgramTree) (activations : List Activation) (budget : ℕ) (runs : RunsBodies code p) (fit : All (Fits code) activations) where

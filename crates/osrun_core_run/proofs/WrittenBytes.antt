@@ -6,10 +6,10 @@ use Rattle.std.specs.List.{list_all}
 use Rattle.std.proofs.lemmas.Bool.{and_parts, ltb-true}
 use Rattle.std.proofs.lemmas.Int.{ints}
 use Rattle.std.proofs.lemmas.List.Sums.{sum_by-cons}
-use Rattle.flow_core.specs.Byte.{IsByte, is_byte}
+use Rattle.flow_core_laws.specs.Byte.{IsByte, is_byte}
 use Rattle.cddf_meaning.specs.Body.{gives_bytes, writes_output, outputs_of}
-use Rattle.flow_core.specs.Window.{is_alike, offset_after}
-use Rattle.flow_core.specs.declared.claim.Claim.{Claim}
+use Rattle.flow_core_laws.specs.Window.{is_alike, offset_after}
+use Rattle.flow_core_laws.specs.declared.claim.Claim.{Claim}
 
 -- an element of joined lists
 slice_get-first : {A : Type 0} (xs ys : List A) (i : ℕ) → i < length xs → slice_get (xs ++ ys) i ≡ slice_get xs i

@@ -5,8 +5,8 @@ use Rattle.collector.specs.Laws.{HasItsLines}
 use Rattle.collector.specs.Reported.{AreOfState}
 use Rattle.collector.specs.Status.{status}
 use Rattle.collector.specs.Written.{IsByteIfThere, written}
-use Rattle.flow_core.specs.Place.{written_count}
-use Rattle.flow_core.specs.declared.activation.Activation.{Activation}
+use Rattle.flow_core_laws.specs.Place.{written_count}
+use Rattle.flow_core_laws.specs.declared.activation.Activation.{Activation}
 use Rattle.os_ast.specs.Trees.{ProgramTree}
 use Rattle.os_code.specs.Tasks.{input_count}
 use Rattle.osrun_core_words.specs.Jobs.{Job}

@@ -3,11 +3,11 @@ use Rattle.std.specs.Prelude.{◌≡◌, ◌≤◌, ℕ, ℤ, IfSome, List, Opti
 use Rattle.std.specs.Option.{option_map_or}
 use Rattle.cddf_meaning.specs.Body.{body, over_budget}
 use Rattle.cddf_meaning.specs.Control.{control}
-use Rattle.flow_core.specs.Streams.{stream_ends, stream_meaning}
-use Rattle.flow_core.specs.declared.activation.Activation.{Activation}
-use Rattle.flow_core.specs.declared.control.Control.{Control}
-use Rattle.flow_core.specs.declared.ends.Ends.{Ends}
-use Rattle.flow_core.specs.declared.outcome.Outcome.{Outcome}
+use Rattle.flow_core_laws.specs.Streams.{stream_ends, stream_meaning}
+use Rattle.flow_core_laws.specs.declared.activation.Activation.{Activation}
+use Rattle.flow_core_laws.specs.declared.control.Control.{Control}
+use Rattle.flow_core_laws.specs.declared.ends.Ends.{Ends}
+use Rattle.flow_core_laws.specs.declared.outcome.Outcome.{Outcome}
 use Rattle.front_end.specs.Texts.{IsAccepted}
 use Rattle.os_ast.specs.Trees.{ProgramTree}
 use Rattle.osrun_core_words.specs.Jobs.{Job}

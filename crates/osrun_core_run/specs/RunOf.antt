@@ -2,9 +2,9 @@
 use Rattle.std.specs.Prelude.{◌≡◌, ◌≤◌, ℕ, List, length}
 use Rattle.cddf_meaning.specs.Control.{control}
 use Rattle.collector.specs.Written.{written}
-use Rattle.flow_core.specs.declared.control.Control.{Control}
-use Rattle.flow_core.specs.declared.control.ControlEnd.{ControlEnd}
-use Rattle.flow_core.specs.declared.ends.Ends.{Ends}
+use Rattle.flow_core_laws.specs.declared.control.Control.{Control}
+use Rattle.flow_core_laws.specs.declared.control.ControlEnd.{ControlEnd}
+use Rattle.flow_core_laws.specs.declared.ends.Ends.{Ends}
 use Rattle.os_ast.specs.Trees.{ProgramTree}
 use Rattle.osrun_core_run.specs.Run.{ends_over}
 use Rattle.osrun_core_words.specs.declared.job.Terms.{Terms}

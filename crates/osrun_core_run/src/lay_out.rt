@@ -2,7 +2,7 @@ ghost use Rattle.std.specs.Prelude.{◌≡◌, ◌≤◌, IfOk, length};
 ghost use Rattle.stream_match.specs.Lawful.{AreLawful};
 ghost use Rattle.stream_match.specs.Layout.{IsLayout, IsLayoutOf};
 
-use flow_core::Control;
+use flow_core_laws::Control;
 use os_code::Code;
 use os_io::Memory;
 use std::alloc::Global;

@@ -1,7 +1,7 @@
 ghost use Rattle.std.specs.Prelude.{◌≡◌, ◌≤◌, ℕ, List, All, IfOk};
 ghost use Rattle.collector.specs.Written.{IsByteIfThere};
-ghost use Rattle.flow_core.specs.IsSound.{IsSound};
-ghost use Rattle.flow_core.specs.StandsFor.{StandsFor};
+ghost use Rattle.flow_core_laws.specs.IsSound.{IsSound};
+ghost use Rattle.flow_core_laws.specs.StandsFor.{StandsFor};
 ghost use Rattle.lowering.specs.Meanings.{RunsBodies};
 ghost use Rattle.os_ast.specs.Trees.{ProgramTree};
 ghost use Rattle.os_code.specs.Codes.{parts_of};
@@ -9,7 +9,7 @@ ghost use Rattle.os_code.specs.Tasks.{Fits};
 ghost use Rattle.osrun_core_run.specs.Run.{ends_over};
 
 use cddf_meaning::laws::turns_never_grow;
-use flow_core::{Control, Ends, Plan, laws};
+use flow_core_laws::{Control, Ends, Plan, laws};
 use os_code::Code;
 use os_io::Memory;
 use osrun_core_words::Terms;

@@ -7,7 +7,7 @@ use crate::refusal::Refusal;
 use crate::run_tasks::run_tasks;
 use collector::output_bytes;
 use control_run::run_control;
-use flow_core::{ControlEnd, Ends};
+use flow_core_laws::{ControlEnd, Ends};
 use lowering::lower;
 use osrun_core_words::Terms;
 use std::alloc::Global;

@@ -1,11 +1,11 @@
 -- Bodies that write their last input, as often as the plan says; where some fail, each fifth traps and each fifth runs over its budget.
 use Rattle.std.specs.Prelude.{ℕ, ℤ, pos, ◌-◌, ◌%◌, ◌==◌, ◌&&◌, if◌then◌else◌, Bool, List, length, replicate, slice_index_or}
-use Rattle.flow_core.specs.declared.plan.Plan.{Plan}
-use Rattle.flow_core.specs.declared.outcome.Outcome.{Outcome}
-use Rattle.flow_core.specs.declared.task_end.TaskEnd.{TaskEnd}
-use Rattle.flow_core.specs.declared.task_end.TaskEnd.TheVariants.{Done, Trapped, OverBudget}
-use Rattle.flow_core.specs.Outcome.{outcome_of}
-use Rattle.flow_core.specs.Plans.{frame_at}
+use Rattle.flow_core_laws.specs.declared.plan.Plan.{Plan}
+use Rattle.flow_core_laws.specs.declared.outcome.Outcome.{Outcome}
+use Rattle.flow_core_laws.specs.declared.task_end.TaskEnd.{TaskEnd}
+use Rattle.flow_core_laws.specs.declared.task_end.TaskEnd.TheVariants.{Done, Trapped, OverBudget}
+use Rattle.flow_core_laws.specs.Outcome.{outcome_of}
+use Rattle.flow_core_laws.specs.Plans.{frame_at}
 
 abbrev pub end_of : Bool → ℕ → TaskEnd
 end_of some_fail frame = if some_fail && (frame % 5 == 1) then Trapped 3 frame else (if some_fail && (frame % 5 == 2) then OverBudget else Done)

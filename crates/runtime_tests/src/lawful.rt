@@ -1,8 +1,8 @@
 //! Layouts of activations, where these are lawful.
 
 ghost use Rattle.std.specs.Prelude.{◌≡◌, ◌+◌, ◌-◌, ◌^◌, ◌≤◌, All, IfOk, IfSome, length, min, sum_by, true};
-ghost use Rattle.flow_core.specs.declared.claim.Claim.{Claim};
-ghost use Rattle.flow_core.specs.Window.{claims_of};
+ghost use Rattle.flow_core_laws.specs.declared.claim.Claim.{Claim};
+ghost use Rattle.flow_core_laws.specs.Window.{claims_of};
 ghost use Rattle.stream_match.specs.Lawful.{IsLawfulClaim, AreLawful};
 ghost use Rattle.stream_match.specs.Layout.{IsLayout};
 

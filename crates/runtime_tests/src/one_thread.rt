@@ -1,8 +1,8 @@
 //! Plans that were written by hand, run on one thread.
 
 ghost use Rattle.std.specs.Prelude.{◌≡◌, ◌+◌, ◌<◌, ◌==◌, [], ◌∷◌, ℕ, pos, false, IsTrue, IfOk, ⊤, if◌then◌else◌, length, slice_index_or};
-ghost use Rattle.flow_core.specs.declared.task_end.TaskEnd.TheVariants.{Done};
-ghost use Rattle.flow_core.specs.Outcome.{outcome_of};
+ghost use Rattle.flow_core_laws.specs.declared.task_end.TaskEnd.TheVariants.{Done};
+ghost use Rattle.flow_core_laws.specs.Outcome.{outcome_of};
 
 use crate::lists::list_of;
 use crate::literals::{frame, piece};

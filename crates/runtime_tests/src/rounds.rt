@@ -1,6 +1,6 @@
 //! Runs of plans on several workers: the same ends and output elements as on one thread, and those that
 //! a count by hand gives.
-ghost use Rattle.flow_core.specs.IsSound.{IsSound};
+ghost use Rattle.flow_core_laws.specs.IsSound.{IsSound};
 
 mod lasts;
 

@@ -8,11 +8,11 @@ use Rattle.std.proofs.lemmas.Grind.{flat_map-append}
 use Rattle.std.proofs.lemmas.List.{append-nil, append_assoc, length-append, length-map, length-replicate, take-append-drop, take-append-le, take_all, take_more}
 use Rattle.std.proofs.lemmas.List.FromFn.{length-map-range_with_len, map-range_with_len_more}
 use Rattle.std.proofs.lemmas.List.Sums.{sum_by-append, sum_by_more_le}
-use Rattle.flow_core.specs.declared.claim.Claim.{Claim}
-use Rattle.flow_core.specs.declared.activation.Activation.{Activation}
-use Rattle.flow_core.specs.FirstPosition.{first_position}
-use Rattle.flow_core.specs.Window.{Window, windows, window_of, claims_of, claim_at, no_claim, offset_after}
-use Rattle.flow_core.proofs.Windows.{length-windows}
+use Rattle.flow_core_laws.specs.declared.claim.Claim.{Claim}
+use Rattle.flow_core_laws.specs.declared.activation.Activation.{Activation}
+use Rattle.flow_core_laws.specs.FirstPosition.{first_position}
+use Rattle.flow_core_laws.specs.Window.{Window, windows, window_of, claims_of, claim_at, no_claim, offset_after}
+use Rattle.flow_core_laws.proofs.Windows.{length-windows}
 use Rattle.stream_match.specs.declared.layout.Layout.{Layout}
 use Rattle.stream_match.specs.Lawful.{IsLawfulClaim, AreLawful}
 use Rattle.stream_match.specs.Layout.{span_of, claims_in, IsOfWindows, IsLayoutOf, starts_of}

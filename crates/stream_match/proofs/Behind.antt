@@ -7,9 +7,9 @@ use Rattle.std.proofs.lemmas.Grind.{flat_map-append}
 use Rattle.std.proofs.lemmas.List.{append-nil, append_assoc, map-append, take_more, take_all}
 use Rattle.std.proofs.lemmas.List.Sums.{sum_by-append, sum_by-cons, sum_by_more, sum_by-take-le}
 use Rattle.std.proofs.lemmas.Option.{slice_get-get_or, slice_get_within, get_or_from_slice_get}
-use Rattle.flow_core.specs.declared.plan.Piece.{Piece}
-use Rattle.flow_core.proofs.Stretches.{flat_map-range_more}
-use Rattle.flow_core.specs.Window.{Window, windows, windows_of}
+use Rattle.flow_core_laws.specs.declared.plan.Piece.{Piece}
+use Rattle.flow_core_laws.proofs.Stretches.{flat_map-range_more}
+use Rattle.flow_core_laws.specs.Window.{Window, windows, windows_of}
 use Rattle.flow_core_epochs.proofs.Members.{Has, of_map}
 use Rattle.flow_core_epochs.proofs.Written.{has_window}
 use Rattle.stream_match.specs.declared.span.Span.{Span}

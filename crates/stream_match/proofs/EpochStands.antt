@@ -10,16 +10,16 @@ use Rattle.std.proofs.lemmas.List.Elements.{filter-append}
 use Rattle.std.proofs.lemmas.List.FromFn.{get_or-map-range_with_len}
 use Rattle.std.proofs.lemmas.List.Quantifiers.{position-Some}
 use Rattle.std.proofs.lemmas.Option.{slice_get_within, get_or_from_slice_get, same_Some}
-use Rattle.flow_core.specs.declared.claim.Claim.{Claim}
-use Rattle.flow_core.specs.declared.activation.Activation.{Activation}
-use Rattle.flow_core.specs.declared.plan.FramePlan.{FramePlan}
-use Rattle.flow_core.specs.declared.plan.Plan.{Plan}
-use Rattle.flow_core.specs.Element.{given, fed, nobody}
-use Rattle.flow_core.specs.Window.{Window, windows, windows_of, is_written_by, producer, producer_number}
-use Rattle.flow_core.specs.Place.{Place, places_from, places_of, input_places}
-use Rattle.flow_core.specs.Streams.{input_source, produced_source, stream_source, output_count}
-use Rattle.flow_core.specs.Plans.{frame_at, cell_source, plan_reads}
-use Rattle.flow_core.proofs.Windows.{written, producer_by_number, claims_at-slice_get}
+use Rattle.flow_core_laws.specs.declared.claim.Claim.{Claim}
+use Rattle.flow_core_laws.specs.declared.activation.Activation.{Activation}
+use Rattle.flow_core_laws.specs.declared.plan.FramePlan.{FramePlan}
+use Rattle.flow_core_laws.specs.declared.plan.Plan.{Plan}
+use Rattle.flow_core_laws.specs.Element.{given, fed, nobody}
+use Rattle.flow_core_laws.specs.Window.{Window, windows, windows_of, is_written_by, producer, producer_number}
+use Rattle.flow_core_laws.specs.Place.{Place, places_from, places_of, input_places}
+use Rattle.flow_core_laws.specs.Streams.{input_source, produced_source, stream_source, output_count}
+use Rattle.flow_core_laws.specs.Plans.{frame_at, cell_source, plan_reads}
+use Rattle.flow_core_laws.proofs.Windows.{written, producer_by_number, claims_at-slice_get}
 use Rattle.flow_core_epochs.specs.Epoch.{Kept, number_in, value_kept, among, epoch_source, written_places, read_from, StandsForEpoch}
 use Rattle.flow_core_epochs.proofs.Members.{Has, has_head, has_tail, in_map}
 use Rattle.stream_match.specs.declared.span.Span.{Span}

@@ -6,11 +6,11 @@ use Rattle.std.proofs.lemmas.Bool.{and_parts, eqb-true}
 use Rattle.std.proofs.lemmas.List.{take_all}
 use Rattle.std.proofs.lemmas.List.Sums.{sum_by-cons}
 use Rattle.std.proofs.Math.Seq.{take-append_seam}
-use Rattle.flow_core.specs.declared.claim.Claim.{Claim}
-use Rattle.flow_core.specs.declared.activation.Activation.{Activation}
-use Rattle.flow_core.specs.Window.{Window, windows, windows_of, claims_of, claims_at, claim_at, offset_after}
-use Rattle.flow_core.proofs.There.{offset_within}
-use Rattle.flow_core.proofs.Windows.{is_window, length-windows_before, length-windows_behind}
+use Rattle.flow_core_laws.specs.declared.claim.Claim.{Claim}
+use Rattle.flow_core_laws.specs.declared.activation.Activation.{Activation}
+use Rattle.flow_core_laws.specs.Window.{Window, windows, windows_of, claims_of, claims_at, claim_at, offset_after}
+use Rattle.flow_core_laws.proofs.There.{offset_within}
+use Rattle.flow_core_laws.proofs.Windows.{is_window, length-windows_before, length-windows_behind}
 use Rattle.stream_match.specs.declared.span.Span.{Span}
 use Rattle.stream_match.specs.declared.layout.Layout.{Layout}
 use Rattle.stream_match.specs.Layout.{span_of, claims_in, IsLayoutOf, IsLayout}

@@ -8,11 +8,11 @@ use Rattle.std.proofs.lemmas.List.{length-append, length-drop, get_or-drop, get_
 use Rattle.std.proofs.lemmas.List.FromFn.{get_or-map-range_with_len, length-map-range_with_len}
 use Rattle.std.proofs.lemmas.List.Sums.{sum_by-cons, sum_by_more, sum_by-take-le}
 use Rattle.std.proofs.lemmas.Option.{slice_get-get_or, slice_get_past, get_or_from_slice_get}
-use Rattle.flow_core.specs.declared.plan.FramePlan.{FramePlan}
-use Rattle.flow_core.specs.declared.plan.Plan.{Plan}
-use Rattle.flow_core.specs.Plans.{frame_at, value_at, missing_of}
-use Rattle.flow_core.proofs.Counting.{passing, passing-add, passing-all, passing-none}
-use Rattle.flow_core.proofs.Stretches.{stands_at, flat_map-range_more}
+use Rattle.flow_core_laws.specs.declared.plan.FramePlan.{FramePlan}
+use Rattle.flow_core_laws.specs.declared.plan.Plan.{Plan}
+use Rattle.flow_core_laws.specs.Plans.{frame_at, value_at, missing_of}
+use Rattle.flow_core_laws.proofs.Counting.{passing, passing-add, passing-all, passing-none}
+use Rattle.flow_core_laws.proofs.Stretches.{stands_at, flat_map-range_more}
 use Rattle.stream_match.specs.declared.layout.Layout.{Layout}
 use Rattle.stream_match.specs.declared.stretch.Stretch.{Stretch}
 use Rattle.stream_match.specs.Layout.{IsLayout}

@@ -8,8 +8,8 @@ use Rattle.std.proofs.lemmas.Bool.{and_parts, eqb-true, cases_lt, cases_order, l
 use Rattle.std.proofs.lemmas.List.Sums.{position_or_len_is}
 use Rattle.std.proofs.lemmas.Option.{slice_get-get_or, slice_get_within, get_or_from_slice_get, same_Some}
 use Rattle.std.proofs.lemmas.List.Sorted.{IsPermutation-map, IsPermutation-sym, Contains-permutation}
-use Rattle.flow_core.specs.Place as streams
-use Rattle.flow_core.proofs.Sources.{position_only, find_passes}
+use Rattle.flow_core_laws.specs.Place as streams
+use Rattle.flow_core_laws.proofs.Sources.{position_only, find_passes}
 use Rattle.flow_core_epochs.specs.Epoch as epoch
 use Rattle.flow_core_epochs.specs.Epoch.{number_in, is_at, value_kept, PlacesDiffer}
 use Rattle.flow_core_epochs.proofs.Reading.{has_contained}

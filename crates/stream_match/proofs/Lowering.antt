@@ -6,9 +6,9 @@ use Rattle.std.proofs.lemmas.Grind.{fold-append, flat_map-append}
 use Rattle.std.proofs.lemmas.List.{take_more, append-nil, same_lists, get_or_default}
 use Rattle.std.proofs.lemmas.List.Elements.{filter-append}
 use Rattle.std.proofs.lemmas.List.FromFn.{get_or-map-range_with_len, length-map-range_with_len}
-use Rattle.flow_core.specs.declared.activation.Activation.{Activation}
-use Rattle.flow_core.specs.FirstPosition.{is_read_of, read_cursor}
-use Rattle.flow_core.specs.Window.{Window, windows, windows_of, claims_of}
+use Rattle.flow_core_laws.specs.declared.activation.Activation.{Activation}
+use Rattle.flow_core_laws.specs.FirstPosition.{is_read_of, read_cursor}
+use Rattle.flow_core_laws.specs.Window.{Window, windows, windows_of, claims_of}
 use Rattle.stream_match.specs.declared.span.Span.{Span}
 use Rattle.stream_match.specs.declared.layout.Layout.{Layout}
 use Rattle.stream_match.specs.Lawful.{IsLawfulClaim}

@@ -8,10 +8,10 @@ use Rattle.std.proofs.lemmas.List.{get_or-set_same, get_or-set_other, length-set
 use Rattle.std.proofs.lemmas.List.Elements.{filter-append}
 use Rattle.std.proofs.lemmas.List.FromFn.{fill_by_all, length-map-range_with_len, get_or-map-range_with_len}
 use Rattle.std.proofs.lemmas.List.Sums.{sum_by-append}
-use Rattle.flow_core.specs.declared.claim.Claim.{Claim}
-use Rattle.flow_core.specs.FirstPosition.{is_read_of, is_write_to, read_cursor, write_cursor, first_position}
-use Rattle.flow_core.specs.Window.{Window}
-use Rattle.flow_core.proofs.Stretches.{slice_get-append_left, slice_get-append_right}
+use Rattle.flow_core_laws.specs.declared.claim.Claim.{Claim}
+use Rattle.flow_core_laws.specs.FirstPosition.{is_read_of, is_write_to, read_cursor, write_cursor, first_position}
+use Rattle.flow_core_laws.specs.Window.{Window}
+use Rattle.flow_core_laws.proofs.Stretches.{slice_get-append_left, slice_get-append_right}
 use Rattle.stream_match.specs.declared.span.Span.{Span}
 use Rattle.stream_match.specs.declared.layout.Layout.{Layout}
 use Rattle.stream_match.specs.Layout.{span_of, writes_at, writers_of, claims_in, IsOfWindows}

@@ -9,20 +9,20 @@ use Rattle.std.proofs.lemmas.List.{append-nil, map-append, take_more, get_or-dro
 use Rattle.std.proofs.lemmas.List.FromFn.{get_or-map-range_with_len}
 use Rattle.std.proofs.lemmas.List.Quantifiers.{position-Some}
 use Rattle.std.proofs.lemmas.Option.{slice_get_within}
-use Rattle.flow_core.specs.declared.claim.Claim.{Claim}
-use Rattle.flow_core.specs.declared.activation.Activation.{Activation}
-use Rattle.flow_core.specs.declared.plan.FramePlan.{FramePlan}
-use Rattle.flow_core.specs.declared.plan.Piece.{Piece}
-use Rattle.flow_core.specs.declared.plan.Plan.{Plan}
-use Rattle.flow_core.specs.Element.{Source, given, fed, nobody}
-use Rattle.flow_core.specs.FirstPosition.{write_cursor}
-use Rattle.flow_core.specs.Window.{Window, windows, windows_of, is_written_by, producer, producer_number}
-use Rattle.flow_core.specs.Place.{Place, places_of, input_places, written_count, output_places}
-use Rattle.flow_core.specs.Streams.{input_source, produced_source, stream_source, stream_reads, output_count}
-use Rattle.flow_core.specs.Plans.{frame_at, value_at, piece_at, piece_source, cell_source, plan_reads}
-use Rattle.flow_core.specs.StandsFor.{StandsFor}
-use Rattle.flow_core.proofs.Sources.{cell_source-covered, fed-covered}
-use Rattle.flow_core.proofs.Windows.{written, producer_by_number, claims_at-slice_get}
+use Rattle.flow_core_laws.specs.declared.claim.Claim.{Claim}
+use Rattle.flow_core_laws.specs.declared.activation.Activation.{Activation}
+use Rattle.flow_core_laws.specs.declared.plan.FramePlan.{FramePlan}
+use Rattle.flow_core_laws.specs.declared.plan.Piece.{Piece}
+use Rattle.flow_core_laws.specs.declared.plan.Plan.{Plan}
+use Rattle.flow_core_laws.specs.Element.{Source, given, fed, nobody}
+use Rattle.flow_core_laws.specs.FirstPosition.{write_cursor}
+use Rattle.flow_core_laws.specs.Window.{Window, windows, windows_of, is_written_by, producer, producer_number}
+use Rattle.flow_core_laws.specs.Place.{Place, places_of, input_places, written_count, output_places}
+use Rattle.flow_core_laws.specs.Streams.{input_source, produced_source, stream_source, stream_reads, output_count}
+use Rattle.flow_core_laws.specs.Plans.{frame_at, value_at, piece_at, piece_source, cell_source, plan_reads}
+use Rattle.flow_core_laws.specs.StandsFor.{StandsFor}
+use Rattle.flow_core_laws.proofs.Sources.{cell_source-covered, fed-covered}
+use Rattle.flow_core_laws.proofs.Windows.{written, producer_by_number, claims_at-slice_get}
 use Rattle.stream_match.specs.declared.span.Span.{Span}
 use Rattle.stream_match.specs.declared.layout.Layout.{Layout}
 use Rattle.stream_match.specs.declared.stretch.Stretch.{Stretch}

@@ -7,11 +7,11 @@ use Rattle.std.proofs.lemmas.List.{length-append, get_or_past, take-take}
 use Rattle.std.proofs.lemmas.List.FromFn.{get_or-map-range_with_len, length-map-range_with_len}
 use Rattle.std.proofs.lemmas.List.Sums.{sum_by-cons, sum_by_more, sum_by-take-le}
 use Rattle.std.proofs.lemmas.Option.{slice_get-get_or, get_or_from_slice_get}
-use Rattle.flow_core.specs.declared.plan.FramePlan.{FramePlan}
-use Rattle.flow_core.specs.declared.plan.Plan.{Plan}
-use Rattle.flow_core.specs.Plans.{frame_at, value_at, missing_of}
-use Rattle.flow_core.proofs.Counting.{passing}
-use Rattle.flow_core.proofs.Stretches.{stands_at, parts_before, flat_map-range_more, slice_get-append_left, slice_get-append_right}
+use Rattle.flow_core_laws.specs.declared.plan.FramePlan.{FramePlan}
+use Rattle.flow_core_laws.specs.declared.plan.Plan.{Plan}
+use Rattle.flow_core_laws.specs.Plans.{frame_at, value_at, missing_of}
+use Rattle.flow_core_laws.proofs.Counting.{passing}
+use Rattle.flow_core_laws.proofs.Stretches.{stands_at, parts_before, flat_map-range_more, slice_get-append_left, slice_get-append_right}
 use Rattle.stream_match.specs.declared.layout.Layout.{Layout}
 use Rattle.stream_match.specs.Weave.{Reach, no_reach, Weave, total, reach_cells, frame_cells, cells_of_first, reach_at, woven_frame, woven_sink, IsWoven}
 use Rattle.stream_match.proofs.Walks.{flat_map-range-add}

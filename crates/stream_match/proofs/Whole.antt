@@ -6,18 +6,18 @@ use Rattle.std.specs.List.{flat_map, range_with_len}
 use Rattle.std.proofs.lemmas.List.{append-nil}
 use Rattle.std.proofs.lemmas.List.FromFn.{length-range_with_len, get_or-map-range_with_len}
 use Rattle.std.proofs.lemmas.Option.{slice_get-get_or, slice_get_within}
-use Rattle.flow_core.specs.declared.activation.Activation.{Activation}
-use Rattle.flow_core.specs.declared.plan.Plan.{Plan}
-use Rattle.flow_core.specs.IsSound.{IsSound}
-use Rattle.flow_core.specs.StandsFor.{StandsFor}
-use Rattle.flow_core.specs.Element.{given, fed, nobody}
-use Rattle.flow_core.specs.FirstPosition.{write_cursor}
-use Rattle.flow_core.specs.Window.{Window, windows, is_written_by, producer}
-use Rattle.flow_core.specs.Place.{Place, places_from, input_places, written_count, output_places}
-use Rattle.flow_core.specs.Streams.{input_source, produced_source, stream_source}
-use Rattle.flow_core.specs.Plans.{plan_reads}
-use Rattle.flow_core.proofs.Sources.{find_passes}
-use Rattle.flow_core.proofs.Windows.{is_window}
+use Rattle.flow_core_laws.specs.declared.activation.Activation.{Activation}
+use Rattle.flow_core_laws.specs.declared.plan.Plan.{Plan}
+use Rattle.flow_core_laws.specs.IsSound.{IsSound}
+use Rattle.flow_core_laws.specs.StandsFor.{StandsFor}
+use Rattle.flow_core_laws.specs.Element.{given, fed, nobody}
+use Rattle.flow_core_laws.specs.FirstPosition.{write_cursor}
+use Rattle.flow_core_laws.specs.Window.{Window, windows, is_written_by, producer}
+use Rattle.flow_core_laws.specs.Place.{Place, places_from, input_places, written_count, output_places}
+use Rattle.flow_core_laws.specs.Streams.{input_source, produced_source, stream_source}
+use Rattle.flow_core_laws.specs.Plans.{plan_reads}
+use Rattle.flow_core_laws.proofs.Sources.{find_passes}
+use Rattle.flow_core_laws.proofs.Windows.{is_window}
 use Rattle.flow_core_epochs.specs.Epoch.{number_in, among, epoch_source}
 use Rattle.stream_match.specs.declared.layout.Layout.{Layout}
 use Rattle.stream_match.specs.Layout.{claims_in, IsLayout, IsLayoutOf}

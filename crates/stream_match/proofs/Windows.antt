@@ -9,11 +9,11 @@ use Rattle.std.proofs.lemmas.List.Elements.{filter-append}
 use Rattle.std.proofs.lemmas.List.FromFn.{fill_by_all, map-range_with_len_more}
 use Rattle.std.proofs.lemmas.List.Sums.{sum_by-append}
 use Rattle.std.proofs.lemmas.Option.{slice_get-get_or, get_or_from_slice_get}
-use Rattle.flow_core.specs.declared.claim.Claim.{Claim}
-use Rattle.flow_core.specs.declared.activation.Activation.{Activation}
-use Rattle.flow_core.specs.Window.{Window, windows, windows_of, windows_behind, window_of, claims_of, claims_at, claim_at, no_claim, offset_after}
-use Rattle.flow_core.proofs.Stretches.{flat_map-range_more, slice_get-append_left, slice_get-append_right}
-use Rattle.flow_core.proofs.Windows.{window_at, length-windows}
+use Rattle.flow_core_laws.specs.declared.claim.Claim.{Claim}
+use Rattle.flow_core_laws.specs.declared.activation.Activation.{Activation}
+use Rattle.flow_core_laws.specs.Window.{Window, windows, windows_of, windows_behind, window_of, claims_of, claims_at, claim_at, no_claim, offset_after}
+use Rattle.flow_core_laws.proofs.Stretches.{flat_map-range_more, slice_get-append_left, slice_get-append_right}
+use Rattle.flow_core_laws.proofs.Windows.{window_at, length-windows}
 use Rattle.stream_match.specs.Layout.{claims_in}
 
 -- what stands for a window where there is none

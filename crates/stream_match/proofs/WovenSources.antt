@@ -5,12 +5,12 @@ use Rattle.std.specs.Option.{option_map_or}
 use Rattle.std.specs.List.{flat_map, range_with_len}
 use Rattle.std.proofs.lemmas.List.{map-append}
 use Rattle.std.proofs.lemmas.List.Sums.{sum_by-cons}
-use Rattle.flow_core.specs.declared.plan.Piece.{Piece}
-use Rattle.flow_core.specs.declared.plan.Plan.{Plan}
-use Rattle.flow_core.specs.Element.{Source, given, fed, nobody}
-use Rattle.flow_core.specs.Place.{Place}
-use Rattle.flow_core.specs.Plans.{frame_at, value_at, piece_at, piece_source, cell_source, plan_reads}
-use Rattle.flow_core.proofs.Sources.{cell_source-covered, fed-covered}
+use Rattle.flow_core_laws.specs.declared.plan.Piece.{Piece}
+use Rattle.flow_core_laws.specs.declared.plan.Plan.{Plan}
+use Rattle.flow_core_laws.specs.Element.{Source, given, fed, nobody}
+use Rattle.flow_core_laws.specs.Place.{Place}
+use Rattle.flow_core_laws.specs.Plans.{frame_at, value_at, piece_at, piece_source, cell_source, plan_reads}
+use Rattle.flow_core_laws.proofs.Sources.{cell_source-covered, fed-covered}
 use Rattle.stream_match.specs.declared.layout.Layout.{Layout}
 use Rattle.stream_match.specs.Writers.{writer_at}
 use Rattle.stream_match.specs.Stretch.{piece_between, overlap_first, overlap_end}

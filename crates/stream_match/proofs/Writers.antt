@@ -9,12 +9,12 @@ use Rattle.std.proofs.lemmas.List.FromFn.{get_or-map-range_with_len, length-rang
 use Rattle.std.proofs.lemmas.List.Filters.{length-filter_both}
 use Rattle.std.proofs.lemmas.List.Sums.{position_or_len_is, sum_by_more_le}
 use Rattle.std.proofs.lemmas.Option.{slice_get-get_or, slice_get_within, get_or_from_slice_get}
-use Rattle.flow_core.specs.declared.claim.Claim.{Claim}
-use Rattle.flow_core.specs.declared.activation.Activation.{Activation}
-use Rattle.flow_core.specs.FirstPosition.{is_write_to, write_cursor}
-use Rattle.flow_core.specs.Window.{Window, windows, claims_of, is_written_by, producer_number}
-use Rattle.flow_core.proofs.Sources.{position_only}
-use Rattle.flow_core.proofs.Windows.{window_at, length-windows, written, first_of_write, apart, one_writer_of}
+use Rattle.flow_core_laws.specs.declared.claim.Claim.{Claim}
+use Rattle.flow_core_laws.specs.declared.activation.Activation.{Activation}
+use Rattle.flow_core_laws.specs.FirstPosition.{is_write_to, write_cursor}
+use Rattle.flow_core_laws.specs.Window.{Window, windows, claims_of, is_written_by, producer_number}
+use Rattle.flow_core_laws.proofs.Sources.{position_only}
+use Rattle.flow_core_laws.proofs.Windows.{window_at, length-windows, written, first_of_write, apart, one_writer_of}
 use Rattle.stream_match.specs.declared.span.Span.{Span}
 use Rattle.stream_match.specs.declared.layout.Layout.{Layout}
 use Rattle.stream_match.specs.Lawful.{IsLawfulClaim, AreLawful}

@@ -1,6 +1,6 @@
 -- What adding a claim needs and does.
 use Rattle.std.specs.Prelude.{◌≡◌, ℕ, ◌+◌, ◌^◌, ◌<◌, List, [], ◌∷◌, ◌++◌, length, slice_index, slice_index_or, slice_set, if◌then◌else◌}
-use Rattle.flow_core.specs.declared.claim.Claim.{Claim}
+use Rattle.flow_core_laws.specs.declared.claim.Claim.{Claim}
 use Rattle.stream_match.specs.declared.layout.Layout.{Layout}
 
 -- no number of the layout passes the end of its type with one more claim

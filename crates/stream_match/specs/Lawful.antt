@@ -1,8 +1,8 @@
 -- The activations that a layout takes.
 use Rattle.std.specs.Prelude.{◌≡◌, ◌≢◌, ℕ, ◌+◌, ◌^◌, ◌<◌, ◌≤◌, true, false, List, All, length, sum_by}
-use Rattle.flow_core.specs.declared.claim.Claim.{Claim}
-use Rattle.flow_core.specs.declared.activation.Activation.{Activation}
-use Rattle.flow_core.specs.Window.{claims_of}
+use Rattle.flow_core_laws.specs.declared.claim.Claim.{Claim}
+use Rattle.flow_core_laws.specs.declared.activation.Activation.{Activation}
+use Rattle.flow_core_laws.specs.Window.{claims_of}
 
 -- A claim on one of so many streams: it covers 1 to 65,536 positions, nobody writes the input or reads
 -- the output, and a write claim moves its cursor by what it covers.

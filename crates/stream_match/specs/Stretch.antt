@@ -2,9 +2,9 @@
 use Rattle.std.specs.Prelude.{◌≡◌, ℕ, ℤ, pos, ◌+◌, ◌-◌, ◌==◌, Bool, nat_lt, min, max, if◌then◌else◌, List, [], ◌∷◌, Option, None, slice_get, slice_index, take, drop, length, map, filter, sum_by}
 use Rattle.std.specs.Option.{option_map, option_map_or}
 use Rattle.std.specs.List.{flat_map, range_with_len}
-use Rattle.flow_core.specs.declared.plan.FramePlan.{FramePlan}
-use Rattle.flow_core.specs.declared.plan.Piece.{Piece}
-use Rattle.flow_core.specs.declared.plan.Plan.{Plan}
+use Rattle.flow_core_laws.specs.declared.plan.FramePlan.{FramePlan}
+use Rattle.flow_core_laws.specs.declared.plan.Piece.{Piece}
+use Rattle.flow_core_laws.specs.declared.plan.Plan.{Plan}
 use Rattle.stream_match.specs.declared.span.Span.{Span}
 use Rattle.stream_match.specs.declared.layout.Layout.{Layout}
 use Rattle.stream_match.specs.declared.stretch.Stretch.{Stretch}

@@ -2,10 +2,10 @@
 use Rattle.std.specs.Prelude.{◌≡◌, ℕ, ℤ, ◌+◌, ◌<◌, ◌≤◌, List, [], Option, Some, None, is_none, count_by, slice_index_or, take, length, map, sum_by}
 use Rattle.std.specs.Option.{option_map_or}
 use Rattle.std.specs.List.{flat_map, range_with_len}
-use Rattle.flow_core.specs.declared.plan.FramePlan.{FramePlan}
-use Rattle.flow_core.specs.declared.plan.Piece.{Piece}
-use Rattle.flow_core.specs.declared.plan.Plan.{Plan}
-use Rattle.flow_core.specs.Place.{Place, places_from}
+use Rattle.flow_core_laws.specs.declared.plan.FramePlan.{FramePlan}
+use Rattle.flow_core_laws.specs.declared.plan.Piece.{Piece}
+use Rattle.flow_core_laws.specs.declared.plan.Plan.{Plan}
+use Rattle.flow_core_laws.specs.Place.{Place, places_from}
 use Rattle.stream_match.specs.declared.span.Span.{Span}
 use Rattle.stream_match.specs.declared.layout.Layout.{Layout}
 use Rattle.stream_match.specs.declared.stretch.Stretch.{Stretch}

@@ -2,10 +2,10 @@
 -- takes the output from its beginning.
 use Rattle.std.specs.Prelude.{ℕ, List, [], ◌∷◌, slice_index}
 use Rattle.std.specs.List.{range_with_len}
-use Rattle.flow_core.specs.declared.activation.Activation.{Activation}
-use Rattle.flow_core.specs.declared.plan.Plan.{Plan}
-use Rattle.flow_core.specs.IsSound.{IsSound}
-use Rattle.flow_core.specs.StandsFor.{StandsFor}
+use Rattle.flow_core_laws.specs.declared.activation.Activation.{Activation}
+use Rattle.flow_core_laws.specs.declared.plan.Plan.{Plan}
+use Rattle.flow_core_laws.specs.IsSound.{IsSound}
+use Rattle.flow_core_laws.specs.StandsFor.{StandsFor}
 use Rattle.stream_match.specs.declared.layout.Layout.{Layout}
 use Rattle.stream_match.specs.Layout.{IsLayout, IsLayoutOf}
 use Rattle.stream_match.specs.Stretch.{frame_count}

@@ -1,7 +1,7 @@
 ghost use Rattle.std.specs.Prelude.{◌≡◌, ◌+◌, ◌++◌, ◌^◌, ◌<◌, All, List, IfOk, length, map};
 ghost use Rattle.std.specs.List.{flat_map};
-ghost use Rattle.flow_core.specs.declared.activation.Activation.{Activation};
-ghost use Rattle.flow_core.specs.IsSound.{IsSound};
+ghost use Rattle.flow_core_laws.specs.declared.activation.Activation.{Activation};
+ghost use Rattle.flow_core_laws.specs.IsSound.{IsSound};
 ghost use Rattle.flow_core_epochs.specs.Epoch.{IsOutside, StandsForEpoch};
 ghost use Rattle.stream_match.specs.declared.stretch.Stretch.{Stretch};
 ghost use Rattle.stream_match.specs.Layout.{IsLayout, IsLayoutOf};
@@ -19,7 +19,7 @@ use crate::look_up::sorted;
 use crate::place::Place;
 use crate::reaching::{leaving, reading};
 use crate::stretch::Stretch;
-use flow_core::{FramePlan, Piece, Plan};
+use flow_core_laws::{FramePlan, Piece, Plan};
 use os_io::{List, Memory};
 use std::alloc::Global;
 

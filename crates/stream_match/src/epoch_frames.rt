@@ -1,6 +1,6 @@
 ghost use Rattle.std.specs.Prelude.{◌≡◌, ◌^◌, ◌-◌, ◌<◌, ◌≤◌, All, IfOk, drop, length, map, take};
 ghost use Rattle.std.specs.List.{range_with_len};
-ghost use Rattle.flow_core.specs.declared.plan.Piece.{Piece};
+ghost use Rattle.flow_core_laws.specs.declared.plan.Piece.{Piece};
 ghost use Rattle.stream_match.specs.Layout.{IsLayout};
 ghost use Rattle.stream_match.specs.EpochPlan.{AreFrames};
 ghost use Rattle.stream_match.specs.EpochCode.{epoch_frame, reads_before};
@@ -8,7 +8,7 @@ ghost use Rattle.stream_match.specs.EpochCode.{epoch_frame, reads_before};
 use crate::filling::empty;
 use crate::gather::count_by_frame;
 use crate::layout::Layout;
-use flow_core::{FramePlan, Piece};
+use flow_core_laws::{FramePlan, Piece};
 use os_io::{List, Memory};
 use std::alloc::Global;
 

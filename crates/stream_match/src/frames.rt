@@ -8,7 +8,7 @@ ghost use Rattle.stream_match.specs.Walking.{counts_of};
 use crate::layout::Layout;
 use crate::pieces::reads;
 use crate::span::Span;
-use flow_core::FramePlan;
+use flow_core_laws::FramePlan;
 use os_io::{List, Memory};
 use std::alloc::Global;
 

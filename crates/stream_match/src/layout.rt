@@ -1,14 +1,14 @@
 ghost use Rattle.std.specs.Prelude.{◌≡◌, ℕ, [], ◌∷◌, ◌++◌, ◌+◌, ◌^◌, ◌<◌, ◌≤◌, List, IfOk, OnOk, length, slice_index, slice_set, slice_index_or, map, replicate};
-ghost use Rattle.flow_core.specs.declared.activation.Activation.{Activation};
-ghost use Rattle.flow_core.specs.FirstPosition.{first_position};
-ghost use Rattle.flow_core.specs.Window.{Window, windows_behind};
+ghost use Rattle.flow_core_laws.specs.declared.activation.Activation.{Activation};
+ghost use Rattle.flow_core_laws.specs.FirstPosition.{first_position};
+ghost use Rattle.flow_core_laws.specs.Window.{Window, windows_behind};
 ghost use Rattle.stream_match.specs.Lawful.{AreLawful};
 ghost use Rattle.stream_match.specs.Layout.{claims_in, IsOfWindows, IsLayoutOf};
 ghost use Rattle.stream_match.specs.Layout.{TakesMore};
 ghost use Rattle.stream_match.specs.Adding.{HasRoom, with_claim};
 
 use crate::span::Span;
-use flow_core::{Activation, Claim};
+use flow_core_laws::{Activation, Claim};
 use os_io::{List, Memory};
 use std::alloc::Global;
 

@@ -1,7 +1,7 @@
 ghost use Rattle.std.specs.Prelude.{◌≡◌, List, IfOk, length};
-ghost use Rattle.flow_core.specs.declared.activation.Activation.{Activation};
-ghost use Rattle.flow_core.specs.IsSound.{IsSound};
-ghost use Rattle.flow_core.specs.StandsFor.{StandsFor};
+ghost use Rattle.flow_core_laws.specs.declared.activation.Activation.{Activation};
+ghost use Rattle.flow_core_laws.specs.IsSound.{IsSound};
+ghost use Rattle.flow_core_laws.specs.StandsFor.{StandsFor};
 ghost use Rattle.stream_match.specs.Layout.{IsLayout, IsLayoutOf};
 ghost use Rattle.stream_match.specs.Stretch.{IsPlanOf};
 
@@ -9,7 +9,7 @@ use crate::cells::cells;
 use crate::frames::{Frames, make_frames};
 use crate::layout::Layout;
 use crate::pieces::{count_pieces, place_pieces};
-use flow_core::{FramePlan, Plan};
+use flow_core_laws::{FramePlan, Plan};
 use os_io::Memory;
 use std::alloc::Global;
 

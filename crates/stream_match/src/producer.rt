@@ -1,6 +1,6 @@
 ghost use Rattle.std.specs.Prelude.{◌≡◌, ◌<◌, List, length, slice_get};
-ghost use Rattle.flow_core.specs.declared.activation.Activation.{Activation};
-ghost use Rattle.flow_core.specs.Window.{producer_number};
+ghost use Rattle.flow_core_laws.specs.declared.activation.Activation.{Activation};
+ghost use Rattle.flow_core_laws.specs.Window.{producer_number};
 ghost use Rattle.stream_match.specs.Layout.{IsLayout, IsLayoutOf};
 ghost use Rattle.stream_match.specs.Writers.{writers_on, span_at, HasWriters, FirstBehind};
 

@@ -3,14 +3,14 @@ use Rattle.std.proofs.Common.{◌≡◌, ℕ, zero, suc, ◌<◌, ℤ, List, Opt
 use Rattle.std.specs.Option.{option_map, option_or}
 use Rattle.std.proofs.lemmas.List.{length-map, get_or_default, same_lists}
 use Rattle.std.proofs.lemmas.Option.{slice_get-get_or}
-use Rattle.flow_core.proofs.Gathering.{length-gathered}
-use Rattle.flow_core.proofs.Rounds.{after, length-after, length-round, outcome_at-round}
-use Rattle.flow_core.specs.Element.{Source, element}
-use Rattle.flow_core.specs.Outcome.{State, outcome_at}
-use Rattle.flow_core.specs.Round.{inputs_in, meaning, round, rounds}
-use Rattle.flow_core.specs.Streams.{stream_meaning, stream_reads}
-use Rattle.flow_core.specs.declared.activation.Activation.{Activation}
-use Rattle.flow_core.specs.declared.outcome.Outcome.{Outcome}
+use Rattle.flow_core_laws.proofs.Gathering.{length-gathered}
+use Rattle.flow_core_laws.proofs.Rounds.{after, length-after, length-round, outcome_at-round}
+use Rattle.flow_core_laws.specs.Element.{Source, element}
+use Rattle.flow_core_laws.specs.Outcome.{State, outcome_at}
+use Rattle.flow_core_laws.specs.Round.{inputs_in, meaning, round, rounds}
+use Rattle.flow_core_laws.specs.Streams.{stream_meaning, stream_reads}
+use Rattle.flow_core_laws.specs.declared.activation.Activation.{Activation}
+use Rattle.flow_core_laws.specs.declared.outcome.Outcome.{Outcome}
 use Rattle.task_bodies.specs.Laws.{Agree}
 use Rattle.task_bodies.proofs.Counts.{length-reads}
 use Rattle.task_bodies.proofs.Serving.{no_activation}

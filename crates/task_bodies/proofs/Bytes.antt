@@ -7,21 +7,21 @@ use Rattle.std.proofs.lemmas.Bool.{and_parts, eqb-true}
 use Rattle.std.proofs.lemmas.List.{length-map}
 use Rattle.std.proofs.lemmas.List.Elements.{All-cons, All-nil}
 use Rattle.std.proofs.lemmas.Option.{slice_get-get_or}
-use Rattle.flow_core.proofs.Gathering.{length-gathered}
-use Rattle.flow_core.proofs.Rounds.{element-extends, outcome_at-meaning}
-use Rattle.flow_core.proofs.Sources.{find_passes}
-use Rattle.flow_core.proofs.Windows.{Writes, is_window, written}
-use Rattle.flow_core.specs.Element.{element, fed, nobody}
-use Rattle.flow_core.specs.Outcome.{State}
-use Rattle.flow_core.specs.Place.{written_count}
-use Rattle.flow_core.specs.Round.{inputs_in, meaning}
-use Rattle.flow_core.specs.Streams.{output_elements, stream_meaning, stream_reads, stream_source}
-use Rattle.flow_core.specs.Window.{Window, claim_at, claims_at, is_written_by, no_claim, offset_after, producer, windows}
-use Rattle.flow_core.specs.declared.activation.Activation.{Activation}
-use Rattle.flow_core.specs.declared.claim.Claim.{Claim}
-use Rattle.flow_core.specs.declared.outcome.Outcome.{Outcome}
+use Rattle.flow_core_laws.proofs.Gathering.{length-gathered}
+use Rattle.flow_core_laws.proofs.Rounds.{element-extends, outcome_at-meaning}
+use Rattle.flow_core_laws.proofs.Sources.{find_passes}
+use Rattle.flow_core_laws.proofs.Windows.{Writes, is_window, written}
+use Rattle.flow_core_laws.specs.Element.{element, fed, nobody}
+use Rattle.flow_core_laws.specs.Outcome.{State}
+use Rattle.flow_core_laws.specs.Place.{written_count}
+use Rattle.flow_core_laws.specs.Round.{inputs_in, meaning}
+use Rattle.flow_core_laws.specs.Streams.{output_elements, stream_meaning, stream_reads, stream_source}
+use Rattle.flow_core_laws.specs.Window.{Window, claim_at, claims_at, is_written_by, no_claim, offset_after, producer, windows}
+use Rattle.flow_core_laws.specs.declared.activation.Activation.{Activation}
+use Rattle.flow_core_laws.specs.declared.claim.Claim.{Claim}
+use Rattle.flow_core_laws.specs.declared.outcome.Outcome.{Outcome}
 use Rattle.os_code.specs.Tasks.{input_count}
-use Rattle.flow_core.specs.Byte.{IsByte}
+use Rattle.flow_core_laws.specs.Byte.{IsByte}
 use Rattle.task_bodies.specs.Laws.{GivesBytes}
 use Rattle.task_bodies.proofs.Counts.{length-reads}
 use Rattle.task_bodies.proofs.Serving.{no_activation}

@@ -6,11 +6,11 @@ use Rattle.std.specs.Option.{option_map_or}
 use Rattle.std.proofs.lemmas.List.{length-append, length-map}
 use Rattle.std.proofs.lemmas.List.FromFn.{fill_by_all, length-map-range_with_len}
 use Rattle.std.proofs.lemmas.List.Sums.{sum_by-cons}
-use Rattle.flow_core.specs.Place.{places_of, input_places}
-use Rattle.flow_core.specs.Streams.{stream_reads, stream_source}
-use Rattle.flow_core.specs.Window.{Window, claim_at, claims_at, claims_of, no_claim, window_of, windows_behind, windows_of}
-use Rattle.flow_core.specs.declared.activation.Activation.{Activation}
-use Rattle.flow_core.specs.declared.claim.Claim.{Claim}
+use Rattle.flow_core_laws.specs.Place.{places_of, input_places}
+use Rattle.flow_core_laws.specs.Streams.{stream_reads, stream_source}
+use Rattle.flow_core_laws.specs.Window.{Window, claim_at, claims_at, claims_of, no_claim, window_of, windows_behind, windows_of}
+use Rattle.flow_core_laws.specs.declared.activation.Activation.{Activation}
+use Rattle.flow_core_laws.specs.declared.claim.Claim.{Claim}
 use Rattle.os_code.specs.Tasks.{input_count}
 
 mapped_twice : (f : ℕ → Window) (g : Window → Claim) (ks : List ℕ) → map g (map f ks) ≡ map (λ k. g (f k)) ks

@@ -3,13 +3,13 @@ use Rattle.std.proofs.Common.{◌≡◌, ℤ, List, Option, Some, None, map, len
 use Rattle.std.specs.Option.{option_map}
 use Rattle.std.proofs.lemmas.List.{length-map}
 use Rattle.std.proofs.lemmas.Option.{same_Some, slice_get_within}
-use Rattle.flow_core.proofs.Gathering.{length-gathered}
-use Rattle.flow_core.proofs.Rounds.{element-extends, outcome_at-meaning}
-use Rattle.flow_core.specs.Element.{element}
-use Rattle.flow_core.specs.Outcome.{outcome_at}
-use Rattle.flow_core.specs.Round.{inputs_in}
-use Rattle.flow_core.specs.Streams.{output_count, stream_meaning, stream_reads}
-use Rattle.flow_core.specs.declared.outcome.Outcome.{Outcome}
+use Rattle.flow_core_laws.proofs.Gathering.{length-gathered}
+use Rattle.flow_core_laws.proofs.Rounds.{element-extends, outcome_at-meaning}
+use Rattle.flow_core_laws.specs.Element.{element}
+use Rattle.flow_core_laws.specs.Outcome.{outcome_at}
+use Rattle.flow_core_laws.specs.Round.{inputs_in}
+use Rattle.flow_core_laws.specs.Streams.{output_count, stream_meaning, stream_reads}
+use Rattle.flow_core_laws.specs.declared.outcome.Outcome.{Outcome}
 use Rattle.task_bodies.proofs.Counts.{length-reads}
 use Rattle.task_bodies.specs.Laws.{FilledBodiesFill}
 

@@ -4,12 +4,12 @@ use Rattle.std.specs.Option.{option_map_or}
 use Rattle.std.proofs.lemmas.List.Elements.{All-get_or}
 use Rattle.std.proofs.lemmas.List.FromFn.{length-map-range_with_len}
 use Rattle.std.proofs.lemmas.Option.{slice_get-get_or}
-use Rattle.flow_core.specs.Plans.{cell_source, frame_at}
-use Rattle.flow_core.specs.Serves.{Serves}
-use Rattle.flow_core.specs.StandsFor.{StandsFor}
-use Rattle.flow_core.specs.Streams.{output_count}
-use Rattle.flow_core.specs.declared.activation.Activation.{Activation}
-use Rattle.flow_core.specs.declared.plan.Plan.{Plan}
+use Rattle.flow_core_laws.specs.Plans.{cell_source, frame_at}
+use Rattle.flow_core_laws.specs.Serves.{Serves}
+use Rattle.flow_core_laws.specs.StandsFor.{StandsFor}
+use Rattle.flow_core_laws.specs.Streams.{output_count}
+use Rattle.flow_core_laws.specs.declared.activation.Activation.{Activation}
+use Rattle.flow_core_laws.specs.declared.plan.Plan.{Plan}
 use Rattle.os_code.specs.IsValid.{IsValid}
 use Rattle.os_code.specs.Laws.{IsProper, TaskEndsAreProper, TasksEnd}
 use Rattle.os_code.specs.Outcomes.{over_budget, task_outcome}

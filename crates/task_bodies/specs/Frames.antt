@@ -1,9 +1,9 @@
 -- What a frame's body makes of its inputs, and which frames are taken.
 use Rattle.std.specs.Prelude.{◌≡◌, ℕ, ℤ, ◌≤◌, List, Some, slice_get}
 use Rattle.std.specs.Option.{option_map_or}
-use Rattle.flow_core.specs.Streams.{output_count}
-use Rattle.flow_core.specs.declared.activation.Activation.{Activation}
-use Rattle.flow_core.specs.declared.outcome.Outcome.{Outcome}
+use Rattle.flow_core_laws.specs.Streams.{output_count}
+use Rattle.flow_core_laws.specs.declared.activation.Activation.{Activation}
+use Rattle.flow_core_laws.specs.declared.outcome.Outcome.{Outcome}
 use Rattle.os_code.specs.Outcomes.{over_budget, task_outcome}
 use Rattle.os_code.specs.Tasks.{Fits, input_count}
 use Rattle.os_code.specs.declared.parts.Parts.{Parts}

@@ -1,17 +1,17 @@
 -- The laws of bodies, as statements.
 use Rattle.std.specs.Prelude.{◌≡◌, ℕ, ℤ, ◌+◌, ◌<◌, ◌≤◌, true, All, List, Some, length, slice_get, take}
 use Rattle.std.specs.Option.{ForSome}
-use Rattle.flow_core.specs.Byte.{IsByte}
-use Rattle.flow_core.specs.Laws.{IsFilled}
-use Rattle.flow_core.specs.Serves.{Serves}
-use Rattle.flow_core.specs.StandsFor.{StandsFor}
-use Rattle.flow_core.specs.Streams.{output_count, output_elements, stream_meaning}
-use Rattle.flow_core.specs.Window.{offset_after}
-use Rattle.flow_core.specs.declared.activation.Activation.{Activation}
-use Rattle.flow_core.specs.declared.claim.Claim.{Claim}
-use Rattle.flow_core.specs.declared.outcome.Outcome.{Outcome}
-use Rattle.flow_core.specs.declared.plan.Plan.{Plan}
-use Rattle.flow_core.specs.declared.task_end.TaskEnd.TheVariants.{Done}
+use Rattle.flow_core_laws.specs.Byte.{IsByte}
+use Rattle.flow_core_laws.specs.Laws.{IsFilled}
+use Rattle.flow_core_laws.specs.Serves.{Serves}
+use Rattle.flow_core_laws.specs.StandsFor.{StandsFor}
+use Rattle.flow_core_laws.specs.Streams.{output_count, output_elements, stream_meaning}
+use Rattle.flow_core_laws.specs.Window.{offset_after}
+use Rattle.flow_core_laws.specs.declared.activation.Activation.{Activation}
+use Rattle.flow_core_laws.specs.declared.claim.Claim.{Claim}
+use Rattle.flow_core_laws.specs.declared.outcome.Outcome.{Outcome}
+use Rattle.flow_core_laws.specs.declared.plan.Plan.{Plan}
+use Rattle.flow_core_laws.specs.declared.task_end.TaskEnd.TheVariants.{Done}
 use Rattle.os_code.specs.IsValid.{IsValid}
 use Rattle.os_code.specs.Tasks.{Fits, input_count}
 use Rattle.os_code.specs.declared.parts.Parts.{Parts}

@@ -1,4 +1,4 @@
-use flow_core::{Activation, Bodies, TaskEnd};
+use flow_core_laws::{Activation, Bodies, TaskEnd};
 use os_code::Code;
 use os_io::Memory;
 use std::alloc::Global;

@@ -1,8 +1,8 @@
 ghost use Rattle.std.specs.Prelude.{◌≡◌, ℕ, ◌+◌, ◌<◌, ◌≤◌, length, take, sum_by};
-ghost use Rattle.flow_core.specs.declared.claim.Claim.{Claim as TheClaim};
+ghost use Rattle.flow_core_laws.specs.declared.claim.Claim.{Claim as TheClaim};
 ghost use Rattle.task_vm.specs.Rows.{rows_of};
 
-use flow_core::Claim;
+use flow_core_laws::Claim;
 
 /// Where the window of an item lies: among the outputs, or among the inputs.
 #[derive(Clone, Copy, Debug, PartialEq, Eq)]

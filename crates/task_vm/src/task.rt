@@ -2,13 +2,13 @@
 
 ghost use Rattle.std.specs.Prelude.{◌≡◌, ℕ, ◌+◌, ◌≤◌, length, sum_by};
 ghost use Rattle.std.specs.List.{list_all, filter};
-ghost use Rattle.flow_core.specs.Outcome.{outcome_of};
-ghost use Rattle.flow_core.specs.declared.claim.Claim.{Claim as TheClaim};
-ghost use Rattle.flow_core.specs.Streams.{output_count};
+ghost use Rattle.flow_core_laws.specs.Outcome.{outcome_of};
+ghost use Rattle.flow_core_laws.specs.declared.claim.Claim.{Claim as TheClaim};
+ghost use Rattle.flow_core_laws.specs.Streams.{output_count};
 ghost use Rattle.os_code.specs.Codes.{parts_of};
 ghost use Rattle.os_code.specs.Machine.{most_steps};
 ghost use Rattle.os_code.specs.Outcomes.{task_outcome};
-ghost use Rattle.flow_core.specs.Byte.{is_byte};
+ghost use Rattle.flow_core_laws.specs.Byte.{is_byte};
 ghost use Rattle.os_code.specs.Tasks.{Fits, input_count, TaskEnds};
 ghost use Rattle.task_vm.specs.Ending.{all_bytes_from, end_of, IsSiteLine};
 ghost use Rattle.task_vm.specs.Halting.{IsTaskUnit};
@@ -17,7 +17,7 @@ ghost use Rattle.task_vm.specs.Space.{IsMadeFor};
 use crate::registers::{fill_frame, unit_at};
 use crate::running::{Stop, run};
 use crate::scratch::Scratch;
-use flow_core::{Activation, Claim, TaskEnd};
+use flow_core_laws::{Activation, Claim, TaskEnd};
 use os_code::{Code, Unit};
 
 /// Runs the task of an activation to its end. The inputs are the elements of its input windows, item by item; the

@@ -3,8 +3,8 @@ use Rattle.std.proofs.Common.{◌≡◌, ◌≢◌, ℕ, suc, ◌+◌, ◌<◌, 
 use Rattle.std.specs.Prelude.{sum_by}
 use Rattle.std.proofs.lemmas.List.{get_or-set_other, length-set, length-replicate, length-drop, get_or-drop, get_or-replicate}
 use Rattle.std.proofs.lemmas.List.Sums.{sum_by-cons, sum_by-set, sum_by-le}
-use Rattle.flow_core.specs.declared.plan.FramePlan.{FramePlan}
-use Rattle.flow_core.specs.declared.plan.Plan.{Plan}
+use Rattle.flow_core_laws.specs.declared.plan.FramePlan.{FramePlan}
+use Rattle.flow_core_laws.specs.declared.plan.Plan.{Plan}
 use Rattle.flow_core.specs.declared.waits.Waits.{Waits}
 use Rattle.flow_core.specs.Waits.{OpensFull}
 use Rattle.task_workers_round.specs.Results.{room_of}

@@ -4,12 +4,12 @@ use Rattle.std.specs.Prelude.{is_none}
 use Rattle.std.specs.List.{between}
 use Rattle.std.proofs.lemmas.List.{get_or-drop, length-drop}
 use Rattle.flow_core.specs.declared.board.Board.{Board}
-use Rattle.flow_core.specs.declared.plan.Plan.{Plan}
-use Rattle.flow_core.specs.declared.task_end.TaskEnd.{TaskEnd}
-use Rattle.flow_core.specs.declared.task_end.TaskEnd.TheVariants.{Done}
-use Rattle.flow_core.specs.Outcome.{State}
+use Rattle.flow_core_laws.specs.declared.plan.Plan.{Plan}
+use Rattle.flow_core_laws.specs.declared.task_end.TaskEnd.{TaskEnd}
+use Rattle.flow_core_laws.specs.declared.task_end.TaskEnd.TheVariants.{Done}
+use Rattle.flow_core_laws.specs.Outcome.{State}
 use Rattle.flow_core.specs.Waits.{OpensMore}
-use Rattle.flow_core.specs.IsSound.{IsSound}
+use Rattle.flow_core_laws.specs.IsSound.{IsSound}
 use Rattle.flow_core.specs.Counted.{IsCounted, IsUnfed}
 use Rattle.flow_core.specs.Shows.{Shows, Gives}
 use Rattle.flow_core.specs.Board.{IsRun}

@@ -1,8 +1,8 @@
 ghost use Rattle.std.specs.Prelude.{◌≡◌, ◌≤◌, ◌+◌, [], IfOk, OnOk, length, slice_range};
-ghost use Rattle.flow_core.specs.Outcome.{ends_of};
-ghost use Rattle.flow_core.specs.Plans.{plan_meaning, sink_elements};
-ghost use Rattle.flow_core.specs.IsSound.{IsSound};
-ghost use Rattle.flow_core.specs.Serves.{Serves};
+ghost use Rattle.flow_core_laws.specs.Outcome.{ends_of};
+ghost use Rattle.flow_core_laws.specs.Plans.{plan_meaning, sink_elements};
+ghost use Rattle.flow_core_laws.specs.IsSound.{IsSound};
+ghost use Rattle.flow_core_laws.specs.Serves.{Serves};
 
 use crate::rounds::run_rounds;
 use flow_core::{Board, Bodies, Ends, Plan};

@@ -1,8 +1,8 @@
 ghost use Rattle.std.specs.Prelude.{◌≡◌, ◌<◌, ◌≤◌, ◌+◌, None, OnOk, IfOk, All, length, sum_by, count_by, is_none, map, drop};
-ghost use Rattle.flow_core.specs.Outcome.{State, ends_of};
-ghost use Rattle.flow_core.specs.Plans.{plan_meaning, sink_elements};
-ghost use Rattle.flow_core.specs.IsSound.{IsSound};
-ghost use Rattle.flow_core.specs.Serves.{Serves};
+ghost use Rattle.flow_core_laws.specs.Outcome.{State, ends_of};
+ghost use Rattle.flow_core_laws.specs.Plans.{plan_meaning, sink_elements};
+ghost use Rattle.flow_core_laws.specs.IsSound.{IsSound};
+ghost use Rattle.flow_core_laws.specs.Serves.{Serves};
 ghost use Rattle.flow_core.specs.Waits.{OpensMore};
 ghost use Rattle.flow_core.specs.Board.{IsRun};
 ghost use Rattle.task_workers_round.specs.Results.{AreResults, room_of};

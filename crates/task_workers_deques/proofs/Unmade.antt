@@ -5,13 +5,13 @@ use Rattle.std.specs.Prelude.{slice_get}
 use Rattle.std.specs.List.{range_with_len, count_by}
 use Rattle.std.proofs.lemmas.List.Sums.{get_or-le-sum_by}
 use Rattle.std.proofs.lemmas.List.FromFn.{get_or-range_with_len, length-range_with_len}
-use Rattle.flow_core.specs.declared.plan.Piece.{Piece}
-use Rattle.flow_core.specs.declared.plan.Plan.{Plan}
-use Rattle.flow_core.specs.IsSound.{IsSound}
-use Rattle.flow_core.specs.Plans.{frame_at, missing_of, value_at, cells_of}
-use Rattle.flow_core.specs.Concurrent.States.{times}
-use Rattle.flow_core.specs.Concurrent.Counted.{one}
-use Rattle.flow_core.proofs.Seats.Looks.{times_push}
+use Rattle.flow_core_laws.specs.declared.plan.Piece.{Piece}
+use Rattle.flow_core_laws.specs.declared.plan.Plan.{Plan}
+use Rattle.flow_core_laws.specs.IsSound.{IsSound}
+use Rattle.flow_core_laws.specs.Plans.{frame_at, missing_of, value_at, cells_of}
+use Rattle.flow_core_concurrent.specs.States.{times}
+use Rattle.flow_core_concurrent.specs.Counted.{one}
+use Rattle.flow_core_concurrent.proofs.Looks.{times_push}
 use Rattle.task_workers_looks.specs.Left.{left_of}
 use Rattle.task_workers_looks.proofs.Counts.{left_less}
 use Rattle.task_workers_deques.specs.Worked.{below, unmade}

@@ -1,12 +1,12 @@
 //! How a worker runs a frame that it claimed.
 ghost use Rattle.std.specs.Prelude.{◌≡◌, ◌+◌, ◌<◌, ◌≤◌, ℕ, None, Some, length, slice_get, vec_capacity, vec_len, [], ◌∷◌, ◌++◌};
-ghost use Rattle.flow_core.specs.declared.outcome.Outcome.{Outcome};
-ghost use Rattle.flow_core.specs.declared.plan.Piece.{Piece};
-ghost use Rattle.flow_core.specs.declared.task_end.TaskEnd.TheVariants.{Done};
-ghost use Rattle.flow_core.specs.Outcome.{outcome_at};
-ghost use Rattle.flow_core.specs.Plans.{frame_at, plan_meaning};
-ghost use Rattle.flow_core.specs.Serves.{Serves};
-ghost use Rattle.flow_core.specs.Concurrent.Steps.{first_place};
+ghost use Rattle.flow_core_laws.specs.declared.outcome.Outcome.{Outcome};
+ghost use Rattle.flow_core_laws.specs.declared.plan.Piece.{Piece};
+ghost use Rattle.flow_core_laws.specs.declared.task_end.TaskEnd.TheVariants.{Done};
+ghost use Rattle.flow_core_laws.specs.Outcome.{outcome_at};
+ghost use Rattle.flow_core_laws.specs.Plans.{frame_at, plan_meaning};
+ghost use Rattle.flow_core_laws.specs.Serves.{Serves};
+ghost use Rattle.flow_core_concurrent.specs.Steps.{first_place};
 ghost use Rattle.frame_table.specs.Seats.{at, MayDeliver};
 ghost use Rattle.frame_table.specs.Tokens.{IsSeatOf, view_of, known_of};
 ghost use Rattle.steal_pool.specs.Hands.{pushed_by, asks_of};
@@ -15,7 +15,7 @@ ghost use Rattle.task_workers_deques.specs.Worked.{Gave};
 
 use crate::log::WorkLog;
 use crate::room::fill;
-use flow_core::{Bodies, TaskEnd};
+use flow_core_laws::{Bodies, TaskEnd};
 use frame_table::{FrameSeat, FrameTable};
 use steal_pool::Hand;
 use task_workers_round::Gate;

@@ -1,8 +1,8 @@
 //! A worker that finds frames and runs them.
 ghost use Rattle.std.specs.Prelude.{◌≡◌, ◌+◌, ◌*◌, ◌<◌, ◌≤◌, ◌^◌, ℕ, max, length};
 ghost use Rattle.os_io.specs.Counts.{raised};
-ghost use Rattle.flow_core.specs.Plans.{plan_meaning};
-ghost use Rattle.flow_core.specs.Serves.{Serves};
+ghost use Rattle.flow_core_laws.specs.Plans.{plan_meaning};
+ghost use Rattle.flow_core_laws.specs.Serves.{Serves};
 ghost use Rattle.frame_table.specs.Tokens.{view_of, known_of};
 ghost use Rattle.steal_pool.specs.Hands.{pushed_by, asks_of};
 ghost use Rattle.task_workers_deques.specs.Ready.{frames_of, MayWork, to_do};
@@ -11,7 +11,7 @@ ghost use Rattle.task_workers_deques.specs.Worked.{Worked};
 use crate::finding::find;
 use crate::log::WorkLog;
 use crate::running::run_claimed;
-use flow_core::Bodies;
+use flow_core_laws::Bodies;
 use frame_table::{FrameSeat, FrameTable};
 use steal_pool::Hand;
 use task_workers_round::Gate;

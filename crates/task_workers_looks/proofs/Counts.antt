@@ -2,11 +2,11 @@
 use Rattle.std.proofs.Common.{◌≡◌, ℕ, zero, suc, ◌+◌, ◌-◌, ◌*◌, suc-mul, ◌<◌, ◌≤◌, ◌≢◌, Bool, true, false, List, [], ◌∷◌, ◌++◌, refl, sym, ap, ◌∙◌, ◌⊎◌, inl, inr, arith, eq-eqb}
 use Rattle.std.specs.Prelude.{◌==◌}
 use Rattle.std.proofs.lemmas.Bool.{cases_eq, ne_eqb}
-use Rattle.flow_core.specs.declared.concurrent.view.View.{View}
+use Rattle.flow_core_concurrent.specs.declared.view.View.{View}
 use Rattle.frame_table.specs.Plays.{looked}
-use Rattle.flow_core.specs.Concurrent.States.{times}
-use Rattle.flow_core.specs.Concurrent.Counted.{one}
-use Rattle.flow_core.proofs.Seats.Looks.{times_push}
+use Rattle.flow_core_concurrent.specs.States.{times}
+use Rattle.flow_core_concurrent.specs.Counted.{one}
+use Rattle.flow_core_concurrent.proofs.Looks.{times_push}
 use Rattle.task_workers_looks.specs.Left.{left_of}
 
 left_other : (n : ℕ) (ran : List ℕ) (f : ℕ) → n ≤ f → left_of n (ran ++ f ∷ []) ≡ left_of n ran

@@ -3,21 +3,21 @@ use Rattle.std.proofs.Common.{◌≡◌, ℕ, ℤ, ◌+◌, ◌<◌, ◌≤◌, 
 use Rattle.std.specs.Prelude.{slice_get}
 use Rattle.std.specs.Option.{option_map, option_map_or}
 use Rattle.std.proofs.lemmas.Option.{slice_get-get_or}
-use Rattle.flow_core.specs.declared.outcome.Outcome.{Outcome}
-use Rattle.flow_core.specs.declared.plan.FramePlan.{FramePlan}
-use Rattle.flow_core.specs.declared.plan.Plan.{Plan}
-use Rattle.flow_core.specs.declared.plan.Piece.{Piece}
-use Rattle.flow_core.specs.declared.task_end.TaskEnd.TheVariants.{Done}
-use Rattle.flow_core.specs.declared.concurrent.known.Known.{Known}
-use Rattle.flow_core.specs.declared.concurrent.view.Run.{Run}
-use Rattle.flow_core.specs.declared.concurrent.view.View.{View}
-use Rattle.flow_core.specs.Outcome.{outcome_at}
-use Rattle.flow_core.specs.Element.{element}
-use Rattle.flow_core.specs.Round.{inputs_in}
-use Rattle.flow_core.specs.Plans.{frame_at, plan_reads, plan_meaning}
-use Rattle.flow_core.specs.Concurrent.Laws.{IsFit}
-use Rattle.flow_core.specs.Concurrent.Steps.{with_sub}
-use Rattle.flow_core.proofs.Rounds.{element-extends, outcome_at-meaning}
+use Rattle.flow_core_laws.specs.declared.outcome.Outcome.{Outcome}
+use Rattle.flow_core_laws.specs.declared.plan.FramePlan.{FramePlan}
+use Rattle.flow_core_laws.specs.declared.plan.Plan.{Plan}
+use Rattle.flow_core_laws.specs.declared.plan.Piece.{Piece}
+use Rattle.flow_core_laws.specs.declared.task_end.TaskEnd.TheVariants.{Done}
+use Rattle.flow_core_concurrent.specs.declared.known.Known.{Known}
+use Rattle.flow_core_concurrent.specs.declared.view.Run.{Run}
+use Rattle.flow_core_concurrent.specs.declared.view.View.{View}
+use Rattle.flow_core_laws.specs.Outcome.{outcome_at}
+use Rattle.flow_core_laws.specs.Element.{element}
+use Rattle.flow_core_laws.specs.Round.{inputs_in}
+use Rattle.flow_core_laws.specs.Plans.{frame_at, plan_reads, plan_meaning}
+use Rattle.flow_core_concurrent.specs.Laws.{IsFit}
+use Rattle.flow_core_concurrent.specs.Steps.{with_sub}
+use Rattle.flow_core_laws.proofs.Rounds.{element-extends, outcome_at-meaning}
 use Rattle.frame_table.specs.Seats.{MayDeliver, at}
 use Rattle.frame_table.specs.Plays.{subbed}
 use Rattle.task_workers_looks.specs.Left.{Stays}

@@ -1,10 +1,10 @@
 //! The reader that was created first, step by step, and by a worker.
 ghost use Rattle.std.specs.Prelude.{◌≡◌, ℤ, ◌+ℤ◌, ◌==◌, [], ◌∷◌, pos, map, ⊤, if◌then◌else◌};
-ghost use Rattle.flow_core.specs.declared.task_end.TaskEnd.TheVariants.{Done};
-ghost use Rattle.flow_core.specs.Outcome.{outcome_of};
+ghost use Rattle.flow_core_laws.specs.declared.task_end.TaskEnd.TheVariants.{Done};
+ghost use Rattle.flow_core_laws.specs.Outcome.{outcome_of};
 
 use crate::worker::{Windows, work};
-use flow_core::{Bodies, FramePlan, Piece, Plan, TaskEnd};
+use flow_core_laws::{Bodies, FramePlan, Piece, Plan, TaskEnd};
 use frame_table::FrameTable;
 use os_io::{List, Memory};
 use std::alloc::Global;

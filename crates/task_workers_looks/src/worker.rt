@@ -1,15 +1,15 @@
 ghost use Rattle.std.specs.Prelude.{◌≡◌, ◌+◌, ◌*◌, ◌<◌, ◌≤◌, ◌^◌, ℕ, None, Some, length};
-ghost use Rattle.flow_core.specs.declared.outcome.Outcome.{Outcome};
-ghost use Rattle.flow_core.specs.declared.task_end.TaskEnd.TheVariants.{Done};
-ghost use Rattle.flow_core.specs.Outcome.{outcome_at};
-ghost use Rattle.flow_core.specs.Plans.{frame_at, plan_meaning};
-ghost use Rattle.flow_core.specs.Serves.{Serves};
-ghost use Rattle.flow_core.specs.Concurrent.Steps.{first_place};
+ghost use Rattle.flow_core_laws.specs.declared.outcome.Outcome.{Outcome};
+ghost use Rattle.flow_core_laws.specs.declared.task_end.TaskEnd.TheVariants.{Done};
+ghost use Rattle.flow_core_laws.specs.Outcome.{outcome_at};
+ghost use Rattle.flow_core_laws.specs.Plans.{frame_at, plan_meaning};
+ghost use Rattle.flow_core_laws.specs.Serves.{Serves};
+ghost use Rattle.flow_core_concurrent.specs.Steps.{first_place};
 ghost use Rattle.frame_table.specs.Seats.{at};
 ghost use Rattle.frame_table.specs.Tokens.{IsSeatOf, view_of, known_of};
 ghost use Rattle.task_workers_looks.specs.Left.{Stays};
 
-use flow_core::{Bodies, TaskEnd};
+use flow_core_laws::{Bodies, TaskEnd};
 use frame_table::{FrameSeat, FrameTable};
 
 /// Room for the windows of one frame.

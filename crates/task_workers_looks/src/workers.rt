@@ -1,12 +1,12 @@
 //! Several workers over one table.
 ghost use Rattle.std.specs.Prelude.{◌≡◌, ◌≤◌, ◌<◌, ◌^◌, ℕ, All, length, slice_index_or};
-ghost use Rattle.flow_core.specs.Plans.{plan_meaning};
-ghost use Rattle.flow_core.specs.Serves.{Serves};
+ghost use Rattle.flow_core_laws.specs.Plans.{plan_meaning};
+ghost use Rattle.flow_core_laws.specs.Serves.{Serves};
 ghost use Rattle.frame_table.specs.Tokens.{known_of};
 ghost use Rattle.task_workers_looks.specs.Ready.{IsReady, IsBack};
 
 use crate::worker::{Windows, work};
-use flow_core::Bodies;
+use flow_core_laws::Bodies;
 use frame_table::{FrameSeat, FrameTable};
 use std::thread::{Threads, for_each_mut};
 

@@ -4,13 +4,13 @@ use Rattle.std.proofs.lemmas.List.{take-append-drop}
 use Rattle.std.proofs.lemmas.List.Sums.{sum_by-append}
 use Rattle.std.proofs.lemmas.List.Elements.{All-take, All-drop}
 use Rattle.flow_core.specs.declared.board.Board.{Board}
-use Rattle.flow_core.specs.declared.outcome.Outcome.{Outcome}
-use Rattle.flow_core.specs.declared.plan.Plan.{Plan}
-use Rattle.flow_core.specs.declared.task_end.TaskEnd.{TaskEnd}
+use Rattle.flow_core_laws.specs.declared.outcome.Outcome.{Outcome}
+use Rattle.flow_core_laws.specs.declared.plan.Plan.{Plan}
+use Rattle.flow_core_laws.specs.declared.task_end.TaskEnd.{TaskEnd}
 use Rattle.flow_core.specs.declared.waits.Waits.{Waits}
-use Rattle.flow_core.specs.Plans.{plan_meaning}
-use Rattle.flow_core.specs.IsSound.{IsSound}
-use Rattle.flow_core.specs.Serves.{Serves}
+use Rattle.flow_core_laws.specs.Plans.{plan_meaning}
+use Rattle.flow_core_laws.specs.IsSound.{IsSound}
+use Rattle.flow_core_laws.specs.Serves.{Serves}
 use Rattle.flow_core.specs.Counted.{IsCounted}
 use Rattle.flow_core.specs.Shows.{Shows}
 use Rattle.task_workers_round.specs.Results.{MayRun, outputs_of, room_of}

@@ -8,10 +8,10 @@ use Rattle.std.proofs.lemmas.List.{get_or-set_same, get_or-set_other, length-set
 use Rattle.std.proofs.lemmas.List.Sums.{sum_by_more, sum_by_more_le, sum_by-append, sum_by-take-le}
 use Rattle.std.proofs.lemmas.Slice.{between_is, take-put_mid_below, between-put_mid}
 use borrow.Rule.Slice.PartMut.{put_mid}
-use Rattle.flow_core.specs.declared.plan.Plan.{Plan}
-use Rattle.flow_core.specs.declared.task_end.TaskEnd.{TaskEnd}
-use Rattle.flow_core.specs.declared.task_end.TaskEnd.TheVariants.{Done}
-use Rattle.flow_core.specs.Outcome.{State}
+use Rattle.flow_core_laws.specs.declared.plan.Plan.{Plan}
+use Rattle.flow_core_laws.specs.declared.task_end.TaskEnd.{TaskEnd}
+use Rattle.flow_core_laws.specs.declared.task_end.TaskEnd.TheVariants.{Done}
+use Rattle.flow_core_laws.specs.Outcome.{State}
 use Rattle.flow_core.specs.Shows.{Gives}
 use Rattle.task_workers_round.specs.Results.{outputs_of, room_of, outputs_at, AreResults}
 

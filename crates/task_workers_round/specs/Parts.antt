@@ -1,13 +1,13 @@
 -- What a part of a round is run with.
 use Rattle.std.specs.Prelude.{◌≡◌, ℕ, ℤ, ◌<◌, ◌≤◌, List, All, length}
 use Rattle.flow_core.specs.declared.board.Board.{Board}
-use Rattle.flow_core.specs.declared.outcome.Outcome.{Outcome}
-use Rattle.flow_core.specs.declared.plan.Plan.{Plan}
-use Rattle.flow_core.specs.declared.task_end.TaskEnd.{TaskEnd}
+use Rattle.flow_core_laws.specs.declared.outcome.Outcome.{Outcome}
+use Rattle.flow_core_laws.specs.declared.plan.Plan.{Plan}
+use Rattle.flow_core_laws.specs.declared.task_end.TaskEnd.{TaskEnd}
 use Rattle.flow_core.specs.declared.waits.Waits.{Waits}
-use Rattle.flow_core.specs.Plans.{plan_meaning}
-use Rattle.flow_core.specs.IsSound.{IsSound}
-use Rattle.flow_core.specs.Serves.{Serves}
+use Rattle.flow_core_laws.specs.Plans.{plan_meaning}
+use Rattle.flow_core_laws.specs.IsSound.{IsSound}
+use Rattle.flow_core_laws.specs.Serves.{Serves}
 use Rattle.flow_core.specs.Counted.{IsCounted}
 use Rattle.flow_core.specs.Shows.{Shows}
 use Rattle.task_workers_round.specs.Results.{MayRun, room_of}

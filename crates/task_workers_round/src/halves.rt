@@ -1,8 +1,8 @@
 ghost use Rattle.std.specs.Prelude.{◌≡◌, ◌<◌, ◌≤◌, All, OnOk, length};
 ghost use denote.Param.Send.{IsSync, IsSend};
-ghost use Rattle.flow_core.specs.Plans.{plan_meaning};
-ghost use Rattle.flow_core.specs.IsSound.{IsSound};
-ghost use Rattle.flow_core.specs.Serves.{Serves};
+ghost use Rattle.flow_core_laws.specs.Plans.{plan_meaning};
+ghost use Rattle.flow_core_laws.specs.IsSound.{IsSound};
+ghost use Rattle.flow_core_laws.specs.Serves.{Serves};
 ghost use Rattle.flow_core.specs.Counted.{IsCounted};
 ghost use Rattle.flow_core.specs.Shows.{Shows};
 ghost use Rattle.task_workers_round.specs.Results.{AreResults, MayRun, room_of};

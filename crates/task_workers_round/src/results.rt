@@ -1,5 +1,5 @@
 ghost use Rattle.std.specs.Prelude.{◌≡◌, ◌≤◌, ◌+◌, IfOk, length, sum_by};
-ghost use Rattle.flow_core.specs.IsSound.{IsSound};
+ghost use Rattle.flow_core_laws.specs.IsSound.{IsSound};
 ghost use Rattle.task_workers_round.specs.Results.{room_of};
 
 use flow_core::{Plan, TaskEnd};

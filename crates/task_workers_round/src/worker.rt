@@ -1,7 +1,7 @@
 ghost use Rattle.std.specs.Prelude.{◌≡◌, ◌<◌, ◌≤◌, ◌+◌, IfOk, OnOk, All, length, slice_index};
-ghost use Rattle.flow_core.specs.Plans.{plan_meaning};
-ghost use Rattle.flow_core.specs.IsSound.{IsSound};
-ghost use Rattle.flow_core.specs.Serves.{Serves};
+ghost use Rattle.flow_core_laws.specs.Plans.{plan_meaning};
+ghost use Rattle.flow_core_laws.specs.IsSound.{IsSound};
+ghost use Rattle.flow_core_laws.specs.Serves.{Serves};
 ghost use Rattle.flow_core.specs.Counted.{IsCounted};
 ghost use Rattle.flow_core.specs.Shows.{Shows, Gives};
 ghost use Rattle.task_workers_round.specs.Results.{AreResults, MayRun, outputs_of, room_of};

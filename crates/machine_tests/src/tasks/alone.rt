@@ -6,7 +6,7 @@ ghost use Rattle.os_code.specs.Checking.{is_valid};
 ghost use Rattle.machine_tests.specs.Written.{alone};
 
 use crate::task_runs::{Ran, run_twice};
-use flow_core::Claim;
+use flow_core_laws::Claim;
 use os_code::{Binary, Instr, SiteItem, Unit};
 use os_io::Memory;
 use std::alloc::Global;

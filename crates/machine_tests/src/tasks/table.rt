@@ -1,7 +1,7 @@
 //! Bodies with each instruction, worked out by hand.
 
-use flow_core::TaskEnd;
-use flow_core::TaskEnd::{Done, OverBudget, Trapped};
+use flow_core_laws::TaskEnd;
+use flow_core_laws::TaskEnd::{Done, OverBudget, Trapped};
 use os_code::Instr::{
     Call, CheckAt, Copy, Drop, End, ItemCheck, ItemLoad, ItemStore, Jump, JumpZero, Load, LoadAt,
     Push, Store, StoreAt, Turn, Zero,

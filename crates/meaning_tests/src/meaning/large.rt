@@ -3,7 +3,7 @@
 use super::accepted;
 use crate::counted::COUNTED;
 use cddf_meaning_plain::{plain_body, plain_control};
-use flow_core::{Claim, ControlEnd, TaskEnd};
+use flow_core_laws::{Claim, ControlEnd, TaskEnd};
 use std::alloc::Global;
 use std::process::Abort;
 use std::test::Fail;

@@ -1,5 +1,5 @@
 ghost use Rattle.std.specs.Prelude.{◌≡◌, ⊤, length};
-ghost use Rattle.flow_core.specs.Plans.{frame_at};
+ghost use Rattle.flow_core_laws.specs.Plans.{frame_at};
 ghost use Rattle.runtime_tests.specs.Lasts.{end_of, last_of, last_outcome};
 
 use flow_core::{Bodies, Plan, TaskEnd};

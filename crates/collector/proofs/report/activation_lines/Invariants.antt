@@ -1,5 +1,5 @@
 use Rattle.std.proofs.Common.{List}
-use Rattle.flow_core.specs.declared.activation.Activation.{Activation}
+use Rattle.flow_core_laws.specs.declared.activation.Activation.{Activation}
 use Rattle.stream_match.specs.Layout.{IsLayoutOf}
 use Rattle.collector.specs.Buffering.{WentOn}
 use Rattle.collector.specs.Report.{activation_lines}

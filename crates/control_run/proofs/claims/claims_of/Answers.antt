@@ -1,6 +1,6 @@
 use Rattle.std.proofs.Common.{◌+◌, ◌*◌, List, drop, sym, ap, ◌∙◌, arith, rules, w32}
 use Rattle.std.proofs.lemmas.Int.{to_z-of_z}
-use Rattle.flow_core.specs.declared.claim.Claim.{Claim}
+use Rattle.flow_core_laws.specs.declared.claim.Claim.{Claim}
 use Rattle.os_code.specs.Machine.{spawned_claims}
 use Rattle.control_run.proofs.Joining.{joined, joined-more, joined-stops}
 use Rattle.control_run.proofs.claims.claims_of.Goals as goal

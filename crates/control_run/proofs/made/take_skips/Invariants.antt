@@ -1,5 +1,5 @@
 use Rattle.std.proofs.Common.{◌≡◌, ◌<◌, ◌++◌, All, length, take, drop}
-use Rattle.flow_core.specs.declared.claim.Claim.{Claim}
+use Rattle.flow_core_laws.specs.declared.claim.Claim.{Claim}
 use Rattle.os_code.specs.Machine.{claims_with_skips, skips_after_all}
 use Rattle.control_run.proofs.made.take_skips.Given as goal
 

@@ -1,6 +1,6 @@
 use Rattle.std.proofs.Common.{◌<◌, ◌≤◌, length, List, sym, ap, subst, ◌∙◌, arith}
 use Rattle.std.specs.Prelude.{All}
-use Rattle.flow_core.specs.declared.claim.Claim.{Claim}
+use Rattle.flow_core_laws.specs.declared.claim.Claim.{Claim}
 use Rattle.os_code.specs.declared.site.SiteItem.{SiteItem}
 use Rattle.os_code.specs.Machine.{horizon_sum, spawned_claims}
 use Rattle.control_run.proofs.Claimed.{made-few, made-small, made-sum, made-streams}

@@ -1,6 +1,6 @@
 use Rattle.std.proofs.Common.{◌≡◌, ℕ, ℤ, List, Option, ◌+◌, ◌<◌, ◌≤◌, length}
 use Rattle.std.specs.Prelude.{slice_get}
-use Rattle.flow_core.specs.Plans.{value_at}
+use Rattle.flow_core_laws.specs.Plans.{value_at}
 use Rattle.flow_core.proofs.cells.fill.Given as goal
 
 -- the first values are in their cells, and the other cells are as they were

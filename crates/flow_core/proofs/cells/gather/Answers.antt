@@ -1,5 +1,5 @@
 use Rattle.std.proofs.Common.{arith}
-use Rattle.flow_core.proofs.Gathering.{gathered-take_more, is_there}
+use Rattle.flow_core_laws.proofs.Gathering.{gathered-take_more, is_there}
 use Rattle.std.proofs.lemmas.Grind.{common_steps}
 use Rattle.flow_core.proofs.cells.gather.Goals as goal
 use Rattle.flow_core.proofs.cells.gather.Goals.{in-Some+in_ok-push, in_default}

@@ -1,7 +1,7 @@
-use Rattle.flow_core.specs.Element.{element}
+use Rattle.flow_core_laws.specs.Element.{element}
 use Rattle.std.proofs.Common.{length, ◌∙◌, arith}
-use Rattle.flow_core.specs.Plans.{plan_reads, plan_meaning}
-use Rattle.flow_core.proofs.Rounds.{length-meaning}
+use Rattle.flow_core_laws.specs.Plans.{plan_reads, plan_meaning}
+use Rattle.flow_core_laws.proofs.Rounds.{length-meaning}
 use Rattle.flow_core.proofs.Running.{IsRun-opening, all_ended, ends_meant, sink_meant, sink_fits}
 use Rattle.flow_core.proofs.one_thread.execute_one.Goals as goal
 

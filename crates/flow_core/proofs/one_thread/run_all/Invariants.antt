@@ -1,6 +1,6 @@
 use Rattle.std.proofs.Common.{◌≤◌, length, count_by}
 use Rattle.std.specs.Prelude.{is_none}
-use Rattle.flow_core.specs.Plans.{plan_meaning}
+use Rattle.flow_core_laws.specs.Plans.{plan_meaning}
 use Rattle.flow_core.specs.Board.{IsRun}
 use Rattle.flow_core.proofs.one_thread.run_all.Given as goal
 

@@ -1,5 +1,5 @@
 use Rattle.std.proofs.Common.{◌≡◌, ℕ, length, sym, ap, ◌∙◌, subst}
-use Rattle.flow_core.proofs.Gathering.{length-gathered}
+use Rattle.flow_core_laws.proofs.Gathering.{length-gathered}
 use Rattle.flow_core.proofs.one_thread.run_body.Goals as goal
 
 pub run-requires-clause-taken : goal.run-requires-clause-taken

@@ -1,6 +1,6 @@
 use Rattle.std.proofs.Common.{length, sym, ap, ◌∙◌, arith}
-use Rattle.flow_core.specs.Round.{gathered}
-use Rattle.flow_core.proofs.Gathering.{length-gathered}
+use Rattle.flow_core_laws.specs.Round.{gathered}
+use Rattle.flow_core_laws.proofs.Gathering.{length-gathered}
 use Rattle.flow_core.proofs.Showing.{AreEmpty-waiting, inputs_there, outcome_meant, part_read, length-stretch, IsSome-from}
 use Rattle.flow_core.proofs.one_thread.run_frame.Goals as goal
 

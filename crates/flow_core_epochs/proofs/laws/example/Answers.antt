@@ -1,14 +1,14 @@
 use Rattle.std.proofs.Common.{◌≡◌, ◌≢◌, ℕ, zero, suc, [], ◌∷◌, ◌++◌, Some, map, refl, ap, ◌∙◌, arith}
 use Rattle.std.specs.Prelude.{slice_get, All, IsSome}
 use Rattle.std.proofs.lemmas.Option.{same_Some}
-use Rattle.flow_core.specs.declared.activation.Activation.{Activation}
-use Rattle.flow_core.specs.Element.{element}
-use Rattle.flow_core.specs.Window.{windows}
-use Rattle.flow_core.specs.Place.{Place, input_places}
-use Rattle.flow_core.specs.Round.{meaning, rounds, round}
-use Rattle.flow_core.specs.Streams.{stream_source, stream_meaning, output_count}
-use Rattle.flow_core.specs.Plans.{cell_source, frame_at, plan_reads}
-use Rattle.flow_core.proofs.SoundTests.{IsSound-from_tests}
+use Rattle.flow_core_laws.specs.declared.activation.Activation.{Activation}
+use Rattle.flow_core_laws.specs.Element.{element}
+use Rattle.flow_core_laws.specs.Window.{windows}
+use Rattle.flow_core_laws.specs.Place.{Place, input_places}
+use Rattle.flow_core_laws.specs.Round.{meaning, rounds, round}
+use Rattle.flow_core_laws.specs.Streams.{stream_source, stream_meaning, output_count}
+use Rattle.flow_core_laws.specs.Plans.{cell_source, frame_at, plan_reads}
+use Rattle.flow_core_laws.proofs.SoundTests.{IsSound-from_tests}
 use Rattle.flow_core_epochs.specs.Epoch.{Kept, IsKeptFor, StandsForEpoch, epoch_source, value_kept}
 use Rattle.flow_core_epochs.specs.Example.{before, new, body, kept, plan, places}
 use Rattle.flow_core_epochs.proofs.laws.example.Goals as goal

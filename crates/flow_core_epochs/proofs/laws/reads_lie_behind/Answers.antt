@@ -1,6 +1,6 @@
 use Rattle.std.proofs.Common.{ℕ, List, ◌≤◌, ◌⊎◌, inl, inr, length}
 use Rattle.std.specs.Prelude.{Contains}
-use Rattle.flow_core.specs.declared.activation.Activation.{Activation}
+use Rattle.flow_core_laws.specs.declared.activation.Activation.{Activation}
 use Rattle.flow_core_epochs.proofs.Members.{Has}
 use Rattle.flow_core_epochs.proofs.Reading.{reads_behind, has_contained}
 use Rattle.flow_core_epochs.proofs.laws.reads_lie_behind.Goals as goal

@@ -1,8 +1,8 @@
 use Rattle.std.proofs.Common.{◌≡◌, subst}
 use Rattle.std.specs.Prelude.{IfOk}
-use Rattle.flow_core.specs.Outcome.{ends_of}
-use Rattle.flow_core.specs.Plans.{plan_meaning, sink_elements}
-use Rattle.flow_core.specs.declared.ends.Ends.{Ends}
+use Rattle.flow_core_laws.specs.Outcome.{ends_of}
+use Rattle.flow_core_laws.specs.Plans.{plan_meaning, sink_elements}
+use Rattle.flow_core_laws.specs.declared.ends.Ends.{Ends}
 use Rattle.os_code.specs.Codes.{parts_of}
 use Rattle.osrun_core_run.proofs.TasksRun.{bytes_if, ends_if}
 use Rattle.osrun_core_run.proofs.run_tasks.run_tasks.Goals as goal

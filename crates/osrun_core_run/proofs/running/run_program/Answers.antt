@@ -1,7 +1,7 @@
 use Rattle.std.proofs.Common.{◌∙◌, ◌≤◌, ap, length, refl, subst, sym}
 use Rattle.collector.specs.Written.{written}
-use Rattle.flow_core.specs.Streams.{stream_meaning}
-use Rattle.flow_core.specs.declared.ends.Ends.{Ends}
+use Rattle.flow_core_laws.specs.Streams.{stream_meaning}
+use Rattle.flow_core_laws.specs.declared.ends.Ends.{Ends}
 use Rattle.os_ast.specs.Views.{program_tree}
 use Rattle.osrun_core_run.proofs.FewWritten.{few_written}
 use Rattle.osrun_core_run.specs.Run.{body_at}

@@ -1,6 +1,6 @@
 use Rattle.std.proofs.Common.{◌≡◌, ◌-◌, ◌^◌, min, take}
 use Rattle.std.specs.Prelude.{sum_by}
-use Rattle.flow_core.specs.declared.claim.Claim.{Claim}
+use Rattle.flow_core_laws.specs.declared.claim.Claim.{Claim}
 use Rattle.runtime_tests.proofs.lawful.positions_in.Given as goal
 
 abbrev pub invariant-loop-claim : goal.invariant-loop-claim

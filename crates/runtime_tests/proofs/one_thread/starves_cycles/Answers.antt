@@ -1,10 +1,10 @@
 use Rattle.std.proofs.Common.{ℕ, pos, [], ◌∷◌, true, false, refl, sym, subst}
 use Rattle.std.specs.Prelude.{slice_index_or}
 use Rattle.runtime_tests.specs.declared.one_thread.Rule.{Rule}
-use Rattle.flow_core.specs.declared.plan.Plan.{Plan}
-use Rattle.flow_core.specs.declared.task_end.TaskEnd.TheVariants.{Done}
-use Rattle.flow_core.specs.IsSound.{IsSound}
-use Rattle.flow_core.proofs.SoundTests.{IsSound-from_tests, Serves-from_rules, Serves-at}
+use Rattle.flow_core_laws.specs.declared.plan.Plan.{Plan}
+use Rattle.flow_core_laws.specs.declared.task_end.TaskEnd.TheVariants.{Done}
+use Rattle.flow_core_laws.specs.IsSound.{IsSound}
+use Rattle.flow_core_laws.proofs.SoundTests.{IsSound-from_tests, Serves-from_rules, Serves-at}
 use Rattle.runtime_tests.proofs.one_thread.starves_cycles.Goals as goal
 
 abbrev at : ℕ → Rule

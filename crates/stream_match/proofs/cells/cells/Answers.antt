@@ -1,6 +1,6 @@
 use Rattle.std.proofs.Common.{◌∙◌, ◌+◌, ◌^◌, ◌<◌, ◌++◌, sym, ap, subst, arith, zero-add}
 use Rattle.std.specs.List.{flat_map, range_with_len}
-use Rattle.flow_core.proofs.Stretches.{flat_map-range_more}
+use Rattle.flow_core_laws.proofs.Stretches.{flat_map-range_more}
 use Rattle.stream_match.specs.declared.stretch.Stretch.{Stretch}
 use Rattle.stream_match.specs.Stretch.{stretch_at, stretch_cells}
 use Rattle.stream_match.proofs.CellSums.{spans_bound, is_stretch, stretch_begins, stretch_ends}

@@ -1,7 +1,7 @@
 use Rattle.std.proofs.Common.{◌≡◌, map, sym, ap, ◌∙◌}
 use Rattle.std.specs.List.{range_with_len}
-use Rattle.flow_core.specs.FirstPosition.{read_cursor, write_cursor}
-use Rattle.flow_core.specs.Window.{windows}
+use Rattle.flow_core_laws.specs.FirstPosition.{read_cursor, write_cursor}
+use Rattle.flow_core_laws.specs.Window.{windows}
 use Rattle.stream_match.specs.declared.layout.Layout.{Layout}
 use Rattle.stream_match.specs.Layout.{claims_in, writers_of}
 use Rattle.stream_match.proofs.laws.one_layout.Goals as goal

@@ -2,7 +2,7 @@ use Rattle.std.proofs.Common.{◌∙◌, length, ap, map, sym}
 use Rattle.std.specs.Prelude.{slice_index}
 use Rattle.std.specs.List.{range_with_len}
 use Rattle.std.proofs.lemmas.List.FromFn.{length-map-range_with_len}
-use Rattle.flow_core.specs.declared.plan.FramePlan.{FramePlan}
+use Rattle.flow_core_laws.specs.declared.plan.FramePlan.{FramePlan}
 use Rattle.stream_match.specs.Stretch.{frame_count, frame_of, cells_before}
 use Rattle.stream_match.specs.declared.stretch.Stretch.{Stretch}
 use Rattle.stream_match.proofs.Windows.{map_map}

@@ -1,5 +1,5 @@
 use Rattle.std.proofs.Common.{◌≡◌, ◌+◌, ◌++◌, length, take, drop, sum_by}
-use Rattle.flow_core.specs.declared.claim.Claim.{Claim as TheClaim}
+use Rattle.flow_core_laws.specs.declared.claim.Claim.{Claim as TheClaim}
 use Rattle.task_vm.specs.Rows.{rows_of}
 use Rattle.task_vm.proofs.rows.rows.Given as goal
 

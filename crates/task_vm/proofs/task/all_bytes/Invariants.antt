@@ -1,6 +1,6 @@
 use Rattle.std.proofs.Common.{◌≡◌, ◌+◌, ◌≤◌, length, drop, sum_by}
 use Rattle.std.specs.List.{filter}
-use Rattle.flow_core.specs.declared.claim.Claim.{Claim as TheClaim}
+use Rattle.flow_core_laws.specs.declared.claim.Claim.{Claim as TheClaim}
 use Rattle.task_vm.specs.Ending.{all_bytes_from}
 use Rattle.task_vm.proofs.task.all_bytes.Given as goal
 

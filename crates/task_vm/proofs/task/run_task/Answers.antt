@@ -1,5 +1,5 @@
 use Rattle.std.proofs.Common.{length, List, sym, ap, ◌∙◌, arith}
-use Rattle.flow_core.specs.declared.claim.Claim.{Claim}
+use Rattle.flow_core_laws.specs.declared.claim.Claim.{Claim}
 use Rattle.os_code.specs.Codes.{parts_of}
 use Rattle.task_vm.specs.Ending.{end_of, all_bytes_from}
 use Rattle.task_vm.specs.Space.{Space}

@@ -1,6 +1,6 @@
 use Rattle.std.proofs.Common.{ℕ, length, ap, subst, arith, rules}
 use Rattle.std.proofs.lemmas.List.{length-drop}
-use Rattle.flow_core.specs.Plans.{plan_meaning}
+use Rattle.flow_core_laws.specs.Plans.{plan_meaning}
 use Rattle.flow_core.specs.Board.{IsRun}
 use Rattle.task_workers_round.specs.Results.{room_of}
 use Rattle.task_workers.proofs.Apart.{opened_few, opened_room}

@@ -1,6 +1,6 @@
 use Rattle.std.proofs.Common.{◌≤◌, length, count_by, All}
 use Rattle.std.specs.Prelude.{is_none}
-use Rattle.flow_core.specs.Plans.{plan_meaning}
+use Rattle.flow_core_laws.specs.Plans.{plan_meaning}
 use Rattle.flow_core.specs.Board.{IsRun}
 use Rattle.task_workers_round.specs.declared.worker.Worker.{Worker}
 use Rattle.task_workers.proofs.rounds.run_rounds.Given as goal

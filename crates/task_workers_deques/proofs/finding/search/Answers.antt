@@ -1,6 +1,6 @@
 use Rattle.std.proofs.Common.{rules, arith, ap, sym, subst, refl, ◌∙◌, ◌≡◌, ◌+◌, ◌%◌, ◌<◌, length, Some, None, is_some, true, false}
 use Rattle.std.proofs.Math.Nat.{mod-lt}
-use Rattle.flow_core.specs.Concurrent.Steps.{next_look}
+use Rattle.flow_core_concurrent.specs.Steps.{next_look}
 use Rattle.frame_table.specs.Plays.{looked}
 use Rattle.frame_table.specs.Tokens.{view_of, known_of}
 use Rattle.task_workers_deques.proofs.Steps.{idled_on, idled_looked, looks_looked, idled_missed, looks_missed_turn, claimed_on, claimed_now}

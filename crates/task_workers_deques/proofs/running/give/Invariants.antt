@@ -1,5 +1,5 @@
 use Rattle.std.proofs.Common.{◌≡◌, ◌≤◌, Some}
-use Rattle.flow_core.specs.Plans.{frame_at}
+use Rattle.flow_core_laws.specs.Plans.{frame_at}
 use Rattle.frame_table.specs.Seats.{at}
 use Rattle.frame_table.specs.Tokens.{IsSeatOf, view_of, known_of}
 use Rattle.steal_pool.specs.Hands.{pushed_by, asks_of}

@@ -1,8 +1,8 @@
 use Rattle.std.proofs.Common.{rules, arith, ap, sym, subst, refl, ◌∙◌, ◌≡◌, ◌+◌, ◌-◌, ◌++◌, ◌≤◌, ◌<◌, [], ◌∷◌, List, length, get_or, Some, append-nil, ℕ}
 use Rattle.std.specs.Prelude.{slice_get}
-use Rattle.flow_core.specs.declared.plan.Plan.{Plan}
-use Rattle.flow_core.specs.declared.plan.Piece.{Piece}
-use Rattle.flow_core.specs.declared.concurrent.view.View.{View}
+use Rattle.flow_core_laws.specs.declared.plan.Plan.{Plan}
+use Rattle.flow_core_laws.specs.declared.plan.Piece.{Piece}
+use Rattle.flow_core_concurrent.specs.declared.view.View.{View}
 use Rattle.frame_table.specs.Tokens.{view_of, known_of}
 use Rattle.steal_pool.specs.Hands.{pushed_by, spare_of}
 use Rattle.task_workers_deques.proofs.Steps.{sub_is, gave_closed, gave_opened, made_closed, made_opened, at_number}

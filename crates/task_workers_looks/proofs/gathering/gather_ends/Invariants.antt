@@ -1,6 +1,6 @@
 use Rattle.std.specs.Prelude.{◌≡◌, take}
-use Rattle.flow_core.specs.Outcome.{ends_of}
-use Rattle.flow_core.specs.Plans.{plan_meaning}
+use Rattle.flow_core_laws.specs.Outcome.{ends_of}
+use Rattle.flow_core_laws.specs.Plans.{plan_meaning}
 use Rattle.task_workers_looks.proofs.gathering.gather_ends.Given as goal
 
 abbrev pub invariant-loop-frame : goal.invariant-loop-frame

@@ -1,5 +1,5 @@
 use Rattle.std.specs.Prelude.{◌≡◌, take}
-use Rattle.flow_core.specs.Plans.{plan_meaning, sink_elements}
+use Rattle.flow_core_laws.specs.Plans.{plan_meaning, sink_elements}
 use Rattle.task_workers_looks.proofs.gathering.gather_output.Given as goal
 
 abbrev pub invariant-loop-k : goal.invariant-loop-k

@@ -1,8 +1,8 @@
 use Rattle.std.proofs.Common.{arith, ap, ◌∙◌, ◌≡◌, ◌+◌, length, subst, Some}
 use Rattle.std.specs.Prelude.{slice_get}
-use Rattle.flow_core.specs.declared.plan.FramePlan.{FramePlan}
-use Rattle.flow_core.specs.declared.plan.Plan.{Plan}
-use Rattle.flow_core.specs.Plans.{frame_at}
+use Rattle.flow_core_laws.specs.declared.plan.FramePlan.{FramePlan}
+use Rattle.flow_core_laws.specs.declared.plan.Plan.{Plan}
+use Rattle.flow_core_laws.specs.Plans.{frame_at}
 use Rattle.frame_table.specs.Tokens.{known_of, view_of}
 use Rattle.task_workers_looks.proofs.Going.{next_piece, gone_on, stays_on, place_of, few_of}
 use Rattle.task_workers_looks.proofs.worker.give.Goals as goal

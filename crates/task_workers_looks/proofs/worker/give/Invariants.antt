@@ -1,5 +1,5 @@
 use Rattle.std.specs.Prelude.{◌≡◌, ◌≤◌, Some}
-use Rattle.flow_core.specs.Plans.{frame_at}
+use Rattle.flow_core_laws.specs.Plans.{frame_at}
 use Rattle.frame_table.specs.Seats.{at}
 use Rattle.frame_table.specs.Tokens.{IsSeatOf, view_of, known_of}
 use Rattle.task_workers_looks.specs.Left.{Stays}

@@ -1,8 +1,8 @@
 use Rattle.std.proofs.Common.{arith, ap, sym, ◌∙◌, ◌≡◌, length, Some, ℕ}
-use Rattle.flow_core.specs.declared.plan.Plan.{Plan}
-use Rattle.flow_core.specs.Element.{element}
-use Rattle.flow_core.specs.Round.{inputs_in}
-use Rattle.flow_core.specs.Plans.{plan_reads}
+use Rattle.flow_core_laws.specs.declared.plan.Plan.{Plan}
+use Rattle.flow_core_laws.specs.Element.{element}
+use Rattle.flow_core_laws.specs.Round.{inputs_in}
+use Rattle.flow_core_laws.specs.Plans.{plan_reads}
 use Rattle.frame_table.specs.Seats.{frame_of}
 use Rattle.frame_table.specs.Tokens.{known_of}
 use Rattle.task_workers_looks.proofs.Going.{meant_outcome}

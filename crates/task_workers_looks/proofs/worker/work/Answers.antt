@@ -1,10 +1,10 @@
 use Rattle.std.proofs.Common.{rules, arith, ap, sym, ◌∙◌, ◌≡◌, ◌<◌, length, ℕ, List, ◌++◌, ◌∷◌, []}
 use Rattle.std.proofs.Math.Nat.{mod-lt}
 use Rattle.std.specs.Prelude.{is_some}
-use Rattle.flow_core.specs.declared.plan.Plan.{Plan}
-use Rattle.flow_core.specs.declared.concurrent.view.View.{View}
-use Rattle.flow_core.specs.Concurrent.States.{times}
-use Rattle.flow_core.specs.Concurrent.Steps.{next_look}
+use Rattle.flow_core_laws.specs.declared.plan.Plan.{Plan}
+use Rattle.flow_core_concurrent.specs.declared.view.View.{View}
+use Rattle.flow_core_concurrent.specs.States.{times}
+use Rattle.flow_core_concurrent.specs.Steps.{next_look}
 use Rattle.frame_table.specs.Plays.{claimed}
 use Rattle.frame_table.specs.Tokens.{known_of, view_of}
 use Rattle.task_workers_looks.proofs.Counts.{smaller, looked_ran}

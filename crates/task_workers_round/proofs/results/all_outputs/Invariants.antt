@@ -1,5 +1,5 @@
 use Rattle.std.proofs.Common.{◌≡◌, ◌+◌, sum_by, drop}
-use Rattle.flow_core.specs.declared.plan.FramePlan.{FramePlan}
+use Rattle.flow_core_laws.specs.declared.plan.FramePlan.{FramePlan}
 use Rattle.task_workers_round.proofs.results.all_outputs.Given as goal
 
 abbrev pub invariant-loop-frame : goal.invariant-loop-frame

@@ -1,7 +1,7 @@
 use Rattle.std.proofs.Common.{◌≡◌, ℕ, ℤ, List, length, sym, ap, ◌∙◌, subst, arith}
-use Rattle.flow_core.specs.Plans.{frame_at}
-use Rattle.flow_core.specs.Round.{gathered}
-use Rattle.flow_core.proofs.Gathering.{length-gathered}
+use Rattle.flow_core_laws.specs.Plans.{frame_at}
+use Rattle.flow_core_laws.specs.Round.{gathered}
+use Rattle.flow_core_laws.proofs.Gathering.{length-gathered}
 use Rattle.flow_core.proofs.Showing.{inputs_there, outcome_meant, part_read, length-stretch, IsSome-from}
 use Rattle.task_workers_round.proofs.worker.run_frame.Goals as goal
 

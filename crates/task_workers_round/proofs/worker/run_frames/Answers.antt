@@ -1,5 +1,5 @@
 use Rattle.std.proofs.Common.{ap, arith, rules}
-use Rattle.flow_core.specs.declared.plan.FramePlan.{FramePlan}
+use Rattle.flow_core_laws.specs.declared.plan.FramePlan.{FramePlan}
 use Rattle.task_workers_round.proofs.Joining.{room_within, HaveRun-more}
 use Rattle.task_workers_round.proofs.worker.run_frames.Goals as goal
 

@@ -1,4 +1,4 @@
-use Rattle.flow_core.specs.Plans.{plan_meaning}
+use Rattle.flow_core_laws.specs.Plans.{plan_meaning}
 use Rattle.task_workers_round.proofs.Joining.{HaveRun}
 use Rattle.task_workers_round.proofs.worker.run_frames.Given as goal
 

@@ -1,7 +1,7 @@
 use Rattle.std.proofs.Common.{◌≡◌, ℕ, ◌+◌, arith, ap, ◌∙◌, subst}
-use Rattle.flow_core.specs.declared.plan.FramePlan.{FramePlan}
+use Rattle.flow_core_laws.specs.declared.plan.FramePlan.{FramePlan}
 use Rattle.flow_core.specs.Counted.{Carries}
-use Rattle.flow_core.specs.Plans.{frame_at}
+use Rattle.flow_core_laws.specs.Plans.{frame_at}
 use Rattle.flow_core.proofs.Carrying.{AreEmpty-next, Carries-more, OpensMore-trans}
 use Rattle.flow_core.proofs.board.Board.deliver.Goals as goal
 

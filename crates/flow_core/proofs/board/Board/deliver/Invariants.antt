@@ -1,9 +1,9 @@
 use Rattle.std.proofs.Common.{◌≡◌, ℕ, ℤ, List}
-use Rattle.flow_core.specs.declared.plan.Plan.{Plan}
+use Rattle.flow_core_laws.specs.declared.plan.Plan.{Plan}
 use Rattle.flow_core.specs.declared.board.Board.{Board}
 use Rattle.flow_core.specs.Counted.{IsCounted, Carries}
 use Rattle.flow_core.specs.Waits.{OpensMore}
-use Rattle.flow_core.specs.Plans.{frame_at}
+use Rattle.flow_core_laws.specs.Plans.{frame_at}
 use Rattle.flow_core.proofs.board.Board.deliver.Given as goal
 
 -- the pieces before one are carried over

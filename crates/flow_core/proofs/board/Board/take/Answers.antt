@@ -1,5 +1,5 @@
 use Rattle.std.proofs.Common.{List, Option, Some, sym, ap, ◌∙◌, subst, set}
-use Rattle.flow_core.specs.declared.task_end.TaskEnd.{TaskEnd}
+use Rattle.flow_core_laws.specs.declared.task_end.TaskEnd.{TaskEnd}
 use Rattle.flow_core.specs.Shows.{Shows, Gives}
 use Rattle.flow_core.proofs.Showing.{Shows-done}
 use Rattle.flow_core.proofs.board.Board.take.Goals as goal

@@ -1,5 +1,5 @@
 use Rattle.std.proofs.Common.{pos, [], ◌∷◌, cond, sym, ap, ◌∙◌}
-use Rattle.flow_core.proofs.SoundTests.{gives_one, outcome_of-end, outcome_of-outputs}
+use Rattle.flow_core_laws.proofs.SoundTests.{gives_one, outcome_of-end, outcome_of-outputs}
 use Rattle.runtime_tests.proofs.one_thread.TableBodies.run.Goals as goal
 
 pub returns-then-rule-clause-end : goal.returns-then-rule-clause-end

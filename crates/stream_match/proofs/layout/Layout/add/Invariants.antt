@@ -1,5 +1,5 @@
 use Rattle.std.proofs.Common.{◌≡◌, ◌++◌, List, false, true, length, take}
-use Rattle.flow_core.specs.Window.{Window}
+use Rattle.flow_core_laws.specs.Window.{Window}
 use Rattle.stream_match.specs.Layout.{claims_in, IsOfWindows}
 use Rattle.stream_match.proofs.Windows.{alike, first_windows}
 use Rattle.stream_match.proofs.layout.Layout.add.Given as goal

@@ -1,5 +1,5 @@
 use Rattle.std.proofs.Common.{◌≡◌, ◌++◌, List, length, take}
-use Rattle.flow_core.specs.declared.activation.Activation.{Activation}
+use Rattle.flow_core_laws.specs.declared.activation.Activation.{Activation}
 use Rattle.stream_match.specs.Layout.{IsLayoutOf}
 use Rattle.stream_match.proofs.layout.Layout.add_all.Given as goal
 

@@ -1,5 +1,0 @@
-use Rattle.flow_core.proofs.Seats.Claims.{claim_keeps}
-use Rattle.flow_core.proofs.concurrent.laws.claim_keeps_good.Goals as goal
-
-pub returns : goal.returns
-returns c = λ known state seat view frame fit. claim_keeps known state seat view frame fit.plan_is_sound

@@ -1,5 +1,0 @@
-use Rattle.flow_core.proofs.Seats.Complete.{complete}
-use Rattle.flow_core.proofs.concurrent.laws.nothing_left.Goals as goal
-
-pub returns : goal.returns
-returns c = λ known outcome state seat view fit. complete known outcome state seat view fit.plan_is_sound

@@ -1,5 +1,0 @@
-use Rattle.flow_core.proofs.Seats.Opens.{opens_good}
-use Rattle.flow_core.proofs.concurrent.laws.opening_is_good.Goals as goal
-
-pub returns : goal.returns
-returns c = λ known fit. opens_good known fit.plan_is_sound

@@ -1,0 +1,10 @@
+pub mod Counting
+pub mod Sources
+pub mod Gathering
+pub mod Rounds
+pub mod Examples
+pub mod Stretches
+pub mod Windows
+pub mod There
+pub mod Orders
+pub mod SoundTests

@@ -1,0 +1,12 @@
+use Rattle.flow_core_laws.specs.Element.{element}
+use Rattle.flow_core_laws.specs.Streams.{stream_reads}
+use Rattle.flow_core_laws.specs.Plans.{plan_reads}
+use Rattle.std.proofs.Common.{length}
+use Rattle.flow_core_laws.proofs.Rounds.{outcome_stays}
+use Rattle.flow_core_laws.proofs.laws.outcomes_stay.Goals as goal
+
+pub returns-clause-streams : goal.returns-clause-streams
+returns-clause-streams c = λ activations input body. outcome_stays element (stream_reads activations input) body (length activations)
+
+pub returns-clause-plans : goal.returns-clause-plans
+returns-clause-plans c = λ plan outcome. outcome_stays element (plan_reads plan) outcome (length plan.frames)

@@ -1,0 +1,17 @@
+-- What a reader believes: how an activation ends, and the states of a run,
+pub mod Outcome
+pub mod Byte
+pub mod Element
+pub mod Round
+-- what a list of activations means,
+pub mod FirstPosition
+pub mod Window
+pub mod Place
+pub mod Streams
+pub mod There
+-- and the same over a plan.
+pub mod Plans
+pub mod IsSound
+pub mod StandsFor
+pub mod Serves
+pub mod Laws

@@ -1,0 +1,32 @@
+//! Control-driven data flow, with no word of the language that it serves: what it means.
+//!
+//! A control program makes a list of activations. Each activation takes stream positions by its
+//! claims when it is created, and may run once every element of its input windows is there. This
+//! crate says what such a list means (`specs/`): where each claim begins, who produces an element,
+//! what one round does, and the meaning, which is reached after as many rounds as there are
+//! activations. A plan is the same with the positions worked out: frames with cells, and pieces that
+//! carry output elements into them.
+//!
+//! Nothing runs here. There are the types that activations, plans and ends are made of, the trait by
+//! which a runtime asks for the bodies of frames, and `laws`: what holds of every meaning, for the
+//! proofs of whatever runs one.
+#![tactic(auto)]
+
+mod activation;
+mod bodies;
+mod claim;
+mod control;
+mod ends;
+pub mod laws;
+mod outcome;
+mod plan;
+mod task_end;
+
+pub use activation::Activation;
+pub use bodies::Bodies;
+pub use claim::Claim;
+pub use control::{Control, ControlEnd};
+pub use ends::Ends;
+pub use outcome::Outcome;
+pub use plan::{FramePlan, Piece, Plan};
+pub use task_end::TaskEnd;
