@@ -17,4 +17,6 @@ mod mem_files;
 #[cfg(test)]
 mod mem_sinks;
 #[cfg(test)]
+mod rooms;
+#[cfg(test)]
 mod sinks;

@@ -10,7 +10,8 @@
 //! fail where a test says so. `HostFiles` and `HostSink` are those of the host: they tell no bytes,
 //! and that they do what the host is asked for rests on std and on a test each.
 //!
-//! A `List` is a vector that contracts see as the list of its items. `Memory` is want of memory,
+//! A `List` is a vector that contracts see as the list of its items, and a `Room` one that took its memory before,
+//! so that adding to it can't be refused. `Memory` is want of memory,
 //! the one answer that no clause ties to a cause.
 #![tactic(auto)]
 
@@ -23,6 +24,7 @@ mod mem_files;
 mod mem_sink;
 mod reading;
 mod refusals;
+mod room;
 mod sink;
 mod writing;
 
@@ -34,5 +36,6 @@ pub use mem_files::MemFiles;
 pub use mem_sink::MemSink;
 pub use reading::{Loaded, ReadError, read_whole};
 pub use refusals::{Failed, Memory};
+pub use room::Room;
 pub use sink::Sink;
 pub use writing::{WriteError, write_whole};

@@ -44,6 +44,13 @@ impl<T> List<T> {
         })
     }
 
+    // The list of the items of a vector.
+    pub(crate) fn of(items: Vec<T>) -> List<T>
+        ensures { result ≡ items.items }
+    {
+        List { items }
+    }
+
     /// The items, for reading.
     pub fn as_slice(&self) -> &[T]
         ensures { result.now ≡ self.now }
