@@ -25,16 +25,6 @@ fn window(inputs: &[i32], horizon: u32) -> (&[i32], &[i32])
     inputs.split_at(horizon)
 }
 
-fn copied(alloc: Global, numbers: &[i32]) -> Result<List<i32>, Memory>
-    ensures { IfOk result (λ copy. copy ≡ numbers.now) }
-{
-    let mut copy = List::new(alloc);
-    for number in numbers {
-        copy.push(*number)?;
-    }
-    Ok(copy)
-}
-
 /// The elements of the items.
 fn item_lists(alloc: Global, claims: &[Claim], inputs: &[i32]) -> Result<Vec<List<i32>>, Memory>
     ensures { IfOk result (λ items. items.items ≡ item_lists claims.now inputs.now) }
@@ -47,7 +37,7 @@ fn item_lists(alloc: Global, claims: &[Claim], inputs: &[i32]) -> Result<Vec<Lis
         } else {
             let (first, others) = window(inputs, claim.horizon);
             inputs = others;
-            copied(alloc, first)?
+            List::from_slice(alloc, first)?
         };
         items.push(item)?;
     }

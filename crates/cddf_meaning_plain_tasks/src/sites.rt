@@ -72,17 +72,6 @@ impl Sites {
     }
 }
 
-/// The same names once more.
-fn copied(alloc: Global, ids: &[u32]) -> Result<List<u32>, Memory>
-    ensures { IfOk result (λ copy. copy ≡ ids.now) }
-{
-    let mut copy = List::new(alloc);
-    for id in ids {
-        copy.push(*id)?;
-    }
-    Ok(copy)
-}
-
 /// The tasks of a program as their pragmas find them.
 pub fn sites_of(alloc: Global, tasks: &[Found<'_>]) -> Result<Sites, Memory>
     ensures { IfOk result (λ sites. sites ≡ sites_of (map task_of tasks.now)) }
@@ -91,7 +80,7 @@ pub fn sites_of(alloc: Global, tasks: &[Found<'_>]) -> Result<Sites, Memory>
     for task in tasks {
         sites.push(Site {
             place: task.site.mark.place,
-            captured: copied(alloc, task.captured.as_slice())?,
+            captured: List::from_slice(alloc, task.captured.as_slice())?,
         })?;
     }
     Ok(sites)

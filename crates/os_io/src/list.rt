@@ -74,6 +74,17 @@ impl<T> List<T> {
     }
 }
 
+impl<T: Copy> List<T> {
+    /// A list of the items of a slice, with memory for exactly these.
+    pub fn from_slice(alloc: Global, items: &[T]) -> Result<List<T>, Memory>
+        ensures { IfOk result (λ list. list ≡ items.now) }
+    {
+        Ok(List {
+            items: Vec::from_slice(alloc, items)?,
+        })
+    }
+}
+
 impl<T: Drop> List<T> {
     /// Takes memory for so many more items, so that adding them takes none. `Memory` leaves the list
     /// as it was.
