@@ -2,7 +2,7 @@ ghost use Rattle.std.specs.Prelude.{◌≡◌, [], ◌∷◌, ◌++◌, is_err, 
 ghost use Rattle.os_io.specs.Calls.{is_named};
 ghost use Rattle.os_io.specs.Counts.{raised};
 
-use crate::refusals::{Failed, Memory};
+use crate::errors::{Failed, Memory};
 use std::alloc::Global;
 
 /// The calls made on a fake, with the numbers of those that are to fail, counted from 0.

@@ -2,7 +2,7 @@ ghost use Rattle.std.specs.Prelude.{◌≡◌, ◌<◌, ◌≤◌, ℕ, List, Op
 ghost use Rattle.std.specs.Io.KnownBytes.{prepend_known, IsAtEnd};
 ghost use Rattle.os_io.specs.Counts.{HasRisen, last_count, raised};
 
-use crate::refusals::Failed;
+use crate::errors::Failed;
 
 /// Named files, of which one at a time is current and is read from front to back.
 /// A name is the bytes of its text.

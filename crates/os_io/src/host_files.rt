@@ -2,8 +2,8 @@ ghost use Rattle.std.specs.Prelude.{◌≡◌, ◌≤◌, length, Some, [], IfOk
 ghost use Rattle.std.specs.Io.KnownBytes.{ReadConsumes};
 ghost use Rattle.os_io.specs.Counts.{HasRisen, raised};
 
+use crate::errors::Failed;
 use crate::files::Files;
-use crate::refusals::Failed;
 use std::io::Read;
 use std::marker::Model;
 use std::{fs, rt};

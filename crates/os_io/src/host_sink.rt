@@ -2,7 +2,7 @@ ghost use Rattle.std.specs.Prelude.{◌≡◌, ◌≤◌, ◌<◌, ◌==◌, ◌
 ghost use Rattle.std.specs.Io.KnownBytes.{WriteAppends};
 ghost use Rattle.os_io.specs.Counts.{HasRisen, raised};
 
-use crate::refusals::Failed;
+use crate::errors::Failed;
 use crate::sink::Sink;
 use std::io::Write;
 use std::marker::Model;

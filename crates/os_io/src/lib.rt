@@ -16,6 +16,7 @@
 #![tactic(auto)]
 
 mod calls;
+mod errors;
 mod files;
 mod host_files;
 mod host_sink;
@@ -23,11 +24,11 @@ mod list;
 mod mem_files;
 mod mem_sink;
 mod reading;
-mod refusals;
 mod room;
 mod sink;
 mod writing;
 
+pub use errors::{Failed, Memory};
 pub use files::Files;
 pub use host_files::HostFiles;
 pub use host_sink::HostSink;
@@ -35,7 +36,6 @@ pub use list::List;
 pub use mem_files::MemFiles;
 pub use mem_sink::MemSink;
 pub use reading::{Loaded, ReadError, read_whole};
-pub use refusals::{Failed, Memory};
 pub use room::Room;
 pub use sink::Sink;
 pub use writing::{WriteError, write_whole};

@@ -1,6 +1,6 @@
 ghost use Rattle.std.specs.Prelude.{◌≡◌, [], ◌∷◌, ◌++◌, length, IfOk, OnOk, OnErr};
 
-use crate::refusals::Memory;
+use crate::errors::Memory;
 use std::alloc::Global;
 use std::marker::Model;
 

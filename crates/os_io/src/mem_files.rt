@@ -6,8 +6,8 @@ ghost use Rattle.os_io.specs.Views.{file, bytes_at, rest_at, IsPlaceIn};
 ghost use Rattle.os_io.specs.StoredFiles.{no_files, held, found, fails_next, read_count, after_open, after_read};
 
 use crate::calls::Calls;
+use crate::errors::{Failed, Memory};
 use crate::files::Files;
-use crate::refusals::{Failed, Memory};
 use std::alloc::Global;
 use std::marker::Model;
 

@@ -3,7 +3,7 @@ ghost use Rattle.os_io.specs.Counts.{HasRisen};
 ghost use Rattle.os_io.specs.BoundedSink.{fresh_sink, fails_next, write_count, after_write};
 
 use crate::calls::Calls;
-use crate::refusals::{Failed, Memory};
+use crate::errors::{Failed, Memory};
 use crate::sink::Sink;
 use std::alloc::Global;
 use std::marker::Model;

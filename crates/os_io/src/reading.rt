@@ -3,8 +3,8 @@ ghost use Rattle.std.specs.Io.KnownBytes.{prepend_known, IsAtEnd};
 ghost use Rattle.os_io.specs.Counts.{HasRisen, raised};
 ghost use Rattle.os_io.specs.Reading.{IfWhole, IsReadUpTo};
 
+use crate::errors::{Failed, Memory};
 use crate::files::Files;
-use crate::refusals::{Failed, Memory};
 use std::alloc::{AllocError, Global};
 use thiserror::Error;
 

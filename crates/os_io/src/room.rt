@@ -1,7 +1,7 @@
 ghost use Rattle.std.specs.Prelude.{◌≡◌, ◌≤◌, ◌+◌, [], ◌∷◌, ◌++◌, length, IfOk};
 
+use crate::errors::Memory;
 use crate::list::List;
-use crate::refusals::Memory;
 use std::alloc::Global;
 use std::marker::Model;
 

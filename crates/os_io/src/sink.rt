@@ -2,7 +2,7 @@ ghost use Rattle.std.specs.Prelude.{◌≡◌, ◌<◌, ◌≤◌, ℕ, List, Op
 ghost use Rattle.std.specs.Io.KnownBytes.{append_known};
 ghost use Rattle.os_io.specs.Counts.{HasRisen};
 
-use crate::refusals::Failed;
+use crate::errors::Failed;
 
 /// Takes bytes, some at a time.
 pub trait Sink {

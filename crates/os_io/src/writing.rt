@@ -3,7 +3,7 @@ ghost use Rattle.std.specs.Io.KnownBytes.{append_known};
 ghost use Rattle.os_io.specs.Counts.{HasRisen};
 ghost use Rattle.os_io.specs.Writing.{TookProperPrefix};
 
-use crate::refusals::Failed;
+use crate::errors::Failed;
 use crate::sink::Sink;
 use thiserror::Error;
 
