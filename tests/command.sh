@@ -403,7 +403,7 @@ judged "65 captured scalars" 3 "refused 22 line 3" "$(captures 65)" short.bin
 judged "65,536 array elements of a task" 0 "$fine" 'int main(void) {\n#pragma omp task\n{ int a[65535]; int b[1]; }\n}' short.bin
 judged "65,537 array elements of a task" 3 "refused 15 line 3" 'int main(void) {\n#pragma omp task\n{ int a[65535]; int b[2]; }\n}' short.bin
 judged "1,048,576 array elements of a program" 0 "$fine" "$(repeat 16 'int f%(void) { int a[65536]; }\n')int main(void) { }" short.bin
-judged "more array elements of a program" 3 "refused 15 line 17" "$(repeat 16 'int f%(void) { int a[65536]; }\n')int g(void) { int a[1]; }\nint main(void) { }" short.bin
+judged "more array elements of a program" 3 "refused 15 line 17" "$(repeat 16 'int f%(void) { int a[65536]; }\n')\nint g(void) { int a[1]; }\nint main(void) { }" short.bin
 judged "65,536 streams" 0 "$fine" 'int main(void) { int s[65536] __attribute__((stream)); }' short.bin
 judged "65,537 streams" 3 "refused 15 line 1" 'int main(void) { int s[65536] __attribute__((stream)), t __attribute__((stream)); }' short.bin
 activations='int main(void) {\nint i;\nfor (i = 0; i < %s; i++) {\n#pragma omp task\n;\n}\n}'
