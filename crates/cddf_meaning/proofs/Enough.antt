@@ -8,16 +8,16 @@ use Rattle.cddf_meaning.specs.Run.{loop}
 use Rattle.cddf_meaning.specs.State.{State}
 use Rattle.cddf_meaning.specs.declared.flow.Flow.TheVariants.{GoesOn, Breaks, Continues, Returns}
 
-given-same : (s : State) (turns : ℕ) (a : Answer (Left ℤ)) (f g : Left ℤ → Ran) → Falls turns a →
+pub given-same : (s : State) (turns : ℕ) (a : Answer (Left ℤ)) (f g : Left ℤ → Ran) → Falls turns a →
     ((n : Left ℤ) → n.turns ≤ turns → f n ≡ g n) → given a s f ≡ given a s g
 given-same s turns (Err ending) f g h e = refl
 given-same s turns (Ok n) f g h e = e n h
 
-if-same : (t : Bool) (a b c : Ran) → b ≡ c → (if t then a else b) ≡ (if t then a else c)
+pub if-same : (t : Bool) (a b c : Ran) → b ≡ c → (if t then a else b) ≡ (if t then a else c)
 if-same true a b c e = refl
 if-same false a b c e = e
 
-flows-same : (s : State) (turns : ℕ) (f g : Runs) (r : Ran) → Keeps s turns r → ((t : State) (left : ℕ) → left ≤ turns → f t left ≡ g t left) →
+pub flows-same : (s : State) (turns : ℕ) (f g : Runs) (r : Ran) → Keeps s turns r → ((t : State) (left : ℕ) → left ≤ turns → f t left ≡ g t left) →
     flows f r ≡ flows g r
 flows-same s turns f g (Ended ending acts) k e = refl
 flows-same s turns f g (Went GoesOn t left) (a, b) e = e t left a
@@ -25,7 +25,7 @@ flows-same s turns f g (Went Breaks t left) k e = refl
 flows-same s turns f g (Went Continues t left) k e = refl
 flows-same s turns f g (Went (Returns v) t left) k e = refl
 
-loops-same : (s : State) (turns : ℕ) (f g : Runs) (r : Ran) → Keeps s turns r → ((t : State) (left : ℕ) → left ≤ turns → f t left ≡ g t left) →
+pub loops-same : (s : State) (turns : ℕ) (f g : Runs) (r : Ran) → Keeps s turns r → ((t : State) (left : ℕ) → left ≤ turns → f t left ≡ g t left) →
     loops f r ≡ loops g r
 loops-same s turns f g (Ended ending acts) k e = refl
 loops-same s turns f g (Went GoesOn t left) (a, b) e = e t left a

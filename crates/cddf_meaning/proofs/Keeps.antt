@@ -35,7 +35,7 @@ keeps-from s t turns less (Ended ending acts) h e k = tt
 keeps-from s t turns less (Went flow u left) h e (a, b) = (omega (arith, h, a), b ∙ e)
 
 -- where a state has the same items
-keeps-on : (s t : State) (turns : ℕ) → item_lengths t ≡ item_lengths s → Keeps s turns (goes_on t turns)
+pub keeps-on : (s t : State) (turns : ℕ) → item_lengths t ≡ item_lengths s → Keeps s turns (goes_on t turns)
 keeps-on s t turns e = (omega arith, e)
 
 given-left : {A : Type 0} (s : State) (turns : ℕ) (a : Answer (Left A)) (next : Left A → Ran) → Falls turns a →
@@ -201,11 +201,11 @@ start-keeps u calls tree.StartTree.Empty s turns = keeps-on s s turns refl
 start-keeps u calls (tree.StartTree.Declare ds) s turns = declarators-keeps u calls ds s turns
 start-keeps u calls (tree.StartTree.Change c) s turns = change-keeps u.file calls c s turns
 
-test-falls : (file : File) → CallsFall file → (test : Option tree.ExprTree) (s : State) (turns : ℕ) → Falls turns (run_test file test s turns)
+pub test-falls : (file : File) → CallsFall file → (test : Option tree.ExprTree) (s : State) (turns : ℕ) → Falls turns (run_test file test s turns)
 test-falls file calls None s turns = omega arith
 test-falls file calls (Some e) s turns = value-falls file calls e s turns
 
-step-keeps : (file : File) → CallsFall file → (step : Option tree.ChangeTree) (s : State) (turns : ℕ) → Keeps s turns (run_step file step s turns)
+pub step-keeps : (file : File) → CallsFall file → (step : Option tree.ChangeTree) (s : State) (turns : ℕ) → Keeps s turns (run_step file step s turns)
 step-keeps file calls None s turns = keeps-on s s turns refl
 step-keeps file calls (Some c) s turns = change-keeps file calls c s turns
 

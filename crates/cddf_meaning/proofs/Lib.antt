@@ -1,4 +1,7 @@
 pub mod Enough
+pub mod Exact
+pub mod ExactFiles
+pub mod ExactRuns
 pub mod Falls
 pub mod Files
 pub mod IsIn

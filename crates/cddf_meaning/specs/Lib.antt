@@ -15,6 +15,7 @@ pub mod Program
 pub mod Body
 pub mod Control
 -- what laws and examples say
+pub mod Exact
 pub mod Examples
 pub mod Moves
 pub mod Skips

@@ -6,6 +6,7 @@
 ghost use Rattle.std.specs.Prelude.{◌≡◌, ◌<◌, ◌≤◌, ℕ, ℤ, List, get_or, length};
 ghost use Rattle.cddf_meaning.specs.Answers.{Answer, Left};
 ghost use Rattle.cddf_meaning.specs.Body.{task_outcome};
+ghost use Rattle.cddf_meaning.specs.Exact.{IsExact, RunsExactly};
 ghost use Rattle.cddf_meaning.specs.Flow.{Runs};
 ghost use Rattle.cddf_meaning.specs.Functions.{file_of};
 ghost use Rattle.cddf_meaning.specs.Moves.{Falls, Keeps, read_horizons, written_horizons};
@@ -49,4 +50,13 @@ pub fn outputs_have_their_horizons()
         read_horizons a.claims ≤ length inputs →
         (task_outcome (file_of items) t a inputs budget).end ≡ ends.Done →
         length (task_outcome (file_of items) t a inputs budget).outputs ≡ written_horizons a.claims }
+{}
+
+/// Budgets are exact: what gives something of a number of turns spends some of them. With as many, and any more, it gives
+/// the same and leaves the others, and with fewer it is over budget.
+pub fn budgets_are_exact()
+    ensures expressions { (items : List tree.ItemTree) (e : tree.ExprTree) (s : State) (turns : ℕ) →
+        IsExact ℤ (value (file_of items) e s) turns (value (file_of items) e s turns) }
+    ensures statements { (items : List tree.ItemTree) (u : Around) (a : tree.StmtTree) (s : State) (turns : ℕ) →
+        u.file ≡ file_of items → RunsExactly (run u a s) turns (run u a s turns) }
 {}

@@ -1,0 +1,142 @@
+-- An expression spends its turns exactly.
+use Rattle.std.proofs.Common.{◌≡◌, ℕ, zero, suc, ◌+◌, ◌-◌, ◌≤◌, ◌<◌, ◌⊎◌, inl, inr, Bool, true, false, not, if◌then◌else◌, List, ◌∷◌, [], Option, Some, None, Ok, Err, ℤ, pos, arith, refl, ap, ◌∙◌}
+use Rattle.std.proofs.lemmas.Bool.{cases_lt}
+use Rattle.c_int.specs.Operators.{is_zero, truth}
+use Rattle.cddf_meaning.specs.Answers.{Answer, Left, and_then, left, with_turns, over}
+use Rattle.cddf_meaning.specs.Exact.{Spends, IsExact}
+use Rattle.cddf_meaning.specs.File.{File, variable}
+use Rattle.cddf_meaning.specs.Operators.{binary_value, unary_value}
+use Rattle.cddf_meaning.specs.State.{State}
+use Rattle.cddf_meaning.specs.Value.{value, place_value, values, chained, linked, call_value, as_truth, element_at, elements, scalar_value}
+use Rattle.cddf_meaning.specs.Variables.{find}
+use Rattle.cddf_meaning.specs.declared.variable.Variable.{Variable}
+use Rattle.cddf_meaning.specs.declared.variable.Variable.TheVariants.{Constant, Function, Scalar, Array, Window, Stream, Item}
+use Rattle.os_ast.specs.Trees as tree
+use Rattle.os_ast.specs.declared.expr.Binary.{Binary}
+use Rattle.os_ast.specs.declared.expr.Binary.TheVariants as binary
+
+-- what is called spends its turns exactly too
+abbrev pub CallsExact : File → Type 0
+CallsExact file = (n : ℕ) (args : List ℤ) (turns : ℕ) → IsExact ℤ (file.calls n args) turns (file.calls n args turns)
+
+-- nothing is spent where something is given at once
+pub exact-here : {A : Type 0} (v : A) (turns : ℕ) → IsExact A (λ t. Ok (left v t)) turns (Ok (left v turns))
+exact-here v turns = record {
+  spent = 0;
+  all = omega arith;
+  enough = λ more. let is : 0 + more ≡ more = omega arith in ap (λ k. Ok (left v k)) is;
+  fewer = λ less h. absurd (omega (arith, h));
+}
+
+pub exact-with : {A : Type 0} (a : Answer A) (turns : ℕ) → IsExact A (λ t. with_turns t a) turns (with_turns turns a)
+exact-with (Err ending) turns = tt
+exact-with (Ok v) turns = exact-here v turns
+
+pub exact-if : {A : Type 0} (t : Bool) (f g : ℕ → Answer (Left A)) (turns : ℕ) → IsExact A f turns (f turns) → IsExact A g turns (g turns) →
+    IsExact A (λ k. if t then f k else g k) turns (if t then f turns else g turns)
+exact-if true f g turns a b = a
+exact-if false f g turns a b = b
+
+then-enough : {A B : Type 0} (f : ℕ → Answer (Left A)) (next : Left A → Answer (Left B)) (a b more : ℕ) (v : A) (w : B) →
+    f (a + (b + more)) ≡ Ok (left v (b + more)) → next (left v (b + more)) ≡ Ok (left w more) →
+    and_then (f (a + b + more)) next ≡ Ok (left w more)
+then-enough f next a b more v w first second =
+    let sums : a + b + more ≡ a + (b + more) = omega arith in
+    ap (λ k. and_then (f k) next) sums ∙ (ap (λ x. and_then x next) first ∙ second)
+
+then-fewer : {A B : Type 0} (f : ℕ → Answer (Left A)) (next : Left A → Answer (Left B)) (a b less : ℕ) (v : A) →
+    ((k : ℕ) → f (a + k) ≡ Ok (left v k)) → ((k : ℕ) → k < a → f k ≡ over) → ((k : ℕ) → k < b → next (left v k) ≡ over) →
+    less < a + b → (less < a) ⊎ (a ≤ less) → and_then (f less) next ≡ over
+then-fewer f next a b less v enough fewer behind h (inl lt) = ap (λ x. and_then x next) (fewer less lt)
+then-fewer f next a b less v enough fewer behind h (inr ge) =
+    let sums : less ≡ a + (less - a) = omega (arith, ge) in
+    ap (λ k. and_then (f k) next) sums ∙ (ap (λ x. and_then x next) (enough (less - a)) ∙ behind (less - a) (omega (arith, h, ge)))
+
+then-behind : {A B : Type 0} (f : ℕ → Answer (Left A)) (next : Left A → Answer (Left B)) (turns : ℕ) (n : Left A) →
+    Spends A f turns n → (b : Answer (Left B)) → IsExact B (λ t. next (left n.value t)) n.turns b →
+    IsExact B (λ t. and_then (f t) next) turns b
+then-behind f next turns n s (Err ending) e = tt
+then-behind f next turns n s (Ok w) e = record {
+  spent = s.spent + e.spent;
+  all = omega (arith, s.all, e.all);
+  enough = λ more. then-enough f next s.spent e.spent more n.value w.value (s.enough (e.spent + more)) (e.enough more);
+  fewer = λ less h. then-fewer f next s.spent e.spent less n.value s.enough s.fewer e.fewer h (cases_lt less s.spent);
+}
+
+-- one evaluation after another
+pub exact-then : {A B : Type 0} (f : ℕ → Answer (Left A)) (next : Left A → Answer (Left B)) (turns : ℕ) (a : Answer (Left A)) →
+    IsExact A f turns a → ((n : Left A) → IsExact B (λ t. next (left n.value t)) n.turns (next n)) →
+    IsExact B (λ t. and_then (f t) next) turns (and_then a next)
+exact-then f next turns (Err ending) e rest = tt
+exact-then f next turns (Ok n) e rest = then-behind f next turns n e (next n) (rest n)
+
+pub call-exact : (file : File) → CallsExact file → (v : Option Variable) (args : List ℤ) (turns : ℕ) →
+    IsExact ℤ (λ t. call_value file.calls v (left args t)) turns (call_value file.calls v (left args turns))
+call-exact file calls None args turns = exact-here (pos 0) turns
+call-exact file calls (Some (Function f)) args turns = calls f args turns
+call-exact file calls (Some (Constant v)) args turns = exact-here (pos 0) turns
+call-exact file calls (Some (Scalar v)) args turns = exact-here (pos 0) turns
+call-exact file calls (Some (Array vs)) args turns = exact-here (pos 0) turns
+call-exact file calls (Some (Window h)) args turns = exact-here (pos 0) turns
+call-exact file calls (Some (Stream first count)) args turns = exact-here (pos 0) turns
+call-exact file calls (Some (Item item)) args turns = exact-here (pos 0) turns
+
+truth-exact : (n : Left ℤ) → IsExact ℤ (λ t. as_truth (left n.value t)) n.turns (as_truth n)
+truth-exact n = exact-here (truth (not (is_zero n.value))) n.turns
+
+linked-exact : (op : Binary) (line : ℕ) (v : ℤ) (right : ℕ → Answer (Left ℤ)) → ((turns : ℕ) → IsExact ℤ right turns (right turns)) → (turns : ℕ) →
+    IsExact ℤ (λ t. linked op line (left v t) right) turns (linked op line (left v turns) right)
+linked-exact binary.And line v right e turns =
+    exact-if (is_zero v) (λ t. Ok (left (pos 0) t)) (λ t. and_then (right t) as_truth) turns (exact-here (pos 0) turns)
+    (exact-then right as_truth turns (right turns) (e turns) truth-exact)
+linked-exact binary.Or line v right e turns =
+    exact-if (is_zero v) (λ t. and_then (right t) as_truth) (λ t. Ok (left (pos 1) t)) turns
+    (exact-then right as_truth turns (right turns) (e turns) truth-exact) (exact-here (pos 1) turns)
+linked-exact op line v right e turns =
+    exact-then right (λ b. with_turns b.turns (binary_value op line v b.value)) turns (right turns) (e turns)
+    (λ n. exact-with (binary_value op line v n.value) n.turns)
+
+mutual
+  pub value-exact : (file : File) → CallsExact file → (e : tree.ExprTree) (s : State) (turns : ℕ) →
+      IsExact ℤ (value file e s) turns (value file e s turns)
+  value-exact file calls (tree.Number n) s turns = exact-here (pos n) turns
+  value-exact file calls (tree.Place t) s turns = place-exact file calls t s turns
+  value-exact file calls (tree.ExprTree.Call f args) s turns =
+      exact-then (values file args s) (call_value file.calls (variable file s f.id)) turns (values file args s turns)
+      (values-exact file calls args s turns) (λ n. call-exact file calls (variable file s f.id) n.value n.turns)
+  value-exact file calls (tree.Paren e) s turns = value-exact file calls e s turns
+  value-exact file calls (tree.Unary op m e) s turns =
+      exact-then (value file e s) (λ n. with_turns n.turns (unary_value op m.line n.value)) turns (value file e s turns)
+      (value-exact file calls e s turns) (λ n. exact-with (unary_value op m.line n.value) n.turns)
+  value-exact file calls (tree.Chain l first links) s turns =
+      exact-then (value file first s) (chained file links s) turns (value file first s turns) (value-exact file calls first s turns)
+      (λ n. chained-exact file calls links s n.value n.turns)
+  value-exact file calls (tree.Choice c a b) s turns =
+      exact-then (value file c s) (λ n. if is_zero n.value then value file b s n.turns else value file a s n.turns) turns (value file c s turns)
+      (value-exact file calls c s turns)
+      (λ n. exact-if (is_zero n.value) (value file b s) (value file a s) n.turns
+      (value-exact file calls b s n.turns) (value-exact file calls a s n.turns))
+
+  pub place-exact : (file : File) → CallsExact file → (t : tree.TargetTree) (s : State) (turns : ℕ) →
+      IsExact ℤ (place_value file t s) turns (place_value file t s turns)
+  place-exact file calls (tree.Variable n) s turns = exact-here (scalar_value s (variable file s n.id)) turns
+  place-exact file calls (tree.Element n m e) s turns =
+      exact-then (value file e s) (λ i. with_turns i.turns (element_at (elements s (find s.bound n.id)) m.line i.value)) turns (value file e s turns)
+      (value-exact file calls e s turns) (λ i. exact-with (element_at (elements s (find s.bound n.id)) m.line i.value) i.turns)
+
+  pub values-exact : (file : File) → CallsExact file → (es : tree.Args) (s : State) (turns : ℕ) →
+      IsExact (List ℤ) (values file es s) turns (values file es s turns)
+  values-exact file calls tree.no_args s turns = exact-here [] turns
+  values-exact file calls (tree.arg e es) s turns =
+      exact-then (value file e s) (λ n. and_then (values file es s n.turns) (λ ns. Ok (left (n.value ∷ ns.value) ns.turns))) turns (value file e s turns)
+      (value-exact file calls e s turns)
+      (λ n. exact-then (values file es s) (λ ns. Ok (left (n.value ∷ ns.value) ns.turns)) n.turns (values file es s n.turns)
+      (values-exact file calls es s n.turns) (λ ns. exact-here (n.value ∷ ns.value) ns.turns))
+
+  pub chained-exact : (file : File) → CallsExact file → (ls : tree.Links) (s : State) (v : ℤ) (turns : ℕ) →
+      IsExact ℤ (λ t. chained file ls s (left v t)) turns (chained file ls s (left v turns))
+  chained-exact file calls tree.no_links s v turns = exact-here v turns
+  chained-exact file calls (tree.link op m e rest) s v turns =
+      exact-then (λ t. linked op m.line (left v t) (value file e s)) (chained file rest s) turns (linked op m.line (left v turns) (value file e s))
+      (linked-exact op m.line v (value file e s) (value-exact file calls e s) turns)
+      (λ n. chained-exact file calls rest s n.value n.turns)

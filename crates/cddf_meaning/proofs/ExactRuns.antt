@@ -1,0 +1,440 @@
+-- A statement spends its turns exactly.
+use Rattle.std.proofs.Common.{◌≡◌, ℕ, zero, suc, ◌+◌, ◌-◌, ◌≤◌, ◌<◌, ◌⊎◌, inl, inr, Bool, true, false, if◌then◌else◌, List, [], ◌∷◌, ◌++◌, length, replicate, Option, Some, None, Ok, Err, ℤ, pos, arith, refl, ap, sym, subst, ◌∙◌}
+use Rattle.std.proofs.lemmas.Bool.{cases_lt}
+use Rattle.c_int.specs.Operators.{is_zero}
+use Rattle.cddf_meaning.specs.Answers.{Answer, Left, and_then, left, with_turns, over}
+use Rattle.cddf_meaning.specs.Claims.{limit}
+use Rattle.cddf_meaning.specs.Exact.{Spends, IsExact, SpendsIn, RunsExactly}
+use Rattle.cddf_meaning.specs.File.{File, variable}
+use Rattle.cddf_meaning.specs.Flow.{Ran, Went, Ended, Runs, given, goes_on, flows, loops, left_from, left_state}
+use Rattle.cddf_meaning.specs.Moves.{Falls, CallsFall, Keeps}
+use Rattle.cddf_meaning.specs.Operators.{binary_value, step_operator}
+use Rattle.cddf_meaning.specs.Run.{Around, loop, assigned, aim_at, old_value, after_store, changed, run_change, run_scalar, run_array, run_window, window_size, with_streams, run_streams, run_unsized_or, run_sized, run_declarator, run_declarators, run_start, run_test, run_step, run, run_all, array_size}
+use Rattle.cddf_meaning.specs.State.{State, declared, stored}
+use Rattle.cddf_meaning.specs.Streams.{stream_number, first_stream, stream_count, cursor_move, burst, burst_of, joined, item_claim, items_claims, claim_of, horizon_of, run_task, run_tick, tick_turn, moved, unless_limited, with_activation, captured_by, task_number}
+use Rattle.cddf_meaning.specs.Value.{value, values, checked, elements, call_value}
+use Rattle.cddf_meaning.specs.Variables.{find}
+use Rattle.cddf_meaning.specs.declared.aim.Aim.{Aim}
+use Rattle.cddf_meaning.specs.declared.aim.Aim.TheVariants.{Name, Element}
+use Rattle.cddf_meaning.specs.declared.ending.Ending.TheVariants.{OverBudget}
+use Rattle.cddf_meaning.specs.declared.flow.Flow.{Flow}
+use Rattle.cddf_meaning.specs.declared.flow.Flow.TheVariants.{GoesOn, Breaks, Continues, Returns}
+use Rattle.cddf_meaning.specs.declared.site.Site.{Site}
+use Rattle.cddf_meaning.specs.declared.variable.Variable.TheVariants.{Scalar, Array, Window}
+use Rattle.flow_core_laws.specs.declared.activation.Activation.{Activation}
+use Rattle.flow_core_laws.specs.declared.claim.Claim.{Claim}
+use Rattle.os_ast.specs.Parts as clause
+use Rattle.os_ast.specs.Parts.{parts}
+use Rattle.os_ast.specs.Trees as tree
+use Rattle.os_ast.specs.declared.expr.Mark.{Mark}
+use Rattle.os_ast.specs.declared.names.Direction.{Direction}
+use Rattle.cddf_meaning.proofs.Enough.{given-same, if-same, flows-same, loops-same, loop-enough}
+use Rattle.cddf_meaning.proofs.Falls.{value-falls}
+use Rattle.cddf_meaning.proofs.Keeps.{keeps-on, test-falls, step-keeps, run-keeps}
+use Rattle.cddf_meaning.proofs.Exact.{CallsExact, exact-here, exact-with, exact-if, exact-then, value-exact, values-exact, call-exact}
+
+-- what a statement comes to where it is over budget
+abbrev IsOver : Ran → Type 0
+IsOver r = (made : List Activation) × (r ≡ Ended OverBudget made)
+
+-- nothing is spent where a state is left at once
+went-exact : (flow : Flow) (s : State) (turns : ℕ) → RunsExactly (λ t. Went flow s t) turns (Went flow s turns)
+went-exact flow s turns = record {
+  spent = 0;
+  all = omega arith;
+  enough = λ more. let is : 0 + more ≡ more = omega arith in ap (λ k. Went flow s k) is;
+  fewer = λ less h. absurd (omega (arith, h));
+}
+
+runs-if : (t : Bool) (f g : ℕ → Ran) (turns : ℕ) → RunsExactly f turns (f turns) → RunsExactly g turns (g turns) →
+    RunsExactly (λ k. if t then f k else g k) turns (if t then f turns else g turns)
+runs-if true f g turns a b = a
+runs-if false f g turns a b = b
+
+-- an answer, and what follows it
+given-enough : {A : Type 0} (f : ℕ → Answer (Left A)) (s : State) (next : Left A → Ran) (a b more : ℕ) (v : A) (flow : Flow) (t : State) →
+    f (a + (b + more)) ≡ Ok (left v (b + more)) → next (left v (b + more)) ≡ Went flow t more →
+    given (f (a + b + more)) s next ≡ Went flow t more
+given-enough f s next a b more v flow t first second =
+    let sums : a + b + more ≡ a + (b + more) = omega arith in
+    ap (λ k. given (f k) s next) sums ∙ (ap (λ x. given x s next) first ∙ second)
+
+given-fewer : {A : Type 0} (f : ℕ → Answer (Left A)) (s : State) (next : Left A → Ran) (a b less : ℕ) (v : A) →
+    ((k : ℕ) → f (a + k) ≡ Ok (left v k)) → ((k : ℕ) → k < a → f k ≡ over) → ((k : ℕ) → k < b → IsOver (next (left v k))) →
+    less < a + b → (less < a) ⊎ (a ≤ less) → IsOver (given (f less) s next)
+given-fewer f s next a b less v enough fewer behind h (inl lt) = (s.activations, ap (λ x. given x s next) (fewer less lt))
+given-fewer f s next a b less v enough fewer behind h (inr ge) =
+    let sums : less ≡ a + (less - a) = omega (arith, ge) in
+    let (made, is) = behind (less - a) (omega (arith, h, ge)) in
+    (made, ap (λ k. given (f k) s next) sums ∙ (ap (λ x. given x s next) (enough (less - a)) ∙ is))
+
+given-behind : {A : Type 0} (f : ℕ → Answer (Left A)) (s : State) (next : Left A → Ran) (turns : ℕ) (n : Left A) →
+    Spends A f turns n → (b : Ran) → RunsExactly (λ t. next (left n.value t)) n.turns b → RunsExactly (λ t. given (f t) s next) turns b
+given-behind f s next turns n e (Ended ending made) r = tt
+given-behind f s next turns n e (Went flow t rest) r = record {
+  spent = e.spent + r.spent;
+  all = omega (arith, e.all, r.all);
+  enough = λ more. given-enough f s next e.spent r.spent more n.value flow t (e.enough (r.spent + more)) (r.enough more);
+  fewer = λ less h. given-fewer f s next e.spent r.spent less n.value e.enough e.fewer r.fewer h (cases_lt less e.spent);
+}
+
+given-exact : {A : Type 0} (f : ℕ → Answer (Left A)) (s : State) (next : Left A → Ran) (turns : ℕ) (a : Answer (Left A)) → IsExact A f turns a →
+    ((n : Left A) → n.turns ≤ turns → RunsExactly (λ t. next (left n.value t)) n.turns (next n)) → RunsExactly (λ t. given (f t) s next) turns (given a s next)
+given-exact f s next turns (Err ending) e rest = tt
+given-exact f s next turns (Ok n) e rest = given-behind f s next turns n e (next n) (rest n (omega (arith, e.all)))
+
+given-plain : {A : Type 0} (a : Answer A) (s : State) (next : A → ℕ → Ran) (turns : ℕ) → ((v : A) → RunsExactly (next v) turns (next v turns)) →
+    RunsExactly (λ t. given a s (λ v. next v t)) turns (given a s (λ v. next v turns))
+given-plain (Err ending) s next turns rest = tt
+given-plain (Ok v) s next turns rest = rest v
+
+-- a statement, and what follows it: `join` is `flows` or `loops`, where it goes on in a way
+joined-enough : (join : Ran → Ran) (f : ℕ → Ran) (next : ℕ → Ran) (a b more : ℕ) (first last : Flow) (s t : State) →
+    ((k : ℕ) → join (Went first s k) ≡ next k) → f (a + (b + more)) ≡ Went first s (b + more) → next (b + more) ≡ Went last t more →
+    join (f (a + b + more)) ≡ Went last t more
+joined-enough join f next a b more first last s t goes one two =
+    let sums : a + b + more ≡ a + (b + more) = omega arith in
+    ap (λ k. join (f k)) sums ∙ (ap join one ∙ (goes (b + more) ∙ two))
+
+joined-fewer : (join : Ran → Ran) (f : ℕ → Ran) (next : ℕ → Ran) (a b less : ℕ) (first : Flow) (s : State) →
+    ((k : ℕ) → join (Went first s k) ≡ next k) → ((made : List Activation) → join (Ended OverBudget made) ≡ Ended OverBudget made) →
+    ((k : ℕ) → f (a + k) ≡ Went first s k) → ((k : ℕ) → k < a → IsOver (f k)) → ((k : ℕ) → k < b → IsOver (next k)) →
+    less < a + b → (less < a) ⊎ (a ≤ less) → IsOver (join (f less))
+joined-fewer join f next a b less first s goes ends enough fewer behind h (inl lt) =
+    let (made, is) = fewer less lt in
+    (made, ap join is ∙ ends made)
+joined-fewer join f next a b less first s goes ends enough fewer behind h (inr ge) =
+    let sums : less ≡ a + (less - a) = omega (arith, ge) in
+    let (made, is) = behind (less - a) (omega (arith, h, ge)) in
+    (made, ap (λ k. join (f k)) sums ∙ (ap join (enough (less - a)) ∙ (goes (less - a) ∙ is)))
+
+joined-behind : (join : Ran → Ran) (f : ℕ → Ran) (next : ℕ → Ran) (turns rest : ℕ) (first : Flow) (s : State) →
+    ((k : ℕ) → join (Went first s k) ≡ next k) → ((made : List Activation) → join (Ended OverBudget made) ≡ Ended OverBudget made) →
+    SpendsIn f turns first s rest → (b : Ran) → RunsExactly next rest b → RunsExactly (λ t. join (f t)) turns b
+joined-behind join f next turns rest first s goes ends e (Ended ending made) r = tt
+joined-behind join f next turns rest first s goes ends e (Went last t left) r = record {
+  spent = e.spent + r.spent;
+  all = omega (arith, e.all, r.all);
+  enough = λ more. joined-enough join f next e.spent r.spent more first last s t goes (e.enough (r.spent + more)) (r.enough more);
+  fewer = λ less h. joined-fewer join f next e.spent r.spent less first s goes ends e.enough e.fewer r.fewer h (cases_lt less e.spent);
+}
+
+-- nothing follows: `join` changes at most the flow and the state
+ended-exact : (join : Ran → Ran) (f : ℕ → Ran) (turns rest : ℕ) (first last : Flow) (s t : State) →
+    ((k : ℕ) → join (Went first s k) ≡ Went last t k) → ((made : List Activation) → join (Ended OverBudget made) ≡ Ended OverBudget made) →
+    SpendsIn f turns first s rest → RunsExactly (λ k. join (f k)) turns (Went last t rest)
+ended-exact join f turns rest first last s t goes ends e =
+    joined-behind join f (λ k. Went last t k) turns rest first s goes ends e (Went last t rest) (went-exact last t rest)
+
+flows-exact : (next : Runs) (f : ℕ → Ran) (turns : ℕ) (r : Ran) → RunsExactly f turns r →
+    ((s : State) (left : ℕ) → left ≤ turns → RunsExactly (next s) left (next s left)) → RunsExactly (λ t. flows next (f t)) turns (flows next r)
+flows-exact next f turns (Ended ending made) e rest = tt
+flows-exact next f turns (Went GoesOn s left) e rest =
+    joined-behind (flows next) f (next s) turns left GoesOn s (λ k. refl) (λ made. refl) e (next s left) (rest s left (omega (arith, e.all)))
+flows-exact next f turns (Went Breaks s left) e rest = ended-exact (flows next) f turns left Breaks Breaks s s (λ k. refl) (λ made. refl) e
+flows-exact next f turns (Went Continues s left) e rest = ended-exact (flows next) f turns left Continues Continues s s (λ k. refl) (λ made. refl) e
+flows-exact next f turns (Went (Returns v) s left) e rest = ended-exact (flows next) f turns left (Returns v) (Returns v) s s (λ k. refl) (λ made. refl) e
+
+loops-exact : (next : Runs) (f : ℕ → Ran) (turns : ℕ) (r : Ran) → RunsExactly f turns r →
+    ((s : State) (left : ℕ) → left ≤ turns → RunsExactly (next s) left (next s left)) → RunsExactly (λ t. loops next (f t)) turns (loops next r)
+loops-exact next f turns (Ended ending made) e rest = tt
+loops-exact next f turns (Went GoesOn s left) e rest =
+    joined-behind (loops next) f (next s) turns left GoesOn s (λ k. refl) (λ made. refl) e (next s left) (rest s left (omega (arith, e.all)))
+loops-exact next f turns (Went Breaks s left) e rest = ended-exact (loops next) f turns left Breaks GoesOn s s (λ k. refl) (λ made. refl) e
+loops-exact next f turns (Went Continues s left) e rest =
+    joined-behind (loops next) f (next s) turns left Continues s (λ k. refl) (λ made. refl) e (next s left) (rest s left (omega (arith, e.all)))
+loops-exact next f turns (Went (Returns v) s left) e rest = ended-exact (loops next) f turns left (Returns v) (Returns v) s s (λ k. refl) (λ made. refl) e
+
+left-exact : (outer : State) (f : ℕ → Ran) (turns : ℕ) (r : Ran) → RunsExactly f turns r → RunsExactly (λ t. left_from outer (f t)) turns (left_from outer r)
+left-exact outer f turns (Ended ending made) e = tt
+left-exact outer f turns (Went flow s left) e =
+    ended-exact (left_from outer) f turns left flow flow s (left_state outer s) (λ k. refl) (λ made. refl) e
+
+-- what spends one turn more
+one-more : (f g : ℕ → Ran) (turns : ℕ) (r : Ran) → ((made : List Activation) × (f zero ≡ Ended OverBudget made)) → ((k : ℕ) → f (suc k) ≡ g k) →
+    RunsExactly g turns r → RunsExactly f (suc turns) r
+one-more f g turns (Ended ending made) first more e = tt
+one-more f g turns (Went flow s left) first more e = record {
+  spent = suc e.spent;
+  all = omega (arith, e.all);
+  enough = λ k. let is : suc e.spent + k ≡ suc (e.spent + k) = omega arith in ap f is ∙ (more (e.spent + k) ∙ e.enough k);
+  fewer = fewer-one;
+}
+  where
+    fewer-one : (less : ℕ) → less < suc e.spent → IsOver (f less)
+    fewer-one zero h = first
+    fewer-one (suc less) h = let (made, is) = e.fewer less (omega (arith, h)) in (made, more less ∙ is)
+
+-- A loop takes as many turns as it has, for every count that is as large as these: so a loop with its turns as count is one step of it, and then one
+-- with the turns that are left.
+abbrev again : (test : State → ℕ → Answer (Left ℤ)) (body step : Runs) → Runs
+again test body step s turns = loop turns test body step s turns
+
+abbrev turn-of : (test : State → ℕ → Answer (Left ℤ)) (body step : Runs) → Runs
+turn-of test body step s turns =
+    given (test s turns) s
+    (λ n. if is_zero n.value then goes_on s n.turns
+    else loops (λ s turns. flows (again test body step) (step s turns)) (body s n.turns))
+
+loop-turn : (test : State → ℕ → Answer (Left ℤ)) (body step : Runs) → ((s : State) (turns : ℕ) → Falls turns (test s turns)) →
+    ((s : State) (turns : ℕ) → Keeps s turns (body s turns)) → ((s : State) (turns : ℕ) → Keeps s turns (step s turns)) →
+    (s : State) (turns : ℕ) → again test body step s (suc turns) ≡ turn-of test body step s turns
+loop-turn test body step ft kb ks s turns =
+    let f : Runs = λ s left. flows (loop turns test body step) (step s left) in
+    let g : Runs = λ s left. flows (again test body step) (step s left) in
+    given-same s turns (test s turns) (λ n. if is_zero n.value then goes_on s n.turns else loops f (body s n.turns))
+    (λ n. if is_zero n.value then goes_on s n.turns else loops g (body s n.turns)) (ft s turns)
+    (λ n h. if-same (is_zero n.value) (goes_on s n.turns) (loops f (body s n.turns)) (loops g (body s n.turns))
+    (loops-same s n.turns f g (body s n.turns) (kb s n.turns)
+    (λ t left k. flows-same t left (loop turns test body step) (again test body step) (step t left) (ks t left)
+    (λ u rest j. loop-enough turns rest test body step ft kb ks u rest (omega (arith, h, k, j)) (omega arith)))))
+
+loop-exact : (test : State → ℕ → Answer (Left ℤ)) (body step : Runs) → ((s : State) (turns : ℕ) → Falls turns (test s turns)) →
+    ((s : State) (turns : ℕ) → Keeps s turns (body s turns)) → ((s : State) (turns : ℕ) → Keeps s turns (step s turns)) →
+    ((s : State) (turns : ℕ) → IsExact ℤ (test s) turns (test s turns)) →
+    ((s : State) (turns : ℕ) → RunsExactly (body s) turns (body s turns)) →
+    ((s : State) (turns : ℕ) → RunsExactly (step s) turns (step s turns)) →
+    (bound : ℕ) (s : State) (turns : ℕ) → turns ≤ bound → RunsExactly (again test body step s) turns (again test body step s turns)
+loop-exact test body step ft kb ks et eb es bound s zero h = tt
+loop-exact test body step ft kb ks et eb es zero s (suc turns) h = absurd (omega (arith, h))
+loop-exact test body step ft kb ks et eb es (suc bound) s (suc turns) h =
+    let next : Runs = λ s left. flows (again test body step) (step s left) in
+    let turn : RunsExactly (turn-of test body step s) turns (turn-of test body step s turns) =
+    given-exact (test s) s (λ n. if is_zero n.value then goes_on s n.turns else loops next (body s n.turns)) turns (test s turns) (et s turns)
+    (λ n i. runs-if (is_zero n.value) (goes_on s) (λ left. loops next (body s left)) n.turns (went-exact GoesOn s n.turns)
+    (loops-exact next (body s) n.turns (body s n.turns) (eb s n.turns)
+    (λ t left j. flows-exact (again test body step) (step t) left (step t left) (es t left)
+    (λ u rest k. loop-exact test body step ft kb ks et eb es bound u rest (omega (arith, h, i, j, k)))))) in
+    subst (RunsExactly (again test body step s) (suc turns)) (sym (loop-turn test body step ft kb ks s turns))
+    (one-more (again test body step s) (turn-of test body step s) turns (turn-of test body step s turns) (s.activations, refl)
+    (loop-turn test body step ft kb ks s) turn)
+
+-- an answer that needs no turn, and what is made of it
+mapped-exact : {A B : Type 0} (a : Answer A) (f : A → B) (turns : ℕ) →
+    IsExact B (λ t. and_then a (λ v. Ok (left (f v) t))) turns (and_then a (λ v. Ok (left (f v) turns)))
+mapped-exact (Err ending) f turns = tt
+mapped-exact (Ok v) f turns = exact-here (f v) turns
+
+aim-exact : (file : File) → CallsExact file → (t : tree.TargetTree) (s : State) (turns : ℕ) → IsExact Aim (aim_at file t s) turns (aim_at file t s turns)
+aim-exact file calls (tree.Variable n) s turns = exact-here (Name n.id) turns
+aim-exact file calls (tree.Element n m e) s turns =
+    exact-then (value file e s)
+    (λ i. and_then (checked (length (elements s (find s.bound n.id))) m.line i.value) (λ k. Ok (left (Element n.id k) i.turns))) turns (value file e s turns)
+    (value-exact file calls e s turns)
+    (λ i. mapped-exact (checked (length (elements s (find s.bound n.id))) m.line i.value) (Element n.id) i.turns)
+
+changed-exact : (file : File) → CallsExact file → (t : tree.TargetTree) (right : ℤ → State → ℕ → Answer (Left ℤ)) →
+    ((old : ℤ) (s : State) (turns : ℕ) → IsExact ℤ (right old s) turns (right old s turns)) → (s : State) (turns : ℕ) →
+    RunsExactly (changed file t right s) turns (changed file t right s turns)
+changed-exact file calls t right e s turns =
+    given-exact (aim_at file t s) s
+    (λ a. given (right (old_value file s a.value) s a.turns) s (λ v. goes_on (after_store s a.value v.value) v.turns)) turns (aim_at file t s turns)
+    (aim-exact file calls t s turns)
+    (λ a i. given-exact (right (old_value file s a.value) s) s (λ v. goes_on (after_store s a.value v.value) v.turns) a.turns
+    (right (old_value file s a.value) s a.turns) (e (old_value file s a.value) s a.turns)
+    (λ v j. went-exact GoesOn (after_store s a.value v.value) v.turns))
+
+change-exact : (file : File) → CallsExact file → (c : tree.ChangeTree) (s : State) (turns : ℕ) →
+    RunsExactly (run_change file c s) turns (run_change file c s turns)
+change-exact file calls (tree.Set t a m e) s turns =
+    changed-exact file calls t
+    (λ old s turns. and_then (value file e s turns) (λ n. with_turns n.turns (assigned a m.line old n.value)))
+    (λ old s turns. exact-then (value file e s) (λ n. with_turns n.turns (assigned a m.line old n.value)) turns (value file e s turns)
+    (value-exact file calls e s turns) (λ n. exact-with (assigned a m.line old n.value) n.turns))
+    s turns
+change-exact file calls (tree.After t p m) s turns =
+    changed-exact file calls t (λ old s turns. with_turns turns (binary_value (step_operator p) m.line old (pos 1)))
+    (λ old s turns. exact-with (binary_value (step_operator p) m.line old (pos 1)) turns) s turns
+change-exact file calls (tree.Before t p m) s turns =
+    changed-exact file calls t (λ old s turns. with_turns turns (binary_value (step_operator p) m.line old (pos 1)))
+    (λ old s turns. exact-with (binary_value (step_operator p) m.line old (pos 1)) turns) s turns
+
+valued-exact : (file : File) → CallsExact file → (e : tree.ExprTree) (s : State) (turns : ℕ) (next : Left ℤ → Ran) →
+    ((n : Left ℤ) → RunsExactly (λ t. next (left n.value t)) n.turns (next n)) →
+    RunsExactly (λ t. given (value file e s t) s next) turns (given (value file e s turns) s next)
+valued-exact file calls e s turns next k =
+    given-exact (value file e s) s next turns (value file e s turns) (value-exact file calls e s turns) (λ n i. k n)
+
+scalar-exact : (file : File) → CallsExact file → (id : ℕ) (first : Option tree.ExprTree) (s : State) (turns : ℕ) →
+    RunsExactly (run_scalar file id first s) turns (run_scalar file id first s turns)
+scalar-exact file calls id None s turns = went-exact GoesOn (declared id (Scalar (pos 0)) s) turns
+scalar-exact file calls id (Some e) s turns =
+    let inner = declared id (Scalar (pos 0)) s in
+    valued-exact file calls e inner turns (λ n. goes_on (stored inner id n.value) n.turns) (λ n. went-exact GoesOn (stored inner id n.value) n.turns)
+
+either-exact : (t : Bool) (a b : Runs) → ((s : State) (turns : ℕ) → RunsExactly (a s) turns (a s turns)) →
+    ((s : State) (turns : ℕ) → RunsExactly (b s) turns (b s turns)) → (s : State) (turns : ℕ) →
+    RunsExactly ((if t then a else b) s) turns ((if t then a else b) s turns)
+either-exact true a b f g s turns = f s turns
+either-exact false a b f g s turns = g s turns
+
+streams-exact : (file : File) → CallsExact file → (id : ℕ) (size : Option tree.IndexTree) (s : State) (turns : ℕ) →
+    RunsExactly (run_streams file id size s) turns (run_streams file id size s turns)
+streams-exact file calls id None s turns = went-exact GoesOn (with_streams id 1 s) turns
+streams-exact file calls id (Some i) s turns =
+    valued-exact file calls i.value s turns (λ n. goes_on (with_streams id (array_size n.value) s) n.turns)
+    (λ n. went-exact GoesOn (with_streams id (array_size n.value) s) n.turns)
+
+window-exact : (file : File) → CallsExact file → (id : ℕ) (i : tree.IndexTree) (s : State) (turns : ℕ) →
+    RunsExactly (run_window file id i s) turns (run_window file id i s turns)
+window-exact file calls id i s turns =
+    valued-exact file calls i.value s turns
+    (λ n. given (window_size i.mark.line n.value) s (λ horizon. goes_on (declared id (Window horizon) s) n.turns))
+    (λ n. given-plain (window_size i.mark.line n.value) s (λ horizon. goes_on (declared id (Window horizon) s)) n.turns
+    (λ horizon. went-exact GoesOn (declared id (Window horizon) s) n.turns))
+
+array-exact : (file : File) → CallsExact file → (id : ℕ) (size : tree.ExprTree) (s : State) (turns : ℕ) →
+    RunsExactly (run_array file id size s) turns (run_array file id size s turns)
+array-exact file calls id size s turns =
+    valued-exact file calls size s turns (λ n. goes_on (declared id (Array (replicate (array_size n.value) (pos 0))) s) n.turns)
+    (λ n. went-exact GoesOn (declared id (Array (replicate (array_size n.value) (pos 0))) s) n.turns)
+
+unsized-exact : (u : Around) → CallsExact u.file → (d : tree.DeclaratorTree) (size : Option tree.IndexTree) (s : State) (turns : ℕ) →
+    RunsExactly (run_unsized_or u d size s) turns (run_unsized_or u d size s turns)
+unsized-exact u calls d None s turns = scalar-exact u.file calls d.name.id d.first s turns
+unsized-exact u calls d (Some i) s turns =
+    either-exact u.is_control (run_window u.file d.name.id i) (run_array u.file d.name.id i.value)
+    (window-exact u.file calls d.name.id i) (array-exact u.file calls d.name.id i.value) s turns
+
+declarator-exact : (u : Around) → CallsExact u.file → (d : tree.DeclaratorTree) (s : State) (turns : ℕ) →
+    RunsExactly (run_declarator u d s) turns (run_declarator u d s turns)
+declarator-exact u calls d s turns =
+    either-exact d.stream (run_streams u.file d.name.id d.size) (run_unsized_or u d d.size)
+    (streams-exact u.file calls d.name.id d.size) (unsized-exact u calls d d.size) s turns
+
+declarators-exact : (u : Around) → CallsExact u.file → (ds : List tree.DeclaratorTree) (s : State) (turns : ℕ) →
+    RunsExactly (run_declarators u ds s) turns (run_declarators u ds s turns)
+declarators-exact u calls [] s turns = went-exact GoesOn s turns
+declarators-exact u calls (d ∷ ds) s turns =
+    flows-exact (run_declarators u ds) (run_declarator u d s) turns (run_declarator u d s turns) (declarator-exact u calls d s turns)
+    (λ t left i. declarators-exact u calls ds t left)
+
+start-exact : (u : Around) → CallsExact u.file → (start : tree.StartTree) (s : State) (turns : ℕ) →
+    RunsExactly (run_start u start s) turns (run_start u start s turns)
+start-exact u calls tree.StartTree.Empty s turns = went-exact GoesOn s turns
+start-exact u calls (tree.StartTree.Declare ds) s turns = declarators-exact u calls ds s turns
+start-exact u calls (tree.StartTree.Change c) s turns = change-exact u.file calls c s turns
+
+test-exact : (file : File) → CallsExact file → (test : Option tree.ExprTree) (s : State) (turns : ℕ) →
+    IsExact ℤ (run_test file test s) turns (run_test file test s turns)
+test-exact file calls None s turns = exact-here (pos 1) turns
+test-exact file calls (Some e) s turns = value-exact file calls e s turns
+
+step-exact : (file : File) → CallsExact file → (step : Option tree.ChangeTree) (s : State) (turns : ℕ) →
+    RunsExactly (run_step file step s) turns (run_step file step s turns)
+step-exact file calls None s turns = went-exact GoesOn s turns
+step-exact file calls (Some c) s turns = change-exact file calls c s turns
+
+number-exact : (file : File) → CallsExact file → (t : tree.TargetTree) (s : State) (turns : ℕ) →
+    IsExact ℕ (stream_number file t s) turns (stream_number file t s turns)
+number-exact file calls (tree.Variable n) s turns = exact-here (first_stream (find s.bound n.id)) turns
+number-exact file calls (tree.Element n m e) s turns =
+    exact-then (value file e s)
+    (λ i. and_then (checked (stream_count (find s.bound n.id)) m.line i.value) (λ k. Ok (left (first_stream (find s.bound n.id) + k) i.turns))) turns
+    (value file e s turns) (value-exact file calls e s turns)
+    (λ i. mapped-exact (checked (stream_count (find s.bound n.id)) m.line i.value) (λ k. first_stream (find s.bound n.id) + k) i.turns)
+
+burst-exact : (file : File) → CallsExact file → (d : Direction) (horizon : ℕ) (i : Option tree.IndexTree) (s : State) (turns : ℕ) →
+    IsExact ℕ (burst file d horizon i s) turns (burst file d horizon i s turns)
+burst-exact file calls d horizon None s turns = exact-here 1 turns
+burst-exact file calls d horizon (Some i) s turns =
+    exact-then (value file i.value s) (λ n. with_turns n.turns (burst_of d i.mark.line horizon n.value)) turns (value file i.value s turns)
+    (value-exact file calls i.value s turns) (λ n. exact-with (burst_of d i.mark.line horizon n.value) n.turns)
+
+joined-exact : (file : File) → CallsExact file → (d : Direction) (stream : ℕ) (j : Option tree.JoinTree) (s : State) (turns : ℕ) →
+    IsExact Claim (joined file d stream j s) turns (joined file d stream j s turns)
+joined-exact file calls d stream None s turns = exact-here (claim_of d stream 1 1) turns
+joined-exact file calls d stream (Some j) s turns =
+    let horizon = horizon_of (find s.bound j.name.id) in
+    exact-then (burst file d horizon j.burst s) (λ b. Ok (left (claim_of d stream horizon b.value) b.turns)) turns (burst file d horizon j.burst s turns)
+    (burst-exact file calls d horizon j.burst s turns) (λ b. exact-here (claim_of d stream horizon b.value) b.turns)
+
+item-exact : (file : File) → CallsExact file → (d : Direction) (i : tree.ClauseItemTree) (s : State) (turns : ℕ) →
+    IsExact Claim (item_claim file d i s) turns (item_claim file d i s turns)
+item-exact file calls d i s turns =
+    exact-then (stream_number file i.stream s) (λ n. joined file d n.value i.window s n.turns) turns (stream_number file i.stream s turns)
+    (number-exact file calls i.stream s turns) (λ n. joined-exact file calls d n.value i.window s n.turns)
+
+items-exact : (file : File) → CallsExact file → (ps : List clause.Part) (s : State) (turns : ℕ) →
+    IsExact (List Claim) (items_claims file ps s) turns (items_claims file ps s turns)
+items-exact file calls [] s turns = exact-here [] turns
+items-exact file calls (clause.Private n ∷ ps) s turns = items-exact file calls ps s turns
+items-exact file calls (clause.Item d i ∷ ps) s turns =
+    exact-then (item_claim file d i s)
+    (λ c. and_then (items_claims file ps s c.turns) (λ cs. Ok (left (c.value ∷ cs.value) cs.turns))) turns (item_claim file d i s turns)
+    (item-exact file calls d i s turns)
+    (λ c. exact-then (items_claims file ps s) (λ cs. Ok (left (c.value ∷ cs.value) cs.turns)) c.turns (items_claims file ps s c.turns)
+    (items-exact file calls ps s c.turns) (λ cs. exact-here (c.value ∷ cs.value) cs.turns))
+
+limited-exact : (l : Option ℕ) (s next : State) (turns : ℕ) → RunsExactly (λ t. unless_limited l s t next) turns (unless_limited l s turns next)
+limited-exact None s next turns = went-exact GoesOn next turns
+limited-exact (Some n) s next turns = tt
+
+task-exact : (file : File) → CallsExact file → (sites : List Site) (number : Option ℕ) (ps : List clause.Part) (s : State) (turns : ℕ) →
+    RunsExactly (run_task file sites number ps s) turns (run_task file sites number ps s turns)
+task-exact file calls sites None ps s turns = went-exact GoesOn s turns
+task-exact file calls sites (Some number) ps s turns =
+    given-exact (items_claims file ps s) s
+    (λ c. unless_limited (limit s.activations c.value) s c.turns (with_activation file number (captured_by sites number) c.value s)) turns
+    (items_claims file ps s turns) (items-exact file calls ps s turns)
+    (λ c i. limited-exact (limit s.activations c.value) s (with_activation file number (captured_by sites number) c.value s) c.turns)
+
+turn-exact : (stream amount : ℕ) (s : State) (turns : ℕ) → RunsExactly (tick_turn stream amount s) turns (tick_turn stream amount s turns)
+turn-exact stream amount s zero = tt
+turn-exact stream amount s (suc turns) =
+    one-more (tick_turn stream amount s) (goes_on (moved stream amount s)) turns (goes_on (moved stream amount s) turns) (s.activations, refl)
+    (λ k. refl) (went-exact GoesOn (moved stream amount s) turns)
+
+tick-exact : (file : File) → CallsExact file → (t : tree.TargetTree) (arrow : Mark) (e : tree.ExprTree) (s : State) (turns : ℕ) →
+    RunsExactly (run_tick file t arrow e s) turns (run_tick file t arrow e s turns)
+tick-exact file calls t arrow e s turns =
+    given-exact (stream_number file t s) s
+    (λ n. given (value file e s n.turns) s
+    (λ v. given (cursor_move arrow.line v.value) s (λ amount. tick_turn n.value amount s v.turns))) turns (stream_number file t s turns)
+    (number-exact file calls t s turns)
+    (λ n i. valued-exact file calls e s n.turns (λ v. given (cursor_move arrow.line v.value) s (λ amount. tick_turn n.value amount s v.turns))
+    (λ v. given-plain (cursor_move arrow.line v.value) s (λ amount. tick_turn n.value amount s) v.turns
+    (λ amount. turn-exact n.value amount s v.turns)))
+
+mutual
+  pub run-exact : (u : Around) → CallsFall u.file → CallsExact u.file → (a : tree.StmtTree) (s : State) (turns : ℕ) →
+      RunsExactly (run u a s) turns (run u a s turns)
+  run-exact u fall calls tree.StmtTree.Empty s turns = went-exact GoesOn s turns
+  run-exact u fall calls (tree.Block ss) s turns = left-exact s (run_all u ss s) turns (run_all u ss s turns) (all-exact u fall calls ss s turns)
+  run-exact u fall calls (tree.StmtTree.Declare ds) s turns = declarators-exact u calls ds s turns
+  run-exact u fall calls (tree.StmtTree.Change c) s turns = change-exact u.file calls c s turns
+  run-exact u fall calls (tree.StmtTree.Call f args) s turns =
+      given-exact (λ t. and_then (values u.file args s t) (call_value u.file.calls (variable u.file s f.id))) s (λ n. goes_on s n.turns) turns
+      (and_then (values u.file args s turns) (call_value u.file.calls (variable u.file s f.id)))
+      (exact-then (values u.file args s) (call_value u.file.calls (variable u.file s f.id)) turns (values u.file args s turns)
+      (values-exact u.file calls args s turns) (λ n. call-exact u.file calls (variable u.file s f.id) n.value n.turns))
+      (λ n i. went-exact GoesOn s n.turns)
+  run-exact u fall calls (tree.If c a) s turns =
+      valued-exact u.file calls c s turns (λ n. if is_zero n.value then goes_on s n.turns else run u a s n.turns)
+      (λ n. runs-if (is_zero n.value) (goes_on s) (run u a s) n.turns (went-exact GoesOn s n.turns) (run-exact u fall calls a s n.turns))
+  run-exact u fall calls (tree.IfElse c a b) s turns =
+      valued-exact u.file calls c s turns (λ n. if is_zero n.value then run u b s n.turns else run u a s n.turns)
+      (λ n. runs-if (is_zero n.value) (run u b s) (run u a s) n.turns (run-exact u fall calls b s n.turns) (run-exact u fall calls a s n.turns))
+  run-exact u fall calls (tree.While c a) s turns =
+      loop-exact (value u.file c) (run u a) goes_on (value-falls u.file fall c) (run-keeps u fall a) (λ s turns. keeps-on s s turns refl)
+      (value-exact u.file calls c) (run-exact u fall calls a) (λ s turns. went-exact GoesOn s turns) turns s turns (omega arith)
+  run-exact u fall calls (tree.For start test step a) s turns =
+      left-exact s (λ t. flows (again (run_test u.file test) (run u a) (run_step u.file step)) (run_start u start s t)) turns
+      (flows (again (run_test u.file test) (run u a) (run_step u.file step)) (run_start u start s turns))
+      (flows-exact (again (run_test u.file test) (run u a) (run_step u.file step)) (run_start u start s) turns (run_start u start s turns)
+      (start-exact u calls start s turns)
+      (λ inner left i. loop-exact (run_test u.file test) (run u a) (run_step u.file step) (test-falls u.file fall test) (run-keeps u fall a)
+      (step-keeps u.file fall step) (test-exact u.file calls test) (run-exact u fall calls a) (step-exact u.file calls step) left inner left (omega arith)))
+  run-exact u fall calls (tree.Break m) s turns = went-exact Breaks s turns
+  run-exact u fall calls (tree.Continue m) s turns = went-exact Continues s turns
+  run-exact u fall calls (tree.Return m e) s turns =
+      valued-exact u.file calls e s turns (λ n. Went (Returns n.value) s n.turns) (λ n. went-exact (Returns n.value) s n.turns)
+  run-exact u fall calls (tree.Task m cs a) s turns = task-exact u.file calls u.sites (task_number u.sites m) (parts cs) s turns
+  run-exact u fall calls (tree.Tick m t arrow e) s turns = tick-exact u.file calls t arrow e s turns
+  run-exact u fall calls (tree.Taskwait m) s turns = went-exact GoesOn s turns
+
+  pub all-exact : (u : Around) → CallsFall u.file → CallsExact u.file → (ss : tree.Stmts) (s : State) (turns : ℕ) →
+      RunsExactly (run_all u ss s) turns (run_all u ss s turns)
+  all-exact u fall calls tree.no_stmts s turns = went-exact GoesOn s turns
+  all-exact u fall calls (tree.stmt a rest) s turns =
+      flows-exact (run_all u rest) (run u a s) turns (run u a s turns) (run-exact u fall calls a s turns) (λ t left i. all-exact u fall calls rest t left)

@@ -1,0 +1,33 @@
+-- What budgets pay for: an evaluation or a statement takes a number of turns of its own, whatever is left behind it.
+use Rattle.std.specs.Prelude.{◌≡◌, ⊤, ℕ, ◌+◌, ◌<◌, List, Ok, Err}
+use Rattle.cddf_meaning.specs.Answers.{Answer, Left, left, over}
+use Rattle.cddf_meaning.specs.Flow.{Ran, Went, Ended}
+use Rattle.cddf_meaning.specs.State.{State}
+use Rattle.cddf_meaning.specs.declared.ending.Ending.TheVariants.{OverBudget}
+use Rattle.cddf_meaning.specs.declared.flow.Flow.{Flow}
+use Rattle.flow_core_laws.specs.declared.activation.Activation.{Activation}
+
+-- What gave this of these turns spent some of them. With as many, and any more, it gives the same and leaves the others;
+-- with fewer it is over budget.
+pub record Spends (A : Type 0) (evaluate : ℕ → Answer (Left A)) (turns : ℕ) (n : Left A) : Type 0 where
+  pub spent : ℕ
+  pub all : turns ≡ spent + n.turns
+  pub enough : (more : ℕ) → evaluate (spent + more) ≡ Ok (left n.value more)
+  pub fewer : (less : ℕ) → less < spent → evaluate less ≡ over
+
+-- where an evaluation gives something, it spends its turns exactly
+abbrev pub IsExact : (A : Type 0) → (ℕ → Answer (Left A)) → ℕ → Answer (Left A) → Type 0
+IsExact A evaluate turns (Ok n) = Spends A evaluate turns n
+IsExact A evaluate turns (Err ending) = ⊤
+
+-- the same of a statement, which leaves a state behind it
+pub record SpendsIn (run : ℕ → Ran) (turns : ℕ) (flow : Flow) (behind : State) (rest : ℕ) : Type 0 where
+  pub spent : ℕ
+  pub all : turns ≡ spent + rest
+  pub enough : (more : ℕ) → run (spent + more) ≡ Went flow behind more
+  pub fewer : (less : ℕ) → less < spent → (made : List Activation) × (run less ≡ Ended OverBudget made)
+
+-- where a statement leaves a state, it spends its turns exactly
+abbrev pub RunsExactly : (ℕ → Ran) → ℕ → Ran → Type 0
+RunsExactly run turns (Went flow behind rest) = SpendsIn run turns flow behind rest
+RunsExactly run turns (Ended ending made) = ⊤
