@@ -186,7 +186,10 @@ next_look known view = view.looks % length known.plan.frames
 
 -- the view after a look at a frame that is Open, or isn't
 abbrev pub looked : View → ℕ → Bool → View
-looked view frame opened = if opened then (record view { found = view.found ++ frame ∷ [] }) else (record view { lost = lost_with view frame; looks = view.looks + 1 })
+looked view frame opened =
+    if opened
+    then (record view { found = view.found ++ frame ∷ [] })
+    else (record view { lost = lost_with view frame; looks = view.looks + 1 })
 
 abbrev pub after_look : Known → CoreState → ℕ → View → CoreState
 after_look known state seat view =
