@@ -8,9 +8,9 @@ top=$(cd "$(dirname "${BASH_SOURCE[0]}")/.." && pwd)
 work=$(mktemp -d)
 trap 'rm -rf "$work"' EXIT
 mkdir "$work/crates"
-cp -r "$top/crates/os_io" "$top/crates/flow_core" "$top/crates/stream_match" "$work/crates"
-grep -E '^(os_io|flow_core|stream_match):' "$top/crates.txt" >"$work/crates.txt"
-echo 'positions: stream_match flow_core os_io' >>"$work/crates.txt"
+for crate in os_io flow_core_laws flow_core_epochs stream_match_layouts stream_match; do cp -r "$top/crates/$crate" "$work/crates"; done
+grep -E '^(os_io|flow_core_laws|flow_core_epochs|stream_match_layouts|stream_match):' "$top/crates.txt" >"$work/crates.txt"
+echo 'positions: stream_match stream_match_layouts flow_core_laws os_io' >>"$work/crates.txt"
 
 positions=$work/crates/positions
 mkdir -p "$positions/src"

@@ -15,13 +15,13 @@ trap 'rm -rf "$work"' EXIT
 # The program that counts steps.
 if [ "${1:-}" != unstepped ]; then
     mkdir "$work/crates"
-    for crate in os_io c_int flow_core os_lexer os_ast os_parser_grammar os_parser_expressions os_parser_parts os_parser window_check_laws \
+    for crate in os_io c_int flow_core_laws os_lexer os_ast os_parser_grammar os_parser_places os_parser_expressions os_parser_parts os_parser window_check_laws \
         window_check_names window_check front_end cddf_meaning os_code task_vm lowering_relation \
-        lowering_draft lowering_expressions lowering stream_match control_run; do
+        lowering_draft lowering_expressions lowering stream_match_layouts control_run; do
         cp -r "$top/crates/$crate" "$work/crates"
         grep -E "^$crate:" "$top/crates.txt" >>"$work/crates.txt"
     done
-    echo 'steps: control_run lowering task_vm os_code front_end flow_core os_io' >>"$work/crates.txt"
+    echo 'steps: control_run lowering task_vm os_code front_end flow_core_laws os_io' >>"$work/crates.txt"
     counting=$work/crates/steps
     mkdir -p "$counting/src"
     cp "$top/bench/steps.program" "$counting/src/main.rt"

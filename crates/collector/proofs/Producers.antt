@@ -12,12 +12,12 @@ use Rattle.flow_core_laws.specs.Outcome.{is_done_at}
 use Rattle.flow_core_laws.specs.Window.{Window, windows, is_written_by, producer, producer_number}
 use Rattle.flow_core_laws.proofs.Sources.{find_passes}
 use Rattle.flow_core_laws.proofs.Windows.{written, producer_of, producer_by_number}
-use Rattle.stream_match.specs.declared.layout.Layout.{Layout}
-use Rattle.stream_match.specs.declared.span.Span.{Span}
-use Rattle.stream_match.specs.Layout.{IsLayout, IsLayoutOf, span_of}
-use Rattle.stream_match.proofs.Writers.{end_small, window_number}
+use Rattle.stream_match_layouts.specs.declared.layout.Layout.{Layout}
+use Rattle.stream_match_layouts.specs.declared.span.Span.{Span}
+use Rattle.stream_match_layouts.specs.Layout.{IsLayout, IsLayoutOf, span_of}
+use Rattle.stream_match_layouts.proofs.Writers.{end_small, window_number}
 use Rattle.std.proofs.lemmas.Option.{get_or_from_slice_get}
-use Rattle.stream_match.proofs.Windows.{no_window}
+use Rattle.stream_match_layouts.proofs.Windows.{no_window}
 use Rattle.collector.specs.Walking.{is_gap, Reaches}
 
 -- the span of the producer's number is that of the producer

@@ -11,15 +11,15 @@ use Rattle.flow_core_laws.specs.FirstPosition.{write_cursor}
 use Rattle.flow_core_laws.specs.Place.{Place, places_of, input_places, written_count}
 use Rattle.flow_core_laws.specs.There.{missing_place}
 use Rattle.flow_core_laws.specs.Window.{Window, windows, windows_of}
-use Rattle.stream_match.specs.declared.layout.Layout.{Layout}
-use Rattle.stream_match.specs.declared.span.Span.{Span}
-use Rattle.stream_match.specs.Layout.{IsLayout, IsLayoutOf, span_of, claims_in}
-use Rattle.stream_match.specs.Stretch.{frame_count, start_of, spans_of, stretch_at, read_count}
-use Rattle.stream_match.specs.Writers.{span_at, no_span}
-use Rattle.stream_match.proofs.CellSums.{frames_are, is_stretch, stretch_at-span}
-use Rattle.stream_match.proofs.FrameSpans.{spans_of-windows}
-use Rattle.stream_match.proofs.Tallies.{frame_count-is, start-within, start-next}
-use Rattle.stream_match.proofs.Windows.{claims_in-windows}
+use Rattle.stream_match_layouts.specs.declared.layout.Layout.{Layout}
+use Rattle.stream_match_layouts.specs.declared.span.Span.{Span}
+use Rattle.stream_match_layouts.specs.Layout.{IsLayout, IsLayoutOf, span_of, claims_in}
+use Rattle.stream_match_layouts.specs.Spans.{frame_count, start_of, spans_of}
+use Rattle.stream_match_layouts.specs.Writers.{span_at, no_span}
+use Rattle.stream_match_layouts.proofs.Sums.{frames_are, span_exists, span_ends}
+use Rattle.stream_match_layouts.proofs.FrameSpans.{spans_of-windows}
+use Rattle.stream_match_layouts.proofs.Tallies.{frame_count-is, start-within, start-next}
+use Rattle.stream_match_layouts.proofs.Windows.{claims_in-windows}
 use Rattle.collector.specs.Walking.{IsSpanIn, is_gap, is_missing, first_gap, read_places}
 use Rattle.collector.proofs.Searches.{from_bound, none_in, find-map, find-parts}
 
@@ -80,15 +80,7 @@ module _ (activations : List Activation) (input_len : ℕ) (ends : List (Option 
 -- ---- where the spans lie
 
 pub span_in : (layout : Layout) (is : IsLayout layout) (number : ℕ) → number < length layout.spans → IsSpanIn layout (span_at layout number)
-span_in layout is number lt =
-    let s = is_stretch layout is number (omega arith) in
-    let e = stretch_at-span layout number lt in
-    let stream : (stretch_at layout number).stream ≡ (span_at layout number).stream = ap (λ t. t.stream) e in
-    let first : (stretch_at layout number).first ≡ (span_at layout number).first = ap (λ t. t.first) e in
-    let count : (stretch_at layout number).count ≡ read_count (span_at layout number) = ap (λ t. t.count) e in
-    let exists = s.stream_exists in
-    let fits = s.ends in
-    record { stream_exists = omega arith; ends = omega arith }
+span_in layout is number lt = record { stream_exists = span_exists layout is number lt; ends = span_ends layout is number lt }
 
 -- an element of a part of a list is one of the list
 get_or-part : {X : Type 0} (xs : List X) (a n k : ℕ) (d : X) → k < n → get_or (take n (drop a xs)) k d ≡ get_or xs (a + k) d

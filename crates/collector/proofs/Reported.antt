@@ -5,11 +5,11 @@ use Rattle.flow_core_laws.specs.declared.activation.Activation.{Activation}
 use Rattle.flow_core_laws.specs.declared.control.ControlEnd.{ControlEnd}
 use Rattle.flow_core_laws.specs.declared.ends.Ends.{Ends}
 use Rattle.flow_core_laws.specs.Place.{written_count}
-use Rattle.stream_match.specs.declared.layout.Layout.{Layout}
-use Rattle.stream_match.specs.Layout.{IsLayoutOf}
-use Rattle.stream_match.specs.Stretch.{frame_count}
-use Rattle.stream_match.proofs.Tallies.{frame_count-is}
-use Rattle.stream_match.proofs.Walks.{flat_map-range-add}
+use Rattle.stream_match_layouts.specs.declared.layout.Layout.{Layout}
+use Rattle.stream_match_layouts.specs.Layout.{IsLayoutOf}
+use Rattle.stream_match_layouts.specs.Spans.{frame_count}
+use Rattle.stream_match_layouts.proofs.Tallies.{frame_count-is}
+use Rattle.flow_core_laws.proofs.Stretches.{flat_map-range-add}
 use Rattle.collector.specs.Report.{activation_lines, control_line, output_line, report}
 use Rattle.collector.specs.Written.{written}
 use Rattle.collector.proofs.ReadPlaces.{claimed_by}

@@ -5,9 +5,9 @@ use Rattle.flow_core_laws.specs.declared.activation.Activation.{Activation}
 use Rattle.flow_core_laws.specs.declared.task_end.TaskEnd.{TaskEnd}
 use Rattle.flow_core_laws.specs.Place.{Place, places_from}
 use Rattle.flow_core_laws.specs.There.{is_there}
-use Rattle.stream_match.specs.declared.layout.Layout.{Layout}
-use Rattle.stream_match.specs.declared.span.Span.{Span}
-use Rattle.stream_match.specs.Stretch.{read_count}
+use Rattle.stream_match_layouts.specs.declared.layout.Layout.{Layout}
+use Rattle.stream_match_layouts.specs.declared.span.Span.{Span}
+use Rattle.stream_match_layouts.specs.Spans.{read_count}
 use Rattle.collector.specs.declared.missing.Gap.{Gap}
 
 -- a span on a stream of a layout, and the end of what it reads fits its type

@@ -4,13 +4,13 @@ ghost use Rattle.std.specs.Option.{option_map};
 ghost use Rattle.flow_core_laws.specs.declared.activation.Activation.{Activation};
 ghost use Rattle.flow_core_laws.specs.Outcome.{is_done_at};
 ghost use Rattle.flow_core_laws.specs.Window.{producer};
-ghost use Rattle.stream_match.specs.Layout.{IsLayout, IsLayoutOf, span_of};
-ghost use Rattle.stream_match.specs.Stretch.{frame_count, spans_of, start_of};
+ghost use Rattle.stream_match_layouts.specs.Layout.{IsLayout, IsLayoutOf, span_of};
+ghost use Rattle.stream_match_layouts.specs.Spans.{frame_count};
 ghost use Rattle.collector.specs.Missing.{missing};
 ghost use Rattle.collector.specs.Walking.{IsSpanIn, Reaches, is_gap, is_missing, first_gap, place_of, read_places};
 
 use flow_core_laws::{Ends, TaskEnd};
-use stream_match::{Layout, Span};
+use stream_match_layouts::{Layout, Span};
 
 /// An element that isn't there, which a starved activation waits for.
 #[derive(Clone, Copy, Debug, PartialEq, Eq)]
@@ -36,40 +36,12 @@ pub fn first_missing(layout: &Layout, ends: &Ends, frame: u32) -> Option<Missing
     ensures missing { (activations : List Activation) → IsLayoutOf layout.now activations
         → result ≡ missing activations layout.now.input_len ends.now.ends frame }
 {
-    let gap = missing_among(layout, ends, spans_of(layout, frame))?;
+    let gap = missing_among(layout, ends, layout.spans_of(frame as usize))?;
     Some(Missing {
         stream: gap.stream,
         position: gap.position,
         producer: producing(layout, gap),
     })
-}
-
-/// The spans of an activation.
-fn spans_of(layout: &Layout, frame: u32) -> &[Span]
-    requires layout { IsLayout layout.now }
-    requires exists { frame < frame_count layout.now }
-    ensures { result.now ≡ spans_of layout.now frame }
-{
-    let first = start(layout, frame as usize);
-    let end = start(layout, frame as usize + 1);
-    part(layout, first, end)
-}
-
-/// Where the spans of an activation begin.
-fn start(layout: &Layout, frame: usize) -> usize
-    requires { frame < length layout.now.starts }
-    ensures { result ≡ start_of layout.now frame }
-{
-    layout.starts.as_slice()[frame] as usize
-}
-
-/// The spans from one number up to another.
-fn part(layout: &Layout, first: usize, end: usize) -> &[Span]
-    requires ordered { first ≤ end }
-    requires within { end ≤ length layout.now.spans }
-    ensures { result.now ≡ take (end - first) (drop first layout.now.spans) }
-{
-    &layout.spans.as_slice()[first..end]
 }
 
 /// The first position that spans read whose element isn't there.

@@ -3,8 +3,8 @@ ghost use Rattle.std.specs.Io.KnownBytes.{append_known};
 ghost use Rattle.flow_core_laws.specs.declared.activation.Activation.{Activation};
 ghost use Rattle.os_io.specs.Counts.{HasRisen};
 ghost use Rattle.os_io.specs.Writing.{TookProperPrefix};
-ghost use Rattle.stream_match.specs.Layout.{IsLayout, IsLayoutOf};
-ghost use Rattle.stream_match.specs.Stretch.{frame_count};
+ghost use Rattle.stream_match_layouts.specs.Layout.{IsLayout, IsLayoutOf};
+ghost use Rattle.stream_match_layouts.specs.Spans.{frame_count};
 ghost use Rattle.collector.specs.Buffering.{GoesOn};
 ghost use Rattle.collector.specs.Report.{activation_line, activation_lines, report};
 ghost use Rattle.collector.specs.Written.{written};
@@ -13,7 +13,7 @@ use crate::line_buffer::LineBuffer;
 use crate::missing::{end_of, first_missing};
 use flow_core_laws::{ControlEnd, Ends};
 use os_io::{Sink, WriteError};
-use stream_match::Layout;
+use stream_match_layouts::Layout;
 
 /// Writes the report of a run: a line for each activation that isn't Done, in control order, the line of the
 /// control program, and that of the output. It takes no memory.

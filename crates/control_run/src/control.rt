@@ -2,7 +2,7 @@ ghost use Rattle.std.specs.Prelude.{◌≡◌, ◌≤◌, All, IfOk};
 ghost use Rattle.os_code.specs.Codes.{parts_of};
 ghost use Rattle.os_code.specs.Outcomes.{control};
 ghost use Rattle.os_code.specs.Tasks.{Fits};
-ghost use Rattle.stream_match.specs.Lawful.{AreLawful};
+ghost use Rattle.stream_match_layouts.specs.Lawful.{AreLawful};
 
 use crate::machine::Machine;
 use crate::made::Made;

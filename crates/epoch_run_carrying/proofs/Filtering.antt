@@ -12,9 +12,10 @@ use Rattle.flow_core_epochs.specs.Epoch as epoch
 use Rattle.flow_core_epochs.specs.Epoch.{elements_at, read_from}
 use Rattle.flow_core_epochs.proofs.Members.{Has, of_map, of_append, has_tail}
 use Rattle.flow_core_epochs.proofs.Carried.{all_has}
-use Rattle.epoch_run_carrying.specs.declared.kept.Kept.{Kept}
-use Rattle.epoch_run_carrying.specs.declared.place.Place.{Place}
-use Rattle.epoch_run_carrying.specs.Carrying.{kept_of, place_of, is_behind, carried_by}
+use Rattle.stream_match.specs.declared.kept.Kept.{Kept}
+use Rattle.stream_match.specs.declared.place.Place.{Place}
+use Rattle.stream_match.specs.Kept.{kept_of, place_of}
+use Rattle.epoch_run_carrying.specs.Carrying.{is_behind, carried_by}
 
 -- elements at joined places
 elements_at-append : (ps qs : List streams.Place) (vs ws : List (Option ℤ)) → length vs ≡ length ps → elements_at (ps ++ qs) (vs ++ ws) ≡ elements_at ps vs ++ elements_at qs ws

@@ -2,15 +2,6 @@
 use Rattle.std.specs.Prelude.{ℕ, ℤ, Bool, ◌&&◌, nat_le, List, ◌++◌, Option, filter, slice_index}
 use Rattle.flow_core_laws.specs.Place as streams
 use Rattle.flow_core_epochs.specs.Epoch as epoch
-use Rattle.epoch_run_carrying.specs.declared.kept.Kept.{Kept}
-use Rattle.epoch_run_carrying.specs.declared.place.Place.{Place}
-
--- a place, and a kept element, as the meaning has them
-abbrev pub place_of : Place → streams.Place
-place_of p = record { stream = p.stream; position = p.position }
-
-abbrev pub kept_of : Kept → epoch.Kept
-kept_of k = record { place = record { stream = k.stream; position = k.position }; value = k.value }
 
 -- whether an element is of a declared stream, and at its cursor or behind
 abbrev pub is_behind : List ℕ → epoch.Kept → Bool

@@ -1,16 +1,14 @@
 ghost use Rattle.std.specs.Prelude.{◌≡◌, ◌<◌, [], ◌∷◌, ◌++◌, All, List, IfOk, OnOk, length, map, filter, nat_le, slice_index, ◌&&◌};
 ghost use Rattle.flow_core_laws.specs.declared.activation.Activation.{Activation};
-ghost use Rattle.stream_match.specs.Layout.{IsLayout, IsLayoutOf};
-ghost use Rattle.stream_match.specs.Stretch.{frame_count};
+ghost use Rattle.stream_match_layouts.specs.Layout.{IsLayout, IsLayoutOf};
+ghost use Rattle.stream_match_layouts.specs.Spans.{frame_count};
 ghost use Rattle.flow_core_epochs.specs.Epoch.{elements_at, carried_over};
-ghost use Rattle.epoch_run_carrying.specs.Carrying.{kept_of, place_of, is_behind, carried_by};
+ghost use Rattle.stream_match.specs.Kept.{kept_of, place_of};
+ghost use Rattle.epoch_run_carrying.specs.Carrying.{is_behind, carried_by};
 
-use crate::cursors::read_cursors;
-use crate::kept::Kept;
-use crate::place::Place;
 use os_io::Memory;
 use std::alloc::Global;
-use stream_match::Layout;
+use stream_match::{Kept, Layout, Place, read_cursors};
 
 /// What is carried over from an epoch that leaves some frames open, by a layout of all activations so far.
 pub fn carry_over(

@@ -5,6 +5,7 @@ pub mod Parts
 pub mod Moves
 pub mod Splits
 pub mod Opening
+pub mod Once
 pub mod Looks
 pub mod Runs
 pub mod Starts

@@ -44,11 +44,18 @@ pub record CanSplit (state : CoreState) (seat : ℕ) (view : View) : Type 0 wher
   pub is_seat : IsSeat state seat view
   pub has_two_shares : 2 ≤ view.shares
 
+-- what is left of a seat's view, and the view of the new seat
+abbrev pub cut : View → View
+cut view = record view { looks = 0; shares = view.shares - 1 }
+
+abbrev pub share : View → View
+share view = fresh view.about 1
+
 abbrev pub after_split : CoreState → ℕ → View → CoreState
 after_split state seat view = record {
   words = state.words;
   cells = state.cells;
-  seats = slice_set state.seats seat (record view { looks = 0; shares = view.shares - 1 }) ++ fresh view.about 1 ∷ [];
+  seats = slice_set state.seats seat (cut view) ++ share view ∷ [];
 }
 
 -- JOIN: a seat takes in another one that runs nothing, with its lists and shares. That one is spent.
@@ -117,11 +124,14 @@ pub record CanStore (known : Known) (state : CoreState) (seat : ℕ) (view : Vie
   pub stands : StandsAt known.plan run piece
   pub has_more : run.stored < piece.count
 
+abbrev pub stored : View → Run → View
+stored view run = record view { run = Some (record run { stored = run.stored + 1 }) }
+
 abbrev pub after_store : Known → CoreState → ℕ → View → Run → Piece → CoreState
 after_store known state seat view run piece = record {
   words = state.words;
   cells = slice_set state.cells (piece.at + run.stored) (output_at known.meaning run.frame (piece.first + run.stored));
-  seats = slice_set state.seats seat (record view { run = Some (record run { stored = run.stored + 1 }) });
+  seats = slice_set state.seats seat (stored view run);
 }
 
 -- SUB: where all elements of the piece are stored, they are counted at the frame that they go to. Where
@@ -155,11 +165,14 @@ pub record CanFinish (known : Known) (state : CoreState) (seat : ℕ) (view : Vi
   pub gave_all : end ≡ Done → IsPastLast known.plan run
   pub gave_nothing : end ≢ Done → run ≡ first_place known.plan run.frame
 
+abbrev pub finished : View → View
+finished view = record view { run = None }
+
 abbrev pub after_finish : CoreState → ℕ → View → Run → TaskEnd → CoreState
 after_finish state seat view run end = record {
   words = slice_set state.words run.frame (Ended end);
   cells = state.cells;
-  seats = slice_set state.seats seat (record view { run = None });
+  seats = slice_set state.seats seat (finished view);
 }
 
 -- LOOK, at the frame whose turn it is: where that is Open the seat found it, and else the look counts.
@@ -171,13 +184,17 @@ pub record CanLook (known : Known) (state : CoreState) (seat : ℕ) (view : View
 abbrev pub next_look : Known → View → ℕ
 next_look known view = view.looks % length known.plan.frames
 
+-- the view after a look at a frame that is Open, or isn't
+abbrev pub looked : View → ℕ → Bool → View
+looked view frame opened =
+    if opened
+    then (record view { found = view.found ++ frame ∷ [] })
+    else (record view { lost = lost_with view frame; looks = view.looks + 1 })
+
 abbrev pub after_look : Known → CoreState → ℕ → View → CoreState
 after_look known state seat view =
     let frame : ℕ = next_look known view in
-    with_view state seat (
-    if is_open (word_at state.words frame)
-    then record view { found = view.found ++ frame ∷ [] }
-    else record view { lost = lost_with view frame; looks = view.looks + 1 })
+    with_view state seat (looked view frame (is_open (word_at state.words frame)))
 
 -- A step from a state to another.
 pub data Step (known : Known) (state : CoreState) : CoreState → Type 0 where

@@ -8,7 +8,7 @@ use Rattle.flow_core_laws.specs.declared.outcome.Outcome.{Outcome}
 use Rattle.flow_core_laws.specs.Outcome.{State, outcome_at}
 use Rattle.flow_core_laws.proofs.Sources.{position_only}
 use Rattle.flow_core_epochs.specs.Epoch.{open_in, number_in}
-use Rattle.flow_core_epochs.proofs.Filtered.{filtered_each, filtered_ascends, filtered_all}
+use Rattle.flow_core_laws.proofs.Filtered.{filtered_each, filtered_ascends, filtered_all}
 
 -- What frames are: activations without an outcome, each with one number, and none is left out.
 pub record AreOpen (state : State) (count : ℕ) (frames : List ℕ) : Type 0 where

@@ -4,7 +4,9 @@ pub mod Gathering
 pub mod Rounds
 pub mod Examples
 pub mod Stretches
+pub mod Filtered
 pub mod Windows
 pub mod There
 pub mod Orders
 pub mod SoundTests
+pub mod FewPieces

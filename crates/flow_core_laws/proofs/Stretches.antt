@@ -1,5 +1,5 @@
 -- Lists that are put together from one part for each number of a stretch, and their elements.
-use Rattle.std.proofs.Common.{◌≡◌, ℕ, zero, suc, ◌+◌, ◌-◌, ◌<◌, ◌≤◌, List, [], ◌∷◌, ◌++◌, Some, length, refl, sym, ap, ◌∙◌, ◌⊎◌, inl, inr, arith}
+use Rattle.std.proofs.Common.{map, ◌≡◌, ℕ, zero, suc, ◌+◌, ◌-◌, ◌<◌, ◌≤◌, List, [], ◌∷◌, ◌++◌, Some, length, refl, sym, ap, ◌∙◌, ◌⊎◌, inl, inr, arith}
 use Rattle.std.specs.Prelude.{slice_get}
 use Rattle.std.specs.List.{flat_map, range_with_len}
 use Rattle.std.proofs.lemmas.Bool.{cases_lt}
@@ -25,6 +25,43 @@ flat_map-range_more f from (suc n) =
     ∙ ap (λ ys. f from ++ ys) (flat_map-range_more f (from + 1) n)
     ∙ sym (append_assoc (f from) (flat_map f (range_with_len (from + 1) n)) (f (from + 1 + n)))
     ∙ ap (λ k. (f from ++ flat_map f (range_with_len (from + 1) n)) ++ f k) (let e : from + 1 + n ≡ from + suc n = omega arith in e)
+
+-- a stretch of numbers in two
+pub flat_map-range-add : {A : Type 0} (f : ℕ → List A) (a n m : ℕ) → flat_map f (range_with_len a (n + m)) ≡ flat_map f (range_with_len a n) ++ flat_map f (range_with_len (a + n) m)
+flat_map-range-add f a zero m =
+    ap (λ k. flat_map f (range_with_len a k)) (let e : 0 + m ≡ m = omega arith in e) ∙ ap (λ k. flat_map f (range_with_len k m)) (let e : a ≡ a + 0 = omega arith in e)
+flat_map-range-add f a (suc n) m =
+    ap (λ k. flat_map f (range_with_len a k)) (let e : suc n + m ≡ suc (n + m) = omega arith in e)
+    ∙ ap (λ ys. f a ++ ys) (flat_map-range-add f (a + 1) n m)
+    ∙ sym (append_assoc (f a) (flat_map f (range_with_len (a + 1) n)) (flat_map f (range_with_len (a + 1 + n) m)))
+    ∙ ap (λ k. (f a ++ flat_map f (range_with_len (a + 1) n)) ++ flat_map f (range_with_len k m)) (let e : a + 1 + n ≡ a + suc n = omega arith in e)
+
+-- numbers without parts
+pub flat_map-none : {A : Type 0} (f : ℕ → List A) (a n : ℕ) → ((k : ℕ) → a ≤ k → k < a + n → f k ≡ []) → flat_map f (range_with_len a n) ≡ []
+flat_map-none f a zero none = refl
+flat_map-none f a (suc n) none = ap (λ xs. xs ++ flat_map f (range_with_len (a + 1) n)) (none a (omega arith) (omega arith)) ∙ flat_map-none f (a + 1) n (λ k l u. none k (omega arith) (omega arith))
+
+-- the same parts
+pub flat_map-range-same : {X : Type 0} (f g : ℕ → List X) (a n : ℕ) → ((k : ℕ) → a ≤ k → k < a + n → f k ≡ g k) → flat_map f (range_with_len a n) ≡ flat_map g (range_with_len a n)
+flat_map-range-same f g a zero h = refl
+flat_map-range-same f g a (suc n) h =
+    ap (λ xs. xs ++ flat_map f (range_with_len (a + 1) n)) (h a (omega arith) (omega arith))
+    ∙ ap (λ ys. g a ++ ys) (flat_map-range-same f g (a + 1) n (λ k l u. h k (omega arith) (omega arith)))
+
+-- one element for each number: a stretch in two, and another stretch
+pub map-range-add : {X : Type 0} (f : ℕ → X) (a n m : ℕ) → map f (range_with_len a (n + m)) ≡ map f (range_with_len a n) ++ map f (range_with_len (a + n) m)
+map-range-add f a zero m = ap (λ k. map f (range_with_len a k)) (let e : 0 + m ≡ m = omega arith in e) ∙ ap (λ k. map f (range_with_len k m)) (let e : a ≡ a + 0 = omega arith in e)
+map-range-add f a (suc n) m =
+    ap (λ k. map f (range_with_len a k)) (let e : suc n + m ≡ suc (n + m) = omega arith in e)
+    ∙ ap (λ xs. f a ∷ xs) (map-range-add f (a + 1) n m)
+    ∙ ap (λ k. f a ∷ (map f (range_with_len (a + 1) n) ++ map f (range_with_len k m))) (let e : a + 1 + n ≡ a + suc n = omega arith in e)
+
+pub map-range-shift : {X : Type 0} (f g : ℕ → X) (a b n : ℕ) → ((k : ℕ) → k < n → f (a + k) ≡ g (b + k)) → map f (range_with_len a n) ≡ map g (range_with_len b n)
+map-range-shift f g a b zero h = refl
+map-range-shift f g a b (suc n) h =
+    let here : f a ≡ g b = ap f (let e : a ≡ a + 0 = omega arith in e) ∙ h 0 (omega arith) ∙ ap g (let e : b + 0 ≡ b = omega arith in e) in
+    ap (λ x. x ∷ map f (range_with_len (a + 1) n)) here
+    ∙ ap (λ xs. g b ∷ xs) (map-range-shift f g (a + 1) (b + 1) n (λ k l. ap f (let e : a + 1 + k ≡ a + (k + 1) = omega arith in e) ∙ h (k + 1) (omega arith) ∙ ap g (let e : b + (k + 1) ≡ b + 1 + k = omega arith in e)))
 
 -- the parts before one of a stretch
 abbrev pub parts_before : {A : Type 0} → (ℕ → List A) → ℕ → ℕ → List A

@@ -15,6 +15,7 @@ use Rattle.flow_core_laws.specs.There.{is_there}
 use Rattle.flow_core_laws.specs.FirstPosition.{is_write_to, first_position}
 use Rattle.flow_core_laws.specs.Streams.{stream_source, stream_reads, output_count, output_elements, stream_meaning}
 use Rattle.flow_core_laws.specs.Plans.{plan_reads, plan_meaning, sink_elements}
+use Rattle.flow_core_laws.specs.IsSound.{IsSound}
 use Rattle.flow_core_laws.specs.StandsFor.{StandsFor}
 
 -- Of every kind of elements and outcomes.
@@ -103,3 +104,7 @@ IsFilled activations state = (a : ℕ) (x : Activation) (o : Outcome) → slice_
 -- the ends and the length of the input say which elements are there in such a state
 abbrev pub EndsSayWhatIsThere : Type 0
 EndsSayWhatIsThere = (activations : List Activation) (input : List ℕ) (state : State) (place : Place) → IsFilled activations state → is_some (element state (stream_source activations input place)) ≡ is_there activations (length input) (ends_of state) place
+
+-- a sound plan has no more pieces than cells
+abbrev pub HasFewPieces : Type 0
+HasFewPieces = (plan : Plan) → IsSound plan → length plan.pieces ≤ length plan.filled

@@ -4,7 +4,7 @@
 ghost use Rattle.std.specs.Prelude.{List, Option};
 ghost use Rattle.flow_core_laws.specs.declared.activation.Activation.{Activation};
 ghost use Rattle.flow_core_laws.specs.Element.{element};
-ghost use Rattle.flow_core_laws.specs.Laws.{IsSettled, KeepsOutcomes, IsFixed, OfStreams, OfPlans, MeansTheStreams, SinkIsTheOutput, HasOneWriter, WritersAreInOrder, WritersAreProducers, ProducersHaveNumbers, EndsSayWhatIsThere, WindowsAreInOrder, RoundsFire, IsConfluent, IsKept, OfAll};
+ghost use Rattle.flow_core_laws.specs.Laws.{IsSettled, KeepsOutcomes, IsFixed, OfStreams, OfPlans, MeansTheStreams, SinkIsTheOutput, HasOneWriter, WritersAreInOrder, WritersAreProducers, ProducersHaveNumbers, EndsSayWhatIsThere, WindowsAreInOrder, RoundsFire, IsConfluent, IsKept, OfAll, HasFewPieces};
 
 /// A round runs what is enabled, and nothing else.
 pub fn one_round()
@@ -70,4 +70,9 @@ pub fn one_writer()
 /// The ends and the length of the input say which elements are there.
 pub fn ends_say_what_is_there()
     ensures { EndsSayWhatIsThere }
+{}
+
+/// A sound plan has at most as many pieces as cells, since each piece fills at least one and no two fill the same.
+pub fn few_pieces()
+    ensures { HasFewPieces }
 {}

@@ -7,9 +7,9 @@
 //! activations. A plan is the same with the positions worked out: frames with cells, and pieces that
 //! carry output elements into them.
 //!
-//! Nothing runs here. There are the types that activations, plans and ends are made of, the trait by
-//! which a runtime asks for the bodies of frames, and `laws`: what holds of every meaning, for the
-//! proofs of whatever runs one.
+//! There are the types that activations, plans and ends are made of, the trait by which a runtime asks
+//! for the bodies of frames, and `laws`: what holds of every meaning, for the proofs of whatever runs one.
+//! Nothing runs here but `Plan::frame`, which looks a frame up.
 #![tactic(auto)]
 
 mod activation;

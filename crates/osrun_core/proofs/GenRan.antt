@@ -12,7 +12,7 @@ use Rattle.osrun_core_words.specs.Jobs.{GenJob}
 use Rattle.osrun_core.specs.Gen.{IsRunOfGen, four_lines, gen_budget, gen_lines}
 use Rattle.osrun_core_run.specs.Run.{ProgramRun}
 use Rattle.osrun_core_run.specs.RunOf.{IsRunOf}
-use Rattle.stream_match.specs.declared.layout.Layout.{Layout}
+use Rattle.stream_match_layouts.specs.declared.layout.Layout.{Layout}
 
 -- as many bytes are made as an input may have
 pub generated_few : (seed count : ℕ) (bytes : List ℕ) → bytes ≡ generated seed count → count ≤ 262144 → length bytes ≤ 4194304

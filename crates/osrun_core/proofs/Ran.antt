@@ -19,8 +19,8 @@ use Rattle.osrun_core_run.specs.Run.{ProgramRun}
 use Rattle.osrun_core_run.specs.RunOf.{IsRunOf}
 use Rattle.osrun_core_run.specs.declared.refusal.Subject.TheVariants as subjects
 use Rattle.osrun_core_files.specs.declared.status.Status.{Status}
-use Rattle.stream_match.specs.Layout.{IsLayoutOf}
-use Rattle.stream_match.specs.declared.layout.Layout.{Layout}
+use Rattle.stream_match_layouts.specs.Layout.{IsLayoutOf}
+use Rattle.stream_match_layouts.specs.declared.layout.Layout.{Layout}
 
 module _ {O E : Type 0} (job : Job) (p : ProgramTree) (input output : List ℕ) (layout : Layout) (ends : Ends) (end : ControlEnd)
     (ran : IsRunOf job.task_budget job.control_budget p input output layout ends end) (of_out : SinkView O) (out_old out_new : O) (of_report : SinkView E) (report_old report_new : E) (answered : Status) where

@@ -4,7 +4,7 @@ ghost use Rattle.collector.specs.Status.{has_done, is_done_control, status as st
 ghost use Rattle.flow_core_laws.specs.declared.activation.Activation.{Activation};
 ghost use Rattle.osrun_core_files.specs.HandsOver.{HandsOver};
 ghost use Rattle.osrun_core_files.specs.Status.{number_of};
-ghost use Rattle.stream_match.specs.Layout.{IsLayout, IsLayoutOf};
+ghost use Rattle.stream_match_layouts.specs.Layout.{IsLayout, IsLayoutOf};
 
 use crate::status::Status;
 use collector::report_lines;

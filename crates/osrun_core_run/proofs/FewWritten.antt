@@ -13,7 +13,7 @@ use Rattle.flow_core_laws.specs.Outcome.{State}
 use Rattle.flow_core_laws.specs.Place.{output_places, written_count}
 use Rattle.flow_core_laws.specs.Streams.{output_elements, stream_source}
 use Rattle.flow_core_laws.specs.Window.{claims_of}
-use Rattle.stream_match.specs.Lawful.{AreLawful}
+use Rattle.stream_match_layouts.specs.Lawful.{AreLawful}
 
 prefix_short : (xs : List (Option ℤ)) → length (complete_prefix xs) ≤ length xs
 prefix_short [] = omega arith

@@ -8,8 +8,8 @@ use Rattle.flow_core_laws.specs.declared.ends.Ends.{Ends}
 use Rattle.os_ast.specs.Trees.{ProgramTree}
 use Rattle.osrun_core_run.specs.Run.{ends_over}
 use Rattle.osrun_core_words.specs.declared.job.Terms.{Terms}
-use Rattle.stream_match.specs.Layout.{IsLayout, IsLayoutOf}
-use Rattle.stream_match.specs.declared.layout.Layout.{Layout}
+use Rattle.stream_match_layouts.specs.Layout.{IsLayout, IsLayoutOf}
+use Rattle.stream_match_layouts.specs.declared.layout.Layout.{Layout}
 
 -- the terms are within their bounds
 pub record AreTerms (terms : Terms) : Type 0 where

@@ -1,6 +1,6 @@
 ghost use Rattle.std.specs.Prelude.{◌≡◌, ◌≤◌, IfOk, length};
-ghost use Rattle.stream_match.specs.Lawful.{AreLawful};
-ghost use Rattle.stream_match.specs.Layout.{IsLayout, IsLayoutOf};
+ghost use Rattle.stream_match_layouts.specs.Lawful.{AreLawful};
+ghost use Rattle.stream_match_layouts.specs.Layout.{IsLayout, IsLayoutOf};
 
 use flow_core_laws::Control;
 use os_code::Code;

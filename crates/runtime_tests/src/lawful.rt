@@ -3,8 +3,8 @@
 ghost use Rattle.std.specs.Prelude.{◌≡◌, ◌+◌, ◌-◌, ◌^◌, ◌≤◌, All, IfOk, IfSome, length, min, sum_by, true};
 ghost use Rattle.flow_core_laws.specs.declared.claim.Claim.{Claim};
 ghost use Rattle.flow_core_laws.specs.Window.{claims_of};
-ghost use Rattle.stream_match.specs.Lawful.{IsLawfulClaim, AreLawful};
-ghost use Rattle.stream_match.specs.Layout.{IsLayout};
+ghost use Rattle.stream_match_layouts.specs.Lawful.{IsLawfulClaim, AreLawful};
+ghost use Rattle.stream_match_layouts.specs.Layout.{IsLayout};
 
 use flow_core::{Activation, Claim};
 use os_io::Memory;

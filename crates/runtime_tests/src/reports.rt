@@ -1,7 +1,7 @@
 //! What is told of runs: the output's bytes, the report, and what a starved activation waits for.
 
 ghost use Rattle.std.specs.Prelude.{IfOk};
-ghost use Rattle.stream_match.specs.Layout.{IsLayout};
+ghost use Rattle.stream_match_layouts.specs.Layout.{IsLayout};
 
 mod missing;
 mod sinks;

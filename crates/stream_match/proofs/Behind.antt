@@ -12,19 +12,20 @@ use Rattle.flow_core_laws.proofs.Stretches.{flat_map-range_more}
 use Rattle.flow_core_laws.specs.Window.{Window, windows, windows_of}
 use Rattle.flow_core_epochs.proofs.Members.{Has, of_map}
 use Rattle.flow_core_epochs.proofs.Written.{has_window}
-use Rattle.stream_match.specs.declared.span.Span.{Span}
-use Rattle.stream_match.specs.declared.layout.Layout.{Layout}
+use Rattle.stream_match_layouts.specs.declared.span.Span.{Span}
+use Rattle.stream_match_layouts.specs.declared.layout.Layout.{Layout}
 use Rattle.stream_match.specs.declared.stretch.Stretch.{Stretch}
-use Rattle.stream_match.specs.Layout.{span_of, IsLayout}
-use Rattle.stream_match.specs.Stretch.{frame_count, read_count, write_count, spans_of, by_frame, pieces_from}
+use Rattle.stream_match_layouts.specs.Layout.{span_of, IsLayout}
+use Rattle.stream_match_layouts.specs.Spans.{frame_count, read_count, write_count, spans_of}
+use Rattle.stream_match.specs.Stretch.{by_frame, pieces_from}
 use Rattle.stream_match.specs.Weave.{Reach, total}
 use Rattle.stream_match.specs.EpochPlan.{AreFrames, read_reach, staying, leaving_reach, leaving_reaches}
 use Rattle.stream_match.specs.EpochCode.{stretches_from, reads_before, read_part, epoch_frame}
-use Rattle.stream_match.proofs.Windows.{no_window}
-use Rattle.stream_match.proofs.Writers.{window_number}
-use Rattle.stream_match.proofs.CellSums.{frames_are, frames_bound, first_small}
-use Rattle.stream_match.proofs.Tallies.{spans-few, counts-few, sum-le, write-le}
-use Rattle.stream_match.proofs.FrameSpans.{spans_of-windows}
+use Rattle.stream_match_layouts.proofs.Windows.{no_window}
+use Rattle.stream_match_layouts.proofs.Writers.{window_number}
+use Rattle.stream_match_layouts.proofs.Sums.{frames_are, frames_bound, first_small}
+use Rattle.stream_match_layouts.proofs.Tallies.{spans-few, counts-few, sum-le, write-le}
+use Rattle.stream_match_layouts.proofs.FrameSpans.{spans_of-windows}
 use Rattle.stream_match.proofs.WovenSound.{sum_by-map}
 use Rattle.stream_match.proofs.EpochWeave.{over_frame, both_frames, frames_within, all_leaving-le, leaving-le, span_stream}
 

@@ -6,14 +6,15 @@ use Rattle.flow_core_laws.specs.declared.plan.FramePlan.{FramePlan}
 use Rattle.flow_core_laws.specs.declared.plan.Piece.{Piece}
 use Rattle.flow_core_laws.specs.Place.{Place}
 use Rattle.stream_match.specs.declared.kept.Kept.{Kept}
-use Rattle.stream_match.specs.declared.layout.Layout.{Layout}
+use Rattle.stream_match_layouts.specs.declared.layout.Layout.{Layout}
 use Rattle.stream_match.specs.declared.stretch.Stretch.{Stretch}
-use Rattle.stream_match.specs.Layout.{IsLayout}
+use Rattle.stream_match_layouts.specs.Layout.{IsLayout}
 use Rattle.stream_match.specs.Stretch.{by_frame}
 use Rattle.stream_match.specs.Walking.{IsStretch}
 use Rattle.stream_match.specs.Weave.{Weave, total, cells_of_first, frame_cells, woven_pieces}
 use Rattle.stream_match.specs.EpochPlan.{AreFrames, leaving_reaches, epoch_reaches, epoch_weave, IsEpochPlanOf}
-use Rattle.stream_match.specs.EpochCode.{kept_of, pieces_for, filled_cells, stretch_places, stretches_from, reads_before, read_part, epoch_frame}
+use Rattle.stream_match.specs.Kept.{kept_of}
+use Rattle.stream_match.specs.EpochCode.{pieces_for, filled_cells, stretch_places, stretches_from, reads_before, read_part, epoch_frame}
 use Rattle.stream_match.proofs.Gathering.{all_by_frame}
 use Rattle.stream_match.proofs.Rows.{all_pieces_are, all_cells_are, first-reads, frame_part, left_total, places_from_stretches}
 use Rattle.stream_match.proofs.EpochRows.{reads_are_stretches, leaving_are_stretches, pieces_few, cells_length, sink_few, from_frames, frames_are_woven}

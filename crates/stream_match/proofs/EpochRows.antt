@@ -16,17 +16,19 @@ use Rattle.flow_core_epochs.proofs.Frames.{numbers_back}
 use Rattle.flow_core_epochs.proofs.Members.{Has, of_map, of_flat_map, of_range}
 use Rattle.flow_core_epochs.proofs.Carried.{all_has, has_all}
 use Rattle.stream_match.specs.declared.kept.Kept.{Kept}
-use Rattle.stream_match.specs.declared.layout.Layout.{Layout}
+use Rattle.stream_match_layouts.specs.declared.layout.Layout.{Layout}
 use Rattle.stream_match.specs.declared.stretch.Stretch.{Stretch}
-use Rattle.stream_match.specs.Layout.{IsLayout}
-use Rattle.stream_match.specs.Writers.{no_span}
-use Rattle.stream_match.specs.Stretch.{spans_of, pieces_into, frame_count}
+use Rattle.stream_match_layouts.specs.Layout.{IsLayout}
+use Rattle.stream_match_layouts.specs.Writers.{no_span}
+use Rattle.stream_match_layouts.specs.Spans.{spans_of, frame_count}
+use Rattle.stream_match.specs.Stretch.{pieces_into}
 use Rattle.stream_match.specs.Walking.{IsStretch, HasPlace}
 use Rattle.stream_match.specs.Weave.{Reach, no_reach, total, cells_of_first, woven_pieces, woven_frame}
 use Rattle.stream_match.specs.EpochPlan.{AreFrames, read_reach, leaving_reach, leaving_reaches, epoch_weave}
-use Rattle.stream_match.specs.EpochCode.{kept_of, renumbered, pieces_for, stretches_from, reads_before, read_part, epoch_frame}
+use Rattle.stream_match.specs.Kept.{kept_of}
+use Rattle.stream_match.specs.EpochCode.{renumbered, pieces_for, stretches_from, reads_before, read_part, epoch_frame}
 use Rattle.stream_match.proofs.Walks.{pieces_into_few}
-use Rattle.stream_match.proofs.Windows.{map_map}
+use Rattle.stream_match_layouts.proofs.Windows.{map_map}
 use Rattle.stream_match.proofs.CellSums.{stream_facts}
 use Rattle.stream_match.proofs.Weaving.{total-more, total-take-le, first-more}
 use Rattle.stream_match.proofs.WovenPieces.{woven_from}

@@ -22,17 +22,18 @@ use Rattle.flow_core_laws.specs.Plans.{frame_at, cell_source, plan_reads}
 use Rattle.flow_core_laws.proofs.Windows.{written, producer_by_number, claims_at-slice_get}
 use Rattle.flow_core_epochs.specs.Epoch.{Kept, number_in, value_kept, among, epoch_source, written_places, read_from, StandsForEpoch}
 use Rattle.flow_core_epochs.proofs.Members.{Has, has_head, has_tail, in_map}
-use Rattle.stream_match.specs.declared.span.Span.{Span}
-use Rattle.stream_match.specs.declared.layout.Layout.{Layout}
-use Rattle.stream_match.specs.Layout.{span_of, IsLayout, IsLayoutOf}
-use Rattle.stream_match.specs.Writers.{writer_at, end_of}
-use Rattle.stream_match.specs.Stretch.{frame_count, spans_of, read_count, write_count, opening_value}
+use Rattle.stream_match_layouts.specs.declared.span.Span.{Span}
+use Rattle.stream_match_layouts.specs.declared.layout.Layout.{Layout}
+use Rattle.stream_match_layouts.specs.Layout.{span_of, IsLayout, IsLayoutOf}
+use Rattle.stream_match_layouts.specs.Writers.{writer_at, end_of}
+use Rattle.stream_match_layouts.specs.Spans.{frame_count, spans_of, read_count, write_count}
+use Rattle.stream_match.specs.Stretch.{opening_value}
 use Rattle.stream_match.specs.Weave.{Reach, Weave, reach_places, total, cells_of_first, reach_at, IsWoven, WritesAt, CanWeave}
 use Rattle.stream_match.specs.EpochPlan.{weave_over, reaches_over, AreFrames, WrittenOutside, read_reach, leaves_from, staying, leaving_reach, leaving_reaches, epoch_value, epoch_weave, IsEpochPlanOf}
-use Rattle.stream_match.proofs.Windows.{no_window}
-use Rattle.stream_match.proofs.Writers.{window_number, there, stands, writer_is, found, number_at}
-use Rattle.stream_match.proofs.Tallies.{frame_count-is}
-use Rattle.stream_match.proofs.FrameSpans.{spans_of-windows, outputs-are, no_input_writer}
+use Rattle.stream_match_layouts.proofs.Windows.{no_window}
+use Rattle.stream_match_layouts.proofs.Writers.{window_number, there, stands, writer_is, found, number_at}
+use Rattle.stream_match_layouts.proofs.Tallies.{frame_count-is}
+use Rattle.stream_match_layouts.proofs.FrameSpans.{spans_of-windows, outputs-are, no_input_writer}
 use Rattle.stream_match.proofs.Weaving.{length-frames, frame_at-frame}
 use Rattle.stream_match.proofs.WovenSources.{given_by, fed_by, nobody_by, woven_reads}
 use Rattle.stream_match.proofs.EpochWeave.{span_stream, in_frames, reaches-frame, reaches-sink, stream_exists, produces, over_frame, leaving_exist, leaving_fits, can_weave_over}

@@ -16,11 +16,11 @@ use Rattle.flow_core_epochs.specs.Epoch as epoch
 use Rattle.flow_core_epochs.specs.Epoch.{number_in, value_kept, among, epoch_source, read_from, StandsForEpoch}
 use Rattle.flow_core_epochs.proofs.Reading.{read_from_cursor}
 use Rattle.stream_match.specs.declared.kept.Kept.{Kept}
-use Rattle.stream_match.specs.declared.layout.Layout.{Layout}
-use Rattle.stream_match.specs.Layout.{IsLayout}
+use Rattle.stream_match_layouts.specs.declared.layout.Layout.{Layout}
+use Rattle.stream_match_layouts.specs.Layout.{IsLayout}
 use Rattle.stream_match.specs.EpochPlan.{WrittenOutside}
-use Rattle.stream_match.specs.EpochCode.{kept_of}
-use Rattle.stream_match.proofs.Bounds.{read_cursor-le}
+use Rattle.stream_match.specs.Kept.{kept_of}
+use Rattle.stream_match_layouts.proofs.Bounds.{read_cursor-le}
 
 pub map-same : {A B : Type 0} (f g : A → B) (xs : List A) → ((x : A) → f x ≡ g x) → map f xs ≡ map g xs
 map-same f g [] same = refl

@@ -18,20 +18,21 @@ use Rattle.flow_core_epochs.proofs.Members.{Has, of_map, of_flat_map}
 use Rattle.flow_core_epochs.proofs.Carried.{all_has, has_all}
 use Rattle.flow_core_epochs.proofs.Frames.{numbers_back}
 use Rattle.flow_core_epochs.proofs.Written.{has_window}
-use Rattle.stream_match.specs.declared.span.Span.{Span}
-use Rattle.stream_match.specs.declared.layout.Layout.{Layout}
-use Rattle.stream_match.specs.Lawful.{IsLawfulClaim}
-use Rattle.stream_match.specs.Layout.{span_of, IsLayout, IsLayoutOf}
-use Rattle.stream_match.specs.Writers.{writers_on, writer_at, end_of}
-use Rattle.stream_match.specs.Stretch.{frame_count, start_of, spans_of, read_count, write_count, opening_value}
+use Rattle.stream_match_layouts.specs.declared.span.Span.{Span}
+use Rattle.stream_match_layouts.specs.declared.layout.Layout.{Layout}
+use Rattle.stream_match_layouts.specs.Lawful.{IsLawfulClaim}
+use Rattle.stream_match_layouts.specs.Layout.{span_of, IsLayout, IsLayoutOf}
+use Rattle.stream_match_layouts.specs.Writers.{writers_on, writer_at, end_of}
+use Rattle.stream_match_layouts.specs.Spans.{frame_count, start_of, spans_of, read_count, write_count}
+use Rattle.stream_match.specs.Stretch.{opening_value}
 use Rattle.stream_match.specs.Weave.{Reach, no_reach, Weave, total, cells_of_first, reach_at, WritesAt, CanWeave}
 use Rattle.stream_match.specs.EpochPlan.{weave_over, reaches_over, AreFrames, WrittenOutside, read_reach, staying, leaving_reach, leaving_reaches, epoch_weave}
-use Rattle.stream_match.proofs.Windows.{no_window}
-use Rattle.stream_match.proofs.Writers.{window_number, there, lawful_window, has_writers, number_at, number_exists, writer_is, found}
-use Rattle.stream_match.proofs.CellSums.{frames_are, frames_bound}
-use Rattle.stream_match.proofs.Tallies.{sums-next, spans-few, sum-le}
+use Rattle.stream_match_layouts.proofs.Windows.{no_window}
+use Rattle.stream_match_layouts.proofs.Writers.{window_number, there, lawful_window, has_writers, number_at, number_exists, writer_is, found}
+use Rattle.stream_match_layouts.proofs.Sums.{frames_are, frames_bound}
+use Rattle.stream_match_layouts.proofs.Tallies.{sums-next, spans-few, sum-le}
 use Rattle.stream_match.proofs.Counting.{other_test}
-use Rattle.stream_match.proofs.FrameSpans.{spans_of-windows, start-le, output_within, no_input_writer}
+use Rattle.stream_match_layouts.proofs.FrameSpans.{spans_of-windows, start-le, output_within, no_input_writer}
 use Rattle.stream_match.proofs.Weaving.{first-more}
 use Rattle.stream_match.proofs.WovenSound.{sum_by-map}
 

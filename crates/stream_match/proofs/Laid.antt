@@ -13,13 +13,15 @@ use Rattle.flow_core_laws.specs.declared.plan.Plan.{Plan}
 use Rattle.flow_core_laws.specs.Plans.{frame_at, value_at, missing_of}
 use Rattle.flow_core_laws.proofs.Counting.{passing, passing-add, passing-all, passing-none}
 use Rattle.flow_core_laws.proofs.Stretches.{stands_at, flat_map-range_more}
-use Rattle.stream_match.specs.declared.layout.Layout.{Layout}
+use Rattle.stream_match_layouts.specs.declared.layout.Layout.{Layout}
 use Rattle.stream_match.specs.declared.stretch.Stretch.{Stretch}
-use Rattle.stream_match.specs.Layout.{IsLayout}
-use Rattle.stream_match.specs.Writers.{no_span, span_at}
-use Rattle.stream_match.specs.Stretch.{frame_count, start_of, read_count, missing_count, cells_before, stretch_at, opening_value, stretch_cells, cells_of_layout, frame_of, sink_of, IsPlanOf}
-use Rattle.stream_match.proofs.CellSums.{cells_before-more, stretch_at-span, stretch_at-output, stretch_ends, frames_are}
-use Rattle.stream_match.proofs.Tallies.{start-next, start-within, start-last, cells-next}
+use Rattle.stream_match_layouts.specs.Layout.{IsLayout}
+use Rattle.stream_match_layouts.specs.Writers.{no_span, span_at}
+use Rattle.stream_match_layouts.specs.Spans.{frame_count, start_of, read_count, cells_before}
+use Rattle.stream_match.specs.Stretch.{missing_count, stretch_at, opening_value, stretch_cells, cells_of_layout, frame_of, sink_of, IsPlanOf}
+use Rattle.stream_match_layouts.proofs.Sums.{cells_before-more, frames_are}
+use Rattle.stream_match.proofs.CellSums.{stretch_at-span, stretch_at-output, stretch_ends}
+use Rattle.stream_match_layouts.proofs.Tallies.{start-next, start-within, start-last, cells-next}
 
 -- ---- cells in order
 

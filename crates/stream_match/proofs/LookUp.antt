@@ -14,7 +14,8 @@ use Rattle.flow_core_epochs.specs.Epoch as epoch
 use Rattle.flow_core_epochs.specs.Epoch.{number_in, is_at, value_kept, PlacesDiffer}
 use Rattle.flow_core_epochs.proofs.Reading.{has_contained}
 use Rattle.stream_match.specs.declared.kept.Kept.{Kept}
-use Rattle.stream_match.specs.EpochCode.{kept_of, Ascend, LiesBefore, AreSorted}
+use Rattle.stream_match.specs.Kept.{kept_of}
+use Rattle.stream_match.specs.EpochCode.{Ascend, LiesBefore, AreSorted}
 use Rattle.stream_match.proofs.Counting.{same_test}
 
 -- ---- frames

@@ -9,14 +9,14 @@ use Rattle.std.proofs.lemmas.List.FromFn.{get_or-map-range_with_len, length-map-
 use Rattle.flow_core_laws.specs.declared.activation.Activation.{Activation}
 use Rattle.flow_core_laws.specs.FirstPosition.{is_read_of, read_cursor}
 use Rattle.flow_core_laws.specs.Window.{Window, windows, windows_of, claims_of}
-use Rattle.stream_match.specs.declared.span.Span.{Span}
-use Rattle.stream_match.specs.declared.layout.Layout.{Layout}
-use Rattle.stream_match.specs.Lawful.{IsLawfulClaim}
-use Rattle.stream_match.specs.Layout.{span_of, claims_in, IsLayout, IsLayoutOf}
-use Rattle.stream_match.specs.Stretch.{frame_count, spans_of}
-use Rattle.stream_match.proofs.FrameSpans.{spans_of-windows}
-use Rattle.stream_match.proofs.Tallies.{frame_count-is}
-use Rattle.stream_match.proofs.Windows.{claims_in-windows}
+use Rattle.stream_match_layouts.specs.declared.span.Span.{Span}
+use Rattle.stream_match_layouts.specs.declared.layout.Layout.{Layout}
+use Rattle.stream_match_layouts.specs.Lawful.{IsLawfulClaim}
+use Rattle.stream_match_layouts.specs.Layout.{span_of, claims_in, IsLayout, IsLayoutOf}
+use Rattle.stream_match_layouts.specs.Spans.{frame_count, spans_of}
+use Rattle.stream_match_layouts.proofs.FrameSpans.{spans_of-windows}
+use Rattle.stream_match_layouts.proofs.Tallies.{frame_count-is}
+use Rattle.stream_match_layouts.proofs.Windows.{claims_in-windows}
 use Rattle.flow_core_epochs.specs.Epoch.{read_from}
 use Rattle.flow_core_epochs.proofs.Members.{Has, of_map, has_tail}
 use Rattle.flow_core_epochs.proofs.Carried.{all_has, has_all, has_claim}

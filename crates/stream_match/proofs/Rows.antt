@@ -11,15 +11,17 @@ use Rattle.flow_core_laws.specs.declared.plan.Piece.{Piece}
 use Rattle.flow_core_laws.proofs.Stretches.{flat_map-range_more}
 use Rattle.flow_core_epochs.specs.Epoch.{number_in}
 use Rattle.stream_match.specs.declared.kept.Kept.{Kept}
-use Rattle.stream_match.specs.declared.span.Span.{Span}
-use Rattle.stream_match.specs.declared.layout.Layout.{Layout}
+use Rattle.stream_match_layouts.specs.declared.span.Span.{Span}
+use Rattle.stream_match_layouts.specs.declared.layout.Layout.{Layout}
 use Rattle.stream_match.specs.declared.stretch.Stretch.{Stretch}
-use Rattle.stream_match.specs.Writers.{writers_on, writer_at}
-use Rattle.stream_match.specs.Stretch.{read_count, write_count, spans_of, overlap_first, overlap_end, piece_between, overlap, by_frame, pieces_from}
+use Rattle.stream_match_layouts.specs.Writers.{writers_on, writer_at}
+use Rattle.stream_match_layouts.specs.Spans.{read_count, write_count, spans_of}
+use Rattle.stream_match.specs.Stretch.{overlap_first, overlap_end, piece_between, overlap, by_frame, pieces_from}
 use Rattle.stream_match.specs.Weave.{Reach, no_reach, Weave, total, reach_places, reach_cells, frame_cells, cells_of_first, stretch_in, with_frame, overlap_among, pieces_among, frame_pieces, woven_pieces, woven_frame}
 use Rattle.stream_match.specs.EpochPlan.{read_reach, leaving_reaches, epoch_reaches, epoch_weave}
-use Rattle.stream_match.specs.EpochCode.{kept_of, renumbered, pieces_for, filled_cells, stretch_places, stretches_from, reads_before, read_part, epoch_frame}
-use Rattle.stream_match.proofs.Walks.{flat_map-range-add}
+use Rattle.stream_match.specs.Kept.{kept_of}
+use Rattle.stream_match.specs.EpochCode.{renumbered, pieces_for, filled_cells, stretch_places, stretches_from, reads_before, read_part, epoch_frame}
+use Rattle.flow_core_laws.proofs.Stretches.{flat_map-range-add, flat_map-range-same}
 use Rattle.stream_match.proofs.Weaving.{length-reaches, first-more}
 use Rattle.stream_match.proofs.Behind.{read_total}
 
@@ -36,12 +38,6 @@ flat_map-flat_map g f (x ∷ xs) = flat_map-append g (f x) (flat_map f xs) ∙ a
 flat_map-same : {A B : Type 0} (f g : A → List B) (xs : List A) → ((x : A) → f x ≡ g x) → flat_map f xs ≡ flat_map g xs
 flat_map-same f g [] same = refl
 flat_map-same f g (x ∷ xs) same = ap (λ ys. ys ++ flat_map f xs) (same x) ∙ ap (λ ys. g x ++ ys) (flat_map-same f g xs same)
-
-pub flat_map-range-same : {X : Type 0} (f g : ℕ → List X) (a n : ℕ) → ((k : ℕ) → a ≤ k → k < a + n → f k ≡ g k) → flat_map f (range_with_len a n) ≡ flat_map g (range_with_len a n)
-flat_map-range-same f g a zero h = refl
-flat_map-range-same f g a (suc n) h =
-    ap (λ xs. xs ++ flat_map f (range_with_len (a + 1) n)) (h a (omega arith) (omega arith))
-    ∙ ap (λ ys. g a ++ ys) (flat_map-range-same f g (a + 1) n (λ k l u. h k (omega arith) (omega arith)))
 
 -- ---- stretches from a cell on
 

@@ -12,19 +12,21 @@ use Rattle.flow_core_laws.specs.declared.plan.Piece.{Piece}
 use Rattle.flow_core_laws.specs.declared.plan.Plan.{Plan}
 use Rattle.flow_core_laws.specs.Plans.{frame_at, value_at}
 use Rattle.flow_core_laws.specs.IsSound.{HasCell, Covers, IsSoundPiece, IsSound}
-use Rattle.stream_match.specs.declared.span.Span.{Span}
-use Rattle.stream_match.specs.declared.layout.Layout.{Layout}
+use Rattle.stream_match_layouts.specs.declared.span.Span.{Span}
+use Rattle.stream_match_layouts.specs.declared.layout.Layout.{Layout}
 use Rattle.stream_match.specs.declared.stretch.Stretch.{Stretch}
-use Rattle.stream_match.specs.Layout.{IsLayout}
-use Rattle.stream_match.specs.Writers.{span_at, writer_at}
-use Rattle.stream_match.specs.Stretch.{frame_count, start_of, spans_of, write_count, cells_before, stretch_at, frame_of, all_pieces, pieces_from, by_frame, IsPlanOf}
-use Rattle.stream_match.proofs.CellSums.{cells_few, frames_are, frames_bound, stretch_at-span, stretch_at-output, stretch_begins, stretch_ends, is_stretch}
-use Rattle.stream_match.proofs.Tallies.{start-first, start-last, sums-next, counts-few, spans-few, sum-le, write-le}
+use Rattle.stream_match_layouts.specs.Layout.{IsLayout}
+use Rattle.stream_match_layouts.specs.Writers.{span_at, writer_at}
+use Rattle.stream_match_layouts.specs.Spans.{frame_count, start_of, spans_of, write_count, cells_before}
+use Rattle.stream_match.specs.Stretch.{stretch_at, frame_of, all_pieces, pieces_from, by_frame, IsPlanOf}
+use Rattle.stream_match_layouts.proofs.Sums.{cells_few, frames_are, frames_bound}
+use Rattle.stream_match.proofs.CellSums.{stretch_at-span, stretch_at-output, stretch_begins, stretch_ends, is_stretch}
+use Rattle.stream_match_layouts.proofs.Tallies.{start-first, start-last, sums-next, counts-few, spans-few, sum-le, write-le}
 use Rattle.stream_match.proofs.Placed.{length-by_frame-le}
 use Rattle.stream_match.proofs.Counting.{other_test}
 use Rattle.stream_match.proofs.Laid.{cells_before-le, length-frames, frame_at-frame, frame_at-sink, begins, ends, sink-begins, sink-inputs, length-filled, value, waits}
 use Rattle.stream_match.proofs.Origins.{origin, Ordered, ordered, covers_stretch, one_piece}
-use Rattle.stream_match.proofs.FrameSpans.{start-le, in_frame, output_within, no_input_writer}
+use Rattle.stream_match_layouts.proofs.FrameSpans.{start-le, in_frame, output_within, no_input_writer}
 
 module _ (layout : Layout) (is : IsLayout layout) (input : List ℕ) (plan : Plan) (laid : IsPlanOf layout input plan) where
   -- ---- cells

@@ -23,34 +23,23 @@ use Rattle.flow_core_laws.specs.Plans.{frame_at, value_at, piece_at, piece_sourc
 use Rattle.flow_core_laws.specs.StandsFor.{StandsFor}
 use Rattle.flow_core_laws.proofs.Sources.{cell_source-covered, fed-covered}
 use Rattle.flow_core_laws.proofs.Windows.{written, producer_by_number, claims_at-slice_get}
-use Rattle.stream_match.specs.declared.span.Span.{Span}
-use Rattle.stream_match.specs.declared.layout.Layout.{Layout}
+use Rattle.flow_core_laws.proofs.Stretches.{map-range-add, map-range-shift}
+use Rattle.stream_match_layouts.specs.declared.span.Span.{Span}
+use Rattle.stream_match_layouts.specs.declared.layout.Layout.{Layout}
 use Rattle.stream_match.specs.declared.stretch.Stretch.{Stretch}
-use Rattle.stream_match.specs.Layout.{span_of, claims_in, IsLayoutOf, IsLayout}
-use Rattle.stream_match.specs.Writers.{no_span, span_at, writer_at, writers_on, end_of}
-use Rattle.stream_match.specs.Stretch.{frame_count, start_of, read_count, cells_before, stretch_at, opening_value, all_pieces, piece_between, overlap_first, overlap_end, IsPlanOf}
-use Rattle.stream_match.proofs.Windows.{no_window, map_map, claims_in-windows}
-use Rattle.stream_match.proofs.Writers.{window_number, there, stands, writer_is, found}
-use Rattle.stream_match.proofs.CellSums.{is_stretch, stretch_at-span, stretch_at-output, stretch_begins, cells_before-more}
-use Rattle.stream_match.proofs.Tallies.{frame_count-is, start-next, start-within}
+use Rattle.stream_match_layouts.specs.Layout.{span_of, claims_in, IsLayoutOf, IsLayout}
+use Rattle.stream_match_layouts.specs.Writers.{no_span, span_at, writer_at, writers_on, end_of}
+use Rattle.stream_match_layouts.specs.Spans.{frame_count, start_of, read_count, cells_before}
+use Rattle.stream_match.specs.Stretch.{stretch_at, opening_value, all_pieces, piece_between, overlap_first, overlap_end, IsPlanOf}
+use Rattle.stream_match_layouts.proofs.Windows.{no_window, map_map, claims_in-windows}
+use Rattle.stream_match_layouts.proofs.Writers.{window_number, there, stands, writer_is, found}
+use Rattle.stream_match_layouts.proofs.Sums.{cells_before-more}
+use Rattle.stream_match.proofs.CellSums.{is_stretch, stretch_at-span, stretch_at-output, stretch_begins}
+use Rattle.stream_match_layouts.proofs.Tallies.{frame_count-is, start-next, start-within}
 use Rattle.stream_match.proofs.Laid.{cells_before-le, length-frames, frame_at-frame, begins, ends, sink-begins, sink-inputs, value}
 use Rattle.stream_match.proofs.Origins.{origin, ordered_stands, piece_stands, piece_place, covers_stretch, one_stretch}
-use Rattle.stream_match.proofs.FrameSpans.{spans_of-windows, outputs-are, no_input_writer}
+use Rattle.stream_match_layouts.proofs.FrameSpans.{spans_of-windows, outputs-are, no_input_writer}
 use Rattle.stream_match.proofs.Sound.{in_order, sound}
-
-map-range-add : {X : Type 0} (f : ℕ → X) (a n m : ℕ) → map f (range_with_len a (n + m)) ≡ map f (range_with_len a n) ++ map f (range_with_len (a + n) m)
-map-range-add f a zero m = ap (λ k. map f (range_with_len a k)) (let e : 0 + m ≡ m = omega arith in e) ∙ ap (λ k. map f (range_with_len k m)) (let e : a ≡ a + 0 = omega arith in e)
-map-range-add f a (suc n) m =
-    ap (λ k. map f (range_with_len a k)) (let e : suc n + m ≡ suc (n + m) = omega arith in e)
-    ∙ ap (λ xs. f a ∷ xs) (map-range-add f (a + 1) n m)
-    ∙ ap (λ k. f a ∷ (map f (range_with_len (a + 1) n) ++ map f (range_with_len k m))) (let e : a + 1 + n ≡ a + suc n = omega arith in e)
-
-map-range-shift : {X : Type 0} (f g : ℕ → X) (a b n : ℕ) → ((k : ℕ) → k < n → f (a + k) ≡ g (b + k)) → map f (range_with_len a n) ≡ map g (range_with_len b n)
-map-range-shift f g a b zero h = refl
-map-range-shift f g a b (suc n) h =
-    let here : f a ≡ g b = ap f (let e : a ≡ a + 0 = omega arith in e) ∙ h 0 (omega arith) ∙ ap g (let e : b + 0 ≡ b = omega arith in e) in
-    ap (λ x. x ∷ map f (range_with_len (a + 1) n)) here
-    ∙ ap (λ xs. g b ∷ xs) (map-range-shift f g (a + 1) (b + 1) n (λ k l. ap f (let e : a + 1 + k ≡ a + (k + 1) = omega arith in e) ∙ h (k + 1) (omega arith) ∙ ap g (let e : b + (k + 1) ≡ b + 1 + k = omega arith in e)))
 
 module _ (layout : Layout) (is : IsLayout layout) (input : List ℕ) (plan : Plan) (laid : IsPlanOf layout input plan) (activations : List Activation) (of : IsLayoutOf layout activations) where
   -- ---- one cell

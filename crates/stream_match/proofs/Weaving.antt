@@ -11,10 +11,9 @@ use Rattle.flow_core_laws.specs.declared.plan.FramePlan.{FramePlan}
 use Rattle.flow_core_laws.specs.declared.plan.Plan.{Plan}
 use Rattle.flow_core_laws.specs.Plans.{frame_at, value_at, missing_of}
 use Rattle.flow_core_laws.proofs.Counting.{passing}
-use Rattle.flow_core_laws.proofs.Stretches.{stands_at, parts_before, flat_map-range_more, slice_get-append_left, slice_get-append_right}
-use Rattle.stream_match.specs.declared.layout.Layout.{Layout}
+use Rattle.flow_core_laws.proofs.Stretches.{flat_map-range-add, flat_map-range_more, parts_before, slice_get-append_left, slice_get-append_right, stands_at}
+use Rattle.stream_match_layouts.specs.declared.layout.Layout.{Layout}
 use Rattle.stream_match.specs.Weave.{Reach, no_reach, Weave, total, reach_cells, frame_cells, cells_of_first, reach_at, woven_frame, woven_sink, IsWoven}
-use Rattle.stream_match.proofs.Walks.{flat_map-range-add}
 
 -- ---- reaches in order
 

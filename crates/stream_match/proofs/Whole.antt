@@ -19,15 +19,15 @@ use Rattle.flow_core_laws.specs.Plans.{plan_reads}
 use Rattle.flow_core_laws.proofs.Sources.{find_passes}
 use Rattle.flow_core_laws.proofs.Windows.{is_window}
 use Rattle.flow_core_epochs.specs.Epoch.{number_in, among, epoch_source}
-use Rattle.stream_match.specs.declared.layout.Layout.{Layout}
-use Rattle.stream_match.specs.Layout.{claims_in, IsLayout, IsLayoutOf}
-use Rattle.stream_match.specs.Stretch.{frame_count, read_count}
+use Rattle.stream_match_layouts.specs.declared.layout.Layout.{Layout}
+use Rattle.stream_match_layouts.specs.Layout.{claims_in, IsLayout, IsLayoutOf}
+use Rattle.stream_match_layouts.specs.Spans.{frame_count, read_count}
 use Rattle.stream_match.specs.Weave.{Reach, total, reach_places, IsWoven, CanWeave}
 use Rattle.stream_match.specs.EpochPlan.{AreFrames, WrittenOutside}
 use Rattle.stream_match.specs.Whole.{all_frames, output_reach, whole_weave}
-use Rattle.stream_match.proofs.Windows.{claims_in-windows}
-use Rattle.stream_match.proofs.CellSums.{cells_few, cells_before-all}
-use Rattle.stream_match.proofs.Tallies.{frame_count-is}
+use Rattle.stream_match_layouts.proofs.Windows.{claims_in-windows}
+use Rattle.stream_match_layouts.proofs.Sums.{cells_few, cells_before-all}
+use Rattle.stream_match_layouts.proofs.Tallies.{frame_count-is}
 use Rattle.stream_match.proofs.Weaving.{length-frames}
 use Rattle.stream_match.proofs.WovenSound.{woven_sound}
 use Rattle.stream_match.proofs.EpochWeave.{over_frame, frames_within, reaches-sink, can_weave_over}

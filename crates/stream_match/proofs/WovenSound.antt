@@ -10,8 +10,8 @@ use Rattle.flow_core_laws.specs.declared.plan.Piece.{Piece}
 use Rattle.flow_core_laws.specs.declared.plan.Plan.{Plan}
 use Rattle.flow_core_laws.specs.Plans.{frame_at, value_at}
 use Rattle.flow_core_laws.specs.IsSound.{HasCell, Covers, IsSoundPiece, IsSound}
-use Rattle.stream_match.specs.declared.layout.Layout.{Layout}
-use Rattle.stream_match.specs.Writers.{writer_at}
+use Rattle.stream_match_layouts.specs.declared.layout.Layout.{Layout}
+use Rattle.stream_match_layouts.specs.Writers.{writer_at}
 use Rattle.stream_match.specs.Stretch.{pieces_from, by_frame}
 use Rattle.stream_match.specs.Weave.{Weave, reach_at, woven_frame, woven_pieces, IsWoven, WritesAt, CanWeave}
 use Rattle.stream_match.proofs.Placed.{length-by_frame-le}

@@ -1,5 +1,5 @@
 -- The sources of the cells of a plan over reaches.
-use Rattle.std.proofs.Common.{◌≡◌, ℕ, ℤ, zero, suc, ◌+◌, ◌-◌, ◌<◌, ◌≤◌, List, [], ◌∷◌, ◌++◌, Option, Some, None, length, take, map, get_or, refl, sym, ap, ◌∙◌, subst, arith}
+use Rattle.std.proofs.Common.{◌≡◌, ℕ, ℤ, suc, ◌+◌, ◌-◌, ◌<◌, ◌≤◌, List, [], ◌∷◌, ◌++◌, Option, Some, None, length, take, map, get_or, refl, sym, ap, ◌∙◌, subst, arith}
 use Rattle.std.specs.Prelude.{slice_get, option_and_then}
 use Rattle.std.specs.Option.{option_map_or}
 use Rattle.std.specs.List.{flat_map, range_with_len}
@@ -11,29 +11,16 @@ use Rattle.flow_core_laws.specs.Element.{Source, given, fed, nobody}
 use Rattle.flow_core_laws.specs.Place.{Place}
 use Rattle.flow_core_laws.specs.Plans.{frame_at, value_at, piece_at, piece_source, cell_source, plan_reads}
 use Rattle.flow_core_laws.proofs.Sources.{cell_source-covered, fed-covered}
-use Rattle.stream_match.specs.declared.layout.Layout.{Layout}
-use Rattle.stream_match.specs.Writers.{writer_at}
+use Rattle.flow_core_laws.proofs.Stretches.{map-range-add, map-range-shift}
+use Rattle.stream_match_layouts.specs.declared.layout.Layout.{Layout}
+use Rattle.stream_match_layouts.specs.Writers.{writer_at}
 use Rattle.stream_match.specs.Stretch.{piece_between, overlap_first, overlap_end}
 use Rattle.stream_match.specs.Weave.{Reach, no_reach, Weave, reach_places, total, cells_of_first, reach_at, stretch_in, with_frame, woven_pieces, IsWoven, WritesAt, CanWeave}
-use Rattle.stream_match.proofs.Windows.{map_map}
+use Rattle.stream_match_layouts.proofs.Windows.{map_map}
 use Rattle.stream_match.proofs.Origins.{ordered_stands}
 use Rattle.stream_match.proofs.Weaving.{cell-is, inputs-is, value}
 use Rattle.stream_match.proofs.WovenPieces.{woven_from, woven_stands, woven_place, covers_at, same_reach}
 use Rattle.stream_match.proofs.WovenSound.{in_order, woven_sound}
-
-map-range-add : {X : Type 0} (f : ℕ → X) (a n m : ℕ) → map f (range_with_len a (n + m)) ≡ map f (range_with_len a n) ++ map f (range_with_len (a + n) m)
-map-range-add f a zero m = ap (λ k. map f (range_with_len a k)) (let e : 0 + m ≡ m = omega arith in e) ∙ ap (λ k. map f (range_with_len k m)) (let e : a ≡ a + 0 = omega arith in e)
-map-range-add f a (suc n) m =
-    ap (λ k. map f (range_with_len a k)) (let e : suc n + m ≡ suc (n + m) = omega arith in e)
-    ∙ ap (λ xs. f a ∷ xs) (map-range-add f (a + 1) n m)
-    ∙ ap (λ k. f a ∷ (map f (range_with_len (a + 1) n) ++ map f (range_with_len k m))) (let e : a + 1 + n ≡ a + suc n = omega arith in e)
-
-map-range-shift : {X : Type 0} (f g : ℕ → X) (a b n : ℕ) → ((k : ℕ) → k < n → f (a + k) ≡ g (b + k)) → map f (range_with_len a n) ≡ map g (range_with_len b n)
-map-range-shift f g a b zero h = refl
-map-range-shift f g a b (suc n) h =
-    let here : f a ≡ g b = ap f (let e : a ≡ a + 0 = omega arith in e) ∙ h 0 (omega arith) ∙ ap g (let e : b + 0 ≡ b = omega arith in e) in
-    ap (λ x. x ∷ map f (range_with_len (a + 1) n)) here
-    ∙ ap (λ xs. g b ∷ xs) (map-range-shift f g (a + 1) (b + 1) n (λ k l. ap f (let e : a + 1 + k ≡ a + (k + 1) = omega arith in e) ∙ h (k + 1) (omega arith) ∙ ap g (let e : b + (k + 1) ≡ b + 1 + k = omega arith in e)))
 
 -- the source of each cell, by the reaches in order
 reads_reaches : (cell : ℕ → Source) (src : Place → Source) (rs : List Reach) (a : ℕ)

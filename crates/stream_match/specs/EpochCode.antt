@@ -2,28 +2,19 @@
 use Rattle.std.specs.Prelude.{◌≡◌, ℕ, ℤ, ◌+◌, ◌<◌, ◌≤◌, ◌⊎◌, List, [], ◌∷◌, Option, Some, slice_get, slice_index, length, map, sum_by, take, drop, count_by, is_none}
 use Rattle.std.specs.Option.{option_map_or}
 use Rattle.std.specs.List.{flat_map, range_with_len}
-use Rattle.flow_core_laws.specs.declared.activation.Activation.{Activation}
-use Rattle.stream_match.specs.Layout.{IsLayoutOf}
 use Rattle.flow_core_laws.specs.declared.plan.FramePlan.{FramePlan}
 use Rattle.flow_core_laws.specs.declared.plan.Piece.{Piece}
 use Rattle.flow_core_laws.specs.Place as streams
 use Rattle.flow_core_laws.specs.Place.{places_from}
-use Rattle.flow_core_epochs.specs.Epoch as epoch
 use Rattle.flow_core_epochs.specs.Epoch.{number_in}
 use Rattle.stream_match.specs.declared.kept.Kept.{Kept}
-use Rattle.stream_match.specs.declared.place.Place.{Place}
-use Rattle.stream_match.specs.declared.layout.Layout.{Layout}
+use Rattle.stream_match.specs.Kept.{kept_of}
+use Rattle.stream_match_layouts.specs.declared.layout.Layout.{Layout}
 use Rattle.stream_match.specs.declared.stretch.Stretch.{Stretch}
-use Rattle.stream_match.specs.Stretch.{read_count, write_count, spans_of, pieces_into, pieces_from, by_frame}
+use Rattle.stream_match_layouts.specs.Spans.{read_count, write_count, spans_of}
+use Rattle.stream_match.specs.Stretch.{pieces_into, pieces_from, by_frame}
 use Rattle.stream_match.specs.Weave.{Reach}
 use Rattle.stream_match.specs.EpochPlan.{read_reach, epoch_value}
-
--- a place, and a kept element, as the meaning has them
-abbrev pub place_of : Place → streams.Place
-place_of p = record { stream = p.stream; position = p.position }
-
-abbrev pub kept_of : Kept → epoch.Kept
-kept_of k = record { place = record { stream = k.stream; position = k.position }; value = k.value }
 
 -- the numbers ascend
 abbrev pub Ascend : List ℕ → Type 0
@@ -76,9 +67,3 @@ epoch_frame layout frames pieces cells f = record {
   piece = length (by_frame pieces f);
   pieces = length (pieces_from pieces f);
 }
-
--- What is kept lies outside of the frames, for some activations of the layout.
-pub record IsKeptOutside (layout : Layout) (frames : List ℕ) (kept : List epoch.Kept) : Type 0 where
-  pub activations : List Activation
-  pub is_of : IsLayoutOf layout activations
-  pub outside : epoch.IsOutside activations frames kept

@@ -8,10 +8,11 @@ use Rattle.flow_core_laws.specs.IsSound.{IsSound}
 use Rattle.flow_core_laws.specs.Window.{Window, producer}
 use Rattle.flow_core_laws.specs.Place.{Place}
 use Rattle.flow_core_epochs.specs.Epoch.{Kept, number_in, value_kept, read_from, StandsForEpoch}
-use Rattle.stream_match.specs.declared.span.Span.{Span}
-use Rattle.stream_match.specs.declared.layout.Layout.{Layout}
-use Rattle.stream_match.specs.Layout.{IsLayout, IsLayoutOf}
-use Rattle.stream_match.specs.Stretch.{frame_count, read_count, write_count, spans_of, opening_value}
+use Rattle.stream_match_layouts.specs.declared.span.Span.{Span}
+use Rattle.stream_match_layouts.specs.declared.layout.Layout.{Layout}
+use Rattle.stream_match_layouts.specs.Layout.{IsLayout, IsLayoutOf}
+use Rattle.stream_match_layouts.specs.Spans.{frame_count, read_count, write_count, spans_of}
+use Rattle.stream_match.specs.Stretch.{opening_value}
 use Rattle.stream_match.specs.Weave.{Reach, Weave, IsWoven, reach_places}
 
 -- Activations of a layout, ascending.

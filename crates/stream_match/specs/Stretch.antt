@@ -1,29 +1,15 @@
 -- The positions that go into cells, and the pieces that carry output elements there.
-use Rattle.std.specs.Prelude.{◌≡◌, ℕ, ℤ, pos, ◌+◌, ◌-◌, ◌==◌, Bool, nat_lt, min, max, if◌then◌else◌, List, [], ◌∷◌, Option, None, slice_get, slice_index, take, drop, length, map, filter, sum_by}
+use Rattle.std.specs.Prelude.{◌≡◌, ℕ, ℤ, pos, ◌+◌, ◌-◌, ◌==◌, Bool, nat_lt, min, max, if◌then◌else◌, List, [], ◌∷◌, Option, None, slice_get, slice_index, length, map, filter, sum_by}
 use Rattle.std.specs.Option.{option_map, option_map_or}
 use Rattle.std.specs.List.{flat_map, range_with_len}
 use Rattle.flow_core_laws.specs.declared.plan.FramePlan.{FramePlan}
 use Rattle.flow_core_laws.specs.declared.plan.Piece.{Piece}
 use Rattle.flow_core_laws.specs.declared.plan.Plan.{Plan}
-use Rattle.stream_match.specs.declared.span.Span.{Span}
-use Rattle.stream_match.specs.declared.layout.Layout.{Layout}
+use Rattle.stream_match_layouts.specs.declared.span.Span.{Span}
+use Rattle.stream_match_layouts.specs.declared.layout.Layout.{Layout}
 use Rattle.stream_match.specs.declared.stretch.Stretch.{Stretch}
-use Rattle.stream_match.specs.Writers.{writers_on, writer_at, end_of}
-
--- how many activations a layout has
-abbrev pub frame_count : Layout → ℕ
-frame_count layout = length layout.starts - 1
-
--- how many positions a span reads, and writes
-abbrev pub read_count : Span → ℕ
-read_count span = if span.write then 0 else span.count
-
-abbrev pub write_count : Span → ℕ
-write_count span = if span.write then span.count else 0
-
--- how many cells the spans before a number have: one for each position that they read
-abbrev pub cells_before : Layout → ℕ → ℕ
-cells_before layout number = sum_by read_count (take number layout.spans)
+use Rattle.stream_match_layouts.specs.Spans.{frame_count, read_count, write_count, cells_before, start_of, spans_of}
+use Rattle.stream_match_layouts.specs.Writers.{writers_on, writer_at, end_of}
 
 -- The output: the positions of stream 1 that are claimed for writing, behind the cells of all spans.
 abbrev pub output_stretch : Layout → Stretch
@@ -97,14 +83,6 @@ abbrev pub by_frame : List Piece → ℕ → List Piece
 by_frame pieces frames = flat_map (pieces_from pieces) (range_with_len 0 frames)
 
 -- ---- the frames
-
--- where the spans of a frame begin
-abbrev pub start_of : Layout → ℕ → ℕ
-start_of layout frame = slice_index layout.starts frame
-
--- the spans of a frame
-abbrev pub spans_of : Layout → ℕ → List Span
-spans_of layout frame = take (start_of layout (frame + 1) - start_of layout frame) (drop (start_of layout frame) layout.spans)
 
 -- how many elements of the input a span reads that are there
 abbrev pub given_count : ℕ → Span → ℕ

@@ -6,10 +6,10 @@ use Rattle.flow_core_laws.specs.declared.plan.FramePlan.{FramePlan}
 use Rattle.flow_core_laws.specs.declared.plan.Piece.{Piece}
 use Rattle.flow_core_laws.specs.declared.plan.Plan.{Plan}
 use Rattle.flow_core_laws.specs.Place.{Place, places_from}
-use Rattle.stream_match.specs.declared.span.Span.{Span}
-use Rattle.stream_match.specs.declared.layout.Layout.{Layout}
+use Rattle.stream_match_layouts.specs.declared.span.Span.{Span}
+use Rattle.stream_match_layouts.specs.declared.layout.Layout.{Layout}
 use Rattle.stream_match.specs.declared.stretch.Stretch.{Stretch}
-use Rattle.stream_match.specs.Writers.{writers_on, writer_at, end_of, HasWriters}
+use Rattle.stream_match_layouts.specs.Writers.{writers_on, writer_at, end_of, HasWriters}
 use Rattle.stream_match.specs.Stretch.{overlap, pieces_from, by_frame}
 
 -- positions of a stream, as many as `count` from `first` on

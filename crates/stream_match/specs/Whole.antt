@@ -6,9 +6,9 @@ use Rattle.flow_core_laws.specs.declared.activation.Activation.{Activation}
 use Rattle.flow_core_laws.specs.declared.plan.Plan.{Plan}
 use Rattle.flow_core_laws.specs.IsSound.{IsSound}
 use Rattle.flow_core_laws.specs.StandsFor.{StandsFor}
-use Rattle.stream_match.specs.declared.layout.Layout.{Layout}
-use Rattle.stream_match.specs.Layout.{IsLayout, IsLayoutOf}
-use Rattle.stream_match.specs.Stretch.{frame_count}
+use Rattle.stream_match_layouts.specs.declared.layout.Layout.{Layout}
+use Rattle.stream_match_layouts.specs.Layout.{IsLayout, IsLayoutOf}
+use Rattle.stream_match_layouts.specs.Spans.{frame_count}
 use Rattle.stream_match.specs.Weave.{Reach, Weave, IsWoven}
 use Rattle.stream_match.specs.EpochPlan.{weave_over}
 

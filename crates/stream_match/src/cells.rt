@@ -1,11 +1,12 @@
 ghost use Rattle.std.specs.Prelude.{◌≡◌, ◌+◌, ◌^◌, ◌<◌, ◌++◌, IfOk, OnOk};
-ghost use Rattle.stream_match.specs.Layout.{IsLayout};
+ghost use Rattle.stream_match_layouts.specs.Layout.{IsLayout};
 ghost use Rattle.stream_match.specs.Stretch.{opening_value, stretch_cells, cells_of_layout};
 
-use crate::layout::Layout;
+use crate::pieces::stretch;
 use crate::stretch::Stretch;
 use os_io::{List, Memory};
 use std::alloc::Global;
+use stream_match_layouts::Layout;
 
 /// The cells of a layout over an input, with their values at opening. `count` is how many there are.
 pub(crate) fn cells(
@@ -21,7 +22,7 @@ pub(crate) fn cells(
     cells.reserve(count)?;
     let mut at = 0;
     for number in 0..layout.spans.len() + 1 {
-        let stretch = layout.stretch(number, at);
+        let stretch = stretch(layout, number, at);
         add_cells(&mut cells, input, stretch)?;
         at += stretch.count;
     }

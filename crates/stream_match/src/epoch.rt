@@ -4,17 +4,17 @@ ghost use Rattle.flow_core_laws.specs.declared.activation.Activation.{Activation
 ghost use Rattle.flow_core_laws.specs.IsSound.{IsSound};
 ghost use Rattle.flow_core_epochs.specs.Epoch.{IsOutside, StandsForEpoch};
 ghost use Rattle.stream_match.specs.declared.stretch.Stretch.{Stretch};
-ghost use Rattle.stream_match.specs.Layout.{IsLayout, IsLayoutOf};
+ghost use Rattle.stream_match_layouts.specs.Layout.{IsLayout, IsLayoutOf};
 ghost use Rattle.stream_match.specs.Walking.{IsStretch};
 ghost use Rattle.stream_match.specs.EpochPlan.{AreFrames, IsEpochPlanOf};
-ghost use Rattle.stream_match.specs.EpochCode.{kept_of, place_of, Ascend, AreSorted, pieces_for, filled_cells, stretch_places, IsKeptOutside};
+ghost use Rattle.stream_match.specs.Kept.{kept_of, place_of, IsKeptOutside};
+ghost use Rattle.stream_match.specs.EpochCode.{Ascend, AreSorted, pieces_for, filled_cells, stretch_places};
 
 use crate::cursors::read_cursors;
 use crate::epoch_frames::{between, epoch_frames};
 use crate::filling::{add_places, empty, fill};
 use crate::gather::{gather, place_by_frame};
 use crate::kept::Kept;
-use crate::layout::Layout;
 use crate::look_up::sorted;
 use crate::place::Place;
 use crate::reaching::{leaving, reading};
@@ -22,6 +22,7 @@ use crate::stretch::Stretch;
 use flow_core_laws::{FramePlan, Piece, Plan};
 use os_io::{List, Memory};
 use std::alloc::Global;
+use stream_match_layouts::Layout;
 
 /// The plan of an epoch, its frames, and the places of its sink cells.
 #[derive(Drop)]

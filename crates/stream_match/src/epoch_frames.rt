@@ -1,16 +1,17 @@
 ghost use Rattle.std.specs.Prelude.{◌≡◌, ◌^◌, ◌-◌, ◌<◌, ◌≤◌, All, IfOk, drop, length, map, take};
 ghost use Rattle.std.specs.List.{range_with_len};
 ghost use Rattle.flow_core_laws.specs.declared.plan.Piece.{Piece};
-ghost use Rattle.stream_match.specs.Layout.{IsLayout};
+ghost use Rattle.stream_match_layouts.specs.Layout.{IsLayout};
 ghost use Rattle.stream_match.specs.EpochPlan.{AreFrames};
 ghost use Rattle.stream_match.specs.EpochCode.{epoch_frame, reads_before};
 
 use crate::filling::empty;
+use crate::frames::frame_tally;
 use crate::gather::count_by_frame;
-use crate::layout::Layout;
 use flow_core_laws::{FramePlan, Piece};
 use os_io::{List, Memory};
 use std::alloc::Global;
+use stream_match_layouts::Layout;
 
 /// The frames of an epoch, by all its pieces and cells.
 pub(crate) fn epoch_frames(
@@ -35,7 +36,7 @@ pub(crate) fn epoch_frames(
     let mut cell = 0;
     let mut piece = 0;
     for (number, frame) in frames.iter().enumerate() {
-        let tally = layout.tally(*frame as usize);
+        let tally = frame_tally(layout, *frame as usize);
         let end = cell + tally.inputs;
         let count = counts[number];
         plans.push(FramePlan {

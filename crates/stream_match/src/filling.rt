@@ -1,7 +1,8 @@
 ghost use Rattle.std.specs.Prelude.{◌≡◌, ◌+◌, ◌++◌, ◌^◌, ◌<◌, ◌≤◌, All, IfOk, OnOk, count_by, is_none, length, map};
 ghost use Rattle.std.specs.List.{flat_map};
 ghost use Rattle.stream_match.specs.declared.stretch.Stretch.{Stretch};
-ghost use Rattle.stream_match.specs.EpochCode.{AreSorted, filled_cells, place_of, stretch_places};
+ghost use Rattle.stream_match.specs.Kept.{place_of};
+ghost use Rattle.stream_match.specs.EpochCode.{AreSorted, filled_cells, stretch_places};
 
 use crate::kept::Kept;
 use crate::look_up::epoch_value;

@@ -1,16 +1,16 @@
 ghost use Rattle.std.specs.Prelude.{◌≡◌, ◌-◌, ◌^◌, ◌<◌, ◌≤◌, IfOk, drop, length, map, sum_by, take};
 ghost use Rattle.std.specs.List.{range_with_len};
-ghost use Rattle.stream_match.specs.declared.span.Span.{Span};
-ghost use Rattle.stream_match.specs.Layout.{IsLayout};
-ghost use Rattle.stream_match.specs.Stretch.{frame_count, cells_before, start_of, spans_of, read_count, write_count, missing_count, frame_of, by_frame, all_pieces};
+ghost use Rattle.stream_match_layouts.specs.declared.span.Span.{Span};
+ghost use Rattle.stream_match_layouts.specs.Layout.{IsLayout};
+ghost use Rattle.stream_match_layouts.specs.Spans.{frame_count, cells_before, start_of, spans_of, read_count, write_count};
+ghost use Rattle.stream_match.specs.Stretch.{missing_count, frame_of, by_frame, all_pieces};
 ghost use Rattle.stream_match.specs.Walking.{counts_of};
 
-use crate::layout::Layout;
 use crate::pieces::reads;
-use crate::span::Span;
 use flow_core_laws::FramePlan;
 use os_io::{List, Memory};
 use std::alloc::Global;
+use stream_match_layouts::{Layout, Span};
 
 /// The frames of a layout, and how many cells and pieces they have together.
 #[derive(Drop)]
@@ -34,7 +34,7 @@ pub(crate) fn make_frames(alloc: Global, layout: &Layout, counts: &[u32]) -> Res
     let mut cell = 0;
     let mut piece = 0;
     for (frame, pieces) in counts.iter().enumerate() {
-        let tally = layout.tally(frame);
+        let tally = frame_tally(layout, frame);
         frames.push(FramePlan {
             cell,
             inputs: tally.inputs,
@@ -62,36 +62,15 @@ pub(crate) struct Tally {
     wait: u32,
 }
 
-impl Layout {
-    /// The tally of the spans of a frame.
-    pub(crate) fn tally(&self, frame: usize) -> Tally
-        requires layout { IsLayout self.now }
-        requires exists { frame < frame_count self.now }
-        ensures inputs { result.inputs ≡ sum_by read_count (spans_of self.now frame) }
-        ensures outputs { result.outputs ≡ sum_by write_count (spans_of self.now frame) }
-        ensures wait { result.wait ≡ sum_by (missing_count self.now.input_len) (spans_of self.now frame) }
-    {
-        let first = self.start(frame);
-        let end = self.start(frame + 1);
-        tally_of(self.part(first, end), self.input_len)
-    }
-
-    /// Where the spans of an activation begin.
-    fn start(&self, frame: usize) -> usize
-        requires { frame < length self.now.starts }
-        ensures { result ≡ start_of self.now frame }
-    {
-        self.starts.as_slice()[frame] as usize
-    }
-
-    /// The spans from one number to another.
-    fn part(&self, first: usize, end: usize) -> &[Span]
-        requires ordered { first ≤ end }
-        requires within { end ≤ length self.now.spans }
-        ensures { result.now ≡ take (end - first) (drop first self.now.spans) }
-    {
-        &self.spans.as_slice()[first..end]
-    }
+/// The tally of the spans of a frame.
+pub(crate) fn frame_tally(layout: &Layout, frame: usize) -> Tally
+    requires layout { IsLayout layout.now }
+    requires exists { frame < frame_count layout.now }
+    ensures inputs { result.inputs ≡ sum_by read_count (spans_of layout.now frame) }
+    ensures outputs { result.outputs ≡ sum_by write_count (spans_of layout.now frame) }
+    ensures wait { result.wait ≡ sum_by (missing_count layout.now.input_len) (spans_of layout.now frame) }
+{
+    tally_of(layout.spans_of(frame), layout.input_len)
 }
 
 /// The tally of spans over an input of this length.

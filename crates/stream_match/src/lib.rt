@@ -1,14 +1,13 @@
-//! Stream positions: where each claim of an activation begins, who produces an element, and the plan
-//! of a run.
+//! Plans: where the elements of a run come from, worked out before anything runs.
 //!
-//! Activations come in control order. `Layout::append` gives each claim its positions by the cursors
-//! of its stream, and keeps for each stream its write claims in order. `Layout::producer` finds the
-//! write claim that covers a position by halving. `build` works out the plan of the whole run over an
-//! input: each frame's cells, and pieces that carry output elements into them, each as long as it can be.
+//! A layout (`stream_match_layouts`) has the positions of all claims. `build` works out the plan of the whole
+//! run over an input: each frame's cells, and pieces that carry output elements into them, each as long as it
+//! can be. `build_epoch` does so for some of the activations, where elements of others are kept, and tells
+//! which elements leave; `read_cursors` has the positions from which on elements may still be read.
 //!
-//! Its promise is `flow_core`'s meaning of the activations: the spans are their windows, the producer
-//! is theirs, and the plan is sound and stands for the activations and the input. That a layout made in
-//! parts is the one made at once stands in `laws`.
+//! Its promise is the meaning of the activations in `flow_core_laws`, and that of epochs in `flow_core_epochs`:
+//! the plan is sound and stands for the activations and the input. That the plan of an epoch and that of a
+//! whole run are one plan over reaches stands in `epoch_laws`.
 #![tactic(auto)]
 
 mod cells;
@@ -20,21 +19,17 @@ mod filling;
 mod frames;
 mod gather;
 mod kept;
-pub mod laws;
-mod layout;
 mod look_up;
 mod numbers;
 mod pieces;
 mod place;
 mod plan;
-mod producer;
 mod reaching;
-mod span;
 mod stretch;
 
+pub use cursors::read_cursors;
 pub use epoch::{EpochPlan, build_epoch};
 pub use kept::Kept;
-pub use layout::Layout;
 pub use place::Place;
 pub use plan::build;
-pub use span::Span;
+pub use stream_match_layouts::{Layout, Span, laws};

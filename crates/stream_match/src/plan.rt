@@ -2,16 +2,16 @@ ghost use Rattle.std.specs.Prelude.{◌≡◌, List, IfOk, length};
 ghost use Rattle.flow_core_laws.specs.declared.activation.Activation.{Activation};
 ghost use Rattle.flow_core_laws.specs.IsSound.{IsSound};
 ghost use Rattle.flow_core_laws.specs.StandsFor.{StandsFor};
-ghost use Rattle.stream_match.specs.Layout.{IsLayout, IsLayoutOf};
+ghost use Rattle.stream_match_layouts.specs.Layout.{IsLayout, IsLayoutOf};
 ghost use Rattle.stream_match.specs.Stretch.{IsPlanOf};
 
 use crate::cells::cells;
 use crate::frames::{Frames, make_frames};
-use crate::layout::Layout;
-use crate::pieces::{count_pieces, place_pieces};
+use crate::pieces::{count_pieces, output, place_pieces};
 use flow_core_laws::{FramePlan, Plan};
 use os_io::Memory;
 use std::alloc::Global;
+use stream_match_layouts::Layout;
 
 /// The plan of the whole run over an input. Frame f is activation f. The cells are those of the
 /// input windows, frame by frame, and behind them those of the sink, which are the positions of the
@@ -31,7 +31,7 @@ pub fn build(alloc: Global, layout: &Layout, input: &[u8]) -> Result<Plan, Memor
         cells: cell,
         pieces: piece,
     } = make_frames(alloc, layout, counts.as_slice())?;
-    let output = layout.output(cell);
+    let output = output(layout, cell);
     let sink = FramePlan {
         cell,
         inputs: output.count,

@@ -1,20 +1,18 @@
 ghost use Rattle.std.specs.Prelude.{◌≡◌, ℕ, ◌+◌, ◌-◌, ◌++◌, [], ◌∷◌, ◌^◌, ◌<◌, All, IfOk, OnOk, length, map, sum_by};
 ghost use Rattle.std.specs.List.{flat_map, range_with_len};
-ghost use Rattle.stream_match.specs.declared.span.Span.{Span};
+ghost use Rattle.stream_match_layouts.specs.declared.span.Span.{Span};
 ghost use Rattle.stream_match.specs.declared.stretch.Stretch.{Stretch};
-ghost use Rattle.stream_match.specs.Layout.{IsLayout};
-ghost use Rattle.stream_match.specs.Stretch.{frame_count, write_count};
+ghost use Rattle.stream_match_layouts.specs.Layout.{IsLayout};
+ghost use Rattle.stream_match_layouts.specs.Spans.{frame_count, write_count};
 ghost use Rattle.stream_match.specs.Weave.{total};
 ghost use Rattle.stream_match.specs.EpochPlan.{AreFrames, read_reach, leaves_from, staying, leaving_reach, leaving_reaches};
 ghost use Rattle.stream_match.specs.EpochCode.{stretches_from, reads_before, read_part};
 
-use crate::cursors::spans_of;
-use crate::layout::Layout;
 use crate::pieces::reads;
-use crate::span::Span;
 use crate::stretch::Stretch;
 use os_io::{List, Memory};
 use std::alloc::Global;
+use stream_match_layouts::{Layout, Span};
 
 /// Stretches behind one another, and the cell behind the last one.
 #[derive(Drop)]
@@ -35,7 +33,7 @@ pub(crate) fn reading(alloc: Global, layout: &Layout, frames: &[u32]) -> Result<
         next: 0,
     };
     for (number, frame) in frames.iter().enumerate() {
-        reading.add_reads(spans_of(layout, *frame as usize), number as u32)?;
+        reading.add_reads(layout.spans_of(*frame as usize), number as u32)?;
     }
     Ok(reading)
 }
@@ -62,7 +60,7 @@ pub(crate) fn leaving(
     };
     for frame in frames {
         leaving.add_leaving(
-            spans_of(layout, *frame as usize),
+            layout.spans_of(*frame as usize),
             cursors,
             frames.len() as u32,
         )?;

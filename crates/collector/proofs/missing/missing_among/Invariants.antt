@@ -1,7 +1,7 @@
 use Rattle.std.proofs.Common.{◌≡◌, List, find, drop}
 use Rattle.std.specs.List.{flat_map}
 use Rattle.flow_core_laws.specs.declared.activation.Activation.{Activation}
-use Rattle.stream_match.specs.Layout.{IsLayoutOf}
+use Rattle.stream_match_layouts.specs.Layout.{IsLayoutOf}
 use Rattle.collector.specs.Walking.{is_missing, read_places}
 use Rattle.collector.proofs.missing.missing_among.Given as goal
 

@@ -1,7 +1,7 @@
 use Rattle.std.proofs.Common.{◌≡◌, ◌≤◌, ◌-◌, List, find}
 use Rattle.std.specs.List.{range_with_len}
 use Rattle.flow_core_laws.specs.declared.activation.Activation.{Activation}
-use Rattle.stream_match.specs.Layout.{IsLayoutOf}
+use Rattle.stream_match_layouts.specs.Layout.{IsLayoutOf}
 use Rattle.collector.specs.Walking.{is_gap}
 use Rattle.collector.proofs.missing.missing_between.Given as goal
 

@@ -1,7 +1,7 @@
 use Rattle.std.proofs.Common.{◌+◌, ◌-◌, refl, arith}
 use Rattle.std.specs.List.{flat_map, range_with_len}
-use Rattle.stream_match.specs.Stretch.{frame_count}
-use Rattle.stream_match.proofs.CellSums.{frames_bound}
+use Rattle.stream_match_layouts.specs.Spans.{frame_count}
+use Rattle.stream_match_layouts.proofs.Sums.{frames_bound}
 use Rattle.collector.specs.Report.{activation_line}
 use Rattle.collector.proofs.Buffered.{on, out}
 use Rattle.collector.proofs.Reported.{lines_at, lines_more}

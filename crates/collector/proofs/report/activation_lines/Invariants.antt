@@ -1,6 +1,6 @@
 use Rattle.std.proofs.Common.{List}
 use Rattle.flow_core_laws.specs.declared.activation.Activation.{Activation}
-use Rattle.stream_match.specs.Layout.{IsLayoutOf}
+use Rattle.stream_match_layouts.specs.Layout.{IsLayoutOf}
 use Rattle.collector.specs.Buffering.{WentOn}
 use Rattle.collector.specs.Report.{activation_lines}
 use Rattle.collector.proofs.report.activation_lines.Given as goal

@@ -1,6 +1,7 @@
 use Rattle.std.proofs.Common.{◌≡◌, map, take}
 use Rattle.std.specs.Prelude.{filter}
-use Rattle.epoch_run_carrying.specs.Carrying.{kept_of, is_behind}
+use Rattle.stream_match.specs.Kept.{kept_of}
+use Rattle.epoch_run_carrying.specs.Carrying.{is_behind}
 use Rattle.epoch_run_carrying.proofs.carrying.carry.Given as goal
 
 abbrev pub invariant-loop-k : goal.invariant-loop-k

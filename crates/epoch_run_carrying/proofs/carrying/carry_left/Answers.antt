@@ -1,6 +1,6 @@
 use Rattle.std.proofs.Common.{map}
-use Rattle.epoch_run_carrying.specs.declared.place.Place.{Place}
-use Rattle.epoch_run_carrying.specs.Carrying.{kept_of}
+use Rattle.stream_match.specs.declared.place.Place.{Place}
+use Rattle.stream_match.specs.Kept.{kept_of}
 use Rattle.epoch_run_carrying.proofs.Filtering.{left_more}
 use Rattle.epoch_run_carrying.proofs.carrying.carry_left.Goals as goal
 

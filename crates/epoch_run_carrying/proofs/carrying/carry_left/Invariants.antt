@@ -1,7 +1,8 @@
 use Rattle.std.proofs.Common.{◌≡◌, ◌++◌, map, take}
 use Rattle.std.specs.Prelude.{filter}
 use Rattle.flow_core_epochs.specs.Epoch.{elements_at}
-use Rattle.epoch_run_carrying.specs.Carrying.{kept_of, place_of, is_behind}
+use Rattle.stream_match.specs.Kept.{kept_of, place_of}
+use Rattle.epoch_run_carrying.specs.Carrying.{is_behind}
 use Rattle.epoch_run_carrying.proofs.carrying.carry_left.Given as goal
 
 abbrev pub invariant-loop-number : goal.invariant-loop-number

@@ -1,5 +1,6 @@
 use Rattle.std.proofs.Common.{length, map, ap, ◌∙◌}
-use Rattle.epoch_run_carrying.specs.Carrying.{kept_of, place_of, carried_by}
+use Rattle.stream_match.specs.Kept.{kept_of, place_of}
+use Rattle.epoch_run_carrying.specs.Carrying.{carried_by}
 use Rattle.epoch_run_carrying.proofs.Filtering.{carried_by_cursors}
 use Rattle.epoch_run_carrying.proofs.carrying.carry_over.Goals as goal
 

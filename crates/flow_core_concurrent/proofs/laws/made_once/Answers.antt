@@ -1,11 +1,9 @@
-use Rattle.std.proofs.Common.{◌≡◌, Bool, true, false, refl, ◌∙◌, arith}
+use Rattle.std.proofs.Common.{◌≡◌, Bool, true, false, refl, ◌∙◌}
 use Rattle.std.specs.Prelude.{not, ◌&&◌}
 use Rattle.flow_core_concurrent.specs.Words.{word_at, opening_words, waits}
-use Rattle.flow_core_concurrent.specs.declared.view.View.{View}
-use Rattle.flow_core_concurrent.specs.States.{times}
 use Rattle.flow_core_concurrent.specs.Counted.{one}
-use Rattle.flow_core_concurrent.proofs.Sums.{sum_by-has}
 use Rattle.flow_core_concurrent.proofs.Opening.{known_waits_no_more}
+use Rattle.flow_core_concurrent.proofs.Once.{waiting_is_new}
 use Rattle.flow_core_concurrent.proofs.Steps.{waits_no_more}
 use Rattle.flow_core_concurrent.proofs.laws.made_once.Goals as goal
 
@@ -23,14 +21,5 @@ returns-clause-stays c = waits_no_more
 pub returns-clause-known : goal.returns-clause-known
 returns-clause-known c = λ known state seat view f fit. known_waits_no_more known state seat view f fit.plan_is_sound
 
-none_made : (a b : Bool) → b ≡ true → one (a && not b) ≡ 0
-none_made a false h = absurd (cc)
-none_made true true h = refl
-none_made false true h = refl
-
 pub returns-clause-new : goal.returns-clause-new
-returns-clause-new c = λ known state seat view f good sees waiting.
-    let a = sum_by-has (λ (v : View). times f v.made) state.seats seat view sees in
-    let b = good.made_once f in
-    let z = none_made (waits (word_at (opening_words known.plan) f)) (waits (word_at state.words f)) waiting in
-    omega (arith, a, b, z)
+returns-clause-new c = waiting_is_new

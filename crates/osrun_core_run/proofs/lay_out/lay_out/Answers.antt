@@ -1,6 +1,6 @@
 use Rattle.std.proofs.Common.{◌≡◌, ◌∙◌, length, [], subst, sym, arith}
-use Rattle.stream_match.specs.Lawful.{AreLawful}
-use Rattle.stream_match.specs.Layout.{IsLayoutOf}
+use Rattle.stream_match_layouts.specs.Lawful.{AreLawful}
+use Rattle.stream_match_layouts.specs.Layout.{IsLayoutOf}
 use Rattle.osrun_core_run.proofs.lay_out.lay_out.Goals as goal
 
 pub returns-clause-whole : goal.returns-clause-whole

@@ -1,7 +1,7 @@
 use Rattle.std.proofs.Common.{All, subst, arith}
 use Rattle.std.proofs.lemmas.List.{take_all}
 use Rattle.std.proofs.lemmas.List.Elements.{All-more}
-use Rattle.stream_match.specs.Lawful.{IsLawfulClaim}
+use Rattle.stream_match_layouts.specs.Lawful.{IsLawfulClaim}
 use Rattle.runtime_tests.proofs.lawful.are_lawful.Goals as goal
 
 pub loop-claim-preserved : goal.loop-claim-preserved

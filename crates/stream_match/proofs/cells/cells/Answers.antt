@@ -3,7 +3,8 @@ use Rattle.std.specs.List.{flat_map, range_with_len}
 use Rattle.flow_core_laws.proofs.Stretches.{flat_map-range_more}
 use Rattle.stream_match.specs.declared.stretch.Stretch.{Stretch}
 use Rattle.stream_match.specs.Stretch.{stretch_at, stretch_cells}
-use Rattle.stream_match.proofs.CellSums.{spans_bound, is_stretch, stretch_begins, stretch_ends}
+use Rattle.stream_match_layouts.proofs.Sums.{spans_bound}
+use Rattle.stream_match.proofs.CellSums.{is_stretch, stretch_begins, stretch_ends}
 use Rattle.stream_match.proofs.cells.cells.Goals as goal
 
 pub overflow_add-number-end : goal.overflow_add-number-end

@@ -1,6 +1,7 @@
 use Rattle.std.proofs.Common.{◌≡◌, ◌≤◌, length}
 use Rattle.std.specs.List.{flat_map, range_with_len}
-use Rattle.stream_match.specs.Stretch.{cells_before, stretch_cells, stretch_at}
+use Rattle.stream_match_layouts.specs.Spans.{cells_before}
+use Rattle.stream_match.specs.Stretch.{stretch_cells, stretch_at}
 use Rattle.stream_match.proofs.cells.cells.Given as goal
 
 abbrev pub invariant-loop-number : goal.invariant-loop-number

@@ -1,7 +1,7 @@
 use Rattle.std.proofs.Common.{◌∙◌, map, sym, subst, ap}
 use Rattle.flow_core_epochs.specs.Epoch.{value_kept}
 use Rattle.stream_match.specs.EpochPlan.{WrittenOutside, epoch_weave}
-use Rattle.stream_match.specs.EpochCode.{kept_of, place_of}
+use Rattle.stream_match.specs.Kept.{kept_of, place_of}
 use Rattle.stream_match.proofs.EpochWeave.{can_weave}
 use Rattle.stream_match.proofs.WovenSound.{woven_sound}
 use Rattle.stream_match.proofs.EpochStands.{epoch_stands}

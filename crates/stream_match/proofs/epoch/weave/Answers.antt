@@ -4,10 +4,11 @@ use Rattle.std.specs.List.{range_with_len}
 use Rattle.std.proofs.lemmas.List.FromFn.{length-map-range_with_len}
 use Rattle.flow_core_laws.specs.declared.plan.FramePlan.{FramePlan}
 use Rattle.flow_core_laws.specs.declared.plan.Piece.{Piece}
-use Rattle.stream_match.specs.declared.layout.Layout.{Layout}
+use Rattle.stream_match_layouts.specs.declared.layout.Layout.{Layout}
 use Rattle.stream_match.specs.Stretch.{by_frame}
 use Rattle.stream_match.specs.Walking.{HasPlace}
-use Rattle.stream_match.specs.EpochCode.{place_of, epoch_frame}
+use Rattle.stream_match.specs.Kept.{place_of}
+use Rattle.stream_match.specs.EpochCode.{epoch_frame}
 use Rattle.stream_match.proofs.Behind.{few_frames}
 use Rattle.stream_match.proofs.EpochRows.{has_place}
 use Rattle.stream_match.proofs.EpochMade.{AreRows, reads_stretches, leaves_stretches, reads_end, leaves_end, pieces_from_frames, pieces_are_few, cells_end, end_few, plan_made}

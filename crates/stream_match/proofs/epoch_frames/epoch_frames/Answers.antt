@@ -11,7 +11,7 @@ overflow_add-end c =
     let layout = c.args.layout.now in
     let frames = c.args.frames.now in
     let k = c.loop-number.number in
-    omega (arith, c.loop-number.invariant.cell, c.tally-tally.ensures.inputs, reads_more layout c.requires.layout frames k c.loop-number-test.true, reads_few layout c.requires.layout frames c.requires.frames (k + 1))
+    omega (arith, c.loop-number.invariant.cell, c.frame_tally-tally.ensures.inputs, reads_more layout c.requires.layout frames k c.loop-number-test.true, reads_few layout c.requires.layout frames c.requires.frames (k + 1))
 
 pub between-requires-clause-within : goal.between-requires-clause-within
 between-requires-clause-within c =
@@ -19,7 +19,7 @@ between-requires-clause-within c =
     let frames = c.args.frames.now in
     let k = c.loop-number.number in
     let cells = c.requires.cells in
-    omega (arith, c.loop-number.invariant.cell, c.tally-tally.ensures.inputs, reads_more layout c.requires.layout frames k c.loop-number-test.true, reads_most layout c.requires.layout frames (k + 1))
+    omega (arith, c.loop-number.invariant.cell, c.frame_tally-tally.ensures.inputs, reads_more layout c.requires.layout frames k c.loop-number-test.true, reads_most layout c.requires.layout frames (k + 1))
 
 pub bounds-counts-number : goal.bounds-counts-number
 bounds-counts-number c = omega (arith, c.loop-number-test.true, ap length (c.as_slice-counts.ensures.value ∙ c.in_ok-counted.ensures) ∙ length-map-range_with_len (λ g. length (pieces_from c.args.pieces.now g)) 0 (length c.args.frames.now))
@@ -42,12 +42,12 @@ loop-number-preserved c =
     let n = length frames in
     let f = c.loop-number.number in
     let i = c.loop-number.invariant in
-    let t = c.tally-tally.ensures in
+    let t = c.frame_tally-tally.ensures in
     let a = get_or frames f 0 in
     let count = ap (λ xs. get_or xs f 0) (c.as_slice-counts.ensures.value ∙ c.in_ok-counted.ensures) ∙ get_or-map-range_with_len (λ g. length (pieces_from all g)) 0 n f f 0 c.loop-number-test.true (zero-add f) in
     let part = c.empty.ensures ∙ ap (count_by is_none) c.between.ensures in
     record {
-      plans = c.in_ok-push.ensures.ok ∙ ap (λ x. c.loop-number.plans ++ x ∷ []) (epoch_frame_is layout frames all cells f c.loop-number.cell c.tally-tally.result.inputs c.tally-tally.result.outputs c.empty.result c.loop-number.piece (get_or c.as_slice-counts.result.now f 0) i.cell t.inputs t.outputs (part ∙ ap (λ m. count_by is_none (take m (drop c.loop-number.cell cells))) (let e : c.loop-number.cell + c.tally-tally.result.inputs - c.loop-number.cell ≡ c.tally-tally.result.inputs = omega arith in e)) i.piece count)
+      plans = c.in_ok-push.ensures.ok ∙ ap (λ x. c.loop-number.plans ++ x ∷ []) (epoch_frame_is layout frames all cells f c.loop-number.cell c.frame_tally-tally.result.inputs c.frame_tally-tally.result.outputs c.empty.result c.loop-number.piece (get_or c.as_slice-counts.result.now f 0) i.cell t.inputs t.outputs (part ∙ ap (λ m. count_by is_none (take m (drop c.loop-number.cell cells))) (let e : c.loop-number.cell + c.frame_tally-tally.result.inputs - c.loop-number.cell ≡ c.frame_tally-tally.result.inputs = omega arith in e)) i.piece count)
           ∙ ap (λ xs. xs ++ epoch_frame layout frames all cells f ∷ []) i.plans ∙ sym (map-range_with_len_more (epoch_frame layout frames all cells) 0 f f (zero-add f));
       cell = omega (arith, i.cell, t.inputs, reads_more layout c.requires.layout frames f c.loop-number-test.true);
       piece = omega (arith, i.piece, count, length-by_frame-more all f);

@@ -1,6 +1,7 @@
 use Rattle.std.proofs.Common.{◌≡◌, ◌++◌, take, map}
 use Rattle.std.specs.List.{flat_map}
-use Rattle.stream_match.specs.EpochCode.{place_of, stretch_places}
+use Rattle.stream_match.specs.Kept.{place_of}
+use Rattle.stream_match.specs.EpochCode.{stretch_places}
 use Rattle.stream_match.proofs.filling.add_places.Given as goal
 
 abbrev pub invariant-loop-stretch : goal.invariant-loop-stretch

@@ -3,7 +3,7 @@ use Rattle.std.specs.List.{range_with_len}
 use Rattle.std.proofs.lemmas.List.{append_assoc, map-append}
 use Rattle.std.proofs.lemmas.List.FromFn.{map-range_with_len_more}
 use Rattle.flow_core_laws.specs.Place as streams
-use Rattle.stream_match.specs.EpochCode.{place_of}
+use Rattle.stream_match.specs.Kept.{place_of}
 use Rattle.stream_match.proofs.filling.add_places_of.Goals as goal
 
 pub loop-offset-preserved : goal.loop-offset-preserved

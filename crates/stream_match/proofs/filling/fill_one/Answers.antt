@@ -3,7 +3,7 @@ use Rattle.std.specs.List.{range_with_len}
 use Rattle.std.proofs.lemmas.List.{append_assoc}
 use Rattle.std.proofs.lemmas.List.FromFn.{map-range_with_len_more}
 use Rattle.stream_match.specs.EpochPlan.{epoch_value}
-use Rattle.stream_match.specs.EpochCode.{kept_of}
+use Rattle.stream_match.specs.Kept.{kept_of}
 use Rattle.stream_match.proofs.filling.fill_one.Goals as goal
 
 pub loop-offset-preserved : goal.loop-offset-preserved

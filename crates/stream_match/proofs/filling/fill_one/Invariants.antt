@@ -1,7 +1,7 @@
 use Rattle.std.proofs.Common.{◌≡◌, ◌++◌, map}
 use Rattle.std.specs.List.{range_with_len}
 use Rattle.stream_match.specs.EpochPlan.{epoch_value}
-use Rattle.stream_match.specs.EpochCode.{kept_of}
+use Rattle.stream_match.specs.Kept.{kept_of}
 use Rattle.stream_match.proofs.filling.fill_one.Given as goal
 
 abbrev pub invariant-loop-offset : goal.invariant-loop-offset

@@ -1,6 +1,7 @@
 use Rattle.std.proofs.Common.{◌≡◌, length, map}
 use Rattle.std.specs.List.{range_with_len}
-use Rattle.stream_match.specs.Stretch.{frame_of, cells_before, start_of, by_frame, all_pieces}
+use Rattle.stream_match_layouts.specs.Spans.{cells_before, start_of}
+use Rattle.stream_match.specs.Stretch.{frame_of, by_frame, all_pieces}
 use Rattle.stream_match.proofs.frames.make_frames.Given as goal
 
 abbrev pub invariant-loop-frame : goal.invariant-loop-frame

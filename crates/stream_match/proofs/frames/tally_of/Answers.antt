@@ -1,7 +1,9 @@
 use Rattle.std.proofs.Common.{arith}
-use Rattle.stream_match.specs.Stretch.{read_count, write_count, missing_count}
-use Rattle.stream_match.specs.Writers.{no_span}
-use Rattle.stream_match.proofs.Tallies.{read-le, write-le, missing-le, tally_fits}
+use Rattle.stream_match_layouts.specs.Spans.{read_count, write_count}
+use Rattle.stream_match.specs.Stretch.{missing_count}
+use Rattle.stream_match_layouts.specs.Writers.{no_span}
+use Rattle.stream_match.proofs.CellSums.{missing-le}
+use Rattle.stream_match_layouts.proofs.Tallies.{read-le, write-le, tally_fits}
 use Rattle.stream_match.proofs.frames.tally_of.Goals as goal
 
 pub overflow_add-inputs : goal.overflow_add-inputs

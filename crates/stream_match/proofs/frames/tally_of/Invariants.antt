@@ -1,5 +1,6 @@
 use Rattle.std.proofs.Common.{◌≡◌, sum_by, take}
-use Rattle.stream_match.specs.Stretch.{read_count, write_count, missing_count}
+use Rattle.stream_match_layouts.specs.Spans.{read_count, write_count}
+use Rattle.stream_match.specs.Stretch.{missing_count}
 use Rattle.stream_match.proofs.frames.tally_of.Given as goal
 
 abbrev pub invariant-loop-span : goal.invariant-loop-span

@@ -3,9 +3,10 @@ use Rattle.std.specs.Prelude.{slice_index}
 use Rattle.std.specs.List.{range_with_len}
 use Rattle.std.proofs.lemmas.List.FromFn.{length-map-range_with_len}
 use Rattle.flow_core_laws.specs.declared.plan.FramePlan.{FramePlan}
-use Rattle.stream_match.specs.Stretch.{frame_count, frame_of, cells_before}
+use Rattle.stream_match_layouts.specs.Spans.{frame_count, cells_before}
+use Rattle.stream_match.specs.Stretch.{frame_of}
 use Rattle.stream_match.specs.declared.stretch.Stretch.{Stretch}
-use Rattle.stream_match.proofs.Windows.{map_map}
+use Rattle.stream_match_layouts.proofs.Windows.{map_map}
 use Rattle.stream_match.proofs.Sound.{sound}
 use Rattle.stream_match.proofs.Stands.{stands_for}
 use Rattle.stream_match.proofs.plan.build.Goals as goal

@@ -1,8 +1,8 @@
 use Rattle.std.proofs.Common.{◌+◌, ◌<◌, ◌++◌, ◌^◌, ◌∙◌, ℕ, length, get_or, take, map, ap, sym, subst, arith}
 use Rattle.std.specs.Prelude.{sum_by}
 use Rattle.std.proofs.lemmas.List.Sums.{sum_by-append}
-use Rattle.stream_match.specs.declared.span.Span.{Span}
-use Rattle.stream_match.specs.Stretch.{spans_of}
+use Rattle.stream_match_layouts.specs.declared.span.Span.{Span}
+use Rattle.stream_match_layouts.specs.Spans.{spans_of}
 use Rattle.stream_match.specs.Weave.{Reach, total}
 use Rattle.stream_match.specs.EpochPlan.{staying, leaving_reach, leaving_reaches}
 use Rattle.stream_match.specs.EpochCode.{stretches_from}

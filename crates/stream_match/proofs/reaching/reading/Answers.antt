@@ -1,8 +1,8 @@
 use Rattle.std.proofs.Common.{◌+◌, ◌++◌, ◌∙◌, get_or, map, ap, sym, arith}
 use Rattle.std.specs.Prelude.{sum_by}
 use Rattle.std.specs.List.{flat_map, range_with_len}
-use Rattle.stream_match.specs.declared.span.Span.{Span}
-use Rattle.stream_match.specs.Stretch.{spans_of}
+use Rattle.stream_match_layouts.specs.declared.span.Span.{Span}
+use Rattle.stream_match_layouts.specs.Spans.{spans_of}
 use Rattle.stream_match.specs.Weave.{total}
 use Rattle.stream_match.specs.EpochPlan.{read_reach}
 use Rattle.stream_match.specs.EpochCode.{stretches_from, read_part}

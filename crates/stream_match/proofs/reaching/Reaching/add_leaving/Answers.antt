@@ -1,8 +1,8 @@
 use Rattle.std.proofs.Common.{◌+◌, ◌∙◌, get_or, take, ap, arith}
-use Rattle.stream_match.specs.declared.span.Span.{Span}
-use Rattle.stream_match.specs.Writers.{no_span}
+use Rattle.stream_match_layouts.specs.declared.span.Span.{Span}
+use Rattle.stream_match_layouts.specs.Writers.{no_span}
 use Rattle.stream_match.specs.EpochPlan.{leaving_reach}
-use Rattle.stream_match.proofs.Tallies.{tally_fits}
+use Rattle.stream_match_layouts.proofs.Tallies.{tally_fits}
 use Rattle.stream_match.proofs.Behind.{span_added, span_next, leaving_total, total_one}
 use Rattle.stream_match.proofs.reaching.Reaching.add_leaving.Goals as goal
 

@@ -1,8 +1,8 @@
 use Rattle.std.proofs.Common.{◌+◌, ◌++◌, ◌∷◌, [], ◌∙◌, get_or, take, ap, arith}
-use Rattle.stream_match.specs.Stretch.{read_count}
-use Rattle.stream_match.specs.Writers.{no_span}
+use Rattle.stream_match_layouts.specs.Spans.{read_count}
+use Rattle.stream_match_layouts.specs.Writers.{no_span}
 use Rattle.stream_match.specs.EpochPlan.{read_reach}
-use Rattle.stream_match.proofs.Tallies.{read-le, tally_fits}
+use Rattle.stream_match_layouts.proofs.Tallies.{read-le, tally_fits}
 use Rattle.stream_match.proofs.Behind.{span_added, span_next, read_total}
 use Rattle.stream_match.proofs.reaching.Reaching.add_reads.Goals as goal
 

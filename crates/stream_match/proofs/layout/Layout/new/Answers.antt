@@ -1,5 +1,0 @@
-use Rattle.stream_match.proofs.Appending.{is_empty}
-use Rattle.stream_match.proofs.layout.Layout.new.Goals as goal
-
-pub returns-clause-empty : goal.returns-clause-empty
-returns-clause-empty c = let i = c.loop.invariant in is_empty _ _ i.spans i.starts i.writers i.reads i.writes

@@ -1,0 +1,8 @@
+-- What a reader believes: the activations that are taken, and what a layout says of them,
+pub mod Lawful
+pub mod Layout
+-- its spans by activation, and the write spans of a stream.
+pub mod Spans
+pub mod Writers
+-- What restates private functions: adding a claim.
+pub mod Adding

@@ -1,0 +1,168 @@
+ghost use Rattle.std.specs.Prelude.{◌≡◌, ℕ, [], ◌∷◌, ◌++◌, ◌+◌, ◌^◌, ◌<◌, ◌≤◌, List, IfOk, OnOk, length, slice_index, slice_set, slice_index_or, map, replicate};
+ghost use Rattle.flow_core_laws.specs.declared.activation.Activation.{Activation};
+ghost use Rattle.flow_core_laws.specs.FirstPosition.{first_position};
+ghost use Rattle.flow_core_laws.specs.Window.{Window, windows_behind};
+ghost use Rattle.stream_match_layouts.specs.Lawful.{AreLawful};
+ghost use Rattle.stream_match_layouts.specs.Layout.{claims_in, IsOfWindows, IsLayoutOf};
+ghost use Rattle.stream_match_layouts.specs.Layout.{TakesMore};
+ghost use Rattle.stream_match_layouts.specs.Adding.{HasRoom, with_claim};
+
+use crate::span::Span;
+use flow_core_laws::{Activation, Claim};
+use os_io::{List, Memory};
+use std::alloc::Global;
+
+/// The positions of a list of activations, in control order.
+#[derive(Debug, Drop)]
+pub struct Layout {
+    /// A span for each claim: by activation, and within one by clause order.
+    pub spans: List<Span>,
+    /// The first span of each activation, and one more entry for the end.
+    pub starts: List<u32>,
+    /// For each stream the numbers of its write spans, in order of position.
+    pub writers: List<List<u32>>,
+    /// The read cursor of each stream.
+    pub reads: List<u64>,
+    /// The write cursor of each stream: how many of its positions are claimed for writing.
+    pub writes: List<u64>,
+    /// How many elements the input has.
+    pub input_len: u32,
+}
+
+impl Layout {
+    /// The layout of no activation, over so many streams: 0 is the input, 1 the output.
+    pub fn new(alloc: Global, streams: u32, input_len: u32) -> Result<Layout, Memory>
+        requires { 2 ≤ streams }
+        ensures empty { IfOk result (λ layout. IsLayoutOf layout []) }
+        ensures streams { IfOk result (λ layout. length layout.writers ≡ streams) }
+        ensures input { IfOk result (λ layout. layout.input_len ≡ input_len) }
+    {
+        let mut layout = Layout {
+            spans: List::new(alloc),
+            starts: List::new(alloc),
+            writers: List::new(alloc),
+            reads: List::new(alloc),
+            writes: List::new(alloc),
+            input_len,
+        };
+        layout.starts.push(0)?;
+        layout.writers.reserve(streams as usize)?;
+        layout.reads.reserve(streams as usize)?;
+        layout.writes.reserve(streams as usize)?;
+        for _ in 0..streams {
+            layout.writers.push(List::new(alloc))?;
+            layout.reads.push(0)?;
+            layout.writes.push(0)?;
+        }
+        Ok(layout)
+    }
+
+    /// Adds the next activations. After `Memory` the layout may hold anything, and is to be given up.
+    pub fn append(&mut self, activations: &[Activation]) -> Result<(), Memory>
+        requires { TakesMore self.old activations.now }
+        ensures added { OnOk result ((before : List Activation) → IsLayoutOf self.old before → IsLayoutOf self.new (before ++ activations.now)) }
+        ensures streams { OnOk result (length self.new.writers ≡ length self.old.writers) }
+        ensures input { OnOk result (self.new.input_len ≡ self.old.input_len) }
+    {
+        self.make_room(activations)?;
+        self.add_all(activations)
+    }
+
+    /// Takes the memory for the next activations at once.
+    fn make_room(&mut self, activations: &[Activation]) -> Result<(), Memory>
+        ensures { self.new ≡ self.old }
+    {
+        self.spans.reserve(claims_of(activations))?;
+        self.starts.reserve(activations.len())
+    }
+
+    /// Adds the next activations, one by one.
+    fn add_all(&mut self, activations: &[Activation]) -> Result<(), Memory>
+        requires { TakesMore self.old activations.now }
+        ensures added { OnOk result ((before : List Activation) → IsLayoutOf self.old before → IsLayoutOf self.new (before ++ activations.now)) }
+        ensures streams { OnOk result (length self.new.writers ≡ length self.old.writers) }
+        ensures input { OnOk result (self.new.input_len ≡ self.old.input_len) }
+    {
+        for activation in activations {
+            self.add(activation)?;
+        }
+        Ok(())
+    }
+
+    /// Adds the next activation.
+    fn add(&mut self, activation: &Activation) -> Result<(), Memory>
+        requires { TakesMore self.old (activation.now ∷ []) }
+        ensures added { OnOk result ((before : List Activation) → IsLayoutOf self.old before → IsLayoutOf self.new (before ++ activation.now ∷ [])) }
+        ensures streams { OnOk result (length self.new.writers ≡ length self.old.writers) }
+        ensures input { OnOk result (self.new.input_len ≡ self.old.input_len) }
+    {
+        let frame = self.starts.len() as u32 - 1;
+        let mut inputs = 0;
+        let mut outputs = 0;
+        for claim in activation.claims.as_slice() {
+            if claim.write {
+                self.take(frame, claim, outputs)?;
+                outputs += claim.horizon;
+            } else {
+                self.take(frame, claim, inputs)?;
+                inputs += claim.horizon;
+            }
+        }
+        self.starts.push(self.spans.len() as u32)?;
+        Ok(())
+    }
+
+    /// Adds a claim of an activation, where its windows before this one take so many inputs or outputs.
+    fn take(&mut self, frame: u32, claim: &Claim, offset: u32) -> Result<(), Memory>
+        requires { HasRoom self.old claim.now }
+        ensures { OnOk result (self.new ≡ with_claim self.old frame claim.now offset) }
+    {
+        let stream = claim.stream as usize;
+        let number = self.spans.len() as u32;
+        let first = if claim.write {
+            let first = self.writes.as_slice()[stream];
+            set(&mut self.writes, stream, first + u64::from(claim.horizon));
+            add_writer(&mut self.writers, stream, number)?;
+            first
+        } else {
+            let first = self.reads.as_slice()[stream] + claim.skip;
+            set(&mut self.reads, stream, first + u64::from(claim.burst));
+            first
+        };
+        self.spans.push(Span {
+            frame,
+            stream: claim.stream,
+            write: claim.write,
+            first,
+            count: claim.horizon,
+            offset,
+        })?;
+        Ok(())
+    }
+}
+
+/// How many claims the activations have, as far as a `usize` goes.
+fn claims_of(activations: &[Activation]) -> usize {
+    let mut claims: usize = 0;
+    for activation in activations {
+        claims = claims.saturating_add(activation.claims.len());
+    }
+    claims
+}
+
+/// Sets a cursor.
+fn set(cursors: &mut List<u64>, stream: usize, cursor: u64)
+    requires { stream < length cursors.old }
+    ensures { cursors.new ≡ slice_set cursors.old stream cursor }
+{
+    cursors.as_mut_slice()[stream] = cursor;
+}
+
+/// Adds a writer of a stream.
+fn add_writer(writers: &mut List<List<u32>>, stream: usize, number: u32) -> Result<(), Memory>
+    requires { stream < length writers.old }
+    ensures { OnOk result (writers.new ≡ slice_set writers.old stream (slice_index_or writers.old stream [] ++ number ∷ [])) }
+{
+    writers.as_mut_slice()[stream].push(number)?;
+    Ok(())
+}
