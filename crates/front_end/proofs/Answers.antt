@@ -2,10 +2,11 @@
 use Rattle.std.proofs.Common.{◌≡◌, ℕ, ◌⊎◌, inl, inr, List, [], ◌∷◌, All, Contains, Result, Err, refl, ap, ◌∙◌, sym, subst, arith}
 use Rattle.std.proofs.lemmas.List.Elements.{All-cons, All-contains, All-nil}
 use Rattle.front_end.proofs.Lines.{KindsAreSpelled, MarksAreOfTokens, least_is_one}
-use Rattle.front_end.specs.Texts.{AcceptedOrRefused, IsProgramOf, IsAccepted, IsRefused, has_fault, is_no_program, has_violation, IsTrueOf, NeverBoth, OneProgram, OneRefusal}
+use Rattle.front_end.specs.Texts.{AcceptedOrRefused, IsProgramOf, IsAccepted, IsNoProgram, IsRefused, has_fault, is_no_program, has_violation, IsTrueOf, NeverBoth, OneProgram, OneRefusal}
 use Rattle.front_end.specs.Told.{told_fault, told_syntax, told_violation}
 use Rattle.front_end.specs.declared.text_error.TextError.{TextError}
 use Rattle.front_end.specs.declared.text_error.TextError.TheVariants as errors
+use Rattle.os_ast.specs.Fronts.{HasPlace, IsPlace, IsRefusedAt, OnePlace, line_at}
 use Rattle.os_ast.specs.Means.{Means, OneReading, placed_from}
 use Rattle.os_ast.specs.Trees.{ProgramTree}
 use Rattle.os_ast.specs.Violations.{violations, violated, IsBefore, IsRefusal}
@@ -20,8 +21,8 @@ use Rattle.os_lexer.specs.declared.token.Token.{Token}
 use Rattle.os_parser_grammar.proofs.Programs.{never, whole}
 use Rattle.os_parser_grammar.specs.Reading.{Read, fails, got}
 use Rattle.os_parser_grammar.specs.Statements.{inner, program}
-use Rattle.os_parser_expressions.specs.declared.parse_error.ParseError.{ParseError}
-use Rattle.os_parser_expressions.specs.declared.parse_error.ParseError.TheVariants as parse
+use Rattle.os_parser.specs.declared.parse_error.ParseError.{ParseError}
+use Rattle.os_parser.specs.declared.parse_error.ParseError.TheVariants as parse
 use Rattle.window_check.proofs.Least.{contains-tail, least-among, least-first, least-others, least_among}
 use Rattle.window_check.specs.Refusal.{IsAnswer}
 use Rattle.window_check.specs.declared.check_error.CheckError.{CheckError}
@@ -41,26 +42,33 @@ none : (vs : List Violation) (v : Violation) → vs ≡ [] → Contains vs v →
 none vs v e c = All-contains (λ w. ⊥) [] v (All-nil (λ w. ⊥)) (subst (λ (xs : List Violation). Contains xs v) e c)
 
 pub never_both : laws.OneCover → laws.NeverBoth → OneReading → NeverBoth
-never_both one never reading text p e a (has_fault {code} {line} f) = never text a.0.0 code line a.0.1 f
-never_both one never reading text p e a (is_no_program n) = n.2 p (moved one text n.0 a.0.0 p n.1 a.0.1 a.0.2)
-never_both one never reading text p e a (has_violation v) =
+never_both one never reading text p code line a (has_fault f) = never text a.0.0 code line a.0.1 f
+never_both one never reading text p code line a (is_no_program n) = n.3.none p (moved one text n.0 a.0.0 p n.2 a.0.1 a.0.2)
+never_both one never reading text p code line a (has_violation v) =
     none (violations v.0) _ (ap violations (same one reading text v.0 p v.2 a.0) ∙ a.1) v.3.among
 
-pub one_refusal : MarksAreOfTokens → KindsAreSpelled → laws.OneCover → laws.OneFault → laws.NeverBoth → OneReading → OneRefusal
-one_refusal marks kinds one fault never reading text e f (has_fault {code} {line} x) (has_fault {code = code'} {line = line'} y) =
-    let both = fault text code line code' line' x y in
-    ap (λ c. errors.Refused c line) both.0 ∙ ap (errors.Refused code') both.1
-one_refusal marks kinds one fault never reading text e f (has_fault x) (is_no_program n) = absurd (never text n.0 _ _ n.1 x)
-one_refusal marks kinds one fault never reading text e f (has_fault x) (has_violation v) = absurd (never text v.2.0 _ _ v.2.1 x)
-one_refusal marks kinds one fault never reading text e f (is_no_program n) (has_fault y) = absurd (never text n.0 _ _ n.1 y)
-one_refusal marks kinds one fault never reading text e f (is_no_program n) (is_no_program m) = refl
-one_refusal marks kinds one fault never reading text e f (is_no_program n) (has_violation v) = absurd (n.2 v.0 (moved one text n.0 v.2.0 v.0 n.1 v.2.1 v.2.2))
-one_refusal marks kinds one fault never reading text e f (has_violation v) (has_fault y) = absurd (never text v.2.0 _ _ v.2.1 y)
-one_refusal marks kinds one fault never reading text e f (has_violation v) (is_no_program n) = absurd (n.2 v.0 (moved one text n.0 v.2.0 v.0 n.1 v.2.1 v.2.2))
-one_refusal marks kinds one fault never reading text e f (has_violation {code} {line} v) (has_violation {code = code'} {line = line'} w) =
-    let both = least_is_one marks kinds v.2.0 v.0 v.2.2 (violated v.1 code line) (violated w.1 code' line') v.3
-    (subst (λ (p : ProgramTree). IsRefusal p (violated w.1 code' line')) (same one reading text w.0 v.0 w.2 v.2) w.3) in
-    ap (λ c. errors.Refused c line) both.0 ∙ ap (errors.Refused code') both.1
+-- the tokens of one cover are refused in one line
+one_line : laws.OneCover → OnePlace → (text : List ℕ) (line there : ℕ) → IsNoProgram text line → IsNoProgram text there → line ≡ there
+one_line one place text line there n m =
+    let tokens : n.0 ≡ m.0 = one text n.0 m.0 n.2 m.2 in
+    let places : n.1 ≡ m.1 = place m.0 n.1 m.1 (subst (λ ts. IsPlace ts n.1) tokens n.3.at) m.3.at in
+    n.3.of_line ∙ ap (λ ts. line_at ts n.1) tokens ∙ ap (line_at m.0) places ∙ sym m.3.of_line
+
+pub one_refusal : MarksAreOfTokens → KindsAreSpelled → laws.OneCover → laws.OneFault → laws.NeverBoth → OneReading → OnePlace → OneRefusal
+one_refusal marks kinds one fault never reading place text code line other there (has_fault x) (has_fault y) = fault text code line other there x y
+one_refusal marks kinds one fault never reading place text code line other there (has_fault x) (is_no_program n) = absurd (never text n.0 _ _ n.2 x)
+one_refusal marks kinds one fault never reading place text code line other there (has_fault x) (has_violation v) = absurd (never text v.2.0 _ _ v.2.1 x)
+one_refusal marks kinds one fault never reading place text code line other there (is_no_program n) (has_fault y) = absurd (never text n.0 _ _ n.2 y)
+one_refusal marks kinds one fault never reading place text code line other there (is_no_program n) (is_no_program m) =
+    (refl, one_line one place text line there n m)
+one_refusal marks kinds one fault never reading place text code line other there (is_no_program n) (has_violation v) =
+    absurd (n.3.none v.0 (moved one text n.0 v.2.0 v.0 n.2 v.2.1 v.2.2))
+one_refusal marks kinds one fault never reading place text code line other there (has_violation v) (has_fault y) = absurd (never text v.2.0 _ _ v.2.1 y)
+one_refusal marks kinds one fault never reading place text code line other there (has_violation v) (is_no_program n) =
+    absurd (n.3.none v.0 (moved one text n.0 v.2.0 v.0 n.2 v.2.1 v.2.2))
+one_refusal marks kinds one fault never reading place text code line other there (has_violation v) (has_violation w) =
+    least_is_one marks kinds v.2.0 v.0 v.2.2 (violated v.1 code line) (violated w.1 other there) v.3
+    (subst (λ (p : ProgramTree). IsRefusal p (violated w.1 other there)) (same one reading text w.0 v.0 w.2 v.2) w.3)
 
 -- tokens mean a program or none
 abbrev IsDecided : List Token → Type 0
@@ -96,23 +104,26 @@ judged p = by (violations p) refl
           },
         )
 
-pub accepted_or_refused : laws.CoverOrFault → AcceptedOrRefused
-accepted_or_refused some text = by_cover (some text)
+-- a text is accepted or refused
+abbrev IsAnswered : List ℕ → Type 0
+IsAnswered text = ((q : ProgramTree) × IsAccepted text q) ⊎ ((code : ℕ) × (line : ℕ) × IsRefused text code line)
+
+pub accepted_or_refused : laws.CoverOrFault → HasPlace → AcceptedOrRefused
+accepted_or_refused some place text = by_cover (some text)
   where
-    by_program : (tokens : List Token) (p : ProgramTree) → IsTokenCover text tokens → Means tokens p → IsJudged p
-        → ((q : ProgramTree) × IsAccepted text q) ⊎ ((e : TextError) × IsRefused text e)
+    by_program : (tokens : List Token) (p : ProgramTree) → IsTokenCover text tokens → Means tokens p → IsJudged p → IsAnswered text
     by_program tokens p cover means (inl none) = inl (p, ((tokens, cover, means), none))
-    by_program tokens p cover means (inr (v, least)) = inr (errors.Refused v.code v.line, has_violation (p, v.place, (tokens, cover, means), least))
+    by_program tokens p cover means (inr (v, least)) = inr (v.code, v.line, has_violation (p, v.place, (tokens, cover, means), least))
 
-    by_tokens : (tokens : List Token) → IsTokenCover text tokens → IsDecided tokens
-        → ((q : ProgramTree) × IsAccepted text q) ⊎ ((e : TextError) × IsRefused text e)
+    by_tokens : (tokens : List Token) → IsTokenCover text tokens → IsDecided tokens → IsAnswered text
     by_tokens tokens cover (inl (p, means)) = by_program tokens p cover means (judged p)
-    by_tokens tokens cover (inr none) = inr (errors.Syntax, is_no_program (tokens, cover, none))
+    by_tokens tokens cover (inr none) =
+        let at = place tokens none in
+        inr (4, line_at tokens at.0, is_no_program (tokens, at.0, cover, record { none = none; at = at.1; of_line = refl }))
 
-    by_cover : ((tokens : List Token) × IsTokenCover text tokens) ⊎ ((code : ℕ) × (line : ℕ) × IsFirstFault text code line)
-        → ((q : ProgramTree) × IsAccepted text q) ⊎ ((e : TextError) × IsRefused text e)
+    by_cover : ((tokens : List Token) × IsTokenCover text tokens) ⊎ ((code : ℕ) × (line : ℕ) × IsFirstFault text code line) → IsAnswered text
     by_cover (inl (tokens, cover)) = by_tokens tokens cover (decided tokens)
-    by_cover (inr (code, line, fault)) = inr (errors.Refused code line, has_fault fault)
+    by_cover (inr (code, line, fault)) = inr (code, line, has_fault fault)
 
 -- what each stop answers is true of the text
 pub true_fault : (text : List ℕ) (e : LexError) → IsFaultOf text e → IsTrueOf text (told_fault e)
@@ -122,9 +133,9 @@ true_fault text (lex.BigNumber line) h = has_fault h
 true_fault text lex.Memory h = tt
 
 pub true_syntax : (text : List ℕ) (tokens : List Token) (r : Result Program ParseError) (e : ParseError) → IsTokenCover text tokens → r ≡ Err e →
-    (r ≡ Err parse.Syntax → (p : ProgramTree) → Means tokens p → ⊥) → IsTrueOf text (told_syntax e)
-true_syntax text tokens r parse.Syntax cover is none = is_no_program (tokens, cover, none is)
-true_syntax text tokens r parse.Memory cover is none = tt
+    ((place line : ℕ) → r ≡ Err (parse.Syntax place line) → IsRefusedAt tokens place line) → IsTrueOf text (told_syntax e)
+true_syntax text tokens r (parse.Syntax place line) cover is refused = is_no_program (tokens, place, cover, refused place line is)
+true_syntax text tokens r parse.Memory cover is refused = tt
 
 pub true_violation : (text : List ℕ) (p : ProgramTree) (e : CheckError) → IsProgramOf text p → IsAnswer p e → IsTrueOf text (told_violation e)
 true_violation text p (check.Fault code line) means h = has_violation (p, h.0, means, h.1)

@@ -2,6 +2,7 @@
 use Rattle.std.specs.Prelude.{◌≡◌, ◌⊎◌, ⊤, ℕ, List, []}
 use Rattle.front_end.specs.declared.text_error.TextError.{TextError}
 use Rattle.front_end.specs.declared.text_error.TextError.TheVariants as errors
+use Rattle.os_ast.specs.Fronts.{IsRefusedAt}
 use Rattle.os_ast.specs.Means.{Means}
 use Rattle.os_ast.specs.Trees.{ProgramTree}
 use Rattle.os_ast.specs.Violations.{violations, violated, IsRefusal}
@@ -16,25 +17,24 @@ IsProgramOf text p = (tokens : List Token) × IsTokenCover text tokens × Means 
 abbrev pub IsAccepted : List ℕ → ProgramTree → Type 0
 IsAccepted text p = IsProgramOf text p × (violations p ≡ [])
 
--- Its cover means no program.
-abbrev pub IsNoProgram : List ℕ → Type 0
-IsNoProgram text = (tokens : List Token) × IsTokenCover text tokens × ((p : ProgramTree) → Means tokens p → ⊥)
+-- Its cover means no program, and is refused in this line.
+abbrev pub IsNoProgram : List ℕ → ℕ → Type 0
+IsNoProgram text line = (tokens : List Token) × (place : ℕ) × IsTokenCover text tokens × IsRefusedAt tokens place line
 
 -- The least violation of the program that it means has this code and line.
 abbrev pub HasLeastViolation : List ℕ → ℕ → ℕ → Type 0
 HasLeastViolation text code line = (p : ProgramTree) × (place : ℕ) × IsProgramOf text p × IsRefusal p (violated place code line)
 
--- What is wrong with a text: the first of its first fault, that it is no program, its least violation. The later ones
--- need a cover, and the last one a program.
-pub data IsRefused (text : List ℕ) : TextError → Type 0 where
-  has_fault : {code line : ℕ} → IsFirstFault text code line → IsRefused text (errors.Refused code line)
-  is_no_program : IsNoProgram text → IsRefused text errors.Syntax
-  has_violation : {code line : ℕ} → HasLeastViolation text code line → IsRefused text (errors.Refused code line)
+-- What is wrong with a text, by its code and its line: the first of its first fault, that it is no program, its least
+-- violation. The later ones need a cover, and the last one a program.
+pub data IsRefused (text : List ℕ) : ℕ → ℕ → Type 0 where
+  has_fault : {code line : ℕ} → IsFirstFault text code line → IsRefused text code line
+  is_no_program : {line : ℕ} → IsNoProgram text line → IsRefused text 4 line
+  has_violation : {code line : ℕ} → HasLeastViolation text code line → IsRefused text code line
 
 -- an error says what is wrong, or that memory ran out
 abbrev pub IsTrueOf : List ℕ → TextError → Type 0
-IsTrueOf text (errors.Refused code line) = IsRefused text (errors.Refused code line)
-IsTrueOf text errors.Syntax = IsRefused text errors.Syntax
+IsTrueOf text (errors.Refused code line) = IsRefused text code line
 IsTrueOf text errors.Memory = ⊤
 
 -- a text is accepted as one program
@@ -43,12 +43,12 @@ OneProgram = (text : List ℕ) (p q : ProgramTree) → IsAccepted text p → IsA
 
 -- no text is accepted and refused
 abbrev pub NeverBoth : Type 0
-NeverBoth = (text : List ℕ) (p : ProgramTree) (e : TextError) → IsAccepted text p → IsRefused text e → ⊥
+NeverBoth = (text : List ℕ) (p : ProgramTree) (code line : ℕ) → IsAccepted text p → IsRefused text code line → ⊥
 
--- a text is refused in one way: by one code and one line, or as no program
+-- a text is refused in one way: by one code and in one line
 abbrev pub OneRefusal : Type 0
-OneRefusal = (text : List ℕ) (e f : TextError) → IsRefused text e → IsRefused text f → e ≡ f
+OneRefusal = (text : List ℕ) (code line other there : ℕ) → IsRefused text code line → IsRefused text other there → (code ≡ other) × (line ≡ there)
 
 -- each text is accepted or refused
 abbrev pub AcceptedOrRefused : Type 0
-AcceptedOrRefused = (text : List ℕ) → ((p : ProgramTree) × IsAccepted text p) ⊎ ((e : TextError) × IsRefused text e)
+AcceptedOrRefused = (text : List ℕ) → ((p : ProgramTree) × IsAccepted text p) ⊎ ((code : ℕ) × (line : ℕ) × IsRefused text code line)

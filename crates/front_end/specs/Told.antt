@@ -3,8 +3,8 @@ use Rattle.front_end.specs.declared.text_error.TextError.{TextError}
 use Rattle.front_end.specs.declared.text_error.TextError.TheVariants as errors
 use Rattle.os_lexer.specs.declared.fault.LexError.{LexError}
 use Rattle.os_lexer.specs.declared.fault.LexError.TheVariants as lex
-use Rattle.os_parser_expressions.specs.declared.parse_error.ParseError.{ParseError}
-use Rattle.os_parser_expressions.specs.declared.parse_error.ParseError.TheVariants as parse
+use Rattle.os_parser.specs.declared.parse_error.ParseError.{ParseError}
+use Rattle.os_parser.specs.declared.parse_error.ParseError.TheVariants as parse
 use Rattle.window_check.specs.declared.check_error.CheckError.{CheckError}
 use Rattle.window_check.specs.declared.check_error.CheckError.TheVariants as check
 
@@ -17,7 +17,7 @@ told_fault lex.Memory = errors.Memory
 
 -- tokens of no program
 abbrev pub told_syntax : ParseError → TextError
-told_syntax parse.Syntax = errors.Syntax
+told_syntax (parse.Syntax place line) = errors.Refused 4 line
 told_syntax parse.Memory = errors.Memory
 
 -- the least violation

@@ -1,11 +1,11 @@
 //! From a text's bytes to a checked program, in one call.
 //!
 //! `read_program` is the way through tokens, tree and checks. It gives the program that the text means, where the text
-//! means one that violates no rule; and else what is wrong with the text: its first fault, that it is no program, or
-//! its least violation. Each answer comes exactly where it is right, unless memory runs out.
+//! means one that violates no rule; and else what is wrong with the text, and where: its first fault, that its tokens
+//! mean no program, or its least violation. Each answer comes exactly where it is right, unless memory runs out.
 //!
 //! `specs/Texts.antt` says what a text means and what is wrong with it, over the token cover, the program of a token
-//! list and the violations of the crates below.
+//! list, the place where tokens are refused, and the violations of the crates below.
 #![tactic(auto)]
 
 mod reading;

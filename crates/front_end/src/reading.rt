@@ -7,7 +7,7 @@ ghost use Rattle.os_lexer.specs.Limits.{text_limit};
 use crate::text_error::{TextError, fault_error, syntax_error, violation_error};
 use os_ast::laws::meaning_by_tokens;
 use os_lexer::{Token, lex, one_cover};
-use os_parser::{one_reading, parse};
+use os_parser::{one_place, one_reading, parse};
 use std::alloc::Global;
 use window_check::{Checked, check, marks_have_places};
 
@@ -23,7 +23,7 @@ pub fn read_program(alloc: Global, text: &[u8]) -> Result<Checked, TextError>
     }
 }
 
-/// The same from the tokens of a text on.
+/// Parses and checks the tokens of a text.
 fn read_tokens(alloc: Global, text: &[u8], tokens: &[Token]) -> Result<Checked, TextError>
     requires cover { IsTokenCover text.now tokens.now }
     requires few { length tokens.now ≤ text_limit }
@@ -52,5 +52,6 @@ pub fn one_answer()
 {
     one_cover();
     one_reading();
+    one_place();
     meaning_by_tokens();
 }

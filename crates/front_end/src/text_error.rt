@@ -9,12 +9,10 @@ use window_check::CheckError;
 /// Why a text was not accepted.
 #[derive(Clone, Copy, Debug, PartialEq, Eq, Error)]
 pub enum TextError {
-    /// The code of what is wrong, and the line: 1 to 3 for its first fault, 10 to 24 for its least violation.
+    /// The code of what is wrong, and the line: 1 to 3 for its first fault, 4 where its tokens stop being the front of
+    /// any program, 10 to 24 for its least violation.
     #[error("refused by rule {code} in line {line}")]
     Refused { code: u8, line: u32 },
-    /// Its tokens are those of no program. It has the code 4, and no line.
-    #[error("no program")]
-    Syntax,
     /// Memory could not be had. This says nothing of the text.
     #[error("memory could not be had")]
     Memory,
@@ -37,7 +35,7 @@ pub(crate) fn syntax_error(error: ParseError) -> TextError
     ensures { result ≡ told_syntax error }
 {
     match error {
-        ParseError::Syntax => TextError::Syntax,
+        ParseError::Syntax { line, .. } => TextError::Refused { code: 4, line },
         ParseError::Memory => TextError::Memory,
     }
 }

@@ -9,34 +9,25 @@ use window_check::Checked;
 /// What is said of a text.
 #[derive(Drop)]
 pub(crate) enum Judged {
-    /// Its tokens are those of no program.
-    Syntax,
-    /// It is a program that violates rules.
+    /// It has a fault, its tokens mean no program, or it violates rules: the code and the line.
     Refused { code: u8, line: u32 },
     /// It is a program that violates none.
     Accepted(Checked),
 }
 
 impl Judged {
-    pub(crate) fn is_syntax(&self) -> bool {
-        match self {
-            Judged::Syntax => true,
-            Judged::Refused { .. } | Judged::Accepted(_) => false,
-        }
-    }
-
     /// The code and the line of the refusal, where there is one.
     fn refusal(&self) -> Option<(u8, u32)> {
         match self {
             Judged::Refused { code, line } => Some((*code, *line)),
-            Judged::Syntax | Judged::Accepted(_) => None,
+            Judged::Accepted(_) => None,
         }
     }
 
     fn is_accepted(&self) -> bool {
         match self {
             Judged::Accepted(_) => true,
-            Judged::Syntax | Judged::Refused { .. } => false,
+            Judged::Refused { .. } => false,
         }
     }
 }
@@ -48,7 +39,6 @@ pub(crate) fn judge(alloc: Global, text: &str) -> Result<Judged, Fail> {
     }
     match read_program(alloc, text.as_bytes()) {
         Ok(checked) => Ok(Judged::Accepted(checked)),
-        Err(TextError::Syntax) => Ok(Judged::Syntax),
         Err(TextError::Refused { code, line }) => Ok(Judged::Refused { code, line }),
         Err(error) => Err(Fail::from(error)),
     }

@@ -26,28 +26,30 @@ macro_rules! token {
 
 use token;
 
-/// Whether a text is a program.
-fn is_program(rt: &impl Abort, alloc: Global, text: &str) -> Result<bool, Fail> {
+/// The place where the tokens of a text are refused, if they mean no program.
+fn place_of(rt: &impl Abort, alloc: Global, text: &str) -> Result<Option<u32>, Fail> {
     assert!(rt; text.len() <= 262_144);
     let tokens = lex(alloc, text.as_bytes())?;
     match parse(alloc, &tokens) {
-        Ok(_) => Ok(true),
-        Err(ParseError::Syntax) => Ok(false),
+        Ok(_) => Ok(None),
+        Err(ParseError::Syntax { place, .. }) => Ok(Some(place)),
         Err(error) => Err(Fail::from(error)),
     }
 }
 
-/// No text is a program between a head and a tail.
-fn none_is_program(
+/// Each text between a head and a tail is refused at its place. The head stands with the number of its tokens, and a text
+/// with the number of its own that are before the refused one.
+fn are_refused(
     rt: &impl Abort,
     alloc: Global,
-    head: &str,
-    texts: &[&str],
+    (head, before): (&str, u32),
+    texts: &[(&str, u32)],
     tail: &str,
 ) -> Result<(), Fail> {
-    for text in texts {
+    for (text, place) in texts {
         let whole = format!(in alloc; "{head}{text}{tail}")?;
-        assert!(rt; !is_program(rt, alloc, &whole)?, "{whole}");
+        let found = place_of(rt, alloc, &whole)?.and_then(|found| found.checked_sub(before));
+        assert!(rt; found == Some(*place), "{whole}");
     }
     Ok(())
 }

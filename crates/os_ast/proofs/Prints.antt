@@ -14,34 +14,34 @@ use Rattle.os_lexer.specs.declared.token.Punct.TheVariants as puncts
 pub record Prints (p : Printer) : Type 0 where
   pub in_front : (rest : List Symbol) → p rest ≡ p [] ++ rest
 
-nothing : Prints s.nothing
+pub nothing : Prints s.nothing
 nothing = record { in_front = λ rest. refl }
 
-token : {k : Kind} → Prints (s.token k)
+pub token : {k : Kind} → Prints (s.token k)
 token = record { in_front = λ rest. refl }
 
-token_at : {k : Kind} {m : Mark} → Prints (s.token_at k m)
+pub token_at : {k : Kind} {m : Mark} → Prints (s.token_at k m)
 token_at = record { in_front = λ rest. refl }
 
 infixr 20 ◌then◌
-◌then◌ : {p q : Printer} → Prints p → Prints q → Prints (p ⨾ q)
+pub ◌then◌ : {p q : Printer} → Prints p → Prints q → Prints (p ⨾ q)
 ◌then◌ {p} {q} a b = record {
   in_front = λ rest.
       rw (a.in_front (q rest), a.in_front (q []), b.in_front rest) (sym (append_assoc (p []) (q []) rest));
 }
 
-in_parens : {p : Printer} → Prints p → Prints (s.in_parens p)
+pub in_parens : {p : Printer} → Prints p → Prints (s.in_parens p)
 in_parens a = token then a then token
 
-optional : {A : Type 0} (part : A → Printer) → ((x : A) → Prints (part x)) → (o : Option A) → Prints (s.optional part o)
+pub optional : {A : Type 0} (part : A → Printer) → ((x : A) → Prints (part x)) → (o : Option A) → Prints (s.optional part o)
 optional part a None = nothing
 optional part a (Some x) = a x
 
-each : {A : Type 0} (part : A → Printer) → ((x : A) → Prints (part x)) → (xs : List A) → Prints (s.each part xs)
+pub each : {A : Type 0} (part : A → Printer) → ((x : A) → Prints (part x)) → (xs : List A) → Prints (s.each part xs)
 each part a [] = nothing
 each part a (x ∷ xs) = a x then each part a xs
 
-listed : {A : Type 0} (part : A → Printer) → ((x : A) → Prints (part x)) → (xs : List A) → Prints (s.listed part xs)
+pub listed : {A : Type 0} (part : A → Printer) → ((x : A) → Prints (part x)) → (xs : List A) → Prints (s.listed part xs)
 listed part a [] = nothing
 listed part a (x ∷ xs) = a x then each (λ y. s.punct puncts.Comma ⨾ part y) (λ y. token then a y) xs
 
@@ -55,64 +55,64 @@ mutual
   prints_expr (tree.ExprTree.Call f es) = token_at then in_parens (args es)
   prints_expr (tree.Paren e) = in_parens (prints_expr e)
 
-  links : (ls : tree.Links) → Prints (s.links ls)
+  pub links : (ls : tree.Links) → Prints (s.links ls)
   links tree.no_links = nothing
   links (tree.link op m e rest) = token_at then prints_expr e then links rest
 
-  target : (t : tree.TargetTree) → Prints (s.target t)
+  pub target : (t : tree.TargetTree) → Prints (s.target t)
   target (tree.Variable n) = token_at
   target (tree.Element n m e) = token_at then token_at then prints_expr e then token
 
-  args : (es : tree.Args) → Prints (s.args es)
+  pub args : (es : tree.Args) → Prints (s.args es)
   args tree.no_args = nothing
   args (tree.arg e es) = prints_expr e then more_args es
 
-  more_args : (es : tree.Args) → Prints (s.more_args es)
+  pub more_args : (es : tree.Args) → Prints (s.more_args es)
   more_args tree.no_args = nothing
   more_args (tree.arg e es) = token then prints_expr e then more_args es
 
-index : (i : tree.IndexTree) → Prints (s.index i)
+pub index : (i : tree.IndexTree) → Prints (s.index i)
 index i = token_at then prints_expr i.value then token
 
-first_value : (e : tree.ExprTree) → Prints (s.first_value e)
+pub first_value : (e : tree.ExprTree) → Prints (s.first_value e)
 first_value e = token then prints_expr e
 
-attribute : (b : Bool) → Prints (s.attribute b)
+pub attribute : (b : Bool) → Prints (s.attribute b)
 attribute false = nothing
 attribute true = token then in_parens (in_parens token)
 
-declarator : (d : tree.DeclaratorTree) → Prints (s.declarator d)
+pub declarator : (d : tree.DeclaratorTree) → Prints (s.declarator d)
 declarator d = token_at then optional s.index index d.size then attribute d.stream then optional s.first_value first_value d.first
 
-declare : (ds : List tree.DeclaratorTree) → Prints (s.declare ds)
+pub declare : (ds : List tree.DeclaratorTree) → Prints (s.declare ds)
 declare ds = token then listed s.declarator declarator ds then token
 
-change : (c : tree.ChangeTree) → Prints (s.change c)
+pub change : (c : tree.ChangeTree) → Prints (s.change c)
 change (tree.Set t a m e) = target t then token_at then prints_expr e
 change (tree.After t step m) = target t then token_at
 change (tree.Before t step m) = token_at then target t
 
-start : (st : tree.StartTree) → Prints (s.start st)
+pub start : (st : tree.StartTree) → Prints (s.start st)
 start tree.StartTree.Empty = token
 start (tree.StartTree.Declare ds) = declare ds
 start (tree.StartTree.Change c) = change c then token
 
-join : (arrow : Punct) (j : tree.JoinTree) → Prints (s.join arrow j)
+pub join : (arrow : Punct) (j : tree.JoinTree) → Prints (s.join arrow j)
 join arrow j = token_at then token_at then optional s.index index j.burst
 
-clause_item : (arrow : Punct) (i : tree.ClauseItemTree) → Prints (s.clause_item arrow i)
+pub clause_item : (arrow : Punct) (i : tree.ClauseItemTree) → Prints (s.clause_item arrow i)
 clause_item arrow i = target i.stream then optional (s.join arrow) (join arrow) i.window
 
-clause_kind : (k : tree.ClauseKindTree) → Prints (s.clause_kind k)
+pub clause_kind : (k : tree.ClauseKindTree) → Prints (s.clause_kind k)
 clause_kind (tree.Input items) = token then in_parens (listed (s.clause_item puncts.ShiftRight) (clause_item puncts.ShiftRight) items)
 clause_kind (tree.Output items) = token then in_parens (listed (s.clause_item puncts.ShiftLeft) (clause_item puncts.ShiftLeft) items)
 clause_kind (tree.Firstprivate names) = token then in_parens (listed s.name (λ n. token_at) names)
 
-comma : (b : Bool) → Prints (s.comma b)
+pub comma : (b : Bool) → Prints (s.comma b)
 comma false = nothing
 comma true = token
 
-clause : (c : tree.ClauseTree) → Prints (s.clause c)
+pub clause : (c : tree.ClauseTree) → Prints (s.clause c)
 clause c = comma c.comma then clause_kind c.kind
 
 mutual
@@ -136,15 +136,15 @@ mutual
   prints_stmt (tree.Taskwait m) = token_at then token then token then token
   prints_stmt (tree.StmtTree.Declare ds) = declare ds
 
-  stmts : (ss : tree.Stmts) → Prints (s.stmts ss)
+  pub stmts : (ss : tree.Stmts) → Prints (s.stmts ss)
   stmts tree.no_stmts = nothing
   stmts (tree.stmt st rest) = prints_stmt st then stmts rest
 
-sign : (b : Bool) → Prints (s.sign b)
+pub sign : (b : Bool) → Prints (s.sign b)
 sign false = nothing
 sign true = token
 
-params : (ps : Params) → Prints (s.params ps)
+pub params : (ps : Params) → Prints (s.params ps)
 params params_of.Empty = nothing
 params params_of.Void = token
 params (params_of.Names ns) = listed (λ n. s.key keys.Int ⨾ s.name n) (λ n. token then token_at) ns

@@ -4,6 +4,7 @@ pub mod Captured
 pub mod Codes
 pub mod Depth
 pub mod FreeNames
+pub mod Fronts
 pub mod Leveled
 pub mod Limits
 pub mod Marks

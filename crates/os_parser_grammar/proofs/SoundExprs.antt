@@ -183,7 +183,7 @@ sign-sound op d b ts h opens =
     }))
 
 -- how tokens begin an operand
-data Starts : Kind → OperandStart → Type 0 where
+pub data Starts : Kind → OperandStart → Type 0 where
   a_number : (n : ℕ) → n < 2 ^ 31 → Starts (kind.Number n) (starts.Number n)
   a_name : (n : ℕ) → Starts (kind.Name n) (starts.Name n)
   a_paren : Starts (kind.Punct puncts.OpenParen) starts.Paren
@@ -203,7 +203,7 @@ number-starts : (n : ℕ) (b : Bool) → nat_lt n (2 ^ 31) ≡ b →
 number-starts n true e = a_number n (ltb-true n _ e)
 number-starts n false e = another
 
-kind-starts : (k : Kind) → Starts k (operand_start k)
+pub kind-starts : (k : Kind) → Starts k (operand_start k)
 kind-starts (kind.Number n) = number-starts n (nat_lt n (2 ^ 31)) refl
 kind-starts (kind.Name n) = a_name n
 kind-starts (kind.Punct p) = punct-starts p
@@ -233,7 +233,7 @@ operand-sound d b [] h = tt
 operand-sound d b (placed k m ∷ ts) h = operand-starts d b m ts h (kind-starts k)
 
 -- operators
-data Operators : Kind → Option Binary → Type 0 where
+pub data Operators : Kind → Option Binary → Type 0 where
   some : (op : Binary) → Operators (kind.Punct (binary_mark op)) (Some op)
   none : {k : Kind} → Operators k None
 
@@ -258,7 +258,7 @@ punct-operators puncts.Slash = some binary.Divide
 punct-operators puncts.Percent = some binary.Remainder
 punct-operators _ = none
 
-kind-operators : (k : Kind) → Operators k (binary_of k)
+pub kind-operators : (k : Kind) → Operators k (binary_of k)
 kind-operators (kind.Punct p) = punct-operators p
 kind-operators (kind.Number n) = none
 kind-operators (kind.Name n) = none
@@ -279,11 +279,11 @@ level_at-precedence levels.Sum = refl
 level_at-precedence levels.Product = refl
 
 -- an operator of a precedence stands at the next token
-record Operator (r : ℕ) (ts : List Placed) (op : Binary) : Type 0 where
+pub record Operator (r : ℕ) (ts : List Placed) (op : Binary) : Type 0 where
   pub level : level_of op ≡ level_at r
   pub takes : Takes (spelling.punct_at (binary_mark op) (mark_at ts)) ts (after ts)
 
-operator-level : (r : ℕ) (op : Binary) → nat_eq (op_precedence op) r ≡ true → level_of op ≡ level_at r
+pub operator-level : (r : ℕ) (op : Binary) → nat_eq (op_precedence op) r ≡ true → level_of op ≡ level_at r
 operator-level r op e = sym (level_at-precedence (level_of op)) ∙ ap level_at (eqb-true _ _ e)
 
 of_precedence-cases : {A : Type 0} (Q : A → List Placed → Type 0) (r : ℕ) (op : Binary) (f : Binary → Read A) (n : Read A) (b : Bool) →
@@ -306,10 +306,10 @@ at_operator-sound Q r [] f n h g = g
 at_operator-sound Q r (placed k m ∷ ts) f n h g = at_operator-kind Q r m ts f n (kind-operators k) h g
 
 -- chains
-abbrev SoundReader : ℕ → ℕ → Reader ExprTree → Type 0
+abbrev pub SoundReader : ℕ → ℕ → Reader ExprTree → Type 0
 SoundReader n d u = (ts : List Placed) → Sound (ReadExpr n d ts) (u ts)
 
-links-sound : (f r n d : ℕ) (u : Reader ExprTree) (ts : List Placed) → precedence (level_at r) < n → SoundReader n d u →
+pub links-sound : (f r n d : ℕ) (u : Reader ExprTree) (ts : List Placed) → precedence (level_at r) < n → SoundReader n d u →
     Sound (ReadLinks r d ts) (links f r u ts)
 unfolding links
 links-sound zero r n d u ts h s = tt
@@ -336,7 +336,7 @@ chained-read r d ts us vs first (tree.link op m e rest) is re rl =
       takes = λ ps g. re.takes _ (rl.takes ps g);
     }
 
-precedence-level_at : (r : ℕ) → 1 ≤ r → r ≤ 10 → precedence (level_at r) ≡ r
+pub precedence-level_at : (r : ℕ) → 1 ≤ r → r ≤ 10 → precedence (level_at r) ≡ r
 precedence-level_at zero low high = absurd (omega arith)
 precedence-level_at (suc zero) low high = refl
 precedence-level_at (suc (suc zero)) low high = refl
@@ -350,7 +350,7 @@ precedence-level_at (suc (suc (suc (suc (suc (suc (suc (suc (suc zero))))))))) l
 precedence-level_at (suc (suc (suc (suc (suc (suc (suc (suc (suc (suc zero)))))))))) low high = refl
 precedence-level_at (suc (suc (suc (suc (suc (suc (suc (suc (suc (suc (suc r))))))))))) low high = absurd (omega arith)
 
-chains-sound : (n d : ℕ) (u : Reader ExprTree) → n ≤ 10 → SoundReader 11 d u → SoundReader (11 - n) d (chains n u)
+pub chains-sound : (n d : ℕ) (u : Reader ExprTree) → n ≤ 10 → SoundReader 11 d u → SoundReader (11 - n) d (chains n u)
 unfolding chains linked
 chains-sound zero d u h s ts = s ts
 chains-sound (suc n) d u h s ts =

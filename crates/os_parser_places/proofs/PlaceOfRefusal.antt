@@ -2,51 +2,23 @@
 use Rattle.std.proofs.Common.{◌≡◌, ℕ, zero, suc, ◌+◌, ◌-◌, ◌<◌, ◌≤◌, List, [], ◌∷◌, ◌++◌, length, map, take, drop, append_assoc, refl, sym, ap, ◌∙◌, subst, arith}
 use Rattle.std.proofs.Math.Seq.{take-append-add}
 use Rattle.std.proofs.lemmas.List.{take-append-le, take-append-drop, length-append, map-append}
-use Rattle.os_ast.specs.Depth.{expr_depth, program_depth}
-use Rattle.os_ast.specs.Leveled.{IsExpr, AreAll, IsItem}
+use Rattle.os_ast.specs.Fronts.{Begun, kinds_of, IsPlace}
 use Rattle.os_ast.specs.Means as means
 use Rattle.os_ast.specs.Means.{Placed, placed, Fit, placed_from, Means}
-use Rattle.os_ast.specs.Spelling as spelling
-use Rattle.os_ast.specs.Spelling.{Symbol, bare, marked, kind_of, spell, symbols}
-use Rattle.os_ast.specs.Trees.{ExprTree, ProgramTree}
+use Rattle.os_ast.specs.Spelling.{Symbol, bare, marked, kind_of, symbols}
+use Rattle.os_ast.specs.Trees.{ProgramTree}
 use Rattle.os_lexer.specs.declared.token.Kind.{Kind}
 use Rattle.os_lexer.specs.declared.token.Token.{Token}
-use Rattle.os_parser_grammar.specs.Expressions.{expr_on, below}
 use Rattle.os_parser_grammar.specs.Reading.{Read, Reader, got, fails}
 use Rattle.os_parser_grammar.specs.Statements.{inner, program}
-use Rattle.os_parser_grammar.proofs.BackExprs.{back-expr}
 use Rattle.os_parser_grammar.proofs.BackPrograms.{back-program}
-use Rattle.os_parser_grammar.proofs.Follows.{Stops}
 use Rattle.os_parser_grammar.proofs.Programs.{whole}
 use Rattle.os_parser_grammar.proofs.Tokens.{length-placed_from}
-use Rattle.os_parser_places.specs.Places.{Begun, kinds_of, IsPlace}
+use Rattle.os_parser_completions.specs.Completions.{kind_in}
+use Rattle.os_parser_completions.proofs.FrontOfRefusal as completions
 use Rattle.os_parser_places.proofs.Alike.{Alike, last, more, left, flat}
-use Rattle.os_parser_places.proofs.BegunExprs.{BegunExpr, read-refused}
-use Rattle.os_parser_places.proofs.BegunParts.{BegunPart}
-use Rattle.os_parser_places.proofs.BegunStmts.{program-refused}
-use Rattle.os_parser_places.proofs.Opens.{Opens, here, plain, noted, Refused}
 use Rattle.os_parser_places.proofs.PairStmts.{pair-program}
 use Rattle.os_parser_places.proofs.Pairs.{Pair, Goes, past}
-use Rattle.os_parser_places.proofs.PairExprs.{pair-expr_on, below-pair}
-
-abbrev pub kind_in : Placed → Kind
-kind_in (placed k m) = k
-
--- tokens before the rest, whose kinds the symbols begin with
-record Front (ps : List Symbol) (ts rest : List Placed) : Type 0 where
-  front : List Placed
-  tokens : ts ≡ front ++ rest
-  more : List Kind
-  kinds : map kind_of ps ≡ map kind_in front ++ more
-
-opens-front : {ps : List Symbol} {ts rest : List Placed} → Opens ps ts rest → Front ps ts rest
-opens-front (here {ps} {ts}) = record { front = []; tokens = refl; more = map kind_of ps; kinds = refl }
-opens-front (plain {k} {m} o) =
-    let f = opens-front o in
-    record { front = placed k m ∷ f.front; tokens = ap (λ xs. placed k m ∷ xs) f.tokens; more = f.more; kinds = ap (λ ks. k ∷ ks) f.kinds }
-opens-front (noted {k} {m} o) =
-    let f = opens-front o in
-    record { front = placed k m ∷ f.front; tokens = ap (λ xs. placed k m ∷ xs) f.tokens; more = f.more; kinds = ap (λ ks. k ∷ ks) f.kinds }
 
 -- tokens that a spelling is of
 abbrev tokens_of : List Symbol → List Placed
@@ -95,32 +67,6 @@ refused-alike {S = S} r p front t xs fail ps ks e y vs read =
     let h : Goes S xs o.ys 0 o.many (fails (t ∷ xs)) (r (tokens_of ps)) = subst (λ z. Goes S xs o.ys 0 o.many z (r (tokens_of ps))) fail g in
     clash (subst (λ z. Goes S xs o.ys 0 o.many (fails (t ∷ xs)) z) read h)
 
--- Where one is refused, one begins with all tokens before.
-pub record BegunWith (d : ℕ) (kinds : List Kind) : Type 0 where
-  pub whole : ExprTree
-  pub leveled : IsExpr whole
-  pub shallow : expr_depth whole ≤ d
-  pub more : List Kind
-  pub spelled : map kind_of (spelling.expr whole []) ≡ kinds ++ more
-
-pub expr-begun : (d : ℕ) (ts rest : List Placed) → expr_on (below d) ts ≡ fails rest →
-    (front : List Placed) × (ts ≡ front ++ rest) × BegunWith (suc d) (map kind_in front)
-expr-begun d ts rest fail =
-    let b : BegunExpr 0 (suc d) ts rest = subst (Refused (BegunExpr 0 (suc d) ts)) fail (read-refused d ts) in
-    let f = opens-front (b.opens []) in
-    (f.front, f.tokens, record { whole = b.whole; leveled = b.leveled; shallow = b.shallow; more = f.more; spelled = f.kinds })
-
--- No expression, with what may follow one behind it, begins with these tokens and the one that was refused.
-pub expr-none : (d : ℕ) (front : List Placed) (t : Placed) (xs : List Placed) → expr_on (below d) (front ++ t ∷ xs) ≡ fails (t ∷ xs) →
-    (e : ExprTree) → IsExpr e → expr_depth e ≤ suc d → (follow : List Symbol) → Stops 0 follow →
-    (ks : List Kind) → map kind_of (spelling.expr e follow) ≡ (map kind_in front ++ kind_in t ∷ []) ++ ks → ⊥
-expr-none d front t xs fail e is shallow follow stops ks spelled =
-    let ps = spelling.expr e follow in
-    let b = back-expr d is shallow (fit-tokens ps) stops in
-    refused-alike {S = flat} (expr_on (below d)) (pair-expr_on (below d) (below-pair d)) front t xs fail ps ks
-    (spelled ∙ append_assoc (map kind_in front) (kind_in t ∷ []) ks) e b.rest b.read
-
--- PROGRAMS
 kinds-placed : (k : ℕ) (tokens : List Token) → map kind_in (placed_from k tokens) ≡ kinds_of tokens
 kinds-placed k [] = refl
 kinds-placed k (t ∷ ts) = ap (λ ks. t.kind ∷ ks) (kinds-placed (suc k) ts)
@@ -130,20 +76,13 @@ length-kinds [] = refl
 length-kinds (t ∷ ts) = ap suc (length-kinds ts)
 
 -- a front of what is begun is begun
-begun-front : (n : ℕ) (kinds : List Kind) → Begun kinds → Begun (take n kinds)
+pub begun-front : (n : ℕ) (kinds : List Kind) → Begun kinds → Begun (take n kinds)
 begun-front n kinds b = record {
   whole = b.whole;
   leveled = b.leveled;
   more = drop n kinds ++ b.more;
   spelled = b.spelled ∙ ap (λ ks. ks ++ b.more) (sym (take-append-drop n kinds)) ∙ append_assoc (take n kinds) (drop n kinds) b.more;
 }
-
-program-begun : (ts rest : List Placed) → program (inner 199) ts ≡ fails rest → (front : List Placed) × (ts ≡ front ++ rest) × Begun (map kind_in front)
-program-begun ts rest fail =
-    let b : BegunPart (AreAll IsItem) program_depth spelling.program 200 ts rest =
-    subst (Refused (BegunPart (AreAll IsItem) program_depth spelling.program 200 ts)) fail (program-refused 199 ts) in
-    let f = opens-front (b.opens []) in
-    (f.front, f.tokens, record { whole = b.whole; leveled = record { items = b.leveled; depth = b.shallow }; more = f.more; spelled = f.kinds })
 
 program-none : (front : List Placed) (t : Placed) (xs : List Placed) → program (inner 199) (front ++ t ∷ xs) ≡ fails (t ∷ xs) →
     Begun (map kind_in front ++ kind_in t ∷ []) → ⊥
@@ -177,7 +116,7 @@ place-of tokens front (t ∷ xs) e fail b =
 
 pub place : (tokens : List Token) (rest : List Placed) → program (inner 199) (placed_from 0 tokens) ≡ fails rest → IsPlace tokens (length tokens - length rest)
 place tokens rest fail =
-    let b = program-begun (placed_from 0 tokens) rest fail in
+    let b = completions.front (placed_from 0 tokens) rest fail in
     let front = b.0 in
     let many : length tokens ≡ length front + length rest = sym (length-placed_from 0 tokens) ∙ ap length b.1 ∙ length-append front rest in
     let at : length front ≡ length tokens - length rest = omega (arith, many) in

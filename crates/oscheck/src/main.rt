@@ -6,7 +6,7 @@ mod sentences;
 
 use front_end::{TEXT_LIMIT, TextError, read_program};
 use os_io::{HostFiles, Loaded, read_whole};
-use sentences::{NO_PROGRAM, sentence};
+use sentences::sentence;
 use std::alloc::Global;
 use std::process::ExitCode;
 use std::rt::Env;
@@ -33,8 +33,8 @@ impl Judged {
 
 /// What is wrong with a file.
 enum Wrong {
-    /// The code that it is refused by, in a line where it has one.
-    Code { code: u8, line: Option<u32> },
+    /// The code that it is refused by, and the line.
+    Code { code: u8, line: u32 },
     /// It is longer than a text may be.
     TooLong,
     /// It couldn't be read, or memory couldn't be had.
@@ -44,14 +44,7 @@ enum Wrong {
 impl From<TextError> for Wrong {
     fn from(error: TextError) -> Wrong {
         match error {
-            TextError::Refused { code, line } => Wrong::Code {
-                code,
-                line: Some(line),
-            },
-            TextError::Syntax => Wrong::Code {
-                code: NO_PROGRAM,
-                line: None,
-            },
+            TextError::Refused { code, line } => Wrong::Code { code, line },
             TextError::Memory => Wrong::Unread,
         }
     }
@@ -78,10 +71,7 @@ fn tell(out: &mut impl io::Write, name: &str, found: Result<(), Wrong>) -> io::R
         }
         Err(Wrong::Code { code, line }) => {
             let sentence = sentence(code);
-            match line {
-                Some(line) => writeln!(out, "{name}:{line}: error {code}: {sentence}")?,
-                None => writeln!(out, "{name}: error {code}: {sentence}")?,
-            }
+            writeln!(out, "{name}:{line}: error {code}: {sentence}")?;
             Ok(Judged::Refused)
         }
         Err(Wrong::TooLong) => {

@@ -11,7 +11,7 @@ returns-clause-never_both c =
 pub returns-clause-refusal : goal.returns-clause-refusal
 returns-clause-refusal c =
     answers.one_refusal c.meaning_by_tokens.ensures.marks c.meaning_by_tokens.ensures.kinds
-    c.one_cover.ensures.one_cover c.one_cover.ensures.one_fault c.one_cover.ensures.never_both c.one_reading.ensures
+    c.one_cover.ensures.one_cover c.one_cover.ensures.one_fault c.one_cover.ensures.never_both c.one_reading.ensures c.one_place.ensures.one
 
 pub returns-clause-either : goal.returns-clause-either
-returns-clause-either c = answers.accepted_or_refused c.one_cover.ensures.some
+returns-clause-either c = answers.accepted_or_refused c.one_cover.ensures.some c.one_place.ensures.some

@@ -33,10 +33,10 @@ use Rattle.os_parser_grammar.proofs.SoundExprs.{ReadExpr, ReadTarget, ReadArgs, 
 use Rattle.os_parser_grammar.proofs.SoundExprs as exprs
 use Rattle.os_parser_grammar.proofs.SoundParts.{ReadPart, Spelled, list_of-sound, name-sound, target-sound, declare-sound, head_declare-sound, Changes, change_of-sound, before-sound, clauses-sound}
 use Rattle.os_parser_grammar.proofs.SoundStmts.{ReadStmt, IsInner, a_declare, a_stmt, ReadInner, SoundInner, SoundDeep, readers_of-sound, are-more, closed, stmts-sound, block-sound, condition-sound, none-left, Starts, a_semicolon, a_brace, a_name, a_step, an_if, a_while, a_for, a_break, a_continue, a_return, a_pragma, another, kind-starts, change-sound, start-sound, test-sound, step-sound, head_spelling, ReadHead, head-sound, opened, inner-sound, IsName, any_name, no_depth, parameter, param-sound, names-are, ReadParams, params-sound, ReadNumber, number-sound, minus-sound, item-sound}
-use Rattle.os_parser_places.proofs.Opens.{OpensAll, here, plain, noted, takes-opens, prints_token, prints_mark, opens-bare, opens-marked, Refused, refused-then, refused-if, refused-expect}
-use Rattle.os_parser_places.proofs.BegunExprs.{BegunExpr, BegunTarget, BegunArgs, BegunReaders, BegunBelow, sound-below, refused-deeper, args-refused, target_of-refused, below-begun, expr-refused, operand-refused}
-use Rattle.os_parser_places.proofs.BegunParts.{no_mark, no_name, BegunPart, BegunSpelled, many-refused, list_of-refused, name-refused, target-refused, declare-refused, head_declare-refused, BegunChange, stepped, change_of-refused, before-refused, ended-refused, clauses-refused, BegunClauses}
-use Rattle.os_parser_places.proofs.PrintsAgain as prints
+use Rattle.os_parser_completions.proofs.Opens.{OpensAll, here, plain, noted, takes-opens, prints_token, prints_mark, opens-bare, opens-marked, Refused, refused-then, refused-if, refused-expect}
+use Rattle.os_parser_completions.proofs.BegunExprs.{BegunExpr, BegunTarget, BegunArgs, BegunReaders, BegunBelow, sound-below, refused-deeper, args-refused, target_of-refused, below-begun, expr-refused, operand-refused}
+use Rattle.os_parser_completions.proofs.BegunParts.{no_mark, no_name, BegunPart, BegunSpelled, many-refused, list_of-refused, name-refused, target-refused, declare-refused, head_declare-refused, BegunChange, stepped, change_of-refused, before-refused, ended-refused, clauses-refused, BegunClauses}
+use Rattle.os_ast.proofs.Prints as prints
 
 abbrev pub BegunStmt : ℕ → List Placed → List Placed → Type 0
 BegunStmt d = BegunPart IsStmt stmt_depth spelling.stmt d

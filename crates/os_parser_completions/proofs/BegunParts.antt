@@ -27,9 +27,9 @@ use Rattle.os_parser_grammar.specs.Statements.{many, commas, list_of, name, targ
 use Rattle.os_parser_grammar.proofs.Sound.{Takes, Sound}
 use Rattle.os_parser_grammar.proofs.SoundExprs.{ReadExpr, ReadTarget, ReadIndex, index-sound}
 use Rattle.os_parser_grammar.proofs.SoundParts.{ReadPart, Spelled, many-sound, comma-sound, list_of-sound, name-sound, target-sound, size-sound, value-sound, attribute-sound, declarator-sound, head_declarator-sound, ChangeSigns, a_set, a_step, another, kind-changes, Joins, join-sound, clause_item-sound, in_parens-sound, IsName, a_name, no_depth, name-part, firstprivate-is, clause_kind-sound, clause-sound, IsFirst, first_clause-sound, are-clauses}
-use Rattle.os_parser_places.proofs.Opens.{OpensAll, here, noted, takes-opens, prints_token, prints_mark, opens-bare, opens-marked, Refused, refused-then, refused-if, refused-expect}
-use Rattle.os_parser_places.proofs.BegunExprs.{BegunExpr, BegunTarget, BegunIndex, BegunBelow, sound-below, refused-deeper, index-refused, target_of-refused}
-use Rattle.os_parser_places.proofs.PrintsAgain as prints
+use Rattle.os_parser_completions.proofs.Opens.{OpensAll, here, noted, takes-opens, prints_token, prints_mark, opens-bare, opens-marked, Refused, refused-then, refused-if, refused-expect}
+use Rattle.os_parser_completions.proofs.BegunExprs.{BegunExpr, BegunTarget, BegunIndex, BegunBelow, sound-below, refused-deeper, index-refused, target_of-refused}
+use Rattle.os_ast.proofs.Prints as prints
 
 abbrev pub no_mark : Mark
 no_mark = record { place = 0; line = 0 }

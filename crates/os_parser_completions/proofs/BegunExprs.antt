@@ -24,9 +24,8 @@ use Rattle.os_parser_grammar.specs.Reading.{Read, Reader, got, fails, after, mar
 use Rattle.os_parser_grammar.specs.declared.operand_start.OperandStart.{OperandStart}
 use Rattle.os_parser_grammar.proofs.SameKinds.{same-self}
 use Rattle.os_parser_grammar.proofs.Sound.{Takes}
-use Rattle.os_parser_grammar.proofs.SoundExprs.{ReadExpr, ReadTarget, ReadIndex, ReadArgs, ReadLinks, SoundReaders, SoundBelow, in_parens, index-sound, target_of-sound, more_args-sound, some_args-sound, args-sound, operand-sound, below-sound}
-use Rattle.os_parser_places.proofs.Opens.{OpensAll, here, takes-opens, prints_token, prints_mark, opens-bare, opens-marked, Refused, refused-then, refused-if, refused-expect}
-use Rattle.os_parser_places.proofs.SoundAgain.{Starts, a_number, a_name, a_paren, a_sign, another, kind-starts, Operators, some, none, kind-operators, Operator, operator-level, SoundReader, links-sound, precedence-level_at, chains-sound}
+use Rattle.os_parser_grammar.proofs.SoundExprs.{ReadExpr, ReadTarget, ReadIndex, ReadArgs, ReadLinks, SoundReaders, SoundBelow, in_parens, index-sound, target_of-sound, more_args-sound, some_args-sound, args-sound, operand-sound, below-sound, Starts, a_number, a_name, a_paren, a_sign, another, kind-starts, Operators, some, none, kind-operators, Operator, operator-level, SoundReader, links-sound, precedence-level_at, chains-sound}
+use Rattle.os_parser_completions.proofs.Opens.{OpensAll, here, takes-opens, prints_token, prints_mark, opens-bare, opens-marked, Refused, refused-then, refused-if, refused-expect}
 
 -- an expression of at least a level and at most a depth, which the tokens up to the rest begin
 pub record BegunExpr (n d : ℕ) (ts rest : List Placed) : Type 0 where

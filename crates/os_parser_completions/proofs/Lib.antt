@@ -1,0 +1,5 @@
+pub mod Opens
+pub mod BegunExprs
+pub mod BegunParts
+pub mod BegunStmts
+pub mod FrontOfRefusal
