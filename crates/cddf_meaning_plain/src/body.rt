@@ -26,7 +26,8 @@ fn run_body(
     inputs: &[i32],
     budget: u64,
 ) -> Result<(TaskEnd, Vec<i32>), Memory>
-    ensures { IfOk result (λ r. IsOutcome r.0 r.1.items (task_outcome (file_of (map item_tree file.now)) (task_of task.now) activation.now inputs.now budget)) }
+    ensures { IfOk result (λ r. IsOutcome r.0 r.1.items (task_outcome (file_of (map item_tree file.now))
+        (task_of task.now) activation.now inputs.now budget)) }
 {
     let mut state = state_round(alloc, task, activation, inputs)?;
     let unit = Unit {

@@ -24,7 +24,8 @@ fn run_main(
     input_len: u32,
     budget: u64,
 ) -> Result<Control, Stop>
-    ensures { IfOk result (λ c. c ≡ control_of (run_all (round_sites (map item_tree main.now.file.now) sites.now) (stmts_tree main.now.function.now.body) (control_state input_len) budget)) }
+    ensures { IfOk result (λ c. c ≡ control_of (run_all (round_sites (map item_tree main.now.file.now) sites.now) (stmts_tree main.now.function.now.body)
+        (control_state input_len) budget)) }
 {
     let mut state = state_round(alloc, input_len)?;
     let unit = Unit {

@@ -132,7 +132,8 @@ fn for_loop(
     state: &mut State,
     turns: &mut u64,
 ) -> Result<Flow, Stop>
-    ensures leaves { Leaves result state.new turns.new (run (unit_of unit.now) (tree.For (start_tree head.now.start) (option_map expr_tree head.now.test) (option_map change_tree head.now.step) (stmt_tree body.now)) state.old turns.old) }
+    ensures leaves { Leaves result state.new turns.new (run (unit_of unit.now) (tree.For (start_tree head.now.start) (option_map expr_tree head.now.test)
+        (option_map change_tree head.now.step) (stmt_tree body.now)) state.old turns.old) }
     ensures fewer { turns.new ≤ turns.old }
 {
     let outer = state.declared();
@@ -180,7 +181,8 @@ fn repeat(
     state: &mut State,
     turns: &mut u64,
 ) -> Result<Flow, Stop>
-    ensures leaves { Leaves result state.new turns.new (repeated (unit_of unit.now) (option_copied test.entry) body.now (option_copied step.entry) state.old turns.old) }
+    ensures leaves { Leaves result state.new turns.new (repeated (unit_of unit.now) (option_copied test.entry) body.now
+        (option_copied step.entry) state.old turns.old) }
     ensures fewer { turns.new ≤ turns.old }
 {
     loop {
@@ -226,7 +228,8 @@ fn stepped(
     state: &mut State,
     turns: &mut u64,
 ) -> Result<(), Stop>
-    ensures goes_on { GoesOn result state.new turns.new (run_step (file_of (map item_tree file.now)) (option_map change_tree (option_copied step.entry)) state.old turns.old) }
+    ensures goes_on { GoesOn result state.new turns.new (run_step (file_of (map item_tree file.now))
+        (option_map change_tree (option_copied step.entry)) state.old turns.old) }
     ensures fewer { turns.new ≤ turns.old }
 {
     match step {
@@ -291,7 +294,8 @@ fn scalar(
     state: &mut State,
     turns: &mut u64,
 ) -> Result<(), Stop>
-    ensures goes_on { GoesOn result state.new turns.new (run_scalar (file_of (map item_tree file.now)) declarator.now.name.id (option_map expr_tree declarator.now.first) state.old turns.old) }
+    ensures goes_on { GoesOn result state.new turns.new (run_scalar (file_of (map item_tree file.now)) declarator.now.name.id
+        (option_map expr_tree declarator.now.first) state.old turns.old) }
     ensures fewer { turns.new ≤ turns.old }
 {
     state.declare_scalar(declarator.name.id)?;

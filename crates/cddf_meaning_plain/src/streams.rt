@@ -75,7 +75,8 @@ fn joined(
     state: &State,
     turns: &mut u64,
 ) -> Result<Claim, Stop>
-    ensures claims { Gives result turns.new (joined (file_of (map item_tree file.now)) direction stream (option_map join_tree (Some join.now)) state.now turns.old) }
+    ensures claims { Gives result turns.new (joined (file_of (map item_tree file.now)) direction stream
+        (option_map join_tree (Some join.now)) state.now turns.old) }
     ensures fewer { turns.new ≤ turns.old }
 {
     let horizon = state.horizon(join.name.id);
@@ -100,7 +101,8 @@ fn add_claims(
     state: &State,
     turns: &mut u64,
 ) -> Result<(), Stop>
-    ensures adds { Adds result claims.old claims.new turns.new (items_claims (file_of (map item_tree file.now)) (map (clause.Item direction) (map clause_item_tree items.now)) state.now turns.old) }
+    ensures adds { Adds result claims.old claims.new turns.new (items_claims (file_of (map item_tree file.now))
+        (map (clause.Item direction) (map clause_item_tree items.now)) state.now turns.old) }
     ensures fewer { turns.new ≤ turns.old }
 {
     for item in items.as_slice() {
@@ -120,7 +122,8 @@ fn clause_claims(
     state: &State,
     turns: &mut u64,
 ) -> Result<(), Stop>
-    ensures adds { Adds result claims.old claims.new turns.new (items_claims (file_of (map item_tree file.now)) (clause.parts_of (clause_kind_tree kind.now)) state.now turns.old) }
+    ensures adds { Adds result claims.old claims.new turns.new (items_claims (file_of (map item_tree file.now))
+        (clause.parts_of (clause_kind_tree kind.now)) state.now turns.old) }
     ensures fewer { turns.new ≤ turns.old }
 {
     match kind {
@@ -162,7 +165,8 @@ pub(crate) fn task(
     state: &mut State,
     turns: &mut u64,
 ) -> Result<(), Stop>
-    ensures goes_on { GoesOn result state.new turns.new (runs.run (unit_of unit.now) (tree.Task site.now.mark (map clause_tree site.now.clauses) (stmt_tree site.now.body)) state.old turns.old) }
+    ensures goes_on { GoesOn result state.new turns.new (runs.run (unit_of unit.now)
+        (tree.Task site.now.mark (map clause_tree site.now.clauses) (stmt_tree site.now.body)) state.old turns.old) }
     ensures fewer { turns.new ≤ turns.old }
 {
     let Some(sites) = unit.control else {
@@ -186,7 +190,8 @@ pub(crate) fn tick(
     state: &mut State,
     turns: &mut u64,
 ) -> Result<(), Stop>
-    ensures goes_on { GoesOn result state.new turns.new (run_tick (file_of (map item_tree file.now)) (target_tree site.now.stream) site.now.arrow (expr_tree site.now.amount) state.old turns.old) }
+    ensures goes_on { GoesOn result state.new turns.new (run_tick (file_of (map item_tree file.now)) (target_tree site.now.stream) site.now.arrow
+        (expr_tree site.now.amount) state.old turns.old) }
     ensures fewer { turns.new ≤ turns.old }
 {
     let stream = stream_number(alloc, file, &site.stream, state, turns)?;

@@ -106,7 +106,8 @@ fn linked(
     state: &State,
     turns: &mut u64,
 ) -> Result<i32, Stop>
-    ensures gives { Gives result turns.new (linked link.now.op link.now.mark.line (pair left turns.old) (value (file_of (map item_tree file.now)) (expr_tree link.now.right) state.now)) }
+    ensures gives { Gives result turns.new (linked link.now.op link.now.mark.line (pair left turns.old)
+        (value (file_of (map item_tree file.now)) (expr_tree link.now.right) state.now)) }
     ensures fewer { turns.new ≤ turns.old }
 {
     if !needs_right(link.op, left) {

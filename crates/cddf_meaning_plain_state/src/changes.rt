@@ -52,7 +52,8 @@ pub fn assign(
     right: i32,
     state: &mut State,
 ) -> Result<(), Stop>
-    ensures { Now result state.new state.old (and_then (assigned operator mark.line (old_value (file_of (map item_tree file.now)) state.old aim) right) (λ v. Ok (after_store state.old aim v))) }
+    ensures { Now result state.new state.old (and_then (assigned operator mark.line (old_value (file_of (map item_tree file.now)) state.old aim) right)
+        (λ v. Ok (after_store state.old aim v))) }
 {
     let number = assigned(file, state, aim, operator, mark.line, right)?;
     state.write(aim, number);
@@ -67,7 +68,8 @@ pub fn take_step(
     aim: Aim,
     state: &mut State,
 ) -> Result<(), Stop>
-    ensures { Now result state.new state.old (and_then (binary_value (operators.step_operator step) mark.line (old_value (file_of (map item_tree file.now)) state.old aim) (pos 1)) (λ v. Ok (after_store state.old aim v))) }
+    ensures { Now result state.new state.old (and_then (binary_value (operators.step_operator step) mark.line
+        (old_value (file_of (map item_tree file.now)) state.old aim) (pos 1)) (λ v. Ok (after_store state.old aim v))) }
 {
     let old = old_value(file, state, aim)?;
     let number = binary(step_operator(step), mark.line, old, 1)?;

@@ -109,7 +109,8 @@ pub fn outcome_of(
     came: Result<Flow, Stop>,
     items: &[List<i32>],
 ) -> Result<(TaskEnd, Vec<i32>), Memory>
-    ensures { (s : states.State) (turns : ℕ) (ran : Ran) → s.items ≡ items.now → Leaves came s turns ran → IfOk result (λ r. IsOutcome r.0 r.1.items (outcome line claims.now ran)) }
+    ensures { (s : states.State) (turns : ℕ) (ran : Ran) → s.items ≡ items.now → Leaves came s turns ran
+        → IfOk result (λ r. IsOutcome r.0 r.1.items (outcome line claims.now ran)) }
 {
     match came {
         Ok(_) => finished(alloc, line, claims, items),

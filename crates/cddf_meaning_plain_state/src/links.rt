@@ -12,7 +12,8 @@ use os_ast::{Binary, Link};
 /// Whether the right side is evaluated: that of `&&` and of `||` only where it decides.
 pub fn needs_right(operator: Binary, left: i32) -> bool
     ensures needed { result ≡ true → (line turns : ℕ) (right : ℕ → Answer (Left ℤ)) →
-        linked operator line (pair left turns) right ≡ and_then (right turns) (λ b. linked operator line (pair left b.turns) (λ turns. Ok (pair b.value turns))) }
+        linked operator line (pair left turns) right ≡ and_then (right turns)
+        (λ b. linked operator line (pair left b.turns) (λ turns. Ok (pair b.value turns))) }
     ensures not_needed { result ≡ false → (line turns : ℕ) (right : ℕ → Answer (Left ℤ)) (b : ℤ) →
         linked operator line (pair left turns) right ≡ linked operator line (pair left turns) (λ turns. Ok (pair b turns)) }
 {

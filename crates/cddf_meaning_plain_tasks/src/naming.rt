@@ -322,7 +322,8 @@ fn in_stmts(stmts: &List<Stmt>, id: u32) -> bool
 
 #[cycle(statements)]
 fn in_for(head: &Head, body: &Stmt, id: u32) -> bool
-    ensures { result ≡ has_stmt id (tree.For (start_tree head.now.start) (option_map expr_tree head.now.test) (option_map change_tree head.now.step) (stmt_tree body.now)) }
+    ensures { result ≡ has_stmt id (tree.For (start_tree head.now.start) (option_map expr_tree head.now.test) (option_map change_tree head.now.step)
+        (stmt_tree body.now)) }
 {
     if in_start(&head.start, id) {
         return true;

@@ -49,7 +49,8 @@ fn main_in(item: &Item) -> Option<&Function>
 
 /// The first function `main`.
 pub fn main_of(items: &[Item]) -> Option<Main<'_>>
-    ensures main { IfSome result (λ m. main_of (map item_tree items.now) ≡ Some (main_at (file_of (map item_tree m.file.now)) (after_items notes.file (map item_tree m.file.now)) (function_tree m.function.now))) }
+    ensures main { IfSome result (λ m. main_of (map item_tree items.now) ≡ Some
+        (main_at (file_of (map item_tree m.file.now)) (after_items notes.file (map item_tree m.file.now)) (function_tree m.function.now))) }
     ensures named { IfSome result (λ m. m.function.now.name.id ≡ main_id) }
     ensures none { result ≡ None → main_of (map item_tree items.now) ≡ None }
 {
@@ -103,7 +104,9 @@ fn captures(site: &TaskSite, id: u32) -> bool
 
 /// Adds a scalar, where a task captures it.
 fn capture(site: &TaskSite, id: u32, captured: &mut List<u32>) -> Result<(), Memory>
-    ensures { OnOk result (captured.new ≡ captured.old ++ (if is_in id (task_names (parts (map clause_tree site.now.clauses)) (stmt_tree site.now.body)) then id ∷ [] else [])) }
+    ensures { OnOk result (captured.new ≡ captured.old ++ (if is_in id (task_names (parts (map clause_tree site.now.clauses)) (stmt_tree site.now.body))
+        then id
+        ∷ [] else [])) }
 {
     if captures(site, id) {
         captured.push(id)?;
@@ -113,7 +116,8 @@ fn capture(site: &TaskSite, id: u32, captured: &mut List<u32>) -> Result<(), Mem
 
 /// The names of the scalars that a task captures.
 fn captured(alloc: Global, site: &TaskSite, known: &[Known]) -> Result<List<u32>, Memory>
-    ensures { IfOk result (λ ids. ids ≡ among (task_names (parts (map clause_tree site.now.clauses)) (stmt_tree site.now.body)) (with_all_known [] known.now)) }
+    ensures { IfOk result (λ ids. ids ≡ among (task_names (parts (map clause_tree site.now.clauses)) (stmt_tree site.now.body))
+        (with_all_known [] known.now)) }
 {
     let scalars = scalars(alloc, known)?;
     let mut captured = List::new(alloc);
@@ -153,7 +157,8 @@ fn add_task<'p>(
     known: &[Known],
     tasks: &mut Vec<Found<'p>>,
 ) -> Result<(), Memory>
-    ensures { OnOk result (map task_of tasks.new.items ≡ map task_of tasks.old.items ++ found_at known.now site.now.mark (map clause_tree site.now.clauses) (stmt_tree site.now.body) ∷ []) }
+    ensures { OnOk result (map task_of tasks.new.items ≡ map task_of tasks.old.items
+        ++ found_at known.now site.now.mark (map clause_tree site.now.clauses) (stmt_tree site.now.body) ∷ []) }
 {
     let captured = captured(alloc, site, known)?;
     tasks.push(Found { site, captured })?;
@@ -197,7 +202,8 @@ fn tasks_in_for<'p>(
     known: &mut Vec<Known>,
     tasks: &mut Vec<Found<'p>>,
 ) -> Result<(), Memory>
-    ensures tasks { OnOk result (map task_of tasks.new.items ≡ map task_of tasks.old.items ++ found_in (known.old.items ++ known_start (start_tree head.now.start)) (stmt_tree body.now)) }
+    ensures tasks { OnOk result (map task_of tasks.new.items ≡ map task_of tasks.old.items
+        ++ found_in (known.old.items ++ known_start (start_tree head.now.start)) (stmt_tree body.now)) }
     ensures known { OnOk result (known.new.items ≡ known.old.items) }
 {
     let outer = known.len();
@@ -268,7 +274,8 @@ fn known_in_file(alloc: Global, file: &[Item]) -> Result<Vec<Known>, Memory>
 /// The tasks of the control program, in the order of the text. Their numbers are their places.
 pub fn tasks<'p>(alloc: Global, main: &Main<'p>) -> Result<Vec<Found<'p>>, Memory>
     requires { main.now.function.now.name.id ≡ main_id }
-    ensures { IfOk result (λ tasks. map task_of tasks.items ≡ tasks_in_all (in_body (after_items notes.file (map item_tree main.now.file.now)) (function_tree main.now.function.now)) (stmts_tree main.now.function.now.body)) }
+    ensures { IfOk result (λ tasks. map task_of tasks.items ≡ tasks_in_all
+        (in_body (after_items notes.file (map item_tree main.now.file.now)) (function_tree main.now.function.now)) (stmts_tree main.now.function.now.body)) }
 {
     let mut known = known_in_main(alloc, main)?;
     let mut tasks = Vec::new(alloc);

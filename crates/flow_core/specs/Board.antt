@@ -10,6 +10,8 @@ use Rattle.flow_core.specs.Shows.{Shows, end_at}
 pub record IsRun (plan : Plan) (meaning : State) (board : Board) (turn : ℕ) : Type 0 where
   pub counted : IsCounted plan board.cells.items board.waits
   pub shows : Shows plan meaning board.cells.items board.ends.items
-  pub have_ended : (k : ℕ) → k < turn → k < length board.waits.opened.items → is_some (end_at board.ends.items (slice_index board.waits.opened.items k)) ≡ true
-  pub wait_their_turn : (k : ℕ) → turn ≤ k → k < length board.waits.opened.items → end_at board.ends.items (slice_index board.waits.opened.items k) ≡ None
+  pub have_ended : (k : ℕ) → k < turn → k < length board.waits.opened.items
+      → is_some (end_at board.ends.items (slice_index board.waits.opened.items k)) ≡ true
+  pub wait_their_turn : (k : ℕ) → turn ≤ k → k < length board.waits.opened.items
+      → end_at board.ends.items (slice_index board.waits.opened.items k) ≡ None
   pub ended_full : (f : ℕ) → is_some (end_at board.ends.items f) ≡ true → slice_index board.waits.missing.items f ≡ 0

@@ -17,7 +17,9 @@ pub record IsCounted (plan : Plan) (cells : List (Option ℤ)) (waits : Waits) :
 -- The pieces of these numbers were carried over: their cells hold their output elements, and the
 -- other cells are as they were.
 pub record Carries (plan : Plan) (low high : ℕ) (outputs : List ℤ) (old new : List (Option ℤ)) : Type 0 where
-  pub filled : (number c : ℕ) (p : Piece) → low ≤ number → number < high → slice_get plan.pieces number ≡ Some p → p.at ≤ c → c < p.at + p.count → value_at new c ≡ slice_get outputs (p.first + (c - p.at))
+  pub filled : (number c : ℕ) (p : Piece) → low ≤ number → number < high → slice_get plan.pieces number ≡ Some p → p.at ≤ c
+      → c < p.at + p.count
+      → value_at new c ≡ slice_get outputs (p.first + (c - p.at))
   pub others : (c : ℕ) → ((number : ℕ) → low ≤ number → number < high → ¬ (Covers plan number c)) → value_at new c ≡ value_at old c
 
 -- The cells of the pieces of these numbers have no value.

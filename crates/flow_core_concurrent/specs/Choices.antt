@@ -51,13 +51,28 @@ is_meant_done known frame = option_map_or is_done (end_of known frame) false
 -- What becomes of a state by a choice.
 abbrev pub after_choice : Known → CoreState → Choice → Option CoreState
 after_choice known s (to_split i) = option_and_then (λ (v : View). if nat_le 2 v.shares then Some (after_split s i v) else None) (seat_in s i)
-after_choice known s (to_join i j) = option_and_then (λ (v : View). option_and_then (λ (w : View). if not (j == i) && is_none w.run then Some (after_join s i v j w) else None) (seat_in s j)) (seat_in s i)
-after_choice known s (to_claim i f) = option_and_then (λ (v : View). if is_none v.run && nat_lt f (length known.plan.frames) then Some (after_claim known s i v f) else None) (seat_in s i)
-after_choice known s (to_read i c) = option_and_then (λ (v : View). option_and_then (λ (r : Run). if is_first_place known.plan r && is_cell_of known.plan r.frame c then Some s else None) v.run) (seat_in s i)
-after_choice known s (to_store i) = option_and_then (λ (v : View). option_and_then (λ (r : Run). option_and_then (λ (p : Piece). if is_meant_done known r.frame && nat_lt r.stored p.count then Some (after_store known s i v r p) else None) (own_piece known.plan r)) v.run) (seat_in s i)
-after_choice known s (to_sub i) = option_and_then (λ (v : View). option_and_then (λ (r : Run). option_and_then (λ (p : Piece). if r.stored == p.count then Some (after_sub s i v r p) else None) (own_piece known.plan r)) v.run) (seat_in s i)
-after_choice known s (to_finish i) = option_and_then (λ (v : View). option_and_then (λ (r : Run). option_and_then (λ (e : TaskEnd). if (if is_done e then is_behind_last known.plan r else is_first_place known.plan r) then Some (after_finish s i v r e) else None) (end_of known r.frame)) v.run) (seat_in s i)
-after_choice known s (to_look i) = option_and_then (λ (v : View). if is_none v.run && nat_le 1 (length known.plan.frames) then Some (after_look known s i v) else None) (seat_in s i)
+after_choice known s (to_join i j) =
+    option_and_then (λ (v : View). option_and_then (λ (w : View). if not (j == i) && is_none w.run then Some (after_join s i v j w) else None) (seat_in s j))
+    (seat_in s i)
+after_choice known s (to_claim i f) =
+    option_and_then (λ (v : View). if is_none v.run && nat_lt f (length known.plan.frames) then Some (after_claim known s i v f) else None) (seat_in s i)
+after_choice known s (to_read i c) =
+    option_and_then (λ (v : View). option_and_then (λ (r : Run). if is_first_place known.plan r
+    && is_cell_of known.plan r.frame c then Some s else None) v.run)
+    (seat_in s i)
+after_choice known s (to_store i) =
+    option_and_then (λ (v : View). option_and_then (λ (r : Run). option_and_then
+    (λ (p : Piece). if is_meant_done known r.frame && nat_lt r.stored p.count then Some (after_store known s i v r p) else None)
+    (own_piece known.plan r)) v.run) (seat_in s i)
+after_choice known s (to_sub i) =
+    option_and_then (λ (v : View). option_and_then (λ (r : Run). option_and_then
+    (λ (p : Piece). if r.stored == p.count then Some (after_sub s i v r p) else None) (own_piece known.plan r)) v.run) (seat_in s i)
+after_choice known s (to_finish i) =
+    option_and_then (λ (v : View). option_and_then (λ (r : Run). option_and_then
+    (λ (e : TaskEnd). if (if is_done e then is_behind_last known.plan r else is_first_place known.plan r) then Some (after_finish s i v r e) else None)
+    (end_of known r.frame)) v.run) (seat_in s i)
+after_choice known s (to_look i) =
+    option_and_then (λ (v : View). if is_none v.run && nat_le 1 (length known.plan.frames) then Some (after_look known s i v) else None) (seat_in s i)
 
 -- The choice that a step is.
 abbrev pub choice_of : (known : Known) (old new : CoreState) → Step known old new → Choice
@@ -72,7 +87,8 @@ choice_of known old new (look seat view needs) = to_look seat
 
 -- The state after the choices of a list, from opening, where each can be taken.
 abbrev pub reached_by : Known → List Choice → Option CoreState
-reached_by known choices = fold (λ (s : Option CoreState) (c : Choice). option_and_then (λ (t : CoreState). after_choice known t c) s) (Some (opening known)) choices
+reached_by known choices =
+    fold (λ (s : Option CoreState) (c : Choice). option_and_then (λ (t : CoreState). after_choice known t c) s) (Some (opening known)) choices
 
 -- The states along the choices of a list, from opening on.
 abbrev pub states_along : Known → List Choice → List (Option CoreState)

@@ -27,7 +27,8 @@ has_stored frame number k run = option_map_or (λ (r : Run). r.frame == frame &&
 -- How often the piece of a number counts, by the words and by what the seats run: once where its frame
 -- is Done, and once for each run of its frame that stands past it.
 abbrev pub counted : Plan → List Word → List (Option Run) → ℕ → ℕ
-counted plan words runs number = option_map_or (λ (p : Piece). one (has_delivered (word_at words p.from)) + count_by (is_past p.from number) runs) (slice_get plan.pieces number) 0
+counted plan words runs number =
+    option_map_or (λ (p : Piece). one (has_delivered (word_at words p.from)) + count_by (is_past p.from number) runs) (slice_get plan.pieces number) 0
 
 -- How often element k of the piece of a number lies among the stored ones of the piece at which a seat stands.
 abbrev pub held : Plan → List (Option Run) → ℕ → ℕ → ℕ

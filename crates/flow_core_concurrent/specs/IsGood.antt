@@ -41,10 +41,12 @@ pub record IsGood (known : Known) (state : CoreState) : Type 0 where
   pub cells_of_plan : length state.cells ≡ length known.plan.filled
   pub views_are_sound : (seat : ℕ) (v : View) → slice_get state.seats seat ≡ Some v → IsView known v
   -- a cell is empty or holds the meaning's element, which is there
-  pub cells_hold_the_meaning : (c : ℕ) (value : ℤ) → value_at state.cells c ≡ Some value → element known.meaning (cell_source known.plan c) ≡ Some value
+  pub cells_hold_the_meaning : (c : ℕ) (value : ℤ) → value_at state.cells c ≡ Some value
+      → element known.meaning (cell_source known.plan c) ≡ Some value
   -- a cell is filled exactly where it was at opening, or its piece is counted, or it lies among the stored
   -- elements of the piece at which a seat stands; and there only one of these holds
-  pub cells_are_filled_once : (c : ℕ) → one (is_some (value_at state.cells c)) ≡ one (is_some (value_at known.plan.filled c)) + counted_at known.plan state.words (runs_of state) c + held_at known.plan (runs_of state) c
+  pub cells_are_filled_once : (c : ℕ) → one (is_some (value_at state.cells c))
+      ≡ one (is_some (value_at known.plan.filled c)) + counted_at known.plan state.words (runs_of state) c + held_at known.plan (runs_of state) c
   -- a frame that waits does so for the cells that it misses, at least one; every other one misses none
   pub words_count : (f : ℕ) → f ≤ length known.plan.frames → amount (word_at state.words f) ≡ lacking known.plan state.words (runs_of state) f
   pub waits_for_some : (f : ℕ) → word_at state.words f ≢ Wait 0
@@ -52,19 +54,26 @@ pub record IsGood (known : Known) (state : CoreState) : Type 0 where
   pub taken_is_run_by_one : (f : ℕ) → count_by (is_run_of f) (runs_of state) ≡ one (is_taken (word_at state.words f))
   -- an end is the meaning's, and where it isn't Done, no cell holds an element of that frame
   pub ends_are_meant : (f : ℕ) (end : TaskEnd) → word_at state.words f ≡ Ended end → end_of known f ≡ Some end
-  pub only_done_delivers : (f c k : ℕ) (end : TaskEnd) → word_at state.words f ≡ Ended end → end ≢ Done → cell_source known.plan c ≡ fed f k → value_at state.cells c ≡ None
+  pub only_done_delivers : (f c k : ℕ) (end : TaskEnd) → word_at state.words f ≡ Ended end → end ≢ Done → cell_source known.plan c ≡ fed f k
+      → value_at state.cells c ≡ None
   -- a seat that gave something runs a frame whose meaning is Done
-  pub only_done_stores : (seat : ℕ) (v : View) (r : Run) → slice_get state.seats seat ≡ Some v → v.run ≡ Some r → r ≢ first_place known.plan r.frame → end_of known r.frame ≡ Some Done
+  pub only_done_stores : (seat : ℕ) (v : View) (r : Run) → slice_get state.seats seat ≡ Some v → v.run ≡ Some r
+      → r ≢ first_place known.plan r.frame
+      → end_of known r.frame ≡ Some Done
   -- the seats together made each frame once that waited at opening and doesn't wait now, and no other
-  pub made_once : (f : ℕ) → times_in_all (λ v. v.made) state f ≡ one (waits (word_at (opening_words known.plan) f) && not (waits (word_at state.words f)))
+  pub made_once : (f : ℕ) → times_in_all (λ v. v.made) state f
+      ≡ one (waits (word_at (opening_words known.plan) f) && not (waits (word_at state.words f)))
   -- the seats together ran each frame once that is Taken or ended, and no other
   pub ran_once : (f : ℕ) → times_in_all (λ v. v.ran) state f ≡ one (is_started (word_at state.words f))
   -- none of the frames of the last counted looks of the last seat is Open, as far as one round goes back
-  pub looks_found_none_open : (seat j : ℕ) (v : View) → slice_get state.seats seat ≡ Some v → IsLast known v → 1 ≤ j → j ≤ v.looks → j ≤ length known.plan.frames → is_open (word_at state.words ((v.looks - j) % length known.plan.frames)) ≡ false
+  pub looks_found_none_open : (seat j : ℕ) (v : View) → slice_get state.seats seat ≡ Some v → IsLast known v → 1 ≤ j → j ≤ v.looks
+      → j ≤ length known.plan.frames → is_open (word_at state.words ((v.looks - j) % length known.plan.frames)) ≡ false
   -- nobody takes the sink
   pub sink_is_not_taken : is_started (word_at state.words (length known.plan.frames)) ≡ false
   -- all shares together are those of the opened seats
   pub shares_are_all : sum_by (λ (v : View). v.shares) state.seats ≡ known.seats
   -- a frame that was found doesn't wait, and one that was lost is Taken or ended
-  pub found_waits_no_more : (seat f : ℕ) (v : View) → slice_get state.seats seat ≡ Some v → 1 ≤ times f v.found → waits (word_at state.words f) ≡ false
-  pub lost_is_started : (seat f : ℕ) (v : View) → slice_get state.seats seat ≡ Some v → 1 ≤ times f v.lost → is_started (word_at state.words f) ≡ true
+  pub found_waits_no_more : (seat f : ℕ) (v : View) → slice_get state.seats seat ≡ Some v → 1 ≤ times f v.found
+      → waits (word_at state.words f) ≡ false
+  pub lost_is_started : (seat f : ℕ) (v : View) → slice_get state.seats seat ≡ Some v → 1 ≤ times f v.lost
+      → is_started (word_at state.words f) ≡ true

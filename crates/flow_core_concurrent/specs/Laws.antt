@@ -28,8 +28,11 @@ use Rattle.flow_core_concurrent.specs.Choices.{Choice, after_choice, choice_of, 
 -- codes 1 to 8.
 pub record IsFit (known : Known) : Type 0 where
   pub plan_is_sound : IsSound known.plan
-  pub done_has_outputs : (f : ℕ) (o : Outcome) → f < length known.plan.frames → outcome_at known.meaning f ≡ Some o → o.end ≡ Done → length o.outputs ≡ (frame_at known.plan f).outputs
-  pub traps_have_codes : (f : ℕ) (o : Outcome) (code line : ℕ) → f < length known.plan.frames → outcome_at known.meaning f ≡ Some o → o.end ≡ Trapped code line → (1 ≤ code) × (code ≤ 8)
+  pub done_has_outputs : (f : ℕ) (o : Outcome) → f < length known.plan.frames → outcome_at known.meaning f ≡ Some o → o.end ≡ Done
+      → length o.outputs ≡ (frame_at known.plan f).outputs
+  pub traps_have_codes : (f : ℕ) (o : Outcome) (code line : ℕ) → f < length known.plan.frames → outcome_at known.meaning f ≡ Some o
+      → o.end ≡ Trapped code line
+      → (1 ≤ code) × (code ≤ 8)
 
 -- The meaning is that of the plan under bodies with this outcome.
 abbrev pub IsMeant : Known → (ℕ → List ℤ → Outcome) → Type 0
@@ -37,7 +40,10 @@ IsMeant known outcome = known.meaning ≡ plan_meaning known.plan outcome
 
 -- a sound plan with its meaning under bodies that serve it is fit
 abbrev pub MeaningsAreFit : Type 0
-MeaningsAreFit = (known : Known) (outcome : ℕ → List ℤ → Outcome) → IsSound known.plan → Serves known.plan outcome (λ f inputs outputs. ⊤) → IsMeant known outcome → IsFit known
+MeaningsAreFit =
+    (known : Known) (outcome : ℕ → List ℤ → Outcome) → IsSound known.plan → Serves known.plan outcome (λ f inputs outputs. ⊤)
+    → IsMeant known outcome
+    → IsFit known
 
 -- the state at opening is good
 abbrev pub OpensGood : Type 0
@@ -45,25 +51,39 @@ OpensGood = (known : Known) → IsFit known → IsGood known (opening known)
 
 -- each kind of step keeps a state good
 abbrev pub SplitKeepsGood : Type 0
-SplitKeepsGood = (known : Known) (state : CoreState) (seat : ℕ) (view : View) → IsFit known → IsGood known state → CanSplit state seat view → IsGood known (after_split state seat view)
+SplitKeepsGood =
+    (known : Known) (state : CoreState) (seat : ℕ) (view : View) → IsFit known → IsGood known state → CanSplit state seat view
+    → IsGood known (after_split state seat view)
 
 abbrev pub JoinKeepsGood : Type 0
-JoinKeepsGood = (known : Known) (state : CoreState) (seat : ℕ) (view : View) (other : ℕ) (guest : View) → IsFit known → IsGood known state → CanJoin state seat view other guest → IsGood known (after_join state seat view other guest)
+JoinKeepsGood =
+    (known : Known) (state : CoreState) (seat : ℕ) (view : View) (other : ℕ) (guest : View) → IsFit known → IsGood known state
+    → CanJoin state seat view other guest → IsGood known (after_join state seat view other guest)
 
 abbrev pub ClaimKeepsGood : Type 0
-ClaimKeepsGood = (known : Known) (state : CoreState) (seat : ℕ) (view : View) (frame : ℕ) → IsFit known → IsGood known state → CanClaim known state seat view frame → IsGood known (after_claim known state seat view frame)
+ClaimKeepsGood =
+    (known : Known) (state : CoreState) (seat : ℕ) (view : View) (frame : ℕ) → IsFit known → IsGood known state → CanClaim known state seat view frame
+    → IsGood known (after_claim known state seat view frame)
 
 abbrev pub StoreKeepsGood : Type 0
-StoreKeepsGood = (known : Known) (state : CoreState) (seat : ℕ) (view : View) (run : Run) (piece : Piece) → IsFit known → IsGood known state → CanStore known state seat view run piece → IsGood known (after_store known state seat view run piece)
+StoreKeepsGood =
+    (known : Known) (state : CoreState) (seat : ℕ) (view : View) (run : Run) (piece : Piece) → IsFit known → IsGood known state
+    → CanStore known state seat view run piece → IsGood known (after_store known state seat view run piece)
 
 abbrev pub SubKeepsGood : Type 0
-SubKeepsGood = (known : Known) (state : CoreState) (seat : ℕ) (view : View) (run : Run) (piece : Piece) → IsFit known → IsGood known state → CanSub known state seat view run piece → IsGood known (after_sub state seat view run piece)
+SubKeepsGood =
+    (known : Known) (state : CoreState) (seat : ℕ) (view : View) (run : Run) (piece : Piece) → IsFit known → IsGood known state
+    → CanSub known state seat view run piece → IsGood known (after_sub state seat view run piece)
 
 abbrev pub FinishKeepsGood : Type 0
-FinishKeepsGood = (known : Known) (state : CoreState) (seat : ℕ) (view : View) (run : Run) (end : TaskEnd) → IsFit known → IsGood known state → CanFinish known state seat view run end → IsGood known (after_finish state seat view run end)
+FinishKeepsGood =
+    (known : Known) (state : CoreState) (seat : ℕ) (view : View) (run : Run) (end : TaskEnd) → IsFit known → IsGood known state
+    → CanFinish known state seat view run end → IsGood known (after_finish state seat view run end)
 
 abbrev pub LookKeepsGood : Type 0
-LookKeepsGood = (known : Known) (state : CoreState) (seat : ℕ) (view : View) → IsFit known → IsGood known state → CanLook known state seat view → IsGood known (after_look known state seat view)
+LookKeepsGood =
+    (known : Known) (state : CoreState) (seat : ℕ) (view : View) → IsFit known → IsGood known state → CanLook known state seat view
+    → IsGood known (after_look known state seat view)
 
 -- so does every step, and every state that steps reach is good
 abbrev pub StepsKeepGood : Type 0
@@ -74,15 +94,23 @@ ReachedIsGood = (known : Known) (state : CoreState) → IsFit known → Way know
 
 -- what a READ gives is there, and is the meaning's element
 abbrev pub ReadsTheMeaning : Type 0
-ReadsTheMeaning = (known : Known) (state : CoreState) (seat : ℕ) (view : View) (run : Run) (cell : ℕ) → IsFit known → IsGood known state → CanRead known state seat view run cell → (value : ℤ) × (value_at state.cells cell ≡ Some value) × (element known.meaning (cell_source known.plan cell) ≡ Some value)
+ReadsTheMeaning =
+    (known : Known) (state : CoreState) (seat : ℕ) (view : View) (run : Run) (cell : ℕ) → IsFit known → IsGood known state
+    → CanRead known state seat view run cell → (value : ℤ) × (value_at state.cells cell ≡ Some value)
+    × (element known.meaning (cell_source known.plan cell) ≡ Some value)
 
 -- a STORE finds its cell empty, and has a value for it
 abbrev pub StoresIntoEmpty : Type 0
-StoresIntoEmpty = (known : Known) (state : CoreState) (seat : ℕ) (view : View) (run : Run) (piece : Piece) → IsFit known → IsGood known state → CanStore known state seat view run piece → (value_at state.cells (piece.at + run.stored) ≡ None) × ((value : ℤ) × (output_at known.meaning run.frame (piece.first + run.stored) ≡ Some value))
+StoresIntoEmpty =
+    (known : Known) (state : CoreState) (seat : ℕ) (view : View) (run : Run) (piece : Piece) → IsFit known → IsGood known state
+    → CanStore known state seat view run piece → (value_at state.cells (piece.at + run.stored) ≡ None)
+    × ((value : ℤ) × (output_at known.meaning run.frame (piece.first + run.stored) ≡ Some value))
 
 -- a SUB finds a frame that waits for at least as many elements as come
 abbrev pub SubFindsItsCount : Type 0
-SubFindsItsCount = (known : Known) (state : CoreState) (seat : ℕ) (view : View) (run : Run) (piece : Piece) → IsFit known → IsGood known state → CanSub known state seat view run piece → (n : ℕ) × (word_at state.words piece.to ≡ Wait n) × (piece.count ≤ n)
+SubFindsItsCount =
+    (known : Known) (state : CoreState) (seat : ℕ) (view : View) (run : Run) (piece : Piece) → IsFit known → IsGood known state
+    → CanSub known state seat view run piece → (n : ℕ) × (word_at state.words piece.to ≡ Wait n) × (piece.count ≤ n)
 
 -- a frame stands in the ran lists of all seats together at most once
 abbrev pub RunsAtMostOnce : Type 0
@@ -91,33 +119,50 @@ RunsAtMostOnce = (known : Known) (state : CoreState) (f : ℕ) → IsGood known 
 -- a frame that waited at opening stands in the made lists of all seats together exactly once, as soon as
 -- it waits no more
 abbrev pub IsMadeOnce : Type 0
-IsMadeOnce = (known : Known) (state : CoreState) (f : ℕ) → IsGood known state → waits (word_at (opening_words known.plan) f) ≡ true → waits (word_at state.words f) ≡ false → times_in_all (λ v. v.made) state f ≡ 1
+IsMadeOnce =
+    (known : Known) (state : CoreState) (f : ℕ) → IsGood known state → waits (word_at (opening_words known.plan) f) ≡ true
+    → waits (word_at state.words f) ≡ false → times_in_all (λ v. v.made) state f ≡ 1
 
 -- a frame that is Open stands in no ran list yet, and one that waits in no made list
 abbrev pub OpenIsNew : Type 0
-OpenIsNew = (known : Known) (state : CoreState) (seat : ℕ) (view : View) (f : ℕ) → IsGood known state → slice_get state.seats seat ≡ Some view → is_open (word_at state.words f) ≡ true → times f view.ran ≡ 0
+OpenIsNew =
+    (known : Known) (state : CoreState) (seat : ℕ) (view : View) (f : ℕ) → IsGood known state → slice_get state.seats seat ≡ Some view
+    → is_open (word_at state.words f) ≡ true → times f view.ran ≡ 0
 
 abbrev pub WaitingIsNew : Type 0
-WaitingIsNew = (known : Known) (state : CoreState) (seat : ℕ) (view : View) (f : ℕ) → IsGood known state → slice_get state.seats seat ≡ Some view → waits (word_at state.words f) ≡ true → times f view.made ≡ 0
+WaitingIsNew =
+    (known : Known) (state : CoreState) (seat : ℕ) (view : View) (f : ℕ) → IsGood known state → slice_get state.seats seat ≡ Some view
+    → waits (word_at state.words f) ≡ true → times f view.made ≡ 0
 
 -- where a CLAIM succeeds each cell of the frame was filled at opening or its piece counts, once
 abbrev pub ClaimFindsItsCells : Type 0
-ClaimFindsItsCells = (known : Known) (state : CoreState) (f c : ℕ) → IsFit known → IsGood known state → is_open (word_at state.words f) ≡ true → f < length known.plan.frames → HasCell known.plan f c → one (is_some (value_at known.plan.filled c)) + counted_at known.plan state.words (runs_of state) c ≡ 1
+ClaimFindsItsCells =
+    (known : Known) (state : CoreState) (f c : ℕ) → IsFit known → IsGood known state → is_open (word_at state.words f) ≡ true
+    → f < length known.plan.frames
+    → HasCell known.plan f c → one (is_some (value_at known.plan.filled c)) + counted_at known.plan state.words (runs_of state) c ≡ 1
 
 -- on every way from opening a cell that is filled was filled at opening or stored into exactly once
 abbrev pub IsStoredOnce : Type 0
-IsStoredOnce = (known : Known) (state : CoreState) (way : Way known state) (c : ℕ) → IsFit known → one (is_some (value_at state.cells c)) ≡ one (is_some (value_at known.plan.filled c)) + stores known state c way
+IsStoredOnce =
+    (known : Known) (state : CoreState) (way : Way known state) (c : ℕ) → IsFit known
+    → one (is_some (value_at state.cells c)) ≡ one (is_some (value_at known.plan.filled c)) + stores known state c way
 
 -- a frame that was claimed stays so: it is never Open again
 abbrev pub StartedStays : Type 0
-StartedStays = (known : Known) (old new : CoreState) (f : ℕ) → Step known old new → is_started (word_at old.words f) ≡ true → is_started (word_at new.words f) ≡ true
+StartedStays =
+    (known : Known) (old new : CoreState) (f : ℕ) → Step known old new → is_started (word_at old.words f) ≡ true
+    → is_started (word_at new.words f) ≡ true
 
 -- a frame that doesn't wait never waits again, and one that a seat knows doesn't wait
 abbrev pub WaitsNoMore : Type 0
-WaitsNoMore = (known : Known) (old new : CoreState) (f : ℕ) → Step known old new → waits (word_at old.words f) ≡ false → waits (word_at new.words f) ≡ false
+WaitsNoMore =
+    (known : Known) (old new : CoreState) (f : ℕ) → Step known old new → waits (word_at old.words f) ≡ false → waits (word_at new.words f) ≡ false
 
 abbrev pub KnownWaitsNoMore : Type 0
-KnownWaitsNoMore = (known : Known) (state : CoreState) (seat : ℕ) (view : View) (f : ℕ) → IsFit known → IsGood known state → IsSeat state seat view → knows view f ≡ true → waits (word_at state.words f) ≡ false
+KnownWaitsNoMore =
+    (known : Known) (state : CoreState) (seat : ℕ) (view : View) (f : ℕ) → IsFit known → IsGood known state → IsSeat state seat view
+    → knows view f ≡ true
+    → waits (word_at state.words f) ≡ false
 
 -- The frames that were claimed ran in an order in which each was enabled: a state that is reached by giving
 -- enabled frames their outcomes, one at a time, has outcomes for exactly these frames. The ends of frames
@@ -127,13 +172,17 @@ pub record IsInOrder (known : Known) (state : CoreState) (outcome : ℕ → List
   pub outcomes : State
   pub ran_in_order : Reached element (plan_reads known.plan) outcome (length known.plan.frames) outcomes
   pub of_the_claimed : (f : ℕ) → f < length known.plan.frames → is_some (outcome_at outcomes f) ≡ is_started (word_at state.words f)
-  pub has_the_ends : (f : ℕ) (end : TaskEnd) → f < length known.plan.frames → word_at state.words f ≡ Ended end → option_map (λ (o : Outcome). o.end) (outcome_at outcomes f) ≡ Some end
+  pub has_the_ends : (f : ℕ) (end : TaskEnd) → f < length known.plan.frames → word_at state.words f ≡ Ended end
+      → option_map (λ (o : Outcome). o.end) (outcome_at outcomes f) ≡ Some end
   pub has_the_elements : (c : ℕ) (value : ℤ) → value_at state.cells c ≡ Some value → element outcomes (cell_source known.plan c) ≡ Some value
   pub agrees : (f : ℕ) (o : Outcome) → outcome_at outcomes f ≡ Some o → outcome_at (plan_meaning known.plan outcome) f ≡ Some o
-  pub ends_there : ((f : ℕ) → f < length known.plan.frames → ¬ (IsEnabled element (plan_reads known.plan) outcomes f)) → outcomes ≡ plan_meaning known.plan outcome
+  pub ends_there : ((f : ℕ) → f < length known.plan.frames → ¬ (IsEnabled element (plan_reads known.plan) outcomes f))
+      → outcomes ≡ plan_meaning known.plan outcome
 
 abbrev pub RunsAreConfluent : Type 0
-RunsAreConfluent = (known : Known) (outcome : ℕ → List ℤ → Outcome) (state : CoreState) → IsFit known → IsMeant known outcome → Way known state → IsInOrder known state outcome
+RunsAreConfluent =
+    (known : Known) (outcome : ℕ → List ℤ → Outcome) (state : CoreState) → IsFit known → IsMeant known outcome → Way known state
+    → IsInOrder known state outcome
 
 -- Nothing is left out: each frame has the end of the meaning, or none, and each cell the meaning's element,
 -- or none.
@@ -142,14 +191,21 @@ pub record IsComplete (known : Known) (state : CoreState) : Type 0 where
   pub cells : (c : ℕ) → value_at state.cells c ≡ element known.meaning (cell_source known.plan c)
 
 abbrev pub LeavesNothing : Type 0
-LeavesNothing = (known : Known) (outcome : ℕ → List ℤ → Outcome) (state : CoreState) (seat : ℕ) (view : View) → IsFit known → IsMeant known outcome → IsGood known state → slice_get state.seats seat ≡ Some view → IsLast known view → view.run ≡ None → length known.plan.frames ≤ view.looks → IsComplete known state
+LeavesNothing =
+    (known : Known) (outcome : ℕ → List ℤ → Outcome) (state : CoreState) (seat : ℕ) (view : View) → IsFit known → IsMeant known outcome
+    → IsGood known state
+    → slice_get state.seats seat ≡ Some view → IsLast known view → view.run ≡ None → length known.plan.frames ≤ view.looks
+    → IsComplete known state
 
 -- the choices that can be taken are exactly the steps, each of its kind
 abbrev pub ChoicesAreSteps : Type 0
-ChoicesAreSteps = (known : Known) (state new : CoreState) (choice : Choice) → after_choice known state choice ≡ Some new → (step : Step known state new) × (choice_of known state new step ≡ choice)
+ChoicesAreSteps =
+    (known : Known) (state new : CoreState) (choice : Choice) → after_choice known state choice ≡ Some new
+    → (step : Step known state new) × (choice_of known state new step ≡ choice)
 
 abbrev pub StepsAreChoices : Type 0
-StepsAreChoices = (known : Known) (state new : CoreState) (step : Step known state new) → after_choice known state (choice_of known state new step) ≡ Some new
+StepsAreChoices =
+    (known : Known) (state new : CoreState) (step : Step known state new) → after_choice known state (choice_of known state new step) ≡ Some new
 
 -- and the states that they reach are reached by steps
 abbrev pub ChoicesAreWays : Type 0

@@ -13,9 +13,15 @@ use Rattle.flow_core_concurrent.specs.Tables.{at, seat, state}
 
 abbrev pub plan : Plan
 plan = record {
-  frames = (record { cell = 0; inputs = 0; outputs = 2; wait = 0; piece = 0; pieces = 1 }) ∷ (record { cell = 0; inputs = 2; outputs = 1; wait = 2; piece = 1; pieces = 1 }) ∷ (record { cell = 2; inputs = 0; outputs = 1; wait = 0; piece = 2; pieces = 1 }) ∷ (record { cell = 2; inputs = 1; outputs = 0; wait = 1; piece = 3; pieces = 0 }) ∷ [];
+  frames =
+      (record { cell = 0; inputs = 0; outputs = 2; wait = 0; piece = 0; pieces = 1 })
+      ∷ (record { cell = 0; inputs = 2; outputs = 1; wait = 2; piece = 1; pieces = 1 })
+      ∷ (record { cell = 2; inputs = 0; outputs = 1; wait = 0; piece = 2; pieces = 1 })
+      ∷ (record { cell = 2; inputs = 1; outputs = 0; wait = 1; piece = 3; pieces = 0 }) ∷ [];
   sink = record { cell = 3; inputs = 1; outputs = 0; wait = 1; piece = 3; pieces = 0 };
-  pieces = (record { from = 0; to = 1; first = 0; count = 2; at = 0 }) ∷ (record { from = 1; to = 4; first = 0; count = 1; at = 3 }) ∷ (record { from = 2; to = 3; first = 0; count = 1; at = 2 }) ∷ [];
+  pieces =
+      (record { from = 0; to = 1; first = 0; count = 2; at = 0 }) ∷ (record { from = 1; to = 4; first = 0; count = 1; at = 3 })
+      ∷ (record { from = 2; to = 3; first = 0; count = 1; at = 2 }) ∷ [];
   filled = None ∷ None ∷ None ∷ None ∷ [];
 }
 
@@ -27,43 +33,92 @@ outcome frame inputs =
     else outcome_of Done []
 
 abbrev pub known : Known
-known = record { plan = plan; meaning = Some (outcome_of Done (pos 5 ∷ pos 7 ∷ [])) ∷ Some (outcome_of OverBudget []) ∷ Some (outcome_of (Trapped 2 5) []) ∷ None ∷ []; seats = 2 }
+known =
+    record {
+      plan = plan;
+      meaning = Some (outcome_of Done (pos 5 ∷ pos 7 ∷ [])) ∷ Some (outcome_of OverBudget []) ∷ Some (outcome_of (Trapped 2 5) [])
+          ∷ None ∷ [];
+      seats = 2;
+    }
 
 -- The first seat misses frame 1 out of turn, runs frame 0, looks around and is cut in two. The second one
 -- looks around, misses frame 3 and runs frame 1, which the first one loses by a CLAIM. The first one takes
 -- it in while it runs frame 2.
 abbrev pub choices : List Choice
 choices =
-    to_look 0 ∷ to_claim 0 1 ∷ to_claim 0 0 ∷ to_store 0 ∷ to_store 0 ∷ to_sub 0 ∷ to_finish 0 ∷ to_look 0 ∷ to_look 0 ∷ to_split 0 ∷ to_look 1 ∷ to_look 1 ∷ to_claim 1 3 ∷ to_claim 1 1 ∷ to_claim 0 1 ∷ to_read 1 0 ∷ to_read 1 1 ∷ to_finish 1 ∷ to_look 1 ∷ to_look 1 ∷ to_claim 0 2 ∷ to_join 0 1 ∷ to_finish 0 ∷ to_look 0 ∷ to_look 0 ∷ to_look 0 ∷ to_look 0 ∷ []
+    to_look 0 ∷ to_claim 0 1 ∷ to_claim 0 0 ∷ to_store 0 ∷ to_store 0 ∷ to_sub 0 ∷ to_finish 0 ∷ to_look 0 ∷ to_look 0 ∷ to_split 0
+    ∷ to_look 1 ∷ to_look 1 ∷ to_claim 1 3 ∷ to_claim 1 1 ∷ to_claim 0 1 ∷ to_read 1 0 ∷ to_read 1 1 ∷ to_finish 1 ∷ to_look 1
+    ∷ to_look 1 ∷ to_claim 0 2 ∷ to_join 0 1 ∷ to_finish 0 ∷ to_look 0 ∷ to_look 0 ∷ to_look 0 ∷ to_look 0 ∷ []
 
 abbrev pub states : List CoreState
 states =
     state (Open ∷ Wait 2 ∷ Open ∷ Wait 1 ∷ Wait 1 ∷ []) (None ∷ None ∷ None ∷ None ∷ []) (seat known None [] [] [] [] [] 0 2 ∷ [])
-    ∷ state (Open ∷ Wait 2 ∷ Open ∷ Wait 1 ∷ Wait 1 ∷ []) (None ∷ None ∷ None ∷ None ∷ []) (seat known None [] [] [] (0 ∷ []) [] 0 2 ∷ [])
-    ∷ state (Open ∷ Wait 2 ∷ Open ∷ Wait 1 ∷ Wait 1 ∷ []) (None ∷ None ∷ None ∷ None ∷ []) (seat known None [] [] (1 ∷ []) (0 ∷ []) [] 0 2 ∷ [])
-    ∷ state (Taken ∷ Wait 2 ∷ Open ∷ Wait 1 ∷ Wait 1 ∷ []) (None ∷ None ∷ None ∷ None ∷ []) (seat known (at 0 0 0) [] (0 ∷ []) (1 ∷ []) (0 ∷ []) [] 0 2 ∷ [])
-    ∷ state (Taken ∷ Wait 2 ∷ Open ∷ Wait 1 ∷ Wait 1 ∷ []) (Some (pos 5) ∷ None ∷ None ∷ None ∷ []) (seat known (at 0 0 1) [] (0 ∷ []) (1 ∷ []) (0 ∷ []) [] 0 2 ∷ [])
-    ∷ state (Taken ∷ Wait 2 ∷ Open ∷ Wait 1 ∷ Wait 1 ∷ []) (Some (pos 5) ∷ Some (pos 7) ∷ None ∷ None ∷ []) (seat known (at 0 0 2) [] (0 ∷ []) (1 ∷ []) (0 ∷ []) [] 0 2 ∷ [])
-    ∷ state (Taken ∷ Open ∷ Open ∷ Wait 1 ∷ Wait 1 ∷ []) (Some (pos 5) ∷ Some (pos 7) ∷ None ∷ None ∷ []) (seat known (at 0 1 0) (1 ∷ []) (0 ∷ []) (1 ∷ []) (0 ∷ []) [] 0 2 ∷ [])
-    ∷ state (Ended Done ∷ Open ∷ Open ∷ Wait 1 ∷ Wait 1 ∷ []) (Some (pos 5) ∷ Some (pos 7) ∷ None ∷ None ∷ []) (seat known None (1 ∷ []) (0 ∷ []) (1 ∷ []) (0 ∷ []) [] 0 2 ∷ [])
-    ∷ state (Ended Done ∷ Open ∷ Open ∷ Wait 1 ∷ Wait 1 ∷ []) (Some (pos 5) ∷ Some (pos 7) ∷ None ∷ None ∷ []) (seat known None (1 ∷ []) (0 ∷ []) (1 ∷ []) (0 ∷ []) (0 ∷ []) 1 2 ∷ [])
-    ∷ state (Ended Done ∷ Open ∷ Open ∷ Wait 1 ∷ Wait 1 ∷ []) (Some (pos 5) ∷ Some (pos 7) ∷ None ∷ None ∷ []) (seat known None (1 ∷ []) (0 ∷ []) (1 ∷ []) (0 ∷ 1 ∷ []) (0 ∷ []) 1 2 ∷ [])
-    ∷ state (Ended Done ∷ Open ∷ Open ∷ Wait 1 ∷ Wait 1 ∷ []) (Some (pos 5) ∷ Some (pos 7) ∷ None ∷ None ∷ []) (seat known None (1 ∷ []) (0 ∷ []) (1 ∷ []) (0 ∷ 1 ∷ []) (0 ∷ []) 0 1 ∷ seat known None [] [] [] [] [] 0 1 ∷ [])
-    ∷ state (Ended Done ∷ Open ∷ Open ∷ Wait 1 ∷ Wait 1 ∷ []) (Some (pos 5) ∷ Some (pos 7) ∷ None ∷ None ∷ []) (seat known None (1 ∷ []) (0 ∷ []) (1 ∷ []) (0 ∷ 1 ∷ []) (0 ∷ []) 0 1 ∷ seat known None [] [] [] [] (0 ∷ []) 1 1 ∷ [])
-    ∷ state (Ended Done ∷ Open ∷ Open ∷ Wait 1 ∷ Wait 1 ∷ []) (Some (pos 5) ∷ Some (pos 7) ∷ None ∷ None ∷ []) (seat known None (1 ∷ []) (0 ∷ []) (1 ∷ []) (0 ∷ 1 ∷ []) (0 ∷ []) 0 1 ∷ seat known None [] [] [] (1 ∷ []) (0 ∷ []) 1 1 ∷ [])
-    ∷ state (Ended Done ∷ Open ∷ Open ∷ Wait 1 ∷ Wait 1 ∷ []) (Some (pos 5) ∷ Some (pos 7) ∷ None ∷ None ∷ []) (seat known None (1 ∷ []) (0 ∷ []) (1 ∷ []) (0 ∷ 1 ∷ []) (0 ∷ []) 0 1 ∷ seat known None [] [] (3 ∷ []) (1 ∷ []) (0 ∷ []) 1 1 ∷ [])
-    ∷ state (Ended Done ∷ Taken ∷ Open ∷ Wait 1 ∷ Wait 1 ∷ []) (Some (pos 5) ∷ Some (pos 7) ∷ None ∷ None ∷ []) (seat known None (1 ∷ []) (0 ∷ []) (1 ∷ []) (0 ∷ 1 ∷ []) (0 ∷ []) 0 1 ∷ seat known (at 1 1 0) [] (1 ∷ []) (3 ∷ []) (1 ∷ []) (0 ∷ []) 0 1 ∷ [])
-    ∷ state (Ended Done ∷ Taken ∷ Open ∷ Wait 1 ∷ Wait 1 ∷ []) (Some (pos 5) ∷ Some (pos 7) ∷ None ∷ None ∷ []) (seat known None (1 ∷ []) (0 ∷ []) (1 ∷ 1 ∷ []) (0 ∷ 1 ∷ []) (0 ∷ 1 ∷ []) 0 1 ∷ seat known (at 1 1 0) [] (1 ∷ []) (3 ∷ []) (1 ∷ []) (0 ∷ []) 0 1 ∷ [])
-    ∷ state (Ended Done ∷ Taken ∷ Open ∷ Wait 1 ∷ Wait 1 ∷ []) (Some (pos 5) ∷ Some (pos 7) ∷ None ∷ None ∷ []) (seat known None (1 ∷ []) (0 ∷ []) (1 ∷ 1 ∷ []) (0 ∷ 1 ∷ []) (0 ∷ 1 ∷ []) 0 1 ∷ seat known (at 1 1 0) [] (1 ∷ []) (3 ∷ []) (1 ∷ []) (0 ∷ []) 0 1 ∷ [])
-    ∷ state (Ended Done ∷ Taken ∷ Open ∷ Wait 1 ∷ Wait 1 ∷ []) (Some (pos 5) ∷ Some (pos 7) ∷ None ∷ None ∷ []) (seat known None (1 ∷ []) (0 ∷ []) (1 ∷ 1 ∷ []) (0 ∷ 1 ∷ []) (0 ∷ 1 ∷ []) 0 1 ∷ seat known (at 1 1 0) [] (1 ∷ []) (3 ∷ []) (1 ∷ []) (0 ∷ []) 0 1 ∷ [])
-    ∷ state (Ended Done ∷ Ended OverBudget ∷ Open ∷ Wait 1 ∷ Wait 1 ∷ []) (Some (pos 5) ∷ Some (pos 7) ∷ None ∷ None ∷ []) (seat known None (1 ∷ []) (0 ∷ []) (1 ∷ 1 ∷ []) (0 ∷ 1 ∷ []) (0 ∷ 1 ∷ []) 0 1 ∷ seat known None [] (1 ∷ []) (3 ∷ []) (1 ∷ []) (0 ∷ []) 0 1 ∷ [])
-    ∷ state (Ended Done ∷ Ended OverBudget ∷ Open ∷ Wait 1 ∷ Wait 1 ∷ []) (Some (pos 5) ∷ Some (pos 7) ∷ None ∷ None ∷ []) (seat known None (1 ∷ []) (0 ∷ []) (1 ∷ 1 ∷ []) (0 ∷ 1 ∷ []) (0 ∷ 1 ∷ []) 0 1 ∷ seat known None [] (1 ∷ []) (3 ∷ []) (1 ∷ []) (0 ∷ 0 ∷ []) 1 1 ∷ [])
-    ∷ state (Ended Done ∷ Ended OverBudget ∷ Open ∷ Wait 1 ∷ Wait 1 ∷ []) (Some (pos 5) ∷ Some (pos 7) ∷ None ∷ None ∷ []) (seat known None (1 ∷ []) (0 ∷ []) (1 ∷ 1 ∷ []) (0 ∷ 1 ∷ []) (0 ∷ 1 ∷ []) 0 1 ∷ seat known None [] (1 ∷ []) (3 ∷ []) (1 ∷ []) (0 ∷ 0 ∷ 1 ∷ []) 2 1 ∷ [])
-    ∷ state (Ended Done ∷ Ended OverBudget ∷ Taken ∷ Wait 1 ∷ Wait 1 ∷ []) (Some (pos 5) ∷ Some (pos 7) ∷ None ∷ None ∷ []) (seat known (at 2 2 0) (1 ∷ []) (0 ∷ 2 ∷ []) (1 ∷ 1 ∷ []) (0 ∷ 1 ∷ []) (0 ∷ 1 ∷ []) 0 1 ∷ seat known None [] (1 ∷ []) (3 ∷ []) (1 ∷ []) (0 ∷ 0 ∷ 1 ∷ []) 2 1 ∷ [])
-    ∷ state (Ended Done ∷ Ended OverBudget ∷ Taken ∷ Wait 1 ∷ Wait 1 ∷ []) (Some (pos 5) ∷ Some (pos 7) ∷ None ∷ None ∷ []) (seat known (at 2 2 0) (1 ∷ []) (0 ∷ 2 ∷ 1 ∷ []) (1 ∷ 1 ∷ 3 ∷ []) (0 ∷ 1 ∷ 1 ∷ []) (0 ∷ 1 ∷ 0 ∷ 0 ∷ 1 ∷ []) 0 2 ∷ fresh known 0 ∷ [])
-    ∷ state (Ended Done ∷ Ended OverBudget ∷ Ended (Trapped 2 5) ∷ Wait 1 ∷ Wait 1 ∷ []) (Some (pos 5) ∷ Some (pos 7) ∷ None ∷ None ∷ []) (seat known None (1 ∷ []) (0 ∷ 2 ∷ 1 ∷ []) (1 ∷ 1 ∷ 3 ∷ []) (0 ∷ 1 ∷ 1 ∷ []) (0 ∷ 1 ∷ 0 ∷ 0 ∷ 1 ∷ []) 0 2 ∷ fresh known 0 ∷ [])
-    ∷ state (Ended Done ∷ Ended OverBudget ∷ Ended (Trapped 2 5) ∷ Wait 1 ∷ Wait 1 ∷ []) (Some (pos 5) ∷ Some (pos 7) ∷ None ∷ None ∷ []) (seat known None (1 ∷ []) (0 ∷ 2 ∷ 1 ∷ []) (1 ∷ 1 ∷ 3 ∷ []) (0 ∷ 1 ∷ 1 ∷ []) (0 ∷ 1 ∷ 0 ∷ 0 ∷ 1 ∷ 0 ∷ []) 1 2 ∷ fresh known 0 ∷ [])
-    ∷ state (Ended Done ∷ Ended OverBudget ∷ Ended (Trapped 2 5) ∷ Wait 1 ∷ Wait 1 ∷ []) (Some (pos 5) ∷ Some (pos 7) ∷ None ∷ None ∷ []) (seat known None (1 ∷ []) (0 ∷ 2 ∷ 1 ∷ []) (1 ∷ 1 ∷ 3 ∷ []) (0 ∷ 1 ∷ 1 ∷ []) (0 ∷ 1 ∷ 0 ∷ 0 ∷ 1 ∷ 0 ∷ 1 ∷ []) 2 2 ∷ fresh known 0 ∷ [])
-    ∷ state (Ended Done ∷ Ended OverBudget ∷ Ended (Trapped 2 5) ∷ Wait 1 ∷ Wait 1 ∷ []) (Some (pos 5) ∷ Some (pos 7) ∷ None ∷ None ∷ []) (seat known None (1 ∷ []) (0 ∷ 2 ∷ 1 ∷ []) (1 ∷ 1 ∷ 3 ∷ []) (0 ∷ 1 ∷ 1 ∷ []) (0 ∷ 1 ∷ 0 ∷ 0 ∷ 1 ∷ 0 ∷ 1 ∷ 2 ∷ []) 3 2 ∷ fresh known 0 ∷ [])
-    ∷ state (Ended Done ∷ Ended OverBudget ∷ Ended (Trapped 2 5) ∷ Wait 1 ∷ Wait 1 ∷ []) (Some (pos 5) ∷ Some (pos 7) ∷ None ∷ None ∷ []) (seat known None (1 ∷ []) (0 ∷ 2 ∷ 1 ∷ []) (1 ∷ 1 ∷ 3 ∷ []) (0 ∷ 1 ∷ 1 ∷ []) (0 ∷ 1 ∷ 0 ∷ 0 ∷ 1 ∷ 0 ∷ 1 ∷ 2 ∷ []) 4 2 ∷ fresh known 0 ∷ [])
+    ∷ state (Open ∷ Wait 2 ∷ Open ∷ Wait 1 ∷ Wait 1 ∷ []) (None ∷ None ∷ None ∷ None ∷ [])
+    (seat known None [] [] [] (0 ∷ []) [] 0 2 ∷ [])
+    ∷ state (Open ∷ Wait 2 ∷ Open ∷ Wait 1 ∷ Wait 1 ∷ []) (None ∷ None ∷ None ∷ None ∷ [])
+    (seat known None [] [] (1 ∷ []) (0 ∷ []) [] 0 2 ∷ [])
+    ∷ state (Taken ∷ Wait 2 ∷ Open ∷ Wait 1 ∷ Wait 1 ∷ []) (None ∷ None ∷ None ∷ None ∷ [])
+    (seat known (at 0 0 0) [] (0 ∷ []) (1 ∷ []) (0 ∷ []) [] 0 2 ∷ [])
+    ∷ state (Taken ∷ Wait 2 ∷ Open ∷ Wait 1 ∷ Wait 1 ∷ []) (Some (pos 5) ∷ None ∷ None ∷ None ∷ [])
+    (seat known (at 0 0 1) [] (0 ∷ []) (1 ∷ []) (0 ∷ []) [] 0 2 ∷ [])
+    ∷ state (Taken ∷ Wait 2 ∷ Open ∷ Wait 1 ∷ Wait 1 ∷ []) (Some (pos 5) ∷ Some (pos 7) ∷ None ∷ None ∷ [])
+    (seat known (at 0 0 2) [] (0 ∷ []) (1 ∷ []) (0 ∷ []) [] 0 2 ∷ [])
+    ∷ state (Taken ∷ Open ∷ Open ∷ Wait 1 ∷ Wait 1 ∷ []) (Some (pos 5) ∷ Some (pos 7) ∷ None ∷ None ∷ [])
+    (seat known (at 0 1 0) (1 ∷ []) (0 ∷ []) (1 ∷ []) (0 ∷ []) [] 0 2 ∷ [])
+    ∷ state (Ended Done ∷ Open ∷ Open ∷ Wait 1 ∷ Wait 1 ∷ []) (Some (pos 5) ∷ Some (pos 7) ∷ None ∷ None ∷ [])
+    (seat known None (1 ∷ []) (0 ∷ []) (1 ∷ []) (0 ∷ []) [] 0 2 ∷ [])
+    ∷ state (Ended Done ∷ Open ∷ Open ∷ Wait 1 ∷ Wait 1 ∷ []) (Some (pos 5) ∷ Some (pos 7) ∷ None ∷ None ∷ [])
+    (seat known None (1 ∷ []) (0 ∷ []) (1 ∷ []) (0 ∷ []) (0 ∷ []) 1 2 ∷ [])
+    ∷ state (Ended Done ∷ Open ∷ Open ∷ Wait 1 ∷ Wait 1 ∷ []) (Some (pos 5) ∷ Some (pos 7) ∷ None ∷ None ∷ [])
+    (seat known None (1 ∷ []) (0 ∷ []) (1 ∷ []) (0 ∷ 1 ∷ []) (0 ∷ []) 1 2 ∷ [])
+    ∷ state (Ended Done ∷ Open ∷ Open ∷ Wait 1 ∷ Wait 1 ∷ []) (Some (pos 5) ∷ Some (pos 7) ∷ None ∷ None ∷ [])
+    (seat known None (1 ∷ []) (0 ∷ []) (1 ∷ []) (0 ∷ 1 ∷ []) (0 ∷ []) 0 1 ∷ seat known None [] [] [] [] [] 0 1 ∷ [])
+    ∷ state (Ended Done ∷ Open ∷ Open ∷ Wait 1 ∷ Wait 1 ∷ []) (Some (pos 5) ∷ Some (pos 7) ∷ None ∷ None ∷ [])
+    (seat known None (1 ∷ []) (0 ∷ []) (1 ∷ []) (0 ∷ 1 ∷ []) (0 ∷ []) 0 1 ∷ seat known None [] [] [] [] (0 ∷ []) 1 1 ∷ [])
+    ∷ state (Ended Done ∷ Open ∷ Open ∷ Wait 1 ∷ Wait 1 ∷ []) (Some (pos 5) ∷ Some (pos 7) ∷ None ∷ None ∷ [])
+    (seat known None (1 ∷ []) (0 ∷ []) (1 ∷ []) (0 ∷ 1 ∷ []) (0 ∷ []) 0 1 ∷ seat known None [] [] [] (1 ∷ []) (0 ∷ []) 1 1 ∷ [])
+    ∷ state (Ended Done ∷ Open ∷ Open ∷ Wait 1 ∷ Wait 1 ∷ []) (Some (pos 5) ∷ Some (pos 7) ∷ None ∷ None ∷ [])
+    (seat known None (1 ∷ []) (0 ∷ []) (1 ∷ []) (0 ∷ 1 ∷ []) (0 ∷ []) 0 1 ∷ seat known None [] [] (3 ∷ []) (1 ∷ []) (0 ∷ []) 1 1 ∷ [])
+    ∷ state (Ended Done ∷ Taken ∷ Open ∷ Wait 1 ∷ Wait 1 ∷ []) (Some (pos 5) ∷ Some (pos 7) ∷ None ∷ None ∷ [])
+    (seat known None (1 ∷ []) (0 ∷ []) (1 ∷ []) (0 ∷ 1 ∷ []) (0 ∷ []) 0 1
+    ∷ seat known (at 1 1 0) [] (1 ∷ []) (3 ∷ []) (1 ∷ []) (0 ∷ []) 0 1 ∷ [])
+    ∷ state (Ended Done ∷ Taken ∷ Open ∷ Wait 1 ∷ Wait 1 ∷ []) (Some (pos 5) ∷ Some (pos 7) ∷ None ∷ None ∷ [])
+    (seat known None (1 ∷ []) (0 ∷ []) (1 ∷ 1 ∷ []) (0 ∷ 1 ∷ []) (0 ∷ 1 ∷ []) 0 1
+    ∷ seat known (at 1 1 0) [] (1 ∷ []) (3 ∷ []) (1 ∷ []) (0 ∷ []) 0 1 ∷ [])
+    ∷ state (Ended Done ∷ Taken ∷ Open ∷ Wait 1 ∷ Wait 1 ∷ []) (Some (pos 5) ∷ Some (pos 7) ∷ None ∷ None ∷ [])
+    (seat known None (1 ∷ []) (0 ∷ []) (1 ∷ 1 ∷ []) (0 ∷ 1 ∷ []) (0 ∷ 1 ∷ []) 0 1
+    ∷ seat known (at 1 1 0) [] (1 ∷ []) (3 ∷ []) (1 ∷ []) (0 ∷ []) 0 1 ∷ [])
+    ∷ state (Ended Done ∷ Taken ∷ Open ∷ Wait 1 ∷ Wait 1 ∷ []) (Some (pos 5) ∷ Some (pos 7) ∷ None ∷ None ∷ [])
+    (seat known None (1 ∷ []) (0 ∷ []) (1 ∷ 1 ∷ []) (0 ∷ 1 ∷ []) (0 ∷ 1 ∷ []) 0 1
+    ∷ seat known (at 1 1 0) [] (1 ∷ []) (3 ∷ []) (1 ∷ []) (0 ∷ []) 0 1 ∷ [])
+    ∷ state (Ended Done ∷ Ended OverBudget ∷ Open ∷ Wait 1 ∷ Wait 1 ∷ []) (Some (pos 5) ∷ Some (pos 7) ∷ None ∷ None ∷ [])
+    (seat known None (1 ∷ []) (0 ∷ []) (1 ∷ 1 ∷ []) (0 ∷ 1 ∷ []) (0 ∷ 1 ∷ []) 0 1
+    ∷ seat known None [] (1 ∷ []) (3 ∷ []) (1 ∷ []) (0 ∷ []) 0 1 ∷ [])
+    ∷ state (Ended Done ∷ Ended OverBudget ∷ Open ∷ Wait 1 ∷ Wait 1 ∷ []) (Some (pos 5) ∷ Some (pos 7) ∷ None ∷ None ∷ [])
+    (seat known None (1 ∷ []) (0 ∷ []) (1 ∷ 1 ∷ []) (0 ∷ 1 ∷ []) (0 ∷ 1 ∷ []) 0 1
+    ∷ seat known None [] (1 ∷ []) (3 ∷ []) (1 ∷ []) (0 ∷ 0 ∷ []) 1 1 ∷ [])
+    ∷ state (Ended Done ∷ Ended OverBudget ∷ Open ∷ Wait 1 ∷ Wait 1 ∷ []) (Some (pos 5) ∷ Some (pos 7) ∷ None ∷ None ∷ [])
+    (seat known None (1 ∷ []) (0 ∷ []) (1 ∷ 1 ∷ []) (0 ∷ 1 ∷ []) (0 ∷ 1 ∷ []) 0 1
+    ∷ seat known None [] (1 ∷ []) (3 ∷ []) (1 ∷ []) (0 ∷ 0 ∷ 1 ∷ []) 2 1 ∷ [])
+    ∷ state (Ended Done ∷ Ended OverBudget ∷ Taken ∷ Wait 1 ∷ Wait 1 ∷ []) (Some (pos 5) ∷ Some (pos 7) ∷ None ∷ None ∷ [])
+    (seat known (at 2 2 0) (1 ∷ []) (0 ∷ 2 ∷ []) (1 ∷ 1 ∷ []) (0 ∷ 1 ∷ []) (0 ∷ 1 ∷ []) 0 1
+    ∷ seat known None [] (1 ∷ []) (3 ∷ []) (1 ∷ []) (0 ∷ 0 ∷ 1 ∷ []) 2 1 ∷ [])
+    ∷ state (Ended Done ∷ Ended OverBudget ∷ Taken ∷ Wait 1 ∷ Wait 1 ∷ []) (Some (pos 5) ∷ Some (pos 7) ∷ None ∷ None ∷ [])
+    (seat known (at 2 2 0) (1 ∷ []) (0 ∷ 2 ∷ 1 ∷ []) (1 ∷ 1 ∷ 3 ∷ []) (0 ∷ 1 ∷ 1 ∷ []) (0 ∷ 1 ∷ 0 ∷ 0 ∷ 1 ∷ []) 0 2
+    ∷ fresh known 0 ∷ [])
+    ∷ state (Ended Done ∷ Ended OverBudget ∷ Ended (Trapped 2 5) ∷ Wait 1 ∷ Wait 1 ∷ []) (Some (pos 5) ∷ Some (pos 7) ∷ None ∷ None ∷ [])
+    (seat known None (1 ∷ []) (0 ∷ 2 ∷ 1 ∷ []) (1 ∷ 1 ∷ 3 ∷ []) (0 ∷ 1 ∷ 1 ∷ []) (0 ∷ 1 ∷ 0 ∷ 0 ∷ 1 ∷ []) 0 2
+    ∷ fresh known 0 ∷ [])
+    ∷ state (Ended Done ∷ Ended OverBudget ∷ Ended (Trapped 2 5) ∷ Wait 1 ∷ Wait 1 ∷ []) (Some (pos 5) ∷ Some (pos 7) ∷ None ∷ None ∷ [])
+    (seat known None (1 ∷ []) (0 ∷ 2 ∷ 1 ∷ []) (1 ∷ 1 ∷ 3 ∷ []) (0 ∷ 1 ∷ 1 ∷ []) (0 ∷ 1 ∷ 0 ∷ 0 ∷ 1 ∷ 0 ∷ []) 1 2
+    ∷ fresh known 0 ∷ [])
+    ∷ state (Ended Done ∷ Ended OverBudget ∷ Ended (Trapped 2 5) ∷ Wait 1 ∷ Wait 1 ∷ []) (Some (pos 5) ∷ Some (pos 7) ∷ None ∷ None ∷ [])
+    (seat known None (1 ∷ []) (0 ∷ 2 ∷ 1 ∷ []) (1 ∷ 1 ∷ 3 ∷ []) (0 ∷ 1 ∷ 1 ∷ []) (0 ∷ 1 ∷ 0 ∷ 0 ∷ 1 ∷ 0 ∷ 1 ∷ []) 2 2
+    ∷ fresh known 0 ∷ [])
+    ∷ state (Ended Done ∷ Ended OverBudget ∷ Ended (Trapped 2 5) ∷ Wait 1 ∷ Wait 1 ∷ []) (Some (pos 5) ∷ Some (pos 7) ∷ None ∷ None ∷ [])
+    (seat known None (1 ∷ []) (0 ∷ 2 ∷ 1 ∷ []) (1 ∷ 1 ∷ 3 ∷ []) (0 ∷ 1 ∷ 1 ∷ [])
+    (0 ∷ 1 ∷ 0 ∷ 0 ∷ 1 ∷ 0 ∷ 1 ∷ 2 ∷ []) 3 2 ∷ fresh known 0 ∷ [])
+    ∷ state (Ended Done ∷ Ended OverBudget ∷ Ended (Trapped 2 5) ∷ Wait 1 ∷ Wait 1 ∷ []) (Some (pos 5) ∷ Some (pos 7) ∷ None ∷ None ∷ [])
+    (seat known None (1 ∷ []) (0 ∷ 2 ∷ 1 ∷ []) (1 ∷ 1 ∷ 3 ∷ []) (0 ∷ 1 ∷ 1 ∷ [])
+    (0 ∷ 1 ∷ 0 ∷ 0 ∷ 1 ∷ 0 ∷ 1 ∷ 2 ∷ []) 4 2 ∷ fresh known 0 ∷ [])
     ∷ []

@@ -13,7 +13,9 @@ use Rattle.flow_core_concurrent.specs.Tables.{at, seat, state}
 
 abbrev pub plan : Plan
 plan = record {
-  frames = (record { cell = 0; inputs = 1; outputs = 1; wait = 1; piece = 0; pieces = 1 }) ∷ (record { cell = 1; inputs = 0; outputs = 1; wait = 0; piece = 1; pieces = 1 }) ∷ [];
+  frames =
+      (record { cell = 0; inputs = 1; outputs = 1; wait = 1; piece = 0; pieces = 1 })
+      ∷ (record { cell = 1; inputs = 0; outputs = 1; wait = 0; piece = 1; pieces = 1 }) ∷ [];
   sink = record { cell = 1; inputs = 1; outputs = 0; wait = 1; piece = 2; pieces = 0 };
   pieces = (record { from = 0; to = 2; first = 0; count = 1; at = 1 }) ∷ (record { from = 1; to = 0; first = 0; count = 1; at = 0 }) ∷ [];
   filled = None ∷ None ∷ [];
@@ -29,7 +31,8 @@ known = record { plan = plan; meaning = Some (outcome_of Done (pos 42 ∷ [])) �
 -- looks find nothing more.
 abbrev pub choices : List Choice
 choices =
-    to_claim 0 0 ∷ to_look 0 ∷ to_claim 0 1 ∷ to_store 0 ∷ to_sub 0 ∷ to_finish 0 ∷ to_claim 0 0 ∷ to_read 0 0 ∷ to_store 0 ∷ to_sub 0 ∷ to_finish 0 ∷ to_look 0 ∷ to_look 0 ∷ []
+    to_claim 0 0 ∷ to_look 0 ∷ to_claim 0 1 ∷ to_store 0 ∷ to_sub 0 ∷ to_finish 0 ∷ to_claim 0 0 ∷ to_read 0 0 ∷ to_store 0 ∷ to_sub 0
+    ∷ to_finish 0 ∷ to_look 0 ∷ to_look 0 ∷ []
 
 abbrev pub states : List CoreState
 states =
@@ -38,13 +41,22 @@ states =
     ∷ state (Wait 1 ∷ Open ∷ Wait 1 ∷ []) (None ∷ None ∷ []) (seat known None [] [] (0 ∷ []) (1 ∷ []) [] 1 1 ∷ [])
     ∷ state (Wait 1 ∷ Taken ∷ Wait 1 ∷ []) (None ∷ None ∷ []) (seat known (at 1 1 0) [] (1 ∷ []) (0 ∷ []) (1 ∷ []) [] 0 1 ∷ [])
     ∷ state (Wait 1 ∷ Taken ∷ Wait 1 ∷ []) (Some (pos 41) ∷ None ∷ []) (seat known (at 1 1 1) [] (1 ∷ []) (0 ∷ []) (1 ∷ []) [] 0 1 ∷ [])
-    ∷ state (Open ∷ Taken ∷ Wait 1 ∷ []) (Some (pos 41) ∷ None ∷ []) (seat known (at 1 2 0) (0 ∷ []) (1 ∷ []) (0 ∷ []) (1 ∷ []) [] 0 1 ∷ [])
-    ∷ state (Open ∷ Ended Done ∷ Wait 1 ∷ []) (Some (pos 41) ∷ None ∷ []) (seat known None (0 ∷ []) (1 ∷ []) (0 ∷ []) (1 ∷ []) [] 0 1 ∷ [])
-    ∷ state (Taken ∷ Ended Done ∷ Wait 1 ∷ []) (Some (pos 41) ∷ None ∷ []) (seat known (at 0 0 0) (0 ∷ []) (1 ∷ 0 ∷ []) (0 ∷ []) (1 ∷ []) [] 0 1 ∷ [])
-    ∷ state (Taken ∷ Ended Done ∷ Wait 1 ∷ []) (Some (pos 41) ∷ None ∷ []) (seat known (at 0 0 0) (0 ∷ []) (1 ∷ 0 ∷ []) (0 ∷ []) (1 ∷ []) [] 0 1 ∷ [])
-    ∷ state (Taken ∷ Ended Done ∷ Wait 1 ∷ []) (Some (pos 41) ∷ Some (pos 42) ∷ []) (seat known (at 0 0 1) (0 ∷ []) (1 ∷ 0 ∷ []) (0 ∷ []) (1 ∷ []) [] 0 1 ∷ [])
-    ∷ state (Taken ∷ Ended Done ∷ Open ∷ []) (Some (pos 41) ∷ Some (pos 42) ∷ []) (seat known (at 0 1 0) (0 ∷ 2 ∷ []) (1 ∷ 0 ∷ []) (0 ∷ []) (1 ∷ []) [] 0 1 ∷ [])
-    ∷ state (Ended Done ∷ Ended Done ∷ Open ∷ []) (Some (pos 41) ∷ Some (pos 42) ∷ []) (seat known None (0 ∷ 2 ∷ []) (1 ∷ 0 ∷ []) (0 ∷ []) (1 ∷ []) [] 0 1 ∷ [])
-    ∷ state (Ended Done ∷ Ended Done ∷ Open ∷ []) (Some (pos 41) ∷ Some (pos 42) ∷ []) (seat known None (0 ∷ 2 ∷ []) (1 ∷ 0 ∷ []) (0 ∷ []) (1 ∷ []) (0 ∷ []) 1 1 ∷ [])
-    ∷ state (Ended Done ∷ Ended Done ∷ Open ∷ []) (Some (pos 41) ∷ Some (pos 42) ∷ []) (seat known None (0 ∷ 2 ∷ []) (1 ∷ 0 ∷ []) (0 ∷ []) (1 ∷ []) (0 ∷ 1 ∷ []) 2 1 ∷ [])
+    ∷ state (Open ∷ Taken ∷ Wait 1 ∷ []) (Some (pos 41) ∷ None ∷ [])
+    (seat known (at 1 2 0) (0 ∷ []) (1 ∷ []) (0 ∷ []) (1 ∷ []) [] 0 1 ∷ [])
+    ∷ state (Open ∷ Ended Done ∷ Wait 1 ∷ []) (Some (pos 41) ∷ None ∷ [])
+    (seat known None (0 ∷ []) (1 ∷ []) (0 ∷ []) (1 ∷ []) [] 0 1 ∷ [])
+    ∷ state (Taken ∷ Ended Done ∷ Wait 1 ∷ []) (Some (pos 41) ∷ None ∷ [])
+    (seat known (at 0 0 0) (0 ∷ []) (1 ∷ 0 ∷ []) (0 ∷ []) (1 ∷ []) [] 0 1 ∷ [])
+    ∷ state (Taken ∷ Ended Done ∷ Wait 1 ∷ []) (Some (pos 41) ∷ None ∷ [])
+    (seat known (at 0 0 0) (0 ∷ []) (1 ∷ 0 ∷ []) (0 ∷ []) (1 ∷ []) [] 0 1 ∷ [])
+    ∷ state (Taken ∷ Ended Done ∷ Wait 1 ∷ []) (Some (pos 41) ∷ Some (pos 42) ∷ [])
+    (seat known (at 0 0 1) (0 ∷ []) (1 ∷ 0 ∷ []) (0 ∷ []) (1 ∷ []) [] 0 1 ∷ [])
+    ∷ state (Taken ∷ Ended Done ∷ Open ∷ []) (Some (pos 41) ∷ Some (pos 42) ∷ [])
+    (seat known (at 0 1 0) (0 ∷ 2 ∷ []) (1 ∷ 0 ∷ []) (0 ∷ []) (1 ∷ []) [] 0 1 ∷ [])
+    ∷ state (Ended Done ∷ Ended Done ∷ Open ∷ []) (Some (pos 41) ∷ Some (pos 42) ∷ [])
+    (seat known None (0 ∷ 2 ∷ []) (1 ∷ 0 ∷ []) (0 ∷ []) (1 ∷ []) [] 0 1 ∷ [])
+    ∷ state (Ended Done ∷ Ended Done ∷ Open ∷ []) (Some (pos 41) ∷ Some (pos 42) ∷ [])
+    (seat known None (0 ∷ 2 ∷ []) (1 ∷ 0 ∷ []) (0 ∷ []) (1 ∷ []) (0 ∷ []) 1 1 ∷ [])
+    ∷ state (Ended Done ∷ Ended Done ∷ Open ∷ []) (Some (pos 41) ∷ Some (pos 42) ∷ [])
+    (seat known None (0 ∷ 2 ∷ []) (1 ∷ 0 ∷ []) (0 ∷ []) (1 ∷ []) (0 ∷ 1 ∷ []) 2 1 ∷ [])
     ∷ []

@@ -199,10 +199,14 @@ after_look known state seat view =
 -- A step from a state to another.
 pub data Step (known : Known) (state : CoreState) : CoreState → Type 0 where
   split : (seat : ℕ) (view : View) → CanSplit state seat view → Step known state (after_split state seat view)
-  join : (seat : ℕ) (view : View) (other : ℕ) (guest : View) → CanJoin state seat view other guest → Step known state (after_join state seat view other guest)
+  join : (seat : ℕ) (view : View) (other : ℕ) (guest : View) → CanJoin state seat view other guest
+      → Step known state (after_join state seat view other guest)
   claim : (seat : ℕ) (view : View) (frame : ℕ) → CanClaim known state seat view frame → Step known state (after_claim known state seat view frame)
   read : (seat : ℕ) (view : View) (run : Run) (cell : ℕ) → CanRead known state seat view run cell → Step known state state
-  store : (seat : ℕ) (view : View) (run : Run) (piece : Piece) → CanStore known state seat view run piece → Step known state (after_store known state seat view run piece)
-  sub : (seat : ℕ) (view : View) (run : Run) (piece : Piece) → CanSub known state seat view run piece → Step known state (after_sub state seat view run piece)
-  finish : (seat : ℕ) (view : View) (run : Run) (end : TaskEnd) → CanFinish known state seat view run end → Step known state (after_finish state seat view run end)
+  store : (seat : ℕ) (view : View) (run : Run) (piece : Piece) → CanStore known state seat view run piece
+      → Step known state (after_store known state seat view run piece)
+  sub : (seat : ℕ) (view : View) (run : Run) (piece : Piece) → CanSub known state seat view run piece
+      → Step known state (after_sub state seat view run piece)
+  finish : (seat : ℕ) (view : View) (run : Run) (end : TaskEnd) → CanFinish known state seat view run end
+      → Step known state (after_finish state seat view run end)
   look : (seat : ℕ) (view : View) → CanLook known state seat view → Step known state (after_look known state seat view)

@@ -53,7 +53,9 @@ abbrev pub blind_claim : Known → CoreState → ℕ → View → ℕ → CoreSt
 blind_claim known s i view frame = record { words = slice_set s.words frame Taken; cells = s.cells; seats = slice_set s.seats i (with_claim known view frame) }
 
 abbrev pub one_producer_runs : CoreState
-one_producer_runs = state (Taken ∷ Open ∷ Wait 2 ∷ Wait 1 ∷ []) (None ∷ None ∷ None ∷ []) (seat two.known (at 0 0 0) [] (0 ∷ []) [] [] [] 0 1 ∷ seat two.known None [] [] [] [] [] 0 1 ∷ [])
+one_producer_runs =
+    state (Taken ∷ Open ∷ Wait 2 ∷ Wait 1 ∷ []) (None ∷ None ∷ None ∷ [])
+    (seat two.known (at 0 0 0) [] (0 ∷ []) [] [] [] 0 1 ∷ seat two.known None [] [] [] [] [] 0 1 ∷ [])
 
 abbrev pub ClaimsWithoutLooking : Type 0
 ClaimsWithoutLooking = Breaks two.known one_producer_runs (λ s. blind_claim two.known s 1 (seat two.known None [] [] [] [] [] 0 1) 0)
@@ -62,7 +64,9 @@ ClaimsWithoutLooking = Breaks two.known one_producer_runs (λ s. blind_claim two
 abbrev pub pairs : Known
 pairs = record {
   plan = record {
-    frames = (record { cell = 0; inputs = 0; outputs = 2; wait = 0; piece = 0; pieces = 2 }) ∷ (record { cell = 0; inputs = 2; outputs = 0; wait = 2; piece = 2; pieces = 0 }) ∷ [];
+    frames =
+        (record { cell = 0; inputs = 0; outputs = 2; wait = 0; piece = 0; pieces = 2 })
+        ∷ (record { cell = 0; inputs = 2; outputs = 0; wait = 2; piece = 2; pieces = 0 }) ∷ [];
     sink = record { cell = 2; inputs = 0; outputs = 0; wait = 0; piece = 2; pieces = 0 };
     pieces = (record { from = 0; to = 1; first = 0; count = 1; at = 0 }) ∷ (record { from = 0; to = 1; first = 1; count = 1; at = 1 }) ∷ [];
     filled = None ∷ None ∷ [];
@@ -89,7 +93,8 @@ CountsProducers = Breaks pairs (opening pairs) (by_producers pairs.plan)
 
 -- And the frame opens at the first piece of its producer.
 abbrev pub opens_at_once : CoreState → ℕ → View → Run → Piece → CoreState
-opens_at_once s i view run piece = record { words = slice_set s.words piece.to Open; cells = s.cells; seats = slice_set s.seats i (with_sub view run piece.to true) }
+opens_at_once s i view run piece =
+    record { words = slice_set s.words piece.to Open; cells = s.cells; seats = slice_set s.seats i (with_sub view run piece.to true) }
 
 abbrev pub first_run : Run
 first_run = record { frame = 0; piece = 0; stored = 1 }
@@ -118,7 +123,12 @@ trapped_runs = state (Wait 1 ∷ Taken ∷ Wait 1 ∷ []) (None ∷ None ∷ [])
 
 -- A STORE of a value that the body wrote, whether the meaning is Done or not.
 abbrev pub store_anyway : ℤ → CoreState → ℕ → View → Run → Piece → CoreState
-store_anyway value s i view run piece = record { words = s.words; cells = slice_set s.cells (piece.at + run.stored) (Some value); seats = slice_set s.seats i (record view { run = Some (record run { stored = run.stored + 1 }) }) }
+store_anyway value s i view run piece =
+    record {
+      words = s.words;
+      cells = slice_set s.cells (piece.at + run.stored) (Some value);
+      seats = slice_set s.seats i (record view { run = Some (record run { stored = run.stored + 1 }) });
+    }
 
 abbrev pub StoresOfTrapped : Type 0
 StoresOfTrapped = Breaks trapped trapped_runs (λ s. store_anyway (pos 41) s 0 trapped_view giver_run giver_piece)
@@ -131,4 +141,5 @@ abbrev pub missed_view : View
 missed_view = seat reader.known None [] [] (0 ∷ []) [] [] 1 1
 
 abbrev pub CountsAnOpenFrame : Type 0
-CountsAnOpenFrame = Breaks reader.known (state (Wait 1 ∷ Open ∷ Wait 1 ∷ []) (None ∷ None ∷ []) (missed_view ∷ [])) (λ s. look_anyway s 0 missed_view)
+CountsAnOpenFrame =
+    Breaks reader.known (state (Wait 1 ∷ Open ∷ Wait 1 ∷ []) (None ∷ None ∷ []) (missed_view ∷ [])) (λ s. look_anyway s 0 missed_view)

@@ -14,8 +14,11 @@ pub fn reader_first()
     ensures fit { IsFit reader.known }
     ensures meaning { IsMeant reader.known reader.outcome }
     ensures states { states_along reader.known reader.choices ≡ map Some reader.states }
-    ensures no_sink_no_second_seat_no_run { allowed_after reader.known [] (to_claim 0 2 ∷ to_claim 1 1 ∷ to_split 0 ∷ to_join 0 0 ∷ to_read 0 0 ∷ to_store 0 ∷ to_sub 0 ∷ to_finish 0 ∷ []) ≡ 0 }
-    ensures first_store_then_sub_then_finish { allowed_after reader.known (take 3 reader.choices) (to_claim 0 0 ∷ to_look 0 ∷ to_read 0 0 ∷ to_sub 0 ∷ to_finish 0 ∷ []) ≡ 0 }
+    ensures no_sink_no_second_seat_no_run { allowed_after reader.known []
+        (to_claim 0 2 ∷ to_claim 1 1 ∷ to_split 0 ∷ to_join 0 0 ∷ to_read 0 0 ∷ to_store 0 ∷ to_sub 0 ∷ to_finish 0
+        ∷ []) ≡ 0 }
+    ensures first_store_then_sub_then_finish { allowed_after reader.known (take 3 reader.choices)
+        (to_claim 0 0 ∷ to_look 0 ∷ to_read 0 0 ∷ to_sub 0 ∷ to_finish 0 ∷ []) ≡ 0 }
     ensures stores_each_once { allowed_after reader.known (take 4 reader.choices) (to_store 0 ∷ to_finish 0 ∷ []) ≡ 0 }
     ensures counts_each_once { allowed_after reader.known (take 5 reader.choices) (to_store 0 ∷ to_sub 0 ∷ []) ≡ 0 }
     ensures reads_its_own_before_it_gives { allowed_after reader.known (take 7 reader.choices) (to_read 0 1 ∷ []) ≡ 0 }

@@ -41,9 +41,13 @@ kept = record { place = at 2 1; value = pos 8 } ∷ []
 
 abbrev pub plan : Plan
 plan = record {
-  frames = record { cell = 0; inputs = 2; outputs = 1; wait = 1; piece = 0; pieces = 1 } ∷ record { cell = 2; inputs = 0; outputs = 1; wait = 0; piece = 1; pieces = 2 } ∷ [];
+  frames =
+      record { cell = 0; inputs = 2; outputs = 1; wait = 1; piece = 0; pieces = 1 }
+      ∷ record { cell = 2; inputs = 0; outputs = 1; wait = 0; piece = 1; pieces = 2 } ∷ [];
   sink = record { cell = 2; inputs = 2; outputs = 0; wait = 2; piece = 3; pieces = 0 };
-  pieces = record { from = 0; to = 2; first = 0; count = 1; at = 2 } ∷ record { from = 1; to = 0; first = 0; count = 1; at = 1 } ∷ record { from = 1; to = 2; first = 0; count = 1; at = 3 } ∷ [];
+  pieces =
+      record { from = 0; to = 2; first = 0; count = 1; at = 2 } ∷ record { from = 1; to = 0; first = 0; count = 1; at = 1 }
+      ∷ record { from = 1; to = 2; first = 0; count = 1; at = 3 } ∷ [];
   filled = Some (pos 8) ∷ None ∷ None ∷ None ∷ [];
 }
 

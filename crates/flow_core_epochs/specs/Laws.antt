@@ -15,27 +15,42 @@ use Rattle.flow_core_epochs.specs.Epoch.{Kept, open_in, put_over, IsKeptFor, Sta
 
 -- an activation with an outcome has the same one with more activations behind
 abbrev pub KeepsPrefixes : Type 0
-KeepsPrefixes = (activations more : List Activation) (input : List ℕ) (body : ℕ → List ℤ → Outcome) (a : ℕ) (o : Outcome) → outcome_at (stream_meaning activations input body) a ≡ Some o → outcome_at (stream_meaning (activations ++ more) input body) a ≡ Some o
+KeepsPrefixes =
+    (activations more : List Activation) (input : List ℕ) (body : ℕ → List ℤ → Outcome) (a : ℕ) (o : Outcome)
+    → outcome_at (stream_meaning activations input body) a ≡ Some o → outcome_at (stream_meaning (activations ++ more) input body) a ≡ Some o
 
 -- a fact of every epoch
-abbrev pub OfEpochs : ((before new : List Activation) (input : List ℕ) (body : ℕ → List ℤ → Outcome) (frames : List ℕ) (kept : List Kept) (plan : Plan) (places : List Place) → Type 0) → Type 0
-OfEpochs fact = (before new : List Activation) (input : List ℕ) (body : ℕ → List ℤ → Outcome) (frames : List ℕ) (kept : List Kept) (plan : Plan) (places : List Place) → IsEpoch before new input body frames kept plan places → fact before new input body frames kept plan places
+abbrev pub OfEpochs : ((before new : List Activation) (input : List ℕ) (body : ℕ → List ℤ → Outcome) (frames : List ℕ) (kept : List Kept)
+    (plan : Plan)
+    (places : List Place) → Type 0) → Type 0
+OfEpochs fact =
+    (before new : List Activation) (input : List ℕ) (body : ℕ → List ℤ → Outcome) (frames : List ℕ) (kept : List Kept) (plan : Plan)
+    (places : List Place)
+    → IsEpoch before new input body frames kept plan places → fact before new input body frames kept plan places
 
 -- the meaning of the epoch's plan, put over the meaning before it, is the meaning of all activations so far
 abbrev pub AddsUp : Type 0
-AddsUp = OfEpochs (λ before new input body frames kept plan places. put_over (stream_meaning before input body) frames (epoch_meaning plan frames body) (length (before ++ new)) ≡ stream_meaning (before ++ new) input body)
+AddsUp =
+    OfEpochs (λ before new input body frames kept plan places. put_over (stream_meaning before input body) frames (epoch_meaning plan frames body)
+    (length (before ++ new)) ≡ stream_meaning (before ++ new) input body)
 
 -- so a frame has the outcome that the plan gives it
 abbrev pub FramesEnd : Type 0
-FramesEnd = OfEpochs (λ before new input body frames kept plan places. (f a : ℕ) → slice_get frames f ≡ Some a → outcome_at (stream_meaning (before ++ new) input body) a ≡ outcome_at (epoch_meaning plan frames body) f)
+FramesEnd =
+    OfEpochs (λ before new input body frames kept plan places. (f a : ℕ) → slice_get frames f ≡ Some a
+    → outcome_at (stream_meaning (before ++ new) input body) a ≡ outcome_at (epoch_meaning plan frames body) f)
 
 -- its sink cells have the elements of the places that leave
 abbrev pub SinkIsWhatLeaves : Type 0
-SinkIsWhatLeaves = OfEpochs (λ before new input body frames kept plan places. sink_elements plan (epoch_meaning plan frames body) ≡ map (λ (p : Place). element (stream_meaning (before ++ new) input body) (stream_source (before ++ new) input p)) places)
+SinkIsWhatLeaves =
+    OfEpochs (λ before new input body frames kept plan places. sink_elements plan (epoch_meaning plan frames body)
+    ≡ map (λ (p : Place). element (stream_meaning (before ++ new) input body) (stream_source (before ++ new) input p)) places)
 
 -- what a frame or a later activation reads lies where `read_from` says, or behind it
 abbrev pub ReadsLieBehind : Type 0
-ReadsLieBehind = (activations more : List Activation) (frames : List ℕ) (a : ℕ) (p : Place) → (Contains frames a) ⊎ (length activations ≤ a) → Contains (input_places (activations ++ more) a) p → read_from activations frames p.stream ≤ p.position
+ReadsLieBehind =
+    (activations more : List Activation) (frames : List ℕ) (a : ℕ) (p : Place) → (Contains frames a) ⊎ (length activations ≤ a)
+    → Contains (input_places (activations ++ more) a) p → read_from activations frames p.stream ≤ p.position
 
 -- before the first epoch there is nothing to carry
 abbrev pub NothingAtFirst : Type 0
@@ -43,15 +58,26 @@ NothingAtFirst = (input : List ℕ) (body : ℕ → List ℤ → Outcome) → Is
 
 -- what is carried serves every next epoch
 abbrev pub ServesNext : Type 0
-ServesNext = (activations new : List Activation) (input : List ℕ) (body : ℕ → List ℤ → Outcome) (kept : List Kept) → ReadNoOutput (activations ++ new) → IsCarried activations input (stream_meaning activations input body) kept → (frames : List ℕ) → frames ≡ open_in (stream_meaning activations input body) (length (activations ++ new)) → IsKeptFor (activations ++ new) input (stream_meaning activations input body) frames kept × IsOutside (activations ++ new) frames kept
+ServesNext =
+    (activations new : List Activation) (input : List ℕ) (body : ℕ → List ℤ → Outcome) (kept : List Kept) → ReadNoOutput (activations ++ new)
+    → IsCarried activations input (stream_meaning activations input body) kept → (frames : List ℕ)
+    → frames ≡ open_in (stream_meaning activations input body) (length (activations ++ new))
+    → IsKeptFor (activations ++ new) input (stream_meaning activations input body) frames kept × IsOutside (activations ++ new) frames kept
 
 -- an epoch for which all was carried carries all over
 abbrev pub CarriesOver : Type 0
-CarriesOver = OfEpochs (λ before new input body frames kept plan places. IsCarried before input (stream_meaning before input body) kept → IsCarried (before ++ new) input (stream_meaning (before ++ new) input body) (carried_over (before ++ new) (open_in (stream_meaning (before ++ new) input body) (length (before ++ new))) kept places (sink_elements plan (epoch_meaning plan frames body))))
+CarriesOver =
+    OfEpochs (λ before new input body frames kept plan places. IsCarried before input (stream_meaning before input body) kept
+    → IsCarried (before ++ new) input (stream_meaning (before ++ new) input body)
+    (carried_over (before ++ new) (open_in (stream_meaning (before ++ new) input body) (length (before ++ new))) kept places
+    (sink_elements plan (epoch_meaning plan frames body))))
 
 -- an element of the output that doesn't leave the epoch is what it was before
 abbrev pub OutputStays : Type 0
-OutputStays = OfEpochs (λ before new input body frames kept plan places. (p : Place) → p.stream ≡ 1 → ¬ (Contains places p) → element (stream_meaning (before ++ new) input body) (stream_source (before ++ new) input p) ≡ element (stream_meaning before input body) (stream_source before input p))
+OutputStays =
+    OfEpochs (λ before new input body frames kept plan places. (p : Place) → p.stream ≡ 1 → ¬ (Contains places p)
+    → element (stream_meaning (before ++ new) input body) (stream_source (before ++ new) input p)
+    ≡ element (stream_meaning before input body) (stream_source before input p))
 
 -- Before the first epoch nothing is held.
 abbrev pub HeldAtFirst : Type 0
@@ -60,13 +86,20 @@ HeldAtFirst = (input : List ℕ) (body : ℕ → List ℤ → Outcome) → IsHel
 -- What is held serves the next epoch: the frames that the ends leave open run with what is kept.
 abbrev pub BeginsEpoch : Type 0
 BeginsEpoch =
-    (before new : List Activation) (input : List ℕ) (body : ℕ → List ℤ → Outcome) (ends : List (Option TaskEnd)) (kept : List Kept) (output : List (Option ℤ)) (frames : List ℕ)
+    (before new : List Activation) (input : List ℕ) (body : ℕ → List ℤ → Outcome) (ends : List (Option TaskEnd)) (kept : List Kept)
+    (output : List (Option ℤ))
+    (frames : List ℕ)
     → ReadNoOutput (before ++ new) → IsHeld before input body ends kept output → frames ≡ open_in ends (length (before ++ new))
-    → IsOutside (before ++ new) frames kept × ((plan : Plan) (places : List Place) → StandsForEpoch plan (before ++ new) input frames kept places → IsEpoch before new input body frames kept plan places)
+    → IsOutside (before ++ new) frames kept × ((plan : Plan) (places : List Place) → StandsForEpoch plan (before ++ new) input frames kept places
+    → IsEpoch before new input body frames kept plan places)
 
 -- And what an epoch comes to is held after it.
 abbrev pub EndsEpoch : Type 0
-EndsEpoch = OfEpochs (λ before new input body frames kept plan places. (ends : List (Option TaskEnd)) (output : List (Option ℤ)) (run : Ends) → IsHeld before input body ends kept output → run.ends ≡ ends_of (epoch_meaning plan frames body) → run.output ≡ sink_elements plan (epoch_meaning plan frames body) → IsHeldAfter (before ++ new) input body (put_over ends frames run.ends (length (before ++ new))) kept output places run.output)
+EndsEpoch =
+    OfEpochs (λ before new input body frames kept plan places. (ends : List (Option TaskEnd)) (output : List (Option ℤ)) (run : Ends)
+    → IsHeld before input body ends kept output → run.ends ≡ ends_of (epoch_meaning plan frames body)
+    → run.output ≡ sink_elements plan (epoch_meaning plan frames body)
+    → IsHeldAfter (before ++ new) input body (put_over ends frames run.ends (length (before ++ new))) kept output places run.output)
 
 -- bodies that serve all activations serve the plan of an epoch, each frame by the body of its activation
 abbrev pub ServesFrames : (ℕ → List ℤ → Outcome) → (ℕ → ℕ → ℕ → Type 0) → Type 0

@@ -20,7 +20,8 @@ impl<'r, B: Bodies> Bodies for FrameBodies<'r, B> {
 
     ghost outcome = { λ self frame. B.outcome self.bodies.now (slice_index self.frames.now frame) };
 
-    ghost takes = { λ self frame inputs outputs. (frame < length self.frames.now) × B.takes self.bodies.now (slice_index self.frames.now frame) inputs outputs };
+    ghost takes = { λ self frame inputs outputs. (frame < length self.frames.now)
+        × B.takes self.bodies.now (slice_index self.frames.now frame) inputs outputs };
 
     ghost fits = { λ self scratch. B.fits self.bodies.now scratch };
 

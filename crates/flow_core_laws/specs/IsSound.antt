@@ -39,7 +39,8 @@ pub record IsSound (plan : Plan) : Type 0 where
   pub pieces_are_sound : (number : ℕ) (p : Piece) → slice_get plan.pieces number ≡ Some p → IsSoundPiece plan p
   -- the pieces of a frame are those from `piece` on, as many as `pieces`
   pub pieces_exist : (f : ℕ) → f ≤ length plan.frames → (frame_at plan f).piece + (frame_at plan f).pieces ≤ length plan.pieces
-  pub pieces_stand_together : (f number : ℕ) (p : Piece) → f ≤ length plan.frames → slice_get plan.pieces number ≡ Some p → (p.from ≡ f) ↔ (((frame_at plan f).piece ≤ number) × (number < (frame_at plan f).piece + (frame_at plan f).pieces))
+  pub pieces_stand_together : (f number : ℕ) (p : Piece) → f ≤ length plan.frames → slice_get plan.pieces number ≡ Some p
+      → (p.from ≡ f) ↔ (((frame_at plan f).piece ≤ number) × (number < (frame_at plan f).piece + (frame_at plan f).pieces))
   -- no two pieces share a cell, and none covers a cell that has a value at opening
   pub pieces_are_apart : (i j cell : ℕ) → Covers plan i cell → Covers plan j cell → i ≡ j
   pub pieces_spare_the_filled : (number cell : ℕ) → Covers plan number cell → value_at plan.filled cell ≡ None

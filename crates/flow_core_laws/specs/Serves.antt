@@ -9,5 +9,8 @@ use Rattle.flow_core_laws.specs.Plans.{frame_at}
 -- number of outputs where they are Done, and trap only with codes 1 to 8.
 pub record Serves (plan : Plan) (outcome : ℕ → List ℤ → Outcome) (takes : ℕ → ℕ → ℕ → Type 0) : Type 0 where
   pub takes_each : (f : ℕ) → f < length plan.frames → takes f (frame_at plan f).inputs (frame_at plan f).outputs
-  pub fills_outputs : (f : ℕ) (inputs : List ℤ) → f < length plan.frames → length inputs ≡ (frame_at plan f).inputs → (outcome f inputs).end ≡ Done → length (outcome f inputs).outputs ≡ (frame_at plan f).outputs
-  pub traps_have_codes : (f : ℕ) (inputs : List ℤ) (code line : ℕ) → f < length plan.frames → length inputs ≡ (frame_at plan f).inputs → (outcome f inputs).end ≡ Trapped code line → (1 ≤ code) × (code ≤ 8)
+  pub fills_outputs : (f : ℕ) (inputs : List ℤ) → f < length plan.frames → length inputs ≡ (frame_at plan f).inputs
+      → (outcome f inputs).end ≡ Done
+      → length (outcome f inputs).outputs ≡ (frame_at plan f).outputs
+  pub traps_have_codes : (f : ℕ) (inputs : List ℤ) (code line : ℕ) → f < length plan.frames → length inputs ≡ (frame_at plan f).inputs
+      → (outcome f inputs).end ≡ Trapped code line → (1 ≤ code) × (code ≤ 8)

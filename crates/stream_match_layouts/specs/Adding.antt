@@ -34,7 +34,15 @@ writers_after layout claim =
 -- the layout with one more claim
 abbrev pub with_claim : Layout → ℕ → Claim → ℕ → Layout
 with_claim layout frame claim offset = record {
-  spans = layout.spans ++ record { frame = frame; stream = claim.stream; write = claim.write; first = first_by layout claim; count = claim.horizon; offset = offset } ∷ [];
+  spans =
+      layout.spans ++ record {
+        frame = frame;
+        stream = claim.stream;
+        write = claim.write;
+        first = first_by layout claim;
+        count = claim.horizon;
+        offset = offset;
+      } ∷ [];
   starts = layout.starts;
   writers = writers_after layout claim;
   reads = reads_after layout claim;
