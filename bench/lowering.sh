@@ -8,7 +8,8 @@ top=$(cd "$(dirname "${BASH_SOURCE[0]}")/.." && pwd)
 work=$(mktemp -d)
 trap 'rm -rf "$work"' EXIT
 mkdir "$work/crates"
-for crate in os_io c_int flow_core_laws os_lexer os_ast os_parser_grammar os_parser_places os_parser_expressions os_parser_parts os_parser window_check_laws \
+for crate in os_io c_int flow_core_laws os_lexer os_ast os_parser_grammar os_parser_completions os_parser_places os_parser_expressions \
+    os_parser_parts os_parser window_check_laws \
     window_check_names window_check front_end cddf_meaning os_code lowering_relation \
     lowering_draft lowering_expressions lowering kernels; do
     cp -r "$top/crates/$crate" "$work/crates"

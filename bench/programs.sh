@@ -15,7 +15,8 @@ trap 'rm -rf "$work"' EXIT
 # The program that counts steps.
 if [ "${1:-}" != unstepped ]; then
     mkdir "$work/crates"
-    for crate in os_io c_int flow_core_laws os_lexer os_ast os_parser_grammar os_parser_places os_parser_expressions os_parser_parts os_parser window_check_laws \
+    for crate in os_io c_int flow_core_laws os_lexer os_ast os_parser_grammar os_parser_completions os_parser_places os_parser_expressions \
+        os_parser_parts os_parser window_check_laws \
         window_check_names window_check front_end cddf_meaning os_code task_vm lowering_relation \
         lowering_draft lowering_expressions lowering stream_match_layouts control_run; do
         cp -r "$top/crates/$crate" "$work/crates"

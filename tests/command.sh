@@ -498,6 +498,22 @@ check "bad words make fewer allocations" 2 "" usage
 "$top/oscheck" first.c empty.c none.c >"$work/report" 2>&1
 status=$?
 check "files that are judged" 2 "" "first.c: accepted / empty.c:1: error 23: no function main without parameters: write int main(void) / none.c: can't be read"
+# stops NAME TEXT WANTED: compares what is told of a text that is no program.
+stops() {
+    printf '%b' "$2" >stop.c
+    : >out
+    "$top/oscheck" stop.c >report 2>&1
+    status=$?
+    check "$1" 1 "" "stop.c:$3"
+}
+stops "a text that ends early" 'int main(void) {\n' "1:17: error 4: expected a statement, '}' or 'int', found the end of the text"
+stops "a text with a bracket too many" 'int main(void) {\n}}' "2:2: error 4: expected 'int', 'const' or the end of the text, found '}'"
+stops "an expression without its end" 'int main(void) {\n    return 1\n}\n' "3:1: error 4: expected an operator, ';' or '?', found '}'"
+stops "an operator without an operand" 'int main(void) {\n    return 1 +;\n}\n' "2:15: error 4: expected an expression, found ';'"
+stops "two names side by side" 'int main(void) {\n\tif (a b) ;\n}\n' "2:8: error 4: expected an operator, ')', '(', '[' or '?', found 'b'"
+stops "a pragma of no kind" 'int main(void) {\n#pragma omp tusk\n}\n' "2:13: error 4: expected 'task', 'tick' or 'taskwait', found 'tusk'"
+stops "a pragma with more behind it" 'int main(void) {\n#pragma omp taskwait 1\n}\n' "2:22: error 4: expected the end of the line, found '1'"
+stops "a pragma that ends early" 'int main(void) {\n#pragma omp tick(s >>\n1)\n}\n' "2:22: error 4: expected an expression, found the end of the line"
 
 # Where the program isn't built, or was built from another commit, the toolchain runs it, and the first line says so.
 copy=$work/copy

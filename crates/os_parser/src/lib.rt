@@ -2,7 +2,7 @@
 //!
 //! `parse` reads the one program that a list of tokens means, and answers `Syntax` exactly where the tokens
 //! mean none, with the place where they stop being the front of any program. `one_reading` and `one_place` are the laws
-//! that there is at most one such program and one such place.
+//! that there is at most one such program and one such place. `is_front` tells whether any program begins with tokens.
 //!
 //! The reader goes down the grammar with one function a production, over a `Cursor`, in time linear in the
 //! tokens: `os_parser_expressions` has those of expressions, `os_parser_parts` those of what statements are made of, and
@@ -19,4 +19,4 @@ mod reading;
 mod stmt;
 
 pub use parse_error::ParseError;
-pub use reading::{one_place, one_reading, parse};
+pub use reading::{is_front, one_place, one_reading, parse};

@@ -1,5 +1,5 @@
-ghost use Rattle.std.specs.Prelude.{◌≡◌, ◌≤◌, ◌-◌, length, ℕ, Err, IfOk};
-ghost use Rattle.os_ast.specs.Fronts.{line_at, last_line, IsRefusedAt, HasPlace, OnePlace};
+ghost use Rattle.std.specs.Prelude.{◌≡◌, ◌≤◌, ◌-◌, ◌↔◌, ◌==◌, IsTrue, length, ℕ, Err, IfOk};
+ghost use Rattle.os_ast.specs.Fronts.{Begun, kinds_of, line_at, last_line, IsRefusedAt, HasPlace, OnePlace};
 ghost use Rattle.os_ast.specs.Means.{Means, OneReading};
 ghost use Rattle.os_ast.specs.Views.{program_tree};
 ghost use Rattle.os_lexer.specs.Limits.{text_limit};
@@ -8,6 +8,7 @@ ghost use Rattle.os_parser.specs.declared.parse_error.ParseError.TheVariants as 
 use crate::parse_error::ParseError;
 use crate::program::program;
 use os_ast::Program;
+use os_io::Memory;
 use os_lexer::Token;
 use os_parser_expressions::Cursor;
 use os_parser_places::refusals_stand_at_their_place;
@@ -31,6 +32,26 @@ pub fn parse(alloc: Global, tokens: &[Token]) -> Result<Program, ParseError>
         Err(os_parser_expressions::ParseError::Memory) => Err(ParseError::Memory),
         Err(os_parser_expressions::ParseError::Syntax) => Err(refusal(tokens, cursor.left())),
     }
+}
+
+/// Whether some program of depth at most 200 begins with the tokens.
+pub fn is_front(alloc: Global, tokens: &[Token]) -> Result<bool, Memory>
+    requires { length tokens.now ≤ text_limit }
+    ensures { IfOk result (λ front. IsTrue front ↔ Begun (kinds_of tokens.now)) }
+{
+    let _program = match parse(alloc, tokens) {
+        Ok(program) => program,
+        Err(ParseError::Syntax { place, .. }) => return Ok(is_end(tokens, place)),
+        Err(ParseError::Memory) => return Err(Memory),
+    };
+    Ok(true)
+}
+
+/// Whether a place is that behind all tokens.
+fn is_end(tokens: &[Token], place: u32) -> bool
+    ensures { result ≡ (place == length tokens.now) }
+{
+    place as usize == tokens.len()
 }
 
 /// The refusal of tokens before so many that are left.

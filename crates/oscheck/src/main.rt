@@ -1,16 +1,24 @@
 //! The program `oscheck`: judges texts as a compiler does, and tells for each file whether it is accepted, or its line
-//! and what is wrong with it.
+//! and what is wrong with it; where its tokens stop being the front of any program, the column too, and what could stand
+//! there.
 #![tactic(auto)]
 
+mod expected;
 mod sentences;
+mod stop;
+mod word;
+
+ghost use Rattle.std.specs.Prelude.{◌≤◌, length};
+ghost use Rattle.os_lexer.specs.Limits.{text_limit};
 
 use front_end::{TEXT_LIMIT, TextError, read_program};
 use os_io::{HostFiles, Loaded, read_whole};
-use sentences::sentence;
+use sentences::{NO_PROGRAM, sentence};
 use std::alloc::Global;
 use std::process::ExitCode;
 use std::rt::Env;
 use std::{env, io};
+use stop::Stop;
 
 /// What is said of a file, from the best to the worst. The status of the program is that of the worst.
 #[derive(Clone, Copy, PartialEq, Eq, PartialOrd, Ord)]
@@ -31,57 +39,71 @@ impl Judged {
     }
 }
 
-/// What is wrong with a file.
-enum Wrong {
-    /// The code that it is refused by, and the line.
-    Code { code: u8, line: u32 },
-    /// It is longer than a text may be.
-    TooLong,
-    /// It couldn't be read, or memory couldn't be had.
-    Unread,
+/// Tells that a file can't be judged.
+fn tell_unread(out: &mut impl io::Write, name: &str) -> io::Result<Judged> {
+    writeln!(out, "{name}: can't be read")?;
+    Ok(Judged::Unread)
 }
 
-impl From<TextError> for Wrong {
-    fn from(error: TextError) -> Wrong {
-        match error {
-            TextError::Refused { code, line } => Wrong::Code { code, line },
-            TextError::Memory => Wrong::Unread,
+/// Tells where the tokens of a text stop being the front of any program, and what could stand there.
+fn tell_stop(out: &mut impl io::Write, alloc: Global, name: &str, text: &[u8]) -> io::Result<Judged>
+    requires { length text.now ≤ text_limit }
+{
+    match Stop::find(alloc, text) {
+        Ok(stop) => {
+            stop.write(out, name, NO_PROGRAM)?;
+            Ok(Judged::Refused)
         }
+        Err(_) => tell_unread(out, name),
     }
 }
 
-/// Judges the text of a file.
-fn judge<R: std::rt::Files>(rt: &R, alloc: Global, name: &str) -> Result<(), Wrong> {
-    match read_whole(alloc, &mut HostFiles::new(rt), name, TEXT_LIMIT as u64) {
-        Ok(Loaded::Whole(text)) => {
-            read_program(alloc, &text)?;
-            Ok(())
-        }
-        Ok(Loaded::TooLong) => Err(Wrong::TooLong),
-        Err(_) => Err(Wrong::Unread),
-    }
+/// Tells the rule that a text violates, and its line.
+fn tell_rule(out: &mut impl io::Write, name: &str, code: u8, line: u32) -> io::Result<Judged> {
+    let sentence = sentence(code);
+    writeln!(out, "{name}:{line}: error {code}: {sentence}")?;
+    Ok(Judged::Refused)
 }
 
-/// Tells what was found of a file, in a line.
-fn tell(out: &mut impl io::Write, name: &str, found: Result<(), Wrong>) -> io::Result<Judged> {
-    match found {
-        Ok(()) => {
+/// Judges a text, and tells what was found.
+fn judge_text(
+    out: &mut impl io::Write,
+    alloc: Global,
+    name: &str,
+    text: &[u8],
+) -> io::Result<Judged>
+    requires { length text.now ≤ text_limit }
+{
+    match read_program(alloc, text) {
+        Ok(_) => {
             writeln!(out, "{name}: accepted")?;
             Ok(Judged::Accepted)
         }
-        Err(Wrong::Code { code, line }) => {
-            let sentence = sentence(code);
-            writeln!(out, "{name}:{line}: error {code}: {sentence}")?;
-            Ok(Judged::Refused)
-        }
-        Err(Wrong::TooLong) => {
+        Err(
+            TextError::Refused {
+                code: NO_PROGRAM,
+                ..
+            },
+        ) => tell_stop(out, alloc, name, text),
+        Err(TextError::Refused { code, line }) => tell_rule(out, name, code, line),
+        Err(TextError::Memory) => tell_unread(out, name),
+    }
+}
+
+/// Judges the text of a file, and tells what was found.
+fn judge<R: std::rt::Files>(
+    rt: &R,
+    out: &mut impl io::Write,
+    alloc: Global,
+    name: &str,
+) -> io::Result<Judged> {
+    match read_whole(alloc, &mut HostFiles::new(rt), name, TEXT_LIMIT as u64) {
+        Ok(Loaded::Whole(text)) => judge_text(out, alloc, name, &text),
+        Ok(Loaded::TooLong) => {
             writeln!(out, "{name}: error: a text has at most {TEXT_LIMIT} bytes")?;
             Ok(Judged::Refused)
         }
-        Err(Wrong::Unread) => {
-            writeln!(out, "{name}: can't be read")?;
-            Ok(Judged::Unread)
-        }
+        Err(_) => tell_unread(out, name),
     }
 }
 
@@ -92,8 +114,7 @@ fn judge_all(rt: &HostRuntime) -> io::Result<Judged> {
     let mut worst = Judged::Accepted;
     let mut out = rt.stdout();
     for word in words {
-        let found = judge(rt, rt.alloc(), word.as_str());
-        worst = worst.max(tell(&mut out, word.as_str(), found)?);
+        worst = worst.max(judge(rt, &mut out, rt.alloc(), word.as_str())?);
     }
     Ok(worst)
 }

@@ -1,12 +1,14 @@
 //! What each code says to who wrote the text: what is wrong, and what to do.
 
-/// The sentence for a code: 1 to 3 for faults of the bytes, 4 for the grammar, 10 to 24 for names and declarations.
+/// The code of a text whose tokens mean no program. What could stand at the place is told in place of a sentence.
+pub(crate) const NO_PROGRAM: u8 = 4;
+
+/// The sentence for a code: 1 to 3 for faults of the bytes, 10 to 24 for names and declarations.
 pub(crate) fn sentence(code: u8) -> &'static str {
     match code {
         1 => "a byte or a run of characters that begins no token: take it out",
         2 => "a comment that is never closed: end it by */",
         3 => "a number above 2147483647: use a smaller one",
-        4 => "no program has these tokens: compare them with the grammar in docs/LANGUAGE.md",
         10 => "a name that isn't declared here: declare it before, in a scope that is still open",
         11 =>
             "a name of the wrong kind for this place: an array needs an index, a scalar none, a call a function, an item or tick a stream",

@@ -1,4 +1,4 @@
-use Rattle.std.proofs.Common.{◌≡◌, ◌≤◌, ◌-◌, ℕ, length, List, map, Err, refl, sym, ◌∙◌, arith}
+use Rattle.std.proofs.Common.{◌≡◌, ◌-◌, ℕ, length, List, map, arith}
 use Rattle.os_ast.specs.Fronts.{line_at, IsRefusedAt}
 use Rattle.os_ast.specs.Means.{Placed, placed_from}
 use Rattle.os_ast.specs.Views.{item_tree}
@@ -9,8 +9,6 @@ use Rattle.os_parser_expressions.specs.Gives.{Refuses}
 use Rattle.os_parser_expressions.specs.declared.parse_error.ParseError.TheVariants as errors
 use Rattle.os_parser_grammar.proofs.Programs.{whole, never}
 use Rattle.os_parser_places.proofs.PlaceOfRefusal.{place, rest-within}
-use Rattle.os_parser.specs.declared.parse_error.ParseError.{ParseError}
-use Rattle.os_parser.specs.declared.parse_error.ParseError.TheVariants as parse
 use Rattle.os_parser.proofs.reading.parse.Goals as goal
 
 pub refusal-requires-clause-left : goal.refusal-requires-clause-left
