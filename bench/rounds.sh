@@ -8,11 +8,11 @@ top=$(cd "$(dirname "${BASH_SOURCE[0]}")/.." && pwd)
 work=$(mktemp -d)
 trap 'rm -rf "$work"' EXIT
 mkdir "$work/crates"
-for crate in os_io flow_core_laws flow_core flow_core_epochs stream_match_layouts stream_match task_workers_round task_workers; do
+for crate in os_io flow_core stream_match task_workers_round task_workers; do
     cp -r "$top/crates/$crate" "$work/crates"
     grep -E "^$crate:" "$top/crates.txt" >>"$work/crates.txt"
 done
-echo 'rounds: task_workers stream_match stream_match_layouts flow_core flow_core_laws os_io' >>"$work/crates.txt"
+echo 'rounds: task_workers stream_match flow_core os_io' >>"$work/crates.txt"
 cp "$top/HANDLES" "$work"
 
 rounds=$work/crates/rounds

@@ -9,6 +9,8 @@ mod activations;
 #[cfg(test)]
 mod bytes;
 #[cfg(test)]
+mod hands;
+#[cfg(test)]
 mod lawful;
 #[cfg(test)]
 mod layouts;

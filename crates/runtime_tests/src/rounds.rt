@@ -1,5 +1,6 @@
-//! Runs of plans on several workers: the same ends and output elements as on one thread, and those that
-//! a count by hand gives.
+//! Runs of plans on several workers, round by round and at once: the same ends and output elements as on
+//! one thread, and those that a count by hand gives.
+ghost use Rattle.std.specs.Prelude.{◌≤◌};
 ghost use Rattle.flow_core_laws.specs.IsSound.{IsSound};
 
 mod lasts;
@@ -14,7 +15,7 @@ use std::sync::atomic::{AtomicU32, Ordering};
 use std::test::Fail;
 use std::thread::Threads;
 use stream_match::build;
-use task_workers::{Gate, execute_rounds};
+use task_workers::{Gate, execute, execute_rounds};
 
 /// How activations stand to one another.
 #[derive(Clone, Copy, Debug)]
@@ -210,6 +211,133 @@ fn runs_by_hand<R: Threads + Abort + Sync>(
         let ran = u64::from(case.done) + u64::from(case.trapped) + u64::from(case.over_budget);
         assert!(rt; u64::from(calls.count.load(Ordering::SeqCst)) == ran);
     }
+    runs_at_once(rt, alloc, case, plan, &one)
+}
+
+/// Whether workers over one table come to the same, each frame run once.
+fn runs_at_once<R: Threads + Abort + Sync>(
+    rt: &R,
+    alloc: Global,
+    case: &Case<'_>,
+    plan: &Plan,
+    one: &Ends,
+) -> Result<(), Fail>
+    requires { IsSound plan.now }
+{
+    let bodies = Lasts {
+        plan,
+        some_fail: case.some_fail,
+    };
+    let ran = u64::from(case.done) + u64::from(case.trapped) + u64::from(case.over_budget);
+    for workers in [1, 2, 7, 64] {
+        let calls = Calls {
+            count: AtomicU32::new(0),
+            worker: AtomicU32::new(0),
+        };
+        let many = execute(rt, alloc, plan, &bodies, workers, &calls)?;
+        assert!(rt; many.ends.as_slice() == one.ends.as_slice());
+        assert!(rt; many.output.as_slice() == one.output.as_slice());
+        assert!(rt; calls.worker.load(Ordering::SeqCst) < workers);
+        assert!(rt; u64::from(calls.count.load(Ordering::SeqCst)) == ran);
+    }
+    Ok(())
+}
+
+/// The most turns for which a worker is held.
+const TURNS: u32 = 500_000_000;
+
+/// Holds each worker until so many frames were entered, and notes where the turns ran out.
+#[derive(Drop)]
+struct Meeting {
+    frames: u32,
+    entered: AtomicU32,
+    ran_out: AtomicU32,
+}
+
+impl Gate for Meeting {
+    fn at(&self, _worker: u32, _frame: u32) {
+        self.entered.fetch_add(1, Ordering::SeqCst);
+        for _ in 0..TURNS {
+            if self.entered.load(Ordering::SeqCst) >= self.frames {
+                return;
+            }
+        }
+        self.ran_out.fetch_add(1, Ordering::SeqCst);
+    }
+}
+
+/// Activations that are all open from the start.
+const MEETINGS: [Case<'static>; 2] = [
+    Case {
+        shape: Shape::Single,
+        activations: 2,
+        input: 8,
+        some_fail: false,
+        done: 2,
+        trapped: 0,
+        over_budget: 0,
+        output: 2,
+        elements: &[],
+    },
+    Case {
+        shape: Shape::Single,
+        activations: 8,
+        input: 8,
+        some_fail: false,
+        done: 8,
+        trapped: 0,
+        over_budget: 0,
+        output: 8,
+        elements: &[],
+    },
+];
+
+/// Workers run at the same time: each frame is held until all of them were entered.
+#[test]
+fn runs_as_many_frames_at_once_as_workers(rt: HostRuntime) -> Result<(), Fail> {
+    meets_in(&rt, rt.alloc(), &MEETINGS[0], 2)?;
+    meets_in(&rt, rt.alloc(), &MEETINGS[1], 8)
+}
+
+/// Whether all activations of a case were entered before any of them ran.
+fn meets_in<R: Threads + Abort + Sync>(
+    rt: &R,
+    alloc: Global,
+    case: &Case<'_>,
+    workers: u32,
+) -> Result<(), Fail>
+    requires { (1 ≤ workers) × (workers ≤ 64) }
+{
+    let activations = activations_of(alloc, case)?;
+    let Some(layout) = lawful_layout(alloc, 4, 8, activations.as_slice())? else {
+        return Err(Fail::from("the activations aren't lawful"));
+    };
+    let plan = build(alloc, &layout, &[0; 8])?;
+    meets(rt, alloc, &plan, workers)
+}
+
+/// Whether all frames of a plan were entered before any of them ran.
+fn meets<R: Threads + Abort + Sync>(
+    rt: &R,
+    alloc: Global,
+    plan: &Plan,
+    workers: u32,
+) -> Result<(), Fail>
+    requires sound { IsSound plan.now }
+    requires workers { (1 ≤ workers) × (workers ≤ 64) }
+{
+    let bodies = Lasts {
+        plan,
+        some_fail: false,
+    };
+    let gate = Meeting {
+        frames: workers,
+        entered: AtomicU32::new(0),
+        ran_out: AtomicU32::new(0),
+    };
+    execute(rt, alloc, plan, &bodies, workers, &gate)?;
+    assert!(rt; gate.entered.load(Ordering::SeqCst) == workers);
+    assert!(rt; gate.ran_out.load(Ordering::SeqCst) == 0);
     Ok(())
 }
 

@@ -1,0 +1,4 @@
+pub mod Gathered
+pub mod Joining
+pub mod Lent
+pub mod Spreading

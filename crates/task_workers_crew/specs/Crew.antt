@@ -1,16 +1,29 @@
 -- Workers before and after they work.
-use Rattle.std.specs.Prelude.{◌≡◌, ℕ, ◌*◌, ◌≤◌, max, Option, Some, IfSome}
+use Rattle.std.specs.Prelude.{◌≡◌, ℕ, ◌+◌, ◌≤◌, [], length, Option, Some, None}
+use Rattle.flow_core_laws.specs.declared.plan.Plan.{Plan}
 use Rattle.frame_table.specs.declared.seat.FrameSeat.{FrameSeat}
 use Rattle.frame_table.specs.declared.table.FrameTable.{FrameTable}
 use Rattle.frame_table.specs.Tokens.{view_of}
 use Rattle.steal_pool.specs.declared.hand.Hand.{Hand}
-use Rattle.task_workers_deques.specs.declared.log.WorkLog.{WorkLog}
-use Rattle.task_workers_deques.specs.Ready.{MayWork, frames_of}
+use Rattle.steal_pool.specs.Hands.{bound_of, spare_of}
+use Rattle.task_workers_worker.specs.declared.log.WorkLog.{WorkLog}
+use Rattle.task_workers_worker.specs.Logs.{FitsWindows}
+use Rattle.task_workers_worker.specs.Worked.{unmade}
+use Rattle.task_workers_worker.specs.Ready.{MayWork}
 
--- where there is a seat, its worker may work
-abbrev pub IsReady : FrameTable → Option FrameSeat → Hand → WorkLog → Type 0
-IsReady table seat hand log = IfSome seat (λ s. MayWork table s hand log)
+-- A hand takes the numbers of frames. Of the frames from a number on it takes each, and of those below it each that
+-- waits at opening.
+pub record TakesFrom (plan : Plan) (frame : ℕ) (hand : Hand) : Type 0 where
+  pub bounded : bound_of hand ≡ length plan.frames
+  pub room : length plan.frames + unmade plan frame [] ≤ spare_of hand + frame
 
--- where there was a seat, it is back: its worker may work again, it has its shares, and it looked often enough
-abbrev pub IsBack : FrameTable → Option FrameSeat → Option FrameSeat → Hand → WorkLog → Type 0
-IsBack table old new hand log = IfSome old (λ s. (t : FrameSeat) × (new ≡ Some t) × MayWork table t hand log × ((view_of t).shares ≡ (view_of s).shares) × (1 ≤ frames_of table → max (4 * frames_of table) 65536 ≤ (view_of t).looks))
+-- A worker's hand takes each frame that waits at opening; its log takes each frame, and the windows of each.
+pub record IsEquipped (plan : Plan) (hand : Hand) (log : WorkLog) : Type 0 where
+  pub takes_waiting : TakesFrom plan (length plan.frames) hand
+  pub takes_frames : length plan.frames ≤ log.frames.spare
+  pub fits_windows : FitsWindows plan log
+
+-- A worker has a seat, with so many shares, on which it may work.
+abbrev pub IsSeated : FrameTable → ℕ → Option FrameSeat → Hand → WorkLog → Type 0
+IsSeated table shares None hand log = ⊥
+IsSeated table shares (Some seat) hand log = MayWork table seat hand log × ((view_of seat).shares ≡ shares)

@@ -3,78 +3,88 @@ ghost use Rattle.std.specs.Prelude.{◌≡◌, ◌≤◌, ◌<◌, ℕ, All, len
 ghost use Rattle.flow_core_laws.specs.Plans.{plan_meaning};
 ghost use Rattle.flow_core_laws.specs.Serves.{Serves};
 ghost use Rattle.frame_table.specs.Tokens.{known_of};
-ghost use Rattle.task_workers_crew.specs.Crew.{IsReady, IsBack};
+ghost use Rattle.task_workers_crew.specs.Crew.{IsSeated};
 
 use flow_core_laws::Bodies;
 use frame_table::{FrameSeat, FrameTable};
 use std::thread::{Threads, for_each_mut};
 use steal_pool::Hand;
-use task_workers_deques::{Gate, WorkLog, work};
+use task_workers_round::Gate;
+use task_workers_worker::{WorkLog, work};
 
-/// A seat with what its worker needs.
+/// What a worker works with.
 #[derive(Drop)]
 pub struct Worker<S> {
+    /// None before it has a seat, and while it works.
     pub seat: Option<FrameSeat>,
     pub hand: Hand,
+    /// What the bodies work on.
     pub scratch: S,
     pub log: WorkLog,
 }
 
+// A worker works on its seat.
+#[tactic(auto, using(crate::proofs::Joining::has_seat))]
 fn work_one<S: Send + Drop, B: Bodies<Scratch = S>, G: Gate>(
     table: &FrameTable,
     bodies: &B,
     gate: &G,
     worker: &mut Worker<S>,
 )
-    requires few_pieces { length table.now.plan.now.pieces ≤ 4194304 }
-    requires meant { (known_of table.now).meaning ≡ plan_meaning (known_of table.now).plan (B.outcome bodies.now) }
+    requires meant { (known_of table.now).meaning
+        ≡ plan_meaning (known_of table.now).plan (B.outcome bodies.now) }
     requires serves { Serves (known_of table.now).plan (B.outcome bodies.now) (B.takes bodies.now) }
-    requires ready { IsReady table.now worker.old.seat worker.old.hand worker.old.log }
+    requires seated { IsSeated table.now 1 worker.old.seat worker.old.hand worker.old.log }
     requires fits { B.fits bodies.now worker.old.scratch }
-    ensures back { IsBack table.now worker.old.seat worker.new.seat worker.new.hand worker.new.log }
+    ensures seated { IsSeated table.now 1 worker.new.seat worker.new.hand worker.new.log }
     ensures fits { B.fits bodies.now worker.new.scratch }
 {
-    if let Some(seat) = worker.seat.take() {
-        worker.seat = Some(work(
-            table,
-            seat,
-            &mut worker.hand,
-            bodies,
-            &mut worker.scratch,
-            &mut worker.log,
-            gate,
-        ));
-    }
+    let Some(seat) = worker.seat.take() else {
+        unreachable!()
+    };
+    worker.seat = Some(work(
+        table,
+        seat,
+        &mut worker.hand,
+        bodies,
+        &mut worker.scratch,
+        &mut worker.log,
+        gate,
+    ));
 }
 
-/// Each worker works in a thread.
-pub fn work_all<S: Send + Drop, B: Bodies<Scratch = S>, G: Gate, R: Threads + Sync>(
+/// Each worker works on its seat in a thread of its own. One worker works in the caller's.
+pub(crate) fn work_all<S: Send + Drop, B: Bodies<Scratch = S>, G: Gate, R: Threads + Sync>(
     rt: &R,
     table: &FrameTable,
     bodies: &B,
     gate: &G,
-    workers: &mut [Worker<S>],
+    crew: &mut [Worker<S>],
 )
-    requires some { 0 < length workers.old }
-    requires few_pieces { length table.now.plan.now.pieces ≤ 4194304 }
-    requires meant { (known_of table.now).meaning ≡ plan_meaning (known_of table.now).plan (B.outcome bodies.now) }
+    requires some { 0 < length crew.old }
+    requires meant { (known_of table.now).meaning
+        ≡ plan_meaning (known_of table.now).plan (B.outcome bodies.now) }
     requires serves { Serves (known_of table.now).plan (B.outcome bodies.now) (B.takes bodies.now) }
-    requires ready { All (λ w. IsReady table.now w.seat w.hand w.log) workers.old }
-    requires fits { All (λ w. B.fits bodies.now w.scratch) workers.old }
-    ensures back { (i : ℕ) (d : Worker S) → i < length workers.old → IsBack table.now (slice_index_or workers.old i d).seat (slice_index_or workers.new i d).seat (slice_index_or workers.new i d).hand (slice_index_or workers.new i d).log }
-    ensures fits { (i : ℕ) (d : Worker S) → i < length workers.old → B.fits bodies.now (slice_index_or workers.new i d).scratch }
+    requires seated { All (λ w. IsSeated table.now 1 w.seat w.hand w.log) crew.old }
+    requires fits { All (λ w. B.fits bodies.now w.scratch) crew.old }
+    ensures same { length crew.new ≡ length crew.old }
+    ensures seated { (i : ℕ) (d : Worker S) → i < length crew.old → IsSeated table.now 1
+        (slice_index_or crew.new i d).seat (slice_index_or crew.new i d).hand (slice_index_or crew.new i d).log }
+    ensures fits { (i : ℕ) (d : Worker S) → i < length crew.old →
+        B.fits bodies.now (slice_index_or crew.new i d).scratch }
 {
-    let count = workers.len();
+    let count = crew.len();
     for_each_mut(
         rt,
-        workers,
+        crew,
         count,
         &|_at: usize, worker: &mut Worker<S>|
-            requires { (length table.now.plan.now.pieces ≤ 4194304)
-                × ((known_of table.now).meaning ≡ plan_meaning (known_of table.now).plan (B.outcome bodies.now))
+            requires { ((known_of table.now).meaning ≡ plan_meaning (known_of table.now).plan (B.outcome bodies.now))
                 × Serves (known_of table.now).plan (B.outcome bodies.now) (B.takes bodies.now)
-                × IsReady table.now worker.old.seat worker.old.hand worker.old.log × B.fits bodies.now worker.old.scratch }
-            ensures { IsBack table.entry.now worker.old.seat worker.new.seat worker.new.hand worker.new.log × B.fits bodies.entry.now worker.new.scratch }
+                × IsSeated table.now 1 worker.old.seat worker.old.hand worker.old.log
+                × B.fits bodies.now worker.old.scratch }
+            ensures { IsSeated table.entry.now 1 worker.new.seat worker.new.hand worker.new.log
+                × B.fits bodies.entry.now worker.new.scratch }
         { work_one(table, bodies, gate, worker) },
     );
 }

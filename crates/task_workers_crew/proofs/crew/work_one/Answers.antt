@@ -1,9 +1,14 @@
-use Rattle.std.proofs.Common.{rules, sym, subst, ◌≡◌, refl, Some, Option}
-use Rattle.frame_table.specs.declared.seat.FrameSeat.{FrameSeat}
-use Rattle.task_workers_crew.specs.Crew.{IsBack}
+use Rattle.std.proofs.Common.{rules, ◌∙◌, ◌≡◌, Some}
+use Rattle.task_workers_crew.proofs.Joining.{sits}
 use Rattle.task_workers_crew.proofs.crew.work_one.Goals as goal
 
-pub returns-in-Some-clause-back : goal.returns-in-Some-clause-back
-returns-in-Some-clause-back g c =
+pub work-requires-clause-may_work : goal.work-requires-clause-may_work
+work-requires-clause-may_work g c κs within =
     let e : c.args.worker.now.seat ≡ Some c.in-Some.seat = search rules in
-    subst (λ (o : Option FrameSeat). IsBack c.args.table.now o (Some c.work.result) c.work.new.hand c.work.new.log) (sym e) (c.work.result, refl, c.work.ensures.may_work, c.work.ensures.worked.shares, c.work.ensures.looks)
+    (sits c.args.table.now 1 c.args.worker.now.seat c.args.worker.now.hand c.args.worker.now.log c.in-Some.seat c.requires.seated e).0
+
+pub returns-clause-seated : goal.returns-clause-seated
+returns-clause-seated g c =
+    let e : c.args.worker.now.seat ≡ Some c.in-Some.seat = search rules in
+    let old = sits c.args.table.now 1 c.args.worker.now.seat c.args.worker.now.hand c.args.worker.now.log c.in-Some.seat c.requires.seated e in
+    (c.work.ensures.may_work, c.work.ensures.worked.shares ∙ old.1)

@@ -1,7 +1,0 @@
-use Rattle.std.proofs.Common.{◌≡◌, ◌+◌}
-use Rattle.frame_table.specs.Tokens.{IsSeatOf, view_of}
-use Rattle.task_workers_deques.specs.Worked.{Idled}
-use Rattle.task_workers_deques.proofs.finding.search.Given as goal
-
-abbrev pub invariant-loop : goal.invariant-loop
-invariant-loop l = IsSeatOf l.table l.seat × Idled (view_of l.fn.seat) (view_of l.seat) × ((view_of l.seat).looks ≡ (view_of l.fn.seat).looks + l.counter)

@@ -1,0 +1,6 @@
+use Rattle.std.proofs.Common.{ℕ, ◌<◌, ◌≤◌}
+use Rattle.flow_core_laws.specs.Plans.{frame_at}
+use Rattle.task_workers_worker.proofs.log.most_inputs.Given as goal
+
+abbrev pub invariant-loop-frame : goal.invariant-loop-frame
+invariant-loop-frame l = (f : ℕ) → f < l.frame → (frame_at l.plan f).inputs ≤ l.most

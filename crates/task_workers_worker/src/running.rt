@@ -1,0 +1,173 @@
+//! How a worker runs a frame that it claimed.
+ghost use Rattle.std.specs.Prelude.{◌≡◌, ◌+◌, ◌<◌, ◌≤◌, ℕ, None, Some, length, slice_get, [], ◌∷◌, ◌++◌};
+ghost use Rattle.flow_core_laws.specs.declared.outcome.Outcome.{Outcome};
+ghost use Rattle.flow_core_laws.specs.declared.plan.Piece.{Piece};
+ghost use Rattle.flow_core_laws.specs.declared.task_end.TaskEnd.TheVariants.{Done};
+ghost use Rattle.flow_core_laws.specs.Outcome.{outcome_at};
+ghost use Rattle.flow_core_laws.specs.Plans.{frame_at, plan_meaning};
+ghost use Rattle.flow_core_laws.specs.Serves.{Serves};
+ghost use Rattle.flow_core_concurrent.specs.Steps.{first_place};
+ghost use Rattle.frame_table.specs.Seats.{at, MayDeliver};
+ghost use Rattle.frame_table.specs.Tokens.{IsSeatOf, view_of, known_of};
+ghost use Rattle.steal_pool.specs.Hands.{pushed_by, asks_of};
+ghost use Rattle.task_workers_worker.specs.Ready.{frames_of, HandServes};
+ghost use Rattle.task_workers_worker.specs.Logs.{holds_up_to};
+ghost use Rattle.task_workers_worker.specs.Worked.{Gave};
+
+use crate::log::WorkLog;
+use crate::windows::fill;
+use flow_core_laws::{Bodies, TaskEnd};
+use frame_table::{FrameSeat, FrameTable};
+use steal_pool::Hand;
+use task_workers_round::Gate;
+
+// Delivers a piece of the running frame, and pushes the frame that it opens.
+fn give_one(
+    table: &FrameTable,
+    seat: &mut FrameSeat,
+    outputs: &[i32],
+    piece: u32,
+    frame: u32,
+    hand: &mut Hand,
+)
+    requires of_this_table { IsSeatOf table.now seat.old }
+    requires may_deliver { (p : Piece) × (o : Outcome) × MayDeliver (known_of table.now) (view_of seat.old) piece p o × (o.outputs ≡ outputs.now) }
+    requires runs { (view_of seat.old).run ≡ Some (at frame piece 0) }
+    requires serves { HandServes table.now seat.old hand.old }
+    ensures of_this_table { IsSeatOf table.now seat.new }
+    ensures runs { (view_of seat.new).run ≡ Some (at frame (piece + 1) 0) }
+    ensures gave { Gave (frames_of table.now) (view_of seat.old) (view_of seat.new) (pushed_by hand.old) (pushed_by hand.new) }
+    ensures serves { HandServes table.now seat.new hand.new }
+    ensures asks { asks_of hand.new ≡ asks_of hand.old }
+{
+    let to = table.plan().pieces.as_slice()[piece as usize].to;
+    if !table.deliver(seat, outputs, piece) {
+        return;
+    }
+    if to as usize >= table.plan().frames.len() {
+        return;
+    }
+    hand.push(to);
+}
+
+// Delivers all pieces of the running frame.
+fn give(table: &FrameTable, seat: &mut FrameSeat, outputs: &[i32], frame: u32, hand: &mut Hand)
+    requires of_this_table { IsSeatOf table.now seat.old }
+    requires exists { frame < length table.now.plan.now.frames }
+    requires done { (o : Outcome) × (outcome_at (known_of table.now).meaning frame ≡ Some o) × (o.end ≡ Done) × (o.outputs ≡ outputs.now) }
+    requires runs { (view_of seat.old).run ≡ Some (first_place (known_of table.now).plan frame) }
+    requires serves { HandServes table.now seat.old hand.old }
+    ensures of_this_table { IsSeatOf table.now seat.new }
+    ensures gave_all { (view_of seat.new).run ≡ Some (at frame ((frame_at (known_of table.now).plan frame).piece + (frame_at (known_of table.now).plan frame).pieces) 0) }
+    ensures gave { Gave (frames_of table.now) (view_of seat.old) (view_of seat.new) (pushed_by hand.old) (pushed_by hand.new) }
+    ensures serves { HandServes table.now seat.new hand.new }
+    ensures asks { asks_of hand.new ≡ asks_of hand.old }
+{
+    let place = table.plan().frame(frame);
+    for piece in place.piece..place.piece + place.pieces {
+        give_one(table, seat, outputs, piece, frame, hand);
+    }
+}
+
+// Ends the running frame, with all its pieces where it is Done.
+fn settle(
+    table: &FrameTable,
+    seat: &mut FrameSeat,
+    outputs: &[i32],
+    frame: u32,
+    end: TaskEnd,
+    hand: &mut Hand,
+)
+    requires of_this_table { IsSeatOf table.now seat.old }
+    requires exists { frame < length table.now.plan.now.frames }
+    requires meant { (o : Outcome) × (outcome_at (known_of table.now).meaning frame ≡ Some o) × (o.end ≡ end) × (end ≡ Done → o.outputs ≡ outputs.now) }
+    requires runs { (view_of seat.old).run ≡ Some (first_place (known_of table.now).plan frame) }
+    requires serves { HandServes table.now seat.old hand.old }
+    ensures of_this_table { IsSeatOf table.now seat.new }
+    ensures idle { (view_of seat.new).run ≡ None }
+    ensures gave { Gave (frames_of table.now) (view_of seat.old) (view_of seat.new) (pushed_by hand.old) (pushed_by hand.new) }
+    ensures serves { HandServes table.now seat.new hand.new }
+    ensures asks { asks_of hand.new ≡ asks_of hand.old }
+{
+    match end {
+        TaskEnd::Done => {
+            give(table, seat, outputs, frame, hand);
+            table.finish(seat, end);
+        }
+        TaskEnd::Trapped { .. } | TaskEnd::OverBudget => table.finish(seat, end),
+    }
+}
+
+// Runs the frame that was claimed.
+fn run_one<B: Bodies>(
+    table: &FrameTable,
+    seat: &mut FrameSeat,
+    frame: u32,
+    bodies: &B,
+    scratch: &mut B::Scratch,
+    inputs: &mut [i32],
+    outputs: &mut [i32],
+    hand: &mut Hand,
+)
+    requires of_this_table { IsSeatOf table.now seat.old }
+    requires exists { frame < length table.now.plan.now.frames }
+    requires meant { (known_of table.now).meaning ≡ plan_meaning (known_of table.now).plan (B.outcome bodies.now) }
+    requires serves { Serves (known_of table.now).plan (B.outcome bodies.now) (B.takes bodies.now) }
+    requires fits { B.fits bodies.now scratch.old }
+    requires runs { (view_of seat.old).run ≡ Some (first_place (known_of table.now).plan frame) }
+    requires inputs { length inputs.old ≡ (frame_at (known_of table.now).plan frame).inputs }
+    requires outputs { length outputs.old ≡ (frame_at (known_of table.now).plan frame).outputs }
+    requires hand { HandServes table.now seat.old hand.old }
+    ensures of_this_table { IsSeatOf table.now seat.new }
+    ensures idle { (view_of seat.new).run ≡ None }
+    ensures gave { Gave (frames_of table.now) (view_of seat.old) (view_of seat.new) (pushed_by hand.old) (pushed_by hand.new) }
+    ensures serves { HandServes table.now seat.new hand.new }
+    ensures asks { asks_of hand.new ≡ asks_of hand.old }
+    ensures fits { B.fits bodies.now scratch.new }
+{
+    table.read_windows(seat, inputs);
+    let end = bodies.run(frame, inputs, outputs, scratch);
+    settle(table, seat, outputs, frame, end, hand);
+}
+
+/// Runs the frame that was claimed, and writes it into the log.
+pub(crate) fn run_claimed<B: Bodies, G: Gate>(
+    table: &FrameTable,
+    seat: &mut FrameSeat,
+    frame: u32,
+    hand: &mut Hand,
+    bodies: &B,
+    scratch: &mut B::Scratch,
+    log: &mut WorkLog,
+    gate: &G,
+)
+    requires of_this_table { IsSeatOf table.now seat.old }
+    requires exists { frame < length table.now.plan.now.frames }
+    requires meant { (known_of table.now).meaning ≡ plan_meaning (known_of table.now).plan (B.outcome bodies.now) }
+    requires serves { Serves (known_of table.now).plan (B.outcome bodies.now) (B.takes bodies.now) }
+    requires fits { B.fits bodies.now scratch.old }
+    requires runs { (view_of seat.old).run ≡ Some (first_place (known_of table.now).plan frame) }
+    requires room { 1 ≤ log.old.frames.spare }
+    requires inputs { (frame_at (known_of table.now).plan frame).inputs ≤ holds_up_to log.old.inputs }
+    requires outputs { (frame_at (known_of table.now).plan frame).outputs ≤ holds_up_to log.old.outputs }
+    requires hand { HandServes table.now seat.old hand.old }
+    ensures of_this_table { IsSeatOf table.now seat.new }
+    ensures idle { (view_of seat.new).run ≡ None }
+    ensures gave { Gave (frames_of table.now) (view_of seat.old) (view_of seat.new) (pushed_by hand.old) (pushed_by hand.new) }
+    ensures serves { HandServes table.now seat.new hand.new }
+    ensures asks { asks_of hand.new ≡ asks_of hand.old }
+    ensures fits { B.fits bodies.now scratch.new }
+    ensures logged { log.new.frames.items ≡ log.old.frames.items ++ frame ∷ [] }
+    ensures room { log.new.frames.spare + 1 ≡ log.old.frames.spare }
+    ensures windows { (holds_up_to log.new.inputs ≡ holds_up_to log.old.inputs)
+        × (holds_up_to log.new.outputs ≡ holds_up_to log.old.outputs) }
+{
+    gate.at(log.worker, frame);
+    log.frames.push_spare(frame);
+    let place = table.plan().frame(frame);
+    fill(&mut log.inputs, place.inputs as usize);
+    fill(&mut log.outputs, place.outputs as usize);
+    let inputs = log.inputs.as_mut_slice();
+    let outputs = log.outputs.as_mut_slice();
+    run_one(table, seat, frame, bodies, scratch, inputs, outputs, hand);
+}
