@@ -4,34 +4,42 @@ use Rattle.std.specs.Prelude.{All}
 use Rattle.std.specs.List.{flat_map, range_with_len}
 use Rattle.flow_core_laws.specs.declared.plan.FramePlan.{FramePlan}
 use Rattle.flow_core_laws.specs.declared.plan.Piece.{Piece}
-use Rattle.flow_core_laws.specs.Place.{Place}
 use Rattle.stream_match.specs.declared.kept.Kept.{Kept}
 use Rattle.stream_match_layouts.specs.declared.layout.Layout.{Layout}
 use Rattle.stream_match.specs.declared.stretch.Stretch.{Stretch}
+use Rattle.stream_match.specs.declared.reaching.Reaching.{Reaching}
 use Rattle.stream_match_layouts.specs.Layout.{IsLayout}
 use Rattle.stream_match.specs.Stretch.{by_frame}
 use Rattle.stream_match.specs.Walking.{IsStretch}
-use Rattle.stream_match.specs.Weave.{Weave, total, cells_of_first, frame_cells, woven_pieces}
-use Rattle.stream_match.specs.EpochPlan.{AreFrames, leaving_reaches, epoch_reaches, epoch_weave, IsEpochPlanOf}
+use Rattle.stream_match.specs.Weave.{Reach, Weave, total, cells_of_first, frame_cells, woven_pieces, IsWoven}
+use Rattle.stream_match.specs.EpochPlan.{AreFrames, reaches_over, weave_over}
 use Rattle.stream_match.specs.Kept.{kept_of}
-use Rattle.stream_match.specs.EpochCode.{pieces_for, filled_cells, stretch_places, stretches_from, reads_before, read_part, epoch_frame}
+use Rattle.stream_match.specs.EpochCode.{pieces_for, filled_cells, stretches_from, reads_before, read_part, epoch_frame, IsRead, IsLeft, CanLeave}
 use Rattle.stream_match.proofs.Gathering.{all_by_frame}
-use Rattle.stream_match.proofs.Rows.{all_pieces_are, all_cells_are, first-reads, frame_part, left_total, places_from_stretches}
-use Rattle.stream_match.proofs.EpochRows.{reads_are_stretches, leaving_are_stretches, pieces_few, cells_length, sink_few, from_frames, frames_are_woven}
+use Rattle.stream_match.proofs.Rows.{all_pieces_are, all_cells_are, first-reads, frame_part, left_total}
+use Rattle.stream_match.proofs.EpochRows.{reads_are_stretches, sink_are_stretches, pieces_few, cells_length, from_frames, frames_are_woven}
 
 -- what is read and what leaves
-pub record AreRows (layout : Layout) (frames cursors : List ℕ) (reads leaves : List Stretch) (next end : ℕ) : Type 0 where
+pub record AreRows (layout : Layout) (frames : List ℕ) (sink : List Reach) (reads leaves : List Stretch) (next end : ℕ) : Type 0 where
   pub reads_are : reads ≡ flat_map (read_part layout frames) (range_with_len 0 (length frames))
-  pub leaves_are : leaves ≡ stretches_from (length frames) next (leaving_reaches layout frames cursors)
+  pub leaves_are : leaves ≡ stretches_from (length frames) next sink
   pub next_is : next ≡ reads_before layout frames (length frames)
-  pub end_is : end ≡ next + total (leaving_reaches layout frames cursors)
+  pub end_is : end ≡ next + total sink
 
-module _ (layout : Layout) (is : IsLayout layout) (frames : List ℕ) (are : AreFrames layout frames) (cursors : List ℕ) (len : length cursors ≡ length layout.writers) (small : All (λ cursor. cursor < 2 ^ 62) cursors) (reads leaves : List Stretch) (next end : ℕ) (rows : AreRows layout frames cursors reads leaves next end) where
+pub rows_of : (layout : Layout) (frames : List ℕ) (sink : List Reach) (read left : Reaching) (reads leaves : List Stretch) → IsRead layout frames read → IsLeft layout frames sink left → reads ≡ read.stretches → leaves ≡ left.stretches → AreRows layout frames sink reads leaves read.next left.next
+rows_of layout frames sink read left reads leaves is_read is_left reads_are leaves_are = record {
+  reads_are = reads_are ∙ is_read.stretches_are;
+  leaves_are = leaves_are ∙ is_left.stretches_are ∙ ap (λ n. stretches_from (length frames) n sink) (sym is_read.next_is);
+  next_is = is_read.next_is;
+  end_is = is_left.next_is ∙ ap (λ n. n + total sink) (sym is_read.next_is);
+}
+
+module _ (layout : Layout) (is : IsLayout layout) (frames : List ℕ) (are : AreFrames layout frames) (sink : List Reach) (can : CanLeave layout frames sink) (reads leaves : List Stretch) (next end : ℕ) (rows : AreRows layout frames sink reads leaves next end) where
   pub reads_stretches : All (IsStretch layout) reads
   reads_stretches = subst (All (IsStretch layout)) (sym rows.reads_are) (reads_are_stretches layout is frames are)
 
   pub leaves_stretches : All (IsStretch layout) leaves
-  leaves_stretches = subst (All (IsStretch layout)) (sym rows.leaves_are) (leaving_are_stretches layout is frames are cursors next len small rows.next_is)
+  leaves_stretches = subst (All (IsStretch layout)) (sym rows.leaves_are) (sink_are_stretches layout is frames are sink can next rows.next_is)
 
   pub reads_end : All (λ (s : Stretch). s.first + s.count < 2 ^ 64) reads
   reads_end k d lt = let e = (reads_stretches k d lt).ends in omega arith
@@ -40,60 +48,56 @@ module _ (layout : Layout) (is : IsLayout layout) (frames : List ℕ) (are : Are
   leaves_end k d lt = let e = (leaves_stretches k d lt).ends in omega arith
 
   module _ (input : List ℕ) (kept : List Kept) where
-    pub pieces_made : (pieces : List Piece) → pieces ≡ flat_map (pieces_for layout frames) reads ++ flat_map (pieces_for layout frames) leaves → pieces ≡ woven_pieces layout (epoch_weave layout input frames (map kept_of kept) cursors)
+    pub pieces_made : (pieces : List Piece) → pieces ≡ flat_map (pieces_for layout frames) reads ++ flat_map (pieces_for layout frames) leaves → pieces ≡ woven_pieces layout (weave_over layout input frames (map kept_of kept) sink)
     pieces_made pieces made =
         made ∙ ap (λ xs. flat_map (pieces_for layout frames) xs ++ flat_map (pieces_for layout frames) leaves) rows.reads_are
         ∙ ap (λ xs. flat_map (pieces_for layout frames) (flat_map (read_part layout frames) (range_with_len 0 (length frames))) ++ flat_map (pieces_for layout frames) xs) rows.leaves_are
-        ∙ all_pieces_are layout input frames kept cursors next rows.next_is
+        ∙ all_pieces_are layout input frames kept sink next rows.next_is
 
-    pub cells_made : (cells : List (Option ℤ)) → cells ≡ flat_map (filled_cells input kept) reads ++ flat_map (filled_cells input kept) leaves → cells ≡ cells_of_first (epoch_weave layout input frames (map kept_of kept) cursors) (length frames + 1)
+    pub cells_made : (cells : List (Option ℤ)) → cells ≡ flat_map (filled_cells input kept) reads ++ flat_map (filled_cells input kept) leaves → cells ≡ cells_of_first (weave_over layout input frames (map kept_of kept) sink) (length frames + 1)
     cells_made cells made =
         made ∙ ap (λ xs. flat_map (filled_cells input kept) xs ++ flat_map (filled_cells input kept) leaves) rows.reads_are
         ∙ ap (λ xs. flat_map (filled_cells input kept) (flat_map (read_part layout frames) (range_with_len 0 (length frames))) ++ flat_map (filled_cells input kept) xs) rows.leaves_are
-        ∙ all_cells_are layout input frames kept cursors next
+        ∙ all_cells_are layout input frames kept sink next
 
     pub cells_end : (cells : List (Option ℤ)) → cells ≡ flat_map (filled_cells input kept) reads ++ flat_map (filled_cells input kept) leaves → length cells ≡ end
-    cells_end cells made = let n = rows.next_is in let e = rows.end_is in omega (arith, ap length (cells_made cells made), cells_length layout is frames are input kept cursors)
+    cells_end cells made = let n = rows.next_is in let e = rows.end_is in omega (arith, ap length (cells_made cells made), cells_length layout is frames are input kept sink)
 
     pub pieces_from_frames : (pieces : List Piece) → pieces ≡ flat_map (pieces_for layout frames) reads ++ flat_map (pieces_for layout frames) leaves → All (λ (p : Piece). p.from < length frames) pieces
-    pieces_from_frames pieces made = subst (All (λ (p : Piece). p.from < length frames)) (sym (pieces_made pieces made)) (from_frames layout input frames kept cursors)
+    pieces_from_frames pieces made = subst (All (λ (p : Piece). p.from < length frames)) (sym (pieces_made pieces made)) (from_frames layout input frames kept sink)
 
-    pub plan_made : (cells : List (Option ℤ)) (pieces : List Piece) (plans : List FramePlan) (placed : List Piece) (places : List Place) (inputs wait piece : ℕ)
+    pub plan_made : (cells : List (Option ℤ)) (pieces : List Piece) (plans : List FramePlan) (placed : List Piece) (inputs wait piece : ℕ)
         → cells ≡ flat_map (filled_cells input kept) reads ++ flat_map (filled_cells input kept) leaves
         → pieces ≡ flat_map (pieces_for layout frames) reads ++ flat_map (pieces_for layout frames) leaves
         → plans ≡ map (epoch_frame layout frames pieces cells) (range_with_len 0 (length frames))
         → placed ≡ by_frame pieces (length frames)
-        → places ≡ flat_map stretch_places leaves
         → inputs ≡ end - next → wait ≡ count_by is_none (take (end - next) (drop next cells)) → piece ≡ length pieces
-        → IsEpochPlanOf layout input frames (map kept_of kept) cursors (record { frames = plans; sink = record { cell = next; inputs = inputs; outputs = 0; wait = wait; piece = piece; pieces = 0 }; pieces = placed; filled = cells }) places
-    plan_made cells pieces plans placed places inputs wait piece cells_raw pieces_raw plans_are placed_are places_are inputs_is wait_is piece_is =
-        let w : Weave = epoch_weave layout input frames (map kept_of kept) cursors in
+        → IsWoven layout (weave_over layout input frames (map kept_of kept) sink) (record { frames = plans; sink = record { cell = next; inputs = inputs; outputs = 0; wait = wait; piece = piece; pieces = 0 }; pieces = placed; filled = cells })
+    plan_made cells pieces plans placed inputs wait piece cells_raw pieces_raw plans_are placed_are inputs_is wait_is piece_is =
+        let w : Weave = weave_over layout input frames (map kept_of kept) sink in
         let n = length frames in
         let all = pieces_made pieces pieces_raw in
         let filled = cells_made cells cells_raw in
-        let first : next ≡ length (cells_of_first w n) = rows.next_is ∙ sym (first-reads layout input frames kept cursors n (omega arith)) in
-        let count : end - next ≡ total (epoch_reaches layout frames cursors n) = let e = rows.end_is in omega (arith, left_total layout input frames kept cursors) in
-        let waits = wait_is ∙ ap (count_by is_none) (frame_part layout input frames kept cursors n next (end - next) cells (omega arith) filled rows.next_is count) in
-        let placed_all : piece ≡ length (by_frame (woven_pieces layout w) n) = piece_is ∙ ap length all ∙ sym (all_by_frame (woven_pieces layout w) n (from_frames layout input frames kept cursors)) in
+        let first : next ≡ length (cells_of_first w n) = rows.next_is ∙ sym (first-reads layout input frames kept sink n (omega arith)) in
+        let count : end - next ≡ total (reaches_over layout frames sink n) = let e = rows.end_is in omega (arith, left_total layout input frames kept sink) in
+        let waits = wait_is ∙ ap (count_by is_none) (frame_part layout input frames kept sink n next (end - next) cells (omega arith) filled rows.next_is count) in
+        let placed_all : piece ≡ length (by_frame (woven_pieces layout w) n) = piece_is ∙ ap length all ∙ sym (all_by_frame (woven_pieces layout w) n (from_frames layout input frames kept sink)) in
         record {
-          woven = record {
-            frames = plans_are ∙ frames_are_woven layout input frames kept cursors pieces cells all filled;
-            sink =
-                ap (λ k. record { cell = k; inputs = inputs; outputs = 0; wait = wait; piece = piece; pieces = 0 }) first
-                ∙ ap (λ k. record { cell = length (cells_of_first w n); inputs = k; outputs = 0; wait = wait; piece = piece; pieces = 0 }) (inputs_is ∙ count)
-                ∙ ap (λ k. record { cell = length (cells_of_first w n); inputs = total (epoch_reaches layout frames cursors n); outputs = 0; wait = k; piece = piece; pieces = 0 }) waits
-                ∙ ap (λ k. record { cell = length (cells_of_first w n); inputs = total (epoch_reaches layout frames cursors n); outputs = 0; wait = count_by is_none (frame_cells w n); piece = k; pieces = 0 }) placed_all;
-            pieces = placed_are ∙ ap (λ xs. by_frame xs n) all;
-            filled = filled;
-          };
-          places_are = places_are ∙ ap (flat_map stretch_places) rows.leaves_are ∙ places_from_stretches n next (leaving_reaches layout frames cursors);
+          frames = plans_are ∙ frames_are_woven layout input frames kept sink pieces cells all filled;
+          sink =
+              ap (λ k. record { cell = k; inputs = inputs; outputs = 0; wait = wait; piece = piece; pieces = 0 }) first
+              ∙ ap (λ k. record { cell = length (cells_of_first w n); inputs = k; outputs = 0; wait = wait; piece = piece; pieces = 0 }) (inputs_is ∙ count)
+              ∙ ap (λ k. record { cell = length (cells_of_first w n); inputs = total (reaches_over layout frames sink n); outputs = 0; wait = k; piece = piece; pieces = 0 }) waits
+              ∙ ap (λ k. record { cell = length (cells_of_first w n); inputs = total (reaches_over layout frames sink n); outputs = 0; wait = count_by is_none (frame_cells w n); piece = k; pieces = 0 }) placed_all;
+          pieces = placed_are ∙ ap (λ xs. by_frame xs n) all;
+          filled = filled;
         }
 
   pub pieces_are_few : (pieces : List Piece) → pieces ≡ flat_map (pieces_for layout frames) reads ++ flat_map (pieces_for layout frames) leaves → length pieces ≤ 4194304
   pieces_are_few pieces made =
       let e = ap length (made ∙ ap (λ xs. flat_map (pieces_for layout frames) xs ++ flat_map (pieces_for layout frames) leaves) rows.reads_are
       ∙ ap (λ xs. flat_map (pieces_for layout frames) (flat_map (read_part layout frames) (range_with_len 0 (length frames))) ++ flat_map (pieces_for layout frames) xs) rows.leaves_are) in
-      omega (arith, e, pieces_few layout is frames are cursors next len small rows.next_is)
+      omega (arith, e, pieces_few layout is frames are sink can next rows.next_is)
 
   pub end_few : end ≤ 4194304
-  end_few = let n = rows.next_is in let e = rows.end_is in omega (arith, sink_few layout is frames are cursors)
+  end_few = let n = rows.next_is in let e = rows.end_is in let few = can.few in omega (arith, few)

@@ -24,9 +24,9 @@ use Rattle.stream_match_layouts.specs.Spans.{spans_of, frame_count}
 use Rattle.stream_match.specs.Stretch.{pieces_into}
 use Rattle.stream_match.specs.Walking.{IsStretch, HasPlace}
 use Rattle.stream_match.specs.Weave.{Reach, no_reach, total, cells_of_first, woven_pieces, woven_frame}
-use Rattle.stream_match.specs.EpochPlan.{AreFrames, read_reach, leaving_reach, leaving_reaches, epoch_weave}
+use Rattle.stream_match.specs.EpochPlan.{AreFrames, read_reach, leaving_reach, leaving_reaches, weave_over}
 use Rattle.stream_match.specs.Kept.{kept_of}
-use Rattle.stream_match.specs.EpochCode.{renumbered, pieces_for, stretches_from, reads_before, read_part, epoch_frame}
+use Rattle.stream_match.specs.EpochCode.{renumbered, pieces_for, stretches_from, reads_before, read_part, epoch_frame, CanLeave}
 use Rattle.stream_match.proofs.Walks.{pieces_into_few}
 use Rattle.stream_match_layouts.proofs.Windows.{map_map}
 use Rattle.stream_match.proofs.CellSums.{stream_facts}
@@ -104,8 +104,13 @@ module _ (layout : Layout) (is : IsLayout layout) (frames : List ℕ) (are : Are
       let low = of_range 0 (length frames) f r.1 in
       all_has (IsStretch layout) (read_part layout frames f) s (reads_at f (let l = low.1 in omega arith)) r.2)
 
-  pub leaving_are_stretches : (cursors : List ℕ) (next : ℕ) → length cursors ≡ length layout.writers → All (λ cursor. cursor < 2 ^ 62) cursors → next ≡ reads_before layout frames (length frames) → All (IsStretch layout) (stretches_from (length frames) next (leaving_reaches layout frames cursors))
-  leaving_are_stretches cursors next len small next_is = all_stretches (IsStretch layout) (length frames) next (leaving_reaches layout frames cursors) (λ i l. one i l)
+  -- what leaves by cursors
+  pub leaving_can : (cursors : List ℕ) → length cursors ≡ length layout.writers → All (λ cursor. cursor < 2 ^ 62) cursors → CanLeave layout frames (leaving_reaches layout frames cursors)
+  leaving_can cursors len small = record {
+    exist = has_all (λ (r : Reach). r.stream < length layout.writers) (leaving_reaches layout frames cursors) (λ r h. (at_reach r h).0);
+    small = has_all (λ (r : Reach). r.first < 2 ^ 62) (leaving_reaches layout frames cursors) (λ r h. (at_reach r h).1);
+    few = omega (arith, left_few layout is frames are cursors (length frames), ap (λ fs. total (leaving_reaches layout fs cursors)) (take_all (length frames) frames (omega arith)));
+  }
     where
       from : (b : Bool) (n first : ℕ) → n < 2 ^ 62 → first < 2 ^ 62 → first + (cond {A = ℕ} b 0 n - first) < 2 ^ 62
       from true n first h g = omega arith
@@ -123,17 +128,18 @@ module _ (layout : Layout) (is : IsLayout layout) (frames : List ℕ) (are : Are
             subst (λ (q : Reach). q.first < 2 ^ 62) s_is (from (s.stream == 1) (get_or cursors s.stream 0) s.first cursor first),
           )
 
-      one : (i : ℕ) → i < length (leaving_reaches layout frames cursors) → IsStretch layout (record { to = length frames; stream = (get_or (leaving_reaches layout frames cursors) i no_reach).stream; first = (get_or (leaving_reaches layout frames cursors) i no_reach).first; count = (get_or (leaving_reaches layout frames cursors) i no_reach).count; at = next + total (take i (leaving_reaches layout frames cursors)) })
+  pub sink_are_stretches : (sink : List Reach) → CanLeave layout frames sink → (next : ℕ) → next ≡ reads_before layout frames (length frames) → All (IsStretch layout) (stretches_from (length frames) next sink)
+  sink_are_stretches sink can next next_is = all_stretches (IsStretch layout) (length frames) next sink (λ i l. one i l)
+    where
+      one : (i : ℕ) → i < length sink → IsStretch layout (record { to = length frames; stream = (get_or sink i no_reach).stream; first = (get_or sink i no_reach).first; count = (get_or sink i no_reach).count; at = next + total (take i sink) })
       one i l =
-          let rs = leaving_reaches layout frames cursors in
-          let r = get_or rs i no_reach in
-          let facts = at_reach r (i, slice_get-get_or rs i no_reach l) in
-          let sums = total-more rs i l in
-          let whole = total-take-le rs (i + 1) in
-          let few = left_few layout is frames are cursors (length frames) in
-          let all = ap (λ fs. total (leaving_reaches layout fs cursors)) (take_all (length frames) frames (omega arith)) in
-          let first = facts.1 in
-          stream_facts layout is (record { to = length frames; stream = r.stream; first = r.first; count = r.count; at = next + total (take i rs) }) facts.0 (omega (arith, first, sums, whole, few, all)) (omega (arith, sums, whole, few, all))
+          let r = get_or sink i no_reach in
+          let exists = can.exist i no_reach l in
+          let first = can.small i no_reach l in
+          let few = can.few in
+          let sums = total-more sink i l in
+          let whole = total-take-le sink (i + 1) in
+          stream_facts layout is (record { to = length frames; stream = r.stream; first = r.first; count = r.count; at = next + total (take i sink) }) exists (omega (arith, first, sums, whole, few)) (omega (arith, sums, whole, few))
 
   -- ---- how many
 
@@ -148,29 +154,26 @@ module _ (layout : Layout) (is : IsLayout layout) (frames : List ℕ) (are : Are
       let c = ap (reads_before layout frames) e ∙ reads_more layout is frames k (omega arith) in
       omega (arith, a, b, c, read_total (spans_of layout (get_or frames k 0)), reads_pieces k (omega arith))
 
-  pub pieces_few : (cursors : List ℕ) (next : ℕ) → length cursors ≡ length layout.writers → All (λ cursor. cursor < 2 ^ 62) cursors → next ≡ reads_before layout frames (length frames)
-      → length (flat_map (pieces_for layout frames) (flat_map (read_part layout frames) (range_with_len 0 (length frames))) ++ flat_map (pieces_for layout frames) (stretches_from (length frames) next (leaving_reaches layout frames cursors))) ≤ 4194304
-  pieces_few cursors next len small next_is =
+  pub pieces_few : (sink : List Reach) → CanLeave layout frames sink → (next : ℕ) → next ≡ reads_before layout frames (length frames)
+      → length (flat_map (pieces_for layout frames) (flat_map (read_part layout frames) (range_with_len 0 (length frames))) ++ flat_map (pieces_for layout frames) (stretches_from (length frames) next sink)) ≤ 4194304
+  pieces_few sink can next next_is =
       let n = length frames in
-      let a = length-append (flat_map (pieces_for layout frames) (flat_map (read_part layout frames) (range_with_len 0 n))) (flat_map (pieces_for layout frames) (stretches_from n next (leaving_reaches layout frames cursors))) in
+      let a = length-append (flat_map (pieces_for layout frames) (flat_map (read_part layout frames) (range_with_len 0 n))) (flat_map (pieces_for layout frames) (stretches_from n next sink)) in
       let b = reads_pieces n (omega arith) in
-      let c = few_from layout frames n next (leaving_reaches layout frames cursors) (leaving_are_stretches cursors next len small next_is) in
-      let all = ap (λ fs. total (leaving_reaches layout fs cursors)) (take_all n frames (omega arith)) in
-      omega (arith, a, b, c, left_few layout is frames are cursors n, all)
+      let c = few_from layout frames n next sink (sink_are_stretches sink can next next_is) in
+      let few = can.few in
+      omega (arith, a, b, c, few)
 
-  pub cells_length : (input : List ℕ) (kept : List Kept) (cursors : List ℕ) → length (cells_of_first (epoch_weave layout input frames (map kept_of kept) cursors) (length frames + 1)) ≡ reads_before layout frames (length frames) + total (leaving_reaches layout frames cursors)
-  cells_length input kept cursors =
+  pub cells_length : (input : List ℕ) (kept : List Kept) (sink : List Reach) → length (cells_of_first (weave_over layout input frames (map kept_of kept) sink) (length frames + 1)) ≡ reads_before layout frames (length frames) + total sink
+  cells_length input kept sink =
       let n = length frames in
-      omega (arith, first-more (epoch_weave layout input frames (map kept_of kept) cursors) n, first-reads layout input frames kept cursors n (omega arith), ap total (reaches-left layout input frames kept cursors))
-
-  pub sink_few : (cursors : List ℕ) → reads_before layout frames (length frames) + total (leaving_reaches layout frames cursors) ≤ 4194304
-  sink_few cursors = omega (arith, left_few layout is frames are cursors (length frames), ap (λ fs. total (leaving_reaches layout fs cursors)) (take_all (length frames) frames (omega arith)))
+      omega (arith, first-more (weave_over layout input frames (map kept_of kept) sink) n, first-reads layout input frames kept sink n (omega arith), ap total (reaches-left layout input frames kept sink))
 
 -- ---- pieces and frames
 
-pub from_frames : (layout : Layout) (input frames : List ℕ) (kept : List Kept) (cursors : List ℕ) → All (λ (p : Piece). p.from < length frames) (woven_pieces layout (epoch_weave layout input frames (map kept_of kept) cursors))
-from_frames layout input frames kept cursors = has_all (λ (p : Piece). p.from < length frames) (woven_pieces layout (epoch_weave layout input frames (map kept_of kept) cursors)) (λ p h.
-    let o = woven_from layout (epoch_weave layout input frames (map kept_of kept) cursors) h.0 p h.1 in
+pub from_frames : (layout : Layout) (input frames : List ℕ) (kept : List Kept) (sink : List Reach) → All (λ (p : Piece). p.from < length frames) (woven_pieces layout (weave_over layout input frames (map kept_of kept) sink))
+from_frames layout input frames kept sink = has_all (λ (p : Piece). p.from < length frames) (woven_pieces layout (weave_over layout input frames (map kept_of kept) sink)) (λ p h.
+    let o = woven_from layout (weave_over layout input frames (map kept_of kept) sink) h.0 p h.1 in
     let from : p.from ≡ o.writer = ap (λ (q : Piece). q.from) o.is in
     let lt = slice_get_within frames o.writer _ (numbers_back frames _ o.writer o.numbered) in
     omega arith)
@@ -185,8 +188,8 @@ map-range-same : {X : Type 0} (f g : ℕ → X) (a n : ℕ) → ((k : ℕ) → a
 map-range-same f g a zero h = refl
 map-range-same f g a (suc n) h = ap (λ x. x ∷ map f (range_with_len (a + 1) n)) (h a (omega arith) (omega arith)) ∙ ap (λ xs. g a ∷ xs) (map-range-same f g (a + 1) n (λ k l u. h k (omega arith) (omega arith)))
 
-pub frames_are_woven : (layout : Layout) (input frames : List ℕ) (kept : List Kept) (cursors : List ℕ) (pieces : List Piece) (cells : List (Option ℤ)) → pieces ≡ woven_pieces layout (epoch_weave layout input frames (map kept_of kept) cursors) → cells ≡ cells_of_first (epoch_weave layout input frames (map kept_of kept) cursors) (length frames + 1)
-    → map (epoch_frame layout frames pieces cells) (range_with_len 0 (length frames)) ≡ map (woven_frame layout (epoch_weave layout input frames (map kept_of kept) cursors)) (range_with_len 0 (length frames))
-frames_are_woven layout input frames kept cursors pieces cells pieces_are cells_are =
+pub frames_are_woven : (layout : Layout) (input frames : List ℕ) (kept : List Kept) (sink : List Reach) (pieces : List Piece) (cells : List (Option ℤ)) → pieces ≡ woven_pieces layout (weave_over layout input frames (map kept_of kept) sink) → cells ≡ cells_of_first (weave_over layout input frames (map kept_of kept) sink) (length frames + 1)
+    → map (epoch_frame layout frames pieces cells) (range_with_len 0 (length frames)) ≡ map (woven_frame layout (weave_over layout input frames (map kept_of kept) sink)) (range_with_len 0 (length frames))
+frames_are_woven layout input frames kept sink pieces cells pieces_are cells_are =
     ap (λ ps. map (epoch_frame layout frames ps cells) (range_with_len 0 (length frames))) pieces_are
-    ∙ map-range-same (epoch_frame layout frames (woven_pieces layout (epoch_weave layout input frames (map kept_of kept) cursors)) cells) (woven_frame layout (epoch_weave layout input frames (map kept_of kept) cursors)) 0 (length frames) (λ f l u. frame_is_woven layout input frames kept cursors f cells (omega arith) cells_are)
+    ∙ map-range-same (epoch_frame layout frames (woven_pieces layout (weave_over layout input frames (map kept_of kept) sink)) cells) (woven_frame layout (weave_over layout input frames (map kept_of kept) sink)) 0 (length frames) (λ f l u. frame_is_woven layout input frames kept sink f cells (omega arith) cells_are)

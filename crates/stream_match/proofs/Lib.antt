@@ -1,12 +1,8 @@
 pub mod Walks
 pub mod Counting
 pub mod Placed
-pub mod Placing
 pub mod CellSums
-pub mod Laid
 pub mod Origins
-pub mod Sound
-pub mod Stands
 pub mod Weaving
 pub mod WovenPieces
 pub mod WovenSound

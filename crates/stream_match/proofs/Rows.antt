@@ -18,7 +18,7 @@ use Rattle.stream_match_layouts.specs.Writers.{writers_on, writer_at}
 use Rattle.stream_match_layouts.specs.Spans.{read_count, write_count, spans_of}
 use Rattle.stream_match.specs.Stretch.{overlap_first, overlap_end, piece_between, overlap, by_frame, pieces_from}
 use Rattle.stream_match.specs.Weave.{Reach, no_reach, Weave, total, reach_places, reach_cells, frame_cells, cells_of_first, stretch_in, with_frame, overlap_among, pieces_among, frame_pieces, woven_pieces, woven_frame}
-use Rattle.stream_match.specs.EpochPlan.{read_reach, leaving_reaches, epoch_reaches, epoch_weave}
+use Rattle.stream_match.specs.EpochPlan.{read_reach, reaches_over, weave_over}
 use Rattle.stream_match.specs.Kept.{kept_of}
 use Rattle.stream_match.specs.EpochCode.{renumbered, pieces_for, filled_cells, stretch_places, stretches_from, reads_before, read_part, epoch_frame}
 use Rattle.flow_core_laws.proofs.Stretches.{flat_map-range-add, flat_map-range-same}
@@ -61,9 +61,9 @@ no_stretch = record { to = 0; stream = 0; first = 0; count = 0; at = 0 }
 stretches-are : (to at : ℕ) (rs : List Reach) → stretches_from to at rs ≡ map (λ i. record { to = to; stream = (get_or rs i no_reach).stream; first = (get_or rs i no_reach).first; count = (get_or rs i no_reach).count; at = at + total (take i rs) }) (range_with_len 0 (length rs))
 stretches-are to at rs = fill_by_all (λ i. record { to = to; stream = (get_or rs i no_reach).stream; first = (get_or rs i no_reach).first; count = (get_or rs i no_reach).count; at = at + total (take i rs) }) (stretches_from to at rs) (length rs) no_stretch (length-stretches to at rs) (λ i lt. at_stretch to at rs i no_stretch lt)
 
-pub cells_from : (layout : Layout) (input frames : List ℕ) (kept : List Kept) (cursors : List ℕ) (to at : ℕ) (rs : List Reach) → flat_map (filled_cells input kept) (stretches_from to at rs) ≡ flat_map (reach_cells (epoch_weave layout input frames (map kept_of kept) cursors)) rs
-cells_from layout input frames kept cursors to at [] = refl
-cells_from layout input frames kept cursors to at (r ∷ rs) = ap (λ xs. reach_cells (epoch_weave layout input frames (map kept_of kept) cursors) r ++ xs) (cells_from layout input frames kept cursors to (at + r.count) rs)
+pub cells_from : (layout : Layout) (input frames : List ℕ) (kept : List Kept) (sink : List Reach) (to at : ℕ) (rs : List Reach) → flat_map (filled_cells input kept) (stretches_from to at rs) ≡ flat_map (reach_cells (weave_over layout input frames (map kept_of kept) sink)) rs
+cells_from layout input frames kept sink to at [] = refl
+cells_from layout input frames kept sink to at (r ∷ rs) = ap (λ xs. reach_cells (weave_over layout input frames (map kept_of kept) sink) r ++ xs) (cells_from layout input frames kept sink to (at + r.count) rs)
 
 pub places_from_stretches : (to at : ℕ) (rs : List Reach) → flat_map stretch_places (stretches_from to at rs) ≡ flat_map reach_places rs
 places_from_stretches to at [] = refl
@@ -71,26 +71,26 @@ places_from_stretches to at (r ∷ rs) = ap (λ xs. reach_places r ++ xs) (place
 
 -- ---- one frame
 
-module _ (layout : Layout) (input frames : List ℕ) (kept : List Kept) (cursors : List ℕ) where
+module _ (layout : Layout) (input frames : List ℕ) (kept : List Kept) (sink : List Reach) where
   abbrev w : Weave
-  w = epoch_weave layout input frames (map kept_of kept) cursors
+  w = weave_over layout input frames (map kept_of kept) sink
 
-  reaches-read : (f : ℕ) → f < length frames → epoch_reaches layout frames cursors f ≡ map read_reach (spans_of layout (get_or frames f 0))
-  reaches-read f lt = ap (λ b. cond b (map read_reach (spans_of layout (get_or frames f 0))) (leaving_reaches layout frames cursors)) (lt-ltb f (length frames) lt)
+  reaches-read : (f : ℕ) → f < length frames → reaches_over layout frames sink f ≡ map read_reach (spans_of layout (get_or frames f 0))
+  reaches-read f lt = ap (λ b. cond b (map read_reach (spans_of layout (get_or frames f 0))) sink) (lt-ltb f (length frames) lt)
 
-  pub reaches-left : epoch_reaches layout frames cursors (length frames) ≡ leaving_reaches layout frames cursors
-  reaches-left = ap (λ b. cond b (map read_reach (spans_of layout (get_or frames (length frames) 0))) (leaving_reaches layout frames cursors)) (le-ltb (length frames) (length frames) (omega arith))
+  pub reaches-left : reaches_over layout frames sink (length frames) ≡ sink
+  reaches-left = ap (λ b. cond b (map read_reach (spans_of layout (get_or frames (length frames) 0))) sink) (le-ltb (length frames) (length frames) (omega arith))
 
-  pub first-reads : (k : ℕ) → k ≤ length frames → length (cells_of_first (epoch_weave layout input frames (map kept_of kept) cursors) k) ≡ reads_before layout frames k
+  pub first-reads : (k : ℕ) → k ≤ length frames → length (cells_of_first (weave_over layout input frames (map kept_of kept) sink) k) ≡ reads_before layout frames k
   first-reads zero le = refl
   first-reads (suc k) le =
       let e : suc k ≡ k + 1 = omega arith in
-      let a = ap (λ m. length (cells_of_first (epoch_weave layout input frames (map kept_of kept) cursors) m)) e ∙ first-more (epoch_weave layout input frames (map kept_of kept) cursors) k in
+      let a = ap (λ m. length (cells_of_first (weave_over layout input frames (map kept_of kept) sink) m)) e ∙ first-more (weave_over layout input frames (map kept_of kept) sink) k in
       let b = ap total (reaches-read k (omega arith)) ∙ read_total (spans_of layout (get_or frames k 0)) in
       let c = ap (reads_before layout frames) e ∙ sum_by_more (λ a. sum_by read_count (spans_of layout a)) frames k 0 (omega arith) in
       omega (arith, a, b, c, first-reads k (omega arith))
 
-  among : (stretch : Stretch) (span : Span) → overlap_among (epoch_weave layout input frames (map kept_of kept) cursors) stretch span ≡ flat_map (renumbered frames) (overlap stretch span)
+  among : (stretch : Stretch) (span : Span) → overlap_among (weave_over layout input frames (map kept_of kept) sink) stretch span ≡ flat_map (renumbered frames) (overlap stretch span)
   among stretch span = as_cond (number_in frames span.frame) ∙ by_test (nat_lt (overlap_first stretch span) (overlap_end stretch span))
     where
       as_cond : (o : Option ℕ) → option_map_or (λ f. overlap stretch (with_frame f span)) o [] ≡ option_map_or (λ f. cond (nat_lt (overlap_first stretch span) (overlap_end stretch span)) (piece_between stretch (with_frame f span) ∷ []) []) o []
@@ -109,51 +109,51 @@ module _ (layout : Layout) (input frames : List ℕ) (kept : List Kept) (cursors
       by_test true = one (number_in frames span.frame)
       by_test false = nothing (number_in frames span.frame)
 
-  into : (stretch : Stretch) → pieces_among layout (epoch_weave layout input frames (map kept_of kept) cursors) stretch ≡ pieces_for layout frames stretch
+  into : (stretch : Stretch) → pieces_among layout (weave_over layout input frames (map kept_of kept) sink) stretch ≡ pieces_for layout frames stretch
   into stretch =
-      flat_map-same (λ place. overlap_among (epoch_weave layout input frames (map kept_of kept) cursors) stretch (writer_at layout stretch.stream place)) (λ place. flat_map (renumbered frames) (overlap stretch (writer_at layout stretch.stream place))) (range_with_len 0 (length (writers_on layout stretch.stream))) (λ place. among stretch (writer_at layout stretch.stream place))
+      flat_map-same (λ place. overlap_among (weave_over layout input frames (map kept_of kept) sink) stretch (writer_at layout stretch.stream place)) (λ place. flat_map (renumbered frames) (overlap stretch (writer_at layout stretch.stream place))) (range_with_len 0 (length (writers_on layout stretch.stream))) (λ place. among stretch (writer_at layout stretch.stream place))
       ∙ sym (flat_map-flat_map (renumbered frames) (λ place. overlap stretch (writer_at layout stretch.stream place)) (range_with_len 0 (length (writers_on layout stretch.stream))))
 
   -- the pieces into a frame, by its stretches
-  into_frame : (f at : ℕ) (rs : List Reach) → at ≡ length (cells_of_first (epoch_weave layout input frames (map kept_of kept) cursors) f) → epoch_reaches layout frames cursors f ≡ rs → flat_map (pieces_for layout frames) (stretches_from f at rs) ≡ frame_pieces layout (epoch_weave layout input frames (map kept_of kept) cursors) f
+  into_frame : (f at : ℕ) (rs : List Reach) → at ≡ length (cells_of_first (weave_over layout input frames (map kept_of kept) sink) f) → reaches_over layout frames sink f ≡ rs → flat_map (pieces_for layout frames) (stretches_from f at rs) ≡ frame_pieces layout (weave_over layout input frames (map kept_of kept) sink) f
   into_frame f at rs at_is rs_are =
       ap (λ xs. flat_map (pieces_for layout frames) (stretches_from f at xs)) (sym rs_are)
-      ∙ ap (λ k. flat_map (pieces_for layout frames) (stretches_from f k (epoch_reaches layout frames cursors f))) at_is
-      ∙ ap (flat_map (pieces_for layout frames)) (stretches-are f (length (cells_of_first (epoch_weave layout input frames (map kept_of kept) cursors) f)) (epoch_reaches layout frames cursors f))
-      ∙ flat_map-map (pieces_for layout frames) (stretch_in (epoch_weave layout input frames (map kept_of kept) cursors) f) (range_with_len 0 (length (epoch_reaches layout frames cursors f)))
-      ∙ sym (flat_map-same (λ i. pieces_among layout (epoch_weave layout input frames (map kept_of kept) cursors) (stretch_in (epoch_weave layout input frames (map kept_of kept) cursors) f i)) (λ i. pieces_for layout frames (stretch_in (epoch_weave layout input frames (map kept_of kept) cursors) f i)) (range_with_len 0 (length (epoch_reaches layout frames cursors f))) (λ i. into (stretch_in (epoch_weave layout input frames (map kept_of kept) cursors) f i)))
+      ∙ ap (λ k. flat_map (pieces_for layout frames) (stretches_from f k (reaches_over layout frames sink f))) at_is
+      ∙ ap (flat_map (pieces_for layout frames)) (stretches-are f (length (cells_of_first (weave_over layout input frames (map kept_of kept) sink) f)) (reaches_over layout frames sink f))
+      ∙ flat_map-map (pieces_for layout frames) (stretch_in (weave_over layout input frames (map kept_of kept) sink) f) (range_with_len 0 (length (reaches_over layout frames sink f)))
+      ∙ sym (flat_map-same (λ i. pieces_among layout (weave_over layout input frames (map kept_of kept) sink) (stretch_in (weave_over layout input frames (map kept_of kept) sink) f i)) (λ i. pieces_for layout frames (stretch_in (weave_over layout input frames (map kept_of kept) sink) f i)) (range_with_len 0 (length (reaches_over layout frames sink f))) (λ i. into (stretch_in (weave_over layout input frames (map kept_of kept) sink) f i)))
 
   -- ---- all frames
 
   pub all_pieces_are : (next : ℕ) → next ≡ reads_before layout frames (length frames)
-      → flat_map (pieces_for layout frames) (flat_map (read_part layout frames) (range_with_len 0 (length frames))) ++ flat_map (pieces_for layout frames) (stretches_from (length frames) next (leaving_reaches layout frames cursors))
-      ≡ woven_pieces layout (epoch_weave layout input frames (map kept_of kept) cursors)
+      → flat_map (pieces_for layout frames) (flat_map (read_part layout frames) (range_with_len 0 (length frames))) ++ flat_map (pieces_for layout frames) (stretches_from (length frames) next sink)
+      ≡ woven_pieces layout (weave_over layout input frames (map kept_of kept) sink)
   unfolding woven_pieces
   all_pieces_are next next_is =
-      let g = frame_pieces layout (epoch_weave layout input frames (map kept_of kept) cursors) in
+      let g = frame_pieces layout (weave_over layout input frames (map kept_of kept) sink) in
       let n = length frames in
-      ap (λ xs. xs ++ flat_map (pieces_for layout frames) (stretches_from n next (leaving_reaches layout frames cursors)))
+      ap (λ xs. xs ++ flat_map (pieces_for layout frames) (stretches_from n next sink))
       (flat_map-flat_map (pieces_for layout frames) (read_part layout frames) (range_with_len 0 n)
       ∙ flat_map-range-same (λ f. flat_map (pieces_for layout frames) (read_part layout frames f)) g 0 n (λ f l u. into_frame f (reads_before layout frames f) (map read_reach (spans_of layout (get_or frames f 0))) (sym (first-reads f (omega arith))) (reaches-read f (omega arith))))
-      ∙ ap (λ xs. flat_map g (range_with_len 0 n) ++ xs) (into_frame n next (leaving_reaches layout frames cursors) (next_is ∙ sym (first-reads n (omega arith))) reaches-left)
+      ∙ ap (λ xs. flat_map g (range_with_len 0 n) ++ xs) (into_frame n next sink (next_is ∙ sym (first-reads n (omega arith))) reaches-left)
       ∙ sym (flat_map-range_more g 0 n ∙ ap (λ k. flat_map g (range_with_len 0 n) ++ g k) (zero-add n))
 
   pub all_cells_are : (next : ℕ)
-      → flat_map (filled_cells input kept) (flat_map (read_part layout frames) (range_with_len 0 (length frames))) ++ flat_map (filled_cells input kept) (stretches_from (length frames) next (leaving_reaches layout frames cursors))
-      ≡ cells_of_first (epoch_weave layout input frames (map kept_of kept) cursors) (length frames + 1)
+      → flat_map (filled_cells input kept) (flat_map (read_part layout frames) (range_with_len 0 (length frames))) ++ flat_map (filled_cells input kept) (stretches_from (length frames) next sink)
+      ≡ cells_of_first (weave_over layout input frames (map kept_of kept) sink) (length frames + 1)
   all_cells_are next =
-      let g = frame_cells (epoch_weave layout input frames (map kept_of kept) cursors) in
+      let g = frame_cells (weave_over layout input frames (map kept_of kept) sink) in
       let n = length frames in
-      ap (λ xs. xs ++ flat_map (filled_cells input kept) (stretches_from n next (leaving_reaches layout frames cursors)))
+      ap (λ xs. xs ++ flat_map (filled_cells input kept) (stretches_from n next sink))
       (flat_map-flat_map (filled_cells input kept) (read_part layout frames) (range_with_len 0 n)
-      ∙ flat_map-range-same (λ f. flat_map (filled_cells input kept) (read_part layout frames f)) g 0 n (λ f l u. cells_from layout input frames kept cursors f (reads_before layout frames f) (map read_reach (spans_of layout (get_or frames f 0))) ∙ ap (flat_map (reach_cells (epoch_weave layout input frames (map kept_of kept) cursors))) (sym (reaches-read f (omega arith)))))
-      ∙ ap (λ xs. flat_map g (range_with_len 0 n) ++ xs) (cells_from layout input frames kept cursors n next (leaving_reaches layout frames cursors) ∙ ap (flat_map (reach_cells (epoch_weave layout input frames (map kept_of kept) cursors))) (sym reaches-left))
+      ∙ flat_map-range-same (λ f. flat_map (filled_cells input kept) (read_part layout frames f)) g 0 n (λ f l u. cells_from layout input frames kept sink f (reads_before layout frames f) (map read_reach (spans_of layout (get_or frames f 0))) ∙ ap (flat_map (reach_cells (weave_over layout input frames (map kept_of kept) sink))) (sym (reaches-read f (omega arith)))))
+      ∙ ap (λ xs. flat_map g (range_with_len 0 n) ++ xs) (cells_from layout input frames kept sink n next sink ∙ ap (flat_map (reach_cells (weave_over layout input frames (map kept_of kept) sink))) (sym reaches-left))
       ∙ sym (flat_map-range_more g 0 n ∙ ap (λ k. flat_map g (range_with_len 0 n) ++ g k) (zero-add n))
 
   -- the cells of a frame stand together
-  cells_split : (f : ℕ) → f ≤ length frames → (rest : List (Option ℤ)) × (cells_of_first (epoch_weave layout input frames (map kept_of kept) cursors) (length frames + 1) ≡ cells_of_first (epoch_weave layout input frames (map kept_of kept) cursors) f ++ (frame_cells (epoch_weave layout input frames (map kept_of kept) cursors) f ++ rest))
+  cells_split : (f : ℕ) → f ≤ length frames → (rest : List (Option ℤ)) × (cells_of_first (weave_over layout input frames (map kept_of kept) sink) (length frames + 1) ≡ cells_of_first (weave_over layout input frames (map kept_of kept) sink) f ++ (frame_cells (weave_over layout input frames (map kept_of kept) sink) f ++ rest))
   cells_split f le =
-      let g = frame_cells (epoch_weave layout input frames (map kept_of kept) cursors) in
+      let g = frame_cells (weave_over layout input frames (map kept_of kept) sink) in
       let m = length frames - f in (
         flat_map g (range_with_len (f + 1) m),
         ap (λ k. flat_map g (range_with_len 0 k)) (let e : length frames + 1 ≡ f + suc m = omega arith in e)
@@ -172,23 +172,23 @@ module _ (layout : Layout) (input frames : List ℕ) (kept : List Kept) (cursors
       take_front [] ys = refl
       take_front (x ∷ xs) ys = ap (λ zs. x ∷ zs) (take_front xs ys)
 
-  pub frame_part : (f a n : ℕ) (cells : List (Option ℤ)) → f ≤ length frames → cells ≡ cells_of_first (epoch_weave layout input frames (map kept_of kept) cursors) (length frames + 1) → a ≡ reads_before layout frames f → n ≡ total (epoch_reaches layout frames cursors f) → take n (drop a cells) ≡ frame_cells (epoch_weave layout input frames (map kept_of kept) cursors) f
+  pub frame_part : (f a n : ℕ) (cells : List (Option ℤ)) → f ≤ length frames → cells ≡ cells_of_first (weave_over layout input frames (map kept_of kept) sink) (length frames + 1) → a ≡ reads_before layout frames f → n ≡ total (reaches_over layout frames sink f) → take n (drop a cells) ≡ frame_cells (weave_over layout input frames (map kept_of kept) sink) f
   frame_part f a n cells le cells_are a_is n_is =
       let s = cells_split f le in
       ap (λ xs. take n (drop a xs)) (cells_are ∙ s.1)
-      ∙ part (cells_of_first (epoch_weave layout input frames (map kept_of kept) cursors) f) (frame_cells (epoch_weave layout input frames (map kept_of kept) cursors) f) s.0 a n (a_is ∙ sym (first-reads f le)) (n_is ∙ sym (length-reaches (epoch_weave layout input frames (map kept_of kept) cursors) (epoch_reaches layout frames cursors f)))
+      ∙ part (cells_of_first (weave_over layout input frames (map kept_of kept) sink) f) (frame_cells (weave_over layout input frames (map kept_of kept) sink) f) s.0 a n (a_is ∙ sym (first-reads f le)) (n_is ∙ sym (length-reaches (weave_over layout input frames (map kept_of kept) sink) (reaches_over layout frames sink f)))
 
-  pub frame_is_woven : (f : ℕ) (cells : List (Option ℤ)) → f < length frames → cells ≡ cells_of_first (epoch_weave layout input frames (map kept_of kept) cursors) (length frames + 1)
-      → epoch_frame layout frames (woven_pieces layout (epoch_weave layout input frames (map kept_of kept) cursors)) cells f ≡ woven_frame layout (epoch_weave layout input frames (map kept_of kept) cursors) f
+  pub frame_is_woven : (f : ℕ) (cells : List (Option ℤ)) → f < length frames → cells ≡ cells_of_first (weave_over layout input frames (map kept_of kept) sink) (length frames + 1)
+      → epoch_frame layout frames (woven_pieces layout (weave_over layout input frames (map kept_of kept) sink)) cells f ≡ woven_frame layout (weave_over layout input frames (map kept_of kept) sink) f
   frame_is_woven f cells lt cells_are =
-      let wv = epoch_weave layout input frames (map kept_of kept) cursors in
-      let all = woven_pieces layout (epoch_weave layout input frames (map kept_of kept) cursors) in
-      let inputs : sum_by read_count (spans_of layout (get_or frames f 0)) ≡ total (epoch_reaches layout frames cursors f) = sym (ap total (reaches-read f lt) ∙ read_total (spans_of layout (get_or frames f 0))) in
+      let wv = weave_over layout input frames (map kept_of kept) sink in
+      let all = woven_pieces layout (weave_over layout input frames (map kept_of kept) sink) in
+      let inputs : sum_by read_count (spans_of layout (get_or frames f 0)) ≡ total (reaches_over layout frames sink f) = sym (ap total (reaches-read f lt) ∙ read_total (spans_of layout (get_or frames f 0))) in
       let o = sum_by write_count (spans_of layout (get_or frames f 0)) in
       ap (λ n. record { cell = n; inputs = sum_by read_count (spans_of layout (get_or frames f 0)); outputs = o; wait = count_by is_none (take (sum_by read_count (spans_of layout (get_or frames f 0))) (drop (reads_before layout frames f) cells)); piece = length (by_frame all f); pieces = length (pieces_from all f) }) (sym (first-reads f (omega arith)))
-      ∙ ap (λ n. record { cell = length (cells_of_first (epoch_weave layout input frames (map kept_of kept) cursors) f); inputs = sum_by read_count (spans_of layout (get_or frames f 0)); outputs = o; wait = count_by is_none n; piece = length (by_frame all f); pieces = length (pieces_from all f) }) (frame_part f (reads_before layout frames f) (sum_by read_count (spans_of layout (get_or frames f 0))) cells (omega arith) cells_are refl inputs)
-      ∙ ap (λ n. record { cell = length (cells_of_first (epoch_weave layout input frames (map kept_of kept) cursors) f); inputs = n; outputs = o; wait = count_by is_none (frame_cells (epoch_weave layout input frames (map kept_of kept) cursors) f); piece = length (by_frame all f); pieces = length (pieces_from all f) }) inputs
+      ∙ ap (λ n. record { cell = length (cells_of_first (weave_over layout input frames (map kept_of kept) sink) f); inputs = sum_by read_count (spans_of layout (get_or frames f 0)); outputs = o; wait = count_by is_none n; piece = length (by_frame all f); pieces = length (pieces_from all f) }) (frame_part f (reads_before layout frames f) (sum_by read_count (spans_of layout (get_or frames f 0))) cells (omega arith) cells_are refl inputs)
+      ∙ ap (λ n. record { cell = length (cells_of_first (weave_over layout input frames (map kept_of kept) sink) f); inputs = n; outputs = o; wait = count_by is_none (frame_cells (weave_over layout input frames (map kept_of kept) sink) f); piece = length (by_frame all f); pieces = length (pieces_from all f) }) inputs
 
   -- the cells of the sink
-  pub left_total : total (epoch_reaches layout frames cursors (length frames)) ≡ total (leaving_reaches layout frames cursors)
+  pub left_total : total (reaches_over layout frames sink (length frames)) ≡ total sink
   left_total = ap total reaches-left

@@ -1,9 +1,9 @@
 -- The plan of a whole run is sound, and stands for it.
-use Rattle.std.proofs.Common.{◌≡◌, ℕ, pos, zero, suc, ◌+◌, ◌-◌, ◌<◌, ◌≤◌, Bool, true, false, cond, List, [], ◌∷◌, Option, Some, None, length, map, get_or, refl, ap, ◌∙◌, arith, zero-add}
+use Rattle.std.proofs.Common.{◌≡◌, ℕ, pos, zero, suc, ◌+◌, ◌-◌, ◌^◌, ◌<◌, ◌≤◌, Bool, true, false, cond, List, [], ◌∷◌, Option, Some, None, length, map, get_or, refl, ap, ◌∙◌, arith, zero-add}
 use Rattle.std.specs.Prelude.{slice_get, sum_by, All, ◌==◌}
 use Rattle.std.specs.Option.{option_map_or}
 use Rattle.std.specs.List.{flat_map, range_with_len}
-use Rattle.std.proofs.lemmas.List.{append-nil}
+use Rattle.std.proofs.lemmas.List.{append-nil, take_all}
 use Rattle.std.proofs.lemmas.List.FromFn.{length-range_with_len, get_or-map-range_with_len}
 use Rattle.std.proofs.lemmas.Option.{slice_get-get_or, slice_get_within}
 use Rattle.flow_core_laws.specs.declared.activation.Activation.{Activation}
@@ -25,6 +25,7 @@ use Rattle.stream_match_layouts.specs.Spans.{frame_count, read_count}
 use Rattle.stream_match.specs.Weave.{Reach, total, reach_places, IsWoven, CanWeave}
 use Rattle.stream_match.specs.EpochPlan.{AreFrames, WrittenOutside}
 use Rattle.stream_match.specs.Whole.{all_frames, output_reach, whole_weave}
+use Rattle.stream_match.specs.EpochCode.{CanLeave}
 use Rattle.stream_match_layouts.proofs.Windows.{claims_in-windows}
 use Rattle.stream_match_layouts.proofs.Sums.{cells_few, cells_before-all}
 use Rattle.stream_match_layouts.proofs.Tallies.{frame_count-is}
@@ -49,10 +50,10 @@ module _ (layout : Layout) (is : IsLayout layout) where
   at_is : (i : ℕ) → i < frame_count layout → get_or (all_frames layout) i 0 ≡ i
   at_is i lt = range_at 0 (frame_count layout) i 0 lt ∙ zero-add i
 
-  count_is : length (all_frames layout) ≡ frame_count layout
+  pub count_is : length (all_frames layout) ≡ frame_count layout
   count_is = length-range_with_len 0 (frame_count layout)
 
-  are : AreFrames layout (all_frames layout)
+  pub are : AreFrames layout (all_frames layout)
   are = record {
     exist = λ i lt. omega (arith, at_is i (omega (arith, count_is)), count_is);
     ascend = λ i j less lt. omega (arith, at_is i (omega (arith, count_is)), at_is j (omega (arith, count_is)));
@@ -63,6 +64,14 @@ module _ (layout : Layout) (is : IsLayout layout) where
 
   fits : sum_by (over_frame read_count layout) (all_frames layout) + total (output_reach layout ∷ []) ≤ 4194304
   fits = omega (arith, frames_within layout is read_count (all_frames layout) 0 (λ i lt. omega arith) are.exist are.ascend, cells_before-all layout, cells_few layout is, total_one (output_reach layout))
+
+  -- the output can leave all frames
+  pub can_leave : CanLeave layout (all_frames layout) (output_reach layout ∷ [])
+  can_leave = record {
+    exist = exist;
+    small = single (λ (r : Reach). r.first < 2 ^ 62) (output_reach layout) (omega arith);
+    few = omega (arith, fits, ap (sum_by (over_frame read_count layout)) (take_all (length (all_frames layout)) (all_frames layout) (omega arith)));
+  }
 
   module _ (activations : List Activation) (of : IsLayoutOf layout activations) (input : List ℕ) where
     outside : WrittenOutside activations (all_frames layout) []

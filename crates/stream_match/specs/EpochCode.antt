@@ -1,5 +1,5 @@
 -- What restates private functions of the plan of an epoch.
-use Rattle.std.specs.Prelude.{◌≡◌, ℕ, ℤ, ◌+◌, ◌<◌, ◌≤◌, ◌⊎◌, List, [], ◌∷◌, Option, Some, slice_get, slice_index, length, map, sum_by, take, drop, count_by, is_none}
+use Rattle.std.specs.Prelude.{◌≡◌, ℕ, ℤ, ◌+◌, ◌<◌, ◌≤◌, ◌⊎◌, List, [], ◌∷◌, Option, Some, slice_get, slice_index, length, map, sum_by, take, drop, count_by, is_none, ◌^◌, All}
 use Rattle.std.specs.Option.{option_map_or}
 use Rattle.std.specs.List.{flat_map, range_with_len}
 use Rattle.flow_core_laws.specs.declared.plan.FramePlan.{FramePlan}
@@ -11,9 +11,10 @@ use Rattle.stream_match.specs.declared.kept.Kept.{Kept}
 use Rattle.stream_match.specs.Kept.{kept_of}
 use Rattle.stream_match_layouts.specs.declared.layout.Layout.{Layout}
 use Rattle.stream_match.specs.declared.stretch.Stretch.{Stretch}
+use Rattle.stream_match.specs.declared.reaching.Reaching.{Reaching}
 use Rattle.stream_match_layouts.specs.Spans.{read_count, write_count, spans_of}
 use Rattle.stream_match.specs.Stretch.{pieces_into, pieces_from, by_frame}
-use Rattle.stream_match.specs.Weave.{Reach}
+use Rattle.stream_match.specs.Weave.{Reach, total}
 use Rattle.stream_match.specs.EpochPlan.{read_reach, epoch_value}
 
 -- the numbers ascend
@@ -67,3 +68,19 @@ epoch_frame layout frames pieces cells f = record {
   piece = length (by_frame pieces f);
   pieces = length (pieces_from pieces f);
 }
+
+-- What frames read: stretches from the first cell on, and the cell behind them.
+pub record IsRead (layout : Layout) (frames : List ℕ) (read : Reaching) : Type 0 where
+  pub stretches_are : read.stretches ≡ flat_map (read_part layout frames) (range_with_len 0 (length frames))
+  pub next_is : read.next ≡ reads_before layout frames (length frames)
+
+-- What leaves frames: stretches behind the cells that they read, and the cell behind them.
+pub record IsLeft (layout : Layout) (frames : List ℕ) (sink : List Reach) (left : Reaching) : Type 0 where
+  pub stretches_are : left.stretches ≡ stretches_from (length frames) (reads_before layout frames (length frames)) sink
+  pub next_is : left.next ≡ reads_before layout frames (length frames) + total sink
+
+-- Reaches can leave frames: they are of streams of the layout, and no number passes the end of its type.
+pub record CanLeave (layout : Layout) (frames : List ℕ) (sink : List Reach) : Type 0 where
+  pub exist : All (λ (r : Reach). r.stream < length layout.writers) sink
+  pub small : All (λ (r : Reach). r.first < 2 ^ 62) sink
+  pub few : reads_before layout frames (length frames) + total sink ≤ 4194304

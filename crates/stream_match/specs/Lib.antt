@@ -1,11 +1,11 @@
--- What a reader believes: the plan of a run, its cells, its pieces and its frames.
+-- What a reader believes: pieces, a plan over frames, numbers and reaches, whatever they are,
 pub mod Stretch
--- A plan over frames, numbers and reaches, whatever they are; and the plans of an epoch and of a whole run.
 pub mod Weave
+-- and what these are in the plan of an epoch and in that of a whole run.
 pub mod EpochPlan
 pub mod Kept
 pub mod Whole
--- What restates private functions: finding and placing pieces, cursors, and the plan of an epoch.
+-- What restates private functions: finding and placing pieces, cursors, and rows of stretches.
 pub mod Walking
 pub mod Cursors
 pub mod EpochCode

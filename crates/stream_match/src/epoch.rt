@@ -11,15 +11,14 @@ ghost use Rattle.stream_match.specs.Kept.{kept_of, place_of, IsKeptOutside};
 ghost use Rattle.stream_match.specs.EpochCode.{Ascend, AreSorted, pieces_for, filled_cells, stretch_places};
 
 use crate::cursors::read_cursors;
-use crate::epoch_frames::{between, epoch_frames};
-use crate::filling::{add_places, empty, fill};
-use crate::gather::{gather, place_by_frame};
+use crate::filling::add_places;
 use crate::kept::Kept;
 use crate::look_up::sorted;
 use crate::place::Place;
 use crate::reaching::{leaving, reading};
 use crate::stretch::Stretch;
-use flow_core_laws::{FramePlan, Piece, Plan};
+use crate::woven::weave_rows;
+use flow_core_laws::Plan;
 use os_io::{List, Memory};
 use std::alloc::Global;
 use stream_match_layouts::Layout;
@@ -83,71 +82,14 @@ fn weave(
 {
     let read = reading(alloc, layout, frames)?;
     let left = leaving(alloc, layout, frames, cursors, read.next)?;
-    let reads = read.stretches.as_slice();
-    let leaves = left.stretches.as_slice();
-    let filled = filled(alloc, kept, input, reads, leaves)?;
-    let pieces = gathered(alloc, layout, frames, reads, leaves)?;
-    let plans = epoch_frames(alloc, layout, frames, pieces.as_slice(), filled.as_slice())?;
-    let placed = place_by_frame(alloc, pieces.as_slice(), plans.as_slice())?;
-    let places = places(alloc, leaves)?;
+    let places = places(alloc, left.stretches.as_slice())?;
+    let plan = weave_rows(alloc, layout, frames, &read, &left, kept, input)?;
     let frames = copied(alloc, frames)?;
-    let sink = FramePlan {
-        cell: read.next,
-        inputs: left.next - read.next,
-        outputs: 0,
-        wait: empty(between(filled.as_slice(), read.next as usize, left.next as usize)),
-        piece: pieces.len() as u32,
-        pieces: 0,
-    };
     Ok(EpochPlan {
-        plan: Plan {
-            frames: plans,
-            sink,
-            pieces: placed,
-            filled,
-        },
+        plan,
         frames,
         places,
     })
-}
-
-/// The cells of what is read and of what leaves.
-fn filled(
-    alloc: Global,
-    kept: &[Kept],
-    input: &[u8],
-    reads: &[Stretch],
-    leaves: &[Stretch],
-) -> Result<List<Option<i32>>, Memory>
-    requires kept { AreSorted kept.now }
-    requires reads { All (λ (s : Stretch). s.first + s.count < 2 ^ 64) reads.now }
-    requires leaves { All (λ (s : Stretch). s.first + s.count < 2 ^ 64) leaves.now }
-    ensures { IfOk result (λ cells. cells ≡ flat_map (filled_cells input.now kept.now) reads.now ++ flat_map (filled_cells input.now kept.now) leaves.now) }
-{
-    let mut cells = List::new(alloc);
-    fill(&mut cells, kept, input, reads)?;
-    fill(&mut cells, kept, input, leaves)?;
-    Ok(cells)
-}
-
-/// The pieces into what is read and into what leaves.
-fn gathered(
-    alloc: Global,
-    layout: &Layout,
-    frames: &[u32],
-    reads: &[Stretch],
-    leaves: &[Stretch],
-) -> Result<List<Piece>, Memory>
-    requires ascend { Ascend frames.now }
-    requires few { length frames.now < 2 ^ 32 }
-    requires reads { All (IsStretch layout.now) reads.now }
-    requires leaves { All (IsStretch layout.now) leaves.now }
-    ensures { IfOk result (λ pieces. pieces ≡ flat_map (pieces_for layout.now frames.now) reads.now ++ flat_map (pieces_for layout.now frames.now) leaves.now) }
-{
-    let mut pieces = List::new(alloc);
-    gather(&mut pieces, layout, frames, reads)?;
-    gather(&mut pieces, layout, frames, leaves)?;
-    Ok(pieces)
 }
 
 /// The places of what leaves.

@@ -10,7 +10,6 @@
 //! whole run are one plan over reaches stands in `epoch_laws`.
 #![tactic(auto)]
 
-mod cells;
 mod cursors;
 mod epoch;
 mod epoch_frames;
@@ -26,6 +25,7 @@ mod place;
 mod plan;
 mod reaching;
 mod stretch;
+mod woven;
 
 pub use cursors::read_cursors;
 pub use epoch::{EpochPlan, build_epoch};

@@ -1,15 +1,16 @@
-ghost use Rattle.std.specs.Prelude.{◌≡◌, List, IfOk, length};
+ghost use Rattle.std.specs.Prelude.{◌≡◌, [], ◌∷◌, List, IfOk, length};
 ghost use Rattle.flow_core_laws.specs.declared.activation.Activation.{Activation};
 ghost use Rattle.flow_core_laws.specs.IsSound.{IsSound};
 ghost use Rattle.flow_core_laws.specs.StandsFor.{StandsFor};
 ghost use Rattle.stream_match_layouts.specs.Layout.{IsLayout, IsLayoutOf};
-ghost use Rattle.stream_match.specs.Stretch.{IsPlanOf};
+ghost use Rattle.stream_match.specs.Weave.{IsWoven};
+ghost use Rattle.stream_match.specs.Whole.{all_frames, output_reach, whole_weave};
+ghost use Rattle.stream_match.specs.EpochCode.{IsLeft, reads_before};
 
-use crate::cells::cells;
-use crate::frames::{Frames, make_frames};
-use crate::pieces::{count_pieces, output, place_pieces};
-use flow_core_laws::{FramePlan, Plan};
-use os_io::Memory;
+use crate::reaching::{Reaching, reading};
+use crate::woven::weave_rows;
+use flow_core_laws::Plan;
+use os_io::{List, Memory};
 use std::alloc::Global;
 use stream_match_layouts::Layout;
 
@@ -20,32 +21,51 @@ use stream_match_layouts::Layout;
 pub fn build(alloc: Global, layout: &Layout, input: &[u8]) -> Result<Plan, Memory>
     requires layout { IsLayout layout.now }
     requires input { length input.now ≡ layout.now.input_len }
-    ensures exact { IfOk result (IsPlanOf layout.now input.now) }
+    ensures exact { IfOk result (IsWoven layout.now (whole_weave layout.now input.now)) }
     ensures sound { IfOk result IsSound }
     ensures stands_for { IfOk result (λ plan. (activations : List Activation)
         → IsLayoutOf layout.now activations → StandsFor plan activations input.now) }
 {
-    let counts = count_pieces(alloc, layout)?;
-    let Frames {
-        frames,
-        cells: cell,
-        pieces: piece,
-    } = make_frames(alloc, layout, counts.as_slice())?;
-    let output = output(layout, cell);
-    let sink = FramePlan {
-        cell,
-        inputs: output.count,
-        outputs: 0,
-        wait: output.count,
-        piece,
-        pieces: 0,
+    let all = all_frames(alloc, layout)?;
+    let read = reading(alloc, layout, all.as_slice())?;
+    let left = output(alloc, layout, read.next)?;
+    let kept = Vec::new(alloc);
+    let plan = weave_rows(
+        alloc,
+        layout,
+        all.as_slice(),
+        &read,
+        &left,
+        kept.as_slice(),
+        input,
+    )?;
+    Ok(plan)
+}
+
+/// The numbers of all activations.
+fn all_frames(alloc: Global, layout: &Layout) -> Result<Vec<u32>, Memory>
+    requires { IsLayout layout.now }
+    ensures { IfOk result (λ frames. frames.items ≡ all_frames layout.now) }
+{
+    let count = layout.frames();
+    let mut frames = Vec::with_capacity(alloc, count)?;
+    for frame in 0..count as u32 {
+        frames.push(frame)?;
+    }
+    Ok(frames)
+}
+
+/// The positions of the output that are claimed for writing, behind the cells of all frames.
+fn output(alloc: Global, layout: &Layout, next: u32) -> Result<Reaching, Memory>
+    requires layout { IsLayout layout.now }
+    requires next { next ≡ reads_before layout.now (all_frames layout.now) (length (all_frames layout.now)) }
+    ensures { IfOk result (IsLeft layout.now (all_frames layout.now) (output_reach layout.now ∷ [])) }
+{
+    let count = layout.writes.as_slice()[1];
+    let mut left = Reaching {
+        stretches: List::new(alloc),
+        next,
     };
-    let pieces = place_pieces(alloc, layout, frames.as_slice(), piece as usize)?;
-    let filled = cells(alloc, layout, input, cell as usize + output.count as usize)?;
-    Ok(Plan {
-        frames,
-        sink,
-        pieces,
-        filled,
-    })
+    left.add(layout.frames() as u32, 1, 0, count as u32)?;
+    Ok(left)
 }

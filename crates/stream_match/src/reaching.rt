@@ -109,7 +109,7 @@ impl Reaching {
     }
 
     /// Adds a stretch.
-    fn add(&mut self, to: u32, stream: u32, first: u64, count: u32) -> Result<(), Memory>
+    pub(crate) fn add(&mut self, to: u32, stream: u32, first: u64, count: u32) -> Result<(), Memory>
         requires { self.old.next + count < 2 ^ 32 }
         ensures stretches { OnOk result (self.new.stretches ≡ self.old.stretches ++ record { to = to; stream = stream; first = first; count = count; at = self.old.next } ∷ []) }
         ensures next { OnOk result (self.new.next ≡ self.old.next + count) }

@@ -1,169 +1,50 @@
-use Rattle.std.proofs.Common.{◌≡◌, ◌∙◌, ◌-◌, ◌<◌, ℕ, ℤ, List, Option, length, take, drop, map, is_none, count_by, ap, sym, subst, refl, arith}
-use Rattle.std.specs.Prelude.{All}
-use Rattle.std.specs.List.{range_with_len}
-use Rattle.std.proofs.lemmas.List.FromFn.{length-map-range_with_len}
-use Rattle.flow_core_laws.specs.declared.plan.FramePlan.{FramePlan}
-use Rattle.flow_core_laws.specs.declared.plan.Piece.{Piece}
-use Rattle.stream_match_layouts.specs.declared.layout.Layout.{Layout}
-use Rattle.stream_match.specs.Stretch.{by_frame}
-use Rattle.stream_match.specs.Walking.{HasPlace}
-use Rattle.stream_match.specs.Kept.{place_of}
-use Rattle.stream_match.specs.EpochCode.{epoch_frame}
-use Rattle.stream_match.proofs.Behind.{few_frames}
-use Rattle.stream_match.proofs.EpochRows.{has_place}
-use Rattle.stream_match.proofs.EpochMade.{AreRows, reads_stretches, leaves_stretches, reads_end, leaves_end, pieces_from_frames, pieces_are_few, cells_end, end_few, plan_made}
+use Rattle.std.proofs.Common.{◌∙◌, ◌+◌, length, ap, refl}
+use Rattle.std.specs.List.{flat_map}
+use Rattle.stream_match.specs.Weave.{total}
+use Rattle.stream_match.specs.EpochPlan.{leaving_reaches}
+use Rattle.stream_match.specs.EpochCode.{IsRead, IsLeft, CanLeave, stretch_places, stretches_from}
+use Rattle.stream_match.proofs.Rows.{places_from_stretches}
+use Rattle.stream_match.proofs.EpochRows.{leaving_can}
+use Rattle.stream_match.proofs.EpochMade.{rows_of, leaves_end}
 use Rattle.stream_match.proofs.epoch.weave.Goals as goal
-
-plans_count : (plans : List FramePlan) (layout : Layout) (frames : List ℕ) (pieces : List Piece) (cells : List (Option ℤ)) → plans ≡ map (epoch_frame layout frames pieces cells) (range_with_len 0 (length frames)) → length plans ≡ length frames
-plans_count plans layout frames pieces cells are = ap length are ∙ length-map-range_with_len (epoch_frame layout frames pieces cells) 0 (length frames)
-
-pub filled-requires-clause-reads : goal.filled-requires-clause-reads
-filled-requires-clause-reads c =
-    let layout = c.args.layout.now in
-    let is = c.requires.layout in
-    let frames = c.args.frames.now in
-    let cursors = c.args.cursors.now in
-    let rows : AreRows layout frames cursors c.as_slice-reads.result.now c.as_slice-leaves.result.now c.in_ok-read.read.next c.in_ok-left.left.next = record { reads_are = c.as_slice-reads.ensures ∙ c.in_ok-read.ensures.stretches; leaves_are = c.as_slice-leaves.ensures ∙ c.in_ok-left.ensures.stretches; next_is = c.in_ok-read.ensures.next; end_is = c.in_ok-left.ensures.next } in
-    reads_end layout is frames c.requires.frames cursors c.requires.cursors c.requires.small c.as_slice-reads.result.now c.as_slice-leaves.result.now c.in_ok-read.read.next c.in_ok-left.left.next rows
-
-pub filled-requires-clause-leaves : goal.filled-requires-clause-leaves
-filled-requires-clause-leaves c =
-    let layout = c.args.layout.now in
-    let is = c.requires.layout in
-    let frames = c.args.frames.now in
-    let cursors = c.args.cursors.now in
-    let rows : AreRows layout frames cursors c.as_slice-reads.result.now c.as_slice-leaves.result.now c.in_ok-read.read.next c.in_ok-left.left.next = record { reads_are = c.as_slice-reads.ensures ∙ c.in_ok-read.ensures.stretches; leaves_are = c.as_slice-leaves.ensures ∙ c.in_ok-left.ensures.stretches; next_is = c.in_ok-read.ensures.next; end_is = c.in_ok-left.ensures.next } in
-    leaves_end layout is frames c.requires.frames cursors c.requires.cursors c.requires.small c.as_slice-reads.result.now c.as_slice-leaves.result.now c.in_ok-read.read.next c.in_ok-left.left.next rows
-
-pub gathered-requires-clause-few : goal.gathered-requires-clause-few
-gathered-requires-clause-few c =
-    let layout = c.args.layout.now in
-    let is = c.requires.layout in
-    let frames = c.args.frames.now in
-    let cursors = c.args.cursors.now in
-    let rows : AreRows layout frames cursors c.as_slice-reads.result.now c.as_slice-leaves.result.now c.in_ok-read.read.next c.in_ok-left.left.next = record { reads_are = c.as_slice-reads.ensures ∙ c.in_ok-read.ensures.stretches; leaves_are = c.as_slice-leaves.ensures ∙ c.in_ok-left.ensures.stretches; next_is = c.in_ok-read.ensures.next; end_is = c.in_ok-left.ensures.next } in
-    omega (arith, few_frames layout is frames c.requires.frames)
-
-pub gathered-requires-clause-reads : goal.gathered-requires-clause-reads
-gathered-requires-clause-reads c =
-    let layout = c.args.layout.now in
-    let is = c.requires.layout in
-    let frames = c.args.frames.now in
-    let cursors = c.args.cursors.now in
-    let rows : AreRows layout frames cursors c.as_slice-reads.result.now c.as_slice-leaves.result.now c.in_ok-read.read.next c.in_ok-left.left.next = record { reads_are = c.as_slice-reads.ensures ∙ c.in_ok-read.ensures.stretches; leaves_are = c.as_slice-leaves.ensures ∙ c.in_ok-left.ensures.stretches; next_is = c.in_ok-read.ensures.next; end_is = c.in_ok-left.ensures.next } in
-    reads_stretches layout is frames c.requires.frames cursors c.requires.cursors c.requires.small c.as_slice-reads.result.now c.as_slice-leaves.result.now c.in_ok-read.read.next c.in_ok-left.left.next rows
-
-pub gathered-requires-clause-leaves : goal.gathered-requires-clause-leaves
-gathered-requires-clause-leaves c =
-    let layout = c.args.layout.now in
-    let is = c.requires.layout in
-    let frames = c.args.frames.now in
-    let cursors = c.args.cursors.now in
-    let rows : AreRows layout frames cursors c.as_slice-reads.result.now c.as_slice-leaves.result.now c.in_ok-read.read.next c.in_ok-left.left.next = record { reads_are = c.as_slice-reads.ensures ∙ c.in_ok-read.ensures.stretches; leaves_are = c.as_slice-leaves.ensures ∙ c.in_ok-left.ensures.stretches; next_is = c.in_ok-read.ensures.next; end_is = c.in_ok-left.ensures.next } in
-    leaves_stretches layout is frames c.requires.frames cursors c.requires.cursors c.requires.small c.as_slice-reads.result.now c.as_slice-leaves.result.now c.in_ok-read.read.next c.in_ok-left.left.next rows
-
-pub epoch_frames-requires-clause-from : goal.epoch_frames-requires-clause-from
-epoch_frames-requires-clause-from c =
-    let layout = c.args.layout.now in
-    let is = c.requires.layout in
-    let frames = c.args.frames.now in
-    let cursors = c.args.cursors.now in
-    let rows : AreRows layout frames cursors c.as_slice-reads.result.now c.as_slice-leaves.result.now c.in_ok-read.read.next c.in_ok-left.left.next = record { reads_are = c.as_slice-reads.ensures ∙ c.in_ok-read.ensures.stretches; leaves_are = c.as_slice-leaves.ensures ∙ c.in_ok-left.ensures.stretches; next_is = c.in_ok-read.ensures.next; end_is = c.in_ok-left.ensures.next } in
-    pieces_from_frames layout is frames c.requires.frames cursors c.requires.cursors c.requires.small c.as_slice-reads.result.now c.as_slice-leaves.result.now c.in_ok-read.read.next c.in_ok-left.left.next rows c.args.input.now c.args.kept.now c.as_slice.result.now (c.as_slice.ensures ∙ c.in_ok-pieces.ensures)
-
-pub epoch_frames-requires-clause-few : goal.epoch_frames-requires-clause-few
-epoch_frames-requires-clause-few c =
-    let layout = c.args.layout.now in
-    let is = c.requires.layout in
-    let frames = c.args.frames.now in
-    let cursors = c.args.cursors.now in
-    let rows : AreRows layout frames cursors c.as_slice-reads.result.now c.as_slice-leaves.result.now c.in_ok-read.read.next c.in_ok-left.left.next = record { reads_are = c.as_slice-reads.ensures ∙ c.in_ok-read.ensures.stretches; leaves_are = c.as_slice-leaves.ensures ∙ c.in_ok-left.ensures.stretches; next_is = c.in_ok-read.ensures.next; end_is = c.in_ok-left.ensures.next } in
-    omega (arith, pieces_are_few layout is frames c.requires.frames cursors c.requires.cursors c.requires.small c.as_slice-reads.result.now c.as_slice-leaves.result.now c.in_ok-read.read.next c.in_ok-left.left.next rows c.as_slice.result.now (c.as_slice.ensures ∙ c.in_ok-pieces.ensures))
-
-pub epoch_frames-requires-clause-cells : goal.epoch_frames-requires-clause-cells
-epoch_frames-requires-clause-cells c =
-    let layout = c.args.layout.now in
-    let is = c.requires.layout in
-    let frames = c.args.frames.now in
-    let cursors = c.args.cursors.now in
-    let rows : AreRows layout frames cursors c.as_slice-reads.result.now c.as_slice-leaves.result.now c.in_ok-read.read.next c.in_ok-left.left.next = record { reads_are = c.as_slice-reads.ensures ∙ c.in_ok-read.ensures.stretches; leaves_are = c.as_slice-leaves.ensures ∙ c.in_ok-left.ensures.stretches; next_is = c.in_ok-read.ensures.next; end_is = c.in_ok-left.ensures.next } in
-    omega (arith, c.in_ok-read.ensures.next, c.in_ok-left.ensures.next, cells_end layout is frames c.requires.frames cursors c.requires.cursors c.requires.small c.as_slice-reads.result.now c.as_slice-leaves.result.now c.in_ok-read.read.next c.in_ok-left.left.next rows c.args.input.now c.args.kept.now c.as_slice-2.result.now (c.as_slice-2.ensures ∙ c.in_ok-filled.ensures))
-
-pub epoch_frames-requires-clause-few_cells : goal.epoch_frames-requires-clause-few_cells
-epoch_frames-requires-clause-few_cells c =
-    let layout = c.args.layout.now in
-    let is = c.requires.layout in
-    let frames = c.args.frames.now in
-    let cursors = c.args.cursors.now in
-    let rows : AreRows layout frames cursors c.as_slice-reads.result.now c.as_slice-leaves.result.now c.in_ok-read.read.next c.in_ok-left.left.next = record { reads_are = c.as_slice-reads.ensures ∙ c.in_ok-read.ensures.stretches; leaves_are = c.as_slice-leaves.ensures ∙ c.in_ok-left.ensures.stretches; next_is = c.in_ok-read.ensures.next; end_is = c.in_ok-left.ensures.next } in
-    omega (arith, end_few layout is frames c.requires.frames cursors c.requires.cursors c.requires.small c.as_slice-reads.result.now c.as_slice-leaves.result.now c.in_ok-read.read.next c.in_ok-left.left.next rows, cells_end layout is frames c.requires.frames cursors c.requires.cursors c.requires.small c.as_slice-reads.result.now c.as_slice-leaves.result.now c.in_ok-read.read.next c.in_ok-left.left.next rows c.args.input.now c.args.kept.now c.as_slice-2.result.now (c.as_slice-2.ensures ∙ c.in_ok-filled.ensures))
-
-pub place_by_frame-requires-clause-from : goal.place_by_frame-requires-clause-from
-place_by_frame-requires-clause-from c =
-    let layout = c.args.layout.now in
-    let is = c.requires.layout in
-    let frames = c.args.frames.now in
-    let cursors = c.args.cursors.now in
-    let rows : AreRows layout frames cursors c.as_slice-reads.result.now c.as_slice-leaves.result.now c.in_ok-read.read.next c.in_ok-left.left.next = record { reads_are = c.as_slice-reads.ensures ∙ c.in_ok-read.ensures.stretches; leaves_are = c.as_slice-leaves.ensures ∙ c.in_ok-left.ensures.stretches; next_is = c.in_ok-read.ensures.next; end_is = c.in_ok-left.ensures.next } in
-    subst (λ n. All (λ (p : Piece). p.from < n) c.as_slice-3.result.now) (sym (plans_count c.as_slice-4.result.now layout frames c.as_slice.result.now c.as_slice-2.result.now (c.as_slice-4.ensures ∙ c.in_ok-plans.ensures))) (pieces_from_frames layout is frames c.requires.frames cursors c.requires.cursors c.requires.small c.as_slice-reads.result.now c.as_slice-leaves.result.now c.in_ok-read.read.next c.in_ok-left.left.next rows c.args.input.now c.args.kept.now c.as_slice-3.result.now (c.as_slice-3.ensures ∙ c.in_ok-pieces.ensures))
-
-pub place_by_frame-requires-clause-few : goal.place_by_frame-requires-clause-few
-place_by_frame-requires-clause-few c =
-    let layout = c.args.layout.now in
-    let is = c.requires.layout in
-    let frames = c.args.frames.now in
-    let cursors = c.args.cursors.now in
-    let rows : AreRows layout frames cursors c.as_slice-reads.result.now c.as_slice-leaves.result.now c.in_ok-read.read.next c.in_ok-left.left.next = record { reads_are = c.as_slice-reads.ensures ∙ c.in_ok-read.ensures.stretches; leaves_are = c.as_slice-leaves.ensures ∙ c.in_ok-left.ensures.stretches; next_is = c.in_ok-read.ensures.next; end_is = c.in_ok-left.ensures.next } in
-    omega (arith, pieces_are_few layout is frames c.requires.frames cursors c.requires.cursors c.requires.small c.as_slice-reads.result.now c.as_slice-leaves.result.now c.in_ok-read.read.next c.in_ok-left.left.next rows c.as_slice-3.result.now (c.as_slice-3.ensures ∙ c.in_ok-pieces.ensures))
-
-pub place_by_frame-requires-clause-places : goal.place_by_frame-requires-clause-places
-place_by_frame-requires-clause-places c =
-    let layout = c.args.layout.now in
-    let is = c.requires.layout in
-    let frames = c.args.frames.now in
-    let cursors = c.args.cursors.now in
-    let rows : AreRows layout frames cursors c.as_slice-reads.result.now c.as_slice-leaves.result.now c.in_ok-read.read.next c.in_ok-left.left.next = record { reads_are = c.as_slice-reads.ensures ∙ c.in_ok-read.ensures.stretches; leaves_are = c.as_slice-leaves.ensures ∙ c.in_ok-left.ensures.stretches; next_is = c.in_ok-read.ensures.next; end_is = c.in_ok-left.ensures.next } in
-    subst (λ n. HasPlace c.as_slice-4.result.now c.as_slice-3.result.now n) (sym (plans_count c.as_slice-4.result.now layout frames c.as_slice.result.now c.as_slice-2.result.now (c.as_slice-4.ensures ∙ c.in_ok-plans.ensures))) (subst (λ ps. HasPlace c.as_slice-4.result.now ps (length frames)) (c.as_slice.ensures ∙ sym c.as_slice-3.ensures) (has_place layout frames c.as_slice.result.now c.as_slice-2.result.now c.as_slice-4.result.now (c.as_slice-4.ensures ∙ c.in_ok-plans.ensures)))
 
 pub places-requires : goal.places-requires
 places-requires c =
     let layout = c.args.layout.now in
-    let is = c.requires.layout in
     let frames = c.args.frames.now in
-    let cursors = c.args.cursors.now in
-    let rows : AreRows layout frames cursors c.as_slice-reads.result.now c.as_slice-leaves.result.now c.in_ok-read.read.next c.in_ok-left.left.next = record { reads_are = c.as_slice-reads.ensures ∙ c.in_ok-read.ensures.stretches; leaves_are = c.as_slice-leaves.ensures ∙ c.in_ok-left.ensures.stretches; next_is = c.in_ok-read.ensures.next; end_is = c.in_ok-left.ensures.next } in
-    leaves_end layout is frames c.requires.frames cursors c.requires.cursors c.requires.small c.as_slice-reads.result.now c.as_slice-leaves.result.now c.in_ok-read.read.next c.in_ok-left.left.next rows
+    let read = c.in_ok-read.ensures in
+    let left = c.in_ok-left.ensures in
+    let sink = leaving_reaches layout frames c.args.cursors.now in
+    let is_read : IsRead layout frames c.in_ok-read.read = record { stretches_are = read.stretches; next_is = read.next } in
+    let is_left : IsLeft layout frames sink c.in_ok-left.left = record { stretches_are = left.stretches ∙ ap (λ n. stretches_from (length frames) n sink) read.next; next_is = left.next ∙ ap (λ n. n + total sink) read.next } in
+    leaves_end layout c.requires.layout frames c.requires.frames sink (leaving_can layout c.requires.layout frames c.requires.frames c.args.cursors.now c.requires.cursors c.requires.small) c.in_ok-read.read.stretches c.as_slice.result.now c.in_ok-read.read.next c.in_ok-left.left.next
+    (rows_of layout frames sink c.in_ok-read.read c.in_ok-left.left c.in_ok-read.read.stretches c.as_slice.result.now is_read is_left refl c.as_slice.ensures)
 
-pub between-requires-clause-within : goal.between-requires-clause-within
-between-requires-clause-within c =
-    let layout = c.args.layout.now in
-    let is = c.requires.layout in
-    let frames = c.args.frames.now in
-    let cursors = c.args.cursors.now in
-    let rows : AreRows layout frames cursors c.as_slice-reads.result.now c.as_slice-leaves.result.now c.in_ok-read.read.next c.in_ok-left.left.next = record { reads_are = c.as_slice-reads.ensures ∙ c.in_ok-read.ensures.stretches; leaves_are = c.as_slice-leaves.ensures ∙ c.in_ok-left.ensures.stretches; next_is = c.in_ok-read.ensures.next; end_is = c.in_ok-left.ensures.next } in
-    omega (arith, cells_end layout is frames c.requires.frames cursors c.requires.cursors c.requires.small c.as_slice-reads.result.now c.as_slice-leaves.result.now c.in_ok-read.read.next c.in_ok-left.left.next rows c.args.input.now c.args.kept.now c.as_slice-5.result.now (c.as_slice-5.ensures ∙ c.in_ok-filled.ensures))
+pub weave_rows-requires-clause-read : goal.weave_rows-requires-clause-read
+weave_rows-requires-clause-read c = record { stretches_are = c.in_ok-read.ensures.stretches; next_is = c.in_ok-read.ensures.next }
 
-pub overflow_cast-sink : goal.overflow_cast-sink
-overflow_cast-sink c =
+pub weave_rows-requires-clause-left : goal.weave_rows-requires-clause-left
+weave_rows-requires-clause-left c =
     let layout = c.args.layout.now in
-    let is = c.requires.layout in
     let frames = c.args.frames.now in
-    let cursors = c.args.cursors.now in
-    let rows : AreRows layout frames cursors c.as_slice-reads.result.now c.as_slice-leaves.result.now c.in_ok-read.read.next c.in_ok-left.left.next = record { reads_are = c.as_slice-reads.ensures ∙ c.in_ok-read.ensures.stretches; leaves_are = c.as_slice-leaves.ensures ∙ c.in_ok-left.ensures.stretches; next_is = c.in_ok-read.ensures.next; end_is = c.in_ok-left.ensures.next } in
-    omega (arith, ap length c.in_ok-pieces.ensures, c.len.ensures, pieces_are_few layout is frames c.requires.frames cursors c.requires.cursors c.requires.small c.as_slice-reads.result.now c.as_slice-leaves.result.now c.in_ok-read.read.next c.in_ok-left.left.next rows c.in_ok-pieces.pieces c.in_ok-pieces.ensures)
+    let read = c.in_ok-read.ensures in
+    let left = c.in_ok-left.ensures in
+    let sink = leaving_reaches layout frames c.args.cursors.now in (
+      sink,
+      leaving_can layout c.requires.layout frames c.requires.frames c.args.cursors.now c.requires.cursors c.requires.small,
+      record { stretches_are = left.stretches ∙ ap (λ n. stretches_from (length frames) n sink) read.next; next_is = left.next ∙ ap (λ n. n + total sink) read.next },
+    )
 
 pub returns-clause-plan : goal.returns-clause-plan
 returns-clause-plan c =
     let layout = c.args.layout.now in
-    let is = c.requires.layout in
     let frames = c.args.frames.now in
-    let cursors = c.args.cursors.now in
-    let rows : AreRows layout frames cursors c.as_slice-reads.result.now c.as_slice-leaves.result.now c.in_ok-read.read.next c.in_ok-left.left.next = record { reads_are = c.as_slice-reads.ensures ∙ c.in_ok-read.ensures.stretches; leaves_are = c.as_slice-leaves.ensures ∙ c.in_ok-left.ensures.stretches; next_is = c.in_ok-read.ensures.next; end_is = c.in_ok-left.ensures.next } in
-    let same = c.as_slice.ensures in
-    plan_made layout is frames c.requires.frames cursors c.requires.cursors c.requires.small c.as_slice-reads.result.now c.as_slice-leaves.result.now c.in_ok-read.read.next c.in_ok-left.left.next rows c.args.input.now c.args.kept.now c.in_ok-filled.filled c.in_ok-pieces.pieces c.in_ok-plans.plans c.in_ok-placed.placed (map place_of c.in_ok-places.places) (c.in_ok-left.left.next - c.in_ok-read.read.next) c.empty.result c.len.result
-    c.in_ok-filled.ensures c.in_ok-pieces.ensures
-    (c.in_ok-plans.ensures ∙ ap (λ ps. map (epoch_frame layout frames ps c.as_slice-2.result.now) (range_with_len 0 (length frames))) c.as_slice.ensures ∙ ap (λ cs. map (epoch_frame layout frames c.in_ok-pieces.pieces cs) (range_with_len 0 (length frames))) c.as_slice-2.ensures)
-    (c.in_ok-placed.ensures ∙ ap (λ n. by_frame c.as_slice-3.result.now n) (plans_count c.as_slice-4.result.now layout frames c.as_slice.result.now c.as_slice-2.result.now (c.as_slice-4.ensures ∙ c.in_ok-plans.ensures)) ∙ ap (λ ps. by_frame ps (length frames)) c.as_slice-3.ensures)
-    c.in_ok-places.ensures refl
-    (c.empty.ensures ∙ ap (count_by is_none) c.between.ensures ∙ ap (λ cs. count_by is_none (take (c.in_ok-left.left.next - c.in_ok-read.read.next) (drop c.in_ok-read.read.next cs))) c.as_slice-5.ensures)
-    c.len.ensures
+    let read = c.in_ok-read.ensures in
+    let left = c.in_ok-left.ensures in
+    let sink = leaving_reaches layout frames c.args.cursors.now in
+    let can : CanLeave layout frames sink = leaving_can layout c.requires.layout frames c.requires.frames c.args.cursors.now c.requires.cursors c.requires.small in
+    let is_left : IsLeft layout frames sink c.in_ok-left.left = record { stretches_are = left.stretches ∙ ap (λ n. stretches_from (length frames) n sink) read.next; next_is = left.next ∙ ap (λ n. n + total sink) read.next } in
+    record {
+      woven = c.in_ok-plan.ensures sink can is_left;
+      places_are = c.in_ok-places.ensures ∙ ap (flat_map stretch_places) (c.as_slice.ensures ∙ left.stretches) ∙ places_from_stretches (length frames) c.in_ok-read.read.next sink;
+    }

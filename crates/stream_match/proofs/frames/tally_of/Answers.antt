@@ -1,8 +1,6 @@
 use Rattle.std.proofs.Common.{arith}
 use Rattle.stream_match_layouts.specs.Spans.{read_count, write_count}
-use Rattle.stream_match.specs.Stretch.{missing_count}
 use Rattle.stream_match_layouts.specs.Writers.{no_span}
-use Rattle.stream_match.proofs.CellSums.{missing-le}
 use Rattle.stream_match_layouts.proofs.Tallies.{read-le, write-le, tally_fits}
 use Rattle.stream_match.proofs.frames.tally_of.Goals as goal
 
@@ -11,6 +9,3 @@ overflow_add-inputs c = omega (arith, tally_fits read_count read-le c.args.spans
 
 pub overflow_add-outputs : goal.overflow_add-outputs
 overflow_add-outputs c = omega (arith, tally_fits write_count write-le c.args.spans.now c.loop-span.span-index no_span (omega arith), c.writes-outputs.ensures, c.loop-span.invariant.outputs)
-
-pub overflow_add-wait : goal.overflow_add-wait
-overflow_add-wait c = omega (arith, tally_fits (missing_count c.args.input_len) (missing-le c.args.input_len) c.args.spans.now c.loop-span.span-index no_span (omega arith), c.missing-wait.ensures, c.loop-span.invariant.wait)

@@ -1,42 +1,52 @@
-use Rattle.std.proofs.Common.{◌∙◌, length, ap, map, sym}
-use Rattle.std.specs.Prelude.{slice_index}
-use Rattle.std.specs.List.{range_with_len}
-use Rattle.std.proofs.lemmas.List.FromFn.{length-map-range_with_len}
-use Rattle.flow_core_laws.specs.declared.plan.FramePlan.{FramePlan}
-use Rattle.stream_match_layouts.specs.Spans.{frame_count, cells_before}
-use Rattle.stream_match.specs.Stretch.{frame_of}
-use Rattle.stream_match.specs.declared.stretch.Stretch.{Stretch}
-use Rattle.stream_match_layouts.proofs.Windows.{map_map}
-use Rattle.stream_match.proofs.Sound.{sound}
-use Rattle.stream_match.proofs.Stands.{stands_for}
+use Rattle.std.proofs.Common.{[], ◌∷◌, ◌∙◌, List, length, map, ap, sym, subst}
+use Rattle.stream_match.specs.declared.kept.Kept.{Kept}
+use Rattle.stream_match.specs.Weave.{IsWoven}
+use Rattle.stream_match.specs.EpochPlan.{AreFrames, weave_over}
+use Rattle.stream_match.specs.Kept.{kept_of}
+use Rattle.stream_match.specs.Whole.{output_reach}
+use Rattle.stream_match.specs.EpochCode.{IsRead, IsLeft, CanLeave, reads_before}
+use Rattle.stream_match.proofs.Whole.{are, can_leave, whole_sound, whole_stands}
 use Rattle.stream_match.proofs.plan.build.Goals as goal
 
-pub place_pieces-requires-clause-frames : goal.place_pieces-requires-clause-frames
-place_pieces-requires-clause-frames c =
+pub reading-requires-clause-frames : goal.reading-requires-clause-frames
+reading-requires-clause-frames c = subst (AreFrames c.args.layout.now) (sym (c.as_slice.ensures.value ∙ c.in_ok-all.ensures)) (are c.args.layout.now c.requires.layout)
+
+pub output-requires-clause-next : goal.output-requires-clause-next
+output-requires-clause-next c = c.in_ok-read.ensures.next ∙ ap (λ frames. reads_before c.args.layout.now frames (length frames)) (c.as_slice.ensures.value ∙ c.in_ok-all.ensures)
+
+pub weave_rows-requires-clause-frames : goal.weave_rows-requires-clause-frames
+weave_rows-requires-clause-frames c = subst (AreFrames c.args.layout.now) (sym (c.as_slice-2.ensures.value ∙ c.in_ok-all.ensures)) (are c.args.layout.now c.requires.layout)
+
+pub weave_rows-requires-clause-read : goal.weave_rows-requires-clause-read
+weave_rows-requires-clause-read c = subst (λ frames. IsRead c.args.layout.now frames c.in_ok-read.read) (c.as_slice.ensures.value ∙ sym c.as_slice-2.ensures.value) (record { stretches_are = c.in_ok-read.ensures.stretches; next_is = c.in_ok-read.ensures.next })
+
+pub weave_rows-requires-clause-left : goal.weave_rows-requires-clause-left
+weave_rows-requires-clause-left c =
     let layout = c.args.layout.now in
-    let n = frame_count layout in
-    let are = c.as_slice-2.ensures ∙ c.in_ok-frames.ensures.frames in
-    record {
-      one_each = ap length are ∙ length-map-range_with_len (frame_of layout layout.input_len) 0 n;
-      places = ap (map (λ (f : FramePlan). f.piece)) are ∙ map_map (frame_of layout layout.input_len) (λ (f : FramePlan). f.piece) (range_with_len 0 n);
-    }
+    let same = sym (c.as_slice-2.ensures.value ∙ c.in_ok-all.ensures) in (
+      output_reach layout ∷ [],
+      subst (λ frames. CanLeave layout frames (output_reach layout ∷ [])) same (can_leave layout c.requires.layout),
+      subst (λ frames. IsLeft layout frames (output_reach layout ∷ []) c.in_ok-left.left) same c.in_ok-left.ensures,
+    )
 
 pub returns-clause-exact : goal.returns-clause-exact
 returns-clause-exact c =
     let layout = c.args.layout.now in
-    let f = c.in_ok-frames.ensures in
-    let count = ap (λ (s : Stretch). s.count) c.output-output.ensures in
-    record {
-      frames = f.frames ∙ ap (λ n. map (frame_of layout n) (range_with_len 0 (frame_count layout))) (sym c.requires.input);
-      sink = ap (λ n. record { cell = n; inputs = c.output-output.result.count; outputs = 0; wait = c.output-output.result.count; piece = c.in_ok-frames.field-0.pieces; pieces = 0 }) f.cells
-          ∙ ap (λ n. record { cell = cells_before layout (length layout.spans); inputs = n; outputs = 0; wait = n; piece = c.in_ok-frames.field-0.pieces; pieces = 0 }) count
-          ∙ ap (λ n. record { cell = cells_before layout (length layout.spans); inputs = slice_index layout.writes 1; outputs = 0; wait = slice_index layout.writes 1; piece = n; pieces = 0 }) f.pieces;
-      pieces = c.in_ok-pieces.ensures;
-      filled = c.in_ok-filled.ensures;
-    }
+    let input = c.args.input.now in
+    let sink = output_reach layout ∷ [] in
+    let same = c.as_slice-2.ensures.value ∙ c.in_ok-all.ensures in
+    let can : CanLeave layout c.as_slice-2.result.now sink = subst (λ frames. CanLeave layout frames sink) (sym same) (can_leave layout c.requires.layout) in
+    let left : IsLeft layout c.as_slice-2.result.now sink c.in_ok-left.left = subst (λ frames. IsLeft layout frames sink c.in_ok-left.left) (sym same) c.in_ok-left.ensures in
+    let woven = c.in_ok-plan.ensures sink can left in
+    let none = c.as_slice-3.ensures.value ∙ c.new-kept.ensures.items in
+    subst (λ frames. IsWoven layout (weave_over layout input frames [] sink) c.in_ok-plan.plan) same
+    (subst (λ (ks : List Kept). IsWoven layout (weave_over layout input c.as_slice-2.result.now (map kept_of ks) sink) c.in_ok-plan.plan) none woven)
 
 pub returns-clause-sound : goal.returns-clause-sound
-returns-clause-sound c = sound c.args.layout.now c.requires.layout c.args.input.now _ (returns-clause-exact c)
+returns-clause-sound c =
+    let layout = c.args.layout.now in
+    let is = c.requires.layout in
+    whole_sound layout is is.activations is.is_of c.args.input.now c.in_ok-plan.plan (returns-clause-exact c)
 
 pub returns-clause-stands_for : goal.returns-clause-stands_for
-returns-clause-stands_for c = λ activations of. stands_for c.args.layout.now c.requires.layout c.args.input.now _ (returns-clause-exact c) activations of
+returns-clause-stands_for c = λ activations of. whole_stands c.args.layout.now c.requires.layout activations of c.args.input.now c.in_ok-plan.plan (returns-clause-exact c)

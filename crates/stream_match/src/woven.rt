@@ -1,0 +1,99 @@
+ghost use Rattle.std.specs.Prelude.{◌≡◌, ◌+◌, ◌++◌, ◌^◌, ◌<◌, All, List, IfOk, length, map};
+ghost use Rattle.std.specs.List.{flat_map};
+ghost use Rattle.stream_match_layouts.specs.Layout.{IsLayout};
+ghost use Rattle.stream_match.specs.declared.stretch.Stretch.{Stretch};
+ghost use Rattle.stream_match.specs.Walking.{IsStretch};
+ghost use Rattle.stream_match.specs.Weave.{Reach, IsWoven};
+ghost use Rattle.stream_match.specs.EpochPlan.{AreFrames, weave_over};
+ghost use Rattle.stream_match.specs.Kept.{kept_of};
+ghost use Rattle.stream_match.specs.EpochCode.{Ascend, AreSorted, pieces_for, filled_cells, IsRead, IsLeft, CanLeave};
+
+use crate::epoch_frames::{between, epoch_frames};
+use crate::filling::{empty, fill};
+use crate::gather::{gather, place_by_frame};
+use crate::kept::Kept;
+use crate::reaching::Reaching;
+use crate::stretch::Stretch;
+use flow_core_laws::{FramePlan, Piece, Plan};
+use os_io::{List, Memory};
+use std::alloc::Global;
+use stream_match_layouts::Layout;
+
+/// The plan of frames, by what they read and what leaves them, and by the kept elements by their places.
+pub(crate) fn weave_rows(
+    alloc: Global,
+    layout: &Layout,
+    frames: &[u32],
+    read: &Reaching,
+    left: &Reaching,
+    kept: &[Kept],
+    input: &[u8],
+) -> Result<Plan, Memory>
+    requires layout { IsLayout layout.now }
+    requires frames { AreFrames layout.now frames.now }
+    requires read { IsRead layout.now frames.now read.now }
+    requires left { (sink : List Reach) × CanLeave layout.now frames.now sink × IsLeft layout.now frames.now sink left.now }
+    requires kept { AreSorted kept.now }
+    ensures { IfOk result (λ plan. (sink : List Reach) → CanLeave layout.now frames.now sink → IsLeft layout.now frames.now sink left.now
+        → IsWoven layout.now (weave_over layout.now input.now frames.now (map kept_of kept.now) sink) plan) }
+{
+    let reads = read.stretches.as_slice();
+    let leaves = left.stretches.as_slice();
+    let filled = filled(alloc, kept, input, reads, leaves)?;
+    let pieces = gathered(alloc, layout, frames, reads, leaves)?;
+    let plans = epoch_frames(alloc, layout, frames, pieces.as_slice(), filled.as_slice())?;
+    let placed = place_by_frame(alloc, pieces.as_slice(), plans.as_slice())?;
+    let sink = FramePlan {
+        cell: read.next,
+        inputs: left.next - read.next,
+        outputs: 0,
+        wait: empty(between(filled.as_slice(), read.next as usize, left.next as usize)),
+        piece: pieces.len() as u32,
+        pieces: 0,
+    };
+    Ok(Plan {
+        frames: plans,
+        sink,
+        pieces: placed,
+        filled,
+    })
+}
+
+/// The cells of what is read and of what leaves.
+fn filled(
+    alloc: Global,
+    kept: &[Kept],
+    input: &[u8],
+    reads: &[Stretch],
+    leaves: &[Stretch],
+) -> Result<List<Option<i32>>, Memory>
+    requires kept { AreSorted kept.now }
+    requires reads { All (λ (s : Stretch). s.first + s.count < 2 ^ 64) reads.now }
+    requires leaves { All (λ (s : Stretch). s.first + s.count < 2 ^ 64) leaves.now }
+    ensures { IfOk result (λ cells. cells ≡ flat_map (filled_cells input.now kept.now) reads.now ++ flat_map (filled_cells input.now kept.now) leaves.now) }
+{
+    let mut cells = List::new(alloc);
+    fill(&mut cells, kept, input, reads)?;
+    fill(&mut cells, kept, input, leaves)?;
+    Ok(cells)
+}
+
+/// The pieces into what is read and into what leaves.
+fn gathered(
+    alloc: Global,
+    layout: &Layout,
+    frames: &[u32],
+    reads: &[Stretch],
+    leaves: &[Stretch],
+) -> Result<List<Piece>, Memory>
+    requires ascend { Ascend frames.now }
+    requires few { length frames.now < 2 ^ 32 }
+    requires reads { All (IsStretch layout.now) reads.now }
+    requires leaves { All (IsStretch layout.now) leaves.now }
+    ensures { IfOk result (λ pieces. pieces ≡ flat_map (pieces_for layout.now frames.now) reads.now ++ flat_map (pieces_for layout.now frames.now) leaves.now) }
+{
+    let mut pieces = List::new(alloc);
+    gather(&mut pieces, layout, frames, reads)?;
+    gather(&mut pieces, layout, frames, leaves)?;
+    Ok(pieces)
+}
