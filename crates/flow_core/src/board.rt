@@ -54,8 +54,8 @@ impl Board {
         let first = plan.sink.cell as usize;
         let output = &self.cells[first..first + plan.sink.inputs as usize];
         Ok(Ends {
-            ends: list_of(alloc, self.ends.as_slice())?,
-            output: list_of(alloc, output)?,
+            ends: List::from_slice(alloc, self.ends.as_slice())?,
+            output: List::from_slice(alloc, output)?,
         })
     }
 
@@ -134,15 +134,4 @@ impl Board {
         }
         Ok(())
     }
-}
-
-/// A list of the same items.
-pub(crate) fn list_of<T: Copy + Drop>(alloc: Global, items: &[T]) -> Result<List<T>, Memory>
-    ensures { IfOk result (λ list. list ≡ items.now) }
-{
-    let mut list = List::new(alloc);
-    for item in items {
-        list.push(*item)?;
-    }
-    Ok(list)
 }

@@ -84,7 +84,7 @@ fn weave(
     let left = leaving(alloc, layout, frames, cursors, read.next)?;
     let places = places(alloc, left.stretches.as_slice())?;
     let plan = weave_rows(alloc, layout, frames, &read, &left, kept, input)?;
-    let frames = copied(alloc, frames)?;
+    let frames = List::from_slice(alloc, frames)?;
     Ok(EpochPlan {
         plan,
         frames,
@@ -100,16 +100,4 @@ fn places(alloc: Global, leaves: &[Stretch]) -> Result<List<Place>, Memory>
     let mut places = List::new(alloc);
     add_places(&mut places, leaves)?;
     Ok(places)
-}
-
-/// A list of the same numbers.
-fn copied(alloc: Global, frames: &[u32]) -> Result<List<u32>, Memory>
-    ensures { IfOk result (λ copied. copied ≡ frames.now) }
-{
-    let mut copied = List::new(alloc);
-    copied.reserve(frames.len())?;
-    for frame in frames {
-        copied.push(*frame)?;
-    }
-    Ok(copied)
 }
