@@ -21,3 +21,6 @@ returns-in-Err c =
     let s = subst (λ r. MatchResult r (λ i. (i < length xs) × (get_or xs i 0 ≡ x)) (λ i. (i ≤ length xs) × ((k : ℕ) → k < i → get_or xs k 0 < x) × ((k : ℕ) → i ≤ k → k < length xs → x < get_or xs k 0))) c.in-Err.is
     (searched xs x c.binary_search.result c.binary_search.ensures.position (ascend-rise xs c.requires.ascend)) in
     sym (no_number xs x (λ k lt e. elim (cases_lt k c.in-Err.field-0) [ inl less ↦ absurd (omega (arith, s.1 k less)) | inr ge ↦ absurd (omega (arith, s.2 k ge lt)) ]))
+
+pub returns-then-is_own : goal.returns-then-is_own
+returns-then-is_own c = let t = c.if-is_own.true in sym (found_number c.args.frames.now c.args.activation c.args.activation c.requires.ascend (c.is_own.ensures.within t) (c.is_own.ensures.own t))
