@@ -1,16 +1,18 @@
 #!/usr/bin/env bash
-# What a step of the machine costs, as a table: for a body of integer arithmetic and for one that goes through windows
-# the machine instructions and the nanoseconds of a step, and beside them those of a small interpreter of the same
-# instructions in C, compiled by gcc -O2, where gcc is there. A step's cost is the difference of a long and a short run,
-# divided by the steps between them. The program is proved and built, by LLVM, in a copy of the crates below it.
+# What a step of the machine costs, as a table: for a body of integer arithmetic, one that goes through windows, one that
+# calls a function and one over a local array the machine instructions and the nanoseconds of a step. Beside the first two
+# stand those of a small interpreter of the same instructions in C, compiled by gcc -O2, where gcc is there; beside all the
+# same work in Lua, by lua5.4, where it is there, as nanoseconds for each step that the machine takes for it. A step's cost is
+# the difference of a long and a short run, divided by the steps between them. The program is proved and built, by LLVM, in a
+# copy of the crates below it.
 set -eu
 top=$(cd "$(dirname "${BASH_SOURCE[0]}")/.." && pwd)
 work=$(mktemp -d)
 trap 'rm -rf "$work"' EXIT
 mkdir "$work/crates"
-for name in os_io flow_core_laws c_int os_code task_vm; do cp -r "$top/crates/$name" "$work/crates"; done
-grep -E '^(os_io|flow_core_laws|c_int|os_code|task_vm):' "$top/crates.txt" >"$work/crates.txt"
-echo 'machine: task_vm os_code flow_core_laws c_int os_io' >>"$work/crates.txt"
+for name in os_io flow_core c_int os_code task_vm; do cp -r "$top/crates/$name" "$work/crates"; done
+grep -E '^(os_io|flow_core|c_int|os_code|task_vm):' "$top/crates.txt" >"$work/crates.txt"
+echo 'machine: task_vm os_code flow_core c_int os_io' >>"$work/crates.txt"
 
 machine=$work/crates/machine
 tests=$top/crates/machine_tests
@@ -169,6 +171,49 @@ d}" "$work/machine.c" >"$work/whole.c"
     programs="$programs $work/c"
 fi
 
+cat >"$work/work.lua" <<'END'
+local kind, n = arg[1], tonumber(arg[2])
+local function wrap(d) return ((d + 128) & 255) - 128 end
+local x, y = 0, 0
+if kind == "arithmetic" then
+  for k = 0, n - 1 do
+    x = (x * 31 + k) % 1009
+    y = y ~ ((x << 3) & 255)
+    y = (y + x) & 65535
+    if x > y then x = x - 1 else y = y - 1 end
+  end
+elseif kind == "windows" then
+  local a, b = {}, {}
+  for i = 0, 63 do a[i] = 7 b[i] = 0 end
+  for k = 0, n - 1 do
+    local i = k & 63
+    b[i] = (b[i] + a[i]) & 65535
+    x = b[i]
+  end
+elseif kind == "calls" then
+  local a, b = { [0] = 10, 20, 20, 10 }, { [0] = 0, 0, 0, 0 }
+  for _ = 1, n do
+    for k = 0, 3, 2 do
+      local d = wrap(a[k + 1] - a[k])
+      b[k] = (a[k] + (d >> 1)) & 255
+      b[k + 1] = d & 255
+    end
+  end
+else
+  local a = {}
+  for i = 0, 15 do a[i] = 0 end
+  for k = 0, n - 1 do
+    local i = k & 15
+    a[i] = (a[i] + k) & 65535
+    x = a[i]
+  end
+end
+print("0 true")
+END
+printf '#!/bin/sh\nexec lua5.4 %s/work.lua "$@"\n' "$work" >"$work/lua"
+chmod +x "$work/lua"
+if command -v lua5.4 >/dev/null; then programs="$programs $work/lua"; fi
+
 # cost PROGRAM KIND TIMES: its steps, and the milliseconds of processor time of the quickest of nine runs.
 cost() {
     local best= now
@@ -185,14 +230,26 @@ counted() {
 }
 
 printf '%-11s %-9s %13s %9s\n' body by instructions ns
-for kind in arithmetic windows; do
+for kind in arithmetic windows calls arrays; do
     for program in $programs; do
-        by=$([ "$program" = "$work/c" ] && echo 'C' || echo machine)
+        by=machine
+        if [ "$program" = "$work/c" ]; then
+            by=C
+            case $kind in calls | arrays) continue ;; esac
+        fi
         read -r few short < <(cost "$program" "$kind" 100000)
         read -r many long < <(cost "$program" "$kind" 2000000)
+        if [ "$program" = "$work/lua" ]; then
+            by=Lua
+            few=$machine_few
+            many=$machine_many
+        elif [ "$by" = machine ]; then
+            machine_few=$few
+            machine_many=$many
+        fi
         time=$(awk -v a="$short" -v b="$long" -v m="$few" -v n="$many" 'BEGIN { printf "%.2f", (b - a) * 1000000 / (n - m) }')
         instructions=-
-        if command -v valgrind >/dev/null; then
+        if [ "$by" != Lua ] && command -v valgrind >/dev/null; then
             read -r start _ < <("$program" "$kind" 20000)
             read -r end _ < <("$program" "$kind" 60000)
             instructions=$(awk -v a="$(counted "$program" "$kind" 20000)" -v b="$(counted "$program" "$kind" 60000)" \

@@ -6,11 +6,15 @@ ghost use Rattle.os_code.specs.Checking.{is_valid};
 ghost use Rattle.machine_tests.specs.Written.{alone};
 
 mod alone;
+mod drawn;
+mod forms;
 mod table;
 
 use crate::task_runs::{Ran, run_twice};
 use alone::run_alone;
+use drawn::DRAWN;
 use flow_core_laws::{Claim, TaskEnd};
+use forms::FORMS;
 use os_code::{Binary, Instr, SiteItem, Unary, Unit};
 use os_io::Memory;
 use std::alloc::Global;
@@ -344,6 +348,16 @@ const MOST: i32 = 2147483647;
 #[test]
 fn each_instruction_has_its_effect_and_its_traps(rt: HostRuntime) -> Result<(), Fail> {
     all_come_to(&rt, &CASES)
+}
+
+#[test]
+fn each_form_of_several_instructions_ends_as_they_do(rt: HostRuntime) -> Result<(), Fail> {
+    all_come_to(&rt, &FORMS)
+}
+
+#[test]
+fn bodies_that_were_drawn_end_as_step_by_step(rt: HostRuntime) -> Result<(), Fail> {
+    all_come_to(&rt, &DRAWN)
 }
 
 #[test]

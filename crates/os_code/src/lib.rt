@@ -3,7 +3,8 @@
 //! `Instr` is the table of instructions; units, sites and instructions make a `Code`. A `Code` is valid (`specs/IsValid`):
 //! everything that it names is in range, and the operand stack has one height at each instruction. `specs/Machine` says
 //! what one step does and what a run is, `specs/Tasks` what an activation's end is, `specs/Control` what `main` makes.
-//! `Code::new` takes valid parts and finds out what the chains of calls need of operands and slots.
+//! `Code::new` takes valid parts and finds out what the chains of calls need of operands and slots, and which form begins at
+//! each place: the instruction that stands there, or up to five that a loop over the code may take in one turn (`Form`).
 //!
 //! Valid codes are never stuck, and a run with a budget b ends within (b + 1) * (code length + 1) steps: the laws stand
 //! in `laws`, with those for whoever makes a code or goes on with a run.

@@ -5,6 +5,7 @@
 //! `Scratch::steps` tells and which the budget bounds. It takes no memory: `Scratch::new` reserves once what the
 //! longest chains of calls of a code need, and a scratch serves one run after another, whatever their ends.
 //!
+//! The loop takes the forms of a code, each in one turn, with the ends, the lines and the number of steps of its instructions.
 //! `registers` has what each instruction does with the machine's lists: any loop over a code is made of it.
 #![tactic(auto)]
 

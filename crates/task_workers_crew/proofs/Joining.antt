@@ -1,12 +1,12 @@
 -- Seats that begin, and seats that are joined.
-use Rattle.std.proofs.Common.{◌≡◌, ℕ, zero, suc, ◌+◌, ◌==◌, ◌<◌, ◌≤◌, ◌^◌, Bool, true, false, not, ◌&&◌, List, [], ◌∷◌, ◌++◌, Option, Some, None, length, get_or, set, refl, sym, ap, ◌∙◌, ◌⊎◌, inl, inr, subst, arith, eq-eqb}
+use Rattle.std.proofs.Common.{◌≡◌, ℕ, zero, suc, ◌+◌, ◌==◌, ◌<◌, ◌≤◌, Bool, true, false, not, ◌&&◌, List, [], ◌++◌, Option, Some, None, length, get_or, set, sym, ap, ◌∙◌, ◌⊎◌, inl, inr, subst, arith, eq-eqb}
 use Rattle.std.proofs.lemmas.Bool.{cases_eq, ne_eqb}
 use Rattle.std.proofs.lemmas.List.{get_or-set_same, get_or-set_other}
 use Rattle.std.proofs.lemmas.List.Sums.{sum_by-append}
 use Rattle.flow_core_laws.specs.declared.plan.Plan.{Plan}
 use Rattle.flow_core_concurrent.specs.declared.view.View.{View}
 use Rattle.flow_core_laws.specs.Plans.{frame_at}
-use Rattle.flow_core_concurrent.specs.States.{times, fresh}
+use Rattle.flow_core_concurrent.specs.States.{times}
 use Rattle.flow_core_concurrent.specs.Counted.{one}
 use Rattle.flow_core_concurrent.specs.Steps.{with_joined}
 use Rattle.frame_table.specs.declared.seat.FrameSeat.{FrameSeat}
@@ -16,7 +16,7 @@ use Rattle.steal_pool.specs.declared.hand.Hand.{Hand}
 use Rattle.task_workers_worker.specs.declared.log.WorkLog.{WorkLog}
 use Rattle.task_workers_worker.specs.Left.{left_of}
 use Rattle.task_workers_worker.specs.Worked.{unmade}
-use Rattle.task_workers_worker.specs.Ready.{MayWork, HandServes, LogServes, frames_of}
+use Rattle.task_workers_worker.specs.Ready.{MayWork, frames_of}
 use Rattle.task_workers_crew.specs.Crew.{IsEquipped, IsSeated}
 
 -- a test for none, of a number that grew

@@ -1,5 +1,5 @@
 -- What a vector holds after its items were lent for writing.
-use Rattle.std.proofs.Common.{◌≡◌, ℕ, zero, suc, List, [], ◌∷◌, ◌++◌, ◌<◌, length, take, drop, get_or, All, refl, subst, sym, ap, ◌∙◌, arith}
+use Rattle.std.proofs.Common.{◌≡◌, ℕ, zero, suc, List, [], ◌∷◌, ◌++◌, ◌<◌, length, take, drop, get_or, All, subst, sym, ap, arith}
 
 pub written : {X : Type 0} → (n : ℕ) (xs ys : List X) → length xs ≡ length ys → n ≡ length ys → take n (xs ++ drop (length xs) ys) ≡ xs
 written n [] [] e is = ap (λ k. take k []) is

@@ -152,15 +152,7 @@ fn work_last<S: Send + Drop, B: Bodies<Scratch = S>, G: Gate>(
     };
     let (seat, mut hand, mut scratch, mut log) = apart(table, last);
     let seat = join_seats(table, seat, crew, &hand, &log);
-    work(
-        table,
-        seat,
-        &mut hand,
-        bodies,
-        &mut scratch,
-        &mut log,
-        gate,
-    )
+    work(table, seat, &mut hand, bodies, &mut scratch, &mut log, gate)
 }
 
 /// Runs the frames of a table by a crew, each worker on a seat of its own, and closes the table.

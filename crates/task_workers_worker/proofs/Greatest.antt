@@ -1,5 +1,5 @@
 -- The greatest of the numbers so far.
-use Rattle.std.proofs.Common.{◌≡◌, ℕ, ◌+◌, ◌<◌, ◌≤◌, ◌⊎◌, inl, inr, sym, ap, subst, arith}
+use Rattle.std.proofs.Common.{◌≡◌, ℕ, ◌+◌, ◌<◌, ◌≤◌, ◌⊎◌, inl, inr, ap, arith}
 use Rattle.std.proofs.lemmas.Bool.{cases_eq}
 
 pub greatest : (h : ℕ → ℕ) (k most most' x : ℕ) → ((f : ℕ) → f < k → h f ≤ most) → x ≡ h k → most ≤ most' → x ≤ most' → (f : ℕ) → f < k + 1 → h f ≤ most'

@@ -1,7 +1,7 @@
 -- A sound plan has at most as many pieces as cells: each piece has a first cell, and no two the same.
-use Rattle.std.proofs.Common.{◌≡◌, ◌≢◌, ℕ, ◌+◌, ◌<◌, ◌≤◌, Bool, true, false, eqb, eqb-true, List, map, length, get_or, All, refl, sym, ap, ◌∙◌, subst, arith, Some}
+use Rattle.std.proofs.Common.{◌≡◌, ℕ, ◌<◌, ◌≤◌, true, false, eqb, eqb-true, List, map, length, get_or, sym, ◌∙◌, subst, arith, Some}
 use Rattle.std.specs.Prelude.{slice_get}
-use Rattle.std.specs.List.{IsDistinct, list_any}
+use Rattle.std.specs.List.{list_any}
 use Rattle.std.proofs.lemmas.Bool.{ne_eqb}
 use Rattle.std.proofs.lemmas.List.{length-map, get_or-map}
 use Rattle.std.proofs.lemmas.List.Folds.{Any-from_list_any}
@@ -39,9 +39,9 @@ apart plan sound i j d lt there =
     let low : i < length plan.pieces = omega (arith, lt, there, l) in
     let high : j < length plan.pieces = omega (arith, there, l) in
     ne_eqb (get_or (starts plan) i d) (get_or (starts plan) j d) (λ same.
-        let e : (piece plan j).at ≡ (piece plan i).at = sym (start_is plan j d high) ∙ sym same ∙ start_is plan i d low in
-        let one : i ≡ j = sound.pieces_are_apart i j (piece plan i).at (covers_first plan i sound low) (subst (λ c. Covers plan j c) e (covers_first plan j sound high)) in
-        absurd (omega (arith, lt, one)))
+    let e : (piece plan j).at ≡ (piece plan i).at = sym (start_is plan j d high) ∙ sym same ∙ start_is plan i d low in
+    let one : i ≡ j = sound.pieces_are_apart i j (piece plan i).at (covers_first plan i sound low) (subst (λ c. Covers plan j c) e (covers_first plan j sound high)) in
+    absurd (omega (arith, lt, one)))
 
 start_below : (plan : Plan) (i : ℕ) → IsSound plan → i < length plan.pieces → (piece plan i).at < length plan.filled
 start_below plan i sound lt =

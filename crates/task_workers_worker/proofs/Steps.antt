@@ -1,11 +1,11 @@
 -- What the steps of a worker do to its view.
-use Rattle.std.proofs.Common.{◌≡◌, ◌≢◌, ℕ, zero, suc, ◌+◌, ◌%◌, ◌==◌, ◌<◌, ◌≤◌, Bool, true, false, true≢false, if◌then◌else◌, List, [], ◌∷◌, ◌++◌, length, Option, Some, None, refl, sym, ap, ◌∙◌, subst, append-nil, append_assoc, arith, eq-eqb, get_or}
+use Rattle.std.proofs.Common.{◌≡◌, ℕ, zero, suc, ◌+◌, ◌%◌, ◌==◌, ◌<◌, ◌≤◌, Bool, true, false, if◌then◌else◌, List, [], ◌∷◌, ◌++◌, length, Option, Some, None, refl, sym, ap, ◌∙◌, subst, append-nil, append_assoc, arith, eq-eqb, get_or}
 use Rattle.std.specs.Option.{option_map_or}
 use Rattle.flow_core_concurrent.specs.declared.known.Known.{Known}
 use Rattle.flow_core_concurrent.specs.declared.view.Run.{Run}
 use Rattle.flow_core_concurrent.specs.declared.view.View.{View}
 use Rattle.flow_core_concurrent.specs.States.{times, knows}
-use Rattle.flow_core_concurrent.specs.Steps.{with_claim, with_miss, with_sub, lost_with, first_place}
+use Rattle.flow_core_concurrent.specs.Steps.{with_claim, with_miss, with_sub, lost_with}
 use Rattle.frame_table.specs.Plays.{claimed, looked, subbed}
 use Rattle.frame_table.specs.Seats.{at}
 use Rattle.task_workers_worker.specs.Worked.{Begins, Claimed, Idled, Gave, below}

@@ -1,10 +1,9 @@
 -- What a worker did, one turn after another.
-use Rattle.std.proofs.Common.{◌≡◌, ℕ, zero, suc, ◌+◌, ◌-◌, ◌*◌, ◌<◌, ◌≤◌, List, [], ◌∷◌, ◌++◌, length, Some, None, refl, sym, ap, ◌∙◌, subst, append-nil, append_assoc, arith}
+use Rattle.std.proofs.Common.{◌≡◌, ℕ, ◌+◌, ◌*◌, ◌≤◌, List, [], ◌∷◌, ◌++◌, length, refl, sym, ap, ◌∙◌, subst, append-nil, append_assoc, arith}
 use Rattle.flow_core_concurrent.specs.declared.known.Known.{Known}
 use Rattle.flow_core_concurrent.specs.declared.view.View.{View}
 use Rattle.frame_table.specs.Plays.{finished}
 use Rattle.task_workers_worker.specs.Worked.{Begins, below, Claimed, Idled, Gave, Worked}
-use Rattle.flow_core_concurrent.specs.States.{times}
 use Rattle.task_workers_worker.specs.Left.{left_of}
 use Rattle.task_workers_worker.proofs.Counts.{left_less}
 use Rattle.task_workers_worker.proofs.Steps.{begins_same, begins_on}

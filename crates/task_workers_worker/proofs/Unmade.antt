@@ -1,14 +1,14 @@
 -- A frame that is opened is unmade no more.
-use Rattle.std.proofs.Common.{◌≡◌, ◌≢◌, ℕ, zero, suc, ◌+◌, ◌-◌, ◌==◌, ◌<◌, ◌≤◌, ℤ, Bool, true, false, not, ◌&&◌, nat_lt, if◌then◌else◌, List, [], ◌∷◌, ◌++◌, Option, Some, None, is_none, length, get_or, refl, sym, ap, ◌∙◌, ◌⊎◌, inl, inr, arith, eq-eqb, subst, cond, lt-ltb, le-ltb}
+use Rattle.std.proofs.Common.{◌≡◌, ◌≢◌, ℕ, zero, suc, ◌+◌, ◌-◌, ◌==◌, ◌<◌, ◌≤◌, ℤ, Bool, true, false, not, ◌&&◌, nat_lt, if◌then◌else◌, List, [], ◌∷◌, ◌++◌, Option, Some, None, is_none, get_or, refl, sym, ap, ◌∙◌, ◌⊎◌, inl, inr, arith, eq-eqb, cond, lt-ltb, le-ltb}
 use Rattle.std.proofs.lemmas.Bool.{cases_eq, ne_eqb}
 use Rattle.std.specs.Prelude.{slice_get}
-use Rattle.std.specs.List.{range_with_len, count_by}
+use Rattle.std.specs.List.{range_with_len}
 use Rattle.std.proofs.lemmas.List.Sums.{get_or-le-sum_by}
 use Rattle.std.proofs.lemmas.List.FromFn.{get_or-range_with_len, length-range_with_len}
 use Rattle.flow_core_laws.specs.declared.plan.Piece.{Piece}
 use Rattle.flow_core_laws.specs.declared.plan.Plan.{Plan}
 use Rattle.flow_core_laws.specs.IsSound.{IsSound}
-use Rattle.flow_core_laws.specs.Plans.{frame_at, missing_of, value_at, cells_of}
+use Rattle.flow_core_laws.specs.Plans.{frame_at, value_at}
 use Rattle.flow_core_concurrent.specs.States.{times}
 use Rattle.flow_core_concurrent.specs.Counted.{one}
 use Rattle.flow_core_concurrent.proofs.Looks.{times_push}

@@ -1,4 +1,4 @@
-use Rattle.std.proofs.Common.{rules, arith, ap, sym, ◌∙◌, ◌≡◌, ◌++◌, ◌∷◌, []}
+use Rattle.std.proofs.Common.{rules, arith, ◌∙◌, ◌≡◌, ◌++◌, ◌∷◌, []}
 use Rattle.task_workers_crew.proofs.Gathered.{next_end, all_ends}
 use Rattle.task_workers_crew.proofs.gathering.gather_ends.Goals as goal
 

@@ -1,4 +1,4 @@
-use Rattle.std.proofs.Common.{rules, arith, ap, sym, ◌∙◌, ◌≡◌, ◌++◌, ◌∷◌, []}
+use Rattle.std.proofs.Common.{rules, arith, ◌∙◌, ◌≡◌, ◌++◌, ◌∷◌, []}
 use Rattle.task_workers_crew.proofs.Gathered.{next_output, all_outputs}
 use Rattle.task_workers_crew.proofs.gathering.gather_output.Goals as goal
 

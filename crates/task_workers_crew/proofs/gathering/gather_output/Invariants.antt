@@ -1,4 +1,4 @@
-use Rattle.std.specs.Prelude.{◌≡◌, ◌+◌, ◌≤◌, length, take}
+use Rattle.std.specs.Prelude.{◌≡◌, ◌+◌, ◌≤◌, take}
 use Rattle.flow_core_laws.specs.Plans.{plan_meaning, sink_elements}
 use Rattle.task_workers_crew.proofs.gathering.gather_output.Given as goal
 

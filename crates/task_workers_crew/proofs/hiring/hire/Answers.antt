@@ -1,4 +1,4 @@
-use Rattle.std.proofs.Common.{rules, arith, ap, ◌≡◌, ◌++◌, [], ◌∷◌, All, length, length-append, remove}
+use Rattle.std.proofs.Common.{rules, arith, ap, ◌≡◌, ◌++◌, [], ◌∷◌, length, length-append, remove}
 use Rattle.std.proofs.lemmas.List.Elements.{All-push, All-same, All-drop}
 use Rattle.task_workers_crew.specs.declared.crew.Worker.{Worker}
 use Rattle.task_workers_crew.specs.Crew.{TakesFrom, IsEquipped}

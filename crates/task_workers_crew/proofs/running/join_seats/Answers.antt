@@ -1,4 +1,4 @@
-use Rattle.std.proofs.Common.{rules, arith, subst, ◌≡◌, Some, Option, IfSome, All}
+use Rattle.std.proofs.Common.{rules, subst, ◌≡◌, Some, Option, IfSome}
 use Rattle.std.proofs.lemmas.List.Elements.{All-pop}
 use Rattle.task_workers_crew.specs.declared.crew.Worker.{Worker}
 use Rattle.task_workers_crew.specs.Crew.{IsSeated}

@@ -1,4 +1,4 @@
-use Rattle.std.proofs.Common.{rules, arith, sym, ap, subst, ◌∙◌, ◌≡◌, ◌<◌, ◌++◌, Some, IfSome, Option, option_to_list, All, length, length-append}
+use Rattle.std.proofs.Common.{rules, arith, sym, ap, subst, ◌∙◌, ◌≡◌, ◌<◌, ◌++◌, Some, IfSome, Option, option_to_list, length, length-append}
 use Rattle.std.proofs.lemmas.List.{length-set}
 use Rattle.std.proofs.lemmas.List.Elements.{All-pop, All-set}
 use Rattle.frame_table.specs.declared.seat.FrameSeat.{FrameSeat}

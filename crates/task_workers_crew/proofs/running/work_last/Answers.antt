@@ -1,4 +1,4 @@
-use Rattle.std.proofs.Common.{rules, arith, ap, sym, subst, ◌≡◌, ◌++◌, Some, Option, IfSome, option_to_list, All, length, length-append}
+use Rattle.std.proofs.Common.{rules, arith, ap, sym, subst, ◌≡◌, ◌++◌, Some, Option, IfSome, option_to_list, length, length-append}
 use Rattle.std.proofs.lemmas.List.Elements.{All-pop}
 use Rattle.task_workers_crew.specs.declared.crew.Worker.{Worker}
 use Rattle.task_workers_crew.specs.Crew.{IsSeated}

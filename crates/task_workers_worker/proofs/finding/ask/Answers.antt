@@ -1,4 +1,4 @@
-use Rattle.std.proofs.Common.{rules, arith, ap, sym, subst, refl, ◌∙◌, ◌≡◌, ◌<◌, length}
+use Rattle.std.proofs.Common.{arith, subst, ◌<◌}
 use Rattle.frame_table.specs.Tokens.{view_of, known_of}
 use Rattle.steal_pool.specs.Lines.{IsBelow}
 use Rattle.steal_pool.specs.Hands.{bound_of}

@@ -1,4 +1,4 @@
-use Rattle.std.proofs.Common.{rules, arith, ap, sym, subst, refl, ◌∙◌, ◌≡◌, ◌+◌, ◌%◌, ◌<◌, length, Some, None, is_some, true, false}
+use Rattle.std.proofs.Common.{rules, arith, ap, sym, ◌∙◌, ◌≡◌, ◌%◌, length, is_some, true, false}
 use Rattle.std.proofs.Math.Nat.{mod-lt}
 use Rattle.flow_core_concurrent.specs.Steps.{next_look}
 use Rattle.frame_table.specs.Plays.{looked}

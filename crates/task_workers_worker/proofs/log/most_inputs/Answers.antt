@@ -1,4 +1,4 @@
-use Rattle.std.proofs.Common.{rules, ℕ, ◌<◌, ap}
+use Rattle.std.proofs.Common.{rules, ap}
 use Rattle.flow_core_laws.specs.declared.plan.FramePlan.{FramePlan}
 use Rattle.flow_core_laws.specs.Plans.{frame_at}
 use Rattle.task_workers_worker.proofs.Greatest.{greatest}

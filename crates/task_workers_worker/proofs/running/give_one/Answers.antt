@@ -1,4 +1,4 @@
-use Rattle.std.proofs.Common.{rules, arith, ap, sym, subst, refl, ◌∙◌, ◌≡◌, ◌+◌, ◌-◌, ◌++◌, ◌≤◌, ◌<◌, [], ◌∷◌, List, length, get_or, Some, append-nil, ℕ}
+use Rattle.std.proofs.Common.{arith, ap, sym, subst, refl, ◌∙◌, ◌≡◌, ◌++◌, ◌≤◌, ◌<◌, [], ◌∷◌, List, length, get_or, Some, append-nil, ℕ}
 use Rattle.std.specs.Prelude.{slice_get}
 use Rattle.flow_core_laws.specs.declared.plan.Plan.{Plan}
 use Rattle.flow_core_laws.specs.declared.plan.Piece.{Piece}
@@ -7,7 +7,7 @@ use Rattle.frame_table.specs.Tokens.{view_of, known_of}
 use Rattle.steal_pool.specs.Hands.{pushed_by, spare_of}
 use Rattle.task_workers_worker.proofs.Steps.{sub_is, gave_closed, gave_opened, made_closed, made_opened, at_number}
 use Rattle.task_workers_worker.proofs.Unmade.{unmade_other, unmade_less, below_one, below_none, waited}
-use Rattle.task_workers_worker.specs.Worked.{unmade, below}
+use Rattle.task_workers_worker.specs.Worked.{unmade}
 use Rattle.task_workers_worker.proofs.running.give_one.Goals as goal
 
 pub returns-then-not-deliver-clause-runs : goal.returns-then-not-deliver-clause-runs

@@ -1,4 +1,4 @@
-use Rattle.std.proofs.Common.{rules, arith, ap, sym, subst, refl, ◌∙◌, ◌≡◌, ◌+◌, ◌<◌, ◌≤◌, [], ◌∷◌, ◌++◌, length, length-append}
+use Rattle.std.proofs.Common.{rules, arith, refl, ◌∙◌}
 use Rattle.frame_table.specs.Tokens.{view_of, known_of}
 use Rattle.steal_pool.specs.Hands.{pushed_by}
 use Rattle.task_workers_worker.proofs.Counts.{smaller}

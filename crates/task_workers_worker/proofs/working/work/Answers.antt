@@ -1,5 +1,5 @@
-use Rattle.std.proofs.Common.{rules, arith, ap, sym, subst, refl, ◌∙◌, ◌≡◌, ◌+◌, ◌<◌, ◌≤◌, length}
-use Rattle.frame_table.specs.Tokens.{view_of, known_of}
+use Rattle.std.proofs.Common.{arith, ◌+◌}
+use Rattle.frame_table.specs.Tokens.{view_of}
 use Rattle.steal_pool.specs.Hands.{pushed_by, asks_of}
 use Rattle.task_workers_worker.specs.Ready.{frames_of}
 use Rattle.task_workers_worker.proofs.Turns.{worked_nothing, worked_on, asked_more, looks_more}

@@ -1,4 +1,4 @@
-use Rattle.std.proofs.Common.{◌≡◌, ◌+◌, ◌*◌, ◌≤◌, ◌<◌, ℕ, max}
+use Rattle.std.proofs.Common.{◌≡◌, ◌*◌, ◌≤◌, ℕ}
 use Rattle.os_io.specs.Counts.{raised}
 use Rattle.frame_table.specs.Tokens.{view_of}
 use Rattle.steal_pool.specs.Hands.{pushed_by, asks_of}
