@@ -38,4 +38,5 @@ read_places span = if span.write then [] else places_from span.stream span.first
 -- From a position on up to another one all elements of a stream are there; or the one at the position isn't.
 abbrev pub Reaches : List Activation → ℕ → List (Option TaskEnd) → ℕ → ℕ → Option ℕ → Type 0
 Reaches activations input_len ends stream position None = is_gap activations input_len ends stream position ≡ true
-Reaches activations input_len ends stream position (Some next) = (position < next) × ((p : ℕ) → position ≤ p → p < next → is_gap activations input_len ends stream p ≡ false)
+Reaches activations input_len ends stream position (Some next) =
+    (position < next) × ((p : ℕ) → position ≤ p → p < next → is_gap activations input_len ends stream p ≡ false)

@@ -59,7 +59,8 @@ fn activation_lines<S: Sink>(
 ) -> Result<(), WriteError>
     requires { IsLayout layout.now }
     ensures { (activations : List Activation) → IsLayoutOf layout.now activations
-        → GoesOn S.Sink sink.old sink.new buffer.old buffer.new (activation_lines activations layout.now.input_len ends.now.ends (frame_count layout.now)) result }
+        → GoesOn S.Sink sink.old sink.new buffer.old buffer.new (activation_lines activations layout.now.input_len ends.now.ends
+        (frame_count layout.now)) result }
 {
     for frame in 0..layout.starts.len() as u32 - 1 {
         activation_line(layout, ends, frame, buffer, sink)?;

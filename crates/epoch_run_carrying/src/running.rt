@@ -18,7 +18,8 @@ pub fn run_frames<B: Bodies>(
     bodies: &B,
 ) -> Result<Ends, Memory>
     requires sound { IsSound plan.now }
-    requires served { Serves plan.now (λ f. B.outcome bodies.now (slice_index frames.now f)) (λ f inputs outputs. (f < length frames.now) × B.takes bodies.now (slice_index frames.now f) inputs outputs) }
+    requires served { Serves plan.now (λ f. B.outcome bodies.now (slice_index frames.now f))
+        (λ f inputs outputs. (f < length frames.now) × B.takes bodies.now (slice_index frames.now f) inputs outputs) }
     ensures ends { IfOk result (λ e. e.ends ≡ ends_of (epoch_meaning plan.now frames.now (B.outcome bodies.now))) }
     ensures output { IfOk result (λ e. e.output ≡ sink_elements plan.now (epoch_meaning plan.now frames.now (B.outcome bodies.now))) }
 {

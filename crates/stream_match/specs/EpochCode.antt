@@ -27,7 +27,9 @@ LiesBefore stream position k = (k.stream < stream) ⊎ ((k.stream ≡ stream) ×
 
 -- kept elements by their places
 abbrev pub AreSorted : List Kept → Type 0
-AreSorted kept = (i j : ℕ) (k l : Kept) → i < j → slice_get kept i ≡ Some k → slice_get kept j ≡ Some l → (k.stream < l.stream) ⊎ ((k.stream ≡ l.stream) × (k.position ≤ l.position))
+AreSorted kept =
+    (i j : ℕ) (k l : Kept) → i < j → slice_get kept i ≡ Some k → slice_get kept j ≡ Some l
+    → (k.stream < l.stream) ⊎ ((k.stream ≡ l.stream) × (k.position ≤ l.position))
 
 -- a piece by the number of its frame, or none where it comes from no frame
 abbrev pub renumbered : List ℕ → Piece → List Piece

@@ -22,7 +22,8 @@ pub record AreFrames (layout : Layout) (frames : List ℕ) : Type 0 where
 
 -- each kept element was written by an activation that is no frame
 abbrev pub WrittenOutside : List Activation → List ℕ → List Kept → Type 0
-WrittenOutside activations frames kept = All (λ (k : Kept). (w : Window) × (producer activations k.place.stream k.place.position ≡ Some w) × (number_in frames w.activation ≡ None)) kept
+WrittenOutside activations frames kept =
+    All (λ (k : Kept). (w : Window) × (producer activations k.place.stream k.place.position ≡ Some w) × (number_in frames w.activation ≡ None)) kept
 
 -- what a span reads
 abbrev pub read_reach : Span → Reach
@@ -53,7 +54,8 @@ epoch_reaches layout frames cursors = reaches_over layout frames (leaving_reache
 
 -- the value at opening: what is kept, or else the input's byte
 abbrev pub epoch_value : List ℕ → List Kept → ℕ → ℕ → Option ℤ
-epoch_value input kept stream position = option_map_or (λ v. Some v) (value_kept kept (record { stream = stream; position = position })) (opening_value input stream position)
+epoch_value input kept stream position =
+    option_map_or (λ v. Some v) (value_kept kept (record { stream = stream; position = position })) (opening_value input stream position)
 
 -- frames of a layout that read what they read, and a sink
 abbrev pub weave_over : Layout → List ℕ → List ℕ → List Kept → List Reach → Weave
@@ -70,19 +72,24 @@ abbrev pub epoch_weave : Layout → List ℕ → List ℕ → List Kept → List
 epoch_weave layout input frames kept cursors = weave_over layout input frames kept (leaving_reaches layout frames cursors)
 
 -- The plan of an epoch, and the places of its sink cells.
-pub record IsEpochPlanOf (layout : Layout) (input : List ℕ) (frames : List ℕ) (kept : List Kept) (cursors : List ℕ) (plan : Plan) (places : List Place) : Type 0 where
+pub record IsEpochPlanOf (layout : Layout) (input : List ℕ) (frames : List ℕ) (kept : List Kept) (cursors : List ℕ) (plan : Plan)
+    (places : List Place) : Type 0 where
   pub woven : IsWoven layout (epoch_weave layout input frames kept cursors) plan
   pub places_are : places ≡ flat_map reach_places (leaving_reaches layout frames cursors)
 
 -- Each such plan is sound, where what is kept was written by others.
 abbrev pub EpochPlansAreSound : Type 0
 EpochPlansAreSound =
-    (layout : Layout) (input : List ℕ) (frames : List ℕ) (kept : List Kept) (cursors : List ℕ) (plan : Plan) (places : List Place) (activations : List Activation)
-    → IsLayout layout → IsLayoutOf layout activations → AreFrames layout frames → WrittenOutside activations frames kept → IsEpochPlanOf layout input frames kept cursors plan places → IsSound plan
+    (layout : Layout) (input : List ℕ) (frames : List ℕ) (kept : List Kept) (cursors : List ℕ) (plan : Plan) (places : List Place)
+    (activations : List Activation)
+    → IsLayout layout → IsLayoutOf layout activations → AreFrames layout frames → WrittenOutside activations frames kept
+    → IsEpochPlanOf layout input frames kept cursors plan places → IsSound plan
 
 -- And it stands for the epoch, where the cursors say what is still read.
 abbrev pub EpochPlansStand : Type 0
 EpochPlansStand =
-    (layout : Layout) (input : List ℕ) (frames : List ℕ) (kept : List Kept) (cursors : List ℕ) (plan : Plan) (places : List Place) (activations : List Activation)
-    → IsLayout layout → IsLayoutOf layout activations → AreFrames layout frames → WrittenOutside activations frames kept → cursors ≡ map (read_from activations frames) (range_with_len 0 (length layout.writers))
+    (layout : Layout) (input : List ℕ) (frames : List ℕ) (kept : List Kept) (cursors : List ℕ) (plan : Plan) (places : List Place)
+    (activations : List Activation)
+    → IsLayout layout → IsLayoutOf layout activations → AreFrames layout frames → WrittenOutside activations frames kept
+    → cursors ≡ map (read_from activations frames) (range_with_len 0 (length layout.writers))
     → IsEpochPlanOf layout input frames kept cursors plan places → StandsForEpoch plan activations input frames kept places

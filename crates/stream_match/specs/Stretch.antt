@@ -35,7 +35,8 @@ overlap stretch span = if nat_lt (overlap_first stretch span) (overlap_end stret
 
 -- the pieces into a stretch: one for each write span of its stream that overlaps it
 abbrev pub pieces_into : Layout → Stretch → List Piece
-pieces_into layout stretch = flat_map (λ place. overlap stretch (writer_at layout stretch.stream place)) (range_with_len 0 (length (writers_on layout stretch.stream)))
+pieces_into layout stretch =
+    flat_map (λ place. overlap stretch (writer_at layout stretch.stream place)) (range_with_len 0 (length (writers_on layout stretch.stream)))
 
 -- whether a piece comes from a frame
 abbrev pub comes_from : ℕ → Piece → Bool

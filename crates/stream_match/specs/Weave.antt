@@ -79,7 +79,8 @@ overlap_among weave stretch span = option_map_or (λ f. overlap stretch (with_fr
 
 -- the pieces into a stretch
 abbrev pub pieces_among : Layout → Weave → Stretch → List Piece
-pieces_among layout weave stretch = flat_map (λ place. overlap_among weave stretch (writer_at layout stretch.stream place)) (range_with_len 0 (length (writers_on layout stretch.stream)))
+pieces_among layout weave stretch =
+    flat_map (λ place. overlap_among weave stretch (writer_at layout stretch.stream place)) (range_with_len 0 (length (writers_on layout stretch.stream)))
 
 -- the pieces into a frame
 abbrev pub frame_pieces : Layout → Weave → ℕ → List Piece
@@ -134,5 +135,8 @@ pub record CanWeave (layout : Layout) (weave : Weave) : Type 0 where
   pub outputs_are_few : sum_by weave.outputs (range_with_len 0 weave.frames) ≤ 4194304
   pub numbers_exist : (a f : ℕ) → weave.number a ≡ Some f → f < weave.frames
   pub have_writers : (f i : ℕ) → f ≤ weave.frames → i < length (weave.reaches f) → HasWriters layout (reach_at weave f i).stream
-  pub outputs_fit : (f i place g : ℕ) → f ≤ weave.frames → i < length (weave.reaches f) → place < length (writers_on layout (reach_at weave f i).stream) → weave.number (writer_at layout (reach_at weave f i).stream place).frame ≡ Some g → (writer_at layout (reach_at weave f i).stream place).offset + (writer_at layout (reach_at weave f i).stream place).count ≤ weave.outputs g
-  pub spares : (f i position place g : ℕ) → f ≤ weave.frames → i < length (weave.reaches f) → WritesAt layout weave (reach_at weave f i).stream position place g → weave.value (reach_at weave f i).stream position ≡ None
+  pub outputs_fit : (f i place g : ℕ) → f ≤ weave.frames → i < length (weave.reaches f)
+      → place < length (writers_on layout (reach_at weave f i).stream) → weave.number (writer_at layout (reach_at weave f i).stream place).frame ≡ Some g
+      → (writer_at layout (reach_at weave f i).stream place).offset + (writer_at layout (reach_at weave f i).stream place).count ≤ weave.outputs g
+  pub spares : (f i position place g : ℕ) → f ≤ weave.frames → i < length (weave.reaches f)
+      → WritesAt layout weave (reach_at weave f i).stream position place g → weave.value (reach_at weave f i).stream position ≡ None

@@ -27,4 +27,6 @@ WholePlansAreSound = (layout : Layout) (input : List ℕ) (plan : Plan) → IsLa
 
 -- and stands for the activations and the input
 abbrev pub WholePlansStand : Type 0
-WholePlansStand = (layout : Layout) (input : List ℕ) (plan : Plan) (activations : List Activation) → IsLayout layout → IsLayoutOf layout activations → IsWoven layout (whole_weave layout input) plan → StandsFor plan activations input
+WholePlansStand =
+    (layout : Layout) (input : List ℕ) (plan : Plan) (activations : List Activation) → IsLayout layout → IsLayoutOf layout activations
+    → IsWoven layout (whole_weave layout input) plan → StandsFor plan activations input

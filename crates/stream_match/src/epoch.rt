@@ -47,7 +47,8 @@ pub fn build_epoch(
     requires kept { IsKeptOutside layout.now frames.now (map kept_of kept.now) }
     ensures frames { IfOk result (λ epoch. epoch.frames ≡ frames.now) }
     ensures sound { IfOk result (λ epoch. IsSound epoch.plan) }
-    ensures stands_for { IfOk result (λ epoch. (activations : List Activation) → IsLayoutOf layout.now activations → IsOutside activations frames.now (map kept_of kept.now)
+    ensures stands_for { IfOk result (λ epoch. (activations : List Activation) → IsLayoutOf layout.now activations
+        → IsOutside activations frames.now (map kept_of kept.now)
         → StandsForEpoch epoch.plan activations input.now frames.now (map kept_of kept.now) (map place_of epoch.places)) }
 {
     let cursors = read_cursors(alloc, layout, frames)?;
@@ -78,7 +79,8 @@ fn weave(
     requires small { All (λ cursor. cursor < 2 ^ 62) cursors.now }
     requires kept { AreSorted kept.now }
     ensures frames { IfOk result (λ epoch. epoch.frames ≡ frames.now) }
-    ensures plan { IfOk result (λ epoch. IsEpochPlanOf layout.now input.now frames.now (map kept_of kept.now) cursors.now epoch.plan (map place_of epoch.places)) }
+    ensures plan { IfOk result (λ epoch. IsEpochPlanOf layout.now input.now frames.now (map kept_of kept.now) cursors.now epoch.plan
+        (map place_of epoch.places)) }
 {
     let read = reading(alloc, layout, frames)?;
     let left = leaving(alloc, layout, frames, cursors, read.next)?;

@@ -86,7 +86,8 @@ impl Reaching {
         requires room { self.old.next + sum_by (λ (s : Span). s.count) spans.now < 2 ^ 32 }
         requires exist { All (λ (s : Span). s.stream < length cursors.now) spans.now }
         requires small { All (λ (s : Span). s.first + staying cursors.now s < 2 ^ 63) spans.now }
-        ensures stretches { OnOk result (self.new.stretches ≡ self.old.stretches ++ stretches_from to self.old.next (map (leaving_reach cursors.now) spans.now)) }
+        ensures stretches { OnOk result (self.new.stretches ≡ self.old.stretches
+            ++ stretches_from to self.old.next (map (leaving_reach cursors.now) spans.now)) }
         ensures next { OnOk result (self.new.next ≡ self.old.next + total (map (leaving_reach cursors.now) spans.now)) }
     {
         for span in spans {
@@ -111,7 +112,8 @@ impl Reaching {
     /// Adds a stretch.
     pub(crate) fn add(&mut self, to: u32, stream: u32, first: u64, count: u32) -> Result<(), Memory>
         requires { self.old.next + count < 2 ^ 32 }
-        ensures stretches { OnOk result (self.new.stretches ≡ self.old.stretches ++ record { to = to; stream = stream; first = first; count = count; at = self.old.next } ∷ []) }
+        ensures stretches { OnOk result (self.new.stretches ≡ self.old.stretches
+            ++ record { to = to; stream = stream; first = first; count = count; at = self.old.next } ∷ []) }
         ensures next { OnOk result (self.new.next ≡ self.old.next + count) }
     {
         self.stretches.push(Stretch {

@@ -90,7 +90,8 @@ fn gathered(
     requires few { length frames.now < 2 ^ 32 }
     requires reads { All (IsStretch layout.now) reads.now }
     requires leaves { All (IsStretch layout.now) leaves.now }
-    ensures { IfOk result (λ pieces. pieces ≡ flat_map (pieces_for layout.now frames.now) reads.now ++ flat_map (pieces_for layout.now frames.now) leaves.now) }
+    ensures { IfOk result (λ pieces. pieces ≡ flat_map (pieces_for layout.now frames.now) reads.now
+        ++ flat_map (pieces_for layout.now frames.now) leaves.now) }
 {
     let mut pieces = List::new(alloc);
     gather(&mut pieces, layout, frames, reads)?;

@@ -58,7 +58,8 @@ fn give(table: &FrameTable, seat: &mut FrameSeat, outputs: &[i32], frame: u32, h
     requires runs { (view_of seat.old).run ≡ Some (first_place (known_of table.now).plan frame) }
     requires serves { HandServes table.now seat.old hand.old }
     ensures of_this_table { IsSeatOf table.now seat.new }
-    ensures gave_all { (view_of seat.new).run ≡ Some (at frame ((frame_at (known_of table.now).plan frame).piece + (frame_at (known_of table.now).plan frame).pieces) 0) }
+    ensures gave_all { (view_of seat.new).run ≡ Some (at frame ((frame_at (known_of table.now).plan frame).piece
+        + (frame_at (known_of table.now).plan frame).pieces) 0) }
     ensures gave { Gave (frames_of table.now) (view_of seat.old) (view_of seat.new) (pushed_by hand.old) (pushed_by hand.new) }
     ensures serves { HandServes table.now seat.new hand.new }
     ensures asks { asks_of hand.new ≡ asks_of hand.old }
@@ -80,7 +81,8 @@ fn settle(
 )
     requires of_this_table { IsSeatOf table.now seat.old }
     requires exists { frame < length table.now.plan.now.frames }
-    requires meant { (o : Outcome) × (outcome_at (known_of table.now).meaning frame ≡ Some o) × (o.end ≡ end) × (end ≡ Done → o.outputs ≡ outputs.now) }
+    requires meant { (o : Outcome) × (outcome_at (known_of table.now).meaning frame ≡ Some o) × (o.end ≡ end)
+        × (end ≡ Done → o.outputs ≡ outputs.now) }
     requires runs { (view_of seat.old).run ≡ Some (first_place (known_of table.now).plan frame) }
     requires serves { HandServes table.now seat.old hand.old }
     ensures of_this_table { IsSeatOf table.now seat.new }
