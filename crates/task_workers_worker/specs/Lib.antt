@@ -1,5 +1,6 @@
--- What a worker does to its seat, its hand and its log.
+-- What a reader believes: what a worker asks for, what it does to its seat, its hand and its log, and the room of a log.
+pub mod Ready
 pub mod Worked
 pub mod Logs
+-- What restates private functions.
 pub mod Left
-pub mod Ready
