@@ -1,5 +1,1 @@
-pub mod Accepted
-pub mod Answered
-pub mod Came
-pub mod GenRan
-pub mod Ran
+pub mod Says

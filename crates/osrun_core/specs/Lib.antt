@@ -1,6 +1,2 @@
--- What a reader believes: what is read of the files, and what `gen` makes.
-pub mod Gen
-pub mod Loading
--- What restates private functions.
-pub mod GenAnswer
-pub mod JobAnswer
+-- What a reader believes: when a file counts as read.
+pub mod Read

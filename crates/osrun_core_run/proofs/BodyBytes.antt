@@ -22,7 +22,7 @@ use Rattle.os_ast.specs.Notes.Programs.{after_item}
 use Rattle.os_ast.specs.Notes.Programs as notes
 use Rattle.os_ast.specs.Trees as tree
 use Rattle.os_code.specs.Tasks.{input_count}
-use Rattle.task_bodies.specs.Laws.{GivesBytes}
+use Rattle.osrun_core_run.specs.BodyLaws.{GivesBytes}
 use Rattle.osrun_core_run.proofs.WrittenBytes.{bytes_written}
 
 -- statements keep the lengths of the items' lists

@@ -17,10 +17,10 @@ use Rattle.flow_core_laws.specs.declared.ends.Ends.{Ends}
 use Rattle.flow_core_laws.specs.declared.outcome.Outcome.{Outcome}
 use Rattle.os_ast.specs.Trees.{ProgramTree}
 use Rattle.lowering_relation.specs.Laws.{BodiesFill}
-use Rattle.task_bodies.specs.Laws.{FilledBodiesFill, OutputsAreBytes}
+use Rattle.osrun_core_run.specs.BodyLaws.{FilledBodiesFill, OutputsAreBytes}
 use Rattle.osrun_core_run.proofs.BodyBytes.{RunsKeep}
 use Rattle.osrun_core_run.proofs.TasksRun.{bytes_are}
-use Rattle.osrun_core_words.specs.Jobs.{Job}
+use Rattle.osrun_core_jobs.specs.Jobs.{Job}
 use Rattle.osrun_core_run.specs.Laws.{GivesOnlyBytes, IsOfAState, OfRuns, TellsAllButDone, WritesAllAtZero}
 use Rattle.osrun_core_run.specs.Run.{IsRunOfJob, ProgramRun, body_at}
 

@@ -21,9 +21,9 @@ use Rattle.os_code.specs.Tasks.{Fits, input_count}
 use Rattle.os_code.specs.declared.parts.Parts.{Parts}
 use Rattle.osrun_core_run.proofs.BodyBytes.{RunsKeep, body_gives}
 use Rattle.osrun_core_run.specs.Run.{body_at, ends_over}
-use Rattle.task_bodies.specs.Frames.{frame_outcome}
+use Rattle.osrun_core_run.specs.Frames.{frame_outcome}
 use Rattle.flow_core_laws.specs.Byte.{IsByte}
-use Rattle.task_bodies.specs.Laws.{Agree, AgreeingBodiesMeanOne, GivesBytes, OutputsAreBytes}
+use Rattle.osrun_core_run.specs.BodyLaws.{Agree, AgreeingBodiesMeanOne, GivesBytes, OutputsAreBytes}
 
 module _ (code : Parts) (p : ProgramTree) (activations : List Activation) (budget : ℕ) (runs : RunsBodies code p) (fit : All (Fits code) activations) where
   -- the machine makes of each activation what the body of its task does

@@ -1,10 +1,11 @@
 -- What an error of a text is told as.
+use Rattle.std.specs.Prelude.{Some, None}
 use Rattle.front_end.specs.declared.text_error.TextError.{TextError}
 use Rattle.front_end.specs.declared.text_error.TextError.TheVariants as errors
-use Rattle.osrun_core_run.specs.declared.refusal.Refusal.{Refusal}
-use Rattle.osrun_core_run.specs.declared.refusal.Refusal.TheVariants as refusal
+use Rattle.osrun_core_jobs.specs.declared.refusal.Refusal.{Refusal}
+use Rattle.osrun_core_jobs.specs.declared.refusal.Refusal.TheVariants as refusals
 
 abbrev pub text_refusal : TextError → Refusal
-text_refusal (errors.Refused code line) = refusal.Text code line
-text_refusal errors.Syntax = refusal.NoProgram
-text_refusal errors.Memory = refusal.Memory
+text_refusal (errors.Refused code line) = refusals.Refused code (Some line)
+text_refusal errors.Syntax = refusals.Refused 4 None
+text_refusal errors.Memory = refusals.Memory

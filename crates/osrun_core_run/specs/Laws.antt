@@ -9,9 +9,9 @@ use Rattle.flow_core_laws.specs.Place.{written_count}
 use Rattle.flow_core_laws.specs.declared.activation.Activation.{Activation}
 use Rattle.os_ast.specs.Trees.{ProgramTree}
 use Rattle.os_code.specs.Tasks.{input_count}
-use Rattle.osrun_core_words.specs.Jobs.{Job}
+use Rattle.osrun_core_jobs.specs.Jobs.{Job}
 use Rattle.osrun_core_run.specs.Run.{IsRunOfJob, ProgramRun}
-use Rattle.task_bodies.specs.Laws.{GivesBytes}
+use Rattle.osrun_core_run.specs.BodyLaws.{GivesBytes}
 
 -- The body of a task that has its inputs writes nothing but bytes to the output, which is stream 1, for every program and
 -- every activation.

@@ -2,7 +2,10 @@
 pub mod Refusal
 pub mod Run
 pub mod RunOf
--- The laws of programs and of their runs.
+-- The laws of bodies, of programs and of their runs.
+pub mod BodyLaws
+pub mod Frames
 pub mod Laws
 -- What restates private functions.
 pub mod Accepting
+pub mod Reported

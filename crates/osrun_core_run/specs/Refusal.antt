@@ -1,22 +1,28 @@
--- How many bytes a file may have, and why a text is refused.
-use Rattle.std.specs.Prelude.{ℕ, List}
-use Rattle.front_end.specs.Texts.{IsRefused}
-use Rattle.os_lexer.specs.Limits.{text_limit}
+-- What makes bytes usable as a file of a job, and how they are refused.
+use Rattle.std.specs.Prelude.{◌≡◌, ℕ, List, Option, Some, None}
+use Rattle.front_end.specs.Texts.{IsAccepted, IsRefused}
 use Rattle.front_end.specs.declared.text_error.TextError.TheVariants as errors
-use Rattle.osrun_core_run.specs.declared.refusal.Subject.{Subject}
-use Rattle.osrun_core_run.specs.declared.refusal.Subject.TheVariants.{Program, Input}
-use Rattle.osrun_core_run.specs.declared.refusal.Refusal.{Refusal}
-use Rattle.osrun_core_run.specs.declared.refusal.Refusal.TheVariants as refusal
+use Rattle.os_ast.specs.Trees.{ProgramTree}
+use Rattle.osrun_core_jobs.specs.declared.subject.Subject.{Subject}
+use Rattle.osrun_core_jobs.specs.declared.subject.Subject.TheVariants.{Program, Input}
+use Rattle.osrun_core_jobs.specs.declared.refusal.Refusal.{Refusal}
+use Rattle.osrun_core_jobs.specs.declared.refusal.Refusal.TheVariants as refusals
 
--- how many bytes a file may have
-abbrev pub limit_of : Subject → ℕ
-limit_of Program = text_limit
-limit_of Input = 4194304
+-- Bytes are usable as such a file: those of the program are accepted as one, and each input is one.
+abbrev pub IsUsable : Subject → List ℕ → Type 0
+IsUsable Program bytes = (p : ProgramTree) × IsAccepted bytes p
+IsUsable Input bytes = Unit {0}
 
--- The text is refused so: by the first of its first fault, that it is no program, its least violation.
+-- They are refused as such a file: a text by the code and the line of its first fault, by 4 where it is no program, or by the
+-- code and the line of its least violation. No input is refused.
+abbrev pub IsUnusable : Subject → List ℕ → ℕ → Option ℕ → Type 0
+IsUnusable Program bytes code (Some line) = IsRefused bytes (errors.Refused code line)
+IsUnusable Program bytes code None = (code ≡ 4) × IsRefused bytes errors.Syntax
+IsUnusable Input bytes code line = ⊥
+
+-- a text is refused so
 abbrev pub IsRefusalOf : List ℕ → Refusal → Type 0
-IsRefusalOf text (refusal.Text code line_number) = IsRefused text (errors.Refused code line_number)
-IsRefusalOf text refusal.NoProgram = IsRefused text errors.Syntax
-IsRefusalOf text (refusal.TooLong subject) = ⊥
-IsRefusalOf text (refusal.ReadFault subject) = ⊥
-IsRefusalOf text refusal.Memory = ⊥
+IsRefusalOf text (refusals.Refused code line) = IsUnusable Program text code line
+IsRefusalOf text (refusals.TooLong subject) = ⊥
+IsRefusalOf text (refusals.ReadFault subject) = ⊥
+IsRefusalOf text refusals.Memory = ⊥

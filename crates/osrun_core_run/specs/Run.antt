@@ -1,5 +1,5 @@
 -- A run of a program over an input.
-use Rattle.std.specs.Prelude.{◌≡◌, ◌≤◌, ℕ, ℤ, IfSome, List, Option, length, slice_get}
+use Rattle.std.specs.Prelude.{◌≡◌, ℕ, ℤ, List, Option, length, slice_get}
 use Rattle.std.specs.Option.{option_map_or}
 use Rattle.cddf_meaning.specs.Body.{body, over_budget}
 use Rattle.cddf_meaning.specs.Control.{control}
@@ -10,10 +10,9 @@ use Rattle.flow_core_laws.specs.declared.ends.Ends.{Ends}
 use Rattle.flow_core_laws.specs.declared.outcome.Outcome.{Outcome}
 use Rattle.front_end.specs.Texts.{IsAccepted}
 use Rattle.os_ast.specs.Trees.{ProgramTree}
-use Rattle.osrun_core_words.specs.Jobs.{Job}
-use Rattle.osrun_core_run.specs.Refusal.{limit_of}
-use Rattle.osrun_core_run.specs.declared.refusal.Subject.{Subject}
-use Rattle.osrun_core_run.specs.declared.refusal.Subject.TheVariants.{Program, Input}
+use Rattle.osrun_core_jobs.specs.Files.{AreBytesOf}
+use Rattle.osrun_core_jobs.specs.Jobs.{Job}
+use Rattle.osrun_core_jobs.specs.declared.subject.Subject.TheVariants.{Program, Input}
 
 -- What the activation of a number makes of its inputs: what the body of its task does. A number that no activation has
 -- is never asked for.
@@ -31,11 +30,6 @@ pub record ProgramRun : Type 0 where
   pub control : Control
   pub input : List ℕ
   pub ends : Ends
-
--- the bytes were read of such a file: they are those that it holds, where that is told, and within its limit
-pub record AreBytesOf (held : Option (List ℕ)) (subject : Subject) (bytes : List ℕ) : Type 0 where
-  pub is_held : IfSome held (λ told. bytes ≡ told)
-  pub fits : length bytes ≤ limit_of subject
 
 -- The run of a job: the text was read of its first file and is accepted as a program, the input was read of its second, and
 -- the run is that of the program over the input, with the job's budgets.

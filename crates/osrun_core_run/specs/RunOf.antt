@@ -7,7 +7,7 @@ use Rattle.flow_core_laws.specs.declared.control.ControlEnd.{ControlEnd}
 use Rattle.flow_core_laws.specs.declared.ends.Ends.{Ends}
 use Rattle.os_ast.specs.Trees.{ProgramTree}
 use Rattle.osrun_core_run.specs.Run.{ends_over}
-use Rattle.osrun_core_words.specs.declared.job.Terms.{Terms}
+use Rattle.osrun_core_jobs.specs.declared.job.Terms.{Terms}
 use Rattle.stream_match_layouts.specs.Layout.{IsLayout, IsLayoutOf}
 use Rattle.stream_match_layouts.specs.declared.layout.Layout.{Layout}
 

@@ -4,10 +4,11 @@ ghost use Rattle.os_ast.specs.Trees.{ProgramTree};
 ghost use Rattle.os_ast.specs.Views.{program_tree};
 ghost use Rattle.os_lexer.specs.Limits.{text_limit};
 ghost use Rattle.osrun_core_run.specs.Refusal.{IsRefusalOf};
-ghost use Rattle.osrun_core_run.specs.declared.refusal.Refusal.{Refusal as Cause};
+ghost use Rattle.osrun_core_jobs.specs.declared.refusal.Refusal.{Refusal as Cause};
 
-use crate::refusal::Refusal;
+use crate::refused::text_refusal;
 use front_end::{one_answer, read_program};
+use osrun_core_jobs::Refusal;
 use std::alloc::Global;
 use window_check::Checked;
 
@@ -20,6 +21,8 @@ pub fn accept(alloc: Global, text: &[u8]) -> Result<Checked, Refusal>
     ensures rejected { (cause : Cause) → IsRefusalOf text.now cause → OnOk result ⊥ }
 {
     one_answer();
-    let checked = read_program(alloc, text)?;
-    Ok(checked)
+    match read_program(alloc, text) {
+        Ok(checked) => Ok(checked),
+        Err(error) => Err(text_refusal(error)),
+    }
 }

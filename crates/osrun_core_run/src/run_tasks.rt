@@ -12,11 +12,11 @@ use cddf_meaning::laws::turns_never_grow;
 use flow_core_laws::{Control, Ends, Plan, laws};
 use os_code::Code;
 use os_io::Memory;
-use osrun_core_words::Terms;
+use osrun_core_jobs::Terms;
 use std::alloc::Global;
 use std::thread::Threads;
-use task_bodies::TaskBodies;
-use task_bodies::laws::{agreeing_bodies_mean_one, bodies_serve, outputs_are_bytes};
+use crate::bodies::TaskBodies;
+use crate::body_laws::{agreeing_bodies_mean_one, bodies_serve, outputs_are_bytes};
 use task_workers::{Gate, execute_rounds};
 
 /// Carries out the plan of a run: each frame runs the task of its activation on one of the workers. What it comes

@@ -1,36 +1,37 @@
-ghost use Rattle.std.specs.Prelude.{◌≡◌, ◌≤◌, length, IfOk, IfErr};
+ghost use Rattle.std.specs.Prelude.{◌≤◌, length, IfOk};
+ghost use Rattle.lowering.specs.Meanings.{RunsBodies, RunsControl};
 ghost use Rattle.os_ast.specs.Views.{program_tree};
+ghost use Rattle.os_code.specs.Codes.{parts_of};
 ghost use Rattle.osrun_core_run.specs.RunOf.{AreTerms, IsRunOf};
 
 use crate::lay_out::lay_out;
-use crate::refusal::Refusal;
+use crate::made::Run;
 use crate::run_tasks::run_tasks;
 use collector::output_bytes;
 use control_run::run_control;
-use flow_core_laws::{ControlEnd, Ends};
-use lowering::lower;
-use osrun_core_words::Terms;
+use lowering::{LowerError, lower};
+use os_code::Code;
+use os_io::Memory;
+use osrun_core_jobs::Terms;
 use std::alloc::Global;
 use std::thread::Threads;
-use stream_match::{Layout, build};
+use stream_match::build;
 use task_workers::Gate;
 use window_check::Checked;
 
-/// A run that was made: the bytes for the output, and what the report tells.
-#[derive(Debug, Drop)]
-pub struct Run {
-    /// The bytes for the output, at most 4,194,304.
-    pub output: Vec<u8>,
-    /// The positions of the activations.
-    pub layout: Layout,
-    /// How each activation ended, and the elements of the output.
-    pub ends: Ends,
-    /// How the control program ended.
-    pub control: ControlEnd,
+/// The code of a program.
+fn compile(alloc: Global, checked: &Checked) -> Result<Code, Memory>
+    ensures bodies { IfOk result (λ code. RunsBodies (parts_of code) (program_tree checked.now.program)) }
+    ensures control { IfOk result (λ code. RunsControl (parts_of code) (program_tree checked.now.program)) }
+{
+    match lower(alloc, checked) {
+        Ok(code) => Ok(code),
+        Err(LowerError::Memory) => Err(Memory),
+    }
 }
 
 /// Runs a program over an input: it is compiled, its control program is run, the activations get their positions and a
-/// plan, workers carry it out, and the output's bytes are collected. `Refusal::Memory` is the one error.
+/// plan, workers carry it out, and the output's bytes are collected.
 pub fn run_program<R: Threads + Sync, G: Gate>(
     rt: &R,
     alloc: Global,
@@ -38,13 +39,12 @@ pub fn run_program<R: Threads + Sync, G: Gate>(
     checked: &Checked,
     input: &[u8],
     gate: &G,
-) -> Result<Run, Refusal>
+) -> Result<Run, Memory>
     requires within { AreTerms terms }
     requires few { length input.now ≤ 4194304 }
     ensures run { IfOk result (λ run. IsRunOf terms.task_budget terms.control_budget (program_tree checked.now.program) input.now run.output.items run.layout run.ends run.control) }
-    ensures memory { IfErr result (λ refusal. refusal ≡ Refusal.Memory) }
 {
-    let code = lower(alloc, checked)?;
+    let code = compile(alloc, checked)?;
     let control = run_control(alloc, &code, input.len() as u32, terms.control_budget)?;
     let layout = lay_out(alloc, &code, &control, input)?;
     let plan = build(alloc, &layout, input)?;

@@ -8,9 +8,9 @@ use Rattle.clap.specs.declared.parser.matches.ArgMatches.{ArgMatches}
 use Rattle.clap.proofs.WalkLemmas.{one_text-rows}
 use Rattle.osrun_core_words.specs.Arguments.{Argument, name, number, option, id_of, number_in}
 use Rattle.osrun_core_words.specs.Command.{CommandForm, app_of_form, request_by, unless}
-use Rattle.osrun_core_words.specs.Jobs.{Request}
+use Rattle.osrun_core_jobs.specs.Jobs.{Request}
 use Rattle.osrun_core_words.specs.Parsed.{IsNumber, IsNumberGiven, IsParsedBy}
-use Rattle.osrun_core_words.specs.declared.job.Request.{Request as Lent}
+use Rattle.osrun_core_jobs.specs.declared.job.Request.{Request as Lent}
 use Rattle.osrun_core_words.specs.declared.words_error.WordsError.{WordsError}
 use Rattle.osrun_core_words.specs.declared.words_error.WordsError.TheVariants as errors
 

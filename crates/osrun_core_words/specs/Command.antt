@@ -5,7 +5,7 @@ use Rattle.std.specs.declared.string.String.{String}
 use Rattle.std.specs.declared.alloc.Global.{Global}
 use Rattle.clap.specs.Words.{App, Kinds, Row, Text, fault_of, matches_of}
 use Rattle.osrun_core_words.specs.Arguments.{Argument, name, number, option, name_in, number_in, simple_command}
-use Rattle.osrun_core_words.specs.Jobs.{Gen, GenJob, Job, Request, Run, gen_in, run_in}
+use Rattle.osrun_core_jobs.specs.Jobs.{Gen, GenJob, Job, Request, Run, gen_in, run_in}
 
 -- ---- the commands
 

@@ -2,6 +2,5 @@
 pub mod Arguments
 pub mod Command
 pub mod Defaults
-pub mod Jobs
 -- What restates private functions.
 pub mod Parsed

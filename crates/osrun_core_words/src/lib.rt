@@ -7,13 +7,11 @@
 #![tactic(auto)]
 
 mod argument;
-mod job;
 pub mod laws;
 mod parse;
 mod read;
 mod table;
 mod words_error;
 
-pub use job::{GenJob, Job, Request, Terms};
 pub use read::command;
 pub use words_error::WordsError;

@@ -1,17 +1,17 @@
 ghost use Rattle.std.specs.Prelude.{◌≡◌, ◌≤◌, IfOk, Err, None, Some};
 ghost use Rattle.clap.specs.Words.{found_of, rows_of};
 ghost use Rattle.osrun_core_words.specs.Arguments.{argument_of, id_of, name_in, number_in};
-ghost use Rattle.osrun_core_words.specs.Jobs.{IsRequestWithin, request_of};
+ghost use Rattle.osrun_core_jobs.specs.Jobs.{IsRequestWithin, request_of};
 ghost use Rattle.osrun_core_words.specs.Command.{command, gen_form, request_by, run_form, texts};
 ghost use Rattle.osrun_core_words.specs.Parsed.{IsNumberFor, IsNumberGiven};
 ghost use Rattle.osrun_core_words.specs.declared.words_error.WordsError.TheVariants as errors;
 
 use crate::argument::Argument;
-use crate::job::{GenJob, Job, Request, Terms};
 use crate::parse::parse;
 use crate::table::{BLOCKS, CONTROL_BUDGET, GEN, INPUT, PROGRAM, RUN, SEED, TASK_BUDGET, WORKERS};
 use crate::words_error::WordsError;
 use clap::ArgMatches;
+use osrun_core_jobs::{GenJob, Job, Request, Terms};
 use std::alloc::Global;
 
 /// The name that an argument was given.

@@ -12,8 +12,8 @@ output_bytes-requires g c =
     let stands = c.in_ok-plan.ensures.stands_for c.in_ok-control.control.activations c.in_ok-layout.ensures.layout in
     record { bytes = c.in_ok-ends.ensures.bytes (program_tree c.args.checked.now.program) c.args.input.now c.in_ok-code.ensures.bodies stands }
 
-pub returns-clause-run : goal.returns-clause-run
-returns-clause-run g c =
+pub returns : goal.returns
+returns g c =
     let p = program_tree c.args.checked.now.program in
     let activations = c.in_ok-control.control.activations in
     let input = c.args.input.now in
@@ -21,7 +21,7 @@ returns-clause-run g c =
     let meant = c.in_ok-ends.ensures.meaning p input c.in_ok-code.ensures.bodies stands in
     let state = stream_meaning activations input (body_at p activations c.args.terms.task_budget) in
     let count = ap length c.in_ok-output.ensures.written ∙ ap (λ (e : Ends). length (written e.output)) meant in
-    record {
+    record { run = record {
       made = c.in_ok-control.control;
       made_is = c.in_ok-control.ensures.exact ∙ c.in_ok-code.ensures.control (length input) c.args.terms.control_budget;
       end_is = refl;
@@ -31,4 +31,4 @@ returns-clause-run g c =
       ends_are = meant;
       writes = c.in_ok-output.ensures.written;
       few = subst (λ n. n ≤ 4194304) (sym count) (few_written _ activations input state c.in_ok-control.ensures.lawful);
-    }
+    } }

@@ -1,5 +1,5 @@
 use Rattle.std.proofs.Common.{◌≡◌, ℕ}
-use Rattle.osrun_core_words.specs.Jobs.{Gen, Request}
+use Rattle.osrun_core_jobs.specs.Jobs.{Gen, Request}
 use Rattle.osrun_core_words.specs.Command.{gen_form, texts}
 use Rattle.osrun_core_words.proofs.CommandJobs.{request_read, refused}
 use Rattle.osrun_core_words.proofs.read.read_gen.Goals as goal

@@ -1,6 +1,6 @@
 use Rattle.std.proofs.Common.{◌≡◌, ℕ}
 use Rattle.clap.specs.Words.{Text}
-use Rattle.osrun_core_words.specs.Jobs.{Request, Run}
+use Rattle.osrun_core_jobs.specs.Jobs.{Request, Run}
 use Rattle.osrun_core_words.specs.Command.{run_form, texts}
 use Rattle.osrun_core_words.proofs.CommandJobs.{request_read, refused}
 use Rattle.osrun_core_words.proofs.read.read_run.Goals as goal

@@ -1,0 +1,525 @@
+-- What the record of an answer comes to, status by status.
+use Rattle.std.proofs.Common.{◌≡◌, ◌≢◌, ◌∙◌, ◌⊎◌, inl, inr, subst, ℕ, zero, suc, ◌+◌, ◌<◌, ◌≤◌, List, [], ◌∷◌, Option, Some, None, All, IfSome, refl, sym, ap, arith, length, slice_get, take}
+use Rattle.std.specs.Prelude.{IsSomeAnd, option_and_then}
+use Rattle.std.specs.Io.KnownBytes.{append_known}
+use Rattle.std.proofs.lemmas.Bool.{cases_lt}
+use Rattle.std.proofs.lemmas.List.Elements.{All-nil, All-cons}
+use Rattle.std.proofs.lemmas.Option.{same_Some, slice_get_within}
+use Rattle.collector.specs.Report.{report as report_of}
+use Rattle.collector.specs.Status.{status as status_of}
+use Rattle.collector.specs.Written.{written}
+use Rattle.os_io.specs.Counts.{HasRisen, last_count, raised}
+use Rattle.os_io.specs.declared.files.Files.{Ghosts as FilesView}
+use Rattle.os_io.specs.declared.sink.Sink.{Ghosts as SinkView}
+use Rattle.osrun_core.specs.Read.{IsRead}
+use Rattle.osrun_core_answer.specs.Answers.{AnswersRequest, HasCause, IsCut, IsGiven, IsMade, IsRefused, IsUnasked, IsUnmade, asked_files}
+use Rattle.osrun_core_answer.specs.Gen.{IsRunOfGen, gen_lines}
+use Rattle.osrun_core_answer.specs.Outcome.{IsOutcome, IsOutcomeOfGen, IsOutcomeOfRun, Outcome}
+use Rattle.osrun_core_jobs.specs.Files.{AreBytesOf, JobFile, files_of, limit_of}
+use Rattle.osrun_core_jobs.specs.Jobs.{Gen, GenJob, IsRequestWithin, Job, Request, Run as RunRequest, gen_in, run_in}
+use Rattle.osrun_core_jobs.specs.Reading.{EndedAt, IsCauseOf, IsFailed, IsReadable, IsRejected, ReadsInOrder, WasRead, WereRead}
+use Rattle.osrun_core_jobs.specs.Refusal.{refusal_line, refusal_status, usage_line}
+use Rattle.osrun_core_jobs.specs.Status.{code_of}
+use Rattle.osrun_core_jobs.specs.Telling.{HasTrouble, IsCutShort, IsUndelivered, Tells, Took, TookLines}
+use Rattle.osrun_core_jobs.specs.declared.refusal.Refusal.{Refusal}
+use Rattle.osrun_core_jobs.specs.declared.refusal.Refusal.TheVariants as refusals
+use Rattle.osrun_core_jobs.specs.declared.status.Status.{Status}
+use Rattle.osrun_core_jobs.specs.declared.status.Status.TheVariants as statuses
+use Rattle.osrun_core_jobs.specs.declared.subject.Subject.TheVariants as subjects
+use Rattle.osrun_core_run.specs.Refusal.{IsUnusable, IsUsable}
+use Rattle.osrun_core_run.specs.Run.{ProgramRun, IsRunOfJob}
+
+-- ---- what is asked for
+
+-- what holds wherever this run is asked for
+on_run : (asked : Option Request) (P : Job → Type 0) → ((job : Job) → asked ≡ Some (RunRequest job) → P job) → IfSome (option_and_then run_in asked) P
+on_run None P f = tt
+on_run (Some (RunRequest job)) P f = f job refl
+on_run (Some (Gen job)) P f = tt
+
+on_gen : (asked : Option Request) (P : GenJob → Type 0) → ((job : GenJob) → asked ≡ Some (Gen job) → P job) → IfSome (option_and_then gen_in asked) P
+on_gen None P f = tt
+on_gen (Some (RunRequest job)) P f = tt
+on_gen (Some (Gen job)) P f = f job refl
+
+-- what is asked for is one request
+one : (asked : Option Request) (request other : Request) → asked ≡ Some request → asked ≡ Some other → request ≡ other
+one asked request other is too = same_Some request other (sym is ∙ too)
+
+-- ---- files
+
+abbrev program_file : Job → JobFile
+program_file job = record { subject = subjects.Program; name = job.program }
+
+abbrev input_file : Job → JobFile
+input_file job = record { subject = subjects.Input; name = job.input }
+
+module _ {F : Type 0} (view : FilesView F) where
+  kept : (old new : F) (files : List JobFile) (contents : List (List ℕ)) → WereRead IsUsable view old new files contents
+      → (view.holds new ≡ view.holds old) × (view.may new ≡ view.may old) × (view.faults new ≡ view.faults old)
+  kept old new [] [] read = (ap view.holds read, ap view.may read, ap view.faults read)
+  kept old new [] (bytes ∷ contents) read = absurd read
+  kept old new (file ∷ files) [] read = absurd read
+  kept old new (file ∷ files) (bytes ∷ contents) read =
+      let more = kept read.0 new files contents read.2 in
+      (more.0 ∙ read.1.holds_kept, more.1 ∙ read.1.may_kept, more.2 ∙ read.1.no_fault)
+
+  -- the openings, where one more file was opened behind those that were read
+  opened_behind : (old before : F) (files : List JobFile) (contents : List (List ℕ)) (n : ℕ) → WereRead IsUsable view old before files contents
+      → n ≡ raised (view.opens before) 1 → n ≡ raised (view.opens old) (length files + 1)
+  opened_behind old before [] [] n read opened = opened ∙ ap (λ s. raised (view.opens s) 1) read
+  opened_behind old before [] (bytes ∷ contents) n read opened = absurd read
+  opened_behind old before (file ∷ files) [] n read opened = absurd read
+  opened_behind old before (file ∷ files) (bytes ∷ contents) n read opened =
+      let more = opened_behind read.0 before files contents n read.2 opened in
+      let first = read.1.opened in
+      omega (arith, more, first)
+
+  -- those before the place are as many as it says
+  take_all : (files : List JobFile) (place : ℕ) → place < length files → length (take place files) ≡ place
+  take_all [] place lt = absurd (omega (arith, lt))
+  take_all (file ∷ files) zero lt = refl
+  take_all (file ∷ files) (suc place) lt = let e = take_all files place (omega (arith, lt)) in omega (arith, e)
+
+  ended_opens : (old new : F) (files : List JobFile) (place : ℕ) (file : JobFile) (ended : EndedAt IsUsable view old new files place file)
+      → view.opens new ≡ raised (view.opens old) (place + 1)
+  ended_opens old new files place file ended =
+      opened_behind old ended.before (take place files) ended.contents (view.opens new) ended.earlier ended.last.opened
+      ∙ ap (λ n. raised (view.opens old) (n + 1)) (take_all files place (slice_get_within files place file ended.is_there))
+
+  -- the first files were read
+  read_first : (k place : ℕ) (old before : F) (files : List JobFile) (contents : List (List ℕ)) → k ≤ place → WereRead IsUsable view old before (take place files) contents
+      → All (IsRead (view.holds old)) (take k files)
+  read_first zero place old before files contents le read = All-nil (IsRead (view.holds old))
+  read_first (suc k) place old before [] contents le read = All-nil (IsRead (view.holds old))
+  read_first (suc k) zero old before (file ∷ files) contents le read = absurd (omega (arith, le))
+  read_first (suc k) (suc place) old before (file ∷ files) [] le read = absurd read
+  read_first (suc k) (suc place) old before (file ∷ files) (bytes ∷ contents) le read =
+      All-cons (IsRead (view.holds old)) file (take k files)
+      (record { bytes = bytes; read = read.1.read; is_usable = read.1.is_usable })
+      (subst (λ h. All (IsRead h) (take k files)) read.1.holds_kept (read_first k place read.0 before files contents (omega (arith, le)) read.2))
+
+  -- ---- the files of a run
+
+  module _ (job : Job) (old new : F) where
+    -- both files of a run that were read, by what they have given
+    the_run : (contents : List (List ℕ)) (outcome : Outcome) → IsOutcomeOfRun contents job outcome → WereRead IsUsable view old new (files_of (RunRequest job)) contents
+        → (run : ProgramRun) × IsRunOfJob (view.holds old) job run × (view.given new ≡ length run.input) × (outcome.output ≡ written run.ends.output)
+        × (outcome.told ≡ report_of run.control.activations (length run.input) run.ends run.control.end) × (outcome.own ≡ status_of run.ends.ends run.control.end)
+        × (view.opens new ≡ raised (view.opens old) 2) × (length run.input ≤ 4194304)
+    the_run contents outcome o read =
+        let both = subst (WereRead IsUsable view old new (files_of (RunRequest job))) o.contents_are read in
+        let of_text = both.1 in
+        let of_input = both.2.1 in
+        let end : new ≡ both.2.0 = both.2.2 in
+        let input_read = subst (λ h. AreBytesOf (h job.input) subjects.Input o.run.input) of_text.holds_kept of_input.read in
+        let first = of_text.opened in
+        let second : view.opens new ≡ raised (view.opens both.0) 1 = ap view.opens end ∙ of_input.opened in (
+          o.run,
+          record { text = o.text; text_read = of_text.read; input_read = input_read; program = o.program; is_program = o.is_program; control_is = o.control_is; ends_are = o.ends_are },
+          ap view.given end ∙ of_input.whole,
+          o.output_is,
+          o.report_is,
+          o.status_is,
+          omega (arith, first, second),
+          input_read.fits,
+        )
+
+    -- both files were opened
+    both_opened : (contents : List (List ℕ)) → WereRead IsUsable view old new (files_of (RunRequest job)) contents → view.opens new ≡ raised (view.opens old) 2
+    both_opened [] read = absurd read
+    both_opened (text ∷ []) read = absurd read.2
+    both_opened (text ∷ input ∷ []) read =
+        let first = read.1.opened in
+        let second : view.opens new ≡ raised (view.opens read.0) 1 = ap view.opens read.2.2 ∙ read.2.1.opened in
+        omega (arith, first, second)
+    both_opened (text ∷ input ∷ other ∷ contents) read = absurd read.2.2
+
+    -- where a run's reading came to, the files before were read
+    read_before : ReadsInOrder IsUsable view old new (files_of (RunRequest job)) → (k : ℕ) → view.opens old + k < view.opens new
+        → All (IsRead (view.holds old)) (take k (files_of (RunRequest job)))
+    read_before (inl same) k more = absurd (let e = ap view.opens same in omega (arith, e, more))
+    read_before (inr (inl read)) zero more = All-nil (IsRead (view.holds old))
+    read_before (inr (inl read)) (suc zero) more = read_first 1 2 old new (files_of (RunRequest job)) read.0 (omega arith) read.1
+    read_before (inr (inl read)) (suc (suc k)) more = absurd (let opened = both_opened read.0 read.1 in omega (arith, opened, more))
+    read_before (inr (inr ended)) k more =
+        let opened = ended_opens old new (files_of (RunRequest job)) ended.0 ended.1 ended.2 in
+        read_first k ended.0 old ended.2.before (files_of (RunRequest job)) ended.2.contents (omega (arith, opened, more)) ended.2.earlier
+
+-- no file, nothing read
+untouched : {F : Type 0} (view : FilesView F) (old new : F) → ReadsInOrder IsUsable view old new [] → new ≡ old
+untouched view old new (inl same) = same
+untouched view old new (inr (inl read)) = by read.0 read.1
+  where
+    by : (contents : List (List ℕ)) → WereRead IsUsable view old new [] contents → new ≡ old
+    by [] read = read
+    by (bytes ∷ contents) read = absurd read
+untouched view old new (inr (inr ended)) = absurd (let e : None ≡ Some ended.1 = ended.2.is_there in cc)
+
+-- faults never fall, and what is held and allowed stays
+module _ {F : Type 0} (view : FilesView F) (old new : F) (files : List JobFile) where
+  pub reading_keeps : ReadsInOrder IsUsable view old new files → (view.faults old ≤ view.faults new) × (view.holds new ≡ view.holds old) × (view.may new ≡ view.may old)
+  reading_keeps (inl same) = (omega (arith, ap view.faults same), ap view.holds same, ap view.may same)
+  reading_keeps (inr (inl read)) = let k = kept view old new files read.0 read.1 in (omega (arith, k.2), k.0, k.1)
+  reading_keeps (inr (inr ended)) =
+      let k = kept view old ended.2.before (take ended.0 files) ended.2.contents ended.2.earlier in
+      (omega (arith, k.2, ended.2.last.faults_kept), ended.2.last.holds_kept ∙ k.0, ended.2.last.may_kept ∙ k.1)
+
+-- no cause but a fault counts one
+unread_alone : {F : Type 0} (view : FilesView F) (old new : F) (file : JobFile) (r : Refusal) → IsFailed IsUnusable view old new file r
+    → code_of (refusal_status r) < 5 → view.faults new ≡ view.faults old
+unread_alone view old new file (refusals.Refused code line) failed small = failed.no_fault
+unread_alone view old new file (refusals.TooLong subject) failed small = failed.no_fault
+unread_alone view old new file (refusals.ReadFault subject) failed small = absurd (omega (arith, small))
+unread_alone view old new file refusals.Memory failed small = absurd (omega (arith, small))
+
+-- a file of which more than its limit was given is too long
+past_limit : {F : Type 0} (view : FilesView F) (old new : F) (file : JobFile) (r : Refusal) → IsFailed IsUnusable view old new file r
+    → limit_of file.subject < view.given new → (code_of (refusal_status r) ≡ 4) ⊎ (code_of (refusal_status r) ≡ 7)
+past_limit view old new file (refusals.Refused code line) failed more = absurd (omega (arith, failed.whole, failed.read.fits, more))
+past_limit view old new file (refusals.TooLong subject) failed more = inl refl
+past_limit view old new file (refusals.ReadFault subject) failed more = absurd (omega (arith, failed.within, more))
+past_limit view old new file refusals.Memory failed more = inr refl
+
+-- a failed read has counted a fault
+a_fault : {F : Type 0} (view : FilesView F) (old new : F) (file : JobFile) (r : Refusal) → IsFailed IsUnusable view old new file r
+    → code_of (refusal_status r) ≡ 5 → HasRisen (view.faults old) (view.faults new)
+a_fault view old new file (refusals.Refused code line) failed five = absurd (omega (arith, five))
+a_fault view old new file (refusals.TooLong subject) failed five = absurd (omega (arith, five))
+a_fault view old new file (refusals.ReadFault subject) failed five = failed.fault
+a_fault view old new file refusals.Memory failed five = absurd (omega (arith, five))
+
+-- the same place has the same file
+same_file : (files : List JobFile) (n m : ℕ) (file other : JobFile) → slice_get files n ≡ Some file → slice_get files m ≡ Some other → n ≡ m → file ≡ other
+same_file files n m file other at_n at_m same = same_Some file other (sym at_n ∙ ap (slice_get files) same ∙ at_m)
+
+-- ---- the record
+
+module _ {F O E : Type 0} (of_files : FilesView F) (fo fn : F) (of_out : SinkView O) (oo on : O) (of_report : SinkView E) (ro rn : E)
+    (asked : Option Request) (status : ℕ) (answer : AnswersRequest of_files fo fn of_out oo on of_report ro rn asked status) where
+  -- the five ways in which a call ends
+  cases : {C : Type 0} → (IsGiven of_files fo fn of_out oo on of_report ro rn asked status → status < 2 → C)
+      → (IsUnasked fo fn oo on of_report ro rn asked → status ≡ 2 → C)
+      → ((s : Status) → IsRefused of_files fo fn oo on of_report ro rn asked s → status ≡ code_of s → 3 ≤ status → status ≤ 5 → C)
+      → (IsCut of_files fo fn of_out oo on of_report ro rn asked → status ≡ 6 → C)
+      → (IsUnmade oo on ro rn → status ≡ 7 → C) → C
+  cases {C} given unasked refused cut unmade = by answer.answered answer.status_is answer.cause
+    where
+      by : (s : Status) → status ≡ code_of s → HasCause of_files fo fn of_out oo on of_report ro rn asked s → C
+      by statuses.AllDone is h = given (subst (IsGiven of_files fo fn of_out oo on of_report ro rn asked) (sym is) h) (omega (arith, is))
+      by statuses.NotAllDone is h = given (subst (IsGiven of_files fo fn of_out oo on of_report ro rn asked) (sym is) h) (omega (arith, is))
+      by statuses.BadWords is h = unasked h is
+      by statuses.Refused is h = refused statuses.Refused h is (omega (arith, is)) (omega (arith, is))
+      by statuses.TooLong is h = refused statuses.TooLong h is (omega (arith, is)) (omega (arith, is))
+      by statuses.ReadFault is h = refused statuses.ReadFault h is (omega (arith, is)) (omega (arith, is))
+      by statuses.WriteFault is h = cut h is
+      by statuses.NoMemory is h = unmade h is
+
+  -- the run that was made
+  made_run : (made : IsMade of_files fo fn asked) (job : Job) → asked ≡ Some (RunRequest job)
+      → (run : ProgramRun) × IsRunOfJob (of_files.holds fo) job run × (of_files.given fn ≡ length run.input) × (made.outcome.output ≡ written run.ends.output)
+      × (made.outcome.told ≡ report_of run.control.activations (length run.input) run.ends run.control.end) × (made.outcome.own ≡ status_of run.ends.ends run.control.end)
+      × (of_files.opens fn ≡ raised (of_files.opens fo) 2) × (length run.input ≤ 4194304)
+  made_run made job is =
+      let same : made.request ≡ RunRequest job = one asked made.request (RunRequest job) made.is_asked is in
+      the_run of_files job fo fn made.contents made.outcome (subst (λ q. IsOutcome made.contents q made.outcome) same made.is_outcome)
+      (subst (λ q. WereRead IsUsable of_files fo fn (files_of q) made.contents) same made.read)
+
+  made_gen : (made : IsMade of_files fo fn asked) (job : GenJob) → asked ≡ Some (Gen job) → IsOutcomeOfGen made.contents job made.outcome
+  made_gen made job is =
+      subst (λ q. IsOutcome made.contents q made.outcome) (one asked made.request (Gen job) made.is_asked is) made.is_outcome
+
+  -- what is refused is a run
+  refused_run : (s : Status) (h : IsRefused of_files fo fn oo on of_report ro rn asked s) (job : Job) → asked ≡ Some (RunRequest job)
+      → IsCauseOf IsUsable IsUnusable of_files fo fn (files_of (RunRequest job)) h.refusal
+  refused_run s h job is =
+      subst (λ q. IsCauseOf IsUsable IsUnusable of_files fo fn (files_of q) h.refusal) (one asked h.request (RunRequest job) h.is_asked is) h.cause
+
+  pub headline : status < 2 → IfSome (option_and_then run_in asked) (λ job. (run : ProgramRun) × IsRunOfJob (of_files.holds fo) job run
+      × (of_files.given fn ≡ length run.input) × (of_out.taken on ≡ append_known (of_out.taken oo) (written run.ends.output))
+      × (of_report.taken rn ≡ append_known (of_report.taken ro) (report_of run.control.activations (length run.input) run.ends run.control.end))
+      × (status ≡ status_of run.ends.ends run.control.end))
+  headline small = on_run asked _ (λ job is. cases
+      (λ g _. let r = made_run g.made job is in
+      (r.0, r.1, r.2, g.output.0 ∙ ap (append_known (of_out.taken oo)) r.3, g.report.took.0 ∙ ap (append_known (of_report.taken ro)) r.4, g.own ∙ r.5))
+      (λ _ n. absurd (omega (arith, n, small)))
+      (λ _ _ _ n _. absurd (omega (arith, n, small)))
+      (λ _ n. absurd (omega (arith, n, small)))
+      (λ _ n. absurd (omega (arith, n, small))))
+
+  pub all_opened : (status < 2) ⊎ (status ≡ 6) → IfSome (option_and_then run_in asked) (λ job. of_files.opens fn ≡ raised (of_files.opens fo) (length (files_of (RunRequest job))))
+  all_opened which = on_run asked _ (λ job is. cases
+      (λ g _. (made_run g.made job is).6)
+      (λ _ n. absurd (never which (omega (arith, n)) (λ six. omega (arith, n, six))))
+      (λ _ _ _ n m. absurd (never which (omega (arith, n)) (λ six. omega (arith, m, six))))
+      (λ c _. (made_run c.made job is).6)
+      (λ _ n. absurd (never which (omega (arith, n)) (λ six. omega (arith, n, six)))))
+    where
+      never : (status < 2) ⊎ (status ≡ 6) → 2 ≤ status → status ≢ 6 → ⊥
+      never (inl small) large not = omega (arith, small, large)
+      never (inr six) large not = not six
+
+  pub within : status ≢ 2 → status ≢ 7 → IsSomeAnd asked IsRequestWithin
+  within not_two not_seven = cases
+      (λ g _. subst (λ a. IsSomeAnd a IsRequestWithin) (sym g.made.is_asked) g.made.within)
+      (λ _ n. absurd (not_two n))
+      (λ _ h _ _ _. subst (λ a. IsSomeAnd a IsRequestWithin) (sym h.is_asked) h.within)
+      (λ c _. subst (λ a. IsSomeAnd a IsRequestWithin) (sym c.made.is_asked) c.made.within)
+      (λ _ n. absurd (not_seven n))
+
+  pub bad_words : status ≡ 2 → asked ≡ None
+  bad_words two = cases
+      (λ _ n. absurd (omega (arith, n, two)))
+      (λ u _. u.nothing_asked)
+      (λ _ _ _ n _. absurd (omega (arith, n, two)))
+      (λ _ n. absurd (omega (arith, n, two)))
+      (λ _ n. absurd (omega (arith, n, two)))
+
+  -- nothing is asked for, so no request is
+  none : (request : Request) → asked ≡ None → asked ≡ Some request → ⊥
+  none request nothing is = let e : None ≡ Some request = sym nothing ∙ is in cc
+
+  pub bad_words_always : asked ≡ None → (status ≡ 2) ⊎ (status ≡ 7)
+  bad_words_always nothing = cases
+      (λ g _. absurd (none g.made.request nothing g.made.is_asked))
+      (λ _ n. inl n)
+      (λ _ h _ _ _. absurd (none h.request nothing h.is_asked))
+      (λ c _. absurd (none c.made.request nothing c.made.is_asked))
+      (λ _ n. inr n)
+
+  pub nothing_read : asked ≡ None → fn ≡ fo
+  nothing_read nothing = untouched of_files fo fn (subst (λ a. ReadsInOrder IsUsable of_files fo fn (asked_files a)) nothing answer.reads)
+
+  pub usage : status ≡ 2 → Tells of_report ro rn usage_line
+  usage two = cases
+      (λ _ n. absurd (omega (arith, n, two)))
+      (λ u _. u.report)
+      (λ _ _ _ n _. absurd (omega (arith, n, two)))
+      (λ _ n. absurd (omega (arith, n, two)))
+      (λ _ n. absurd (omega (arith, n, two)))
+
+  pub refused : 3 ≤ status → status ≤ 5 → IsSomeAnd (option_and_then run_in asked) (λ job. (refusal : Refusal) × (status ≡ code_of (refusal_status refusal))
+      × IsCauseOf IsUsable IsUnusable of_files fo fn (files_of (RunRequest job)) refusal × Tells of_report ro rn (refusal_line refusal))
+  refused low high = cases
+      (λ _ n. absurd (omega (arith, n, low)))
+      (λ _ n. absurd (omega (arith, n, low)))
+      (λ s h is _ _. by s h is h.request h.is_asked h.cause)
+      (λ _ n. absurd (omega (arith, n, high)))
+      (λ _ n. absurd (omega (arith, n, high)))
+    where
+      by : (s : Status) (h : IsRefused of_files fo fn oo on of_report ro rn asked s) → status ≡ code_of s → (request : Request) → asked ≡ Some request
+          → IsCauseOf IsUsable IsUnusable of_files fo fn (files_of request) h.refusal
+          → IsSomeAnd (option_and_then run_in asked) (λ job. (refusal : Refusal) × (status ≡ code_of (refusal_status refusal))
+          × IsCauseOf IsUsable IsUnusable of_files fo fn (files_of (RunRequest job)) refusal × Tells of_report ro rn (refusal_line refusal))
+      by s h is (RunRequest job) asked_is cause = subst (λ a. IsSomeAnd (option_and_then run_in a) (λ job. (refusal : Refusal) × (status ≡ code_of (refusal_status refusal))
+          × IsCauseOf IsUsable IsUnusable of_files fo fn (files_of (RunRequest job)) refusal × Tells of_report ro rn (refusal_line refusal))) (sym asked_is)
+          (h.refusal, is ∙ ap code_of h.answered_is, cause, h.report)
+      by s h is (Gen job) asked_is cause = absurd (let e : None ≡ Some cause.file = cause.ended.is_there in cc)
+
+  pub refused_always : IfSome (option_and_then run_in asked) (λ job. IsRejected IsUnusable (of_files.holds fo) (record { subject = subjects.Program; name = job.program })
+      → (status ≡ 3) ⊎ ((status ≡ 5) ⊎ (status ≡ 7)))
+  refused_always = on_run asked _ (λ job is rejected.
+      answer.rejected (program_file job) (subst (λ a. slice_get (asked_files a) 0 ≡ Some (program_file job)) (sym is) refl) rejected)
+
+  -- a file of which more than its limit was given is no input of a run that was made
+  too_much : (made : IsMade of_files fo fn asked) (job : Job) → asked ≡ Some (RunRequest job) → (place : ℕ) (file : JobFile)
+      → slice_get (files_of (RunRequest job)) place ≡ Some file → of_files.opens fo + 2 ≤ last_count → of_files.opens fn ≡ raised (of_files.opens fo) (place + 1)
+      → limit_of file.subject < of_files.given fn → ⊥
+  too_much made job is place file at room opened more =
+      let r = made_run made job is in
+      let few : place < 2 = slice_get_within (files_of (RunRequest job)) place file at in
+      let all = r.6 in
+      let same : input_file job ≡ file = same_file (files_of (RunRequest job)) 1 place (input_file job) file refl at (omega (arith, few, room, opened, all)) in
+      let limit : 4194304 ≡ limit_of file.subject = ap (λ (f : JobFile). limit_of f.subject) same in
+      omega (arith, limit, more, r.2, r.7)
+
+  pub too_long_always : IfSome (option_and_then run_in asked) (λ job. (place : ℕ) (file : JobFile) → slice_get (files_of (RunRequest job)) place ≡ Some file
+      → of_files.opens fo + length (files_of (RunRequest job)) ≤ last_count → of_files.opens fn ≡ raised (of_files.opens fo) (place + 1)
+      → limit_of file.subject < of_files.given fn → (status ≡ 4) ⊎ (status ≡ 7))
+  too_long_always = on_run asked _ (λ job is place file at room opened more. cases
+      (λ g _. absurd (too_much g.made job is place file at room opened more))
+      (λ u _. absurd (none (RunRequest job) u.nothing_asked is))
+      (λ s h status_is _ _.
+      let cause = refused_run s h job is in
+      let ended = ended_opens of_files fo fn (files_of (RunRequest job)) cause.place cause.file cause.ended in
+      let few : place < 2 = slice_get_within (files_of (RunRequest job)) place file at in
+      let few_too : cause.place < 2 = slice_get_within (files_of (RunRequest job)) cause.place cause.file cause.ended.is_there in
+      let same : file ≡ cause.file = same_file (files_of (RunRequest job)) place cause.place file cause.file at cause.ended.is_there (omega (arith, few, few_too, room, opened, ended)) in
+      let limit : limit_of file.subject ≡ limit_of cause.file.subject = ap (λ (f : JobFile). limit_of f.subject) same in
+      subst (λ n. (n ≡ 4) ⊎ (n ≡ 7)) (sym (status_is ∙ ap code_of h.answered_is))
+      (past_limit of_files cause.ended.before fn cause.file h.refusal cause.failed (omega (arith, limit, more))))
+      (λ c _. absurd (too_much c.made job is place file at room opened more))
+      (λ _ n. inr n))
+
+  pub undelivered : status ≡ 6 → IfSome (option_and_then run_in asked) (λ job. (run : ProgramRun) × IsRunOfJob (of_files.holds fo) job run
+      × (of_files.given fn ≡ length run.input) × IsUndelivered of_out oo on (written run.ends.output)
+      of_report ro rn (report_of run.control.activations (length run.input) run.ends run.control.end))
+  undelivered six = on_run asked _ (λ job is. cases
+      (λ _ n. absurd (omega (arith, n, six)))
+      (λ _ n. absurd (omega (arith, n, six)))
+      (λ _ _ _ _ n. absurd (omega (arith, n, six)))
+      (λ c _. let r = made_run c.made job is in (
+        r.0,
+        r.1,
+        r.2,
+        subst (λ bytes. IsUndelivered of_out oo on bytes of_report ro rn (report_of r.0.control.activations (length r.0.input) r.0.ends r.0.control.end)) r.3
+            (subst (λ lines. IsUndelivered of_out oo on c.made.outcome.output of_report ro rn lines) r.4 c.undelivered),
+      ))
+      (λ _ n. absurd (omega (arith, n, six))))
+
+  pub memory : status ≡ 7 → rn ≡ ro
+  memory seven = cases
+      (λ _ n. absurd (omega (arith, n, seven)))
+      (λ _ n. absurd (omega (arith, n, seven)))
+      (λ _ _ _ _ n. absurd (omega (arith, n, seven)))
+      (λ _ n. absurd (omega (arith, n, seven)))
+      (λ u _. u.report_kept)
+
+  pub nothing_written : 2 ≤ status → status ≢ 6 → on ≡ oo
+  nothing_written large not_six = cases
+      (λ _ n. absurd (omega (arith, n, large)))
+      (λ u _. u.output_kept)
+      (λ _ h _ _ _. h.output_kept)
+      (λ _ n. absurd (not_six n))
+      (λ u _. u.output_kept)
+
+  pub statuses_small : status ≤ 7
+  statuses_small = cases (λ _ n. omega (arith, n)) (λ _ n. omega (arith, n)) (λ _ _ _ _ n. omega (arith, n)) (λ _ n. omega (arith, n)) (λ _ n. omega (arith, n))
+
+  -- how far the files of a run were read
+  reads_run : (job : Job) → asked ≡ Some (RunRequest job) → ReadsInOrder IsUsable of_files fo fn (files_of (RunRequest job))
+  reads_run job is = subst (λ a. ReadsInOrder IsUsable of_files fo fn (asked_files a)) is answer.reads
+
+  pub in_order : IfSome (option_and_then run_in asked) (λ job. ReadsInOrder IsUsable of_files fo fn (files_of (RunRequest job)))
+  in_order = on_run asked _ reads_run
+
+  pub read_earlier : IfSome (option_and_then run_in asked) (λ job. (k : ℕ) → of_files.opens fo + k < of_files.opens fn
+      → All (IsRead (of_files.holds fo)) (take k (files_of (RunRequest job))))
+  read_earlier = on_run asked _ (λ job is. read_before of_files job fo fn (reads_run job is))
+
+  -- what is not delivered has trouble
+  troubled : (output lines : List ℕ) → IsUndelivered of_out oo on output of_report ro rn lines → (HasTrouble of_out oo on → ⊥) → (HasTrouble of_report ro rn → ⊥) → ⊥
+  troubled output lines (inl cut) out report = out cut.0.trouble
+  troubled output lines (inr cut) out report = report cut.1.trouble
+
+  -- the faults of a refusal with the status 5
+  refused_fault : (s : Status) (h : IsRefused of_files fo fn oo on of_report ro rn asked s) → status ≡ code_of s → 5 ≤ status → status ≤ 5 → HasRisen (of_files.faults fo) (of_files.faults fn)
+  refused_fault s h is large high =
+      let before = h.cause.ended.before in
+      let k = kept of_files fo before (take h.cause.place (files_of h.request)) h.cause.ended.contents h.cause.ended.earlier in
+      let five : code_of (refusal_status h.refusal) ≡ 5 = small h.refusal (subst (λ n. 5 ≤ n) (is ∙ ap code_of h.answered_is) large) (subst (λ n. n ≤ 5) (is ∙ ap code_of h.answered_is) high) in
+      subst (λ n. HasRisen n (of_files.faults fn)) k.2 (a_fault of_files before fn h.cause.file h.refusal h.cause.failed five)
+    where
+      small : (r : Refusal) → 5 ≤ code_of (refusal_status r) → code_of (refusal_status r) ≤ 5 → code_of (refusal_status r) ≡ 5
+      small r low high = omega (arith, low, high)
+
+  pub complete : IfSome (option_and_then run_in asked) (λ job. All (IsReadable IsUsable (of_files.holds fo)) (files_of (RunRequest job))
+      → (HasRisen (of_files.faults fo) (of_files.faults fn) → ⊥) → (HasTrouble of_out oo on → ⊥) → (HasTrouble of_report ro rn → ⊥)
+      → (status < 2) ⊎ (status ≡ 7))
+  complete = on_run asked _ (λ job is all no_fault no_out no_report. cases
+      (λ _ n. inl n)
+      (λ u _. absurd (none (RunRequest job) u.nothing_asked is))
+      (λ s h status_is low high. absurd (no_fault (refused_fault s h status_is (large (answer.complete (RunRequest job) is all) low) high)))
+      (λ c _. absurd (troubled c.made.outcome.output c.made.outcome.told c.undelivered no_out no_report))
+      (λ _ n. inr n))
+    where
+      large : (status < 2) ⊎ (5 ≤ status) → 3 ≤ status → 5 ≤ status
+      large (inl small) low = absurd (omega (arith, small, low))
+      large (inr big) low = big
+
+  -- the faults where all files were read
+  made_faults : (made : IsMade of_files fo fn asked) → of_files.faults fn ≡ of_files.faults fo
+  made_faults made = (kept of_files fo fn (files_of made.request) made.contents made.read).2
+
+  pub no_read_fault : status ≢ 5 → status ≢ 7 → of_files.faults fn ≡ of_files.faults fo
+  no_read_fault not_five not_seven = cases
+      (λ g _. made_faults g.made)
+      (λ u _. ap of_files.faults u.files_kept)
+      (λ s h is low high.
+      let before = h.cause.ended.before in
+      let k = kept of_files fo before (take h.cause.place (files_of h.request)) h.cause.ended.contents h.cause.ended.earlier in
+      let same : status ≡ code_of (refusal_status h.refusal) = is ∙ ap code_of h.answered_is in
+      unread_alone of_files before fn h.cause.file h.refusal h.cause.failed (subst (λ n. n < 5) same (below high)) ∙ k.2)
+      (λ c _. made_faults c.made)
+      (λ _ n. absurd (not_seven n))
+    where
+      below : status ≤ 5 → status < 5
+      below high = elim (cases_lt status 5) [
+        | inl small ↦ small
+        | inr large ↦ absurd (not_five (omega (arith, high, large)))
+      ]
+
+  pub no_write_fault : status < 2 → (of_out.faults on ≡ of_out.faults oo) × (of_out.empty_takes on ≡ of_out.empty_takes oo)
+      × (of_report.faults rn ≡ of_report.faults ro) × (of_report.empty_takes rn ≡ of_report.empty_takes ro)
+  no_write_fault small = cases
+      (λ g _. (g.output.1, g.output.2, g.report.took.1, g.report.took.2))
+      (λ _ n. absurd (omega (arith, n, small)))
+      (λ _ _ _ n _. absurd (omega (arith, n, small)))
+      (λ _ n. absurd (omega (arith, n, small)))
+      (λ _ n. absurd (omega (arith, n, small)))
+
+  -- ---- `gen`
+
+  pub gen_written : status ≡ 0 → IfSome (option_and_then gen_in asked) (λ job. (run : ProgramRun) × IsRunOfGen job run
+      × (of_out.taken on ≡ append_known (of_out.taken oo) (gen_lines job run)))
+  gen_written zero_is = on_gen asked _ (λ job is. cases
+      (λ g _. let o = made_gen g.made job is in (o.run, o.is_run, g.output.0 ∙ ap (append_known (of_out.taken oo)) o.output_is))
+      (λ _ n. absurd (omega (arith, n, zero_is)))
+      (λ _ _ _ n _. absurd (omega (arith, n, zero_is)))
+      (λ _ n. absurd (omega (arith, n, zero_is)))
+      (λ _ n. absurd (omega (arith, n, zero_is))))
+
+  -- nothing that is told can't be cut short
+  cut_output : (made : IsMade of_files fo fn asked) (job : GenJob) → IsOutcomeOfGen made.contents job made.outcome
+      → IsUndelivered of_out oo on made.outcome.output of_report ro rn made.outcome.told
+      → IsCutShort of_out oo on made.outcome.output × (rn ≡ ro)
+  cut_output made job o (inl cut) = cut
+  cut_output made job o (inr cut) = absurd (let short = cut.1.front.1 in let e = ap length o.report_is in omega (arith, short, e))
+
+  pub gen_cut_short : status ≡ 6 → IfSome (option_and_then gen_in asked) (λ job. (run : ProgramRun) × IsRunOfGen job run × IsCutShort of_out oo on (gen_lines job run))
+  gen_cut_short six = on_gen asked _ (λ job is. cases
+      (λ _ n. absurd (omega (arith, n, six)))
+      (λ _ n. absurd (omega (arith, n, six)))
+      (λ _ _ _ _ n. absurd (omega (arith, n, six)))
+      (λ c _. let o = made_gen c.made job is in
+      (o.run, o.is_run, subst (IsCutShort of_out oo on) o.output_is (cut_output c.made job o c.undelivered).0))
+      (λ _ n. absurd (omega (arith, n, six))))
+
+  -- no job of `gen` is refused, since it has no file
+  never_refused : (s : Status) (h : IsRefused of_files fo fn oo on of_report ro rn asked s) (job : GenJob) → asked ≡ Some (Gen job) → ⊥
+  never_refused s h job is =
+      let cause : IsCauseOf IsUsable IsUnusable of_files fo fn [] h.refusal =
+      subst (λ q. IsCauseOf IsUsable IsUnusable of_files fo fn (files_of q) h.refusal) (one asked h.request (Gen job) h.is_asked is) h.cause in
+      let e : None ≡ Some cause.file = cause.ended.is_there in cc
+
+  pub gen_statuses : IfSome (option_and_then gen_in asked) (λ _. (status ≡ 0) ⊎ ((status ≡ 6) ⊎ (status ≡ 7)))
+  gen_statuses = on_gen asked _ (λ job is. cases
+      (λ g _. inl (g.own ∙ (made_gen g.made job is).status_is))
+      (λ u _. absurd (none (Gen job) u.nothing_asked is))
+      (λ s h _ _ _. absurd (never_refused s h job is))
+      (λ _ n. inr (inl n))
+      (λ _ n. inr (inr n)))
+
+  pub gen_files : IfSome (option_and_then gen_in asked) (λ _. fn ≡ fo)
+  gen_files = on_gen asked _ (λ job is. untouched of_files fo fn (subst (λ a. ReadsInOrder IsUsable of_files fo fn (asked_files a)) is answer.reads))
+
+  pub gen_report : IfSome (option_and_then gen_in asked) (λ _. rn ≡ ro)
+  gen_report = on_gen asked _ (λ job is. cases
+      (λ g _. g.report.nothing (made_gen g.made job is).report_is)
+      (λ u _. absurd (none (Gen job) u.nothing_asked is))
+      (λ s h _ _ _. absurd (never_refused s h job is))
+      (λ c _. (cut_output c.made job (made_gen c.made job is) c.undelivered).1)
+      (λ u _. u.report_kept))
+
+  pub gen_complete : IfSome (option_and_then gen_in asked) (λ _. (HasTrouble of_out oo on → ⊥) → (status ≡ 0) ⊎ (status ≡ 7))
+  gen_complete = on_gen asked _ (λ job is no_out. cases
+      (λ g _. inl (g.own ∙ (made_gen g.made job is).status_is))
+      (λ u _. absurd (none (Gen job) u.nothing_asked is))
+      (λ s h _ _ _. absurd (never_refused s h job is))
+      (λ c _. absurd (no_out (cut_output c.made job (made_gen c.made job is) c.undelivered).0.trouble))
+      (λ _ n. inr n))
+
+  -- ---- what stays
+
+  pub keeps : (of_files.faults fo ≤ of_files.faults fn) × (of_files.holds fn ≡ of_files.holds fo) × (of_files.may fn ≡ of_files.may fo)
+  keeps = reading_keeps of_files fo fn (asked_files asked) answer.reads

@@ -1,0 +1,135 @@
+//! Laws of what the command leaves. Each is a call that does nothing and ensures its law.
+
+ghost use Rattle.std.specs.Prelude.{◌≡◌, ◌<◌, ◌≤◌, ◌+◌, ◌⊎◌, ◌≢◌, ℕ, All, None, Some, IfSome, IsSomeAnd, length, slice_get, take};
+ghost use Rattle.std.specs.Io.KnownBytes.{append_known};
+ghost use Rattle.os_io.specs.Counts.{HasRisen, last_count, raised};
+ghost use Rattle.collector.specs.Report.{report as report_of};
+ghost use Rattle.collector.specs.Status.{status as status_of};
+ghost use Rattle.collector.specs.Written.{written};
+ghost use Rattle.osrun_core.specs.Read.{IsRead};
+ghost use Rattle.osrun_core_answer.specs.Answers.{AnswersRequest};
+ghost use Rattle.osrun_core_answer.specs.Gen.{IsRunOfGen, gen_lines};
+ghost use Rattle.osrun_core_jobs.specs.Files.{JobFile, files_of, limit_of};
+ghost use Rattle.osrun_core_jobs.specs.Jobs.{IsRequestWithin, Run as RunRequest};
+ghost use Rattle.osrun_core_jobs.specs.Reading.{IsCauseOf, IsReadable, IsRejected, ReadsInOrder};
+ghost use Rattle.osrun_core_jobs.specs.Refusal.{refusal_line, refusal_status, usage_line};
+ghost use Rattle.osrun_core_jobs.specs.Status.{code_of};
+ghost use Rattle.osrun_core_jobs.specs.Telling.{HasTrouble, IsCutShort, IsUndelivered, Tells};
+ghost use Rattle.osrun_core_jobs.specs.declared.refusal.Refusal.{Refusal as Cause};
+ghost use Rattle.osrun_core_jobs.specs.declared.subject.Subject.TheVariants.{Program as ProgramFile};
+ghost use Rattle.osrun_core_run.specs.Refusal.{IsUnusable, IsUsable};
+ghost use Rattle.osrun_core_run.specs.Run.{ProgramRun, IsRunOfJob};
+ghost use Rattle.osrun_core_words.specs.Command.{command, named_gen, named_run, texts};
+
+use os_io::{Files, Sink};
+
+/// What the record of an answer comes to, status by status: of the files and the two sinks before and after a call of the
+/// command with these words, where the call answered this status.
+pub fn answers_say<F: Files, O: Sink, E: Sink>(
+    words: &[String],
+    files: &F,
+    files_after: &F,
+    out: &O,
+    out_after: &O,
+    report: &E,
+    report_after: &E,
+    status: u8,
+)
+    requires { AnswersRequest F.Files files.now files_after.now O.Sink out.now out_after.now E.Sink report.now report_after.now
+        (command (texts words.now)) status }
+
+    // 0 and 1 of `run`, the headline: there is a run of the job, of which `out` took what is written, `report` took the
+    // report, and the status is its status. Of the file opened last as many bytes were given as the run's input has. Files
+    // that don't tell what they hold leave open which text and input the run was of.
+    ensures headline { status < 2 → IfSome (named_run (texts words.now)) (λ job. (run : ProgramRun)
+        × IsRunOfJob (F.holds files.now) job run
+        × (F.given files_after.now ≡ length run.input)
+        × (O.taken out_after.now ≡ append_known (O.taken out.now) (written run.ends.output))
+        × (E.taken report_after.now ≡ append_known (E.taken report.now) (report_of run.control.activations (length run.input) run.ends run.control.end))
+        × (status ≡ status_of run.ends.ends run.control.end)) }
+
+    // 0, 1 and 6: a run was made, so all files were opened, the input last.
+    ensures all_opened { (status < 2) ⊎ (status ≡ 6) → IfSome (named_run (texts words.now))
+        (λ job. F.opens files_after.now ≡ raised (F.opens files.now) (length (files_of (RunRequest job)))) }
+
+    // All but 2 and 7: the words name a job whose numbers are within their bounds.
+    ensures within { status ≢ 2 → status ≢ 7 → IsSomeAnd (command (texts words.now)) IsRequestWithin }
+
+    // 2: the words. Nothing is read where they name no job.
+    ensures bad_words { status ≡ 2 → command (texts words.now) ≡ None }
+    ensures bad_words_always { command (texts words.now) ≡ None → (status ≡ 2) ⊎ (status ≡ 7) }
+    ensures nothing_read { command (texts words.now) ≡ None → files_after.now ≡ files.now }
+    ensures usage { status ≡ 2 → Tells E.Sink report.now report_after.now usage_line }
+
+    // 3, 4 and 5: a refusal, whose cause stands and whose line is told.
+    ensures refused { 3 ≤ status → status ≤ 5 → IsSomeAnd (named_run (texts words.now)) (λ job. (refusal : Cause)
+        × (status ≡ code_of (refusal_status refusal))
+        × IsCauseOf IsUsable IsUnusable F.Files files.now files_after.now (files_of (RunRequest job)) refusal
+        × Tells E.Sink report.now report_after.now (refusal_line refusal)) }
+
+    // 3: where the program is told and within its limit, and its text is refused, the status is 3, unless a
+    // read failed (5) or memory ran out (7).
+    ensures refused_always { IfSome (named_run (texts words.now)) (λ job.
+        IsRejected IsUnusable (F.holds files.now) (record { subject = ProgramFile; name = job.program })
+        → (status ≡ 3) ⊎ ((status ≡ 5) ⊎ (status ≡ 7))) }
+
+    // 4: where more than the limit of the file that was opened last was given, the status is 4, unless memory
+    // ran out (7).
+    ensures too_long_always { IfSome (named_run (texts words.now)) (λ job. (place : ℕ) (file : JobFile)
+        → slice_get (files_of (RunRequest job)) place ≡ Some file
+        → F.opens files.now + length (files_of (RunRequest job)) ≤ last_count
+        → F.opens files_after.now ≡ raised (F.opens files.now) (place + 1)
+        → limit_of file.subject < F.given files_after.now → (status ≡ 4) ⊎ (status ≡ 7)) }
+
+    // 6 of `run`: a sink did not take all of a run.
+    ensures undelivered { status ≡ 6 → IfSome (named_run (texts words.now)) (λ job. (run : ProgramRun)
+        × IsRunOfJob (F.holds files.now) job run
+        × (F.given files_after.now ≡ length run.input)
+        × IsUndelivered O.Sink out.now out_after.now (written run.ends.output)
+        E.Sink report.now report_after.now (report_of run.control.activations (length run.input) run.ends run.control.end)) }
+
+    // 7: want of memory, before anything is written.
+    ensures memory { status ≡ 7 → report_after.now ≡ report.now }
+    ensures nothing_written { 2 ≤ status → status ≢ 6 → out_after.now ≡ out.now }
+    ensures statuses { status ≤ 7 }
+
+    // With any status: a file is opened only after those before it were read, which the openings and the bytes that were given
+    // show, and what the files hold where they tell it.
+    ensures in_order { IfSome (named_run (texts words.now)) (λ job.
+        ReadsInOrder IsUsable F.Files files.now files_after.now (files_of (RunRequest job))) }
+    ensures read_before { IfSome (named_run (texts words.now)) (λ job. (k : ℕ) → F.opens files.now + k < F.opens files_after.now
+        → All (IsRead (F.holds files.now)) (take k (files_of (RunRequest job)))) }
+
+    // Completeness of `run`: where all files are told, within their limits, and usable, and nothing fails, the run is
+    // made and delivered, unless memory runs out.
+    ensures complete { IfSome (named_run (texts words.now)) (λ job. All (IsReadable IsUsable (F.holds files.now)) (files_of (RunRequest job))
+        → (HasRisen (F.faults files.now) (F.faults files_after.now) → ⊥)
+        → (HasTrouble O.Sink out.now out_after.now → ⊥)
+        → (HasTrouble E.Sink report.now report_after.now → ⊥)
+        → (status < 2) ⊎ (status ≡ 7)) }
+
+    // The counts where nothing failed: with 0 to 4 and 6 no read failed, with 0 and 1 no write did.
+    ensures no_read_fault { status ≢ 5 → status ≢ 7 → F.faults files_after.now ≡ F.faults files.now }
+    ensures no_write_fault { status < 2 → (O.faults out_after.now ≡ O.faults out.now) × (O.empty_takes out_after.now ≡ O.empty_takes out.now)
+        × (E.faults report_after.now ≡ E.faults report.now) × (E.empty_takes report_after.now ≡ E.empty_takes report.now) }
+
+    // `gen`: with the status 0 `out` took the four lines of the run over the bytes that were made, with 6 a front of
+    // them, for a cause of its own, and 7 is want of memory. Files and report stay as they are.
+    ensures gen_written { status ≡ 0 → IfSome (named_gen (texts words.now)) (λ job. (run : ProgramRun) × IsRunOfGen job run
+        × (O.taken out_after.now ≡ append_known (O.taken out.now) (gen_lines job run))) }
+    ensures gen_cut_short { status ≡ 6 → IfSome (named_gen (texts words.now)) (λ job. (run : ProgramRun) × IsRunOfGen job run
+        × IsCutShort O.Sink out.now out_after.now (gen_lines job run)) }
+    ensures gen_statuses { IfSome (named_gen (texts words.now)) (λ _. (status ≡ 0) ⊎ ((status ≡ 6) ⊎ (status ≡ 7))) }
+    ensures gen_files { IfSome (named_gen (texts words.now)) (λ _. files_after.now ≡ files.now) }
+    ensures gen_report { IfSome (named_gen (texts words.now)) (λ _. report_after.now ≡ report.now) }
+
+    // Completeness of `gen`: where `out` has no trouble, the four lines are written, unless memory runs out.
+    ensures gen_complete { IfSome (named_gen (texts words.now)) (λ _.
+        (HasTrouble O.Sink out.now out_after.now → ⊥)
+        → (status ≡ 0) ⊎ (status ≡ 7)) }
+
+    // What stays.
+    ensures faults_kept { F.faults files.now ≤ F.faults files_after.now }
+    ensures holds { F.holds files_after.now ≡ F.holds files.now }
+    ensures may { F.may files_after.now ≡ F.may files.now }
+{}

@@ -1,0 +1,5 @@
+pub mod Answering
+pub mod GenRan
+pub mod Loaded
+pub mod MadeRun
+pub mod Workers

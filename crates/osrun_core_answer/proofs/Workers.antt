@@ -1,0 +1,149 @@
+-- What is given doesn't depend on the number of workers.
+use Rattle.std.proofs.Common.{◌≡◌, ◌∙◌, ◌*◌, subst, ℕ, List, [], ◌∷◌, Option, Some, All, IfSome, refl, sym, ap, ap₂, length, map, get_or}
+use Rattle.std.specs.Prelude.{unwrap_or}
+use Rattle.std.proofs.lemmas.List.Elements.{All-head, All-tail}
+use Rattle.std.proofs.lemmas.Option.{same_Some}
+use Rattle.cddf_meaning.specs.Control.{control}
+use Rattle.collector.specs.Report.{report}
+use Rattle.collector.specs.Status.{status}
+use Rattle.collector.specs.Written.{written}
+use Rattle.flow_core_laws.specs.declared.control.Control.{Control}
+use Rattle.flow_core_laws.specs.declared.ends.Ends.{Ends}
+use Rattle.front_end.specs.Texts.{IsAccepted, OneProgram}
+use Rattle.kernels.specs.Generated.{generated}
+use Rattle.kernels.specs.declared.texts.TheConstants.{LIFT}
+use Rattle.os_ast.specs.Trees.{ProgramTree}
+use Rattle.os_io.specs.declared.files.Files.{Ghosts as FilesView}
+use Rattle.osrun_core_answer.specs.Answers.{IsMade}
+use Rattle.osrun_core_answer.specs.Gen.{IsRunOfGen, four_lines, gen_budget, gen_lines}
+use Rattle.osrun_core_answer.specs.Laws.{IsTold, SameButForWorkers, WorkersChangeNothing}
+use Rattle.osrun_core_answer.specs.Outcome.{IsOutcome, IsOutcomeOfGen, IsOutcomeOfRun, Outcome}
+use Rattle.osrun_core_jobs.specs.Files.{JobFile, files_of}
+use Rattle.osrun_core_jobs.specs.Jobs.{Gen, GenJob, Job, Request, Run as RunRequest}
+use Rattle.osrun_core_jobs.specs.Reading.{WereRead}
+use Rattle.osrun_core_run.specs.Refusal.{IsUsable}
+use Rattle.osrun_core_run.specs.Run.{ProgramRun, ends_over}
+
+-- a run by what it is of
+abbrev run_of : ProgramTree → List ℕ → (task_budget control_budget : ℕ) → ProgramRun
+run_of p input task_budget control_budget =
+    let made = control p (length input) control_budget in
+    record { control = made; input = input; ends = ends_over p made.activations input task_budget }
+
+-- a run that has the control and the ends of one is that one
+is_run_of : (p : ProgramTree) (task_budget control_budget : ℕ) (run : ProgramRun) → run.control ≡ control p (length run.input) control_budget
+    → run.ends ≡ ends_over p run.control.activations run.input task_budget → run ≡ run_of p run.input task_budget control_budget
+is_run_of p task_budget control_budget run control_is ends_are =
+    ap (λ (e : Ends). record { control = run.control; input = run.input; ends = e }) ends_are
+    ∙ ap (λ (c : Control). record { control = c; input = run.input; ends = ends_over p c.activations run.input task_budget }) control_is
+
+-- what is given of a run, and what is given of one of `gen`
+abbrev outcome_of : ProgramRun → Outcome
+outcome_of run = record {
+  output = written run.ends.output;
+  told = report run.control.activations (length run.input) run.ends run.control.end;
+  own = status run.ends.ends run.control.end;
+}
+
+abbrev gen_outcome : GenJob → ProgramRun → Outcome
+gen_outcome job run = record { output = gen_lines job run; told = []; own = 0 }
+
+-- outcomes with the same parts are the same
+same_outcome : (o q : Outcome) → o.output ≡ q.output → o.told ≡ q.told → o.own ≡ q.own → o ≡ q
+same_outcome o q output told own =
+    ap (λ x. record { output = x; told = o.told; own = o.own }) output
+    ∙ ap (λ x. record { output = q.output; told = x; own = o.own }) told
+    ∙ ap (λ x. record { output = q.output; told = q.told; own = x }) own
+
+is_outcome_of : (contents : List (List ℕ)) (job : Job) (outcome : Outcome) (o : IsOutcomeOfRun contents job outcome)
+    → outcome ≡ outcome_of (run_of o.program o.run.input job.task_budget job.control_budget)
+is_outcome_of contents job outcome o =
+    same_outcome outcome (outcome_of o.run) o.output_is o.report_is o.status_is
+    ∙ ap outcome_of (is_run_of o.program job.task_budget job.control_budget o.run o.control_is o.ends_are)
+
+is_gen_outcome_of : (contents : List (List ℕ)) (job : GenJob) (outcome : Outcome) (o : IsOutcomeOfGen contents job outcome)
+    → outcome ≡ gen_outcome job (run_of o.is_run.program (generated job.seed (4 * job.blocks)) gen_budget gen_budget)
+is_gen_outcome_of contents job outcome o =
+    same_outcome outcome (gen_outcome job o.run) o.output_is o.report_is o.status_is
+    ∙ ap (gen_outcome job) (is_run_of o.is_run.program gen_budget gen_budget o.run o.is_run.control_is o.is_run.ends_are
+    ∙ ap (λ input. run_of o.is_run.program input gen_budget gen_budget) o.is_run.input_is)
+
+module _ (one : OneProgram) where
+  of_runs : (contents : List (List ℕ)) (job other : Job) (outcome another : Outcome) → SameButForWorkers (RunRequest job) (RunRequest other)
+      → IsOutcomeOfRun contents job outcome → IsOutcomeOfRun contents other another → outcome ≡ another
+  of_runs contents job other outcome another same o q =
+      let contents_same = sym o.contents_are ∙ q.contents_are in
+      let texts : o.text ≡ q.text = ap (λ xs. get_or xs 0 []) contents_same in
+      let inputs : o.run.input ≡ q.run.input = ap (λ xs. get_or xs 1 []) contents_same in
+      let programs : o.program ≡ q.program = one q.text o.program q.program (subst (λ t. IsAccepted t o.program) texts o.is_program) q.is_program in
+      is_outcome_of contents job outcome o
+      ∙ ap (λ p. outcome_of (run_of p o.run.input job.task_budget job.control_budget)) programs
+      ∙ ap (λ input. outcome_of (run_of q.program input job.task_budget job.control_budget)) inputs
+      ∙ ap (λ n. outcome_of (run_of q.program q.run.input n job.control_budget)) same.2
+      ∙ ap (λ n. outcome_of (run_of q.program q.run.input other.task_budget n)) same.3
+      ∙ sym (is_outcome_of contents other another q)
+
+  of_gens : (contents : List (List ℕ)) (job other : GenJob) (outcome another : Outcome) → SameButForWorkers (Gen job) (Gen other)
+      → IsOutcomeOfGen contents job outcome → IsOutcomeOfGen contents other another → outcome ≡ another
+  of_gens contents job other outcome another same o q =
+      let programs : o.is_run.program ≡ q.is_run.program = one LIFT.now o.is_run.program q.is_run.program o.is_run.is_program q.is_run.is_program in
+      is_gen_outcome_of contents job outcome o
+      ∙ ap (λ p. gen_outcome job (run_of p (generated job.seed (4 * job.blocks)) gen_budget gen_budget)) programs
+      ∙ ap (λ s. gen_of q.is_run.program s job.blocks) same.0
+      ∙ ap (λ b. gen_of q.is_run.program other.seed b) same.1
+      ∙ sym (is_gen_outcome_of contents other another q)
+    where
+      gen_of : ProgramTree → (seed blocks : ℕ) → Outcome
+      gen_of p seed blocks =
+          let run = run_of p (generated seed (4 * blocks)) gen_budget gen_budget in
+          record { output = four_lines (record { seed = seed; blocks = blocks; workers = 1 }) run.input (written run.ends.output) (status run.ends.ends run.control.end); told = []; own = 0 }
+
+  pub change_nothing : WorkersChangeNothing
+  change_nothing contents (RunRequest job) (RunRequest other) outcome another same o q = of_runs contents job other outcome another same o q
+  change_nothing contents (Gen job) (Gen other) outcome another same o q = of_gens contents job other outcome another same o q
+  change_nothing contents (RunRequest job) (Gen other) outcome another same o q = absurd same
+  change_nothing contents (Gen job) (RunRequest other) outcome another same o q = absurd same
+
+-- what a file holds, where that is told
+abbrev held_by : (List ℕ → Option (List ℕ)) → JobFile → List ℕ
+held_by holds file = unwrap_or (holds file.name) []
+
+-- what was read of files that are told is what they hold
+contents_told : {F : Type 0} (view : FilesView F) (old new : F) (files : List JobFile) (contents : List (List ℕ)) → WereRead IsUsable view old new files contents
+    → All (IsTold (view.holds old)) files → contents ≡ map (held_by (view.holds old)) files
+contents_told view old new [] [] read told = refl
+contents_told view old new [] (bytes ∷ contents) read told = absurd read
+contents_told view old new (file ∷ files) [] read told = absurd read
+contents_told view old new (file ∷ files) (bytes ∷ contents) read told =
+    let first = All-head (IsTold (view.holds old)) file files told in
+    let bytes_are : bytes ≡ first.0 = subst (λ t. IfSome t (λ held. bytes ≡ held)) first.1 read.1.read.is_held in
+    let head : bytes ≡ held_by (view.holds old) file = bytes_are ∙ sym (ap (λ o. unwrap_or o []) first.1) in
+    let tail = contents_told view read.0 new files contents read.2
+    (subst (λ h. All (IsTold h) files) (sym read.1.holds_kept) (All-tail (IsTold (view.holds old)) file files told)) in
+    ap (λ xs. bytes ∷ xs) (tail ∙ ap (λ h. map (held_by h) files) read.1.holds_kept) ∙ ap (λ x. x ∷ map (held_by (view.holds old)) files) head
+
+-- requests that differ in their workers have the same files
+same_files : (request other : Request) → SameButForWorkers request other → files_of request ≡ files_of other
+same_files (RunRequest job) (RunRequest other) same =
+    ap (λ name. files_of (RunRequest (record job { program = name }))) same.0
+    ∙ ap (λ name. files_of (RunRequest (record job { program = other.program; input = name }))) same.1
+same_files (Gen job) (Gen other) same = refl
+same_files (RunRequest job) (Gen other) same = absurd same
+same_files (Gen job) (RunRequest other) same = absurd same
+
+pub made_same : {F : Type 0} (view : FilesView F) (old new other_old other_new : F) → OneProgram → view.holds other_old ≡ view.holds old
+    → (request other : Request) → SameButForWorkers request other → All (IsTold (view.holds old)) (files_of request)
+    → (one : IsMade view old new (Some request)) (two : IsMade view other_old other_new (Some other)) → one.outcome ≡ two.outcome
+made_same view old new other_old other_new unique holds request other same told one two =
+    let asked : one.request ≡ request = same_Some one.request request (sym one.is_asked) in
+    let asked_too : two.request ≡ other = same_Some two.request other (sym two.is_asked) in
+    let files = same_files request other same in
+    let first = contents_told view old new (files_of request) one.contents (subst (λ q. WereRead IsUsable view old new (files_of q) one.contents) asked one.read) told in
+    let told_too : All (IsTold (view.holds other_old)) (files_of other) =
+    subst (λ h. All (IsTold h) (files_of other)) (sym holds) (subst (All (IsTold (view.holds old))) files told) in
+    let second = contents_told view other_old other_new (files_of other) two.contents (subst (λ q. WereRead IsUsable view other_old other_new (files_of q) two.contents) asked_too two.read) told_too in
+    let contents : one.contents ≡ two.contents =
+    first ∙ ap (map (held_by (view.holds old))) files ∙ ap (λ h. map (held_by h) (files_of other)) (sym holds) ∙ sym second in
+    change_nothing unique two.contents request other one.outcome two.outcome same
+    (subst (λ xs. IsOutcome xs request one.outcome) contents (subst (λ q. IsOutcome one.contents q one.outcome) asked one.is_outcome))
+    (subst (λ q. IsOutcome two.contents q two.outcome) asked_too two.is_outcome)

@@ -1,0 +1,53 @@
+-- What calls on the way of a job answer.
+use Rattle.std.specs.Prelude.{◌≡◌, ◌≤◌, ◌⊎◌, ℕ, List, [], ◌∷◌, MatchResult, Result}
+use Rattle.front_end.specs.Texts.{IsAccepted}
+use Rattle.os_ast.specs.Trees.{ProgramTree}
+use Rattle.os_ast.specs.Views.{program_tree}
+use Rattle.os_io.specs.declared.files.Files.{Ghosts as FilesView}
+use Rattle.os_io.specs.declared.sink.Sink.{Ghosts as SinkView}
+use Rattle.osrun_core_answer.specs.Outcome.{IsOutcome, Outcome}
+use Rattle.osrun_core_jobs.specs.Files.{JobFile, files_of}
+use Rattle.osrun_core_jobs.specs.HandsOver.{HandsOver}
+use Rattle.osrun_core_jobs.specs.Jobs.{Gen, GenJob, Job, Run as RunRequest}
+use Rattle.osrun_core_jobs.specs.Reading.{IsCauseOf, IsFailed, Opened, ReadsInOrder, WasRead, WereRead}
+use Rattle.osrun_core_jobs.specs.declared.refusal.Refusal.{Refusal}
+use Rattle.osrun_core_jobs.specs.declared.refusal.Refusal.TheVariants as refusals
+use Rattle.osrun_core_jobs.specs.declared.status.Status.{Status}
+use Rattle.osrun_core_jobs.specs.declared.status.Status.TheVariants as statuses
+use Rattle.osrun_core_jobs.specs.declared.subject.Subject.TheVariants as subjects
+use Rattle.osrun_core_run.specs.Refusal.{IsUnusable, IsUsable}
+use Rattle.osrun_core_run.specs.RunOf.{IsRunOf}
+use Rattle.osrun_core_run.specs.declared.made.Run.{Run}
+use Rattle.window_check.specs.declared.checked.Checked.{Checked}
+
+-- a program was read, or it was opened and is the cause
+abbrev pub ReadsProgram : {F : Type 0} → FilesView F → F → F → List ℕ → Result Checked Refusal → Type 0
+ReadsProgram view old new name result = MatchResult result
+    (λ checked. (text : List ℕ) × WasRead IsUsable view old new (record { subject = subjects.Program; name = name }) text
+    × IsAccepted text (program_tree checked.program))
+    (λ refusal. Opened view old new × IsFailed IsUnusable view old new (record { subject = subjects.Program; name = name }) refusal)
+
+-- the files were read, and the run is that of the one over the other
+pub record IsMadeOf {F : Type 0} (view : FilesView F) (old new : F) (job : Job) (run : Run) : Type 0 where
+  pub text : List ℕ
+  pub input : List ℕ
+  pub read : WereRead IsUsable view old new (files_of (RunRequest job)) (text ∷ input ∷ [])
+  pub program : ProgramTree
+  pub is_program : IsAccepted text program
+  pub is_run : IsRunOf job.task_budget job.control_budget program input run.output.items run.layout run.ends run.control
+
+-- one of them is the cause, or memory was wanted
+abbrev pub IsUnmadeOf : {F : Type 0} → FilesView F → F → F → Job → Refusal → Type 0
+IsUnmadeOf view old new job refusal =
+    IsCauseOf IsUsable IsUnusable view old new (files_of (RunRequest job)) refusal
+    ⊎ ((refusal ≡ refusals.Memory) × ReadsInOrder IsUsable view old new (files_of (RunRequest job)))
+
+abbrev pub MakesRun : {F : Type 0} → FilesView F → F → F → Job → Result Run Refusal → Type 0
+MakesRun view old new job result = MatchResult result (IsMadeOf view old new job) (IsUnmadeOf view old new job)
+
+-- the four lines were handed over, or memory was wanted and nothing was written
+abbrev pub AnswersGen : {O E : Type 0} → SinkView O → O → O → SinkView E → E → E → GenJob → Status → Type 0
+AnswersGen of_out out_old out_new of_report report_old report_new job answered =
+    ((outcome : Outcome) × IsOutcome [] (Gen job) outcome
+    × HandsOver of_out out_old out_new outcome.output of_report report_old report_new outcome.told statuses.AllDone answered)
+    ⊎ ((answered ≡ statuses.NoMemory) × (out_new ≡ out_old) × (report_new ≡ report_old))

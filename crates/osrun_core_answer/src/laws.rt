@@ -1,0 +1,22 @@
+//! Laws of what requests are meant to give. Each is a call that does nothing and ensures its law.
+
+ghost use Rattle.std.specs.Prelude.{◌≡◌, All, Some};
+ghost use Rattle.osrun_core_answer.specs.Answers.{IsMade};
+ghost use Rattle.osrun_core_answer.specs.Laws.{IsTold, SameButForWorkers, WorkersChangeNothing};
+ghost use Rattle.osrun_core_jobs.specs.Files.{files_of};
+ghost use Rattle.osrun_core_jobs.specs.Jobs.{Request};
+
+use front_end::one_answer;
+use os_io::Files;
+
+/// What is given doesn't depend on the number of workers: over the same bytes, requests that differ in that number alone are
+/// meant to give the same output, report and status. So do two calls on files that tell the same, each before its call.
+pub fn workers_change_nothing<F: Files>(files: &F, files_after: &F, others: &F, others_after: &F)
+    requires { F.holds others.now ≡ F.holds files.now }
+    ensures meant { WorkersChangeNothing }
+    ensures made { (request other : Request) → SameButForWorkers request other → All (IsTold (F.holds files.now)) (files_of request)
+        → (one : IsMade F.Files files.now files_after.now (Some request)) → (two : IsMade F.Files others.now others_after.now (Some other))
+        → one.outcome ≡ two.outcome }
+{
+    one_answer();
+}

@@ -1,0 +1,35 @@
+ghost use Rattle.std.specs.Prelude.{◌≡◌};
+ghost use Rattle.osrun_core_jobs.specs.Files.{limit_of, subject_name};
+
+use os_lexer::TEXT_LIMIT;
+
+/// What a file is to the job that reads it.
+#[derive(Clone, Copy, Debug, PartialEq, Eq)]
+pub enum Subject {
+    /// The program's text.
+    Program,
+    /// The bytes that the program is run over.
+    Input,
+}
+
+impl Subject {
+    /// How many bytes the file may have.
+    pub fn limit(self) -> u64
+        ensures { result ≡ limit_of self }
+    {
+        match self {
+            Subject::Program => TEXT_LIMIT as u64,
+            Subject::Input => 4_194_304,
+        }
+    }
+
+    /// What a refusal calls the file.
+    pub(crate) fn name(self) -> &'static [u8]
+        ensures { result.now ≡ subject_name self }
+    {
+        match self {
+            Subject::Program => b"program",
+            Subject::Input => b"input",
+        }
+    }
+}

@@ -1,0 +1,51 @@
+-- A run means the same with bodies that make the same of all inputs that the activations can have.
+use Rattle.std.proofs.Common.{◌≡◌, ℕ, zero, suc, ◌<◌, ℤ, List, Option, Some, None, map, length, get_or, refl, sym, ap, ◌∙◌, arith}
+use Rattle.std.specs.Option.{option_map, option_or}
+use Rattle.std.proofs.lemmas.List.{length-map, get_or_default, same_lists}
+use Rattle.std.proofs.lemmas.Option.{slice_get-get_or}
+use Rattle.flow_core_laws.proofs.Gathering.{length-gathered}
+use Rattle.flow_core_laws.proofs.Rounds.{after, length-after, length-round, outcome_at-round}
+use Rattle.flow_core_laws.specs.Element.{Source, element}
+use Rattle.flow_core_laws.specs.Outcome.{State, outcome_at}
+use Rattle.flow_core_laws.specs.Round.{inputs_in, meaning, round, rounds}
+use Rattle.flow_core_laws.specs.Streams.{stream_meaning, stream_reads}
+use Rattle.flow_core_laws.specs.declared.activation.Activation.{Activation}
+use Rattle.flow_core_laws.specs.declared.outcome.Outcome.{Outcome}
+use Rattle.osrun_core_run.specs.BodyLaws.{Agree}
+use Rattle.osrun_core_run.proofs.Counts.{length-reads}
+use Rattle.osrun_core_run.proofs.Serving.{no_activation}
+
+module _ (reads : ℕ → List Source) (body other : ℕ → List ℤ → Outcome) (count : ℕ)
+    (agree : (a : ℕ) (inputs : List ℤ) → a < count → length inputs ≡ length (reads a) → body a inputs ≡ other a inputs) where
+  -- the same inputs, if they are there, give the same
+  given : (s : State) (a : ℕ) → a < count → (o : Option (List ℤ)) → inputs_in element reads s a ≡ o → option_map (body a) o ≡ option_map (other a) o
+  given s a lt None is = refl
+  given s a lt (Some inputs) is = ap (λ (o : Outcome). Some o) (agree a inputs lt (length-gathered (map (element s) (reads a)) inputs is ∙ length-map (reads a) (element s)))
+
+  one_round : (s : State) → length s ≡ count → round element reads body s ≡ round element reads other s
+  one_round s long = same_lists (round element reads body s) (round element reads other s) (length-round element reads body s ∙ sym (length-round element reads other s)) (λ k d lt. at k d (omega (arith, length-round element reads body s)))
+    where
+      at : (k : ℕ) (d : Option Outcome) → k < length s → get_or (round element reads body s) k d ≡ get_or (round element reads other s) k d
+      at k d lt =
+          get_or_default (round element reads body s) k d None (omega (arith, length-round element reads body s))
+          ∙ outcome_at-round element reads body s k lt
+          ∙ ap (option_or (outcome_at s k)) (given s k (omega arith) (inputs_in element reads s k) refl)
+          ∙ sym (outcome_at-round element reads other s k lt)
+          ∙ get_or_default (round element reads other s) k None d (omega (arith, length-round element reads other s))
+
+  some_rounds : (n : ℕ) → after element reads body count n ≡ after element reads other count n
+  unfolding rounds
+  some_rounds zero = refl
+  some_rounds (suc n) =
+      one_round (after element reads body count n) (length-after element reads body count n) ∙ ap (round element reads other) (some_rounds n)
+
+  pub same_meaning : meaning element reads body count ≡ meaning element reads other count
+  unfolding meaning
+  same_meaning = some_rounds count
+
+pub mean_one : (activations : List Activation) (input : List ℕ) (body other : ℕ → List ℤ → Outcome) → Agree activations body other
+    → stream_meaning activations input body ≡ stream_meaning activations input other
+mean_one activations input body other agree =
+    same_meaning (stream_reads activations input) body other (length activations) (λ a inputs lt long.
+    let is = slice_get-get_or activations a no_activation lt in
+    agree a (get_or activations a no_activation) inputs is (long ∙ length-reads activations input a (get_or activations a no_activation) is))

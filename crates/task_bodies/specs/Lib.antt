@@ -1,3 +1,0 @@
--- What a reader believes.
-pub mod Frames
-pub mod Laws
