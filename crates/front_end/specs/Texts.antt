@@ -47,7 +47,8 @@ NeverBoth = (text : List ℕ) (p : ProgramTree) (code line : ℕ) → IsAccepted
 
 -- a text is refused in one way: by one code and in one line
 abbrev pub OneRefusal : Type 0
-OneRefusal = (text : List ℕ) (code line other there : ℕ) → IsRefused text code line → IsRefused text other there → (code ≡ other) × (line ≡ there)
+OneRefusal =
+    (text : List ℕ) (code line other there : ℕ) → IsRefused text code line → IsRefused text other there → (code ≡ other) × (line ≡ there)
 
 -- each text is accepted or refused
 abbrev pub AcceptedOrRefused : Type 0

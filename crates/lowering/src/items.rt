@@ -95,7 +95,8 @@ fn emit_burst(
     join: &Join,
 ) -> Result<(), Memory>
     ensures { OnOk result (draft.new
-        ≡ burst_code (told_at told.now.names.now) direction (told_at told.now.names.now join.now.name.mark.place) (option_map index_tree join.now.burst) draft.old) }
+        ≡ burst_code (told_at told.now.names.now) direction (told_at told.now.names.now join.now.name.mark.place)
+        (option_map index_tree join.now.burst) draft.old) }
 {
     match &join.burst {
         None => draft.emit(Instr::Push(1)),

@@ -194,7 +194,8 @@ fn emit_step(
     step: Label,
     again: Label,
 ) -> Result<(), Memory>
-    ensures { OnOk result (draft.new ≡ with_instr (change_code (told_at told.now.names.now) (change_tree change.now) (with_place draft.old step)) (Instr.Jump again.number)) }
+    ensures { OnOk result (draft.new ≡ with_instr (change_code (told_at told.now.names.now) (change_tree change.now) (with_place draft.old step))
+        (Instr.Jump again.number)) }
 {
     draft.place(step)?;
     emit_change(draft, told, change)?;

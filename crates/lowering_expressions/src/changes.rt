@@ -80,7 +80,8 @@ fn emit_step(
     step: Step,
     mark: Mark,
 ) -> Result<(), Memory>
-    ensures { OnOk result (draft.new ≡ changed_code (told_at told.now.names.now) true (target_tree target.now) (stepped_code (step_operator step) mark.line) draft.old) }
+    ensures { OnOk result (draft.new ≡ changed_code (told_at told.now.names.now) true (target_tree target.now)
+        (stepped_code (step_operator step) mark.line) draft.old) }
 {
     emit_fetch(draft, told, target)?;
     draft.emit(Instr::Push(1))?;

@@ -97,7 +97,8 @@ fn emit_unary(
     operand: &Expr,
 ) -> Result<(), Memory>
     ensures { OnOk result (draft.new
-        ≡ with_unary (worked_out operator (expr_tree operand.now)) operator mark.line (expr_code (told_at told.now.names.now) (expr_tree operand.now)) draft.old) }
+        ≡ with_unary (worked_out operator (expr_tree operand.now)) operator mark.line
+        (expr_code (told_at told.now.names.now) (expr_tree operand.now)) draft.old) }
 {
     match worked_out(operator, operand) {
         Some(value) => draft.emit(Instr::Push(value)),
@@ -142,7 +143,8 @@ fn emit_links(draft: &mut Draft, told: &Told<'_>, links: &List<Link>) -> Result<
 #[cycle(expressions)]
 #[tactic(auto, using(crate::proofs::Rules::expressions))]
 fn emit_link(draft: &mut Draft, told: &Told<'_>, link: &Link) -> Result<(), Memory>
-    ensures { OnOk result (draft.new ≡ with_link link.now.op link.now.mark.line (expr_code (told_at told.now.names.now) (expr_tree link.now.right)) draft.old) }
+    ensures { OnOk result (draft.new ≡ with_link link.now.op link.now.mark.line
+        (expr_code (told_at told.now.names.now) (expr_tree link.now.right)) draft.old) }
 {
     let line = link.mark.line;
     match link.op {

@@ -35,17 +35,24 @@ with_more more s = record s { bound = s.bound ++ more }
 -- Whatever else is in scope, under names that the file doesn't have, `main` creates the same and ends in the same way.
 -- So it asks for no name that isn't there.
 abbrev pub MainFindsItsNames : Type 0
-MainFindsItsNames = (p : tree.ProgramTree) (m : Main) (more : List Binding) (input_len budget : ℕ) → IsLawful p → main_of p ≡ Some m → AreElse m.file more →
+MainFindsItsNames =
+    (p : tree.ProgramTree) (m : Main) (more : List Binding) (input_len budget : ℕ) → IsLawful p → main_of p ≡ Some m → AreElse m.file more →
     control_of (run_all (round_main m) m.body (with_more more (control_state input_len)) budget) ≡ control p input_len budget
 
 -- The same of the body of a task,
 abbrev pub TasksFindTheirNames : Type 0
-TasksFindTheirNames = (p : tree.ProgramTree) (m : Main) (t : Task) (more : List Binding) (a : Activation) (inputs : List ℤ) (budget : ℕ) → IsLawful p → main_of p ≡ Some m →
+TasksFindTheirNames =
+    (p : tree.ProgramTree) (m : Main) (t : Task) (more : List Binding) (a : Activation) (inputs : List ℤ) (budget : ℕ) → IsLawful p
+    → main_of p ≡ Some m →
     slice_get m.tasks a.site ≡ Some t → AreElse m.file more →
-    outcome t.mark.line a.claims (run (in_function m.file) t.body (with_more more (state_of (bound_round t a.captured) (item_lists a.claims inputs))) budget) ≡ body p a inputs budget
+    outcome t.mark.line a.claims (run (in_function m.file) t.body (with_more more (state_of (bound_round t a.captured) (item_lists a.claims inputs))) budget)
+    ≡ body p a inputs budget
 
 -- and of that of a function, behind the items that stand before it.
 abbrev pub FunctionsFindTheirNames : Type 0
-FunctionsFindTheirNames = (items rest : List tree.ItemTree) (f : tree.FunctionTree) (more : List Binding) (args : List ℤ) (turns : ℕ) → IsLawful (items ++ tree.Function f ∷ rest) →
+FunctionsFindTheirNames =
+    (items rest : List tree.ItemTree) (f : tree.FunctionTree) (more : List Binding) (args : List ℤ) (turns : ℕ)
+    → IsLawful (items ++ tree.Function f ∷ rest) →
     (f.name.id == main_id) ≡ false → AreElse (file_of items) more →
-    returned (run_all (in_function (file_of items)) f.body (with_more more (state_of (bind_params (param_names f.params) args []) [])) turns) ≡ call_function (file_of items) f args (suc turns)
+    returned (run_all (in_function (file_of items)) f.body (with_more more (state_of (bind_params (param_names f.params) args []) [])) turns)
+    ≡ call_function (file_of items) f args (suc turns)

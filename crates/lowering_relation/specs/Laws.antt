@@ -35,7 +35,9 @@ TasksEndSo = (p : tree.ProgramTree) (code : Parts) (a : Activation) (inputs : Li
 
 -- And it ends in no other way.
 abbrev pub TasksEndOnlySo : Type 0
-TasksEndOnlySo = (p : tree.ProgramTree) (code : Parts) (a : Activation) (inputs : List ℤ) (budget : ℕ) (outcome : Outcome) (steps : ℕ) → StandsFor code p → Fits code a →
+TasksEndOnlySo =
+    (p : tree.ProgramTree) (code : Parts) (a : Activation) (inputs : List ℤ) (budget : ℕ) (outcome : Outcome) (steps : ℕ) → StandsFor code p
+    → Fits code a →
     read_horizons a.claims ≤ length inputs → TaskEnds code a inputs budget outcome steps → outcome ≡ body p a inputs budget
 
 -- `main` creates the activations of the control program, and ends as it does.

@@ -35,13 +35,15 @@ HasTest code tells (Some e) fails from to = HasCondition code tells e fails from
 
 -- The body and the step of a loop that begins at `again`; `part` is the body, by where `continue` goes to. Without a step
 -- both the body and `continue` go to the beginning; else they go to the step, which stands behind the body.
-abbrev pub HasRound : Parts → (ℕ → What) → (part : (continued next from to : ℕ) → Type 0) → Option tree.ChangeTree → (again from to : ℕ) → Type 0
+abbrev pub HasRound : Parts → (ℕ → What) → (part : (continued next from to : ℕ) → Type 0) → Option tree.ChangeTree → (again from to : ℕ)
+    → Type 0
 HasRound code tells part None again from to = Ends code (part again) again from to
 HasRound code tells part (Some c) again from to =
     (step end : ℕ) × part step step from step × HasChange code tells c step end × Stands code (Jump again ∷ []) end to
 
 -- A loop begins with its unit. It goes on at `next` where its condition is 0.
-abbrev pub HasLoop : Parts → (ℕ → What) → Option tree.ExprTree → (part : (continued next from to : ℕ) → Type 0) → Option tree.ChangeTree → (next from to : ℕ) → Type 0
+abbrev pub HasLoop : Parts → (ℕ → What) → Option tree.ExprTree → (part : (continued next from to : ℕ) → Type 0) → Option tree.ChangeTree
+    → (next from to : ℕ) → Type 0
 HasLoop code tells test part step next from to =
     (begin : ℕ) × (instr_at code from ≡ Some Turn) × HasTest code tells test next (from + 1) begin × HasRound code tells part step from begin to
 

@@ -81,7 +81,8 @@ fn sized(
 
 /// The least code of a declarator's name but for the size, whose code is handed in.
 fn declarator_code(scopes: &Scopes, declarator: &Declarator, size: Option<u8>) -> Option<u8>
-    ensures { result ≡ lesser_code (least_code (when (is_declared scopes.now declarator.now.name.id) 12)) (lesser_code size (least_code (when (declarator.now.stream && not (is_outermost scopes.now.owner scopes.now.depth)) 17))) }
+    ensures { result ≡ lesser_code (least_code (when (is_declared scopes.now declarator.now.name.id) 12))
+        (lesser_code size (least_code (when (declarator.now.stream && not (is_outermost scopes.now.owner scopes.now.depth)) 17))) }
 {
     let twice = when(
         scopes.is_declared(declarator.name.id),

@@ -166,8 +166,10 @@ fn for_loop(
     body: &Stmt,
 ) -> Result<(), Memory>
     requires { HasRoom scopes.old (1 + start_weight (start_tree head.now.start) + stmt_weight (stmt_tree body.now)) }
-    ensures scopes { OnOk result (scopes.new ≡ after_stmt scopes.old (tree.For (start_tree head.now.start) (option_map expr_tree head.now.test) (option_map change_tree head.now.step) (stmt_tree body.now))) }
-    ensures found { OnOk result (found.new ≡ noted found.old (stmt_notes scopes.old (tree.For (start_tree head.now.start) (option_map expr_tree head.now.test) (option_map change_tree head.now.step) (stmt_tree body.now)))) }
+    ensures scopes { OnOk result (scopes.new ≡ after_stmt scopes.old
+        (tree.For (start_tree head.now.start) (option_map expr_tree head.now.test) (option_map change_tree head.now.step) (stmt_tree body.now))) }
+    ensures found { OnOk result (found.new ≡ noted found.old (stmt_notes scopes.old
+        (tree.For (start_tree head.now.start) (option_map expr_tree head.now.test) (option_map change_tree head.now.step) (stmt_tree body.now)))) }
 {
     let outer = scopes.enter();
     start(scopes, found, &head.start)?;
@@ -182,7 +184,8 @@ fn for_loop(
 /// A tick.
 #[tactic(auto, using(window_check_names::proofs::AddedViolations::added_notes))]
 fn tick(scopes: &Scopes, found: &mut Found, site: &TickSite) -> Result<(), Memory>
-    ensures { OnOk result (found.new ≡ noted found.old (stmt_notes scopes.now (tree.Tick site.now.mark (target_tree site.now.stream) site.now.arrow (expr_tree site.now.amount)))) }
+    ensures { OnOk result (found.new ≡ noted found.old (stmt_notes scopes.now
+        (tree.Tick site.now.mark (target_tree site.now.stream) site.now.arrow (expr_tree site.now.amount)))) }
 {
     found.add_violation(site.mark, pragma_code(scopes.owner()));
     place(scopes, found, Role::Flow(Direction::Reads), &site.stream)?;
@@ -199,7 +202,8 @@ fn task(
 ) -> Result<(), Memory>
     requires { HasRoom scopes.old (1 + length (parts (map clause_tree site.now.clauses)) + stmt_weight (stmt_tree site.now.body)) }
     ensures scopes { OnOk result (scopes.new ≡ after_stmt scopes.old (tree.Task site.now.mark (map clause_tree site.now.clauses) (stmt_tree site.now.body))) }
-    ensures found { OnOk result (found.new ≡ noted found.old (stmt_notes scopes.old (tree.Task site.now.mark (map clause_tree site.now.clauses) (stmt_tree site.now.body)))) }
+    ensures found { OnOk result (found.new ≡ noted found.old (stmt_notes scopes.old
+        (tree.Task site.now.mark (map clause_tree site.now.clauses) (stmt_tree site.now.body)))) }
 {
     let (items, privates) = clauses(alloc, scopes, found, &site.clauses)?.into_parts();
     let captured = captured(alloc, scopes, &site.body, &items, privates)?;

@@ -32,7 +32,8 @@ fn shape_of(index: &Option<Index>) -> Shape
 
 /// What stands behind the arrow of an item.
 fn joined(scopes: &Scopes, found: &mut Found, join: &Join) -> Result<(), Memory>
-    ensures { OnOk result (found.new ≡ noted found.old (Used scopes.now join.now.name (usage.Joined (shape_of (option_map index_tree join.now.burst))) ∷ index_notes scopes.now (option_map index_tree join.now.burst))) }
+    ensures { OnOk result (found.new ≡ noted found.old (Used scopes.now join.now.name (usage.Joined (shape_of (option_map index_tree join.now.burst)))
+        ∷ index_notes scopes.now (option_map index_tree join.now.burst))) }
 {
     used(scopes, found, join.name, Use::Joined(shape_of(&join.burst)))?;
     indexed(scopes, found, &join.burst)
@@ -45,7 +46,8 @@ fn window(
     listed: &Listed,
     item: &ClauseItem,
 ) -> Result<(), Memory>
-    ensures { OnOk result (found.new ≡ noted found.old (window_notes scopes.now listed.now.names (target_tree item.now.stream) (option_map join_tree item.now.window))) }
+    ensures { OnOk result (found.new ≡ noted found.old (window_notes scopes.now listed.now.names (target_tree item.now.stream)
+        (option_map join_tree item.now.window))) }
 {
     let name = item_name(item);
     found.add_violation(name.mark, listed.again(name));
