@@ -1,5 +1,5 @@
 #!/usr/bin/env python3
-"""tests/definitions.py [--write | --why NAME]: the definitions that a reader of the headline believes.
+"""tests/definitions.py [--write | --why NAME]: the definitions that a reader of the promise of the top call believes.
 
 It reads the clause in CLAUSE of CALL, follows each name that it cites through the imports of the files in crates/*/specs,
 and compares the definitions that it comes to, with the lines on which they stand, with the list in docs/PROMISES.md. The
@@ -11,7 +11,7 @@ import sys
 
 TOP = os.path.dirname(os.path.dirname(os.path.abspath(__file__)))
 CALL = "crates/osrun_core/src/command.rt"
-CLAUSE = "ensures headline {"
+CLAUSE = "ensures {"
 LIST = "docs/PROMISES.md"
 NAME = r"[^\s(){}.;,:=λ→∷×\"]+"
 KEYWORDS = {"abbrev", "pub", "unfoldable", "mutual", "record", "data", "module", "where", "use", "mod", "let", "in", "elim", "as"}
