@@ -6,7 +6,6 @@ use Rattle.std.proofs.lemmas.Option.{get_or_from_slice_get, same_Some, slice_get
 use Rattle.collector.specs.Report.{report}
 use Rattle.collector.specs.Status.{status}
 use Rattle.front_end.specs.Texts.{IsAccepted, NeverBoth}
-use Rattle.front_end.specs.declared.text_error.TextError.TheVariants as errors
 use Rattle.os_io.specs.Counts.{raised}
 use Rattle.os_io.specs.declared.files.Files.{Ghosts as FilesView}
 use Rattle.os_io.specs.declared.sink.Sink.{Ghosts as SinkView}
@@ -45,8 +44,8 @@ holds_read view old new (file ∷ files) (bytes ∷ contents) read =
 
 -- no bytes are usable and refused
 never : NeverBoth → (subject : Subject) (bytes : List ℕ) (code : ℕ) (line : Option ℕ) → IsUsable subject bytes → IsUnusable subject bytes code line → ⊥
-never both subjects.Program bytes code (Some line) usable refused = both bytes usable.0 (errors.Refused code line) usable.1 refused
-never both subjects.Program bytes code None usable refused = both bytes usable.0 errors.Syntax usable.1 refused.1
+never both subjects.Program bytes code (Some line) usable refused = both bytes usable.0 code line usable.1 refused
+never both subjects.Program bytes code None usable refused = refused
 never both subjects.Input bytes code line usable refused = refused
 
 -- what was read of a file that is told is what it holds

@@ -70,7 +70,8 @@ pub record IsUnmade {O E : Type 0} (out_old out_new : O) (report_old report_new 
   pub report_kept : report_new ≡ report_old
 
 -- what each status says
-abbrev pub HasCause : {F O E : Type 0} → FilesView F → F → F → SinkView O → O → O → SinkView E → E → E → Option Request → Status → Type 0
+abbrev pub HasCause : {F O E : Type 0} → FilesView F → F → F → SinkView O → O → O → SinkView E → E → E → Option Request → Status
+    → Type 0
 HasCause of_files files_old files_new of_out out_old out_new of_report report_old report_new asked statuses.AllDone =
     IsGiven of_files files_old files_new of_out out_old out_new of_report report_old report_new asked 0
 HasCause of_files files_old files_new of_out out_old out_new of_report report_old report_new asked statuses.NotAllDone =

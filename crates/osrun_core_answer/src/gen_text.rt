@@ -7,8 +7,8 @@ ghost use Rattle.osrun_core_run.specs.Run.{ProgramRun};
 
 use kernels::{LIFT, generate};
 use os_io::Memory;
-use osrun_core_run::{Run, accept, run_program};
 use osrun_core_jobs::{GenJob, Refusal, Terms};
+use osrun_core_run::{Run, accept, run_program};
 use std::alloc::Global;
 use std::thread::Threads;
 use task_workers::Gate;

@@ -82,7 +82,8 @@ pub record EndedAt (usable : Use) {F : Type 0} (view : FilesView F) (old new : F
   pub last : Opened view before new
 
 -- The cause of a refusal: a file at which the reading ended, and why.
-pub record IsCauseOf (usable : Use) (unusable : Misuse) {F : Type 0} (view : FilesView F) (old new : F) (files : List JobFile) (refusal : Refusal) : Type 0 where
+pub record IsCauseOf (usable : Use) (unusable : Misuse) {F : Type 0} (view : FilesView F) (old new : F) (files : List JobFile)
+    (refusal : Refusal) : Type 0 where
   pub place : ℕ
   pub file : JobFile
   pub ended : EndedAt usable view old new files place file

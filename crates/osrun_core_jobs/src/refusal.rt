@@ -9,10 +9,7 @@ use os_io::Memory;
 #[derive(Clone, Copy, Debug, PartialEq, Eq)]
 pub enum Refusal {
     /// The bytes of a file are refused: the code of what is wrong with them, and the line where it has one, from 1 on.
-    Refused {
-        code: u8,
-        line: Option<u32>,
-    },
+    Refused { code: u8, line: Option<u32> },
     /// The file has more bytes than its limit.
     TooLong(Subject),
     /// The file could not be read.

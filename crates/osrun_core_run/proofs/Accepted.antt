@@ -12,19 +12,17 @@ use Rattle.osrun_core_jobs.specs.declared.refusal.Refusal.TheVariants as refusal
 -- an error of a text is told as what is wrong with it
 pub told : (text : List ℕ) (e : TextError) → IsTrueOf text e → (text_refusal e ≡ refusals.Memory) ⊎ IsRefusalOf text (text_refusal e)
 told text (errors.Refused code line) h = inr h
-told text errors.Syntax h = inr (refl, h)
 told text errors.Memory h = inl refl
 
 -- an accepted text has no error but want of memory
 pub error_is_memory : NeverBoth → (text : List ℕ) (p : ProgramTree) (e : TextError) → IsAccepted text p → IsTrueOf text e → text_refusal e ≡ refusals.Memory
-error_is_memory never text p (errors.Refused code line) accepted h = absurd (never text p (errors.Refused code line) accepted h)
-error_is_memory never text p errors.Syntax accepted h = absurd (never text p errors.Syntax accepted h)
+error_is_memory never text p (errors.Refused code line) accepted h = absurd (never text p code line accepted h)
 error_is_memory never text p errors.Memory accepted h = refl
 
 -- and it isn't refused
 pub not_refused : NeverBoth → (text : List ℕ) (p : ProgramTree) → IsAccepted text p → (cause : Refusal) → IsRefusalOf text cause → ⊥
-not_refused never text p accepted (refusals.Refused code (Some line)) h = never text p (errors.Refused code line) accepted h
-not_refused never text p accepted (refusals.Refused code None) h = never text p errors.Syntax accepted h.1
+not_refused never text p accepted (refusals.Refused code (Some line)) h = never text p code line accepted h
+not_refused never text p accepted (refusals.Refused code None) h = h
 not_refused never text p accepted (refusals.TooLong subject) h = h
 not_refused never text p accepted (refusals.ReadFault subject) h = h
 not_refused never text p accepted refusals.Memory h = h

@@ -40,7 +40,8 @@ GivesBytes x o = (k j : ℕ) (c : Claim) (value : ℤ) → slice_get x.claims k 
 -- where all bodies give bytes, the elements of the output that are there are bytes
 abbrev pub OutputsAreBytes : Type 0
 OutputsAreBytes = (activations : List Activation) (input : List ℕ) (body : ℕ → List ℤ → Outcome)
-    → ((a : ℕ) (x : Activation) (inputs : List ℤ) → slice_get activations a ≡ Some x → length inputs ≡ input_count x → GivesBytes x (body a inputs))
+    → ((a : ℕ) (x : Activation) (inputs : List ℤ) → slice_get activations a ≡ Some x → length inputs ≡ input_count x
+    → GivesBytes x (body a inputs))
     → All (λ element. ForSome element IsByte) (output_elements activations input (stream_meaning activations input body))
 
 -- where all bodies that are done fill their output windows, the outputs of the meaning are filled

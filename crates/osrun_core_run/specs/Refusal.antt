@@ -1,7 +1,6 @@
 -- What makes bytes usable as a file of a job, and how they are refused.
-use Rattle.std.specs.Prelude.{◌≡◌, ℕ, List, Option, Some, None}
+use Rattle.std.specs.Prelude.{ℕ, List, Option, Some, None}
 use Rattle.front_end.specs.Texts.{IsAccepted, IsRefused}
-use Rattle.front_end.specs.declared.text_error.TextError.TheVariants as errors
 use Rattle.os_ast.specs.Trees.{ProgramTree}
 use Rattle.osrun_core_jobs.specs.declared.subject.Subject.{Subject}
 use Rattle.osrun_core_jobs.specs.declared.subject.Subject.TheVariants.{Program, Input}
@@ -13,11 +12,11 @@ abbrev pub IsUsable : Subject → List ℕ → Type 0
 IsUsable Program bytes = (p : ProgramTree) × IsAccepted bytes p
 IsUsable Input bytes = Unit {0}
 
--- They are refused as such a file: a text by the code and the line of its first fault, by 4 where it is no program, or by the
--- code and the line of its least violation. No input is refused.
+-- They are refused as such a file: a text by a code and a line, those of its first fault, of the place where it stops being the
+-- front of a program, or of its least violation. No input is refused.
 abbrev pub IsUnusable : Subject → List ℕ → ℕ → Option ℕ → Type 0
-IsUnusable Program bytes code (Some line) = IsRefused bytes (errors.Refused code line)
-IsUnusable Program bytes code None = (code ≡ 4) × IsRefused bytes errors.Syntax
+IsUnusable Program bytes code (Some line) = IsRefused bytes code line
+IsUnusable Program bytes code None = ⊥
 IsUnusable Input bytes code line = ⊥
 
 -- a text is refused so

@@ -20,7 +20,8 @@ pub record AreTerms (terms : Terms) : Type 0 where
 
 -- The output, the layout and the ends are those of the activations that the control program creates, with
 -- these budgets.
-pub record IsRunOf (task_budget control_budget : ℕ) (p : ProgramTree) (input output : List ℕ) (layout : Layout) (ends : Ends) (end : ControlEnd) : Type 0 where
+pub record IsRunOf (task_budget control_budget : ℕ) (p : ProgramTree) (input output : List ℕ) (layout : Layout) (ends : Ends)
+    (end : ControlEnd) : Type 0 where
   pub made : Control
   pub made_is : made ≡ control p (length input) control_budget
   pub end_is : end ≡ made.end

@@ -2,10 +2,10 @@
 
 ghost use Rattle.osrun_core_run.specs.Laws.{BodiesGiveBytes, GivesOnlyBytes, IsOfAState, OfRuns, TellsAllButDone, WritesAllAtZero};
 
+use crate::body_laws::{filled_bodies_fill, outputs_are_bytes};
 use cddf_meaning::laws::turns_never_grow;
 use collector::laws::{all_but_done_have_lines, all_is_written, meanings_are_states};
 use lowering_relation::laws::bodies_fill_their_outputs;
-use crate::body_laws::{filled_bodies_fill, outputs_are_bytes};
 
 /// The body of a task that has its inputs writes nothing but bytes to the output.
 pub fn bodies_give_bytes()

@@ -4,9 +4,6 @@ ghost use Rattle.osrun_core_run.specs.Accepting.{text_refusal};
 use front_end::TextError;
 use osrun_core_jobs::Refusal;
 
-/// The code of a text whose tokens are no program.
-const NO_PROGRAM: u8 = 4;
-
 /// What an error of a text is told as.
 pub(crate) fn text_refusal(error: TextError) -> Refusal
     ensures { result ≡ text_refusal error }
@@ -15,10 +12,6 @@ pub(crate) fn text_refusal(error: TextError) -> Refusal
         TextError::Refused { code, line } => Refusal::Refused {
             code,
             line: Some(line),
-        },
-        TextError::Syntax => Refusal::Refused {
-            code: NO_PROGRAM,
-            line: None,
         },
         TextError::Memory => Refusal::Memory,
     }

@@ -8,6 +8,8 @@ ghost use Rattle.os_code.specs.Codes.{parts_of};
 ghost use Rattle.os_code.specs.Tasks.{Fits};
 ghost use Rattle.osrun_core_run.specs.Run.{ends_over};
 
+use crate::bodies::TaskBodies;
+use crate::body_laws::{agreeing_bodies_mean_one, bodies_serve, outputs_are_bytes};
 use cddf_meaning::laws::turns_never_grow;
 use flow_core_laws::{Control, Ends, Plan, laws};
 use os_code::Code;
@@ -15,9 +17,7 @@ use os_io::Memory;
 use osrun_core_jobs::Terms;
 use std::alloc::Global;
 use std::thread::Threads;
-use crate::bodies::TaskBodies;
-use crate::body_laws::{agreeing_bodies_mean_one, bodies_serve, outputs_are_bytes};
-use task_workers::{Gate, execute_rounds};
+use task_workers::{Gate, execute};
 
 /// Carries out the plan of a run: each frame runs the task of its activation on one of the workers. What it comes
 /// to is what the activations of the program come to, whatever the number of workers, and its output has only bytes.
@@ -50,5 +50,5 @@ pub fn run_tasks<R: Threads + Sync, G: Gate>(
     outputs_are_bytes();
     turns_never_grow();
     laws::plan_meaning();
-    execute_rounds(rt, alloc, plan, &bodies, terms.workers, gate)
+    execute(rt, alloc, plan, &bodies, terms.workers, gate)
 }

@@ -42,7 +42,8 @@ pub fn run_program<R: Threads + Sync, G: Gate>(
 ) -> Result<Run, Memory>
     requires within { AreTerms terms }
     requires few { length input.now ≤ 4194304 }
-    ensures run { IfOk result (λ run. IsRunOf terms.task_budget terms.control_budget (program_tree checked.now.program) input.now run.output.items run.layout run.ends run.control) }
+    ensures run { IfOk result (λ run. IsRunOf terms.task_budget terms.control_budget
+        (program_tree checked.now.program) input.now run.output.items run.layout run.ends run.control) }
 {
     let code = compile(alloc, checked)?;
     let control = run_control(alloc, &code, input.len() as u32, terms.control_budget)?;

@@ -9,7 +9,7 @@ use std::test::Fail;
 /// A text that is refused, and the report.
 const REFUSED: [(&str, &str); 8] = [
     ("", "refused 23 line 1\n"),
-    ("int", "refused 4\n"),
+    ("int", "refused 4 line 1\n"),
     (
         "int main(void) { int i; for (i = 0; i < 4; i++) { int w[2]; w[0] = i; } }",
         "refused 24 line 1\n",
@@ -41,7 +41,7 @@ const AROUND: (&str, &str) = (
 #[test]
 fn the_violation_that_stands_first_is_told(rt: HostRuntime) -> Result<(), Fail> {
     for (body, report) in [
-        ("y = ;", "refused 4\n"),
+        ("y = ;", "refused 4 line 6\n"),
         ("{ x = 1; y = z; }", "refused 14 line 6\n"),
         ("{ y = z; x = 1; }", "refused 10 line 6\n"),
     ] {

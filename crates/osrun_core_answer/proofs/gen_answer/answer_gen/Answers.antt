@@ -13,5 +13,5 @@ returns-in-Ok g c =
       record { output = gen_lines job made.0; told = []; own = 0 },
       record { no_contents = refl; run = made.0; is_run = made.1; output_is = refl; report_is = refl; status_is = refl },
       subst (λ bytes. HandsOver g.O.Sink c.args.out.now c.deliver.new.out bytes g.E.Sink c.args.report.now c.deliver.new.report [] statuses.AllDone c.deliver.result)
-      (c.as_bytes.ensures.value ∙ made.2) (c.deliver.ensures [] refl),
+          (c.as_bytes.ensures.value ∙ made.2) (c.deliver.ensures [] refl),
     )

@@ -32,8 +32,7 @@ pub returns : goal.returns
 returns g c =
     let l = c.in_ok-text.ensures in
     let p = program_tree c.in_ok-checked.checked.program in
-    let accepted = subst (λ text. IsAccepted text p) c.deref.ensures.value c.in_ok-checked.ensures.program in
-    (
+    let accepted = subst (λ text. IsAccepted text p) c.deref.ensures.value c.in_ok-checked.ensures.program in (
       c.in_ok-text.text.items,
       was_read g.F.Files c.args.files.now c.load.new.files subjects.Program c.args.name.now c.in_ok-text.text.items l.loaded (p, accepted) l.opens l.no_fault l.holds l.may,
       accepted,

@@ -13,5 +13,9 @@ number-requires c =
     omega (arith, digits c.args.code c.ranges.code.fits, ap length c.text.ensures ∙ ap (λ old. length (old ++ codes "refused ")) c.new-told.ensures)
 
 pub returns-clause-short : goal.returns-clause-short
-returns-clause-short c = omega (arith, digits c.args.code c.ranges.code.fits, ap length c.text.ensures ∙ ap (λ old. length (old ++ codes "refused ")) c.new-told.ensures,
-    ap length c.number.ensures ∙ length-append c.text.new.self (decimal c.args.code))
+returns-clause-short c = omega (
+  arith,
+  digits c.args.code c.ranges.code.fits,
+  ap length c.text.ensures ∙ ap (λ old. length (old ++ codes "refused ")) c.new-told.ensures,
+  ap length c.number.ensures ∙ length-append c.text.new.self (decimal c.args.code),
+)

@@ -21,14 +21,16 @@ returns g c =
     let meant = c.in_ok-ends.ensures.meaning p input c.in_ok-code.ensures.bodies stands in
     let state = stream_meaning activations input (body_at p activations c.args.terms.task_budget) in
     let count = ap length c.in_ok-output.ensures.written ∙ ap (λ (e : Ends). length (written e.output)) meant in
-    record { run = record {
-      made = c.in_ok-control.control;
-      made_is = c.in_ok-control.ensures.exact ∙ c.in_ok-code.ensures.control (length input) c.args.terms.control_budget;
-      end_is = refl;
-      whole = c.in_ok-layout.ensures.whole;
-      laid = c.in_ok-layout.ensures.layout;
-      over = c.in_ok-layout.ensures.input;
-      ends_are = meant;
-      writes = c.in_ok-output.ensures.written;
-      few = subst (λ n. n ≤ 4194304) (sym count) (few_written _ activations input state c.in_ok-control.ensures.lawful);
-    } }
+    record {
+      run = record {
+        made = c.in_ok-control.control;
+        made_is = c.in_ok-control.ensures.exact ∙ c.in_ok-code.ensures.control (length input) c.args.terms.control_budget;
+        end_is = refl;
+        whole = c.in_ok-layout.ensures.whole;
+        laid = c.in_ok-layout.ensures.layout;
+        over = c.in_ok-layout.ensures.input;
+        ends_are = meant;
+        writes = c.in_ok-output.ensures.written;
+        few = subst (λ n. n ≤ 4194304) (sym count) (few_written _ activations input state c.in_ok-control.ensures.lawful);
+      };
+    }

@@ -14,14 +14,22 @@ returns-then-number-lt10 t c =
 pub number-requires : goal.number-requires
 number-requires t c = (
   omega (arith, c.decreases, c.if-number-lt10.false),
-  omega (arith, c.requires, ap length (decimal_step c.args.number c.if-number-lt10.false c.ranges.number.fits)
-  ∙ length-append (decimal (c.args.number / 10)) ((48 + c.args.number % 10) ∷ [])),
+  omega (
+    arith,
+    c.requires,
+    ap length (decimal_step c.args.number c.if-number-lt10.false c.ranges.number.fits)
+        ∙ length-append (decimal (c.args.number / 10)) ((48 + c.args.number % 10) ∷ []),
+  ),
 )
 
 pub push-requires-2 : goal.push-requires-2
 push-requires-2 t c =
-    omega (arith, c.requires, ap length c.number.ensures ∙ length-append c.args.self.now (decimal (c.args.number / 10)),
-    ap length (decimal_step c.args.number c.if-number-lt10.false c.ranges.number.fits) ∙ length-append (decimal (c.args.number / 10)) ((48 + c.args.number % 10) ∷ []))
+    omega (
+      arith,
+      c.requires,
+      ap length c.number.ensures ∙ length-append c.args.self.now (decimal (c.args.number / 10)),
+      ap length (decimal_step c.args.number c.if-number-lt10.false c.ranges.number.fits) ∙ length-append (decimal (c.args.number / 10)) ((48 + c.args.number % 10) ∷ []),
+    )
 
 pub returns : goal.returns
 returns t c =
