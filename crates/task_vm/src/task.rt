@@ -45,7 +45,8 @@ pub fn run_task(
     ensures end { result ≡ (task_outcome (parts_of code.now) activation.now inputs.now budget).end }
     ensures outputs { result ≡ TaskEnd.Done → outputs.new ≡ (task_outcome (parts_of code.now) activation.now inputs.now budget).outputs }
     // and it is that in so many steps
-    ensures steps { TaskEnds (parts_of code.now) activation.now inputs.now budget (task_outcome (parts_of code.now) activation.now inputs.now budget) scratch.new.steps }
+    ensures steps { TaskEnds (parts_of code.now) activation.now inputs.now budget
+        (task_outcome (parts_of code.now) activation.now inputs.now budget) scratch.new.steps }
     ensures few_steps { scratch.new.steps ≤ most_steps (parts_of code.now) budget }
     ensures made_again { IsMadeFor (parts_of code.now) scratch.new }
     ensures same_length { length outputs.new ≡ length outputs.old }
