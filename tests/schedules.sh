@@ -1,0 +1,63 @@
+#!/usr/bin/env bash
+# Runs one program many times, by several numbers of workers, and compares what each run writes and reports with what one worker
+# wrote: whatever the schedule, the bytes are the same. The program has forty activations that read what others write, two or five
+# before or behind them, some of them starved and one trapped. The last line is `N passed, M failed`.
+#
+#     tests/schedules.sh [RUNS]       10,000 runs, where no number is given; ./build has to have built the program
+set -u
+top=$(cd "$(dirname "${BASH_SOURCE[0]}")/.." && pwd)
+program=$top/crates/osrun/out/osrun
+runs=${1:-10000}
+if [ ! -x "$program" ]; then
+    echo "tests/schedules.sh: $program isn't there: call ./build" >&2
+    exit 2
+fi
+work=$(mktemp -d)
+trap 'rm -rf "$work"' EXIT
+cd "$work" || exit 2
+cat >program.c <<'END'
+int turns(int n) {
+    int k;
+    int sum = 0;
+    for (k = 0; k < n; k++) sum = sum + k;
+    return sum & 255;
+}
+int main(void) {
+    int s[40] __attribute__((stream));
+    int i, x, y, z;
+    for (i = 0; i < 40; i++) {
+        if (i < 5) {
+            #pragma omp task output(osout << y, s[i] << z)
+            { y = turns(i * 50); z = y; }
+        } else if (i == 17) {
+            #pragma omp task input(s[i - 5] >> x) output(osout << y, s[i] << z)
+            { y = x / (i - 17); z = y; }
+        } else if (i % 9 == 0) {
+            #pragma omp task input(s[i + 2] >> x) output(osout << y, s[i] << z)
+            { y = (x + turns(i)) & 255; z = y; }
+        } else {
+            #pragma omp task input(s[i - 2] >> x) output(osout << y, s[i] << z)
+            { y = (x + turns(i * 20)) & 255; z = y; }
+        }
+    }
+    return 0;
+}
+END
+: >input
+"$program" run program.c input --workers 1 >wanted 2>reported
+wanted_status=$?
+passed=0
+failed=0
+for number in $(seq 1 "$runs"); do
+    case $((number % 4)) in 0) workers=1 ;; 1) workers=2 ;; 2) workers=7 ;; 3) workers=64 ;; esac
+    "$program" run program.c input --workers "$workers" >out 2>report
+    status=$?
+    if [ "$status" = "$wanted_status" ] && cmp -s out wanted && cmp -s report reported; then
+        passed=$((passed + 1))
+    else
+        failed=$((failed + 1))
+        echo "run $number by $workers workers: status $status"
+    fi
+done
+echo "$passed passed, $failed failed"
+[ "$failed" = 0 ]
