@@ -4,6 +4,7 @@ mod calls;
 mod delivery;
 mod generated;
 mod jobs;
+mod meeting;
 mod refusals;
 mod whole_runs;
 mod words;

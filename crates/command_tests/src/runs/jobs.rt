@@ -3,12 +3,11 @@
 
 use super::calls::{ALL, call, call_run, call_through};
 use super::has_left;
+use super::meeting::Meeting;
 use kernels::INVERT;
 use os_io::MemFiles;
-use osrun_core::Gate;
 use std::alloc::Global;
 use std::process::Abort;
-use std::sync::atomic::{AtomicU32, Ordering};
 use std::test::Fail;
 use std::thread::Threads;
 
@@ -22,19 +21,6 @@ const PROBE: &str = r"int main(void) {
     }
 }
 ";
-
-/// Counts the workers that run frames.
-#[derive(Drop)]
-struct Counted {
-    workers: AtomicU32,
-}
-
-impl Gate for Counted {
-    fn at(&self, worker: u32, _frame: u32) {
-        self.workers
-            .fetch_max(worker.saturating_add(1), Ordering::SeqCst);
-    }
-}
 
 /// Words, which are parted by bars; the names of the program and the input; how many workers run; and the last line of the report.
 type Job = (&'static str, &'static str, &'static str, u32, &'static str);
@@ -54,15 +40,13 @@ fn has_job<R: Threads + Sync + AllocGlobal + Abort>(rt: &R, job: &Job) -> Result
     let (line, program, input, workers, output) = *job;
     let words: Vec<&str> = line.split('|').collect(rt.alloc())?;
     let files = files_named(rt.alloc(), program, input)?;
-    let gate = Counted {
-        workers: AtomicU32::new(0),
-    };
+    let gate = Meeting::of(workers);
     let left = call_through(rt, &words, files, ALL, ALL, &gate)?;
     assert!(rt;
         left.report.as_slice().ends_with(output.as_bytes()),
         "{line}"
     );
-    assert!(rt; gate.workers.load(Ordering::SeqCst) == workers, "{line}");
+    assert!(rt; gate.is_complete(), "{line}");
     Ok(())
 }
 
@@ -366,12 +350,10 @@ fn has_lines<R: Threads + Sync + AllocGlobal + Abort>(
     lines: &str,
 ) -> Result<(), Fail> {
     let words: Vec<&str> = line.split('|').collect(rt.alloc())?;
-    let gate = Counted {
-        workers: AtomicU32::new(0),
-    };
+    let gate = Meeting::of(workers);
     let left = call_through(rt, &words, MemFiles::new(rt.alloc()), ALL, ALL, &gate)?;
     has_left(rt, &left, lines.as_bytes(), "", 0)?;
-    assert!(rt; gate.workers.load(Ordering::SeqCst) == workers, "{line}");
+    assert!(rt; gate.is_complete(), "{line}");
     Ok(())
 }
 

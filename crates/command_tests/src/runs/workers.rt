@@ -2,16 +2,17 @@
 
 use super::calls::{ALL, call_through, files_of};
 use super::has_left;
+use super::meeting::Meeting;
 use kernels::INVERT;
 use osrun_core::Gate;
 use std::sync::atomic::{AtomicU32, Ordering};
 use std::test::Fail;
 
-/// What a gate saw: how often it was called, and the first 32 workers and frames that it was told, each as a bit.
+/// What a gate saw: how often it was called, the workers that it was told, and the first 32 frames, each as a bit.
 #[derive(Drop)]
 struct Seen {
     calls: AtomicU32,
-    workers: AtomicU32,
+    workers: Meeting,
     frames: AtomicU32,
 }
 
@@ -23,8 +24,8 @@ fn bit(number: u32) -> u32 {
 impl Gate for Seen {
     fn at(&self, worker: u32, frame: u32) {
         self.calls.fetch_add(1, Ordering::SeqCst);
-        self.workers.fetch_or(bit(worker), Ordering::SeqCst);
         self.frames.fetch_or(bit(frame), Ordering::SeqCst);
+        self.workers.at(worker, frame);
     }
 }
 
@@ -32,7 +33,7 @@ impl Gate for Seen {
 fn two_workers_run_each_activation_once(rt: HostRuntime) -> Result<(), Fail> {
     let seen = Seen {
         calls: AtomicU32::new(0),
-        workers: AtomicU32::new(0),
+        workers: Meeting::of(2),
         frames: AtomicU32::new(0),
     };
     // Eight blocks of four bytes.
@@ -43,6 +44,6 @@ fn two_workers_run_each_activation_once(rt: HostRuntime) -> Result<(), Fail> {
     has_left(&rt, &left, &[254; 32], "control done\noutput 32 of 32\n", 0)?;
     assert_eq!(rt; seen.calls.load(Ordering::SeqCst), 8);
     assert_eq!(rt; seen.frames.load(Ordering::SeqCst), 0xff);
-    assert_eq!(rt; seen.workers.load(Ordering::SeqCst), 0b11);
+    assert!(rt; seen.workers.is_complete());
     Ok(())
 }
