@@ -46,7 +46,7 @@ fn has_job<R: Threads + Sync + AllocGlobal + Abort>(rt: &R, job: &Job) -> Result
         left.report.as_slice().ends_with(output.as_bytes()),
         "{line}"
     );
-    assert!(rt; gate.is_complete(), "{line}");
+    assert!(rt; gate.count() == workers, "{line}");
     Ok(())
 }
 
@@ -353,7 +353,7 @@ fn has_lines<R: Threads + Sync + AllocGlobal + Abort>(
     let gate = Meeting::of(workers);
     let left = call_through(rt, &words, MemFiles::new(rt.alloc()), ALL, ALL, &gate)?;
     has_left(rt, &left, lines.as_bytes(), "", 0)?;
-    assert!(rt; gate.is_complete(), "{line}");
+    assert!(rt; gate.count() == workers, "{line}");
     Ok(())
 }
 

@@ -44,6 +44,6 @@ fn two_workers_run_each_activation_once(rt: HostRuntime) -> Result<(), Fail> {
     has_left(&rt, &left, &[254; 32], "control done\noutput 32 of 32\n", 0)?;
     assert_eq!(rt; seen.calls.load(Ordering::SeqCst), 8);
     assert_eq!(rt; seen.frames.load(Ordering::SeqCst), 0xff);
-    assert!(rt; seen.workers.is_complete());
+    assert_eq!(rt; seen.workers.count(), 2);
     Ok(())
 }
