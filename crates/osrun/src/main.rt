@@ -10,7 +10,8 @@ use std::{env, io};
 /// The status where memory could not be had for the words.
 const NO_MEMORY: u8 = 7;
 
-/// The words behind the program's name. None where one of them isn't text, which makes the command bad.
+/// The words behind the program's name. An error where one of them isn't text, which makes the command bad, or where
+/// memory is wanting.
 fn arguments(rt: &(impl Env + AllocGlobal)) -> io::Result<Vec<String>> {
     let mut words = env::args(rt)?;
     let _ = words.next();

@@ -189,6 +189,29 @@ a_fault view old new file (refusals.TooLong subject) failed five = absurd (omega
 a_fault view old new file (refusals.ReadFault subject) failed five = failed.fault
 a_fault view old new file refusals.Memory failed five = absurd (omega (arith, five))
 
+-- the cause at a file, told of the files before those in front of it were read
+failed_from : {F : Type 0} (view : FilesView F) (old between new : F) (file : JobFile) (r : Refusal) → view.holds between ≡ view.holds old
+    → view.faults between ≡ view.faults old → IsFailed IsUnusable view between new file r → IsFailed IsUnusable view old new file r
+failed_from view old between new file (refusals.Refused code line) holds faults failed = record {
+  bytes = failed.bytes;
+  read = subst (λ h. AreBytesOf (h file.name) file.subject failed.bytes) holds failed.read;
+  whole = failed.whole;
+  refused = failed.refused;
+  no_fault = failed.no_fault ∙ faults;
+}
+failed_from view old between new file (refusals.TooLong subject) holds faults failed = record {
+  named = failed.named;
+  too_many = failed.too_many;
+  held = subst (λ h. IfSome (h file.name) (λ told. limit_of file.subject < length told)) holds failed.held;
+  no_fault = failed.no_fault ∙ faults;
+}
+failed_from view old between new file (refusals.ReadFault subject) holds faults failed = record {
+  named = failed.named;
+  within = failed.within;
+  fault = subst (λ n. HasRisen n (view.faults new)) faults failed.fault;
+}
+failed_from view old between new file refusals.Memory holds faults failed = tt
+
 -- the same place has the same file
 same_file : (files : List JobFile) (n m : ℕ) (file other : JobFile) → slice_get files n ≡ Some file → slice_get files m ≡ Some other → n ≡ m → file ≡ other
 same_file files n m file other at_n at_m same = same_Some file other (sym at_n ∙ ap (slice_get files) same ∙ at_m)
@@ -315,6 +338,31 @@ module _ {F O E : Type 0} (of_files : FilesView F) (fo fn : F) (of_out : SinkVie
           × IsCauseOf IsUsable IsUnusable of_files fo fn (files_of (RunRequest job)) refusal × Tells of_report ro rn (refusal_line refusal))) (sym asked_is)
           (h.refusal, is ∙ ap code_of h.answered_is, cause, h.report)
       by s h is (Gen job) asked_is cause = absurd (let e : None ≡ Some cause.file = cause.ended.is_there in cc)
+
+  pub opened_last : 3 ≤ status → status ≤ 5 → IfSome (option_and_then run_in asked) (λ job. (place : ℕ) × (file : JobFile) × (refusal : Refusal)
+      × (slice_get (files_of (RunRequest job)) place ≡ Some file) × (of_files.opens fn ≡ raised (of_files.opens fo) (place + 1))
+      × All (IsRead (of_files.holds fo)) (take place (files_of (RunRequest job))) × IsFailed IsUnusable of_files fo fn file refusal
+      × (status ≡ code_of (refusal_status refusal)) × Tells of_report ro rn (refusal_line refusal))
+  opened_last low high = on_run asked _ (λ job is. cases
+      (λ _ n. absurd (omega (arith, n, low)))
+      (λ _ n. absurd (omega (arith, n, low)))
+      (λ s h status_is _ _.
+      let files = files_of (RunRequest job) in
+      let cause = refused_run s h job is in
+      let before = cause.ended.before in
+      let k = kept of_files fo before (take cause.place files) cause.ended.contents cause.ended.earlier in (
+        cause.place,
+        cause.file,
+        h.refusal,
+        cause.ended.is_there,
+        ended_opens of_files fo fn files cause.place cause.file cause.ended,
+        read_first of_files cause.place cause.place fo before files cause.ended.contents (omega arith) cause.ended.earlier,
+        failed_from of_files fo before fn cause.file h.refusal k.0 k.2 cause.failed,
+        status_is ∙ ap code_of h.answered_is,
+        h.report,
+      ))
+      (λ _ n. absurd (omega (arith, n, high)))
+      (λ _ n. absurd (omega (arith, n, high))))
 
   pub refused_always : IfSome (option_and_then run_in asked) (λ job. IsRejected IsUnusable (of_files.holds fo) (record { subject = subjects.Program; name = job.program })
       → (status ≡ 3) ⊎ ((status ≡ 5) ⊎ (status ≡ 7)))

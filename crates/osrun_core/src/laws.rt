@@ -11,7 +11,7 @@ ghost use Rattle.osrun_core_answer.specs.Answers.{AnswersRequest};
 ghost use Rattle.osrun_core_answer.specs.Gen.{IsRunOfGen, gen_lines};
 ghost use Rattle.osrun_core_jobs.specs.Files.{JobFile, files_of, limit_of};
 ghost use Rattle.osrun_core_jobs.specs.Jobs.{IsRequestWithin, Run as RunRequest};
-ghost use Rattle.osrun_core_jobs.specs.Reading.{IsCauseOf, IsReadable, IsRejected, ReadsInOrder};
+ghost use Rattle.osrun_core_jobs.specs.Reading.{IsCauseOf, IsFailed, IsReadable, IsRejected, ReadsInOrder};
 ghost use Rattle.osrun_core_jobs.specs.Refusal.{refusal_line, refusal_status, usage_line};
 ghost use Rattle.osrun_core_jobs.specs.Status.{code_of};
 ghost use Rattle.osrun_core_jobs.specs.Telling.{HasTrouble, IsCutShort, IsUndelivered, Tells};
@@ -65,6 +65,16 @@ pub fn answers_say<F: Files, O: Sink, E: Sink>(
     ensures refused { 3 ≤ status → status ≤ 5 → IsSomeAnd (named_run (texts words.now)) (λ job. (refusal : Cause)
         × (status ≡ code_of (refusal_status refusal))
         × IsCauseOf IsUsable IsUnusable F.Files files.now files_after.now (files_of (RunRequest job)) refusal
+        × Tells E.Sink report.now report_after.now (refusal_line refusal)) }
+
+    // 3, 4 and 5, of which file: of the one that was opened last, and what was given of it since shows the cause. Those
+    // before it were read. The line of 4 and 5 names that file.
+    ensures opened_last { 3 ≤ status → status ≤ 5 → IfSome (named_run (texts words.now)) (λ job. (place : ℕ) × (file : JobFile) × (refusal : Cause)
+        × (slice_get (files_of (RunRequest job)) place ≡ Some file)
+        × (F.opens files_after.now ≡ raised (F.opens files.now) (place + 1))
+        × All (IsRead (F.holds files.now)) (take place (files_of (RunRequest job)))
+        × IsFailed IsUnusable F.Files files.now files_after.now file refusal
+        × (status ≡ code_of (refusal_status refusal))
         × Tells E.Sink report.now report_after.now (refusal_line refusal)) }
 
     // 3: where the program is told and within its limit, and its text is refused, the status is 3, unless a

@@ -1,13 +1,15 @@
 -- The plan of an epoch, by the layout of all activations so far.
-use Rattle.std.specs.Prelude.{◌≡◌, ℕ, ℤ, ◌+◌, ◌-◌, ◌<◌, ◌==◌, nat_lt, if◌then◌else◌, List, Option, Some, None, All, slice_index, length, map, sum_by}
+use Rattle.std.specs.Prelude.{◌≡◌, ℕ, ℤ, ◌+◌, ◌-◌, ◌<◌, ◌==◌, nat_lt, if◌then◌else◌, List, ◌++◌, Option, Some, None, All, slice_index, length, map, sum_by}
 use Rattle.std.specs.Option.{option_map_or}
 use Rattle.std.specs.List.{flat_map, range_with_len}
 use Rattle.flow_core_laws.specs.declared.activation.Activation.{Activation}
 use Rattle.flow_core_laws.specs.declared.plan.Plan.{Plan}
+use Rattle.flow_core_laws.specs.declared.outcome.Outcome.{Outcome}
 use Rattle.flow_core_laws.specs.IsSound.{IsSound}
 use Rattle.flow_core_laws.specs.Window.{Window, producer}
 use Rattle.flow_core_laws.specs.Place.{Place}
-use Rattle.flow_core_epochs.specs.Epoch.{Kept, number_in, value_kept, read_from, StandsForEpoch}
+use Rattle.flow_core_laws.specs.Streams.{stream_meaning}
+use Rattle.flow_core_epochs.specs.Epoch.{Kept, number_in, value_kept, read_from, open_in, put_over, epoch_meaning, IsKeptFor, IsOutside, StandsForEpoch}
 use Rattle.stream_match_layouts.specs.declared.span.Span.{Span}
 use Rattle.stream_match_layouts.specs.declared.layout.Layout.{Layout}
 use Rattle.stream_match_layouts.specs.Layout.{IsLayout, IsLayoutOf}
@@ -93,3 +95,14 @@ EpochPlansStand =
     → IsLayout layout → IsLayoutOf layout activations → AreFrames layout frames → WrittenOutside activations frames kept
     → cursors ≡ map (read_from activations frames) (range_with_len 0 (length layout.writers))
     → IsEpochPlanOf layout input frames kept cursors plan places → StandsForEpoch plan activations input frames kept places
+
+-- A plan goes on where the activations before it stopped: for all activations of the layout, the first of which
+-- were run and left just these frames open, and whatever their bodies, the plan's meaning put over the meaning
+-- of those that were run is the meaning of all, where each kept element has the value that was written.
+abbrev pub GoesOn : Layout → List ℕ → List ℕ → List Kept → Plan → Type 0
+GoesOn layout input frames kept plan =
+    (before new : List Activation) (body : ℕ → List ℤ → Outcome)
+    → IsLayoutOf layout (before ++ new) → frames ≡ open_in (stream_meaning before input body) (length (before ++ new))
+    → IsKeptFor (before ++ new) input (stream_meaning before input body) frames kept → IsOutside (before ++ new) frames kept
+    → put_over (stream_meaning before input body) frames (epoch_meaning plan frames body) (length (before ++ new))
+    ≡ stream_meaning (before ++ new) input body

@@ -6,7 +6,7 @@ ghost use Rattle.flow_core_epochs.specs.Epoch.{IsOutside, StandsForEpoch};
 ghost use Rattle.stream_match.specs.declared.stretch.Stretch.{Stretch};
 ghost use Rattle.stream_match_layouts.specs.Layout.{IsLayout, IsLayoutOf};
 ghost use Rattle.stream_match.specs.Walking.{IsStretch};
-ghost use Rattle.stream_match.specs.EpochPlan.{AreFrames, IsEpochPlanOf};
+ghost use Rattle.stream_match.specs.EpochPlan.{AreFrames, GoesOn, IsEpochPlanOf};
 ghost use Rattle.stream_match.specs.Kept.{kept_of, place_of, IsKeptOutside};
 ghost use Rattle.stream_match.specs.EpochCode.{Ascend, AreSorted, pieces_for, filled_cells, stretch_places};
 
@@ -50,6 +50,7 @@ pub fn build_epoch(
     ensures stands_for { IfOk result (λ epoch. (activations : List Activation) → IsLayoutOf layout.now activations
         → IsOutside activations frames.now (map kept_of kept.now)
         → StandsForEpoch epoch.plan activations input.now frames.now (map kept_of kept.now) (map place_of epoch.places)) }
+    ensures adds_up { IfOk result (λ epoch. GoesOn layout.now input.now frames.now (map kept_of kept.now) epoch.plan) }
 {
     let cursors = read_cursors(alloc, layout, frames)?;
     let kept = sorted(alloc, kept)?;

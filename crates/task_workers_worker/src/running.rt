@@ -161,6 +161,7 @@ pub(crate) fn run_claimed<B: Bodies, G: Gate>(
     ensures fits { B.fits bodies.now scratch.new }
     ensures logged { log.new.frames.items ≡ log.old.frames.items ++ frame ∷ [] }
     ensures room { log.new.frames.spare + 1 ≡ log.old.frames.spare }
+    ensures worker { log.new.worker ≡ log.old.worker }
     ensures windows { (holds_up_to log.new.inputs ≡ holds_up_to log.old.inputs)
         × (holds_up_to log.new.outputs ≡ holds_up_to log.old.outputs) }
 {

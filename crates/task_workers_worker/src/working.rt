@@ -36,6 +36,7 @@ fn turn<B: Bodies, G: Gate>(
     ensures may_work { MayWork table.now seat.new hand.new log.new }
     ensures worked { Worked (frames_of table.now) (view_of seat.old) (view_of seat.new) (pushed_by hand.old)
         (pushed_by hand.new) log.old.frames.items log.new.frames.items }
+    ensures worker { log.new.worker ≡ log.old.worker }
     ensures asks { asks_of hand.new ≡ raised (asks_of hand.old) 1 }
     ensures few_looks { (view_of seat.new).looks ≤ (view_of seat.old).looks + 65 }
     ensures gets_on { (most : ℕ) → (view_of seat.old).looks < most → to_do table.now most seat.new < to_do table.now most seat.old }
@@ -64,6 +65,7 @@ pub fn work<B: Bodies, G: Gate>(
     ensures may_work { MayWork table.now result hand.new log.new }
     ensures worked { Worked (frames_of table.now) (view_of seat) (view_of result) (pushed_by hand.old)
         (pushed_by hand.new) log.old.frames.items log.new.frames.items }
+    ensures worker { log.new.worker ≡ log.old.worker }
     ensures looks { 1 ≤ frames_of table.now → max (4 * frames_of table.now) 65536 ≤ (view_of result).looks }
     ensures asks { (times : ℕ) × (raised (asks_of hand.old) times ≤ asks_of hand.new)
         × ((view_of seat).looks ≡ 0 → (view_of result).looks ≤ 65 * times) }

@@ -1,4 +1,4 @@
-use Rattle.osrun_core.proofs.Says.{all_opened, bad_words, bad_words_always, complete, gen_complete, gen_cut_short, gen_files, gen_report, gen_statuses, gen_written, headline, in_order, keeps, memory, no_read_fault, no_write_fault, nothing_read, nothing_written, read_earlier, refused, refused_always, statuses_small, too_long_always, undelivered, usage, within}
+use Rattle.osrun_core.proofs.Says.{all_opened, bad_words, bad_words_always, complete, gen_complete, gen_cut_short, gen_files, gen_report, gen_statuses, gen_written, headline, in_order, keeps, memory, no_read_fault, no_write_fault, nothing_read, nothing_written, opened_last, read_earlier, refused, refused_always, statuses_small, too_long_always, undelivered, usage, within}
 use Rattle.osrun_core.proofs.laws.answers_say.Goals as goal
 
 pub returns-clause-headline : goal.returns-clause-headline
@@ -24,6 +24,9 @@ returns-clause-usage g c = usage _ _ _ _ _ _ _ _ _ _ _ c.requires
 
 pub returns-clause-refused : goal.returns-clause-refused
 returns-clause-refused g c = refused _ _ _ _ _ _ _ _ _ _ _ c.requires
+
+pub returns-clause-opened_last : goal.returns-clause-opened_last
+returns-clause-opened_last g c = opened_last _ _ _ _ _ _ _ _ _ _ _ c.requires
 
 pub returns-clause-refused_always : goal.returns-clause-refused_always
 returns-clause-refused_always g c = refused_always _ _ _ _ _ _ _ _ _ _ _ c.requires

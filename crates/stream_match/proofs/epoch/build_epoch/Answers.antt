@@ -1,5 +1,7 @@
-use Rattle.std.proofs.Common.{◌∙◌, map, sym, subst, ap}
+use Rattle.std.proofs.Common.{◌∙◌, ◌++◌, map, sym, subst, ap}
 use Rattle.flow_core_epochs.specs.Epoch.{value_kept}
+use Rattle.flow_core_epochs.proofs.Epochs.{adds_up}
+use Rattle.flow_core_epochs.proofs.Opening.{has_epoch}
 use Rattle.stream_match.specs.EpochPlan.{WrittenOutside, epoch_weave}
 use Rattle.stream_match.specs.Kept.{kept_of, place_of}
 use Rattle.stream_match.proofs.EpochWeave.{can_weave}
@@ -36,3 +38,14 @@ returns-clause-stands_for c = λ activations is_of is_outside.
     stands_same c.in_ok-epoch.epoch.plan activations input frames (map kept_of sorted) (map kept_of c.args.kept.now) (map place_of c.in_ok-epoch.epoch.places)
     (λ p. ap (λ ks. value_kept (map kept_of ks) p) c.as_slice-2.ensures.value ∙ c.in_ok-kept.ensures.same is_outside.places_differ p)
     (epoch_stands layout c.requires.layout activations is_of input frames (map kept_of sorted) cursors c.requires.frames outside cursors_are c.in_ok-epoch.epoch.plan (map place_of c.in_ok-epoch.epoch.places) c.in_ok-epoch.ensures.plan)
+
+pub returns-clause-adds_up : goal.returns-clause-adds_up
+returns-clause-adds_up c = λ before new body is_of are_open has_kept is_outside.
+    let frames = c.args.frames.now in
+    let input = c.args.input.now in
+    let kept = map kept_of c.args.kept.now in
+    let plan = c.in_ok-epoch.epoch.plan in
+    let places = map place_of c.in_ok-epoch.epoch.places in
+    adds_up before new input body frames kept plan places
+    (has_epoch before new input body frames kept plan places
+    (record { frames_are_open = are_open; has_kept = has_kept; plan_stands = returns-clause-stands_for c (before ++ new) is_of is_outside }))

@@ -1,4 +1,4 @@
-use Rattle.std.proofs.Common.{arith, ◌+◌}
+use Rattle.std.proofs.Common.{arith, ◌+◌, refl, ◌∙◌}
 use Rattle.frame_table.specs.Tokens.{view_of}
 use Rattle.steal_pool.specs.Hands.{pushed_by, asks_of}
 use Rattle.task_workers_worker.specs.Ready.{frames_of}
@@ -12,9 +12,10 @@ loop-seat-preserved g c =
       c.turn.ensures.fits,
       c.turn.ensures.may_work,
       worked_on (frames_of t) (view_of c.args.seat) (view_of c.loop-seat.seat) (view_of c.turn.new.seat) (pushed_by c.args.hand.now) (pushed_by c.loop-seat.hand) (pushed_by c.turn.new.hand) c.args.log.now.frames.items c.loop-seat.log.frames.items c.turn.new.log.frames.items l.2 c.turn.ensures.worked,
-      l.3 + 1,
-      asked_more (asks_of c.args.hand.now) (asks_of c.loop-seat.hand) (asks_of c.turn.new.hand) l.3 l.4 c.turn.ensures.asks,
-      λ none. looks_more (view_of c.loop-seat.seat).looks (view_of c.turn.new.seat).looks l.3 (l.5 none) c.turn.ensures.few_looks,
+      c.turn.ensures.worker ∙ l.3,
+      l.4 + 1,
+      asked_more (asks_of c.args.hand.now) (asks_of c.loop-seat.hand) (asks_of c.turn.new.hand) l.4 l.5 c.turn.ensures.asks,
+      λ none. looks_more (view_of c.loop-seat.seat).looks (view_of c.turn.new.seat).looks l.4 (l.6 none) c.turn.ensures.few_looks,
     )
 
 pub returns-then-frames-eq0-clause-worked : goal.returns-then-frames-eq0-clause-worked
@@ -24,4 +25,4 @@ pub returns-then-frames-eq0-clause-asks : goal.returns-then-frames-eq0-clause-as
 returns-then-frames-eq0-clause-asks g c = (0, omega arith, λ none. omega (arith, none))
 
 pub loop-seat-init : goal.loop-seat-init
-loop-seat-init g c = (c.requires.fits, c.requires.may_work, worked_nothing (frames_of c.args.table.now) (view_of c.args.seat) (pushed_by c.args.hand.now) c.args.log.now.frames.items, 0, omega arith, λ none. omega (arith, none))
+loop-seat-init g c = (c.requires.fits, c.requires.may_work, worked_nothing (frames_of c.args.table.now) (view_of c.args.seat) (pushed_by c.args.hand.now) c.args.log.now.frames.items, refl, 0, omega arith, λ none. omega (arith, none))

@@ -9,7 +9,7 @@ use Rattle.task_workers_worker.proofs.working.work.Given as goal
 abbrev pub invariant-loop-seat : goal.invariant-loop-seat
 invariant-loop-seat g l = g.B.Bodies.fits l.bodies l.scratch × MayWork l.table l.seat l.hand l.log
     × Worked (frames_of l.table) (view_of l.fn.seat) (view_of l.seat) (pushed_by l.fn.hand) (pushed_by l.hand) l.fn.log.frames.items l.log.frames.items
-    × (times : ℕ) × (raised (asks_of l.fn.hand) times ≤ asks_of l.hand) × ((view_of l.fn.seat).looks ≡ 0 → (view_of l.seat).looks ≤ 65 * times)
+    × (l.log.worker ≡ l.fn.log.worker) × (times : ℕ) × (raised (asks_of l.fn.hand) times ≤ asks_of l.hand) × ((view_of l.fn.seat).looks ≡ 0 → (view_of l.seat).looks ≤ 65 * times)
 
 abbrev pub decreases-loop-seat : goal.decreases-loop-seat
 decreases-loop-seat g l = to_do l.table l.most l.seat
