@@ -498,6 +498,19 @@ check "bad words make fewer allocations" 2 "" usage
 "$top/oscheck" first.c empty.c none.c >"$work/report" 2>&1
 status=$?
 check "files that are judged" 2 "" "first.c: accepted / empty.c:1: error 23: no function main without parameters: write int main(void) / none.c: can't be read"
+"$top/oscheck" first.c "$(printf 'in\377')" >"$work/report" 2>&1
+status=$?
+check "a name that isn't text" 2 "" "a word isn't text"
+# judge_without NUMBER WORD..: judges files, and lets the allocation of that number fail.
+judge_without() {
+    : >out
+    LD_PRELOAD=$work/failing_allocation.so FAILING_ALLOCATION=$1 "$top/crates/oscheck/out/oscheck" "${@:2}" >report 2>&1
+    status=$?
+}
+judge_without 1 first.c
+check "no memory for the words of a judge" 2 "" "memory ran out"
+judge_without 20 first.c empty.c
+check "no memory for a file that is judged" 2 "" "first.c: memory ran out / empty.c:1: error 23: no function main without parameters: write int main(void)"
 # stops NAME TEXT WANTED: compares what is told of a text that is no program.
 stops() {
     printf '%b' "$2" >stop.c

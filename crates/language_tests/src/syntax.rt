@@ -1,6 +1,7 @@
-//! What programs are, and how deep they may be: from a text through its tokens to its tree.
+//! What programs are, what begins one, and how deep they may be: from a text through its tokens to its tree.
 
 mod depths;
+mod fronts;
 mod refusals;
 mod shapes;
 mod shown;

@@ -6,7 +6,7 @@ ghost use Rattle.os_lexer.specs.Limits.{text_limit};
 use crate::word::{Word, word_of};
 use os_io::Memory;
 use os_lexer::names::STREAM;
-use os_lexer::{Kind, Token, lex};
+use os_lexer::{Kind, TEXT_LIMIT, Token, lex};
 use os_parser::{ParseError, is_front, parse};
 use std::alloc::Global;
 
@@ -45,11 +45,13 @@ static GROUPS: [Group; 5] = [
 
 /// A text with each token that programs have, in the order in which those are told that stand in no group.
 const TOKENS: &str =
-    "; , ) ] } ( [ { = ? : int const void if else while for break continue return __attribute__ 0 - + ! ~ ++ -- || && | ^ & == != < <= > >= << >> * / % += -= *= /= %= <<= >>= &= ^= |= name omp task tick taskwait input output firstprivate stream\n#pragma";
+    "; , ) ] } ( [ { = ? : int const void if else while for break continue return __attribute__ 0 - + ! ~ ++ -- \
+     || && | ^ & == != < <= > >= << >> * / % += -= *= /= %= <<= >>= &= ^= |= \
+     name omp task tick taskwait input output firstprivate stream\n#pragma";
 
 /// The tokens of such a text.
 fn tokens_of(alloc: Global, text: &str) -> Result<Vec<Token>, Memory> {
-    if text.len() > 262_144 {
+    if text.len() > TEXT_LIMIT {
         return Err(Memory);
     }
     match lex(alloc, text.as_bytes()) {
@@ -143,6 +145,7 @@ pub(crate) fn expected(alloc: Global, front: &[Token]) -> Result<Vec<Word<'stati
     Ok(words)
 }
 
+/// Adds a word.
 fn push(words: &mut Vec<Word<'static>>, word: Word<'static>) -> Result<(), Memory> {
     match words.push(word) {
         Ok(()) => Ok(()),

@@ -1,6 +1,5 @@
-//! The program `oscheck`: judges texts as a compiler does, and tells for each file whether it is accepted, or its line
-//! and what is wrong with it; where its tokens stop being the front of any program, the column too, and what could stand
-//! there.
+//! The program `oscheck`: judges texts as a compiler does. Of each file it tells that it is accepted, or the line and
+//! what is wrong there; of a text that is no program the column too, and what could stand there.
 #![tactic(auto)]
 
 mod expected;
@@ -12,7 +11,7 @@ ghost use Rattle.std.specs.Prelude.{◌≤◌, length};
 ghost use Rattle.os_lexer.specs.Limits.{text_limit};
 
 use front_end::{TEXT_LIMIT, TextError, read_program};
-use os_io::{HostFiles, Loaded, read_whole};
+use os_io::{HostFiles, Loaded, Memory, ReadError, read_whole};
 use sentences::{NO_PROGRAM, sentence};
 use std::alloc::Global;
 use std::process::ExitCode;
@@ -25,7 +24,7 @@ use stop::Stop;
 enum Judged {
     Accepted,
     Refused,
-    Unread,
+    Unjudged,
 }
 
 impl Judged {
@@ -34,15 +33,31 @@ impl Judged {
         match self {
             Judged::Accepted => 0,
             Judged::Refused => 1,
-            Judged::Unread => 2,
+            Judged::Unjudged => 2,
         }
     }
 }
 
-/// Tells that a file can't be judged.
+/// Tells that a file can't be read.
 fn tell_unread(out: &mut impl io::Write, name: &str) -> io::Result<Judged> {
     writeln!(out, "{name}: can't be read")?;
-    Ok(Judged::Unread)
+    Ok(Judged::Unjudged)
+}
+
+/// Tells that memory could not be had for judging a file.
+fn tell_no_memory(out: &mut impl io::Write, name: &str) -> io::Result<Judged> {
+    writeln!(out, "{name}: memory ran out")?;
+    Ok(Judged::Unjudged)
+}
+
+/// Tells why there are no words: one of them isn't text, or memory could not be had for them.
+fn tell_no_words(out: &mut impl io::Write, error: &io::Error) -> io::Result<Judged> {
+    if error.kind() == io::ErrorKind::OutOfMemory {
+        writeln!(out, "memory ran out")?;
+    } else {
+        writeln!(out, "a word isn't text")?;
+    }
+    Ok(Judged::Unjudged)
 }
 
 /// Tells where the tokens of a text stop being the front of any program, and what could stand there.
@@ -54,7 +69,7 @@ fn tell_stop(out: &mut impl io::Write, alloc: Global, name: &str, text: &[u8]) -
             stop.write(out, name, NO_PROGRAM)?;
             Ok(Judged::Refused)
         }
-        Err(_) => tell_unread(out, name),
+        Err(Memory) => tell_no_memory(out, name),
     }
 }
 
@@ -86,7 +101,7 @@ fn judge_text(
             },
         ) => tell_stop(out, alloc, name, text),
         Err(TextError::Refused { code, line }) => tell_rule(out, name, code, line),
-        Err(TextError::Memory) => tell_unread(out, name),
+        Err(TextError::Memory) => tell_no_memory(out, name),
     }
 }
 
@@ -103,16 +118,20 @@ fn judge<R: std::rt::Files>(
             writeln!(out, "{name}: error: a text has at most {TEXT_LIMIT} bytes")?;
             Ok(Judged::Refused)
         }
-        Err(_) => tell_unread(out, name),
+        Err(ReadError::Failed) => tell_unread(out, name),
+        Err(ReadError::Memory) => tell_no_memory(out, name),
     }
 }
 
-/// Judges each file that the words name, and goes on behind one that is refused or can't be read.
+/// Judges each file that the words name, and goes on behind one that is refused or can't be judged.
 fn judge_all(rt: &HostRuntime) -> io::Result<Judged> {
-    let mut words = env::args(rt)?;
+    let mut out = rt.stdout();
+    let mut words = match env::args(rt) {
+        Ok(words) => words,
+        Err(error) => return tell_no_words(&mut out, &error),
+    };
     let _ = words.next();
     let mut worst = Judged::Accepted;
-    let mut out = rt.stdout();
     for word in words {
         worst = worst.max(judge(rt, &mut out, rt.alloc(), word.as_str())?);
     }
@@ -122,6 +141,6 @@ fn judge_all(rt: &HostRuntime) -> io::Result<Judged> {
 fn main(rt: HostRuntime) -> ExitCode {
     match judge_all(&rt) {
         Ok(judged) => ExitCode::from(judged.status()),
-        Err(_) => ExitCode::from(Judged::Unread.status()),
+        Err(_) => ExitCode::from(Judged::Unjudged.status()),
     }
 }
