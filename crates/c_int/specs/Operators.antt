@@ -1,23 +1,15 @@
 -- The operators of C's `int` over whole numbers, and their traps. C11, 6.5.3 to 6.5.12; what C leaves undefined or to
--- the implementation is a trap here, or the two's complement result.
-use Rattle.std.specs.Prelude.{ℕ, ◌^◌, Bool, true, false, not, ◌&&◌, if◌then◌else◌, ltb, ℤ, pos, negsuc, ◌+ℤ◌, ◌-ℤ◌, ◌*ℤ◌, neg_ℤ, int_lt, int_le, int_div, Result, Ok, Err}
+-- the implementation is a trap here, or the two's complement result. Behind them the operators by name, those of `unsigned` included.
+use Rattle.std.specs.Prelude.{ℕ, ◌^◌, Bool, false, not, ◌&&◌, if◌then◌else◌, ltb, ℤ, pos, negsuc, ◌+ℤ◌, ◌-ℤ◌, ◌*ℤ◌, neg_ℤ, int_lt, int_le, int_div, Ok, Err}
 use Rattle.std.specs.Int.{w32, int_bit_and, int_bit_or, int_bit_xor, int_bit_not, int_div_euclid}
 use Rattle.c_int.specs.declared.operators.Binary.{Binary}
 use Rattle.c_int.specs.declared.operators.Binary.TheVariants as binary
 use Rattle.c_int.specs.declared.operators.Unary.{Unary}
 use Rattle.c_int.specs.declared.operators.Unary.TheVariants as unary
+use Rattle.c_int.specs.Unsigned as unsigned
 use Rattle.c_int.specs.declared.trap.Trap.{Trap}
+pub use Rattle.c_int.specs.Trapping.{Operated, trap_code, truth, by_amount}
 use Rattle.c_int.specs.declared.trap.Trap.TheVariants.{Overflow, DivisorZero, Shift}
-
--- a number, or a trap
-abbrev pub Operated : Type 0
-Operated = Result ℤ Trap
-
--- the codes of the traps
-abbrev pub trap_code : Trap → ℕ
-trap_code Overflow = 1
-trap_code DivisorZero = 2
-trap_code Shift = 3
 
 -- An `int` is a number from -2^31 to 2^31 - 1.
 abbrev pub is_int : ℤ → Bool
@@ -28,11 +20,6 @@ is_int (negsuc n) = ltb n (2 ^ 31)
 abbrev pub is_zero : ℤ → Bool
 is_zero (pos n) = ltb n 1
 is_zero (negsuc n) = false
-
--- 1 where something holds, and else 0
-abbrev pub truth : Bool → ℤ
-truth true = pos 1
-truth false = pos 0
 
 -- an exact result where it is an `int`, and else the trap
 abbrev pub fitting : Trap → ℤ → Operated
@@ -61,11 +48,6 @@ remainder a b =
     if is_zero b then Err DivisorZero
     else if is_int (int_div a b) then Ok (a -ℤ (int_div a b *ℤ b))
     else Err Overflow
-
--- the amount of a shift is 0 to 31
-abbrev pub by_amount : ℤ → (ℕ → Operated) → Operated
-by_amount (pos n) shift = if ltb n 32 then shift n else Err Shift
-by_amount (negsuc n) shift = Err Shift
 
 -- `a << n` is `a` times 2 to the n, where `a` isn't negative and the result is an `int`; else trap 3.
 abbrev pub doubled : ℤ → ℕ → Operated
@@ -120,6 +102,7 @@ unary_value unary.Minus a = negation a
 unary_value unary.Plus a = Ok a
 unary_value unary.Not a = Ok (complement a)
 unary_value unary.Invert a = Ok (inversion a)
+unary_value unary.MinusUnsigned a = Ok (unsigned.negation a)
 
 -- The operators with two operands.
 abbrev pub binary_value : Binary → ℤ → ℤ → Operated
@@ -139,3 +122,14 @@ binary_value binary.Subtract a b = difference a b
 binary_value binary.Multiply a b = product a b
 binary_value binary.Divide a b = quotient a b
 binary_value binary.Remainder a b = remainder a b
+binary_value binary.LessUnsigned a b = Ok (unsigned.less a b)
+binary_value binary.LessEqualUnsigned a b = Ok (unsigned.less_equal a b)
+binary_value binary.GreaterUnsigned a b = Ok (unsigned.less b a)
+binary_value binary.GreaterEqualUnsigned a b = Ok (unsigned.less_equal b a)
+binary_value binary.ShiftLeftUnsigned a b = unsigned.shift_left a b
+binary_value binary.ShiftRightUnsigned a b = unsigned.shift_right a b
+binary_value binary.AddUnsigned a b = Ok (unsigned.sum a b)
+binary_value binary.SubtractUnsigned a b = Ok (unsigned.difference a b)
+binary_value binary.MultiplyUnsigned a b = Ok (unsigned.product a b)
+binary_value binary.DivideUnsigned a b = unsigned.quotient a b
+binary_value binary.RemainderUnsigned a b = unsigned.remainder a b

@@ -1,9 +1,10 @@
-//! The operators of C's `int`, which has 32 bits in two's complement.
+//! The operators of C's `int`, which has 32 bits in two's complement, and of `unsigned`.
 //!
 //! An operator gives the exact result, or one of three traps: what C leaves undefined or leaves to the
 //! implementation is decided here once, for the meaning of programs and for the machine that runs them.
-//! `specs/Operators.antt` says it over whole numbers, a line an operator; each function here gives exactly
-//! that. Lines of the program are known to the callers alone.
+//! `specs/Operators.antt` says it over whole numbers, a line an operator, and `specs/Unsigned.antt` for `unsigned`, whose
+//! numbers stand here as the `int`s with the same 32 bits; each function here gives exactly that. No program has
+//! operators of `unsigned` yet. Lines of the program are known to the callers alone.
 #![tactic(auto)]
 
 mod arithmetic;
@@ -12,9 +13,15 @@ mod comparison;
 pub mod laws;
 mod operators;
 mod trap;
+mod unsigned;
 
 pub use arithmetic::{add, divide, multiply, negate, remainder, subtract};
 pub use bits::{bit_and, bit_or, bit_xor, invert, shift_left, shift_right};
 pub use comparison::{equal, greater, greater_equal, less, less_equal, not, unequal};
 pub use operators::{Binary, Unary, apply_binary, apply_unary};
 pub use trap::Trap;
+pub use unsigned::{
+    add_unsigned, divide_unsigned, less_equal_unsigned, less_unsigned, multiply_unsigned,
+    negate_unsigned, remainder_unsigned, shift_left_unsigned, shift_right_unsigned,
+    subtract_unsigned,
+};

@@ -7,18 +7,25 @@ use crate::arithmetic::{add, divide, multiply, negate, remainder, subtract};
 use crate::bits::{bit_and, bit_or, bit_xor, invert, shift_left, shift_right};
 use crate::comparison::{equal, greater, greater_equal, less, less_equal, not, unequal};
 use crate::trap::Trap;
+use crate::unsigned::{
+    add_unsigned, divide_unsigned, less_equal_unsigned, less_unsigned, multiply_unsigned,
+    negate_unsigned, remainder_unsigned, shift_left_unsigned, shift_right_unsigned,
+    subtract_unsigned,
+};
 
-/// The operators with one operand: `-` `+` `!` `~`.
+/// The operators with one operand: `-` `+` `!` `~`, and the form of `-` for `unsigned`. The others are the same for both types.
 #[derive(Clone, Copy, Debug, PartialEq, Eq)]
 pub enum Unary {
     Minus,
     Plus,
     Not,
     Invert,
+    MinusUnsigned,
 }
 
 /// The operators with two operands that are always evaluated both: `|` `^` `&` `==` `!=` `<` `<=` `>` `>=`
-/// `<<` `>>` `+` `-` `*` `/` `%`.
+/// `<<` `>>` `+` `-` `*` `/` `%`; and the forms for `unsigned` of those that differ from the operators of `int`. These take
+/// and give the 32 bits of an `unsigned` as the `int` that has the same bits.
 #[derive(Clone, Copy, Debug, PartialEq, Eq)]
 pub enum Binary {
     BitOr,
@@ -37,6 +44,17 @@ pub enum Binary {
     Multiply,
     Divide,
     Remainder,
+    LessUnsigned,
+    LessEqualUnsigned,
+    GreaterUnsigned,
+    GreaterEqualUnsigned,
+    ShiftLeftUnsigned,
+    ShiftRightUnsigned,
+    AddUnsigned,
+    SubtractUnsigned,
+    MultiplyUnsigned,
+    DivideUnsigned,
+    RemainderUnsigned,
 }
 
 /// What an operator gives of one operand.
@@ -50,6 +68,7 @@ pub fn apply_unary(operator: Unary, a: i32) -> Result<i32, Trap>
         Unary::Plus => Ok(a),
         Unary::Not => Ok(not(a)),
         Unary::Invert => Ok(invert(a)),
+        Unary::MinusUnsigned => Ok(negate_unsigned(a)),
     }
 }
 
@@ -76,5 +95,16 @@ pub fn apply_binary(operator: Binary, a: i32, b: i32) -> Result<i32, Trap>
         Binary::Multiply => multiply(a, b),
         Binary::Divide => divide(a, b),
         Binary::Remainder => remainder(a, b),
+        Binary::LessUnsigned => Ok(less_unsigned(a, b)),
+        Binary::LessEqualUnsigned => Ok(less_equal_unsigned(a, b)),
+        Binary::GreaterUnsigned => Ok(less_unsigned(b, a)),
+        Binary::GreaterEqualUnsigned => Ok(less_equal_unsigned(b, a)),
+        Binary::ShiftLeftUnsigned => shift_left_unsigned(a, b),
+        Binary::ShiftRightUnsigned => shift_right_unsigned(a, b),
+        Binary::AddUnsigned => Ok(add_unsigned(a, b)),
+        Binary::SubtractUnsigned => Ok(subtract_unsigned(a, b)),
+        Binary::MultiplyUnsigned => Ok(multiply_unsigned(a, b)),
+        Binary::DivideUnsigned => divide_unsigned(a, b),
+        Binary::RemainderUnsigned => remainder_unsigned(a, b),
     }
 }

@@ -7,8 +7,8 @@ use Rattle.cddf_meaning.specs.declared.ending.Ending.TheVariants.{OverBudget}
 use Rattle.cddf_meaning.specs.declared.flow.Flow.{Flow}
 use Rattle.flow_core_laws.specs.declared.activation.Activation.{Activation}
 
--- What gave this of these turns spent some of them. With as many, and any more, it gives the same and leaves the others;
--- with fewer it is over budget.
+-- An evaluation that gives a value spends some of its turns. With as many, and any more, it gives the same value and leaves the
+-- rest; with fewer it is over budget.
 pub record Spends (A : Type 0) (evaluate : ℕ → Answer (Left A)) (turns : ℕ) (n : Left A) : Type 0 where
   pub spent : ℕ
   pub all : turns ≡ spent + n.turns

@@ -52,8 +52,8 @@ pub fn outputs_have_their_horizons()
         length (task_outcome (file_of items) t a inputs budget).outputs ≡ written_horizons a.claims }
 {}
 
-/// Budgets are exact: what gives something of a number of turns spends some of them. With as many, and any more, it gives
-/// the same and leaves the others, and with fewer it is over budget.
+/// Budgets are exact: an evaluation that gives a value spends some of its turns. With as many, and any more, it gives the same
+/// value and leaves the rest, and with fewer it is over budget.
 pub fn budgets_are_exact()
     ensures expressions { (items : List tree.ItemTree) (e : tree.ExprTree) (s : State) (turns : ℕ) →
         IsExact ℤ (value (file_of items) e s) turns (value (file_of items) e s turns) }

@@ -2,6 +2,7 @@
 
 mod calls;
 mod delivery;
+mod each_call;
 mod generated;
 mod jobs;
 mod meeting;

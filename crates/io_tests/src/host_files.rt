@@ -7,23 +7,23 @@ use std::io::{self, Write};
 use std::os::fd::AsRawFd;
 use std::test::Fail;
 
-const STEPS: [Step<'static>; 11] = [
+const STEPS: [Step<'static>; 12] = [
     // there is no such file, and none is open
     (Call::Open("io_tests_no_such_file"), Err(Failed), b"\0\0\0"),
     (Call::Read, Ok(0), b"\0\0\0"),
     (Call::Open("io_tests_host_files"), Ok(0), b"\0\0\0"),
     (Call::Read, Ok(3), b"alp"),
-    // the file stays open
+    // the file was closed
     (Call::Open("io_tests_no_such_file"), Err(Failed), b"alp"),
-    (Call::Read, Ok(2), b"hap"),
-    // its end
-    (Call::Read, Ok(0), b"hap"),
-    // from its front again
-    (Call::Open("io_tests_host_files"), Ok(0), b"hap"),
+    (Call::Read, Ok(0), b"alp"),
+    // from its front again, to its end
+    (Call::Open("io_tests_host_files"), Ok(0), b"alp"),
     (Call::Read, Ok(3), b"alp"),
+    (Call::Read, Ok(2), b"hap"),
+    (Call::Read, Ok(0), b"hap"),
     // a folder
-    (Call::Open("."), Ok(0), b"alp"),
-    (Call::Read, Err(Failed), b"alp"),
+    (Call::Open("."), Ok(0), b"hap"),
+    (Call::Read, Err(Failed), b"hap"),
 ];
 
 #[test]

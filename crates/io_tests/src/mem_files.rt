@@ -96,3 +96,20 @@ fn is_read_whole_or_not_at_all(rt: HostRuntime) -> Result<(), Fail> {
 fn twenty_thousand(alloc: Global) -> Result<Vec<u8>, AllocError> {
     vec![in alloc; 7u8; 20_000]
 }
+
+#[test]
+fn gives_at_most_so_many_bytes(rt: HostRuntime) -> Result<(), Fail> {
+    let mut files = MemFiles::new(rt.alloc());
+    files.add("a", b"alpha")?;
+    files.most(2);
+    gives(&rt, &mut files, &mut [0u8; 3], &NARROW);
+    Ok(())
+}
+
+const NARROW: [Step<'static>; 5] = [
+    (Call::Open("a"), Ok(0), b"\0\0\0"),
+    (Call::Read, Ok(2), b"al\0"),
+    (Call::Read, Ok(2), b"ph\0"),
+    (Call::Read, Ok(1), b"ah\0"),
+    (Call::Read, Ok(0), b"ah\0"),
+];

@@ -9,6 +9,8 @@ pub mod Chains
 pub mod Heights
 pub mod Laws
 pub mod Codes
+-- Which neighbouring instructions the machine takes at once.
+pub mod Forms
 -- The same as functions, for computing.
 pub mod Running
 pub mod Outcomes
@@ -20,4 +22,3 @@ pub mod Refusals
 -- What restates private functions.
 pub mod Needs
 pub mod NeedTables
-pub mod Forms

@@ -23,7 +23,7 @@ pub enum Instr {
     CheckAt { size: u32, line: u32 },
     /// `index -- value`. Trap 4 unless the index is 0 to `size` - 1; pushes that slot from `first` on.
     LoadAt { first: u32, size: u32, line: u32 },
-    /// `index value --`. Trap 4 unless the index is 0 to `size` - 1; operands_of into that slot from `first` on.
+    /// `index value --`. Trap 4 unless the index is 0 to `size` - 1; pops into that slot from `first` on.
     StoreAt { first: u32, size: u32, line: u32 },
     /// `index -- index`. Trap 4 unless the index is in the item's window. In tasks.
     ItemCheck { item: u32, line: u32 },

@@ -1,5 +1,5 @@
 -- Files in memory, and what each call makes of them.
-use Rattle.std.specs.Prelude.{ℕ, Bool, List, [], length, drop, Option, None, Some, min, if◌then◌else◌}
+use Rattle.std.specs.Prelude.{ℕ, ◌-◌, ◌^◌, Bool, List, [], length, drop, Option, None, Some, min, if◌then◌else◌}
 use Rattle.std.specs.Str.{bytes_eq}
 use Rattle.std.specs.Map.{lookup}
 use Rattle.os_io.specs.Calls.{is_named}
@@ -20,11 +20,13 @@ pub record StoredFiles : Type 0 where
   pub given : ℕ
   -- how many calls have failed
   pub faults : ℕ
+  -- the most bytes that a `read` gives
+  pub most : ℕ
 
--- no file, and no call so far
+-- no file, no call so far, and no other bound on what a `read` gives than a length's
 abbrev pub no_files : StoredFiles
 no_files =
-    record { files = []; rest = []; failing = []; calls = 0; opens = 0; given = 0; faults = 0 }
+    record { files = []; rest = []; failing = []; calls = 0; opens = 0; given = 0; faults = 0; most = 2 ^ 32 - 1 }
 
 -- what a name holds
 abbrev pub held : StoredFiles → List ℕ → Option (List ℕ)
@@ -51,7 +53,7 @@ after_open s name = after_finding s (found s name)
 
 -- how many bytes a `read` gives for a buffer of this length
 abbrev pub read_count : StoredFiles → ℕ → ℕ
-read_count s room = min room (length s.rest)
+read_count s room = min (min room (length s.rest)) s.most
 
 -- after a `read` into a buffer of this length
 abbrev pub after_read : StoredFiles → ℕ → StoredFiles

@@ -29,6 +29,7 @@ stored_files s = record {
   opens = s.opens;
   given = s.given;
   faults = s.calls.faults;
+  most = s.most;
 }
 
 -- the place is within an entry

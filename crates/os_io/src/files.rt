@@ -57,6 +57,6 @@ pub trait Files {
         ensures holds { holds self.new ≡ holds self.old }
         ensures may { may self.new ≡ may self.old };
 
-    // At the last number of calls every name is allowed.
-    ghost may_at_last: { (files : Self) (name : List ℕ) → may files last_count name ≡ true };
+    // From the last value of the count of openings on every name is allowed.
+    ghost may_at_last: { (files : Self) (number : ℕ) (name : List ℕ) → last_count ≤ number → may files number name ≡ true };
 }

@@ -61,9 +61,9 @@ impl<'r, R: rt::Files> Files for HostFiles<'r, R> {
 
     ghost may = { λ _ _ _. true };
 
-    ghost may_at_last = { λ _ _. refl };
+    ghost may_at_last = { λ _ _ _ _. refl };
 
-    /// Makes one call of the host. Where that fails, the current file stays as it was.
+    /// Closes the current file, and makes one call of the host. Where that fails, no file is current.
     fn open(&mut self, name: &str) -> Result<(), Failed>
         ensures failed { OnErr result (HasRisen self.old.faults self.new.faults) }
         ensures no_fault { OnOk result (self.new.faults ≡ self.old.faults) }
@@ -71,10 +71,11 @@ impl<'r, R: rt::Files> Files for HostFiles<'r, R> {
         ensures one_fault { OnErr result (self.new.faults ≡ raised self.old.faults 1) }
         ensures given { self.new.given ≡ 0 }
         ensures opens { self.new.opens ≡ raised self.old.opens 1 }
-        ensures kept { OnErr result (self.new.remaining ≡ self.old.remaining) }
+        ensures closed { OnErr result (self.new.remaining ≡ Some []) }
     {
         self.opens = self.opens.saturating_add(1);
         self.given = 0;
+        self.current = None;
         match fs::open(self.rt, name) {
             Ok(file) => {
                 self.current = Some(file);

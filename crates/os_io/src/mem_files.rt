@@ -34,6 +34,7 @@ pub struct MemFiles {
     calls: Calls,
     opens: u64,
     given: u64,
+    most: u32,
 }
 
 impl Model for MemFiles {
@@ -41,11 +42,12 @@ impl Model for MemFiles {
 
     ghost Value = { StoredFiles };
 
+    ghost use Rattle.std.specs.Prelude.{◌≤◌};
     ghost use Rattle.os_io.specs.Views.{stored_files, IsPlaceIn};
 
     ghost view = { stored_files };
 
-    ghost invariant = { λ s. IsPlaceIn s.entries.items s.place };
+    ghost invariant = { λ s. IsPlaceIn s.entries.items s.place × (1 ≤ s.most) };
 }
 
 impl MemFiles {
@@ -59,6 +61,7 @@ impl MemFiles {
             calls: Calls::new(alloc),
             opens: 0,
             given: 0,
+            most: u32::MAX,
         }
     }
 
@@ -87,6 +90,14 @@ impl MemFiles {
     {
         self.calls.fail_at(call)
     }
+
+    /// Lets each `read` give at most so many bytes, as a pipe or a terminal does. It takes no memory.
+    pub fn most(&mut self, most: u32)
+        requires { 1 ≤ most }
+        ensures { self.new ≡ record self.old { most = most } }
+    {
+        self.most = most;
+    }
 }
 
 impl Files for MemFiles {
@@ -105,7 +116,7 @@ impl Files for MemFiles {
 
     ghost may = { λ _ _ _. true };
 
-    ghost may_at_last = { λ _ _. refl };
+    ghost may_at_last = { λ _ _ _ _. refl };
 
     /// Fails exactly where its number was named or no file has the name.
     fn open(&mut self, name: &str) -> Result<(), Failed>
@@ -125,18 +136,19 @@ impl Files for MemFiles {
         Ok(())
     }
 
-    /// Fails exactly where its number was named. Gives as many bytes as there are and as fit.
+    /// Fails exactly where its number was named. Gives as many bytes as there are, as fit, and as one `read` may give.
     fn read(&mut self, buf: &mut [u8]) -> Result<usize, Failed>
         ensures failed { OnErr result (HasRisen self.old.faults self.new.faults) }
         ensures no_fault { OnOk result (self.new.faults ≡ self.old.faults) }
         ensures faults_kept { self.old.faults ≤ self.new.faults }
         ensures fails { is_err result ≡ fails_next self.old }
         ensures count { IfOk result (λ n. n ≡ read_count self.old (length buf.old)) }
+        ensures end { IfOk result (λ n. n ≡ 0 → 0 < length buf.old → self.new.rest ≡ []) }
         ensures bytes { IfOk result (λ n. buf.new ≡ take n self.old.rest ++ drop n buf.old) }
         ensures after { self.new ≡ after_read self.old (length buf.old) }
     {
         self.calls.count()?;
-        let count = copy_front(rest_of(&self.entries, self.place), buf);
+        let count = copy_front(rest_of(&self.entries, self.place), buf, self.most);
         self.given = self.given.saturating_add(count as u64);
         self.place = place_after(&self.entries, self.place, count);
         Ok(count)
@@ -191,12 +203,12 @@ fn place_after(entries: &[Entry], place: Option<Place>, count: usize) -> Option<
     Some(Place { entry, position })
 }
 
-/// Copies as many bytes as there are and as fit, and says how many.
-fn copy_front(from: &[u8], to: &mut [u8]) -> usize
-    ensures count { result ≡ min (length to.old) (length from.now) }
+/// Copies as many bytes as there are and as fit, but at most so many, and says how many.
+fn copy_front(from: &[u8], to: &mut [u8], most: u32) -> usize
+    ensures count { result ≡ min (min (length to.old) (length from.now)) most }
     ensures bytes { to.new ≡ take result from.now ++ drop result to.old }
 {
-    let count = to.len().min(from.len());
+    let count = to.len().min(from.len()).min(most as usize);
     to[..count].copy_from_slice(&from[..count]);
     count
 }

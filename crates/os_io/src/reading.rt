@@ -80,10 +80,12 @@ pub fn read_whole<F: Files>(
         (λ bytes. IfSome (F.holds files.old name.now) (λ held. bytes ≡ held)) }
     ensures whole_given { IfWhole result (λ bytes. F.given files.new ≡ length bytes) }
 
-    // A file that is too long, after which no more than one byte past the limit was given.
+    // A file that is too long, of which exactly one byte past the limit was taken. No `Files`, also none that fills every
+    // buffer, gives more: so no read is asked for more than that, less what was given before.
     ensures too_long { (result ≡ Ok Loaded.TooLong) ↔ (limit < F.given files.new) }
     ensures too_long_told { result ≡ Ok Loaded.TooLong →
         IfSome (F.holds files.old name.now) (λ held. limit < length held) }
+    ensures one_past { result ≡ Ok Loaded.TooLong → F.given files.new ≡ limit + 1 }
     ensures stops { F.given files.new ≤ limit + 1 }
 
     // What is left of the file, or of the one before it where the file could not be opened.

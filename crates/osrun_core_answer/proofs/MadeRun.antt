@@ -21,18 +21,23 @@ program_file job = record { subject = subjects.Program; name = job.program }
 abbrev pub input_file : Job → JobFile
 input_file job = record { subject = subjects.Input; name = job.input }
 
+-- every name is allowed from the last value of the count of openings on
+abbrev MayAtLast : (ℕ → List ℕ → Bool) → Type 0
+MayAtLast may = (number : ℕ) (name : List ℕ) → last_count ≤ number → may number name ≡ true
+
 -- the program's opening is allowed
-pub may_open_program : (may : ℕ → List ℕ → Bool) (opens : ℕ) (job : Job) → MayOpen may opens (files_of (RunRequest job)) → IsTrue (may opens job.program)
-may_open_program may opens job allowed =
-    let same : opens + 0 ≡ opens = omega arith in
-    subst (λ n. IsTrue (may n job.program)) same (allowed 0 (program_file job) refl (omega arith))
+pub may_open_program : (may : ℕ → List ℕ → Bool) (opens : ℕ) (job : Job) → MayAtLast may → MayOpen may opens (files_of (RunRequest job)) → IsTrue (may opens job.program)
+may_open_program may opens job last allowed = elim (cases_lt opens last_count) [
+  | inl below ↦ let same : opens + 0 ≡ opens = omega arith in subst (λ n. IsTrue (may n job.program)) same (allowed 0 (program_file job) refl (omega (arith, below)))
+  | inr past ↦ last opens job.program past
+]
 
 -- the input's is, after it
-pub may_open_input : (may : ℕ → List ℕ → Bool) (opens : ℕ) (job : Job) → ((name : List ℕ) → may last_count name ≡ true) → MayOpen may opens (files_of (RunRequest job))
+pub may_open_input : (may : ℕ → List ℕ → Bool) (opens : ℕ) (job : Job) → MayAtLast may → MayOpen may opens (files_of (RunRequest job))
     → IsTrue (may (raised opens 1) job.input)
 may_open_input may opens job last allowed = elim (cases_lt opens last_count) [
   | inl below ↦ let next : opens + 1 ≡ raised opens 1 = omega arith in subst (λ n. IsTrue (may n job.input)) next (allowed 1 (input_file job) refl (omega arith))
-  | inr past ↦ let stands : last_count ≡ raised opens 1 = omega arith in subst (λ n. IsTrue (may n job.input)) stands (last job.input)
+  | inr past ↦ let stands : last_count ≡ raised opens 1 = omega arith in subst (λ n. IsTrue (may n job.input)) stands (last last_count job.input (omega arith))
 ]
 
 module _ {F : Type 0} (view : FilesView F) (job : Job) where

@@ -1,5 +1,5 @@
 -- The files of a job.
-use Rattle.std.specs.Prelude.{◌≡◌, ◌≤◌, ◌+◌, ℕ, Bool, List, [], ◌∷◌, IfSome, IsTrue, Option, Some, codes, length, max, slice_get}
+use Rattle.std.specs.Prelude.{◌≡◌, ◌≤◌, ◌+◌, ℕ, Bool, List, [], ◌∷◌, IfSome, IsTrue, Option, Some, codes, length, slice_get}
 use Rattle.os_io.specs.Counts.{last_count}
 use Rattle.os_lexer.specs.Limits.{text_limit}
 use Rattle.osrun_core_jobs.specs.Jobs.{Request, Run, Gen}
@@ -28,10 +28,10 @@ files_of (Run job) =
 files_of (Gen job) = []
 
 -- each opening that a job makes is allowed: the first file's at the number of openings so far, and the k-th one's at
--- that number plus k, as far as it isn't past the last value of the count
+-- that number plus k, as far as that is no more than the last value of the count
 abbrev pub MayOpen : (ℕ → List ℕ → Bool) → ℕ → List JobFile → Type 0
 MayOpen may opens files =
-    (k : ℕ) (file : JobFile) → slice_get files k ≡ Some file → opens + k ≤ max opens last_count → IsTrue (may (opens + k) file.name)
+    (k : ℕ) (file : JobFile) → slice_get files k ≡ Some file → opens + k ≤ last_count → IsTrue (may (opens + k) file.name)
 
 -- bytes that were read of such a file: they are those that it holds, where that is told, and within its limit
 pub record AreBytesOf (held : Option (List ℕ)) (subject : Subject) (bytes : List ℕ) : Type 0 where

@@ -25,7 +25,7 @@ fn what_was_taken_is_a_front(rt: HostRuntime) -> Result<(), Fail> {
     };
     let output = [255, 254, 253, 252, 3, 2, 1, 0];
     let report = "control done\noutput 8 of 8\n";
-    let cases: [Delivery; 10] = [
+    let cases: [Delivery; 11] = [
         (slow, slow, 8, 27, 0),
         (failing(3, 0), ALL, 0, 0, 6),
         (failing(3, 1), ALL, 3, 0, 6),
@@ -36,6 +36,7 @@ fn what_was_taken_is_a_front(rt: HostRuntime) -> Result<(), Fail> {
         (ALL, failing(3, 1), 8, 3, 6),
         (ALL, failing(1, 26), 8, 26, 6),
         (ALL, narrow(3), 8, 3, 6),
+        (ALL, narrow(13), 8, 13, 6),
     ];
     for (out, told, bytes, lines, status) in cases {
         let words = ["run", "p.c", "in"];

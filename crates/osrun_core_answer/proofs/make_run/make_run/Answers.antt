@@ -10,7 +10,7 @@ use Rattle.osrun_core_answer.proofs.make_run.make_run.Goals as goal
 
 pub read_program-requires : goal.read_program-requires
 read_program-requires g c =
-    may_open_program (g.F.Files.may c.args.files.now) (g.F.Files.opens c.args.files.now) (job_of c.args.job.now) c.requires.may
+    may_open_program (g.F.Files.may c.args.files.now) (g.F.Files.opens c.args.files.now) (job_of c.args.job.now) (g.met.F.Files.may_at_last c.args.files.now) c.requires.may
 
 pub returns-in_err-checked : goal.returns-in_err-checked
 returns-in_err-checked g c =
