@@ -100,6 +100,19 @@ run run /dev/stdin in.bin <first.c
 check "a program from standard input" 0 04030201 "control done / output 4 of 4"
 run run first.c /dev/stdin <in.bin
 check "an input from standard input" 0 04030201 "control done / output 4 of 4"
+run run first.c /dev/stdin <&-
+check "an input from a standard input that is closed" 1 "" "starved 0 stream 0 position 0 producer none / control done / output 0 of 4"
+(ulimit -n 4 && exec "$program" run first.c in.bin >out 2>report)
+status=$?
+check "one descriptor beside the standard streams" 0 04030201 "control done / output 4 of 4"
+: >out
+"$program" run first.c in.bin >&- 2>report <&-
+status=$?
+check "a standard output that is closed" 6 "" ""
+"$program" run first.c in.bin >out 2>&-
+status=$?
+: >report
+check "a standard error that is closed" 6 04030201 ""
 
 # The examples over four bytes.
 run run "$top/examples/invert.c" in.bin
