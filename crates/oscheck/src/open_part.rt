@@ -28,7 +28,8 @@ impl OpenPart {
     /// Adds the next token. What was ended before it is left out, but where an `else` goes on with it.
     fn add(&mut self, token: Token) -> Result<(), Memory> {
         if self.is_ended && token.kind != Kind::Key(Key::Else) {
-            self.tokens.truncate(self.begin());
+            let begin = self.begin();
+            self.tokens.truncate(begin);
         }
         self.is_ended = false;
         if self.tokens.push(token).is_err() {
