@@ -48,7 +48,7 @@ trap 'rm -rf "$room"' EXIT
 said=$room/said
 for word in "$@"; do
     copy=$word
-    case $before in --*=*) before='' ;; esac
+    case $before in --*=* | --complete) before='' ;; esac
     if [ "${before#--}" = "$before" ] && [ -p "$word" ] && [ -r "$word" ]; then
         copy=file${#words[@]}
         names+=(-e "s|^$copy:|$word:|")
@@ -69,14 +69,15 @@ done
 try() {
     (cd "$top/crates/$name" && rt try "${files[@]}" -- "${words[@]}") 2>"$said"
 }
-# oscheck tells names, osrun bytes alone.
-if [ "$name" = oscheck ] && [ "${#names[@]}" != 0 ]; then
+# oscheck tells names, osrun bytes alone. What oscheck writes for the word --complete is no telling, but what it tells then is.
+if [ "$name" = oscheck ] && [ "${#names[@]}" != 0 ] && [ "${1-}" != --complete ]; then
     try | sed "${names[@]}"
     status=${PIPESTATUS[0]}
 else
     try
     status=$?
 fi
+[ "$name" = oscheck ] && [ "${#names[@]}" != 0 ] && sed -i "${names[@]}" "$said"
 # Its last lines are the toolchain's: the program's report stands before them.
 if ! tail -n 1 "$said" | grep -q '^run=ended '; then
     cat "$said" >&2

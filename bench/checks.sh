@@ -1,13 +1,15 @@
 #!/usr/bin/env bash
-# How the time of judging a text grows with it, from its bytes through tokens and trees to the checks, as a table: for
-# each kind of text and each size the milliseconds of a run, and how many times those of half the size.
+# How the time and the memory of judging a text grow with it, from its bytes through tokens and trees to the checks, as two
+# tables. The first has texts that are programs, the second texts that are refused as none, the last of them completed too: for
+# each kind of text and each size the milliseconds of a run, how many times those of half the size, and its kilobytes at most.
+#
+#     bench/checks.sh [programs | refusals]       one of the tables, or both
 set -eu
 top=$(cd "$(dirname "${BASH_SOURCE[0]}")/.." && pwd)
 work=$(mktemp -d)
 trap 'rm -rf "$work"' EXIT
 (cd "$top/crates/oscheck" && rt run </dev/null) >/dev/null 2>&1 || true
 oscheck=$top/crates/oscheck/out/oscheck
-runs=20
 
 # text KIND BYTES: a program of about so many bytes.
 text() {
@@ -59,28 +61,79 @@ text() {
             put(";\n#pragma omp task output(osout << y)\ny=" name(0))
             for (i = count - 1; i > 0; i--) put("+" name(i))
             put(";\n}\n")
+        } else if (kind == "early") {
+            # statements, and no end
+            put("int main(void) {\nint x;\n")
+            while (written < bytes - 100) put("x=x+1;\n")
+        } else if (kind == "middle") {
+            # statements, and one without its expression in the middle
+            put("int main(void) {\nint x;\n")
+            while (written < bytes / 2) put("x=x+1;\n")
+            put("x=;\n")
+            while (written < bytes - 100) put("x=x+1;\n")
+            put("}\n")
+        } else if (kind == "chain") {
+            # one expression, and no operand at its end
+            put("int main(void) {\nreturn 1")
+            while (written < bytes - 100) put("+1")
+            put("+;\n}\n")
+        } else if (kind == "nests") {
+            # parentheses as deep as may be, and one too many that opens
+            put("int main(void) {\nint x;\n")
+            while (written < bytes - 1000) {
+                put("x=")
+                for (i = 0; i < 196; i++) put("(")
+                put("1")
+                for (i = 0; i < 196; i++) put(")")
+                put(";\n")
+            }
+            put("x=")
+            for (i = 0; i < 200; i++) put("(")
+            put("1;\n}\n")
+        } else if (kind == "open") {
+            # choices in parentheses, as deep as may be, that end with the text
+            put("int main(void) {\nint x;\n")
+            while (written < bytes - 1000) put("x=x+1;\n")
+            put("x=")
+            for (i = 0; i < 98; i++) put("(1?")
         }
     }'
 }
 
+# milliseconds RUNS WORD..: those of a run of oscheck with these words.
 milliseconds() {
     local start end
     start=$(date +%s%N)
-    for _ in $(seq "$runs"); do
-        "$oscheck" "$1" >/dev/null
+    for _ in $(seq "$1"); do
+        "$oscheck" "${@:2}" >/dev/null || true
     done
     end=$(date +%s%N)
-    awk -v t=$((end - start)) -v n="$runs" 'BEGIN { printf "%.3f", t / n / 1000000 }'
+    awk -v t=$((end - start)) -v n="$1" 'BEGIN { printf "%.3f", t / n / 1000000 }'
 }
 
-printf '%-10s %8s %10s %6s\n' text bytes ms ratio
-for kind in names shadows tasks captures; do
-    before=
+# rows NAME KIND RUNS WORD..: the rows of a kind of text.
+rows() {
+    local before='' size now ratio
     for size in 16384 32768 65536 131072 262144; do
-        text "$kind" "$size" >"$work/text.c"
-        now=$(milliseconds "$work/text.c")
+        text "$2" "$size" >"$work/text.c"
+        now=$(milliseconds "$3" "${@:4}" "$work/text.c")
         ratio=$(awk -v a="${before:-0}" -v b="$now" 'BEGIN { if (a > 0) printf "%.2f", b / a; else printf "-" }')
-        printf '%-10s %8s %10s %6s\n' "$kind" "$(stat -c %s "$work/text.c")" "$now" "$ratio"
+        /usr/bin/time -q -f %M -o "$work/most" "$oscheck" "${@:4}" "$work/text.c" >/dev/null || true
+        printf '%-10s %8s %10s %6s %8s\n' "$1" "$(stat -c %s "$work/text.c")" "$now" "$ratio" "$(cat "$work/most")"
         before=$now
     done
-done
+}
+
+if [ "${1-programs}" = programs ]; then
+    printf '%-10s %8s %10s %6s %8s\n' program bytes ms ratio KB
+    for kind in names shadows tasks captures; do
+        rows "$kind" "$kind" 20
+    done
+fi
+if [ "${1-refusals}" = refusals ]; then
+    printf '%-10s %8s %10s %6s %8s\n' refused bytes ms ratio KB
+    for kind in early middle chain nests open; do
+        rows "$kind" "$kind" 5
+    done
+    rows completed open 1 --complete
+fi

@@ -540,6 +540,25 @@ stops "two names side by side" 'int main(void) {\n\tif (a b) ;\n}\n' "2:8: error
 stops "a pragma of no kind" 'int main(void) {\n#pragma omp tusk\n}\n' "2:13: error 4: expected 'task', 'tick' or 'taskwait', found 'tusk'"
 stops "a pragma with more behind it" 'int main(void) {\n#pragma omp taskwait 1\n}\n' "2:22: error 4: expected the end of the line, found '1'"
 stops "a pragma that ends early" 'int main(void) {\n#pragma omp tick(s >>\n1)\n}\n' "2:22: error 4: expected an expression, found the end of the line"
+# completes NAME STATUS TEXT OUT REPORT: asks for a program that begins as a text does; in OUT the lines are parted by " / ".
+completes() {
+    printf '%b' "$3" >stop.c
+    "$top/oscheck" --complete stop.c >out 2>report
+    status=$?
+    sed -e ':a' -e '$!{N;ba' -e '}' -e 's|\n| / |g' out >whole
+    printf '%s\n' "$4" >wanted
+    cmp -s whole wanted && : >out
+    check "$1" "$2" "" "$5"
+}
+completes "a text that ends early, completed" 0 'int main(void) {\n' "int main(void) { }" ""
+completes "a pragma that is cut in a comment, completed" 0 'int main(void) {\n#pragma omp task input( // osin\n' \
+    "int main(void) { / #pragma omp task input( osin ) /  ; }" ""
+completes "a pragma without its line's end, completed" 0 'int main(void) {\n#pragma omp task' "int main(void) { / #pragma omp task /  ; }" ""
+completes "a program, completed" 0 'int main(void) {\n x = 1; }\n' "int main(void) { /  x = 1; }" ""
+completes "a text with a byte that begins no token, completed" 1 'int main(void) { $' "" "stop.c:1: error 1: a byte or a run of characters that begins no token: take it out"
+"$top/oscheck" --complete stop.c none.c >out 2>report
+status=$?
+check "files that can't be completed" 2 "" "stop.c:1: error 1: a byte or a run of characters that begins no token: take it out / none.c: can't be read"
 
 # Where the program isn't built, or was built from another commit, the toolchain runs it, and the first line says so.
 copy=$work/copy

@@ -9,7 +9,8 @@ use std::alloc::Global;
 
 /// Bytes for the input windows.
 pub(crate) fn inputs_of(alloc: Global, claims: &[Claim]) -> Result<Vec<i32>, Memory>
-    ensures { IfOk result (λ inputs. length inputs.items ≡ sum_by (λ (claim : TheClaim). claim.horizon) (filter (λ (claim : TheClaim). not claim.write) claims.now)) }
+    ensures { IfOk result (λ inputs. length inputs.items
+        ≡ sum_by (λ (claim : TheClaim). claim.horizon) (filter (λ (claim : TheClaim). not claim.write) claims.now)) }
 {
     let mut inputs = Vec::new(alloc);
     for claim in claims {
@@ -22,7 +23,8 @@ pub(crate) fn inputs_of(alloc: Global, claims: &[Claim]) -> Result<Vec<i32>, Mem
 
 /// Room for the output windows, with numbers that no task may leave there.
 pub(crate) fn outputs_of(alloc: Global, claims: &[Claim]) -> Result<Vec<i32>, Memory>
-    ensures { IfOk result (λ outputs. length outputs.items ≡ sum_by (λ (claim : TheClaim). claim.horizon) (filter (λ (claim : TheClaim). claim.write) claims.now)) }
+    ensures { IfOk result (λ outputs. length outputs.items
+        ≡ sum_by (λ (claim : TheClaim). claim.horizon) (filter (λ (claim : TheClaim). claim.write) claims.now)) }
 {
     let mut outputs = Vec::new(alloc);
     for claim in claims {

@@ -17,7 +17,7 @@ IsProgramOf text p = (tokens : List Token) × IsTokenCover text tokens × Means 
 abbrev pub IsAccepted : List ℕ → ProgramTree → Type 0
 IsAccepted text p = IsProgramOf text p × (violations p ≡ [])
 
--- Its cover means no program, and is refused in this line.
+-- The text has a cover that means no program, and is refused in this line.
 abbrev pub IsNoProgram : List ℕ → ℕ → Type 0
 IsNoProgram text line = (tokens : List Token) × (place : ℕ) × IsTokenCover text tokens × IsRefusedAt tokens place line
 

@@ -118,7 +118,8 @@ static WORDS: [Case; 7] = [
     ),
     (
         b"omp task tick taskwait input output firstprivate stream main osin osout osin_len",
-        "Name(0)@0-3:1 Name(1)@4-8:1 Name(2)@9-13:1 Name(3)@14-22:1 Name(4)@23-28:1 Name(5)@29-35:1 Name(6)@36-48:1 Name(7)@49-55:1 Name(8)@56-60:1 Name(9)@61-65:1 Name(10)@66-71:1 Name(11)@72-80:1",
+        "Name(0)@0-3:1 Name(1)@4-8:1 Name(2)@9-13:1 Name(3)@14-22:1 Name(4)@23-28:1 Name(5)@29-35:1 Name(6)@36-48:1 Name(7)@49-55:1 \
+         Name(8)@56-60:1 Name(9)@61-65:1 Name(10)@66-71:1 Name(11)@72-80:1",
     ),
     (
         b"a b a osin b a1 A",
@@ -196,11 +197,14 @@ static MARKS_ARE_THE_LONGEST: [Case; 12] = [
     ),
     (
         b"!==~?:;,()[]{}",
-        "Punct(Unequal)@0-2:1 Punct(Set)@2-3:1 Punct(Invert)@3-4:1 Punct(Question)@4-5:1 Punct(Colon)@5-6:1 Punct(Semicolon)@6-7:1 Punct(Comma)@7-8:1 Punct(OpenParen)@8-9:1 Punct(CloseParen)@9-10:1 Punct(OpenBracket)@10-11:1 Punct(CloseBracket)@11-12:1 Punct(OpenBrace)@12-13:1 Punct(CloseBrace)@13-14:1",
+        "Punct(Unequal)@0-2:1 Punct(Set)@2-3:1 Punct(Invert)@3-4:1 Punct(Question)@4-5:1 Punct(Colon)@5-6:1 Punct(Semicolon)@6-7:1 \
+         Punct(Comma)@7-8:1 Punct(OpenParen)@8-9:1 Punct(CloseParen)@9-10:1 Punct(OpenBracket)@10-11:1 Punct(CloseBracket)@11-12:1 \
+         Punct(OpenBrace)@12-13:1 Punct(CloseBrace)@13-14:1",
     ),
     (
         b"*=*%=%^=^|=|&=&",
-        "Punct(MultiplySet)@0-2:1 Punct(Star)@2-3:1 Punct(RemainderSet)@3-5:1 Punct(Percent)@5-6:1 Punct(BitXorSet)@6-8:1 Punct(BitXor)@8-9:1 Punct(BitOrSet)@9-11:1 Punct(BitOr)@11-12:1 Punct(BitAndSet)@12-14:1 Punct(BitAnd)@14-15:1",
+        "Punct(MultiplySet)@0-2:1 Punct(Star)@2-3:1 Punct(RemainderSet)@3-5:1 Punct(Percent)@5-6:1 Punct(BitXorSet)@6-8:1 \
+         Punct(BitXor)@8-9:1 Punct(BitOrSet)@9-11:1 Punct(BitOr)@11-12:1 Punct(BitAndSet)@12-14:1 Punct(BitAnd)@14-15:1",
     ),
     (
         b"/=/ /",
@@ -270,7 +274,8 @@ static DIRECTIVES: [Case; 28] = [
     (b"#0pragma", "BadByte { line: 1 }"),
     (
         b"int x;\n#pragma omp\n#pragma omp\n",
-        "Key(Int)@0-3:1 Name(13)@4-5:1 Punct(Semicolon)@5-6:1 PragmaStart@7-14:2 Name(0)@15-18:2 PragmaEnd@18-19:2 PragmaStart@19-26:3 Name(0)@27-30:3 PragmaEnd@30-31:3",
+        "Key(Int)@0-3:1 Name(13)@4-5:1 Punct(Semicolon)@5-6:1 PragmaStart@7-14:2 Name(0)@15-18:2 PragmaEnd@18-19:2 PragmaStart@19-26:3 \
+         Name(0)@27-30:3 PragmaEnd@30-31:3",
     ),
     (
         b"#include a\\\r\nb\n#pragma",

@@ -249,7 +249,8 @@ pub const TABLE: [(&str, i32); 210] = [
         2318,
     ),
     (
-        "int a[10]; int i; int j; for (i = 0; i < 10; i++) a[i] = (i * 7 + 3) % 10; for (i = 0; i < 10; i++) for (j = 0; j + 1 < 10 - i; j++) if (a[j] > a[j + 1]) { int t = a[j]; a[j] = a[j + 1]; a[j + 1] = t; } y = a[0] + a[1] * 10 + a[9] * 100;",
+        "int a[10]; int i; int j; for (i = 0; i < 10; i++) a[i] = (i * 7 + 3) % 10; for (i = 0; i < 10; i++) for (j = 0; j + 1 < 10 - i; \
+         j++) if (a[j] > a[j + 1]) { int t = a[j]; a[j] = a[j + 1]; a[j + 1] = t; } y = a[0] + a[1] * 10 + a[9] * 100;",
         910,
     ),
     (

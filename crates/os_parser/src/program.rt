@@ -11,7 +11,7 @@ use crate::stmt::block;
 use os_ast::{Constant, Function, Item, Name, Params};
 use os_io::List;
 use os_lexer::{Key, Kind, Punct};
-use os_parser_expressions::{Cursor, ParseError};
+use os_parser_expressions::{Cursor, ProductionError};
 use os_parser_parts::comma_list::{Part, comma_list};
 use os_parser_parts::{name, number_at};
 use std::alloc::Global;
@@ -29,7 +29,7 @@ impl Part for Param {
     ghost reads = { λ part. param };
 
     #[tactic(auto, unfolding(os_parser_grammar::specs::Statements::param))]
-    fn read(&self, alloc: Global, cursor: &mut Cursor<'_>) -> Result<Name, ParseError> {
+    fn read(&self, alloc: Global, cursor: &mut Cursor<'_>) -> Result<Name, ProductionError> {
         cursor.expect(Kind::Key(Key::Int))?;
         name(cursor)
     }
@@ -37,7 +37,7 @@ impl Part for Param {
 
 /// `[ params ]`
 #[tactic(auto, using(os_parser_grammar::proofs::Lists::same), unfolding(os_parser_grammar::specs::Statements::params))]
-fn params(alloc: Global, cursor: &mut Cursor<'_>) -> Result<Params, ParseError>
+fn params(alloc: Global, cursor: &mut Cursor<'_>) -> Result<Params, ProductionError>
     ensures gives { Gives Same result cursor.new (params cursor.old) }
     ensures within { length cursor.new ≤ length cursor.old }
 {
@@ -54,7 +54,7 @@ fn params(alloc: Global, cursor: &mut Cursor<'_>) -> Result<Params, ParseError>
 
 /// `function = "int" name "(" [ params ] ")" block`, from its `int` on.
 #[tactic(auto, unfolding(os_parser_grammar::specs::Statements::function))]
-fn function(alloc: Global, cursor: &mut Cursor<'_>, depth: u32) -> Result<Item, ParseError>
+fn function(alloc: Global, cursor: &mut Cursor<'_>, depth: u32) -> Result<Item, ProductionError>
     ensures gives { Gives item_tree result cursor.new (function (inner depth) cursor.old) }
     ensures within { length cursor.new ≤ length cursor.old }
     ensures taken { OnOk result (length cursor.new ≤ length (after cursor.old)) }
@@ -71,7 +71,7 @@ fn function(alloc: Global, cursor: &mut Cursor<'_>, depth: u32) -> Result<Item, 
 
 /// `number`, which is below 2^31.
 #[tactic(auto, unfolding(os_parser_grammar::specs::Statements::number))]
-fn number(cursor: &mut Cursor<'_>) -> Result<u32, ParseError>
+fn number(cursor: &mut Cursor<'_>) -> Result<u32, ProductionError>
     ensures gives { Gives Same result cursor.new (number cursor.old) }
     ensures within { length cursor.new ≤ length cursor.old }
 {
@@ -80,7 +80,7 @@ fn number(cursor: &mut Cursor<'_>) -> Result<u32, ParseError>
             cursor.advance();
             Ok(number)
         }
-        None => Err(ParseError::Syntax),
+        None => Err(ProductionError::Syntax),
     }
 }
 
@@ -99,7 +99,7 @@ fn minus(cursor: &mut Cursor<'_>) -> bool
 
 /// `constant = "const" "int" name "=" [ "-" ] number ";"`, from its `const` on.
 #[tactic(auto, unfolding(os_parser_grammar::specs::Statements::constant))]
-fn constant(cursor: &mut Cursor<'_>) -> Result<Item, ParseError>
+fn constant(cursor: &mut Cursor<'_>) -> Result<Item, ProductionError>
     ensures gives { Gives item_tree result cursor.new (constant cursor.old) }
     ensures within { length cursor.new ≤ length cursor.old }
     ensures taken { OnOk result (length cursor.new ≤ length (after cursor.old)) }
@@ -116,7 +116,7 @@ fn constant(cursor: &mut Cursor<'_>) -> Result<Item, ParseError>
 
 /// `constant | function`
 #[tactic(auto, unfolding(os_parser_grammar::specs::Statements::item))]
-fn item(alloc: Global, cursor: &mut Cursor<'_>, depth: u32) -> Result<Item, ParseError>
+fn item(alloc: Global, cursor: &mut Cursor<'_>, depth: u32) -> Result<Item, ProductionError>
     ensures gives { Gives item_tree result cursor.new (item (inner depth) cursor.old) }
     ensures within { length cursor.new ≤ length cursor.old }
     ensures taken { OnOk result (length cursor.new ≤ length (after cursor.old)) }
@@ -127,7 +127,7 @@ fn item(alloc: Global, cursor: &mut Cursor<'_>, depth: u32) -> Result<Item, Pars
     if cursor.is_at(Kind::Key(Key::Int)) {
         return function(alloc, cursor, depth);
     }
-    Err(ParseError::Syntax)
+    Err(ProductionError::Syntax)
 }
 
 /// Whether tokens are left.
@@ -142,7 +142,7 @@ pub(crate) fn program(
     alloc: Global,
     cursor: &mut Cursor<'_>,
     depth: u32,
-) -> Result<List<Item>, ParseError>
+) -> Result<List<Item>, ProductionError>
     ensures gives { Gives (map item_tree) result cursor.new (program (inner depth) cursor.old) }
 {
     let mut items = List::new(alloc);

@@ -10,7 +10,7 @@ use crate::program::program;
 use os_ast::Program;
 use os_io::Memory;
 use os_lexer::Token;
-use os_parser_expressions::Cursor;
+use os_parser_expressions::{Cursor, ProductionError};
 use os_parser_places::refusals_stand_at_their_place;
 use std::alloc::Global;
 
@@ -29,8 +29,8 @@ pub fn parse(alloc: Global, tokens: &[Token]) -> Result<Program, ParseError>
     let mut cursor = Cursor::new(tokens);
     match program(alloc, &mut cursor, DEPTH_LIMIT - 1) {
         Ok(items) => Ok(Program { items }),
-        Err(os_parser_expressions::ParseError::Memory) => Err(ParseError::Memory),
-        Err(os_parser_expressions::ParseError::Syntax) => Err(refusal(tokens, cursor.left())),
+        Err(ProductionError::Memory) => Err(ParseError::Memory),
+        Err(ProductionError::Syntax) => Err(refusal(tokens, cursor.left())),
     }
 }
 
@@ -54,7 +54,7 @@ fn is_end(tokens: &[Token], place: u32) -> bool
     place as usize == tokens.len()
 }
 
-/// The refusal of tokens before so many that are left.
+/// The refusal at the first of the last `left` tokens, or behind all tokens where `left` is 0.
 fn refusal(tokens: &[Token], left: usize) -> ParseError
     requires length { length tokens.now ≤ text_limit }
     requires left { left ≤ length tokens.now }

@@ -11,7 +11,7 @@ use os_ast::{Change, Mark, Name, Stmt, TaskSite};
 use os_io::List;
 use os_lexer::names::{OMP, TASK, TASKWAIT, TICK};
 use os_lexer::{Key, Kind, Punct};
-use os_parser_expressions::{Cursor, ParseError, deeper};
+use os_parser_expressions::{Cursor, ProductionError, deeper};
 use os_parser_grammar::StmtStart;
 use os_parser_parts::{
     before, clauses, condition, declare, head, named_stmt, return_stmt, stmt_at, taskwait, tick,
@@ -21,7 +21,11 @@ use std::alloc::Global;
 /// `stmt`
 #[cycle(statements)]
 #[tactic(auto, using(os_parser_grammar::proofs::Depths::readers, os_parser_expressions::proofs::Trees::trees), unfolding(os_parser_grammar::specs::Statements::stmt_on, os_parser_grammar::specs::Statements::stmt_by))]
-pub(crate) fn stmt(alloc: Global, cursor: &mut Cursor<'_>, depth: u32) -> Result<Stmt, ParseError>
+pub(crate) fn stmt(
+    alloc: Global,
+    cursor: &mut Cursor<'_>,
+    depth: u32,
+) -> Result<Stmt, ProductionError>
     ensures gives { Gives stmt_tree result cursor.new (stmt_on (inner depth) cursor.old) }
     ensures within { length cursor.new ≤ length cursor.old }
     ensures taken { OnOk result (length cursor.new ≤ length (after cursor.old)) }
@@ -62,13 +66,13 @@ pub(crate) fn stmt(alloc: Global, cursor: &mut Cursor<'_>, depth: u32) -> Result
         }
         StmtStart::Return => return_stmt(alloc, cursor, depth),
         StmtStart::Pragma => pragma(alloc, cursor, depth),
-        StmtStart::Other => Err(ParseError::Syntax),
+        StmtStart::Other => Err(ProductionError::Syntax),
     }
 }
 
 /// `stmt`, where it is a part of another.
 #[cycle(statements)]
-fn boxed(alloc: Global, cursor: &mut Cursor<'_>, depth: u32) -> Result<Box<Stmt>, ParseError>
+fn boxed(alloc: Global, cursor: &mut Cursor<'_>, depth: u32) -> Result<Box<Stmt>, ProductionError>
     ensures gives { Gives (λ s. stmt_tree (box_value s)) result cursor.new (stmt_on (inner depth) cursor.old) }
     ensures within { length cursor.new ≤ length cursor.old }
 {
@@ -83,7 +87,7 @@ pub(crate) fn block(
     alloc: Global,
     cursor: &mut Cursor<'_>,
     depth: u32,
-) -> Result<List<Stmt>, ParseError>
+) -> Result<List<Stmt>, ProductionError>
     ensures gives { Gives stmts_tree result cursor.new (block (inner depth) cursor.old) }
     ensures within { length cursor.new ≤ length cursor.old }
 {
@@ -98,7 +102,7 @@ pub(crate) fn block(
 /// `declare | stmt`, a part of `block`.
 #[cycle(statements)]
 #[tactic(auto, unfolding(os_parser_grammar::specs::Statements::inner_item, os_parser_grammar::specs::Statements::block_item))]
-fn block_item(alloc: Global, cursor: &mut Cursor<'_>, depth: u32) -> Result<Stmt, ParseError>
+fn block_item(alloc: Global, cursor: &mut Cursor<'_>, depth: u32) -> Result<Stmt, ProductionError>
     ensures gives { Gives stmt_tree result cursor.new (inner_item (inner depth) cursor.old) }
     ensures within { length cursor.new ≤ length cursor.old }
     ensures taken { OnOk result (length cursor.new ≤ length (after cursor.old)) }
@@ -114,7 +118,7 @@ fn block_item(alloc: Global, cursor: &mut Cursor<'_>, depth: u32) -> Result<Stmt
 /// `"if" "(" expr ")" stmt [ "else" stmt ]`, from its `if` on.
 #[cycle(statements)]
 #[tactic(auto, unfolding(os_parser_grammar::specs::Statements::if_stmt))]
-fn if_stmt(alloc: Global, cursor: &mut Cursor<'_>, depth: u32) -> Result<Stmt, ParseError>
+fn if_stmt(alloc: Global, cursor: &mut Cursor<'_>, depth: u32) -> Result<Stmt, ProductionError>
     ensures gives { Gives stmt_tree result cursor.new (if_stmt (inner depth) cursor.old) }
     ensures within { length cursor.new ≤ length cursor.old }
     ensures taken { OnOk result (length cursor.new ≤ length (after cursor.old)) }
@@ -134,7 +138,7 @@ fn if_stmt(alloc: Global, cursor: &mut Cursor<'_>, depth: u32) -> Result<Stmt, P
 /// `"while" "(" expr ")" stmt`, from its `while` on.
 #[cycle(statements)]
 #[tactic(auto, unfolding(os_parser_grammar::specs::Statements::while_stmt))]
-fn while_stmt(alloc: Global, cursor: &mut Cursor<'_>, depth: u32) -> Result<Stmt, ParseError>
+fn while_stmt(alloc: Global, cursor: &mut Cursor<'_>, depth: u32) -> Result<Stmt, ProductionError>
     ensures gives { Gives stmt_tree result cursor.new (while_stmt (inner depth) cursor.old) }
     ensures within { length cursor.new ≤ length cursor.old }
     ensures taken { OnOk result (length cursor.new ≤ length (after cursor.old)) }
@@ -149,7 +153,7 @@ fn while_stmt(alloc: Global, cursor: &mut Cursor<'_>, depth: u32) -> Result<Stmt
 /// `"for" "(" ( declare1 | [ change ] ";" ) [ expr ] ";" [ change ] ")" stmt`, from its `for` on.
 #[cycle(statements)]
 #[tactic(auto, unfolding(os_parser_grammar::specs::Statements::for_stmt))]
-fn for_stmt(alloc: Global, cursor: &mut Cursor<'_>, depth: u32) -> Result<Stmt, ParseError>
+fn for_stmt(alloc: Global, cursor: &mut Cursor<'_>, depth: u32) -> Result<Stmt, ProductionError>
     ensures gives { Gives stmt_tree result cursor.new (for_stmt (inner depth) cursor.old) }
     ensures within { length cursor.new ≤ length cursor.old }
     ensures taken { OnOk result (length cursor.new ≤ length (after cursor.old)) }
@@ -165,7 +169,7 @@ fn for_stmt(alloc: Global, cursor: &mut Cursor<'_>, depth: u32) -> Result<Stmt, 
 /// `PragmaStart "omp"` and one of `"task"`, `"tick"` and `"taskwait"`, with what belongs to it.
 #[cycle(statements)]
 #[tactic(auto, using(os_parser_grammar::proofs::Depths::readers), unfolding(os_parser_grammar::specs::Statements::pragma))]
-fn pragma(alloc: Global, cursor: &mut Cursor<'_>, depth: u32) -> Result<Stmt, ParseError>
+fn pragma(alloc: Global, cursor: &mut Cursor<'_>, depth: u32) -> Result<Stmt, ProductionError>
     ensures gives { Gives stmt_tree result cursor.new (pragma (inner depth) cursor.old) }
     ensures within { length cursor.new ≤ length cursor.old }
     ensures taken { OnOk result (length cursor.new ≤ length (after cursor.old)) }
@@ -183,13 +187,18 @@ fn pragma(alloc: Global, cursor: &mut Cursor<'_>, depth: u32) -> Result<Stmt, Pa
         cursor.advance();
         return taskwait(cursor, mark);
     }
-    Err(ParseError::Syntax)
+    Err(ProductionError::Syntax)
 }
 
 /// `"task" { [ "," ] clause } PragmaEnd stmt`, from its word on.
 #[cycle(statements)]
 #[tactic(auto, unfolding(os_parser_grammar::specs::Statements::task))]
-fn task(alloc: Global, cursor: &mut Cursor<'_>, mark: Mark, depth: u32) -> Result<Stmt, ParseError>
+fn task(
+    alloc: Global,
+    cursor: &mut Cursor<'_>,
+    mark: Mark,
+    depth: u32,
+) -> Result<Stmt, ProductionError>
     ensures gives { Gives stmt_tree result cursor.new (task mark (inner depth) cursor.old) }
     ensures within { length cursor.new ≤ length cursor.old }
 {

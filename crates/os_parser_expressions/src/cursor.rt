@@ -7,7 +7,7 @@ ghost use Rattle.os_parser_grammar.specs.Kinds.{same};
 ghost use Rattle.os_parser_expressions.specs.Gives.{Gives};
 ghost use Rattle.os_parser_grammar.specs.Reading.{Same, kind_at, mark_at, after, begins, expect};
 
-use crate::parse_error::ParseError;
+use crate::production_error::ProductionError;
 use os_ast::Mark;
 use os_lexer::{Kind, Token};
 use std::marker::Model;
@@ -100,14 +100,14 @@ impl<'a> Cursor<'a> {
         }
     }
 
-    #[tactic(auto, using(os_parser_grammar::proofs::Tokens::lengths), unfolding(os_parser_grammar::specs::Reading::expect))]
     /// Goes past a token of a kind, where the next one is of that kind.
-    pub fn expect(&mut self, kind: Kind) -> Result<Mark, ParseError>
+    #[tactic(auto, using(os_parser_grammar::proofs::Tokens::lengths), unfolding(os_parser_grammar::specs::Reading::expect))]
+    pub fn expect(&mut self, kind: Kind) -> Result<Mark, ProductionError>
         ensures gives { Gives Same result self.new (expect kind self.old) }
         ensures within { length self.new ≤ length self.old }
     {
         if !self.is_at(kind) {
-            return Err(ParseError::Syntax);
+            return Err(ProductionError::Syntax);
         }
         let mark = self.mark();
         self.advance();

@@ -4,12 +4,12 @@ ghost use Rattle.std.specs.Prelude.{◌≡◌, ◌+◌, ◌-◌, ◌≤◌, ◌<
 ghost use Rattle.os_ast.specs.Views.{expr_tree, target_tree, index_tree, args_tree, links_tree};
 ghost use Rattle.os_parser_grammar.specs.Expressions.{below, layer, chained, branches, operand, chains, linked, expr_on, named, target_of, index, args, some_args, paren, sign};
 ghost use Rattle.os_parser_expressions.specs.Gives.{Gives};
-ghost use Rattle.os_parser_expressions.specs.declared.parse_error.ParseError.TheVariants as errors;
+ghost use Rattle.os_parser_expressions.specs.declared.production_error.ProductionError.TheVariants as errors;
 
 use crate::cursor::Cursor;
 use crate::depth::deeper;
 use crate::operators::{level_at, operator_at, start_at};
-use crate::parse_error::ParseError;
+use crate::production_error::ProductionError;
 use os_ast::{Binary, Call, Expr, Index, Link, Mark, Name, Target, Unary};
 use os_io::List;
 use os_lexer::{Kind, Punct};
@@ -22,7 +22,7 @@ const UNARY_PRECEDENCE: u32 = 11;
 /// `expr = or [ "?" expr ":" expr ]`
 #[cycle(expressions)]
 #[tactic(auto, unfolding(os_parser_grammar::specs::Expressions::expr_on))]
-pub fn expr(alloc: Global, cursor: &mut Cursor<'_>, depth: u32) -> Result<Expr, ParseError>
+pub fn expr(alloc: Global, cursor: &mut Cursor<'_>, depth: u32) -> Result<Expr, ProductionError>
     ensures gives { Gives expr_tree result cursor.new (expr_on (below depth) cursor.old) }
     ensures within { length cursor.new ≤ length cursor.old }
 {
@@ -36,7 +36,7 @@ pub fn expr(alloc: Global, cursor: &mut Cursor<'_>, depth: u32) -> Result<Expr, 
 
 /// `expr`, where it is a part of another.
 #[cycle(expressions)]
-fn boxed(alloc: Global, cursor: &mut Cursor<'_>, depth: u32) -> Result<Box<Expr>, ParseError>
+fn boxed(alloc: Global, cursor: &mut Cursor<'_>, depth: u32) -> Result<Box<Expr>, ProductionError>
     ensures gives { Gives (λ e. expr_tree (box_value e)) result cursor.new (expr_on (below depth) cursor.old) }
     ensures within { length cursor.new ≤ length cursor.old }
 {
@@ -52,7 +52,7 @@ fn branches(
     cursor: &mut Cursor<'_>,
     condition: Box<Expr>,
     depth: u32,
-) -> Result<Expr, ParseError>
+) -> Result<Expr, ProductionError>
     ensures gives { Gives expr_tree result cursor.new (branches (below depth) (expr_tree (box_value condition)) cursor.old) }
     ensures within { length cursor.new ≤ length cursor.old }
 {
@@ -73,7 +73,7 @@ fn chain(
     cursor: &mut Cursor<'_>,
     lowest: u32,
     depth: u32,
-) -> Result<Expr, ParseError>
+) -> Result<Expr, ProductionError>
     requires from { 1 ≤ lowest }
     requires to { lowest ≤ 11 }
     ensures gives { Gives expr_tree result cursor.new (chains (11 - lowest) (operand (below depth)) cursor.old) }
@@ -98,7 +98,7 @@ fn linked(
     precedence: u32,
     first: Expr,
     depth: u32,
-) -> Result<Expr, ParseError>
+) -> Result<Expr, ProductionError>
     requires from { 1 ≤ precedence }
     requires to { precedence ≤ 10 }
     ensures gives { Gives expr_tree result cursor.new
@@ -122,7 +122,7 @@ fn chained(
     precedence: u32,
     first: Expr,
     links: List<Link>,
-) -> Result<Expr, ParseError>
+) -> Result<Expr, ProductionError>
     ensures chain { IfOk result (λ e. expr_tree e ≡ chained precedence (expr_tree first) (links_tree links)) }
     ensures memory { IfErr result (λ e. e ≡ errors.Memory) }
 {
@@ -135,7 +135,7 @@ fn chained(
 /// `unary = ( "-" | "+" | "!" | "~" ) unary | primary`, and `primary = number | target | call | "(" expr ")"`.
 #[cycle(expressions)]
 #[tactic(auto, unfolding(os_parser_grammar::specs::Expressions::operand, os_parser_grammar::specs::Expressions::operand_by))]
-fn operand(alloc: Global, cursor: &mut Cursor<'_>, depth: u32) -> Result<Expr, ParseError>
+fn operand(alloc: Global, cursor: &mut Cursor<'_>, depth: u32) -> Result<Expr, ProductionError>
     ensures gives { Gives expr_tree result cursor.new (operand (below depth) cursor.old) }
     ensures within { length cursor.new ≤ length cursor.old }
 {
@@ -151,14 +151,19 @@ fn operand(alloc: Global, cursor: &mut Cursor<'_>, depth: u32) -> Result<Expr, P
         }
         OperandStart::Paren => paren(alloc, cursor, depth),
         OperandStart::Sign(op) => sign(alloc, cursor, op, depth),
-        OperandStart::Other => Err(ParseError::Syntax),
+        OperandStart::Other => Err(ProductionError::Syntax),
     }
 }
 
 /// `( "-" | "+" | "!" | "~" ) unary`, from its operator on.
 #[cycle(expressions)]
 #[tactic(auto, unfolding(os_parser_grammar::specs::Expressions::sign))]
-fn sign(alloc: Global, cursor: &mut Cursor<'_>, op: Unary, depth: u32) -> Result<Expr, ParseError>
+fn sign(
+    alloc: Global,
+    cursor: &mut Cursor<'_>,
+    op: Unary,
+    depth: u32,
+) -> Result<Expr, ProductionError>
     ensures gives { Gives expr_tree result cursor.new (sign op (below depth) cursor.old) }
     ensures within { length cursor.new ≤ length cursor.old }
 {
@@ -172,7 +177,7 @@ fn sign(alloc: Global, cursor: &mut Cursor<'_>, op: Unary, depth: u32) -> Result
 /// `"(" expr ")"`, from its `(` on.
 #[cycle(expressions)]
 #[tactic(auto, unfolding(os_parser_grammar::specs::Expressions::paren))]
-fn paren(alloc: Global, cursor: &mut Cursor<'_>, depth: u32) -> Result<Expr, ParseError>
+fn paren(alloc: Global, cursor: &mut Cursor<'_>, depth: u32) -> Result<Expr, ProductionError>
     ensures gives { Gives expr_tree result cursor.new (paren (below depth) cursor.old) }
     ensures within { length cursor.new ≤ length cursor.old }
 {
@@ -186,7 +191,12 @@ fn paren(alloc: Global, cursor: &mut Cursor<'_>, depth: u32) -> Result<Expr, Par
 /// `target | call`, from what follows its name on.
 #[cycle(expressions)]
 #[tactic(auto, using(crate::proofs::Trees::trees), unfolding(os_parser_grammar::specs::Expressions::named))]
-fn named(alloc: Global, cursor: &mut Cursor<'_>, name: Name, depth: u32) -> Result<Expr, ParseError>
+fn named(
+    alloc: Global,
+    cursor: &mut Cursor<'_>,
+    name: Name,
+    depth: u32,
+) -> Result<Expr, ProductionError>
     ensures gives { Gives expr_tree result cursor.new (named (below depth) name cursor.old) }
     ensures within { length cursor.new ≤ length cursor.old }
 {
@@ -206,7 +216,7 @@ pub fn target(
     cursor: &mut Cursor<'_>,
     name: Name,
     depth: u32,
-) -> Result<Target, ParseError>
+) -> Result<Target, ProductionError>
     ensures gives { Gives target_tree result cursor.new (target_of (below depth) name cursor.old) }
     ensures within { length cursor.new ≤ length cursor.old }
 {
@@ -223,7 +233,7 @@ pub fn target(
 /// `"[" expr "]"`, from its `[` on.
 #[cycle(expressions)]
 #[tactic(auto, unfolding(os_parser_grammar::specs::Expressions::index))]
-pub fn index(alloc: Global, cursor: &mut Cursor<'_>, depth: u32) -> Result<Index, ParseError>
+pub fn index(alloc: Global, cursor: &mut Cursor<'_>, depth: u32) -> Result<Index, ProductionError>
     ensures gives { Gives index_tree result cursor.new (index (below depth) cursor.old) }
     ensures within { length cursor.new ≤ length cursor.old }
 {
@@ -238,7 +248,11 @@ pub fn index(alloc: Global, cursor: &mut Cursor<'_>, depth: u32) -> Result<Index
 /// `"(" [ expr { "," expr } ] ")"`, what follows the name of a `call`.
 #[cycle(expressions)]
 #[tactic(auto, unfolding(os_parser_grammar::specs::Expressions::args))]
-pub fn args(alloc: Global, cursor: &mut Cursor<'_>, depth: u32) -> Result<List<Expr>, ParseError>
+pub fn args(
+    alloc: Global,
+    cursor: &mut Cursor<'_>,
+    depth: u32,
+) -> Result<List<Expr>, ProductionError>
     ensures gives { Gives args_tree result cursor.new (args (below depth) cursor.old) }
     ensures within { length cursor.new ≤ length cursor.old }
 {
@@ -256,7 +270,11 @@ pub fn args(alloc: Global, cursor: &mut Cursor<'_>, depth: u32) -> Result<List<E
 /// `expr { "," expr }`, the arguments of a `call`.
 #[cycle(expressions)]
 #[tactic(auto, using(os_parser_grammar::proofs::Chaining::listing), unfolding(os_parser_grammar::specs::Expressions::some_args))]
-fn some_args(alloc: Global, cursor: &mut Cursor<'_>, depth: u32) -> Result<List<Expr>, ParseError>
+fn some_args(
+    alloc: Global,
+    cursor: &mut Cursor<'_>,
+    depth: u32,
+) -> Result<List<Expr>, ProductionError>
     ensures gives { Gives args_tree result cursor.new (some_args (layer (below depth)) cursor.old) }
     ensures within { length cursor.new ≤ length cursor.old }
 {

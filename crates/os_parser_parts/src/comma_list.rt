@@ -7,7 +7,7 @@ ghost use Rattle.os_parser_grammar.specs.Statements.{list_of};
 
 use os_io::List;
 use os_lexer::{Kind, Punct};
-use os_parser_expressions::{Cursor, ParseError};
+use os_parser_expressions::{Cursor, ProductionError};
 use std::alloc::Global;
 
 /// A production that lists are made of, with what reading it takes beside the tokens.
@@ -24,7 +24,7 @@ pub trait Part {
     ghost reads: { Self → Reader Tree };
 
     /// Reads one.
-    fn read(&self, alloc: Global, cursor: &mut Cursor<'_>) -> Result<Self::Item, ParseError>
+    fn read(&self, alloc: Global, cursor: &mut Cursor<'_>) -> Result<Self::Item, ProductionError>
         ensures gives { Gives view result cursor.new (reads self.now cursor.old) }
         ensures within { length cursor.new ≤ length cursor.old };
 }
@@ -34,7 +34,7 @@ pub fn comma_list<P: Part>(
     alloc: Global,
     cursor: &mut Cursor<'_>,
     part: &P,
-) -> Result<List<P::Item>, ParseError>
+) -> Result<List<P::Item>, ProductionError>
     ensures gives { Gives (map P.view) result cursor.new (list_of (P.reads part.now) cursor.old) }
     ensures within { length cursor.new ≤ length cursor.old }
 {

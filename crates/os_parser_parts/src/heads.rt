@@ -9,12 +9,16 @@ ghost use Rattle.os_parser_grammar.specs.Statements.{condition, start, head_test
 use crate::parts::{change, head_declare};
 use os_ast::{Change, Expr, Head, Start};
 use os_lexer::{Key, Kind, Punct};
-use os_parser_expressions::{Cursor, ParseError, deeper, expr};
+use os_parser_expressions::{Cursor, ProductionError, deeper, expr};
 use std::alloc::Global;
 
 /// `"(" expr ")"`, behind `if` and `while`.
 #[tactic(auto, unfolding(os_parser_grammar::specs::Statements::condition))]
-pub fn condition(alloc: Global, cursor: &mut Cursor<'_>, depth: u32) -> Result<Expr, ParseError>
+pub fn condition(
+    alloc: Global,
+    cursor: &mut Cursor<'_>,
+    depth: u32,
+) -> Result<Expr, ProductionError>
     ensures gives { Gives expr_tree result cursor.new (condition (layer (below depth)) cursor.old) }
     ensures within { length cursor.new ≤ length cursor.old }
 {
@@ -26,7 +30,7 @@ pub fn condition(alloc: Global, cursor: &mut Cursor<'_>, depth: u32) -> Result<E
 
 /// `declare1 | [ change ] ";"`, behind `for` and its parenthesis.
 #[tactic(auto, unfolding(os_parser_grammar::specs::Statements::start))]
-fn start(alloc: Global, cursor: &mut Cursor<'_>, depth: u32) -> Result<Start, ParseError>
+fn start(alloc: Global, cursor: &mut Cursor<'_>, depth: u32) -> Result<Start, ProductionError>
     ensures gives { Gives start_tree result cursor.new (start (below depth) cursor.old) }
     ensures within { length cursor.new ≤ length cursor.old }
 {
@@ -45,7 +49,7 @@ fn start(alloc: Global, cursor: &mut Cursor<'_>, depth: u32) -> Result<Start, Pa
 
 /// `[ expr ] ";"`, in the middle of the head of a `for`.
 #[tactic(auto, unfolding(os_parser_grammar::specs::Statements::head_test))]
-fn test(alloc: Global, cursor: &mut Cursor<'_>, depth: u32) -> Result<Option<Expr>, ParseError>
+fn test(alloc: Global, cursor: &mut Cursor<'_>, depth: u32) -> Result<Option<Expr>, ProductionError>
     ensures gives { Gives (λ e. option_map expr_tree e) result cursor.new (head_test (layer (below depth)) cursor.old) }
     ensures within { length cursor.new ≤ length cursor.old }
 {
@@ -60,7 +64,11 @@ fn test(alloc: Global, cursor: &mut Cursor<'_>, depth: u32) -> Result<Option<Exp
 
 /// `[ change ] ")"`, at the end of the head of a `for`.
 #[tactic(auto, unfolding(os_parser_grammar::specs::Statements::step))]
-fn step(alloc: Global, cursor: &mut Cursor<'_>, depth: u32) -> Result<Option<Change>, ParseError>
+fn step(
+    alloc: Global,
+    cursor: &mut Cursor<'_>,
+    depth: u32,
+) -> Result<Option<Change>, ProductionError>
     ensures gives { Gives (λ c. option_map change_tree c) result cursor.new (step (below depth) cursor.old) }
     ensures within { length cursor.new ≤ length cursor.old }
 {
@@ -75,7 +83,7 @@ fn step(alloc: Global, cursor: &mut Cursor<'_>, depth: u32) -> Result<Option<Cha
 
 /// `"(" ( declare1 | [ change ] ";" ) [ expr ] ";" [ change ] ")"`, behind `for`.
 #[tactic(auto, unfolding(os_parser_grammar::specs::Statements::head))]
-pub fn head(alloc: Global, cursor: &mut Cursor<'_>, depth: u32) -> Result<Head, ParseError>
+pub fn head(alloc: Global, cursor: &mut Cursor<'_>, depth: u32) -> Result<Head, ProductionError>
     ensures gives { Gives head_tree result cursor.new (head (below depth) cursor.old) }
     ensures within { length cursor.new ≤ length cursor.old }
 {

@@ -15,13 +15,13 @@ use os_ast::{Assign, Call, Change, Declarator, Expr, Index, Mark, Name, Step, St
 use os_io::List;
 use os_lexer::names::STREAM;
 use os_lexer::{Key, Kind, Punct};
-use os_parser_expressions::{Cursor, ParseError, deeper, expr, index};
+use os_parser_expressions::{Cursor, ProductionError, deeper, expr, index};
 use os_parser_grammar::{ChangeSign, StmtStart};
 use std::alloc::Global;
 
 /// `name`
 #[tactic(auto, unfolding(os_parser_grammar::specs::Statements::name))]
-pub fn name(cursor: &mut Cursor<'_>) -> Result<Name, ParseError>
+pub fn name(cursor: &mut Cursor<'_>) -> Result<Name, ProductionError>
     ensures gives { Gives Same result cursor.new (name cursor.old) }
     ensures within { length cursor.new ≤ length cursor.old }
 {
@@ -31,7 +31,7 @@ pub fn name(cursor: &mut Cursor<'_>) -> Result<Name, ParseError>
             cursor.advance();
             Ok(Name { id, mark })
         }
-        None => Err(ParseError::Syntax),
+        None => Err(ProductionError::Syntax),
     }
 }
 
@@ -41,7 +41,7 @@ pub(crate) fn target(
     alloc: Global,
     cursor: &mut Cursor<'_>,
     depth: u32,
-) -> Result<Target, ParseError>
+) -> Result<Target, ProductionError>
     ensures gives { Gives target_tree result cursor.new (target (below depth) cursor.old) }
     ensures within { length cursor.new ≤ length cursor.old }
 {
@@ -55,7 +55,7 @@ pub(crate) fn size(
     alloc: Global,
     cursor: &mut Cursor<'_>,
     depth: u32,
-) -> Result<Option<Index>, ParseError>
+) -> Result<Option<Index>, ProductionError>
     ensures gives { Gives (λ i. option_map index_tree i) result cursor.new (size (below depth) cursor.old) }
     ensures within { length cursor.new ≤ length cursor.old }
 {
@@ -68,7 +68,11 @@ pub(crate) fn size(
 
 /// `[ "=" expr ]`, the first value of a scalar.
 #[tactic(auto, unfolding(os_parser_grammar::specs::Statements::value))]
-fn value(alloc: Global, cursor: &mut Cursor<'_>, depth: u32) -> Result<Option<Expr>, ParseError>
+fn value(
+    alloc: Global,
+    cursor: &mut Cursor<'_>,
+    depth: u32,
+) -> Result<Option<Expr>, ProductionError>
     ensures gives { Gives (λ e. option_map expr_tree e) result cursor.new (value (below depth) cursor.old) }
     ensures within { length cursor.new ≤ length cursor.old }
 {
@@ -83,7 +87,7 @@ fn value(alloc: Global, cursor: &mut Cursor<'_>, depth: u32) -> Result<Option<Ex
 
 /// `[ "__attribute__" "(" "(" "stream" ")" ")" ]`, and whether it is there.
 #[tactic(auto, unfolding(os_parser_grammar::specs::Statements::attribute))]
-fn attribute(cursor: &mut Cursor<'_>) -> Result<bool, ParseError>
+fn attribute(cursor: &mut Cursor<'_>) -> Result<bool, ProductionError>
     ensures gives { Gives Same result cursor.new (attribute cursor.old) }
     ensures within { length cursor.new ≤ length cursor.old }
 {
@@ -115,7 +119,7 @@ impl Part for DeclaratorPart {
     ghost reads = { λ part. declarator (below part.depth) };
 
     #[tactic(auto, unfolding(os_parser_grammar::specs::Statements::declarator))]
-    fn read(&self, alloc: Global, cursor: &mut Cursor<'_>) -> Result<Declarator, ParseError> {
+    fn read(&self, alloc: Global, cursor: &mut Cursor<'_>) -> Result<Declarator, ProductionError> {
         let name = name(cursor)?;
         let size = size(alloc, cursor, self.depth)?;
         let stream = attribute(cursor)?;
@@ -138,7 +142,7 @@ fn scalar(
     name: Name,
     stream: bool,
     depth: u32,
-) -> Result<Declarator, ParseError>
+) -> Result<Declarator, ProductionError>
     ensures gives { Gives declarator_tree result cursor.new (scalar (below depth) name stream cursor.old) }
     ensures within { length cursor.new ≤ length cursor.old }
 {
@@ -175,7 +179,7 @@ impl Part for HeadDeclaratorPart {
     ghost reads = { λ part. head_declarator (below part.depth) };
 
     #[tactic(auto, unfolding(os_parser_grammar::specs::Statements::head_declarator))]
-    fn read(&self, alloc: Global, cursor: &mut Cursor<'_>) -> Result<Declarator, ParseError> {
+    fn read(&self, alloc: Global, cursor: &mut Cursor<'_>) -> Result<Declarator, ProductionError> {
         let name = name(cursor)?;
         scalar(alloc, cursor, name, false, self.depth)
     }
@@ -188,7 +192,7 @@ fn change_of(
     cursor: &mut Cursor<'_>,
     target: Target,
     depth: u32,
-) -> Result<Change, ParseError>
+) -> Result<Change, ProductionError>
     ensures gives { Gives change_tree result cursor.new (change_of (below depth) (target_tree target) cursor.old) }
     ensures within { length cursor.new ≤ length cursor.old }
 {
@@ -205,7 +209,7 @@ fn change_of(
             cursor.advance();
             Ok(Change::After(target, step, mark))
         }
-        ChangeSign::Other => Err(ParseError::Syntax),
+        ChangeSign::Other => Err(ProductionError::Syntax),
     }
 }
 
@@ -216,7 +220,7 @@ pub fn before(
     cursor: &mut Cursor<'_>,
     step: Step,
     depth: u32,
-) -> Result<Change, ParseError>
+) -> Result<Change, ProductionError>
     ensures gives { Gives change_tree result cursor.new (before step (below depth) cursor.old) }
     ensures within { length cursor.new ≤ length cursor.old }
     ensures taken { OnOk result (length cursor.new ≤ length (after cursor.old)) }
@@ -233,7 +237,7 @@ pub fn declare(
     alloc: Global,
     cursor: &mut Cursor<'_>,
     depth: u32,
-) -> Result<List<Declarator>, ParseError>
+) -> Result<List<Declarator>, ProductionError>
     ensures gives { Gives (map declarator_tree) result cursor.new (declare (below depth) cursor.old) }
     ensures within { length cursor.new ≤ length cursor.old }
     ensures taken { OnOk result (length cursor.new ≤ length (after cursor.old)) }
@@ -250,7 +254,7 @@ pub(crate) fn head_declare(
     alloc: Global,
     cursor: &mut Cursor<'_>,
     depth: u32,
-) -> Result<List<Declarator>, ParseError>
+) -> Result<List<Declarator>, ProductionError>
     ensures gives { Gives (map declarator_tree) result cursor.new (head_declare (below depth) cursor.old) }
     ensures within { length cursor.new ≤ length cursor.old }
 {
@@ -266,7 +270,7 @@ pub(crate) fn change(
     alloc: Global,
     cursor: &mut Cursor<'_>,
     depth: u32,
-) -> Result<Change, ParseError>
+) -> Result<Change, ProductionError>
     ensures gives { Gives change_tree result cursor.new (change (below depth) cursor.old) }
     ensures within { length cursor.new ≤ length cursor.old }
 {
@@ -285,7 +289,7 @@ pub(crate) fn change(
         | StmtStart::Continue
         | StmtStart::Return
         | StmtStart::Pragma
-        | StmtStart::Other => Err(ParseError::Syntax),
+        | StmtStart::Other => Err(ProductionError::Syntax),
     }
 }
 
@@ -295,7 +299,7 @@ fn changed(
     cursor: &mut Cursor<'_>,
     target: Target,
     depth: u32,
-) -> Result<Stmt, ParseError>
+) -> Result<Stmt, ProductionError>
     ensures gives { Gives stmt_tree result cursor.new (ended (change_of (below depth) (target_tree target) cursor.old) tree.StmtTree.Change) }
     ensures within { length cursor.new ≤ length cursor.old }
 {
@@ -311,7 +315,7 @@ pub fn named_stmt(
     cursor: &mut Cursor<'_>,
     name: Name,
     depth: u32,
-) -> Result<Stmt, ParseError>
+) -> Result<Stmt, ProductionError>
     ensures gives { Gives stmt_tree result cursor.new (named_stmt (below depth) name cursor.old) }
     ensures within { length cursor.new ≤ length cursor.old }
 {
@@ -326,7 +330,11 @@ pub fn named_stmt(
 
 /// `"return" expr ";"`, from its `return` on.
 #[tactic(auto, unfolding(os_parser_grammar::specs::Statements::return_stmt))]
-pub fn return_stmt(alloc: Global, cursor: &mut Cursor<'_>, depth: u32) -> Result<Stmt, ParseError>
+pub fn return_stmt(
+    alloc: Global,
+    cursor: &mut Cursor<'_>,
+    depth: u32,
+) -> Result<Stmt, ProductionError>
     ensures gives { Gives stmt_tree result cursor.new (return_stmt (below depth) cursor.old) }
     ensures within { length cursor.new ≤ length cursor.old }
     ensures taken { OnOk result (length cursor.new ≤ length (after cursor.old)) }

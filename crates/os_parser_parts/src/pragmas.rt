@@ -15,12 +15,12 @@ use os_ast::{Clause, ClauseItem, ClauseKind, Join, Mark, Name, Stmt, Target, Tic
 use os_io::List;
 use os_lexer::names::{FIRSTPRIVATE, INPUT, OUTPUT};
 use os_lexer::{Kind, Punct};
-use os_parser_expressions::{Cursor, ParseError, deeper, expr};
+use os_parser_expressions::{Cursor, ProductionError, deeper, expr};
 use std::alloc::Global;
 
 /// `">>" name [ "[" expr "]" ]` of an `in`, or the same of an `out` with `"<<"`, from the arrow on.
 #[tactic(auto, unfolding(os_parser_grammar::specs::Statements::join))]
-fn join(alloc: Global, cursor: &mut Cursor<'_>, depth: u32) -> Result<Join, ParseError>
+fn join(alloc: Global, cursor: &mut Cursor<'_>, depth: u32) -> Result<Join, ProductionError>
     ensures gives { Gives join_tree result cursor.new (join (below depth) cursor.old) }
     ensures within { length cursor.new ≤ length cursor.old }
 {
@@ -32,12 +32,12 @@ fn join(alloc: Global, cursor: &mut Cursor<'_>, depth: u32) -> Result<Join, Pars
 }
 
 /// An `in` or `out` that is a `name` alone, from what was read as its `stream`.
-fn alone(cursor: &mut Cursor<'_>, stream: Target) -> Result<ClauseItem, ParseError>
+fn alone(cursor: &mut Cursor<'_>, stream: Target) -> Result<ClauseItem, ProductionError>
     ensures gives { Gives clause_item_tree result cursor.new (alone (target_tree stream) cursor.old) }
     ensures within { length cursor.new ≤ length cursor.old }
 {
     match stream.index {
-        Some(_) => Err(ParseError::Syntax),
+        Some(_) => Err(ProductionError::Syntax),
         None => Ok(ClauseItem {
             stream: Target {
                 name: stream.name,
@@ -65,7 +65,7 @@ impl Part for InOrOut {
     ghost reads = { λ part. clause_item part.arrow (below part.depth) };
 
     #[tactic(auto, unfolding(os_parser_grammar::specs::Statements::clause_item))]
-    fn read(&self, alloc: Global, cursor: &mut Cursor<'_>) -> Result<ClauseItem, ParseError> {
+    fn read(&self, alloc: Global, cursor: &mut Cursor<'_>) -> Result<ClauseItem, ProductionError> {
         let stream = target(alloc, cursor, self.depth)?;
         if !cursor.is_at(Kind::Punct(self.arrow)) {
             return alone(cursor, stream);
@@ -90,7 +90,7 @@ impl Part for Copied {
 
     ghost reads = { λ part. name };
 
-    fn read(&self, alloc: Global, cursor: &mut Cursor<'_>) -> Result<Name, ParseError> {
+    fn read(&self, alloc: Global, cursor: &mut Cursor<'_>) -> Result<Name, ProductionError> {
         name(cursor)
     }
 }
@@ -101,7 +101,7 @@ fn in_parens<P: Part>(
     alloc: Global,
     cursor: &mut Cursor<'_>,
     part: &P,
-) -> Result<List<P::Item>, ParseError>
+) -> Result<List<P::Item>, ProductionError>
     ensures gives { Gives (map P.view) result cursor.new (in_parens (P.reads part.now) cursor.old) }
     ensures within { length cursor.new ≤ length cursor.old }
 {
@@ -113,7 +113,11 @@ fn in_parens<P: Part>(
 
 /// `clause`: one of the words `"input"`, `"output"` and `"firstprivate"`, and what it lists.
 #[tactic(auto, using(os_parser_grammar::proofs::Lists::same), unfolding(os_parser_grammar::specs::Statements::clause_kind))]
-fn clause_kind(alloc: Global, cursor: &mut Cursor<'_>, depth: u32) -> Result<ClauseKind, ParseError>
+fn clause_kind(
+    alloc: Global,
+    cursor: &mut Cursor<'_>,
+    depth: u32,
+) -> Result<ClauseKind, ProductionError>
     ensures gives { Gives clause_kind_tree result cursor.new (clause_kind (below depth) cursor.old) }
     ensures within { length cursor.new ≤ length cursor.old }
     ensures taken { OnOk result (length cursor.new ≤ length (after cursor.old)) }
@@ -141,12 +145,16 @@ fn clause_kind(alloc: Global, cursor: &mut Cursor<'_>, depth: u32) -> Result<Cla
         let names = in_parens(alloc, cursor, &Copied)?;
         return Ok(ClauseKind::Firstprivate(names));
     }
-    Err(ParseError::Syntax)
+    Err(ProductionError::Syntax)
 }
 
 /// The first `clause` of a task, before which no comma stands.
 #[tactic(auto, unfolding(os_parser_grammar::specs::Statements::first_clause))]
-fn first_clause(alloc: Global, cursor: &mut Cursor<'_>, depth: u32) -> Result<Clause, ParseError>
+fn first_clause(
+    alloc: Global,
+    cursor: &mut Cursor<'_>,
+    depth: u32,
+) -> Result<Clause, ProductionError>
     ensures gives { Gives clause_tree result cursor.new (first_clause (below depth) cursor.old) }
     ensures within { length cursor.new ≤ length cursor.old }
 {
@@ -156,7 +164,7 @@ fn first_clause(alloc: Global, cursor: &mut Cursor<'_>, depth: u32) -> Result<Cl
 
 /// `[ "," ] clause`, a later one of a task.
 #[tactic(auto, using(os_parser_grammar::proofs::Tokens::lengths), unfolding(os_parser_grammar::specs::Statements::clause))]
-fn clause(alloc: Global, cursor: &mut Cursor<'_>, depth: u32) -> Result<Clause, ParseError>
+fn clause(alloc: Global, cursor: &mut Cursor<'_>, depth: u32) -> Result<Clause, ProductionError>
     ensures gives { Gives clause_tree result cursor.new (clause (below depth) cursor.old) }
     ensures within { length cursor.new ≤ length cursor.old }
     ensures taken { OnOk result (length cursor.new ≤ length (after cursor.old)) }
@@ -175,7 +183,7 @@ fn some_clauses(
     alloc: Global,
     cursor: &mut Cursor<'_>,
     depth: u32,
-) -> Result<List<Clause>, ParseError>
+) -> Result<List<Clause>, ProductionError>
     ensures gives { Gives (map clause_tree) result cursor.new (some_clauses (below depth) cursor.old) }
     ensures within { length cursor.new ≤ length cursor.old }
 {
@@ -193,7 +201,7 @@ pub fn clauses(
     alloc: Global,
     cursor: &mut Cursor<'_>,
     depth: u32,
-) -> Result<List<Clause>, ParseError>
+) -> Result<List<Clause>, ProductionError>
     ensures gives { Gives (map clause_tree) result cursor.new (clauses (below depth) cursor.old) }
     ensures within { length cursor.new ≤ length cursor.old }
 {
@@ -210,7 +218,7 @@ fn ticked(
     cursor: &mut Cursor<'_>,
     mark: Mark,
     depth: u32,
-) -> Result<TickSite, ParseError>
+) -> Result<TickSite, ProductionError>
     ensures gives { Gives tick_tree result cursor.new (ticked mark (below depth) cursor.old) }
     ensures within { length cursor.new ≤ length cursor.old }
 {
@@ -236,7 +244,7 @@ pub fn tick(
     cursor: &mut Cursor<'_>,
     mark: Mark,
     depth: u32,
-) -> Result<Stmt, ParseError>
+) -> Result<Stmt, ProductionError>
     ensures gives { Gives stmt_tree result cursor.new (tick mark (below depth) cursor.old) }
     ensures within { length cursor.new ≤ length cursor.old }
 {
@@ -248,7 +256,7 @@ pub fn tick(
 
 /// `"taskwait" PragmaEnd`, from what follows its word.
 #[tactic(auto, unfolding(os_parser_grammar::specs::Statements::taskwait))]
-pub fn taskwait(cursor: &mut Cursor<'_>, mark: Mark) -> Result<Stmt, ParseError>
+pub fn taskwait(cursor: &mut Cursor<'_>, mark: Mark) -> Result<Stmt, ProductionError>
     ensures gives { Gives stmt_tree result cursor.new (taskwait mark cursor.old) }
     ensures within { length cursor.new ≤ length cursor.old }
 {

@@ -1,6 +1,8 @@
 //! What could stand at a place of a text. No grammar stands here: each token is asked for of the reader of programs.
 
-ghost use Rattle.std.specs.Prelude.{◌+◌, ◌≤◌, length};
+ghost use Rattle.std.specs.Prelude.{◌+◌, ◌≤◌, IsTrue, IfOk, length};
+ghost use Rattle.os_ast.specs.Means.{Means};
+ghost use Rattle.os_ast.specs.Trees.{ProgramTree};
 ghost use Rattle.os_lexer.specs.Limits.{text_limit};
 
 use crate::word::{Word, word_of};
@@ -61,7 +63,7 @@ fn tokens_of(alloc: Global, text: &str) -> Result<Vec<Token>, Memory> {
 }
 
 /// Whether some program begins with the tokens and one more.
-fn goes_on(alloc: Global, front: &[Token], token: Token) -> Result<bool, Memory>
+pub(crate) fn goes_on(alloc: Global, front: &[Token], token: Token) -> Result<bool, Memory>
     requires { length front.now + 1 ≤ text_limit }
 {
     let mut tokens = Vec::from_slice(alloc, front)?;
@@ -112,8 +114,9 @@ fn candidates(alloc: Global, front: &[Token]) -> Result<Vec<Token>, Memory>
 }
 
 /// Whether the tokens mean a program, so that the text could end.
-fn is_whole(alloc: Global, tokens: &[Token]) -> Result<bool, Memory>
+pub(crate) fn is_whole(alloc: Global, tokens: &[Token]) -> Result<bool, Memory>
     requires { length tokens.now ≤ text_limit }
+    ensures { IfOk result (λ whole. IsTrue whole → (p : ProgramTree) × Means tokens.now p) }
 {
     match parse(alloc, tokens) {
         Ok(_) => Ok(true),

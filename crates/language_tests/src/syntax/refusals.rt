@@ -494,7 +494,11 @@ fn a_wrong_token_is_refused(rt: HostRuntime) -> Result<(), Fail> {
 
 /// One function with each production of statements and expressions.
 const WHOLE: &str =
-    "int f(int a, int b) {\n int c = 1, d[2], s[3] __attribute__((stream)), t __attribute__((stream));\n { d[a] = c; c <<= 2; c++; --d[1]; g(a, d[0]); }\n if (a) while (b) if (c) ; else break; else continue;\n for (int i = 0, j; i < 2; i++) for (c = 1; ; d[1] -= 1) ;\n#pragma omp task input(s[1] >> w[2], t), output(t << w) firstprivate(a, c)\n#pragma omp tick(s[0] >> a ? b : c)\n#pragma omp taskwait\n return a || -b * (c + 1) ? g() : d[2]; }";
+    "int f(int a, int b) {\n int c = 1, d[2], s[3] __attribute__((stream)), t __attribute__((stream));\n \
+     { d[a] = c; c <<= 2; c++; --d[1]; g(a, d[0]); }\n if (a) while (b) if (c) ; else break; else continue;\n \
+     for (int i = 0, j; i < 2; i++) for (c = 1; ; d[1] -= 1) ;\n\
+     #pragma omp task input(s[1] >> w[2], t), output(t << w) firstprivate(a, c)\n\
+     #pragma omp tick(s[0] >> a ? b : c)\n#pragma omp taskwait\n return a || -b * (c + 1) ? g() : d[2]; }";
 
 /// Each token of a function is awaited: where the list ends before the last one, it is refused at its end.
 #[test]

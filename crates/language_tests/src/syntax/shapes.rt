@@ -89,11 +89,13 @@ static EXPRESSIONS: [Case; 40] = [
     ),
     (
         "a || b && c | d ^ e & g == h < i << j + k * l",
-        "(Or a Or (And b And (BitOr c BitOr (BitXor d BitXor (BitAnd e BitAnd (Equal g Equal (Order h Less (Shift i ShiftLeft (Sum j Add (Product k Multiply l))))))))))",
+        "(Or a Or (And b And (BitOr c BitOr (BitXor d BitXor (BitAnd e BitAnd (Equal g Equal (Order h Less (Shift i ShiftLeft (Sum j Add \
+         (Product k Multiply l))))))))))",
     ),
     (
         "l % k - j >> i >= h != g & e ^ d | c && b || a",
-        "(Or (And (BitOr (BitXor (BitAnd (Equal (Order (Shift (Sum (Product l Remainder k) Subtract j) ShiftRight i) GreaterEqual h) Unequal g) BitAnd e) BitXor d) BitOr c) And b) Or a)",
+        "(Or (And (BitOr (BitXor (BitAnd (Equal (Order (Shift (Sum (Product l Remainder k) Subtract j) ShiftRight i) GreaterEqual h) \
+         Unequal g) BitAnd e) BitXor d) BitOr c) And b) Or a)",
     ),
     // choices
     ("a ? b : c", "(choice a b c)"),

@@ -6,7 +6,7 @@ use Rattle.os_lexer.specs.declared.token.Token.{Token}
 use Rattle.os_parser_grammar.specs.Reading.{fails}
 use Rattle.os_parser_grammar.specs.Statements.{inner, program}
 use Rattle.os_parser_expressions.specs.Gives.{Refuses}
-use Rattle.os_parser_expressions.specs.declared.parse_error.ParseError.TheVariants as errors
+use Rattle.os_parser_expressions.specs.declared.production_error.ProductionError.TheVariants as errors
 use Rattle.os_parser_grammar.proofs.Programs.{whole, never}
 use Rattle.os_parser_places.proofs.PlaceOfRefusal.{place, rest-within}
 use Rattle.os_parser.proofs.reading.parse.Goals as goal

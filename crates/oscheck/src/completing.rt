@@ -1,0 +1,69 @@
+//! What is written of a text where a program is asked for that begins as it does.
+
+ghost use Rattle.std.specs.Prelude.{◌≤◌, length};
+ghost use Rattle.os_lexer.specs.Limits.{text_limit};
+
+use crate::completion::completion;
+use crate::judging::{Judged, tell_no_memory, tell_rule};
+use crate::sentences::NO_PROGRAM;
+use front_end::{TEXT_LIMIT, TextError, read_program};
+use os_io::Memory;
+use std::alloc::Global;
+use std::io;
+
+/// Writes the completion of a text that is no program.
+fn write_completion(
+    out: &mut impl io::Write,
+    told: &mut impl io::Write,
+    alloc: Global,
+    name: &str,
+    text: &[u8],
+) -> io::Result<Judged>
+    requires { length text.now ≤ text_limit }
+{
+    match completion(alloc, text) {
+        Ok(Some(whole)) => write_text(out, &whole),
+        Ok(None) => tell_no_completion(told, name),
+        Err(Memory) => tell_no_memory(told, name),
+    }
+}
+
+/// Tells that no completion was found.
+fn tell_no_completion(told: &mut impl io::Write, name: &str) -> io::Result<Judged> {
+    writeln!(
+        told,
+        "{name}: found no program of at most {TEXT_LIMIT} bytes that begins so"
+    )?;
+    Ok(Judged::Refused)
+}
+
+/// Writes a text that is a program.
+fn write_text(out: &mut impl io::Write, text: &[u8]) -> io::Result<Judged> {
+    out.write_all(text)?;
+    Ok(Judged::Accepted)
+}
+
+/// Writes a program that begins as a text does, or tells why there is none: the text itself where its tokens mean one.
+pub(crate) fn complete_text(
+    out: &mut impl io::Write,
+    told: &mut impl io::Write,
+    alloc: Global,
+    name: &str,
+    text: &[u8],
+) -> io::Result<Judged>
+    requires { length text.now ≤ text_limit }
+{
+    match read_program(alloc, text) {
+        Err(TextError::Refused { code, line }) if code < NO_PROGRAM => tell_rule(
+            told, name, code, line,
+        ),
+        Err(
+            TextError::Refused {
+                code: NO_PROGRAM,
+                ..
+            },
+        ) => write_completion(out, told, alloc, name, text),
+        Err(TextError::Memory) => tell_no_memory(told, name),
+        _ => write_text(out, text),
+    }
+}
