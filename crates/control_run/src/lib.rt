@@ -16,5 +16,8 @@ mod made;
 mod numbers;
 mod running;
 mod spawning;
+mod stage;
+mod stretches;
 
 pub use control::run_control;
+pub use stretches::ControlRun;
