@@ -17,7 +17,7 @@ pub(crate) struct Machine {
 }
 
 impl Machine {
-    ghost use Rattle.std.specs.Prelude.{◌+◌, ◌≤◌, IfOk};
+    ghost use Rattle.std.specs.Prelude.{◌≡◌, ◌+◌, ◌≤◌, IfOk};
     ghost use Rattle.os_code.specs.Codes.{parts_of};
     ghost use Rattle.control_run.specs.Ending.{HasCome, HasGiven, IsMainUnit, StopsAs, contents};
 
