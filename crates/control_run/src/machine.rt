@@ -75,6 +75,7 @@ impl Machine {
         requires some { 1 ≤ at_most }
         requires stands { HasCome (parts_of code.now) input_len budget (contents self.old) }
         ensures gives { HasGiven (parts_of code.now) input_len budget self.old.made.created self.new.made.created into.old into.new }
+        ensures at_most { self.new.made.created ≤ self.old.made.created + at_most }
         ensures stops { IfOk result (StopsAs (parts_of code.now) input_len budget (self.old.made.created + at_most) (contents self.new)) }
     {
         run(

@@ -73,7 +73,7 @@ impl<'c> ControlRun<'c> {
         ensures list { IfOk result (λ _. into.new ≡ into.old ++ take at_most (remaining self.old)) }
         ensures answer { IfOk result (λ ended. ended ≡ nat_lt (length (remaining self.old)) at_most) }
         ensures run { IfOk result (λ _. self.new ≡ advanced self.old at_most) }
-        ensures some_of_them { OnErr result (IsPartOfStretch self.old self.new into.old into.new) }
+        ensures some_of_them { OnErr result (IsPartOfStretch self.old at_most self.new into.old into.new) }
         // what was given so far and in this call is what is given now, and all of them where the run has ended
         ensures joined { IfOk result (λ _. given_by self.new ≡ given_by self.old ++ take at_most (remaining self.old)) }
         ensures all { IfOk result (λ ended. IsTrue ended → given_by self.new ≡ (whole self.new).activations) }

@@ -33,11 +33,11 @@ returns-in-GivenUp-clause-lawful c =
 pub returns-in_err-end-clause-some_of_them : goal.returns-in_err-end-clause-some_of_them
 returns-in_err-end-clause-some_of_them c =
     on-err c.from_residual.result _
-    (subst (λ (run : RunSoFar). IsPartOfStretch run
+    (subst (λ (run : RunSoFar). IsPartOfStretch run c.args.at_most
     (record { code = parts_of c.self.inside.code.now; input_len = c.self.inside.input_len; budget = c.self.inside.budget; given = c.go_on.new.self.made.created; has_ended = false })
     c.args.into.now c.go_on.new.into) c.self.view_is
-    (part-of-stretch (parts_of c.self.inside.code.now) c.self.inside.input_len c.self.inside.budget _ _ _ _ (has_ended c.self.inside.stage)
-    (ap has_ended c.in-Standing.is) c.in_err-end.ensures.gives))
+    (part-of-stretch (parts_of c.self.inside.code.now) c.self.inside.input_len c.self.inside.budget c.args.at_most _ _ _ _ (has_ended c.self.inside.stage)
+    (ap has_ended c.in-Standing.is) c.in_err-end.ensures.at_most c.in_err-end.ensures.gives))
 
 pub returns-in_err-end-clause-fit : goal.returns-in_err-end-clause-fit
 returns-in_err-end-clause-fit c = (part-taken c.self.inside.code.now _ _ _ c.self.invariant.low).fit
