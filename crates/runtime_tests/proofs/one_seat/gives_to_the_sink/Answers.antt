@@ -1,8 +1,6 @@
-use Rattle.std.proofs.Common.{rules, ◌≡◌, pos, true, [], ◌∷◌, Some, refl, sym, ap, ◌∙◌}
-use Rattle.flow_core_laws.specs.declared.plan.Piece.{Piece}
+use Rattle.std.proofs.Common.{rules, ◌≡◌, pos, [], ◌∷◌, refl, ap, ◌∙◌}
 use Rattle.flow_core_laws.specs.declared.task_end.TaskEnd.TheVariants.{Done}
 use Rattle.flow_core_laws.specs.Outcome.{outcome_of}
-use Rattle.flow_core_concurrent.specs.Tables.{at}
 use Rattle.flow_core_concurrent.specs.declared.view.View.{View}
 use Rattle.frame_table.specs.Plays.{finished}
 use Rattle.frame_table.specs.Tokens.{view_of}
