@@ -19,7 +19,11 @@ mod lists;
 #[cfg(test)]
 mod literals;
 #[cfg(test)]
+mod one_seat;
+#[cfg(test)]
 mod one_thread;
+#[cfg(test)]
+mod plans;
 #[cfg(test)]
 mod reports;
 #[cfg(test)]

@@ -1,12 +1,12 @@
 //! Plans that were written by hand, run on one thread.
 
-ghost use Rattle.std.specs.Prelude.{◌≡◌, ◌+◌, ◌<◌, ◌==◌, [], ◌∷◌, ℕ, pos, false, IsTrue, IfOk, ⊤, if◌then◌else◌, length, slice_index_or};
+ghost use Rattle.std.specs.Prelude.{◌≡◌, ◌+◌, ◌<◌, ◌==◌, [], ◌∷◌, ℕ, pos, false, IsTrue, ⊤, if◌then◌else◌, length, slice_index_or};
 ghost use Rattle.flow_core_laws.specs.declared.task_end.TaskEnd.TheVariants.{Done};
 ghost use Rattle.flow_core_laws.specs.Outcome.{outcome_of};
 
-use crate::lists::list_of;
 use crate::literals::{frame, piece};
-use flow_core::{Bodies, FramePlan, Piece, Plan, TaskEnd, execute_one};
+use crate::plans::plan_of;
+use flow_core::{Bodies, TaskEnd, execute_one};
 use os_io::Memory;
 use std::alloc::Global;
 use std::test::Fail;
@@ -57,24 +57,6 @@ const GIVE: Rule = Rule {
     end: TaskEnd::Done,
     copies: false,
 };
-
-fn plan_of(
-    alloc: Global,
-    frames: &[FramePlan],
-    sink: FramePlan,
-    pieces: &[Piece],
-    filled: &[Option<i32>],
-) -> Result<Plan, Memory>
-    ensures { IfOk result (λ p. p
-        ≡ record { frames = frames.now; sink = sink; pieces = pieces.now; filled = filled.now }) }
-{
-    Ok(Plan {
-        frames: list_of(alloc, frames)?,
-        sink,
-        pieces: list_of(alloc, pieces)?,
-        filled: list_of(alloc, filled)?,
-    })
-}
 
 /// Two windows over one input share its middle elements; each copies them to the sink.
 #[test]

@@ -1,6 +1,6 @@
 //! Runs of plans on several workers, round by round and at once: the same ends and output elements as on
 //! one thread, and those that a count by hand gives.
-ghost use Rattle.std.specs.Prelude.{◌≤◌};
+ghost use Rattle.std.specs.Prelude.{◌≤◌, length};
 ghost use Rattle.flow_core_laws.specs.IsSound.{IsSound};
 
 mod lasts;
@@ -32,6 +32,8 @@ enum Shape {
     Layers,
     /// Each reads an element of the input.
     Single,
+    /// Each reads four elements of the input, and writes four.
+    Blocks,
 }
 
 /// A run with what a count by hand gives: how many activations end so, and elements of the output.
@@ -266,28 +268,28 @@ impl Gate for Meeting {
     }
 }
 
-/// Activations that are all open from the start.
+/// Activations that are all open from the start, as kernel `invert` makes them over eight bytes and over 32.
 const MEETINGS: [Case<'static>; 2] = [
     Case {
-        shape: Shape::Single,
+        shape: Shape::Blocks,
         activations: 2,
         input: 8,
         some_fail: false,
         done: 2,
         trapped: 0,
         over_budget: 0,
-        output: 2,
+        output: 8,
         elements: &[],
     },
     Case {
-        shape: Shape::Single,
+        shape: Shape::Blocks,
         activations: 8,
-        input: 8,
+        input: 32,
         some_fail: false,
         done: 8,
         trapped: 0,
         over_budget: 0,
-        output: 8,
+        output: 32,
         elements: &[],
     },
 ];
@@ -295,8 +297,9 @@ const MEETINGS: [Case<'static>; 2] = [
 /// Workers run at the same time: each frame is held until all of them were entered.
 #[test]
 fn runs_as_many_frames_at_once_as_workers(rt: HostRuntime) -> Result<(), Fail> {
-    meets_in(&rt, rt.alloc(), &MEETINGS[0], 2)?;
-    meets_in(&rt, rt.alloc(), &MEETINGS[1], 8)
+    let bytes = [0x00, 0x01, 0x02, 0x03, 0xfc, 0xfd, 0xfe, 0xff];
+    meets_in(&rt, rt.alloc(), &MEETINGS[0], &bytes, 2)?;
+    meets_in(&rt, rt.alloc(), &MEETINGS[1], &[0; 32], 8)
 }
 
 /// Whether all activations of a case were entered before any of them ran.
@@ -304,15 +307,17 @@ fn meets_in<R: Threads + Abort + Sync>(
     rt: &R,
     alloc: Global,
     case: &Case<'_>,
+    input: &[u8],
     workers: u32,
 ) -> Result<(), Fail>
-    requires { (1 ≤ workers) × (workers ≤ 64) }
+    requires input { length input.now ≤ 32 }
+    requires workers { (1 ≤ workers) × (workers ≤ 64) }
 {
     let activations = activations_of(alloc, case)?;
-    let Some(layout) = lawful_layout(alloc, 4, 8, activations.as_slice())? else {
+    let Some(layout) = lawful_layout(alloc, 4, input.len() as u32, activations.as_slice())? else {
         return Err(Fail::from("the activations aren't lawful"));
     };
-    let plan = build(alloc, &layout, &[0; 8])?;
+    let plan = build(alloc, &layout, input)?;
     meets(rt, alloc, &plan, workers)
 }
 
@@ -387,12 +392,13 @@ fn read_by(shape: Shape, number: u32, last: u32) -> Claim {
         Shape::Fan => read(2, 1, 0),
         Shape::Cycle if number == 0 => read(2, 1, 1),
         Shape::Cycle if number == 1 => read(3, 1, 1),
+        Shape::Blocks => read(0, 4, 4),
         Shape::Layers if number > last / 2 => read(2, 1, 1),
         _ => read(0, 1, 1),
     }
 }
 
-/// What an activation writes: one element of a stream.
+/// What an activation writes: one element of a stream, or a block of four.
 fn written_by(shape: Shape, number: u32, last: u32) -> Claim {
     let stream = match shape {
         Shape::Chain if number < last => 2,
@@ -403,11 +409,15 @@ fn written_by(shape: Shape, number: u32, last: u32) -> Claim {
         Shape::Layers if number <= last / 2 => 2,
         _ => 1,
     };
+    let horizon = match shape {
+        Shape::Blocks => 4,
+        _ => 1,
+    };
     Claim {
         stream,
         write: true,
-        horizon: 1,
-        burst: 1,
+        horizon,
+        burst: horizon,
         skip: 0,
     }
 }

@@ -1,0 +1,2 @@
+-- The seat of a table that tests step on.
+pub mod SeatSteps
