@@ -1,4 +1,4 @@
-ghost use Rattle.std.specs.Prelude.{◌≡◌, ◌<◌, ◌≤◌, ◌+◌, None, OnOk, IfOk, All, length, sum_by, count_by, is_none, map, drop};
+ghost use Rattle.std.specs.Prelude.{◌≡◌, ◌<◌, ◌≤◌, ◌+◌, ◌/◌, max, None, OnOk, IfOk, All, length, sum_by, count_by, is_none, map, drop};
 ghost use Rattle.flow_core_laws.specs.Outcome.{State, ends_of};
 ghost use Rattle.flow_core_laws.specs.Plans.{plan_meaning, sink_elements};
 ghost use Rattle.flow_core_laws.specs.IsSound.{IsSound};
@@ -22,7 +22,9 @@ const THREADS_ON_TRIAL: usize = 256;
 /// others one for each frame, as long as there are threads left to try.
 fn workers_for(frames: usize, workers: usize, on_trial: &mut usize) -> usize
     requires { (1 ≤ frames) × (1 ≤ workers) }
-    ensures { (1 ≤ result) × (result ≤ workers) }
+    ensures some { (1 ≤ result) × (result ≤ workers) }
+    ensures worth { result ≤ frames }
+    ensures few { result + on_trial.new ≤ max 1 (frames / FRAMES_A_THREAD) + on_trial.old }
 {
     let sure = (frames / FRAMES_A_THREAD).clamp(1, workers);
     let tried = (frames.min(workers) - sure).min(*on_trial);

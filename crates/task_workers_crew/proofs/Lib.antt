@@ -2,3 +2,5 @@ pub mod Gathered
 pub mod Joining
 pub mod Lent
 pub mod Spreading
+pub mod Dealing
+pub mod Hired

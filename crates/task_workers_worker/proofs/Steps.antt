@@ -8,7 +8,8 @@ use Rattle.flow_core_concurrent.specs.States.{times, knows}
 use Rattle.flow_core_concurrent.specs.Steps.{with_claim, with_miss, with_sub, lost_with}
 use Rattle.frame_table.specs.Plays.{claimed, looked, subbed}
 use Rattle.frame_table.specs.Seats.{at}
-use Rattle.task_workers_worker.specs.Worked.{Begins, Claimed, Idled, Gave, below}
+use Rattle.task_workers_worker.specs.Worked.{Begins, below}
+use Rattle.task_workers_worker.specs.Turns.{Claimed, Idled, Gave}
 use Rattle.std.specs.Prelude.{slice_get}
 
 pub begins_same : (xs : List ℕ) → Begins xs xs

@@ -3,7 +3,8 @@ use Rattle.std.proofs.Common.{◌≡◌, ℕ, ◌+◌, ◌*◌, ◌≤◌, List,
 use Rattle.flow_core_concurrent.specs.declared.known.Known.{Known}
 use Rattle.flow_core_concurrent.specs.declared.view.View.{View}
 use Rattle.frame_table.specs.Plays.{finished}
-use Rattle.task_workers_worker.specs.Worked.{Begins, below, Claimed, Idled, Gave, Worked}
+use Rattle.task_workers_worker.specs.Worked.{Begins, below, Worked}
+use Rattle.task_workers_worker.specs.Turns.{Claimed, Idled, Gave}
 use Rattle.task_workers_worker.specs.Left.{left_of}
 use Rattle.task_workers_worker.proofs.Counts.{left_less}
 use Rattle.task_workers_worker.proofs.Steps.{begins_same, begins_on}

@@ -2,5 +2,6 @@
 pub mod Ready
 pub mod Worked
 pub mod Logs
--- What restates private functions.
 pub mod Left
+-- What restates private functions.
+pub mod Turns

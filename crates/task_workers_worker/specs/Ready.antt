@@ -1,5 +1,5 @@
 -- What a worker needs.
-use Rattle.std.specs.Prelude.{◌≡◌, ℕ, ◌+◌, ◌-◌, ◌*◌, ◌<◌, ◌≤◌, ◌^◌, None, length}
+use Rattle.std.specs.Prelude.{◌≡◌, ℕ, ◌<◌, ◌≤◌, ◌^◌, None, length}
 use Rattle.frame_table.specs.declared.seat.FrameSeat.{FrameSeat}
 use Rattle.frame_table.specs.declared.table.FrameTable.{FrameTable}
 use Rattle.frame_table.specs.Tokens.{IsSeatOf, view_of, known_of}
@@ -30,7 +30,3 @@ pub record MayWork (table : FrameTable) (seat : FrameSeat) (hand : Hand) (log : 
   pub has_looks : (view_of seat).looks < 2 ^ 63
   pub hand_serves : HandServes table seat hand
   pub log_serves : LogServes table seat log
-
--- how much is left to do before a worker comes to so many looks
-abbrev pub to_do : FrameTable → ℕ → FrameSeat → ℕ
-to_do table most seat = left_of (frames_of table) (view_of seat).ran * (most + 1) + (most - (view_of seat).looks)

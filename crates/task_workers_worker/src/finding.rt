@@ -4,7 +4,7 @@ ghost use Rattle.os_io.specs.Counts.{raised};
 ghost use Rattle.frame_table.specs.Tokens.{IsSeatOf, view_of, known_of};
 ghost use Rattle.steal_pool.specs.Hands.{pushed_by, bound_of, spare_of, asks_of};
 ghost use Rattle.task_workers_worker.specs.Ready.{frames_of};
-ghost use Rattle.task_workers_worker.specs.Worked.{Claimed, Idled};
+ghost use Rattle.task_workers_worker.specs.Turns.{Claimed, Idled};
 
 use frame_table::{FrameSeat, FrameTable};
 use steal_pool::{Hand, Look};

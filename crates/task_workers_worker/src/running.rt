@@ -12,7 +12,7 @@ ghost use Rattle.frame_table.specs.Tokens.{IsSeatOf, view_of, known_of};
 ghost use Rattle.steal_pool.specs.Hands.{pushed_by, asks_of};
 ghost use Rattle.task_workers_worker.specs.Ready.{frames_of, HandServes};
 ghost use Rattle.task_workers_worker.specs.Logs.{holds_up_to};
-ghost use Rattle.task_workers_worker.specs.Worked.{Gave};
+ghost use Rattle.task_workers_worker.specs.Turns.{Gave};
 
 use crate::log::WorkLog;
 use crate::windows::fill;

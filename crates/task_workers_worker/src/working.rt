@@ -5,7 +5,8 @@ ghost use Rattle.flow_core_laws.specs.Plans.{plan_meaning};
 ghost use Rattle.flow_core_laws.specs.Serves.{Serves};
 ghost use Rattle.frame_table.specs.Tokens.{view_of, known_of};
 ghost use Rattle.steal_pool.specs.Hands.{pushed_by, asks_of};
-ghost use Rattle.task_workers_worker.specs.Ready.{frames_of, MayWork, to_do};
+ghost use Rattle.task_workers_worker.specs.Ready.{frames_of, MayWork};
+ghost use Rattle.task_workers_worker.specs.Turns.{to_do};
 ghost use Rattle.task_workers_worker.specs.Worked.{Worked};
 
 use crate::finding::find;

@@ -1,6 +1,6 @@
-use Rattle.std.proofs.Common.{◌≡◌, ◌<◌, All, length}
-use Rattle.task_workers_crew.specs.Crew.{TakesFrom}
+use Rattle.std.proofs.Common.{◌≡◌, length}
+use Rattle.task_workers_crew.specs.Dealing.{AreDealtBelow}
 use Rattle.task_workers_crew.proofs.hiring.spread.Given as goal
 
 abbrev pub invariant-loop-frame : goal.invariant-loop-frame
-invariant-loop-frame l = (l.to < length l.hands) × (length l.hands ≡ length l.fn.hands) × All (λ h. TakesFrom l.plan l.frame h) l.hands
+invariant-loop-frame l = AreDealtBelow l.plan l.frame l.turn l.hands × (length l.hands ≡ length l.fn.hands)

@@ -1,6 +1,6 @@
 use Rattle.std.proofs.Common.{◌≡◌, ◌+◌}
 use Rattle.frame_table.specs.Tokens.{IsSeatOf, view_of}
-use Rattle.task_workers_worker.specs.Worked.{Idled}
+use Rattle.task_workers_worker.specs.Turns.{Idled}
 use Rattle.task_workers_worker.proofs.finding.search.Given as goal
 
 abbrev pub invariant-loop : goal.invariant-loop

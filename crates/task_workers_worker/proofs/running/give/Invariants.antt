@@ -4,7 +4,7 @@ use Rattle.frame_table.specs.Seats.{at}
 use Rattle.frame_table.specs.Tokens.{IsSeatOf, view_of, known_of}
 use Rattle.steal_pool.specs.Hands.{pushed_by, asks_of}
 use Rattle.task_workers_worker.specs.Ready.{frames_of, HandServes}
-use Rattle.task_workers_worker.specs.Worked.{Gave}
+use Rattle.task_workers_worker.specs.Turns.{Gave}
 use Rattle.task_workers_worker.proofs.running.give.Given as goal
 
 abbrev pub invariant-loop-piece : goal.invariant-loop-piece

@@ -3,7 +3,7 @@ use Rattle.frame_table.specs.Tokens.{view_of, known_of}
 use Rattle.steal_pool.specs.Hands.{pushed_by}
 use Rattle.task_workers_worker.proofs.Counts.{smaller}
 use Rattle.task_workers_worker.specs.Ready.{frames_of}
-use Rattle.task_workers_worker.specs.Worked.{Idled}
+use Rattle.task_workers_worker.specs.Turns.{Idled}
 use Rattle.task_workers_worker.proofs.Turns.{worked_idled, worked_ran, ran_less}
 use Rattle.task_workers_worker.proofs.Unmade.{left_some}
 use Rattle.task_workers_worker.proofs.working.turn.Goals as goal

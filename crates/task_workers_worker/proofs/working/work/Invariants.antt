@@ -2,7 +2,8 @@ use Rattle.std.proofs.Common.{◌≡◌, ◌*◌, ◌≤◌, ℕ}
 use Rattle.os_io.specs.Counts.{raised}
 use Rattle.frame_table.specs.Tokens.{view_of}
 use Rattle.steal_pool.specs.Hands.{pushed_by, asks_of}
-use Rattle.task_workers_worker.specs.Ready.{frames_of, MayWork, to_do}
+use Rattle.task_workers_worker.specs.Ready.{frames_of, MayWork}
+use Rattle.task_workers_worker.specs.Turns.{to_do}
 use Rattle.task_workers_worker.specs.Worked.{Worked}
 use Rattle.task_workers_worker.proofs.working.work.Given as goal
 
