@@ -1,7 +1,8 @@
 //! Layouts, plans and runs of activations, and what is told of them.
 //!
 //! There is nothing here but tests. Layouts, plans and reports are compared with those that were found by hand, runs on
-//! several workers with a run on one thread, and runs with what a count by hand gives.
+//! several workers with a run on one thread, and runs with what a count by hand gives. A seat of a table is stepped on
+//! call by call, along states that were written down by hand.
 #![tactic(auto)]
 
 #[cfg(test)]
