@@ -1,2 +1,3 @@
 -- Bodies that tests of runs have.
 pub mod Lasts
+pub mod Told
