@@ -2,3 +2,5 @@
 pub mod Lasts
 -- The seat of a table that tests step on.
 pub mod OneSeat
+-- What a hand is told by the lines that it asks.
+pub mod Told

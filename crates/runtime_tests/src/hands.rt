@@ -1,5 +1,7 @@
-//! Two hands on one thread: each is given what the other one pushed, or what it pushed itself.
+//! Hands on one thread: what each is given, and in which order.
 ghost use Rattle.steal_pool.specs.Hands.{IsNewHand};
+
+mod asked;
 
 use std::process::Abort;
 use std::test::Fail;
@@ -25,4 +27,57 @@ fn gives_in_turn(rt: &impl Abort, mut first: Hand, mut second: Hand)
     assert!(rt; first.next() == Look::Frame(7));
     assert!(rt; second.next() == Look::Empty);
     assert!(rt; first.next() == Look::Empty);
+}
+
+#[test]
+fn gives_its_own_before_those_of_others(rt: HostRuntime) -> Result<(), Fail> {
+    let mut hands = Pool::new(rt.alloc(), 2, 2, 8)?;
+    let second = hands.remove(1);
+    let first = hands.remove(0);
+    gives_its_own_first(&rt, first, second);
+    Ok(())
+}
+
+/// Whether each hand is given what it pushed, the oldest first, and what the other one has left only then.
+fn gives_its_own_first(rt: &impl Abort, mut first: Hand, mut second: Hand)
+    requires first { IsNewHand 2 2 8 first }
+    requires second { IsNewHand 2 2 8 second }
+{
+    first.push(5);
+    first.push(7);
+    second.push(3);
+    assert!(rt; first.next() == Look::Frame(5));
+    assert!(rt; second.next() == Look::Frame(3));
+    assert!(rt; second.next() == Look::Frame(7));
+    assert!(rt; first.next() == Look::Empty);
+    assert!(rt; second.next() == Look::Empty);
+}
+
+#[test]
+fn takes_round_the_ring(rt: HostRuntime) -> Result<(), Fail> {
+    let mut hands = Pool::new(rt.alloc(), 3, 2, 8)?;
+    let last = hands.remove(2);
+    let second = hands.remove(1);
+    let first = hands.remove(0);
+    takes_from_the_one_behind(&rt, first, second, last);
+    Ok(())
+}
+
+/// Whether a hand without numbers takes from the one behind it in the ring before it takes from the next.
+fn takes_from_the_one_behind(rt: &impl Abort, mut first: Hand, mut second: Hand, mut last: Hand)
+    requires first { IsNewHand 3 2 8 first }
+    requires second { IsNewHand 3 2 8 second }
+    requires last { IsNewHand 3 2 8 last }
+{
+    first.push(1);
+    first.push(2);
+    second.push(3);
+    second.push(4);
+    assert!(rt; last.next() == Look::Frame(1));
+    last.push(5);
+    assert!(rt; first.next() == Look::Frame(2));
+    assert!(rt; first.next() == Look::Frame(3));
+    assert!(rt; second.next() == Look::Frame(4));
+    assert!(rt; second.next() == Look::Frame(5));
+    assert!(rt; last.next() == Look::Empty);
 }
