@@ -23,7 +23,7 @@ from rows import TOP, lines, unfolded
 
 OSCHECK = f"{TOP}/oscheck"
 # As many files are judged by one call: where the toolchain runs the program, a call has two minutes.
-CALL = 200
+CALL = 50
 
 TOKEN = re.compile(
     r"(?P<none>\s+|//[^\n]*|/\*.*?\*/|#[ \t]*include[^\n]*)|#[ \t]*pragma|\w+|<<=|>>=|[-+*/%&^|=!<>]=|\+\+|--|<<|>>|&&|\|\||.", re.S

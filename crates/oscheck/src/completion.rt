@@ -1,11 +1,12 @@
 //! How the front of a text goes on to a program. No grammar stands here: each token is asked for of the reader of programs.
 //!
-//! Behind the front that token is put, again and again, that comes first in `CLOSERS` among those that could come, until
-//! the tokens are a program's. What closes comes before what opens, so that little more is put there than what is open.
-//! At most `MOST` tokens are put there, and for each of them all tokens are read once for the end and once for each token
-//! that is tried: the time is linear in the text, with a factor of some hundreds where much is open.
+//! What is closed in the front is left out. Behind the rest that token is put, again and again, that comes first in `CLOSERS`
+//! among those that could come, until the tokens are a program's. What closes comes before what opens, so that little more is
+//! put there than what is open, and at most `MOST` tokens. For each of them the open part is read once for the end and once
+//! for each token that is tried, and the text with what is put behind it twice in all: so the time is linear in the text,
+//! with a factor that grows with what is open.
 
-ghost use Rattle.std.specs.Prelude.{◌≡◌, ◌++◌, ◌≤◌, ℕ, List, IsTrue, length, take, IfOk, IfSome};
+ghost use Rattle.std.specs.Prelude.{◌≡◌, ◌+◌, ◌++◌, ◌≤◌, ℕ, IsTrue, length, take, IfOk, IfSome};
 ghost use Rattle.front_end.specs.Texts.{IsProgramOf};
 ghost use Rattle.os_ast.specs.Fronts.{IsRefusedAt};
 ghost use Rattle.os_ast.specs.Trees.{ProgramTree};
@@ -14,6 +15,7 @@ ghost use Rattle.os_lexer.specs.Limits.{text_limit};
 ghost use Rattle.oscheck.specs.Completions.{IsCompletion, last_end};
 
 use crate::expected::{goes_on, is_whole};
+use crate::open_part::open_part;
 use os_io::Memory;
 use os_lexer::names::{INPUT, OMP, OSIN, STREAM, TASKWAIT};
 use os_lexer::{Key, Kind, LexError, Punct, TEXT_LIMIT, Token, lex};
@@ -151,7 +153,8 @@ fn at_place(
     ensures { IfOk result (λ found. IfSome found (λ whole. IsCompletion text.now whole.items)) }
 {
     let front = &tokens[..place];
-    let more = closing(alloc, front)?;
+    let open = open_part(alloc, front)?;
+    let more = closing(alloc, &open)?;
     program_of(alloc, begun(text, front), &more)
 }
 
@@ -159,7 +162,10 @@ fn at_place(
 fn begun<'a>(text: &'a [u8], front: &[Token]) -> &'a [u8]
     ensures { result.now ≡ take (last_end front.now) text.now }
 {
-    text.get(..last_end(front)).unwrap_or(text)
+    match text.get(..last_end(front)) {
+        Some(begun) => begun,
+        None => text,
+    }
 }
 
 /// Where the last of some tokens ends.
@@ -201,9 +207,7 @@ fn is_program(alloc: Global, text: &[u8]) -> Result<bool, Memory>
 }
 
 /// What is put behind the front of a program, as it stands in a text.
-fn closing(alloc: Global, front: &[Token]) -> Result<Vec<u8>, Memory>
-    requires { length front.now ≤ text_limit }
-{
+fn closing(alloc: Global, front: &[Token]) -> Result<Vec<u8>, Memory> {
     let mut tokens = Vec::from_slice(alloc, front)?;
     let mut more = Vec::new(alloc);
     if tokens
@@ -222,13 +226,18 @@ fn closing(alloc: Global, front: &[Token]) -> Result<Vec<u8>, Memory>
     Ok(more)
 }
 
-/// The token that is put behind the front of a program, or none behind a whole one.
-fn next(alloc: Global, front: &[Token]) -> Result<Option<Closer>, Memory>
-    requires { length front.now ≤ text_limit }
-{
-    if front.len() == TEXT_LIMIT || is_whole(alloc, front)? {
+/// The token that is put behind the front of a program, or none behind a whole one and behind as many as there may be.
+fn next(alloc: Global, front: &[Token]) -> Result<Option<Closer>, Memory> {
+    if front.len() >= TEXT_LIMIT || is_whole(alloc, front)? {
         return Ok(None);
     }
+    first_closer(alloc, front)
+}
+
+/// The first of the closers that could come behind the front of a program.
+fn first_closer(alloc: Global, front: &[Token]) -> Result<Option<Closer>, Memory>
+    requires { length front.now + 1 ≤ text_limit }
+{
     for closer in &CLOSERS {
         if goes_on(alloc, front, token_of(*closer))? {
             return Ok(Some(*closer));

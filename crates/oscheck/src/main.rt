@@ -10,6 +10,7 @@ mod completion;
 mod expected;
 mod judging;
 mod loading;
+mod open_part;
 mod sentences;
 mod stop;
 mod word;
