@@ -64,7 +64,8 @@ impl OpenPart {
     }
 }
 
-/// The front of a program without what is closed in it: as a rule it goes on to a program by the same tokens.
+/// The front of a program without what is closed in it. It is the front of a program too, and goes on by the same tokens;
+/// nothing is promised of that.
 pub(crate) fn open_part(alloc: Global, front: &[Token]) -> Result<Vec<Token>, Memory> {
     let mut part = OpenPart {
         tokens: Vec::new(alloc),

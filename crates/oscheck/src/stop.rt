@@ -4,6 +4,7 @@ ghost use Rattle.std.specs.Prelude.{◌≤◌, length};
 ghost use Rattle.os_lexer.specs.Limits.{text_limit};
 
 use crate::expected::expected;
+use crate::open_part::open_part;
 use crate::word::{Word, word_of, write_choice};
 use os_io::Memory;
 use os_lexer::{Kind, TEXT_LIMIT, Token, lex};
@@ -68,13 +69,24 @@ fn stop_of<'a>(alloc: Global, text: &'a [u8], tokens: &[Token]) -> Result<Stop<'
     }
 }
 
-/// What could stand at a place. Behind as many tokens as there may be nothing can.
-fn expected_at(alloc: Global, tokens: &[Token], place: usize) -> Result<Vec<Word<'static>>, Memory>
-    requires { length tokens.now ≤ text_limit }
-{
+/// What could stand at a place.
+fn expected_at(
+    alloc: Global,
+    tokens: &[Token],
+    place: usize,
+) -> Result<Vec<Word<'static>>, Memory> {
     match tokens.get(..place) {
-        Some(front) if front.len() < TEXT_LIMIT => expected(alloc, front),
-        _ => Ok(Vec::new(alloc)),
+        Some(front) => expected_behind(alloc, &open_part(alloc, front)?),
+        None => Ok(Vec::new(alloc)),
+    }
+}
+
+/// What could stand behind the open part of a front. Behind as many tokens as there may be nothing can.
+fn expected_behind(alloc: Global, open: &[Token]) -> Result<Vec<Word<'static>>, Memory> {
+    if open.len() < TEXT_LIMIT {
+        expected(alloc, open)
+    } else {
+        Ok(Vec::new(alloc))
     }
 }
 
