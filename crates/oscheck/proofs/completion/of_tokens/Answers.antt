@@ -1,4 +1,3 @@
-use Rattle.std.proofs.Common.{◌≡◌}
 use Rattle.oscheck.proofs.completion.of_tokens.Goals as goal
 
 pub at_place-requires-clause-refused : goal.at_place-requires-clause-refused
