@@ -35,10 +35,11 @@ echo 'rounds: task_workers stream_match stream_match_layouts flow_core flow_core
 cp "$top/HANDLES" "$work"
 
 rounds=$work/crates/rounds
-mkdir -p "$rounds/src" "$rounds/proofs"
+mkdir -p "$rounds/src" "$rounds/specs" "$rounds/proofs"
 cp "$top/bench/rounds.program" "$rounds/src/main.rt"
 cp "$top/crates/runtime_tests/src/lawful.rt" "$top/crates/runtime_tests/src/rounds/lasts.rt" "$rounds/src"
-cp -r "$top/crates/runtime_tests/specs" "$rounds"
+cp "$top/crates/runtime_tests/specs/Lasts.antt" "$rounds/specs"
+echo 'pub mod Lasts' >"$rounds/specs/Lib.antt"
 cp -r "$top/crates/runtime_tests/proofs/lawful" "$rounds/proofs"
 find "$rounds" \( -name '*.antt' -o -name '*.rt' \) \
     -exec sed -i 's/runtime_tests\.proofs\.lawful/rounds.proofs.lawful/; s/runtime_tests\.specs/rounds.specs/' {} +

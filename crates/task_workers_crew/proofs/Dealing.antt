@@ -1,5 +1,5 @@
 -- Frames that are given to hands in turn.
-use Rattle.std.proofs.Common.{◌≡◌, ◌≢◌, ℕ, zero, suc, ◌+◌, ◌-◌, ◌*◌, ◌==◌, ◌<◌, ◌≤◌, Bool, true, false, if◌then◌else◌, List, [], ◌∷◌, ◌++◌, length, map, set, get_or, All, sum_by, refl, sym, ap, ◌∙◌, ◌⊎◌, inl, inr, subst, arith, append-nil, length-set, get_or-set_same, get_or-set_other, eq-eqb}
+use Rattle.std.proofs.Common.{◌≡◌, ◌≢◌, ℕ, zero, suc, ◌+◌, ◌-◌, ◌*◌, ◌==◌, ◌<◌, ◌≤◌, Bool, true, false, if◌then◌else◌, List, [], ◌∷◌, ◌++◌, length, map, set, get_or, All, sum_by, refl, sym, ap, ◌∙◌, ◌⊎◌, inl, inr, arith, append-nil, length-set, get_or-set_same, get_or-set_other, eq-eqb}
 use Rattle.std.proofs.lemmas.Bool.{cases_eq, cases_lt, ne_eqb}
 use Rattle.std.proofs.lemmas.List.{map-set, set-get_or}
 use Rattle.std.proofs.lemmas.List.Sums.{sum_by-set, sum_by-le}

@@ -1,7 +1,7 @@
-use Rattle.std.proofs.Common.{◌≡◌, ◌≢◌, ap, sym, ◌∙◌, arith, length-set}
+use Rattle.std.proofs.Common.{◌≡◌, ap, sym, ◌∙◌, arith, length-set}
 use Rattle.flow_core_laws.specs.declared.plan.FramePlan.{FramePlan}
 use Rattle.flow_core_laws.specs.Plans.{frame_at}
-use Rattle.task_workers_crew.proofs.Dealing.{dealt_one, dealt_none}
+use Rattle.task_workers_crew.proofs.Dealing.{dealt_one}
 use Rattle.task_workers_crew.proofs.hiring.deal_one.Goals as goal
 
 pub returns-clause-one_more : goal.returns-clause-one_more

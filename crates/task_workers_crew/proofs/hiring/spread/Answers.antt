@@ -1,4 +1,4 @@
-use Rattle.std.proofs.Common.{rules, arith, subst, ◌≡◌, length}
+use Rattle.std.proofs.Common.{arith, subst, ◌≡◌, length}
 use Rattle.task_workers_crew.specs.Dealing.{AreDealtBelow}
 use Rattle.task_workers_crew.proofs.Dealing.{dealt_all}
 use Rattle.task_workers_crew.proofs.hiring.spread.Goals as goal
