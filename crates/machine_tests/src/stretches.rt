@@ -109,12 +109,12 @@ fn a_run_tells_its_end_with_the_first_stretch_that_falls_short(
     let mut run = ControlRun::new(alloc, &code, 0, 1000000)?;
     let mut activations = List::new(alloc);
     for (at_most, told, count) in [
-        (40000, false, 40000),
+        (40000u32, false, 40000),
         (25536, false, 65536),
         (1, true, 65536),
     ] {
         assert!(rt; run.end() == None);
-        assert!(rt; run.advance(&mut activations, at_most)? == told);
+        assert!(rt; run.advance(&mut activations, at_most.max(1))? == told);
         assert!(rt; activations.len() == count);
     }
     assert!(rt; run.end() == Some(ControlEnd::Limit(1)));
