@@ -1,0 +1,4 @@
+pub mod Frames
+pub mod Over
+pub mod Parting
+pub mod Step
