@@ -2,9 +2,14 @@ pub mod Claimed
 pub mod Skips
 pub mod Law
 pub mod Keeping
-pub mod Making
 pub mod Coming
+pub mod Ended
+pub mod Making
 pub mod Joining
 pub mod Sites
 pub mod Ready
-pub mod Ended
+pub mod Prefixes
+pub mod All
+pub mod Within
+pub mod Parts
+pub mod AtOnce

@@ -1,3 +1,6 @@
--- What restates private functions; what a reader believes stands in os_code and stream_match.
+-- What a reader believes: how a run gives its activations by stretches. What they are stands in os_code and stream_match.
+pub mod Stretches
+-- What restates private functions.
 pub mod Spawning
 pub mod Ending
+pub mod Standing

@@ -4,14 +4,11 @@ ghost use Rattle.os_code.specs.Outcomes.{control};
 ghost use Rattle.os_code.specs.Tasks.{Fits};
 ghost use Rattle.stream_match_layouts.specs.Lawful.{AreLawful};
 
-use crate::machine::Machine;
-use crate::made::Made;
-use crate::running::run;
+use crate::stretches::ControlRun;
 use flow_core_laws::Control;
 use os_code::Code;
-use os_io::Memory;
+use os_io::{List, Memory};
 use std::alloc::Global;
-use task_vm::registers::unit_at;
 
 /// Runs `main` of a code to its end: the activations that it creates, in order, and how it ended.
 ///
@@ -33,21 +30,11 @@ pub fn run_control(
     ensures fit { IfOk result (λ made. All (Fits (parts_of code.now)) made.activations) }
     ensures lawful { IfOk result (λ made. AreLawful code.now.streams made.activations) }
 {
-    let unit = unit_at(code.units.as_slice(), code.main as usize);
-    let mut machine = Machine::new(alloc, code, unit, input_len, budget)?;
-    let end = run(
-        alloc,
-        code,
-        machine.registers,
-        machine.stack.as_mut_slice(),
-        machine.slots.as_mut_slice(),
-        machine.callers.as_mut_slice(),
-        &mut machine.made,
-        unit,
-        input_len,
-        budget,
-    )?;
-    let Machine { made, .. } = machine;
-    let Made { activations, .. } = made;
-    Ok(Control { activations, end })
+    let mut run = ControlRun::new(alloc, code, input_len, budget)?;
+    let mut activations = List::new(alloc);
+    run.advance(&mut activations, u32::MAX)?;
+    match run.end() {
+        Some(end) => Ok(Control { activations, end }),
+        None => unreachable!(),
+    }
 }

@@ -5,8 +5,12 @@
 //! and 4,194,304 positions that their windows cover together. What it made is what the runtime takes: each activation
 //! fits the code, and together they are lawful for a layout.
 //!
-//! The loop stands in `running`; what it shares with the loop of tasks are the pieces of `task_vm::registers`. Its
-//! state is a value, `Machine`, so that a run can stop and go on.
+//! A `ControlRun` gives the same activations by stretches, so that others can begin to run while `main` goes on: each
+//! call of `advance` appends the next ones, at most as many as it is asked for, and tells when no more come. Budget and
+//! limits are those of the whole run, however it is cut; and cutting it costs nothing, since the machine is kept, and
+//! nothing is kept of the activations but their number and what the limits and ticks need.
+//!
+//! The loop stands in `running`; what it shares with the loop of tasks are the pieces of `task_vm::registers`.
 #![tactic(auto)]
 
 mod claims;
@@ -16,5 +20,8 @@ mod made;
 mod numbers;
 mod running;
 mod spawning;
+mod stage;
+mod stretches;
 
 pub use control::run_control;
+pub use stretches::ControlRun;

@@ -1,10 +1,8 @@
-ghost use Rattle.std.specs.Prelude.{◌≤◌, IfOk};
-ghost use Rattle.os_code.specs.Codes.{parts_of};
-ghost use Rattle.control_run.specs.Ending.{HasCome, IsMainUnit};
-
 use crate::made::Made;
+use crate::running::run;
+use flow_core_laws::{Activation, ControlEnd};
 use os_code::{Code, Unit};
-use os_io::Memory;
+use os_io::{List, Memory};
 use std::alloc::Global;
 use task_vm::registers::{Caller, Registers};
 
@@ -19,6 +17,10 @@ pub(crate) struct Machine {
 }
 
 impl Machine {
+    ghost use Rattle.std.specs.Prelude.{◌≡◌, ◌+◌, ◌≤◌, IfOk};
+    ghost use Rattle.os_code.specs.Codes.{parts_of};
+    ghost use Rattle.control_run.specs.Ending.{HasCome, HasGiven, IsMainUnit, StopsAs, contents};
+
     /// A machine at the start of `main`, with the length of the input in slot 0. It reserves the operand stack, the slots
     /// and the calls that the code needs.
     pub fn new(
@@ -31,13 +33,8 @@ impl Machine {
         requires input { input_len ≤ 4194304 }
         requires budget { budget ≤ 1000000000 }
         requires unit { IsMainUnit (parts_of code.now) unit }
-        ensures { IfOk result (λ machine. HasCome (parts_of code.now) unit input_len budget (record {
-          registers = machine.registers;
-          stack = machine.stack.items;
-          slots = machine.slots.items;
-          callers = machine.callers.items;
-          made = machine.made;
-        })) }
+        ensures come { IfOk result (λ machine. HasCome (parts_of code.now) input_len budget (contents machine)) }
+        ensures nothing { IfOk result (λ machine. machine.made.created ≡ 0) }
     {
         let mut slots = vec![in alloc; 0; code.slots_need() as usize]?;
         slots[0] = input_len as i32;
@@ -62,5 +59,37 @@ impl Machine {
             }; code.units.len()]?,
             made: Made::new(alloc, code.streams)?,
         })
+    }
+    /// Goes on until so many activations are added to the list, at least one, or the run has ended: then it answers how.
+    /// After `Memory` the list has some of the next activations, and the machine stands nowhere.
+    pub fn go_on(
+        &mut self,
+        alloc: Global,
+        code: &Code,
+        input_len: u32,
+        budget: u64,
+        into: &mut List<Activation>,
+        at_most: u32,
+    ) -> Result<Option<ControlEnd>, Memory>
+        requires budget { budget ≤ 1000000000 }
+        requires some { 1 ≤ at_most }
+        requires stands { HasCome (parts_of code.now) input_len budget (contents self.old) }
+        ensures gives { HasGiven (parts_of code.now) input_len budget self.old.made.created self.new.made.created into.old into.new }
+        ensures at_most { self.new.made.created ≤ self.old.made.created + at_most }
+        ensures stops { IfOk result (StopsAs (parts_of code.now) input_len budget (self.old.made.created + at_most) (contents self.new)) }
+    {
+        run(
+            alloc,
+            code,
+            &mut self.registers,
+            self.stack.as_mut_slice(),
+            self.slots.as_mut_slice(),
+            self.callers.as_mut_slice(),
+            &mut self.made,
+            into,
+            at_most,
+            input_len,
+            budget,
+        )
     }
 }

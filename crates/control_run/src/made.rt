@@ -1,16 +1,17 @@
-ghost use Rattle.std.specs.Prelude.{◌≡◌, [], ◌+◌, ◌^◌, ◌<◌, All, length, replicate, slice_set, IfOk};
+ghost use Rattle.std.specs.Prelude.{◌≡◌, ◌+◌, ◌^◌, ◌<◌, All, length, replicate, slice_set, IfOk};
 ghost use Rattle.flow_core_laws.specs.declared.claim.Claim.{Claim as TheClaim};
 ghost use Rattle.os_code.specs.Machine.{skip_at, claims_with_skips, skips_after_all};
 ghost use Rattle.control_run.specs.Spawning.{limit_of};
 
-use flow_core_laws::{Activation, Claim};
+use flow_core_laws::Claim;
 use os_io::{List, Memory};
 use std::alloc::Global;
 
-/// What `main` has made.
+/// What `main` has made, but for the activations themselves.
 #[derive(Debug, Drop)]
 pub(crate) struct Made {
-    pub activations: List<Activation>,
+    /// How many activations it has created.
+    pub created: u32,
     /// For each stream what ticks took from it since its last read claim.
     pub skips: List<u64>,
     /// How many positions the claims of the activations cover together.
@@ -20,7 +21,7 @@ pub(crate) struct Made {
 impl Made {
     /// Nothing yet, over so many streams.
     pub fn new(alloc: Global, streams: u32) -> Result<Made, Memory>
-        ensures { IfOk result (λ made. made ≡ record { activations = []; skips = replicate streams 0; horizons = 0 }) }
+        ensures { IfOk result (λ made. made ≡ record { created = 0; skips = replicate streams 0; horizons = 0 }) }
     {
         let mut skips = List::new(alloc);
         skips.reserve(streams as usize)?;
@@ -28,7 +29,7 @@ impl Made {
             skips.push(0)?;
         }
         Ok(Made {
-            activations: List::new(alloc),
+            created: 0,
             skips,
             horizons: 0,
         })
@@ -37,9 +38,9 @@ impl Made {
     /// The limit that an activation would pass whose windows cover so many positions.
     pub fn limit(&self, horizons: u32) -> Option<u8>
         requires { self.now.horizons + horizons < 2 ^ 32 }
-        ensures { result ≡ limit_of (length self.now.activations) (self.now.horizons + horizons) }
+        ensures { result ≡ limit_of self.now.created (self.now.horizons + horizons) }
     {
-        if self.activations.len() >= 65536 {
+        if self.created >= 65536 {
             Some(1)
         } else if self.horizons + horizons > 4194304 {
             Some(2)

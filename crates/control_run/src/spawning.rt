@@ -1,16 +1,17 @@
-ghost use Rattle.std.specs.Prelude.{◌≡◌, ◌*◌, ◌<◌, ◌≤◌, All, length, map, pos, slice_index_or, IfOk, OnOk};
+ghost use Rattle.std.specs.Prelude.{◌≡◌, ◌*◌, ◌<◌, ◌≤◌, All, length, map, pos, slice_index_or, IfOk, OnOk, OnErr};
 ghost use Rattle.os_code.specs.Machine.{spawned_claims};
-ghost use Rattle.control_run.specs.Spawning.{HasWindow, spawn_end, spawn_made};
+ghost use Rattle.control_run.specs.Spawning.{HasWindow, spawn_end, spawn_list, spawn_made};
 
 use crate::claims::{captured_of, claims_of, horizons};
 use crate::made::{Made, take_skips};
 use flow_core_laws::{Activation, ControlEnd};
 use os_code::Site;
-use os_io::Memory;
+use os_io::{List, Memory};
 use std::alloc::Global;
 
-/// Creates the activation of a site, or answers how `main` ends there. The slots are those of `main`; the operands are
-/// an index and a burst for each item.
+/// Creates the activation of a site and adds it to the list, or answers how `main` ends there. The slots are those of
+/// `main`; the operands are an index and a burst for each item. `Memory` leaves the list as it was, and may lose what
+/// ticks took.
 pub(crate) fn spawn(
     alloc: Global,
     streams: u32,
@@ -19,6 +20,7 @@ pub(crate) fn spawn(
     slots: &[i32],
     operands: &[i32],
     made: &mut Made,
+    into: &mut List<Activation>,
 ) -> Result<Option<ControlEnd>, Memory>
     requires windows { All (HasWindow (length slots.now)) site.now.items }
     requires captured { All (λ slot. slot < length slots.now) site.now.captured }
@@ -26,9 +28,13 @@ pub(crate) fn spawn(
     requires few { length site.now.items ≤ 8 }
     requires streams { length made.old.skips ≡ streams }
     requires positions { made.old.horizons ≤ 4194304 }
+    requires activations { made.old.created ≤ 65536 }
     ensures end { IfOk result (λ end. end ≡ spawn_end made.old site.now.line (spawned_claims streams slots.now site.now.items operands.now)) }
-    ensures made { OnOk result (made.new ≡ spawn_made made.old number (map (λ slot. slice_index_or slots.now slot (pos 0)) site.now.captured)
+    ensures made { OnOk result (made.new ≡ spawn_made made.old (spawned_claims streams slots.now site.now.items operands.now)) }
+    ensures list { OnOk result (into.new ≡ spawn_list into.old made.old number (map (λ slot. slice_index_or slots.now slot (pos 0)) site.now.captured)
         (spawned_claims streams slots.now site.now.items operands.now)) }
+    ensures count_kept { OnErr result (made.new.created ≡ made.old.created) }
+    ensures list_kept { OnErr result (into.new ≡ into.old) }
 {
     let mut claims = match claims_of(alloc, streams, slots, site.items.as_slice(), operands)? {
         Ok(claims) => claims,
@@ -45,11 +51,12 @@ pub(crate) fn spawn(
     }
     let captured = captured_of(alloc, slots, site.captured.as_slice())?;
     take_skips(claims.as_mut_slice(), made.skips.as_mut_slice());
-    made.activations.push(Activation {
+    into.push(Activation {
         site: number,
         captured,
         claims,
     })?;
+    made.created += 1;
     made.horizons += positions;
     Ok(None)
 }

@@ -1,8 +1,10 @@
 //! Control programs that were worked out by hand: what they make, and how they end.
 
 use crate::main_runs::run_written;
+use crate::written::code_of;
+use control_run::run_control;
 use flow_core_laws::{Claim, Control, ControlEnd};
-use os_code::{Binary, Instr, SiteItem, Unit};
+use os_code::{Binary, Code, Instr, SiteItem, Unit};
 use os_io::Memory;
 use std::alloc::Global;
 use std::test::Fail;
@@ -157,14 +159,8 @@ fn ticking(alloc: Global, stream: i32, amount: i32, budget: u32) -> Result<Contr
 
 /// A loop that creates so many activations: each reads one position of the input with its number and `more` as burst,
 /// and writes a window.
-fn looping(
-    alloc: Global,
-    times: i32,
-    window: i32,
-    more: i32,
-    budget: u32,
-) -> Result<Control, Memory> {
-    run_written(
+pub(crate) fn loop_code(alloc: Global, times: i32, window: i32, more: i32) -> Result<Code, Memory> {
+    code_of(
         alloc,
         &[
             Instr::End,
@@ -212,6 +208,7 @@ fn looping(
                 stack: 4,
             },
         ],
+        0,
         &[],
         &[
             SiteItem {
@@ -225,9 +222,18 @@ fn looping(
                 window: Some(2),
             },
         ],
-        0,
-        u64::from(budget.min(1000000000)),
     )
+}
+
+fn looping(
+    alloc: Global,
+    times: i32,
+    window: i32,
+    more: i32,
+    budget: u32,
+) -> Result<Control, Memory> {
+    let code = loop_code(alloc, times, window, more)?;
+    run_control(alloc, &code, 0, u64::from(budget.min(1000000000)))
 }
 
 #[test]

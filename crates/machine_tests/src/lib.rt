@@ -11,6 +11,8 @@ mod main_runs;
 #[cfg(test)]
 mod needs;
 #[cfg(test)]
+mod stretches;
+#[cfg(test)]
 mod task_runs;
 #[cfg(test)]
 mod tasks;

@@ -18,8 +18,8 @@ index_mut-requires c =
     let size = c.in_ok-slots.ensures.len in
     omega (arith, few, sum, args, fits, size)
 
-pub returns : goal.returns
-returns c =
+pub returns-clause-come : goal.returns-clause-come
+returns-clause-come c =
     let few = c.slots_need.ensures.bound (c.args.code.now.main ∷ []) (Alone c.args.code.now.main c.args.unit c.requires.unit) in
     let sum = chain_need-cons (parts_of c.args.code.now) (λ (u : CodeUnit). u.slots) c.args.code.now.main c.args.unit [] c.requires.unit in
     let args = c.args.code.now.valid.sites.main_args c.args.unit c.requires.unit in

@@ -1,0 +1,119 @@
+use crate::machine::Machine;
+use crate::stage::Stage;
+use flow_core_laws::{Activation, ControlEnd};
+use os_code::Code;
+use os_io::{List, Memory};
+use std::alloc::Global;
+use std::marker::Model;
+use task_vm::registers::unit_at;
+
+/// A run of `main` that gives its activations by stretches: it stops behind as many as were asked for, and goes on
+/// from there. Of the activations that it has given it keeps their number and what the limits and ticks need, so that
+/// all stretches together take the time of one run.
+#[derive(Drop)]
+pub struct ControlRun<'c> {
+    alloc: Global,
+    code: &'c Code,
+    input_len: u32,
+    budget: u64,
+    machine: Machine,
+    stage: Stage,
+}
+
+impl<'c> Model for ControlRun<'c> {
+    ghost use Rattle.control_run.specs.Stretches.{RunSoFar};
+
+    ghost Value = { RunSoFar };
+
+    ghost use Rattle.control_run.specs.Standing.{run_so_far, Stands};
+
+    ghost view = { run_so_far };
+
+    ghost invariant = { Stands };
+}
+
+impl<'c> ControlRun<'c> {
+    ghost use Rattle.std.specs.Prelude.{◌≡◌, ◌++◌, ◌≤◌, All, IsTrue, IfOk, OnErr, length, nat_lt, take};
+    ghost use Rattle.os_code.specs.Codes.{parts_of};
+    ghost use Rattle.os_code.specs.Tasks.{Fits};
+    ghost use Rattle.stream_match_layouts.specs.Lawful.{AreLawful};
+    ghost use Rattle.control_run.specs.Stretches.{IsPartOfStretch, advanced, end_told, given_by, not_begun, remaining, whole};
+
+    /// A run that has not begun. The input has so many bytes; the budget is in units, one for each turn of a loop, each
+    /// call and each tick. It takes memory for what the longest chain of calls needs, and a number for each stream.
+    pub fn new(
+        alloc: Global,
+        code: &'c Code,
+        input_len: u32,
+        budget: u64,
+    ) -> Result<ControlRun<'c>, Memory>
+        requires input { input_len ≤ 4194304 }
+        requires budget { budget ≤ 1000000000 }
+        ensures { IfOk result (λ run. run ≡ not_begun (parts_of code.now) input_len budget) }
+    {
+        let unit = unit_at(code.units.as_slice(), code.main as usize);
+        let machine = Machine::new(alloc, code, unit, input_len, budget)?;
+        Ok(ControlRun {
+            alloc,
+            code,
+            input_len,
+            budget,
+            machine,
+            stage: Stage::Standing,
+        })
+    }
+
+    /// Appends the next activations, so many, or all that remain where fewer do. It answers true exactly where fewer
+    /// remained: the run has then ended. All calls together end within `(budget + 1) * (code length + 1)` steps. It
+    /// takes memory for each activation, its captured values and its claims. After `Memory` the list has some of these
+    /// activations, and the run is to be given up: it answers `Memory` from then on.
+    pub fn advance(&mut self, into: &mut List<Activation>, at_most: u32) -> Result<bool, Memory>
+        requires some { 1 ≤ at_most }
+        // the list, the answer and the run
+        ensures list { IfOk result (λ _. into.new ≡ into.old ++ take at_most (remaining self.old)) }
+        ensures answer { IfOk result (λ ended. ended ≡ nat_lt (length (remaining self.old)) at_most) }
+        ensures run { IfOk result (λ _. self.new ≡ advanced self.old at_most) }
+        ensures some_of_them { OnErr result (IsPartOfStretch self.old at_most self.new into.old into.new) }
+        // what was given so far and in this call is what is given now, and all of them where the run has ended
+        ensures joined { IfOk result (λ _. given_by self.new ≡ given_by self.old ++ take at_most (remaining self.old)) }
+        ensures all { IfOk result (λ ended. IsTrue ended → given_by self.new ≡ (whole self.new).activations) }
+        // each of them fits the code, and they are what a layout takes
+        ensures fit { All (Fits self.new.code) (given_by self.new) }
+        ensures lawful { AreLawful self.new.code.streams (given_by self.new) }
+    {
+        match self.stage {
+            Stage::Ended(_) => return Ok(true),
+            Stage::GivenUp => return Err(Memory),
+            Stage::Standing => {}
+        }
+        self.stage = Stage::GivenUp;
+        let end = self.machine.go_on(
+            self.alloc,
+            self.code,
+            self.input_len,
+            self.budget,
+            into,
+            at_most,
+        )?;
+        match end {
+            Some(end) => {
+                self.stage = Stage::Ended(end);
+                Ok(true)
+            }
+            None => {
+                self.stage = Stage::Standing;
+                Ok(false)
+            }
+        }
+    }
+
+    /// How the run has ended, once `advance` has answered true.
+    pub fn end(&self) -> Option<ControlEnd>
+        ensures { result ≡ end_told self.now }
+    {
+        match self.stage {
+            Stage::Ended(end) => Some(end),
+            Stage::Standing | Stage::GivenUp => None,
+        }
+    }
+}
