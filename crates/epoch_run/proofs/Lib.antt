@@ -1,4 +1,5 @@
 pub mod Frames
+pub mod Going
+pub mod Moving
 pub mod Over
-pub mod Parting
 pub mod Step

@@ -47,7 +47,7 @@ pub(crate) fn run_epoch<R: Threads + Sync, G: Gate>(
 }
 
 /// Whether some of the activations are new.
-fn has_new(bodies: &TaskBodies, held: &Held) -> bool
+pub(crate) fn has_new(bodies: &TaskBodies, held: &Held) -> bool
     ensures { result ≡ nat_lt (length held.now.ends.ends) (length bodies.now.activations.now) }
 {
     held.ends.ends.len() < bodies.activations.len()

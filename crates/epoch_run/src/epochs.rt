@@ -7,9 +7,8 @@ ghost use Rattle.stream_match_layouts.specs.Layout.{IsLayout, IsLayoutOf};
 ghost use Rattle.epoch_run.specs.Run.{AreBudgets, created, ends_on_machine};
 
 use crate::held::Held;
-use crate::parts::{Standing, run_parts};
 use crate::result::{Budgets, RunResult};
-use control_run::run_control;
+use crate::standing::Standing;
 use os_code::Code;
 use os_io::Memory;
 use std::alloc::Global;
@@ -19,8 +18,8 @@ use task_workers::Gate;
 /// How many new activations an epoch has.
 const EPOCH: u32 = 4096;
 
-/// Runs a code over an input: its control program, and then what that created, by 1 to 64 workers, in epochs of 4,096 new
-/// activations. What it comes to is the data-flow meaning of all activations that the control program creates.
+/// Runs a code over an input in epochs of 4,096 new activations: while 1 to 64 workers run one epoch, the control program
+/// creates the activations of the next one. What it comes to is the data-flow meaning of all activations that it creates.
 ///
 /// The gate is called as in `execute`, with the number of a frame in its epoch. The activations, their positions, their
 /// ends and the output are held of the whole run, a plan and its cells of one epoch at a time.
@@ -78,23 +77,19 @@ pub fn run_epochs_of<R: Threads + Sync, G: Gate>(
     ensures fit { IfOk result (λ run. All (Fits (parts_of code.now)) (created (parts_of code.now) input.now budgets)) }
     ensures lawful { IfOk result (λ run. AreLawful code.now.streams (created (parts_of code.now) input.now budgets)) }
 {
-    let control = run_control(alloc, code, input.len() as u32, budgets.control)?;
-    let run = run_parts(
-        rt,
-        alloc,
-        code,
-        control.activations.as_slice(),
-        input,
-        budgets.task,
-        workers,
-        gate,
-        at_most,
-    )?;
-    let Standing { layout, held } = run;
+    let mut run = Standing::new(alloc, code, input, budgets)?;
+    let end = 'epochs: loop {
+        let end = run.go_on(rt, alloc, code, input, budgets, workers, gate, at_most)?;
+        if let Some(end) = end {
+            break 'epochs end;
+        }
+    };
+    run.run_last(rt, alloc, code, input, budgets, workers, gate)?;
+    let Standing { layout, held, .. } = run;
     let Held { ends, .. } = held;
     Ok(RunResult {
         layout,
         ends,
-        control: control.end,
+        control: end,
     })
 }

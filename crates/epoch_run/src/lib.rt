@@ -1,5 +1,5 @@
-//! Runs of a code in epochs: workers run some of the activations that the control program created, and what may still be
-//! read of what they wrote is carried over to the next ones.
+//! Runs of a code in epochs: workers run some of the activations while the control program creates the next ones, and what
+//! may still be read of what they wrote is carried over to those.
 //!
 //! `run_epochs` takes a code and an input, and gives the positions of all activations that the control program creates,
 //! how each of them ended, the elements of the output, and how the control program ended: the data-flow meaning of the
@@ -11,12 +11,14 @@
 //! epoch alone are held at once.
 #![tactic(auto)]
 
+mod adding;
+mod beside;
 mod epoch;
 mod epochs;
 mod held;
-mod parts;
 mod putting;
 mod result;
+mod standing;
 
 pub use epochs::{run_epochs, run_epochs_of};
 pub use result::{Budgets, RunResult};
