@@ -23,8 +23,8 @@ use Rattle.flow_core_laws.specs.declared.outcome.Outcome.{Outcome}
 use Rattle.os_code.specs.Tasks.{input_count}
 use Rattle.flow_core_laws.specs.Byte.{IsByte}
 use Rattle.osrun_core_run.specs.BodyLaws.{GivesBytes}
-use Rattle.osrun_core_run.proofs.Counts.{length-reads}
-use Rattle.osrun_core_run.proofs.Serving.{no_activation}
+use Rattle.epoch_run_bodies.proofs.Counts.{length-reads}
+use Rattle.epoch_run_bodies.proofs.Serving.{no_activation}
 
 module _ (activations : List Activation) (input : List ℕ) (body : ℕ → List ℤ → Outcome)
     (gives : (a : ℕ) (x : Activation) (inputs : List ℤ) → slice_get activations a ≡ Some x → length inputs ≡ input_count x → GivesBytes x (body a inputs)) where

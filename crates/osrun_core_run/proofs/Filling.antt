@@ -10,7 +10,7 @@ use Rattle.flow_core_laws.specs.Outcome.{outcome_at}
 use Rattle.flow_core_laws.specs.Round.{inputs_in}
 use Rattle.flow_core_laws.specs.Streams.{output_count, stream_meaning, stream_reads}
 use Rattle.flow_core_laws.specs.declared.outcome.Outcome.{Outcome}
-use Rattle.osrun_core_run.proofs.Counts.{length-reads}
+use Rattle.epoch_run_bodies.proofs.Counts.{length-reads}
 use Rattle.osrun_core_run.specs.BodyLaws.{FilledBodiesFill}
 
 pub filled : FilledBodiesFill

@@ -1,12 +1,9 @@
 pub mod Accepted
-pub mod Agreeing
 pub mod BodyBytes
 pub mod Bytes
-pub mod Counts
 pub mod FewWritten
 pub mod Filling
 pub mod RunLaws
-pub mod Serving
 pub mod TasksRun
 pub mod Telling
 pub mod WrittenBytes

@@ -21,9 +21,10 @@ use Rattle.os_code.specs.Tasks.{Fits, input_count}
 use Rattle.os_code.specs.declared.parts.Parts.{Parts}
 use Rattle.osrun_core_run.proofs.BodyBytes.{RunsKeep, body_gives}
 use Rattle.osrun_core_run.specs.Run.{body_at, ends_over}
-use Rattle.osrun_core_run.specs.Frames.{frame_outcome}
+use Rattle.epoch_run_bodies.specs.Frames.{frame_outcome}
 use Rattle.flow_core_laws.specs.Byte.{IsByte}
-use Rattle.osrun_core_run.specs.BodyLaws.{Agree, AgreeingBodiesMeanOne, GivesBytes, OutputsAreBytes}
+use Rattle.epoch_run_bodies.specs.Laws.{Agree, AgreeingBodiesMeanOne}
+use Rattle.osrun_core_run.specs.BodyLaws.{GivesBytes, OutputsAreBytes}
 
 module _ (code : Parts) (p : ProgramTree) (activations : List Activation) (budget : ℕ) (runs : RunsBodies code p) (fit : All (Fits code) activations) where
   -- the machine makes of each activation what the body of its task does

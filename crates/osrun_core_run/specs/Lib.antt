@@ -4,7 +4,6 @@ pub mod Run
 pub mod RunOf
 -- The laws of bodies, of programs and of their runs.
 pub mod BodyLaws
-pub mod Frames
 pub mod Laws
 -- What restates private functions.
 pub mod Accepting

@@ -1,20 +1,6 @@
 //! Laws of the bodies of tasks. Each is a call that does nothing and ensures its law.
 
-ghost use Rattle.osrun_core_run.specs.BodyLaws.{AgreeingBodiesMeanOne, BodiesServe, FilledBodiesFill, OutputsAreBytes};
-
-use os_code::laws::tasks_end;
-
-/// The bodies of activations that fit a valid code serve each plan that stands for the activations.
-pub fn bodies_serve()
-    ensures { BodiesServe }
-{
-    tasks_end();
-}
-
-/// A run means the same with bodies that make the same of all inputs that the activations can have.
-pub fn agreeing_bodies_mean_one()
-    ensures { AgreeingBodiesMeanOne }
-{}
+ghost use Rattle.osrun_core_run.specs.BodyLaws.{FilledBodiesFill, OutputsAreBytes};
 
 /// Where no activation writes anything but bytes to the output, the output has nothing but bytes.
 pub fn outputs_are_bytes()

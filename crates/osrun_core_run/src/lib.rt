@@ -4,13 +4,12 @@
 //! input to the bytes that are written and to what the report tells, stop by stop: the program is compiled, its control
 //! program is run, the activations get their positions and a plan, workers carry it out, and the output's bytes are
 //! collected. What comes of it is the control-driven data-flow meaning of the program over the input, for every program,
-//! input and number of workers. A frame of the plan runs the task of its activation on the machine (`TaskBodies`). No file is
-//! read here and nothing is written. `laws` has what holds of every program and of every run of a job, and `body_laws` what
-//! holds of every list of activations and their bodies.
+//! input and number of workers. A frame of the plan runs the task of its activation on the machine (`TaskBodies` of
+//! `epoch_run_bodies`). No file is read here and nothing is written. `laws` has what holds of every program and of every run of a
+//! job, and `body_laws` what holds of every list of activations and their bodies.
 #![tactic(auto)]
 
 mod accepting;
-mod bodies;
 pub mod body_laws;
 pub mod laws;
 mod lay_out;
@@ -21,6 +20,5 @@ mod run_tasks;
 mod running;
 
 pub use accepting::accept;
-pub use bodies::TaskBodies;
 pub use made::Run;
 pub use running::run_program;

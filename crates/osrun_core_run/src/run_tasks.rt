@@ -8,9 +8,10 @@ ghost use Rattle.os_code.specs.Codes.{parts_of};
 ghost use Rattle.os_code.specs.Tasks.{Fits};
 ghost use Rattle.osrun_core_run.specs.Run.{ends_over};
 
-use crate::bodies::TaskBodies;
-use crate::body_laws::{agreeing_bodies_mean_one, bodies_serve, outputs_are_bytes};
+use crate::body_laws::outputs_are_bytes;
 use cddf_meaning::laws::turns_never_grow;
+use epoch_run_bodies::TaskBodies;
+use epoch_run_bodies::laws::{agreeing_bodies_mean_one, bodies_serve};
 use flow_core_laws::{Control, Ends, Plan, laws};
 use os_code::Code;
 use os_io::Memory;

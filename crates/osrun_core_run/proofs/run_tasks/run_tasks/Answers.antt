@@ -6,7 +6,7 @@ use Rattle.flow_core_laws.specs.declared.ends.Ends.{Ends}
 use Rattle.os_code.specs.Codes.{parts_of}
 use Rattle.osrun_core_run.proofs.TasksRun.{bytes_if, ends_if}
 use Rattle.osrun_core_run.proofs.run_tasks.run_tasks.Goals as goal
-use Rattle.osrun_core_run.specs.Frames.{frame_outcome}
+use Rattle.epoch_run_bodies.specs.Frames.{frame_outcome}
 
 pub returns-clause-meaning : goal.returns-clause-meaning
 returns-clause-meaning g c p input runs stands =

@@ -1,19 +1,23 @@
 -- A run means the same with bodies that make the same of all inputs that the activations can have.
-use Rattle.std.proofs.Common.{◌≡◌, ℕ, zero, suc, ◌<◌, ℤ, List, Option, Some, None, map, length, get_or, refl, sym, ap, ◌∙◌, arith}
-use Rattle.std.specs.Option.{option_map, option_or}
+use Rattle.std.proofs.Common.{◌≡◌, ℕ, zero, suc, ◌<◌, ℤ, List, ◌++◌, Option, Some, None, map, length, get_or, refl, sym, ap, ◌∙◌, arith}
+use Rattle.std.specs.Option.{option_map, option_map_or, option_or}
 use Rattle.std.proofs.lemmas.List.{length-map, get_or_default, same_lists}
-use Rattle.std.proofs.lemmas.Option.{slice_get-get_or}
+use Rattle.std.proofs.lemmas.Option.{slice_get-get_or, slice_get_within}
 use Rattle.flow_core_laws.proofs.Gathering.{length-gathered}
 use Rattle.flow_core_laws.proofs.Rounds.{after, length-after, length-round, outcome_at-round}
+use Rattle.flow_core_laws.proofs.Stretches.{slice_get-append_left}
 use Rattle.flow_core_laws.specs.Element.{Source, element}
 use Rattle.flow_core_laws.specs.Outcome.{State, outcome_at}
 use Rattle.flow_core_laws.specs.Round.{inputs_in, meaning, round, rounds}
 use Rattle.flow_core_laws.specs.Streams.{stream_meaning, stream_reads}
 use Rattle.flow_core_laws.specs.declared.activation.Activation.{Activation}
 use Rattle.flow_core_laws.specs.declared.outcome.Outcome.{Outcome}
-use Rattle.osrun_core_run.specs.BodyLaws.{Agree}
-use Rattle.osrun_core_run.proofs.Counts.{length-reads}
-use Rattle.osrun_core_run.proofs.Serving.{no_activation}
+use Rattle.os_code.specs.Outcomes.{over_budget, task_outcome}
+use Rattle.os_code.specs.declared.parts.Parts.{Parts}
+use Rattle.epoch_run_bodies.specs.Frames.{frame_outcome}
+use Rattle.epoch_run_bodies.specs.Laws.{Agree}
+use Rattle.epoch_run_bodies.proofs.Counts.{length-reads}
+use Rattle.epoch_run_bodies.proofs.Serving.{no_activation}
 
 module _ (reads : ℕ → List Source) (body other : ℕ → List ℤ → Outcome) (count : ℕ)
     (agree : (a : ℕ) (inputs : List ℤ) → a < count → length inputs ≡ length (reads a) → body a inputs ≡ other a inputs) where
@@ -49,3 +53,10 @@ mean_one activations input body other agree =
     same_meaning (stream_reads activations input) body other (length activations) (λ a inputs lt long.
     let is = slice_get-get_or activations a no_activation lt in
     agree a (get_or activations a no_activation) inputs is (long ∙ length-reads activations input a (get_or activations a no_activation) is))
+
+-- the bodies of more activations make the same of the inputs of the first ones
+pub more_agree : (code : Parts) (activations more : List Activation) (budget : ℕ)
+    → Agree activations (frame_outcome code activations budget) (frame_outcome code (activations ++ more) budget)
+more_agree code activations more budget a x inputs at long =
+    ap (λ o. option_map_or (λ (y : Activation). task_outcome code y inputs budget) o over_budget)
+    (sym (slice_get-append_left activations more a (slice_get_within activations a x at)))

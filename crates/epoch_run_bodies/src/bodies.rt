@@ -15,7 +15,7 @@ pub struct TaskBodies<'r> {
 
 impl Bodies for TaskBodies<'_> {
     ghost use Rattle.os_code.specs.Codes.{parts_of};
-    ghost use Rattle.osrun_core_run.specs.Frames.{TakesFrame, frame_outcome};
+    ghost use Rattle.epoch_run_bodies.specs.Frames.{TakesFrame, frame_outcome};
     ghost use Rattle.task_vm.specs.Space.{IsMadeFor};
 
     type Scratch = Scratch;

@@ -1,0 +1,5 @@
+pub mod Frames
+pub mod Going
+pub mod Moving
+pub mod Over
+pub mod Step

@@ -1,0 +1,225 @@
+-- An epoch, from what is held before it to what is held after it.
+use Rattle.std.proofs.Common.{◌≡◌, ℕ, ℤ, ◌+◌, ◌<◌, ◌≤◌, ◌⊎◌, inl, inr, false, List, [], ◌∷◌, ◌++◌, Option, All, length, map, refl, sym, ap, ◌∙◌, subst, arith}
+use Rattle.std.specs.Prelude.{filter, nat_lt, slice_index, sum_by}
+use Rattle.std.specs.Option.{option_map}
+use Rattle.std.proofs.lemmas.Grind.{flat_map-append}
+use Rattle.std.proofs.lemmas.Bool.{cases_lt, lt-ltb}
+use Rattle.std.proofs.lemmas.List.{append-nil, length-append, length-map}
+use Rattle.std.proofs.lemmas.List.Elements.{filter-append}
+use Rattle.std.proofs.lemmas.List.FromFn.{length-map-range_with_len}
+use Rattle.std.proofs.lemmas.List.Sums.{sum_by-append}
+use Rattle.epoch_run_bodies.specs.Frames.{TakesFrame, frame_outcome}
+use Rattle.epoch_run_bodies.specs.Laws.{LaterActivationsChangeNothing}
+use Rattle.flow_core_epochs.specs.Epoch as epoch
+use Rattle.flow_core_epochs.specs.Epoch.{IsCarried, IsEpoch, IsHeld, IsOutside, ReadNoOutput, ServesAll, StandsForEpoch, carried_over, epoch_meaning, open_in, output_over, put_over}
+use Rattle.flow_core_epochs.specs.Laws.{BeginsEpoch, EndsEpoch, ServesFrames}
+use Rattle.flow_core_laws.proofs.Rounds.{length-meaning}
+use Rattle.flow_core_laws.specs.Element.{element}
+use Rattle.flow_core_laws.specs.FirstPosition.{is_write_to, write_cursor}
+use Rattle.flow_core_laws.specs.Outcome.{State, ends_of}
+use Rattle.flow_core_laws.specs.Place as streams
+use Rattle.flow_core_laws.specs.Place.{written_count}
+use Rattle.flow_core_laws.specs.Plans.{plan_reads, sink_elements}
+use Rattle.flow_core_laws.specs.Serves.{Serves}
+use Rattle.flow_core_laws.specs.Streams.{output_elements, stream_meaning, stream_reads, stream_source}
+use Rattle.flow_core_laws.specs.Window.{claims_of}
+use Rattle.flow_core_laws.specs.declared.activation.Activation.{Activation}
+use Rattle.flow_core_laws.specs.declared.claim.Claim.{Claim}
+use Rattle.flow_core_laws.specs.declared.ends.Ends.{Ends}
+use Rattle.flow_core_laws.specs.declared.outcome.Outcome.{Outcome}
+use Rattle.flow_core_laws.specs.declared.plan.Plan.{Plan}
+use Rattle.flow_core_laws.specs.declared.task_end.TaskEnd.{TaskEnd}
+use Rattle.os_code.specs.declared.parts.Parts.{Parts}
+use Rattle.stream_match.specs.EpochPlan.{AreFrames}
+use Rattle.stream_match.specs.Kept.{IsKeptOutside, kept_of, place_of}
+use Rattle.stream_match.specs.declared.kept.Kept.{Kept}
+use Rattle.stream_match.specs.declared.place.Place.{Place}
+use Rattle.stream_match_layouts.proofs.Sums.{write_total}
+use Rattle.stream_match_layouts.proofs.Tallies.{frame_count-is}
+use Rattle.stream_match_layouts.specs.Lawful.{AreLawful}
+use Rattle.stream_match_layouts.specs.Layout.{IsLayout, IsLayoutOf}
+use Rattle.stream_match_layouts.specs.Spans.{frame_count}
+use Rattle.stream_match_layouts.specs.declared.layout.Layout.{Layout}
+use Rattle.epoch_run.proofs.Frames.{all_exist, are_frames, kept_exist, places_exist}
+use Rattle.epoch_run.specs.Held.{IsHeldBefore, IsHeldOf}
+use Rattle.epoch_run.specs.declared.held.Held.{Held}
+
+-- what is held depends on what activations mean alone
+pub same_held : (activations : List Activation) (input : List ℕ) (body other : ℕ → List ℤ → Outcome) (ends : List (Option TaskEnd)) (kept : List epoch.Kept) (output : List (Option ℤ))
+    → stream_meaning activations input body ≡ stream_meaning activations input other → IsHeld activations input body ends kept output
+    → IsHeld activations input other ends kept output
+same_held activations input body other ends kept output same held = record {
+  ends_are_meant = held.ends_are_meant ∙ ap ends_of same;
+  kept_is_carried = subst (λ (s : State). IsCarried activations input s kept) same held.kept_is_carried;
+  output_is_meant = held.output_is_meant ∙ ap (output_elements activations input) same;
+}
+
+-- how many ends and how many elements of the output are held
+length-ends : (activations : List Activation) (input : List ℕ) (body : ℕ → List ℤ → Outcome) → length (ends_of (stream_meaning activations input body)) ≡ length activations
+length-ends activations input body =
+    length-map (stream_meaning activations input body) (option_map (λ (o : Outcome). o.end))
+    ∙ length-meaning element (stream_reads activations input) body (length activations)
+
+length-output : (activations : List Activation) (input : List ℕ) (state : State) → length (output_elements activations input state) ≡ written_count activations 1
+length-output activations input state =
+    length-map (map (stream_source activations input) (streams.output_places activations)) (element state)
+    ∙ length-map (streams.output_places activations) (stream_source activations input)
+    ∙ length-map-range_with_len (λ position. record { stream = 1; position = position }) 0 (written_count activations 1)
+
+-- more activations write more
+written_more : (before new : List Activation) → written_count before 1 ≤ written_count (before ++ new) 1
+written_more before new =
+    let e : written_count (before ++ new) 1 ≡ written_count before 1 + written_count new 1 =
+    ap (write_cursor 1) (flat_map-append (λ (x : Activation). x.claims) before new)
+    ∙ ap (sum_by (λ (c : Claim). c.horizon)) (filter-append (is_write_to 1) (claims_of before) (claims_of new))
+    ∙ sum_by-append (λ (c : Claim). c.horizon) (filter (is_write_to 1) (claims_of before)) (filter (is_write_to 1) (claims_of new)) in
+    omega arith
+
+-- where no activation is new, it is that of all
+pub stays : (code : Parts) (activations : List Activation) (input : List ℕ) (budget : ℕ) (held : Held) → IsHeldBefore code activations input budget held
+    → nat_lt (length held.ends.ends) (length activations) ≡ false → IsHeldOf code activations input budget held
+stays code activations input budget held is no_more = subst (λ (xs : List Activation). IsHeldOf code xs input budget held) (sym (is.are_all ∙ ap (λ ns. is.before ++ ns) (none is.new few) ∙ append-nil is.before)) is.meant
+  where
+    none : (xs : List Activation) → length xs ≤ 0 → xs ≡ []
+    none [] h = refl
+    none (x ∷ xs) h = absurd (omega arith)
+
+    not_less : (length held.ends.ends < length activations) ⊎ (length activations ≤ length held.ends.ends) → length activations ≤ length held.ends.ends
+    not_less (inl lt) = let t = lt-ltb (length held.ends.ends) (length activations) lt in absurd (cc)
+    not_less (inr ge) = ge
+
+    few : length is.new ≤ 0
+    few =
+        let e = ap length is.meant.ends_are_meant ∙ length-ends is.before input (frame_outcome code is.before budget) in
+        let l = ap length is.are_all ∙ length-append is.before is.new in
+        let ge = not_less (cases_lt (length held.ends.ends) (length activations)) in
+        omega arith
+
+module _ (layout : Layout) (whole : IsLayout layout) (code : Parts) (activations : List Activation) (input : List ℕ) (budget : ℕ) (held : Held)
+    (is : IsHeldBefore code activations input budget held) (laid : IsLayoutOf layout activations) (lawful : AreLawful (length layout.writers) activations)
+    (frames : List ℕ) (are_open : frames ≡ open_in held.ends.ends (frame_count layout)) where
+  abbrev all : List Activation
+  all = is.before ++ is.new
+
+  abbrev body : ℕ → List ℤ → Outcome
+  body = frame_outcome code all budget
+
+  abbrev kept : List epoch.Kept
+  kept = map kept_of held.kept.items
+
+  laid_out : IsLayoutOf layout all
+  laid_out = subst (IsLayoutOf layout) is.are_all laid
+
+  all_lawful : AreLawful (length layout.writers) all
+  all_lawful = subst (AreLawful (length layout.writers)) is.are_all lawful
+
+  count : frame_count layout ≡ length all
+  count = frame_count-is layout all laid_out
+
+  positions : slice_index layout.writes 1 ≡ written_count all 1
+  positions = write_total layout (record { has_output = whole.has_output; activations = all; is_of = laid_out; lawful = all_lawful })
+
+  no_output : ReadNoOutput all
+  no_output = λ k d lt reads. (all_lawful.claims_are_lawful k d lt).output_is_written reads
+
+  pub frames_are : AreFrames layout frames
+  frames_are = subst (AreFrames layout) (sym are_open) (are_frames layout held.ends.ends (frame_count layout) refl)
+
+  pub fewer : length held.ends.ends ≤ frame_count layout
+  fewer =
+      let e = ap length is.meant.ends_are_meant ∙ length-ends is.before input (frame_outcome code is.before budget) in
+      omega (arith, count, length-append is.before is.new)
+
+  pub shorter : length held.ends.output ≤ slice_index layout.writes 1
+  shorter =
+      let e = ap length is.meant.output_is_meant ∙ length-output is.before input (stream_meaning is.before input (frame_outcome code is.before budget)) in
+      omega (arith, positions, written_more is.before is.new)
+
+  module _ (later : LaterActivationsChangeNothing) (begins : BeginsEpoch) where
+    held_now : IsHeld is.before input body held.ends.ends kept held.ends.output
+    held_now = same_held is.before input (frame_outcome code is.before budget) body held.ends.ends kept held.ends.output (later code is.before is.new input budget) is.meant
+
+    abbrev Opens : Type 0
+    Opens = IsOutside all frames kept × ((plan : Plan) (places : List streams.Place) → StandsForEpoch plan all input frames kept places → IsEpoch is.before is.new input body frames kept plan places)
+
+    opens : Opens
+    opens = begins is.before is.new input body held.ends.ends kept held.ends.output frames no_output held_now (are_open ∙ ap (open_in held.ends.ends) count)
+
+    pub outside : IsOutside activations frames kept
+    outside = subst (λ (xs : List Activation). IsOutside xs frames kept) (sym is.are_all) opens.0
+
+    pub kept_outside : IsKeptOutside layout frames kept
+    kept_outside = record { activations = all; is_of = laid_out; outside = opens.0 }
+
+    pub kept_there : All (λ (k : Kept). k.stream < length layout.writers) held.kept.items
+    kept_there = kept_exist layout whole all laid_out frames held.kept.items opens.0
+
+    module _ (plan : Plan) (places : List Place) (stands : StandsForEpoch plan activations input frames kept (map place_of places)) where
+      all_stands : StandsForEpoch plan all input frames kept (map place_of places)
+      all_stands = subst (λ (xs : List Activation). StandsForEpoch plan xs input frames kept (map place_of places)) is.are_all stands
+
+      exist : All (λ f. f < length all) frames
+      exist = subst (λ n. All (λ f. f < n) frames) count (all_exist layout frames frames_are)
+
+      pub places_there : All (λ (p : Place). p.stream < length layout.writers) places
+      places_there = places_exist layout whole all laid_out frames places exist all_stands.places_leave
+
+      pub served : ServesFrames (frame_outcome code activations budget) (TakesFrame code activations budget) → ServesAll activations (frame_outcome code activations budget) (TakesFrame code activations budget)
+          → Serves plan (λ f. frame_outcome code activations budget (slice_index frames f)) (λ f inputs outputs. (f < length frames) × TakesFrame code activations budget (slice_index frames f) inputs outputs)
+      served serves all_served =
+          serves plan activations input frames kept (map place_of places) stands (subst (λ (xs : List Activation). All (λ f. f < length xs) frames) (sym is.are_all) exist) all_served
+
+      module _ (ends_epoch : EndsEpoch) (run : Ends) (ends_are : run.ends ≡ ends_of (epoch_meaning plan frames (frame_outcome code activations budget)))
+          (output_is : run.output ≡ sink_elements plan (epoch_meaning plan frames (frame_outcome code activations budget))) where
+        pub ends_fit : length run.ends ≡ length frames
+        ends_fit =
+            ap length ends_are
+            ∙ length-map (epoch_meaning plan frames (frame_outcome code activations budget)) (option_map (λ (o : Outcome). o.end))
+            ∙ length-meaning element (plan_reads plan) (λ f. frame_outcome code activations budget (slice_index frames f)) (length plan.frames)
+            ∙ stands.frames_are_these
+
+        pub values_fit : length run.output ≡ length places
+        values_fit =
+            ap length output_is
+            ∙ length-map (plan_reads plan (length plan.frames)) (element (epoch_meaning plan frames (frame_outcome code activations budget)))
+            ∙ ap (λ n. length (plan_reads plan n)) stands.frames_are_these
+            ∙ ap length stands.sink_is_places
+            ∙ length-map (map place_of places) (epoch.epoch_source activations input frames kept)
+            ∙ length-map places place_of
+
+        abbrev put : List (Option TaskEnd)
+        put = put_over held.ends.ends frames run.ends (length all)
+
+        pub held_after : (after : Held) → after.ends.ends ≡ put_over held.ends.ends frames run.ends (frame_count layout)
+            → after.ends.output ≡ output_over held.ends.output (map place_of places) run.output (slice_index layout.writes 1)
+            → map kept_of after.kept.items ≡ carried_over activations (open_in after.ends.ends (frame_count layout)) kept (map place_of places) run.output
+            → IsHeldOf code activations input budget after
+        held_after after ends_put output_put carried = subst (λ (xs : List Activation). IsHeldOf code xs input budget after) (sym is.are_all) over
+          where
+            same_body : frame_outcome code activations budget ≡ body
+            same_body = ap (λ (xs : List Activation). frame_outcome code xs budget) is.are_all
+
+            ended : IsHeld all input body put (carried_over all (open_in put (length all)) kept (map place_of places) run.output) (output_over held.ends.output (map place_of places) run.output (written_count all 1))
+            ended =
+                ends_epoch is.before is.new input body frames kept plan (map place_of places) (opens.1 plan (map place_of places) all_stands) held.ends.ends held.ends.output run held_now
+                (ends_are ∙ ap (λ (b : ℕ → List ℤ → Outcome). ends_of (epoch_meaning plan frames b)) same_body)
+                (output_is ∙ ap (λ (b : ℕ → List ℤ → Outcome). sink_elements plan (epoch_meaning plan frames b)) same_body)
+
+            e : put ≡ after.ends.ends
+            e = ap (put_over held.ends.ends frames run.ends) (sym count) ∙ sym ends_put
+
+            k : carried_over all (open_in put (length all)) kept (map place_of places) run.output ≡ map kept_of after.kept.items
+            k =
+                ap (λ (es : List (Option TaskEnd)). carried_over all (open_in es (length all)) kept (map place_of places) run.output) e
+                ∙ ap (λ m. carried_over all (open_in after.ends.ends m) kept (map place_of places) run.output) (sym count)
+                ∙ ap (λ (xs : List Activation). carried_over xs (open_in after.ends.ends (frame_count layout)) kept (map place_of places) run.output) (sym is.are_all)
+                ∙ sym carried
+
+            o : output_over held.ends.output (map place_of places) run.output (written_count all 1) ≡ after.ends.output
+            o = ap (output_over held.ends.output (map place_of places) run.output) (sym positions) ∙ sym output_put
+
+            over : IsHeld all input body after.ends.ends (map kept_of after.kept.items) after.ends.output
+            over =
+                subst (λ (os : List (Option ℤ)). IsHeld all input body after.ends.ends (map kept_of after.kept.items) os) o
+                (subst (λ (ks : List epoch.Kept). IsHeld all input body after.ends.ends ks (output_over held.ends.output (map place_of places) run.output (written_count all 1))) k
+                (subst (λ (es : List (Option TaskEnd)). IsHeld all input body es (carried_over all (open_in put (length all)) kept (map place_of places) run.output) (output_over held.ends.output (map place_of places) run.output (written_count all 1))) e ended))

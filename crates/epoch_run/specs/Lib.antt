@@ -1,0 +1,6 @@
+-- What a reader believes: what the activations of a code come to on the machine.
+pub mod Run
+-- What restates private functions: what is held between two epochs, where a run stands there, and moving activations.
+pub mod Held
+pub mod Standing
+pub mod Adding

@@ -1,0 +1,36 @@
+-- Where a run stands between two epochs.
+use Rattle.std.specs.Prelude.{◌≡◌, ℕ, ◌≤◌, true, nat_lt, All, List, ◌++◌, length, take}
+use Rattle.control_run.specs.Stretches.{RunSoFar, advanced, given_by, remaining, whole}
+use Rattle.flow_core_laws.specs.declared.activation.Activation.{Activation}
+use Rattle.os_code.specs.Codes.{parts_of}
+use Rattle.os_code.specs.Tasks.{Fits}
+use Rattle.os_code.specs.declared.code.Code.{Code}
+use Rattle.stream_match_layouts.specs.Lawful.{AreLawful}
+use Rattle.stream_match_layouts.specs.Layout.{IsLayoutOf}
+use Rattle.epoch_run.specs.Held.{IsHeldBefore}
+use Rattle.epoch_run.specs.declared.result.Budgets.{Budgets}
+use Rattle.epoch_run.specs.declared.standing.Standing.{Standing}
+
+-- the control program has created the next activations, at most so many, and they stand behind those of a list
+pub record HasAdvanced (at_most : ℕ) (before after : RunSoFar) (list added_to : List Activation) : Type 0 where
+  pub is_list : added_to ≡ list ++ take at_most (remaining before)
+  pub is_run : after ≡ advanced before at_most
+  pub joined : given_by after ≡ given_by before ++ take at_most (remaining before)
+  pub all : nat_lt (length (remaining before)) at_most ≡ true → given_by after ≡ (whole after).activations
+  pub fit : All (Fits after.code) (given_by after)
+  pub lawful : AreLawful after.code.streams (given_by after)
+
+-- The activations so far are those that the control program of a code has created, and they are laid out; what is held is
+-- that of those before the epoch that comes.
+pub record StandsAt (code : Code) (input : List ℕ) (budgets : Budgets) (run : Standing) : Type 0 where
+  pub code_is : run.control.code ≡ parts_of code
+  pub input_is : run.control.input_len ≡ length input
+  pub budget_is : run.control.budget ≡ budgets.control
+  pub are_given : run.activations ≡ given_by run.control
+  pub fit : All (Fits (parts_of code)) run.activations
+  pub lawful : AreLawful code.streams run.activations
+  pub has_output : 2 ≤ code.streams
+  pub streams : length run.layout.writers ≡ code.streams
+  pub over : run.layout.input_len ≡ length input
+  pub laid : IsLayoutOf run.layout run.activations
+  pub held : IsHeldBefore (parts_of code) run.activations input budgets.task run.held

@@ -1,0 +1,161 @@
+ghost use Rattle.std.specs.Prelude.{◌≡◌, ◌<◌, ◌≤◌, IfOk, OnOk, length, map, nat_lt, slice_index};
+ghost use Rattle.flow_core_laws.specs.IsSound.{IsSound};
+ghost use Rattle.flow_core_laws.specs.Outcome.{ends_of};
+ghost use Rattle.flow_core_laws.specs.Plans.{sink_elements};
+ghost use Rattle.flow_core_laws.specs.Serves.{Serves};
+ghost use Rattle.flow_core_epochs.specs.Epoch.{StandsForEpoch, epoch_meaning, open_in};
+ghost use Rattle.os_code.specs.Codes.{parts_of};
+ghost use Rattle.stream_match.specs.Kept.{kept_of, place_of};
+ghost use Rattle.stream_match_layouts.specs.Layout.{IsLayout};
+ghost use Rattle.stream_match_layouts.specs.Spans.{frame_count};
+ghost use Rattle.epoch_run.specs.Held.{IsHeldOf, IsOpenEpoch};
+
+use crate::held::Held;
+use epoch_run_bodies::TaskBodies;
+use epoch_run_bodies::laws::{bodies_serve, later_activations_change_nothing};
+use flow_core_epochs::laws::{run_in_epochs, serving};
+use flow_core_epochs::{FrameBodies, open_frames};
+use flow_core_laws::{Bodies, Ends, Plan};
+use os_io::{List, Memory};
+use std::alloc::Global;
+use std::thread::Threads;
+use stream_match::{EpochPlan, Layout, build_epoch};
+use task_workers::{Gate, execute};
+
+/// Runs an epoch by so many workers: the activations of a layout that have no end yet, over what was kept for
+/// them. Where none is new, nothing is run. After `Memory` what is held may be anything, and the caller gives the run
+/// up.
+pub(crate) fn run_epoch<R: Threads + Sync, G: Gate>(
+    rt: &R,
+    alloc: Global,
+    bodies: &TaskBodies,
+    layout: &Layout,
+    input: &[u8],
+    workers: u32,
+    gate: &G,
+    held: &mut Held,
+) -> Result<(), Memory>
+    requires workers { (1 ≤ workers) × (workers ≤ 64) }
+    requires open { IsOpenEpoch bodies.now.code.now bodies.now.activations.now bodies.now.budget layout.now input.now held.old }
+    ensures { OnOk result (IsHeldOf (parts_of bodies.now.code.now) bodies.now.activations.now input.now bodies.now.budget held.new) }
+{
+    if has_new(bodies, held) {
+        run_open(rt, alloc, bodies, layout, input, workers, gate, held)
+    } else {
+        Ok(())
+    }
+}
+
+/// Whether some of the activations are new.
+pub(crate) fn has_new(bodies: &TaskBodies, held: &Held) -> bool
+    ensures { result ≡ nat_lt (length held.now.ends.ends) (length bodies.now.activations.now) }
+{
+    held.ends.ends.len() < bodies.activations.len()
+}
+
+/// Runs the activations that have no end yet.
+fn run_open<R: Threads + Sync, G: Gate>(
+    rt: &R,
+    alloc: Global,
+    bodies: &TaskBodies,
+    layout: &Layout,
+    input: &[u8],
+    workers: u32,
+    gate: &G,
+    held: &mut Held,
+) -> Result<(), Memory>
+    requires workers { (1 ≤ workers) × (workers ≤ 64) }
+    requires open { IsOpenEpoch bodies.now.code.now bodies.now.activations.now bodies.now.budget layout.now input.now held.old }
+    ensures { OnOk result (IsHeldOf (parts_of bodies.now.code.now) bodies.now.activations.now input.now bodies.now.budget held.new) }
+{
+    let frames = open_activations(alloc, layout, held)?;
+    run_these(
+        rt,
+        alloc,
+        bodies,
+        layout,
+        input,
+        workers,
+        gate,
+        frames.as_slice(),
+        held,
+    )
+}
+
+/// The activations of a layout that have no end yet.
+fn open_activations(alloc: Global, layout: &Layout, held: &Held) -> Result<List<u32>, Memory>
+    requires { IsLayout layout.now }
+    ensures { IfOk result (λ frames. frames ≡ open_in held.now.ends.ends (frame_count layout.now)) }
+{
+    let frames = open_frames(alloc, held.ends.ends.as_slice(), layout.frames() as u32)?;
+    Ok(frames)
+}
+
+/// Runs these activations, which are those that have no end yet.
+fn run_these<R: Threads + Sync, G: Gate>(
+    rt: &R,
+    alloc: Global,
+    bodies: &TaskBodies,
+    layout: &Layout,
+    input: &[u8],
+    workers: u32,
+    gate: &G,
+    frames: &[u32],
+    held: &mut Held,
+) -> Result<(), Memory>
+    requires workers { (1 ≤ workers) × (workers ≤ 64) }
+    requires open { IsOpenEpoch bodies.now.code.now bodies.now.activations.now bodies.now.budget layout.now input.now held.old }
+    requires frames { frames.now ≡ open_in held.old.ends.ends (frame_count layout.now) }
+    ensures { OnOk result (IsHeldOf (parts_of bodies.now.code.now) bodies.now.activations.now input.now bodies.now.budget held.new) }
+{
+    run_in_epochs();
+    serving(bodies);
+    bodies_serve();
+    later_activations_change_nothing();
+    let epoch = plan_these(alloc, bodies, layout, input, frames, held)?;
+    let run = run_frames(rt, alloc, &epoch.plan, frames, bodies, workers, gate)?;
+    held.take(alloc, layout, frames, epoch.places.as_slice(), &run)?;
+    Ok(())
+}
+
+/// The plan of the epoch of these activations.
+fn plan_these(
+    alloc: Global,
+    bodies: &TaskBodies,
+    layout: &Layout,
+    input: &[u8],
+    frames: &[u32],
+    held: &Held,
+) -> Result<EpochPlan, Memory>
+    requires open { IsOpenEpoch bodies.now.code.now bodies.now.activations.now bodies.now.budget layout.now input.now held.now }
+    requires frames { frames.now ≡ open_in held.now.ends.ends (frame_count layout.now) }
+    ensures sound { IfOk result (λ epoch. IsSound epoch.plan) }
+    ensures stands { IfOk result (λ epoch. StandsForEpoch epoch.plan bodies.now.activations.now input.now frames.now (map kept_of held.now.kept.items)
+        (map place_of epoch.places)) }
+{
+    run_in_epochs();
+    later_activations_change_nothing();
+    let epoch = build_epoch(alloc, layout, frames, held.kept.as_slice(), input)?;
+    Ok(epoch)
+}
+
+/// Runs the plan of an epoch with these frames.
+fn run_frames<R: Threads + Sync, B: Bodies, G: Gate>(
+    rt: &R,
+    alloc: Global,
+    plan: &Plan,
+    frames: &[u32],
+    bodies: &B,
+    workers: u32,
+    gate: &G,
+) -> Result<Ends, Memory>
+    requires workers { (1 ≤ workers) × (workers ≤ 64) }
+    requires sound { IsSound plan.now }
+    requires served { Serves plan.now (λ f. B.outcome bodies.now (slice_index frames.now f))
+        (λ f inputs outputs. (f < length frames.now) × B.takes bodies.now (slice_index frames.now f) inputs outputs) }
+    ensures ends { IfOk result (λ e. e.ends ≡ ends_of (epoch_meaning plan.now frames.now (B.outcome bodies.now))) }
+    ensures output { IfOk result (λ e. e.output ≡ sink_elements plan.now (epoch_meaning plan.now frames.now (B.outcome bodies.now))) }
+{
+    let bodies = FrameBodies { bodies, frames };
+    execute(rt, alloc, plan, &bodies, workers, gate)
+}

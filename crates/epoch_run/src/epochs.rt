@@ -1,0 +1,95 @@
+ghost use Rattle.std.specs.Prelude.{◌≡◌, ◌≤◌, All, IfOk, length};
+ghost use Rattle.os_code.specs.Codes.{parts_of};
+ghost use Rattle.os_code.specs.Outcomes.{control};
+ghost use Rattle.os_code.specs.Tasks.{Fits};
+ghost use Rattle.stream_match_layouts.specs.Lawful.{AreLawful};
+ghost use Rattle.stream_match_layouts.specs.Layout.{IsLayout, IsLayoutOf};
+ghost use Rattle.epoch_run.specs.Run.{AreBudgets, created, ends_on_machine};
+
+use crate::held::Held;
+use crate::result::{Budgets, RunResult};
+use crate::standing::Standing;
+use os_code::Code;
+use os_io::Memory;
+use std::alloc::Global;
+use std::thread::Threads;
+use task_workers::Gate;
+
+/// How many new activations an epoch has.
+const EPOCH: u32 = 4096;
+
+/// Runs a code over an input in epochs of 4,096 new activations: while 1 to 64 workers run one epoch, the control program
+/// creates the activations of the next one. What it comes to is the data-flow meaning of all activations that it creates.
+///
+/// The gate is called as in `execute`, with the number of a frame in its epoch. The activations, their positions, their
+/// ends and the output are held of the whole run, a plan and its cells of one epoch at a time.
+pub fn run_epochs<R: Threads + Sync, G: Gate>(
+    rt: &R,
+    alloc: Global,
+    code: &Code,
+    input: &[u8],
+    budgets: Budgets,
+    workers: u32,
+    gate: &G,
+) -> Result<RunResult, Memory>
+    requires workers { (1 ≤ workers) × (workers ≤ 64) }
+    requires input { length input.now ≤ 4194304 }
+    requires budgets { AreBudgets budgets }
+    // the layout of all activations that `main` creates, and how it ended
+    ensures layout { IfOk result (λ run. IsLayoutOf run.layout (created (parts_of code.now) input.now budgets)) }
+    ensures whole { IfOk result (λ run. IsLayout run.layout) }
+    ensures input { IfOk result (λ run. run.layout.input_len ≡ length input.now) }
+    ensures control { IfOk result (λ run. run.control ≡ (control (parts_of code.now) (length input.now) budgets.control).end) }
+    // how they end, and the elements of the output
+    ensures ends { IfOk result (λ run. run.ends
+        ≡ ends_on_machine (parts_of code.now) (created (parts_of code.now) input.now budgets) input.now budgets.task) }
+    // each of them fits the code, and they are what a layout takes
+    ensures fit { IfOk result (λ run. All (Fits (parts_of code.now)) (created (parts_of code.now) input.now budgets)) }
+    ensures lawful { IfOk result (λ run. AreLawful code.now.streams (created (parts_of code.now) input.now budgets)) }
+{
+    run_epochs_of(rt, alloc, code, input, budgets, workers, gate, EPOCH)
+}
+
+/// Runs a code over an input in epochs of at most so many new activations, as `run_epochs` does.
+pub fn run_epochs_of<R: Threads + Sync, G: Gate>(
+    rt: &R,
+    alloc: Global,
+    code: &Code,
+    input: &[u8],
+    budgets: Budgets,
+    workers: u32,
+    gate: &G,
+    at_most: u32,
+) -> Result<RunResult, Memory>
+    requires workers { (1 ≤ workers) × (workers ≤ 64) }
+    requires input { length input.now ≤ 4194304 }
+    requires budgets { AreBudgets budgets }
+    requires some { 1 ≤ at_most }
+    // the layout of all activations that `main` creates, and how it ended
+    ensures layout { IfOk result (λ run. IsLayoutOf run.layout (created (parts_of code.now) input.now budgets)) }
+    ensures whole { IfOk result (λ run. IsLayout run.layout) }
+    ensures input { IfOk result (λ run. run.layout.input_len ≡ length input.now) }
+    ensures control { IfOk result (λ run. run.control ≡ (control (parts_of code.now) (length input.now) budgets.control).end) }
+    // how they end, and the elements of the output
+    ensures ends { IfOk result (λ run. run.ends
+        ≡ ends_on_machine (parts_of code.now) (created (parts_of code.now) input.now budgets) input.now budgets.task) }
+    // each of them fits the code, and they are what a layout takes
+    ensures fit { IfOk result (λ run. All (Fits (parts_of code.now)) (created (parts_of code.now) input.now budgets)) }
+    ensures lawful { IfOk result (λ run. AreLawful code.now.streams (created (parts_of code.now) input.now budgets)) }
+{
+    let mut run = Standing::new(alloc, code, input, budgets)?;
+    let end = 'epochs: loop {
+        let end = run.go_on(rt, alloc, code, input, budgets, workers, gate, at_most)?;
+        if let Some(end) = end {
+            break 'epochs end;
+        }
+    };
+    run.run_last(rt, alloc, code, input, budgets, workers, gate)?;
+    let Standing { layout, held, .. } = run;
+    let Held { ends, .. } = held;
+    Ok(RunResult {
+        layout,
+        ends,
+        control: end,
+    })
+}

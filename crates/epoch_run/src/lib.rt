@@ -1,0 +1,24 @@
+//! Runs of a code in epochs: workers run some of the activations while the control program creates the next ones, and what
+//! may still be read of what they wrote is carried over to those.
+//!
+//! `run_epochs` takes a code and an input, and gives the positions of all activations that the control program creates,
+//! how each of them ended, the elements of the output, and how the control program ended: the data-flow meaning of the
+//! whole run, for every number of workers.
+//!
+//! Between two epochs stand the ends and the output of the activations so far, as these alone mean them, and the elements
+//! that later ones may read. The frames of an epoch are the activations that have no end yet: the new ones, and those of
+//! earlier epochs that still wait. A frame that waits gets its cells anew in each epoch. So the plan and the cells of one
+//! epoch alone are held at once.
+#![tactic(auto)]
+
+mod adding;
+mod beside;
+mod epoch;
+mod epochs;
+mod held;
+mod putting;
+mod result;
+mod standing;
+
+pub use epochs::{run_epochs, run_epochs_of};
+pub use result::{Budgets, RunResult};

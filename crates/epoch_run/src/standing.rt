@@ -1,0 +1,141 @@
+ghost use Rattle.std.specs.Prelude.{◌≡◌, ◌<◌, ◌≤◌, None, IfOk, IfSome, OnOk, length};
+ghost use Rattle.os_code.specs.Codes.{parts_of};
+ghost use Rattle.os_code.specs.Outcomes.{control};
+ghost use Rattle.stream_match_layouts.specs.Layout.{IsLayout, IsLayoutOf};
+ghost use Rattle.epoch_run.specs.Run.{AreBudgets, created, ends_on_machine};
+ghost use Rattle.epoch_run.specs.Standing.{StandsAt};
+
+use crate::adding::add;
+use crate::beside::run_and_advance;
+use crate::epoch::run_epoch;
+use crate::held::Held;
+use crate::result::Budgets;
+use control_run::ControlRun;
+use epoch_run_bodies::TaskBodies;
+use flow_core_epochs::laws::run_in_epochs;
+use flow_core_laws::{Activation, ControlEnd};
+use os_code::Code;
+use os_io::{List, Memory};
+use std::alloc::Global;
+use std::thread::Threads;
+use stream_match::Layout;
+use task_workers::Gate;
+
+/// A run between two epochs.
+#[derive(Drop)]
+pub(crate) struct Standing<'c> {
+    /// The control program, where it has come.
+    control: ControlRun<'c>,
+    /// The activations that it has created.
+    activations: List<Activation>,
+    /// Their positions.
+    pub layout: Layout,
+    /// What is held of those that were run.
+    pub held: Held,
+}
+
+impl<'c> Standing<'c> {
+    /// A run before its first epoch.
+    pub(crate) fn new(
+        alloc: Global,
+        code: &'c Code,
+        input: &[u8],
+        budgets: Budgets,
+    ) -> Result<Standing<'c>, Memory>
+        requires input { length input.now ≤ 4194304 }
+        requires budgets { AreBudgets budgets }
+        ensures { IfOk result (λ run. StandsAt code.now input.now budgets run) }
+    {
+        run_in_epochs();
+        let control = ControlRun::new(alloc, code, input.len() as u32, budgets.control)?;
+        let layout = Layout::new(alloc, code.streams, input.len() as u32)?;
+        Ok(Standing {
+            control,
+            activations: List::new(alloc),
+            layout,
+            held: Held::nothing(alloc),
+        })
+    }
+
+    /// Runs an epoch, and has the control program create the activations of the next one, at most so many. It answers how
+    /// the control program has ended, once it has. After `Memory` the run is to be given up.
+    pub(crate) fn go_on<R: Threads + Sync, G: Gate>(
+        &mut self,
+        rt: &R,
+        alloc: Global,
+        code: &Code,
+        input: &[u8],
+        budgets: Budgets,
+        workers: u32,
+        gate: &G,
+        at_most: u32,
+    ) -> Result<Option<ControlEnd>, Memory>
+        requires workers { (1 ≤ workers) × (workers ≤ 64) }
+        requires budgets { AreBudgets budgets }
+        requires stands { StandsAt code.now input.now budgets self.old }
+        requires some { 1 ≤ at_most }
+        ensures stands { IfOk result (λ _. StandsAt code.now input.now budgets self.new) }
+        ensures grows { IfOk result (λ end. end ≡ None → length self.old.activations < length self.new.activations) }
+        ensures all { IfOk result (λ end. IfSome end (λ _. self.new.activations ≡ created (parts_of code.now) input.now budgets)) }
+        ensures end { IfOk result (λ end. IfSome end (λ e. e ≡ (control (parts_of code.now) (length input.now) budgets.control).end)) }
+    {
+        let mut next = List::new(alloc);
+        let bodies = TaskBodies {
+            code,
+            activations: self.activations.as_slice(),
+            budget: budgets.task,
+        };
+        run_and_advance(
+            rt,
+            alloc,
+            &bodies,
+            &self.layout,
+            input,
+            workers,
+            gate,
+            &mut self.held,
+            &mut self.control,
+            &mut next,
+            at_most,
+        )?;
+        add(alloc, &mut self.activations, &mut self.layout, next)?;
+        Ok(self.control.end())
+    }
+
+    /// Runs the last epoch.
+    pub(crate) fn run_last<R: Threads + Sync, G: Gate>(
+        &mut self,
+        rt: &R,
+        alloc: Global,
+        code: &Code,
+        input: &[u8],
+        budgets: Budgets,
+        workers: u32,
+        gate: &G,
+    ) -> Result<(), Memory>
+        requires workers { (1 ≤ workers) × (workers ≤ 64) }
+        requires budgets { AreBudgets budgets }
+        requires stands { StandsAt code.now input.now budgets self.old }
+        ensures layout { OnOk result (IsLayoutOf self.new.layout self.old.activations) }
+        ensures whole { OnOk result (IsLayout self.new.layout) }
+        ensures input { OnOk result (self.new.layout.input_len ≡ length input.now) }
+        ensures ends { OnOk result (self.new.held.ends ≡ ends_on_machine (parts_of code.now) self.old.activations input.now budgets.task) }
+    {
+        let bodies = TaskBodies {
+            code,
+            activations: self.activations.as_slice(),
+            budget: budgets.task,
+        };
+        run_epoch(
+            rt,
+            alloc,
+            &bodies,
+            &self.layout,
+            input,
+            workers,
+            gate,
+            &mut self.held,
+        )?;
+        Ok(())
+    }
+}
