@@ -1,0 +1,138 @@
+//! Runs in short epochs beside the run in one.
+
+ghost use Rattle.std.specs.Prelude.{◌≤◌, length};
+ghost use Rattle.os_lexer.specs.Limits.{text_limit};
+
+use epoch_run::{Budgets, RunResult, run_epochs_of};
+use front_end::read_program;
+use kernels::{BROADCAST, INVERT, LIFT, PIPELINE, SMOOTH};
+use lowering::lower;
+use os_code::Code;
+use std::alloc::Global;
+use std::process::Abort;
+use std::test::Fail;
+use std::thread::Threads;
+use task_workers::NoGate;
+
+/// How many turns an activation has: enough for all but what never ends.
+const TURNS: u64 = 40;
+
+const INPUT: [u8; 24] = [
+    3, 141, 59, 26, 53, 58, 97, 93, 238, 46, 26, 43, 38, 32, 79, 50, 28, 84, 19, 71, 69, 39, 93, 75,
+];
+
+/// The first activation waits for the last; positions are skipped behind it, and read again over the borders of short epochs.
+const WAITING: &str = r"int main(void) {
+    int s __attribute__((stream)), t __attribute__((stream));
+    int i, x, y, z;
+    #pragma omp tick(s >> 19)
+    #pragma omp task input(s >> x) output(osout << y)
+    y = x;
+    for (i = 0; i < 20; i++) {
+        int w[4];
+        #pragma omp task input(osin >> x) output(s << y, t << z)
+        { y = x; z = x + i; }
+        #pragma omp task input(t >> w[1]) output(osout << y)
+        y = (w[0] + w[3]) & 255;
+        #pragma omp tick(osin >> 0)
+    }
+}
+";
+/// Each activation waits for the one behind it; one traps, and one never ends.
+const BACKWARD: &str = r"int main(void) {
+    int s[12] __attribute__((stream));
+    int i, x, y, z;
+    for (i = 0; i < 10; i++) {
+        #pragma omp task input(s[i + 1] >> x) output(s[i] << z, osout << y)
+        { y = x; z = x + 1; }
+    }
+    #pragma omp task output(s[11] << x)
+    x = 1 / 0;
+    #pragma omp task input(osin >> x) output(s[10] << z)
+    z = x;
+    #pragma omp task output(osout << y)
+    while (1) ;
+}
+";
+/// Elements that nobody reads, and some that are read ten epochs after they were written.
+const KEPT: &str = r"int main(void) {
+    int s __attribute__((stream)), u __attribute__((stream));
+    int i, x, y;
+    #pragma omp task output(s << x, u << y)
+    { x = 7; y = 8; }
+    for (i = 0; i < 12; i++) {
+        int w[1];
+        #pragma omp task input(s >> w[0]) output(osout << y)
+        y = w[0] + i;
+    }
+    #pragma omp task input(s >> x) output(osout << y)
+    y = x;
+}
+";
+
+const PROGRAMS: [&str; 8] = [
+    INVERT, SMOOTH, LIFT, PIPELINE, BROADCAST, WAITING, BACKWARD, KEPT,
+];
+
+/// The code of a text that is a program.
+fn compiled(rt: &impl Abort, alloc: Global, text: &str) -> Option<Code> {
+    assert!(rt; text.len() <= 262_144);
+    let checked = read_program(alloc, text.as_bytes()).ok()?;
+    lower(alloc, &checked).ok()
+}
+
+/// A run in epochs of at most so many activations, by so many workers.
+fn run<R: Threads + Sync>(
+    rt: &R,
+    alloc: Global,
+    code: &Code,
+    length: u32,
+    workers: u32,
+) -> Option<RunResult>
+    requires length { 1 ≤ length }
+    requires workers { (1 ≤ workers) × (workers ≤ 64) }
+{
+    let budgets = Budgets {
+        task: TURNS,
+        control: 1_000_000,
+    };
+    run_epochs_of(rt, alloc, code, &INPUT, budgets, workers, &NoGate, length).ok()
+}
+
+/// Whether two runs came to the same: how each activation and `main` ended, and the output.
+fn are_same(run: &RunResult, other: &RunResult) -> bool {
+    run.control == other.control
+        && run.ends.ends.as_slice() == other.ends.ends.as_slice()
+        && run.ends.output.as_slice() == other.ends.output.as_slice()
+}
+
+/// Asks that a program comes to the same in epochs of this length, by one worker and by three, as in one epoch.
+fn comes_to_the_same<R: Threads + Sync + Abort>(rt: &R, alloc: Global, text: &str, length: u32)
+    requires { 1 ≤ length }
+{
+    let code = compiled(rt, alloc, text);
+    let Some(code) = code else {
+        assert!(rt; false, "{text}");
+        return;
+    };
+    let whole = run(rt, alloc, &code, 4096, 1);
+    let alone = run(rt, alloc, &code, length, 1);
+    let beside = run(rt, alloc, &code, length, 3);
+    match (whole, alone, beside) {
+        (Some(whole), Some(alone), Some(beside)) => {
+            assert!(rt; are_same(&whole, &alone), "{text}");
+            assert!(rt; are_same(&whole, &beside), "{text}");
+        }
+        _ => assert!(rt; false, "memory is ample"),
+    }
+}
+
+#[test]
+fn short_epochs_come_to_what_one_comes_to(rt: HostRuntime) -> Result<(), Fail> {
+    for text in PROGRAMS {
+        for length in 1..5 {
+            comes_to_the_same(&rt, rt.alloc(), text, length);
+        }
+    }
+    Ok(())
+}
