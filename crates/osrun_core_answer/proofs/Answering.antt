@@ -1,22 +1,19 @@
 -- What the answer to a request says.
-use Rattle.std.proofs.Common.{◌≡◌, ◌∙◌, ◌⊎◌, inl, inr, subst, ℕ, zero, suc, ◌+◌, ◌<◌, ◌≤◌, List, [], ◌∷◌, Option, Some, None, All, IfSome, refl, sym, ap, arith, length, slice_get, take, cond, Bool, true, false, get_or}
-use Rattle.std.specs.Prelude.{Result, Ok, Err}
-use Rattle.std.proofs.lemmas.List.Elements.{All-get_or, All-head, All-nil}
+use Rattle.std.proofs.Common.{◌≡◌, ◌∙◌, ◌⊎◌, inl, inr, subst, ℕ, zero, suc, ◌<◌, ◌≤◌, List, [], ◌∷◌, Option, Some, None, All, IfSome, refl, sym, ap, arith, length, slice_get, take, cond, Bool, true, false}
+use Rattle.std.proofs.lemmas.List.Elements.{All-get_or}
 use Rattle.std.proofs.lemmas.Option.{get_or_from_slice_get, same_Some, slice_get_within}
 use Rattle.collector.specs.Report.{report}
 use Rattle.collector.specs.Status.{status}
-use Rattle.front_end.specs.Texts.{IsAccepted, NeverBoth}
-use Rattle.os_io.specs.Counts.{raised}
+use Rattle.front_end.specs.Texts.{NeverBoth}
 use Rattle.os_io.specs.declared.files.Files.{Ghosts as FilesView}
 use Rattle.os_io.specs.declared.sink.Sink.{Ghosts as SinkView}
-use Rattle.osrun_core_answer.specs.Answers.{AnswersRequest, HasCause, IsCut, IsGiven, IsMade, asked_files}
+use Rattle.osrun_core_answer.specs.Answers.{AnswersRequest, HasCause, IsGiven, IsMade, asked_files}
 use Rattle.osrun_core_answer.specs.Made.{AnswersGen, IsMadeOf, IsUnmadeOf}
-use Rattle.osrun_core_answer.specs.Outcome.{IsOutcome, Outcome}
 use Rattle.osrun_core_jobs.specs.Files.{JobFile, files_of, limit_of}
 use Rattle.osrun_core_jobs.specs.HandsOver.{HandsOver}
 use Rattle.osrun_core_jobs.specs.Jobs.{Gen, GenJob, IsGenWithin, IsWithin, Job, Request, Run as RunRequest}
 use Rattle.osrun_core_jobs.specs.Reading.{IsCauseOf, IsFailed, IsReadable, IsRejected, ReadsInOrder, WasRead, WereRead}
-use Rattle.osrun_core_jobs.specs.Refusal.{refusal_line, refusal_status, usage_line}
+use Rattle.osrun_core_jobs.specs.Refusal.{refusal_status, usage_line}
 use Rattle.osrun_core_jobs.specs.Refuses.{Refuses}
 use Rattle.osrun_core_jobs.specs.Status.{code_of}
 use Rattle.osrun_core_jobs.specs.Telling.{IsUndelivered, Tells, Took, TookLines}
@@ -28,7 +25,6 @@ use Rattle.osrun_core_jobs.specs.declared.subject.Subject.{Subject}
 use Rattle.osrun_core_jobs.specs.declared.subject.Subject.TheVariants as subjects
 use Rattle.osrun_core_run.specs.Reported.{IsReportOf}
 use Rattle.osrun_core_run.specs.Refusal.{IsUnusable, IsUsable}
-use Rattle.osrun_core_run.specs.Run.{ProgramRun}
 use Rattle.osrun_core_run.specs.declared.made.Run.{Run}
 
 -- ---- files

@@ -1,5 +1,5 @@
 -- What loading one file says of it.
-use Rattle.std.proofs.Common.{◌≡◌, ◌⊎◌, inl, inr, ℕ, ◌≤◌, List, Some, None, ap, arith, length}
+use Rattle.std.proofs.Common.{◌≡◌, ◌⊎◌, inl, inr, ℕ, ◌≤◌, List, ap, arith}
 use Rattle.std.specs.Prelude.{◌≢◌}
 use Rattle.os_io.specs.Counts.{raised}
 use Rattle.os_io.specs.declared.files.Files.{Ghosts as FilesView}
@@ -21,11 +21,11 @@ module _ {F : Type 0} (view : FilesView F) (old new : F) (subject : Subject) (na
   not_loaded (refusals.TooLong s) h none = record {
     named = h.0;
     too_many = h.1;
-    held = h.2.0;
-    left = h.2.1;
+    held = h.2;
+    left = h.3;
     no_fault = none (λ e. let n : 4 ≡ 5 = ap code_of e in omega arith);
   }
-  not_loaded (refusals.ReadFault s) h none = record { named = h.0; within = h.1; fault = h.2.0; left = h.2.1 }
+  not_loaded (refusals.ReadFault s) h none = record { named = h.0; within = h.1; fault = h.2; left = h.3 }
   not_loaded refusals.Memory h none = tt
   not_loaded (refusals.Refused code line) h none = absurd h
 

@@ -1,8 +1,6 @@
 -- What reading the files of a run one after the other says of its job.
-use Rattle.std.proofs.Common.{◌≡◌, ◌⊎◌, inl, inr, ℕ, ◌+◌, ◌≤◌, Bool, true, List, [], ◌∷◌, IsTrue, refl, subst, arith}
+use Rattle.std.proofs.Common.{◌≡◌, inl, inr, ℕ, ◌+◌, ◌≤◌, Bool, true, List, [], ◌∷◌, IsTrue, refl, subst, arith}
 use Rattle.std.proofs.lemmas.Bool.{cases_lt}
-use Rattle.front_end.specs.Texts.{IsAccepted}
-use Rattle.os_ast.specs.Trees.{ProgramTree}
 use Rattle.os_io.specs.Counts.{raised, last_count}
 use Rattle.os_io.specs.declared.files.Files.{Ghosts as FilesView}
 use Rattle.osrun_core_answer.specs.Made.{IsUnmadeOf}

@@ -1,5 +1,5 @@
 -- What is given doesn't depend on the number of workers.
-use Rattle.std.proofs.Common.{◌≡◌, ◌∙◌, ◌*◌, subst, ℕ, List, [], ◌∷◌, Option, Some, All, IfSome, refl, sym, ap, ap₂, length, map, get_or}
+use Rattle.std.proofs.Common.{◌≡◌, ◌∙◌, ◌*◌, subst, ℕ, List, [], ◌∷◌, Option, Some, All, IfSome, refl, sym, ap, length, map, get_or}
 use Rattle.std.specs.Prelude.{unwrap_or}
 use Rattle.std.proofs.lemmas.List.Elements.{All-head, All-tail}
 use Rattle.std.proofs.lemmas.Option.{same_Some}
@@ -15,7 +15,7 @@ use Rattle.kernels.specs.declared.texts.TheConstants.{LIFT}
 use Rattle.os_ast.specs.Trees.{ProgramTree}
 use Rattle.os_io.specs.declared.files.Files.{Ghosts as FilesView}
 use Rattle.osrun_core_answer.specs.Answers.{IsMade}
-use Rattle.osrun_core_answer.specs.Gen.{IsRunOfGen, four_lines, gen_budget, gen_lines}
+use Rattle.osrun_core_answer.specs.Gen.{four_lines, gen_budget, gen_lines}
 use Rattle.osrun_core_answer.specs.Laws.{IsTold, SameButForWorkers, WorkersChangeNothing}
 use Rattle.osrun_core_answer.specs.Outcome.{IsOutcome, IsOutcomeOfGen, IsOutcomeOfRun, Outcome}
 use Rattle.osrun_core_jobs.specs.Files.{JobFile, files_of}

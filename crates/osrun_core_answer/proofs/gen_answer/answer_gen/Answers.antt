@@ -1,4 +1,4 @@
-use Rattle.std.proofs.Common.{◌∙◌, [], inl, refl, sym, subst}
+use Rattle.std.proofs.Common.{◌∙◌, [], inl, refl, subst}
 use Rattle.osrun_core_jobs.specs.HandsOver.{HandsOver}
 use Rattle.osrun_core_jobs.specs.Jobs.{gen_of}
 use Rattle.osrun_core_jobs.specs.declared.status.Status.TheVariants as statuses
