@@ -22,10 +22,9 @@ module _ {F : Type 0} (view : FilesView F) (old new : F) (subject : Subject) (na
     named = h.0;
     too_many = h.1;
     held = h.2;
-    left = h.3;
     no_fault = none (λ e. let n : 4 ≡ 5 = ap code_of e in omega arith);
   }
-  not_loaded (refusals.ReadFault s) h none = record { named = h.0; within = h.1; fault = h.2; left = h.3 }
+  not_loaded (refusals.ReadFault s) h none = record { named = h.0; within = h.1; fault = h.2 }
   not_loaded refusals.Memory h none = tt
   not_loaded (refusals.Refused code line) h none = absurd h
 
@@ -55,7 +54,6 @@ refused_text view old new name text (refusals.Refused code line) loaded faults (
   bytes = text;
   read = loaded.read;
   whole = loaded.whole;
-  at_end = loaded.at_end;
   refused = why;
   no_fault = faults;
 }

@@ -2,13 +2,11 @@
 use Rattle.std.specs.Prelude.{◌≡◌, ℕ, ◌+◌, ◌<◌, ◌≤◌, List, IfSome, length}
 use Rattle.std.specs.Io.KnownBytes.{IsAtEnd}
 use Rattle.os_io.specs.Counts.{HasRisen}
-use Rattle.os_io.specs.Reading.{IsReadUpTo}
 use Rattle.os_io.specs.declared.files.Files.{Ghosts as FilesView}
 use Rattle.osrun_core_jobs.specs.declared.subject.Subject.{Subject}
 use Rattle.osrun_core_jobs.specs.declared.refusal.Refusal.{Refusal}
 use Rattle.osrun_core_jobs.specs.declared.refusal.Refusal.TheVariants as refusal
 use Rattle.osrun_core_jobs.specs.Files.{AreBytesOf, limit_of}
-use Rattle.osrun_core_jobs.specs.Reading.{IsLeft}
 
 -- the bytes are all those of the file, and within its limit
 pub record IsLoaded {F : Type 0} (view : FilesView F) (old new : F) (subject : Subject) (name bytes : List ℕ) : Type 0 where
@@ -20,8 +18,7 @@ pub record IsLoaded {F : Type 0} (view : FilesView F) (old new : F) (subject : S
 abbrev pub IsLoadRefusal : {F : Type 0} → FilesView F → F → F → Subject → List ℕ → Refusal → Type 0
 IsLoadRefusal view old new subject name (refusal.TooLong s) =
     (s ≡ subject) × (view.given new ≡ limit_of subject + 1) × IfSome (view.holds old name) (λ told. limit_of subject < length told)
-    × IsReadUpTo (view.holds old name) (view.given new) (view.rest new)
 IsLoadRefusal view old new subject name (refusal.ReadFault s) =
-    (s ≡ subject) × (view.given new ≤ limit_of subject) × HasRisen (view.faults old) (view.faults new) × IsLeft view old new name
+    (s ≡ subject) × (view.given new ≤ limit_of subject) × HasRisen (view.faults old) (view.faults new)
 IsLoadRefusal view old new subject name refusal.Memory = Unit {0}
 IsLoadRefusal view old new subject name (refusal.Refused code line) = ⊥

@@ -7,7 +7,6 @@
 use Rattle.std.specs.Prelude.{◌≡◌, ◌≤◌, ◌<◌, ◌+◌, ◌⊎◌, ℕ, List, [], ◌∷◌, IfSome, Option, Some, All, length, slice_get, take}
 use Rattle.std.specs.Io.KnownBytes.{IsAtEnd}
 use Rattle.os_io.specs.Counts.{HasRisen, raised}
-use Rattle.os_io.specs.Reading.{IsReadUpTo}
 use Rattle.os_io.specs.declared.files.Files.{Ghosts as FilesView}
 use Rattle.osrun_core_jobs.specs.Files.{AreBytesOf, JobFile, limit_of}
 use Rattle.osrun_core_jobs.specs.declared.refusal.Refusal.{Refusal}
@@ -21,12 +20,6 @@ Use = Subject → List ℕ → Type 0
 -- bytes are refused as such a file, by this code, and by this line where the code has one
 abbrev pub Misuse : Type 1
 Misuse = Subject → List ℕ → ℕ → Option ℕ → Type 0
-
--- What is left of a file that was opened and failed, where that is told: what comes behind as many bytes as were given; or, where it
--- could not be opened, what was left of the file before it, of which no byte was read.
-abbrev pub IsLeft : {F : Type 0} → FilesView F → F → F → List ℕ → Type 0
-IsLeft view old new name =
-    IsReadUpTo (view.holds old name) (view.given new) (view.rest new) ⊎ ((view.given new ≡ 0) × (view.rest new ≡ view.rest old))
 
 -- One file was opened and read whole, to its end, and its bytes are usable. As many bytes were given as it has, and no fault was counted.
 pub record WasRead (usable : Use) {F : Type 0} (view : FilesView F) (old new : F) (file : JobFile) (bytes : List ℕ) : Type 0 where
@@ -52,7 +45,6 @@ pub record IsMisused (unusable : Misuse) {F : Type 0} (view : FilesView F) (old 
   pub bytes : List ℕ
   pub read : AreBytesOf (view.holds old file.name) file.subject bytes
   pub whole : view.given new ≡ length bytes
-  pub at_end : IsAtEnd (view.rest new)
   pub refused : unusable file.subject bytes code line
   pub no_fault : view.faults new ≡ view.faults old
 
@@ -61,7 +53,6 @@ pub record IsTooLong {F : Type 0} (view : FilesView F) (old new : F) (file : Job
   pub named : subject ≡ file.subject
   pub too_many : view.given new ≡ limit_of file.subject + 1
   pub held : IfSome (view.holds old file.name) (λ told. limit_of file.subject < length told)
-  pub left : IsReadUpTo (view.holds old file.name) (view.given new) (view.rest new)
   pub no_fault : view.faults new ≡ view.faults old
 
 -- It could not be read: the files counted a fault.
@@ -69,7 +60,6 @@ pub record IsUnread {F : Type 0} (view : FilesView F) (old new : F) (file : JobF
   pub named : subject ≡ file.subject
   pub within : view.given new ≤ limit_of file.subject
   pub fault : HasRisen (view.faults old) (view.faults new)
-  pub left : IsLeft view old new file.name
 
 -- Why a file that was opened gives no job; want of memory says nothing of it.
 abbrev pub IsFailed : (unusable : Misuse) → {F : Type 0} → FilesView F → F → F → JobFile → Refusal → Type 0
