@@ -4,3 +4,4 @@ pub mod Parts
 pub mod Turns
 pub mod Packed
 pub mod Unpacked
+pub mod Divisions

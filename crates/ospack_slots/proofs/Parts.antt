@@ -1,5 +1,5 @@
 -- Slots and pieces one after another, and what becomes of them.
-use Rattle.std.proofs.Common.{◌≡◌, ℕ, ◌+◌, ◌-◌, ◌/◌, ◌%◌, ◌≤◌, List, [], ◌∷◌, ◌++◌, length, take, drop, replicate, refl, sym, ap, ◌∙◌, subst, append_assoc, append-nil, length-append, take_at, drop_at, arith}
+use Rattle.std.proofs.Common.{◌≡◌, ℕ, ◌+◌, ◌-◌, ◌≤◌, List, [], ◌∷◌, ◌++◌, length, replicate, refl, sym, ap, ◌∙◌, subst, append_assoc, append-nil, length-append, arith}
 use Rattle.std.proofs.lemmas.List.{length-replicate}
 use Rattle.std.specs.Prelude.{flat_map}
 use Rattle.ospack_slots.specs.Slots.{IsSlotOf, IsPieceOf, AreParts, piece, slot_of}
@@ -14,7 +14,7 @@ parts_then {IsPart = P} (more p q r qs here parts) part payload is =
     subst (λ (b : List ℕ). AreParts P b (q ∷ (qs ++ payload ∷ []))) (sym (append_assoc p r part)) (more p q (r ++ part) (qs ++ payload ∷ []) here (parts_then parts part payload is))
 
 -- a slot has at least the bytes of its piece
-slot_length : (size : ℕ) (slot payload : List ℕ) → IsSlotOf size slot payload → length payload + 2 ≤ size
+pub slot_length : (size : ℕ) (slot payload : List ℕ) → IsSlotOf size slot payload → length payload + 2 ≤ size
 slot_length size slot payload is =
     let long : length slot ≡ size = is.long in
     let whole : length slot ≡ length (piece payload ++ is.ignored) = ap length is.holds in
@@ -63,34 +63,3 @@ saves {size = size} (more p q r qs here parts) =
     let one : length (piece q ++ flat_map piece qs) ≡ length (piece q) + length (flat_map piece qs) = length-append (piece q) (flat_map piece qs) in
     let two : length (p ++ r) ≡ length p + length r = length-append p r in
     omega arith
-
--- what begins as a slot does has one payload
-same_payload : (p q i j : List ℕ)
-    → length p % 256 ∷ length p / 256 ∷ (p ++ i) ≡ length q % 256 ∷ length q / 256 ∷ (q ++ j) → p ≡ q
-same_payload p q i j e =
-    let low : length p % 256 ≡ length q % 256 = cc in
-    let high : length p / 256 ≡ length q / 256 = cc in
-    let rest : p ++ i ≡ q ++ j = cc in
-    let same : length p ≡ length q = omega arith in
-    sym (take_at p i (length p) refl) ∙ ap (take (length p)) rest ∙ take_at q j (length p) (sym same)
-
-pub one_payloads : {size : ℕ} {bytes others : List ℕ} {one other : List (List ℕ)} → AreParts (IsSlotOf size) bytes one
-    → AreParts (IsSlotOf size) others other → bytes ≡ others → one ≡ other
-one_payloads none none same = refl
-one_payloads {size = size} none (more p q r qs here parts) same =
-    let short : length q + 2 ≤ size = slot_length size p q here in
-    let long : length p ≡ size = here.long in
-    let none : 0 ≡ length (p ++ r) = ap length same in
-    let two : length (p ++ r) ≡ length p + length r = length-append p r in
-    absurd (omega arith)
-one_payloads {size = size} (more p q r qs here parts) none same =
-    let short : length q + 2 ≤ size = slot_length size p q here in
-    let long : length p ≡ size = here.long in
-    let none : length (p ++ r) ≡ 0 = ap length same in
-    let two : length (p ++ r) ≡ length p + length r = length-append p r in
-    absurd (omega arith)
-one_payloads {size = size} (more p q r qs here parts) (more p' q' r' qs' here' parts') same =
-    let first : p ≡ p' = sym (take_at p r size here.long) ∙ ap (take size) same ∙ take_at p' r' size here'.long in
-    let rest : r ≡ r' = sym (drop_at p r size here.long) ∙ ap (drop size) same ∙ drop_at p' r' size here'.long in
-    let payload : q ≡ q' = same_payload q q' here.ignored here'.ignored (sym here.holds ∙ first ∙ here'.holds) in
-    ap (λ (x : List ℕ). x ∷ qs) payload ∙ ap (λ (xs : List (List ℕ)). q' ∷ xs) (one_payloads parts parts' rest)

@@ -6,7 +6,7 @@
 //! with zeros. Both stream by a slot at a time, in one buffer, and refuse a slot whose length passes it by its number.
 //!
 //! Their contracts say byte by byte what was read and what the sink took, by each answer. `unpacks_what_was_packed` says
-//! that the one undoes the other, up to what a slot ignores.
+//! that the one undoes the other, up to what a slot ignores, and `inputs_have_one_answer` that an input has no other answer.
 #![tactic(auto)]
 
 mod errors;
@@ -19,6 +19,6 @@ mod turn;
 mod unpacking;
 
 pub use errors::{PackError, SlotFault};
-pub use laws::unpacks_what_was_packed;
+pub use laws::{inputs_have_one_answer, unpacks_what_was_packed};
 pub use packing::pack;
 pub use unpacking::unpack;

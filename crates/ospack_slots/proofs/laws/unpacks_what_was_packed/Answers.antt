@@ -1,5 +1,4 @@
-use Rattle.std.proofs.Common.{refl}
-use Rattle.ospack_slots.proofs.Parts.{packs, unpacks, back, saves, one_payloads}
+use Rattle.ospack_slots.proofs.Parts.{packs, unpacks, back, saves}
 use Rattle.ospack_slots.proofs.laws.unpacks_what_was_packed.Goals as goal
 
 pub returns-clause-packed : goal.returns-clause-packed
@@ -13,6 +12,3 @@ returns-clause-back c = λ size bytes payloads are. back are
 
 pub returns-clause-saves : goal.returns-clause-saves
 returns-clause-saves c = λ size bytes payloads are. saves are
-
-pub returns-clause-one : goal.returns-clause-one
-returns-clause-one c = λ size bytes one other are others. one_payloads are others refl
