@@ -560,6 +560,39 @@ completes "a text with a byte that begins no token, completed" 1 'int main(void)
 status=$?
 check "files that can't be completed" 2 "" "stop.c:1: error 1: a byte or a run of characters that begins no token: take it out / none.c: can't be read"
 
+# The program that packs slots.
+# packs NAME STATUS INPUT OUT REPORT WORD..: runs it over an input; the output is compared in hexadecimal.
+packs() {
+    printf '%b' "$3" | "$top/ospack" "${@:6}" >out 2>report
+    status=$?
+    check "$1" "$2" "$4" "$5"
+}
+packs "slots" 0 '\003\000abcxyz\000\000defghi' 03006162630000 "" pack 8
+packs "no slots" 0 '' "" "" pack 8
+packs "a slot that is full" 0 '\001\000a\001\000b' 010061010062 "" pack 3
+packs "pieces" 0 '\003\000abc\000\000' 03006162630000000000000000000000 "" unpack 8
+packs "a slot whose length passes it" 3 '\003\000abcxyz\007\000defghi' 0300616263 "slot 1 length 7" pack 8
+packs "a slot with a long length" 3 '\000\001abcxyz' "" "slot 0 length 256" pack 8
+packs "a slot that ends early" 3 '\003\000abcxyz\000\000de' 0300616263 "slot 1 ends early" pack 8
+packs "a piece that ends in its length" 3 '\003\000abc\001' 0300616263000000 "slot 1 ends early" unpack 8
+packs "a piece that ends early" 3 '\003\000ab' "" "slot 0 ends early" unpack 8
+packs "a piece whose length passes a slot" 3 '\007\000abcdefg' "" "slot 0 length 7" unpack 8
+for words in "" pack "pack 1" "pack 65537" "pack x" "pack -8" "pack 8 8" "shrink 8" "PACK 8"; do
+    # shellcheck disable=SC2086
+    packs "words that ask for no packing: $words" 2 '' "" usage $words
+done
+packs "the largest slot" 0 '\000\000' "$(printf '00%.0s' $(seq 65536))" "" unpack 65536
+printf '\001\000a' | "$top/ospack" pack 3 >/dev/full 2>report
+status=$?
+: >out
+check "slots for a full disk" 6 "" "write fault"
+"$top/ospack" pack 8 <folder >out 2>report
+status=$?
+check "a folder for slots" 5 "" "read fault"
+LD_PRELOAD=$work/failing_allocation.so FAILING_ALLOCATION=1 "$top/crates/ospack/out/ospack" pack 8 </dev/null >out 2>report
+status=$?
+check "no memory for the words of a packer" 7 "" "out of memory"
+
 # Where the program isn't built, or was built from another commit, the toolchain runs it, and the first line says so.
 copy=$work/copy
 mkdir "$copy"

@@ -1,0 +1,77 @@
+//! The program `ospack`: packs the slots that standard input has, or unpacks what was packed of some.
+//!
+//! `ospack pack SLOT` takes slots of SLOT bytes and writes the length and the bytes of each; `ospack unpack SLOT` takes what was
+//! packed and writes slots again, with zeros behind their bytes. SLOT counts the two bytes of length too: it is 2 to 65,536.
+//! Where not all goes well, one line on standard error says why, and what stands before a slot that is refused was written.
+#![tactic(auto)]
+
+ghost use Rattle.std.specs.Prelude.{◌≤◌, ◌^◌, IsTrue};
+
+mod request;
+mod status;
+mod telling;
+
+use os_io::{Files, HostFiles, HostSink, Sink};
+use ospack_slots::{PackError, pack, unpack};
+use request::{Request, Way, request_of};
+use status::Status;
+use std::alloc::Global;
+use std::process::ExitCode;
+use std::rt::Env;
+use std::{env, io};
+use telling::{tell, tell_no_memory, tell_usage};
+
+/// The name of standard input as a file.
+const INPUT: &str = "/dev/stdin";
+
+/// The words behind the program's name. An error where one of them isn't text, or where memory is wanting.
+fn arguments(rt: &(impl Env + AllocGlobal)) -> io::Result<Vec<String>> {
+    let mut words = env::args(rt)?;
+    let _ = words.next();
+    Ok(words.collect(rt.alloc())?)
+}
+
+/// Packs or unpacks standard input.
+fn answer<F: Files, S: Sink>(
+    alloc: Global,
+    files: &mut F,
+    out: &mut S,
+    request: &Request,
+) -> Result<(), PackError>
+    requires low { 2 ≤ request.now.size }
+    requires high { request.now.size ≤ 2 ^ 16 }
+    requires may { IsTrue (F.may files.old (F.opens files.old) INPUT.now) }
+{
+    files.open(INPUT)?;
+    match request.way {
+        Way::Pack => pack(alloc, files, out, request.size),
+        Way::Unpack => unpack(alloc, files, out, request.size),
+    }
+}
+
+/// Does what the words ask for, and tells why where that isn't done.
+fn answer_words(rt: &HostRuntime, words: &[String]) -> Status {
+    let mut told = rt.stderr();
+    match request_of(words) {
+        None => tell_usage(&mut told),
+        Some(request) => {
+            let mut files = HostFiles::new(rt);
+            let mut out = HostSink::new(rt.stdout());
+            match answer(rt.alloc(), &mut files, &mut out, &request) {
+                Ok(()) => Status::AllDone,
+                Err(error) => tell(&mut told, error),
+            }
+        }
+    }
+}
+
+fn main(rt: HostRuntime) -> ExitCode {
+    let status = match arguments(&rt) {
+        Ok(words) => answer_words(&rt, &words),
+        Err(error) if error.kind() == io::ErrorKind::OutOfMemory => tell_no_memory(
+            &mut rt.stderr(),
+        ),
+        Err(_) => tell_usage(&mut rt.stderr()),
+    };
+    ExitCode::from(status.code())
+}

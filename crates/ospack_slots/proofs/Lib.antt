@@ -1,0 +1,7 @@
+pub mod Filled
+pub mod Lengths
+pub mod Parts
+pub mod Turns
+pub mod Packed
+pub mod Unpacked
+pub mod Divisions

@@ -1,0 +1,18 @@
+//! What packing and unpacking are to one another. The laws take nothing and do nothing.
+
+ghost use Rattle.ospack_slots.specs.Formats.{packing, unpacking};
+ghost use Rattle.ospack_slots.specs.Laws.{PacksToPieces, UnpacksToSlots, PacksBack, NeverGrows, DividesOnce};
+
+/// What unpacks is what was packed, up to what a slot ignores, and packing saves bytes or none.
+pub fn unpacks_what_was_packed()
+    ensures packed { PacksToPieces }
+    ensures unpacked { UnpacksToSlots }
+    ensures back { PacksBack }
+    ensures saves { NeverGrows }
+{}
+
+/// An input has one answer: it is slots, or pieces, with one list of payloads, and then ends or is refused in one way.
+pub fn inputs_have_one_answer()
+    ensures slots { DividesOnce packing }
+    ensures pieces { DividesOnce unpacking }
+{}
