@@ -6,11 +6,14 @@ use Rattle.std.proofs.lemmas.List.Elements.{All-get_or}
 use Rattle.std.proofs.lemmas.Option.{get_or_from_slice_get, slice_get_within}
 use Rattle.cddf_meaning.specs.Body.{body, over_budget}
 use Rattle.collector.specs.Written.{IsByteIfThere}
-use Rattle.epoch_run.specs.Run.{ends_on_machine}
-use Rattle.epoch_run.specs.declared.result.RunResult.{RunResult}
-use Rattle.flow_core_laws.specs.Streams.{stream_ends}
+use Rattle.flow_core_laws.specs.Laws.{MeansTheStreams, SinkIsTheOutput}
+use Rattle.flow_core_laws.specs.Outcome.{ends_of}
+use Rattle.flow_core_laws.specs.Plans.{plan_meaning, sink_elements}
+use Rattle.flow_core_laws.specs.StandsFor.{StandsFor}
+use Rattle.flow_core_laws.specs.Streams.{output_elements, stream_meaning}
 use Rattle.flow_core_laws.specs.declared.activation.Activation.{Activation}
 use Rattle.flow_core_laws.specs.declared.ends.Ends.{Ends}
+use Rattle.flow_core_laws.specs.declared.plan.Plan.{Plan}
 use Rattle.lowering.specs.Meanings.{RunsBodies}
 use Rattle.os_ast.specs.Trees.{ProgramTree}
 use Rattle.os_code.specs.Outcomes as machine
@@ -32,10 +35,23 @@ module _ (code : Parts) (p : ProgramTree) (activations : List Activation) (budge
       ∙ runs x inputs budget fits long
       ∙ sym (ap (λ o. option_map_or (λ (y : Activation). body p y inputs budget) o over_budget) at)
 
-  -- so they come to the same
-  pub ends_are : AgreeingBodiesMeanOne → (input : List ℕ) → ends_on_machine code activations input budget ≡ ends_over p activations input budget
-  ends_are one input =
-      ap (stream_ends activations input) (one activations input (frame_outcome code activations budget) (body_at p activations budget) agree)
+  pub ends_are : AgreeingBodiesMeanOne → MeansTheStreams → SinkIsTheOutput → (plan : Plan) (input : List ℕ) (ends : Ends) → StandsFor plan activations input
+      → ends.ends ≡ ends_of (plan_meaning plan (frame_outcome code activations budget)) → ends.output ≡ sink_elements plan (plan_meaning plan (frame_outcome code activations budget))
+      → ends ≡ ends_over p activations input budget
+  ends_are one means sink plan input ends stands of_ends of_output =
+      let state = stream_meaning activations input (body_at p activations budget) in
+      let meant : plan_meaning plan (frame_outcome code activations budget) ≡ state =
+      means plan activations input (frame_outcome code activations budget) stands ∙ one activations input (frame_outcome code activations budget) (body_at p activations budget) agree in
+      let es : ends.ends ≡ ends_of state = of_ends ∙ ap ends_of meant in
+      let os : ends.output ≡ output_elements activations input state = of_output ∙ ap (sink_elements plan) meant ∙ sink plan activations input state stands in
+      ap (λ xs. record { ends = xs; output = ends.output }) es ∙ ap (λ xs. record { ends = ends_of state; output = xs }) os
+
+  pub ends_if : {E : Type 0} → AgreeingBodiesMeanOne → MeansTheStreams → SinkIsTheOutput → (plan : Plan) (input : List ℕ) → StandsFor plan activations input → (r : Result Ends E)
+      → IfOk r (λ (e : Ends). e.ends ≡ ends_of (plan_meaning plan (frame_outcome code activations budget)))
+      → IfOk r (λ (e : Ends). e.output ≡ sink_elements plan (plan_meaning plan (frame_outcome code activations budget)))
+      → IfOk r (λ (e : Ends). e ≡ ends_over p activations input budget)
+  ends_if one means sink plan input stands (Ok ends) of_ends of_output = ends_are one means sink plan input ends stands of_ends of_output
+  ends_if one means sink plan input stands (Err error) of_ends of_output = tt
 
 -- the output of a program has only bytes
 pub bytes_are : RunsKeep → OutputsAreBytes → (p : ProgramTree) (activations : List Activation) (input : List ℕ) (budget : ℕ) → All IsByteIfThere (ends_over p activations input budget).output
@@ -50,15 +66,8 @@ bytes_are keep bytes p activations input budget =
     there None h = tt
     there (Some value) h = h value refl
 
-pub bytes_if : {E : Type 0} → RunsKeep → OutputsAreBytes → (p : ProgramTree) (activations : List Activation) (input : List ℕ) (budget : ℕ) (r : Result RunResult E)
-    → IfOk r (λ (run : RunResult). run.ends ≡ ends_over p activations input budget) → IfOk r (λ (run : RunResult). All IsByteIfThere run.ends.output)
-bytes_if keep bytes p activations input budget (Ok run) is =
+pub bytes_if : {E : Type 0} → RunsKeep → OutputsAreBytes → (p : ProgramTree) (activations : List Activation) (input : List ℕ) (budget : ℕ) (r : Result Ends E)
+    → IfOk r (λ (e : Ends). e ≡ ends_over p activations input budget) → IfOk r (λ (e : Ends). All IsByteIfThere e.output)
+bytes_if keep bytes p activations input budget (Ok ends) is =
     subst (λ (e : Ends). All IsByteIfThere e.output) (sym is) (bytes_are keep bytes p activations input budget)
 bytes_if keep bytes p activations input budget (Err error) is = tt
-
--- and where a run of the code was made, its ends are those of the program's activations
-pub ends_if : {E : Type 0} (code : Parts) (p : ProgramTree) (activations : List Activation) (budget : ℕ) → RunsBodies code p → AgreeingBodiesMeanOne → (input : List ℕ) (r : Result RunResult E)
-    → IfOk r (λ (run : RunResult). All (Fits code) activations) → IfOk r (λ (run : RunResult). run.ends ≡ ends_on_machine code activations input budget)
-    → IfOk r (λ (run : RunResult). run.ends ≡ ends_over p activations input budget)
-ends_if code p activations budget runs one input (Ok run) fit is = is ∙ ends_are code p activations budget runs fit one input
-ends_if code p activations budget runs one input (Err error) fit is = tt

@@ -5,7 +5,6 @@ use Rattle.collector.specs.Written.{written}
 use Rattle.flow_core_laws.specs.declared.control.Control.{Control}
 use Rattle.flow_core_laws.specs.declared.control.ControlEnd.{ControlEnd}
 use Rattle.flow_core_laws.specs.declared.ends.Ends.{Ends}
-use Rattle.epoch_run.specs.declared.result.Budgets.{Budgets}
 use Rattle.os_ast.specs.Trees.{ProgramTree}
 use Rattle.osrun_core_run.specs.Run.{ends_over}
 use Rattle.osrun_core_jobs.specs.declared.job.Terms.{Terms}
@@ -18,10 +17,6 @@ pub record AreTerms (terms : Terms) : Type 0 where
   pub few_workers : terms.workers ≤ 64
   pub task_turns : terms.task_budget ≤ 1000000000
   pub control_turns : terms.control_budget ≤ 1000000000
-
--- the budgets among the terms of a run
-abbrev pub budgets_of : Terms → Budgets
-budgets_of terms = record { task = terms.task_budget; control = terms.control_budget }
 
 -- The output, the layout and the ends are those of the activations that the control program creates, with
 -- these budgets.

@@ -4,16 +4,18 @@ ghost use Rattle.os_ast.specs.Views.{program_tree};
 ghost use Rattle.os_code.specs.Codes.{parts_of};
 ghost use Rattle.osrun_core_run.specs.RunOf.{AreTerms, IsRunOf};
 
+use crate::lay_out::lay_out;
 use crate::made::Run;
-use crate::run_code::run_code;
+use crate::run_tasks::run_tasks;
 use collector::output_bytes;
-use epoch_run::RunResult;
+use control_run::run_control;
 use lowering::{LowerError, lower};
 use os_code::Code;
 use os_io::Memory;
 use osrun_core_jobs::Terms;
 use std::alloc::Global;
 use std::thread::Threads;
+use stream_match::build;
 use task_workers::Gate;
 use window_check::Checked;
 
@@ -28,7 +30,8 @@ fn compile(alloc: Global, checked: &Checked) -> Result<Code, Memory>
     }
 }
 
-/// Runs a program over an input: it is compiled, its code is run, and the output's bytes are collected.
+/// Runs a program over an input: it is compiled, its control program is run, the activations get their positions and a
+/// plan, workers carry it out, and the output's bytes are collected.
 pub fn run_program<R: Threads + Sync, G: Gate>(
     rt: &R,
     alloc: Global,
@@ -43,16 +46,15 @@ pub fn run_program<R: Threads + Sync, G: Gate>(
         (program_tree checked.now.program) input.now run.output.items run.layout run.ends run.control) }
 {
     let code = compile(alloc, checked)?;
-    let RunResult {
-        layout,
-        ends,
-        control,
-    } = run_code(rt, alloc, terms, &code, input, gate)?;
+    let control = run_control(alloc, &code, input.len() as u32, terms.control_budget)?;
+    let layout = lay_out(alloc, &code, &control, input)?;
+    let plan = build(alloc, &layout, input)?;
+    let ends = run_tasks(rt, alloc, terms, &code, &control, &plan, gate)?;
     let output = output_bytes(alloc, &ends)?;
     Ok(Run {
         output,
         layout,
         ends,
-        control,
+        control: control.end,
     })
 }

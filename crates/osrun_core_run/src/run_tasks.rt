@@ -1,0 +1,55 @@
+ghost use Rattle.std.specs.Prelude.{◌≡◌, ◌≤◌, ℕ, List, All, IfOk};
+ghost use Rattle.collector.specs.Written.{IsByteIfThere};
+ghost use Rattle.flow_core_laws.specs.IsSound.{IsSound};
+ghost use Rattle.flow_core_laws.specs.StandsFor.{StandsFor};
+ghost use Rattle.lowering.specs.Meanings.{RunsBodies};
+ghost use Rattle.os_ast.specs.Trees.{ProgramTree};
+ghost use Rattle.os_code.specs.Codes.{parts_of};
+ghost use Rattle.os_code.specs.Tasks.{Fits};
+ghost use Rattle.osrun_core_run.specs.Run.{ends_over};
+
+use crate::body_laws::outputs_are_bytes;
+use cddf_meaning::laws::turns_never_grow;
+use epoch_run_bodies::TaskBodies;
+use epoch_run_bodies::laws::{agreeing_bodies_mean_one, bodies_serve};
+use flow_core_laws::{Control, Ends, Plan, laws};
+use os_code::Code;
+use os_io::Memory;
+use osrun_core_jobs::Terms;
+use std::alloc::Global;
+use std::thread::Threads;
+use task_workers::{Gate, execute};
+
+/// Carries out the plan of a run: each frame runs the task of its activation on one of the workers. What it comes
+/// to is what the activations of the program come to, whatever the number of workers, and its output has only bytes.
+pub fn run_tasks<R: Threads + Sync, G: Gate>(
+    rt: &R,
+    alloc: Global,
+    terms: Terms,
+    code: &Code,
+    control: &Control,
+    plan: &Plan,
+    gate: &G,
+) -> Result<Ends, Memory>
+    requires workers { (1 ≤ terms.workers) × (terms.workers ≤ 64) }
+    requires budget { terms.task_budget ≤ 1000000000 }
+    requires fit { All (Fits (parts_of code.now)) control.now.activations }
+    requires sound { IsSound plan.now }
+    requires stands { (input : List ℕ) × StandsFor plan.now control.now.activations input }
+    ensures meaning { (p : ProgramTree) (input : List ℕ) → RunsBodies (parts_of code.now) p → StandsFor plan.now control.now.activations input
+        → IfOk result (λ ends. ends ≡ ends_over p control.now.activations input terms.task_budget) }
+    ensures bytes { (p : ProgramTree) (input : List ℕ) → RunsBodies (parts_of code.now) p → StandsFor plan.now control.now.activations input
+        → IfOk result (λ ends. All IsByteIfThere ends.output) }
+{
+    let bodies = TaskBodies {
+        code,
+        activations: control.activations.as_slice(),
+        budget: terms.task_budget,
+    };
+    bodies_serve();
+    agreeing_bodies_mean_one();
+    outputs_are_bytes();
+    turns_never_grow();
+    laws::plan_meaning();
+    execute(rt, alloc, plan, &bodies, terms.workers, gate)
+}
