@@ -1,9 +1,9 @@
 -- Lines that answer as they are told.
 use Rattle.std.specs.Prelude.{ℕ, ◌+◌, List, [], ◌∷◌, None}
 use Rattle.steal_pool.specs.Lines.{LineState}
-use Rattle.runtime_tests.specs.declared.hands.asked.Told.{Told}
-use Rattle.runtime_tests.specs.declared.hands.asked.Answer.{Answer}
-use Rattle.runtime_tests.specs.declared.hands.asked.Answer.TheVariants.{Number, Given, Empty, Raced}
+use Rattle.runtime_tests.specs.declared.told.Told.{Told}
+use Rattle.runtime_tests.specs.declared.told.Answer.{Answer}
+use Rattle.runtime_tests.specs.declared.told.Answer.TheVariants.{Number, Given, Empty, Raced}
 
 -- what was given before an answer
 abbrev pub given_before : Answer → ℕ → List ℕ

@@ -29,3 +29,4 @@ mod plans;
 mod reports;
 #[cfg(test)]
 mod rounds;
+mod told;

@@ -14,7 +14,7 @@ use std::process::Abort;
 use std::test::Fail;
 
 /// What the frames give: frame 0 one more than it reads, frame 1 the number 41. A table never runs bodies, so
-/// that these take no frame.
+/// that these take frame 1 alone.
 #[derive(Drop)]
 struct Reader;
 
@@ -23,7 +23,7 @@ impl Bodies for Reader {
 
     ghost outcome = { λ s f inputs. reader.outcome f inputs };
 
-    ghost takes = { λ s f i o. ⊥ };
+    ghost takes = { λ s f i o. (f ≡ 1) × (o ≡ 1) };
 
     ghost fits = { λ s t. ⊤ };
 
@@ -31,13 +31,8 @@ impl Bodies for Reader {
         Ok(())
     }
 
-    fn run(
-        &self,
-        _frame: u32,
-        _inputs: &[i32],
-        _outputs: &mut [i32],
-        _scratch: &mut (),
-    ) -> TaskEnd {
+    fn run(&self, _frame: u32, _inputs: &[i32], outputs: &mut [i32], _scratch: &mut ()) -> TaskEnd {
+        outputs[0] = 41;
         TaskEnd::Done
     }
 }

@@ -1,57 +1,10 @@
 //! A round over lines that answer as they are told.
 ghost use Rattle.std.specs.Prelude.{◌≤◌};
 
+use crate::told::{Answer, Told};
 use std::process::Abort;
 use std::test::Fail;
-use steal_pool::{Line, Look, look_round};
-
-/// What a line answers.
-#[derive(Clone, Copy, Debug)]
-enum Answer {
-    /// Its number, and then that it is empty.
-    Number,
-    /// That it is empty, since it gave its number.
-    Given,
-    Empty,
-    /// That a race was lost, and then that it is empty.
-    Raced,
-}
-
-/// A line that answers as it is told.
-#[derive(Clone, Copy, Drop)]
-struct Told {
-    answer: Answer,
-    number: u32,
-    finds: u64,
-    races: u64,
-}
-
-impl Line for Told {
-    ghost use Rattle.runtime_tests.specs.Told.{told_shows};
-    ghost use Rattle.std.specs.Prelude.{⊤};
-
-    ghost shows = { told_shows };
-
-    ghost tells = { λ _ _ _. ⊤ };
-
-    fn take(&mut self) -> Look {
-        match self.answer {
-            Answer::Number => {
-                self.answer = Answer::Given;
-                Look::Frame(self.number)
-            }
-            Answer::Given | Answer::Empty => {
-                self.finds = self.finds.saturating_add(1);
-                Look::Empty
-            }
-            Answer::Raced => {
-                self.answer = Answer::Empty;
-                self.races = self.races.saturating_add(1);
-                Look::Raced
-            }
-        }
-    }
-}
+use steal_pool::{Look, look_round};
 
 /// What the own line and two others answer, what a round over them gives, and how many of them are asked.
 struct Case {
