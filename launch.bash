@@ -3,6 +3,8 @@
 # Statuses of its own: 69 where the toolchain is missing, 70 where it couldn't run the program.
 # It is read by ./osrun, ./oscheck and ./ospack, which set `top`, the top of the repository, and `name`, the program.
 program=$top/crates/$name/out/$name
+# A file that may grow no further fails the write then, and doesn't end the program: it has no call that says so itself.
+trap '' XFSZ
 
 # The commit that is checked out: a build leaves it beside the program as its stamp. Where it stands in no file of its own,
 # git tells it.

@@ -121,7 +121,7 @@ def main():
             made = subprocess.run([OSRUN, *RUN], stdout=full, stderr=subprocess.PIPE, timeout=60, check=False)
         ask("an output that is full", (made.returncode, made.stderr) == (6, b""), made)
         with open("limited", "wb") as file:
-            made = subprocess.run([OSRUN, *RUN], stdout=file, stderr=subprocess.PIPE, timeout=60, check=False, preexec_fn=limited)
+            made = subprocess.run([f"{TOP}/osrun", *RUN], stdout=file, stderr=subprocess.PIPE, timeout=60, check=False, preexec_fn=limited)
         with open("limited", "rb") as file:
             out = file.read()
         ask("an output that is limited in length", (made.returncode, made.stderr, out) == (6, b"", whole[1][:7]), (made, out))
