@@ -102,7 +102,7 @@ run run first.c /dev/stdin <in.bin
 check "an input from standard input" 0 04030201 "control done / output 4 of 4"
 run run first.c /dev/stdin <&-
 check "an input from a standard input that is closed" 1 "" "starved 0 stream 0 position 0 producer none / control done / output 0 of 4"
-(ulimit -n 4 && exec "$program" run first.c in.bin >out 2>report)
+sh -c 'ulimit -n 4 && exec "$0" run first.c in.bin' "$program" >out 2>report
 status=$?
 check "one descriptor beside the standard streams" 0 04030201 "control done / output 4 of 4"
 : >out
