@@ -18,7 +18,13 @@ functions() {
 # Each row as a block of C: what is no body is made one.
 rows() {
     awk '
-    { text = text $0 " " }
+    {
+        # A text goes on behind a line break that is escaped, and the spaces before the next line are no part of it.
+        line = $0
+        if (goes_on) sub(/^ +/, "", line)
+        goes_on = sub(/\\$/, "", line)
+        text = text line (goes_on ? "" : " ")
+    }
     END {
         while (match(text, /\( *"[^"]*", *-?[0-9]+,? *\)/)) {
             row = substr(text, RSTART, RLENGTH)
