@@ -593,6 +593,28 @@ LD_PRELOAD=$work/failing_allocation.so FAILING_ALLOCATION=1 "$top/crates/ospack/
 status=$?
 check "no memory for the words of a packer" 7 "" "out of memory"
 
+# A coder of pictures that writes slots: what is packed is as long as the guide says, and gives back the picture. So does noise,
+# which is packed as it is.
+# squeezed NAME FILE LENGTH: codes a file, packs and unpacks what was written, and decodes it.
+squeezed() {
+    run run "$top/examples/squeeze.c" "$2"
+    "$top/ospack" pack 4099 <out >packed
+    "$top/ospack" unpack 4099 <packed >slots
+    run run "$top/examples/unsqueeze.c" slots
+    if [ "$status" = 0 ] && cmp -s "$2" out && [ "$(wc -c <packed)" = "$3" ]; then
+        passed=$((passed + 1))
+    else
+        failed=$((failed + 1))
+        printf '%s: status %s, report %s, %s bytes packed\n' "$1" "$status" "$(told)" "$(wc -c <packed)"
+    fi
+}
+python3 "$top/examples/picture.py" >picture
+squeezed "a picture, squeezed" picture 104207
+bytes 65536 "x / 8388608" >noise.picture
+squeezed "noise, squeezed" noise.picture 65584
+head -c 65536 /dev/zero >black
+squeezed "a black picture, squeezed" black 496
+
 # Where the program isn't built, or was built from another commit, the toolchain runs it, and the first line says so.
 copy=$work/copy
 mkdir "$copy"

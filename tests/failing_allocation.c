@@ -13,8 +13,8 @@ static unsigned long made;
 
 static int fails(void) {
     const char *failing = getenv("FAILING_ALLOCATION");
-    made += 1;
-    return failing != 0 && strtoul(failing, 0, 10) == made;
+    unsigned long number = __atomic_add_fetch(&made, 1, __ATOMIC_RELAXED);
+    return failing != 0 && strtoul(failing, 0, 10) == number;
 }
 
 void *malloc(size bytes) {

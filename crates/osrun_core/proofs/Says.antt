@@ -196,6 +196,7 @@ failed_from view old between new file (refusals.Refused code line) holds faults 
   bytes = failed.bytes;
   read = subst (λ h. AreBytesOf (h file.name) file.subject failed.bytes) holds failed.read;
   whole = failed.whole;
+  at_end = failed.at_end;
   refused = failed.refused;
   no_fault = failed.no_fault ∙ faults;
 }

@@ -3,8 +3,9 @@ use Rattle.std.proofs.Common.{◌≡◌, ◌⊎◌, inl, inr, ℕ, ◌≤◌, Li
 use Rattle.std.specs.Prelude.{◌≢◌}
 use Rattle.os_io.specs.Counts.{raised}
 use Rattle.os_io.specs.declared.files.Files.{Ghosts as FilesView}
+use Rattle.osrun_core_jobs.specs.Files.{JobFile}
 use Rattle.osrun_core_jobs.specs.FileLoad.{IsLoaded, IsLoadRefusal}
-use Rattle.osrun_core_jobs.specs.Reading.{IsFailed, Opened, WasRead}
+use Rattle.osrun_core_jobs.specs.Reading.{IsFailed, IsLeft, Opened, WasRead}
 use Rattle.osrun_core_jobs.specs.Refusal.{refusal_status}
 use Rattle.osrun_core_jobs.specs.Status.{code_of}
 use Rattle.osrun_core_jobs.specs.declared.refusal.Refusal.{Refusal}
@@ -54,6 +55,7 @@ refused_text view old new name text (refusals.Refused code line) loaded faults (
   bytes = text;
   read = loaded.read;
   whole = loaded.whole;
+  at_end = loaded.at_end;
   refused = why;
   no_fault = faults;
 }
@@ -65,6 +67,8 @@ refused_text view old new name text (refusals.ReadFault s) loaded faults (inl is
 refused_text view old new name text (refusals.ReadFault s) loaded faults (inr why) = absurd why
 
 -- one more file was opened
-pub opened_so : {F : Type 0} (view : FilesView F) (old new : F) → view.opens new ≡ raised (view.opens old) 1 → view.faults old ≤ view.faults new
-    → view.holds new ≡ view.holds old → view.may new ≡ view.may old → Opened view old new
-opened_so view old new opened faults holds may = record { opened = opened; faults_kept = faults; holds_kept = holds; may_kept = may }
+pub opened_so : {F : Type 0} (view : FilesView F) (old new : F) (file : JobFile) → view.opens new ≡ raised (view.opens old) 1
+    → IsLeft view old new file.name → view.faults old ≤ view.faults new
+    → view.holds new ≡ view.holds old → view.may new ≡ view.may old → Opened view old new file
+opened_so view old new file opened left faults holds may =
+    record { opened = opened; left = left; faults_kept = faults; holds_kept = holds; may_kept = may }

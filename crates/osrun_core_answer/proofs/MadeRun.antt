@@ -40,7 +40,7 @@ may_open_input may opens job last allowed = elim (cases_lt opens last_count) [
 
 module _ {F : Type 0} (view : FilesView F) (job : Job) where
   -- the program is the cause
-  pub cause_of_program : (old new : F) (r : Refusal) → Opened view old new → IsFailed IsUnusable view old new (program_file job) r
+  pub cause_of_program : (old new : F) (r : Refusal) → Opened view old new (program_file job) → IsFailed IsUnusable view old new (program_file job) r
       → IsUnmadeOf view old new job r
   cause_of_program old new r opened failed = inl (record {
     place = 0;
@@ -51,7 +51,7 @@ module _ {F : Type 0} (view : FilesView F) (job : Job) where
 
   -- the input is, after the program was read
   pub cause_of_input : (old between new : F) (text : List ℕ) (r : Refusal) → WasRead IsUsable view old between (program_file job) text
-      → Opened view between new → IsFailed IsUnusable view between new (input_file job) r → IsUnmadeOf view old new job r
+      → Opened view between new (input_file job) → IsFailed IsUnusable view between new (input_file job) r → IsUnmadeOf view old new job r
   cause_of_input old between new text r read opened failed = inl (record {
     place = 1;
     file = input_file job;

@@ -25,7 +25,8 @@ abbrev pub ReadsProgram : {F : Type 0} → FilesView F → F → F → List ℕ 
 ReadsProgram view old new name result = MatchResult result
     (λ checked. (text : List ℕ) × WasRead IsUsable view old new (record { subject = subjects.Program; name = name }) text
     × IsAccepted text (program_tree checked.program))
-    (λ refusal. Opened view old new × IsFailed IsUnusable view old new (record { subject = subjects.Program; name = name }) refusal)
+    (λ refusal. Opened view old new (record { subject = subjects.Program; name = name })
+    × IsFailed IsUnusable view old new (record { subject = subjects.Program; name = name }) refusal)
 
 -- the files were read, and the run is that of the one over the other
 pub record IsMadeOf {F : Type 0} (view : FilesView F) (old new : F) (job : Job) (run : Run) : Type 0 where

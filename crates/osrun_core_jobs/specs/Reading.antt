@@ -7,6 +7,7 @@
 use Rattle.std.specs.Prelude.{◌≡◌, ◌≤◌, ◌<◌, ◌+◌, ◌⊎◌, ℕ, List, [], ◌∷◌, IfSome, Option, Some, All, length, slice_get, take}
 use Rattle.std.specs.Io.KnownBytes.{IsAtEnd}
 use Rattle.os_io.specs.Counts.{HasRisen, raised}
+use Rattle.os_io.specs.Reading.{IsReadUpTo}
 use Rattle.os_io.specs.declared.files.Files.{Ghosts as FilesView}
 use Rattle.osrun_core_jobs.specs.Files.{AreBytesOf, JobFile, limit_of}
 use Rattle.osrun_core_jobs.specs.declared.refusal.Refusal.{Refusal}
@@ -32,7 +33,8 @@ pub record WasRead (usable : Use) {F : Type 0} (view : FilesView F) (old new : F
   pub holds_kept : view.holds new ≡ view.holds old
   pub may_kept : view.may new ≡ view.may old
 
--- Files were read one after the other, each of them whole before the next one was opened.
+-- Files were read one after the other, each of them whole before the next one was opened. The files between are some files of
+-- which this holds; that a call of the trait left them isn't said.
 abbrev pub WereRead : (usable : Use) → {F : Type 0} → FilesView F → F → F → List JobFile → List (List ℕ) → Type 0
 WereRead usable view old new [] [] = new ≡ old
 WereRead usable view old new [] (bytes ∷ contents) = ⊥
@@ -40,11 +42,12 @@ WereRead usable view old new (file ∷ files) [] = ⊥
 WereRead usable {F} view old new (file ∷ files) (bytes ∷ contents) =
     (between : F) × WasRead usable view old between file bytes × WereRead usable view between new files contents
 
--- Of a file that was opened, bytes were read whole that are refused.
+-- A file that was opened was read whole, to its end, and its bytes are refused.
 pub record IsMisused (unusable : Misuse) {F : Type 0} (view : FilesView F) (old new : F) (file : JobFile) (code : ℕ) (line : Option ℕ) : Type 0 where
   pub bytes : List ℕ
   pub read : AreBytesOf (view.holds old file.name) file.subject bytes
   pub whole : view.given new ≡ length bytes
+  pub at_end : IsAtEnd (view.rest new)
   pub refused : unusable file.subject bytes code line
   pub no_fault : view.faults new ≡ view.faults old
 
@@ -68,9 +71,16 @@ IsFailed unusable view old new file (refusals.TooLong subject) = IsTooLong view 
 IsFailed unusable view old new file (refusals.ReadFault subject) = IsUnread view old new file subject
 IsFailed unusable view old new file refusals.Memory = Unit {0}
 
--- One more file was opened.
-pub record Opened {F : Type 0} (view : FilesView F) (old new : F) : Type 0 where
+-- What is left after a file was opened and read as far as bytes were given: what it holds without these bytes, where both are
+-- told; or it couldn't be opened, and what was left of the file before it is left as it was.
+abbrev pub IsLeft : {F : Type 0} → FilesView F → F → F → List ℕ → Type 0
+IsLeft view old new name = IsReadUpTo (view.holds old name) (view.given new) (view.rest new)
+    ⊎ ((view.given new ≡ 0) × (view.rest new ≡ view.rest old))
+
+-- One more file was opened, and nothing else was read since.
+pub record Opened {F : Type 0} (view : FilesView F) (old new : F) (file : JobFile) : Type 0 where
   pub opened : view.opens new ≡ raised (view.opens old) 1
+  pub left : IsLeft view old new file.name
   pub faults_kept : view.faults old ≤ view.faults new
   pub holds_kept : view.holds new ≡ view.holds old
   pub may_kept : view.may new ≡ view.may old
@@ -81,7 +91,7 @@ pub record EndedAt (usable : Use) {F : Type 0} (view : FilesView F) (old new : F
   pub contents : List (List ℕ)
   pub before : F
   pub earlier : WereRead usable view old before (take place files) contents
-  pub last : Opened view before new
+  pub last : Opened view before new file
 
 -- The cause of a refusal: a file at which the reading ended, and why.
 pub record IsCauseOf (usable : Use) (unusable : Misuse) {F : Type 0} (view : FilesView F) (old new : F) (files : List JobFile)

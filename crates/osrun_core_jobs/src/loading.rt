@@ -2,6 +2,7 @@ ghost use Rattle.std.specs.Prelude.{◌≡◌, ◌≢◌, ◌≤◌, IsTrue, IfO
 ghost use Rattle.os_io.specs.Counts.{raised};
 ghost use Rattle.osrun_core_jobs.specs.declared.status.Status.TheVariants.{ReadFault};
 ghost use Rattle.osrun_core_jobs.specs.FileLoad.{IsLoaded, IsLoadRefusal};
+ghost use Rattle.osrun_core_jobs.specs.Reading.{IsLeft};
 ghost use Rattle.osrun_core_jobs.specs.Refusal.{refusal_status};
 
 use crate::refusal::Refusal;
@@ -21,6 +22,7 @@ pub fn load<F: Files>(
     ensures refused { IfErr result (IsLoadRefusal F.Files files.old files.new subject name.now) }
     ensures no_fault { MatchResult result (λ _. F.faults files.new ≡ F.faults files.old)
         (λ r. refusal_status r ≢ ReadFault → F.faults files.new ≡ F.faults files.old) }
+    ensures left { IsLeft F.Files files.old files.new name.now }
     ensures faults_kept { F.faults files.old ≤ F.faults files.new }
     ensures opens { F.opens files.new ≡ raised (F.opens files.old) 1 }
     ensures holds { F.holds files.new ≡ F.holds files.old }

@@ -2,7 +2,7 @@ use Rattle.std.proofs.Common.{subst}
 use Rattle.std.proofs.lemmas.Result.{err_from_is_err_and}
 use Rattle.os_ast.specs.Views.{program_tree}
 use Rattle.osrun_core_answer.proofs.Loaded.{not_loaded, opened_so, was_read}
-use Rattle.osrun_core_answer.proofs.MadeRun.{both_read, cause_of_input, cause_of_program, may_open_input, may_open_program, memory_wanted}
+use Rattle.osrun_core_answer.proofs.MadeRun.{both_read, cause_of_input, cause_of_program, input_file, may_open_input, may_open_program, memory_wanted}
 use Rattle.osrun_core_jobs.specs.Jobs.{job_of}
 use Rattle.osrun_core_jobs.specs.declared.subject.Subject.TheVariants as subjects
 use Rattle.osrun_core_run.specs.RunOf.{IsRunOf}
@@ -32,7 +32,7 @@ returns-in_err-input g c =
     let between = c.read_program.new.files in
     let new = c.load.new.files in
     rw (e.1, e.2) (cause_of_input g.F.Files (job_of c.args.job.now) c.args.files.now between new was.0 c.in_err-input.field-0.0 was.1
-    (opened_so g.F.Files between new l.opens l.faults_kept l.holds l.may)
+    (opened_so g.F.Files between new (input_file (job_of c.args.job.now)) l.opens l.left l.faults_kept l.holds l.may)
     (not_loaded g.F.Files between new subjects.Input c.args.job.now.input.now c.in_err-input.field-0.0 l.refused l.no_fault))
 
 pub returns-in_err-run : goal.returns-in_err-run

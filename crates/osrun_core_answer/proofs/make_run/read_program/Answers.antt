@@ -13,7 +13,7 @@ returns-in_err-text g c =
     let e = err_from_is_err_and c.from_residual.result c.from_residual.ensures.1 in
     let l = c.in_err-text.ensures in
     rw (e.1, e.2) (
-      opened_so g.F.Files c.args.files.now c.load.new.files l.opens l.faults_kept l.holds l.may,
+      opened_so g.F.Files c.args.files.now c.load.new.files (record { subject = subjects.Program; name = c.args.name.now }) l.opens l.left l.faults_kept l.holds l.may,
       not_loaded g.F.Files c.args.files.now c.load.new.files subjects.Program c.args.name.now c.in_err-text.field-0.0 l.refused l.no_fault,
     )
 
@@ -24,7 +24,7 @@ returns-in_err-checked g c =
     let why = c.in_err-checked.field-0.0 in
     let refused = subst (λ text. (why ≡ refusals.Memory) ⊎ IsRefusalOf text why) c.deref.ensures.value c.in_err-checked.ensures.refused in
     rw (e.1, e.2) (
-      opened_so g.F.Files c.args.files.now c.load.new.files l.opens l.faults_kept l.holds l.may,
+      opened_so g.F.Files c.args.files.now c.load.new.files (record { subject = subjects.Program; name = c.args.name.now }) l.opens l.left l.faults_kept l.holds l.may,
       refused_text g.F.Files c.args.files.now c.load.new.files c.args.name.now c.in_ok-text.text.items why l.loaded l.no_fault refused,
     )
 
