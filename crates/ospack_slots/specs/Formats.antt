@@ -3,6 +3,8 @@ use Rattle.std.specs.Prelude.{◌≡◌, ℕ, ◌+◌, ◌<◌, ◌≤◌, ◌�
 use Rattle.ospack_slots.specs.Slots.{IsSlotOf, IsPieceOf, HasLength, piece, slot_of}
 use Rattle.ospack_slots.specs.declared.errors.SlotFault.{SlotFault}
 use Rattle.ospack_slots.specs.declared.errors.SlotFault.TheVariants.{EndsEarly, TooLong}
+use Rattle.ospack_slots.specs.declared.way.Way.{Way}
+use Rattle.ospack_slots.specs.declared.way.Way.TheVariants.{Packing, Unpacking}
 
 pub record Format : Type 1 where
   -- whether bytes are one part of the input, and its payload
@@ -31,3 +33,7 @@ packing size = record { IsPart = IsSlotOf size; written = piece; IsRefused = IsN
 -- from pieces to slots
 abbrev pub unpacking : ℕ → Format
 unpacking size = record { IsPart = IsPieceOf size; written = slot_of size; IsRefused = IsNoPiece size }
+
+abbrev pub format_of : Way → ℕ → Format
+format_of Packing size = packing size
+format_of Unpacking size = unpacking size

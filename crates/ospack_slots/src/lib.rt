@@ -9,6 +9,7 @@
 //! that the one undoes the other, up to what a slot ignores, and `inputs_have_one_answer` that an input has no other answer.
 #![tactic(auto)]
 
+mod converting;
 mod errors;
 mod filling;
 mod laws;
@@ -17,6 +18,7 @@ mod packing;
 mod padding;
 mod turn;
 mod unpacking;
+mod way;
 
 pub use errors::{PackError, SlotFault};
 pub use laws::{inputs_have_one_answer, unpacks_what_was_packed};

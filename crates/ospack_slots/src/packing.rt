@@ -5,10 +5,12 @@ ghost use Rattle.ospack_slots.specs.Formats.{packing};
 ghost use Rattle.ospack_slots.specs.Answers.{AnswersFor};
 ghost use Rattle.ospack_slots.specs.Turns.{IsTurn};
 
+use crate::converting::convert;
 use crate::errors::{PackError, SlotFault};
 use crate::filling::fill_part;
 use crate::length::length_at_front;
 use crate::turn::Turn;
+use crate::way::Way;
 use os_io::{Files, Sink, write_whole};
 use std::alloc::Global;
 
@@ -42,39 +44,11 @@ pub fn pack<F: Files, S: Sink>(
 {
     let mut slot = Vec::new(alloc);
     slot.resize(size as usize, 0)?;
-    pack_all(files, out, &mut slot)
-}
-
-/// Packs slots as long as the buffer up to the end of the file.
-fn pack_all<F: Files, S: Sink>(files: &mut F, out: &mut S, slot: &mut [u8]) -> Result<(), PackError>
-    requires low { 2 ≤ length slot.old }
-    requires high { length slot.old ≤ 2 ^ 16 }
-    ensures answer { AnswersFor (packing (length slot.old))
-        (record { left = F.rest files.old; given = F.given files.old; taken = S.taken out.old })
-        (record { left = F.rest files.new; given = F.given files.new; taken = S.taken out.new }) result }
-    ensures read { IsErrOf result PackError.Read → HasRisen (F.faults files.old) (F.faults files.new) }
-    ensures failed { IsErrOf result (PackError.Write write_error.Failed) → HasRisen (S.faults out.old) (S.faults out.new) }
-    ensures stuck { IsErrOf result (PackError.Write write_error.Stuck) →
-        HasRisen (S.empty_takes out.old) (S.empty_takes out.new) }
-    ensures no_read { result ≢ Err PackError.Read → F.faults files.new ≡ F.faults files.old }
-    ensures not_failed { result ≢ Err (PackError.Write write_error.Failed) → S.faults out.new ≡ S.faults out.old }
-    ensures not_stuck { result ≢ Err (PackError.Write write_error.Stuck) → S.empty_takes out.new ≡ S.empty_takes out.old }
-    ensures opens { F.opens files.new ≡ F.opens files.old }
-    ensures holds { F.holds files.new ≡ F.holds files.old }
-    ensures may { F.may files.new ≡ F.may files.old }
-{
-    for number in 0..u64::MAX {
-        let turn = pack_next(files, out, slot, number)?;
-        match turn {
-            Turn::Done => {}
-            Turn::End => return Ok(()),
-        }
-    }
-    Err(PackError::Uncounted)
+    convert(Way::Packing, files, out, &mut slot)
 }
 
 /// Packs the next slot, if there is one.
-fn pack_next<F: Files, S: Sink>(
+pub(crate) fn pack_next<F: Files, S: Sink>(
     files: &mut F,
     out: &mut S,
     slot: &mut [u8],

@@ -1,11 +1,11 @@
 use Rattle.std.proofs.Common.{◌≡◌, length}
-use Rattle.ospack_slots.specs.Formats.{packing}
+use Rattle.ospack_slots.specs.Formats.{format_of}
 use Rattle.ospack_slots.specs.Turns.{WentSoFar}
-use Rattle.ospack_slots.proofs.packing.pack_all.Given as goal
+use Rattle.ospack_slots.proofs.converting.convert.Given as goal
 
 abbrev pub invariant-loop-number : goal.invariant-loop-number
 invariant-loop-number g l = record {
-  so_far : WentSoFar (packing (length l.initial.slot)) l.number
+  so_far : WentSoFar (format_of l.initial.way (length l.initial.slot)) l.number
       (record { left = g.F.Files.rest l.initial.files; given = g.F.Files.given l.initial.files; taken = g.S.Sink.taken l.initial.out })
       (record { left = g.F.Files.rest l.files; given = g.F.Files.given l.files; taken = g.S.Sink.taken l.out });
   no_read : g.F.Files.faults l.files ≡ g.F.Files.faults l.initial.files;
