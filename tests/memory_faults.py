@@ -20,7 +20,7 @@ TOP = os.path.dirname(os.path.dirname(os.path.abspath(__file__)))
 OSRUN = f"{TOP}/crates/osrun/out/osrun"
 WORKERS = ["1", "2", "7"]
 # More requests than any of the runs makes.
-MOST = 2000
+MOST = 20000
 WAITING = """int main(void) {
     int s __attribute__((stream));
     int i, x, y;
@@ -51,7 +51,7 @@ def outcome(words, shim=None, number=0, under=()):
     """The status, the output and the report of a call, of which the request for memory with this number is refused."""
     variables = dict(os.environ)
     if shim:
-        variables |= {"LD_PRELOAD": shim, "FAILING_ALLOCATION": str(number)}
+        variables |= {"LD_PRELOAD": shim, "FAILING_ALLOCATION": str(number), "FAILING_PROGRAM": os.path.basename(OSRUN)}
     made = subprocess.run([*under, OSRUN, *words], capture_output=True, stdin=subprocess.DEVNULL, timeout=300, env=variables, check=False)
     return made.returncode, made.stdout, made.stderr
 
