@@ -1,8 +1,8 @@
 #!/usr/bin/env bash
 # What an activation of a run costs by the number of workers, as two tables. For each run the microseconds an activation, the
-# least of five times: on one thread by itself (`alone`), round by round (`r1`, `r2`, `r4`) and over one table (`t1`, `t2`, `t4`)
-# by 1, 2 and 4 workers; and the machine instructions an activation over one table (`i1`, `i2`, `i4`), the difference of two runs
-# and one, where valgrind is there. In the second table the numbers of workers are 1, 4 and 64.
+# least of so many times, five where no number is given: on one thread by itself (`alone`), round by round (`r1`, `r2`, `r4`) and
+# over one table (`t1`, `t2`, `t4`) by 1, 2 and 4 workers; and the machine instructions an activation over one table (`i1`, `i2`,
+# `i4`), the difference of two runs and one, where valgrind is there. In the second table the numbers of workers are 1, 4 and 64.
 #
 # An activation reads as many elements as it writes. Its body copies one of them to all of its outputs, and makes so many turns
 # of a loop, some 2,000 to 4,000 of them a microsecond:
@@ -10,7 +10,8 @@
 #   body-N     the same with one byte and N turns
 #   chain      65,536, each reads what the one before wrote
 #   two        two such chains side by side
-#   fan        65,535 that read what the first one wrote, whose body alone is long: 1,000,000 turns
+#   fan        65,535 that read what the first one wrote, whose body alone is long: 1,000,000 turns. One worker opens them all, so
+#              that what others run of them is stolen from it, or found by a look
 #   tree       32,768 that read the input, and 32,767 that each read what two before wrote
 #   pairs      300 blocks of 4,096 bytes: each second one reads what the one before wrote
 #   blocks     300 blocks of 4,096 bytes: each reads what the one before wrote
@@ -19,10 +20,16 @@
 #
 # With the word `small` there are 64 times fewer activations and turns, to try the script. The program is proved and built in a
 # copy of the crates below it; its bodies and its test of the conditions are those of runtime_tests.
+#
+#     bench/rounds.sh [small] [TIMES]
 set -eu
 top=$(cd "$(dirname "${BASH_SOURCE[0]}")/.." && pwd)
 fewer=1
-[ "${1:-}" != small ] || fewer=64
+if [ "${1:-}" = small ]; then
+    fewer=64
+    shift
+fi
+times=${1:-5}
 work=$(mktemp -d)
 trap 'rm -rf "$work"' EXIT
 mkdir "$work/crates"
@@ -48,9 +55,11 @@ program=$rounds/out/rounds
 valgrind=$(command -v valgrind || true)
 [ -n "$valgrind" ] || echo "valgrind isn't here: machine instructions aren't measured" >&2
 
-# micros WORD..: the microseconds an activation of the quickest of five runs.
+# micros WORD..: the microseconds an activation of the quickest run, or a dash where there is none.
 micros() {
-    "$program" "$@" 5 | sort -n -k2 | head -n 1 | awk '{ printf " %8.3f", $2 / $1 / 1000 }'
+    "$program" "$@" "$times" | awk '
+        NR == 1 || $2 < least { least = $2; count = $1 }
+        END { if (NR && count) printf " %8.3f", least / count / 1000; else printf " %8s", "-" }'
 }
 
 # collected WORD..: the machine instructions of the program.

@@ -1,6 +1,7 @@
 /* Lets one call of the host that a program makes fail, or move a byte alone. FAILING_KIND names the kind of call: open, read, write,
  * map or thread; FAILING_NUMBER its number among those of its kind, counted from 1; FAILING_ERROR the number of the error, or 0 for a
- * read or a write that moves a byte alone. It is loaded before the C library, and hands every other call on to it.
+ * read or a write that moves a byte alone, and for a thread in whose place the program ends with status 99. It is loaded before the C
+ * library, and hands every other call on to it.
  * It includes nothing, so that a compiler without headers builds it. */
 typedef unsigned long size;
 typedef long count;
@@ -9,6 +10,7 @@ extern void *dlsym(void *library, const char *name);
 extern char *getenv(const char *name);
 extern unsigned long strtoul(const char *text, char **end, int base);
 extern int strcmp(const char *one, const char *other);
+extern void _exit(int status);
 extern int *__errno_location(void);
 
 #define NEXT_LIBRARY ((void *)-1l)
@@ -70,5 +72,7 @@ void *mmap(void *at, size bytes, int protection, int flags, int file, long offse
 int pthread_create(unsigned long *thread, const void *attributes, void *(*start)(void *), void *argument) {
     int (*next)(unsigned long *, const void *, void *(*)(void *), void *) =
         (int (*)(unsigned long *, const void *, void *(*)(void *), void *))dlsym(NEXT_LIBRARY, "pthread_create");
-    return is_named(THREAD) ? (int)number_of("FAILING_ERROR") : next(thread, attributes, start, argument);
+    if (!is_named(THREAD)) return next(thread, attributes, start, argument);
+    if (number_of("FAILING_ERROR") == 0) _exit(99);
+    return (int)number_of("FAILING_ERROR");
 }

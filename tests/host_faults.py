@@ -5,7 +5,8 @@ Each call of whole runs of the built program is failed in turn, by tests/failing
 and threads that the program asks for, with several errors, and reads and writes that move a byte alone. Each run is by 1, 2 and 7
 workers, over a run, a text that is refused and bytes that are made. Of each it asks that the status is that of the whole run, or 5
 where a file failed, 6 where a sink did, 7 where memory was wanting; that what was written is all, a front or nothing, as that status
-has it; and that a thread which can't be made changes nothing. Besides, outputs that are closed, full or limited in length.
+has it; that a thread which can't be made changes nothing; and that threads are asked for just where several workers run. Besides,
+outputs that are closed, full or limited in length.
 
 It isn't called by .ci/run: ./build has to have built the program. The last line is `N passed, M failed`."""
 import errno
@@ -102,6 +103,9 @@ def main():
             for workers in WORKERS:
                 call = [*words, "--workers", workers]
                 whole = outcome(call)
+                # (such a call ends the program with status 99)
+                threads = outcome(call, shim, ("thread", 1, 0))[0] == 99
+                ask(f"{job} by {workers} starts threads", threads == (workers != "1" and whole[0] != 3), threads)
                 for kind, (most, errors) in CALLS.items():
                     reached = set()
                     for number in range(1, most + 1):

@@ -1,6 +1,7 @@
 //! Plans that were written by hand, run on one thread.
 
-ghost use Rattle.std.specs.Prelude.{◌≡◌, ◌+◌, ◌<◌, ◌==◌, [], ◌∷◌, ℕ, pos, false, IsTrue, ⊤, if◌then◌else◌, length, slice_index_or};
+ghost use Rattle.std.specs.Prelude.{◌≡◌, ◌+◌, ◌<◌, ◌==◌, [], ◌∷◌, ℕ, pos, false, IsTrue, ⊤};
+ghost use Rattle.std.specs.Prelude.{if◌then◌else◌, length, slice_index_or};
 ghost use Rattle.flow_core_laws.specs.declared.task_end.TaskEnd.TheVariants.{Done};
 ghost use Rattle.flow_core_laws.specs.Outcome.{outcome_of};
 
@@ -27,9 +28,12 @@ struct Table<'a> {
 impl<'a> Bodies for Table<'a> {
     type Scratch = ();
 
-    ghost outcome = { λ s f inputs. let rule = slice_index_or s.rules.now f (record { end = Done; copies = false }) in outcome_of rule.end (if rule.copies then inputs else pos 41 ∷ []) };
+    ghost outcome = { λ s f inputs.
+        let rule = slice_index_or s.rules.now f (record { end = Done; copies = false }) in
+        outcome_of rule.end (if rule.copies then inputs else pos 41 ∷ []) };
 
-    ghost takes = { λ s f i o. (f < length s.rules.now) × IsTrue (if (slice_index_or s.rules.now f (record { end = Done; copies = false })).copies then i == o else o == 1) };
+    ghost takes = { λ s f i o. (f < length s.rules.now)
+        × IsTrue (if (slice_index_or s.rules.now f (record { end = Done; copies = false })).copies then i == o else o == 1) };
 
     ghost fits = { λ s t. ⊤ };
 

@@ -4,6 +4,7 @@ ghost use Rattle.std.specs.Prelude.{◌≤◌, length};
 ghost use Rattle.flow_core_laws.specs.IsSound.{IsSound};
 
 mod lasts;
+mod logs;
 mod stealing;
 
 use crate::lawful::lawful_layout;

@@ -44,9 +44,6 @@ left_out_no many (suc skip) (y ∷ ys) x le = left_out_no many skip ys x le
 open_yes : (plan : Plan) (n : ℕ) → (frame_at plan n).wait ≡ 0 → open_below plan (n + 1) ≡ open_below plan n ++ n ∷ []
 open_yes plan n is = let s : n + 1 ≡ suc n = omega arith in ap (open_below plan) s ∙ ap (λ (b : Bool). open_below plan n ++ (if b then n ∷ [] else [])) (eq-eqb (frame_at plan n).wait 0 is)
 
-open_no : (plan : Plan) (n : ℕ) → (frame_at plan n).wait ≢ 0 → open_below plan (n + 1) ≡ open_below plan n
-open_no plan n is = let s : n + 1 ≡ suc n = omega arith in ap (open_below plan) s ∙ ap (λ (b : Bool). open_below plan n ++ (if b then n ∷ [] else [])) (ne_eqb (frame_at plan n).wait 0 is) ∙ append-nil (open_below plan n)
-
 times_other : (b : Bool) (xs : List ℕ) (n f : ℕ) → n ≢ f → times f (xs ++ (if b then n ∷ [] else [])) ≡ times f xs
 times_other true xs n f ne = let t = times_push f xs n in let o : one (n == f) ≡ 0 = ap one (ne_eqb n f ne) in omega (arith, t, o)
 times_other false xs n f ne = ap (times f) (append-nil xs)
@@ -70,19 +67,6 @@ open_times plan (suc n) f lt = by (λ low. open_times plan n f low) (cases_eq n 
         let c : one ((frame_at plan n).wait == 0) ≡ one ((frame_at plan f).wait == 0) = ap (λ k. one ((frame_at plan k).wait == 0)) e in
         omega (arith, a, b, c)
     by rest (inr ne) = times_other ((frame_at plan n).wait == 0) (open_below plan n) n f ne ∙ rest (omega (arith, lt, ne))
-
--- a frame that isn't Open goes to nobody
-pub dealt_none : (plan : Plan) (n turn : ℕ) (hs : List Hand) → AreDealtBelow plan n turn hs → (frame_at plan n).wait ≢ 0 → AreDealtBelow plan (n + 1) turn hs
-dealt_none plan n turn hs so is =
-    let e = open_no plan n is in record {
-      there = so.there;
-      room = all_next plan n hs so.room;
-      once = λ f. so.once f ∙ ap (times f) (sym e);
-      in_turn = λ i d lt. so.in_turn i d lt ∙ ap (one_in (length hs) i) (sym e);
-      later = λ i le lt. ap (λ xs. left_out (length hs) i xs + turn) e ∙ so.later i le lt;
-      earlier = λ i lt. ap (λ xs. left_out (length hs) i xs + turn) e ∙ so.earlier i lt;
-      ring = so.ring;
-    }
 
 -- a ring in which one hand changed, but not its deques
 pub ring_stays : (hs : List Hand) (at : ℕ) (d h' : Hand) → at < length hs → KeepsDeques (get_or hs at d) h' → AreInRing hs → AreInRing (set hs at h')

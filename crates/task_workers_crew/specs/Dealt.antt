@@ -30,6 +30,10 @@ pub record AreDealt (plan : Plan) (hands : List Hand) : Type 0 where
 abbrev pub hands_of : {S : Type 0} → List (Worker S) → List Hand
 hands_of {S} crew = map (λ (w : Worker S). w.hand) crew
 
+-- the numbers by which the workers of a crew know themselves
+abbrev pub worker_numbers : {S : Type 0} → List (Worker S) → List ℕ
+worker_numbers {S} crew = map (λ (w : Worker S). w.log.worker) crew
+
 -- Worker i knows itself as number i.
 abbrev pub AreNumbered : {S : Type 0} → List (Worker S) → Type 0
 AreNumbered {S} crew = (i : ℕ) (d : Worker S) → i < length crew → (slice_index_or crew i d).log.worker ≡ i

@@ -3,6 +3,7 @@ ghost use Rattle.std.specs.Prelude.{◌≡◌, ◌≤◌, ◌<◌, ℕ, All, len
 ghost use Rattle.flow_core_laws.specs.Plans.{plan_meaning};
 ghost use Rattle.flow_core_laws.specs.Serves.{Serves};
 ghost use Rattle.frame_table.specs.Tokens.{known_of};
+ghost use Rattle.steal_pool.specs.Hands.{KeepsDeques};
 ghost use Rattle.task_workers_crew.specs.Crew.{IsSeated};
 
 use flow_core_laws::Bodies;
@@ -38,6 +39,8 @@ fn work_one<S: Send + Drop, B: Bodies<Scratch = S>, G: Gate>(
     requires fits { B.fits bodies.now worker.old.scratch }
     ensures seated { IsSeated table.now 1 worker.new.seat worker.new.hand worker.new.log }
     ensures fits { B.fits bodies.now worker.new.scratch }
+    ensures deques { KeepsDeques worker.old.hand worker.new.hand }
+    ensures number { worker.new.log.worker ≡ worker.old.log.worker }
 {
     let Some(seat) = worker.seat.take() else {
         unreachable!()
@@ -72,6 +75,10 @@ pub(crate) fn work_all<S: Send + Drop, B: Bodies<Scratch = S>, G: Gate, R: Threa
         (slice_index_or crew.new i d).seat (slice_index_or crew.new i d).hand (slice_index_or crew.new i d).log }
     ensures fits { (i : ℕ) (d : Worker S) → i < length crew.old →
         B.fits bodies.now (slice_index_or crew.new i d).scratch }
+    ensures deques { (i : ℕ) (d : Worker S) → i < length crew.old →
+        KeepsDeques (slice_index_or crew.old i d).hand (slice_index_or crew.new i d).hand }
+    ensures numbers { (i : ℕ) (d : Worker S) → i < length crew.old →
+        (slice_index_or crew.new i d).log.worker ≡ (slice_index_or crew.old i d).log.worker }
 {
     let count = crew.len();
     for_each_mut(
@@ -84,7 +91,9 @@ pub(crate) fn work_all<S: Send + Drop, B: Bodies<Scratch = S>, G: Gate, R: Threa
                 × IsSeated table.now 1 worker.old.seat worker.old.hand worker.old.log
                 × B.fits bodies.now worker.old.scratch }
             ensures { IsSeated table.entry.now 1 worker.new.seat worker.new.hand worker.new.log
-                × B.fits bodies.entry.now worker.new.scratch }
+                × B.fits bodies.entry.now worker.new.scratch
+                × KeepsDeques worker.old.hand worker.new.hand
+                × (worker.new.log.worker ≡ worker.old.log.worker) }
         { work_one(table, bodies, gate, worker) },
     );
 }

@@ -1,12 +1,14 @@
 //! A crew at work on a table, until it is closed.
-ghost use Rattle.std.specs.Prelude.{◌≡◌, ◌+◌, ◌≤◌, ◌<◌, None, All, length};
+ghost use Rattle.std.specs.Prelude.{◌≡◌, ◌+◌, ◌≤◌, ◌<◌, ℕ, None, All, length, slice_index_or};
 ghost use Rattle.flow_core_laws.specs.Plans.{plan_meaning};
 ghost use Rattle.flow_core_laws.specs.Serves.{Serves};
 ghost use Rattle.frame_table.specs.Left.{numbers_of};
 ghost use Rattle.frame_table.specs.Seats.{IsWhole};
 ghost use Rattle.frame_table.specs.Tokens.{IsFresh, IsSeatOf, known_of, view_of};
 ghost use Rattle.task_workers_worker.specs.Ready.{MayWork, frames_of};
+ghost use Rattle.steal_pool.specs.Hands.{KeepsDeques};
 ghost use Rattle.task_workers_crew.specs.Crew.{IsEquipped, IsSeated};
+ghost use Rattle.task_workers_crew.specs.Dealt.{hands_of, worker_numbers};
 
 use crate::crew::{Worker, work_all};
 use flow_core_laws::Bodies;
@@ -23,6 +25,8 @@ fn take_seat<S>(table: &FrameTable, worker: &mut Worker<S>, seat: FrameSeat)
     ensures seated { IsSeated table.now 1 worker.new.seat worker.new.hand worker.new.log }
     ensures equipped { IsEquipped (known_of table.now).plan worker.new.hand worker.new.log }
     ensures scratch { worker.new.scratch ≡ worker.old.scratch }
+    ensures hand { worker.new.hand ≡ worker.old.hand }
+    ensures number { worker.new.log.worker ≡ worker.old.log.worker }
 {
     worker.seat = Some(seat);
 }
@@ -41,6 +45,8 @@ fn take_seats<B: Bodies>(
     ensures same { length crew.new ≡ length crew.old }
     ensures seated { All (λ w. IsSeated table.now 1 w.seat w.hand w.log) crew.new }
     ensures fits { All (λ w. B.fits bodies.now w.scratch) crew.new }
+    ensures hands { hands_of crew.new ≡ hands_of crew.old }
+    ensures numbers { worker_numbers crew.new ≡ worker_numbers crew.old }
 {
     for k in 0..crew.len() {
         let Some(seat) = seats.pop() else {
@@ -50,8 +56,8 @@ fn take_seats<B: Bodies>(
     }
 }
 
-// Gives each worker of a crew a seat.
-fn seat_crew<B: Bodies>(
+/// Gives each worker of a crew a seat. Its hand and its number stay.
+pub fn seat_crew<B: Bodies>(
     table: &FrameTable,
     bodies: &B,
     mut crew: Vec<Worker<B::Scratch>>,
@@ -64,13 +70,16 @@ fn seat_crew<B: Bodies>(
     ensures same { length result.items ≡ length crew.items }
     ensures seated { All (λ w. IsSeated table.now 1 w.seat w.hand w.log) result.items }
     ensures fits { All (λ w. B.fits bodies.now w.scratch) result.items }
+    ensures hands { hands_of result.items ≡ hands_of crew.items }
+    ensures numbers { worker_numbers result.items ≡ worker_numbers crew.items }
 {
     take_seats(table, bodies, crew.as_mut_slice(), seats);
     crew
 }
 
-// Lets each worker of a crew work in a thread.
-fn work_crew<S: Send + Drop, B: Bodies<Scratch = S>, G: Gate, R: Threads + Sync>(
+/// Lets each worker of a crew work on its seat, in a thread of its own; one worker works in the caller's. Each keeps its
+/// number, and its hand the deques.
+pub fn work_crew<S: Send + Drop, B: Bodies<Scratch = S>, G: Gate, R: Threads + Sync>(
     rt: &R,
     table: &FrameTable,
     bodies: &B,
@@ -86,6 +95,10 @@ fn work_crew<S: Send + Drop, B: Bodies<Scratch = S>, G: Gate, R: Threads + Sync>
     ensures same { length result.items ≡ length crew.items }
     ensures seated { All (λ w. IsSeated table.now 1 w.seat w.hand w.log) result.items }
     ensures fits { All (λ w. B.fits bodies.now w.scratch) result.items }
+    ensures deques { (i : ℕ) (d : Worker S) → i < length crew.items →
+        KeepsDeques (slice_index_or crew.items i d).hand (slice_index_or result.items i d).hand }
+    ensures numbers { (i : ℕ) (d : Worker S) → i < length crew.items →
+        (slice_index_or result.items i d).log.worker ≡ (slice_index_or crew.items i d).log.worker }
 {
     work_all(rt, table, bodies, gate, crew.as_mut_slice());
     crew

@@ -5,3 +5,4 @@ pub mod Going
 pub mod Steps
 pub mod Unmade
 pub mod Turns
+pub mod Deques

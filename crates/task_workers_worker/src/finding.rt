@@ -2,7 +2,7 @@
 ghost use Rattle.std.specs.Prelude.{◌≡◌, ◌+◌, ◌≤◌, ◌<◌, ◌^◌, None, IfSome, IfNone, length};
 ghost use Rattle.os_io.specs.Counts.{raised};
 ghost use Rattle.frame_table.specs.Tokens.{IsSeatOf, view_of, known_of};
-ghost use Rattle.steal_pool.specs.Hands.{pushed_by, bound_of, spare_of, asks_of};
+ghost use Rattle.steal_pool.specs.Hands.{pushed_by, bound_of, spare_of, asks_of, KeepsDeques};
 ghost use Rattle.task_workers_worker.specs.Ready.{frames_of};
 ghost use Rattle.task_workers_worker.specs.Turns.{Claimed, Idled};
 
@@ -48,6 +48,7 @@ fn ask(table: &FrameTable, seat: &mut FrameSeat, hand: &mut Hand) -> Option<u32>
     ensures pushed { pushed_by hand.new ≡ pushed_by hand.old }
     ensures spare { spare_of hand.new ≡ spare_of hand.old }
     ensures same_bound { bound_of hand.new ≡ bound_of hand.old }
+    ensures deques { KeepsDeques hand.old hand.new }
 {
     let Look::Frame(frame) = hand.next() else {
         return None;
@@ -75,6 +76,7 @@ pub(crate) fn find(table: &FrameTable, seat: &mut FrameSeat, hand: &mut Hand) ->
     ensures pushed { pushed_by hand.new ≡ pushed_by hand.old }
     ensures spare { spare_of hand.new ≡ spare_of hand.old }
     ensures same_bound { bound_of hand.new ≡ bound_of hand.old }
+    ensures deques { KeepsDeques hand.old hand.new }
 {
     if let Some(frame) = ask(table, seat, hand) {
         return Some(frame);

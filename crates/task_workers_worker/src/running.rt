@@ -9,7 +9,7 @@ ghost use Rattle.flow_core_laws.specs.Serves.{Serves};
 ghost use Rattle.flow_core_concurrent.specs.Steps.{first_place};
 ghost use Rattle.frame_table.specs.Seats.{at, MayDeliver};
 ghost use Rattle.frame_table.specs.Tokens.{IsSeatOf, view_of, known_of};
-ghost use Rattle.steal_pool.specs.Hands.{pushed_by, asks_of};
+ghost use Rattle.steal_pool.specs.Hands.{pushed_by, asks_of, KeepsDeques};
 ghost use Rattle.task_workers_worker.specs.Ready.{frames_of, HandServes};
 ghost use Rattle.task_workers_worker.specs.Logs.{holds_up_to};
 ghost use Rattle.task_workers_worker.specs.Turns.{Gave};
@@ -22,6 +22,7 @@ use steal_pool::Hand;
 use task_workers_round::Gate;
 
 // Delivers a piece of the running frame, and pushes the frame that it opens.
+#[tactic(auto, using(crate::proofs::Deques::keeps_same))]
 fn give_one(
     table: &FrameTable,
     seat: &mut FrameSeat,
@@ -39,6 +40,7 @@ fn give_one(
     ensures gave { Gave (frames_of table.now) (view_of seat.old) (view_of seat.new) (pushed_by hand.old) (pushed_by hand.new) }
     ensures serves { HandServes table.now seat.new hand.new }
     ensures asks { asks_of hand.new ≡ asks_of hand.old }
+    ensures deques { KeepsDeques hand.old hand.new }
 {
     let to = table.plan().pieces.as_slice()[piece as usize].to;
     if !table.deliver(seat, outputs, piece) {
@@ -51,6 +53,7 @@ fn give_one(
 }
 
 // Delivers all pieces of the running frame.
+#[tactic(auto, using(crate::proofs::Deques::keeps_same))]
 fn give(table: &FrameTable, seat: &mut FrameSeat, outputs: &[i32], frame: u32, hand: &mut Hand)
     requires of_this_table { IsSeatOf table.now seat.old }
     requires exists { frame < length table.now.plan.now.frames }
@@ -63,6 +66,7 @@ fn give(table: &FrameTable, seat: &mut FrameSeat, outputs: &[i32], frame: u32, h
     ensures gave { Gave (frames_of table.now) (view_of seat.old) (view_of seat.new) (pushed_by hand.old) (pushed_by hand.new) }
     ensures serves { HandServes table.now seat.new hand.new }
     ensures asks { asks_of hand.new ≡ asks_of hand.old }
+    ensures deques { KeepsDeques hand.old hand.new }
 {
     let place = table.plan().frame(frame);
     for piece in place.piece..place.piece + place.pieces {
@@ -71,6 +75,7 @@ fn give(table: &FrameTable, seat: &mut FrameSeat, outputs: &[i32], frame: u32, h
 }
 
 // Ends the running frame, with all its pieces where it is Done.
+#[tactic(auto, using(crate::proofs::Deques::keeps_same))]
 fn settle(
     table: &FrameTable,
     seat: &mut FrameSeat,
@@ -90,6 +95,7 @@ fn settle(
     ensures gave { Gave (frames_of table.now) (view_of seat.old) (view_of seat.new) (pushed_by hand.old) (pushed_by hand.new) }
     ensures serves { HandServes table.now seat.new hand.new }
     ensures asks { asks_of hand.new ≡ asks_of hand.old }
+    ensures deques { KeepsDeques hand.old hand.new }
 {
     match end {
         TaskEnd::Done => {
@@ -125,6 +131,7 @@ fn run_one<B: Bodies>(
     ensures gave { Gave (frames_of table.now) (view_of seat.old) (view_of seat.new) (pushed_by hand.old) (pushed_by hand.new) }
     ensures serves { HandServes table.now seat.new hand.new }
     ensures asks { asks_of hand.new ≡ asks_of hand.old }
+    ensures deques { KeepsDeques hand.old hand.new }
     ensures fits { B.fits bodies.now scratch.new }
 {
     table.read_windows(seat, inputs);
@@ -158,6 +165,7 @@ pub(crate) fn run_claimed<B: Bodies, G: Gate>(
     ensures gave { Gave (frames_of table.now) (view_of seat.old) (view_of seat.new) (pushed_by hand.old) (pushed_by hand.new) }
     ensures serves { HandServes table.now seat.new hand.new }
     ensures asks { asks_of hand.new ≡ asks_of hand.old }
+    ensures deques { KeepsDeques hand.old hand.new }
     ensures fits { B.fits bodies.now scratch.new }
     ensures logged { log.new.frames.items ≡ log.old.frames.items ++ frame ∷ [] }
     ensures room { log.new.frames.spare + 1 ≡ log.old.frames.spare }

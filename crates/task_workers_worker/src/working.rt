@@ -4,7 +4,7 @@ ghost use Rattle.os_io.specs.Counts.{raised};
 ghost use Rattle.flow_core_laws.specs.Plans.{plan_meaning};
 ghost use Rattle.flow_core_laws.specs.Serves.{Serves};
 ghost use Rattle.frame_table.specs.Tokens.{view_of, known_of};
-ghost use Rattle.steal_pool.specs.Hands.{pushed_by, asks_of};
+ghost use Rattle.steal_pool.specs.Hands.{pushed_by, asks_of, KeepsDeques};
 ghost use Rattle.task_workers_worker.specs.Ready.{frames_of, MayWork};
 ghost use Rattle.task_workers_worker.specs.Turns.{to_do};
 ghost use Rattle.task_workers_worker.specs.Worked.{Worked};
@@ -39,6 +39,7 @@ fn turn<B: Bodies, G: Gate>(
         (pushed_by hand.new) log.old.frames.items log.new.frames.items }
     ensures worker { log.new.worker ≡ log.old.worker }
     ensures asks { asks_of hand.new ≡ raised (asks_of hand.old) 1 }
+    ensures deques { KeepsDeques hand.old hand.new }
     ensures few_looks { (view_of seat.new).looks ≤ (view_of seat.old).looks + 65 }
     ensures gets_on { (most : ℕ) → (view_of seat.old).looks < most → to_do table.now most seat.new < to_do table.now most seat.old }
 {
@@ -70,6 +71,7 @@ pub fn work<B: Bodies, G: Gate>(
     ensures looks { 1 ≤ frames_of table.now → max (4 * frames_of table.now) 65536 ≤ (view_of result).looks }
     ensures asks { (times : ℕ) × (raised (asks_of hand.old) times ≤ asks_of hand.new)
         × ((view_of seat).looks ≡ 0 → (view_of result).looks ≤ 65 * times) }
+    ensures deques { KeepsDeques hand.old hand.new }
 {
     let frames = table.plan().frames.len() as u64;
     if frames == 0 {

@@ -1,4 +1,5 @@
 use Rattle.std.proofs.Common.{rules, arith, sym, ap, subst, ◌∙◌, ◌≡◌, ◌<◌, ◌++◌, Some, IfSome, Option, option_to_list, length, length-append}
+use Rattle.std.proofs.Math.Seq.{map-set_same}
 use Rattle.std.proofs.lemmas.List.{length-set}
 use Rattle.std.proofs.lemmas.List.Elements.{All-pop, All-set}
 use Rattle.frame_table.specs.declared.seat.FrameSeat.{FrameSeat}
@@ -39,6 +40,8 @@ loop-k-preserved g c =
       All-set (λ (w : Worker _). IsEquipped (known_of table).plan w.hand w.log) crew k worker c.take_seat.ensures.equipped l.3,
       All-set (λ (w : Worker _). g.B.Bodies.fits c.args.bodies.now w.scratch) crew k worker (subst (λ s. g.B.Bodies.fits c.args.bodies.now s) (sym c.take_seat.ensures.scratch) fits) l.4,
       set_more (λ (w : Worker _). IsSeated table 1 w.seat w.hand w.log) crew k worker there l.5 c.take_seat.ensures.seated,
+      map-set_same (λ (w : Worker _). w.hand) crew k worker c.index-crew-k.result c.take_seat.ensures.hand ∙ l.6,
+      map-set_same (λ (w : Worker _). w.log.worker) crew k worker c.index-crew-k.result c.take_seat.ensures.number ∙ l.7,
     )
 
 pub returns-clause-seated : goal.returns-clause-seated

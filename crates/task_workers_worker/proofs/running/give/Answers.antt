@@ -6,6 +6,7 @@ use Rattle.frame_table.specs.Tokens.{known_of, view_of}
 use Rattle.task_workers_worker.proofs.Going.{next_piece, place_of, few_of}
 use Rattle.steal_pool.specs.Hands.{pushed_by}
 use Rattle.task_workers_worker.specs.Ready.{frames_of}
+use Rattle.task_workers_worker.proofs.Deques.{keeps_on}
 use Rattle.task_workers_worker.proofs.Turns.{gave_on}
 use Rattle.task_workers_worker.proofs.running.give.Goals as goal
 
@@ -40,4 +41,5 @@ loop-piece-preserved c =
       c.give_one.ensures.serves,
       c.give_one.ensures.asks ∙ l.4,
       omega (arith, low),
+      keeps_on c.args.hand.now c.loop-piece.hand c.give_one.new.hand l.6 c.give_one.ensures.deques,
     )

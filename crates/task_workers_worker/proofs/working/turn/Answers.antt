@@ -5,6 +5,7 @@ use Rattle.task_workers_worker.proofs.Counts.{smaller}
 use Rattle.task_workers_worker.specs.Ready.{frames_of}
 use Rattle.task_workers_worker.specs.Turns.{Idled}
 use Rattle.task_workers_worker.proofs.Turns.{worked_idled, worked_ran, ran_less}
+use Rattle.task_workers_worker.proofs.Deques.{keeps_on}
 use Rattle.task_workers_worker.proofs.Unmade.{left_some}
 use Rattle.task_workers_worker.proofs.working.turn.Goals as goal
 
@@ -62,3 +63,6 @@ returns-clause-gets_on g c = λ most lt.
     let w = view_of c.run_claimed.new.seat in
     let cl = c.in-Some.ensures.claimed in
     smaller (frames_of t) most o.ran w.ran c.in-Some.frame o.looks w.looks cl.exists cl.is_new (c.run_claimed.ensures.gave.ran ∙ cl.ran)
+
+pub returns-clause-deques : goal.returns-clause-deques
+returns-clause-deques g c = keeps_on c.args.hand.now c.find.new.hand c.run_claimed.new.hand c.find.ensures.deques c.run_claimed.ensures.deques
