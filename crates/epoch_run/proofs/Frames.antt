@@ -70,14 +70,14 @@ module _ (layout : Layout) (is : IsLayout layout) (activations : List Activation
       all_has (λ (s : Span). s.stream < length layout.writers) (map span_of (windows_of activations a)) (span_of w) all (in_map span_of (windows_of activations a) w stands.0) in
       subst (λ (q : streams.Place). q.stream < length layout.writers) same lt
 
-  pub places_exist : (frames : List ℕ) (places : List Place) → All (λ f. f < length activations) frames → map place_of places ≡ leaving_places activations frames
+  pub places_exist : (readers frames : List ℕ) (places : List Place) → All (λ f. f < length activations) frames → map place_of places ≡ leaving_places activations readers frames
       → All (λ (p : Place). p.stream < length layout.writers) places
-  places_exist frames places exist leave = has_all (λ (p : Place). p.stream < length layout.writers) places each
+  places_exist readers frames places exist leave = has_all (λ (p : Place). p.stream < length layout.writers) places each
     where
       each : (p : Place) → Has places p → p.stream < length layout.writers
       each p h =
           let left = subst (λ (ps : List streams.Place). Has ps (place_of p)) leave (in_map place_of places p h) in
-          let passes = of_filter (λ (q : streams.Place). q.stream == 1 || nat_le (read_from activations frames q.stream) q.position) (flat_map (written_places activations) frames) (place_of p) left in
+          let passes = of_filter (λ (q : streams.Place). q.stream == 1 || nat_le (read_from activations readers q.stream) q.position) (flat_map (written_places activations) frames) (place_of p) left in
           let (a, at, writes) = of_flat_map (written_places activations) frames (place_of p) passes.0 in
           written_exists a (place_of p) (all_has (λ f. f < length activations) frames a exist at) writes
 

@@ -1,5 +1,5 @@
 -- An epoch, from what is held before it to what is held after it.
-use Rattle.std.proofs.Common.{◌≡◌, ℕ, ℤ, ◌+◌, ◌<◌, ◌≤◌, ◌⊎◌, inl, inr, false, List, [], ◌∷◌, ◌++◌, Option, All, length, map, refl, sym, ap, ◌∙◌, subst, arith}
+use Rattle.std.proofs.Common.{◌≡◌, ℕ, ℤ, ◌+◌, ◌<◌, ◌≤◌, ◌⊎◌, inl, inr, false, List, [], ◌∷◌, ◌++◌, Option, All, get_or, length, map, refl, sym, ap, ◌∙◌, subst, arith}
 use Rattle.std.specs.Prelude.{filter, nat_lt, slice_index, sum_by}
 use Rattle.std.specs.Option.{option_map}
 use Rattle.std.proofs.lemmas.Grind.{flat_map-append}
@@ -8,10 +8,11 @@ use Rattle.std.proofs.lemmas.List.{append-nil, length-append, length-map}
 use Rattle.std.proofs.lemmas.List.Elements.{filter-append}
 use Rattle.std.proofs.lemmas.List.FromFn.{length-map-range_with_len}
 use Rattle.std.proofs.lemmas.List.Sums.{sum_by-append}
+use Rattle.std.proofs.lemmas.Option.{slice_get-get_or}
 use Rattle.epoch_run_bodies.specs.Frames.{TakesFrame, frame_outcome}
 use Rattle.epoch_run_bodies.specs.Laws.{LaterActivationsChangeNothing}
 use Rattle.flow_core_epochs.specs.Epoch as epoch
-use Rattle.flow_core_epochs.specs.Epoch.{IsCarried, IsEpoch, IsHeld, IsOutside, ReadNoOutput, ServesAll, StandsForEpoch, carried_over, epoch_meaning, open_in, output_over, put_over}
+use Rattle.flow_core_epochs.specs.Epoch.{IsCarried, IsEpoch, IsHeld, IsOutside, LeaveOutWaiting, ReadNoOutput, ServesAll, StandsForEpoch, carried_over, epoch_meaning, open_in, output_over, put_over}
 use Rattle.flow_core_epochs.specs.Laws.{BeginsEpoch, EndsEpoch, ServesFrames}
 use Rattle.flow_core_laws.proofs.Rounds.{length-meaning}
 use Rattle.flow_core_laws.specs.Element.{element}
@@ -97,7 +98,7 @@ stays code activations input budget held is no_more = subst (λ (xs : List Activ
 
 module _ (layout : Layout) (whole : IsLayout layout) (code : Parts) (activations : List Activation) (input : List ℕ) (budget : ℕ) (held : Held)
     (is : IsHeldBefore code activations input budget held) (laid : IsLayoutOf layout activations) (lawful : AreLawful (length layout.writers) activations)
-    (frames : List ℕ) (are_open : frames ≡ open_in held.ends.ends (frame_count layout)) where
+    (readers frames : List ℕ) (are_open : readers ≡ open_in held.ends.ends (frame_count layout)) (leave : LeaveOutWaiting activations input held.ends.ends frames) where
   abbrev all : List Activation
   all = is.before ++ is.new
 
@@ -123,7 +124,13 @@ module _ (layout : Layout) (whole : IsLayout layout) (code : Parts) (activations
   no_output = λ k d lt reads. (all_lawful.claims_are_lawful k d lt).output_is_written reads
 
   pub frames_are : AreFrames layout frames
-  frames_are = subst (AreFrames layout) (sym are_open) (are_frames layout held.ends.ends (frame_count layout) refl)
+  frames_are = record {
+    exist = λ i lt. let h = (leave.are_open i (get_or frames i 0) (slice_get-get_or frames i 0 lt)).0 in omega (arith, frame_count-is layout activations laid);
+    ascend = λ i j less lt. leave.ascend i j (get_or frames i 0) (get_or frames j 0) less (slice_get-get_or frames i 0 (omega arith)) (slice_get-get_or frames j 0 lt);
+  }
+
+  pub readers_exist : All (λ f. f < frame_count layout) readers
+  readers_exist = subst (All (λ f. f < frame_count layout)) (sym are_open) (all_exist layout (open_in held.ends.ends (frame_count layout)) (are_frames layout held.ends.ends (frame_count layout) refl))
 
   pub fewer : length held.ends.ends ≤ frame_count layout
   fewer =
@@ -140,10 +147,10 @@ module _ (layout : Layout) (whole : IsLayout layout) (code : Parts) (activations
     held_now = same_held is.before input (frame_outcome code is.before budget) body held.ends.ends kept held.ends.output (later code is.before is.new input budget) is.meant
 
     abbrev Opens : Type 0
-    Opens = IsOutside all frames kept × ((plan : Plan) (places : List streams.Place) → StandsForEpoch plan all input frames kept places → IsEpoch is.before is.new input body frames kept plan places)
+    Opens = IsOutside all frames kept × ((plan : Plan) (places : List streams.Place) → StandsForEpoch plan all input readers frames kept places → IsEpoch is.before is.new input body readers frames kept plan places)
 
     opens : Opens
-    opens = begins is.before is.new input body held.ends.ends kept held.ends.output frames no_output held_now (are_open ∙ ap (open_in held.ends.ends) count)
+    opens = begins is.before is.new input body held.ends.ends kept held.ends.output readers frames no_output held_now (are_open ∙ ap (open_in held.ends.ends) count) (subst (λ (xs : List Activation). LeaveOutWaiting xs input held.ends.ends frames) is.are_all leave)
 
     pub outside : IsOutside activations frames kept
     outside = subst (λ (xs : List Activation). IsOutside xs frames kept) (sym is.are_all) opens.0
@@ -154,20 +161,20 @@ module _ (layout : Layout) (whole : IsLayout layout) (code : Parts) (activations
     pub kept_there : All (λ (k : Kept). k.stream < length layout.writers) held.kept.items
     kept_there = kept_exist layout whole all laid_out frames held.kept.items opens.0
 
-    module _ (plan : Plan) (places : List Place) (stands : StandsForEpoch plan activations input frames kept (map place_of places)) where
-      all_stands : StandsForEpoch plan all input frames kept (map place_of places)
-      all_stands = subst (λ (xs : List Activation). StandsForEpoch plan xs input frames kept (map place_of places)) is.are_all stands
+    module _ (plan : Plan) (places : List Place) (stands : StandsForEpoch plan activations input readers frames kept (map place_of places)) where
+      all_stands : StandsForEpoch plan all input readers frames kept (map place_of places)
+      all_stands = subst (λ (xs : List Activation). StandsForEpoch plan xs input readers frames kept (map place_of places)) is.are_all stands
 
       exist : All (λ f. f < length all) frames
       exist = subst (λ n. All (λ f. f < n) frames) count (all_exist layout frames frames_are)
 
       pub places_there : All (λ (p : Place). p.stream < length layout.writers) places
-      places_there = places_exist layout whole all laid_out frames places exist all_stands.places_leave
+      places_there = places_exist layout whole all laid_out readers frames places exist all_stands.places_leave
 
       pub served : ServesFrames (frame_outcome code activations budget) (TakesFrame code activations budget) → ServesAll activations (frame_outcome code activations budget) (TakesFrame code activations budget)
           → Serves plan (λ f. frame_outcome code activations budget (slice_index frames f)) (λ f inputs outputs. (f < length frames) × TakesFrame code activations budget (slice_index frames f) inputs outputs)
       served serves all_served =
-          serves plan activations input frames kept (map place_of places) stands (subst (λ (xs : List Activation). All (λ f. f < length xs) frames) (sym is.are_all) exist) all_served
+          serves plan activations input readers frames kept (map place_of places) stands (subst (λ (xs : List Activation). All (λ f. f < length xs) frames) (sym is.are_all) exist) all_served
 
       module _ (ends_epoch : EndsEpoch) (run : Ends) (ends_are : run.ends ≡ ends_of (epoch_meaning plan frames (frame_outcome code activations budget)))
           (output_is : run.output ≡ sink_elements plan (epoch_meaning plan frames (frame_outcome code activations budget))) where
@@ -201,7 +208,7 @@ module _ (layout : Layout) (whole : IsLayout layout) (code : Parts) (activations
 
             ended : IsHeld all input body put (carried_over all (open_in put (length all)) kept (map place_of places) run.output) (output_over held.ends.output (map place_of places) run.output (written_count all 1))
             ended =
-                ends_epoch is.before is.new input body frames kept plan (map place_of places) (opens.1 plan (map place_of places) all_stands) held.ends.ends held.ends.output run held_now
+                ends_epoch is.before is.new input body readers frames kept plan (map place_of places) (opens.1 plan (map place_of places) all_stands) held.ends.ends held.ends.output run held_now
                 (ends_are ∙ ap (λ (b : ℕ → List ℤ → Outcome). ends_of (epoch_meaning plan frames b)) same_body)
                 (output_is ∙ ap (λ (b : ℕ → List ℤ → Outcome). sink_elements plan (epoch_meaning plan frames b)) same_body)
 

@@ -3,7 +3,7 @@ ghost use Rattle.flow_core_laws.specs.IsSound.{IsSound};
 ghost use Rattle.flow_core_laws.specs.Outcome.{ends_of};
 ghost use Rattle.flow_core_laws.specs.Plans.{sink_elements};
 ghost use Rattle.flow_core_laws.specs.Serves.{Serves};
-ghost use Rattle.flow_core_epochs.specs.Epoch.{StandsForEpoch, epoch_meaning, open_in};
+ghost use Rattle.flow_core_epochs.specs.Epoch.{LeaveOutWaiting, StandsForEpoch, epoch_meaning, open_in};
 ghost use Rattle.os_code.specs.Codes.{parts_of};
 ghost use Rattle.stream_match.specs.Kept.{kept_of, place_of};
 ghost use Rattle.stream_match_layouts.specs.Layout.{IsLayout};
@@ -13,13 +13,14 @@ ghost use Rattle.epoch_run.specs.Held.{IsHeldOf, IsOpenEpoch};
 use crate::held::Held;
 use epoch_run_bodies::TaskBodies;
 use epoch_run_bodies::laws::{bodies_serve, later_activations_change_nothing};
+use epoch_run_ready::ready_frames;
 use flow_core_epochs::laws::{run_in_epochs, serving};
 use flow_core_epochs::{FrameBodies, open_frames};
 use flow_core_laws::{Bodies, Ends, Plan};
 use os_io::{List, Memory};
 use std::alloc::Global;
 use std::thread::Threads;
-use stream_match::{EpochPlan, Layout, build_epoch};
+use stream_match::{EpochPlan, Layout, build_ready};
 use task_workers::{Gate, execute};
 
 /// Runs an epoch by so many workers: the activations of a layout that have no end yet, over what was kept for
@@ -53,7 +54,7 @@ pub(crate) fn has_new(bodies: &TaskBodies, held: &Held) -> bool
     held.ends.ends.len() < bodies.activations.len()
 }
 
-/// Runs the activations that have no end yet.
+/// Runs those of the activations without an end that may run by now.
 fn run_open<R: Threads + Sync, G: Gate>(
     rt: &R,
     alloc: Global,
@@ -68,7 +69,8 @@ fn run_open<R: Threads + Sync, G: Gate>(
     requires open { IsOpenEpoch bodies.now.code.now bodies.now.activations.now bodies.now.budget layout.now input.now held.old }
     ensures { OnOk result (IsHeldOf (parts_of bodies.now.code.now) bodies.now.activations.now input.now bodies.now.budget held.new) }
 {
-    let frames = open_activations(alloc, layout, held)?;
+    let readers = open_activations(alloc, layout, held)?;
+    let frames = ready_frames(alloc, layout, held.ends.ends.as_slice(), readers.as_slice())?;
     run_these(
         rt,
         alloc,
@@ -77,6 +79,7 @@ fn run_open<R: Threads + Sync, G: Gate>(
         input,
         workers,
         gate,
+        readers.as_slice(),
         frames.as_slice(),
         held,
     )
@@ -91,7 +94,7 @@ fn open_activations(alloc: Global, layout: &Layout, held: &Held) -> Result<List<
     Ok(frames)
 }
 
-/// Runs these activations, which are those that have no end yet.
+/// Runs some of these activations, which are those that have no end yet: what is left out of the frames waits.
 fn run_these<R: Threads + Sync, G: Gate>(
     rt: &R,
     alloc: Global,
@@ -100,42 +103,46 @@ fn run_these<R: Threads + Sync, G: Gate>(
     input: &[u8],
     workers: u32,
     gate: &G,
+    readers: &[u32],
     frames: &[u32],
     held: &mut Held,
 ) -> Result<(), Memory>
     requires workers { (1 ≤ workers) × (workers ≤ 64) }
     requires open { IsOpenEpoch bodies.now.code.now bodies.now.activations.now bodies.now.budget layout.now input.now held.old }
-    requires frames { frames.now ≡ open_in held.old.ends.ends (frame_count layout.now) }
+    requires readers { readers.now ≡ open_in held.old.ends.ends (frame_count layout.now) }
+    requires frames { LeaveOutWaiting bodies.now.activations.now input.now held.old.ends.ends frames.now }
     ensures { OnOk result (IsHeldOf (parts_of bodies.now.code.now) bodies.now.activations.now input.now bodies.now.budget held.new) }
 {
     run_in_epochs();
     serving(bodies);
     bodies_serve();
     later_activations_change_nothing();
-    let epoch = plan_these(alloc, bodies, layout, input, frames, held)?;
+    let epoch = plan_these(alloc, bodies, layout, input, readers, frames, held)?;
     let run = run_frames(rt, alloc, &epoch.plan, frames, bodies, workers, gate)?;
     held.take(alloc, layout, frames, epoch.places.as_slice(), &run)?;
     Ok(())
 }
 
-/// The plan of the epoch of these activations.
+/// The plan of an epoch with these frames.
 fn plan_these(
     alloc: Global,
     bodies: &TaskBodies,
     layout: &Layout,
     input: &[u8],
+    readers: &[u32],
     frames: &[u32],
     held: &Held,
 ) -> Result<EpochPlan, Memory>
     requires open { IsOpenEpoch bodies.now.code.now bodies.now.activations.now bodies.now.budget layout.now input.now held.now }
-    requires frames { frames.now ≡ open_in held.now.ends.ends (frame_count layout.now) }
+    requires readers { readers.now ≡ open_in held.now.ends.ends (frame_count layout.now) }
+    requires frames { LeaveOutWaiting bodies.now.activations.now input.now held.now.ends.ends frames.now }
     ensures sound { IfOk result (λ epoch. IsSound epoch.plan) }
-    ensures stands { IfOk result (λ epoch. StandsForEpoch epoch.plan bodies.now.activations.now input.now frames.now (map kept_of held.now.kept.items)
+    ensures stands { IfOk result (λ epoch. StandsForEpoch epoch.plan bodies.now.activations.now input.now readers.now frames.now (map kept_of held.now.kept.items)
         (map place_of epoch.places)) }
 {
     run_in_epochs();
     later_activations_change_nothing();
-    let epoch = build_epoch(alloc, layout, frames, held.kept.as_slice(), input)?;
+    let epoch = build_ready(alloc, layout, readers, frames, held.kept.as_slice(), input)?;
     Ok(epoch)
 }
 

@@ -6,9 +6,9 @@
 //! whole run, for every number of workers.
 //!
 //! Between two epochs stand the ends and the output of the activations so far, as these alone mean them, and the elements
-//! that later ones may read. The frames of an epoch are the activations that have no end yet: the new ones, and those of
-//! earlier epochs that still wait. A frame that waits gets its cells anew in each epoch. So the plan and the cells of one
-//! epoch alone are held at once.
+//! that later ones may read. The frames of an epoch are activations that have no end yet: the new ones, and those of
+//! earlier epochs that can run by now; what still waits is left out (`epoch_run_ready`), and costs a look in each epoch. So the
+//! plan and the cells of one epoch alone are held at once.
 #![tactic(auto)]
 
 mod adding;

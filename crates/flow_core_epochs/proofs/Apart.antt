@@ -113,9 +113,9 @@ one_activation activations a b p a_lt b_lt a_writes b_writes =
     sym (window_activation activations a v v_stands) ∙ ap (λ (u : Window). u.activation) one ∙ window_activation activations b w w_stands
 
 -- the places that leave an epoch
-pub leaving_apart : (activations : List Activation) (frames : List ℕ) → ((f a : ℕ) → slice_get frames f ≡ Some a → a < length activations) → ((f g a : ℕ) → slice_get frames f ≡ Some a → slice_get frames g ≡ Some a → f ≡ g) → Apart (λ p q. p ≡ q) (leaving_places activations frames)
-leaving_apart activations frames exists once =
-    apart_filter (λ p q. p ≡ q) (λ (p : Place). p.stream == 1 || nat_le (read_from activations frames p.stream) p.position) (flat_map (written_places activations) frames)
+pub leaving_apart : (activations : List Activation) (readers frames : List ℕ) → ((f a : ℕ) → slice_get frames f ≡ Some a → a < length activations) → ((f g a : ℕ) → slice_get frames f ≡ Some a → slice_get frames g ≡ Some a → f ≡ g) → Apart (λ p q. p ≡ q) (leaving_places activations readers frames)
+leaving_apart activations readers frames exists once =
+    apart_filter (λ p q. p ≡ q) (λ (p : Place). p.stream == 1 || nat_le (read_from activations readers p.stream) p.position) (flat_map (written_places activations) frames)
     (apart_flat_map (λ a b. a ≡ b) (written_places activations) frames (λ f g a b a_at b_at same. once f g a a_at (b_at ∙ ap Some (sym same))) (λ a h. let (f, at) = h in written_apart activations a (exists f a at)) (λ a b p a_in b_in p_in p_in'. let (f, at) = a_in in let (g, at') = b_in in one_activation activations a b p (exists f a at) (exists g b at') p_in p_in'))
 
 -- the elements at places that differ

@@ -250,8 +250,8 @@ serves_next activations new input body kept no_output carried = record {
         who none (inr ge) = inr ge
 
 -- it was written by activations that are no frames
-pub is_outside : (activations new : List Activation) (input : List ℕ) (body : ℕ → List ℤ → Outcome) (kept : List Kept) → IsCarried activations input (stream_meaning activations input body) kept → IsOutside (activations ++ new) (open_in (stream_meaning activations input body) (length (activations ++ new))) kept
-is_outside activations new input body kept carried = record {
+pub is_outside : (activations new : List Activation) (input : List ℕ) (body : ℕ → List ℤ → Outcome) (kept : List Kept) (frames : List ℕ) → ((f a : ℕ) → slice_get frames f ≡ Some a → outcome_at (stream_meaning activations input body) a ≡ None) → IsCarried activations input (stream_meaning activations input body) kept → IsOutside (activations ++ new) frames kept
+is_outside activations new input body kept frames waits carried = record {
   are_declared = has_all (λ (k : Kept). 2 ≤ k.place.stream) kept (λ k h. (written_at k h).0);
   places_differ = carried.places_differ;
   written_outside = has_all (λ (k : Kept). (w : Window) × (producer (activations ++ new) k.place.stream k.place.position ≡ Some w) × (number_in frames w.activation ≡ None)) kept outside;
@@ -260,15 +260,12 @@ is_outside activations new input body kept carried = record {
     state : State
     state = stream_meaning activations input body
 
-    frames : List ℕ
-    frames = open_in state (length (activations ++ new))
-
     written_at : (k : Kept) → Has kept k → (2 ≤ k.place.stream) × (element state (stream_source activations input k.place) ≡ Some k.value)
     written_at k h = all_has (λ (k : Kept). (2 ≤ k.place.stream) × (element state (stream_source activations input k.place) ≡ Some k.value)) kept k carried.were_written h
 
     no_frame : (a : ℕ) (o : Outcome) → outcome_at state a ≡ Some o → (n : Option ℕ) → number_in frames a ≡ n → number_in frames a ≡ None
     no_frame a o ended None e = e
-    no_frame a o ended (Some f) e = let z = (of_open state (length (activations ++ new)) a (f, numbers_back frames a f e)).1 in absurd (cc)
+    no_frame a o ended (Some f) e = let z = waits f a (numbers_back frames a f e) in absurd (cc)
 
     outside : (k : Kept) → Has kept k → (w : Window) × (producer (activations ++ new) k.place.stream k.place.position ≡ Some w) × (number_in frames w.activation ≡ None)
     outside k h =
@@ -278,7 +275,7 @@ is_outside activations new input body kept carried = record {
         let (o, ended) = output_outcome state v.activation (v.offset + (k.place.position - v.first)) k.value out in
         (v, producer_more activations new k.place.stream k.place.position v is, no_frame v.activation o ended (number_in frames v.activation) refl)
 
-module _ (before new : List Activation) (input : List ℕ) (body : ℕ → List ℤ → Outcome) (frames : List ℕ) (kept : List Kept) (plan : Plan) (places : List Place) (epoch : HasEpoch before new input body frames kept plan places) where
+module _ (before new : List Activation) (input : List ℕ) (body : ℕ → List ℤ → Outcome) (readers frames : List ℕ) (kept : List Kept) (plan : Plan) (places : List Place) (epoch : HasEpoch before new input body readers frames kept plan places) where
   abbrev acts : List Activation
   acts = before ++ new
 
@@ -299,16 +296,15 @@ module _ (before new : List Activation) (input : List ℕ) (body : ℕ → List 
       by_outcome None e = e
       by_outcome (Some o) e = let z = (prefix_extends before new input body).kept a o e in absurd (cc)
 
-  -- it is a frame of the epoch
-  left_frame : (a : ℕ) → Has left a → Has frames a
-  left_frame a h =
+  -- it was a reader of the epoch
+  left_reader : (a : ℕ) → Has left a → Has readers a
+  left_reader a h =
       let o = of_open whole (length acts) a h in
-      let (f, at) = epoch.are_open.all a o.0 (left_before a o.1) in
-      (f, at)
+      subst (λ (xs : List ℕ). Has xs a) (sym epoch.readers_are) (in_open earlier (length acts) a o.0 (left_before a o.1))
 
   -- so `read_from` rises
-  read_from_left : (stream : ℕ) → read_from acts frames stream ≤ read_from acts left stream
-  read_from_left stream = read_from_least (read_from acts frames stream) acts left stream (read_from_cursor acts frames stream) (λ a w frame at reads. read_from_frame acts frames stream a w (left_frame a frame) at reads)
+  read_from_left : (stream : ℕ) → read_from acts readers stream ≤ read_from acts left stream
+  read_from_left stream = read_from_least (read_from acts readers stream) acts left stream (read_from_cursor acts readers stream) (λ a w frame at reads. read_from_frame acts readers stream a w (left_reader a frame) at reads)
 
   read_from_rises : (stream : ℕ) → read_from before (open_in earlier (length before)) stream ≤ read_from acts left stream
   read_from_rises stream = read_from_least (read_from before was_open stream) acts left stream (let a = read_from_cursor before was_open stream in let b = cursor_grows stream before new in omega arith) (λ a w frame at reads. each a w frame at reads (cases_lt a (length before)))
@@ -322,12 +318,12 @@ module _ (before new : List Activation) (input : List ℕ) (body : ℕ → List 
 
   -- what is no frame has the outcome that it had
   outcome_before : (a : ℕ) → number_in frames a ≡ None → outcome_at whole a ≡ outcome_at earlier a
-  outcome_before a n = sym (over_is_whole before new input body frames kept plan places epoch a) ∙ over_other before new input body frames kept plan places a n
+  outcome_before a n = sym (over_is_whole before new input body readers frames kept plan places epoch a) ∙ over_other before new input body readers frames kept plan places a n
 
   -- a place that a frame wrote leaves, where it is of the output or may be read
-  frame_leaves : (p : Place) (w : Window) (f : ℕ) → producer acts p.stream p.position ≡ Some w → number_in frames w.activation ≡ Some f → (p.stream == 1 || nat_le (read_from acts frames p.stream) p.position) ≡ true → Has places p
+  frame_leaves : (p : Place) (w : Window) (f : ℕ) → producer acts p.stream p.position ≡ Some w → number_in frames w.activation ≡ Some f → (p.stream == 1 || nat_le (read_from acts readers p.stream) p.position) ≡ true → Has places p
   frame_leaves p w f is n test =
-      subst (λ (ps : List Place). Has ps p) (sym epoch.stands.places_leave) (in_filter (λ (p : Place). p.stream == 1 || nat_le (read_from acts frames p.stream) p.position) (flat_map (written_places acts) frames) p (in_flat_map (written_places acts) frames w.activation p (f, numbers_back frames w.activation f n) (wrote acts p w is)) test)
+      subst (λ (ps : List Place). Has ps p) (sym epoch.stands.places_leave) (in_filter (λ (p : Place). p.stream == 1 || nat_le (read_from acts readers p.stream) p.position) (flat_map (written_places acts) frames) p (in_flat_map (written_places acts) frames w.activation p (f, numbers_back frames w.activation f n) (wrote acts p w is)) test)
 
   abbrev values : List (Option ℤ)
   values = sink_elements plan (epoch_meaning plan frames body)
@@ -336,7 +332,7 @@ module _ (before new : List Activation) (input : List ℕ) (body : ℕ → List 
   element_now p = element whole (stream_source acts input p)
 
   values_are : values ≡ map element_now places
-  values_are = sink_leaves before new input body frames kept plan places epoch
+  values_are = sink_leaves before new input body readers frames kept plan places epoch
 
   -- what is carried over
   abbrev over_all : List Kept
@@ -357,8 +353,8 @@ module _ (before new : List Activation) (input : List ℕ) (body : ℕ → List 
       by_number : (w : Window) → producer acts p.stream p.position ≡ Some w → output_at whole w.activation (w.offset + (p.position - w.first)) ≡ Some v → (n : Option ℕ) → number_in frames w.activation ≡ n → IsSome (value_kept (carried_over acts left kept places values) p)
       by_number w is out (Some f) n =
           let l = read_from_left p.stream in
-          let b : nat_le (read_from acts frames p.stream) p.position ≡ true = grind (arith, nat_tests) in
-          let leaves = frame_leaves p w f is n (or_true (p.stream == 1) (nat_le (read_from acts frames p.stream) p.position) b) in
+          let b : nat_le (read_from acts readers p.stream) p.position ≡ true = grind (arith, nat_tests) in
+          let leaves = frame_leaves p w f is n (or_true (p.stream == 1) (nat_le (read_from acts readers p.stream) p.position) b) in
           carried_there (record { place = p; value = v }) p (in_right kept (elements_at places values) _ (subst (λ (vs : List (Option ℤ)). Has (elements_at places vs) (record { place = p; value = v })) (sym values_are) (in_elements element_now places p v leaves now))) refl declared behind
         where
           or_true : (x y : Bool) → y ≡ true → (x || y) ≡ true
@@ -376,7 +372,7 @@ module _ (before new : List Activation) (input : List ℕ) (body : ℕ → List 
   -- a place that leaves was written by a frame
   leaves_frame : (p : Place) → Has places p → (w : Window) × (producer acts p.stream p.position ≡ Some w) × (outcome_at earlier w.activation ≡ None)
   leaves_frame p h =
-      let r = of_filter (λ (p : Place). p.stream == 1 || nat_le (read_from acts frames p.stream) p.position) (flat_map (written_places acts) frames) p (subst (λ (ps : List Place). Has ps p) epoch.stands.places_leave h) in
+      let r = of_filter (λ (p : Place). p.stream == 1 || nat_le (read_from acts readers p.stream) p.position) (flat_map (written_places acts) frames) p (subst (λ (ps : List Place). Has ps p) epoch.stands.places_leave h) in
       let (a, (f, at), there) = of_flat_map (written_places acts) frames p r.0 in
       let (w, stands, writes, l) = written_in acts a p there in
       let (i, stands_in) = has_window acts a w (epoch.are_open.exists f a at) stands in
@@ -386,7 +382,7 @@ module _ (before new : List Activation) (input : List ℕ) (body : ℕ → List 
   carried_apart carried = apart_filter SamePlace (λ (k : Kept). is_readable acts left k.place) over_all (apart_append SamePlace kept (elements_at places values) carried.places_differ elements_apart (λ k l h g same. apart_from k l h g same) (λ k l h g same. apart_from k l h g (sym same)))
     where
       elements_apart : Apart SamePlace (elements_at places values)
-      elements_apart = subst (λ (vs : List (Option ℤ)). Apart SamePlace (elements_at places vs)) (sym values_are) (apart_elements element_now places (subst (Apart (λ p q. p ≡ q)) (sym epoch.stands.places_leave) (leaving_apart acts frames (λ f a at. epoch.are_open.exists f a at) (λ f g a at at'. same_Some f g (sym (epoch.are_open.numbered f a at) ∙ epoch.are_open.numbered g a at')))))
+      elements_apart = subst (λ (vs : List (Option ℤ)). Apart SamePlace (elements_at places vs)) (sym values_are) (apart_elements element_now places (subst (Apart (λ p q. p ≡ q)) (sym epoch.stands.places_leave) (leaving_apart acts readers frames (λ f a at. epoch.are_open.exists f a at) (λ f g a at at'. same_Some f g (sym (epoch.are_open.numbered f a at) ∙ epoch.are_open.numbered g a at')))))
 
       apart_from : (k l : Kept) → Has kept k → Has (elements_at places values) l → k.place ≡ l.place → ⊥
       apart_from k l h g same =
@@ -430,11 +426,17 @@ module _ (before new : List Activation) (input : List ℕ) (body : ℕ → List 
       was_none e None h = h
       was_none e (Some w) h = let z = producer_more before new p.stream p.position w h in absurd (cc)
 
+      was_not : (w : Window) → producer acts p.stream p.position ≡ Some w → outcome_at earlier w.activation ≡ None → (o : Option Window) → producer before p.stream p.position ≡ o → element earlier (stream_source before input p) ≡ None
+      was_not w is e None h = ap (element earlier) (produced_by_nobody before input p other h)
+      was_not w is e (Some v) h =
+          let one : v ≡ w = same_Some v w (sym (producer_more before new p.stream p.position v h) ∙ is) in
+          ap (element earlier) (produced_by before input p w other (h ∙ ap Some one)) ∙ ap (option_and_then (λ (q : Outcome). slice_get q.outputs (w.offset + (p.position - w.first)))) e
+
       by_outcome : (w : Window) → producer acts p.stream p.position ≡ Some w → number_in frames w.activation ≡ None → (o : Option Outcome) → outcome_at earlier w.activation ≡ o → element whole (stream_source acts input p) ≡ element earlier (stream_source before input p)
       by_outcome w is n None e =
-          let (f, at) = epoch.are_open.all w.activation (is_producer acts p.stream p.position w is).exists e in
-          let z = epoch.are_open.numbered f w.activation at in
-          absurd (cc)
+          ap (element whole) (produced_by acts input p w other is)
+          ∙ ap (option_and_then (λ (q : Outcome). slice_get q.outputs (w.offset + (p.position - w.first)))) (outcome_before w.activation n ∙ e)
+          ∙ sym (was_not w is e (producer before p.stream p.position) refl)
       by_outcome w is n (Some o) e =
           ap (element whole) (produced_by acts input p w other is)
           ∙ ap (option_and_then (λ (q : Outcome). slice_get q.outputs (w.offset + (p.position - w.first)))) (outcome_before w.activation n)
@@ -442,7 +444,7 @@ module _ (before new : List Activation) (input : List ℕ) (body : ℕ → List 
 
       by_number : (w : Window) → producer acts p.stream p.position ≡ Some w → (n : Option ℕ) → number_in frames w.activation ≡ n → element whole (stream_source acts input p) ≡ element earlier (stream_source before input p)
       by_number w is (Some f) n =
-          let (i, at) = frame_leaves p w f is n (ap (λ (b : Bool). b || nat_le (read_from acts frames p.stream) p.position) (eq-eqb p.stream 1 one)) in
+          let (i, at) = frame_leaves p w f is n (ap (λ (b : Bool). b || nat_le (read_from acts readers p.stream) p.position) (eq-eqb p.stream 1 one)) in
           absurd (stays (i, slice_get_within places i p at, get_or_from_slice_get places i p p at))
       by_number w is None n = by_outcome w is n (outcome_at earlier w.activation) refl
 

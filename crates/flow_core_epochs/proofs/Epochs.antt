@@ -18,10 +18,10 @@ use Rattle.flow_core_laws.specs.Plans.{plan_reads, plan_meaning}
 use Rattle.flow_core_laws.specs.Round.{gathered, inputs_in}
 use Rattle.flow_core_laws.proofs.Sources.{find_passes}
 use Rattle.flow_core_laws.proofs.Rounds.{Extends, element-extends, gathered-extends, outcome_at-meaning, length-meaning}
-use Rattle.flow_core_epochs.specs.Epoch.{Kept, is_at, value_kept, number_in, among, epoch_source, put_over, IsKeptFor, StandsForEpoch}
+use Rattle.flow_core_epochs.specs.Epoch.{Kept, is_at, value_kept, open_in, number_in, among, epoch_source, put_over, IsKeptFor, StandsForEpoch}
 use Rattle.flow_core_epochs.proofs.Holding.{gathered_both, holds_in_meaning}
 use Rattle.flow_core_epochs.proofs.Prefixes.{prefix_extends}
-use Rattle.flow_core_epochs.proofs.Frames.{AreOpen, numbers_back}
+use Rattle.flow_core_epochs.proofs.Frames.{AreTaken, numbers_back}
 
 -- an output element goes with its outcome
 pub output_carries : (s t : State) (a b place : ℕ) (v : ℤ) → ((o : Outcome) → outcome_at s a ≡ Some o → outcome_at t b ≡ Some o) → output_at s a place ≡ Some v → output_at t b place ≡ Some v
@@ -66,12 +66,13 @@ kept_value activations input state frames kept p v ok h = by_find (find (is_at p
         (subst (λ (q : Place). q.stream ≢ 0) place w'.0, ap (λ (q : Place). element state (stream_source activations input q)) (sym place) ∙ w'.1 ∙ ap Some value)
 
 -- The epoch after some activations, with what is asked of it.
-pub record HasEpoch (before new : List Activation) (input : List ℕ) (body : ℕ → List ℤ → Outcome) (frames : List ℕ) (kept : List Kept) (plan : Plan) (places : List Place) : Type 0 where
-  pub are_open : AreOpen (stream_meaning before input body) (length (before ++ new)) frames
+pub record HasEpoch (before new : List Activation) (input : List ℕ) (body : ℕ → List ℤ → Outcome) (readers frames : List ℕ) (kept : List Kept) (plan : Plan) (places : List Place) : Type 0 where
+  pub readers_are : readers ≡ open_in (stream_meaning before input body) (length (before ++ new))
+  pub are_open : AreTaken (stream_meaning before input body) (stream_meaning (before ++ new) input body) (length (before ++ new)) frames
   pub kept_well : IsKeptFor (before ++ new) input (stream_meaning before input body) frames kept
-  pub stands : StandsForEpoch plan (before ++ new) input frames kept places
+  pub stands : StandsForEpoch plan (before ++ new) input readers frames kept places
 
-module _ (before new : List Activation) (input : List ℕ) (body : ℕ → List ℤ → Outcome) (frames : List ℕ) (kept : List Kept) (plan : Plan) (places : List Place) where
+module _ (before new : List Activation) (input : List ℕ) (body : ℕ → List ℤ → Outcome) (readers frames : List ℕ) (kept : List Kept) (plan : Plan) (places : List Place) where
   abbrev pub acts : List Activation
   acts = before ++ new
 
@@ -101,7 +102,7 @@ module _ (before new : List Activation) (input : List ℕ) (body : ℕ → List 
   earlier_extends = prefix_extends before new input body
 
   -- an element of the epoch is one of the run
-  element_of_epoch : HasEpoch before new input body frames kept plan places → (s : State) → ((f : ℕ) (o : Outcome) → outcome_at s f ≡ Some o → outcome_at whole (get_or frames f 0) ≡ Some o) → (p : Place) (v : ℤ) → element s (epoch_source acts input frames kept p) ≡ Some v → element whole (stream_source acts input p) ≡ Some v
+  element_of_epoch : HasEpoch before new input body readers frames kept plan places → (s : State) → ((f : ℕ) (o : Outcome) → outcome_at s f ≡ Some o → outcome_at whole (get_or frames f 0) ≡ Some o) → (p : Place) (v : ℤ) → element s (epoch_source acts input frames kept p) ≡ Some v → element whole (stream_source acts input p) ≡ Some v
   element_of_epoch epoch s carries p v = by_kept (value_kept kept p) refl (stream_source acts input p) refl
     where
       by_number : (a place : ℕ) (n : Option ℕ) → number_in frames a ≡ n → element s (option_map_or (λ f. fed f place) n nobody) ≡ Some v → output_at whole a place ≡ Some v
@@ -115,7 +116,7 @@ module _ (before new : List Activation) (input : List ℕ) (body : ℕ → List 
       by_kept None k_is (fed a place) is h = ap (element whole) is ∙ by_number a place (number_in frames a) refl (sym (ap (λ (x : Source). element s (among frames x)) is) ∙ h)
 
   -- each outcome of the epoch is the run's
-  partial_is_whole : HasEpoch before new input body frames kept plan places → (f : ℕ) (o : Outcome) → outcome_at partial f ≡ Some o → outcome_at whole (get_or frames f 0) ≡ Some o
+  partial_is_whole : HasEpoch before new input body readers frames kept plan places → (f : ℕ) (o : Outcome) → outcome_at partial f ≡ Some o → outcome_at whole (get_or frames f 0) ≡ Some o
   partial_is_whole epoch = holds_in_meaning element (plan_reads plan) of_frames (length plan.frames) (λ f o. outcome_at whole (get_or frames f 0) ≡ Some o) (record { fires = fire })
     where
       fire : (s : State) → Extends s partial → ((f : ℕ) (o : Outcome) → outcome_at s f ≡ Some o → outcome_at whole (get_or frames f 0) ≡ Some o) → (f : ℕ) (vs : List ℤ) → f < length plan.frames → inputs_in element (plan_reads plan) s f ≡ Some vs → outcome_at whole (get_or frames f 0) ≡ Some (body (slice_index frames f) vs)
@@ -129,7 +130,7 @@ module _ (before new : List Activation) (input : List ℕ) (body : ℕ → List 
           outcome_at-meaning element element-extends (stream_reads acts input) body (length acts) a (epoch.are_open.exists f a is) ∙ ap (option_map (body a)) there
 
   -- an element of the run that a frame reads is there in the epoch
-  element_in_epoch : HasEpoch before new input body frames kept plan places → (s : State) → Extends s whole → ((a : ℕ) (o : Outcome) → outcome_at s a ≡ Some o → over a ≡ Some o) → (p : Place) (v : ℤ) → (p.stream ≢ 0 → IsSome (element earlier (stream_source acts input p)) → IsSome (value_kept kept p)) → element s (stream_source acts input p) ≡ Some v → element partial (epoch_source acts input frames kept p) ≡ Some v
+  element_in_epoch : HasEpoch before new input body readers frames kept plan places → (s : State) → Extends s whole → ((a : ℕ) (o : Outcome) → outcome_at s a ≡ Some o → over a ≡ Some o) → (p : Place) (v : ℤ) → (p.stream ≢ 0 → IsSome (element earlier (stream_source acts input p)) → IsSome (value_kept kept p)) → element s (stream_source acts input p) ≡ Some v → element partial (epoch_source acts input frames kept p) ≡ Some v
   element_in_epoch epoch s extends carries p v keeps h = by_kept (value_kept kept p) refl (stream_source acts input p) refl
     where
       by_number : (a place : ℕ) (n : Option ℕ) → number_in frames a ≡ n → value_kept kept p ≡ None → stream_source acts input p ≡ fed a place → element partial (option_map_or (λ f. fed f place) n nobody) ≡ Some v
@@ -147,7 +148,7 @@ module _ (before new : List Activation) (input : List ℕ) (body : ℕ → List 
       by_kept None k_is (fed a place) is = ap (λ (x : Source). element partial (among frames x)) is ∙ by_number a place (number_in frames a) refl k_is is
 
   -- no activation with an outcome before the epoch is a frame
-  no_frame : HasEpoch before new input body frames kept plan places → (a : ℕ) (o : Outcome) → outcome_at earlier a ≡ Some o → number_in frames a ≡ None
+  no_frame : HasEpoch before new input body readers frames kept plan places → (a : ℕ) (o : Outcome) → outcome_at earlier a ≡ Some o → number_in frames a ≡ None
   no_frame epoch a o h = by_number (number_in frames a) refl
     where
       by_number : (n : Option ℕ) → number_in frames a ≡ n → number_in frames a ≡ None
@@ -155,18 +156,17 @@ module _ (before new : List Activation) (input : List ℕ) (body : ℕ → List 
       by_number (Some f) e = let z = epoch.are_open.waits f a (numbers_back frames a f e) in absurd (cc)
 
   -- each outcome of the run is the epoch's, or was there before it
-  whole_is_over : HasEpoch before new input body frames kept plan places → (a : ℕ) (o : Outcome) → outcome_at whole a ≡ Some o → over a ≡ Some o
+  whole_is_over : HasEpoch before new input body readers frames kept plan places → (a : ℕ) (o : Outcome) → outcome_at whole a ≡ Some o → over a ≡ Some o
   whole_is_over epoch = holds_in_meaning element (stream_reads acts input) body (length acts) (λ a o. over a ≡ Some o) (record { fires = fire })
     where
       fire : (s : State) → Extends s whole → ((a : ℕ) (o : Outcome) → outcome_at s a ≡ Some o → over a ≡ Some o) → (a : ℕ) (vs : List ℤ) → a < length acts → inputs_in element (stream_reads acts input) s a ≡ Some vs → over a ≡ Some (body a vs)
       fire s extends carries a vs lt inputs = by_outcome (outcome_at earlier a) refl
         where
-          by_outcome : (o : Option Outcome) → outcome_at earlier a ≡ o → over a ≡ Some (body a vs)
-          by_outcome (Some o) e =
-              let meant : outcome_at whole a ≡ Some (body a vs) = outcome_at-meaning element element-extends (stream_reads acts input) body (length acts) a lt ∙ ap (option_map (body a)) (gathered-extends element element-extends s whole extends (stream_reads acts input a) vs inputs) in
-              over_other a (no_frame epoch a o e) ∙ e ∙ sym (earlier_extends.kept a o e) ∙ meant
-          by_outcome None e =
-              let (f, is) = epoch.are_open.all a lt e in
+          meant : outcome_at whole a ≡ Some (body a vs)
+          meant = outcome_at-meaning element element-extends (stream_reads acts input) body (length acts) a lt ∙ ap (option_map (body a)) (gathered-extends element element-extends s whole extends (stream_reads acts input a) vs inputs)
+
+          of_frame : (f : ℕ) → slice_get frames f ≡ Some a → over a ≡ Some (body a vs)
+          of_frame f is =
               let n = epoch.stands.frames_are_these in
               let within = slice_get_within frames f a is in
               let number = epoch.are_open.numbered f a is in
@@ -184,8 +184,17 @@ module _ (before new : List Activation) (input : List ℕ) (body : ℕ → List 
                   let h' = subst (λ (b : ℕ). (k : ℕ) (d : Place) → k < length (input_places acts b) → (get_or (input_places acts b) k d).stream ≢ 0 → IsSome (element earlier (stream_source acts input (get_or (input_places acts b) k d))) → IsSome (value_kept kept (get_or (input_places acts b) k d))) same h in
                   subst (λ (q : Place). q.stream ≢ 0 → IsSome (element earlier (stream_source acts input q)) → IsSome (value_kept kept q)) (get_or_from_slice_get (input_places acts a) i p p at) (h' i p (slice_get_within (input_places acts a) i p at))
 
+          by_outcome : (o : Option Outcome) → outcome_at earlier a ≡ o → over a ≡ Some (body a vs)
+          by_outcome (Some o) e =
+              over_other a (no_frame epoch a o e) ∙ e ∙ sym (earlier_extends.kept a o e) ∙ meant
+          by_outcome None e = by_number (number_in frames a) refl
+            where
+              by_number : (n : Option ℕ) → number_in frames a ≡ n → over a ≡ Some (body a vs)
+              by_number None out = let z = epoch.are_open.others a lt e out in let m = meant in absurd (cc)
+              by_number (Some f) is_f = of_frame f (numbers_back frames a f is_f)
+
   -- both give each activation the same
-  pub over_is_whole : HasEpoch before new input body frames kept plan places → (a : ℕ) → over a ≡ outcome_at whole a
+  pub over_is_whole : HasEpoch before new input body readers frames kept plan places → (a : ℕ) → over a ≡ outcome_at whole a
   over_is_whole epoch a = by_outcome (outcome_at whole a) refl (over a) refl
     where
       from_over : (n : Option ℕ) (o : Outcome) → number_in frames a ≡ n → over a ≡ Some o → outcome_at whole a ≡ Some o
@@ -197,7 +206,7 @@ module _ (before new : List Activation) (input : List ℕ) (body : ℕ → List 
       by_outcome None e None f = f ∙ sym e
       by_outcome None e (Some o) f = f ∙ sym (from_over (number_in frames a) o refl f)
 
-  pub adds_up : HasEpoch before new input body frames kept plan places → put_over earlier frames partial (length acts) ≡ whole
+  pub adds_up : HasEpoch before new input body readers frames kept plan places → put_over earlier frames partial (length acts) ≡ whole
   adds_up epoch = same_lists (map over (range_with_len 0 (length acts))) whole (length-map-range_with_len over 0 (length acts) ∙ sym l) (λ k d lt. at k d (omega (arith, length-map-range_with_len over 0 (length acts))))
     where
       l : length whole ≡ length acts
@@ -206,5 +215,5 @@ module _ (before new : List Activation) (input : List ℕ) (body : ℕ → List 
       at : (k : ℕ) (d : Option Outcome) → k < length acts → get_or (map over (range_with_len 0 (length acts))) k d ≡ get_or whole k d
       at k d lt = get_or-map-range_with_len over 0 (length acts) k k d lt (omega arith) ∙ over_is_whole epoch k ∙ get_or_default whole k None d (omega (arith, l))
 
-  pub frames_end : HasEpoch before new input body frames kept plan places → (f a : ℕ) → slice_get frames f ≡ Some a → outcome_at whole a ≡ outcome_at partial f
+  pub frames_end : HasEpoch before new input body readers frames kept plan places → (f a : ℕ) → slice_get frames f ≡ Some a → outcome_at whole a ≡ outcome_at partial f
   frames_end epoch f a at = sym (over_is_whole epoch a) ∙ over_frame a f (epoch.are_open.numbered f a at)

@@ -1,11 +1,11 @@
 -- That what is held between epochs is what all activations so far mean.
 use Rattle.std.proofs.Common.{◌≡◌, ℕ, ◌+◌, ◌<◌, ◌≤◌, ℤ, List, [], ◌∷◌, ◌++◌, Option, Some, None, Bool, true, false, cond, map, length, get_or, take, drop, refl, sym, ap, ◌∙◌, subst, ◌⊎◌, inl, inr, arith}
-use Rattle.std.specs.Prelude.{filter, is_none, Contains, ◌==◌, sum_by}
+use Rattle.std.specs.Prelude.{filter, Contains, ◌==◌, sum_by}
 use Rattle.std.specs.Option.{option_map, option_map_or}
 use Rattle.std.specs.List.{range_with_len, position, position_or_len}
 use Rattle.std.proofs.lemmas.Bool.{cases_lt, eq-eqb, eqb-true, and_parts, lt-ltb}
 use Rattle.std.proofs.lemmas.List.{same_lists, get_or-map, get_or_past, get_or_default, length-map, take-append-drop, take_more}
-use Rattle.std.proofs.lemmas.List.Elements.{filter-append, filter_agree}
+use Rattle.std.proofs.lemmas.List.Elements.{filter-append}
 use Rattle.std.proofs.lemmas.List.Sums.{sum_by-append, fails_before_first}
 use Rattle.std.proofs.lemmas.List.FromFn.{get_or-map-range_with_len, length-map-range_with_len}
 use Rattle.std.proofs.lemmas.List.Quantifiers.{position-Some}
@@ -27,26 +27,12 @@ use Rattle.flow_core_laws.specs.Streams.{stream_source, stream_reads, stream_mea
 use Rattle.flow_core_laws.proofs.Sources.{find_passes}
 use Rattle.flow_core_laws.proofs.Rounds.{length-meaning}
 use Rattle.flow_core_laws.proofs.Windows.{window_at, written, first_of_write}
-use Rattle.flow_core_epochs.specs.Epoch.{Kept, open_in, number_in, put_over, carried_over, is_output_at, output_over, IsKeptFor, IsCarried, IsOutside, ReadNoOutput, StandsForEpoch, IsEpoch, IsHeld, IsHeldAfter, epoch_meaning}
+use Rattle.flow_core_epochs.specs.Epoch.{Kept, open_in, number_in, put_over, carried_over, is_output_at, output_over, IsKeptFor, IsCarried, IsOutside, ReadNoOutput, StandsForEpoch, LeaveOutWaiting, IsEpoch, IsHeld, IsHeldAfter, epoch_meaning}
 use Rattle.flow_core_epochs.proofs.Members.{Has}
 use Rattle.flow_core_epochs.proofs.Epochs.{HasEpoch, over_frame, over_other, over_is_whole}
+use Rattle.flow_core_epochs.proofs.Choosing.{end_in, chosen_by, open_by_ends}
 use Rattle.flow_core_epochs.proofs.Leaving.{sink_leaves}
 use Rattle.flow_core_epochs.proofs.Carried.{nothing_at_first, serves_next, is_outside, carries_over, output_stays, produced_by_nobody}
-
--- the ends of a state
-pub end_in : (state : State) (a : ℕ) → outcome_at (ends_of state) a ≡ option_map (λ (o : Outcome). o.end) (outcome_at state a)
-end_in state a = elim (cases_lt a (length state)) [
-  | inl lt ↦ get_or-map (option_map (λ (o : Outcome). o.end)) state a None None lt
-  | inr ge ↦ get_or_past (ends_of state) a None (omega (arith, length-map state (option_map (λ (o : Outcome). o.end)))) ∙ ap (option_map (λ (o : Outcome). o.end)) (sym (get_or_past state a None ge))
-]
-
--- say which frames are open
-pub open_by_ends : (state : State) (count : ℕ) → open_in (ends_of state) count ≡ open_in state count
-open_by_ends state count = filter_agree (λ a. is_none (outcome_at (ends_of state) a)) (λ a. is_none (outcome_at state a)) (λ a. ap is_none (end_in state a) ∙ by_outcome (outcome_at state a)) (range_with_len 0 count)
-  where
-    by_outcome : (o : Option Outcome) → is_none (option_map (λ (q : Outcome). q.end) o) ≡ is_none o
-    by_outcome None = refl
-    by_outcome (Some o) = refl
 
 -- a write claim ends within what is written
 write_cursor-append : (s : ℕ) (xs ys : List Claim) → write_cursor s (xs ++ ys) ≡ write_cursor s xs + write_cursor s ys
@@ -118,14 +104,16 @@ pub held_at_first : (input : List ℕ) (body : ℕ → List ℤ → Outcome) →
 unfolding meaning rounds
 held_at_first input body = record { ends_are_meant = refl; kept_is_carried = nothing_at_first input body; output_is_meant = refl }
 
-pub begins_epoch : (before new : List Activation) (input : List ℕ) (body : ℕ → List ℤ → Outcome) (ends : List (Option TaskEnd)) (kept : List Kept) (output : List (Option ℤ)) (frames : List ℕ) → ReadNoOutput (before ++ new) → IsHeld before input body ends kept output → frames ≡ open_in ends (length (before ++ new)) → IsOutside (before ++ new) frames kept × ((plan : Plan) (places : List Place) → StandsForEpoch plan (before ++ new) input frames kept places → IsEpoch before new input body frames kept plan places)
-begins_epoch before new input body ends kept output frames no_output held is =
+pub begins_epoch : (before new : List Activation) (input : List ℕ) (body : ℕ → List ℤ → Outcome) (ends : List (Option TaskEnd)) (kept : List Kept) (output : List (Option ℤ)) (readers frames : List ℕ) → ReadNoOutput (before ++ new) → IsHeld before input body ends kept output → readers ≡ open_in ends (length (before ++ new)) → LeaveOutWaiting (before ++ new) input ends frames
+    → IsOutside (before ++ new) frames kept × ((plan : Plan) (places : List Place) → StandsForEpoch plan (before ++ new) input readers frames kept places → IsEpoch before new input body readers frames kept plan places)
+begins_epoch before new input body ends kept output readers frames no_output held is leave =
     let state = stream_meaning before input body in
     let n = length (before ++ new) in
-    let e : frames ≡ open_in state n = is ∙ ap (λ (es : List (Option TaskEnd)). open_in es n) held.ends_are_meant ∙ open_by_ends state n in
-    (subst (λ (fs : List ℕ). IsOutside (before ++ new) fs kept) (sym e) (is_outside before new input body kept held.kept_is_carried), λ plan places stands. record { frames_are_open = e; has_kept = subst (λ (fs : List ℕ). IsKeptFor (before ++ new) input state fs kept) (sym e) (serves_next before new input body kept no_output held.kept_is_carried); plan_stands = stands })
+    let e : readers ≡ open_in state n = is ∙ ap (λ (es : List (Option TaskEnd)). open_in es n) held.ends_are_meant ∙ open_by_ends state n in
+    let chosen = chosen_by before new input body frames (subst (λ (es : List (Option TaskEnd)). LeaveOutWaiting (before ++ new) input es frames) held.ends_are_meant leave) in
+    (is_outside before new input body kept frames (λ f a h. (chosen.are_open f a h).1) held.kept_is_carried, λ plan places stands. record { readers_are_open = e; frames_are_chosen = chosen; has_kept = subst (λ (fs : List ℕ). IsKeptFor (before ++ new) input state fs kept) (sym e) (serves_next before new input body kept no_output held.kept_is_carried); plan_stands = stands })
 
-module _ (before new : List Activation) (input : List ℕ) (body : ℕ → List ℤ → Outcome) (frames : List ℕ) (kept : List Kept) (plan : Plan) (places : List Place) (epoch : HasEpoch before new input body frames kept plan places) (ends : List (Option TaskEnd)) (output : List (Option ℤ)) (run : Ends) (held : IsHeld before input body ends kept output) (run_ends : run.ends ≡ ends_of (epoch_meaning plan frames body)) (run_output : run.output ≡ sink_elements plan (epoch_meaning plan frames body)) where
+module _ (before new : List Activation) (input : List ℕ) (body : ℕ → List ℤ → Outcome) (readers frames : List ℕ) (kept : List Kept) (plan : Plan) (places : List Place) (epoch : HasEpoch before new input body readers frames kept plan places) (ends : List (Option TaskEnd)) (output : List (Option ℤ)) (run : Ends) (held : IsHeld before input body ends kept output) (run_ends : run.ends ≡ ends_of (epoch_meaning plan frames body)) (run_output : run.output ≡ sink_elements plan (epoch_meaning plan frames body)) where
   abbrev acts : List Activation
   acts = before ++ new
 
@@ -150,12 +138,12 @@ module _ (before new : List Activation) (input : List ℕ) (body : ℕ → List 
           ap (λ (o : Option ℕ). option_map_or (outcome_at run.ends) o (outcome_at ends a)) e
           ∙ ap (λ (es : List (Option TaskEnd)). outcome_at es f) run_ends
           ∙ end_in partial f
-          ∙ ap (option_map (λ (o : Outcome). o.end)) (sym (over_frame before new input body frames kept plan places a f e) ∙ over_is_whole before new input body frames kept plan places epoch a)
+          ∙ ap (option_map (λ (o : Outcome). o.end)) (sym (over_frame before new input body readers frames kept plan places a f e) ∙ over_is_whole before new input body readers frames kept plan places epoch a)
       by_number None e =
           ap (λ (o : Option ℕ). option_map_or (outcome_at run.ends) o (outcome_at ends a)) e
           ∙ ap (λ (es : List (Option TaskEnd)). outcome_at es a) held.ends_are_meant
           ∙ end_in earlier a
-          ∙ ap (option_map (λ (o : Outcome). o.end)) (sym (over_other before new input body frames kept plan places a e) ∙ over_is_whole before new input body frames kept plan places epoch a)
+          ∙ ap (option_map (λ (o : Outcome). o.end)) (sym (over_other before new input body readers frames kept plan places a e) ∙ over_is_whole before new input body readers frames kept plan places epoch a)
 
   ends_are_whole : put_over ends frames run.ends (length acts) ≡ ends_of whole
   ends_are_whole = same_lists (map end_after (range_with_len 0 (length acts))) (ends_of whole) (length-map-range_with_len end_after 0 (length acts) ∙ sym l) (λ k d lt. at k d (omega (arith, length-map-range_with_len end_after 0 (length acts))))
@@ -190,14 +178,14 @@ module _ (before new : List Activation) (input : List ℕ) (body : ℕ → List 
           let lt = p.0 in
           let is : get_or places i (at_output at) ≡ at_output at = same_place (get_or places i (at_output at)) p.1 in
           ap (λ (o : Option ℕ). option_map_or (λ i. get_or run.output i None) o (get_or output at None)) e
-          ∙ ap (λ (os : List (Option ℤ)). get_or os i None) (run_output ∙ sink_leaves before new input body frames kept plan places epoch)
+          ∙ ap (λ (os : List (Option ℤ)). get_or os i None) (run_output ∙ sink_leaves before new input body readers frames kept plan places epoch)
           ∙ get_or-map element_now places i (at_output at) None lt
           ∙ ap element_now is
       by_number None e =
           ap (λ (o : Option ℕ). option_map_or (λ i. get_or run.output i None) o (get_or output at None)) e
           ∙ ap (λ (os : List (Option ℤ)). get_or os at None) held.output_is_meant
           ∙ output_element before input earlier at
-          ∙ sym (output_stays before new input body frames kept plan places epoch (at_output at) refl (not_there e))
+          ∙ sym (output_stays before new input body readers frames kept plan places epoch (at_output at) refl (not_there e))
 
   output_is_whole : output_over output places run.output (written_count acts 1) ≡ output_elements acts input whole
   output_is_whole = same_maps (range_with_len 0 (written_count acts 1)) ∙ sym (output_elements-at acts input whole)
@@ -210,6 +198,6 @@ module _ (before new : List Activation) (input : List ℕ) (body : ℕ → List 
   held_after = record {
     ends_are_meant = ends_are_whole;
     kept_is_carried = subst (λ (fs : List ℕ). IsCarried acts input whole (carried_over acts fs kept places run.output)) (sym (ap (λ (es : List (Option TaskEnd)). open_in es (length acts)) ends_are_whole ∙ open_by_ends whole (length acts)))
-        (subst (λ (vs : List (Option ℤ)). IsCarried acts input whole (carried_over acts (open_in whole (length acts)) kept places vs)) (sym run_output) (carries_over before new input body frames kept plan places epoch held.kept_is_carried));
+        (subst (λ (vs : List (Option ℤ)). IsCarried acts input whole (carried_over acts (open_in whole (length acts)) kept places vs)) (sym run_output) (carries_over before new input body readers frames kept plan places epoch held.kept_is_carried));
     output_is_meant = output_is_whole;
   }

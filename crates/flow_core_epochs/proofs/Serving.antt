@@ -14,10 +14,10 @@ use Rattle.flow_core_laws.specs.Streams.{output_count}
 use Rattle.flow_core_epochs.specs.Epoch.{Kept, StandsForEpoch, ServesAll, epoch_source}
 use Rattle.flow_core_epochs.proofs.Prefixes.{no_activation}
 
-pub serves_frames : (plan : Plan) (activations : List Activation) (input : List ℕ) (frames : List ℕ) (kept : List Kept) (places : List Place) (body : ℕ → List ℤ → Outcome) (takes : ℕ → ℕ → ℕ → Type 0)
-    → StandsForEpoch plan activations input frames kept places → All (λ a. a < length activations) frames → ServesAll activations body takes
+pub serves_frames : (plan : Plan) (activations : List Activation) (input : List ℕ) (readers frames : List ℕ) (kept : List Kept) (places : List Place) (body : ℕ → List ℤ → Outcome) (takes : ℕ → ℕ → ℕ → Type 0)
+    → StandsForEpoch plan activations input readers frames kept places → All (λ a. a < length activations) frames → ServesAll activations body takes
     → Serves plan (λ f. body (slice_index frames f)) (λ f inputs outputs. (f < length frames) × takes (slice_index frames f) inputs outputs)
-serves_frames plan activations input frames kept places body takes stands exist serves = record {
+serves_frames plan activations input readers frames kept places body takes stands exist serves = record {
   takes_each = λ f lt. (below f lt, subst (λ n. takes (at f) n (frame_at plan f).outputs) (sym (inputs_fit f lt)) (subst (takes (at f) (length (input_places activations (at f)))) (sym (outputs_fit f lt)) (serves.takes_each (at f) (activation f) (activation_is f lt))));
   fills_outputs = λ f inputs lt n done. serves.fills_outputs (at f) (activation f) inputs (activation_is f lt) (n ∙ inputs_fit f lt) done ∙ sym (outputs_fit f lt);
   traps_have_codes = λ f inputs code line lt n trapped. serves.traps_have_codes (at f) inputs code line (exist f 0 (below f lt)) (n ∙ inputs_fit f lt) trapped;

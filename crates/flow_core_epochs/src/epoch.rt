@@ -51,7 +51,7 @@ fn is_open(ends: &[Option<TaskEnd>], activation: u32) -> bool
     }
 }
 
-/// The frames of an epoch: the activations below a number that have no end yet, ascending.
+/// The activations below a number that have no end yet, ascending.
 pub fn open_frames(alloc: Global, ends: &[Option<TaskEnd>], count: u32) -> Result<List<u32>, Memory>
     ensures { IfOk result (λ frames. frames ≡ open_in ends.now count) }
 {

@@ -7,7 +7,7 @@ ghost use Rattle.flow_core_laws.specs.Streams.{stream_meaning};
 ghost use Rattle.flow_core_laws.specs.IsSound.{IsSound};
 ghost use Rattle.flow_core_epochs.specs.Epoch.{IsEpoch, put_over, epoch_meaning};
 ghost use Rattle.flow_core_epochs.specs.Example as example;
-ghost use Rattle.flow_core_epochs.specs.Laws.{KeepsPrefixes, AddsUp, FramesEnd, SinkIsWhatLeaves, ReadsLieBehind, NothingAtFirst, ServesNext, CarriesOver, OutputStays, HeldAtFirst, BeginsEpoch, EndsEpoch, ServesFrames};
+ghost use Rattle.flow_core_epochs.specs.Laws.{KeepsPrefixes, AddsUp, FramesEnd, SinkIsWhatLeaves, ReadsLieBehind, NothingAtFirst, ServesNext, CarriesOver, OutputStays, HeldAtFirst, BeginsEpoch, EndsEpoch, ServesFrames, WaitingGetsNone, AllLeaveOutNothing};
 
 use flow_core_laws::Bodies;
 
@@ -36,6 +36,13 @@ pub fn carrying()
     ensures output { OutputStays }
 {}
 
+/// What an epoch may leave out: activations that wait for an element that can't come yet, and nothing else. Leaving out
+/// nothing is lawful too.
+pub fn leaving_out()
+    ensures waiting { WaitingGetsNone }
+    ensures nothing { AllLeaveOutNothing }
+{}
+
 /// What is held between epochs: a run in parts comes to what all its activations mean.
 pub fn run_in_epochs()
     ensures first { HeldAtFirst }
@@ -51,7 +58,7 @@ pub fn serving<B: Bodies>(bodies: &B)
 /// An epoch that is written out: its plan is sound and stands for it, and its outcomes put over those
 /// before are all.
 pub fn example()
-    ensures is_epoch { IsEpoch example.before example.new [] example.body (1 ∷ 2 ∷ []) example.kept example.plan example.places }
+    ensures is_epoch { IsEpoch example.before example.new [] example.body (1 ∷ 2 ∷ []) (1 ∷ 2 ∷ []) example.kept example.plan example.places }
     ensures sound { IsSound example.plan }
     ensures put_over { put_over (stream_meaning example.before [] example.body) (1 ∷ 2 ∷ []) (epoch_meaning example.plan (1 ∷ 2 ∷ []) example.body) 3
         ≡ Some (outcome_of Done (pos 7 ∷ pos 8 ∷ [])) ∷ Some (outcome_of Done (pos 17 ∷ [])) ∷ Some (outcome_of Done (pos 9 ∷ [])) ∷ [] }

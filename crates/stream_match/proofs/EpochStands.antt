@@ -250,13 +250,13 @@ module _ (layout : Layout) (is : IsLayout layout) (activations : List Activation
       ∙ outputs-are layout activations of a (in_activations f a h)
       ∙ ap (λ cs. sum_by (λ (c : Claim). c.horizon) (filter (λ (c : Claim). c.write) cs)) (claims_at-slice_get activations a x at)
 
-module _ (layout : Layout) (is : IsLayout layout) (activations : List Activation) (of : IsLayoutOf layout activations) (input : List ℕ) (frames : List ℕ) (kept : List Kept) (cursors : List ℕ) (are : AreFrames layout frames) (outside : WrittenOutside activations frames kept) (cursors_are : cursors ≡ map (read_from activations frames) (range_with_len 0 (length layout.writers))) (plan : Plan) (places : List Place) (laid : IsEpochPlanOf layout input frames kept cursors plan places) where
-  pub epoch_stands : StandsForEpoch plan activations input frames kept places
+module _ (layout : Layout) (is : IsLayout layout) (activations : List Activation) (of : IsLayoutOf layout activations) (input : List ℕ) (readers frames : List ℕ) (kept : List Kept) (cursors : List ℕ) (are : AreFrames layout frames) (outside : WrittenOutside activations frames kept) (cursors_are : cursors ≡ map (read_from activations readers) (range_with_len 0 (length layout.writers))) (plan : Plan) (places : List Place) (laid : IsEpochPlanOf layout input frames kept cursors plan places) where
+  pub epoch_stands : StandsForEpoch plan activations input readers frames kept places
   epoch_stands = record {
     frames_are_these = length-frames layout (epoch_weave layout input frames kept cursors) plan laid.woven;
     outputs_are_written = outputs_written layout is activations of input frames kept (leaving_reaches layout frames cursors) (leaving_exist layout is frames cursors are) (leaving_fits layout is frames cursors are) are outside plan laid.woven;
     cells_are_window_elements = reads_frame layout is activations of input frames kept (leaving_reaches layout frames cursors) (leaving_exist layout is frames cursors are) (leaving_fits layout is frames cursors are) are outside plan laid.woven;
-    places_leave = laid.places_are ∙ frames_leave layout is activations of frames cursors cursors_are frames (λ a h. in_frames layout is activations of input frames kept (leaving_reaches layout frames cursors) (leaving_exist layout is frames cursors are) (leaving_fits layout is frames cursors are) are outside a h);
+    places_leave = laid.places_are ∙ frames_leave layout is activations of readers cursors cursors_are frames (λ a h. in_frames layout is activations of input frames kept (leaving_reaches layout frames cursors) (leaving_exist layout is frames cursors are) (leaving_fits layout is frames cursors are) are outside a h);
     sink_is_places =
         reads_over layout is activations of input frames kept (leaving_reaches layout frames cursors) (leaving_exist layout is frames cursors are) (leaving_fits layout is frames cursors are) are outside plan laid.woven (length frames) (omega arith)
         ∙ ap (λ rs. map (epoch_source activations input frames kept) (flat_map reach_places rs)) (reaches-sink layout is activations of input frames kept (leaving_reaches layout frames cursors) (leaving_exist layout is frames cursors are) (leaving_fits layout is frames cursors are) are outside)

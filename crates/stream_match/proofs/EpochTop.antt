@@ -26,8 +26,8 @@ pub map-same : {A B : Type 0} (f g : A → B) (xs : List A) → ((x : A) → f x
 map-same f g [] same = refl
 map-same f g (x ∷ xs) same = ap (λ y. y ∷ map f xs) (same x) ∙ ap (λ ys. g x ∷ ys) (map-same f g xs same)
 
-pub stands_same : (plan : Plan) (activations : List Activation) (input frames : List ℕ) (one other : List epoch.Kept) (places : List Place) → ((p : Place) → value_kept one p ≡ value_kept other p) → StandsForEpoch plan activations input frames one places → StandsForEpoch plan activations input frames other places
-stands_same plan activations input frames one other places same s =
+pub stands_same : (plan : Plan) (activations : List Activation) (input readers frames : List ℕ) (one other : List epoch.Kept) (places : List Place) → ((p : Place) → value_kept one p ≡ value_kept other p) → StandsForEpoch plan activations input readers frames one places → StandsForEpoch plan activations input readers frames other places
+stands_same plan activations input readers frames one other places same s =
     let source : (p : Place) → epoch_source activations input frames one p ≡ epoch_source activations input frames other p = λ p. ap (λ o. option_map_or given o (among frames (stream_source activations input p))) (same p) in
     record {
       frames_are_these = s.frames_are_these;

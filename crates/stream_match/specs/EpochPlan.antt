@@ -9,7 +9,7 @@ use Rattle.flow_core_laws.specs.IsSound.{IsSound}
 use Rattle.flow_core_laws.specs.Window.{Window, producer}
 use Rattle.flow_core_laws.specs.Place.{Place}
 use Rattle.flow_core_laws.specs.Streams.{stream_meaning}
-use Rattle.flow_core_epochs.specs.Epoch.{Kept, number_in, value_kept, read_from, open_in, put_over, epoch_meaning, IsKeptFor, IsOutside, StandsForEpoch}
+use Rattle.flow_core_epochs.specs.Epoch.{Kept, number_in, value_kept, read_from, open_in, put_over, epoch_meaning, AreChosen, IsKeptFor, IsOutside, StandsForEpoch}
 use Rattle.stream_match_layouts.specs.declared.span.Span.{Span}
 use Rattle.stream_match_layouts.specs.declared.layout.Layout.{Layout}
 use Rattle.stream_match_layouts.specs.Layout.{IsLayout, IsLayoutOf}
@@ -90,11 +90,11 @@ EpochPlansAreSound =
 -- And it stands for the epoch, where the cursors say what is still read.
 abbrev pub EpochPlansStand : Type 0
 EpochPlansStand =
-    (layout : Layout) (input : List ℕ) (frames : List ℕ) (kept : List Kept) (cursors : List ℕ) (plan : Plan) (places : List Place)
+    (layout : Layout) (input : List ℕ) (readers frames : List ℕ) (kept : List Kept) (cursors : List ℕ) (plan : Plan) (places : List Place)
     (activations : List Activation)
     → IsLayout layout → IsLayoutOf layout activations → AreFrames layout frames → WrittenOutside activations frames kept
-    → cursors ≡ map (read_from activations frames) (range_with_len 0 (length layout.writers))
-    → IsEpochPlanOf layout input frames kept cursors plan places → StandsForEpoch plan activations input frames kept places
+    → cursors ≡ map (read_from activations readers) (range_with_len 0 (length layout.writers))
+    → IsEpochPlanOf layout input frames kept cursors plan places → StandsForEpoch plan activations input readers frames kept places
 
 -- A plan goes on where the activations before it stopped: for all activations of the layout, the first of which
 -- were run and left just these frames open, and whatever their bodies, the plan's meaning put over the meaning
@@ -104,5 +104,15 @@ GoesOn layout input frames kept plan =
     (before new : List Activation) (body : ℕ → List ℤ → Outcome)
     → IsLayoutOf layout (before ++ new) → frames ≡ open_in (stream_meaning before input body) (length (before ++ new))
     → IsKeptFor (before ++ new) input (stream_meaning before input body) frames kept → IsOutside (before ++ new) frames kept
+    → put_over (stream_meaning before input body) frames (epoch_meaning plan frames body) (length (before ++ new))
+    ≡ stream_meaning (before ++ new) input body
+
+-- And so does one that leaves out of the readers what gets no outcome from all activations either.
+abbrev pub GoesOnFor : Layout → List ℕ → (readers frames : List ℕ) → List Kept → Plan → Type 0
+GoesOnFor layout input readers frames kept plan =
+    (before new : List Activation) (body : ℕ → List ℤ → Outcome)
+    → IsLayoutOf layout (before ++ new) → readers ≡ open_in (stream_meaning before input body) (length (before ++ new))
+    → AreChosen before new input body frames
+    → IsKeptFor (before ++ new) input (stream_meaning before input body) readers kept → IsOutside (before ++ new) frames kept
     → put_over (stream_meaning before input body) frames (epoch_meaning plan frames body) (length (before ++ new))
     ≡ stream_meaning (before ++ new) input body

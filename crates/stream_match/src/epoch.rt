@@ -6,7 +6,8 @@ ghost use Rattle.flow_core_epochs.specs.Epoch.{IsOutside, StandsForEpoch};
 ghost use Rattle.stream_match.specs.declared.stretch.Stretch.{Stretch};
 ghost use Rattle.stream_match_layouts.specs.Layout.{IsLayout, IsLayoutOf};
 ghost use Rattle.stream_match.specs.Walking.{IsStretch};
-ghost use Rattle.stream_match.specs.EpochPlan.{AreFrames, GoesOn, IsEpochPlanOf};
+ghost use Rattle.stream_match_layouts.specs.Spans.{frame_count};
+ghost use Rattle.stream_match.specs.EpochPlan.{AreFrames, GoesOn, GoesOnFor, IsEpochPlanOf};
 ghost use Rattle.stream_match.specs.Kept.{kept_of, place_of, IsKeptOutside};
 ghost use Rattle.stream_match.specs.EpochCode.{Ascend, AreSorted, pieces_for, filled_cells, stretch_places};
 
@@ -49,10 +50,36 @@ pub fn build_epoch(
     ensures sound { IfOk result (λ epoch. IsSound epoch.plan) }
     ensures stands_for { IfOk result (λ epoch. (activations : List Activation) → IsLayoutOf layout.now activations
         → IsOutside activations frames.now (map kept_of kept.now)
-        → StandsForEpoch epoch.plan activations input.now frames.now (map kept_of kept.now) (map place_of epoch.places)) }
+        → StandsForEpoch epoch.plan activations input.now frames.now frames.now (map kept_of kept.now) (map place_of epoch.places)) }
     ensures adds_up { IfOk result (λ epoch. GoesOn layout.now input.now frames.now (map kept_of kept.now) epoch.plan) }
 {
-    let cursors = read_cursors(alloc, layout, frames)?;
+    let epoch = build_ready(alloc, layout, frames, frames, kept, input)?;
+    Ok(epoch)
+}
+
+/// The plan of an epoch that leaves some activations out, as `build_epoch` gives it: the frames are some of the readers, and
+/// an element that a frame writes leaves where readers or later activations may still read it.
+pub fn build_ready(
+    alloc: Global,
+    layout: &Layout,
+    readers: &[u32],
+    frames: &[u32],
+    kept: &[Kept],
+    input: &[u8],
+) -> Result<EpochPlan, Memory>
+    requires layout { IsLayout layout.now }
+    requires input { length input.now ≡ layout.now.input_len }
+    requires readers { All (λ f. f < frame_count layout.now) readers.now }
+    requires frames { AreFrames layout.now frames.now }
+    requires kept { IsKeptOutside layout.now frames.now (map kept_of kept.now) }
+    ensures frames { IfOk result (λ epoch. epoch.frames ≡ frames.now) }
+    ensures sound { IfOk result (λ epoch. IsSound epoch.plan) }
+    ensures stands_for { IfOk result (λ epoch. (activations : List Activation) → IsLayoutOf layout.now activations
+        → IsOutside activations frames.now (map kept_of kept.now)
+        → StandsForEpoch epoch.plan activations input.now readers.now frames.now (map kept_of kept.now) (map place_of epoch.places)) }
+    ensures adds_up { IfOk result (λ epoch. GoesOnFor layout.now input.now readers.now frames.now (map kept_of kept.now) epoch.plan) }
+{
+    let cursors = read_cursors(alloc, layout, readers)?;
     let kept = sorted(alloc, kept)?;
     let epoch = weave(
         alloc,

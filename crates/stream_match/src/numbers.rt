@@ -2,15 +2,19 @@ ghost use Rattle.std.specs.Prelude.{◌≡◌, ◌^◌, ◌<◌, true, length, s
 ghost use Rattle.flow_core_epochs.specs.Epoch.{number_in};
 ghost use Rattle.stream_match.specs.EpochCode.{Ascend};
 
-/// The number of an activation among frames: where all activations are frames it is its own, and else it is found
-/// by halving.
+/// The number of an activation among frames: where all activations are frames it is its own, where all behind it are, it
+/// is told by the last frame, and else it is found by halving.
 pub(crate) fn number_of(frames: &[u32], activation: u32) -> Option<u32>
     requires ascend { Ascend frames.now }
     requires few { length frames.now < 2 ^ 32 }
     ensures { result ≡ number_in frames.now activation }
 {
-    if is_own(frames, activation) {
+    if is_at(frames, activation, activation) {
         return Some(activation);
+    }
+    let number = number_by_last(frames, activation);
+    if is_at(frames, number, activation) {
+        return Some(number);
     }
     match frames.binary_search(&activation) {
         Ok(number) => Some(number as u32),
@@ -18,12 +22,23 @@ pub(crate) fn number_of(frames: &[u32], activation: u32) -> Option<u32>
     }
 }
 
-/// Whether an activation is the frame of its own number.
-fn is_own(frames: &[u32], activation: u32) -> bool
-    ensures within { result ≡ true → activation < length frames.now }
-    ensures own { result ≡ true → slice_index frames.now activation ≡ activation }
+/// The number that an activation has where all between it and the last frame are frames.
+fn number_by_last(frames: &[u32], activation: u32) -> u32
+    requires few { length frames.now < 2 ^ 32 }
 {
-    match frames.get(activation as usize) {
+    let Some(last) = frames.last() else {
+        return 0;
+    };
+    let behind = last.saturating_sub(activation);
+    (frames.len() as u32 - 1).saturating_sub(behind)
+}
+
+/// Whether an activation is the frame of a number.
+fn is_at(frames: &[u32], number: u32, activation: u32) -> bool
+    ensures within { result ≡ true → number < length frames.now }
+    ensures at { result ≡ true → slice_index frames.now number ≡ activation }
+{
+    match frames.get(number as usize) {
         Some(frame) => *frame == activation,
         None => false,
     }

@@ -1,15 +1,16 @@
-use Rattle.std.proofs.Common.{◌≡◌, ◌≢◌, ℕ, zero, suc, [], ◌∷◌, ◌++◌, Some, map, refl, ap, ◌∙◌, arith}
+use Rattle.std.proofs.Common.{◌≡◌, ◌≢◌, ℕ, zero, suc, [], ◌∷◌, ◌++◌, ◌<◌, Some, None, map, length, refl, ap, ◌∙◌, sym, arith}
 use Rattle.std.specs.Prelude.{slice_get, All, IsSome}
 use Rattle.std.proofs.lemmas.Option.{same_Some}
 use Rattle.flow_core_laws.specs.declared.activation.Activation.{Activation}
 use Rattle.flow_core_laws.specs.Element.{element}
+use Rattle.flow_core_laws.specs.Outcome.{outcome_at}
 use Rattle.flow_core_laws.specs.Window.{windows}
 use Rattle.flow_core_laws.specs.Place.{Place, input_places}
 use Rattle.flow_core_laws.specs.Round.{meaning, rounds, round}
 use Rattle.flow_core_laws.specs.Streams.{stream_source, stream_meaning, output_count}
 use Rattle.flow_core_laws.specs.Plans.{cell_source, frame_at, plan_reads}
 use Rattle.flow_core_laws.proofs.SoundTests.{IsSound-from_tests}
-use Rattle.flow_core_epochs.specs.Epoch.{Kept, IsKeptFor, StandsForEpoch, epoch_source, value_kept}
+use Rattle.flow_core_epochs.specs.Epoch.{Kept, IsKeptFor, StandsForEpoch, AreChosen, number_in, epoch_source, value_kept}
 use Rattle.flow_core_epochs.specs.Example.{before, new, body, kept, plan, places}
 use Rattle.flow_core_epochs.proofs.laws.example.Goals as goal
 
@@ -31,7 +32,30 @@ kept_well = record { were_written = written; none_is_missing = frames }
     frames (suc zero) d lt = λ k e l. absurd (omega arith)
     frames (suc (suc k)) d lt = absurd (omega arith)
 
-stands : StandsForEpoch plan (before ++ new) [] (1 ∷ 2 ∷ []) kept places
+chosen : AreChosen before new [] body (1 ∷ 2 ∷ [])
+unfolding windows input_places meaning rounds round
+chosen = record { are_open = wait; ascend = ascend; others_get_none = others }
+  where
+    wait : (f a : ℕ) → slice_get (1 ∷ 2 ∷ []) f ≡ Some a → (a < length (before ++ new)) × (outcome_at (stream_meaning before [] body) a ≡ None)
+    wait zero a h = let e = same_Some 1 a h in (omega arith, ap (outcome_at (stream_meaning before [] body)) (sym e))
+    wait (suc zero) a h = let e = same_Some 2 a h in (omega arith, ap (outcome_at (stream_meaning before [] body)) (sym e))
+    wait (suc (suc f)) a h = absurd (cc)
+
+    ascend : (f g a b : ℕ) → f < g → slice_get (1 ∷ 2 ∷ []) f ≡ Some a → slice_get (1 ∷ 2 ∷ []) g ≡ Some b → a < b
+    ascend zero (suc zero) a b lt a_at b_at = omega (arith, same_Some 1 a a_at, same_Some 2 b b_at)
+    ascend zero zero a b lt a_at b_at = absurd (omega arith)
+    ascend (suc zero) zero a b lt a_at b_at = absurd (omega arith)
+    ascend (suc zero) (suc zero) a b lt a_at b_at = absurd (omega arith)
+    ascend f (suc (suc g)) a b lt a_at b_at = absurd (cc)
+    ascend (suc (suc f)) g a b lt a_at b_at = absurd (cc)
+
+    others : (a : ℕ) → a < length (before ++ new) → outcome_at (stream_meaning before [] body) a ≡ None → number_in (1 ∷ 2 ∷ []) a ≡ None → outcome_at (stream_meaning (before ++ new) [] body) a ≡ None
+    others zero lt none out = absurd (cc)
+    others (suc zero) lt none out = absurd (cc)
+    others (suc (suc zero)) lt none out = absurd (cc)
+    others (suc (suc (suc a))) lt none out = absurd (omega arith)
+
+stands : StandsForEpoch plan (before ++ new) [] (1 ∷ 2 ∷ []) (1 ∷ 2 ∷ []) kept places
 unfolding windows input_places cell_source
 stands = record { frames_are_these = refl; outputs_are_written = outputs; cells_are_window_elements = cells; places_leave = refl; sink_is_places = refl }
   where
@@ -47,7 +71,7 @@ stands = record { frames_are_these = refl; outputs_are_written = outputs; cells_
 
 pub returns-clause-is_epoch : goal.returns-clause-is_epoch
 unfolding windows input_places meaning rounds round
-returns-clause-is_epoch c = record { frames_are_open = refl; has_kept = kept_well; plan_stands = stands }
+returns-clause-is_epoch c = record { readers_are_open = refl; frames_are_chosen = chosen; has_kept = kept_well; plan_stands = stands }
 
 pub returns-clause-sound : goal.returns-clause-sound
 returns-clause-sound c = IsSound-from_tests plan refl refl refl refl refl refl refl refl refl refl refl refl

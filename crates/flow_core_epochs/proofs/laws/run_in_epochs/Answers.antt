@@ -9,4 +9,4 @@ pub returns-clause-begins : goal.returns-clause-begins
 returns-clause-begins c = begins_epoch
 
 pub returns-clause-ends : goal.returns-clause-ends
-returns-clause-ends c = λ before new input body frames kept plan places e ends output run held run_ends run_output. held_after before new input body frames kept plan places (has_epoch before new input body frames kept plan places e) ends output run held run_ends run_output
+returns-clause-ends c = λ before new input body readers frames kept plan places e ends output run held run_ends run_output. held_after before new input body readers frames kept plan places (has_epoch before new input body readers frames kept plan places e) ends output run held run_ends run_output

@@ -2,4 +2,4 @@ use Rattle.flow_core_epochs.proofs.Serving.{serves_frames}
 use Rattle.flow_core_epochs.proofs.laws.serving.Goals as goal
 
 pub returns : goal.returns
-returns g c = λ plan activations input frames kept places. serves_frames plan activations input frames kept places _ _
+returns g c = λ plan activations input readers frames kept places. serves_frames plan activations input readers frames kept places _ _

@@ -22,5 +22,8 @@ returns-in-Err c =
     (searched xs x c.binary_search.result c.binary_search.ensures.position (ascend-rise xs c.requires.ascend)) in
     sym (no_number xs x (λ k lt e. elim (cases_lt k c.in-Err.field-0) [ inl less ↦ absurd (omega (arith, s.1 k less)) | inr ge ↦ absurd (omega (arith, s.2 k ge lt)) ]))
 
-pub returns-then-is_own : goal.returns-then-is_own
-returns-then-is_own c = let t = c.if-is_own.true in sym (found_number c.args.frames.now c.args.activation c.args.activation c.requires.ascend (c.is_own.ensures.within t) (c.is_own.ensures.own t))
+pub returns-then-is_at : goal.returns-then-is_at
+returns-then-is_at c = let t = c.if-is_at.true in sym (found_number c.args.frames.now c.args.activation c.args.activation c.requires.ascend (c.is_at.ensures.within t) (c.is_at.ensures.at t))
+
+pub returns-then-is_at-2 : goal.returns-then-is_at-2
+returns-then-is_at-2 c = let t = c.if-is_at-2.true in sym (found_number c.args.frames.now c.args.activation c.number_by_last-number.result c.requires.ascend (c.is_at-2.ensures.within t) (c.is_at-2.ensures.at t))

@@ -1,0 +1,2 @@
+-- What restates private functions: which activations wait, by marks.
+pub mod Waiting
