@@ -1,2 +1,4 @@
 pub mod Remainders
 pub mod Divisions
+pub mod Conversions
+pub mod TypedOperators

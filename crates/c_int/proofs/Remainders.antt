@@ -7,7 +7,7 @@ use Rattle.std.proofs.lemmas.Bool.{lt-ltb}
 use Rattle.c_int.specs.Operators.{fitting, is_int, is_zero, quotient, remainder}
 use Rattle.c_int.specs.declared.trap.Trap.TheVariants.{Overflow, DivisorZero}
 
-small : (z : ℤ) → mag z < 2 ^ 31 → is_int z ≡ true
+pub small : (z : ℤ) → mag z < 2 ^ 31 → is_int z ≡ true
 small (pos a) h = lt-ltb _ _ h
 small (negsuc a) h = lt-ltb _ _ h
 

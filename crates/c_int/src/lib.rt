@@ -5,6 +5,9 @@
 //! `specs/Operators.antt` says it over whole numbers, a line an operator, and `specs/Unsigned.antt` for `unsigned`, whose
 //! numbers stand here as the `int`s with the same 32 bits; each function here gives exactly that. No program has
 //! operators of `unsigned` yet. Lines of the program are known to the callers alone.
+//!
+//! `specs/Typed.antt` says what the operators give between values with their types, the ones that an expression of the language
+//! has, with C's conversions. A law, `laws::works_on_bits`, joins the two: the operator for the types gives the bits of that value.
 #![tactic(auto)]
 
 mod arithmetic;
