@@ -13,7 +13,7 @@ use Rattle.steal_pool.specs.Ends.{rest_of_ring}
 use Rattle.steal_pool.specs.Hands.{pushed_by, bound_of, spare_of, deque_of, steals_from, IsNewHand, KeepsDeques, AreInRing}
 use Rattle.task_workers_crew.specs.Dealt.{open_below, one_in, AreDealt}
 use Rattle.task_workers_crew.specs.Dealing.{left_out, AreDealtBelow}
-use Rattle.task_workers_crew.proofs.Spreading.{all_next, all_pushed, all_take}
+use Rattle.task_workers_crew.proofs.Spreading.{all_pushed, all_take}
 
 -- the item behind a list counts, or is left out
 one_in_yes : (many skip : ℕ) (xs : List ℕ) (x : ℕ) → left_out many skip xs ≡ 0 → one_in many skip (xs ++ x ∷ []) ≡ one_in many skip xs ++ x ∷ []

@@ -1,5 +1,5 @@
 -- Workers before and after they work.
-use Rattle.std.specs.Prelude.{◌≡◌, ℕ, ◌+◌, ◌≤◌, [], length, Option, Some, None}
+use Rattle.std.specs.Prelude.{◌≡◌, ℕ, ◌+◌, ◌*◌, ◌≤◌, [], length, max, Option, Some, None}
 use Rattle.flow_core_laws.specs.declared.plan.Plan.{Plan}
 use Rattle.frame_table.specs.declared.seat.FrameSeat.{FrameSeat}
 use Rattle.frame_table.specs.declared.table.FrameTable.{FrameTable}
@@ -9,7 +9,7 @@ use Rattle.steal_pool.specs.Hands.{bound_of, spare_of}
 use Rattle.task_workers_worker.specs.declared.log.WorkLog.{WorkLog}
 use Rattle.task_workers_worker.specs.Logs.{FitsWindows}
 use Rattle.task_workers_worker.specs.Worked.{unmade}
-use Rattle.task_workers_worker.specs.Ready.{MayWork}
+use Rattle.task_workers_worker.specs.Ready.{MayWork, frames_of}
 
 -- A hand takes the numbers of frames. Of the frames from a number on it takes each, and of those below it each that
 -- waits at opening.
@@ -27,3 +27,8 @@ pub record IsEquipped (plan : Plan) (hand : Hand) (log : WorkLog) : Type 0 where
 abbrev pub IsSeated : FrameTable → ℕ → Option FrameSeat → Hand → WorkLog → Type 0
 IsSeated table shares None hand log = ⊥
 IsSeated table shares (Some seat) hand log = MayWork table seat hand log × ((view_of seat).shares ≡ shares)
+
+-- A worker looked for frames until it may leave.
+abbrev pub HasLooked : FrameTable → Option FrameSeat → Type 0
+HasLooked table None = ⊥
+HasLooked table (Some seat) = 1 ≤ frames_of table → max (4 * frames_of table) 65536 ≤ (view_of seat).looks

@@ -4,7 +4,7 @@ ghost use Rattle.flow_core_laws.specs.Plans.{plan_meaning};
 ghost use Rattle.flow_core_laws.specs.Serves.{Serves};
 ghost use Rattle.frame_table.specs.Tokens.{known_of};
 ghost use Rattle.steal_pool.specs.Hands.{KeepsDeques};
-ghost use Rattle.task_workers_crew.specs.Crew.{IsSeated};
+ghost use Rattle.task_workers_crew.specs.Crew.{IsSeated, HasLooked};
 
 use flow_core_laws::Bodies;
 use frame_table::{FrameSeat, FrameTable};
@@ -39,6 +39,7 @@ fn work_one<S: Send + Drop, B: Bodies<Scratch = S>, G: Gate>(
     requires fits { B.fits bodies.now worker.old.scratch }
     ensures seated { IsSeated table.now 1 worker.new.seat worker.new.hand worker.new.log }
     ensures fits { B.fits bodies.now worker.new.scratch }
+    ensures looked { HasLooked table.now worker.new.seat }
     ensures deques { KeepsDeques worker.old.hand worker.new.hand }
     ensures number { worker.new.log.worker ≡ worker.old.log.worker }
 {
@@ -75,6 +76,7 @@ pub(crate) fn work_all<S: Send + Drop, B: Bodies<Scratch = S>, G: Gate, R: Threa
         (slice_index_or crew.new i d).seat (slice_index_or crew.new i d).hand (slice_index_or crew.new i d).log }
     ensures fits { (i : ℕ) (d : Worker S) → i < length crew.old →
         B.fits bodies.now (slice_index_or crew.new i d).scratch }
+    ensures looked { (i : ℕ) (d : Worker S) → i < length crew.old → HasLooked table.now (slice_index_or crew.new i d).seat }
     ensures deques { (i : ℕ) (d : Worker S) → i < length crew.old →
         KeepsDeques (slice_index_or crew.old i d).hand (slice_index_or crew.new i d).hand }
     ensures numbers { (i : ℕ) (d : Worker S) → i < length crew.old →
@@ -92,6 +94,7 @@ pub(crate) fn work_all<S: Send + Drop, B: Bodies<Scratch = S>, G: Gate, R: Threa
                 × B.fits bodies.now worker.old.scratch }
             ensures { IsSeated table.entry.now 1 worker.new.seat worker.new.hand worker.new.log
                 × B.fits bodies.entry.now worker.new.scratch
+                × HasLooked table.entry.now worker.new.seat
                 × KeepsDeques worker.old.hand worker.new.hand
                 × (worker.new.log.worker ≡ worker.old.log.worker) }
         { work_one(table, bodies, gate, worker) },

@@ -7,7 +7,7 @@ ghost use Rattle.frame_table.specs.Seats.{IsWhole};
 ghost use Rattle.frame_table.specs.Tokens.{IsFresh, IsSeatOf, known_of, view_of};
 ghost use Rattle.task_workers_worker.specs.Ready.{MayWork, frames_of};
 ghost use Rattle.steal_pool.specs.Hands.{KeepsDeques};
-ghost use Rattle.task_workers_crew.specs.Crew.{IsEquipped, IsSeated};
+ghost use Rattle.task_workers_crew.specs.Crew.{IsEquipped, IsSeated, HasLooked};
 ghost use Rattle.task_workers_crew.specs.Dealt.{hands_of, worker_numbers};
 
 use crate::crew::{Worker, work_all};
@@ -95,6 +95,7 @@ pub fn work_crew<S: Send + Drop, B: Bodies<Scratch = S>, G: Gate, R: Threads + S
     ensures same { length result.items ≡ length crew.items }
     ensures seated { All (λ w. IsSeated table.now 1 w.seat w.hand w.log) result.items }
     ensures fits { All (λ w. B.fits bodies.now w.scratch) result.items }
+    ensures looked { All (λ w. HasLooked table.now w.seat) result.items }
     ensures deques { (i : ℕ) (d : Worker S) → i < length crew.items →
         KeepsDeques (slice_index_or crew.items i d).hand (slice_index_or result.items i d).hand }
     ensures numbers { (i : ℕ) (d : Worker S) → i < length crew.items →
