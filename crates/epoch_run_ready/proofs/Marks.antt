@@ -1,5 +1,5 @@
 -- Marks of activations that wait: one more leaves the others as they are.
-use Rattle.std.proofs.Common.{◌≡◌, ◌≢◌, ℕ, zero, suc, ◌<◌, List, [], ◌∷◌, Option, Some, None, Bool, true, false, ◌⊎◌, inl, inr, length, get_or, set, replicate, refl, sym, ap, ◌∙◌, subst, arith}
+use Rattle.std.proofs.Common.{◌≡◌, ◌≢◌, ℕ, zero, suc, ◌<◌, List, Option, Some, None, Bool, true, false, ◌⊎◌, inl, inr, length, get_or, set, replicate, refl, sym, ap, ◌∙◌, subst}
 use Rattle.std.specs.Prelude.{not}
 use Rattle.std.specs.Option.{option_map_or}
 use Rattle.std.proofs.lemmas.Bool.{cases_eq}
@@ -9,7 +9,7 @@ use Rattle.flow_core_laws.specs.declared.task_end.TaskEnd.{TaskEnd}
 use Rattle.stream_match_layouts.specs.Spans.{frame_count, spans_of}
 use Rattle.stream_match_layouts.specs.declared.layout.Layout.{Layout}
 use Rattle.stream_match_layouts.specs.declared.span.Span.{Span}
-use Rattle.epoch_run_ready.specs.Waiting.{AreWaiting, CannotCome, behind, stuck, HasWaitingSpan, SpanWaits, is_stuck}
+use Rattle.epoch_run_ready.specs.Waiting.{AreWaiting, CannotCome, behind, stuck, HasWaitingSpan, is_stuck}
 
 -- one list of marks has all that another has
 abbrev HasMarks : List Bool → List Bool → Type 0

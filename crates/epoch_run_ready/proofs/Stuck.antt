@@ -1,21 +1,21 @@
 -- That what isn't marked leaves out only what waits.
-use Rattle.std.proofs.Common.{◌≡◌, ◌≢◌, ℕ, pos, zero, suc, ◌+◌, ◌-◌, ◌<◌, ◌≤◌, List, [], ◌∷◌, Option, Some, None, Bool, true, false, cond, ◌⊎◌, inl, inr, map, length, get_or, max, refl, sym, ap, ◌∙◌, subst, arith, zero-add}
+use Rattle.std.proofs.Common.{◌≡◌, ◌≢◌, ℕ, pos, zero, suc, ◌+◌, ◌-◌, ◌<◌, ◌≤◌, List, [], ◌∷◌, Option, Some, None, Bool, true, false, cond, length, get_or, max, refl, sym, ap, ◌∙◌, subst, arith, zero-add}
 use Rattle.std.specs.Prelude.{◌==◌, Contains, filter, not, slice_get}
 use Rattle.std.specs.Option.{option_map_or}
 use Rattle.std.specs.List.{range_with_len}
-use Rattle.std.proofs.lemmas.Bool.{cases_lt, eqb-true}
+use Rattle.std.proofs.lemmas.Bool.{eqb-true}
 use Rattle.std.proofs.lemmas.List.FromFn.{get_or-map-range_with_len}
 use Rattle.std.proofs.lemmas.Option.{same_Some, slice_get_within, get_or_from_slice_get}
 use Rattle.flow_core_epochs.proofs.Carried.{produced_by, produced_by_nobody}
 use Rattle.flow_core_epochs.proofs.Frames.{ascending_numbered, numbers_back, open_all, open_ascend, open_each}
 use Rattle.flow_core_epochs.proofs.Held.{written_within}
-use Rattle.flow_core_epochs.proofs.Members.{Has, has_tail, in_filter, in_flat_map, in_map, in_range, of_filter, of_map}
+use Rattle.flow_core_epochs.proofs.Members.{Has, in_filter, in_flat_map, in_map, in_range, of_filter, of_map}
 use Rattle.flow_core_epochs.proofs.Reading.{has_contained}
 use Rattle.flow_core_epochs.proofs.Written.{is_written_test, LiesIn}
 use Rattle.flow_core_epochs.specs.Epoch as epoch
 use Rattle.flow_core_epochs.specs.Epoch.{LeaveOutWaiting, number_in, open_in, left_out, undelivered, unwritten}
 use Rattle.flow_core_laws.proofs.Windows.{producer_of}
-use Rattle.flow_core_laws.specs.Element.{Source, fed, given, nobody}
+use Rattle.flow_core_laws.specs.Element.{fed, given, nobody}
 use Rattle.flow_core_laws.specs.FirstPosition.{write_cursor}
 use Rattle.flow_core_laws.specs.Outcome.{outcome_at, is_done}
 use Rattle.flow_core_laws.specs.Place.{Place, input_places, places_of}
@@ -27,7 +27,7 @@ use Rattle.stream_match_layouts.proofs.FrameSpans.{spans_of-windows}
 use Rattle.stream_match_layouts.proofs.Tallies.{frame_count-is}
 use Rattle.stream_match_layouts.proofs.Windows.{claims_in-windows}
 use Rattle.stream_match_layouts.proofs.Writers.{length-spans, number_place, span_at-window, there, window_number}
-use Rattle.stream_match_layouts.specs.Layout.{claims_in, IsLayout, IsLayoutOf, span_of}
+use Rattle.stream_match_layouts.specs.Layout.{claims_in, IsLayoutOf, span_of}
 use Rattle.stream_match_layouts.specs.Spans.{frame_count, spans_of}
 use Rattle.stream_match_layouts.specs.Writers.{HasWriters, span_at, writer_at, writers_on}
 use Rattle.stream_match_layouts.specs.declared.layout.Layout.{Layout}

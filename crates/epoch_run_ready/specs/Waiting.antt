@@ -1,5 +1,5 @@
 -- Activations that wait for an element that can't come, by marks.
-use Rattle.std.specs.Prelude.{◌≡◌, ◌≢◌, ℕ, ◌+◌, ◌<◌, ◌≤◌, ◌==◌, if◌then◌else◌, Bool, true, false, List, Option, None, Contains, not, length, slice_index, slice_index_or}
+use Rattle.std.specs.Prelude.{◌≡◌, ◌≢◌, ℕ, ◌<◌, ◌≤◌, ◌==◌, if◌then◌else◌, Bool, true, false, List, Option, None, Contains, not, length, slice_index, slice_index_or}
 use Rattle.std.specs.Option.{option_map_or}
 use Rattle.flow_core_laws.specs.Outcome.{outcome_at, is_done}
 use Rattle.flow_core_laws.specs.declared.task_end.TaskEnd.{TaskEnd}

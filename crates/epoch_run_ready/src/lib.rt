@@ -9,6 +9,7 @@
 //! what is left out waits.
 #![tactic(auto)]
 
+mod look;
 mod marking;
 mod ready;
 mod waiting;

@@ -44,7 +44,10 @@ fn waiting(
 {
     let mut waits = Vec::new(alloc);
     waits.resize(layout.frames(), false)?;
-    mark_back(layout, ends, waits.as_mut_slice(), readers);
+    let look = mark_back(layout, ends, waits.as_mut_slice(), readers);
+    if !look.asks_writers() {
+        return Ok(waits);
+    }
     mark_ahead(layout, ends, waits.as_mut_slice(), readers);
     Ok(waits)
 }

@@ -5,6 +5,7 @@ ghost use Rattle.stream_match_layouts.specs.Writers.{HasWriters, writers_on};
 ghost use Rattle.stream_match_layouts.specs.declared.span.Span.{Span};
 ghost use Rattle.epoch_run_ready.specs.Waiting.{HasWaitingSpan, SpanWaits, is_stuck, written_until};
 
+use crate::look::Look;
 use crate::marking::is_marked;
 use flow_core_laws::TaskEnd;
 use stream_match_layouts::{Layout, Span};
@@ -15,6 +16,7 @@ pub(crate) fn spans_wait(
     ends: &[Option<TaskEnd>],
     waits: &[bool],
     spans: &[Span],
+    look: Look,
 ) -> bool
     requires layout { IsLayout layout.now }
     requires exist { All (λ (s : Span). s.stream < length layout.now.writers) spans.now }
@@ -22,7 +24,7 @@ pub(crate) fn spans_wait(
     ensures { result ≡ true → HasWaitingSpan layout.now ends.now waits.now spans.now }
 {
     for span in spans {
-        if span_waits(layout, ends, waits, *span) {
+        if span_waits(layout, ends, waits, *span, look) {
             return true;
         }
     }
@@ -31,7 +33,13 @@ pub(crate) fn spans_wait(
 
 /// Whether a span reads an element that can't come: one behind all that is written, or one that comes from an activation
 /// which is stuck.
-fn span_waits(layout: &Layout, ends: &[Option<TaskEnd>], waits: &[bool], span: Span) -> bool
+fn span_waits(
+    layout: &Layout,
+    ends: &[Option<TaskEnd>],
+    waits: &[bool],
+    span: Span,
+    look: Look,
+) -> bool
     requires layout { IsLayout layout.now }
     requires exists { span.stream < length layout.now.writers }
     requires small { span.first < 2 ^ 62 }
@@ -43,7 +51,7 @@ fn span_waits(layout: &Layout, ends: &[Option<TaskEnd>], waits: &[bool], span: S
     if span.first + u64::from(span.count) > written_until(layout, span.stream) {
         return true;
     }
-    if span.stream == 0 {
+    if span.stream == 0 || !look.asks_writers() {
         return false;
     }
     waits_for_writer(layout, ends, waits, span)
@@ -71,7 +79,7 @@ fn waits_for_writer(layout: &Layout, ends: &[Option<TaskEnd>], waits: &[bool], s
     requires no_input { span.stream ≢ 0 }
     ensures { result ≡ true → SpanWaits layout.now ends.now waits.now span }
 {
-    let mut place = layout.first_behind(span.stream, span.first);
+    let mut place = first_place(layout, span);
     'writers: while let Some(stuck) = is_writer_stuck(layout, ends, waits, span, place) {
         if stuck {
             return true;
@@ -79,6 +87,55 @@ fn waits_for_writer(layout: &Layout, ends: &[Option<TaskEnd>], waits: &[bool], s
         place += 1;
     }
     false
+}
+
+/// The place of the first write span that a span has positions in common with: where the write spans are of one length, it is
+/// told by the first position, and else it is found by halving.
+fn first_place(layout: &Layout, span: Span) -> usize
+    requires writers { HasWriters layout.now span.stream }
+    requires exists { span.stream < length layout.now.writers }
+    ensures { result ≤ length (writers_on layout.now span.stream) }
+{
+    let place = even_place(layout, span);
+    if is_written_at(layout, span, place) {
+        return place;
+    }
+    layout.first_behind(span.stream, span.first)
+}
+
+/// The place of the write span that has the first position of a span, where all are of one length.
+fn even_place(layout: &Layout, span: Span) -> usize
+    requires exists { span.stream < length layout.now.writers }
+{
+    let writers = layout.writers.as_slice()[span.stream as usize].len() as u64;
+    let Some(written) = layout.writes.as_slice().get(span.stream as usize) else {
+        return 0;
+    };
+    if *written == 0 {
+        return 0;
+    }
+    match span.first.checked_mul(writers) {
+        Some(product) => (product / *written) as usize,
+        None => 0,
+    }
+}
+
+/// Whether the write span at a place has the first position of a span.
+fn is_written_at(layout: &Layout, span: Span, place: usize) -> bool
+    requires writers { HasWriters layout.now span.stream }
+    requires exists { span.stream < length layout.now.writers }
+    ensures { result ≡ true → place < length (writers_on layout.now span.stream) }
+{
+    let Some(number) = layout.writer(span.stream, place) else {
+        return false;
+    };
+    let writer = layout.span(number as usize);
+    covers(writer, span.first)
+}
+
+/// Whether a span covers a position.
+fn covers(span: Span, position: u64) -> bool {
+    span.first <= position && position - span.first < u64::from(span.count)
 }
 
 /// Whether the write span at a place comes from an activation which is stuck; nothing where it has no position in common
@@ -138,7 +195,7 @@ fn end_of(ends: &[Option<TaskEnd>], activation: u32) -> Option<TaskEnd>
 }
 
 /// Whether an end is another one than Done.
-fn is_other(end: TaskEnd) -> bool
+pub(crate) fn is_other(end: TaskEnd) -> bool
     ensures { result ≡ not (is_done end) }
 {
     match end {
