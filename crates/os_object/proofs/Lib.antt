@@ -1,0 +1,5 @@
+pub mod Members
+pub mod Instrs
+pub mod Parts
+pub mod Spelling
+pub mod Few

@@ -3,7 +3,7 @@ use Rattle.std.specs.Prelude.{◌≡◌, Result, Ok, Err}
 use Rattle.os_code.specs.declared.code.Code.{Code}
 use Rattle.os_code.specs.Codes.{parts_of}
 use Rattle.os_code.specs.IsValid.{IsValid}
-use Rattle.os_code.specs.Parts.{Parts}
+use Rattle.os_code.specs.declared.parts.Parts.{Parts}
 use Rattle.os_object.specs.declared.object_error.ObjectError.{ObjectError}
 use Rattle.os_object.specs.declared.object_error.ObjectError.TheVariants.{Format, Invalid, Memory}
 

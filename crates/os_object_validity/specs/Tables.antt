@@ -1,15 +1,17 @@
 -- Tables of a code's units and places, and what is tested of instructions, units and sites.
-use Rattle.std.specs.Prelude.{◌≡◌, ◌≢◌, ℕ, ◌+◌, ◌-◌, ◌^◌, ◌<◌, ◌≤◌, ◌⊎◌, Bool, true, false, not, ◌==◌, ◌&&◌, nat_le, nat_lt, List, [], ◌∷◌, length, find, sum_by, count_by, Option, Some, None, slice_get, slice_index_or, IsTrue}
+use Rattle.std.specs.Prelude.{◌≡◌, ◌≢◌, ℕ, ◌+◌, ◌-◌, ◌^◌, ◌<◌, ◌≤◌, ◌⊎◌, Bool, true, false, not, ◌==◌, ◌&&◌, nat_le, nat_lt, List, [], ◌∷◌, length, find, sum_by, take, Option, Some, None, slice_get, slice_index_or, IsTrue}
 use Rattle.std.specs.List.{list_all}
 use Rattle.os_code.specs.declared.instr.Instr.{Instr}
 use Rattle.os_code.specs.declared.site.Site.{Site}
 use Rattle.os_code.specs.declared.site.SiteItem.{SiteItem}
 use Rattle.os_code.specs.declared.unit.Unit.{Unit as CodeUnit}
 use Rattle.os_code.specs.Checking.{implies, if_there, is_turn, is_function, called_of, spawned_of, ticked_of, stored_of}
-use Rattle.os_code.specs.Effects.{operands_of, height_after, jump_of, needs_turn, slots_named, stands_in}
+use Rattle.os_code.specs.Effects.{operands_of, height_after, jump_of, needs_turn, slots_named, item_of, stands_in}
 use Rattle.os_code.specs.Heights.{HeightsFit}
 use Rattle.os_code.specs.IsValid.{HasInstr, HasRegions, HasTargets, HasFrames, HasSites, Reaches}
-use Rattle.os_code.specs.Parts.{Parts, instr_at, unit_at, site_at, region_end, is_within, Kind as CodeKind, Main, Task, Function, kind_at}
+use Rattle.os_code.specs.declared.parts.Parts.{Parts}
+use Rattle.os_code.specs.Needs.{starts_at}
+use Rattle.os_code.specs.Parts.{instr_at, unit_at, site_at, region_end, is_within, Kind as CodeKind, Main, Task, Function, kind_at}
 use Rattle.os_object_validity.specs.declared.kinds.Kind.{Kind}
 use Rattle.os_object_validity.specs.declared.kinds.Kind.TheVariants as kind
 use Rattle.os_object_validity.specs.declared.heights.Waiting.{Waiting}
@@ -17,7 +19,7 @@ use Rattle.os_object_validity.specs.declared.heights.Waiting.{Waiting}
 -- the end of each unit's region
 pub record AreEnds (code : Parts) (ends : List ℕ) : Type 0 where
   pub counted : length ends ≡ length code.units
-  pub ends : (number : ℕ) (unit : CodeUnit) → unit_at code number ≡ Some unit → slice_index_or ends number 0 ≡ region_end code unit
+  pub each : (number : ℕ) (unit : CodeUnit) → unit_at code number ≡ Some unit → slice_index_or ends number 0 ≡ region_end code unit
 
 -- the first site of each unit, where it has one
 abbrev pub site_told : Parts → Option ℕ → Option Site
@@ -168,15 +170,50 @@ pub record IsExplored (code : Parts) (heights : List (Option ℕ)) (waiting : Li
 abbrev pub IsKept : List (Option ℕ) → List (Option ℕ) → Type 0
 IsKept before after = (place height : ℕ) → height_in before place ≡ Some height → height_in after place ≡ Some height
 
-abbrev pub is_unknown : Option ℕ → Bool
-is_unknown None = true
-is_unknown (Some height) = false
-
 abbrev pub unknown : List (Option ℕ) → ℕ
-unknown heights = count_by is_unknown heights
+unknown [] = 0
+unknown (None ∷ heights) = 1 + unknown heights
+unknown (Some height ∷ heights) = unknown heights
 
 -- the operands of an instruction are there, and the height is within the stack before and after
 pub record FitsStack (code : Parts) (unit : CodeUnit) (height : ℕ) (instr : Instr) : Type 0 where
   pub enough : operands_of code instr ≤ height
   pub low_before : height ≤ unit.stack
   pub low_after : height_after code instr height ≤ unit.stack
+
+-- an entry of a unit's start
+pub record IsStart (code : Parts) (w : Waiting) : Type 0 where
+  pub unit : CodeUnit
+  pub is_unit : unit_at code w.number ≡ Some unit
+  pub place : w.place ≡ unit.start
+  pub height : w.height ≡ 0
+
+-- the starts of the first units have the height 0 and wait, and no other place has a height
+pub record IsBegun (code : Parts) (heights : List (Option ℕ)) (waiting : List Waiting) (count : ℕ) : Type 0 where
+  pub counted : length heights ≡ length code.instrs
+  pub entries : (index : ℕ) (w : Waiting) → slice_get waiting index ≡ Some w → IsStart code w
+  pub starts : (number : ℕ) (unit : CodeUnit) → number < count → unit_at code number ≡ Some unit → height_in heights unit.start ≡ Some 0
+  pub known : (place height : ℕ) → height_in heights place ≡ Some height → (w : Waiting) × IsStart code w × (w.place ≡ place) × (height ≡ 0)
+  pub waits : (number : ℕ) (unit : CodeUnit) → number < count → unit_at code number ≡ Some unit → IsWaiting waiting unit.start
+
+-- the first units stand inside and apart, and their starts are marked
+pub record IsApart (code : Parts) (marks : List Bool) (count : ℕ) : Type 0 where
+  pub counted : length marks ≡ length code.instrs
+  pub marked : (place : ℕ) → place < length code.instrs → slice_index_or marks place false ≡ starts_at (take count code.units) place
+  pub inside : (number : ℕ) (unit : CodeUnit) → number < count → unit_at code number ≡ Some unit → unit.start < length code.instrs
+  pub distinct : (number other : ℕ) (unit one : CodeUnit) → number < count → other < count → unit_at code number ≡ Some unit
+      → unit_at code other ≡ Some one → unit.start ≡ one.start → number ≡ other
+
+-- the sites of the first tasks
+pub record IsTold (code : Parts) (tasks : List (Option ℕ)) (count : ℕ) : Type 0 where
+  pub counted : length tasks ≡ length code.units
+  pub inside : (number site : ℕ) → task_in tasks number ≡ Some site → site < length code.sites
+  pub found : (number : ℕ) → number < length code.units
+      → find (λ (site : Site). site.unit == number) (take count code.sites) ≡ site_told code (task_in tasks number)
+  pub distinct : (number other : ℕ) (site one : Site) → number < count → other < count → site_at code number ≡ Some site
+      → site_at code other ≡ Some one → site.unit ≡ one.unit → number ≡ other
+
+-- the ends of the regions of the first units
+pub record AreFirstEnds (code : Parts) (ends : List ℕ) (count : ℕ) : Type 0 where
+  pub counted : length ends ≡ count
+  pub each : (number : ℕ) (unit : CodeUnit) → number < count → unit_at code number ≡ Some unit → slice_index_or ends number 0 ≡ region_end code unit

@@ -52,7 +52,7 @@ fn pairs_of(parts: &Parts, number: u32) -> usize
     ensures { result ≡ effects.operands_of parts.now (Instr.Spawn number) }
 {
     match parts.sites.as_slice().get(number as usize) {
-        Some(site) => 2 * site.items.len(),
+        Some(site) => 2 * site.items.as_slice().len(),
         None => 0,
     }
 }

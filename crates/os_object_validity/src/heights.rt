@@ -95,7 +95,10 @@ fn visit(
     if !go_on(parts, region, at, instr, after, heights, waiting)? {
         return Ok(false);
     }
-    jump(parts, region, at, instr, after, heights, waiting)
+    if !jump(parts, region, at, instr, after, heights, waiting)? {
+        return Ok(false);
+    }
+    Ok(true)
 }
 
 /// The height behind an instruction; or none, where operands are missing or it passes the unit's stack before or after.

@@ -1,0 +1,10 @@
+use Rattle.std.proofs.Common.{◌≡◌, ◌++◌, length}
+use Rattle.std.specs.List.{flat_map, AllByRecursion}
+use Rattle.os_object.specs.Object.{item_numbers, IsInstr}
+use Rattle.os_object.proofs.reading_lists.read_items.Given as goal
+
+abbrev pub invariant-loop : goal.invariant-loop
+invariant-loop l = record {
+  parts : l.members ≡ flat_map item_numbers l.items ++ l.rest;
+  counted : length l.items ≡ l.counter;
+}
