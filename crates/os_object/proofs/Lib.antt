@@ -3,3 +3,4 @@ pub mod Instrs
 pub mod Parts
 pub mod Spelling
 pub mod Few
+pub mod Objects

@@ -7,6 +7,9 @@ use Rattle.os_code.specs.declared.site.Site.{Site}
 use Rattle.os_code.specs.declared.site.SiteItem.{SiteItem}
 use Rattle.os_code.specs.declared.unit.Unit.{Unit as CodeUnit}
 use Rattle.os_object.specs.Object.{list_of, unit_numbers, write_number, window_number, item_numbers, slot_numbers, site_numbers, instr_numbers, parts_numbers, IsInstr}
+use Rattle.os_object.specs.Fronts.{IsRefused}
+use Rattle.os_object.specs.declared.object_error.ObjectError.{ObjectError}
+use Rattle.os_object.specs.declared.object_error.ObjectError.TheVariants.{Format, Invalid, Memory}
 use Rattle.os_object.proofs.Members.{Ends, ends-list, same-list, Always, always}
 use Rattle.os_object.proofs.Instrs.{ends-instr, one-instr}
 
@@ -130,3 +133,48 @@ one-parts x y fits also e =
     ∙ ap (λ (us : List CodeUnit). parts_by y.streams y.main us x.sites x.instrs) units
     ∙ ap (λ (ss : List Site). parts_by y.streams y.main y.units ss x.instrs) sites
     ∙ ap (λ (is : List Instr). parts_by y.streams y.main y.units y.sites is) instrs
+
+-- where a part isn't there, nothing is there that has it
+pub refused-map : (error : ObjectError) (P Q : Type 0) → IsRefused error P → (P → Q) → IsRefused error Q
+refused-map Format P Q refused on = on refused
+refused-map Invalid P Q refused on = refused
+refused-map Memory P Q refused on = refused
+
+pub no_items : (numbers : List ℕ) (captured : List ℕ) (after : List ℕ) → drop 2 numbers ≡ list_of slot_numbers captured ++ after
+    → ((items : List SiteItem) (rest : List ℕ) → after ≡ list_of item_numbers items ++ rest → ⊥)
+    → (site : Site) (rest : List ℕ) → numbers ≡ site_numbers site ++ rest → ⊥
+no_items numbers captured after taken none site rest e =
+    let all : list_of slot_numbers captured ++ after ≡ slots_of site ++ (items_of site ++ rest) =
+    sym taken ∙ ap (λ (ns : List ℕ). drop 2 ns) e ∙ append_assoc (slots_of site) (items_of site) rest in
+    none site.items rest ((ends-list slot_numbers ends-slot).rests captured site.captured after (items_of site ++ rest) all)
+
+behind-units : (numbers : List ℕ) (units : List CodeUnit) (after : List ℕ) → drop 2 numbers ≡ list_of unit_numbers units ++ after
+    → (parts : Parts) → numbers ≡ parts_numbers parts → after ≡ sites_of parts ++ instrs_of parts
+behind-units numbers units after taken parts e =
+    let all : list_of unit_numbers units ++ after ≡ units_of parts ++ (sites_of parts ++ instrs_of parts) =
+    sym taken ∙ ap (λ (ns : List ℕ). drop 2 ns) (e ∙ lists_apart parts) in
+    (ends-list unit_numbers ends-unit).rests units parts.units after (sites_of parts ++ instrs_of parts) all
+
+pub no_sites : (numbers : List ℕ) (units : List CodeUnit) (after : List ℕ) → drop 2 numbers ≡ list_of unit_numbers units ++ after
+    → ((sites : List Site) (rest : List ℕ) → after ≡ list_of site_numbers sites ++ rest → ⊥) → (parts : Parts) → numbers ≡ parts_numbers parts → ⊥
+no_sites numbers units after taken none parts e = none parts.sites (instrs_of parts) (behind-units numbers units after taken parts e)
+
+behind-sites : (numbers : List ℕ) (units : List CodeUnit) (after : List ℕ) (sites : List Site) (last : List ℕ) → drop 2 numbers ≡ list_of unit_numbers units ++ after
+    → after ≡ list_of site_numbers sites ++ last → (parts : Parts) → numbers ≡ parts_numbers parts → last ≡ instrs_of parts
+behind-sites numbers units after sites last taken more parts e =
+    (ends-list site_numbers ends-site).rests sites parts.sites last (instrs_of parts) (sym more ∙ behind-units numbers units after taken parts e)
+
+pub no_instrs : (numbers : List ℕ) (units : List CodeUnit) (after : List ℕ) (sites : List Site) (last : List ℕ) → drop 2 numbers ≡ list_of unit_numbers units ++ after
+    → after ≡ list_of site_numbers sites ++ last → ((instrs : List Instr) (rest : List ℕ) → last ≡ list_of instr_numbers instrs ++ rest → ⊥)
+    → (parts : Parts) → numbers ≡ parts_numbers parts → ⊥
+no_instrs numbers units after sites last taken more none parts e =
+    none parts.instrs [] (behind-sites numbers units after sites last taken more parts e ∙ sym (append-nil (instrs_of parts)))
+
+pub no_end : (numbers : List ℕ) (units : List CodeUnit) (after : List ℕ) (sites : List Site) (last : List ℕ) (instrs : List Instr) (rest : List ℕ)
+    → drop 2 numbers ≡ list_of unit_numbers units ++ after → after ≡ list_of site_numbers sites ++ last → last ≡ list_of instr_numbers instrs ++ rest
+    → 1 ≤ length rest → (parts : Parts) → numbers ≡ parts_numbers parts → ⊥
+no_end numbers units after sites last instrs rest taken more most some parts e =
+    let all : list_of instr_numbers instrs ++ rest ≡ instrs_of parts ++ [] =
+    sym most ∙ behind-sites numbers units after sites last taken more parts e ∙ sym (append-nil (instrs_of parts)) in
+    let none = ap length ((ends-list instr_numbers ends-instr).rests instrs parts.instrs rest [] all) in
+    omega (arith, none, some)

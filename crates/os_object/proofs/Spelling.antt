@@ -1,6 +1,8 @@
 -- Numbers and their bytes.
-use Rattle.std.proofs.Common.{◌≡◌, ℕ, ◌+◌, ◌*◌, ◌/◌, ◌%◌, ◌<◌, ◌≤◌, List, [], ◌∷◌, ◌++◌, length, get_or, drop, refl, sym, ap, ◌∙◌, append_assoc, append-nil, arith, length-append}
+use Rattle.std.proofs.Common.{◌≡◌, ℕ, ◌+◌, ◌*◌, ◌/◌, ◌%◌, ◌<◌, ◌≤◌, List, [], ◌∷◌, ◌++◌, length, get_or, take, drop, refl, sym, ap, ◌∙◌, append_assoc, append-nil, arith, length-append}
 use Rattle.std.specs.List.{flat_map, AllByRecursion}
+use Rattle.std.proofs.lemmas.Grind.{flat_map-append}
+use Rattle.std.proofs.lemmas.List.{take_more}
 use Rattle.os_object.specs.Object.{number, object, parts_numbers, OneReading}
 use Rattle.os_object.proofs.Parts.{one-parts}
 
@@ -86,3 +88,23 @@ left_over bytes rest ns parts some few ms e =
     let here = length-numbers ns in
     let there = length-numbers ms in
     omega (arith, lengths, both, here, there, some, few)
+
+-- numbers that are written behind others
+pub joined : (start a b : List ℕ) → (start ++ flat_map number a) ++ flat_map number b ≡ start ++ flat_map number (a ++ b)
+joined start a b = append_assoc start (flat_map number a) (flat_map number b) ∙ ap (λ (bytes : List ℕ). start ++ bytes) (sym (flat_map-append number a b))
+
+pub one_more : (start items new ns : List ℕ) (i : ℕ) → i < length ns → items ≡ start ++ flat_map number (take i ns)
+    → new ≡ items ++ number (get_or ns i 0) → new ≡ start ++ flat_map number (take (i + 1) ns)
+one_more start items new ns i low before is =
+    let single : number (get_or ns i 0) ≡ flat_map number (get_or ns i 0 ∷ []) = sym (append-nil (number (get_or ns i 0))) in
+    is ∙ ap (λ (l : List ℕ). l ++ number (get_or ns i 0)) before ∙ ap (λ (l : List ℕ). (start ++ flat_map number (take i ns)) ++ l) single
+    ∙ joined start (take i ns) (get_or ns i 0 ∷ []) ∙ ap (λ (l : List ℕ). start ++ flat_map number l) (sym (take_more ns i 0 low))
+
+pub members_more : {A : Type 0} (member : A → List ℕ) (start items new : List ℕ) (count : ℕ) (xs : List A) (i : ℕ) (x : A)
+    → take (i + 1) xs ≡ take i xs ++ x ∷ [] → items ≡ start ++ flat_map number (count ∷ flat_map member (take i xs))
+    → new ≡ items ++ flat_map number (member x) → new ≡ start ++ flat_map number (count ∷ flat_map member (take (i + 1) xs))
+members_more {A = A} member start items new count xs i x taken before is =
+    let more : flat_map member (take (i + 1) xs) ≡ flat_map member (take i xs) ++ member x =
+    ap (λ (l : List A). flat_map member l) taken ∙ flat_map-append member (take i xs) (x ∷ []) ∙ ap (λ (l : List ℕ). flat_map member (take i xs) ++ l) (append-nil (member x)) in
+    is ∙ ap (λ (l : List ℕ). l ++ flat_map number (member x)) before ∙ joined start (count ∷ flat_map member (take i xs)) (member x)
+    ∙ ap (λ (l : List ℕ). start ++ flat_map number (count ∷ l)) (sym more)

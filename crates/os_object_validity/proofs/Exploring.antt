@@ -1,8 +1,9 @@
 -- The heights that are found along the ways from the starts of units.
-use Rattle.std.proofs.Common.{◌≡◌, ◌≢◌, ℕ, zero, suc, ◌+◌, ◌*◌, ◌<◌, ◌≤◌, ◌⊎◌, inl, inr, Bool, true, false, List, [], ◌∷◌, ◌++◌, length, get_or, set, pos, Option, Some, None, refl, sym, ap, subst, ◌∙◌, arith, length-set}
+use Rattle.std.proofs.Common.{◌≡◌, ◌≢◌, ℕ, zero, suc, ◌+◌, ◌*◌, ◌^◌, ◌<◌, ◌≤◌, ◌⊎◌, inl, inr, Bool, true, false, List, [], ◌∷◌, ◌++◌, length, get_or, set, pos, Option, Some, None, refl, sym, ap, subst, ◌∙◌, arith, length-set, sum_by}
 use Rattle.std.specs.Prelude.{slice_get, IsTrue}
 use Rattle.std.proofs.lemmas.Bool.{cases_eq, cases_lt}
 use Rattle.std.proofs.lemmas.List.{get_or-set_same, get_or-set_other}
+use Rattle.std.proofs.lemmas.List.Sums.{sum_by-cons}
 use Rattle.std.proofs.lemmas.Option.{slice_get_within, slice_get-get_or}
 use Rattle.os_code.specs.declared.instr.Instr.{Instr}
 use Rattle.os_code.specs.declared.instr.Instr.TheVariants.{Push}
@@ -15,7 +16,7 @@ use Rattle.os_code.specs.Parts.{instr_at, unit_at, region_end, is_within}
 use Rattle.os_code.proofs.HeightTables.{heights_suffice}
 use Rattle.os_code.proofs.Lists.{there}
 use Rattle.os_code.proofs.Regions.{within, is_within-from, next_start-above, next_start-end}
-use Rattle.os_code.proofs.Spans.{same_unit}
+use Rattle.os_code.proofs.Spans.{same_unit, span, all_spans}
 use Rattle.os_object_validity.specs.declared.heights.Waiting.{Waiting}
 use Rattle.os_object_validity.specs.Tables.{height_in, IsWaiting, IsEntry, IsExplored, IsKept, FitsStack, unknown}
 
@@ -226,8 +227,8 @@ explored-all code regions targets heights waiting none explored = heights_suffic
 
 -- what is no height is none
 pub none-from : (o : Option ℕ) → ((height : ℕ) → o ≡ Some height → ⊥) → o ≡ None
-none-from None no = refl
-none-from (Some height) no = absurd (no height refl)
+none-from None never = refl
+none-from (Some height) never = absurd (never height refl)
 
 -- an instruction that is reached, where the stack doesn't suffice, refuses the code
 pub no_room : (code : Parts) (heights : List (Option ℕ)) (waiting : List Waiting) (w : Waiting) (number : ℕ) (unit : CodeUnit) (instr : Instr) (Opened : ℕ → Type 0)
@@ -261,3 +262,20 @@ has_instr code heights w number unit instrs is e entry same =
       is_within = within_unit;
       is_instr = ap (λ (l : List Instr). slice_get l w.place) (sym same) ∙ slice_get-get_or instrs w.place (Push (pos 0)) (omega (arith, low, counted));
     }
+
+-- units are fewer than places
+all_some : (need : CodeUnit → ℕ) (units : List CodeUnit) → ((number : ℕ) (unit : CodeUnit) → slice_get units number ≡ Some unit → 1 ≤ need unit)
+    → length units ≤ sum_by need units
+all_some need [] some = omega arith
+all_some need (unit ∷ units) some =
+    let rest = all_some need units (λ n u e. some (suc n) u e) in
+    let here = some 0 unit refl in
+    let both = sum_by-cons need unit units in
+    omega (arith, rest, here, both)
+
+pub few_units : (code : Parts) → HasRegions code → length code.units < 2 ^ 32
+few_units code regions =
+    let all = all_spans code regions in
+    let some = all_some (span code) code.units (λ n unit is. let above = next_start-above (length code.instrs) unit.start code.units (regions.starts_inside n unit is) in omega (arith, above)) in
+    let short = regions.short in
+    omega (arith, all, some, short)

@@ -1,11 +1,11 @@
 -- Units, instructions and sites that stand are what validity asks for, but for the heights.
-use Rattle.std.proofs.Common.{◌≡◌, ℕ, zero, suc, ◌+◌, ◌-◌, ◌<◌, ◌≤◌, ◌⊎◌, inl, inr, Bool, true, false, not, ◌&&◌, List, [], ◌∷◌, length, Option, Some, None, refl, sym, ap, subst, ◌∙◌, arith, sum_by}
+use Rattle.std.proofs.Common.{◌≡◌, ℕ, zero, suc, ◌+◌, ◌-◌, ◌<◌, ◌≤◌, ◌⊎◌, inl, inr, Bool, true, false, not, ◌&&◌, List, [], ◌∷◌, length, get_or, pos, Option, Some, None, refl, sym, ap, subst, ◌∙◌, arith, sum_by}
 use Rattle.std.specs.Prelude.{All, ◌==◌, nat_le, nat_lt, slice_get, IsTrue}
 use Rattle.std.specs.List.{list_any, list_all}
-use Rattle.std.proofs.lemmas.Bool.{and_parts, and_from, ltb-true, leb-true, le-leb, lt-ltb, eqb-true, eq-eqb, ne_eqb, both_ways, not-true, not_from_false}
-use Rattle.std.proofs.lemmas.Option.{slice_get_within}
+use Rattle.std.proofs.lemmas.Bool.{and_parts, and_from, ltb-true, leb-true, le-leb, lt-ltb, eqb-true, eq-eqb, ne_eqb, both_ways, not-true, not_from_false, cases_lt}
+use Rattle.std.proofs.lemmas.Option.{slice_get_within, slice_get-get_or}
 use Rattle.os_code.specs.declared.instr.Instr.{Instr}
-use Rattle.os_code.specs.declared.instr.Instr.TheVariants.{ItemStore, Turn, Call, Spawn, Tick}
+use Rattle.os_code.specs.declared.instr.Instr.TheVariants.{Push, ItemStore, Turn, Call, Spawn, Tick}
 use Rattle.os_code.specs.declared.parts.Parts.{Parts}
 use Rattle.os_code.specs.declared.site.Site.{Site}
 use Rattle.os_code.specs.declared.site.SiteItem.{SiteItem}
@@ -15,6 +15,7 @@ use Rattle.os_code.specs.Effects.{jump_of, needs_turn, slots_named, item_of, sta
 use Rattle.os_code.specs.IsValid.{HasInstr, HasRegions, HasTargets, HasFrames, HasSites, HasHeights, IsValid}
 use Rattle.os_code.specs.Parts.{instr_at, unit_at, site_at, region_end, is_within, Kind, Main, Task, Function, kind_at}
 use Rattle.os_code.proofs.Lists.{there}
+use Rattle.os_code.proofs.Regions.{is_within-from}
 use Rattle.os_code.proofs.Spans.{found}
 use Rattle.os_object_validity.specs.Tables.{TasksDistinct, UnitStands, AllStand, may_be_target, target_stands, turn_stands, jump_stands, call_stands, names_stand, site_there, stream_there, item_there, is_output, stores_into_output, items_fit_in, items_fit, kind_stands, place_stands, unit_stands, item_stands, args_are, args_of_are, site_stands, sites_stand_by, sites_stand}
 use Rattle.os_object_validity.proofs.Tests.{implied, implies-from, at_there, if_there-from, from_list_all, list_all-from, all_from, list_all-from_All, turn_from, turn-is, function_from, called-is, spawned-is, ticked-is, Stores, stored-is}
@@ -98,7 +99,7 @@ module _ (code : Parts) (regions : HasRegions code) (stand : AllStand code) wher
     pub items : nat_le (length site.items) 8 ≡ true
     pub few : nat_le (length site.captured) 64 ≡ true
     pub captured : list_all (λ slot. nat_lt slot main.slots) site.captured ≡ true
-    pub stand : list_all (item_stands code main) site.items ≡ true
+    pub named : list_all (item_stands code main) site.items ≡ true
 
   site_parts : (main : CodeUnit) (site : Site) → site_stands code main site ≡ true → SiteParts main site
   site_parts main site h =
@@ -108,7 +109,7 @@ module _ (code : Parts) (regions : HasRegions code) (stand : AllStand code) wher
       let d = and_parts _ _ c.0 in
       let e = and_parts _ _ d.0 in
       let f = and_parts _ _ e.0 in
-      record { no_main = f.0; inside = f.1; args = e.1; items = d.1; few = c.1; captured = b.1; stand = a.1 }
+      record { no_main = f.0; inside = f.1; args = e.1; items = d.1; few = c.1; captured = b.1; named = a.1 }
 
   items_of_kind : (number place : ℕ) (unit : CodeUnit) (instr : Instr) (site : Site) → HasInstr code number unit place instr → kind_at code number ≡ Task site
       → items_fit_in site.items instr ≡ true
@@ -139,7 +140,7 @@ module _ (code : Parts) (regions : HasRegions code) (stand : AllStand code) wher
         windows_there = λ number site unit at also.
             subst (λ (u : CodeUnit). All (λ (item : SiteItem). (slot : ℕ) → item.window ≡ Some slot → slot < u.slots) site.items) (same_main unit also)
             (all_from (item_stands code main) (λ (item : SiteItem). (slot : ℕ) → item.window ≡ Some slot → slot < main.slots) site.items
-            (part number site at).stand (λ item e slot has. ltb-true slot main.slots (at_there (λ k. nat_lt k main.slots) item.window slot (and_parts _ _ e).1 has)));
+            (part number site at).named (λ item e slot has. ltb-true slot main.slots (at_there (λ k. nat_lt k main.slots) item.window slot (and_parts _ _ e).1 has)));
         items_few = λ number site at. leb-true (length site.items) 8 (part number site at).items;
         captured_few = λ number site at. leb-true (length site.captured) 64 (part number site at).few;
         items_there = λ number place item unit instr site has task named.
@@ -154,7 +155,7 @@ module _ (code : Parts) (regions : HasRegions code) (stand : AllStand code) wher
         streams_enough = leb-true 2 code.streams streams.0;
         streams_few = leb-true code.streams 65538 streams.1;
         item_streams = λ number site at.
-            all_from (item_stands code main) (λ (item : SiteItem). item.stream < code.streams) site.items (part number site at).stand
+            all_from (item_stands code main) (λ (item : SiteItem). item.stream < code.streams) site.items (part number site at).named
             (λ item e. ltb-true item.stream code.streams (and_parts _ _ e).0);
         tick_streams = λ place stream is.
             let at = somewhere code regions place (Tick stream) is in
@@ -244,3 +245,44 @@ module _ (code : Parts) (valid : IsValid code) where
           each P [] all k item e = cc
           each P (one ∷ items) all zero item e = let same : one ≡ item = cc in subst P same (all 0 item (omega arith))
           each P (one ∷ items) all (suc k) item e = each P items (λ j d low. all (suc j) d (omega arith)) k item e
+
+-- one more place of a unit, and one more unit
+pub place_more : (code : Parts) (number : ℕ) (unit : CodeUnit) (instrs : List Instr) (at : ℕ) → instrs ≡ code.instrs → at < length instrs
+    → place_stands code number unit at (get_or instrs at (Push (pos 0))) ≡ true
+    → ((place : ℕ) (instr : Instr) → unit.start ≤ place → place < at → instr_at code place ≡ Some instr → place_stands code number unit place instr ≡ true)
+    → (place : ℕ) (instr : Instr) → unit.start ≤ place → place < at + 1 → instr_at code place ≡ Some instr → place_stands code number unit place instr ≡ true
+place_more code number unit instrs at same inside here before place instr low high is = by_order (cases_lt place at)
+  where
+    by_order : (place < at) ⊎ (at ≤ place) → place_stands code number unit place instr ≡ true
+    by_order (inl less) = before place instr low less is
+    by_order (inr more) =
+        let e : place ≡ at = omega arith in
+        let read : Some (get_or instrs at (Push (pos 0))) ≡ Some instr =
+        sym (slice_get-get_or instrs at (Push (pos 0)) inside) ∙ ap (λ (l : List Instr). slice_get l at) same ∙ ap (instr_at code) (sym e) ∙ is in
+        let instr_is : get_or instrs at (Push (pos 0)) ≡ instr = cc in
+        ap (λ (p : ℕ). place_stands code number unit p instr) e ∙ ap (λ (i : Instr). place_stands code number unit at i) (sym instr_is) ∙ here
+
+pub instr_read : (code : Parts) (number : ℕ) (unit : CodeUnit) (instrs : List Instr) (at : ℕ) → instrs ≡ code.instrs → at < length instrs
+    → unit_at code number ≡ Some unit → unit.start ≤ at → at < region_end code unit → HasInstr code number unit at (get_or instrs at (Push (pos 0)))
+instr_read code number unit instrs at same inside is_unit low high = record {
+  is_unit = is_unit;
+  is_within = is_within-from code unit at low high;
+  is_instr = ap (λ (l : List Instr). slice_get l at) (sym same) ∙ slice_get-get_or instrs at (Push (pos 0)) inside;
+}
+
+abbrev no_unit : CodeUnit
+no_unit = record { start = 0; args = 0; slots = 0; stack = 0 }
+
+pub unit_more : (code : Parts) (units : List CodeUnit) (at : ℕ) → units ≡ code.units → at < length units → UnitStands code at (get_or units at no_unit)
+    → ((number : ℕ) (unit : CodeUnit) → number < at → unit_at code number ≡ Some unit → UnitStands code number unit)
+    → (number : ℕ) (unit : CodeUnit) → number < at + 1 → unit_at code number ≡ Some unit → UnitStands code number unit
+unit_more code units at same inside here before number unit high is = by_order (cases_lt number at)
+  where
+    by_order : (number < at) ⊎ (at ≤ number) → UnitStands code number unit
+    by_order (inl less) = before number unit less is
+    by_order (inr more) =
+        let e : at ≡ number = omega arith in
+        let read : Some (get_or units at no_unit) ≡ Some unit =
+        sym (slice_get-get_or units at no_unit inside) ∙ ap (λ (l : List CodeUnit). slice_get l at) same ∙ ap (unit_at code) e ∙ is in
+        let unit_is : get_or units at no_unit ≡ unit = cc in
+        subst (λ (n : ℕ). UnitStands code n unit) e (subst (λ (u : CodeUnit). UnitStands code at u) unit_is here)

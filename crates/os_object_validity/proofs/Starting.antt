@@ -15,7 +15,7 @@ use Rattle.os_code.proofs.Ends.{end-region}
 use Rattle.os_code.proofs.Lists.{there}
 use Rattle.os_code.proofs.Regions.{within, is_within-from, next_start-above, next_start-end}
 use Rattle.os_code.proofs.Spans.{found}
-use Rattle.os_object_validity.specs.Tables.{IsApart, AreEnds, AreFirstEnds}
+use Rattle.os_object_validity.specs.Tables.{IsApart, AreEnds}
 use Rattle.os_object_validity.proofs.Tests.{list_any-from}
 
 -- a unit that starts at a place, among the first ones
@@ -206,7 +206,6 @@ next_start-is end place (unit ∷ units) = by_case (cases_Bool (nat_lt place uni
     by_case (inr below) (inl e) = inl (cond-false (nat_lt place unit.start) (min unit.start (next_start end place units)) (next_start end place units) below ∙ e)
     by_case (inr below) (inr at) = inr (further at (cond-false (nat_lt place unit.start) (min unit.start (next_start end place units)) (next_start end place units) below))
 
-
 record About (code : Parts) (place : ℕ) : Type 0 where
   pub number : ℕ
   pub unit : CodeUnit
@@ -218,7 +217,10 @@ module _ (code : Parts) (marks : List Bool) (count : ℕ) (all : length code.uni
     (first : get_or marks 0 false ≡ true) where
   starts_about : (place number : ℕ) (unit : CodeUnit) → place < length code.instrs → unit_at code number ≡ Some unit → unit.start ≡ place → About code place
   starts_about place number unit low is e = record {
-    number = number; unit = unit; is_unit = is; from = omega (arith, e);
+    number = number;
+    unit = unit;
+    is_unit = is;
+    from = omega (arith, e);
     to = let above = next_start-above (length code.instrs) unit.start code.units (omega (arith, e, low)) in omega (arith, above, e);
   }
 
@@ -256,7 +258,11 @@ module _ (code : Parts) (marks : List Bool) (count : ℕ) (all : length code.uni
       low_of : (number : ℕ) (unit : CodeUnit) → unit_at code number ≡ Some unit → number < count
       low_of number unit is = let inside = slice_get_within code.units number unit is in omega (arith, inside)
 
--- the ends of regions, one by one
+-- the ends of the regions of the first units
+pub record AreFirstEnds (code : Parts) (ends : List ℕ) (count : ℕ) : Type 0 where
+  pub counted : length ends ≡ count
+  pub each : (number : ℕ) (unit : CodeUnit) → number < count → unit_at code number ≡ Some unit → get_or ends number 0 ≡ region_end code unit
+
 pub ends-none : (code : Parts) (ends : List ℕ) → ends ≡ [] → AreFirstEnds code ends 0
 ends-none code ends none = record { counted = ap length none; each = λ number unit low is. absurd (omega arith) }
 

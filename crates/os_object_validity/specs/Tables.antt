@@ -212,8 +212,3 @@ pub record IsTold (code : Parts) (tasks : List (Option ℕ)) (count : ℕ) : Typ
       → find (λ (site : Site). site.unit == number) (take count code.sites) ≡ site_told code (task_in tasks number)
   pub distinct : (number other : ℕ) (site one : Site) → number < count → other < count → site_at code number ≡ Some site
       → site_at code other ≡ Some one → site.unit ≡ one.unit → number ≡ other
-
--- the ends of the regions of the first units
-pub record AreFirstEnds (code : Parts) (ends : List ℕ) (count : ℕ) : Type 0 where
-  pub counted : length ends ≡ count
-  pub each : (number : ℕ) (unit : CodeUnit) → number < count → unit_at code number ≡ Some unit → slice_index_or ends number 0 ≡ region_end code unit

@@ -26,7 +26,10 @@ pub(crate) fn tasks_of(alloc: Global, parts: &Parts) -> Result<Option<Vec<Option
     let mut tasks = vec![in alloc; None; parts.units.len()]?;
     for (number, site) in parts.sites.as_slice().iter().enumerate() {
         let unit = site.unit as usize;
-        if unit >= tasks.len() || tasks[unit].is_some() {
+        if unit >= tasks.len() {
+            return Ok(None);
+        }
+        if let Some(_other) = tasks[unit] {
             return Ok(None);
         }
         tasks[unit] = Some(number);

@@ -35,12 +35,18 @@ fn starts_of(alloc: Global, parts: &Parts) -> Result<Option<Vec<bool>>, Memory>
     let mut marks = vec![in alloc; false; parts.instrs.len()]?;
     for unit in parts.units.as_slice() {
         let start = unit.start as usize;
-        if start >= marks.len() || marks[start] {
+        if start >= marks.len() {
+            return Ok(None);
+        }
+        if marks[start] {
             return Ok(None);
         }
         marks[start] = true;
     }
-    if marks.is_empty() || !marks[0] {
+    if marks.is_empty() {
+        return Ok(None);
+    }
+    if !marks[0] {
         return Ok(None);
     }
     Ok(Some(marks))

@@ -5,6 +5,6 @@ use Rattle.os_object.proofs.reading_lists.read_items.Given as goal
 
 abbrev pub invariant-loop : goal.invariant-loop
 invariant-loop l = record {
-  parts : l.members ≡ flat_map item_numbers l.items ++ l.rest;
+  parts : l.initial.rest ≡ flat_map item_numbers l.items ++ l.rest;
   counted : length l.items ≡ l.counter;
 }

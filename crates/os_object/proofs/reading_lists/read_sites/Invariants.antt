@@ -5,6 +5,6 @@ use Rattle.os_object.proofs.reading_lists.read_sites.Given as goal
 
 abbrev pub invariant-loop : goal.invariant-loop
 invariant-loop l = record {
-  parts : l.members ≡ flat_map site_numbers l.sites ++ l.rest;
+  parts : l.initial.rest ≡ flat_map site_numbers l.sites ++ l.rest;
   counted : length l.sites ≡ l.counter;
 }

@@ -5,6 +5,6 @@ use Rattle.os_object.proofs.reading_lists.read_slots.Given as goal
 
 abbrev pub invariant-loop : goal.invariant-loop
 invariant-loop l = record {
-  parts : l.members ≡ flat_map slot_numbers l.slots ++ l.rest;
+  parts : l.initial.rest ≡ flat_map slot_numbers l.slots ++ l.rest;
   counted : length l.slots ≡ l.counter;
 }

@@ -5,6 +5,6 @@ use Rattle.os_object.proofs.reading_lists.read_units.Given as goal
 
 abbrev pub invariant-loop : goal.invariant-loop
 invariant-loop l = record {
-  parts : l.members ≡ flat_map unit_numbers l.units ++ l.rest;
+  parts : l.initial.rest ≡ flat_map unit_numbers l.units ++ l.rest;
   counted : length l.units ≡ l.counter;
 }

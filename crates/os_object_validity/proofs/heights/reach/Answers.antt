@@ -1,4 +1,4 @@
-use Rattle.std.proofs.Common.{◌≡◌, ℕ, ◌<◌, List, [], ◌∷◌, ◌++◌, length, Some, None, sym, subst, ap, ◌∙◌, arith}
+use Rattle.std.proofs.Common.{◌≡◌, ℕ, ◌+◌, ◌<◌, List, [], ◌∷◌, ◌++◌, length, Some, None, sym, subst, ap, ◌∙◌, arith}
 use Rattle.std.proofs.lemmas.Bool.{eqb-false}
 use Rattle.std.proofs.lemmas.List.{length_push, get_or-set_same}
 use Rattle.os_object_validity.specs.declared.heights.Waiting.{Waiting}
@@ -19,9 +19,9 @@ bounds c =
     omega (arith, at, e)
 
 pub returns-in-Some-clause-no : goal.returns-in-Some-clause-no
-returns-in-Some-clause-no c no fits =
+returns-in-Some-clause-no c apart fits =
     other_height c.args.parts.now c.args.heights.now c.args.waiting.now.items c.args.from c.args.to c.args.unit c.in-Some.height c.requires.explored
-    c.requires.is_unit c.requires.reached c.requires.is_within c.in-Some.is (eqb-false c.in-Some.height c.args.to.height no) fits
+    c.requires.is_unit c.requires.reached c.requires.is_within c.in-Some.is (eqb-false c.in-Some.height c.args.to.height apart) fits
 
 pub offset_bounds-heights-to-2 : goal.offset_bounds-heights-to-2
 offset_bounds-heights-to-2 c =
@@ -36,13 +36,13 @@ bounds-heights-to-2 c =
     omega (arith, at, e)
 
 pub returns-clause-yes : goal.returns-clause-yes
-returns-clause-yes c yes =
+returns-clause-yes c e =
     subst (λ (ws : List Waiting). IsExplored c.args.parts.now _ ws (λ place. place ≡ c.args.from)) (sym c.in_ok-push.ensures.items)
     (explored-set c.args.parts.now c.requires.regions c.args.heights.now c.args.waiting.now.items c.args.from c.args.to c.args.unit c.requires.explored
     c.requires.is_unit c.requires.reached c.requires.is_within (none-from _ c.in_default.not-Some))
 
 pub returns-clause-reached : goal.returns-clause-reached
-returns-clause-reached c yes =
+returns-clause-reached c same =
     let at = inside c.args.parts.now c.args.unit c.args.to.place c.requires.is_within in
     let e = c.requires.explored.counted in
     get_or-set_same c.args.heights.now c.args.to.place (Some c.args.to.height) None (omega (arith, at, e))

@@ -4,11 +4,11 @@ use Rattle.std.proofs.lemmas.Option.{slice_get-get_or}
 use Rattle.os_code.specs.declared.instr.Instr.{Instr}
 use Rattle.os_code.specs.declared.instr.Instr.TheVariants.{Push}
 use Rattle.os_object_validity.specs.Tables.{IsExplored, height_in}
-use Rattle.os_object_validity.proofs.Exploring.{inside, no_room, entry_within, has_instr}
+use Rattle.os_object_validity.proofs.Exploring.{inside, no_room, entry_within, has_instr, explored-close}
 use Rattle.os_object_validity.proofs.heights.visit.Goals as goal
 
 pub returns-in_default-clause-no : goal.returns-in_default-clause-no
-returns-in_default-clause-no c yes fits =
+returns-in_default-clause-no c e fits =
     no_room c.args.parts.now c.args.heights.now c.args.waiting.now.items c.args.at c.args.region.number c.args.region.unit _ (λ place. place ≡ c.args.at.place)
     c.requires.explored
     (has_instr c.args.parts.now c.args.heights.now c.args.at c.args.region.number c.args.region.unit c.as_slice.result.now c.requires.is_unit c.requires.number c.requires.entry c.as_slice.ensures)
@@ -23,4 +23,8 @@ jump-requires-clause-is_instr c =
     (has_instr c.args.parts.now c.args.heights.now c.args.at c.args.region.number c.args.region.unit c.as_slice.result.now c.requires.is_unit c.requires.number c.requires.entry c.as_slice.ensures).is_instr
 
 pub returns-clause-yes : goal.returns-clause-yes
-returns-clause-yes c = let h = c.in_ok-go_on in let k = c.in_ok-jump in let m = c.in-Some in ?
+returns-clause-yes c e =
+    explored-close c.args.parts.now c.requires.regions _ _ c.args.at c.args.region.unit _ (c.jump.ensures.yes (search rules))
+    (has_instr c.args.parts.now c.args.heights.now c.args.at c.args.region.number c.args.region.unit c.as_slice.result.now c.requires.is_unit c.requires.number c.requires.entry c.as_slice.ensures)
+    ?
+    ?

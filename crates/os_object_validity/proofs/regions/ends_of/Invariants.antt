@@ -1,4 +1,4 @@
-use Rattle.os_object_validity.specs.Tables.{AreFirstEnds}
+use Rattle.os_object_validity.proofs.Starting.{AreFirstEnds}
 use Rattle.os_object_validity.proofs.regions.ends_of.Given as goal
 
 abbrev pub invariant-loop-unit : goal.invariant-loop-unit
