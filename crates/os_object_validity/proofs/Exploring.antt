@@ -153,10 +153,10 @@ other_height code heights waiting from w unit height explored is_unit reaches x 
     (record { is_unit = is_unit; reached = other; is_instr = instr.1 }) (record { is_unit = is_unit; reached = reaches; is_instr = instr.1 }))
 
 -- the instruction at the open place fits
-pub explored-close : (code : Parts) → HasRegions code → (heights : List (Option ℕ)) (waiting : List Waiting) (w : Waiting) (unit : CodeUnit) (instr : Instr)
-    → IsExplored code heights waiting (λ place. place ≡ w.place) → HasInstr code w.number unit w.place instr → height_in heights w.place ≡ Some w.height
+pub explored-close : (code : Parts) → HasRegions code → (heights : List (Option ℕ)) (waiting : List Waiting) (w : Waiting) (mine : ℕ) (unit : CodeUnit) (instr : Instr)
+    → IsExplored code heights waiting (λ place. place ≡ w.place) → HasInstr code mine unit w.place instr → height_in heights w.place ≡ Some w.height
     → HeightsFit code (height_in heights) unit w.place w.height instr → IsExplored code heights waiting (λ place. ⊥)
-explored-close code regions heights waiting w unit instr explored has told fits = record {
+explored-close code regions heights waiting w mine unit instr explored has told fits = record {
   counted = explored.counted;
   entries = explored.entries;
   reached = explored.reached;
@@ -171,7 +171,7 @@ explored-close code regions heights waiting w unit instr explored has told fits 
     by_old number place height other one at height_is (inr there_fits) = inr there_fits
     by_old number place height other one at height_is (inl (inr e)) =
         let x : IsTrue (is_within code other w.place) = subst (λ (p : ℕ). IsTrue (is_within code other p)) e at.is_within in
-        let same : unit ≡ other = unit-is code regions w.number number unit other w.place has.is_unit at.is_unit has.is_within x in
+        let same : unit ≡ other = unit-is code regions mine number unit other w.place has.is_unit at.is_unit has.is_within x in
         let instrs : Some instr ≡ Some one = sym has.is_instr ∙ ap (instr_at code) (sym e) ∙ at.is_instr in
         let instr_is : instr ≡ one = cc in
         let heights_are : Some w.height ≡ Some height = sym told ∙ ap (height_in heights) (sym e) ∙ height_is in
@@ -279,3 +279,18 @@ few_units code regions =
     let some = all_some (span code) code.units (λ n unit is. let above = next_start-above (length code.instrs) unit.start code.units (regions.starts_inside n unit is) in omega (arith, above)) in
     let short = regions.short in
     omega (arith, all, some, short)
+
+-- an instruction that was looked at, with where it leads to
+pub visited : (code : Parts) → HasRegions code → (before between after : List (Option ℕ)) (waiting : List Waiting) (w : Waiting) (number : ℕ) (unit : CodeUnit) (instr : Instr)
+    (height : ℕ) → IsExplored code after waiting (λ place. place ≡ w.place) → HasInstr code number unit w.place instr → height_in before w.place ≡ Some w.height
+    → IsKept before between → IsKept between after → FitsStack code unit w.height instr → height ≡ height_after code instr w.height
+    → (IsTrue (goes_on instr) → IsTrue (is_within code unit (w.place + 1)) × (height_in between (w.place + 1) ≡ Some height))
+    → ((to : ℕ) → jump_of instr ≡ Some to → height_in after to ≡ Some height) → IsExplored code after waiting (λ place. ⊥)
+visited code regions before between after waiting w number unit instr height explored has told kept still fits is next target =
+    explored-close code regions after waiting w number unit instr explored has (still w.place w.height (kept w.place w.height told)) (record {
+      enough = fits.enough;
+      low_before = fits.low_before;
+      low_after = fits.low_after;
+      goes_on = λ on. let at = next on in (at.0, still (w.place + 1) height at.1 ∙ ap (λ (h : ℕ). Some h) is);
+      jumps = λ to jumps. target to jumps ∙ ap (λ (h : ℕ). Some h) is;
+    })

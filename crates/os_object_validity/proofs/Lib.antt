@@ -4,3 +4,4 @@ pub mod Exploring
 pub mod Beginning
 pub mod Starting
 pub mod Telling
+pub mod Elements

@@ -48,13 +48,16 @@ fn args_of(parts: &Parts, number: u32) -> usize
 }
 
 /// A stream index and a burst for each item of a site.
+#[tactic(auto, using(crate::proofs::Elements::pairs))]
 fn pairs_of(parts: &Parts, number: u32) -> usize
     ensures { result ≡ effects.operands_of parts.now (Instr.Spawn number) }
 {
-    match parts.sites.as_slice().get(number as usize) {
-        Some(site) => 2 * site.items.as_slice().len(),
-        None => 0,
+    let sites = parts.sites.as_slice();
+    let number = number as usize;
+    if number >= sites.len() {
+        return 0;
     }
+    2 * sites[number].items.as_slice().len()
 }
 
 /// How many operands stand there in their place.

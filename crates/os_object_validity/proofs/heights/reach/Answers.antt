@@ -1,4 +1,4 @@
-use Rattle.std.proofs.Common.{◌≡◌, ℕ, ◌+◌, ◌<◌, List, [], ◌∷◌, ◌++◌, length, Some, None, sym, subst, ap, ◌∙◌, arith}
+use Rattle.std.proofs.Common.{◌≡◌, ℕ, ◌+◌, ◌<◌, List, [], ◌∷◌, ◌++◌, length, set, Some, None, sym, subst, ap, ◌∙◌, arith}
 use Rattle.std.proofs.lemmas.Bool.{eqb-false}
 use Rattle.std.proofs.lemmas.List.{length_push, get_or-set_same}
 use Rattle.os_object_validity.specs.declared.heights.Waiting.{Waiting}
@@ -37,7 +37,7 @@ bounds-heights-to-2 c =
 
 pub returns-clause-yes : goal.returns-clause-yes
 returns-clause-yes c e =
-    subst (λ (ws : List Waiting). IsExplored c.args.parts.now _ ws (λ place. place ≡ c.args.from)) (sym c.in_ok-push.ensures.items)
+    subst (λ (ws : List Waiting). IsExplored c.args.parts.now (set c.args.heights.now c.args.to.place (Some c.args.to.height)) ws (λ place. place ≡ c.args.from)) (sym c.in_ok-push.ensures.items)
     (explored-set c.args.parts.now c.requires.regions c.args.heights.now c.args.waiting.now.items c.args.from c.args.to c.args.unit c.requires.explored
     c.requires.is_unit c.requires.reached c.requires.is_within (none-from _ c.in_default.not-Some))
 

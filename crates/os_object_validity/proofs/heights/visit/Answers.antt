@@ -1,10 +1,10 @@
-use Rattle.std.proofs.Common.{◌≡◌, ℕ, ◌<◌, List, length, Some, pos, refl, sym, subst, ap, ◌∙◌, arith}
+use Rattle.std.proofs.Common.{◌≡◌, ℕ, ◌<◌, List, length, Some, pos, refl, sym, subst, ap, ◌∙◌, arith, rules, true}
 use Rattle.std.specs.Prelude.{slice_get}
 use Rattle.std.proofs.lemmas.Option.{slice_get-get_or}
 use Rattle.os_code.specs.declared.instr.Instr.{Instr}
 use Rattle.os_code.specs.declared.instr.Instr.TheVariants.{Push}
 use Rattle.os_object_validity.specs.Tables.{IsExplored, height_in}
-use Rattle.os_object_validity.proofs.Exploring.{inside, no_room, entry_within, has_instr, explored-close}
+use Rattle.os_object_validity.proofs.Exploring.{inside, no_room, entry_within, has_instr, visited}
 use Rattle.os_object_validity.proofs.heights.visit.Goals as goal
 
 pub returns-in_default-clause-no : goal.returns-in_default-clause-no
@@ -24,7 +24,9 @@ jump-requires-clause-is_instr c =
 
 pub returns-clause-yes : goal.returns-clause-yes
 returns-clause-yes c e =
-    explored-close c.args.parts.now c.requires.regions _ _ c.args.at c.args.region.unit _ (c.jump.ensures.yes (search rules))
+    let went : c.in_ok-go_on.field-0 ≡ true = search rules in
+    let jumped : c.in_ok-jump.field-0 ≡ true = search rules in
+    visited c.args.parts.now c.requires.regions _ _ _ _ c.args.at c.args.region.number c.args.region.unit _ c.in-Some.after (c.in_ok-jump.ensures.yes jumped)
     (has_instr c.args.parts.now c.args.heights.now c.args.at c.args.region.number c.args.region.unit c.as_slice.result.now c.requires.is_unit c.requires.number c.requires.entry c.as_slice.ensures)
-    ?
-    ?
+    c.requires.entry.height c.in_ok-go_on.ensures.kept c.in_ok-jump.ensures.kept c.in-Some.ensures.some.0 c.in-Some.ensures.some.1 (c.in_ok-go_on.ensures.next went)
+    (c.in_ok-jump.ensures.target jumped)

@@ -1,4 +1,5 @@
-use Rattle.std.proofs.Common.{◌≡◌, ◌<◌, ◌≤◌, length, true, ap, sym, ◌∙◌, arith}
+use Rattle.std.proofs.Common.{◌≡◌, ◌+◌, ◌<◌, ◌≤◌, length, true, ap, sym, ◌∙◌, arith}
+use Rattle.std.specs.Prelude.{nat_le}
 use Rattle.std.proofs.lemmas.Bool.{and_from, le-leb, both_ways}
 use Rattle.std.proofs.lemmas.Option.{slice_get_within}
 use Rattle.os_code.proofs.Regions.{within, next_start-above, next_start-end}
@@ -61,7 +62,10 @@ returns-clause-yes c e =
     let inside = c.requires.regions.starts_inside c.args.region.number c.args.region.unit c.requires.is_unit in
     let above = next_start-above (length c.args.parts.now.instrs) c.args.region.unit.start c.args.parts.now.units inside in
     record {
-      frame = and_from _ _ (le-leb _ _ (omega (arith, ends, stack, above))) (le-leb _ _ (omega (arith, args)));
+      frame = and_from (nat_le (c.args.region.unit.start + c.args.region.unit.stack) (region_end c.args.parts.now c.args.region.unit))
+          (nat_le c.args.region.unit.args c.args.region.unit.slots)
+          (le-leb (c.args.region.unit.start + c.args.region.unit.stack) (region_end c.args.parts.now c.args.region.unit) (omega (arith, ends, stack, above)))
+          (le-leb c.args.region.unit.args c.args.region.unit.slots args);
       places = λ place instr has.
           let at = within c.args.parts.now c.args.region.unit place has.is_within in
           let to = at.to in
