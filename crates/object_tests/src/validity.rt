@@ -7,11 +7,22 @@ use std::test::Fail;
 fn accepts_codes_that_no_program_has(rt: HostRuntime) -> Result<(), Fail> {
     let alloc = rt.alloc();
     // Jump 3; Turn; End; Jump 1: the second place is reached by a jump back alone.
-    assert!(rt; answer_to(alloc, &[2, 0, 1, 0, 1, 1, 0, 0, 4, 14, 3, 16, 19, 14, 1]) == Answer::Code);
+    assert!(rt;
+        answer_to(alloc, &[2, 0, 1, 0, 1, 1, 0, 0, 4, 14, 3, 16, 19, 14, 1]) == Answer::Code
+    );
     // End; Turn; Push 1; Jump 1: a loop whose stack grows, and which nothing reaches.
-    assert!(rt; answer_to(alloc, &[2, 0, 1, 0, 1, 1, 0, 0, 4, 19, 16, 0, 1, 14, 1]) == Answer::Code);
+    assert!(rt;
+        answer_to(alloc, &[2, 0, 1, 0, 1, 1, 0, 0, 4, 19, 16, 0, 1, 14, 1]) == Answer::Code
+    );
     // Push 5; Return; Turn, and behind it `main`: Call 0; Drop; End. The `Turn` is of the unit before.
-    assert!(rt; answer_to(alloc, &[2, 1, 2, 0, 0, 0, 1, 3, 1, 1, 1, 0, 6, 0, 5, 18, 16, 17, 0, 1, 19]) == Answer::Code);
+    assert!(rt;
+        answer_to(
+            alloc,
+            &[
+                2, 1, 2, 0, 0, 0, 1, 3, 1, 1, 1, 0, 6, 0, 5, 18, 16, 17, 0, 1, 19
+            ]
+        ) == Answer::Code
+    );
     // End; Drop: what nothing reaches may go on past the end.
     assert!(rt; answer_to(alloc, &[2, 0, 1, 0, 1, 1, 0, 0, 2, 19, 1]) == Answer::Code);
     Ok(())
@@ -34,10 +45,24 @@ fn refuses_other_kinds_of_unit(rt: HostRuntime) -> Result<(), Fail> {
     // Return in `main`.
     assert!(rt; answer_to(alloc, &[2, 0, 1, 0, 1, 1, 0, 0, 1, 18]) == Answer::Invalid);
     // The site of `main`.
-    assert!(rt; answer_to(alloc, &[2, 0, 1, 0, 1, 1, 0, 1, 0, 1, 1, 0, 0, 1, 19]) == Answer::Invalid);
+    assert!(rt;
+        answer_to(alloc, &[2, 0, 1, 0, 1, 1, 0, 1, 0, 1, 1, 0, 0, 1, 19]) == Answer::Invalid
+    );
     // Two sites of one unit, and one.
-    assert!(rt; answer_to(alloc, &[2, 1, 2, 0, 0, 0, 0, 1, 1, 1, 0, 2, 0, 1, 0, 0, 0, 1, 0, 0, 2, 19, 19]) == Answer::Invalid);
-    assert!(rt; answer_to(alloc, &[2, 1, 2, 0, 0, 0, 0, 1, 1, 1, 0, 1, 0, 1, 0, 0, 2, 19, 19]) == Answer::Code);
+    assert!(rt;
+        answer_to(
+            alloc,
+            &[
+                2, 1, 2, 0, 0, 0, 0, 1, 1, 1, 0, 2, 0, 1, 0, 0, 0, 1, 0, 0, 2, 19, 19
+            ]
+        ) == Answer::Invalid
+    );
+    assert!(rt;
+        answer_to(
+            alloc,
+            &[2, 1, 2, 0, 0, 0, 0, 1, 1, 1, 0, 1, 0, 1, 0, 0, 2, 19, 19]
+        ) == Answer::Code
+    );
     Ok(())
 }
 

@@ -1,5 +1,5 @@
 -- A valid code has few units and sites, and what its sites name is small.
-use Rattle.std.proofs.Common.{◌≡◌, ℕ, zero, suc, ◌+◌, ◌^◌, ◌<◌, ◌≤◌, ◌⊎◌, inl, inr, Bool, true, false, List, [], ◌∷◌, length, map, get_or, Option, Some, None, sym, ap, ◌∙◌, arith, sum_by, eqb, refl, subst}
+use Rattle.std.proofs.Common.{◌≡◌, ℕ, zero, suc, ◌^◌, ◌<◌, ◌≤◌, ◌⊎◌, inl, inr, true, List, [], ◌∷◌, length, map, get_or, Some, sym, ap, ◌∙◌, arith, sum_by, eqb, refl, subst}
 use Rattle.std.specs.Prelude.{slice_get}
 use Rattle.std.specs.List.{list_any}
 use Rattle.std.proofs.lemmas.Bool.{or_cases, eqb-true, ne_eqb}
@@ -7,7 +7,6 @@ use Rattle.std.proofs.lemmas.List.Sums.{sum_by-cons}
 use Rattle.std.proofs.lemmas.Map.Keys.{IsDistinct-from_apart}
 use Rattle.std.proofs.lemmas.Map.Steps.{length-le_from_distinct_below}
 use Rattle.std.proofs.lemmas.List.{length-map}
-use Rattle.std.proofs.lemmas.Option.{slice_get-map, get_or_from_slice_get, slice_get-get_or}
 use Rattle.os_code.proofs.Lists.{there}
 use Rattle.os_code.proofs.Regions.{next_start-above}
 use Rattle.os_code.proofs.Spans.{span, all_spans}
@@ -16,8 +15,8 @@ use Rattle.os_code.specs.declared.site.Site.{Site}
 use Rattle.os_code.specs.declared.site.SiteItem.{SiteItem}
 use Rattle.os_code.specs.declared.unit.Unit.{Unit as CodeUnit}
 use Rattle.os_code.specs.IsValid.{HasRegions, IsValid}
-use Rattle.os_code.specs.Parts.{unit_at, site_at}
-use Rattle.os_object.specs.Fronts.{IsSmallItem, IsSmallSite}
+use Rattle.os_code.specs.Parts.{site_at}
+use Rattle.os_object.specs.Fronts.{IsSmallSite}
 
 -- each member adds something
 all_some : (need : CodeUnit → ℕ) (units : List CodeUnit) → ((number : ℕ) (unit : CodeUnit) → slice_get units number ≡ Some unit → 1 ≤ need unit)
@@ -58,14 +57,14 @@ few_sites code valid =
     let units = few_units code valid.regions in
     let counted = length-map code.sites unit_of in
     let distinct = IsDistinct-from_apart eqb (map unit_of code.sites) (λ i j d less inside.
-        let there_i = there code.sites i (omega (arith, less, inside, counted)) in
-        let there_j = there code.sites j (omega (arith, inside, counted)) in
-        ne_eqb (get_or (map unit_of code.sites) i d) (get_or (map unit_of code.sites) j d) (λ e.
-        let same : there_i.0.unit ≡ there_j.0.unit = sym (at code.sites i d there_i.0 there_i.1) ∙ e ∙ at code.sites j d there_j.0 there_j.1 in
-        let equal = valid.sites.tasks_distinct i j there_i.0 there_j.0 there_i.1 there_j.1 same in
-        omega (arith, less, equal))) in
+    let there_i = there code.sites i (omega (arith, less, inside, counted)) in
+    let there_j = there code.sites j (omega (arith, inside, counted)) in
+    ne_eqb (get_or (map unit_of code.sites) i d) (get_or (map unit_of code.sites) j d) (λ e.
+    let same : there_i.0.unit ≡ there_j.0.unit = sym (at code.sites i d there_i.0 there_i.1) ∙ e ∙ at code.sites j d there_j.0 there_j.1 in
+    let equal = valid.sites.tasks_distinct i j there_i.0 there_j.0 there_i.1 there_j.1 same in
+    omega (arith, less, equal))) in
     let few = length-le_from_distinct_below (map unit_of code.sites) (length code.units) distinct
-        (below code.sites (length code.units) (λ k site is. valid.sites.tasks_there k site is)) in
+    (below code.sites (length code.units) (λ k site is. valid.sites.tasks_there k site is)) in
     omega (arith, few, counted, units)
 
 -- an item that is at an index of a list of which all are so

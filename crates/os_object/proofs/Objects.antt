@@ -1,16 +1,13 @@
 -- Objects, as they are written and read.
-use Rattle.std.proofs.Common.{◌≡◌, ℕ, List, [], ◌∷◌, ◌++◌, Result, Ok, Err, drop, refl, sym, ap, ◌∙◌}
+use Rattle.std.proofs.Common.{◌≡◌, ℕ, List, [], ◌∷◌, ◌++◌, Err, drop, sym, ap, ◌∙◌}
 use Rattle.std.specs.List.{flat_map, AllByRecursion}
-use Rattle.os_code.specs.declared.code.Code.{Code}
 use Rattle.os_code.specs.declared.parts.Parts.{Parts}
-use Rattle.os_code.specs.Codes.{parts_of}
-use Rattle.os_code.specs.IsValid.{IsValid}
 use Rattle.os_object.specs.Answers.{IsReadAs}
 use Rattle.os_object.specs.Fronts.{IsRefused}
 use Rattle.os_object.specs.declared.object_error.ObjectError.{ObjectError}
 use Rattle.os_object.specs.declared.object_error.ObjectError.TheVariants.{Format, Invalid, Memory}
 use Rattle.os_object.specs.Object.{number, list_of, unit_numbers, site_numbers, instr_numbers, parts_numbers, object, IsInstr, Spells}
-use Rattle.os_object.proofs.Spelling.{joined, one-numbers, one_reading}
+use Rattle.os_object.proofs.Spelling.{joined, one-numbers}
 
 -- the bytes that are written one after another are the object
 pub written : (parts : Parts) (mark first units sites instrs : List ℕ) → mark ≡ 79 ∷ 83 ∷ 79 ∷ 49 ∷ []

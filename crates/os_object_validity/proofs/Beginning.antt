@@ -1,14 +1,12 @@
 -- The starts of units have the height 0.
-use Rattle.std.proofs.Common.{◌≡◌, ℕ, zero, suc, ◌+◌, ◌<◌, ◌≤◌, ◌⊎◌, inl, inr, List, [], ◌∷◌, ◌++◌, length, get_or, set, replicate, Option, Some, None, refl, sym, ap, subst, ◌∙◌, arith, length-set}
+use Rattle.std.proofs.Common.{◌≡◌, ℕ, zero, suc, ◌+◌, ◌<◌, ◌≤◌, ◌⊎◌, inl, inr, List, [], ◌∷◌, ◌++◌, length, set, replicate, Option, Some, None, refl, sym, ap, subst, ◌∙◌, arith, length-set}
 use Rattle.std.specs.Prelude.{slice_get, IsTrue}
 use Rattle.std.proofs.lemmas.Bool.{cases_eq, cases_lt}
 use Rattle.std.proofs.lemmas.List.{get_or-set_same, get_or-set_other}
 use Rattle.std.proofs.lemmas.Option.{slice_get_within}
-use Rattle.os_code.specs.declared.instr.Instr.{Instr}
 use Rattle.os_code.specs.declared.parts.Parts.{Parts}
 use Rattle.os_code.specs.declared.unit.Unit.{Unit as CodeUnit}
-use Rattle.os_code.specs.Heights.{HeightsFit}
-use Rattle.os_code.specs.IsValid.{HasInstr, HasRegions, Reaches, Starts}
+use Rattle.os_code.specs.IsValid.{HasRegions, Reaches, Starts}
 use Rattle.os_code.specs.Parts.{unit_at, is_within}
 use Rattle.os_code.proofs.Regions.{is_within-from, next_start-above}
 use Rattle.os_object_validity.specs.declared.heights.Waiting.{Waiting}

@@ -1,21 +1,21 @@
 -- The heights that are found along the ways from the starts of units.
-use Rattle.std.proofs.Common.{◌≡◌, ◌≢◌, ℕ, zero, suc, ◌+◌, ◌*◌, ◌^◌, ◌<◌, ◌≤◌, ◌⊎◌, inl, inr, Bool, true, false, List, [], ◌∷◌, ◌++◌, length, get_or, set, pos, Option, Some, None, refl, sym, ap, subst, ◌∙◌, arith, length-set, sum_by}
+use Rattle.std.proofs.Common.{◌≡◌, ℕ, zero, suc, ◌+◌, ◌^◌, ◌<◌, ◌≤◌, ◌⊎◌, inl, inr, List, [], ◌∷◌, ◌++◌, length, get_or, set, pos, Option, Some, None, refl, sym, ap, subst, ◌∙◌, arith, length-set, sum_by}
 use Rattle.std.specs.Prelude.{slice_get, IsTrue}
-use Rattle.std.proofs.lemmas.Bool.{cases_eq, cases_lt}
+use Rattle.std.proofs.lemmas.Bool.{cases_eq}
 use Rattle.std.proofs.lemmas.List.{get_or-set_same, get_or-set_other}
 use Rattle.std.proofs.lemmas.List.Sums.{sum_by-cons}
-use Rattle.std.proofs.lemmas.Option.{slice_get_within, slice_get-get_or}
+use Rattle.std.proofs.lemmas.Option.{slice_get-get_or}
 use Rattle.os_code.specs.declared.instr.Instr.{Instr}
 use Rattle.os_code.specs.declared.instr.Instr.TheVariants.{Push}
 use Rattle.os_code.specs.declared.parts.Parts.{Parts}
 use Rattle.os_code.specs.declared.unit.Unit.{Unit as CodeUnit}
-use Rattle.os_code.specs.Effects.{operands_of, height_after, jump_of, goes_on}
-use Rattle.os_code.specs.Heights.{HeightsFit, IsHeights}
-use Rattle.os_code.specs.IsValid.{HasInstr, HasRegions, HasTargets, HasHeights, Reaches, Starts, GoesOn, Jumps, ReachesInstr}
-use Rattle.os_code.specs.Parts.{instr_at, unit_at, region_end, is_within}
+use Rattle.os_code.specs.Effects.{height_after, jump_of, goes_on}
+use Rattle.os_code.specs.Heights.{HeightsFit}
+use Rattle.os_code.specs.IsValid.{HasInstr, HasRegions, HasTargets, HasHeights, Reaches, ReachesInstr}
+use Rattle.os_code.specs.Parts.{instr_at, unit_at, is_within}
 use Rattle.os_code.proofs.HeightTables.{heights_suffice}
 use Rattle.os_code.proofs.Lists.{there}
-use Rattle.os_code.proofs.Regions.{within, is_within-from, next_start-above, next_start-end}
+use Rattle.os_code.proofs.Regions.{within, next_start-above, next_start-end}
 use Rattle.os_code.proofs.Spans.{same_unit, span, all_spans}
 use Rattle.os_object_validity.specs.declared.heights.Waiting.{Waiting}
 use Rattle.os_object_validity.specs.Tables.{height_in, IsWaiting, IsEntry, IsExplored, IsKept, FitsStack, unknown}

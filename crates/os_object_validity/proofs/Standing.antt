@@ -1,24 +1,24 @@
 -- Units, instructions and sites that stand are what validity asks for, but for the heights.
-use Rattle.std.proofs.Common.{◌≡◌, ℕ, zero, suc, ◌+◌, ◌-◌, ◌<◌, ◌≤◌, ◌⊎◌, inl, inr, Bool, true, false, not, ◌&&◌, List, [], ◌∷◌, length, get_or, pos, Option, Some, None, refl, sym, ap, subst, ◌∙◌, arith, sum_by}
-use Rattle.std.specs.Prelude.{All, ◌==◌, nat_le, nat_lt, slice_get, IsTrue}
-use Rattle.std.specs.List.{list_any, list_all}
+use Rattle.std.proofs.Common.{◌≡◌, ℕ, zero, suc, ◌+◌, ◌-◌, ◌<◌, ◌≤◌, ◌⊎◌, inl, inr, true, not, ◌&&◌, List, [], ◌∷◌, length, get_or, pos, Option, Some, None, refl, sym, ap, subst, ◌∙◌, arith, sum_by}
+use Rattle.std.specs.Prelude.{All, ◌==◌, nat_le, nat_lt, slice_get}
+use Rattle.std.specs.List.{list_all}
 use Rattle.std.proofs.lemmas.Bool.{and_parts, and_from, ltb-true, leb-true, le-leb, lt-ltb, eqb-true, eq-eqb, ne_eqb, both_ways, not-true, not_from_false, cases_lt}
 use Rattle.std.proofs.lemmas.Option.{slice_get_within, slice_get-get_or}
 use Rattle.os_code.specs.declared.instr.Instr.{Instr}
-use Rattle.os_code.specs.declared.instr.Instr.TheVariants.{Push, ItemStore, Turn, Call, Spawn, Tick}
+use Rattle.os_code.specs.declared.instr.Instr.TheVariants.{Push, ItemStore, Call, Spawn, Tick}
 use Rattle.os_code.specs.declared.parts.Parts.{Parts}
 use Rattle.os_code.specs.declared.site.Site.{Site}
 use Rattle.os_code.specs.declared.site.SiteItem.{SiteItem}
 use Rattle.os_code.specs.declared.unit.Unit.{Unit as CodeUnit}
-use Rattle.os_code.specs.Checking.{implies, if_there, is_turn, is_function, called_of, spawned_of, ticked_of, stored_of}
-use Rattle.os_code.specs.Effects.{jump_of, needs_turn, slots_named, item_of, stands_in}
+use Rattle.os_code.specs.Checking.{is_turn, is_function, called_of, spawned_of, ticked_of, stored_of}
+use Rattle.os_code.specs.Effects.{jump_of, needs_turn, slots_named, item_of}
 use Rattle.os_code.specs.IsValid.{HasInstr, HasRegions, HasTargets, HasFrames, HasSites, HasHeights, IsValid}
-use Rattle.os_code.specs.Parts.{instr_at, unit_at, site_at, region_end, is_within, Kind, Main, Task, Function, kind_at}
+use Rattle.os_code.specs.Parts.{instr_at, unit_at, site_at, region_end, Kind, Main, Task, Function, kind_at}
 use Rattle.os_code.proofs.Lists.{there}
 use Rattle.os_code.proofs.Regions.{is_within-from}
 use Rattle.os_code.proofs.Spans.{found}
-use Rattle.os_object_validity.specs.Tables.{TasksDistinct, UnitStands, AllStand, may_be_target, target_stands, turn_stands, jump_stands, call_stands, names_stand, site_there, stream_there, item_there, is_output, stores_into_output, items_fit_in, items_fit, kind_stands, place_stands, unit_stands, item_stands, args_are, args_of_are, site_stands, sites_stand_by, sites_stand}
-use Rattle.os_object_validity.proofs.Tests.{implied, implies-from, at_there, if_there-from, from_list_all, list_all-from, all_from, list_all-from_All, turn_from, turn-is, function_from, called-is, spawned-is, ticked-is, Stores, stored-is}
+use Rattle.os_object_validity.specs.Tables.{TasksDistinct, UnitStands, AllStand, target_stands, turn_stands, jump_stands, call_stands, names_stand, item_there, is_output, stores_into_output, items_fit_in, items_fit, kind_stands, place_stands, item_stands, args_are, args_of_are, site_stands, sites_stand_by, sites_stand}
+use Rattle.os_object_validity.proofs.Tests.{implied, implies-from, at_there, if_there-from, from_list_all, list_all-from, all_from, list_all-from_All, turn_from, turn-is, function_from, called-is, spawned-is, ticked-is, stored-is}
 
 -- the parts of what an instruction passes
 record PlaceParts (code : Parts) (number : ℕ) (unit : CodeUnit) (place : ℕ) (instr : Instr) : Type 0 where

@@ -1,8 +1,7 @@
 -- The starts of units, marked, and the regions that they begin.
-use Rattle.std.proofs.Common.{◌≡◌, ℕ, zero, suc, ◌+◌, ◌-◌, ◌<◌, ◌≤◌, ◌⊎◌, inl, inr, Bool, true, false, ◌||◌, List, [], ◌∷◌, ◌++◌, length, get_or, set, take, replicate, min, ◌^◌, Option, Some, None, refl, sym, ap, subst, ◌∙◌, arith, length-set}
-use Rattle.std.specs.Prelude.{slice_get, IsTrue, ◌==◌, nat_lt}
-use Rattle.std.specs.List.{list_any}
-use Rattle.std.proofs.lemmas.Bool.{cases_eq, cases_lt, cases_Bool, or_cases, or_parts, or_left, or_right, eqb-true, eq-eqb, ne_eqb, both_ways, cond-true, cond-false}
+use Rattle.std.proofs.Common.{◌≡◌, ℕ, zero, suc, ◌+◌, ◌<◌, ◌≤◌, ◌⊎◌, inl, inr, Bool, true, false, ◌||◌, List, [], ◌∷◌, ◌++◌, length, get_or, set, take, replicate, min, ◌^◌, Some, refl, sym, ap, ◌∙◌, arith, length-set}
+use Rattle.std.specs.Prelude.{slice_get, ◌==◌, nat_lt}
+use Rattle.std.proofs.lemmas.Bool.{cases_eq, cases_lt, cases_Bool, or_cases, or_parts, or_right, eqb-true, eq-eqb, ne_eqb, both_ways, cond-true, cond-false}
 use Rattle.std.proofs.lemmas.List.{get_or-set_same, get_or-set_other, take_all, length_push, get_or_push, get_or_append_left}
 use Rattle.std.proofs.lemmas.Option.{slice_get_within}
 use Rattle.os_code.specs.declared.parts.Parts.{Parts}
@@ -13,7 +12,7 @@ use Rattle.os_code.specs.Needs.{starts_at}
 use Rattle.os_code.specs.Parts.{unit_at, next_start, region_end, is_within}
 use Rattle.os_code.proofs.Ends.{end-region}
 use Rattle.os_code.proofs.Lists.{there}
-use Rattle.os_code.proofs.Regions.{within, is_within-from, next_start-above, next_start-end}
+use Rattle.os_code.proofs.Regions.{within, is_within-from, next_start-above}
 use Rattle.os_code.proofs.Spans.{found}
 use Rattle.os_object_validity.specs.Tables.{IsApart, AreEnds}
 use Rattle.os_object_validity.proofs.Tests.{list_any-from}

@@ -1,14 +1,13 @@
 -- The sites of units that are tasks, one for each.
-use Rattle.std.proofs.Common.{◌≡◌, ℕ, zero, suc, ◌+◌, ◌<◌, ◌≤◌, ◌⊎◌, inl, inr, Bool, true, false, List, [], ◌∷◌, length, get_or, set, take, replicate, cond, Option, Some, None, refl, sym, ap, subst, ◌∙◌, arith, length-set}
+use Rattle.std.proofs.Common.{◌≡◌, ℕ, zero, suc, ◌+◌, ◌<◌, ◌≤◌, ◌⊎◌, inl, inr, Bool, true, false, List, [], ◌∷◌, length, set, take, replicate, cond, Option, Some, None, refl, sym, ap, ◌∙◌, arith, length-set}
 use Rattle.std.specs.Prelude.{slice_get, find, ◌==◌}
-use Rattle.std.proofs.lemmas.Bool.{cases_eq, cases_lt, cases_Bool, eqb-true, eq-eqb, ne_eqb, both_ways}
+use Rattle.std.proofs.lemmas.Bool.{cases_eq, cases_lt, cases_Bool, eqb-true, eq-eqb, ne_eqb}
 use Rattle.std.proofs.lemmas.List.{get_or-set_same, get_or-set_other, take_all}
 use Rattle.std.proofs.lemmas.Option.{slice_get_within}
 use Rattle.os_code.specs.declared.parts.Parts.{Parts}
 use Rattle.os_code.specs.declared.site.Site.{Site}
-use Rattle.os_code.specs.declared.unit.Unit.{Unit as CodeUnit}
 use Rattle.os_code.specs.IsValid.{IsValid}
-use Rattle.os_code.specs.Parts.{unit_at, site_at}
+use Rattle.os_code.specs.Parts.{site_at}
 use Rattle.os_code.proofs.Lists.{there}
 use Rattle.os_object_validity.specs.Tables.{task_in, site_told, AreTasks, TasksDistinct, IsTold}
 

@@ -1,5 +1,5 @@
 -- Tables of a code's units and places, and what is tested of instructions, units and sites.
-use Rattle.std.specs.Prelude.{◌≡◌, ◌≢◌, ℕ, ◌+◌, ◌-◌, ◌^◌, ◌<◌, ◌≤◌, ◌⊎◌, Bool, true, false, not, ◌==◌, ◌&&◌, nat_le, nat_lt, List, [], ◌∷◌, length, find, sum_by, take, Option, Some, None, slice_get, slice_index_or, IsTrue}
+use Rattle.std.specs.Prelude.{◌≡◌, ℕ, ◌+◌, ◌-◌, ◌<◌, ◌≤◌, ◌⊎◌, Bool, true, false, not, ◌==◌, ◌&&◌, nat_le, nat_lt, List, [], ◌∷◌, length, find, sum_by, take, Option, Some, None, slice_get, slice_index_or, IsTrue}
 use Rattle.std.specs.List.{list_all}
 use Rattle.os_code.specs.declared.instr.Instr.{Instr}
 use Rattle.os_code.specs.declared.site.Site.{Site}
@@ -8,7 +8,7 @@ use Rattle.os_code.specs.declared.unit.Unit.{Unit as CodeUnit}
 use Rattle.os_code.specs.Checking.{implies, if_there, is_turn, is_function, called_of, spawned_of, ticked_of, stored_of}
 use Rattle.os_code.specs.Effects.{operands_of, height_after, jump_of, needs_turn, slots_named, item_of, stands_in}
 use Rattle.os_code.specs.Heights.{HeightsFit}
-use Rattle.os_code.specs.IsValid.{HasInstr, HasRegions, HasTargets, HasFrames, HasSites, Reaches}
+use Rattle.os_code.specs.IsValid.{HasInstr, Reaches}
 use Rattle.os_code.specs.declared.parts.Parts.{Parts}
 use Rattle.os_code.specs.Needs.{starts_at}
 use Rattle.os_code.specs.Parts.{instr_at, unit_at, site_at, region_end, is_within, Kind as CodeKind, Main, Task, Function, kind_at}

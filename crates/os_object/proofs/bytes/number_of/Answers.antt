@@ -1,4 +1,4 @@
-use Rattle.std.proofs.Common.{refl, arith}
+use Rattle.std.proofs.Common.{arith}
 use Rattle.os_object.proofs.Spelling.{four-bytes}
 use Rattle.os_object.proofs.bytes.number_of.Goals as goal
 

@@ -1,4 +1,4 @@
-use Rattle.std.proofs.Common.{◌≡◌, refl, sym, subst, ◌∙◌}
+use Rattle.std.proofs.Common.{sym, subst, ◌∙◌}
 use Rattle.std.proofs.lemmas.Result.{err_from_is_err_and}
 use Rattle.os_code.specs.declared.parts.Parts.{Parts}
 use Rattle.os_code.specs.IsValid.{IsValid}
@@ -21,12 +21,12 @@ returns-in_err-parts-clause-exact c parts spells =
 pub returns-then-not-branch-clause-exact : goal.returns-then-not-branch-clause-exact
 returns-then-not-branch-clause-exact c parts spells valid =
     let mine = spells-from c.args.bytes.now c.in_ok-parts.parts c.in_ok-numbers.numbers.items c.in_ok-numbers.ensures.ok
-        (sym c.as_slice.ensures.value ∙ c.in_ok-parts.ensures.ok.1) c.in_ok-parts.ensures.ok.0 in
+    (sym c.as_slice.ensures.value ∙ c.in_ok-parts.ensures.ok.1) c.in_ok-parts.ensures.ok.0 in
     let same = one_reading c.args.bytes.now parts c.in_ok-parts.parts spells mine in
     c.in_ok-is_valid.ensures.not_valid c.if-not-branch.true (subst (λ (code : Parts). IsValid code) same valid)
 
 pub returns-clause-exact : goal.returns-clause-exact
 returns-clause-exact c parts spells =
     let mine = spells-from c.args.bytes.now c.in_ok-parts.parts c.in_ok-numbers.numbers.items c.in_ok-numbers.ensures.ok
-        (sym c.as_slice.ensures.value ∙ c.in_ok-parts.ensures.ok.1) c.in_ok-parts.ensures.ok.0 in
+    (sym c.as_slice.ensures.value ∙ c.in_ok-parts.ensures.ok.1) c.in_ok-parts.ensures.ok.0 in
     c.in_ok-new.ensures ∙ sym (one_reading c.args.bytes.now parts c.in_ok-parts.parts spells mine)

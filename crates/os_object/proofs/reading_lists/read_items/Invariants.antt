@@ -1,6 +1,6 @@
 use Rattle.std.proofs.Common.{◌≡◌, ◌++◌, length}
-use Rattle.std.specs.List.{flat_map, AllByRecursion}
-use Rattle.os_object.specs.Object.{item_numbers, IsInstr}
+use Rattle.std.specs.List.{flat_map}
+use Rattle.os_object.specs.Object.{item_numbers}
 use Rattle.os_object.proofs.reading_lists.read_items.Given as goal
 
 abbrev pub invariant-loop : goal.invariant-loop

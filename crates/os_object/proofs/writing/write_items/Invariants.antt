@@ -1,6 +1,6 @@
 use Rattle.std.proofs.Common.{◌≡◌, ◌∷◌, ◌++◌, length, take}
-use Rattle.std.specs.List.{flat_map, AllByRecursion}
-use Rattle.os_object.specs.Object.{number, item_numbers, IsInstr}
+use Rattle.std.specs.List.{flat_map}
+use Rattle.os_object.specs.Object.{number, item_numbers}
 use Rattle.os_object.proofs.writing.write_items.Given as goal
 
 abbrev pub invariant-loop-item : goal.invariant-loop-item

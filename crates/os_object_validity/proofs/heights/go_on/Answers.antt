@@ -1,4 +1,4 @@
-use Rattle.std.proofs.Common.{◌≡◌, ℕ, ◌+◌, true, sym, subst, ◌∙◌, arith}
+use Rattle.std.proofs.Common.{◌≡◌, ℕ, ◌+◌, true, sym, subst, arith}
 use Rattle.os_code.specs.Effects.{goes_on}
 use Rattle.os_code.specs.IsValid.{Reaches, GoesOn}
 use Rattle.os_code.proofs.Regions.{within}

@@ -1,4 +1,4 @@
-use Rattle.std.proofs.Common.{ℕ, ◌+◌, ◌*◌, length}
+use Rattle.std.proofs.Common.{◌+◌, ◌*◌, length}
 use Rattle.os_object_validity.specs.Tables.{IsExplored, unknown}
 use Rattle.os_object_validity.proofs.heights.heights_fit.Given as goal
 

@@ -1,4 +1,4 @@
-use Rattle.std.proofs.Common.{◌≡◌, ℕ, sym, subst, ◌∙◌}
+use Rattle.std.proofs.Common.{ℕ, sym, subst, ◌∙◌}
 use Rattle.os_code.specs.IsValid.{Reaches, Jumps}
 use Rattle.os_object_validity.proofs.heights.jump.Goals as goal
 

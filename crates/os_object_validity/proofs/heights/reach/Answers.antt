@@ -1,8 +1,8 @@
-use Rattle.std.proofs.Common.{◌≡◌, ℕ, ◌+◌, ◌<◌, List, [], ◌∷◌, ◌++◌, length, set, Some, None, sym, subst, ap, ◌∙◌, arith}
+use Rattle.std.proofs.Common.{◌≡◌, ◌+◌, List, length, set, Some, None, sym, subst, ap, ◌∙◌, arith}
 use Rattle.std.proofs.lemmas.Bool.{eqb-false}
 use Rattle.std.proofs.lemmas.List.{length_push, get_or-set_same}
 use Rattle.os_object_validity.specs.declared.heights.Waiting.{Waiting}
-use Rattle.os_object_validity.specs.Tables.{IsExplored, height_in}
+use Rattle.os_object_validity.specs.Tables.{IsExplored}
 use Rattle.os_object_validity.proofs.Exploring.{inside, explored-set, other_height, unknown-set, none-from}
 use Rattle.os_object_validity.proofs.heights.reach.Goals as goal
 

@@ -1,4 +1,4 @@
-use Rattle.std.proofs.Common.{◌≡◌, ◌≤◌, length, ap, arith}
+use Rattle.std.proofs.Common.{◌≡◌, length, ap, arith}
 use Rattle.os_object_validity.proofs.Beginning.{explored-begun}
 use Rattle.os_object_validity.proofs.heights.starts_of.Goals as goal
 

@@ -1,10 +1,5 @@
-use Rattle.std.proofs.Common.{◌≡◌, ℕ, ◌<◌, List, length, Some, pos, refl, sym, subst, ap, ◌∙◌, arith, rules, true}
-use Rattle.std.specs.Prelude.{slice_get}
-use Rattle.std.proofs.lemmas.Option.{slice_get-get_or}
-use Rattle.os_code.specs.declared.instr.Instr.{Instr}
-use Rattle.os_code.specs.declared.instr.Instr.TheVariants.{Push}
-use Rattle.os_object_validity.specs.Tables.{IsExplored, height_in}
-use Rattle.os_object_validity.proofs.Exploring.{inside, no_room, entry_within, has_instr, visited}
+use Rattle.std.proofs.Common.{◌≡◌, rules, true}
+use Rattle.os_object_validity.proofs.Exploring.{no_room, has_instr, visited}
 use Rattle.os_object_validity.proofs.heights.visit.Goals as goal
 
 pub returns-in_default-clause-no : goal.returns-in_default-clause-no

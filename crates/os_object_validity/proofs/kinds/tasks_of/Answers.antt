@@ -1,5 +1,4 @@
-use Rattle.std.proofs.Common.{◌≡◌, ◌<◌, ◌≤◌, length, Some, sym, ap, ◌∙◌, arith}
-use Rattle.os_code.specs.Parts.{site_at}
+use Rattle.std.proofs.Common.{◌≡◌, ◌<◌, ◌≤◌, length, ap, arith}
 use Rattle.os_object_validity.proofs.Elements.{site_read, task_read, no_task_read}
 use Rattle.os_object_validity.proofs.Telling.{told-more, task_taken, all_told, all_distinct}
 use Rattle.os_object_validity.proofs.kinds.tasks_of.Goals as goal

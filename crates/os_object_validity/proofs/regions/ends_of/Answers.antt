@@ -1,4 +1,4 @@
-use Rattle.std.proofs.Common.{◌≡◌, ◌<◌, ◌≤◌, Bool, List, length, get_or, sym, ap, subst, arith, rules}
+use Rattle.std.proofs.Common.{◌≡◌, Bool, List, length, get_or, sym, ap, subst, arith, rules}
 use Rattle.os_code.specs.IsValid.{HasRegions}
 use Rattle.os_code.specs.NeedTables.{IsMarked}
 use Rattle.os_object_validity.proofs.Elements.{no_unit, unit_read}

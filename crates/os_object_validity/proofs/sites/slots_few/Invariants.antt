@@ -1,4 +1,4 @@
-use Rattle.std.proofs.Common.{◌≡◌, ◌+◌, drop, take, sum_by}
+use Rattle.std.proofs.Common.{◌≡◌, ◌+◌, take, sum_by}
 use Rattle.os_code.specs.declared.unit.Unit.{Unit as CodeUnit}
 use Rattle.os_object_validity.proofs.sites.slots_few.Given as goal
 

@@ -1,8 +1,7 @@
-use Rattle.std.proofs.Common.{◌≡◌, true, false, rules}
-use Rattle.std.proofs.lemmas.Bool.{both_ways}
+use Rattle.std.proofs.Common.{◌≡◌, true, rules}
 use Rattle.std.proofs.lemmas.Result.{IfOk-weaker}
 use Rattle.os_code.specs.IsValid.{HasRegions}
-use Rattle.os_object_validity.specs.Tables.{sites_stand, TasksDistinct, AllStand}
+use Rattle.os_object_validity.specs.Tables.{sites_stand, TasksDistinct}
 use Rattle.os_object_validity.proofs.Standing.{targets_from, valid_from, all_stand, sites_of}
 use Rattle.os_object_validity.proofs.validity.is_valid.Goals as goal
 
