@@ -1,0 +1,6 @@
+pub mod Members
+pub mod Instrs
+pub mod Parts
+pub mod Spelling
+pub mod Few
+pub mod Objects

@@ -1,0 +1,2 @@
+-- What restates private functions.
+pub mod Tables
