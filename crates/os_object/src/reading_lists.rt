@@ -8,7 +8,8 @@ ghost use Rattle.os_code.specs.declared.site.SiteItem.{SiteItem as CodeItem};
 ghost use Rattle.os_code.specs.declared.unit.Unit.{Unit as CodeUnit};
 ghost use Rattle.os_code.specs.declared.parts.Parts.{Parts as CodeParts};
 ghost use Rattle.os_object.specs.Fronts.{IsRefused};
-ghost use Rattle.os_object.specs.Object.{list_of, slot_numbers, window_number, write_number, item_numbers, site_numbers, unit_numbers, instr_numbers, parts_numbers, IsInstr};
+ghost use Rattle.os_object.specs.Object.{list_of, slot_numbers, window_number, write_number, item_numbers, site_numbers, unit_numbers, instr_numbers};
+ghost use Rattle.os_object.specs.Object.{parts_numbers, IsInstr};
 
 use crate::object_error::ObjectError;
 use crate::reading_instr::read_instr;

@@ -1,5 +1,6 @@
 -- Tables of a code's units and places, and what is tested of instructions, units and sites.
-use Rattle.std.specs.Prelude.{◌≡◌, ℕ, ◌+◌, ◌-◌, ◌<◌, ◌≤◌, ◌⊎◌, Bool, true, false, not, ◌==◌, ◌&&◌, nat_le, nat_lt, List, [], ◌∷◌, length, find, sum_by, take, Option, Some, None, slice_get, slice_index_or, IsTrue}
+use Rattle.std.specs.Prelude.{◌≡◌, ℕ, ◌+◌, ◌-◌, ◌<◌, ◌≤◌, ◌⊎◌, Bool, true, false, not, ◌==◌, ◌&&◌, nat_le, nat_lt, List, [], ◌∷◌, length, find}
+use Rattle.std.specs.Prelude.{sum_by, take, Option, Some, None, slice_get, slice_index_or, IsTrue}
 use Rattle.std.specs.List.{list_all}
 use Rattle.os_code.specs.declared.instr.Instr.{Instr}
 use Rattle.os_code.specs.declared.site.Site.{Site}
