@@ -1,5 +1,6 @@
 -- The words that ask for a server, and what it may open.
 use Rattle.std.specs.Prelude.{◌≡◌, ℕ, Bool, false, List, [], ◌∷◌, Option, None, Some, IfSome, IsTrue, codes, if◌then◌else◌, slice_get}
+use Rattle.std.specs.Option.{ForSome}
 use Rattle.std.specs.Str.{bytes_eq}
 use Rattle.clap.specs.Words.{Text}
 use Rattle.osrun_core_jobs.specs.Files.{JobFile, files_of}
@@ -21,7 +22,7 @@ named_jobs (first ∷ name ∷ next ∷ more) = None
 
 -- whatever files the words of a line name may be opened at any time
 abbrev pub MayRun : (ℕ → List ℕ → Bool) → List ℕ → Type 0
-MayRun may line = IfSome (command (line_words line))
+MayRun may line = ForSome (command (line_words line))
     (λ request. (number k : ℕ) (file : JobFile) → slice_get (files_of request) k ≡ Some file → IsTrue (may number file.name))
 
 -- So it is for each job of the file that is told. Of a file that isn't told, any line may be a job.

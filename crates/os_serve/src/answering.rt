@@ -14,6 +14,14 @@ use osrun_core::Gate;
 use std::alloc::Global;
 use std::thread::Threads;
 
+/// Writes bytes.
+fn write<O: Sink>(out: &mut O, bytes: &[u8]) -> Result<(), WriteError>
+    ensures { IsWritten O.Sink out.old out.new bytes.now result }
+{
+    write_whole(out, bytes)?;
+    Ok(())
+}
+
 /// Writes the answer to the job with a number.
 fn write_answer<O: Sink>(out: &mut O, number: u32, answer: &JobAnswer) -> Result<(), WriteError>
     ensures { IsWritten O.Sink out.old out.new (answer_text number (reply_of answer.now)) result }
@@ -21,9 +29,9 @@ fn write_answer<O: Sink>(out: &mut O, number: u32, answer: &JobAnswer) -> Result
     let output = answer.output();
     let told = answer.told();
     let heading = Heading::new(number, answer.status(), output.len() as u32, told.len() as u32);
-    write_whole(out, heading.as_bytes())?;
-    write_whole(out, output)?;
-    write_whole(out, told)
+    write(out, heading.as_bytes())?;
+    write(out, output)?;
+    write(out, told)
 }
 
 /// Answers the first of the jobs that wait. Where memory is wanted for its words, it waits no more, and nothing else has changed.

@@ -21,10 +21,10 @@ pub(crate) enum Asked<'w> {
 pub(crate) fn asks_to_serve(words: &[String]) -> bool
     ensures { result ≡ is_serve (texts words.now) }
 {
-    match words.first() {
-        Some(first) => first.as_str() == SERVE,
-        None => false,
+    if words.is_empty() {
+        return false;
     }
+    words[0].as_str() == SERVE
 }
 
 /// What the words ask for.

@@ -32,8 +32,8 @@ pub fn serve_words<R: Threads + Sync, J: Files + Send, F: Files + Send, O: Sink,
     // what may be opened
     requires other { is_serve (texts words.now) ≡ false → ForSome (command (texts words.now))
         (λ request. MayOpen (F.may files.old) (F.opens files.old) (files_of request)) }
-    requires jobs { IfSome (named_jobs (texts words.now)) (λ name. IsTrue (J.may jobs.old (J.opens jobs.old) name)) }
-    requires files { IfSome (named_jobs (texts words.now)) (λ name. MayServe (J.holds jobs.old name) (F.may files.old)) }
+    requires jobs { ForSome (named_jobs (texts words.now)) (λ name. IsTrue (J.may jobs.old (J.opens jobs.old) name)) }
+    requires files { ForSome (named_jobs (texts words.now)) (λ name. MayServe (J.holds jobs.old name) (F.may files.old)) }
     // where the first word isn't `serve`
     ensures other { is_serve (texts words.now) ≡ false → AnswersRequest F.Files files.old files.new O.Sink out.old out.new E.Sink report.old
         report.new (command (texts words.now)) result }

@@ -1,3 +1,3 @@
-pub mod CutLines
-pub mod ReadOn
+pub mod Headings
 pub mod LineWords
+pub mod ReadOn

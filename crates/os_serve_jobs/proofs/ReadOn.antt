@@ -1,18 +1,20 @@
 -- What was read, as it is read on and cut.
-use Rattle.std.proofs.Common.{◌≡◌, ◌∙◌, ◌⊎◌, inl, inr, subst, ℕ, zero, suc, ◌+◌, ◌-◌, ◌<◌, ◌≤◌, List, [], ◌∷◌, ◌++◌, Option, Some, None, Result, Ok, Err, All, refl, sym, ap, arith, append_assoc, append-nil, length, take, drop}
-use Rattle.std.specs.Prelude.{OnErr, OnOk, MatchResult, slice_range}
+use Rattle.std.proofs.Common.{◌≡◌, ◌∙◌, ◌⊎◌, inl, inr, subst, ℕ, zero, suc, ◌+◌, ◌-◌, ◌<◌, ◌≤◌, List, [], ◌∷◌, ◌++◌, Option, Some, None, Result, Ok, Err, All, refl, sym, ap, arith, append_assoc, append-nil, length, take, drop, vec_len}
+use Rattle.std.specs.Prelude.{Bool, false, is_err, OnErr, OnOk, MatchResult, slice_range}
+use Rattle.std.specs.declared.alloc.Global.{Global}
+use Rattle.std.specs.declared.vec.Vec.{Vec}
 use Rattle.std.specs.List.{flat_map}
 use Rattle.std.specs.Io.KnownBytes.{IsAtEnd, prepend_known}
-use Rattle.std.proofs.lemmas.List.{length-append, length-take-le, drop-take, drop-drop, take-take}
+use Rattle.std.proofs.lemmas.List.{length-append, length-drop, length-take-le, drop-take, drop-drop, take-take}
 use Rattle.std.proofs.lemmas.List.Concat.{flat_map-append}
 use Rattle.std.proofs.lemmas.List.Elements.{All-append, All-drop, All-nil, All-take}
 use Rattle.std.proofs.Math.Seq.{drop-append_seam, take-append_seam, take-append-add}
 use Rattle.os_io.proofs.Pieces.{prepend_known-prepend}
 use Rattle.os_io.specs.Counts.{HasRisen, raised}
 use Rattle.os_io.specs.declared.files.Files.{Ghosts as FilesView}
-use Rattle.os_serve_jobs.specs.Cutting.{TookPiece}
+use Rattle.os_serve_jobs.specs.Cutting.{IsCut, TookPiece}
 use Rattle.os_serve_jobs.specs.Lines.{AreLines, IsLine, StartsWith, ended, jobs_limit, last_line}
-use Rattle.os_serve_jobs.specs.Reading.{HasRead, IsFailedAt, IsOpenAt, IsTooLong, IsWhole, ReadSoFar, StandsBy, uncut}
+use Rattle.os_serve_jobs.specs.Reading.{HasRead, IsFailedAt, IsOpenAt, IsTooLong, IsWhole, ReadSoFar, StandsBy, uncut, waiting_lines}
 use Rattle.os_serve_jobs.specs.declared.reading.Reading.{Reading}
 use Rattle.os_serve_jobs.specs.declared.source.Source.{Source}
 use Rattle.os_serve_jobs.specs.declared.source.Source.TheVariants.{AtEnd, Failed, Open, TooLong}
@@ -23,10 +25,22 @@ prepend_known-nil None = refl
 prepend_known-nil (Some bytes) = refl
 
 -- where all of a piece is cut, the line that has begun is what is not
+pub range-none : (line items : List ℕ) (next filled : ℕ) → next ≡ filled → line ++ slice_range items next filled ≡ line
+range-none line items next filled same =
+    let none : filled - next ≡ 0 = omega (arith, same) in
+    ap (λ n. line ++ take n (drop next items)) none ∙ append-nil line
+
 pub uncut-line : (reading : Reading) → reading.next ≡ reading.filled → uncut reading ≡ reading.line.items
-uncut-line reading same =
-    let none : reading.filled - reading.next ≡ 0 = omega (arith, same) in
-    ap (λ n. reading.line.items ++ take n (drop reading.next reading.piece.items)) none ∙ append-nil reading.line.items
+uncut-line reading = range-none reading.line.items reading.piece.items reading.next reading.filled
+
+-- where some of a piece is not cut, something is not
+pub uncut-some : (reading : Reading) → reading.next < reading.filled → reading.filled ≤ vec_len reading.piece → 0 < length (uncut reading)
+uncut-some reading some within =
+    let ok = reading.piece.ok.0 in
+    let behind = length-drop reading.next reading.piece.items in
+    let range = length-take-le (reading.filled - reading.next) (drop reading.next reading.piece.items) (omega (arith, ok, behind, within, some)) in
+    let all = length-append reading.line.items (slice_range reading.piece.items reading.next reading.filled) in
+    omega (arith, range, all, some)
 
 -- what is cut further on in a piece
 pub range-drop : (items : List ℕ) (next count filled : ℕ) → next + count ≤ filled
@@ -50,6 +64,20 @@ up_to read piece count sum some =
     ∙ take-append-add read (take count piece) (count - 1)
     ∙ ap (λ p. read ++ p) (take-take (count - 1) count piece (omega arith))
 
+-- what a cut leaves in a piece
+pub same_cut : (waiting_old waiting_new : List (List ℕ)) (line_old line_new xs items : List ℕ) (next filled count : ℕ)
+    → IsCut waiting_old waiting_new line_old line_new (slice_range xs next filled) count → xs ≡ items → next ≤ filled → filled ≤ length xs
+    → flat_map ended waiting_new ++ (line_new ++ slice_range items (next + count) filled) ≡ flat_map ended waiting_old ++ (line_old ++ slice_range items next filled)
+same_cut waiting_old waiting_new line_old line_new xs items next filled count cut same low high =
+    let behind = length-drop next xs in
+    let range = length-take-le (filled - next) (drop next xs) (omega (arith, behind, high, low)) in
+    let within = cut.within in
+    subst (λ i. flat_map ended waiting_new ++ (line_new ++ slice_range i (next + count) filled) ≡ flat_map ended waiting_old ++ (line_old ++ slice_range i next filled)) same
+        (ap (λ r. flat_map ended waiting_new ++ (line_new ++ r)) (range-drop xs next count filled (omega (arith, range, within, low)))
+        ∙ sym (append_assoc (flat_map ended waiting_new) line_new (drop count (slice_range xs next filled)))
+        ∙ cut.same
+        ∙ append_assoc (flat_map ended waiting_old) line_old (slice_range xs next filled))
+
 module _ {J : Type 0} (view : FilesView J) (told : Option (List ℕ)) (faults : ℕ) where
   -- how it stands, by another name of how more may come
   pub stands_by : (jobs : J) (lines : List (List ℕ)) (read left : List ℕ) (source other : Source) → source ≡ other
@@ -57,17 +85,19 @@ module _ {J : Type 0} (view : FilesView J) (told : Option (List ℕ)) (faults : 
   stands_by jobs lines read left source other same = subst (StandsBy view told faults jobs lines read left) same
 
   -- before anything is read
-  pub opened : (jobs : J) (reading : Reading) → told ≡ view.rest jobs → view.faults jobs ≡ faults → view.given jobs ≡ 0 → uncut reading ≡ [] → reading.source ≡ Open
-      → HasRead view told faults jobs reading []
-  opened jobs reading front no_fault given none source = record {
+  pub opened : {A E : Type 0} (result : Result A E) (rest_old : Option (List ℕ)) (jobs : J) (reading : Reading) → is_err result ≡ false
+      → MatchResult result (λ _. view.rest jobs ≡ told) (λ _. view.rest jobs ≡ rest_old) → OnOk result (view.faults jobs ≡ faults) → view.given jobs ≡ 0
+      → uncut reading ≡ [] → reading.source ≡ Open → HasRead view told faults jobs reading []
+  opened (Ok a) rest_old jobs reading fine front no_fault given none source = record {
     read = [];
     given = given;
     stands = stands_by jobs [] [] (uncut reading) Open reading.source (sym source) (record {
-      so_far = record { front = front ∙ sym (prepend_known-nil (view.rest jobs)); no_fault = no_fault };
+      so_far = record { front = sym front ∙ sym (prepend_known-nil (view.rest jobs)); no_fault = no_fault };
       fits = omega arith;
       starts = record { bytes_are = sym none; each = All-nil IsLine };
     });
   }
+  opened (Err e) rest_old jobs reading fine front no_fault given none source = absurd (cc)
 
   -- ---- what is cut
 
@@ -139,74 +169,46 @@ module _ {J : Type 0} (view : FilesView J) (told : Option (List ℕ)) (faults : 
   }
 
   -- the file came to its end, and the line that has begun is its last one; or the room for it was wanted
-  pub at_end : {A E : Type 0} (result : Result A E) (jobs_old jobs_new : J) (reading_old reading_new : Reading) (before waiting_old waiting_new : List (List ℕ)) (line : List ℕ)
+  pub at_end : {A E : Type 0} (result : Result A E) (jobs_old jobs_new : J) (reading_old reading_new : Reading) (before : List (List ℕ)) (items_old items_new : List (Vec ℕ Global))
+      (line left_mid : List ℕ) (source_mid : Source)
       → reading_old.source ≡ Open → uncut reading_old ≡ line → IsLine line
       → view.rest jobs_old ≡ prepend_known [] (view.rest jobs_new) → view.faults jobs_new ≡ view.faults jobs_old → view.given jobs_new ≡ view.given jobs_old → IsAtEnd (view.rest jobs_new)
-      → OnOk result (waiting_new ≡ waiting_old ++ last_line line) → OnOk result (uncut reading_new ≡ []) → OnOk result (reading_new.source ≡ AtEnd)
-      → OnErr result (waiting_new ≡ waiting_old) → OnErr result (uncut reading_new ≡ line) → OnErr result (reading_new.source ≡ Open)
-      → HasRead view told faults jobs_old reading_old (before ++ waiting_old) → HasRead view told faults jobs_new reading_new (before ++ waiting_new)
-  at_end (Ok a) jobs_old jobs_new reading_old reading_new before waiting_old waiting_new line source left is_line gave same given end waits none now kept kept_left kept_source has =
-      let s : IsOpenAt view told faults jobs_old (before ++ waiting_old) has.read (uncut reading_old) =
-          stands_by jobs_old (before ++ waiting_old) has.read (uncut reading_old) reading_old.source Open source has.stands in
+      → OnOk result (waiting_lines items_new ≡ waiting_lines items_old ++ last_line line) → OnOk result (uncut reading_new ≡ []) → OnOk result (reading_new.source ≡ AtEnd)
+      → OnErr result (items_new ≡ items_old) → OnErr result (uncut reading_new ≡ left_mid) → left_mid ≡ line → OnErr result (reading_new.source ≡ source_mid) → source_mid ≡ Open
+      → HasRead view told faults jobs_old reading_old (before ++ waiting_lines items_old) → HasRead view told faults jobs_new reading_new (before ++ waiting_lines items_new)
+  at_end (Ok a) jobs_old jobs_new reading_old reading_new before items_old items_new line left_mid source_mid source left is_line gave same given end waits none now kept kept_left mid kept_source open_mid has =
+      let s : IsOpenAt view told faults jobs_old (before ++ waiting_lines items_old) has.read (uncut reading_old) =
+          stands_by jobs_old (before ++ waiting_lines items_old) has.read (uncut reading_old) reading_old.source Open source has.stands in
       record {
         read = has.read;
         given = given ∙ has.given;
-        stands = stands_by jobs_new (before ++ waiting_new) has.read (uncut reading_new) AtEnd reading_new.source (sym now) (record {
+        stands = stands_by jobs_new (before ++ waiting_lines items_new) has.read (uncut reading_new) AtEnd reading_new.source (sym now) (record {
           so_far = no_more jobs_old jobs_new has.read s.so_far gave same;
           fits = s.fits;
           at_end = end;
           lines_are = record {
-            whole = before ++ waiting_old;
+            whole = before ++ waiting_lines items_old;
             rest = line;
-            starts = subst (StartsWith has.read (before ++ waiting_old)) left s.starts;
+            starts = subst (StartsWith has.read (before ++ waiting_lines items_old)) left s.starts;
             no_more = is_line;
-            lines_are = ap (λ w. before ++ w) waits ∙ sym (append_assoc before waiting_old (last_line line));
+            lines_are = ap (λ w. before ++ w) waits ∙ sym (append_assoc before (waiting_lines items_old) (last_line line));
           };
           none_left = none;
         });
       }
-  at_end (Err e) jobs_old jobs_new reading_old reading_new before waiting_old waiting_new line source left is_line gave same given end waits none now kept kept_left kept_source has =
-      let s : IsOpenAt view told faults jobs_old (before ++ waiting_old) has.read (uncut reading_old) =
-          stands_by jobs_old (before ++ waiting_old) has.read (uncut reading_old) reading_old.source Open source has.stands in
+  at_end (Err e) jobs_old jobs_new reading_old reading_new before items_old items_new line left_mid source_mid source left is_line gave same given end waits none now kept kept_left mid kept_source open_mid has =
+      let s : IsOpenAt view told faults jobs_old (before ++ waiting_lines items_old) has.read (uncut reading_old) =
+          stands_by jobs_old (before ++ waiting_lines items_old) has.read (uncut reading_old) reading_old.source Open source has.stands in
       record {
         read = has.read;
         given = given ∙ has.given;
-        stands = stands_by jobs_new (before ++ waiting_new) has.read (uncut reading_new) Open reading_new.source (sym kept_source) (record {
+        stands = stands_by jobs_new (before ++ waiting_lines items_new) has.read (uncut reading_new) Open reading_new.source (sym (kept_source ∙ open_mid)) (record {
           so_far = no_more jobs_old jobs_new has.read s.so_far gave same;
           fits = s.fits;
-          starts = subst (λ w. StartsWith has.read (before ++ w) (uncut reading_new)) (sym kept)
-              (subst (StartsWith has.read (before ++ waiting_old)) (left ∙ sym kept_left) s.starts);
+          starts = subst (λ w. StartsWith has.read (before ++ waiting_lines w) (uncut reading_new)) (sym kept)
+              (subst (StartsWith has.read (before ++ waiting_lines items_old)) (left ∙ sym (kept_left ∙ mid)) s.starts);
         });
       }
-
-  -- a read failed
-  pub failed_on : (jobs_old jobs_new : J) (reading_old reading_new : Reading) (lines : List (List ℕ))
-      → reading_old.source ≡ Open → reading_new.source ≡ Failed → uncut reading_new ≡ uncut reading_old
-      → view.rest jobs_new ≡ view.rest jobs_old → HasRisen (view.faults jobs_old) (view.faults jobs_new) → view.given jobs_new ≡ view.given jobs_old
-      → HasRead view told faults jobs_old reading_old lines → HasRead view told faults jobs_new reading_new lines
-  failed_on jobs_old jobs_new reading_old reading_new lines source now left gave fault given has =
-      let s : IsOpenAt view told faults jobs_old lines has.read (uncut reading_old) =
-          stands_by jobs_old lines has.read (uncut reading_old) reading_old.source Open source has.stands in
-      record {
-        read = has.read;
-        given = given ∙ has.given;
-        stands = stands_by jobs_new lines has.read (uncut reading_new) Failed reading_new.source (sym now) (record {
-          front = inl (s.so_far.front ∙ ap (prepend_known has.read) (sym gave));
-          fits = s.fits;
-          fault = subst (λ n. HasRisen n (view.faults jobs_new)) s.so_far.no_fault fault;
-          starts = subst (StartsWith has.read lines) (sym left) s.starts;
-        });
-      }
-
-  -- nothing was read, and the same is left
-  pub kept_on : (jobs : J) (reading_old reading_new : Reading) (lines : List (List ℕ)) → reading_new.source ≡ reading_old.source
-      → uncut reading_new ≡ uncut reading_old → HasRead view told faults jobs reading_old lines → HasRead view told faults jobs reading_new lines
-  kept_on jobs reading_old reading_new lines source left has = record {
-    read = has.read;
-    given = has.given;
-    stands = stands_by jobs lines has.read (uncut reading_new) reading_old.source reading_new.source (sym source)
-        (subst (λ l. StandsBy view told faults jobs lines has.read l reading_old.source) (sym left) has.stands);
-  }
 
   -- what was read into a piece stands to be cut
   piece_stands : (jobs : J) (reading : Reading) (lines : List (List ℕ)) (read piece : List ℕ) (count : ℕ) → StartsWith read lines reading.line.items
@@ -234,22 +236,22 @@ module _ {J : Type 0} (view : FilesView J) (told : Option (List ℕ)) (faults : 
       })
 
   -- a piece was read
-  pub took_on : (jobs_old jobs_new : J) (reading_old reading_new : Reading) (lines : List (List ℕ)) (piece : List ℕ) (count : ℕ)
-      → reading_old.source ≡ Open → uncut reading_old ≡ reading_new.line.items → 0 < count → count ≤ length piece
+  pub took_on : (jobs_old jobs_new : J) (reading_old reading_new : Reading) (lines : List (List ℕ)) (piece buffer : List ℕ) (count : ℕ)
+      → reading_old.source ≡ Open → uncut reading_old ≡ reading_new.line.items → 0 < count → count ≤ length buffer → piece ≡ buffer
       → reading_new.total ≡ reading_old.total + count → view.given jobs_old ≡ reading_old.total
       → TookPiece piece count reading_new
-      → view.rest jobs_old ≡ prepend_known (take count piece) (view.rest jobs_new) → view.faults jobs_new ≡ view.faults jobs_old
+      → view.rest jobs_old ≡ prepend_known (take count buffer) (view.rest jobs_new) → view.faults jobs_new ≡ view.faults jobs_old
       → view.given jobs_new ≡ reading_new.total
       → HasRead view told faults jobs_old reading_old lines → HasRead view told faults jobs_new reading_new lines
-  took_on jobs_old jobs_new reading_old reading_new lines piece count source left some within total counted took gave same given has =
+  took_on jobs_old jobs_new reading_old reading_new lines piece buffer count source left some within is total counted took gave same given has =
       let s : IsOpenAt view told faults jobs_old lines has.read (uncut reading_old) =
           stands_by jobs_old lines has.read (uncut reading_old) reading_old.source Open source has.stands in
       let sum : length has.read + count ≡ reading_new.total = (let h = has.given in omega (arith, h, counted, total)) in
-      let len : length (has.read ++ take count piece) ≡ reading_new.total =
-          length-append has.read (take count piece) ∙ ap (λ n. length has.read + n) (length-take-le count piece within) ∙ sum in
+      let len : length (has.read ++ take count buffer) ≡ reading_new.total =
+          length-append has.read (take count buffer) ∙ ap (λ n. length has.read + n) (length-take-le count buffer within) ∙ sum in
       record {
-        read = has.read ++ take count piece;
+        read = has.read ++ take count buffer;
         given = given ∙ sym len;
-        stands = piece_stands jobs_new reading_new lines has.read piece count (subst (StartsWith has.read lines) left s.starts) some len sum
-            (more_read jobs_old jobs_new has.read (take count piece) s.so_far gave same) took;
+        stands = piece_stands jobs_new reading_new lines has.read buffer count (subst (StartsWith has.read lines) left s.starts) some len sum
+            (more_read jobs_old jobs_new has.read (take count buffer) s.so_far gave same) (subst (λ p. TookPiece p count reading_new) is took);
       }

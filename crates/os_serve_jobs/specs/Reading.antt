@@ -86,6 +86,7 @@ pub record IsReading (reading : Reading) : Type 0 where
 -- nothing was read, and nothing is asked for
 pub record IsFresh (reading : Reading) : Type 0 where
   pub is_reading : IsReading reading
+  pub is_open : reading.source ≡ Open
   pub nothing : reading.total ≡ 0
   pub none_left : uncut reading ≡ []
 

@@ -26,6 +26,22 @@ fn front_len(bytes: &[u8]) -> usize
     bytes.len()
 }
 
+/// The bytes from a place on.
+fn rest_of(bytes: &[u8], next: usize) -> &[u8]
+    requires { next ≤ length bytes.now }
+    ensures { result.now ≡ drop next bytes.now }
+{
+    &bytes[next..]
+}
+
+/// The first bytes, so many.
+fn front_of(bytes: &[u8], count: usize) -> &[u8]
+    requires { count ≤ length bytes.now }
+    ensures { result.now ≡ take count bytes.now }
+{
+    &bytes[..count]
+}
+
 /// The words of a line, unless it isn't text.
 pub fn words_of(alloc: Global, line: &[u8]) -> Result<Option<Vec<String>>, Memory>
     ensures { IfOk result (λ found. MatchOption found
@@ -35,13 +51,13 @@ pub fn words_of(alloc: Global, line: &[u8]) -> Result<Option<Vec<String>>, Memor
     let mut words = Vec::new(alloc);
     let mut next = 0;
     while next < line.len() {
-        let rest = &line[next..];
+        let rest = rest_of(line, next);
         let count = front_len(rest);
         if count == 0 {
             next += 1;
             continue;
         }
-        let Ok(word) = str::from_utf8(&rest[..count]) else {
+        let Ok(word) = str::from_utf8(front_of(rest, count)) else {
             return Ok(None);
         };
         words.push(String::from_str(alloc, word)?)?;

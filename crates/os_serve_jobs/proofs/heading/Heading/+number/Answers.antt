@@ -17,7 +17,7 @@ number-requires t c = (
   omega (
     arith,
     c.requires,
-    ap length (decimal_step c.args.number c.if-number-lt10.false c.ranges.number.fits)
+    ap length (decimal_step c.args.number c.if-number-lt10.false (omega (arith, c.ranges.number.fits)))
         ∙ length-append (decimal (c.args.number / 10)) ((48 + c.args.number % 10) ∷ []),
   ),
 )
@@ -28,7 +28,7 @@ push-requires-2 t c =
       arith,
       c.requires,
       ap length c.number.ensures ∙ length-append c.args.self.now (decimal (c.args.number / 10)),
-      ap length (decimal_step c.args.number c.if-number-lt10.false c.ranges.number.fits) ∙ length-append (decimal (c.args.number / 10)) ((48 + c.args.number % 10) ∷ []),
+      ap length (decimal_step c.args.number c.if-number-lt10.false (omega (arith, c.ranges.number.fits))) ∙ length-append (decimal (c.args.number / 10)) ((48 + c.args.number % 10) ∷ []),
     )
 
 pub returns : goal.returns
@@ -36,4 +36,4 @@ returns t c =
     let n = c.args.number in
     let last = (48 + n % 10) ∷ [] in
     c.push-2.ensures ∙ ap (λ bytes. bytes ++ last) c.number.ensures ∙ append_assoc c.args.self.now (decimal (n / 10)) last
-    ∙ ap (λ digits. c.args.self.now ++ digits) (sym (decimal_step n c.if-number-lt10.false c.ranges.number.fits))
+    ∙ ap (λ digits. c.args.self.now ++ digits) (sym (decimal_step n c.if-number-lt10.false (omega (arith, c.ranges.number.fits))))
