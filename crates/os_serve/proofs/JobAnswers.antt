@@ -10,11 +10,12 @@ use Rattle.osrun_core_jobs.specs.Files.{JobFile, MayOpen, files_of}
 use Rattle.osrun_core_jobs.specs.Reading.{ReadsInOrder, WereRead}
 use Rattle.osrun_core_run.specs.Refusal.{IsUsable}
 use Rattle.osrun_core_words.specs.Command.{command}
-use Rattle.os_serve.specs.Command.{MayRun}
-use Rattle.os_serve.specs.Replies.{IsReplyOf, kept_sink, no_memory, reply_by}
+use Rattle.os_serve.specs.Command.{MayRun, is_serve}
+use Rattle.os_serve.specs.Commands.{IsReplyOf, IsReplyTo, kept_sink, reply_by}
+use Rattle.os_serve_answers.specs.Replies.{no_job, no_memory}
 use Rattle.os_serve_jobs.specs.Answers.{Reply}
 use Rattle.os_serve_jobs.specs.KeptStates.{KeptState, fresh_kept}
-use Rattle.os_serve_jobs.specs.Words.{line_words}
+use Rattle.os_serve_jobs.specs.Words.{IsText, line_words}
 
 module _ {F : Type 0} (view : FilesView F) where
   were_read_may : (old new : F) (files : List JobFile) (contents : List (List ℕ)) → WereRead IsUsable view old new files contents → view.may new ≡ view.may old
@@ -60,3 +61,22 @@ reply-other status output told other =
 pub may_open : (may : ℕ → List ℕ → Bool) (opens : ℕ) (line : List ℕ) (words : List Text) → MayRun may line → words ≡ line_words line
     → ForSome (command words) (λ request. MayOpen may opens (files_of request))
 may_open may opens line words run are request asked k file at few = run request (sym (ap command are) ∙ asked) (opens + k) k file at
+
+module _ {F : Type 0} (view : FilesView F) where
+  -- a line that isn't text
+  pub no_text_reply : (files : F) (line : List ℕ) → (IsText line → ⊥) → IsReplyTo view files files line no_job
+  no_text_reply files line none = inr (inl none, refl, refl)
+
+  -- one that asks for a server
+  pub serve_reply : (files : F) (line : List ℕ) (words : List Text) → is_serve words ≡ true → words ≡ line_words line → IsReplyTo view files files line no_job
+  serve_reply files line words serve are = inr (inr (sym (ap is_serve are) ∙ serve), refl, refl)
+
+  -- one that was run
+  pub run_reply : (old new : F) (line : List ℕ) (words : List Text) (reply : Reply) → IsText line → is_serve words ≡ false → words ≡ line_words line
+      → IsReplyOf view old new words reply → IsReplyTo view old new line reply
+  run_reply old new line words reply text serve are is =
+      inl (text, sym (ap is_serve are) ∙ serve, subst (λ w. IsReplyOf view old new w reply) are is)
+
+  -- what may be run may still be, where the same may be opened
+  pub may_still : (old new : F) (line : List ℕ) → view.may new ≡ view.may old → (IsText line → MayRun (view.may old) line) → IsText line → MayRun (view.may new) line
+  may_still old new line same may text = subst (λ m. MayRun m line) (sym same) (may text)

@@ -1,6 +1,5 @@
--- What a reader believes: which words ask for a server, what each job is answered, and what a call of the server leaves.
+-- What a reader believes: which words ask for a server, what it may open, and what each job is answered.
 pub mod Command
-pub mod Replies
-pub mod Serving
+pub mod Commands
 -- What restates private functions.
-pub mod Answered
+pub mod AsksFor

@@ -1,6 +1,6 @@
 ghost use Rattle.std.specs.Prelude.{◌≡◌, true, false};
 ghost use Rattle.osrun_core_words.specs.Command.{texts};
-ghost use Rattle.os_serve.specs.Answered.{AsksFor};
+ghost use Rattle.os_serve.specs.AsksFor.{AsksFor};
 ghost use Rattle.os_serve.specs.Command.{is_serve};
 
 /// The word that asks for a server.
@@ -28,7 +28,7 @@ pub(crate) fn asks_to_serve(words: &[String]) -> bool
 }
 
 /// What the words ask for.
-pub(crate) fn asked(words: &[String]) -> Asked<'_>
+pub(crate) fn asks_for(words: &[String]) -> Asked<'_>
     ensures { AsksFor (texts words.now) result }
 {
     if !asks_to_serve(words) {

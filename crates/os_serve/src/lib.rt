@@ -6,15 +6,12 @@
 //! All other words are answered as `run_words` answers them.
 //!
 //! The contract says that the bytes written are the answers to the jobs, each once and none else, and that the k-th answer is the
-//! k-th job's: what the command leaves for its words. `laws` has what the contract comes to, status by status. The reading of lines,
-//! and what an answer looks like, are `os_serve_jobs`.
+//! k-th job's: what the command leaves for its words. The reading of lines, and what an answer looks like, are `os_serve_jobs`, and the
+//! order of the answers is `os_serve_answers`.
 #![tactic(auto)]
 
-mod answering;
 mod asked;
-mod job_answer;
-mod serving;
-mod stop;
+mod commands;
 mod words;
 
 pub use words::serve_words;

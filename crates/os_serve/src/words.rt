@@ -4,11 +4,13 @@ ghost use Rattle.osrun_core_answer.specs.Answers.{AnswersRequest};
 ghost use Rattle.osrun_core_jobs.specs.Files.{MayOpen, files_of};
 ghost use Rattle.osrun_core_words.specs.Command.{command, texts};
 ghost use Rattle.os_serve.specs.Command.{MayServe, is_serve, named_jobs};
-ghost use Rattle.os_serve.specs.Serving.{RefusesWords, Serves};
+ghost use Rattle.os_serve.specs.Commands.{IsReplyTo};
+ghost use Rattle.os_serve_answers.specs.Serving.{RefusesWords, Serves};
 
-use crate::asked::{Asked, asked};
-use crate::serving::serve;
+use crate::asked::{Asked, asks_for};
+use crate::commands::Commands;
 use os_io::{Files, Sink};
+use os_serve_answers::serve;
 use osrun_core::{Gate, run_words};
 use osrun_core_jobs::{Status, tell};
 use std::alloc::Global;
@@ -18,7 +20,7 @@ use std::thread::Threads;
 const USAGE: &[u8] = b"usage\n";
 
 /// Runs the command that the words name, and answers the status of the process. Where the first word is `serve`, it answers the jobs
-/// of a file on `out`; else it is `run_words`, and `jobs` isn't touched. `laws` has what the contract comes to, status by status.
+/// of a file on `out`; else it is `run_words`, and `jobs` isn't touched.
 pub fn serve_words<R: Threads + Sync, J: Files + Send, F: Files + Send, O: Sink, E: Sink, G: Gate>(
     rt: &R,
     alloc: Global,
@@ -39,17 +41,37 @@ pub fn serve_words<R: Threads + Sync, J: Files + Send, F: Files + Send, O: Sink,
         report.new (command (texts words.now)) result }
     ensures untouched { is_serve (texts words.now) ≡ false → jobs.new ≡ jobs.old }
     // where it is
-    ensures served { IfSome (named_jobs (texts words.now)) (λ name. Serves J.Files jobs.old jobs.new F.Files files.old files.new O.Sink out.old
+    ensures served { IfSome (named_jobs (texts words.now)) (λ name. Serves J.Files jobs.old jobs.new (IsReplyTo F.Files) files.old files.new O.Sink out.old
         out.new E.Sink report.old report.new name result) }
     ensures refused { is_serve (texts words.now) ≡ true → named_jobs (texts words.now) ≡ None
         → RefusesWords jobs.old jobs.new files.old files.new out.old out.new E.Sink report.old report.new result }
 {
-    match asked(words) {
+    match asks_for(words) {
         Asked::Otherwise => run_words(rt, alloc, words, files, out, report, gate),
         Asked::Wrongly => {
             tell(report, USAGE);
             Status::BadWords.code()
         }
-        Asked::Jobs(name) => serve(rt, alloc, name, jobs, files, out, report, gate).code(),
+        Asked::Jobs(name) => serve_jobs(rt, alloc, name, jobs, files, out, report, gate),
     }
+}
+
+/// Serves the jobs of the file with a name.
+fn serve_jobs<R: Threads + Sync, J: Files + Send, F: Files + Send, O: Sink, E: Sink, G: Gate>(
+    rt: &R,
+    alloc: Global,
+    name: &str,
+    jobs: &mut J,
+    files: &mut F,
+    out: &mut O,
+    report: &mut E,
+    gate: &G,
+) -> u8
+    requires jobs { IsTrue (J.may jobs.old (J.opens jobs.old) name.now) }
+    requires files { MayServe (J.holds jobs.old name.now) (F.may files.old) }
+    ensures { Serves J.Files jobs.old jobs.new (IsReplyTo F.Files) files.old files.new O.Sink out.old out.new E.Sink report.old report.new
+        name.now result }
+{
+    let commands = Commands { rt, alloc, gate };
+    serve(rt, alloc, name, jobs, files, out, report, &commands).code()
 }

@@ -1,12 +1,12 @@
 -- What each job is answered.
-use Rattle.std.specs.Prelude.{◌≡◌, ◌≢◌, ◌⊎◌, ℕ, Bool, true, false, List, [], ◌∷◌, Some, ◌==◌, if◌then◌else◌}
+use Rattle.std.specs.Prelude.{◌≡◌, ◌⊎◌, ℕ, true, false, List, Some, ◌==◌, if◌then◌else◌}
 use Rattle.clap.specs.Words.{Text}
 use Rattle.os_io.specs.declared.files.Files.{Ghosts as FilesView}
 use Rattle.os_io.specs.declared.sink.Sink.{Ghosts as SinkView}
 use Rattle.osrun_core_answer.specs.Answers.{AnswersRequest}
-use Rattle.osrun_core_jobs.specs.Refusal.{usage_line}
 use Rattle.osrun_core_words.specs.Command.{command}
 use Rattle.os_serve.specs.Command.{is_serve}
+use Rattle.os_serve_answers.specs.Replies.{no_job, no_memory}
 use Rattle.os_serve_jobs.specs.Answers.{Reply}
 use Rattle.os_serve_jobs.specs.KeptStates.{KeptState, fresh_kept}
 use Rattle.os_serve_jobs.specs.Words.{IsText, line_words}
@@ -21,14 +21,6 @@ report_room = 8400000
 -- a sink in memory as a sink: it tells its bytes, and fails where it finds no memory
 abbrev pub kept_sink : SinkView KeptState
 kept_sink = record { faults = λ s. s.faults; empty_takes = λ _. 0; taken = λ s. Some s.taken }
-
--- the answer to a line that names no job
-abbrev pub no_job : Reply
-no_job = record { status = 2; output = []; told = usage_line }
-
--- the answer to a job whose sinks find no memory
-abbrev pub no_memory : Reply
-no_memory = record { status = 7; output = []; told = [] }
 
 -- The answer to a job: the status of its command, and what its sinks took. They fail for want of memory alone, so the status isn't 6.
 abbrev pub reply_by : (status : ℕ) → (output told : List ℕ) → Reply
@@ -52,11 +44,3 @@ abbrev pub IsReplyTo : {F : Type 0} → FilesView F → (files_old files_new : F
 IsReplyTo of_files files_old files_new line reply =
     (IsText line × (is_serve (line_words line) ≡ false) × IsReplyOf of_files files_old files_new (line_words line) reply)
     ⊎ (NamesNoJob line × (reply ≡ no_job) × (files_new ≡ files_old))
-
--- Each line has its reply, in their order, each over the files as the one before left them.
-abbrev pub AreReplies : {F : Type 0} → FilesView F → (files_old files_new : F) → List (List ℕ) → List Reply → Type 0
-AreReplies of_files files_old files_new [] [] = files_new ≡ files_old
-AreReplies of_files files_old files_new [] (reply ∷ replies) = ⊥
-AreReplies of_files files_old files_new (line ∷ lines) [] = ⊥
-AreReplies {F} of_files files_old files_new (line ∷ lines) (reply ∷ replies) =
-    (between : F) × IsReplyTo of_files files_old between line reply × AreReplies of_files between files_new lines replies

@@ -68,13 +68,13 @@ split_last [] (byte ∷ rest) [] line more is = inr (refl, cc, λ none. let one 
 split_last [] (byte ∷ rest) (one ∷ []) line more is = absurd (cc)
 split_last [] (byte ∷ rest) (one ∷ two ∷ earlier) line more is = absurd (cc)
 split_last (first ∷ whole) rest [] line more is = inl (whole, cc)
-split_last (first ∷ whole) rest (one ∷ earlier) line more is =
-    let same : first ≡ one = cc in
-    elim (split_last whole rest earlier line more cc) as (λ _. ((behind : List (List ℕ)) × (first ∷ whole ≡ one ∷ (earlier ++ line ∷ behind)))
-        ⊎ ((first ∷ whole ≡ one ∷ earlier) × (rest ≡ line) × (line ≢ []))) [
-      inl p ↦ let e = p.1 in inl (p.0, cc)
-    | inr q ↦ let e = q.0 in inr (cc, q.1, q.2)
-    ]
+split_last (first ∷ whole) rest (one ∷ earlier) line more is = split_step first one whole rest earlier line cc (split_last whole rest earlier line more cc)
+  where
+    split_step : (first one : List ℕ) (whole : List (List ℕ)) (rest : List ℕ) (earlier : List (List ℕ)) (line : List ℕ) → first ≡ one
+        → ((behind : List (List ℕ)) × (whole ≡ earlier ++ line ∷ behind)) ⊎ ((whole ≡ earlier) × (rest ≡ line) × (line ≢ []))
+        → ((behind : List (List ℕ)) × (first ∷ whole ≡ (one ∷ earlier) ++ line ∷ behind)) ⊎ ((first ∷ whole ≡ one ∷ earlier) × (rest ≡ line) × (line ≢ []))
+    split_step first one whole rest earlier line same (inl (behind, is)) = inl (behind, cc)
+    split_step first one whole rest earlier line same (inr (all, last, some)) = inr (cc, last, some)
 
 module _ {J : Type 0} (view : FilesView J) (told : Option (List ℕ)) (faults : ℕ) where
   -- there are no more lines than bytes that were given
@@ -112,6 +112,32 @@ module _ {J : Type 0} (view : FilesView J) (told : Option (List ℕ)) (faults : 
           ap (take 4194304) is ∙ ap (λ n. take n (read ++ behind)) (sym m) ∙ take-append-add read behind (4194304 - length read) in
       record { earlier = earlier; behind = _; starts = among (take 4194304 bytes) read left (take (4194304 - length read) behind) earlier line more front starts }
 
+  at_last : (bytes read : List ℕ) (whole : List (List ℕ)) (rest : List ℕ) (earlier : List (List ℕ)) (line : List ℕ) → bytes ≡ read → length read ≤ 4194304
+      → StartsWith read whole rest → IsLine rest
+      → ((behind : List (List ℕ)) × (whole ≡ earlier ++ line ∷ behind)) ⊎ ((whole ≡ earlier) × (rest ≡ line) × (line ≢ [])) → IsJobIn bytes line
+  at_last bytes read whole rest earlier line is fits starts no_more (inl (behind, among)) =
+      inl (ended_in bytes read rest [] earlier line behind (is ∙ sym (append-nil read)) fits (subst (λ w. StartsWith read w rest) among starts))
+  at_last bytes read whole rest earlier line is fits starts no_more (inr (all, last, some)) = inr (record {
+    fits = let n = ap length is in omega (arith, n, fits);
+    earlier = whole;
+    starts = subst (λ b. StartsWith b whole line) (sym is) (subst (StartsWith read whole) last starts);
+    no_more = subst IsLine last no_more;
+    some = some;
+  })
+
+  by_front : (bytes : List ℕ) (jobs : J) (earlier : List (List ℕ)) (line : List ℕ) (more : List (List ℕ)) (read left : List ℕ) → told ≡ Some bytes → length read ≤ 4194304
+      → StartsWith read (earlier ++ line ∷ more) left → (told ≡ prepend_known read (view.rest jobs)) ⊎ (read ≡ []) → IsJobIn bytes line
+  by_front bytes jobs earlier line more read left is fits starts (inl front) =
+      let f = told_front bytes read (view.rest jobs) (sym is ∙ front) in
+      inl (ended_in bytes read left f.0 earlier line more f.2 fits starts)
+  by_front bytes jobs earlier line more read left is fits starts (inr none) =
+      absurd (
+        let w = starts_within read left (earlier ++ line ∷ more) starts in
+        let n = ap length none in
+        let l = length-append earlier (line ∷ more) in
+        omega (arith, w, n, l)
+      )
+
   job_by : (bytes : List ℕ) (jobs : J) (earlier : List (List ℕ)) (line : List ℕ) (more : List (List ℕ)) (read left : List ℕ) (source : Source) → told ≡ Some bytes
       → StandsBy view told faults jobs (earlier ++ line ∷ more) read left source → IsJobIn bytes line
   job_by bytes jobs earlier line more read left Open is s =
@@ -122,33 +148,14 @@ module _ {J : Type 0} (view : FilesView J) (told : Option (List ℕ)) (faults : 
       let none : f.0 ≡ [] = subst IsAtEnd f.1 s.at_end in
       let whole : bytes ≡ read = f.2 ∙ ap (λ b. read ++ b) none ∙ append-nil read in
       let l = s.lines_are in
-      elim (split_last l.whole l.rest earlier line more (sym l.lines_are)) as (λ _. IsJobIn bytes line) [
-        inl p ↦ inl (ended_in bytes read l.rest f.0 earlier line p.0 f.2 s.fits (subst (λ w. StartsWith read w l.rest) p.1 l.starts))
-      | inr q ↦ inr (record {
-          fits = let n = ap length whole in let t = s.fits in omega (arith, n, t);
-          earlier = l.whole;
-          starts = subst (λ b. StartsWith b l.whole line) (sym whole) (subst (StartsWith read l.whole) q.1 l.starts);
-          no_more = subst IsLine q.1 l.no_more;
-          some = q.2;
-        })
-      ]
+      at_last bytes read l.whole l.rest earlier line whole s.fits l.starts l.no_more (split_last l.whole l.rest earlier line more (sym l.lines_are))
   job_by bytes jobs earlier line more read left TooLong is s =
       let f = told_front bytes read (view.rest jobs) (sym is ∙ s.so_far.front) in
       let p = s.one_past in
       let front : take 4194304 bytes ≡ take 4194304 read ++ [] =
           ap (take 4194304) f.2 ∙ take-append-le 4194304 read f.0 (omega (arith, p)) ∙ sym (append-nil (take 4194304 read)) in
       inl (record { earlier = earlier; behind = _; starts = among (take 4194304 bytes) (take 4194304 read) left [] earlier line more front s.starts })
-  job_by bytes jobs earlier line more read left Failed is s = elim s.front as (λ _. IsJobIn bytes line) [
-    inl front ↦
-        let f = told_front bytes read (view.rest jobs) (sym is ∙ front) in
-        inl (ended_in bytes read left f.0 earlier line more f.2 s.fits s.starts)
-  | inr none ↦ absurd (
-        let w = starts_within read left (earlier ++ line ∷ more) s.starts in
-        let n = ap length none in
-        let l = length-append earlier (line ∷ more) in
-        omega (arith, w, n, l)
-      )
-  ]
+  job_by bytes jobs earlier line more read left Failed is s = by_front bytes jobs earlier line more read left is s.fits s.starts s.front
 
   pub is_job : (jobs : J) (reading : Reading) (earlier : List (List ℕ)) (line : List ℕ) (more : List (List ℕ))
       → HasRead view told faults jobs reading (earlier ++ line ∷ more) → IfSome told (λ bytes. IsJobIn bytes line)

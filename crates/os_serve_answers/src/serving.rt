@@ -1,14 +1,13 @@
-ghost use Rattle.std.specs.Prelude.{◌≡◌, ◌≢◌, IsTrue};
+ghost use Rattle.std.specs.Prelude.{◌≢◌, ℕ, IfSome, IsTrue, List};
 ghost use Rattle.osrun_core_jobs.specs.Status.{code_of};
-ghost use Rattle.os_serve.specs.Answered.{EndsBy};
-ghost use Rattle.os_serve.specs.Command.{MayServe};
-ghost use Rattle.os_serve.specs.Serving.{Serves};
+ghost use Rattle.os_serve_answers.specs.Answered.{EndsBy};
+ghost use Rattle.os_serve_answers.specs.Serving.{Serves};
+ghost use Rattle.os_serve_jobs.specs.Lines.{IsJobIn};
 
 use crate::answering::answer_all;
-use crate::stop::Stop;
+use crate::runner::Runner;
 use os_io::{Files, Sink};
 use os_serve_jobs::{Reading, Source};
-use osrun_core::Gate;
 use osrun_core_jobs::{Status, tell};
 use std::alloc::Global;
 use std::thread::Threads;
@@ -18,27 +17,26 @@ const TOO_LONG: &[u8] = b"too long jobs\n";
 /// What is told where it can't be read.
 const READ_FAULT: &[u8] = b"read fault jobs\n";
 
-/// Serves the jobs of the file with a name.
-pub(crate) fn serve<R: Threads + Sync, J: Files + Send, F: Files + Send, O: Sink, E: Sink, G: Gate>(
+/// Serves the jobs of the file with a name: a runner runs them over a state, which may be run for each line that may be one.
+pub fn serve<R: Threads + Sync, J: Files + Send, S, O: Sink, E: Sink, B: Runner<S>>(
     rt: &R,
     alloc: Global,
     name: &str,
     jobs: &mut J,
-    files: &mut F,
+    state: &mut S,
     out: &mut O,
     report: &mut E,
-    gate: &G,
+    runner: &B,
 ) -> Status
     requires jobs { IsTrue (J.may jobs.old (J.opens jobs.old) name.now) }
-    requires files { MayServe (J.holds jobs.old name.now) (F.may files.old) }
-    ensures { Serves J.Files jobs.old jobs.new F.Files files.old files.new O.Sink out.old out.new E.Sink report.old report.new name.now
-        (code_of result) }
+    requires lines { (line : List ℕ) → IfSome (J.holds jobs.old name.now) (λ held. IsJobIn held line) → B.may runner.now state.old line }
+    ensures { Serves J.Files jobs.old jobs.new (B.answers runner.now) state.old state.new O.Sink out.old out.new E.Sink report.old report.new
+        name.now (code_of result) }
 {
     let mut reading = Reading::new(alloc);
-    match answer_all(rt, alloc, name, jobs, &mut reading, files, out, gate) {
+    match answer_all(rt, alloc, name, jobs, &mut reading, state, out, runner) {
         Ok(()) => end(reading.source, report),
-        Err(Stop::Memory) => Status::NoMemory,
-        Err(Stop::Write) => Status::WriteFault,
+        Err(stop) => stop.status(),
     }
 }
 

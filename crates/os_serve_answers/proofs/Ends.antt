@@ -9,9 +9,11 @@ use Rattle.osrun_core_jobs.specs.Status.{code_of}
 use Rattle.osrun_core_jobs.specs.Telling.{IsCutShort, Took}
 use Rattle.osrun_core_jobs.specs.declared.status.Status.{Status}
 use Rattle.osrun_core_jobs.specs.declared.status.Status.TheVariants as statuses
-use Rattle.os_serve.specs.Answered.{EndsBy, IsAnswered, IsOutOfMemory, IsOutOfOutput}
-use Rattle.os_serve.specs.Replies.{AreReplies}
-use Rattle.os_serve.specs.Serving.{AreFirst, ServedCause, Serves, WasGiven}
+use Rattle.os_serve_answers.specs.Answered.{EndsBy, IsAnswered, IsOutOfMemory, IsOutOfOutput, StopsServing, stop_status}
+use Rattle.os_serve_answers.specs.Replies.{AreReplies, Run}
+use Rattle.os_serve_answers.specs.declared.stop.Stop.{Stop}
+use Rattle.os_serve_answers.specs.declared.stop.Stop.TheVariants as stops
+use Rattle.os_serve_answers.specs.Serving.{AreFirst, ServedCause, Serves, WasGiven}
 use Rattle.os_serve_jobs.proofs.ReadOn.{uncut-line}
 use Rattle.os_serve_jobs.specs.Answers.{Reply, answers}
 use Rattle.os_serve_jobs.specs.Lines.{AreLines, IsLine, StartsWith, jobs_limit}
@@ -20,11 +22,11 @@ use Rattle.os_serve_jobs.specs.declared.reading.Reading.{Reading}
 use Rattle.os_serve_jobs.specs.declared.source.Source.{Source}
 use Rattle.os_serve_jobs.specs.declared.source.Source.TheVariants.{AtEnd, Failed, Open, TooLong}
 
-module _ {J F O E : Type 0} (of_jobs : FilesView J) (jobs_old jobs : J) (of_files : FilesView F) (files_old files : F) (of_out : SinkView O) (out_old out : O)
+module _ {J F O E : Type 0} (of_jobs : FilesView J) (jobs_old jobs : J) (run : Run F) (files_old files : F) (of_out : SinkView O) (out_old out : O)
     (of_report : SinkView E) (report_old report : E) (name : List ℕ) where
-  serves : (lines : List (List ℕ)) (replies : List Reply) (status : Status) → AreReplies of_files files_old files lines replies
+  serves : (lines : List (List ℕ)) (replies : List Reply) (status : Status) → AreReplies run files_old files lines replies
       → ServedCause of_jobs jobs_old jobs of_out out_old out of_report report_old report name lines replies status
-      → Serves of_jobs jobs_old jobs of_files files_old files of_out out_old out of_report report_old report name (code_of status)
+      → Serves of_jobs jobs_old jobs run files_old files of_out out_old out of_report report_old report name (code_of status)
   serves lines replies status are cause = record {
     lines = lines;
     replies = replies;
@@ -79,9 +81,9 @@ module _ {J F O E : Type 0} (of_jobs : FilesView J) (jobs_old jobs : J) (of_file
       failed_front read given (inr none) fault = record { given = given; front = inr (none, fault) }
 
   pub served_all : (reading : Reading) (status : Status) → IsReading reading → IsDone reading
-      → IsAnswered of_jobs (of_jobs.holds jobs_old name) (of_jobs.faults jobs_old) jobs reading of_files files_old files of_out out_old out
+      → IsAnswered of_jobs (of_jobs.holds jobs_old name) (of_jobs.faults jobs_old) jobs reading run files_old files of_out out_old out
       → EndsBy of_report report_old report reading.source status
-      → Serves of_jobs jobs_old jobs of_files files_old files of_out out_old out of_report report_old report name (code_of status)
+      → Serves of_jobs jobs_old jobs run files_old files of_out out_old out of_report report_old report name (code_of status)
   served_all reading status is done a ends =
       let is_line : IsLine (uncut reading) = subst IsLine (sym (uncut-line reading done.all_cut)) is.is_line in
       serves a.lines a.replies status a.are_replies
@@ -119,18 +121,24 @@ module _ {J F O E : Type 0} (of_jobs : FilesView J) (jobs_old jobs : J) (of_file
       front_of (inl front) = record { given = given; front = inl front }
       front_of (inr none) = record { given = given; front = inr (none, s.fault) }
 
-  pub served_short : (reading : Reading) → IsOutOfOutput of_jobs (of_jobs.holds jobs_old name) (of_jobs.faults jobs_old) jobs reading of_files files_old files of_out out_old out
-      → report ≡ report_old → Serves of_jobs jobs_old jobs of_files files_old files of_out out_old out of_report report_old report name (code_of statuses.WriteFault)
+  pub served_short : (reading : Reading) → IsOutOfOutput of_jobs (of_jobs.holds jobs_old name) (of_jobs.faults jobs_old) jobs reading run files_old files of_out out_old out
+      → report ≡ report_old → Serves of_jobs jobs_old jobs run files_old files of_out out_old out of_report report_old report name (code_of statuses.WriteFault)
   served_short reading a kept = serves a.lines a.replies statuses.WriteFault a.are_replies (record {
     first = first_by a.lines a.waiting a.has_read.read (uncut reading) reading.source a.has_read.given a.has_read.stands;
     output = a.output;
     report_kept = kept;
   })
 
-  pub served_until : (reading : Reading) → IsOutOfMemory of_jobs (of_jobs.holds jobs_old name) (of_jobs.faults jobs_old) jobs reading of_files files_old files of_out out_old out
-      → report ≡ report_old → Serves of_jobs jobs_old jobs of_files files_old files of_out out_old out of_report report_old report name (code_of statuses.NoMemory)
+  pub served_until : (reading : Reading) → IsOutOfMemory of_jobs (of_jobs.holds jobs_old name) (of_jobs.faults jobs_old) jobs reading run files_old files of_out out_old out
+      → report ≡ report_old → Serves of_jobs jobs_old jobs run files_old files of_out out_old out of_report report_old report name (code_of statuses.NoMemory)
   served_until reading a kept = serves a.lines a.replies statuses.NoMemory a.are_replies (record {
     first = first_by a.lines a.waiting a.has_read.read (uncut reading) reading.source a.has_read.given a.has_read.stands;
     output = a.output;
     report_kept = kept;
   })
+
+  pub served_stopped : (reading : Reading) (stop : Stop)
+      → StopsServing of_jobs (of_jobs.holds jobs_old name) (of_jobs.faults jobs_old) jobs reading run files_old files of_out out_old out stop
+      → report ≡ report_old → Serves of_jobs jobs_old jobs run files_old files of_out out_old out of_report report_old report name (code_of (stop_status stop))
+  served_stopped reading stops.Memory a kept = served_until reading a kept
+  served_stopped reading stops.Write a kept = served_short reading a kept
