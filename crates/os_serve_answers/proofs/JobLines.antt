@@ -68,7 +68,10 @@ split_last [] (byte ∷ rest) [] line more is = inr (refl, cc, λ none. let one 
 split_last [] (byte ∷ rest) (one ∷ []) line more is = absurd (cc)
 split_last [] (byte ∷ rest) (one ∷ two ∷ earlier) line more is = absurd (cc)
 split_last (first ∷ whole) rest [] line more is = inl (whole, cc)
-split_last (first ∷ whole) rest (one ∷ earlier) line more is = split_step first one whole rest earlier line cc (split_last whole rest earlier line more cc)
+split_last (first ∷ whole) rest (one ∷ earlier) line more is =
+    let same : first ≡ one = cc in
+    let behind : whole ++ last_line rest ≡ earlier ++ line ∷ more = cc in
+    split_step first one whole rest earlier line same (split_last whole rest earlier line more behind)
   where
     split_step : (first one : List ℕ) (whole : List (List ℕ)) (rest : List ℕ) (earlier : List (List ℕ)) (line : List ℕ) → first ≡ one
         → ((behind : List (List ℕ)) × (whole ≡ earlier ++ line ∷ behind)) ⊎ ((whole ≡ earlier) × (rest ≡ line) × (line ≢ []))

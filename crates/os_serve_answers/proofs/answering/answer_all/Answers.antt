@@ -24,8 +24,8 @@ returns-then-is_err g c =
         (reads_on g.J.Files run g.O.Sink told faults s.jobs r.new.jobs s.reading r.new.self (waiting_lines s.waiting.items) (waiting_lines r.new.waiting.items)
         c.args.state.now s.state c.args.out.now s.out s.number r.ensures.reads s.invariant.serving)
 
-pub answer_next-requires-clause-may : goal.answer_next-requires-clause-may
-answer_next-requires-clause-may g c κs within =
+pub answer_next-step-requires-clause-may : goal.answer_next-step-requires-clause-may
+answer_next-step-requires-clause-may g c κs within =
     let told = g.J.Files.holds c.args.jobs.now c.args.name.now in
     let faults = g.J.Files.faults c.args.jobs.now in
     let run = g.B.Runner.answers c.args.runner.now in
@@ -52,7 +52,7 @@ returns-then-is_err-2 g c =
         × IsReading n.new.reading)
         (StopsServing g.J.Files told faults n.new.jobs n.new.reading run c.args.state.now n.new.state g.O.Sink c.args.out.now n.new.out)
         n.result
-        (sym c.is_err-2.ensures.value ∙ c.if-is_err-2.true)
+        (sym c.is_err-in-serving.ensures.value ∙ c.if-is_err-2.true)
         (n.ensures.next told faults c.args.state.now c.args.out.now
         (reads_on g.J.Files run g.O.Sink told faults s.jobs r.new.jobs s.reading r.new.self (waiting_lines s.waiting.items) (waiting_lines r.new.waiting.items)
         c.args.state.now s.state c.args.out.now s.out s.number r.ensures.reads s.invariant.serving))
@@ -86,7 +86,7 @@ serving-preserved g c =
           (s.number + 1))
           (StopsServing g.J.Files told faults n.new.jobs n.new.reading run c.args.state.now n.new.state g.O.Sink c.args.out.now n.new.out)
           n.result
-          (sym c.is_err-2.ensures.value ∙ c.if-is_err-2.false)
+          (sym c.is_err-in-serving.ensures.value ∙ c.if-is_err-2.false)
           (n.ensures.next told faults c.args.state.now c.args.out.now
           (reads_on g.J.Files run g.O.Sink told faults s.jobs r.new.jobs s.reading r.new.self (waiting_lines s.waiting.items) (waiting_lines r.new.waiting.items)
           c.args.state.now s.state c.args.out.now s.out s.number r.ensures.reads s.invariant.serving));
