@@ -3,14 +3,13 @@ use Rattle.std.proofs.Common.{◌≡◌, ◌≢◌, ◌∙◌, ◌⊎◌, inl, i
 use Rattle.std.specs.Prelude.{IsTrue, if◌then◌else◌, ◌==◌}
 use Rattle.std.specs.Option.{ForSome}
 use Rattle.std.proofs.lemmas.Bool.Decides.{nat_tests}
-use Rattle.clap.specs.Words.{Text}
 use Rattle.os_io.specs.declared.files.Files.{Ghosts as FilesView}
 use Rattle.osrun_core_answer.specs.Answers.{AnswersRequest, asked_files}
 use Rattle.osrun_core_jobs.specs.Files.{JobFile, MayOpen, files_of}
 use Rattle.osrun_core_jobs.specs.Reading.{ReadsInOrder, WereRead}
 use Rattle.osrun_core_run.specs.Refusal.{IsUsable}
 use Rattle.osrun_core_words.specs.Command.{command}
-use Rattle.os_serve.specs.Command.{MayRun, is_serve}
+use Rattle.os_serve.specs.Command.{MayRun, Text, is_serve}
 use Rattle.os_serve.specs.Commands.{IsReplyOf, IsReplyTo, kept_sink, reply_by}
 use Rattle.os_serve_answers.specs.Replies.{no_job, no_memory}
 use Rattle.os_serve_jobs.specs.Answers.{Reply}

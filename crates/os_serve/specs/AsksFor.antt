@@ -1,7 +1,6 @@
 -- What words ask for.
 use Rattle.std.specs.Prelude.{◌≡◌, true, false, List, None, Some}
-use Rattle.clap.specs.Words.{Text}
-use Rattle.os_serve.specs.Command.{is_serve, named_jobs}
+use Rattle.os_serve.specs.Command.{Text, is_serve, named_jobs}
 use Rattle.os_serve.specs.declared.asked.Asked.{Asked}
 use Rattle.os_serve.specs.declared.asked.Asked.TheVariants as asked
 

@@ -2,11 +2,14 @@
 use Rattle.std.specs.Prelude.{◌≡◌, ℕ, Bool, false, List, [], ◌∷◌, Option, None, Some, IfSome, IsTrue, codes, if◌then◌else◌, slice_get}
 use Rattle.std.specs.Option.{ForSome}
 use Rattle.std.specs.Str.{bytes_eq}
-use Rattle.clap.specs.Words.{Text}
 use Rattle.osrun_core_jobs.specs.Files.{JobFile, files_of}
 use Rattle.osrun_core_words.specs.Command.{command}
 use Rattle.os_serve_jobs.specs.Lines.{IsJobIn}
 use Rattle.os_serve_jobs.specs.Words.{IsText, line_words}
+
+-- a word, as bytes
+abbrev pub Text : Type 0
+Text = List ℕ
 
 -- the first word is `serve`
 abbrev pub is_serve : List Text → Bool

@@ -1,11 +1,10 @@
 -- What each job is answered.
 use Rattle.std.specs.Prelude.{◌≡◌, ◌⊎◌, ℕ, true, false, List, Some, ◌==◌, if◌then◌else◌}
-use Rattle.clap.specs.Words.{Text}
 use Rattle.os_io.specs.declared.files.Files.{Ghosts as FilesView}
 use Rattle.os_io.specs.declared.sink.Sink.{Ghosts as SinkView}
 use Rattle.osrun_core_answer.specs.Answers.{AnswersRequest}
 use Rattle.osrun_core_words.specs.Command.{command}
-use Rattle.os_serve.specs.Command.{is_serve}
+use Rattle.os_serve.specs.Command.{Text, is_serve}
 use Rattle.os_serve_answers.specs.Replies.{no_job, no_memory}
 use Rattle.os_serve_jobs.specs.Answers.{Reply}
 use Rattle.os_serve_jobs.specs.KeptStates.{KeptState, fresh_kept}

@@ -1,13 +1,15 @@
-ghost use Rattle.std.specs.Prelude.{◌≡◌};
+ghost use Rattle.std.specs.Prelude.{◌≡◌, IfOk, OnErr};
 ghost use Rattle.std.specs.Option.{ForSome};
 ghost use Rattle.osrun_core_jobs.specs.Files.{MayOpen, files_of};
 ghost use Rattle.osrun_core_words.specs.Command.{command, texts};
-ghost use Rattle.os_serve.specs.Commands.{IsReplyOf};
+ghost use Rattle.os_serve.specs.Command.{MayRun};
+ghost use Rattle.os_serve.specs.Commands.{IsReplyOf, IsReplyTo};
 ghost use Rattle.os_serve_answers.specs.Replies.{reply_of};
+ghost use Rattle.os_serve_jobs.specs.Words.{IsText};
 
 use crate::asked::asks_to_serve;
 use os_io::{Files, Memory};
-use os_serve_answers::{JobAnswer, Runner};
+use os_serve_answers::JobAnswer;
 use os_serve_jobs::{Kept, words_of};
 use osrun_core::{Gate, run_words};
 use std::alloc::Global;
@@ -20,32 +22,26 @@ const REPORT_ROOM: u32 = 8_400_000;
 /// The status of a command whose sinks fail.
 const WRITE_FAULT: u8 = 6;
 
-/// Runs lines as commands over files.
-#[derive(Clone, Copy, Debug)]
-pub(crate) struct Commands<'r, R, G> {
-    pub(crate) rt: &'r R,
-    pub(crate) alloc: Global,
-    pub(crate) gate: &'r G,
-}
-
-impl<'r, R: Threads + Sync, F: Files, G: Gate> Runner<F> for Commands<'r, R, G> {
-    ghost use Rattle.os_serve.specs.Command.{MayRun};
-    ghost use Rattle.os_serve.specs.Commands.{IsReplyTo};
-    ghost use Rattle.os_serve_jobs.specs.Words.{IsText};
-
-    ghost may = { λ _ files line. IsText line → MayRun (F.may files) line };
-
-    ghost answers = { λ _ old new line reply. IsReplyTo F.Files old new line reply };
-
-    fn run(&self, files: &mut F, line: &[u8]) -> Result<JobAnswer, Memory> {
-        let Some(words) = words_of(self.alloc, line)? else {
-            return Ok(JobAnswer::NoJob);
-        };
-        if asks_to_serve(&words) {
-            return Ok(JobAnswer::NoJob);
-        }
-        Ok(run_job(self.rt, self.alloc, &words, files, self.gate))
+/// Runs the job of a line. `Memory` comes where its words find none, and leaves the files as they were.
+pub(crate) fn answer_job<R: Threads + Sync, F: Files, G: Gate>(
+    rt: &R,
+    alloc: Global,
+    line: &[u8],
+    files: &mut F,
+    gate: &G,
+) -> Result<JobAnswer, Memory>
+    requires { IsText line.now → MayRun (F.may files.old) line.now }
+    ensures reply { IfOk result (λ answer. IsReplyTo F.Files files.old files.new line.now (reply_of answer)) }
+    ensures files { OnErr result (files.new ≡ files.old) }
+    ensures may { F.may files.new ≡ F.may files.old }
+{
+    let Some(words) = words_of(alloc, line)? else {
+        return Ok(JobAnswer::NoJob);
+    };
+    if asks_to_serve(&words) {
+        return Ok(JobAnswer::NoJob);
     }
+    Ok(run_job(rt, alloc, &words, files, gate))
 }
 
 /// Runs the command that words name, over fresh sinks in memory.

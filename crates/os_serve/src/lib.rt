@@ -10,8 +10,11 @@
 //! order of the answers is `os_serve_answers`.
 #![tactic(auto)]
 
+mod answering;
 mod asked;
+mod beside;
 mod commands;
+mod serving;
 mod words;
 
 pub use words::serve_words;

@@ -8,9 +8,8 @@ ghost use Rattle.os_serve.specs.Commands.{IsReplyTo};
 ghost use Rattle.os_serve_answers.specs.Serving.{RefusesWords, Serves};
 
 use crate::asked::{Asked, asks_for};
-use crate::commands::Commands;
+use crate::serving::serve;
 use os_io::{Files, Sink};
-use os_serve_answers::serve;
 use osrun_core::{Gate, run_words};
 use osrun_core_jobs::{Status, tell};
 use std::alloc::Global;
@@ -52,26 +51,6 @@ pub fn serve_words<R: Threads + Sync, J: Files + Send, F: Files + Send, O: Sink,
             tell(report, USAGE);
             Status::BadWords.code()
         }
-        Asked::Jobs(name) => serve_jobs(rt, alloc, name, jobs, files, out, report, gate),
+        Asked::Jobs(name) => serve(rt, alloc, name, jobs, files, out, report, gate).code(),
     }
-}
-
-/// Serves the jobs of the file with a name.
-fn serve_jobs<R: Threads + Sync, J: Files + Send, F: Files + Send, O: Sink, E: Sink, G: Gate>(
-    rt: &R,
-    alloc: Global,
-    name: &str,
-    jobs: &mut J,
-    files: &mut F,
-    out: &mut O,
-    report: &mut E,
-    gate: &G,
-) -> u8
-    requires jobs { IsTrue (J.may jobs.old (J.opens jobs.old) name.now) }
-    requires files { MayServe (J.holds jobs.old name.now) (F.may files.old) }
-    ensures { Serves J.Files jobs.old jobs.new (IsReplyTo F.Files) files.old files.new O.Sink out.old out.new E.Sink report.old report.new
-        name.now result }
-{
-    let commands = Commands { rt, alloc, gate };
-    serve(rt, alloc, name, jobs, files, out, report, &commands).code()
 }

@@ -1,18 +1,16 @@
-//! Jobs of a file, answered in their order, whatever runs them.
+//! Answers to jobs: what is written of each, and what a server leaves that answers the jobs of a file.
 //!
-//! `serve` opens a file of jobs, has a `Runner` run the job of each line, one after the other, and writes the answers; while a job
-//! runs, it reads further lines. The contract says that the bytes written are the answers to the jobs in the order of their lines,
-//! each once and none else, and how it ended: one record, whose cause goes by the status. A `Runner` says by its members what it
-//! answers and what it goes over, which is handed on from job to job.
+//! `Serves` says it of a whole call, whatever runs the jobs: the bytes written are the answers to the jobs in the order of their
+//! lines, each once and none else, and the cause of the status goes by the status. `write_answer` writes one answer, and `end` tells how
+//! the file of jobs ended.
 #![tactic(auto)]
 
-mod answering;
-mod beside;
+mod ending;
 mod job_answer;
-mod runner;
-mod serving;
 mod stop;
+mod writing;
 
+pub use ending::end;
 pub use job_answer::JobAnswer;
-pub use runner::Runner;
-pub use serving::serve;
+pub use stop::Stop;
+pub use writing::write_answer;

@@ -5,7 +5,7 @@ use osrun_core_jobs::Status;
 
 /// Why the server stops before all jobs are answered.
 #[derive(Clone, Copy, Debug, PartialEq, Eq)]
-pub(crate) enum Stop {
+pub enum Stop {
     /// Memory could not be had for the server itself.
     Memory,
     /// The output could not be written.
@@ -14,7 +14,7 @@ pub(crate) enum Stop {
 
 impl Stop {
     /// The status with which the server then ends.
-    pub(crate) fn status(self) -> Status
+    pub fn status(self) -> Status
         ensures { result ≡ stop_status self }
     {
         match self {

@@ -2,7 +2,7 @@ use Rattle.std.proofs.Common.{◌∙◌, length, sym}
 use Rattle.os_serve_answers.proofs.Written.{first_failed, same_heading, second_failed, third_written}
 use Rattle.os_serve_answers.specs.Replies.{reply_of}
 use Rattle.os_serve_jobs.specs.Answers.{heading}
-use Rattle.os_serve_answers.proofs.answering.write_answer.Goals as goal
+use Rattle.os_serve_answers.proofs.writing.write_answer.Goals as goal
 
 pub returns-then-is_err : goal.returns-then-is_err
 returns-then-is_err g c =
