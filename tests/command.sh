@@ -468,7 +468,7 @@ for chain in forward backward; do
     done
 done
 
-# Jobs by lines. The program that is proved serves them; ./osrun would too.
+# Jobs by lines.
 printf 'run first.c in.bin\nstop' >two.jobs
 run serve two.jobs
 { printf 'job 0 status 0 out 4 report 27\n\004\003\002\001control done\noutput 4 of 4\n'; printf 'job 1 status 2 out 0 report 6\nusage\n'; } >wanted

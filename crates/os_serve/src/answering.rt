@@ -28,7 +28,8 @@ fn answer_next<R: Threads + Sync, J: Files + Send, F: Files + Send, O: Sink, G: 
     requires is_reading { IsReading reading.old }
     requires given { J.given jobs.old ≡ reading.old.total }
     requires waits { 0 < vec_len waiting.old }
-    requires may { (line : List ℕ) (more : List (List ℕ)) → waiting_lines waiting.old.items ≡ line ∷ more → IsText line → MayRun (F.may files.old) line }
+    requires may { (line : List ℕ) (more : List (List ℕ)) → waiting_lines waiting.old.items ≡ line ∷ more
+        → IsText line → MayRun (F.may files.old) line }
     ensures is_reading { IsReading reading.new }
     ensures given { J.given jobs.new ≡ reading.new.total }
     ensures may { F.may files.new ≡ F.may files.old }
@@ -77,7 +78,15 @@ pub(crate) fn answer_all<R: Threads + Sync, J: Files + Send, F: Files + Send, O:
             return Ok(());
         }
         let step = answer_next(
-            rt, alloc, jobs, reading, &mut waiting, files, out, gate, number,
+            rt,
+            alloc,
+            jobs,
+            reading,
+            &mut waiting,
+            files,
+            out,
+            gate,
+            number,
         );
         if step.is_err() {
             return step;

@@ -87,7 +87,7 @@ module _ {J F O E : Type 0} (of_jobs : FilesView J) (jobs_old jobs : J) (run : R
   served_all reading status is done a ends =
       let is_line : IsLine (uncut reading) = subst IsLine (sym (uncut-line reading done.all_cut)) is.is_line in
       serves a.lines a.replies status a.are_replies
-          (cause_by a.lines a.replies status a.has_read.read (uncut reading) reading.source a.has_read.given is_line a.has_read.stands a.output ends)
+      (cause_by a.lines a.replies status a.has_read.read (uncut reading) reading.source a.has_read.given is_line a.has_read.stands a.output ends)
 
   -- the first jobs, where further ones wait
   first_by : (lines waiting : List (List ℕ)) (read left : List ℕ) (source : Source) → of_jobs.given jobs ≡ length read

@@ -112,7 +112,7 @@ module _ {J : Type 0} (view : FilesView J) (told : Option (List ℕ)) (faults : 
   ended_in bytes read left behind earlier line more is fits starts =
       let m : length read + (4194304 - length read) ≡ 4194304 = omega (arith, fits) in
       let front : take 4194304 bytes ≡ read ++ take (4194304 - length read) behind =
-          ap (take 4194304) is ∙ ap (λ n. take n (read ++ behind)) (sym m) ∙ take-append-add read behind (4194304 - length read) in
+      ap (take 4194304) is ∙ ap (λ n. take n (read ++ behind)) (sym m) ∙ take-append-add read behind (4194304 - length read) in
       record { earlier = earlier; behind = _; starts = among (take 4194304 bytes) read left (take (4194304 - length read) behind) earlier line more front starts }
 
   at_last : (bytes read : List ℕ) (whole : List (List ℕ)) (rest : List ℕ) (earlier : List (List ℕ)) (line : List ℕ) → bytes ≡ read → length read ≤ 4194304
@@ -135,10 +135,10 @@ module _ {J : Type 0} (view : FilesView J) (told : Option (List ℕ)) (faults : 
       inl (ended_in bytes read left f.0 earlier line more f.2 fits starts)
   by_front bytes jobs earlier line more read left is fits starts (inr none) =
       absurd (
-        let w = starts_within read left (earlier ++ line ∷ more) starts in
-        let n = ap length none in
-        let l = length-append earlier (line ∷ more) in
-        omega (arith, w, n, l)
+      let w = starts_within read left (earlier ++ line ∷ more) starts in
+      let n = ap length none in
+      let l = length-append earlier (line ∷ more) in
+      omega (arith, w, n, l)
       )
 
   job_by : (bytes : List ℕ) (jobs : J) (earlier : List (List ℕ)) (line : List ℕ) (more : List (List ℕ)) (read left : List ℕ) (source : Source) → told ≡ Some bytes
@@ -156,7 +156,7 @@ module _ {J : Type 0} (view : FilesView J) (told : Option (List ℕ)) (faults : 
       let f = told_front bytes read (view.rest jobs) (sym is ∙ s.so_far.front) in
       let p = s.one_past in
       let front : take 4194304 bytes ≡ take 4194304 read ++ [] =
-          ap (take 4194304) f.2 ∙ take-append-le 4194304 read f.0 (omega (arith, p)) ∙ sym (append-nil (take 4194304 read)) in
+      ap (take 4194304) f.2 ∙ take-append-le 4194304 read f.0 (omega (arith, p)) ∙ sym (append-nil (take 4194304 read)) in
       inl (record { earlier = earlier; behind = _; starts = among (take 4194304 bytes) (take 4194304 read) left [] earlier line more front s.starts })
   job_by bytes jobs earlier line more read left Failed is s = by_front bytes jobs earlier line more read left is s.fits s.starts s.front
 

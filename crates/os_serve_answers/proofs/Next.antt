@@ -39,7 +39,7 @@ module _ {J F O : Type 0} (of_jobs : FilesView J) (run : Run F) (of_out : SinkVi
       → HasRead of_jobs told faults jobs_old reading_old (lines ++ waiting_old) → HasRead of_jobs told faults jobs reading ((lines ++ line ∷ []) ++ waiting)
   read_behind told faults jobs_old jobs reading_old reading lines waiting_old waiting_mid waiting line first reads has =
       reads told faults (lines ++ line ∷ [])
-          (subst (HasRead of_jobs told faults jobs_old reading_old) (ap (λ w. lines ++ w) first ∙ behind lines line waiting_mid) has)
+      (subst (HasRead of_jobs told faults jobs_old reading_old) (ap (λ w. lines ++ w) first ∙ behind lines line waiting_mid) has)
 
   module _ (jobs_old jobs : J) (reading_old reading : Reading) (waiting_old waiting_mid waiting : List (List ℕ)) (files_old files : F) (out_old out : O) (number : ℕ)
       (line : List ℕ) (first : waiting_old ≡ line ∷ waiting_mid) (reads : ReadsOn of_jobs jobs_old jobs reading_old reading waiting_mid waiting) where
@@ -77,7 +77,7 @@ module _ {J F O : Type 0} (of_jobs : FilesView J) (run : Run F) (of_out : SinkVi
             → number ≡ length lines → Took of_out out_first out_old (answers replies) → Took of_out out_first out (answers (replies ++ reply ∷ []))
         all_output files_first out_first lines replies are counted before =
             subst (Took of_out out_first out) (sym (answers_to_more run files_first files_old lines replies reply number are counted))
-                (took_more of_out out_first out_old out (answers replies) (answer number reply) before took)
+            (took_more of_out out_first out_old out (answers replies) (answer number reply) before took)
 
         -- it did
         pub next_answered : AnswersNext of_jobs jobs_old jobs reading_old reading waiting_old waiting run files_old files of_out out_old out number (Ok tt)
@@ -172,4 +172,4 @@ module _ {J F O : Type 0} (of_jobs : FilesView J) (run : Run F) (of_out : SinkVi
         → (line : List ℕ) (more : List (List ℕ)) → waiting ≡ line ∷ more → may line
     may_run may jobs reading waiting files_old files out_old out number s serve line more first =
         serve line (is_job of_jobs told faults jobs reading s.lines line more
-            (subst (λ w. HasRead of_jobs told faults jobs reading (s.lines ++ w)) first s.has_read))
+        (subst (λ w. HasRead of_jobs told faults jobs reading (s.lines ++ w)) first s.has_read))

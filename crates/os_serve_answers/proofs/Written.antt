@@ -45,8 +45,8 @@ module _ {S : Type 0} (view : SinkView S) where
               ∙ ap (append_known (view.taken old)) (sym (take-append-add first more f.0)),
         );
         trouble = elim b.trouble as (λ _. HasTrouble view old new) [
-          inl faults ↦ inl (subst (λ n. HasRisen n (view.faults new)) a.1 faults)
-        | inr takes ↦ inr (subst (λ n. HasRisen n (view.empty_takes new)) a.2 takes)
+          | inl faults ↦ inl (subst (λ n. HasRisen n (view.faults new)) a.1 faults)
+          | inr takes ↦ inr (subst (λ n. HasRisen n (view.empty_takes new)) a.2 takes)
         ];
       }
 
@@ -86,15 +86,15 @@ module _ {S : Type 0} (view : SinkView S) where
       → IsWritten view old new text result → IsWritten view old new (one ++ two ++ three) result
   first_failed old new one two three text result is failed a =
       failed_first old new (one ++ two) three result failed
-          (failed_first old new one two result failed (subst (λ t. IsWritten view old new t result) is a))
+      (failed_first old new one two result failed (subst (λ t. IsWritten view old new t result) is a))
 
   pub second_failed : {T : Type 0} (old between new : S) (one two three text text_too : List ℕ) (result result_too : Result T WriteError) → text ≡ one → text_too ≡ two
       → is_err result ≡ false → is_err result_too ≡ true → IsWritten view old between text result → IsWritten view between new text_too result_too
       → IsWritten view old new (one ++ two ++ three) result_too
   second_failed old between new one two three text text_too result result_too is is_too fine failed a b =
       failed_first old new (one ++ two) three result_too failed
-          (written_later old between new one two result_too (took_first old between one result fine (subst (λ t. IsWritten view old between t result) is a))
-          (subst (λ t. IsWritten view between new t result_too) is_too b))
+      (written_later old between new one two result_too (took_first old between one result fine (subst (λ t. IsWritten view old between t result) is a))
+      (subst (λ t. IsWritten view between new t result_too) is_too b))
 
   pub third_written : {T : Type 0} (old first second new : S) (one two three text text_too text_last : List ℕ) (result result_too result_last : Result T WriteError)
       → text ≡ one → text_too ≡ two → text_last ≡ three → is_err result ≡ false → is_err result_too ≡ false
@@ -102,9 +102,9 @@ module _ {S : Type 0} (view : SinkView S) where
       → IsWritten view old new (one ++ two ++ three) result_last
   third_written old first second new one two three text text_too text_last result result_too result_last is is_too is_last fine fine_too a b c =
       written_later old second new (one ++ two) three result_last
-          (took_more old first second one two (took_first old first one result fine (subst (λ t. IsWritten view old first t result) is a))
-          (took_first first second two result_too fine_too (subst (λ t. IsWritten view first second t result_too) is_too b)))
-          (subst (λ t. IsWritten view second new t result_last) is_last c)
+      (took_more old first second one two (took_first old first one result fine (subst (λ t. IsWritten view old first t result) is a))
+      (took_first first second two result_too fine_too (subst (λ t. IsWritten view first second t result_too) is_too b)))
+      (subst (λ t. IsWritten view second new t result_last) is_last c)
 
 -- the heading of an answer, by what its parts are
 pub same_heading : (number status : ℕ) (output told text model : List ℕ) (reply : Reply) → text ≡ model → model ≡ heading number status (length output) (length told)

@@ -18,7 +18,8 @@ use Rattle.os_serve_jobs.specs.Lines.{AreEnded, AreLines, StartsWith, jobs_limit
 -- be opened.
 pub record WasGiven {J : Type 0} (of_jobs : FilesView J) (jobs_old jobs_new : J) (name read : List ℕ) : Type 0 where
   pub given : of_jobs.given jobs_new ≡ length read
-  pub front : (of_jobs.holds jobs_old name ≡ prepend_known read (of_jobs.rest jobs_new)) ⊎ ((read ≡ []) × HasRisen (of_jobs.faults jobs_old) (of_jobs.faults jobs_new))
+  pub front : (of_jobs.holds jobs_old name ≡ prepend_known read (of_jobs.rest jobs_new))
+      ⊎ ((read ≡ []) × HasRisen (of_jobs.faults jobs_old) (of_jobs.faults jobs_new))
 
 -- 0: the file was read to its end, within its limit, and all its jobs were answered.
 pub record IsServed {J O E : Type 0} (of_jobs : FilesView J) (jobs_old jobs_new : J) (of_out : SinkView O) (out_old out_new : O)

@@ -20,7 +20,12 @@ pub fn write_answer<O: Sink>(out: &mut O, number: u32, answer: &JobAnswer) -> Re
 {
     let output = answer.output();
     let told = answer.told();
-    let heading = Heading::new(number, answer.status(), output.len() as u32, told.len() as u32);
+    let heading = Heading::new(
+        number,
+        answer.status(),
+        output.len() as u32,
+        told.len() as u32,
+    );
     let first = write(out, heading.as_bytes());
     if first.is_err() {
         return first;

@@ -33,7 +33,7 @@ words_front word (byte ∷ bytes) some none blank =
 pub no_text : (line : List ℕ) (before more : List (List ℕ)) (word : List ℕ) → before ++ word ∷ more ≡ line_words line → (IsUtf8 word → ⊥) → IsText line → ⊥
 no_text line before more word is bad text =
     let behind : All IsUtf8 (word ∷ more) =
-        subst (All IsUtf8) (drop-append_seam before (word ∷ more)) (All-drop IsUtf8 (length before) (before ++ word ∷ more) (subst (All IsUtf8) (sym is) text)) in
+    subst (All IsUtf8) (drop-append_seam before (word ∷ more)) (All-drop IsUtf8 (length before) (before ++ word ∷ more) (subst (All IsUtf8) (sym is) text)) in
     bad (All-head IsUtf8 word more behind)
 
 -- what stands from a place on
@@ -49,7 +49,7 @@ pub words_at : (rest : List ℕ) (count : ℕ) → 0 < count → count ≤ lengt
 words_at rest count some within none blank =
     ap line_words (sym (take-append-drop count rest))
     ∙ words_front (take count rest) (drop count rest) (let l = length-take-le count rest within in omega (arith, l, some)) none
-        (λ byte bytes is. let at = first_of rest count byte bytes is in subst (λ b. is_blank b ≡ true) at.1 (blank at.0))
+    (λ byte bytes is. let at = first_of rest count byte bytes is in subst (λ b. is_blank b ≡ true) at.1 (blank at.0))
 
 -- a blank is left out
 pub blank_at : (rest : List ℕ) → 0 < length rest → is_blank (slice_index rest 0) ≡ true → line_words rest ≡ line_words (drop 1 rest)
@@ -79,7 +79,7 @@ pub one_blank : (line rest : List ℕ) (words : List (List ℕ)) (next count : �
 one_blank line rest words next count so_far rest_is none some blank =
     let at : drop 1 rest ≡ drop (next + 1) line = ap (drop 1) rest_is ∙ drop-drop 1 next line in
     let is : is_blank (slice_index rest 0) ≡ true = subst (λ n. n < length rest → is_blank (slice_index rest n) ≡ true) none blank some in
-    ap (λ r. words ++ line_words r) (sym at ) ∙ ap (λ w. words ++ w) (sym (blank_at rest some is)) ∙ ap (λ r. words ++ line_words r) rest_is ∙ so_far
+    ap (λ r. words ++ line_words r) (sym at) ∙ ap (λ w. words ++ w) (sym (blank_at rest some is)) ∙ ap (λ r. words ++ line_words r) rest_is ∙ so_far
 
 -- a word that isn't text
 pub bad_word : (line rest front : List ℕ) (before : List (List ℕ)) (next count : ℕ) → before ++ line_words (drop next line) ≡ line_words line
@@ -88,8 +88,8 @@ pub bad_word : (line rest front : List ℕ) (before : List (List ℕ)) (next cou
     → (IsUtf8 front → ⊥) → IsText line → ⊥
 bad_word line rest front before next count so_far rest_is front_is some within none blank bad =
     no_text line before (line_words (drop count rest)) (take count rest)
-        (ap (λ w. before ++ w) (sym (words_at rest count some within none blank)) ∙ ap (λ r. before ++ line_words r) rest_is ∙ so_far)
-        (subst (λ f. IsUtf8 f → ⊥) front_is bad)
+    (ap (λ w. before ++ w) (sym (words_at rest count some within none blank)) ∙ ap (λ r. before ++ line_words r) rest_is ∙ so_far)
+    (subst (λ f. IsUtf8 f → ⊥) front_is bad)
 
 -- all words are read
 pub all_words : (line : List ℕ) (words : List (List ℕ)) (next : ℕ) → words ++ line_words (drop next line) ≡ line_words line → length line ≤ next → words ≡ line_words line

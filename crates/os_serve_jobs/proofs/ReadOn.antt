@@ -73,10 +73,10 @@ same_cut waiting_old waiting_new line_old line_new xs items next filled count cu
     let range = length-take-le (filled - next) (drop next xs) (omega (arith, behind, high, low)) in
     let within = cut.within in
     subst (λ i. flat_map ended waiting_new ++ (line_new ++ slice_range i (next + count) filled) ≡ flat_map ended waiting_old ++ (line_old ++ slice_range i next filled)) same
-        (ap (λ r. flat_map ended waiting_new ++ (line_new ++ r)) (range-drop xs next count filled (omega (arith, range, within, low)))
-        ∙ sym (append_assoc (flat_map ended waiting_new) line_new (drop count (slice_range xs next filled)))
-        ∙ cut.same
-        ∙ append_assoc (flat_map ended waiting_old) line_old (slice_range xs next filled))
+    (ap (λ r. flat_map ended waiting_new ++ (line_new ++ r)) (range-drop xs next count filled (omega (arith, range, within, low)))
+    ∙ sym (append_assoc (flat_map ended waiting_new) line_new (drop count (slice_range xs next filled)))
+    ∙ cut.same
+    ∙ append_assoc (flat_map ended waiting_old) line_old (slice_range xs next filled))
 
 module _ {J : Type 0} (view : FilesView J) (told : Option (List ℕ)) (faults : ℕ) where
   -- how it stands, by another name of how more may come
@@ -178,7 +178,7 @@ module _ {J : Type 0} (view : FilesView J) (told : Option (List ℕ)) (faults : 
       → HasRead view told faults jobs_old reading_old (before ++ waiting_lines items_old) → HasRead view told faults jobs_new reading_new (before ++ waiting_lines items_new)
   at_end (Ok a) jobs_old jobs_new reading_old reading_new before items_old items_new line left_mid source_mid source left is_line gave same given end waits none now kept kept_left mid kept_source open_mid has =
       let s : IsOpenAt view told faults jobs_old (before ++ waiting_lines items_old) has.read (uncut reading_old) =
-          stands_by jobs_old (before ++ waiting_lines items_old) has.read (uncut reading_old) reading_old.source Open source has.stands in
+      stands_by jobs_old (before ++ waiting_lines items_old) has.read (uncut reading_old) reading_old.source Open source has.stands in
       record {
         read = has.read;
         given = given ∙ has.given;
@@ -198,7 +198,7 @@ module _ {J : Type 0} (view : FilesView J) (told : Option (List ℕ)) (faults : 
       }
   at_end (Err e) jobs_old jobs_new reading_old reading_new before items_old items_new line left_mid source_mid source left is_line gave same given end waits none now kept kept_left mid kept_source open_mid has =
       let s : IsOpenAt view told faults jobs_old (before ++ waiting_lines items_old) has.read (uncut reading_old) =
-          stands_by jobs_old (before ++ waiting_lines items_old) has.read (uncut reading_old) reading_old.source Open source has.stands in
+      stands_by jobs_old (before ++ waiting_lines items_old) has.read (uncut reading_old) reading_old.source Open source has.stands in
       record {
         read = has.read;
         given = given ∙ has.given;
@@ -245,10 +245,10 @@ module _ {J : Type 0} (view : FilesView J) (told : Option (List ℕ)) (faults : 
       → HasRead view told faults jobs_old reading_old lines → HasRead view told faults jobs_new reading_new lines
   took_on jobs_old jobs_new reading_old reading_new lines piece buffer count source left some within is total counted took gave same given has =
       let s : IsOpenAt view told faults jobs_old lines has.read (uncut reading_old) =
-          stands_by jobs_old lines has.read (uncut reading_old) reading_old.source Open source has.stands in
+      stands_by jobs_old lines has.read (uncut reading_old) reading_old.source Open source has.stands in
       let sum : length has.read + count ≡ reading_new.total = (let h = has.given in omega (arith, h, counted, total)) in
       let len : length (has.read ++ take count buffer) ≡ reading_new.total =
-          length-append has.read (take count buffer) ∙ ap (λ n. length has.read + n) (length-take-le count buffer within) ∙ sum in
+      length-append has.read (take count buffer) ∙ ap (λ n. length has.read + n) (length-take-le count buffer within) ∙ sum in
       record {
         read = has.read ++ take count buffer;
         given = given ∙ sym len;

@@ -69,7 +69,8 @@ pub record HasRead {J : Type 0} (view : FilesView J) (told : Option (List ℕ)) 
   pub stands : StandsBy view told faults jobs lines read (uncut reading) reading.source
 
 -- The same was read, or more: whatever lines stood before those that wait, what was read and cut into both is cut into both still.
-abbrev pub ReadsOn : {J : Type 0} → FilesView J → (jobs_old jobs_new : J) → (reading_old reading_new : Reading) → (waiting_old waiting_new : List (List ℕ)) → Type 0
+abbrev pub ReadsOn : {J : Type 0} → FilesView J → (jobs_old jobs_new : J) → (reading_old reading_new : Reading)
+    → (waiting_old waiting_new : List (List ℕ)) → Type 0
 ReadsOn view jobs_old jobs_new reading_old reading_new waiting_old waiting_new =
     (told : Option (List ℕ)) (faults : ℕ) (before : List (List ℕ)) → HasRead view told faults jobs_old reading_old (before ++ waiting_old)
     → HasRead view told faults jobs_new reading_new (before ++ waiting_new)

@@ -114,7 +114,8 @@ impl Reading {
         requires is_reading { IsReading self.old }
         requires some { self.old.next < self.old.filled }
         ensures is_reading { IsReading self.new }
-        ensures same { flat_map ended (waiting_lines waiting.new.items) ++ uncut self.new ≡ flat_map ended (waiting_lines waiting.old.items) ++ uncut self.old }
+        ensures same { flat_map ended (waiting_lines waiting.new.items) ++ uncut self.new
+            ≡ flat_map ended (waiting_lines waiting.old.items) ++ uncut self.old }
         ensures each { All IsLine (waiting_lines waiting.old.items) → All IsLine (waiting_lines waiting.new.items) }
         ensures total { self.new.total ≡ self.old.total }
         ensures source { self.new.source ≡ self.old.source }

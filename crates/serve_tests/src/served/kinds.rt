@@ -1,7 +1,7 @@
 //! Jobs of each kind, and words that ask for a server.
 
-
 ghost use Rattle.std.specs.Prelude.{◌≤◌};
+
 use super::calls::{ample, call, has_left, jobs_of, serve};
 use std::process::Abort;
 use std::test::Fail;
@@ -39,7 +39,9 @@ const ROWS: [Row; 14] = [
     ),
     (
         b"run first.c none\nrun none in.bin\nrun first.c in.bin\n",
-        b"job 0 status 5 out 0 report 17\nread fault input\njob 1 status 5 out 0 report 19\nread fault program\njob 2 status 0 out 4 report 27\n\x04\x03\x02\x01control done\noutput 4 of 4\n",
+        b"job 0 status 5 out 0 report 17\nread fault input\n\
+job 1 status 5 out 0 report 19\nread fault program\n\
+job 2 status 0 out 4 report 27\n\x04\x03\x02\x01control done\noutput 4 of 4\n",
     ),
     (
         b"gen 1 2\n",
@@ -113,5 +115,11 @@ fn words_are_exactly_serve_and_a_name(rt: HostRuntime) -> Result<(), Fail> {
 fn other_words_are_a_command(rt: HostRuntime) -> Result<(), Fail> {
     let words = ["run", "first.c", "in.bin"];
     let left = call(&rt, &words, jobs_of(rt.alloc(), &[])?, ample(rt.alloc())?)?;
-    has_left(&rt, &left, &[4, 3, 2, 1], "control done\noutput 4 of 4\n", 0)
+    has_left(
+        &rt,
+        &left,
+        &[4, 3, 2, 1],
+        "control done\noutput 4 of 4\n",
+        0,
+    )
 }

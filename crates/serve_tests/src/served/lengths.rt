@@ -10,7 +10,8 @@ use std::thread::Threads;
 /// How many bytes a file of jobs may have.
 const LIMIT: usize = 4_194_304;
 
-const ANSWER: &[u8] = b"job 0 status 0 out 4 report 27\n\x04\x03\x02\x01control done\noutput 4 of 4\n";
+const ANSWER: &[u8] =
+    b"job 0 status 0 out 4 report 27\n\x04\x03\x02\x01control done\noutput 4 of 4\n";
 
 /// A text, with spaces behind it until it is so long.
 fn padded(alloc: Global, text: &[u8], length: usize) -> Result<Vec<u8>, Fail> {
@@ -27,10 +28,31 @@ const ROWS: [Row; 5] = [
     (b"run first.c in.bin", b' ', LIMIT, ANSWER, "", 0),
     (b"run first.c in.bin", b'\n', LIMIT, ANSWER, "", 0),
     // one byte more, and it ends behind the limit
-    (b"run first.c in.bin", b' ', LIMIT + 1, b"", "too long jobs\n", 4),
-    (b"run first.c in.bin", b'\n', LIMIT + 1, b"", "too long jobs\n", 4),
+    (
+        b"run first.c in.bin",
+        b' ',
+        LIMIT + 1,
+        b"",
+        "too long jobs\n",
+        4,
+    ),
+    (
+        b"run first.c in.bin",
+        b'\n',
+        LIMIT + 1,
+        b"",
+        "too long jobs\n",
+        4,
+    ),
     // what ended within the limit was answered
-    (b"run first.c in.bin\nstop", b'\n', LIMIT + 1, ANSWER, "too long jobs\n", 4),
+    (
+        b"run first.c in.bin\nstop",
+        b'\n',
+        LIMIT + 1,
+        ANSWER,
+        "too long jobs\n",
+        4,
+    ),
 ];
 
 fn has_row<R: Threads + Sync + AllocGlobal + Abort>(rt: &R, row: &Row) -> Result<(), Fail> {
@@ -52,7 +74,8 @@ fn a_file_has_as_many_bytes_as_the_limit(rt: HostRuntime) -> Result<(), Fail> {
 /// The number of the call of the file that fails, how many bytes a read gives, and what is written.
 type Fault = (u64, u32, &'static [u8]);
 
-const TWO: &[u8] = b"job 0 status 0 out 4 report 27\n\x04\x03\x02\x01control done\noutput 4 of 4\njob 1 status 2 out 0 report 6\nusage\n";
+const TWO: &[u8] =
+    b"job 0 status 0 out 4 report 27\n\x04\x03\x02\x01control done\noutput 4 of 4\njob 1 status 2 out 0 report 6\nusage\n";
 
 const FAULTS: [Fault; 7] = [
     (0, 19, b""),

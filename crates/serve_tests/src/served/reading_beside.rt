@@ -6,7 +6,9 @@ use os_io::MemSink;
 use os_serve::serve_words;
 use std::test::Fail;
 
-const ANSWERS: &[u8] = b"job 0 status 0 out 4 report 27\n\x04\x03\x02\x01control done\noutput 4 of 4\njob 1 status 0 out 4 report 27\n\x04\x03\x02\x01control done\noutput 4 of 4\n";
+const ANSWERS: &[u8] =
+    b"job 0 status 0 out 4 report 27\n\x04\x03\x02\x01control done\noutput 4 of 4\n\
+job 1 status 0 out 4 report 27\n\x04\x03\x02\x01control done\noutput 4 of 4\n";
 
 #[test]
 fn the_second_line_is_read_while_the_first_job_runs(rt: HostRuntime) -> Result<(), Fail> {

@@ -1,7 +1,7 @@
 //! Outputs that don't take all answers: the status is 6, and what was taken is a front.
 
-
 ghost use Rattle.std.specs.Prelude.{◌≤◌};
+
 use super::calls::{call, jobs_of};
 use os_io::MemSink;
 use std::process::Abort;
@@ -10,7 +10,10 @@ use std::thread::Threads;
 
 const JOBS: &[u8] = b"run first.c in.bin\nstop\nrun first.c in.bin\n";
 
-const ANSWERS: &[u8] = b"job 0 status 0 out 4 report 27\n\x04\x03\x02\x01control done\noutput 4 of 4\njob 1 status 2 out 0 report 6\nusage\njob 2 status 0 out 4 report 27\n\x04\x03\x02\x01control done\noutput 4 of 4\n";
+const ANSWERS: &[u8] =
+    b"job 0 status 0 out 4 report 27\n\x04\x03\x02\x01control done\noutput 4 of 4\n\
+job 1 status 2 out 0 report 6\nusage\n\
+job 2 status 0 out 4 report 27\n\x04\x03\x02\x01control done\noutput 4 of 4\n";
 
 /// Asks that an output which takes so many bytes in all took just these.
 fn is_cut<R: Threads + Sync + AllocGlobal + Abort>(rt: &R, room: usize) -> Result<(), Fail>

@@ -24,8 +24,8 @@ returns-then-is_err g c =
     let s = c.serving in
     let r = c.read_on in
     out_of_memory g.J.Files run g.O.Sink told faults r.new.jobs r.new.self (waiting_lines r.new.waiting.items) c.args.files.now s.files c.args.out.now s.out s.number
-        (reads_on g.J.Files run g.O.Sink told faults s.jobs r.new.jobs s.reading r.new.self (waiting_lines s.waiting.items) (waiting_lines r.new.waiting.items)
-        c.args.files.now s.files c.args.out.now s.out s.number r.ensures.reads s.invariant.serving)
+    (reads_on g.J.Files run g.O.Sink told faults s.jobs r.new.jobs s.reading r.new.self (waiting_lines s.waiting.items) (waiting_lines r.new.waiting.items)
+    c.args.files.now s.files c.args.out.now s.out s.number r.ensures.reads s.invariant.serving)
 
 pub answer_next-step-requires-clause-may : goal.answer_next-step-requires-clause-may
 answer_next-step-requires-clause-may g c κs within =
@@ -35,10 +35,10 @@ answer_next-step-requires-clause-may g c κs within =
     let s = c.serving in
     let r = c.read_on in
     may_run g.J.Files run g.O.Sink told faults (λ line. IsText line → MayRun (g.F.Files.may s.files) line) r.new.jobs r.new.self (waiting_lines r.new.waiting.items) c.args.files.now s.files
-        c.args.out.now s.out s.number
-        (reads_on g.J.Files run g.O.Sink told faults s.jobs r.new.jobs s.reading r.new.self (waiting_lines s.waiting.items) (waiting_lines r.new.waiting.items)
-        c.args.files.now s.files c.args.out.now s.out s.number r.ensures.reads s.invariant.serving)
-        (λ line named text. subst (λ m. MayRun m line) (sym s.invariant.may) (c.requires.files line named text))
+    c.args.out.now s.out s.number
+    (reads_on g.J.Files run g.O.Sink told faults s.jobs r.new.jobs s.reading r.new.self (waiting_lines s.waiting.items) (waiting_lines r.new.waiting.items)
+    c.args.files.now s.files c.args.out.now s.out s.number r.ensures.reads s.invariant.serving)
+    (λ line named text. subst (λ m. MayRun m line) (sym s.invariant.may) (c.requires.files line named text))
 
 pub returns-then-is_err-2 : goal.returns-then-is_err-2
 returns-then-is_err-2 g c =
@@ -49,27 +49,27 @@ returns-then-is_err-2 g c =
     let r = c.read_on in
     let n = c.answer_next-step in
     stops_by
-        (λ _. IsServing g.J.Files told faults n.new.jobs n.new.reading (waiting_lines n.new.waiting.items) run c.args.files.now n.new.files g.O.Sink c.args.out.now n.new.out
-        (s.number + 1))
-        (λ _. IsAnswered g.J.Files told faults n.new.jobs n.new.reading run c.args.files.now n.new.files g.O.Sink c.args.out.now n.new.out × IsDone n.new.reading
-        × IsReading n.new.reading)
-        (StopsServing g.J.Files told faults n.new.jobs n.new.reading run c.args.files.now n.new.files g.O.Sink c.args.out.now n.new.out)
-        n.result
-        (sym c.is_err-in-serving.ensures.value ∙ c.if-is_err-2.true)
-        (n.ensures.next told faults c.args.files.now c.args.out.now
-        (reads_on g.J.Files run g.O.Sink told faults s.jobs r.new.jobs s.reading r.new.self (waiting_lines s.waiting.items) (waiting_lines r.new.waiting.items)
-        c.args.files.now s.files c.args.out.now s.out s.number r.ensures.reads s.invariant.serving))
+    (λ _. IsServing g.J.Files told faults n.new.jobs n.new.reading (waiting_lines n.new.waiting.items) run c.args.files.now n.new.files g.O.Sink c.args.out.now n.new.out
+    (s.number + 1))
+    (λ _. IsAnswered g.J.Files told faults n.new.jobs n.new.reading run c.args.files.now n.new.files g.O.Sink c.args.out.now n.new.out × IsDone n.new.reading
+    × IsReading n.new.reading)
+    (StopsServing g.J.Files told faults n.new.jobs n.new.reading run c.args.files.now n.new.files g.O.Sink c.args.out.now n.new.out)
+    n.result
+    (sym c.is_err-in-serving.ensures.value ∙ c.if-is_err-2.true)
+    (n.ensures.next told faults c.args.files.now c.args.out.now
+    (reads_on g.J.Files run g.O.Sink told faults s.jobs r.new.jobs s.reading r.new.self (waiting_lines s.waiting.items) (waiting_lines r.new.waiting.items)
+    c.args.files.now s.files c.args.out.now s.out s.number r.ensures.reads s.invariant.serving))
 
 pub overflow_add-number : goal.overflow_add-number
 overflow_add-number g c =
     let few = few_jobs g.J.Files (IsReplyTo g.F.Files) g.O.Sink (g.J.Files.holds c.args.jobs.now c.args.name.now) (g.J.Files.faults c.args.jobs.now) c.serving.jobs
-        c.serving.reading (waiting_lines c.serving.waiting.items) c.args.files.now c.serving.files c.args.out.now c.serving.out c.serving.number c.serving.invariant.serving in
+    c.serving.reading (waiting_lines c.serving.waiting.items) c.args.files.now c.serving.files c.args.out.now c.serving.out c.serving.number c.serving.invariant.serving in
     omega (arith, few)
 
 pub serving-smaller : goal.serving-smaller
 serving-smaller g c =
     let few = few_jobs g.J.Files (IsReplyTo g.F.Files) g.O.Sink (g.J.Files.holds c.args.jobs.now c.args.name.now) (g.J.Files.faults c.args.jobs.now) c.serving.jobs
-        c.serving.reading (waiting_lines c.serving.waiting.items) c.args.files.now c.serving.files c.args.out.now c.serving.out c.serving.number c.serving.invariant.serving in
+    c.serving.reading (waiting_lines c.serving.waiting.items) c.args.files.now c.serving.files c.args.out.now c.serving.out c.serving.number c.serving.invariant.serving in
     omega (arith, few)
 
 pub serving-preserved : goal.serving-preserved

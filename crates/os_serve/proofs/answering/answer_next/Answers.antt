@@ -14,8 +14,8 @@ returns-in_default-clause-next g c =
     let b = c.answer_beside-answer in
     let t = c.take_first-line in
     next_memory g.J.Files (IsReplyTo g.F.Files) g.O.Sink c.args.jobs.now b.new.jobs c.args.reading.now b.new.reading (waiting_lines c.args.waiting.now.items)
-        (waiting_lines t.new.waiting.items) (waiting_lines b.new.waiting.items) c.args.files.now b.new.files c.args.out.now c.args.out.now c.args.number t.result.items
-        t.ensures.taken b.ensures.reads stops.Memory refl (IfErr-at_err (λ _. b.new.files ≡ c.args.files.now) c.in_default.is b.ensures.files) refl
+    (waiting_lines t.new.waiting.items) (waiting_lines b.new.waiting.items) c.args.files.now b.new.files c.args.out.now c.args.out.now c.args.number t.result.items
+    t.ensures.taken b.ensures.reads stops.Memory refl (IfErr-at_err (λ _. b.new.files ≡ c.args.files.now) c.in_default.is b.ensures.files) refl
 
 pub returns-then-is_err-clause-next : goal.returns-then-is_err-clause-next
 returns-then-is_err-clause-next g c =
@@ -24,12 +24,12 @@ returns-then-is_err-clause-next g c =
     let run = IsReplyTo g.F.Files in
     let r = reply_of c.in-Ok.answer in
     next_short g.J.Files run g.O.Sink c.args.jobs.now b.new.jobs c.args.reading.now b.new.reading (waiting_lines c.args.waiting.now.items) (waiting_lines t.new.waiting.items)
-        (waiting_lines b.new.waiting.items) c.args.files.now b.new.files c.args.out.now c.write_answer.new.out c.args.number t.result.items t.ensures.taken b.ensures.reads r
-        (subst (λ l. run c.args.files.now b.new.files l r) c.deref.ensures.value
-        (IfOk-at_ok (λ a. run c.args.files.now b.new.files c.deref.result.now (reply_of a)) c.in-Ok.is b.ensures.reply))
-        stops.Write refl
-        (cut_by g.O.Sink c.args.out.now c.write_answer.new.out (answer c.args.number r) c.write_answer.result (sym c.is_err.ensures.value ∙ c.if-is_err.true)
-        c.write_answer.ensures)
+    (waiting_lines b.new.waiting.items) c.args.files.now b.new.files c.args.out.now c.write_answer.new.out c.args.number t.result.items t.ensures.taken b.ensures.reads r
+    (subst (λ l. run c.args.files.now b.new.files l r) c.deref.ensures.value
+    (IfOk-at_ok (λ a. run c.args.files.now b.new.files c.deref.result.now (reply_of a)) c.in-Ok.is b.ensures.reply))
+    stops.Write refl
+    (cut_by g.O.Sink c.args.out.now c.write_answer.new.out (answer c.args.number r) c.write_answer.result (sym c.is_err.ensures.value ∙ c.if-is_err.true)
+    c.write_answer.ensures)
 
 pub returns-then-is_err-2-clause-next : goal.returns-then-is_err-2-clause-next
 returns-then-is_err-2-clause-next g c =
@@ -38,12 +38,12 @@ returns-then-is_err-2-clause-next g c =
     let run = IsReplyTo g.F.Files in
     let r = reply_of c.in-Ok.answer in
     next_last g.J.Files run g.O.Sink c.args.jobs.now b.new.jobs c.args.reading.now b.new.reading (waiting_lines c.args.waiting.now.items) (waiting_lines t.new.waiting.items)
-        (waiting_lines b.new.waiting.items) c.args.files.now b.new.files c.args.out.now c.write_answer.new.out c.args.number t.result.items t.ensures.taken b.ensures.reads r
-        (subst (λ l. run c.args.files.now b.new.files l r) c.deref.ensures.value
-        (IfOk-at_ok (λ a. run c.args.files.now b.new.files c.deref.result.now (reply_of a)) c.in-Ok.is b.ensures.reply))
-        (took_first g.O.Sink c.args.out.now c.write_answer.new.out (answer c.args.number r) c.write_answer.result (sym c.is_err.ensures.value ∙ c.if-is_err.false)
-        c.write_answer.ensures)
-        stops.Memory refl
+    (waiting_lines b.new.waiting.items) c.args.files.now b.new.files c.args.out.now c.write_answer.new.out c.args.number t.result.items t.ensures.taken b.ensures.reads r
+    (subst (λ l. run c.args.files.now b.new.files l r) c.deref.ensures.value
+    (IfOk-at_ok (λ a. run c.args.files.now b.new.files c.deref.result.now (reply_of a)) c.in-Ok.is b.ensures.reply))
+    (took_first g.O.Sink c.args.out.now c.write_answer.new.out (answer c.args.number r) c.write_answer.result (sym c.is_err.ensures.value ∙ c.if-is_err.false)
+    c.write_answer.ensures)
+    stops.Memory refl
 
 pub returns-clause-next : goal.returns-clause-next
 returns-clause-next g c =
@@ -52,8 +52,8 @@ returns-clause-next g c =
     let run = IsReplyTo g.F.Files in
     let r = reply_of c.in-Ok.answer in
     next_answered g.J.Files run g.O.Sink c.args.jobs.now b.new.jobs c.args.reading.now b.new.reading (waiting_lines c.args.waiting.now.items) (waiting_lines t.new.waiting.items)
-        (waiting_lines b.new.waiting.items) c.args.files.now b.new.files c.args.out.now c.write_answer.new.out c.args.number t.result.items t.ensures.taken b.ensures.reads r
-        (subst (λ l. run c.args.files.now b.new.files l r) c.deref.ensures.value
-        (IfOk-at_ok (λ a. run c.args.files.now b.new.files c.deref.result.now (reply_of a)) c.in-Ok.is b.ensures.reply))
-        (took_first g.O.Sink c.args.out.now c.write_answer.new.out (answer c.args.number r) c.write_answer.result (sym c.is_err.ensures.value ∙ c.if-is_err.false)
-        c.write_answer.ensures)
+    (waiting_lines b.new.waiting.items) c.args.files.now b.new.files c.args.out.now c.write_answer.new.out c.args.number t.result.items t.ensures.taken b.ensures.reads r
+    (subst (λ l. run c.args.files.now b.new.files l r) c.deref.ensures.value
+    (IfOk-at_ok (λ a. run c.args.files.now b.new.files c.deref.result.now (reply_of a)) c.in-Ok.is b.ensures.reply))
+    (took_first g.O.Sink c.args.out.now c.write_answer.new.out (answer c.args.number r) c.write_answer.result (sym c.is_err.ensures.value ∙ c.if-is_err.false)
+    c.write_answer.ensures)

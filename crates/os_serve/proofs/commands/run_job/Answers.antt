@@ -9,7 +9,7 @@ pub returns-then-status-eq-WRITE_FAULT-clause-reply : goal.returns-then-status-e
 returns-then-status-eq-WRITE_FAULT-clause-reply g c =
     let r = c.run_words-status in
     reply_made g.F.Files c.args.files.now r.new.files (texts c.args.words.now) c.new-output.result r.new.out c.new-report.result r.new.report r.result no_memory
-        c.new-output.ensures c.new-report.ensures r.ensures (reply-6 r.result r.new.out.taken r.new.report.taken c.if-status-eq-WRITE_FAULT.true)
+    c.new-output.ensures c.new-report.ensures r.ensures (reply-6 r.result r.new.out.taken r.new.report.taken c.if-status-eq-WRITE_FAULT.true)
 
 pub returns-then-status-eq-WRITE_FAULT-clause-may : goal.returns-then-status-eq-WRITE_FAULT-clause-may
 returns-then-status-eq-WRITE_FAULT-clause-may g c =
@@ -19,7 +19,7 @@ pub returns-clause-reply : goal.returns-clause-reply
 returns-clause-reply g c =
     let r = c.run_words-status in
     reply_made g.F.Files c.args.files.now r.new.files (texts c.args.words.now) c.new-output.result r.new.out c.new-report.result r.new.report r.result _
-        c.new-output.ensures c.new-report.ensures r.ensures (reply-other r.result r.new.out.taken r.new.report.taken c.if-status-eq-WRITE_FAULT.false)
+    c.new-output.ensures c.new-report.ensures r.ensures (reply-other r.result r.new.out.taken r.new.report.taken c.if-status-eq-WRITE_FAULT.false)
 
 pub returns-clause-may : goal.returns-clause-may
 returns-clause-may g c =

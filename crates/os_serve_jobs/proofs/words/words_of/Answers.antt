@@ -11,7 +11,7 @@ pub returns-in_default : goal.returns-in_default
 returns-in_default c =
     let n = c.front_len-count in
     bad_word c.args.line.now c.rest_of-rest.result.now c.front_of.result.now (map string_bytes c.loop-next.words.items) c.loop-next.next n.result c.loop-next.invariant.words
-        c.rest_of-rest.ensures c.front_of.ensures (omega (arith, c.if-count-eq0.false)) n.ensures.within n.ensures.none n.ensures.blank c.in_default.ensures.cases.0
+    c.rest_of-rest.ensures c.front_of.ensures (omega (arith, c.if-count-eq0.false)) n.ensures.within n.ensures.none n.ensures.blank c.in_default.ensures.cases.0
 
 pub loop-next-preserved : goal.loop-next-preserved
 loop-next-preserved c =
@@ -20,7 +20,7 @@ loop-next-preserved c =
     let before = map string_bytes c.loop-next.words.items in
     let word_is : word ≡ c.front_of.result.now = c.in_ok-from_str.ensures.ok ∙ c.in-Ok.ensures.cases.0 in
     let words_are : map string_bytes c.push.new.self.items ≡ before ++ word ∷ [] =
-        ap (map string_bytes) c.in_ok-push.ensures.items ∙ map-append string_bytes c.loop-next.words.items (c.in_ok-from_str.field-0 ∷ []) in
+    ap (map string_bytes) c.in_ok-push.ensures.items ∙ map-append string_bytes c.loop-next.words.items (c.in_ok-from_str.field-0 ∷ []) in
     record {
       within = omega (arith, n.ensures.within, c.loop-next.invariant.within, ap length c.rest_of-rest.ensures ∙ length-drop c.loop-next.next c.args.line.now);
       words = one_word c.args.line.now c.rest_of-rest.result.now c.front_of.result.now word before (map string_bytes c.push.new.self.items) c.loop-next.next n.result
