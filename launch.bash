@@ -22,6 +22,7 @@ synopsis() {
     [ "$name" = osrun ] && [ "$1" = 2 ] && [ -t 2 ] || return 0
     echo "osrun run PROGRAM INPUT [--workers N] [--budget N] [--control N]" >&2
     echo "osrun gen SEED BLOCKS [--workers N]" >&2
+    echo "osrun serve JOBS" >&2
 }
 
 if [ -f "$program.stamp" ] && read -r stamp <"$program.stamp" && [ "$stamp" = "${commit:-none}" ]; then
@@ -35,6 +36,11 @@ fi
 if ! command -v rt >/dev/null; then
     echo "$name: the command rt of the Rattle kit isn't here; README.md, \"Two commands\", says what it is for" >&2
     exit 69
+fi
+# The files that jobs name are no words of the command, so the toolchain has no copies of them.
+if [ "$name" = osrun ] && [ "${1-}" = serve ]; then
+    echo "$name: jobs are served by the proved program alone; ./build proves and builds it" >&2
+    exit 70
 fi
 echo "$name: this machine hasn't proved the program yet: it runs by the toolchain with run-time checks, slowly; ./build proves and builds it" >&2
 

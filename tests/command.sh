@@ -468,6 +468,92 @@ for chain in forward backward; do
     done
 done
 
+# Jobs by lines.
+printf 'run first.c in.bin\nstop' >two.jobs
+run serve two.jobs
+{ printf 'job 0 status 0 out 4 report 27\n\004\003\002\001control done\noutput 4 of 4\n'; printf 'job 1 status 2 out 0 report 6\nusage\n'; } >wanted
+agree "two jobs" 0 wanted ""
+run serve /dev/stdin <two.jobs
+agree "jobs from standard input" 0 wanted ""
+run serve empty.c
+check "no jobs" 0 "" ""
+run serve none.jobs
+check "a file of jobs that isn't there" 5 "" "read fault jobs"
+run serve folder
+check "a folder of jobs" 5 "" "read fault jobs"
+run serve long.bin
+check "a file of jobs that is too long" 4 "" "too long jobs"
+for words in "" "two.jobs more" "--help" "two.jobs --workers 1"; do
+    # shellcheck disable=SC2086
+    run serve $words
+    check "words that ask for no server: serve $words" 2 "" usage
+done
+"$osrun" serve two.jobs >/dev/full 2>report
+status=$?
+: >out
+check "a full standard output for answers" 6 "" ""
+for job in $(seq 0 999); do
+    echo 'run first.c in.bin' >&3
+    printf 'job %d status 0 out 4 report 27\n\004\003\002\001control done\noutput 4 of 4\n' "$job" >&4
+done 3>thousand.jobs 4>wanted
+run serve thousand.jobs
+agree "a thousand jobs over the same file" 0 wanted ""
+# Jobs of each kind, one after the other, are answered as the command answers their words.
+cat >kinds.jobs <<'END'
+run first.c in.bin
+run first.c short.bin
+run first.c in.bin --workers 65
+run empty.c in.bin
+run long.c in.bin
+run first.c long.bin
+run none.c in.bin
+run folder in.bin
+gen 7 65536
+run first.c in.bin --budget 0
+END
+job=0
+while read -r words; do
+    # shellcheck disable=SC2086
+    run $words
+    printf 'job %d status %d out %d report %d\n' "$job" "$status" "$(wc -c <out)" "$(wc -c <report)"
+    cat out report
+    job=$((job + 1))
+done <kinds.jobs >wanted
+run serve kinds.jobs
+agree "jobs of each kind" 0 wanted ""
+
+# A larger input is cut into jobs, and what they write is joined again.
+mkdir cut
+bytes 4096 "int(x / 256) % 256" >cut.bin
+for processes in 1 3; do
+    "$top/examples/many/cut.sh" cut.bin 400 0 cut >/dev/null
+    "$top/examples/many/jobs.sh" "$top/examples/lift.c" cut 3 --workers 2 >/dev/null
+    OSRUN=$osrun "$top/examples/many/here.sh" cut "$processes"
+    "$top/examples/many/join.py" cut >out 2>report
+    status=$?
+    cp out joined
+    run run "$top/examples/lift.c" cut.bin
+    mv out whole
+    mv joined out
+    : >report
+    agree "parts that are coded by $processes processes, and joined" 0 whole ""
+done
+"$top/examples/many/cut.sh" cut.bin 1000 2 cut >/dev/null
+"$top/examples/many/jobs.sh" "$top/examples/smooth.c" cut 2 >/dev/null
+OSRUN=$osrun "$top/examples/many/here.sh" cut
+"$top/examples/many/join.py" cut >joined 2>report
+run run "$top/examples/smooth.c" cut.bin
+mv out whole
+mv joined out
+: >report
+agree "parts that overlap, joined" 0 whole ""
+SLURM_ARRAY_TASK_ID=1 OSRUN=$osrun "$top/examples/many/slurm.sh" cut
+cmp -s cut/answers.001 <("$osrun" serve cut/jobs.001)
+status=$?
+: >out
+: >report
+check "a task of an array" 0 "" ""
+
 # Whichever allocation fails, the status is 7 and nothing is written, or the answer is that of ample memory. A run
 # makes fewer than 400 of them, and so do bytes that are made and bad words.
 compiler=$(command -v cc || command -v clang || echo "$(dirname "$(readlink -f "$(command -v rt)")")/../toolchain/bin/clang")

@@ -1,8 +1,9 @@
-//! The program `osrun`: the command over the files and streams of the host.
+//! The program `osrun`: the command, and the server of jobs, over the files and streams of the host.
 #![tactic(auto)]
 
 use os_io::{HostFiles, HostSink};
-use osrun_core::{NoGate, run_words};
+use os_serve::serve_words;
+use osrun_core::NoGate;
 use std::os::fd::AsRawFd;
 use std::process::ExitCode;
 use std::rt::{Env, Files};
@@ -40,13 +41,15 @@ fn main(rt: HostRuntime) -> ExitCode {
         ),
         Err(_) => Vec::new(rt.alloc()),
     };
+    let mut jobs = HostFiles::new(&rt);
     let mut files = HostFiles::new(&rt);
     let mut out = HostSink::new(rt.stdout());
     let mut report = HostSink::new(rt.stderr());
-    let status = run_words(
+    let status = serve_words(
         &rt,
         rt.alloc(),
         &words,
+        &mut jobs,
         &mut files,
         &mut out,
         &mut report,

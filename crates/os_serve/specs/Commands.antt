@@ -1,0 +1,45 @@
+-- What each job is answered.
+use Rattle.std.specs.Prelude.{◌≡◌, ◌⊎◌, ℕ, true, false, List, Some, ◌==◌, if◌then◌else◌}
+use Rattle.os_io.specs.declared.files.Files.{Ghosts as FilesView}
+use Rattle.os_io.specs.declared.sink.Sink.{Ghosts as SinkView}
+use Rattle.osrun_core_answer.specs.Answers.{AnswersRequest}
+use Rattle.osrun_core_words.specs.Command.{command}
+use Rattle.os_serve.specs.Command.{Text, is_serve}
+use Rattle.os_serve_answers.specs.Replies.{no_job, no_memory}
+use Rattle.os_serve_jobs.specs.Answers.{Reply}
+use Rattle.os_serve_jobs.specs.KeptStates.{KeptState, fresh_kept}
+use Rattle.os_serve_jobs.specs.Words.{IsText, line_words}
+
+-- how many bytes the output and the report of a job may have; no job has more
+abbrev pub output_room : ℕ
+output_room = 67108864
+
+abbrev pub report_room : ℕ
+report_room = 8400000
+
+-- a sink in memory as a sink: it tells its bytes, and fails where it finds no memory
+abbrev pub kept_sink : SinkView KeptState
+kept_sink = record { faults = λ s. s.faults; empty_takes = λ _. 0; taken = λ s. Some s.taken }
+
+-- The answer to a job: the status of its command, and what its sinks took. They fail for want of memory alone, so the status isn't 6.
+abbrev pub reply_by : (status : ℕ) → (output told : List ℕ) → Reply
+reply_by status output told = if status == 6 then no_memory else record { status = status; output = output; told = told }
+
+-- What the command leaves where it is called for the words, with fresh sinks in memory.
+pub record IsReplyOf {F : Type 0} (of_files : FilesView F) (files_old files_new : F) (words : List Text) (reply : Reply) : Type 0 where
+  pub output : KeptState
+  pub report : KeptState
+  pub status : ℕ
+  pub answers : AnswersRequest of_files files_old files_new kept_sink (fresh_kept output_room) output kept_sink (fresh_kept report_room) report
+      (command words) status
+  pub reply_is : reply ≡ reply_by status output.taken report.taken
+
+-- the line is no text, or asks for a server
+abbrev pub NamesNoJob : List ℕ → Type 0
+NamesNoJob line = (IsText line → ⊥) ⊎ (is_serve (line_words line) ≡ true)
+
+-- a job is answered as the command does, and a line that names none as words that name none
+abbrev pub IsReplyTo : {F : Type 0} → FilesView F → (files_old files_new : F) → (line : List ℕ) → Reply → Type 0
+IsReplyTo of_files files_old files_new line reply =
+    (IsText line × (is_serve (line_words line) ≡ false) × IsReplyOf of_files files_old files_new (line_words line) reply)
+    ⊎ (NamesNoJob line × (reply ≡ no_job) × (files_new ≡ files_old))

@@ -1,0 +1,4 @@
+pub mod Ends
+pub mod JobLines
+pub mod Next
+pub mod Written

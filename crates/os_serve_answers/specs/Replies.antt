@@ -1,0 +1,32 @@
+-- What jobs are answered, whatever runs them.
+use Rattle.std.specs.Prelude.{◌≡◌, ℕ, List, [], ◌∷◌}
+use Rattle.osrun_core_jobs.specs.Refusal.{usage_line}
+use Rattle.os_serve_answers.specs.declared.job_answer.JobAnswer.{JobAnswer}
+use Rattle.os_serve_answers.specs.declared.job_answer.JobAnswer.TheVariants as answered
+use Rattle.os_serve_jobs.specs.Answers.{Reply}
+
+-- the answer to a line that names no job
+abbrev pub no_job : Reply
+no_job = record { status = 2; output = []; told = usage_line }
+
+-- the answer to a job whose sinks find no memory
+abbrev pub no_memory : Reply
+no_memory = record { status = 7; output = []; told = [] }
+
+-- the reply that an answer is
+abbrev pub reply_of : JobAnswer → Reply
+reply_of answered.NoJob = no_job
+reply_of answered.NoMemory = no_memory
+reply_of (answered.Done status output report) = record { status = status; output = output.taken; told = report.taken }
+
+-- from which state to which a job goes that is answered so
+abbrev pub Run : Type 0 → Type 1
+Run S = S → S → List ℕ → Reply → Type 0
+
+-- Each line has its reply, in their order, each over the state as the one before left it.
+abbrev pub AreReplies : {S : Type 0} → (run : Run S) → (old new : S) → List (List ℕ) → List Reply → Type 0
+AreReplies run old new [] [] = new ≡ old
+AreReplies run old new [] (reply ∷ replies) = ⊥
+AreReplies run old new (line ∷ lines) [] = ⊥
+AreReplies {S} run old new (line ∷ lines) (reply ∷ replies) =
+    (between : S) × run old between line reply × AreReplies run between new lines replies

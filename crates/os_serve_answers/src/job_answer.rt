@@ -1,0 +1,62 @@
+ghost use Rattle.std.specs.Prelude.{◌≡◌, ◌≤◌, length};
+ghost use Rattle.os_serve_answers.specs.Replies.{reply_of};
+
+use os_serve_jobs::Kept;
+
+/// The status of words that name no job.
+const BAD_WORDS: u8 = 2;
+/// The status where memory could not be had.
+const NO_MEMORY: u8 = 7;
+/// What is told where a line names no job.
+const USAGE: &[u8] = b"usage\n";
+
+/// What a job came to.
+#[derive(Drop)]
+pub enum JobAnswer {
+    /// The line names no job.
+    NoJob,
+    /// Its sinks found no memory.
+    NoMemory,
+    /// The status of its command, and what its sinks took.
+    Done {
+        status: u8,
+        output: Kept,
+        report: Kept,
+    },
+}
+
+impl JobAnswer {
+    /// The status that is told.
+    pub fn status(&self) -> u8
+        ensures { result ≡ (reply_of self.now).status }
+    {
+        match self {
+            JobAnswer::NoJob => BAD_WORDS,
+            JobAnswer::NoMemory => NO_MEMORY,
+            JobAnswer::Done { status, .. } => *status,
+        }
+    }
+
+    /// The bytes of the output.
+    pub fn output(&self) -> &[u8]
+        ensures bytes { result.now ≡ (reply_of self.now).output }
+        ensures within { length result.now ≤ 67108864 }
+    {
+        match self {
+            JobAnswer::Done { output, .. } => output.bytes(),
+            _ => &[],
+        }
+    }
+
+    /// The bytes of the report.
+    pub fn told(&self) -> &[u8]
+        ensures bytes { result.now ≡ (reply_of self.now).told }
+        ensures within { length result.now ≤ 67108864 }
+    {
+        match self {
+            JobAnswer::Done { report, .. } => report.bytes(),
+            JobAnswer::NoJob => USAGE,
+            JobAnswer::NoMemory => &[],
+        }
+    }
+}

@@ -1,0 +1,16 @@
+//! Answers to jobs: what is written of each, and what a server leaves that answers the jobs of a file.
+//!
+//! `Serves` says it of a whole call, whatever runs the jobs: the bytes written are the answers to the jobs in the order of their
+//! lines, each once and none else, and the cause of the status goes by the status. `write_answer` writes one answer, and `end` tells how
+//! the file of jobs ended.
+#![tactic(auto)]
+
+mod ending;
+mod job_answer;
+mod stop;
+mod writing;
+
+pub use ending::end;
+pub use job_answer::JobAnswer;
+pub use stop::Stop;
+pub use writing::write_answer;

@@ -1,0 +1,16 @@
+-- How long headings are.
+use Rattle.std.proofs.Common.{◌≡◌, ◌∙◌, ℕ, ◌+◌, ◌<◌, ◌≤◌, ◌^◌, List, ◌++◌, ap, arith, length}
+use Rattle.std.specs.Fmt.{decimal}
+use Rattle.std.proofs.lemmas.Fmt.{length-decimal-le}
+use Rattle.std.proofs.lemmas.List.{length-append}
+
+pub added : (new old text : List ℕ) → new ≡ old ++ text → length new ≡ length old + length text
+added new old text is = ap length is ∙ length-append old text
+
+-- a number of 32 bits has ten digits at most
+pub ten : (n : ℕ) → n < 2 ^ 32 → length (decimal n) ≤ 10
+ten n small = length-decimal-le 10 n (omega arith) (omega (arith, small)) (omega (arith, small))
+
+-- a byte has three
+pub three : (n : ℕ) → n < 2 ^ 8 → length (decimal n) ≤ 3
+three n small = length-decimal-le 3 n (omega arith) (omega (arith, small)) (omega (arith, small))

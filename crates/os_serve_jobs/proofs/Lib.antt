@@ -1,0 +1,3 @@
+pub mod Headings
+pub mod LineWords
+pub mod ReadOn

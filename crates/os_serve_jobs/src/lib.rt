@@ -1,0 +1,23 @@
+//! Jobs as lines of a file, and answers to them as text: what a server reads and writes.
+//!
+//! A `Reading` opens a file of jobs and cuts what it is given into lines, some at a time; how it stands says whether more may
+//! come, and why not. It holds the line that has begun and one piece of the file, whatever the file's length. `words_of` has the
+//! words of a line. A `Kept` is a sink in memory that grows as it is written to, up to its room. `Heading` has the line before an
+//! answer.
+//!
+//! Which bytes are lines, what a line's words are, and what an answer looks like are definitions of this crate; what the jobs are
+//! answered is none of its business.
+#![tactic(auto)]
+
+mod cutting;
+mod heading;
+mod kept;
+mod reading;
+mod source;
+mod words;
+
+pub use heading::Heading;
+pub use kept::Kept;
+pub use reading::{Reading, take_first};
+pub use source::Source;
+pub use words::words_of;

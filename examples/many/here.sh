@@ -1,0 +1,20 @@
+#!/usr/bin/env bash
+# Serves all files of jobs of a folder on this machine: here.sh FOLDER [PROCESSES]. So many processes run at once, as many as there are
+# processors without a number, by GNU parallel; where that isn't there, one after the other. OSRUN names the program, without it
+# the one of this checkout.
+set -eu
+[ $# -ge 1 ] || { echo "here.sh FOLDER [PROCESSES]" >&2; exit 2; }
+here=$(cd "$(dirname "${BASH_SOURCE[0]}")" && pwd)
+folder=$1 processes=${2:-$(nproc)}
+OSRUN=${OSRUN:-$here/../../osrun}
+export OSRUN
+# It is GNU parallel that takes these words: the program of that name in moreutils takes others.
+if parallel --version 2>/dev/null | grep -q '^GNU parallel'; then
+    serve_file() { "$OSRUN" serve "$1" >"${1%/*}/answers.${1##*.}"; }
+    export -f serve_file
+    parallel --will-cite --jobs "$processes" --halt soon,fail=1 serve_file ::: "$folder"/jobs.*
+else
+    for jobs in "$folder"/jobs.*; do
+        "$OSRUN" serve "$jobs" >"$folder/answers.${jobs##*.}"
+    done
+fi
