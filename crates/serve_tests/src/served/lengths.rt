@@ -57,7 +57,7 @@ const ROWS: [Row; 5] = [
 
 fn has_row<R: Threads + Sync + AllocGlobal + Abort>(rt: &R, row: &Row) -> Result<(), Fail> {
     let (text, last, length, out, report, status) = *row;
-    let mut bytes = padded(rt.alloc(), text, length - 1)?;
+    let mut bytes = padded(rt.alloc(), text, length.saturating_sub(1))?;
     bytes.push(last)?;
     let left = serve(rt, jobs_of(rt.alloc(), &bytes)?)?;
     has_left(rt, &left, out, report, status)
