@@ -1,8 +1,7 @@
 -- What a job is answered.
-use Rattle.std.proofs.Common.{◌≡◌, ◌≢◌, ◌∙◌, ◌⊎◌, inl, inr, subst, ℕ, ◌+◌, ◌≤◌, Bool, true, false, List, [], ◌∷◌, Option, Some, refl, sym, ap, arith, take, slice_get}
-use Rattle.std.specs.Prelude.{IsTrue, if◌then◌else◌, ◌==◌}
+use Rattle.std.proofs.Common.{◌≡◌, ◌∙◌, ◌⊎◌, inl, inr, subst, ℕ, ◌+◌, ◌≤◌, Bool, true, false, List, [], ◌∷◌, Option, Some, refl, sym, ap, arith, take, slice_get}
+use Rattle.std.specs.Prelude.{IsTrue}
 use Rattle.std.specs.Option.{ForSome}
-use Rattle.std.proofs.lemmas.Bool.Decides.{nat_tests}
 use Rattle.os_io.specs.declared.files.Files.{Ghosts as FilesView}
 use Rattle.osrun_core_answer.specs.Answers.{AnswersRequest, asked_files}
 use Rattle.osrun_core_jobs.specs.Files.{JobFile, MayOpen, files_of}
@@ -10,8 +9,8 @@ use Rattle.osrun_core_jobs.specs.Reading.{ReadsInOrder, WereRead}
 use Rattle.osrun_core_run.specs.Refusal.{IsUsable}
 use Rattle.osrun_core_words.specs.Command.{command}
 use Rattle.os_serve.specs.Command.{MayRun, Text, is_serve}
-use Rattle.os_serve.specs.Commands.{IsReplyOf, IsReplyTo, kept_sink, reply_by}
-use Rattle.os_serve_answers.specs.Replies.{no_job, no_memory}
+use Rattle.os_serve.specs.Commands.{IsReplyOf, IsReplyTo, kept_sink}
+use Rattle.os_serve_answers.specs.Replies.{no_job, reply_by}
 use Rattle.os_serve_jobs.specs.Answers.{Reply}
 use Rattle.os_serve_jobs.specs.KeptStates.{KeptState, fresh_kept}
 use Rattle.os_serve_jobs.specs.Words.{IsText, line_words}
@@ -33,7 +32,7 @@ module _ {F : Type 0} (view : FilesView F) where
   -- the reply, by what the command left
   pub reply_made : (old new : F) (words : List Text) (output_old output report_old report : KeptState) (status : ℕ) (reply : Reply) → output_old ≡ fresh_kept 67108864
       → report_old ≡ fresh_kept 8400000 → AnswersRequest view old new kept_sink output_old output kept_sink report_old report (command words) status
-      → reply ≡ reply_by status output.taken report.taken → IsReplyOf view old new words reply
+      → reply ≡ reply_by status output report → IsReplyOf view old new words reply
   reply_made old new words output_old output report_old report status reply fresh fresh_too answers is = record {
     output = output;
     report = report;
@@ -42,19 +41,6 @@ module _ {F : Type 0} (view : FilesView F) where
         (subst (λ r. AnswersRequest view old new kept_sink output_old output kept_sink r report (command words) status) fresh_too answers);
     reply_is = is;
   }
-
--- the sinks found no memory
-pub reply-6 : (status : ℕ) (output told : List ℕ) → status ≡ 6 → no_memory ≡ reply_by status output told
-reply-6 status output told is = sym (ap (λ s. reply_by s output told) is)
-
-is_other : (n m : ℕ) → n ≢ m → (n == m) ≡ false
-is_other n m other = grind (arith, nat_tests)
-
--- they did
-pub reply-other : (status : ℕ) (output told : List ℕ) → status ≢ 6 → record { status = status; output = output; told = told } ≡ reply_by status output told
-reply-other status output told other =
-    let r : Reply = record { status = status; output = output; told = told } in
-    sym (ap (λ (b : Bool). if b then no_memory else r) (is_other status 6 other))
 
 -- the files of a job may be opened
 pub may_open : (may : ℕ → List ℕ → Bool) (opens : ℕ) (line : List ℕ) (words : List Text) → MayRun may line → words ≡ line_words line

@@ -1,11 +1,11 @@
 -- What each job is answered.
-use Rattle.std.specs.Prelude.{◌≡◌, ◌⊎◌, ℕ, true, false, List, Some, ◌==◌, if◌then◌else◌}
+use Rattle.std.specs.Prelude.{◌≡◌, ◌⊎◌, ℕ, true, false, List, Some}
 use Rattle.os_io.specs.declared.files.Files.{Ghosts as FilesView}
 use Rattle.os_io.specs.declared.sink.Sink.{Ghosts as SinkView}
 use Rattle.osrun_core_answer.specs.Answers.{AnswersRequest}
 use Rattle.osrun_core_words.specs.Command.{command}
 use Rattle.os_serve.specs.Command.{Text, is_serve}
-use Rattle.os_serve_answers.specs.Replies.{no_job, no_memory}
+use Rattle.os_serve_answers.specs.Replies.{no_job, reply_by}
 use Rattle.os_serve_jobs.specs.Answers.{Reply}
 use Rattle.os_serve_jobs.specs.KeptStates.{KeptState, fresh_kept}
 use Rattle.os_serve_jobs.specs.Words.{IsText, line_words}
@@ -21,10 +21,6 @@ report_room = 8400000
 abbrev pub kept_sink : SinkView KeptState
 kept_sink = record { faults = λ s. s.faults; empty_takes = λ _. 0; taken = λ s. Some s.taken }
 
--- The answer to a job: the status of its command, and what its sinks took. They fail for want of memory alone, so the status isn't 6.
-abbrev pub reply_by : (status : ℕ) → (output told : List ℕ) → Reply
-reply_by status output told = if status == 6 then no_memory else record { status = status; output = output; told = told }
-
 -- What the command leaves where it is called for the words, with fresh sinks in memory.
 pub record IsReplyOf {F : Type 0} (of_files : FilesView F) (files_old files_new : F) (words : List Text) (reply : Reply) : Type 0 where
   pub output : KeptState
@@ -32,7 +28,7 @@ pub record IsReplyOf {F : Type 0} (of_files : FilesView F) (files_old files_new 
   pub status : ℕ
   pub answers : AnswersRequest of_files files_old files_new kept_sink (fresh_kept output_room) output kept_sink (fresh_kept report_room) report
       (command words) status
-  pub reply_is : reply ≡ reply_by status output.taken report.taken
+  pub reply_is : reply ≡ reply_by status output report
 
 -- the line is no text, or asks for a server
 abbrev pub NamesNoJob : List ℕ → Type 0

@@ -19,8 +19,6 @@ use std::thread::Threads;
 const OUTPUT_ROOM: u32 = 67_108_864;
 /// How many bytes its report may have.
 const REPORT_ROOM: u32 = 8_400_000;
-/// The status of a command whose sinks fail.
-const WRITE_FAULT: u8 = 6;
 
 /// Runs the job of a line. `Memory` comes where its words find none, and leaves the files as they were.
 pub(crate) fn answer_job<R: Threads + Sync, F: Files, G: Gate>(
@@ -60,12 +58,5 @@ fn run_job<R: Threads + Sync, F: Files, G: Gate>(
     let mut output = Kept::new(alloc, OUTPUT_ROOM);
     let mut report = Kept::new(alloc, REPORT_ROOM);
     let status = run_words(rt, alloc, words, files, &mut output, &mut report, gate);
-    if status == WRITE_FAULT {
-        return JobAnswer::NoMemory;
-    }
-    JobAnswer::Done {
-        status,
-        output,
-        report,
-    }
+    JobAnswer::of_command(status, output, report)
 }

@@ -95,24 +95,28 @@ module _ {J F O E : Type 0} (of_jobs : FilesView J) (jobs_old jobs : J) (run : R
   first_by lines waiting read left Open given s = record {
     read = read;
     given = record { given = given; front = inl s.so_far.front };
+    few = omega (arith, s.fits);
     more = waiting;
     among = inl (left, subst (λ b. StartsWith b (lines ++ waiting) left) (sym (take_all 4194304 read s.fits)) s.starts);
   }
   first_by lines waiting read left AtEnd given s = record {
     read = read;
     given = record { given = given; front = inl s.so_far.front };
+    few = omega (arith, s.fits);
     more = waiting;
-    among = inr (subst (λ b. AreLines b (lines ++ waiting)) (sym (take_all 4194304 read s.fits)) s.lines_are);
+    among = inr (s.at_end, s.fits, s.lines_are);
   }
   first_by lines waiting read left TooLong given s = record {
     read = read;
     given = record { given = given; front = inl s.so_far.front };
+    few = omega (arith, s.one_past);
     more = waiting;
     among = inl (left, s.starts);
   }
   first_by lines waiting read left Failed given s = record {
     read = read;
     given = front_of s.front;
+    few = omega (arith, s.fits);
     more = waiting;
     among = inl (left, subst (λ b. StartsWith b (lines ++ waiting) left) (sym (take_all 4194304 read s.fits)) s.starts);
   }

@@ -1,9 +1,10 @@
 -- What jobs are answered, whatever runs them.
-use Rattle.std.specs.Prelude.{◌≡◌, ℕ, List, [], ◌∷◌}
+use Rattle.std.specs.Prelude.{◌≡◌, ◌==◌, ◌&&◌, ℕ, List, [], ◌∷◌, if◌then◌else◌}
 use Rattle.osrun_core_jobs.specs.Refusal.{usage_line}
 use Rattle.os_serve_answers.specs.declared.job_answer.JobAnswer.{JobAnswer}
 use Rattle.os_serve_answers.specs.declared.job_answer.JobAnswer.TheVariants as answered
 use Rattle.os_serve_jobs.specs.Answers.{Reply}
+use Rattle.os_serve_jobs.specs.KeptStates.{KeptState}
 
 -- the answer to a line that names no job
 abbrev pub no_job : Reply
@@ -12,6 +13,12 @@ no_job = record { status = 2; output = []; told = usage_line }
 -- the answer to a job whose sinks find no memory
 abbrev pub no_memory : Reply
 no_memory = record { status = 7; output = []; told = [] }
+
+-- The answer to a job whose command was called with such sinks: its status, and what they took. A sink in memory that has room fails
+-- where it finds no memory.
+abbrev pub reply_by : (status : ℕ) → (output report : KeptState) → Reply
+reply_by status output report =
+    if (output.faults == 0) && (report.faults == 0) then record { status = status; output = output.taken; told = report.taken } else no_memory
 
 -- the reply that an answer is
 abbrev pub reply_of : JobAnswer → Reply

@@ -57,14 +57,17 @@ pub record IsBroken {J O E : Type 0} (of_jobs : FilesView J) (jobs_old jobs_new 
   pub output : Took of_out out_old out_new (answers replies)
   pub report : Tells of_report report_old report_new (line (codes "read fault jobs"))
 
--- the lines are the first jobs of the file, as far as it was read
+-- The lines are the first jobs of the file, as far as it was read: of those that end in a line feed, or, where it was read to its end
+-- within the limit, of all.
 pub record AreFirst {J : Type 0} (of_jobs : FilesView J) (jobs_old jobs_new : J) (name : List ℕ) (lines : List (List ℕ)) : Type 0 where
   pub read : List ℕ
   pub given : WasGiven of_jobs jobs_old jobs_new name read
+  pub few : length read ≤ jobs_limit + 1
   pub more : List (List ℕ)
-  pub among : ((rest : List ℕ) × StartsWith (take jobs_limit read) (lines ++ more) rest) ⊎ AreLines (take jobs_limit read) (lines ++ more)
+  pub among : ((rest : List ℕ) × StartsWith (take jobs_limit read) (lines ++ more) rest)
+      ⊎ (IsAtEnd (of_jobs.rest jobs_new) × (length read ≤ jobs_limit) × AreLines read (lines ++ more))
 
--- 6: the output took the answers to the first jobs but for a part of the last one's, for a cause of its own.
+-- 6: the output took a front of the answers to the first jobs, and not all of them, for a cause of its own.
 pub record IsCutIn {J O E : Type 0} (of_jobs : FilesView J) (jobs_old jobs_new : J) (of_out : SinkView O) (out_old out_new : O)
     (report_old report_new : E) (name : List ℕ) (lines : List (List ℕ)) (replies : List Reply) : Type 0 where
   pub first : AreFirst of_jobs jobs_old jobs_new name lines

@@ -1,5 +1,5 @@
 ghost use Rattle.std.specs.Prelude.{◌≡◌, ◌≤◌, length};
-ghost use Rattle.os_serve_answers.specs.Replies.{reply_of};
+ghost use Rattle.os_serve_answers.specs.Replies.{reply_by, reply_of};
 
 use os_serve_jobs::Kept;
 
@@ -26,6 +26,20 @@ pub enum JobAnswer {
 }
 
 impl JobAnswer {
+    /// What a job came to whose command ended with a status, and with these sinks.
+    pub fn of_command(status: u8, output: Kept, report: Kept) -> JobAnswer
+        ensures { reply_of result ≡ reply_by status output report }
+    {
+        if output.has_failed() || report.has_failed() {
+            return JobAnswer::NoMemory;
+        }
+        JobAnswer::Done {
+            status,
+            output,
+            report,
+        }
+    }
+
     /// The status that is told.
     pub fn status(&self) -> u8
         ensures { result ≡ (reply_of self.now).status }

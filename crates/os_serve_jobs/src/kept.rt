@@ -1,4 +1,4 @@
-ghost use Rattle.std.specs.Prelude.{◌≡◌, ◌≤◌, ◌++◌, length, IfOk, OnOk, OnErr};
+ghost use Rattle.std.specs.Prelude.{◌≡◌, ◌==◌, ◌≤◌, ◌++◌, length, not, IfOk, OnOk, OnErr};
 ghost use Rattle.os_io.specs.Counts.{HasRisen, raised};
 ghost use Rattle.os_serve_jobs.specs.KeptStates.{fresh_kept};
 
@@ -45,6 +45,13 @@ impl Kept {
         ensures within { length result.now ≤ 67108864 }
     {
         self.bytes.as_slice()
+    }
+
+    /// Whether a write has failed.
+    pub fn has_failed(&self) -> bool
+        ensures { result ≡ not (self.now.faults == 0) }
+    {
+        self.faults != 0
     }
 }
 
