@@ -1,17 +1,17 @@
 #!/usr/bin/env python3
 """tests/definitions.py [--write | --why NAME]: the definitions that a reader of the promise of the top call believes.
 
-It reads the clause in CLAUSE of CALL, follows each name that it cites through the imports of the files in crates/*/specs,
-and compares the definitions that it comes to, with the lines on which they stand, with the list in docs/PROMISES.md. The
-last line is `N passed, M failed`. With --write it puts the list and its two numbers there. With --why NAME it prints one
-way from the clause to a definition of that name. Types of the code (`declared`) and std's words are left out."""
+It reads the contract of the call that `main` makes, CONTRACT in CALL, follows each name that it cites through the imports of the
+files in crates/*/specs, and compares the definitions that it comes to, with the lines on which they stand, with the list in
+docs/PROMISES.md. The last line is `N passed, M failed`. With --write it puts the list and its two numbers there. With --why NAME it prints one
+way from the contract to a definition of that name. Types of the code (`declared`) and std's words are left out."""
 import os
 import re
 import sys
 
 TOP = os.path.dirname(os.path.dirname(os.path.abspath(__file__)))
-CALL = "crates/osrun_core/src/command.rt"
-CLAUSE = "ensures {"
+CALL = "crates/os_serve/src/words.rt"
+CONTRACT = "pub fn serve_words"
 LIST = "docs/PROMISES.md"
 NAME = r"[^\s(){}.;,:=λ→∷×\"]+"
 KEYWORDS = {"abbrev", "pub", "unfoldable", "mutual", "record", "data", "module", "where", "use", "mod", "let", "in", "elim", "as"}
@@ -159,27 +159,23 @@ class Citations:
                     yield found
 
 
-def clause_of_call():
-    """The clause, as a module with the imports of its file, and its text."""
+def contract_of_call():
+    """The conditions and clauses of the call, as a module with the imports of its file, and their text."""
     with open(f"{TOP}/{CALL}", encoding="utf-8") as file:
         text = file.read()
     module = Module("call", CALL, [])
     for found in re.finditer(r"^ghost (use [^;]*);$", text, re.M):
         module.take_import(" ".join(found[1].split()))
-    begin = text.index(CLAUSE) + len(CLAUSE)
-    open_brackets = 1
-    for end in range(begin, len(text)):
-        open_brackets += {"{": 1, "}": -1}.get(text[end], 0)
-        if open_brackets == 0:
-            return module, text[begin:end]
-    raise ValueError(f"the clause in {CALL} has no end")
+    begin = text.index(") -> ", text.index(CONTRACT))
+    contract = text[begin : text.index("\n{\n", begin)]
+    return module, "\n".join(re.findall(r"^    (?:requires|ensures)[^{]*\{(.*?)\}$", contract, re.M | re.S))
 
 
 def follow(modules):
-    """Each definition below the clause, with the one from which it was come to first."""
+    """Each definition below the contract, with the one from which it was come to first."""
     citations = Citations(modules)
     come_from = {}
-    for found in citations.of(*clause_of_call()):
+    for found in citations.of(*contract_of_call()):
         come_from.setdefault(found, None)
     todo = list(come_from)
     for at in todo:
