@@ -170,10 +170,10 @@ for shown in shown.*; do
     fi
 done
 
-# The programs that tests of crates have as texts stand in the examples, word for word. These two are run here alone.
+# The programs that tests of crates have as texts stand in the examples, word for word. These four are run here alone.
 texts=$(cat "$top/crates/kernels/src/texts.rt" "$top/crates/compiler_tests/src/examples.rt")
 for example in "$top"/examples/*.c; do
-    case ${example##*/} in gain.c | curve.c) continue ;; esac
+    case ${example##*/} in gain.c | curve.c | squeeze.c | unsqueeze.c) continue ;; esac
     if [[ $texts == *'r"'"$(cat "$example")"$'\n";'* ]]; then
         passed=$((passed + 1))
     else
@@ -483,7 +483,7 @@ run serve folder
 check "a folder of jobs" 5 "" "read fault jobs"
 run serve long.bin
 check "a file of jobs that is too long" 4 "" "too long jobs"
-for words in "" "two.jobs more" "--help" "two.jobs --workers 1"; do
+for words in "" "two.jobs more" "--help two.jobs" "two.jobs --workers 1"; do
     # shellcheck disable=SC2086
     run serve $words
     check "words that ask for no server: serve $words" 2 "" usage
