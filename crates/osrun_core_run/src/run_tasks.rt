@@ -1,4 +1,4 @@
-ghost use Rattle.std.specs.Prelude.{◌≡◌, ◌≤◌, ℕ, List, All, IfOk};
+ghost use Rattle.std.specs.Prelude.{◌≡◌, ◌≤◌, ℕ, List, All, IfOk, max};
 ghost use Rattle.collector.specs.Written.{IsByteIfThere};
 ghost use Rattle.flow_core_laws.specs.IsSound.{IsSound};
 ghost use Rattle.flow_core_laws.specs.StandsFor.{StandsFor};
@@ -20,7 +20,22 @@ use std::alloc::Global;
 use std::thread::Threads;
 use task_workers::{Gate, execute};
 
-/// Carries out the plan of a run: each frame runs the task of its activation on one of the workers. What it comes
+/// How many workers a plan is worth: as many as were asked for, but no more than it has frames.
+fn workers_for(asked: u32, frames: usize) -> u32
+    requires { 1 ≤ asked }
+    ensures some { 1 ≤ result }
+    ensures within { result ≤ asked }
+    ensures worth { result ≤ max 1 frames }
+    ensures all { asked ≤ frames → result ≡ asked }
+{
+    if frames < asked as usize {
+        return (frames as u32).max(1);
+    }
+    asked
+}
+
+/// Carries out the plan of a run: each frame runs the task of its activation on one of the workers, of which there are no more than
+/// frames. What it comes
 /// to is what the activations of the program come to, whatever the number of workers, and its output has only bytes.
 pub fn run_tasks<R: Threads + Sync, G: Gate>(
     rt: &R,
@@ -51,5 +66,6 @@ pub fn run_tasks<R: Threads + Sync, G: Gate>(
     outputs_are_bytes();
     turns_never_grow();
     laws::plan_meaning();
-    execute(rt, alloc, plan, &bodies, terms.workers, gate)
+    let workers = workers_for(terms.workers, plan.frames.len());
+    execute(rt, alloc, plan, &bodies, workers, gate)
 }
