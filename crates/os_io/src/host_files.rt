@@ -63,7 +63,7 @@ impl<'r, R: rt::Files> Files for HostFiles<'r, R> {
 
     ghost may_at_last = { λ _ _ _ _. refl };
 
-    /// Closes the current file, and makes one call of the host. Where that fails, no file is current.
+    /// Closes the current file, and makes one call of std, which makes an opening that was interrupted again. Where it fails, no file is current.
     fn open(&mut self, name: &str) -> Result<(), Failed>
         ensures failed { OnErr result (HasRisen self.old.faults self.new.faults) }
         ensures no_fault { OnOk result (self.new.faults ≡ self.old.faults) }
