@@ -263,6 +263,73 @@ status=$?
 : >report
 lines "a full standard error, of which nothing is asked" "seed 1 blocks 2" "input 8 sum 1363" "output 8 sum 1172" "status 0"
 
+# Programs that are compiled, and their objects run: what comes of an object is what comes of its text.
+# numbers NUMBER..: writes each as four bytes, the lowest first.
+numbers() {
+    local number
+    for number in "$@"; do
+        printf "$(printf '\\x%02x\\x%02x\\x%02x\\x%02x' $((number & 255)) $((number >> 8 & 255)) $((number >> 16 & 255)) $((number >> 24 & 255)))"
+    done
+}
+: >nothing.bin
+for last in 19 25 18; do
+    { printf 'OSO1'; numbers 2 0 1 0 1 1 0 0 1 "$last"; } >"main.$last.o"
+done
+run exec main.19.o nothing.bin
+check "an object whose main ends at once" 0 "" "control done / output 0 of 0"
+run exec main.25.o nothing.bin
+check "an object with an instruction that there isn't" 3 "" "refused 30"
+run exec main.18.o nothing.bin
+check "an object whose main returns" 3 "" "refused 31"
+{ cat main.19.o; printf '\000'; } >longer.o
+run exec longer.o nothing.bin
+check "an object with a byte behind it" 3 "" "refused 30"
+head -c 43 main.19.o >shorter.o
+run exec shorter.o nothing.bin
+check "an object without its last byte" 3 "" "refused 30"
+truncate -s 67108865 long.o
+run exec long.o nothing.bin
+check "an object that is too long" 4 "" "too long object"
+truncate -s 67108864 zeros.o
+run exec zeros.o nothing.bin
+check "zeros, as many as an object may have" 3 "" "refused 30"
+run exec none.o nothing.bin
+check "an object that isn't there" 5 "" "read fault object"
+run exec main.19.o none.bin
+check "an object without its input" 5 "" "read fault input"
+run compile empty.c
+check "a text that isn't compiled" 3 "" "refused 23 line 1"
+run compile none.c
+check "a text that isn't there" 5 "" "read fault program"
+for words in "" "first.c in.bin" "first.c --workers 4" "--help"; do
+    # shellcheck disable=SC2086
+    run compile $words
+    check "what can't be compiled: compile $words" 2 "" usage
+done
+for words in "" "main.19.o" "main.19.o in.bin in.bin" "main.19.o in.bin --workers 65"; do
+    # shellcheck disable=SC2086
+    run exec $words
+    check "what can't be run: exec $words" 2 "" usage
+done
+for text in "$top"/examples/*.c; do
+    run run "$text" in.bin
+    mv out wanted
+    told_of_text=$(told)
+    of_text=$status
+    run compile "$text"
+    mv out text.o
+    : >out
+    check "the object of $(basename "$text")" 0 "" ""
+    for workers in 1 4; do
+        run exec text.o in.bin --workers "$workers"
+        agree "the object of $(basename "$text"), run by $workers workers" "$of_text" wanted "$told_of_text"
+    done
+done
+"$osrun" compile first.c >/dev/full 2>report
+status=$?
+: >out
+check "a full standard output for an object" 6 "" ""
+
 # A reader that leaves: it is gone before the output comes.
 { sleep 1; "$osrun" run invert.c million.bin 2>report; echo "$?" >left; } | :
 status=$(cat left)
@@ -510,6 +577,10 @@ run none.c in.bin
 run folder in.bin
 gen 7 65536
 run first.c in.bin --budget 0
+compile first.c
+compile empty.c
+exec main.19.o in.bin
+exec first.c in.bin
 END
 job=0
 while read -r words; do

@@ -6,6 +6,7 @@ mod each_call;
 mod generated;
 mod jobs;
 mod meeting;
+mod objects;
 mod refusals;
 mod whole_runs;
 mod words;

@@ -1,12 +1,10 @@
 //! Runs in short epochs beside the run in one.
 
-ghost use Rattle.std.specs.Prelude.{◌≤◌, length};
-ghost use Rattle.os_lexer.specs.Limits.{text_limit};
+ghost use Rattle.std.specs.Prelude.{◌≤◌};
 
+use crate::compiled::compiled;
 use epoch_run::{Budgets, RunResult, run_epochs_of};
-use front_end::read_program;
 use kernels::{BROADCAST, INVERT, LIFT, PIPELINE, SMOOTH};
-use lowering::lower;
 use os_code::Code;
 use std::alloc::Global;
 use std::process::Abort;
@@ -70,16 +68,33 @@ const KEPT: &str = r"int main(void) {
 }
 ";
 
-const PROGRAMS: [&str; 8] = [
-    INVERT, SMOOTH, LIFT, PIPELINE, BROADCAST, WAITING, BACKWARD, KEPT,
-];
-
-/// The code of a text that is a program.
-fn compiled(rt: &impl Abort, alloc: Global, text: &str) -> Option<Code> {
-    assert!(rt; text.len() <= 262_144);
-    let checked = read_program(alloc, text.as_bytes()).ok()?;
-    lower(alloc, &checked).ok()
+/// Activations that wait for one another, and others behind them; some read behind the end of the input, and one waits for one
+/// of these.
+const STARVED: &str = r"int main(void) {
+    int s __attribute__((stream)), t __attribute__((stream)), u __attribute__((stream));
+    int i, x, y, z;
+    #pragma omp task input(s >> x) output(t << y)
+    y = x;
+    #pragma omp task input(u >> x) output(osout << y)
+    y = x;
+    #pragma omp task input(t >> x) output(s << y)
+    y = x + 1;
+    for (i = 0; i < 3; i++) {
+        #pragma omp task input(t >> x) output(t << y, osout << z)
+        { y = x; z = x; }
+    }
+    for (i = 0; i < 26; i++) {
+        #pragma omp task input(osin >> x) output(osout << y)
+        y = x + 1 & 255;
+    }
+    #pragma omp task input(osin >> x) output(u << y)
+    y = x;
 }
+";
+
+const PROGRAMS: [&str; 9] = [
+    INVERT, SMOOTH, LIFT, PIPELINE, BROADCAST, WAITING, BACKWARD, KEPT, STARVED,
+];
 
 /// A run in epochs of at most so many activations, by so many workers.
 fn run<R: Threads + Sync>(

@@ -1,7 +1,12 @@
 //! Compiled programs, run in epochs.
 //!
-//! There is nothing here but tests: a run in epochs of any length, by any number of workers, comes to what one epoch comes to.
+//! There is nothing here but tests: a run in epochs of any length, by any number of workers, comes to what one epoch comes to, and `main` by
+//! stretches creates what it creates at once.
 #![tactic(auto)]
 
 #[cfg(test)]
+mod compiled;
+#[cfg(test)]
 mod lengths;
+#[cfg(test)]
+mod stretches;

@@ -11,12 +11,13 @@ use Rattle.collector.specs.Written.{written}
 use Rattle.os_io.specs.Counts.{HasRisen, last_count, raised}
 use Rattle.os_io.specs.declared.files.Files.{Ghosts as FilesView}
 use Rattle.os_io.specs.declared.sink.Sink.{Ghosts as SinkView}
+use Rattle.osrun_core.specs.Codes.{IsObjectOfJob, IsRunOfObject}
 use Rattle.osrun_core.specs.Read.{IsRead}
 use Rattle.osrun_core_answer.specs.Answers.{AnswersRequest, HasCause, IsCut, IsGiven, IsMade, IsRefused, IsUnasked, IsUnmade, asked_files}
 use Rattle.osrun_core_answer.specs.Gen.{IsRunOfGen, gen_lines}
-use Rattle.osrun_core_answer.specs.Outcome.{IsOutcome, IsOutcomeOfGen, IsOutcomeOfRun, Outcome}
+use Rattle.osrun_core_answer.specs.Outcome.{IsOutcome, IsOutcomeOfCompile, IsOutcomeOfExec, IsOutcomeOfGen, IsOutcomeOfRun, Outcome}
 use Rattle.osrun_core_jobs.specs.Files.{AreBytesOf, JobFile, files_of, limit_of}
-use Rattle.osrun_core_jobs.specs.Jobs.{Gen, GenJob, IsRequestWithin, Job, Request, Run as RunRequest, gen_in, run_in}
+use Rattle.osrun_core_jobs.specs.Jobs.{Compile, CompileJob, Exec, ExecJob, Gen, GenJob, IsRequestWithin, Job, Request, Run as RunRequest, compile_in, exec_in, gen_in, run_in}
 use Rattle.osrun_core_jobs.specs.Reading.{EndedAt, IsCauseOf, IsFailed, IsReadable, IsRejected, ReadsInOrder, WasRead, WereRead}
 use Rattle.osrun_core_jobs.specs.Refusal.{refusal_line, refusal_status, usage_line}
 use Rattle.osrun_core_jobs.specs.Status.{code_of}
@@ -36,11 +37,34 @@ on_run : (asked : Option Request) (P : Job → Type 0) → ((job : Job) → aske
 on_run None P f = tt
 on_run (Some (RunRequest job)) P f = f job refl
 on_run (Some (Gen job)) P f = tt
+on_run (Some (Compile job)) P f = tt
+on_run (Some (Exec job)) P f = tt
 
 on_gen : (asked : Option Request) (P : GenJob → Type 0) → ((job : GenJob) → asked ≡ Some (Gen job) → P job) → IfSome (option_and_then gen_in asked) P
 on_gen None P f = tt
 on_gen (Some (RunRequest job)) P f = tt
 on_gen (Some (Gen job)) P f = f job refl
+on_gen (Some (Compile job)) P f = tt
+on_gen (Some (Exec job)) P f = tt
+
+on_compile : (asked : Option Request) (P : CompileJob → Type 0) → ((job : CompileJob) → asked ≡ Some (Compile job) → P job) → IfSome (option_and_then compile_in asked) P
+on_compile None P f = tt
+on_compile (Some (RunRequest job)) P f = tt
+on_compile (Some (Gen job)) P f = tt
+on_compile (Some (Compile job)) P f = f job refl
+on_compile (Some (Exec job)) P f = tt
+
+on_exec : (asked : Option Request) (P : ExecJob → Type 0) → ((job : ExecJob) → asked ≡ Some (Exec job) → P job) → IfSome (option_and_then exec_in asked) P
+on_exec None P f = tt
+on_exec (Some (RunRequest job)) P f = tt
+on_exec (Some (Gen job)) P f = tt
+on_exec (Some (Compile job)) P f = tt
+on_exec (Some (Exec job)) P f = f job refl
+
+-- what holds whatever is asked for
+on_request : (asked : Option Request) (P : Request → Type 0) → ((request : Request) → asked ≡ Some request → P request) → IfSome asked P
+on_request None P f = tt
+on_request (Some request) P f = f request refl
 
 -- what is asked for is one request
 one : (asked : Option Request) (request other : Request) → asked ≡ Some request → asked ≡ Some other → request ≡ other
@@ -145,6 +169,32 @@ module _ {F : Type 0} (view : FilesView F) where
     read_before (inr (inr ended)) k more =
         let opened = ended_opens old new (files_of (RunRequest job)) ended.0 ended.1 ended.2 in
         read_first k ended.0 old ended.2.before (files_of (RunRequest job)) ended.2.contents (omega (arith, opened, more)) ended.2.earlier
+
+  -- the object that was read with its input, by what they have given
+  the_exec : (job : ExecJob) (old new : F) (contents : List (List ℕ)) (outcome : Outcome) → IsOutcomeOfExec contents job outcome
+      → WereRead IsUsable view old new (files_of (Exec job)) contents
+      → (run : ProgramRun) × IsRunOfObject (view.holds old) job run × (view.given new ≡ length run.input) × (outcome.output ≡ written run.ends.output)
+      × (outcome.told ≡ report_of run.control.activations (length run.input) run.ends run.control.end) × (outcome.own ≡ status_of run.ends.ends run.control.end)
+  the_exec job old new contents outcome o read =
+      let both = subst (WereRead IsUsable view old new (files_of (Exec job))) o.contents_are read in
+      let of_object = both.1 in
+      let of_input = both.2.1 in
+      let end : new ≡ both.2.0 = both.2.2 in
+      let input_read = subst (λ h. AreBytesOf (h job.input) subjects.Input o.run.input) of_object.holds_kept of_input.read in (
+        o.run,
+        record { object = o.object; object_read = of_object.read; input_read = input_read; code = o.code; is_object = o.is_object; control_is = o.control_is; ends_are = o.ends_are },
+        ap view.given end ∙ of_input.whole,
+        o.output_is,
+        o.report_is,
+        o.status_is,
+      )
+
+  -- the program that was read, with the object of its code
+  the_object : (job : CompileJob) (old new : F) (contents : List (List ℕ)) (outcome : Outcome) → IsOutcomeOfCompile contents job outcome
+      → WereRead IsUsable view old new (files_of (Compile job)) contents → IsObjectOfJob (view.holds old) job outcome.output
+  the_object job old new contents outcome o read =
+      let was = subst (WereRead IsUsable view old new (files_of (Compile job))) o.contents_are read in
+      record { text = o.text; text_read = was.1.read; program = o.program; is_program = o.is_program; code = o.code; is_code = o.is_code; is_object = o.is_object }
 
 -- no file, nothing read
 untouched : {F : Type 0} (view : FilesView F) (old new : F) → ReadsInOrder IsUsable view old new [] → new ≡ old
@@ -253,6 +303,24 @@ module _ {F O E : Type 0} (of_files : FilesView F) (fo fn : F) (of_out : SinkVie
   made_gen made job is =
       subst (λ q. IsOutcome made.contents q made.outcome) (one asked made.request (Gen job) made.is_asked is) made.is_outcome
 
+  -- the run of an object that was made, and the object that was
+  made_exec : (made : IsMade of_files fo fn asked) (job : ExecJob) → asked ≡ Some (Exec job)
+      → (run : ProgramRun) × IsRunOfObject (of_files.holds fo) job run × (of_files.given fn ≡ length run.input) × (made.outcome.output ≡ written run.ends.output)
+      × (made.outcome.told ≡ report_of run.control.activations (length run.input) run.ends run.control.end) × (made.outcome.own ≡ status_of run.ends.ends run.control.end)
+  made_exec made job is =
+      let same : made.request ≡ Exec job = one asked made.request (Exec job) made.is_asked is in
+      the_exec of_files job fo fn made.contents made.outcome (subst (λ q. IsOutcome made.contents q made.outcome) same made.is_outcome)
+      (subst (λ q. WereRead IsUsable of_files fo fn (files_of q) made.contents) same made.read)
+
+  made_compile : (made : IsMade of_files fo fn asked) (job : CompileJob) → asked ≡ Some (Compile job) → IsOutcomeOfCompile made.contents job made.outcome
+  made_compile made job is =
+      subst (λ q. IsOutcome made.contents q made.outcome) (one asked made.request (Compile job) made.is_asked is) made.is_outcome
+
+  made_object : (made : IsMade of_files fo fn asked) (job : CompileJob) → asked ≡ Some (Compile job) → IsObjectOfJob (of_files.holds fo) job made.outcome.output
+  made_object made job is =
+      the_object of_files job fo fn made.contents made.outcome (made_compile made job is)
+      (subst (λ q. WereRead IsUsable of_files fo fn (files_of q) made.contents) (one asked made.request (Compile job) made.is_asked is) made.read)
+
   -- what is refused is a run
   refused_run : (s : Status) (h : IsRefused of_files fo fn oo on of_report ro rn asked s) (job : Job) → asked ≡ Some (RunRequest job)
       → IsCauseOf IsUsable IsUnusable of_files fo fn (files_of (RunRequest job)) h.refusal
@@ -322,23 +390,16 @@ module _ {F O E : Type 0} (of_files : FilesView F) (fo fn : F) (of_out : SinkVie
       (λ _ n. absurd (omega (arith, n, two)))
       (λ _ n. absurd (omega (arith, n, two)))
 
-  pub refused : 3 ≤ status → status ≤ 5 → IsSomeAnd (option_and_then run_in asked) (λ job. (refusal : Refusal) × (status ≡ code_of (refusal_status refusal))
-      × IsCauseOf IsUsable IsUnusable of_files fo fn (files_of (RunRequest job)) refusal × Tells of_report ro rn (refusal_line refusal))
+  pub refused : 3 ≤ status → status ≤ 5 → IsSomeAnd asked (λ request. (refusal : Refusal) × (status ≡ code_of (refusal_status refusal))
+      × IsCauseOf IsUsable IsUnusable of_files fo fn (files_of request) refusal × Tells of_report ro rn (refusal_line refusal))
   refused low high = cases
       (λ _ n. absurd (omega (arith, n, low)))
       (λ _ n. absurd (omega (arith, n, low)))
-      (λ s h is _ _. by s h is h.request h.is_asked h.cause)
+      (λ s h is _ _. subst (λ a. IsSomeAnd a (λ request. (refusal : Refusal) × (status ≡ code_of (refusal_status refusal))
+      × IsCauseOf IsUsable IsUnusable of_files fo fn (files_of request) refusal × Tells of_report ro rn (refusal_line refusal))) (sym h.is_asked)
+      (h.refusal, is ∙ ap code_of h.answered_is, h.cause, h.report))
       (λ _ n. absurd (omega (arith, n, high)))
       (λ _ n. absurd (omega (arith, n, high)))
-    where
-      by : (s : Status) (h : IsRefused of_files fo fn oo on of_report ro rn asked s) → status ≡ code_of s → (request : Request) → asked ≡ Some request
-          → IsCauseOf IsUsable IsUnusable of_files fo fn (files_of request) h.refusal
-          → IsSomeAnd (option_and_then run_in asked) (λ job. (refusal : Refusal) × (status ≡ code_of (refusal_status refusal))
-          × IsCauseOf IsUsable IsUnusable of_files fo fn (files_of (RunRequest job)) refusal × Tells of_report ro rn (refusal_line refusal))
-      by s h is (RunRequest job) asked_is cause = subst (λ a. IsSomeAnd (option_and_then run_in a) (λ job. (refusal : Refusal) × (status ≡ code_of (refusal_status refusal))
-          × IsCauseOf IsUsable IsUnusable of_files fo fn (files_of (RunRequest job)) refusal × Tells of_report ro rn (refusal_line refusal))) (sym asked_is)
-          (h.refusal, is ∙ ap code_of h.answered_is, cause, h.report)
-      by s h is (Gen job) asked_is cause = absurd (let e : None ≡ Some cause.file = cause.ended.is_there in cc)
 
   pub opened_last : 3 ≤ status → status ≤ 5 → IfSome (option_and_then run_in asked) (λ job. (place : ℕ) × (file : JobFile) × (refusal : Refusal)
       × (slice_get (files_of (RunRequest job)) place ≡ Some file) × (of_files.opens fn ≡ raised (of_files.opens fo) (place + 1))
@@ -439,8 +500,8 @@ module _ {F O E : Type 0} (of_files : FilesView F) (fo fn : F) (of_out : SinkVie
   reads_run : (job : Job) → asked ≡ Some (RunRequest job) → ReadsInOrder IsUsable of_files fo fn (files_of (RunRequest job))
   reads_run job is = subst (λ a. ReadsInOrder IsUsable of_files fo fn (asked_files a)) is answer.reads
 
-  pub in_order : IfSome (option_and_then run_in asked) (λ job. ReadsInOrder IsUsable of_files fo fn (files_of (RunRequest job)))
-  in_order = on_run asked _ reads_run
+  pub in_order : IfSome asked (λ request. ReadsInOrder IsUsable of_files fo fn (files_of request))
+  in_order = on_request asked _ (λ request is. subst (λ a. ReadsInOrder IsUsable of_files fo fn (asked_files a)) is answer.reads)
 
   pub read_earlier : IfSome (option_and_then run_in asked) (λ job. (k : ℕ) → of_files.opens fo + k < of_files.opens fn
       → All (IsRead (of_files.holds fo)) (take k (files_of (RunRequest job))))
@@ -462,13 +523,13 @@ module _ {F O E : Type 0} (of_files : FilesView F) (fo fn : F) (of_out : SinkVie
       small : (r : Refusal) → 5 ≤ code_of (refusal_status r) → code_of (refusal_status r) ≤ 5 → code_of (refusal_status r) ≡ 5
       small r low high = omega (arith, low, high)
 
-  pub complete : IfSome (option_and_then run_in asked) (λ job. All (IsReadable IsUsable (of_files.holds fo)) (files_of (RunRequest job))
+  pub complete : IfSome asked (λ request. All (IsReadable IsUsable (of_files.holds fo)) (files_of request)
       → (HasRisen (of_files.faults fo) (of_files.faults fn) → ⊥) → (HasTrouble of_out oo on → ⊥) → (HasTrouble of_report ro rn → ⊥)
       → (status < 2) ⊎ (status ≡ 7))
-  complete = on_run asked _ (λ job is all no_fault no_out no_report. cases
+  complete = on_request asked _ (λ request is all no_fault no_out no_report. cases
       (λ _ n. inl n)
-      (λ u _. absurd (none (RunRequest job) u.nothing_asked is))
-      (λ s h status_is low high. absurd (no_fault (refused_fault s h status_is (large (answer.complete (RunRequest job) is all) low) high)))
+      (λ u _. absurd (none request u.nothing_asked is))
+      (λ s h status_is low high. absurd (no_fault (refused_fault s h status_is (large (answer.complete request is all) low) high)))
       (λ c _. absurd (troubled c.made.outcome.output c.made.outcome.told c.undelivered no_out no_report))
       (λ _ n. inr n))
     where
@@ -519,11 +580,11 @@ module _ {F O E : Type 0} (of_files : FilesView F) (fo fn : F) (of_out : SinkVie
       (λ _ n. absurd (omega (arith, n, zero_is))))
 
   -- nothing that is told can't be cut short
-  cut_output : (made : IsMade of_files fo fn asked) (job : GenJob) → IsOutcomeOfGen made.contents job made.outcome
+  cut_output : (made : IsMade of_files fo fn asked) → made.outcome.told ≡ []
       → IsUndelivered of_out oo on made.outcome.output of_report ro rn made.outcome.told
       → IsCutShort of_out oo on made.outcome.output × (rn ≡ ro)
-  cut_output made job o (inl cut) = cut
-  cut_output made job o (inr cut) = absurd (let short = cut.1.front.1 in let e = ap length o.report_is in omega (arith, short, e))
+  cut_output made nothing (inl cut) = cut
+  cut_output made nothing (inr cut) = absurd (let short = cut.1.front.1 in let e = ap length nothing in omega (arith, short, e))
 
   pub gen_cut_short : status ≡ 6 → IfSome (option_and_then gen_in asked) (λ job. (run : ProgramRun) × IsRunOfGen job run × IsCutShort of_out oo on (gen_lines job run))
   gen_cut_short six = on_gen asked _ (λ job is. cases
@@ -531,7 +592,7 @@ module _ {F O E : Type 0} (of_files : FilesView F) (fo fn : F) (of_out : SinkVie
       (λ _ n. absurd (omega (arith, n, six)))
       (λ _ _ _ _ n. absurd (omega (arith, n, six)))
       (λ c _. let o = made_gen c.made job is in
-      (o.run, o.is_run, subst (IsCutShort of_out oo on) o.output_is (cut_output c.made job o c.undelivered).0))
+      (o.run, o.is_run, subst (IsCutShort of_out oo on) o.output_is (cut_output c.made o.report_is c.undelivered).0))
       (λ _ n. absurd (omega (arith, n, six))))
 
   -- no job of `gen` is refused, since it has no file
@@ -557,7 +618,7 @@ module _ {F O E : Type 0} (of_files : FilesView F) (fo fn : F) (of_out : SinkVie
       (λ g _. g.report.nothing (made_gen g.made job is).report_is)
       (λ u _. absurd (none (Gen job) u.nothing_asked is))
       (λ s h _ _ _. absurd (never_refused s h job is))
-      (λ c _. (cut_output c.made job (made_gen c.made job is) c.undelivered).1)
+      (λ c _. (cut_output c.made (made_gen c.made job is).report_is c.undelivered).1)
       (λ u _. u.report_kept))
 
   pub gen_complete : IfSome (option_and_then gen_in asked) (λ _. (HasTrouble of_out oo on → ⊥) → (status ≡ 0) ⊎ (status ≡ 7))
@@ -565,8 +626,72 @@ module _ {F O E : Type 0} (of_files : FilesView F) (fo fn : F) (of_out : SinkVie
       (λ g _. inl (g.own ∙ (made_gen g.made job is).status_is))
       (λ u _. absurd (none (Gen job) u.nothing_asked is))
       (λ s h _ _ _. absurd (never_refused s h job is))
-      (λ c _. absurd (no_out (cut_output c.made job (made_gen c.made job is) c.undelivered).0.trouble))
+      (λ c _. absurd (no_out (cut_output c.made (made_gen c.made job is).report_is c.undelivered).0.trouble))
       (λ _ n. inr n))
+
+  -- ---- `compile`
+
+  pub compiled : status < 2 → IfSome (option_and_then compile_in asked) (λ job. (object : List ℕ) × IsObjectOfJob (of_files.holds fo) job object
+      × (of_out.taken on ≡ append_known (of_out.taken oo) object) × (rn ≡ ro) × (status ≡ 0))
+  compiled small = on_compile asked _ (λ job is. cases
+      (λ g _. let o = made_compile g.made job is in
+      (g.made.outcome.output, made_object g.made job is, g.output.0, g.report.nothing o.report_is, g.own ∙ o.status_is))
+      (λ _ n. absurd (omega (arith, n, small)))
+      (λ _ _ _ n _. absurd (omega (arith, n, small)))
+      (λ _ n. absurd (omega (arith, n, small)))
+      (λ _ n. absurd (omega (arith, n, small))))
+
+  pub compile_cut_short : status ≡ 6 → IfSome (option_and_then compile_in asked) (λ job. (object : List ℕ) × IsObjectOfJob (of_files.holds fo) job object
+      × IsCutShort of_out oo on object × (rn ≡ ro))
+  compile_cut_short six = on_compile asked _ (λ job is. cases
+      (λ _ n. absurd (omega (arith, n, six)))
+      (λ _ n. absurd (omega (arith, n, six)))
+      (λ _ _ _ _ n. absurd (omega (arith, n, six)))
+      (λ c _. let cut = cut_output c.made (made_compile c.made job is).report_is c.undelivered in
+      (c.made.outcome.output, made_object c.made job is, cut.0, cut.1))
+      (λ _ n. absurd (omega (arith, n, six))))
+
+  pub compile_refused_always : IfSome (option_and_then compile_in asked) (λ job. IsRejected IsUnusable (of_files.holds fo) (record { subject = subjects.Program; name = job.program })
+      → (status ≡ 3) ⊎ ((status ≡ 5) ⊎ (status ≡ 7)))
+  compile_refused_always = on_compile asked _ (λ job is rejected.
+      let file : JobFile = record { subject = subjects.Program; name = job.program } in
+      answer.rejected file (subst (λ a. slice_get (asked_files a) 0 ≡ Some file) (sym is) refl) rejected)
+
+  -- ---- `exec`
+
+  pub executed : status < 2 → IfSome (option_and_then exec_in asked) (λ job. (run : ProgramRun) × IsRunOfObject (of_files.holds fo) job run
+      × (of_files.given fn ≡ length run.input) × (of_out.taken on ≡ append_known (of_out.taken oo) (written run.ends.output))
+      × (of_report.taken rn ≡ append_known (of_report.taken ro) (report_of run.control.activations (length run.input) run.ends run.control.end))
+      × (status ≡ status_of run.ends.ends run.control.end))
+  executed small = on_exec asked _ (λ job is. cases
+      (λ g _. let r = made_exec g.made job is in
+      (r.0, r.1, r.2, g.output.0 ∙ ap (append_known (of_out.taken oo)) r.3, g.report.took.0 ∙ ap (append_known (of_report.taken ro)) r.4, g.own ∙ r.5))
+      (λ _ n. absurd (omega (arith, n, small)))
+      (λ _ _ _ n _. absurd (omega (arith, n, small)))
+      (λ _ n. absurd (omega (arith, n, small)))
+      (λ _ n. absurd (omega (arith, n, small))))
+
+  pub exec_undelivered : status ≡ 6 → IfSome (option_and_then exec_in asked) (λ job. (run : ProgramRun) × IsRunOfObject (of_files.holds fo) job run
+      × (of_files.given fn ≡ length run.input) × IsUndelivered of_out oo on (written run.ends.output)
+      of_report ro rn (report_of run.control.activations (length run.input) run.ends run.control.end))
+  exec_undelivered six = on_exec asked _ (λ job is. cases
+      (λ _ n. absurd (omega (arith, n, six)))
+      (λ _ n. absurd (omega (arith, n, six)))
+      (λ _ _ _ _ n. absurd (omega (arith, n, six)))
+      (λ c _. let r = made_exec c.made job is in (
+        r.0,
+        r.1,
+        r.2,
+        subst (λ bytes. IsUndelivered of_out oo on bytes of_report ro rn (report_of r.0.control.activations (length r.0.input) r.0.ends r.0.control.end)) r.3
+            (subst (λ lines. IsUndelivered of_out oo on c.made.outcome.output of_report ro rn lines) r.4 c.undelivered),
+      ))
+      (λ _ n. absurd (omega (arith, n, six))))
+
+  pub exec_refused_always : IfSome (option_and_then exec_in asked) (λ job. IsRejected IsUnusable (of_files.holds fo) (record { subject = subjects.Object; name = job.object })
+      → (status ≡ 3) ⊎ ((status ≡ 5) ⊎ (status ≡ 7)))
+  exec_refused_always = on_exec asked _ (λ job is rejected.
+      let file : JobFile = record { subject = subjects.Object; name = job.object } in
+      answer.rejected file (subst (λ a. slice_get (asked_files a) 0 ≡ Some file) (sym is) refl) rejected)
 
   -- ---- what stays
 

@@ -3,10 +3,10 @@ ghost use Rattle.osrun_core_answer.specs.Answers.{AnswersRequest};
 ghost use Rattle.osrun_core_jobs.specs.Files.{MayOpen, files_of};
 ghost use Rattle.osrun_core_words.specs.Command.{command, texts};
 
-use front_end::one_answer;
 use os_io::{Files, Sink};
-use osrun_core_answer::{answer_gen, answer_run};
+use osrun_core_answer::{answer_compile, answer_exec, answer_gen, answer_run};
 use osrun_core_jobs::{Request, Status, tell};
+use osrun_core_run::laws::never_usable_and_refused;
 use osrun_core_words::{WordsError, command};
 use std::alloc::Global;
 use std::thread::Threads;
@@ -32,10 +32,12 @@ pub fn run_words<R: Threads + Sync, F: Files, O: Sink, E: Sink, G: Gate>(
     ensures { AnswersRequest F.Files files.old files.new O.Sink out.old out.new E.Sink report.old report.new
         (command (texts words.now)) result }
 {
-    one_answer();
+    never_usable_and_refused();
     match command(alloc, words) {
         Ok(Request::Run(job)) => answer_run(rt, alloc, &job, files, out, report, gate).code(),
         Ok(Request::Gen(job)) => answer_gen(rt, alloc, &job, out, report, gate).code(),
+        Ok(Request::Compile(job)) => answer_compile(alloc, &job, files, out, report).code(),
+        Ok(Request::Exec(job)) => answer_exec(rt, alloc, &job, files, out, report, gate).code(),
         Err(WordsError::Refused) => {
             tell(report, USAGE);
             Status::BadWords.code()

@@ -1,11 +1,12 @@
 //! Laws of what the command leaves. Each is a call that does nothing and ensures its law.
 
-ghost use Rattle.std.specs.Prelude.{◌≡◌, ◌<◌, ◌≤◌, ◌+◌, ◌⊎◌, ◌≢◌, ℕ, All, None, Some, IfSome, IsSomeAnd, length, slice_get, take};
+ghost use Rattle.std.specs.Prelude.{◌≡◌, ◌<◌, ◌≤◌, ◌+◌, ◌⊎◌, ◌≢◌, ℕ, List, All, None, Some, IfSome, IsSomeAnd, length, slice_get, take};
 ghost use Rattle.std.specs.Io.KnownBytes.{append_known};
 ghost use Rattle.os_io.specs.Counts.{HasRisen, last_count, raised};
 ghost use Rattle.collector.specs.Report.{report as report_of};
 ghost use Rattle.collector.specs.Status.{status as status_of};
 ghost use Rattle.collector.specs.Written.{written};
+ghost use Rattle.osrun_core.specs.Codes.{IsObjectOfJob, IsRunOfObject};
 ghost use Rattle.osrun_core.specs.Read.{IsRead};
 ghost use Rattle.osrun_core_answer.specs.Answers.{AnswersRequest};
 ghost use Rattle.osrun_core_answer.specs.Gen.{IsRunOfGen, gen_lines};
@@ -16,10 +17,10 @@ ghost use Rattle.osrun_core_jobs.specs.Refusal.{refusal_line, refusal_status, us
 ghost use Rattle.osrun_core_jobs.specs.Status.{code_of};
 ghost use Rattle.osrun_core_jobs.specs.Telling.{HasTrouble, IsCutShort, IsUndelivered, Tells};
 ghost use Rattle.osrun_core_jobs.specs.declared.refusal.Refusal.{Refusal as Cause};
-ghost use Rattle.osrun_core_jobs.specs.declared.subject.Subject.TheVariants.{Program as ProgramFile};
+ghost use Rattle.osrun_core_jobs.specs.declared.subject.Subject.TheVariants.{Object as ObjectFile, Program as ProgramFile};
 ghost use Rattle.osrun_core_run.specs.Refusal.{IsUnusable, IsUsable};
 ghost use Rattle.osrun_core_run.specs.Run.{ProgramRun, IsRunOfJob};
-ghost use Rattle.osrun_core_words.specs.Command.{command, named_gen, named_run, texts};
+ghost use Rattle.osrun_core_words.specs.Command.{command, named_compile, named_exec, named_gen, named_run, texts};
 
 use os_io::{Files, Sink};
 
@@ -61,10 +62,10 @@ pub fn answers_say<F: Files, O: Sink, E: Sink>(
     ensures nothing_read { command (texts words.now) ≡ None → files_after.now ≡ files.now }
     ensures usage { status ≡ 2 → Tells E.Sink report.now report_after.now usage_line }
 
-    // 3, 4 and 5: a refusal, whose cause stands and whose line is told.
-    ensures refused { 3 ≤ status → status ≤ 5 → IsSomeAnd (named_run (texts words.now)) (λ job. (refusal : Cause)
+    // 3, 4 and 5: a refusal, whose cause is one of the files of what is asked for, and whose line is told.
+    ensures refused { 3 ≤ status → status ≤ 5 → IsSomeAnd (command (texts words.now)) (λ request. (refusal : Cause)
         × (status ≡ code_of (refusal_status refusal))
-        × IsCauseOf IsUsable IsUnusable F.Files files.now files_after.now (files_of (RunRequest job)) refusal
+        × IsCauseOf IsUsable IsUnusable F.Files files.now files_after.now (files_of request) refusal
         × Tells E.Sink report.now report_after.now (refusal_line refusal)) }
 
     // 3, 4 and 5, of which file: of the one that was opened last, and what was given of it since shows the cause. Those
@@ -105,14 +106,14 @@ pub fn answers_say<F: Files, O: Sink, E: Sink>(
 
     // With any status: a file is opened only after those before it were read, which the openings and the bytes that were given
     // show, and what the files hold where they tell it.
-    ensures in_order { IfSome (named_run (texts words.now)) (λ job.
-        ReadsInOrder IsUsable F.Files files.now files_after.now (files_of (RunRequest job))) }
+    ensures in_order { IfSome (command (texts words.now)) (λ request.
+        ReadsInOrder IsUsable F.Files files.now files_after.now (files_of request)) }
     ensures read_before { IfSome (named_run (texts words.now)) (λ job. (k : ℕ) → F.opens files.now + k < F.opens files_after.now
         → All (IsRead (F.holds files.now)) (take k (files_of (RunRequest job)))) }
 
-    // Completeness of `run`: where all files are told, within their limits, and usable, and nothing fails, the run is
-    // made and delivered, unless memory runs out.
-    ensures complete { IfSome (named_run (texts words.now)) (λ job. All (IsReadable IsUsable (F.holds files.now)) (files_of (RunRequest job))
+    // Completeness: where all files of what is asked for are told, within their limits, and usable, and nothing fails, it is made
+    // and delivered, unless memory runs out.
+    ensures complete { IfSome (command (texts words.now)) (λ request. All (IsReadable IsUsable (F.holds files.now)) (files_of request)
         → (HasRisen (F.faults files.now) (F.faults files_after.now) → ⊥)
         → (HasTrouble O.Sink out.now out_after.now → ⊥)
         → (HasTrouble E.Sink report.now report_after.now → ⊥)
@@ -137,6 +138,36 @@ pub fn answers_say<F: Files, O: Sink, E: Sink>(
     ensures gen_complete { IfSome (named_gen (texts words.now)) (λ _.
         (HasTrouble O.Sink out.now out_after.now → ⊥)
         → (status ≡ 0) ⊎ (status ≡ 7)) }
+
+    // `compile`: with the status 0 `out` took the object of a code of the program, with 6 a front of it, for a cause of its own.
+    // The report stays as it is, and it is never answered 1.
+    ensures compiled { status < 2 → IfSome (named_compile (texts words.now)) (λ job. (object : List ℕ) × IsObjectOfJob (F.holds files.now) job object
+        × (O.taken out_after.now ≡ append_known (O.taken out.now) object) × (report_after.now ≡ report.now) × (status ≡ 0)) }
+    ensures compile_cut_short { status ≡ 6 → IfSome (named_compile (texts words.now)) (λ job. (object : List ℕ) × IsObjectOfJob (F.holds files.now) job object
+        × IsCutShort O.Sink out.now out_after.now object × (report_after.now ≡ report.now)) }
+
+    // `exec`, 0 and 1: there is a run of the object's code, of which `out` took what is written, `report` took the report, and the
+    // status is its status. 6: a sink did not take all of it.
+    ensures executed { status < 2 → IfSome (named_exec (texts words.now)) (λ job. (run : ProgramRun)
+        × IsRunOfObject (F.holds files.now) job run
+        × (F.given files_after.now ≡ length run.input)
+        × (O.taken out_after.now ≡ append_known (O.taken out.now) (written run.ends.output))
+        × (E.taken report_after.now ≡ append_known (E.taken report.now) (report_of run.control.activations (length run.input) run.ends run.control.end))
+        × (status ≡ status_of run.ends.ends run.control.end)) }
+    ensures exec_undelivered { status ≡ 6 → IfSome (named_exec (texts words.now)) (λ job. (run : ProgramRun)
+        × IsRunOfObject (F.holds files.now) job run
+        × (F.given files_after.now ≡ length run.input)
+        × IsUndelivered O.Sink out.now out_after.now (written run.ends.output)
+        E.Sink report.now report_after.now (report_of run.control.activations (length run.input) run.ends run.control.end)) }
+
+    // 3 of both: where the first file is told and within its limit, and its bytes are refused, the status is 3, unless a read failed
+    // (5) or memory ran out (7).
+    ensures compile_refused_always { IfSome (named_compile (texts words.now)) (λ job.
+        IsRejected IsUnusable (F.holds files.now) (record { subject = ProgramFile; name = job.program })
+        → (status ≡ 3) ⊎ ((status ≡ 5) ⊎ (status ≡ 7))) }
+    ensures exec_refused_always { IfSome (named_exec (texts words.now)) (λ job.
+        IsRejected IsUnusable (F.holds files.now) (record { subject = ObjectFile; name = job.object })
+        → (status ≡ 3) ⊎ ((status ≡ 5) ⊎ (status ≡ 7))) }
 
     // What stays.
     ensures faults_kept { F.faults files.now ≤ F.faults files_after.now }

@@ -4,14 +4,13 @@ use Rattle.std.proofs.lemmas.List.Elements.{All-get_or}
 use Rattle.std.proofs.lemmas.Option.{get_or_from_slice_get, same_Some, slice_get_within}
 use Rattle.collector.specs.Report.{report}
 use Rattle.collector.specs.Status.{status}
-use Rattle.front_end.specs.Texts.{NeverBoth}
 use Rattle.os_io.specs.declared.files.Files.{Ghosts as FilesView}
 use Rattle.os_io.specs.declared.sink.Sink.{Ghosts as SinkView}
 use Rattle.osrun_core_answer.specs.Answers.{AnswersRequest, HasCause, IsGiven, IsMade, asked_files}
-use Rattle.osrun_core_answer.specs.Made.{AnswersGen, IsMadeOf, IsUnmadeOf}
+use Rattle.osrun_core_answer.specs.Made.{AnswersGen, IsCompiledOf, IsExecOf, IsMadeOf, IsUnmadeOf}
 use Rattle.osrun_core_jobs.specs.Files.{JobFile, files_of, limit_of}
 use Rattle.osrun_core_jobs.specs.HandsOver.{HandsOver}
-use Rattle.osrun_core_jobs.specs.Jobs.{Gen, GenJob, IsGenWithin, IsWithin, Job, Request, Run as RunRequest}
+use Rattle.osrun_core_jobs.specs.Jobs.{Compile, CompileJob, Exec, ExecJob, Gen, GenJob, IsExecWithin, IsGenWithin, IsRequestWithin, IsWithin, Job, Request, Run as RunRequest}
 use Rattle.osrun_core_jobs.specs.Reading.{IsCauseOf, IsFailed, IsReadable, IsRejected, ReadsInOrder, WasRead, WereRead}
 use Rattle.osrun_core_jobs.specs.Refusal.{refusal_status, usage_line}
 use Rattle.osrun_core_jobs.specs.Refuses.{Refuses}
@@ -23,6 +22,7 @@ use Rattle.osrun_core_jobs.specs.declared.status.Status.{Status}
 use Rattle.osrun_core_jobs.specs.declared.status.Status.TheVariants as statuses
 use Rattle.osrun_core_jobs.specs.declared.subject.Subject.{Subject}
 use Rattle.osrun_core_jobs.specs.declared.subject.Subject.TheVariants as subjects
+use Rattle.osrun_core_run.specs.Laws.{NeverUsableAndRefused}
 use Rattle.osrun_core_run.specs.Reported.{IsReportOf}
 use Rattle.osrun_core_run.specs.Refusal.{IsUnusable, IsUsable}
 use Rattle.osrun_core_run.specs.declared.made.Run.{Run}
@@ -38,22 +38,16 @@ holds_read view old new (file ∷ files) [] read = absurd read
 holds_read view old new (file ∷ files) (bytes ∷ contents) read =
     holds_read view read.0 new files contents read.2 ∙ read.1.holds_kept
 
--- no bytes are usable and refused
-never : NeverBoth → (subject : Subject) (bytes : List ℕ) (code : ℕ) (line : Option ℕ) → IsUsable subject bytes → IsUnusable subject bytes code line → ⊥
-never both subjects.Program bytes code (Some line) usable refused = both bytes usable.0 code line usable.1 refused
-never both subjects.Program bytes code None usable refused = refused
-never both subjects.Input bytes code line usable refused = refused
-
 -- what was read of a file that is told is what it holds
 the_same : (told : Option (List ℕ)) (bytes held : List ℕ) → IfSome told (λ t. bytes ≡ t) → told ≡ Some held → bytes ≡ held
 the_same told bytes held is is_told = subst (λ t. IfSome t (λ t. bytes ≡ t)) is_told is
 
-module _ {F : Type 0} (view : FilesView F) (both : NeverBoth) where
+module _ {F : Type 0} (view : FilesView F) (both : NeverUsableAndRefused) where
   -- a file that is told, within its limit and usable is the cause only of a fault
   only_fault : (old new : F) (file : JobFile) (r : Refusal) → IsReadable IsUsable (view.holds old) file → IsFailed IsUnusable view old new file r
       → 5 ≤ code_of (refusal_status r)
   only_fault old new file (refusals.Refused code line) readable failed =
-      absurd (never both file.subject failed.bytes code line
+      absurd (both file.subject failed.bytes code line
       (subst (IsUsable file.subject) (sym (the_same (view.holds old file.name) failed.bytes readable.bytes failed.read.is_held readable.told)) readable.is_usable) failed.refused)
   only_fault old new file (refusals.TooLong subject) readable failed =
       absurd (let long = subst (λ t. IfSome t (λ told. limit_of file.subject < length told)) readable.told failed.held in omega (arith, long, readable.fits))
@@ -77,7 +71,7 @@ module _ {F : Type 0} (view : FilesView F) (both : NeverBoth) where
   first_read old new (file ∷ files) (bytes ∷ contents) first at read rejected =
       let same : file ≡ first = same_Some file first at in
       let was : WasRead IsUsable view old read.0 first bytes = subst (λ x. WasRead IsUsable view old read.0 x bytes) same read.1 in
-      never both first.subject rejected.bytes rejected.code rejected.line
+      both first.subject rejected.bytes rejected.code rejected.line
       (subst (IsUsable first.subject) (the_same (view.holds old first.name) bytes rejected.bytes was.read.is_held rejected.told) was.is_usable) rejected.refused
 
   -- the file at which the reading ended is the first one, or the first one was read
@@ -134,7 +128,7 @@ module _ {F O E : Type 0} (of_files : FilesView F) (files_old files_new : F) (of
   given_cause statuses.WriteFault small given = absurd (omega (arith, small))
   given_cause statuses.NoMemory small given = absurd (omega (arith, small))
 
-  module _ (both : NeverBoth) (made : IsMade of_files files_old files_new asked) where
+  module _ (both : NeverUsableAndRefused) (made : IsMade of_files files_old files_new asked) where
     reads_made : ReadsInOrder IsUsable of_files files_old files_new (asked_files asked)
     reads_made = subst (λ a. ReadsInOrder IsUsable of_files files_old files_new (asked_files a)) (sym made.is_asked) (inr (inl (made.contents, made.read)))
 
@@ -201,10 +195,51 @@ answers_unasked of_files files of_out out of_report report_old report_new asked 
   rejected = λ file at rejected. absurd (let e : None ≡ Some file = subst (λ a. slice_get (asked_files a) 0 ≡ Some file) nothing at in cc);
 }
 
+-- ---- a refusal
+
+module _ {F O E : Type 0} (of_files : FilesView F) (files_old files_new : F) (of_out : SinkView O) (out_old out_new : O)
+    (of_report : SinkView E) (report_old report_new : E) (both : NeverUsableAndRefused) (request : Request) (within : IsRequestWithin request) where
+  -- a refusal that is told
+  refused_of : (r : Refusal) → IsCauseOf IsUsable IsUnusable of_files files_old files_new (files_of request) r
+      → HasCause of_files files_old files_new of_out out_old out_new of_report report_old report_new (Some request) (refusal_status r)
+      → AnswersRequest of_files files_old files_new of_out out_old out_new of_report report_old report_new (Some request) (code_of (refusal_status r))
+  refused_of r cause has = record {
+    answered = refusal_status r;
+    status_is = refl;
+    cause = has;
+    reads = inr (inr (cause.place, cause.file, cause.ended));
+    complete = λ other is all. inr (complete_refused of_files both files_old files_new (files_of request) r cause
+        (subst (λ q. All (IsReadable IsUsable (of_files.holds files_old)) (files_of q)) (sym (one_request request other is)) all));
+    rejected = λ file at rejected. rejected_refused of_files both files_old files_new (files_of request) r file cause at rejected;
+  }
+
+  pub answers_refused : (r : Refusal) → IsUnmadeOf of_files files_old files_new (files_of request) r → Refuses of_report report_old report_new r → out_new ≡ out_old
+      → AnswersRequest of_files files_old files_new of_out out_old out_new of_report report_old report_new (Some request) (code_of (refusal_status r))
+  answers_refused (refusals.Refused code line) (inl cause) told kept =
+      refused_of (refusals.Refused code line) cause
+      (record { request = request; is_asked = refl; within = within; refusal = refusals.Refused code line; answered_is = refl; cause = cause; output_kept = kept; report = told })
+  answers_refused (refusals.Refused code line) (inr memory) told kept =
+      absurd (let n : 3 ≡ 7 = ap (λ r. code_of (refusal_status r)) memory.0 in omega arith)
+  answers_refused (refusals.TooLong subject) (inl cause) told kept =
+      refused_of (refusals.TooLong subject) cause
+      (record { request = request; is_asked = refl; within = within; refusal = refusals.TooLong subject; answered_is = refl; cause = cause; output_kept = kept; report = told })
+  answers_refused (refusals.TooLong subject) (inr memory) told kept =
+      absurd (let n : 4 ≡ 7 = ap (λ r. code_of (refusal_status r)) memory.0 in omega arith)
+  answers_refused (refusals.ReadFault subject) (inl cause) told kept =
+      refused_of (refusals.ReadFault subject) cause
+      (record { request = request; is_asked = refl; within = within; refusal = refusals.ReadFault subject; answered_is = refl; cause = cause; output_kept = kept; report = told })
+  answers_refused (refusals.ReadFault subject) (inr memory) told kept =
+      absurd (let n : 5 ≡ 7 = ap (λ r. code_of (refusal_status r)) memory.0 in omega arith)
+  answers_refused refusals.Memory (inl cause) told kept =
+      answers_unmade of_files files_old files_new of_out out_old out_new of_report report_old report_new (Some request)
+      (inr (inr (cause.place, cause.file, cause.ended))) kept told
+  answers_refused refusals.Memory (inr memory) told kept =
+      answers_unmade of_files files_old files_new of_out out_old out_new of_report report_old report_new (Some request) memory.1 kept told
+
 -- ---- a run
 
 module _ {F O E : Type 0} (of_files : FilesView F) (files_old files_new : F) (of_out : SinkView O) (out_old out_new : O)
-    (of_report : SinkView E) (report_old report_new : E) (both : NeverBoth) (job : Job) (within : IsWithin job) where
+    (of_report : SinkView E) (report_old report_new : E) (both : NeverUsableAndRefused) (job : Job) (within : IsWithin job) where
   module _ (run : Run) (is : IsMadeOf of_files files_old files_new job run) (own : Status) (own_is : code_of own ≡ status run.ends.ends run.control) where
     -- what is reported, by the layout and by the input
     abbrev told_of : List ℕ
@@ -240,47 +275,80 @@ module _ {F O E : Type 0} (of_files : FilesView F) (files_old files_new : F) (of
         (choice_small _ (code_of own) own_is) refl
         (hands told_of (record { whole = is.is_run.whole; activations = is.is_run.made.activations; laid = is.is_run.laid; is_report = refl }))
 
-  -- a refusal that is told
-  refused_of : (r : Refusal) → IsCauseOf IsUsable IsUnusable of_files files_old files_new (files_of (RunRequest job)) r
-      → HasCause of_files files_old files_new of_out out_old out_new of_report report_old report_new (Some (RunRequest job)) (refusal_status r)
-      → AnswersRequest of_files files_old files_new of_out out_old out_new of_report report_old report_new (Some (RunRequest job)) (code_of (refusal_status r))
-  refused_of r cause has = record {
-    answered = refusal_status r;
-    status_is = refl;
-    cause = has;
-    reads = inr (inr (cause.place, cause.file, cause.ended));
-    complete = λ request is all. inr (complete_refused of_files both files_old files_new (files_of (RunRequest job)) r cause
-        (subst (λ q. All (IsReadable IsUsable (of_files.holds files_old)) (files_of q)) (sym (one_request (RunRequest job) request is)) all));
-    rejected = λ file at rejected. rejected_refused of_files both files_old files_new (files_of (RunRequest job)) r file cause at rejected;
-  }
+-- ---- the run of an object
 
-  pub answers_refused : (r : Refusal) → IsUnmadeOf of_files files_old files_new job r → Refuses of_report report_old report_new r → out_new ≡ out_old
-      → AnswersRequest of_files files_old files_new of_out out_old out_new of_report report_old report_new (Some (RunRequest job)) (code_of (refusal_status r))
-  answers_refused (refusals.Refused code line) (inl cause) told kept =
-      refused_of (refusals.Refused code line) cause
-      (record { request = RunRequest job; is_asked = refl; within = within; refusal = refusals.Refused code line; answered_is = refl; cause = cause; output_kept = kept; report = told })
-  answers_refused (refusals.Refused code line) (inr memory) told kept =
-      absurd (let n : 3 ≡ 7 = ap (λ r. code_of (refusal_status r)) memory.0 in omega arith)
-  answers_refused (refusals.TooLong subject) (inl cause) told kept =
-      refused_of (refusals.TooLong subject) cause
-      (record { request = RunRequest job; is_asked = refl; within = within; refusal = refusals.TooLong subject; answered_is = refl; cause = cause; output_kept = kept; report = told })
-  answers_refused (refusals.TooLong subject) (inr memory) told kept =
-      absurd (let n : 4 ≡ 7 = ap (λ r. code_of (refusal_status r)) memory.0 in omega arith)
-  answers_refused (refusals.ReadFault subject) (inl cause) told kept =
-      refused_of (refusals.ReadFault subject) cause
-      (record { request = RunRequest job; is_asked = refl; within = within; refusal = refusals.ReadFault subject; answered_is = refl; cause = cause; output_kept = kept; report = told })
-  answers_refused (refusals.ReadFault subject) (inr memory) told kept =
-      absurd (let n : 5 ≡ 7 = ap (λ r. code_of (refusal_status r)) memory.0 in omega arith)
-  answers_refused refusals.Memory (inl cause) told kept =
-      answers_unmade of_files files_old files_new of_out out_old out_new of_report report_old report_new (Some (RunRequest job))
-      (inr (inr (cause.place, cause.file, cause.ended))) kept told
-  answers_refused refusals.Memory (inr memory) told kept =
-      answers_unmade of_files files_old files_new of_out out_old out_new of_report report_old report_new (Some (RunRequest job)) memory.1 kept told
+module _ {F O E : Type 0} (of_files : FilesView F) (files_old files_new : F) (of_out : SinkView O) (out_old out_new : O)
+    (of_report : SinkView E) (report_old report_new : E) (both : NeverUsableAndRefused) (job : ExecJob) (within : IsExecWithin job) where
+  module _ (run : Run) (is : IsExecOf of_files files_old files_new job run) (own : Status) (own_is : code_of own ≡ status run.ends.ends run.control) where
+    -- what is reported, by the layout and by the input
+    abbrev lines_of : List ℕ
+    lines_of = report is.is_run.made.activations run.layout.input_len run.ends run.control
+
+    abbrev made_exec : IsMade of_files files_old files_new (Some (Exec job))
+    made_exec = record {
+      request = Exec job;
+      is_asked = refl;
+      within = within;
+      contents = is.object ∷ is.input ∷ [];
+      read = is.read;
+      outcome = record { output = run.output.items; told = report is.is_run.made.activations run.layout.input_len run.ends run.control; own = code_of own };
+      is_outcome = record {
+        object = is.object;
+        run = record { control = is.is_run.made; input = is.input; ends = run.ends };
+        contents_are = refl;
+        code = is.code;
+        is_object = is.is_object;
+        control_is = is.is_run.made_is;
+        fit = is.is_run.fit;
+        ends_are = is.is_run.ends_are;
+        output_is = is.is_run.writes;
+        report_is = ap (λ n. report is.is_run.made.activations n run.ends run.control) is.is_run.over
+            ∙ ap (report is.is_run.made.activations (length is.input) run.ends) is.is_run.end_is;
+        status_is = own_is ∙ ap (status run.ends.ends) is.is_run.end_is;
+      };
+    }
+
+    pub answers_exec : (s : Status) → ((text : List ℕ) → IsReportOf run text → HandsOver of_out out_old out_new run.output.items of_report report_old report_new text own s)
+        → AnswersRequest of_files files_old files_new of_out out_old out_new of_report report_old report_new (Some (Exec job)) (code_of s)
+    answers_exec s hands =
+        answers_handed of_files files_old files_new of_out out_old out_new of_report report_old report_new (Some (Exec job)) both made_exec own s
+        (choice_small _ (code_of own) own_is) refl
+        (hands lines_of (record { whole = is.is_run.whole; activations = is.is_run.made.activations; laid = is.is_run.laid; is_report = refl }))
+
+-- ---- an object that is written
+
+module _ {F O E : Type 0} (of_files : FilesView F) (files_old files_new : F) (of_out : SinkView O) (out_old out_new : O)
+    (of_report : SinkView E) (report_old report_new : E) (both : NeverUsableAndRefused) (job : CompileJob) where
+  pub answers_compile : (object : List ℕ) → IsCompiledOf of_files files_old files_new job object → (s : Status)
+      → HandsOver of_out out_old out_new object of_report report_old report_new [] statuses.AllDone s
+      → AnswersRequest of_files files_old files_new of_out out_old out_new of_report report_old report_new (Some (Compile job)) (code_of s)
+  answers_compile object is s hands =
+      answers_handed of_files files_old files_new of_out out_old out_new of_report report_old report_new (Some (Compile job)) both
+      (record {
+        request = Compile job;
+        is_asked = refl;
+        within = tt;
+        contents = is.text ∷ [];
+        read = is.read;
+        outcome = record { output = object; told = []; own = 0 };
+        is_outcome = record {
+          text = is.text;
+          contents_are = refl;
+          program = is.program;
+          is_program = is.is_program;
+          code = is.code;
+          is_code = is.is_code;
+          is_object = is.is_object;
+          report_is = refl;
+          status_is = refl;
+        };
+      })
+      statuses.AllDone s (omega arith) refl hands
 
 -- ---- the four lines of `gen`
 
 module _ {F O E : Type 0} (of_files : FilesView F) (files : F) (of_out : SinkView O) (out_old out_new : O) (of_report : SinkView E) (report_old report_new : E)
-    (both : NeverBoth) (job : GenJob) (within : IsGenWithin job) where
+    (both : NeverUsableAndRefused) (job : GenJob) (within : IsGenWithin job) where
   pub answers_gen : (s : Status) → AnswersGen of_out out_old out_new of_report report_old report_new job s
       → AnswersRequest of_files files files of_out out_old out_new of_report report_old report_new (Some (Gen job)) (code_of s)
   answers_gen s (inl h) =
@@ -294,6 +362,12 @@ module _ {F O E : Type 0} (of_files : FilesView F) (files : F) (of_out : SinkVie
 -- a run that was made has a report
 pub reported : {F : Type 0} (view : FilesView F) (old new : F) (job : Job) (run : Run) → IsMadeOf view old new job run → (text : List ℕ) × IsReportOf run text
 reported view old new job run is = (
+  report is.is_run.made.activations run.layout.input_len run.ends run.control,
+  record { whole = is.is_run.whole; activations = is.is_run.made.activations; laid = is.is_run.laid; is_report = refl },
+)
+
+pub exec_reported : {F : Type 0} (view : FilesView F) (old new : F) (job : ExecJob) (run : Run) → IsExecOf view old new job run → (text : List ℕ) × IsReportOf run text
+exec_reported view old new job run is = (
   report is.is_run.made.activations run.layout.input_len run.ends run.control,
   record { whole = is.is_run.whole; activations = is.is_run.made.activations; laid = is.is_run.laid; is_report = refl },
 )

@@ -12,8 +12,7 @@ use Rattle.osrun_core_jobs.specs.declared.refusal.Refusal.{Refusal}
 use Rattle.osrun_core_jobs.specs.declared.refusal.Refusal.TheVariants as refusals
 use Rattle.osrun_core_jobs.specs.declared.status.Status.TheVariants as statuses
 use Rattle.osrun_core_jobs.specs.declared.subject.Subject.{Subject}
-use Rattle.osrun_core_jobs.specs.declared.subject.Subject.TheVariants as subjects
-use Rattle.osrun_core_run.specs.Refusal.{IsRefusalOf, IsUnusable, IsUsable}
+use Rattle.osrun_core_run.specs.Refusal.{IsRefusalAs, IsUnusable, IsUsable}
 
 module _ {F : Type 0} (view : FilesView F) (old new : F) (subject : Subject) (name : List ℕ) where
   -- why a file could not be loaded
@@ -44,14 +43,14 @@ module _ {F : Type 0} (view : FilesView F) (old new : F) (subject : Subject) (na
     may_kept = may;
   }
 
--- why a program that was loaded was refused
-pub refused_text : {F : Type 0} (view : FilesView F) (old new : F) (name text : List ℕ) (r : Refusal)
-    → IsLoaded view old new subjects.Program name text → view.faults new ≡ view.faults old → (r ≡ refusals.Memory) ⊎ IsRefusalOf text r
-    → IsFailed IsUnusable view old new (record { subject = subjects.Program; name = name }) r
-refused_text view old new name text refusals.Memory loaded faults why = tt
-refused_text view old new name text (refusals.Refused code line) loaded faults (inl is) =
+-- why a file that was loaded was refused
+pub refused_bytes : {F : Type 0} (view : FilesView F) (old new : F) (subject : Subject) (name text : List ℕ) (r : Refusal)
+    → IsLoaded view old new subject name text → view.faults new ≡ view.faults old → (r ≡ refusals.Memory) ⊎ IsRefusalAs subject text r
+    → IsFailed IsUnusable view old new (record { subject = subject; name = name }) r
+refused_bytes view old new subject name text refusals.Memory loaded faults why = tt
+refused_bytes view old new subject name text (refusals.Refused code line) loaded faults (inl is) =
     absurd (let n : 3 ≡ 7 = ap (λ r. code_of (refusal_status r)) is in omega arith)
-refused_text view old new name text (refusals.Refused code line) loaded faults (inr why) = record {
+refused_bytes view old new subject name text (refusals.Refused code line) loaded faults (inr why) = record {
   bytes = text;
   read = loaded.read;
   whole = loaded.whole;
@@ -59,12 +58,12 @@ refused_text view old new name text (refusals.Refused code line) loaded faults (
   refused = why;
   no_fault = faults;
 }
-refused_text view old new name text (refusals.TooLong s) loaded faults (inl is) =
+refused_bytes view old new subject name text (refusals.TooLong s) loaded faults (inl is) =
     absurd (let n : 4 ≡ 7 = ap (λ r. code_of (refusal_status r)) is in omega arith)
-refused_text view old new name text (refusals.TooLong s) loaded faults (inr why) = absurd why
-refused_text view old new name text (refusals.ReadFault s) loaded faults (inl is) =
+refused_bytes view old new subject name text (refusals.TooLong s) loaded faults (inr why) = absurd why
+refused_bytes view old new subject name text (refusals.ReadFault s) loaded faults (inl is) =
     absurd (let n : 5 ≡ 7 = ap (λ r. code_of (refusal_status r)) is in omega arith)
-refused_text view old new name text (refusals.ReadFault s) loaded faults (inr why) = absurd why
+refused_bytes view old new subject name text (refusals.ReadFault s) loaded faults (inr why) = absurd why
 
 -- one more file was opened
 pub opened_so : {F : Type 0} (view : FilesView F) (old new : F) (file : JobFile) → view.opens new ≡ raised (view.opens old) 1

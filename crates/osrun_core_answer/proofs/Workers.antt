@@ -13,15 +13,21 @@ use Rattle.front_end.specs.Texts.{IsAccepted, OneProgram}
 use Rattle.kernels.specs.Generated.{generated}
 use Rattle.kernels.specs.declared.texts.TheConstants.{LIFT}
 use Rattle.os_ast.specs.Trees.{ProgramTree}
+use Rattle.os_code.specs.Outcomes as machine
+use Rattle.os_code.specs.declared.parts.Parts.{Parts}
+use Rattle.epoch_run_bodies.specs.Laws.{AgreeingBodiesMeanOne}
+use Rattle.os_object.specs.Object.{OneReading, Spells}
 use Rattle.os_io.specs.declared.files.Files.{Ghosts as FilesView}
 use Rattle.osrun_core_answer.specs.Answers.{IsMade}
 use Rattle.osrun_core_answer.specs.Gen.{four_lines, gen_budget, gen_lines}
-use Rattle.osrun_core_answer.specs.Laws.{IsTold, SameButForWorkers, WorkersChangeNothing}
-use Rattle.osrun_core_answer.specs.Outcome.{IsOutcome, IsOutcomeOfGen, IsOutcomeOfRun, Outcome}
+use Rattle.osrun_core_answer.specs.Laws.{IsTold, ObjectsRunAsTexts, SameButForWorkers, WorkersChangeNothing}
+use Rattle.osrun_core_answer.specs.Outcome.{IsOutcome, IsOutcomeOfExec, IsOutcomeOfGen, IsOutcomeOfRun, Outcome}
 use Rattle.osrun_core_jobs.specs.Files.{JobFile, files_of}
-use Rattle.osrun_core_jobs.specs.Jobs.{Gen, GenJob, Job, Request, Run as RunRequest}
+use Rattle.osrun_core_jobs.specs.Jobs.{Compile, CompileJob, Exec, ExecJob, Gen, GenJob, Job, Request, Run as RunRequest}
 use Rattle.osrun_core_jobs.specs.Reading.{WereRead}
+use Rattle.osrun_core_run.specs.Code.{IsCodeOf, code_ends}
 use Rattle.osrun_core_run.specs.Refusal.{IsUsable}
+use Rattle.osrun_core_run.proofs.TasksRun.{same_ends}
 use Rattle.osrun_core_run.specs.Run.{ProgramRun, ends_over}
 
 -- a run by what it is of
@@ -36,6 +42,18 @@ is_run_of : (p : ProgramTree) (task_budget control_budget : ℕ) (run : ProgramR
 is_run_of p task_budget control_budget run control_is ends_are =
     ap (λ (e : Ends). record { control = run.control; input = run.input; ends = e }) ends_are
     ∙ ap (λ (c : Control). record { control = c; input = run.input; ends = ends_over p c.activations run.input task_budget }) control_is
+
+-- and the run of a code
+abbrev exec_run : Parts → List ℕ → (task_budget control_budget : ℕ) → ProgramRun
+exec_run code input task_budget control_budget =
+    let made = machine.control code (length input) control_budget in
+    record { control = made; input = input; ends = code_ends code made.activations input task_budget }
+
+is_exec_run : (code : Parts) (task_budget control_budget : ℕ) (run : ProgramRun) → run.control ≡ machine.control code (length run.input) control_budget
+    → run.ends ≡ code_ends code run.control.activations run.input task_budget → run ≡ exec_run code run.input task_budget control_budget
+is_exec_run code task_budget control_budget run control_is ends_are =
+    ap (λ (e : Ends). record { control = run.control; input = run.input; ends = e }) ends_are
+    ∙ ap (λ (c : Control). record { control = c; input = run.input; ends = code_ends code c.activations run.input task_budget }) control_is
 
 -- what is given of a run, and what is given of one of `gen`
 abbrev outcome_of : ProgramRun → Outcome
@@ -61,6 +79,12 @@ is_outcome_of contents job outcome o =
     same_outcome outcome (outcome_of o.run) o.output_is o.report_is o.status_is
     ∙ ap outcome_of (is_run_of o.program job.task_budget job.control_budget o.run o.control_is o.ends_are)
 
+is_exec_outcome_of : (contents : List (List ℕ)) (job : ExecJob) (outcome : Outcome) (o : IsOutcomeOfExec contents job outcome)
+    → outcome ≡ outcome_of (exec_run o.code o.run.input job.task_budget job.control_budget)
+is_exec_outcome_of contents job outcome o =
+    same_outcome outcome (outcome_of o.run) o.output_is o.report_is o.status_is
+    ∙ ap outcome_of (is_exec_run o.code job.task_budget job.control_budget o.run o.control_is o.ends_are)
+
 is_gen_outcome_of : (contents : List (List ℕ)) (job : GenJob) (outcome : Outcome) (o : IsOutcomeOfGen contents job outcome)
     → outcome ≡ gen_outcome job (run_of o.is_run.program (generated job.seed (4 * job.blocks)) gen_budget gen_budget)
 is_gen_outcome_of contents job outcome o =
@@ -68,7 +92,7 @@ is_gen_outcome_of contents job outcome o =
     ∙ ap (gen_outcome job) (is_run_of o.is_run.program gen_budget gen_budget o.run o.is_run.control_is o.is_run.ends_are
     ∙ ap (λ input. run_of o.is_run.program input gen_budget gen_budget) o.is_run.input_is)
 
-module _ (one : OneProgram) where
+module _ (one : OneProgram) (reading : OneReading) where
   of_runs : (contents : List (List ℕ)) (job other : Job) (outcome another : Outcome) → SameButForWorkers (RunRequest job) (RunRequest other)
       → IsOutcomeOfRun contents job outcome → IsOutcomeOfRun contents other another → outcome ≡ another
   of_runs contents job other outcome another same o q =
@@ -82,6 +106,20 @@ module _ (one : OneProgram) where
       ∙ ap (λ n. outcome_of (run_of q.program q.run.input n job.control_budget)) same.2
       ∙ ap (λ n. outcome_of (run_of q.program q.run.input other.task_budget n)) same.3
       ∙ sym (is_outcome_of contents other another q)
+
+  of_execs : (contents : List (List ℕ)) (job other : ExecJob) (outcome another : Outcome) → SameButForWorkers (Exec job) (Exec other)
+      → IsOutcomeOfExec contents job outcome → IsOutcomeOfExec contents other another → outcome ≡ another
+  of_execs contents job other outcome another same o q =
+      let contents_same = sym o.contents_are ∙ q.contents_are in
+      let objects : o.object ≡ q.object = ap (λ xs. get_or xs 0 []) contents_same in
+      let inputs : o.run.input ≡ q.run.input = ap (λ xs. get_or xs 1 []) contents_same in
+      let codes : o.code ≡ q.code = reading q.object o.code q.code (subst (λ b. Spells b o.code) objects o.is_object.spelled) q.is_object.spelled in
+      is_exec_outcome_of contents job outcome o
+      ∙ ap (λ code. outcome_of (exec_run code o.run.input job.task_budget job.control_budget)) codes
+      ∙ ap (λ input. outcome_of (exec_run q.code input job.task_budget job.control_budget)) inputs
+      ∙ ap (λ n. outcome_of (exec_run q.code q.run.input n job.control_budget)) same.2
+      ∙ ap (λ n. outcome_of (exec_run q.code q.run.input other.task_budget n)) same.3
+      ∙ sym (is_exec_outcome_of contents other another q)
 
   of_gens : (contents : List (List ℕ)) (job other : GenJob) (outcome another : Outcome) → SameButForWorkers (Gen job) (Gen other)
       → IsOutcomeOfGen contents job outcome → IsOutcomeOfGen contents other another → outcome ≡ another
@@ -101,8 +139,44 @@ module _ (one : OneProgram) where
   pub change_nothing : WorkersChangeNothing
   change_nothing contents (RunRequest job) (RunRequest other) outcome another same o q = of_runs contents job other outcome another same o q
   change_nothing contents (Gen job) (Gen other) outcome another same o q = of_gens contents job other outcome another same o q
+  change_nothing contents (Exec job) (Exec other) outcome another same o q = of_execs contents job other outcome another same o q
   change_nothing contents (RunRequest job) (Gen other) outcome another same o q = absurd same
+  change_nothing contents (RunRequest job) (Compile other) outcome another same o q = absurd same
+  change_nothing contents (RunRequest job) (Exec other) outcome another same o q = absurd same
   change_nothing contents (Gen job) (RunRequest other) outcome another same o q = absurd same
+  change_nothing contents (Gen job) (Compile other) outcome another same o q = absurd same
+  change_nothing contents (Gen job) (Exec other) outcome another same o q = absurd same
+  change_nothing contents (Compile job) (RunRequest other) outcome another same o q = absurd same
+  change_nothing contents (Compile job) (Gen other) outcome another same o q = absurd same
+  change_nothing contents (Compile job) (Compile other) outcome another same o q = absurd same
+  change_nothing contents (Compile job) (Exec other) outcome another same o q = absurd same
+  change_nothing contents (Exec job) (RunRequest other) outcome another same o q = absurd same
+  change_nothing contents (Exec job) (Gen other) outcome another same o q = absurd same
+  change_nothing contents (Exec job) (Compile other) outcome another same o q = absurd same
+
+-- the object of a text's code runs as the text
+pub objects_run : OneProgram → OneReading → AgreeingBodiesMeanOne → ObjectsRunAsTexts
+objects_run one reading agreeing text input compile exec run object of_object of_text budgets made o q =
+    let objects : object.output ≡ o.object = ap (λ xs. get_or xs 0 []) o.contents_are in
+    let inputs : input ≡ o.run.input = ap (λ xs. get_or xs 1 []) o.contents_are in
+    let inputs_too : input ≡ q.run.input = ap (λ xs. get_or xs 1 []) q.contents_are in
+    let texts : text ≡ made.text = ap (λ xs. get_or xs 0 []) made.contents_are in
+    let texts_too : text ≡ q.text = ap (λ xs. get_or xs 0 []) q.contents_are in
+    let codes : o.code ≡ made.code = reading o.object o.code made.code o.is_object.spelled (subst (λ b. Spells b made.code) objects made.is_object) in
+    let programs : made.program ≡ q.program =
+    one q.text made.program q.program (subst (λ t. IsAccepted t made.program) (sym texts ∙ texts_too) made.is_program) q.is_program in
+    let code_for : IsCodeOf o.code q.program =
+    subst (λ c. IsCodeOf c q.program) (sym codes) (subst (λ p. IsCodeOf made.code p) programs made.is_code) in
+    let run_is : o.run ≡ run_of q.program o.run.input exec.task_budget exec.control_budget =
+    is_run_of q.program exec.task_budget exec.control_budget o.run
+    (o.control_is ∙ code_for.control (length o.run.input) exec.control_budget)
+    (o.ends_are ∙ same_ends o.code q.program o.run.control.activations exec.task_budget code_for.bodies o.fit agreeing o.run.input) in
+    same_outcome of_object (outcome_of o.run) o.output_is o.report_is o.status_is
+    ∙ ap outcome_of run_is
+    ∙ ap (λ i. outcome_of (run_of q.program i exec.task_budget exec.control_budget)) (sym inputs ∙ inputs_too)
+    ∙ ap (λ n. outcome_of (run_of q.program q.run.input n exec.control_budget)) (sym budgets.0)
+    ∙ ap (λ n. outcome_of (run_of q.program q.run.input run.task_budget n)) (sym budgets.1)
+    ∙ sym (is_outcome_of (text ∷ input ∷ []) run of_text q)
 
 -- what a file holds, where that is told
 abbrev held_by : (List ℕ → Option (List ℕ)) → JobFile → List ℕ
@@ -128,13 +202,27 @@ same_files (RunRequest job) (RunRequest other) same =
     ap (λ name. files_of (RunRequest (record job { program = name }))) same.0
     ∙ ap (λ name. files_of (RunRequest (record job { program = other.program; input = name }))) same.1
 same_files (Gen job) (Gen other) same = refl
+same_files (Exec job) (Exec other) same =
+    ap (λ name. files_of (Exec (record job { object = name }))) same.0
+    ∙ ap (λ name. files_of (Exec (record job { object = other.object; input = name }))) same.1
 same_files (RunRequest job) (Gen other) same = absurd same
+same_files (RunRequest job) (Compile other) same = absurd same
+same_files (RunRequest job) (Exec other) same = absurd same
 same_files (Gen job) (RunRequest other) same = absurd same
+same_files (Gen job) (Compile other) same = absurd same
+same_files (Gen job) (Exec other) same = absurd same
+same_files (Compile job) (RunRequest other) same = absurd same
+same_files (Compile job) (Gen other) same = absurd same
+same_files (Compile job) (Compile other) same = absurd same
+same_files (Compile job) (Exec other) same = absurd same
+same_files (Exec job) (RunRequest other) same = absurd same
+same_files (Exec job) (Gen other) same = absurd same
+same_files (Exec job) (Compile other) same = absurd same
 
-pub made_same : {F : Type 0} (view : FilesView F) (old new other_old other_new : F) → OneProgram → view.holds other_old ≡ view.holds old
+pub made_same : {F : Type 0} (view : FilesView F) (old new other_old other_new : F) → OneProgram → OneReading → view.holds other_old ≡ view.holds old
     → (request other : Request) → SameButForWorkers request other → All (IsTold (view.holds old)) (files_of request)
     → (one : IsMade view old new (Some request)) (two : IsMade view other_old other_new (Some other)) → one.outcome ≡ two.outcome
-made_same view old new other_old other_new unique holds request other same told one two =
+made_same view old new other_old other_new unique reading holds request other same told one two =
     let asked : one.request ≡ request = same_Some one.request request (sym one.is_asked) in
     let asked_too : two.request ≡ other = same_Some two.request other (sym two.is_asked) in
     let files = same_files request other same in
@@ -144,6 +232,6 @@ made_same view old new other_old other_new unique holds request other same told 
     let second = contents_told view other_old other_new (files_of other) two.contents (subst (λ q. WereRead IsUsable view other_old other_new (files_of q) two.contents) asked_too two.read) told_too in
     let contents : one.contents ≡ two.contents =
     first ∙ ap (map (held_by (view.holds old))) files ∙ ap (λ h. map (held_by h) (files_of other)) (sym holds) ∙ sym second in
-    change_nothing unique two.contents request other one.outcome two.outcome same
+    change_nothing unique reading two.contents request other one.outcome two.outcome same
     (subst (λ xs. IsOutcome xs request one.outcome) contents (subst (λ q. IsOutcome one.contents q one.outcome) asked one.is_outcome))
     (subst (λ q. IsOutcome two.contents q two.outcome) asked_too two.is_outcome)

@@ -1,16 +1,17 @@
--- That what is given doesn't depend on the number of workers, as statements.
-use Rattle.std.specs.Prelude.{◌≡◌, ℕ, List, Option, Some}
-use Rattle.osrun_core_answer.specs.Outcome.{IsOutcome, Outcome}
+-- That what is given doesn't depend on the number of workers, nor on whether a program is run or its object, as statements.
+use Rattle.std.specs.Prelude.{◌≡◌, ℕ, List, [], ◌∷◌, Option, Some}
+use Rattle.osrun_core_answer.specs.Outcome.{IsOutcome, IsOutcomeOfCompile, IsOutcomeOfExec, IsOutcomeOfRun, Outcome}
 use Rattle.osrun_core_jobs.specs.Files.{JobFile}
-use Rattle.osrun_core_jobs.specs.Jobs.{Gen, Request, Run}
+use Rattle.osrun_core_jobs.specs.Jobs.{Compile, CompileJob, Exec, ExecJob, Gen, Job, Request, Run}
 
 -- the requests are the same, but for the number of workers
 abbrev pub SameButForWorkers : Request → Request → Type 0
 SameButForWorkers (Run job) (Run other) = (job.program ≡ other.program) × (job.input ≡ other.input)
     × (job.task_budget ≡ other.task_budget) × (job.control_budget ≡ other.control_budget)
 SameButForWorkers (Gen job) (Gen other) = (job.seed ≡ other.seed) × (job.blocks ≡ other.blocks)
-SameButForWorkers (Run job) (Gen other) = ⊥
-SameButForWorkers (Gen job) (Run other) = ⊥
+SameButForWorkers (Exec job) (Exec other) = (job.object ≡ other.object) × (job.input ≡ other.input)
+    × (job.task_budget ≡ other.task_budget) × (job.control_budget ≡ other.control_budget)
+SameButForWorkers _ _ = ⊥
 
 -- what the file holds is told
 abbrev pub IsTold : (List ℕ → Option (List ℕ)) → JobFile → Type 0
@@ -20,3 +21,15 @@ IsTold holds file = (bytes : List ℕ) × (holds file.name ≡ Some bytes)
 abbrev pub WorkersChangeNothing : Type 0
 WorkersChangeNothing = (contents : List (List ℕ)) (request other : Request) (outcome another : Outcome) → SameButForWorkers request other
     → IsOutcome contents request outcome → IsOutcome contents other another → outcome ≡ another
+
+-- the run of a program and that of an object are asked for with the same budgets
+abbrev pub SameBudgets : Job → ExecJob → Type 0
+SameBudgets run exec = (run.task_budget ≡ exec.task_budget) × (run.control_budget ≡ exec.control_budget)
+
+-- What `compile` gives of a text is an object of which `exec` gives what `run` gives of the text, over every input and with the
+-- same budgets, whatever the numbers of workers.
+abbrev pub ObjectsRunAsTexts : Type 0
+ObjectsRunAsTexts = (text input : List ℕ) (compile : CompileJob) (exec : ExecJob) (run : Job) (object of_object of_text : Outcome)
+    → SameBudgets run exec → IsOutcomeOfCompile (text ∷ []) compile object
+    → IsOutcomeOfExec (object.output ∷ input ∷ []) exec of_object → IsOutcomeOfRun (text ∷ input ∷ []) run of_text
+    → of_object ≡ of_text

@@ -6,17 +6,22 @@ use Rattle.os_ast.specs.Views.{program_tree}
 use Rattle.os_io.specs.declared.files.Files.{Ghosts as FilesView}
 use Rattle.os_io.specs.declared.sink.Sink.{Ghosts as SinkView}
 use Rattle.osrun_core_answer.specs.Outcome.{IsOutcome, Outcome}
-use Rattle.osrun_core_jobs.specs.Files.{files_of}
+use Rattle.os_code.specs.Codes.{parts_of}
+use Rattle.os_code.specs.declared.code.Code.{Code}
+use Rattle.os_code.specs.declared.parts.Parts.{Parts}
+use Rattle.os_object.specs.Object.{Spells}
+use Rattle.osrun_core_jobs.specs.Files.{JobFile, files_of}
 use Rattle.osrun_core_jobs.specs.HandsOver.{HandsOver}
-use Rattle.osrun_core_jobs.specs.Jobs.{Gen, GenJob, Job, Run as RunRequest}
+use Rattle.osrun_core_jobs.specs.Jobs.{Compile, CompileJob, Exec, ExecJob, Gen, GenJob, Job, Run as RunRequest}
 use Rattle.osrun_core_jobs.specs.Reading.{IsCauseOf, IsFailed, Opened, ReadsInOrder, WasRead, WereRead}
 use Rattle.osrun_core_jobs.specs.declared.refusal.Refusal.{Refusal}
 use Rattle.osrun_core_jobs.specs.declared.refusal.Refusal.TheVariants as refusals
 use Rattle.osrun_core_jobs.specs.declared.status.Status.{Status}
 use Rattle.osrun_core_jobs.specs.declared.status.Status.TheVariants as statuses
 use Rattle.osrun_core_jobs.specs.declared.subject.Subject.TheVariants as subjects
+use Rattle.osrun_core_run.specs.Code.{IsCodeOf, IsObjectOf}
 use Rattle.osrun_core_run.specs.Refusal.{IsUnusable, IsUsable}
-use Rattle.osrun_core_run.specs.RunOf.{IsRunOf}
+use Rattle.osrun_core_run.specs.RunOf.{IsRunOf, IsRunOfCode}
 use Rattle.osrun_core_run.specs.declared.made.Run.{Run}
 use Rattle.window_check.specs.declared.checked.Checked.{Checked}
 
@@ -28,6 +33,14 @@ ReadsProgram view old new name result = MatchResult result
     (λ refusal. Opened view old new (record { subject = subjects.Program; name = name })
     × IsFailed IsUnusable view old new (record { subject = subjects.Program; name = name }) refusal)
 
+-- an object was read, or it was opened and is the cause
+abbrev pub ReadsObject : {F : Type 0} → FilesView F → F → F → List ℕ → Result Code Refusal → Type 0
+ReadsObject view old new name result = MatchResult result
+    (λ code. (object : List ℕ) × WasRead IsUsable view old new (record { subject = subjects.Object; name = name }) object
+    × IsObjectOf object (parts_of code))
+    (λ refusal. Opened view old new (record { subject = subjects.Object; name = name })
+    × IsFailed IsUnusable view old new (record { subject = subjects.Object; name = name }) refusal)
+
 -- the files were read, and the run is that of the one over the other
 pub record IsMadeOf {F : Type 0} (view : FilesView F) (old new : F) (job : Job) (run : Run) : Type 0 where
   pub text : List ℕ
@@ -37,14 +50,36 @@ pub record IsMadeOf {F : Type 0} (view : FilesView F) (old new : F) (job : Job) 
   pub is_program : IsAccepted text program
   pub is_run : IsRunOf job.task_budget job.control_budget program input run.output.items run.layout run.ends run.control
 
--- one of them is the cause, or memory was wanted
-abbrev pub IsUnmadeOf : {F : Type 0} → FilesView F → F → F → Job → Refusal → Type 0
-IsUnmadeOf view old new job refusal =
-    IsCauseOf IsUsable IsUnusable view old new (files_of (RunRequest job)) refusal
-    ⊎ ((refusal ≡ refusals.Memory) × ReadsInOrder IsUsable view old new (files_of (RunRequest job)))
+-- the files were read, and the run is that of the code of the one over the other
+pub record IsExecOf {F : Type 0} (view : FilesView F) (old new : F) (job : ExecJob) (run : Run) : Type 0 where
+  pub object : List ℕ
+  pub input : List ℕ
+  pub read : WereRead IsUsable view old new (files_of (Exec job)) (object ∷ input ∷ [])
+  pub code : Parts
+  pub is_object : IsObjectOf object code
+  pub is_run : IsRunOfCode job.task_budget job.control_budget code input run.output.items run.layout run.ends run.control
+
+-- the file was read, and the bytes are the object of a code of its program
+pub record IsCompiledOf {F : Type 0} (view : FilesView F) (old new : F) (job : CompileJob) (object : List ℕ) : Type 0 where
+  pub text : List ℕ
+  pub read : WereRead IsUsable view old new (files_of (Compile job)) (text ∷ [])
+  pub program : ProgramTree
+  pub is_program : IsAccepted text program
+  pub code : Parts
+  pub is_code : IsCodeOf code program
+  pub is_object : Spells object code
+
+-- one of the files is the cause, or memory was wanted
+abbrev pub IsUnmadeOf : {F : Type 0} → FilesView F → F → F → List JobFile → Refusal → Type 0
+IsUnmadeOf view old new files refusal =
+    IsCauseOf IsUsable IsUnusable view old new files refusal
+    ⊎ ((refusal ≡ refusals.Memory) × ReadsInOrder IsUsable view old new files)
 
 abbrev pub MakesRun : {F : Type 0} → FilesView F → F → F → Job → Result Run Refusal → Type 0
-MakesRun view old new job result = MatchResult result (IsMadeOf view old new job) (IsUnmadeOf view old new job)
+MakesRun view old new job result = MatchResult result (IsMadeOf view old new job) (IsUnmadeOf view old new (files_of (RunRequest job)))
+
+abbrev pub MakesExec : {F : Type 0} → FilesView F → F → F → ExecJob → Result Run Refusal → Type 0
+MakesExec view old new job result = MatchResult result (IsExecOf view old new job) (IsUnmadeOf view old new (files_of (Exec job)))
 
 -- the four lines were handed over, or memory was wanted and nothing was written
 abbrev pub AnswersGen : {O E : Type 0} → SinkView O → O → O → SinkView E → E → E → GenJob → Status → Type 0

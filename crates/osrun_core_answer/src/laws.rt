@@ -2,12 +2,14 @@
 
 ghost use Rattle.std.specs.Prelude.{◌≡◌, All, Some};
 ghost use Rattle.osrun_core_answer.specs.Answers.{IsMade};
-ghost use Rattle.osrun_core_answer.specs.Laws.{IsTold, SameButForWorkers, WorkersChangeNothing};
+ghost use Rattle.osrun_core_answer.specs.Laws.{IsTold, ObjectsRunAsTexts, SameButForWorkers, WorkersChangeNothing};
 ghost use Rattle.osrun_core_jobs.specs.Files.{files_of};
 ghost use Rattle.osrun_core_jobs.specs.Jobs.{Request};
 
+use epoch_run_bodies::laws::agreeing_bodies_mean_one;
 use front_end::one_answer;
 use os_io::Files;
+use os_object::laws::one_reading;
 
 /// What is given doesn't depend on the number of workers: over the same bytes, requests that differ in that number alone are
 /// meant to give the same output, report and status. So do two calls on files that tell the same, each before its call.
@@ -19,4 +21,15 @@ pub fn workers_change_nothing<F: Files>(files: &F, files_after: &F, others: &F, 
         → one.outcome ≡ two.outcome }
 {
     one_answer();
+    one_reading();
+}
+
+/// What `compile` gives of a text is an object of which `exec` gives what `run` gives of the text, over every input and with the same
+/// budgets, whatever the numbers of workers.
+pub fn objects_run_as_texts()
+    ensures { ObjectsRunAsTexts }
+{
+    one_answer();
+    one_reading();
+    agreeing_bodies_mean_one();
 }

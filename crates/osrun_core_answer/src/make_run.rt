@@ -12,7 +12,7 @@ use task_workers::Gate;
 use window_check::Checked;
 
 /// Reads a program and checks it.
-fn read_program<F: Files>(alloc: Global, files: &mut F, name: &str) -> Result<Checked, Refusal>
+pub fn read_program<F: Files>(alloc: Global, files: &mut F, name: &str) -> Result<Checked, Refusal>
     requires { IsTrue (F.may files.old (F.opens files.old) name.now) }
     ensures { ReadsProgram F.Files files.old files.new name.now result }
 {

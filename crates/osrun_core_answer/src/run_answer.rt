@@ -5,9 +5,9 @@ ghost use Rattle.osrun_core_jobs.specs.Status.{code_of};
 ghost use Rattle.osrun_core_answer.specs.Answers.{AnswersRequest};
 
 use crate::make_run::make_run;
-use front_end::one_answer;
 use os_io::{Files, Sink};
 use osrun_core_jobs::{Job, Status, deliver, refuse};
+use osrun_core_run::laws::never_usable_and_refused;
 use std::alloc::Global;
 use std::thread::Threads;
 use task_workers::Gate;
@@ -28,7 +28,7 @@ pub fn answer_run<R: Threads + Sync, F: Files, O: Sink, E: Sink, G: Gate>(
     ensures { AnswersRequest F.Files files.old files.new O.Sink out.old out.new E.Sink report.old report.new
         (Some (RunRequest (job_of job.now))) (code_of result) }
 {
-    one_answer();
+    never_usable_and_refused();
     match make_run(rt, alloc, job, files, gate) {
         Ok(run) => deliver(out, report, &run.output, &run, run.status()),
         Err(refusal) => refuse(report, refusal),

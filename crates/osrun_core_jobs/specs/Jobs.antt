@@ -1,5 +1,7 @@
 -- The jobs that words may name.
 use Rattle.std.specs.Prelude.{◌≤◌, ℕ, List, Option, Some, None}
+use Rattle.osrun_core_jobs.specs.declared.job.CompileJob.{CompileJob as LentCompile}
+use Rattle.osrun_core_jobs.specs.declared.job.ExecJob.{ExecJob as LentExec}
 use Rattle.osrun_core_jobs.specs.declared.job.GenJob.{GenJob as LentGen}
 use Rattle.osrun_core_jobs.specs.declared.job.Job.{Job as Lent}
 use Rattle.osrun_core_jobs.specs.declared.job.Request.{Request as LentRequest}
@@ -19,20 +21,52 @@ pub record GenJob : Type 0 where
   pub blocks : ℕ
   pub workers : ℕ
 
+-- a program whose code is written as an object, by the name of its file
+pub record CompileJob : Type 0 where
+  pub program : List ℕ
+
+-- a run of the code of an object over an input, by the names of their files, with as many workers and turns
+pub record ExecJob : Type 0 where
+  pub object : List ℕ
+  pub input : List ℕ
+  pub workers : ℕ
+  pub task_budget : ℕ
+  pub control_budget : ℕ
+
 -- what words may ask for
 pub data Request : Type 0 where
   Run : Job → Request
   Gen : GenJob → Request
+  Compile : CompileJob → Request
+  Exec : ExecJob → Request
 
 -- the run, where it is one
 abbrev pub run_in : Request → Option Job
 run_in (Run job) = Some job
 run_in (Gen job) = None
+run_in (Compile job) = None
+run_in (Exec job) = None
 
 -- the bytes to make, where it is that
 abbrev pub gen_in : Request → Option GenJob
 gen_in (Run job) = None
 gen_in (Gen job) = Some job
+gen_in (Compile job) = None
+gen_in (Exec job) = None
+
+-- the program to compile, where it is that
+abbrev pub compile_in : Request → Option CompileJob
+compile_in (Run job) = None
+compile_in (Gen job) = None
+compile_in (Compile job) = Some job
+compile_in (Exec job) = None
+
+-- the run of an object, where it is that
+abbrev pub exec_in : Request → Option ExecJob
+exec_in (Run job) = None
+exec_in (Gen job) = None
+exec_in (Compile job) = None
+exec_in (Exec job) = Some job
 
 -- the numbers of a job are within their bounds
 pub record IsWithin (job : Job) : Type 0 where
@@ -48,9 +82,17 @@ pub record IsGenWithin (job : GenJob) : Type 0 where
   pub some_workers : 1 ≤ job.workers
   pub few_workers : job.workers ≤ 64
 
+pub record IsExecWithin (job : ExecJob) : Type 0 where
+  pub some_workers : 1 ≤ job.workers
+  pub few_workers : job.workers ≤ 64
+  pub task_turns : job.task_budget ≤ 1000000000
+  pub control_turns : job.control_budget ≤ 1000000000
+
 abbrev pub IsRequestWithin : Request → Type 0
 IsRequestWithin (Run job) = IsWithin job
 IsRequestWithin (Gen job) = IsGenWithin job
+IsRequestWithin (Compile job) = Unit {0}
+IsRequestWithin (Exec job) = IsExecWithin job
 
 -- ---- what the code's values show
 
@@ -67,6 +109,20 @@ job_of job = record {
 abbrev pub gen_of : LentGen → GenJob
 gen_of job = record { seed = job.seed; blocks = job.blocks; workers = job.workers }
 
+abbrev pub compile_of : LentCompile → CompileJob
+compile_of job = record { program = job.program.now }
+
+abbrev pub exec_of : LentExec → ExecJob
+exec_of job = record {
+  object = job.object.now;
+  input = job.input.now;
+  workers = job.terms.workers;
+  task_budget = job.terms.task_budget;
+  control_budget = job.terms.control_budget;
+}
+
 abbrev pub request_of : LentRequest → Request
 request_of (lent.Run job) = Run (job_of job)
 request_of (lent.Gen job) = Gen (gen_of job)
+request_of (lent.Compile job) = Compile (compile_of job)
+request_of (lent.Exec job) = Exec (exec_of job)

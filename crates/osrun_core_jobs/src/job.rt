@@ -1,4 +1,4 @@
-/// On which terms a program is run.
+/// On which terms a program or a code is run.
 #[derive(Clone, Copy, Debug)]
 pub struct Terms {
     /// How many workers make the run, 1 to 64.
@@ -31,6 +31,24 @@ pub struct GenJob {
     pub workers: u32,
 }
 
+/// A program that is compiled, by the name of its file.
+#[derive(Clone, Copy, Debug)]
+pub struct CompileJob<'w> {
+    /// The name of the program's file.
+    pub program: &'w str,
+}
+
+/// A run of a code over an input. Both are names of files.
+#[derive(Clone, Copy, Debug)]
+pub struct ExecJob<'w> {
+    /// The name of the object's file.
+    pub object: &'w str,
+    /// The name of the input's file.
+    pub input: &'w str,
+    /// With how many workers and turns.
+    pub terms: Terms,
+}
+
 /// What the words ask for.
 #[derive(Clone, Copy, Debug)]
 pub enum Request<'w> {
@@ -38,4 +56,8 @@ pub enum Request<'w> {
     Run(Job<'w>),
     /// To make bytes, and to run a kernel over them.
     Gen(GenJob),
+    /// To write the object of a program's code.
+    Compile(CompileJob<'w>),
+    /// To run the code of an object over an input.
+    Exec(ExecJob<'w>),
 }

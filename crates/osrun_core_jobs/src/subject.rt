@@ -8,8 +8,10 @@ use os_lexer::TEXT_LIMIT;
 pub enum Subject {
     /// The program's text.
     Program,
-    /// The bytes that the program is run over.
+    /// The bytes that a program or a code is run over.
     Input,
+    /// The object of a code.
+    Object,
 }
 
 impl Subject {
@@ -20,6 +22,7 @@ impl Subject {
         match self {
             Subject::Program => TEXT_LIMIT as u64,
             Subject::Input => 4_194_304,
+            Subject::Object => 67_108_864,
         }
     }
 
@@ -30,6 +33,7 @@ impl Subject {
         match self {
             Subject::Program => b"program",
             Subject::Input => b"input",
+            Subject::Object => b"object",
         }
     }
 }

@@ -39,10 +39,10 @@ list-has false horizon rest inputs next hs h f =
     ap (λ n. n ∷ map length (next (drop horizon inputs))) (length-take horizon inputs ∙ omega (arith, h))
     ∙ ap (λ ns. horizon ∷ ns) (f (drop horizon inputs) (omega (arith, h, length-drop horizon inputs)))
 
-abbrev read_sum : List Claim → ℕ
+abbrev pub read_sum : List Claim → ℕ
 read_sum cs = sum_by (λ (c : Claim). c.horizon) (filter (λ (c : Claim). not c.write) cs)
 
-read_sum-cons : (c : Claim) (cs : List Claim) → read_sum (c ∷ cs) ≡ cond (not c.write) (c.horizon + read_sum cs) (read_sum cs)
+pub read_sum-cons : (c : Claim) (cs : List Claim) → read_sum (c ∷ cs) ≡ cond (not c.write) (c.horizon + read_sum cs) (read_sum cs)
 read_sum-cons c cs = by (not c.write)
   where
     by : (b : Bool) → sum_by (λ (e : Claim). e.horizon) (cond b (c ∷ filter (λ (e : Claim). not e.write) cs) (filter (λ (e : Claim). not e.write) cs)) ≡ cond b (c.horizon + read_sum cs) (read_sum cs)
@@ -55,7 +55,7 @@ lists-have (c ∷ cs) inputs h =
     list-has c.write c.horizon (read_sum cs) inputs (item_lists cs) (map (λ (e : Claim). e.horizon) cs) (h ∙ read_sum-cons c cs) (lists-have cs)
 
 -- nothing that was written is a byte
-nothing : (x : Activation) (o : Outcome) → o.outputs ≡ [] → GivesBytes x o
+pub nothing : (x : Activation) (o : Outcome) → o.outputs ≡ [] → GivesBytes x o
 nothing x o empty k j c value at write stream lt is = absurd (let e : None ≡ Some value = sym (ap (λ vs. slice_get vs (offset_after (take k x.claims) c + j)) empty) ∙ is in cc)
 
 ended : (x : Activation) (line : ℕ) (items : List (List ℤ)) → map length items ≡ map (λ (c : Claim). c.horizon) x.claims → (b : Bool) → gives_bytes x.claims items ≡ b

@@ -1,10 +1,17 @@
--- What an error of a text is told as.
-use Rattle.std.specs.Prelude.{Some}
+-- What an error of a text or of an object is told as.
+use Rattle.std.specs.Prelude.{None, Some}
 use Rattle.front_end.specs.declared.text_error.TextError.{TextError}
 use Rattle.front_end.specs.declared.text_error.TextError.TheVariants as errors
+use Rattle.os_object.specs.declared.object_error.ObjectError.{ObjectError}
+use Rattle.os_object.specs.declared.object_error.ObjectError.TheVariants as objects
 use Rattle.osrun_core_jobs.specs.declared.refusal.Refusal.{Refusal}
 use Rattle.osrun_core_jobs.specs.declared.refusal.Refusal.TheVariants as refusals
 
 abbrev pub text_refusal : TextError → Refusal
 text_refusal (errors.Refused code line) = refusals.Refused code (Some line)
 text_refusal errors.Memory = refusals.Memory
+
+abbrev pub object_refusal : ObjectError → Refusal
+object_refusal objects.Format = refusals.Refused 30 None
+object_refusal objects.Invalid = refusals.Refused 31 None
+object_refusal objects.Memory = refusals.Memory

@@ -9,12 +9,20 @@ use Rattle.flow_core_laws.specs.declared.activation.Activation.{Activation}
 use Rattle.flow_core_laws.specs.declared.claim.Claim.{Claim}
 use Rattle.flow_core_laws.specs.declared.outcome.Outcome.{Outcome}
 use Rattle.flow_core_laws.specs.declared.task_end.TaskEnd.TheVariants.{Done}
-use Rattle.os_code.specs.Tasks.{input_count}
+use Rattle.os_code.specs.IsValid.{IsValid}
+use Rattle.os_code.specs.Outcomes.{task_outcome}
+use Rattle.os_code.specs.Tasks.{Fits, input_count}
+use Rattle.os_code.specs.declared.parts.Parts.{Parts}
 
 -- what an activation writes to the output, which is stream 1, are bytes
 abbrev pub GivesBytes : Activation → Outcome → Type 0
 GivesBytes x o = (k j : ℕ) (c : Claim) (value : ℤ) → slice_get x.claims k ≡ Some c → c.write ≡ true → c.stream ≡ 1 → j < c.horizon
     → slice_get o.outputs (offset_after (take k x.claims) c + j) ≡ Some value → IsByte value
+
+-- What the machine makes of an activation that fits a valid code and has its inputs writes nothing but bytes to the output.
+abbrev pub CodesGiveBytes : Type 0
+CodesGiveBytes = (code : Parts) (x : Activation) (inputs : List ℤ) (budget : ℕ) → IsValid code → Fits code x → length inputs ≡ input_count x
+    → GivesBytes x (task_outcome code x inputs budget)
 
 -- where all bodies give bytes, the elements of the output that are there are bytes
 abbrev pub OutputsAreBytes : Type 0

@@ -10,8 +10,14 @@ use Rattle.flow_core_laws.specs.declared.activation.Activation.{Activation}
 use Rattle.os_ast.specs.Trees.{ProgramTree}
 use Rattle.os_code.specs.Tasks.{input_count}
 use Rattle.osrun_core_jobs.specs.Jobs.{Job}
+use Rattle.osrun_core_jobs.specs.declared.subject.Subject.{Subject}
+use Rattle.osrun_core_run.specs.Refusal.{IsUnusable, IsUsable}
 use Rattle.osrun_core_run.specs.Run.{IsRunOfJob, ProgramRun}
 use Rattle.osrun_core_run.specs.BodyLaws.{GivesBytes}
+
+-- no bytes are usable as a file of a job and refused as one
+abbrev pub NeverUsableAndRefused : Type 0
+NeverUsableAndRefused = (subject : Subject) (bytes : List ℕ) (code : ℕ) (line : Option ℕ) → IsUsable subject bytes → IsUnusable subject bytes code line → ⊥
 
 -- The body of a task that has its inputs writes nothing but bytes to the output, which is stream 1, for every program and
 -- every activation.

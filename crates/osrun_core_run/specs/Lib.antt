@@ -1,4 +1,5 @@
--- What a reader believes: what a run of a program over an input comes to, and why a text is refused.
+-- What a reader believes: what a run of a program or of a code over an input comes to, and why a text or an object is refused.
+pub mod Code
 pub mod Refusal
 pub mod Run
 pub mod RunOf

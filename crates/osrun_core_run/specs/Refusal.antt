@@ -1,27 +1,45 @@
 -- What makes bytes usable as a file of a job, and how they are refused.
-use Rattle.std.specs.Prelude.{ℕ, List, Option, Some, None}
+use Rattle.std.specs.Prelude.{◌≡◌, ◌⊎◌, ℕ, List, Option, Some, None}
 use Rattle.front_end.specs.Texts.{IsAccepted, IsRefused}
 use Rattle.os_ast.specs.Trees.{ProgramTree}
+use Rattle.os_code.specs.IsValid.{IsValid}
+use Rattle.os_code.specs.declared.parts.Parts.{Parts}
+use Rattle.os_object.specs.Object.{Spells}
+use Rattle.osrun_core_run.specs.Code.{IsObjectOf}
 use Rattle.osrun_core_jobs.specs.declared.subject.Subject.{Subject}
-use Rattle.osrun_core_jobs.specs.declared.subject.Subject.TheVariants.{Program, Input}
+use Rattle.osrun_core_jobs.specs.declared.subject.Subject.TheVariants.{Program, Input, Object}
 use Rattle.osrun_core_jobs.specs.declared.refusal.Refusal.{Refusal}
 use Rattle.osrun_core_jobs.specs.declared.refusal.Refusal.TheVariants as refusals
 
--- Bytes are usable as such a file: those of the program are accepted as one, and each input is one.
+-- Bytes are usable as such a file: those of the program are accepted as one, each input is one, and an object is that of a valid
+-- code.
 abbrev pub IsUsable : Subject → List ℕ → Type 0
 IsUsable Program bytes = (p : ProgramTree) × IsAccepted bytes p
 IsUsable Input bytes = Unit {0}
+IsUsable Object bytes = (code : Parts) × IsObjectOf bytes code
+
+-- An object is refused by the code 30 exactly where the bytes spell no parts of a code, and by 31 exactly where they spell parts
+-- that aren't valid.
+abbrev pub IsNoObject : List ℕ → ℕ → Type 0
+IsNoObject bytes code = ((code ≡ 30) × ((parts : Parts) → Spells bytes parts → ⊥))
+    ⊎ ((code ≡ 31) × ((parts : Parts) × Spells bytes parts × (IsValid parts → ⊥)))
 
 -- They are refused as such a file: a text by a code and a line, those of its first fault, of the place where it stops being the
--- front of a program, or of its least violation. No input is refused.
+-- front of a program, or of its least violation. No input is refused. An object is refused by a code alone.
 abbrev pub IsUnusable : Subject → List ℕ → ℕ → Option ℕ → Type 0
 IsUnusable Program bytes code (Some line) = IsRefused bytes code line
 IsUnusable Program bytes code None = ⊥
 IsUnusable Input bytes code line = ⊥
+IsUnusable Object bytes code (Some line) = ⊥
+IsUnusable Object bytes code None = IsNoObject bytes code
+
+-- the bytes of such a file are refused so
+abbrev pub IsRefusalAs : Subject → List ℕ → Refusal → Type 0
+IsRefusalAs subject bytes (refusals.Refused code line) = IsUnusable subject bytes code line
+IsRefusalAs subject bytes (refusals.TooLong other) = ⊥
+IsRefusalAs subject bytes (refusals.ReadFault other) = ⊥
+IsRefusalAs subject bytes refusals.Memory = ⊥
 
 -- a text is refused so
 abbrev pub IsRefusalOf : List ℕ → Refusal → Type 0
-IsRefusalOf text (refusals.Refused code line) = IsUnusable Program text code line
-IsRefusalOf text (refusals.TooLong subject) = ⊥
-IsRefusalOf text (refusals.ReadFault subject) = ⊥
-IsRefusalOf text refusals.Memory = ⊥
+IsRefusalOf text refusal = IsRefusalAs Program text refusal

@@ -1,11 +1,21 @@
 //! Laws of programs and of their runs. Each is a call that does nothing and ensures its law.
 
-ghost use Rattle.osrun_core_run.specs.Laws.{BodiesGiveBytes, GivesOnlyBytes, IsOfAState, OfRuns, TellsAllButDone, WritesAllAtZero};
+ghost use Rattle.osrun_core_run.specs.Laws.{BodiesGiveBytes, GivesOnlyBytes, IsOfAState, NeverUsableAndRefused, OfRuns, TellsAllButDone, WritesAllAtZero};
 
 use crate::body_laws::{filled_bodies_fill, outputs_are_bytes};
 use cddf_meaning::laws::turns_never_grow;
 use collector::laws::{all_but_done_have_lines, all_is_written, meanings_are_states};
+use front_end::one_answer;
 use lowering_relation::laws::bodies_fill_their_outputs;
+use os_object::laws::one_reading;
+
+/// No bytes are usable as a file of a job and refused as one.
+pub fn never_usable_and_refused()
+    ensures { NeverUsableAndRefused }
+{
+    one_answer();
+    one_reading();
+}
 
 /// The body of a task that has its inputs writes nothing but bytes to the output.
 pub fn bodies_give_bytes()

@@ -1,16 +1,20 @@
-//! A run of a program over an input, in memory: from the text and the input to what the run comes to.
+//! A run of a program or of a code over an input, in memory: from the text or the object and the input to what the run comes to.
 //!
-//! `accept` is the program that a text stands for, or says why it is refused. `run_program` is the way from a program and an
-//! input to the bytes that are written and to what the report tells, stop by stop: the program is compiled, its control
-//! program is run, the activations get their positions and a plan, workers carry it out, and the output's bytes are
-//! collected. What comes of it is the control-driven data-flow meaning of the program over the input, for every program,
-//! input and number of workers. A frame of the plan runs the task of its activation on the machine (`TaskBodies` of
+//! `accept` is the program that a text stands for, or says why it is refused, and `accept_object` is the code of an object.
+//! `compile` is a code of a program. `run_code` is the way from a code and an input to the bytes that are written and to what the
+//! report tells, stop by stop: the code's `main` is run, the activations get their positions and a plan, workers carry it out, and
+//! the output's bytes are collected. What comes of it is the data-flow meaning of the activations, where the machine runs the task
+//! of each. `run_program` compiles a program and runs its code. What comes of it is the control-driven data-flow meaning of the
+//! program over the input, for every program, input and number of workers. A frame of the plan runs the task of its activation on the machine (`TaskBodies` of
 //! `epoch_run_bodies`). No file is read here and nothing is written. `laws` has what holds of every program and of every run of a
 //! job, and `body_laws` what holds of every list of activations and their bodies.
 #![tactic(auto)]
 
 mod accepting;
+mod accepting_object;
 pub mod body_laws;
+mod code_run;
+mod compiling;
 pub mod laws;
 mod lay_out;
 mod made;
@@ -20,5 +24,8 @@ mod run_tasks;
 mod running;
 
 pub use accepting::accept;
+pub use accepting_object::accept_object;
+pub use code_run::run_code;
+pub use compiling::compile;
 pub use made::Run;
 pub use running::run_program;

@@ -1,8 +1,15 @@
 ghost use Rattle.std.specs.Prelude.{◌≡◌};
-ghost use Rattle.osrun_core_run.specs.Accepting.{text_refusal};
+ghost use Rattle.osrun_core_run.specs.Accepting.{object_refusal, text_refusal};
 
 use front_end::TextError;
+use os_object::ObjectError;
 use osrun_core_jobs::Refusal;
+
+/// The code by which bytes are refused that spell no parts of a code.
+const NO_PARTS: u8 = 30;
+
+/// The code by which parts are refused that aren't valid.
+const NOT_VALID: u8 = 31;
 
 /// What an error of a text is told as.
 pub(crate) fn text_refusal(error: TextError) -> Refusal
@@ -14,5 +21,22 @@ pub(crate) fn text_refusal(error: TextError) -> Refusal
             line: Some(line),
         },
         TextError::Memory => Refusal::Memory,
+    }
+}
+
+/// What an error of an object is told as.
+pub(crate) fn object_refusal(error: ObjectError) -> Refusal
+    ensures { result ≡ object_refusal error }
+{
+    match error {
+        ObjectError::Format => Refusal::Refused {
+            code: NO_PARTS,
+            line: None,
+        },
+        ObjectError::Invalid => Refusal::Refused {
+            code: NOT_VALID,
+            line: None,
+        },
+        ObjectError::Memory => Refusal::Memory,
     }
 }

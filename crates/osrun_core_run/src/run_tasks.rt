@@ -2,16 +2,13 @@ ghost use Rattle.std.specs.Prelude.{◌≡◌, ◌≤◌, ℕ, List, All, IfOk, 
 ghost use Rattle.collector.specs.Written.{IsByteIfThere};
 ghost use Rattle.flow_core_laws.specs.IsSound.{IsSound};
 ghost use Rattle.flow_core_laws.specs.StandsFor.{StandsFor};
-ghost use Rattle.lowering.specs.Meanings.{RunsBodies};
-ghost use Rattle.os_ast.specs.Trees.{ProgramTree};
 ghost use Rattle.os_code.specs.Codes.{parts_of};
 ghost use Rattle.os_code.specs.Tasks.{Fits};
-ghost use Rattle.osrun_core_run.specs.Run.{ends_over};
+ghost use Rattle.osrun_core_run.specs.Code.{code_ends};
 
-use crate::body_laws::outputs_are_bytes;
-use cddf_meaning::laws::turns_never_grow;
+use crate::body_laws::{codes_give_bytes, outputs_are_bytes};
 use epoch_run_bodies::TaskBodies;
-use epoch_run_bodies::laws::{agreeing_bodies_mean_one, bodies_serve};
+use epoch_run_bodies::laws::bodies_serve;
 use flow_core_laws::{Control, Ends, Plan, laws};
 use os_code::Code;
 use os_io::Memory;
@@ -35,8 +32,7 @@ fn workers_for(asked: u32, frames: usize) -> u32
 }
 
 /// Carries out the plan of a run: each frame runs the task of its activation on one of the workers, of which there are no more than
-/// frames. What it comes
-/// to is what the activations of the program come to, whatever the number of workers, and its output has only bytes.
+/// frames. What it comes to is what the activations of the code come to, whatever the number of workers, and its output has only bytes.
 pub fn run_tasks<R: Threads + Sync, G: Gate>(
     rt: &R,
     alloc: Global,
@@ -51,10 +47,9 @@ pub fn run_tasks<R: Threads + Sync, G: Gate>(
     requires fit { All (Fits (parts_of code.now)) control.now.activations }
     requires sound { IsSound plan.now }
     requires stands { (input : List ℕ) × StandsFor plan.now control.now.activations input }
-    ensures meaning { (p : ProgramTree) (input : List ℕ) → RunsBodies (parts_of code.now) p → StandsFor plan.now control.now.activations input
-        → IfOk result (λ ends. ends ≡ ends_over p control.now.activations input terms.task_budget) }
-    ensures bytes { (p : ProgramTree) (input : List ℕ) → RunsBodies (parts_of code.now) p → StandsFor plan.now control.now.activations input
-        → IfOk result (λ ends. All IsByteIfThere ends.output) }
+    ensures meaning { (input : List ℕ) → StandsFor plan.now control.now.activations input
+        → IfOk result (λ ends. ends ≡ code_ends (parts_of code.now) control.now.activations input terms.task_budget) }
+    ensures bytes { IfOk result (λ ends. All IsByteIfThere ends.output) }
 {
     let bodies = TaskBodies {
         code,
@@ -62,9 +57,8 @@ pub fn run_tasks<R: Threads + Sync, G: Gate>(
         budget: terms.task_budget,
     };
     bodies_serve();
-    agreeing_bodies_mean_one();
+    codes_give_bytes();
     outputs_are_bytes();
-    turns_never_grow();
     laws::plan_meaning();
     let workers = workers_for(terms.workers, plan.frames.len());
     execute(rt, alloc, plan, &bodies, workers, gate)

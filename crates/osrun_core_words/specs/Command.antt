@@ -5,7 +5,7 @@ use Rattle.std.specs.declared.string.String.{String}
 use Rattle.std.specs.declared.alloc.Global.{Global}
 use Rattle.clap.specs.Words.{App, Kinds, Row, Text, fault_of, matches_of}
 use Rattle.osrun_core_words.specs.Arguments.{Argument, name, number, option, name_in, number_in, simple_command}
-use Rattle.osrun_core_jobs.specs.Jobs.{Gen, GenJob, Job, Request, Run, gen_in, run_in}
+use Rattle.osrun_core_jobs.specs.Jobs.{Compile, CompileJob, Exec, ExecJob, Gen, GenJob, Job, Request, Run, compile_in, exec_in, gen_in, run_in}
 
 -- ---- the commands
 
@@ -52,8 +52,31 @@ gen_form = record {
   });
 }
 
+-- `compile PROGRAM`
+abbrev pub compile_form : CommandForm
+compile_form = record {
+  word = codes "compile";
+  arguments = name (codes "PROGRAM") ∷ [];
+  request = λ rows. Compile (record { program = name_in rows (codes "PROGRAM") });
+}
+
+-- `exec OBJECT INPUT [--workers N] [--budget N] [--control N]`
+abbrev pub exec_form : CommandForm
+exec_form = record {
+  word = codes "exec";
+  arguments =
+      name (codes "OBJECT") ∷ name (codes "INPUT") ∷ workers ∷ task_budget ∷ control_budget ∷ [];
+  request = λ rows. Exec (record {
+    object = name_in rows (codes "OBJECT");
+    input = name_in rows (codes "INPUT");
+    workers = number_in rows (codes "workers");
+    task_budget = number_in rows (codes "budget");
+    control_budget = number_in rows (codes "control");
+  });
+}
+
 abbrev pub commands : List CommandForm
-commands = run_form ∷ gen_form ∷ []
+commands = run_form ∷ gen_form ∷ compile_form ∷ exec_form ∷ []
 
 -- ---- the words
 
@@ -85,6 +108,14 @@ named_run words = option_and_then run_in (command words)
 -- the bytes that the words ask to be made
 abbrev pub named_gen : List Text → Option GenJob
 named_gen words = option_and_then gen_in (command words)
+
+-- the program that the words ask to be compiled
+abbrev pub named_compile : List Text → Option CompileJob
+named_compile words = option_and_then compile_in (command words)
+
+-- the run of an object that the words name
+abbrev pub named_exec : List Text → Option ExecJob
+named_exec words = option_and_then exec_in (command words)
 
 -- ---- what the code's values show
 

@@ -14,6 +14,9 @@ pub const PROGRAM: Argument<'static> = Argument::Name { id: "PROGRAM" };
 /// The name of the input's file.
 pub const INPUT: Argument<'static> = Argument::Name { id: "INPUT" };
 
+/// The name of the object's file.
+pub const OBJECT: Argument<'static> = Argument::Name { id: "OBJECT" };
+
 /// How many workers make a run.
 pub const WORKERS: Argument<'static> = Argument::Option {
     id: "workers",
@@ -62,4 +65,16 @@ pub const RUN: CommandForm<'static> = CommandForm {
 pub const GEN: CommandForm<'static> = CommandForm {
     word: "gen",
     arguments: &[SEED, BLOCKS, WORKERS],
+};
+
+/// Writes the object of a program's code.
+pub const COMPILE: CommandForm<'static> = CommandForm {
+    word: "compile",
+    arguments: &[PROGRAM],
+};
+
+/// Runs the code of an object over an input.
+pub const EXEC: CommandForm<'static> = CommandForm {
+    word: "exec",
+    arguments: &[OBJECT, INPUT, WORKERS, TASK_BUDGET, CONTROL_BUDGET],
 };

@@ -6,6 +6,8 @@ use Rattle.os_serve_answers.specs.Replies.{reply_of}
 use Rattle.os_serve_answers.specs.declared.stop.Stop.TheVariants as stops
 use Rattle.os_serve_jobs.specs.Answers.{answer}
 use Rattle.os_serve_jobs.specs.Reading.{waiting_lines}
+use Rattle.os_serve_jobs.specs.Words.{IsText}
+use Rattle.os_serve.specs.Command.{MayRun}
 use Rattle.os_serve.specs.Commands.{IsReplyTo}
 use Rattle.os_serve.proofs.answering.answer_next.Goals as goal
 
@@ -57,3 +59,9 @@ returns-clause-next g c =
     (IfOk-at_ok (λ a. run c.args.files.now b.new.files c.deref.result.now (reply_of a)) c.in-Ok.is b.ensures.reply))
     (took_first g.O.Sink c.args.out.now c.write_answer.new.out (answer c.args.number r) c.write_answer.result (sym c.is_err.ensures.value ∙ c.if-is_err.false)
     c.write_answer.ensures)
+
+-- the files of the first job may be opened
+pub answer_beside-answer-requires-clause-may : goal.answer_beside-answer-requires-clause-may
+answer_beside-answer-requires-clause-may g c κs within =
+    subst (λ line. IsText line → MayRun (g.F.Files.may c.args.files.now) line) (sym c.deref.ensures.value)
+    (c.requires.may c.take_first-line.result.items (waiting_lines c.take_first-line.new.waiting.items) c.take_first-line.ensures.taken)

@@ -16,7 +16,7 @@ pub returns-in-Ok-Gen : goal.returns-in-Ok-Gen
 returns-in-Ok-Gen g c =
     rw (c.in-Ok-Gen.ensures.request, c.in-Ok-Gen.field-0-is, c.code-in-Ok-Gen.ensures)
     (answers_gen g.F.Files c.args.files.now g.O.Sink c.args.out.now c.answer_gen.new.out g.E.Sink c.args.report.now c.answer_gen.new.report
-    c.one_answer.ensures.never_both (gen_of c.in-Ok-Gen.job)
+    c.never_usable_and_refused.ensures (gen_of c.in-Ok-Gen.job)
     (subst (λ r. IsRequestWithin (request_of r)) c.in-Ok-Gen.field-0-is c.in-Ok-Gen.ensures.within) c.answer_gen.result c.answer_gen.ensures)
 
 pub returns-in-Err-Refused : goal.returns-in-Err-Refused
@@ -28,3 +28,19 @@ pub returns-in-Err-Memory : goal.returns-in-Err-Memory
 returns-in-Err-Memory g c =
     rw c.code-in-Err-Memory.ensures (answers_unmade g.F.Files c.args.files.now c.args.files.now g.O.Sink c.args.out.now c.args.out.now g.E.Sink c.args.report.now c.args.report.now
     (command (texts c.args.words.now)) (inl refl) refl refl)
+
+pub answer_compile-requires : goal.answer_compile-requires
+answer_compile-requires g c =
+    c.requires _ (c.in-Ok-Compile.ensures.request ∙ ap (λ r. Some (request_of r)) c.in-Ok-Compile.field-0-is)
+
+pub returns-in-Ok-Compile : goal.returns-in-Ok-Compile
+returns-in-Ok-Compile g c =
+    rw (c.in-Ok-Compile.ensures.request, c.in-Ok-Compile.field-0-is, c.code-in-Ok-Compile.ensures) c.answer_compile.ensures
+
+pub answer_exec-requires-clause-may : goal.answer_exec-requires-clause-may
+answer_exec-requires-clause-may g c lifetimes live =
+    c.requires _ (c.in-Ok-Exec.ensures.request ∙ ap (λ r. Some (request_of r)) c.in-Ok-Exec.field-0-is)
+
+pub returns-in-Ok-Exec : goal.returns-in-Ok-Exec
+returns-in-Ok-Exec g c =
+    rw (c.in-Ok-Exec.ensures.request, c.in-Ok-Exec.field-0-is, c.code-in-Ok-Exec.ensures) c.answer_exec.ensures

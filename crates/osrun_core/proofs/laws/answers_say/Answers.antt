@@ -1,4 +1,4 @@
-use Rattle.osrun_core.proofs.Says.{all_opened, bad_words, bad_words_always, complete, gen_complete, gen_cut_short, gen_files, gen_report, gen_statuses, gen_written, headline, in_order, keeps, memory, no_read_fault, no_write_fault, nothing_read, nothing_written, opened_last, read_earlier, refused, refused_always, statuses_small, too_long_always, undelivered, usage, within}
+use Rattle.osrun_core.proofs.Says.{all_opened, bad_words, bad_words_always, compile_cut_short, compile_refused_always, compiled, complete, exec_refused_always, exec_undelivered, executed, gen_complete, gen_cut_short, gen_files, gen_report, gen_statuses, gen_written, headline, in_order, keeps, memory, no_read_fault, no_write_fault, nothing_read, nothing_written, opened_last, read_earlier, refused, refused_always, statuses_small, too_long_always, undelivered, usage, within}
 use Rattle.osrun_core.proofs.laws.answers_say.Goals as goal
 
 pub returns-clause-headline : goal.returns-clause-headline
@@ -87,3 +87,21 @@ returns-clause-holds g c = (keeps _ _ _ _ _ _ _ _ _ _ _ c.requires).1
 
 pub returns-clause-may : goal.returns-clause-may
 returns-clause-may g c = (keeps _ _ _ _ _ _ _ _ _ _ _ c.requires).2
+
+pub returns-clause-compiled : goal.returns-clause-compiled
+returns-clause-compiled g c = compiled _ _ _ _ _ _ _ _ _ _ _ c.requires
+
+pub returns-clause-compile_cut_short : goal.returns-clause-compile_cut_short
+returns-clause-compile_cut_short g c = compile_cut_short _ _ _ _ _ _ _ _ _ _ _ c.requires
+
+pub returns-clause-compile_refused_always : goal.returns-clause-compile_refused_always
+returns-clause-compile_refused_always g c = compile_refused_always _ _ _ _ _ _ _ _ _ _ _ c.requires
+
+pub returns-clause-executed : goal.returns-clause-executed
+returns-clause-executed g c = executed _ _ _ _ _ _ _ _ _ _ _ c.requires
+
+pub returns-clause-exec_undelivered : goal.returns-clause-exec_undelivered
+returns-clause-exec_undelivered g c = exec_undelivered _ _ _ _ _ _ _ _ _ _ _ c.requires
+
+pub returns-clause-exec_refused_always : goal.returns-clause-exec_refused_always
+returns-clause-exec_refused_always g c = exec_refused_always _ _ _ _ _ _ _ _ _ _ _ c.requires

@@ -2,7 +2,7 @@ use Rattle.std.proofs.Common.{◌≡◌, ◌⊎◌, subst}
 use Rattle.std.proofs.lemmas.Result.{err_from_is_err_and}
 use Rattle.front_end.specs.Texts.{IsAccepted}
 use Rattle.os_ast.specs.Views.{program_tree}
-use Rattle.osrun_core_answer.proofs.Loaded.{not_loaded, opened_so, refused_text, was_read}
+use Rattle.osrun_core_answer.proofs.Loaded.{not_loaded, opened_so, refused_bytes, was_read}
 use Rattle.osrun_core_jobs.specs.declared.refusal.Refusal.TheVariants as refusals
 use Rattle.osrun_core_jobs.specs.declared.subject.Subject.TheVariants as subjects
 use Rattle.osrun_core_run.specs.Refusal.{IsRefusalOf}
@@ -25,7 +25,7 @@ returns-in_err-checked g c =
     let refused = subst (λ text. (why ≡ refusals.Memory) ⊎ IsRefusalOf text why) c.deref.ensures.value c.in_err-checked.ensures.refused in
     rw (e.1, e.2) (
       opened_so g.F.Files c.args.files.now c.load.new.files (record { subject = subjects.Program; name = c.args.name.now }) l.opens l.left l.faults_kept l.holds l.may,
-      refused_text g.F.Files c.args.files.now c.load.new.files c.args.name.now c.in_ok-text.text.items why l.loaded l.no_fault refused,
+      refused_bytes g.F.Files c.args.files.now c.load.new.files subjects.Program c.args.name.now c.in_ok-text.text.items why l.loaded l.no_fault refused,
     )
 
 pub returns : goal.returns

@@ -9,16 +9,16 @@ use Rattle.osrun_core_run.proofs.run_tasks.run_tasks.Goals as goal
 use Rattle.epoch_run_bodies.specs.Frames.{frame_outcome}
 
 pub returns-clause-meaning : goal.returns-clause-meaning
-returns-clause-meaning g c p input runs stands =
+returns-clause-meaning g c input stands =
     let code = parts_of c.args.code.now in
     let plan = c.args.plan.now in
     let budget = c.args.terms.task_budget in
     let of_ends = subst (λ xs. IfOk c.execute.result (λ (e : Ends). e.ends ≡ ends_of (plan_meaning plan (frame_outcome code xs budget)))) c.as_slice.ensures c.execute.ensures.ends in
     let of_output = subst (λ xs. IfOk c.execute.result (λ (e : Ends). e.output ≡ sink_elements plan (plan_meaning plan (frame_outcome code xs budget)))) c.as_slice.ensures c.execute.ensures.output in
-    ends_if code p c.args.control.now.activations budget runs c.requires.fit
-    c.agreeing_bodies_mean_one.ensures c.plan_meaning.ensures.meaning c.plan_meaning.ensures.sink plan input stands c.execute.result of_ends of_output
+    ends_if code c.args.control.now.activations budget c.plan_meaning.ensures.meaning c.plan_meaning.ensures.sink plan input stands c.execute.result of_ends of_output
 
 pub returns-clause-bytes : goal.returns-clause-bytes
-returns-clause-bytes g c p input runs stands =
-    bytes_if c.turns_never_grow.ensures.statements c.outputs_are_bytes.ensures p c.args.control.now.activations input c.args.terms.task_budget c.execute.result
-    (returns-clause-meaning g c p input runs stands)
+returns-clause-bytes g c =
+    let given = c.requires.stands in
+    bytes_if c.codes_give_bytes.ensures c.outputs_are_bytes.ensures (parts_of c.args.code.now) c.args.code.now.valid c.args.control.now.activations c.requires.fit
+    given.0 c.args.terms.task_budget c.execute.result (returns-clause-meaning g c given.0 given.1)

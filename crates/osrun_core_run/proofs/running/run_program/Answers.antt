@@ -1,36 +1,10 @@
-use Rattle.std.proofs.Common.{◌∙◌, ◌≤◌, ap, length, refl, subst, sym}
-use Rattle.collector.specs.Written.{written}
-use Rattle.flow_core_laws.specs.Streams.{stream_meaning}
-use Rattle.flow_core_laws.specs.declared.ends.Ends.{Ends}
 use Rattle.os_ast.specs.Views.{program_tree}
-use Rattle.osrun_core_run.proofs.FewWritten.{few_written}
-use Rattle.osrun_core_run.specs.Run.{body_at}
+use Rattle.os_code.specs.Codes.{parts_of}
+use Rattle.osrun_core_run.proofs.TasksRun.{run_of_code}
 use Rattle.osrun_core_run.proofs.running.run_program.Goals as goal
 
-pub output_bytes-requires : goal.output_bytes-requires
-output_bytes-requires g c =
-    let stands = c.in_ok-plan.ensures.stands_for c.in_ok-control.control.activations c.in_ok-layout.ensures.layout in
-    record { bytes = c.in_ok-ends.ensures.bytes (program_tree c.args.checked.now.program) c.args.input.now c.in_ok-code.ensures.bodies stands }
-
 pub returns : goal.returns
-returns g c =
-    let p = program_tree c.args.checked.now.program in
-    let activations = c.in_ok-control.control.activations in
-    let input = c.args.input.now in
-    let stands = c.in_ok-plan.ensures.stands_for activations c.in_ok-layout.ensures.layout in
-    let meant = c.in_ok-ends.ensures.meaning p input c.in_ok-code.ensures.bodies stands in
-    let state = stream_meaning activations input (body_at p activations c.args.terms.task_budget) in
-    let count = ap length c.in_ok-output.ensures.written ∙ ap (λ (e : Ends). length (written e.output)) meant in
-    record {
-      run = record {
-        made = c.in_ok-control.control;
-        made_is = c.in_ok-control.ensures.exact ∙ c.in_ok-code.ensures.control (length input) c.args.terms.control_budget;
-        end_is = refl;
-        whole = c.in_ok-layout.ensures.whole;
-        laid = c.in_ok-layout.ensures.layout;
-        over = c.in_ok-layout.ensures.input;
-        ends_are = meant;
-        writes = c.in_ok-output.ensures.written;
-        few = subst (λ n. n ≤ 4194304) (sym count) (few_written _ activations input state c.in_ok-control.ensures.lawful);
-      };
-    }
+returns g c = record {
+  run = run_of_code c.agreeing_bodies_mean_one.ensures (parts_of c.in_ok-code.code) (program_tree c.args.checked.now.program) c.in_ok-code.ensures
+      _ _ _ _ _ _ _ c.in_ok-run.ensures.run;
+}
