@@ -1,5 +1,6 @@
 -- An expression spends its turns exactly.
 use Rattle.std.proofs.Common.{◌≡◌, ℕ, zero, suc, ◌+◌, ◌-◌, ◌≤◌, ◌<◌, ◌⊎◌, inl, inr, Bool, true, false, not, if◌then◌else◌, List, ◌∷◌, [], Option, Some, None, Ok, Err, ℤ, pos, arith, refl, ap, ◌∙◌}
+use Rattle.std.specs.Int.{w32, cast_signed}
 use Rattle.std.proofs.lemmas.Bool.{cases_lt}
 use Rattle.c_int.specs.Operators.{is_zero, truth}
 use Rattle.cddf_meaning.specs.Answers.{Answer, Left, and_then, left, with_turns, over}
@@ -100,6 +101,7 @@ mutual
   pub value-exact : (file : File) → CallsExact file → (e : tree.ExprTree) (s : State) (turns : ℕ) →
       IsExact ℤ (value file e s) turns (value file e s turns)
   value-exact file calls (tree.Number n) s turns = exact-here (pos n) turns
+  value-exact file calls (tree.Wide n) s turns = exact-here (cast_signed w32 n) turns
   value-exact file calls (tree.Place t) s turns = place-exact file calls t s turns
   value-exact file calls (tree.ExprTree.Call f args) s turns =
       exact-then (values file args s) (call_value file.calls (variable file s f.id)) turns (values file args s turns)

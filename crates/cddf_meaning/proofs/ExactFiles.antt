@@ -8,7 +8,7 @@ use Rattle.cddf_meaning.specs.Functions.{file_of, with_item, with_items, empty_f
 use Rattle.cddf_meaning.specs.Moves.{CallsFall}
 use Rattle.cddf_meaning.specs.Run.{run_all}
 use Rattle.cddf_meaning.specs.State.{State, state_of}
-use Rattle.os_ast.specs.Notes.Programs.{param_names}
+use Rattle.os_ast.specs.Notes.Programs.{param_list}
 use Rattle.os_ast.specs.Trees as tree
 use Rattle.cddf_meaning.proofs.Exact.{CallsExact, exact-if}
 use Rattle.cddf_meaning.proofs.ExactRuns.{all-exact}
@@ -33,7 +33,7 @@ function-exact : (file : File) → CallsFall file → CallsExact file → (f : t
     IsExact ℤ (call_function file f args) turns (call_function file f args turns)
 function-exact file fall calls f args zero = tt
 function-exact file fall calls f args (suc turns) =
-    let s = state_of (bind_params (param_names f.params) args []) [] in
+    let s = state_of (bind_params (param_list f.params) args []) [] in
     returned-exact (call_function file f args) (run_all (in_function file) f.body s) turns (run_all (in_function file) f.body s turns) refl
     (λ k. refl) (all-exact (in_function file) fall calls f.body s turns)
 

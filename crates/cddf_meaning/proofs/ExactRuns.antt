@@ -312,7 +312,7 @@ declarators-exact u calls (d ∷ ds) s turns =
 start-exact : (u : Around) → CallsExact u.file → (start : tree.StartTree) (s : State) (turns : ℕ) →
     RunsExactly (run_start u start s) turns (run_start u start s turns)
 start-exact u calls tree.StartTree.Empty s turns = went-exact GoesOn s turns
-start-exact u calls (tree.StartTree.Declare ds) s turns = declarators-exact u calls ds s turns
+start-exact u calls (tree.StartTree.Declare ty ds) s turns = declarators-exact u calls ds s turns
 start-exact u calls (tree.StartTree.Change c) s turns = change-exact u.file calls c s turns
 
 test-exact : (file : File) → CallsExact file → (test : Option tree.ExprTree) (s : State) (turns : ℕ) →
@@ -401,7 +401,7 @@ mutual
       RunsExactly (run u a s) turns (run u a s turns)
   run-exact u fall calls tree.StmtTree.Empty s turns = went-exact GoesOn s turns
   run-exact u fall calls (tree.Block ss) s turns = left-exact s (run_all u ss s) turns (run_all u ss s turns) (all-exact u fall calls ss s turns)
-  run-exact u fall calls (tree.StmtTree.Declare ds) s turns = declarators-exact u calls ds s turns
+  run-exact u fall calls (tree.StmtTree.Declare ty ds) s turns = declarators-exact u calls ds s turns
   run-exact u fall calls (tree.StmtTree.Change c) s turns = change-exact u.file calls c s turns
   run-exact u fall calls (tree.StmtTree.Call f args) s turns =
       given-exact (λ t. and_then (values u.file args s t) (call_value u.file.calls (variable u.file s f.id))) s (λ n. goes_on s n.turns) turns

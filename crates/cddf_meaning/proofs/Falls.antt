@@ -59,6 +59,7 @@ linked-falls op line a right f =
 mutual
   pub value-falls : (file : File) → CallsFall file → (e : tree.ExprTree) (s : State) (turns : ℕ) → Falls turns (value file e s turns)
   value-falls file calls (tree.Number n) s turns = same turns
+  value-falls file calls (tree.Wide n) s turns = same turns
   value-falls file calls (tree.Place t) s turns = place-falls file calls t s turns
   value-falls file calls (tree.ExprTree.Call f args) s turns =
       falls-then turns (values file args s turns) (call_value file.calls (variable file s f.id)) (values-falls file calls args s turns)

@@ -6,7 +6,7 @@ use Rattle.cddf_meaning.specs.Functions.{file_of, with_item, with_items, empty_f
 use Rattle.cddf_meaning.specs.Moves.{Falls, CallsFall, Keeps}
 use Rattle.cddf_meaning.specs.Run.{run_all}
 use Rattle.cddf_meaning.specs.State.{State, state_of}
-use Rattle.os_ast.specs.Notes.Programs.{param_names}
+use Rattle.os_ast.specs.Notes.Programs.{param_list}
 use Rattle.os_ast.specs.Trees as tree
 use Rattle.cddf_meaning.proofs.Falls.{falls-if, falls-less}
 use Rattle.cddf_meaning.proofs.Keeps.{all-keeps}
@@ -19,7 +19,7 @@ function-falls : (file : File) → CallsFall file → (f : tree.FunctionTree) (a
     Falls turns (call_function file f args turns)
 function-falls file calls f args zero = tt
 function-falls file calls f args (suc turns) =
-    let s = state_of (bind_params (param_names f.params) args []) [] in
+    let s = state_of (bind_params (param_list f.params) args []) [] in
     let r = run_all (in_function file) f.body s turns in
     falls-less (suc turns) turns (returned r) (omega arith) (returned-falls s turns r (all-keeps (in_function file) calls f.body s turns))
 

@@ -198,7 +198,7 @@ declarators-keeps u calls (d ∷ ds) s turns =
 
 start-keeps : (u : Around) → CallsFall u.file → (start : tree.StartTree) (s : State) (turns : ℕ) → Keeps s turns (run_start u start s turns)
 start-keeps u calls tree.StartTree.Empty s turns = keeps-on s s turns refl
-start-keeps u calls (tree.StartTree.Declare ds) s turns = declarators-keeps u calls ds s turns
+start-keeps u calls (tree.StartTree.Declare ty ds) s turns = declarators-keeps u calls ds s turns
 start-keeps u calls (tree.StartTree.Change c) s turns = change-keeps u.file calls c s turns
 
 pub test-falls : (file : File) → CallsFall file → (test : Option tree.ExprTree) (s : State) (turns : ℕ) → Falls turns (run_test file test s turns)
@@ -297,7 +297,7 @@ mutual
   pub run-keeps : (u : Around) → CallsFall u.file → (a : tree.StmtTree) (s : State) (turns : ℕ) → Keeps s turns (run u a s turns)
   run-keeps u calls tree.StmtTree.Empty s turns = keeps-on s s turns refl
   run-keeps u calls (tree.Block ss) s turns = left-keeps s s turns (run_all u ss s turns) (all-keeps u calls ss s turns)
-  run-keeps u calls (tree.StmtTree.Declare ds) s turns = declarators-keeps u calls ds s turns
+  run-keeps u calls (tree.StmtTree.Declare ty ds) s turns = declarators-keeps u calls ds s turns
   run-keeps u calls (tree.StmtTree.Change c) s turns = change-keeps u.file calls c s turns
   run-keeps u calls (tree.StmtTree.Call f args) s turns =
       given-left s turns (and_then (values u.file args s turns) (call_value u.file.calls (variable u.file s f.id))) (λ n. goes_on s n.turns)

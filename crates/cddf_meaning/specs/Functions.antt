@@ -12,9 +12,9 @@ use Rattle.cddf_meaning.specs.declared.variable.Binding.{Binding}
 use Rattle.cddf_meaning.specs.declared.variable.Variable.{Variable}
 use Rattle.cddf_meaning.specs.declared.variable.Variable.TheVariants.{Constant, Function, Scalar}
 use Rattle.os_ast.specs.Names.{constant_value}
-use Rattle.os_ast.specs.Notes.Programs.{param_names}
+use Rattle.os_ast.specs.Notes.Programs.{param_list}
 use Rattle.os_ast.specs.Trees as tree
-use Rattle.os_ast.specs.declared.expr.Name.{Name}
+use Rattle.os_ast.specs.declared.program.Param.{Param}
 
 -- A body that ends without a `return` gives 0. `break` and `continue` stand in loops alone.
 abbrev pub result_of : Flow → ℤ
@@ -29,10 +29,10 @@ returned (Went flow s turns) = Ok (left (result_of flow) turns)
 returned (Ended ending activations) = Err ending
 
 -- each parameter is a scalar with the value of its argument; there are as many arguments as parameters
-abbrev pub bind_params : List Name → List ℤ → List Binding → List Binding
+abbrev pub bind_params : List Param → List ℤ → List Binding → List Binding
 bind_params [] vs bound = bound
-bind_params (n ∷ ns) [] bound = bind_params ns [] (bind n.id (Scalar (pos 0)) bound)
-bind_params (n ∷ ns) (v ∷ vs) bound = bind_params ns vs (bind n.id (Scalar v) bound)
+bind_params (p ∷ ps) [] bound = bind_params ps [] (bind p.name.id (Scalar (pos 0)) bound)
+bind_params (p ∷ ps) (v ∷ vs) bound = bind_params ps vs (bind p.name.id (Scalar v) bound)
 
 -- what is round the body of a function or a task
 abbrev pub in_function : File → Around
@@ -42,7 +42,7 @@ in_function file = record { file = file; is_control = false; sites = [] }
 abbrev pub call_function : File → tree.FunctionTree → List ℤ → ℕ → Answer (Left ℤ)
 call_function file f args zero = over
 call_function file f args (suc turns) =
-    returned (run_all (in_function file) f.body (state_of (bind_params (param_names f.params) args []) []) turns)
+    returned (run_all (in_function file) f.body (state_of (bind_params (param_list f.params) args []) []) turns)
 
 abbrev pub item_id : tree.ItemTree → ℕ
 item_id (tree.Constant c) = c.name.id

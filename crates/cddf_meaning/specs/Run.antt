@@ -129,7 +129,7 @@ run_declarators u (d ∷ ds) s turns = flows (run_declarators u ds) (run_declara
 -- what stands before the first `;` of a `for`
 abbrev pub run_start : Around → tree.StartTree → Runs
 run_start u tree.StartTree.Empty s turns = goes_on s turns
-run_start u (tree.StartTree.Declare ds) s turns = run_declarators u ds s turns
+run_start u (tree.StartTree.Declare ty ds) s turns = run_declarators u ds s turns
 run_start u (tree.StartTree.Change c) s turns = run_change u.file c s turns
 
 -- Without a test a loop goes on.
@@ -147,7 +147,7 @@ abbrev mutual
   pub run : Around → tree.StmtTree → Runs
   run u tree.StmtTree.Empty s turns = goes_on s turns
   run u (tree.Block ss) s turns = left_from s (run_all u ss s turns)
-  run u (tree.StmtTree.Declare ds) s turns = run_declarators u ds s turns
+  run u (tree.StmtTree.Declare ty ds) s turns = run_declarators u ds s turns
   run u (tree.StmtTree.Change c) s turns = run_change u.file c s turns
   run u (tree.StmtTree.Call f args) s turns =
       given (and_then (values u.file args s turns) (call_value u.file.calls (variable u.file s f.id))) s (λ n. goes_on s n.turns)

@@ -32,7 +32,7 @@ abbrev mutual
   pub tasks_in : Scope → tree.StmtTree → List Task
   tasks_in s tree.StmtTree.Empty = []
   tasks_in s (tree.Block ss) = tasks_in_all (enter s) ss
-  tasks_in s (tree.StmtTree.Declare ds) = []
+  tasks_in s (tree.StmtTree.Declare ty ds) = []
   tasks_in s (tree.StmtTree.Change c) = []
   tasks_in s (tree.StmtTree.Call f args) = []
   tasks_in s (tree.If c a) = tasks_in s a

@@ -1,5 +1,6 @@
 -- The value of an expression. C11, 6.5; operands and arguments are evaluated from left to right.
 use Rattle.std.specs.Prelude.{ℕ, not, if◌then◌else◌, ltb, List, [], ◌∷◌, length, get_or, Option, Some, ℤ, pos, negsuc, Ok}
+use Rattle.std.specs.Int.{w32, cast_signed}
 use Rattle.c_int.specs.Operators.{is_zero, truth}
 use Rattle.cddf_meaning.specs.Answers.{Answer, Left, traps, and_then, left, with_turns}
 use Rattle.cddf_meaning.specs.File.{Calls, File, variable}
@@ -51,9 +52,10 @@ linked binary.Or line a right = if is_zero a.value then and_then (right a.turns)
 linked op line a right = and_then (right a.turns) (λ b. with_turns b.turns (binary_value op line a.value b.value))
 
 abbrev mutual
-  -- The value of an expression, which changes no name.
+  -- The value of an expression, which changes no name. A wide number stands by its 32 bits.
   pub value : File → tree.ExprTree → State → ℕ → Answer (Left ℤ)
   value file (tree.Number n) s turns = Ok (left (pos n) turns)
+  value file (tree.Wide n) s turns = Ok (left (cast_signed w32 n) turns)
   value file (tree.Place t) s turns = place_value file t s turns
   value file (tree.ExprTree.Call f args) s turns =
       and_then (values file args s turns) (call_value file.calls (variable file s f.id))

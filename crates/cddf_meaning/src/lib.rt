@@ -7,7 +7,8 @@
 //! `Control` the activations that the control program creates, and its end.
 //!
 //! A definition is total over every tree. Where no program that keeps the rules comes, it says something, and a comment
-//! says so. `laws` shows that the definitions are the ones that were meant, and `examples` works some out by hand.
+//! says so. Programs with the type `unsigned` are among these: no type counts for anything here, and a wide number stands by
+//! its 32 bits. `laws` shows that the definitions are the ones that were meant, and `examples` works some out by hand.
 //!
 //! There is no code here but laws and the types that the definitions name. `cddf_meaning_plain` computes what they say.
 #![tactic(auto)]

@@ -6,6 +6,7 @@ use Rattle.os_ast.specs.Trees as tree
 abbrev mutual
   pub expr_weight : tree.ExprTree → ℕ
   expr_weight (tree.Number n) = 1
+  expr_weight (tree.Wide n) = 1
   expr_weight (tree.Place t) = 1 + target_weight t
   expr_weight (tree.ExprTree.Call f args) = 2 + args_weight args
   expr_weight (tree.Paren e) = 1 + expr_weight e
@@ -46,7 +47,7 @@ change_weight (tree.Before t s m) = 1 + target_weight t
 
 abbrev pub start_weight : tree.StartTree → ℕ
 start_weight tree.StartTree.Empty = 0
-start_weight (tree.StartTree.Declare ds) = 1 + weights declarator_weight ds
+start_weight (tree.StartTree.Declare ty ds) = 1 + weights declarator_weight ds
 start_weight (tree.StartTree.Change c) = 1 + change_weight c
 
 abbrev pub step_weight : Option tree.ChangeTree → ℕ
@@ -67,7 +68,7 @@ abbrev mutual
   pub stmt_weight : tree.StmtTree → ℕ
   stmt_weight tree.StmtTree.Empty = 1
   stmt_weight (tree.Block ss) = 2 + stmts_weight ss
-  stmt_weight (tree.StmtTree.Declare ds) = 1 + weights declarator_weight ds
+  stmt_weight (tree.StmtTree.Declare ty ds) = 1 + weights declarator_weight ds
   stmt_weight (tree.StmtTree.Change c) = 1 + change_weight c
   stmt_weight (tree.StmtTree.Call f args) = 2 + args_weight args
   stmt_weight (tree.If c a) = 1 + expr_weight c + stmt_weight a

@@ -9,7 +9,7 @@ ghost use Rattle.cddf_meaning_plain_state.specs.Stops.{Gives};
 use crate::run::stmts;
 use cddf_meaning_plain_state::Stop;
 use cddf_meaning_plain_state::functions::{
-    function_at, param_names, result_of, take_unit, with_params,
+    function_at, param_list, result_of, take_unit, with_params,
 };
 use cddf_meaning_plain_tasks::Unit;
 use os_ast::{Function, Item};
@@ -46,7 +46,7 @@ fn entered(
     ensures fewer { turns.new ≤ turns.old }
 {
     take_unit(turns)?;
-    let mut state = with_params(alloc, param_names(&function.params), args)?;
+    let mut state = with_params(alloc, param_list(&function.params), args)?;
     let unit = Unit {
         file,
         control: None,

@@ -39,7 +39,7 @@ pub(crate) fn stmt(
     match stmt {
         Stmt::Empty | Stmt::Taskwait(_) => Ok(Flow::GoesOn),
         Stmt::Block(list) => block(alloc, unit, list, state, turns),
-        Stmt::Declare(list) => {
+        Stmt::Declare(_, list) => {
             declarators(alloc, unit, list, state, turns)?;
             Ok(Flow::GoesOn)
         }
@@ -165,7 +165,7 @@ fn start(
 {
     match start {
         Start::Empty => Ok(()),
-        Start::Declare(list) => declarators(alloc, unit, list, state, turns),
+        Start::Declare(_, list) => declarators(alloc, unit, list, state, turns),
         Start::Change(first) => change(alloc, unit.file, first, state, turns),
     }
 }

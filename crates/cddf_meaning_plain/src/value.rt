@@ -31,6 +31,7 @@ pub(crate) fn value(
 {
     match expr {
         Expr::Number(number) => int(*number),
+        Expr::Wide(number) => Ok(number.cast_signed()),
         Expr::Place(target) => place(alloc, file, target, state, turns),
         Expr::Call(call) => called(alloc, file, call, state, turns),
         Expr::Paren(inner) => value(alloc, file, inner, state, turns),

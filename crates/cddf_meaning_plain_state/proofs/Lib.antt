@@ -1,3 +1,4 @@
+pub mod Constants
 pub mod Horizons
 pub mod Outputs
 pub mod Places

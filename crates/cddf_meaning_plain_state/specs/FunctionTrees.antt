@@ -11,4 +11,4 @@ function_of (Some (tree.Constant c)) = None
 function_of (Some (tree.Function f)) = Some f
 
 abbrev pub function_tree : Function → tree.FunctionTree
-function_tree f = record { name = f.name; params = f.params; body = stmts_tree f.body }
+function_tree f = record { ty = f.ty; name = f.name; params = f.params; body = stmts_tree f.body }

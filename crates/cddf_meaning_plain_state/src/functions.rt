@@ -5,7 +5,7 @@ ghost use Rattle.std.specs.Prelude.{◌≡◌, ◌+◌, ◌<◌, ◌≤◌, IfEr
 ghost use Rattle.cddf_meaning.specs.Functions.{bind_params, result_of};
 ghost use Rattle.cddf_meaning.specs.State as states;
 ghost use Rattle.cddf_meaning.specs.declared.ending.Ending.TheVariants as endings;
-ghost use Rattle.os_ast.specs.Notes.Programs.{param_names};
+ghost use Rattle.os_ast.specs.Notes.Programs.{param_list};
 ghost use Rattle.os_ast.specs.Views.{item_tree};
 ghost use Rattle.cddf_meaning_plain_state.specs.FunctionTrees.{function_of, function_tree};
 ghost use Rattle.cddf_meaning_plain_state.specs.declared.stop.Stop.TheVariants as stops;
@@ -13,7 +13,7 @@ ghost use Rattle.cddf_meaning_plain_state.specs.declared.stop.Stop.TheVariants a
 use crate::state::State;
 use crate::stop::Stop;
 use cddf_meaning::{Flow, Variable};
-use os_ast::{Function, Item, Name, Params};
+use os_ast::{Function, Item, Param, Params};
 use os_io::Memory;
 use std::alloc::Global;
 
@@ -40,13 +40,13 @@ pub fn result_of(flow: Flow) -> i32
     }
 }
 
-/// The names of the parameters, in the order of the text.
-pub fn param_names(params: &Params) -> &[Name]
-    ensures { result.now ≡ param_names params.now }
+/// The parameters, in the order of the text.
+pub fn param_list(params: &Params) -> &[Param]
+    ensures { result.now ≡ param_list params.now }
 {
     match params {
         Params::Empty | Params::Void => &[],
-        Params::Names(names) => names.as_slice(),
+        Params::Names(params) => params.as_slice(),
     }
 }
 
@@ -61,12 +61,12 @@ fn argument(args: &[i32], place: usize) -> i32
 }
 
 /// The state of a function's body, with its parameters set. One that has no argument is 0.
-pub fn with_params(alloc: Global, names: &[Name], args: &[i32]) -> Result<State, Memory>
-    ensures { IfOk result (λ s. s ≡ states.state_of (bind_params names.now args.now []) []) }
+pub fn with_params(alloc: Global, params: &[Param], args: &[i32]) -> Result<State, Memory>
+    ensures { IfOk result (λ s. s ≡ states.state_of (bind_params params.now args.now []) []) }
 {
     let mut state = State::new(alloc, Vec::new(alloc));
-    for (place, name) in names.iter().enumerate() {
-        state.declare(name.id, Variable::Scalar(argument(args, place)))?;
+    for (place, param) in params.iter().enumerate() {
+        state.declare(param.name.id, Variable::Scalar(argument(args, place)))?;
     }
     Ok(state)
 }

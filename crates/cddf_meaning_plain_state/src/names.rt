@@ -36,11 +36,17 @@ pub fn int(number: u32) -> Result<i32, Stop>
     }
 }
 
-fn constant_value(constant: &Constant) -> Result<i32, Stop>
-    ensures { Comes result (Ok (constant_value constant.now)) }
+/// The 32 bits of a constant, as an `int`.
+#[tactic(auto, using(crate::proofs::Constants::constant_bits))]
+fn constant_value(constant: &Constant) -> i32
+    ensures { result ≡ constant_value constant.now }
 {
-    let size = int(constant.size)?;
-    Ok(if constant.minus { -size } else { size })
+    let size = constant.size.cast_signed();
+    if constant.minus {
+        size.wrapping_neg()
+    } else {
+        size
+    }
 }
 
 /// The number of the name that an item declares.
@@ -58,7 +64,7 @@ fn seen_item(place: usize, item: &Item) -> Result<Seen, Stop>
     ensures { (s : states.State) → Comes result (Ok (seen s (Some (item_variable place (item_tree item.now))))) }
 {
     match item {
-        Item::Constant(constant) => Ok(Seen::Number(constant_value(constant)?)),
+        Item::Constant(constant) => Ok(Seen::Number(constant_value(constant))),
         Item::Function(_) => Ok(Seen::Function(place)),
     }
 }

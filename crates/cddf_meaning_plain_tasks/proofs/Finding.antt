@@ -8,10 +8,10 @@ use Rattle.cddf_meaning_plain_tasks.specs.declared.known.Known.{Known}
 use Rattle.os_ast.specs.Captured as captures
 use Rattle.os_ast.specs.Captured.{Scalar}
 use Rattle.os_ast.specs.FreeNames.{task_names}
-use Rattle.os_ast.specs.Names.{Scope, enter, in_loop, main_id, osin_id, osout_id, osin_len_id}
+use Rattle.os_ast.specs.Names.{Scope, enter, in_loop, main_id, osin_id, osout_id, osin_len_id, typed}
 use Rattle.os_ast.specs.Notes.Declarators.{after_declarator, after_declarators, after_start, declared_entity, form, form_with, form_entity, scalar_entity, taken}
 use Rattle.os_ast.specs.Notes.Programs as notes
-use Rattle.os_ast.specs.Notes.Programs.{after_item, after_items, after_param, after_params, in_body, in_function, param_names}
+use Rattle.os_ast.specs.Notes.Programs.{after_item, after_items, after_param, after_params, in_body, in_function, param_list}
 use Rattle.os_ast.specs.Notes.Statements.{after_stmt, after_stmts}
 use Rattle.os_ast.specs.Parts.{is_in, parts}
 use Rattle.os_ast.specs.Trees as tree
@@ -23,6 +23,7 @@ use Rattle.os_ast.specs.declared.names.Entry.{Entry}
 use Rattle.os_ast.specs.declared.names.Form.{Form}
 use Rattle.os_ast.specs.declared.names.Form.TheVariants as form_of
 use Rattle.os_ast.specs.declared.names.Owner.TheVariants as owner
+use Rattle.os_ast.specs.declared.program.Param.{Param}
 
 -- captured scalars, by their names
 
@@ -126,14 +127,14 @@ owner-declarators s (d ∷ ds) = owner-declarators (after_declarator s d) ds ∙
 
 owner-start : (s : Scope) (a : tree.StartTree) → (after_start s a).owner ≡ s.owner
 owner-start s tree.StartTree.Empty = refl
-owner-start s (tree.StartTree.Declare ds) = owner-declarators s ds
+owner-start s (tree.StartTree.Declare ty ds) = owner-declarators (typed ty s) ds
 owner-start s (tree.StartTree.Change c) = refl
 
 mutual
   owner-stmt : (s : Scope) (a : tree.StmtTree) → (after_stmt s a).owner ≡ s.owner
   owner-stmt s tree.StmtTree.Empty = refl
   owner-stmt s (tree.Block ss) = owner-stmts (enter s) ss
-  owner-stmt s (tree.StmtTree.Declare ds) = owner-declarators s ds
+  owner-stmt s (tree.StmtTree.Declare ty ds) = owner-declarators (typed ty s) ds
   owner-stmt s (tree.StmtTree.Change c) = refl
   owner-stmt s (tree.StmtTree.Call f args) = refl
   owner-stmt s (tree.If c a) = owner-stmt s a
@@ -177,14 +178,14 @@ declarators-known s h (d ∷ ds) =
 start-known : (s : Scope) → s.owner ≡ owner.OfMain → (a : tree.StartTree) →
     known_of (after_start s a).entries ≡ known_of s.entries ++ known_start a
 start-known s h tree.StartTree.Empty = sym (append-nil (known_of s.entries))
-start-known s h (tree.StartTree.Declare ds) = declarators-known s h ds
+start-known s h (tree.StartTree.Declare ty ds) = declarators-known (typed ty s) h ds
 start-known s h (tree.StartTree.Change c) = sym (append-nil (known_of s.entries))
 
 stmt-known : (s : Scope) → s.owner ≡ owner.OfMain → (a : tree.StmtTree) →
     known_of (after_stmt s a).entries ≡ known_of s.entries ++ known_behind a
 stmt-known s h tree.StmtTree.Empty = sym (append-nil (known_of s.entries))
 stmt-known s h (tree.Block ss) = sym (append-nil (known_of s.entries))
-stmt-known s h (tree.StmtTree.Declare ds) = declarators-known s h ds
+stmt-known s h (tree.StmtTree.Declare ty ds) = declarators-known (typed ty s) h ds
 stmt-known s h (tree.StmtTree.Change c) = sym (append-nil (known_of s.entries))
 stmt-known s h (tree.StmtTree.Call f args) = sym (append-nil (known_of s.entries))
 stmt-known s h (tree.If c a) = stmt-known s h a
@@ -205,7 +206,7 @@ mutual
   tasks-found : (s : Scope) → s.owner ≡ owner.OfMain → (a : tree.StmtTree) → tasks_in s a ≡ found_in (known_of s.entries) a
   tasks-found s h tree.StmtTree.Empty = refl
   tasks-found s h (tree.Block ss) = all-found (enter s) h ss
-  tasks-found s h (tree.StmtTree.Declare ds) = refl
+  tasks-found s h (tree.StmtTree.Declare ty ds) = refl
   tasks-found s h (tree.StmtTree.Change c) = refl
   tasks-found s h (tree.StmtTree.Call f args) = refl
   tasks-found s h (tree.If c a) = tasks-found s h a
@@ -242,19 +243,19 @@ items-known s (tree.Function f ∷ is) =
     items-known (after_item s (tree.Function f)) is
     ∙ append_assoc (known_of s.entries) (known_item (tree.Function f) ∷ []) (map known_item is)
 
-params-owner : (s : Scope) (ns : List Name) → (after_params s ns).owner ≡ s.owner
+params-owner : (s : Scope) (ns : List Param) → (after_params s ns).owner ≡ s.owner
 params-owner s [] = refl
 params-owner s (n ∷ ns) = params-owner (after_param s n) ns
 
 param-scalar : (s : Scope) → s.owner ≡ owner.OfMain → is_scalar (scalar_entity s.owner s.slots) ≡ true
 param-scalar s h = ap (λ o. is_scalar (scalar_entity o s.slots)) h
 
-params-known : (s : Scope) → s.owner ≡ owner.OfMain → (ns : List Name) →
+params-known : (s : Scope) → s.owner ≡ owner.OfMain → (ns : List Param) →
     known_of (after_params s ns).entries ≡ known_of s.entries ++ map known_param ns
 params-known s h [] = sym (append-nil (known_of s.entries))
 params-known s h (n ∷ ns) =
     params-known (after_param s n) h ns
-    ∙ ap (λ b. known_of s.entries ++ known n.id b ∷ [] ++ map known_param ns) (param-scalar s h)
+    ∙ ap (λ b. known_of s.entries ++ known n.name.id b ∷ [] ++ map known_param ns) (param-scalar s h)
     ∙ append_assoc (known_of s.entries) (known_param n ∷ []) (map known_param ns)
 
 three : {A : Type 0} → (xs : List A) (a b c : A) (ys : List A) → xs ++ a ∷ [] ++ b ∷ [] ++ c ∷ [] ++ ys ≡ xs ++ a ∷ b ∷ c ∷ ys
@@ -267,7 +268,7 @@ pub main_found : (is : List tree.ItemTree) (f : tree.FunctionTree) → f.name.id
 main_found is f h =
     let s = after_items notes.file is in
     let t = in_function s f.name.id in
-    let ns = param_names f.params in
+    let ns = param_list f.params in
     let owned : t.owner ≡ owner.OfMain = ap (λ id. (in_function s id).owner) h in
     let round : known_of t.entries ≡ known_of (in_function s main_id).entries = ap (λ id. known_of (in_function s id).entries) h in
     all-found (in_body s f) (params-owner t ns ∙ owned) f.body

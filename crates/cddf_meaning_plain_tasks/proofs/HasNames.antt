@@ -97,6 +97,7 @@ one id x = or-false (x == id)
 mutual
   expr-has : (id : ℕ) (e : tree.ExprTree) → has_expr id e ≡ is_in id (expr_names e)
   expr-has id (tree.Number n) = refl
+  expr-has id (tree.Wide n) = refl
   expr-has id (tree.Place t) = target-has id t
   expr-has id (tree.ExprTree.Call f args) = ap (λ b. (f.id == id) || b) (args-has id args)
   expr-has id (tree.Paren e) = expr-has id e
@@ -150,7 +151,7 @@ declarators-has id (d ∷ ds) =
 
 start-has : (id : ℕ) (s : tree.StartTree) → has_start id s ≡ is_in id (start_names s)
 start-has id tree.StartTree.Empty = refl
-start-has id (tree.StartTree.Declare ds) = declarators-has id ds
+start-has id (tree.StartTree.Declare ty ds) = declarators-has id ds
 start-has id (tree.StartTree.Change c) = change-has id c
 
 items-has : (id : ℕ) (is : List tree.ClauseItemTree) → has_items id is ≡ is_in id (items_names is)
@@ -197,7 +198,7 @@ clauses-list id (c ∷ cs) =
 stmt-declares : (id : ℕ) (a : tree.StmtTree) → declares id a ≡ is_in id (stmt_ids a)
 stmt-declares id tree.StmtTree.Empty = refl
 stmt-declares id (tree.Block ss) = refl
-stmt-declares id (tree.StmtTree.Declare ds) = refl
+stmt-declares id (tree.StmtTree.Declare ty ds) = refl
 stmt-declares id (tree.StmtTree.Change c) = refl
 stmt-declares id (tree.StmtTree.Call f args) = refl
 stmt-declares id (tree.If c a) = stmt-declares id a
@@ -216,7 +217,7 @@ mutual
   stmt-has : (id : ℕ) (a : tree.StmtTree) → has_stmt id a ≡ is_in id (stmt_names a)
   stmt-has id tree.StmtTree.Empty = refl
   stmt-has id (tree.Block ss) = stmts-have id ss
-  stmt-has id (tree.StmtTree.Declare ds) = declarators-has id ds
+  stmt-has id (tree.StmtTree.Declare ty ds) = declarators-has id ds
   stmt-has id (tree.StmtTree.Change c) = change-has id c
   stmt-has id (tree.StmtTree.Call f args) = ap (λ b. (f.id == id) || b) (args-has id args)
   stmt-has id (tree.If c a) = in-or id (expr_names c) (stmt_names a) (has_expr id c) (has_stmt id a) (expr-has id c) (stmt-has id a)

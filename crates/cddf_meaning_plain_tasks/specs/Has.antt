@@ -8,6 +8,7 @@ use Rattle.os_ast.specs.Trees as tree
 abbrev mutual
   pub has_expr : ℕ → tree.ExprTree → Bool
   has_expr id (tree.Number n) = false
+  has_expr id (tree.Wide n) = false
   has_expr id (tree.Place t) = has_target id t
   has_expr id (tree.ExprTree.Call f args) = (f.id == id) || has_args id args
   has_expr id (tree.Paren e) = has_expr id e
@@ -54,7 +55,7 @@ has_declarators id (d ∷ ds) = not (d.name.id == id) && (has_value id d.first |
 
 abbrev pub has_start : ℕ → tree.StartTree → Bool
 has_start id tree.StartTree.Empty = false
-has_start id (tree.StartTree.Declare ds) = has_declarators id ds
+has_start id (tree.StartTree.Declare ty ds) = has_declarators id ds
 has_start id (tree.StartTree.Change c) = has_change id c
 
 abbrev pub has_items : ℕ → List tree.ClauseItemTree → Bool
@@ -104,7 +105,7 @@ lists id (c ∷ cs) = clause_lists id c.kind || lists id cs
 abbrev pub declares : ℕ → tree.StmtTree → Bool
 declares id tree.StmtTree.Empty = false
 declares id (tree.Block ss) = false
-declares id (tree.StmtTree.Declare ds) = is_in id (declared_ids ds)
+declares id (tree.StmtTree.Declare ty ds) = is_in id (declared_ids ds)
 declares id (tree.StmtTree.Change c) = false
 declares id (tree.StmtTree.Call f args) = false
 declares id (tree.If c a) = declares id a
@@ -122,7 +123,7 @@ abbrev mutual
   pub has_stmt : ℕ → tree.StmtTree → Bool
   has_stmt id tree.StmtTree.Empty = false
   has_stmt id (tree.Block ss) = has_stmts id ss
-  has_stmt id (tree.StmtTree.Declare ds) = has_declarators id ds
+  has_stmt id (tree.StmtTree.Declare ty ds) = has_declarators id ds
   has_stmt id (tree.StmtTree.Change c) = has_change id c
   has_stmt id (tree.StmtTree.Call f args) = (f.id == id) || has_args id args
   has_stmt id (tree.If c a) = has_expr id c || has_stmt id a

@@ -9,7 +9,7 @@ use Rattle.cddf_meaning.specs.declared.variable.Binding.{Binding}
 use Rattle.cddf_meaning.specs.declared.variable.Variable.TheVariants.{Item}
 use Rattle.os_ast.specs.FreeNames.{target_names, join_names, task_names}
 use Rattle.os_ast.specs.Names.{osin_id, osout_id, osin_len_id}
-use Rattle.os_ast.specs.Notes.Programs.{param_names}
+use Rattle.os_ast.specs.Notes.Programs.{param_list}
 use Rattle.os_ast.specs.Parts as clauses
 use Rattle.os_ast.specs.Trees as tree
 use Rattle.os_ast.specs.Views.{clause_tree, stmt_tree}
@@ -18,6 +18,7 @@ use Rattle.os_ast.specs.declared.expr.Name.{Name}
 use Rattle.os_ast.specs.declared.names.Entity.{Entity}
 use Rattle.os_ast.specs.declared.names.Entity.TheVariants as entity
 use Rattle.os_ast.specs.declared.names.Entry.{Entry}
+use Rattle.os_ast.specs.declared.program.Param.{Param}
 use Rattle.cddf_meaning.specs.Functions.{item_id}
 
 -- the numbers of names
@@ -59,14 +60,14 @@ known_declarator d = known d.name.id (not d.stream && is_none d.size)
 
 abbrev pub known_start : tree.StartTree → List Known
 known_start tree.StartTree.Empty = []
-known_start (tree.StartTree.Declare ds) = map known_declarator ds
+known_start (tree.StartTree.Declare ty ds) = map known_declarator ds
 known_start (tree.StartTree.Change c) = []
 
 -- what a statement of the control program declares in the scope in which it stands
 abbrev pub known_behind : tree.StmtTree → List Known
 known_behind tree.StmtTree.Empty = []
 known_behind (tree.Block ss) = []
-known_behind (tree.StmtTree.Declare ds) = map known_declarator ds
+known_behind (tree.StmtTree.Declare ty ds) = map known_declarator ds
 known_behind (tree.StmtTree.Change c) = []
 known_behind (tree.StmtTree.Call f args) = []
 known_behind (tree.If c a) = known_behind a
@@ -83,14 +84,14 @@ known_behind (tree.Taskwait m) = []
 abbrev pub known_item : tree.ItemTree → Known
 known_item i = known (item_id i) false
 
-abbrev pub known_param : Name → Known
-known_param n = known n.id true
+abbrev pub known_param : Param → Known
+known_param p = known p.name.id true
 
 -- what is in scope round the body of `main`, behind these items of the file
 abbrev pub known_in_main : List tree.ItemTree → tree.FunctionTree → List Known
 known_in_main items f =
     map known_item items
-    ++ (known osin_id false ∷ known osout_id false ∷ known osin_len_id true ∷ map known_param (param_names f.params))
+    ++ (known osin_id false ∷ known osout_id false ∷ known osin_len_id true ∷ map known_param (param_list f.params))
 
 -- other names
 abbrev pub others : ℕ → List ℕ → List ℕ
@@ -122,7 +123,7 @@ abbrev mutual
   pub found_in : List Known → tree.StmtTree → List Task
   found_in ks tree.StmtTree.Empty = []
   found_in ks (tree.Block ss) = found_in_all ks ss
-  found_in ks (tree.StmtTree.Declare ds) = []
+  found_in ks (tree.StmtTree.Declare ty ds) = []
   found_in ks (tree.StmtTree.Change c) = []
   found_in ks (tree.StmtTree.Call f args) = []
   found_in ks (tree.If c a) = found_in ks a

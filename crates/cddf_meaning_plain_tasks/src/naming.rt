@@ -21,7 +21,7 @@ fn in_expr(expr: &Expr, id: u32) -> bool
     ensures { result ≡ has_expr id (expr_tree expr.now) }
 {
     match expr {
-        Expr::Number(_) => false,
+        Expr::Number(_) | Expr::Wide(_) => false,
         Expr::Place(target) => in_target(target, id),
         Expr::Call(call) => call.name.id == id || in_args(&call.args, id),
         Expr::Paren(inner) => in_expr(inner, id),
@@ -137,7 +137,7 @@ fn starts(start: &Start, id: u32) -> bool
     ensures { result ≡ is_in id (start_ids (start_tree start.now)) }
 {
     match start {
-        Start::Declare(declarators) => declare(declarators, id),
+        Start::Declare(_, declarators) => declare(declarators, id),
         Start::Empty | Start::Change(_) => false,
     }
 }
@@ -147,7 +147,7 @@ fn in_start(start: &Start, id: u32) -> bool
 {
     match start {
         Start::Empty => false,
-        Start::Declare(declarators) => in_declarators(declarators, id),
+        Start::Declare(_, declarators) => in_declarators(declarators, id),
         Start::Change(change) => in_change(change, id),
     }
 }
@@ -271,7 +271,7 @@ fn declares(stmt: &Stmt, id: u32) -> bool
     ensures { result ≡ declares id (stmt_tree stmt.now) }
 {
     match stmt {
-        Stmt::Declare(declarators) => declare(declarators, id),
+        Stmt::Declare(_, declarators) => declare(declarators, id),
         Stmt::If(_, first, None) => declares(first, id),
         Stmt::If(_, first, Some(second)) => declares(first, id) || declares(second, id),
         Stmt::While(_, body) => declares(body, id),
@@ -288,7 +288,7 @@ fn in_stmt(stmt: &Stmt, id: u32) -> bool
     match stmt {
         Stmt::Empty | Stmt::Break(_) | Stmt::Continue(_) | Stmt::Taskwait(_) => false,
         Stmt::Block(stmts) => in_stmts(stmts, id),
-        Stmt::Declare(declarators) => in_declarators(declarators, id),
+        Stmt::Declare(_, declarators) => in_declarators(declarators, id),
         Stmt::Change(change) => in_change(change, id),
         Stmt::Call(call) => call.name.id == id || in_args(&call.args, id),
         Stmt::If(condition, first, None) => in_expr(condition, id) || in_stmt(first, id),

@@ -18,7 +18,7 @@ ghost use Rattle.cddf_meaning_plain_tasks.specs.Sought.{among, found_at, found_i
 use crate::found::Found;
 use crate::known::Known;
 use crate::naming::in_task;
-use cddf_meaning_plain_state::functions::param_names;
+use cddf_meaning_plain_state::functions::param_list;
 use cddf_meaning_plain_state::names::item_id;
 use os_ast::{Declarator, Function, Head, Item, Start, Stmt, TaskSite};
 use os_io::{List, Memory};
@@ -145,7 +145,7 @@ fn declare_start(start: &Start, known: &mut Vec<Known>) -> Result<(), Memory>
     ensures { OnOk result (known.new.items ≡ known.old.items ++ known_start (start_tree start.now)) }
 {
     match start {
-        Start::Declare(declarators) => declare(declarators, known),
+        Start::Declare(_, declarators) => declare(declarators, known),
         Start::Empty | Start::Change(_) => Ok(()),
     }
 }
@@ -178,7 +178,7 @@ fn tasks_in<'p>(
 {
     match stmt {
         Stmt::Block(stmts) => tasks_in_block(alloc, stmts, known, tasks),
-        Stmt::Declare(declarators) => declare(declarators, known),
+        Stmt::Declare(_, declarators) => declare(declarators, known),
         Stmt::If(_, first, second) => {
             tasks_in(alloc, first, known, tasks)?;
             match second {
@@ -249,9 +249,9 @@ fn known_in_main(alloc: Global, main: &Main<'_>) -> Result<Vec<Known>, Memory>
         id: OSIN_LEN,
         scalar: true,
     })?;
-    for name in param_names(&main.function.params) {
+    for param in param_list(&main.function.params) {
         known.push(Known {
-            id: name.id,
+            id: param.name.id,
             scalar: true,
         })?;
     }

@@ -1,7 +1,11 @@
 //! Bodies whose ends follow from the rules of the language, worked out by hand.
 
+ghost use Rattle.std.specs.Prelude.{All};
+ghost use Rattle.os_ast.specs.Spelling.{spell};
+ghost use Rattle.os_ast.specs.Views.{program_tree};
 ghost use Rattle.os_code.specs.Codes.{parts_of};
 ghost use Rattle.os_code.specs.Tasks.{Fits};
+ghost use Rattle.os_lexer.specs.Laws.{HasSmallNumber};
 
 use crate::beside::{body_beside, control_beside};
 use crate::compiled::{Compiled, compile};
@@ -50,7 +54,8 @@ fn activation_ends_so(
     activation: &Activation,
     row: Row,
 ) -> Result<(), Fail>
-    requires { Fits (parts_of compiled.now.code) activation.now }
+    requires small { All HasSmallNumber (spell (program_tree compiled.now.checked.program)) }
+    requires fits { Fits (parts_of compiled.now.code) activation.now }
 {
     let (body, budget, end) = row;
     let mut scratch = Scratch::new(alloc, &compiled.code)?;
@@ -66,7 +71,9 @@ fn first_ends_so(
     alloc: Global,
     compiled: &Compiled,
     row: Row,
-) -> Result<(), Fail> {
+) -> Result<(), Fail>
+    requires { All HasSmallNumber (spell (program_tree compiled.now.checked.program)) }
+{
     let control = control_beside(rt, alloc, compiled, 0, 0)?;
     let Some(activation) = control.activations.as_slice().first() else {
         return Err(Fail::from("an activation"));

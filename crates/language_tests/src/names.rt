@@ -644,6 +644,7 @@ fn means(
         let hand = Resolved {
             place: *place,
             what: *what,
+            unsigned: false,
         };
         assert!(rt; *resolved == hand, "{text}");
     }

@@ -71,7 +71,7 @@ pub(crate) fn emit_stmt(
                 }
             }
         }
-        Stmt::Declare(declarators) => {
+        Stmt::Declare(_, declarators) => {
             emit_declarators(draft, told, declarators)?;
             emit_next(draft, next)
         }

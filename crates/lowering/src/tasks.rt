@@ -61,7 +61,7 @@ fn add_tasks(
         Stmt::For(_, body) => add_tasks(alloc, made, told, captured, body),
         Stmt::Task(site) => add_task(alloc, made, told, captured, site),
         Stmt::Empty
-        | Stmt::Declare(_)
+        | Stmt::Declare(_, _)
         | Stmt::Change(_)
         | Stmt::Call(_)
         | Stmt::Break(_)

@@ -1,12 +1,12 @@
 -- What tasks capture is no more than the names that they use.
 use Rattle.std.proofs.Common.{◌≡◌, ◌∙◌, ℕ, ◌+◌, ◌≤◌, List, [], ◌∷◌, ◌++◌, length, ap, sym, refl, arith}
 use Rattle.os_ast.specs.Captured.{captured, slots_of}
-use Rattle.os_ast.specs.Names.{Scope, enter, in_loop}
+use Rattle.os_ast.specs.Names.{Scope, enter, in_loop, typed}
 use Rattle.os_ast.specs.Notes.Clauses.{captured_in, clauses_notes, in_task, in_task_body, parts_notes}
 use Rattle.os_ast.specs.Notes.Declarators.{after_start, declarators_notes, start_notes}
 use Rattle.os_ast.specs.Notes.Expressions.{expr_notes, step_notes, value_notes}
 use Rattle.os_ast.specs.Notes.Kinds.{Global, Note, Task}
-use Rattle.os_ast.specs.Notes.Programs.{after_item, in_body, in_function, item_notes, items_notes, param_names, params_notes, after_param}
+use Rattle.os_ast.specs.Notes.Programs.{after_item, in_body, in_function, item_notes, items_notes, param_list, params_notes, after_param}
 use Rattle.os_ast.specs.Notes.Statements.{after_stmt, stmt_notes, stmts_notes}
 use Rattle.os_ast.specs.Parts.{count_items, parts}
 use Rattle.os_ast.specs.Trees as tree
@@ -15,6 +15,7 @@ use Rattle.os_ast.specs.declared.expr.Mark.{Mark}
 use Rattle.os_ast.specs.declared.expr.Name.{Name}
 use Rattle.os_ast.specs.declared.names.Owner.{Owner}
 use Rattle.os_ast.specs.declared.names.Owner.TheVariants as owner
+use Rattle.os_ast.specs.declared.program.Param.{Param}
 use Rattle.lowering_relation.proofs.NoTasks.{IsOther, captures_both, items_owner, none_args, none_both, none_change, none_declarators, none_expr, none_parts, none_start, none_step, none_stmt, none_value}
 use Rattle.window_check_laws.proofs.CaughtFew.{caught_few}
 use Rattle.window_check_laws.proofs.HasRoom.{owner_item, room_enter, room_for_body, room_in_for, room_in_loop, room_item, room_less, room_stmt}
@@ -52,7 +53,7 @@ mutual
   stmt_uses : (a : tree.StmtTree) (s : Scope) → HasRoom s (stmt_weight a) → ArePaid (stmt_notes s a)
   stmt_uses tree.StmtTree.Empty s room = omega arith
   stmt_uses (tree.Block ss) s room = stmts_use ss (enter s) (room_enter s (stmts_weight ss) room)
-  stmt_uses (tree.StmtTree.Declare ds) s room = none_paid (declarators_notes s ds) (none_declarators ds s)
+  stmt_uses (tree.StmtTree.Declare ty ds) s room = none_paid (declarators_notes (typed ty s) ds) (none_declarators ds (typed ty s))
   stmt_uses (tree.StmtTree.Change c) s room = none_paid (stmt_notes s (tree.StmtTree.Change c)) (none_change c s)
   stmt_uses (tree.StmtTree.Call f args) s room = none_paid (stmt_notes s (tree.StmtTree.Call f args)) (none_args args s)
   stmt_uses (tree.If c a) s room = both_paid (expr_notes s c) (stmt_notes s a) (none_paid (expr_notes s c) (none_expr c s)) (stmt_uses a s room)
@@ -105,7 +106,7 @@ mutual
       (stmt_uses a s (room_less s (stmt_weight a + stmts_weight rest) (stmt_weight a) room (omega arith)))
       (stmts_use rest (after_stmt s a) (room_stmt s a (stmts_weight rest) room))
 
-none_front : (s : Scope) (ns : List Name) → captures (params_notes s ns) ≡ []
+none_front : (s : Scope) (ns : List Param) → captures (params_notes s ns) ≡ []
 none_front s [] = refl
 none_front s (n ∷ ns) = none_front (after_param s n) ns
 
@@ -117,8 +118,8 @@ items_use (tree.Constant c ∷ is) s own room =
     (items_use is (after_item s i) (owner_item s i ∙ own) (room_item s i (items_weight is) own room))
 items_use (tree.Function f ∷ is) s own room =
     let i = tree.Function f in
-    let front = Global s f.name ∷ params_notes (in_function s f.name.id) (param_names f.params) in
+    let front = Global s f.name ∷ params_notes (in_function s f.name.id) (param_list f.params) in
     both_paid (item_notes s i) (items_notes (after_item s i) is)
-    (both_paid front (stmts_notes (in_body s f) f.body) (none_paid front (none_front (in_function s f.name.id) (param_names f.params)))
+    (both_paid front (stmts_notes (in_body s f) f.body) (none_paid front (none_front (in_function s f.name.id) (param_list f.params)))
     (stmts_use f.body (in_body s f) (room_for_body s f own (room_less s (item_weight i + items_weight is) (item_weight i) room (omega arith)))))
     (items_use is (after_item s i) (owner_item s i ∙ own) (room_item s i (items_weight is) own room))

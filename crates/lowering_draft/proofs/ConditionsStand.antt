@@ -65,6 +65,7 @@ module _ {code : Parts} {place_of : ℕ → ℕ} (tells : ℕ → What) (fails :
         HasCondition code tells e (place_of fails.number) (length d.instrs) (length (condition_code tells e fails d).instrs)
     condition_stands (tree.Number zero) is d b = tested_stands (tree.Number zero) is d b
     condition_stands (tree.Number (suc n)) is d b = always
+    condition_stands (tree.Wide n) is d b = tested_stands (tree.Wide n) is d b
     condition_stands (tree.Place t) is d b = tested_stands (tree.Place t) is d b
     condition_stands (tree.ExprTree.Call f args) is d b = tested_stands (tree.ExprTree.Call f args) is d b
     condition_stands (tree.Paren e) (leveled.paren is) d b = in_parens (condition_stands e is d b)

@@ -50,7 +50,7 @@ module _ (tells : ℕ → What) where
 
   pub start_kept : (start : tree.StartTree) → KeepsLabels (start_code tells start)
   start_kept tree.StartTree.Empty d = kept d
-  start_kept (tree.StartTree.Declare ds) d = declarators_kept ds d
+  start_kept (tree.StartTree.Declare ty ds) d = declarators_kept ds d
   start_kept (tree.StartTree.Change c) d = change_kept tells c d
 
 module _ {code : Parts} {place_of : ℕ → ℕ} (tells : ℕ → What) where

@@ -2,6 +2,7 @@
 use Rattle.std.proofs.Common.{◌≡◌, ◌≢◌, ◌∙◌, ◌^◌, ℕ, ◌+◌, ◌<◌, List, [], ◌∷◌, ◌++◌, map, length, length-append, Option, Some, None, Ok, Err, Result, slice_get, ap, subst, sym, refl, arith}
 use Rattle.std.proofs.Math.Nat.{min-eq_left}
 use Rattle.std.proofs.lemmas.Option.{none-some, slice_get_within}
+use Rattle.std.specs.Int.{w32, cast_signed}
 use Rattle.std.specs.Prelude.{ℤ, pos}
 use Rattle.std.specs.Result.{result_ok}
 use Rattle.c_int.specs.Operators as c_int
@@ -309,6 +310,7 @@ module _ {code : Parts} {place_of : ℕ → ℕ} (tells : ℕ → What) where
       → HasUnary code op line e (HasExpr code tells e) (length d.instrs) (length (with_unary (worked_out op e) op line (expr_code tells e) d).instrs)
   unary_stands op line (tree.Number n) (leveled.number small) part d b =
       number_unary op line n small (worked_out op (tree.Number n)) refl (HasExpr code tells (tree.Number n)) part d b
+  unary_stands op line (tree.Wide n) is part d b = operated_unary op line (tree.Wide n) part d b
   unary_stands op line (tree.Place t) is part d b = operated_unary op line (tree.Place t) part d b
   unary_stands op line (tree.ExprTree.Call f args) is part d b = operated_unary op line (tree.ExprTree.Call f args) part d b
   unary_stands op line (tree.Paren e) is part d b = operated_unary op line (tree.Paren e) part d b
@@ -322,6 +324,7 @@ module _ {code : Parts} {place_of : ℕ → ℕ} (tells : ℕ → What) where
     expr_stands (tree.Number n) (leveled.number small) d b =
         subst (λ v. Stands code (Push v ∷ []) (length d.instrs) (length (with_instr d (Push (literal n))).instrs)) (number_small n small)
         (stands_instr d (Push (literal n)) refl b)
+    expr_stands (tree.Wide n) is d b = stands_instr d (Push (cast_signed w32 n)) refl b
     expr_stands (tree.Place t) (leveled.place is) d b = place_stands t is d b
     expr_stands (tree.ExprTree.Call f args) (leveled.call are) d b =
         let made = args_code tells args d in

@@ -21,6 +21,8 @@ use Rattle.os_ast.specs.declared.expr.Binary.{Binary}
 use Rattle.os_ast.specs.declared.names.What.{What}
 use Rattle.os_ast.specs.declared.names.What.TheVariants as what
 use Rattle.os_ast.specs.declared.stmt.Assign.TheVariants as assign
+use Rattle.os_ast.specs.declared.ty.Ty.{Ty}
+use Rattle.os_ast.specs.declared.ty.Ty.TheVariants as ty_of
 use Rattle.os_code.specs.declared.instr.Instr.TheVariants.{Push, Store, Window, Zero}
 use Rattle.os_lexer.specs.declared.token.Kind.TheVariants as kind
 use Rattle.os_lexer.specs.declared.token.Punct.TheVariants as puncts
@@ -35,6 +37,13 @@ fetching_few false w line = omega arith
 fetching_at_few : (old : Bool) (w : What) (line : ℕ) → length (fetching_at old w line) ≤ 2
 fetching_at_few true w line = omega arith
 fetching_at_few false w line = omega arith
+
+
+-- the words of a type
+pub type_words_grow : (t : Ty) (rest : List Symbol) → length rest + 1 ≤ length (spelling.type_words t rest)
+type_words_grow ty_of.Int rest = omega arith
+type_words_grow ty_of.Unsigned rest = omega arith
+type_words_grow ty_of.UnsignedInt rest = omega arith
 
 module _ (tells : ℕ → What) where
   -- A target pays for what stands before its value and for its store, and 4 more.
@@ -183,12 +192,14 @@ module _ (tells : ℕ → What) where
       let made = declared_code tells (tells x.name.mark.place) x d in
       omega (arith, declared_pays (tells x.name.mark.place) x d more, more_pay ds made rest)
 
-  -- A declaration's key word and semicolon pay for more.
-  pub declarators_pay : (ds : List tree.DeclaratorTree) (d : Draft) (rest : List Symbol)
-      → length (declarators_code tells ds d).instrs + 16 + 8 * length rest ≤ length d.instrs + 8 * length (spelling.declare ds rest)
-  declarators_pay ds d rest = omega (arith, listed_pay ds d (bare (kind.Punct puncts.Semicolon) ∷ rest))
+  -- A declaration's key words and semicolon pay for more.
+  pub declarators_pay : (ty : Ty) (ds : List tree.DeclaratorTree) (d : Draft) (rest : List Symbol)
+      → length (declarators_code tells ds d).instrs + 16 + 8 * length rest ≤ length d.instrs + 8 * length (spelling.declare ty ds rest)
+  declarators_pay ty ds d rest =
+      let behind = bare (kind.Punct puncts.Semicolon) ∷ rest in
+      omega (arith, listed_pay ds d behind, type_words_grow ty (listed declarator ds behind))
 
   pub start_pays : (s : tree.StartTree) → Pays (start_code tells s) (start s) 0
   start_pays tree.StartTree.Empty d rest = omega arith
-  start_pays (tree.StartTree.Declare ds) d rest = omega (arith, declarators_pay ds d rest)
+  start_pays (tree.StartTree.Declare ty ds) d rest = omega (arith, declarators_pay ty ds d rest)
   start_pays (tree.StartTree.Change c) d rest = omega (arith, change_pays c d (bare (kind.Punct puncts.Semicolon) ∷ rest))

@@ -1,5 +1,6 @@
 -- Expressions and conditions have few instructions for their tokens.
 use Rattle.std.proofs.Common.{ℕ, zero, suc, [], ◌∷◌, Option, Some, None, arith}
+use Rattle.std.specs.Int.{w32, cast_signed}
 use Rattle.std.specs.Prelude.{ℤ, pos}
 use Rattle.c_int.specs.declared.operators.Unary.TheVariants as int_unary
 use Rattle.cddf_meaning.specs.Operators.{operator_of_one}
@@ -70,6 +71,7 @@ module _ (tells : ℕ → What) where
   mutual
     pub expr_pays : (e : tree.ExprTree) → Pays (expr_code tells e) (expr e) 0
     expr_pays (tree.Number n) d rest = omega (arith, length-instr d (Push (literal n)))
+    expr_pays (tree.Wide n) d rest = omega (arith, length-instr d (Push (cast_signed w32 n)))
     expr_pays (tree.Place t) d rest = target_pays t d rest
     expr_pays (tree.ExprTree.Call f es) d rest =
         let closed = bare (kind.Punct puncts.CloseParen) ∷ rest in
@@ -128,6 +130,7 @@ module _ (tells : ℕ → What) where
     pub condition_pays : (e : tree.ExprTree) (fails : Label) → Pays (condition_code tells e fails) (expr e) 1
     condition_pays (tree.Number zero) fails d rest = tested_pays (tree.Number zero) fails d rest
     condition_pays (tree.Number (suc n)) fails d rest = omega arith
+    condition_pays (tree.Wide n) fails d rest = tested_pays (tree.Wide n) fails d rest
     condition_pays (tree.Place t) fails d rest = tested_pays (tree.Place t) fails d rest
     condition_pays (tree.ExprTree.Call f es) fails d rest = tested_pays (tree.ExprTree.Call f es) fails d rest
     condition_pays (tree.Paren e) fails d rest = omega (arith, condition_pays e fails d (bare (kind.Punct puncts.CloseParen) ∷ rest))

@@ -1,7 +1,7 @@
 -- Statements have few instructions for their tokens, with the units of their tasks.
 use Rattle.std.proofs.Common.{◌≡◌, ◌∙◌, ℕ, ◌+◌, ◌*◌, ◌≤◌, List, [], ◌∷◌, ◌++◌, length, length-append, Option, Some, None, ap, arith}
 use Rattle.lowering_draft.proofs.ExpressionsStand.{length-instr}
-use Rattle.lowering_draft.proofs.FewChanges.{change_pays, declarators_pay, start_pays}
+use Rattle.lowering_draft.proofs.FewChanges.{change_pays, declarators_pay, start_pays, type_words_grow}
 use Rattle.lowering_draft.proofs.FewExpressions.{condition_pays, expr_pays}
 use Rattle.lowering_draft.proofs.FewTasks.{clauses_pay, tick_pays}
 use Rattle.lowering_draft.proofs.Paying.{Pays}
@@ -23,6 +23,7 @@ use Rattle.os_ast.specs.Spelling.{Symbol, Printer, bare, change, clause, each, e
 use Rattle.os_ast.specs.Trees as tree
 use Rattle.os_ast.specs.declared.expr.Name.{Name}
 use Rattle.os_ast.specs.declared.names.What.{What}
+use Rattle.os_ast.specs.declared.program.Param.{Param}
 use Rattle.os_ast.specs.declared.program.Params.{Params}
 use Rattle.os_ast.specs.declared.program.Params.TheVariants as params_of
 use Rattle.os_code.specs.declared.instr.Instr.TheVariants.{Drop, Jump, Spawn, Turn}
@@ -96,7 +97,7 @@ module _ (tells : ℕ → What) where
     pub stmt_pays : (s : tree.StmtTree) → PartPays (stmt_code tells s) (stmt s) (units_most (tasks_of s)) 0
     stmt_pays tree.StmtTree.Empty x next d rest = omega (arith, jump_few next d)
     stmt_pays (tree.Block ss) x next d rest = omega (arith, block_pays ss x next d (punct (kind.Punct puncts.CloseBrace) rest))
-    stmt_pays (tree.StmtTree.Declare ds) x next d rest = omega (arith, declarators_pay tells ds d rest, jump_few next (declarators_code tells ds d))
+    stmt_pays (tree.StmtTree.Declare ty ds) x next d rest = omega (arith, declarators_pay tells ty ds d rest, jump_few next (declarators_code tells ds d))
     stmt_pays (tree.StmtTree.Change c) x next d rest =
         omega (arith, change_pays tells c d (punct (kind.Punct puncts.Semicolon) rest), jump_few next (change_code tells c d))
     stmt_pays (tree.StmtTree.Call f args) x next d rest =
@@ -204,23 +205,27 @@ module _ (tells : ℕ → What) where
         )
 
 -- parameters behind the first one
-names_grow : (ns : List Name) (rest : List Symbol)
-    → length rest ≤ length (each (λ y. spelling.punct puncts.Comma ⨾ (spelling.key keys.Int ⨾ spelling.name y)) ns rest)
-names_grow [] rest = omega arith
-names_grow (n ∷ ns) rest = omega (arith, names_grow ns rest)
+abbrev more_params : List Param → List Symbol → List Symbol
+more_params ps rest = each (λ p. spelling.punct puncts.Comma ⨾ spelling.param p) ps rest
+
+more_grow : (ps : List Param) (rest : List Symbol) → length rest ≤ length (more_params ps rest)
+more_grow [] rest = omega arith
+more_grow (p ∷ ps) rest = omega (arith, more_grow ps rest, type_words_grow p.ty (spelling.name p.name (more_params ps rest)))
 
 params_grow : (ps : Params) (rest : List Symbol) → length rest ≤ length (params ps rest)
 params_grow params_of.Empty rest = omega arith
 params_grow params_of.Void rest = omega arith
 params_grow (params_of.Names []) rest = omega arith
-params_grow (params_of.Names (n ∷ ns)) rest = omega (arith, names_grow ns rest)
+params_grow (params_of.Names (p ∷ ps)) rest = omega (arith, more_grow ps rest, type_words_grow p.ty (spelling.name p.name (more_params ps rest)))
 
 pub function_pays : (tells : ℕ → What) (f : tree.FunctionTree)
     → PartPays (λ x next d. block_code tells f.body x next d) (spelling.function f) (units_most (all_tasks_of f.body) + 2) 0
 function_pays tells f x next d rest =
     let closed = bare (kind.Punct puncts.CloseBrace) ∷ rest in
+    let behind = bare (kind.Punct puncts.CloseParen) ∷ bare (kind.Punct puncts.OpenBrace) ∷ stmts f.body closed in
     omega (
       arith,
       block_pays tells f.body x next d closed,
-      params_grow f.params (bare (kind.Punct puncts.CloseParen) ∷ bare (kind.Punct puncts.OpenBrace) ∷ stmts f.body closed),
+      params_grow f.params behind,
+      type_words_grow f.ty (spelling.name f.name (bare (kind.Punct puncts.OpenParen) ∷ params f.params behind)),
     )

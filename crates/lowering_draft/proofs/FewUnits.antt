@@ -2,6 +2,7 @@
 use Rattle.std.proofs.Common.{ℕ, ◌+◌, ◌*◌, ◌≤◌, ◌==◌, Bool, true, false, if◌then◌else◌, List, [], ◌∷◌, length, None, arith}
 use Rattle.std.proofs.lemmas.List.{length-map}
 use Rattle.std.specs.Prelude.{pos}
+use Rattle.lowering_draft.proofs.FewChanges.{type_words_grow}
 use Rattle.lowering_draft.proofs.FewStatements.{function_pays, stmt_pays}
 use Rattle.lowering_draft.proofs.Paying.{length-instrs}
 use Rattle.lowering_draft.specs.Draft.{next_label, with_label, with_place}
@@ -21,6 +22,10 @@ use Rattle.lowering_relation.specs.Tasks.{TaskTree, all_tasks_of, program_tasks}
 sign_grows : (minus : Bool) (rest : List Symbol) → length rest ≤ length (sign minus rest)
 sign_grows true rest = omega arith
 sign_grows false rest = omega arith
+
+numeral_grows : (wide : Bool) (n : ℕ) (rest : List Symbol) → length rest ≤ length (spelling.numeral wide n rest)
+numeral_grows true n rest = omega arith
+numeral_grows false n rest = omega arith
 
 chosen_few : (t : Bool) (ts us : List TaskTree) → units_most (if t then ts else us) ≤ units_most ts + units_most us
 chosen_few true ts us = omega arith
@@ -48,8 +53,15 @@ module _ (tells : ℕ → What) where
       (each item is rest)
   functions_few [] made rest = omega arith
   functions_few (tree.Constant c ∷ is) made rest =
-      let behind = spelling.number c.size (spelling.punct puncts.Semicolon (each item is rest)) in
-      omega (arith, functions_few is made rest, sign_grows c.minus behind)
+      let last = spelling.punct puncts.Semicolon (each item is rest) in
+      let behind = spelling.numeral c.wide c.size last in
+      omega (
+        arith,
+        functions_few is made rest,
+        type_words_grow c.ty (spelling.name c.name (spelling.punct puncts.Set (sign c.minus behind))),
+        sign_grows c.minus behind,
+        numeral_grows c.wide c.size last,
+      )
   functions_few (tree.Function f ∷ is) made rest =
       omega (
         arith,

@@ -17,7 +17,7 @@ use Rattle.lowering_draft.specs.declared.units.Units.{Units}
 use Rattle.os_ast.specs.Leveled.{AreAll, AreStmts, IsItem, cons}
 use Rattle.os_ast.specs.Names.{Scope, main_id}
 use Rattle.os_ast.specs.Notes.Kinds.{Note}
-use Rattle.os_ast.specs.Notes.Programs.{after_item, in_body, item_notes, items_notes, param_names}
+use Rattle.os_ast.specs.Notes.Programs.{after_item, in_body, item_notes, items_notes, param_list}
 use Rattle.os_ast.specs.Parts.{is_in}
 use Rattle.os_ast.specs.Trees as tree
 use Rattle.os_ast.specs.declared.names.Owner.TheVariants as owner
@@ -45,10 +45,10 @@ module _
   place_of = place_in final.draft.places
 
   function_stands : (f : tree.FunctionTree) (made : Units) → AreStmts f.body → all_tasks_of f.body ≡ []
-      → length (param_names f.params) + stmts_weight f.body < 2 ^ 32
+      → length (param_list f.params) + stmts_weight f.body < 2 ^ 32
       → Grows (with_plain tells f made) final → HasFunction code tells (length made.units) f
   function_stands f made leveled none small g =
-      let n = length (param_names f.params) in
+      let n = length (param_list f.params) in
       let sum = stmts_slots owner.OfFunction (size_by tells) f.body in
       let within = stmts_small owner.OfFunction (size_by tells) (size_small tells) f.body in
       let b = in_function tells in

@@ -15,6 +15,7 @@ use Rattle.os_ast.specs.declared.expr.Unary.{Unary}
 use Rattle.os_ast.specs.declared.names.What.{What}
 use Rattle.os_ast.specs.declared.stmt.Assign.TheVariants as assign
 use Rattle.lowering_relation.specs.Changes.{is_quiet}
+use Rattle.std.specs.Int.{w32, cast_signed}
 use Rattle.std.specs.Prelude.{ℤ, pos}
 use Rattle.c_int.specs.declared.operators.Unary.TheVariants as int_unary
 use Rattle.cddf_meaning.specs.Operators.{operator_of_one, step_operator}
@@ -89,6 +90,7 @@ choice_kept kc ka kb d =
 mutual
   pub expr_kept : (tells : ℕ → What) (e : tree.ExprTree) → KeepsLabels (expr_code tells e)
   expr_kept tells (tree.Number n) d = keeps_instr (kept d) (Push (literal n))
+  expr_kept tells (tree.Wide n) d = keeps_instr (kept d) (Push (cast_signed w32 n))
   expr_kept tells (tree.Place t) d = place_kept tells t d
   expr_kept tells (tree.ExprTree.Call f args) d = keeps_instrs (args_kept tells args d) (Turn ∷ calling (tells f.mark.place) ∷ [])
   expr_kept tells (tree.Paren e) d = expr_kept tells e d
@@ -112,6 +114,7 @@ mutual
   pub condition_kept : (tells : ℕ → What) (e : tree.ExprTree) (fails : Label) → KeepsLabels (condition_code tells e fails)
   condition_kept tells (tree.Number zero) fails d = keeps_instr (expr_kept tells (tree.Number zero) d) (JumpZero fails.number)
   condition_kept tells (tree.Number (suc n)) fails d = kept d
+  condition_kept tells (tree.Wide n) fails d = keeps_instr (expr_kept tells (tree.Wide n) d) (JumpZero fails.number)
   condition_kept tells (tree.Place t) fails d = keeps_instr (expr_kept tells (tree.Place t) d) (JumpZero fails.number)
   condition_kept tells (tree.ExprTree.Call f args) fails d = keeps_instr (expr_kept tells (tree.ExprTree.Call f args) d) (JumpZero fails.number)
   condition_kept tells (tree.Paren e) fails d = condition_kept tells e fails d

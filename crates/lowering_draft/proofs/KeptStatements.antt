@@ -70,7 +70,7 @@ module _ (tells : ℕ → What) where
     pub stmt_kept : (s : tree.StmtTree) → KeepsAll (stmt_code tells s)
     stmt_kept tree.StmtTree.Empty x next d = jump_kept next (kept d)
     stmt_kept (tree.Block ss) x next d = block_kept ss x next d
-    stmt_kept (tree.StmtTree.Declare ds) x next d = jump_kept next (declarators_kept tells ds d)
+    stmt_kept (tree.StmtTree.Declare ty ds) x next d = jump_kept next (declarators_kept tells ds d)
     stmt_kept (tree.StmtTree.Change c) x next d = jump_kept next (change_kept tells c d)
     stmt_kept (tree.StmtTree.Call f args) x next d = jump_kept next (keeps_instr (expr_kept tells (tree.ExprTree.Call f args) d) Drop)
     stmt_kept (tree.If c a) x next d =

@@ -36,7 +36,7 @@ module _ {code : Parts} {place_of : ℕ → ℕ} (tells : ℕ → What) where
   pub start_stands : (start : tree.StartTree) → IsStart start → (d : Draft) → Becomes (start_code tells start d) code place_of
       → HasStart code tells start (length d.instrs) (length (start_code tells start d).instrs)
   start_stands tree.StartTree.Empty is d becomes = refl
-  start_stands (tree.StartTree.Declare ds) (leveled.declare are) d becomes = declarators_stand tells ds (heads_given are) d becomes
+  start_stands (tree.StartTree.Declare ty ds) (leveled.declare are) d becomes = declarators_stand tells ds (heads_given are) d becomes
   start_stands (tree.StartTree.Change c) (leveled.change is) d becomes = change_stands tells c is d becomes
 
   test_stands : (test : Option tree.ExprTree) → IsOptional IsExpr test → (end : Label) (d : Draft) → Becomes (test_code tells test end d) code place_of

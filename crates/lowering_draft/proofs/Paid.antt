@@ -2,12 +2,12 @@
 use Rattle.std.proofs.Common.{◌≡◌, ℕ, ◌+◌, ◌≤◌, ◌==◌, Bool, true, false, if◌then◌else◌, List, [], ◌∷◌, ◌++◌, length, ap, refl, arith}
 use Rattle.lowering_draft.proofs.TasksInMain.{function_owner, lawful_body, main_owner}
 use Rattle.os_ast.specs.Captured.{captured, slots_of}
-use Rattle.os_ast.specs.Names.{Scope, enter, in_loop, main_id}
+use Rattle.os_ast.specs.Names.{Scope, enter, in_loop, main_id, typed}
 use Rattle.os_ast.specs.Notes.Clauses.{captured_in, clauses_notes, in_task, in_task_body}
 use Rattle.os_ast.specs.Notes.Declarators.{after_start, start_notes}
 use Rattle.os_ast.specs.Notes.Expressions.{expr_notes, step_notes, value_notes}
 use Rattle.os_ast.specs.Notes.Kinds.{Global, Note}
-use Rattle.os_ast.specs.Notes.Programs.{after_item, after_items, in_body, in_function, item_notes, items_notes, param_names, params_notes}
+use Rattle.os_ast.specs.Notes.Programs.{after_item, after_items, in_body, in_function, item_notes, items_notes, param_list, params_notes}
 use Rattle.os_ast.specs.Notes.Statements.{after_stmt, after_stmts, stmt_notes, stmts_notes}
 use Rattle.os_ast.specs.Parts.{parts}
 use Rattle.os_ast.specs.Trees as tree
@@ -46,7 +46,7 @@ module _ (rs : List Resolved) (ordered : InOrder rs) where
         (after_stmt s a).slots + bodies (tasks_of a) + s.arrays ≤ s.slots + declared_in (stmt_notes s a) + (after_stmt s a).arrays
     stmt_paid tree.StmtTree.Empty s lawful tells = omega arith
     stmt_paid (tree.Block ss) s lawful tells = stmts_paid ss (enter s) lawful tells
-    stmt_paid (tree.StmtTree.Declare ds) s lawful tells = omega (arith, declarators_paid ds s)
+    stmt_paid (tree.StmtTree.Declare ty ds) s lawful tells = omega (arith, declarators_paid ds (typed ty s))
     stmt_paid (tree.StmtTree.Change c) s lawful tells = omega arith
     stmt_paid (tree.StmtTree.Call f args) s lawful tells = omega arith
     stmt_paid (tree.If c a) s lawful tells =
@@ -125,7 +125,7 @@ module _ (rs : List Resolved) (ordered : InOrder rs) where
   -- functions
   abbrev pub function_slots : (is_main : Bool) → tree.FunctionTree → ℕ
   function_slots true f = 1 + stmts_slots owner.OfMain size f.body
-  function_slots false f = length (param_names f.params) + stmts_slots owner.OfFunction size f.body
+  function_slots false f = length (param_list f.params) + stmts_slots owner.OfFunction size f.body
 
   abbrev pub functions_slots : List tree.ItemTree → ℕ
   functions_slots [] = 0
@@ -164,7 +164,7 @@ module _ (rs : List Resolved) (ordered : InOrder rs) where
       rest = items_notes (after_item s i) is
 
       front : List Note
-      front = Global s f.name ∷ params_notes (in_function s f.name.id) (param_names f.params)
+      front = Global s f.name ∷ params_notes (in_function s f.name.id) (param_list f.params)
 
       own : List Note
       own = stmts_notes (in_body s f) f.body
@@ -192,5 +192,5 @@ module _ (rs : List Resolved) (ordered : InOrder rs) where
             body_paid s f owner.OfFunction (function_owner s f e) (lawful_body s f rest lawful) tells_own,
             declared_in-append (item_notes s i) rest,
             declared_in-append front own,
-            params_paid (param_names f.params) (in_function s f.name.id),
+            params_paid (param_list f.params) (in_function s f.name.id),
           )

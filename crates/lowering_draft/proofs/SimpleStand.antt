@@ -22,6 +22,7 @@ use Rattle.os_ast.specs.Parts.{parts}
 use Rattle.os_ast.specs.Trees as tree
 use Rattle.os_ast.specs.declared.expr.Mark.{Mark}
 use Rattle.os_ast.specs.declared.expr.Name.{Name}
+use Rattle.os_ast.specs.declared.ty.Ty.{Ty}
 use Rattle.os_code.specs.declared.instr.Instr.{Instr}
 use Rattle.os_code.specs.declared.instr.Instr.TheVariants.{Drop, Spawn}
 use Rattle.os_code.specs.declared.parts.Parts.{Parts}
@@ -42,9 +43,9 @@ spawn_stands d b = (
 )
 
 module _ (code : Parts) (place_of : ℕ → ℕ) (b : Body) where
-  pub declare_stands : (ds : List tree.DeclaratorTree) → AreAll IsGiven ds → Goes code place_of b (tree.StmtTree.Declare ds)
-  declare_stands ds given x leaves next d are becomes =
-      jump_stands code place_of (StmtAt code place_of b (tree.StmtTree.Declare ds) x) (length d.instrs) next (declarators_code b.tells ds d)
+  pub declare_stands : (ty : Ty) (ds : List tree.DeclaratorTree) → AreAll IsGiven ds → Goes code place_of b (tree.StmtTree.Declare ty ds)
+  declare_stands ty ds given x leaves next d are becomes =
+      jump_stands code place_of (StmtAt code place_of b (tree.StmtTree.Declare ty ds) x) (length d.instrs) next (declarators_code b.tells ds d)
       (λ made. (declarators_stand b.tells ds given d made, refl)) becomes
 
   pub call_stands : (f : Name) (args : tree.Args) → AreArgs args → Goes code place_of b (tree.StmtTree.Call f args)

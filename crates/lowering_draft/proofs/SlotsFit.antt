@@ -36,6 +36,7 @@ constant_small (what.View n) = omega arith
 
 pub size_small : (tells : ℕ → What) (e : tree.ExprTree) → size_by tells e ≤ size_limit
 size_small tells (tree.Number n) = limit_small (pos n)
+size_small tells (tree.Wide n) = limit_small (pos n)
 size_small tells (tree.Place (tree.Variable n)) = constant_small (tells n.mark.place)
 size_small tells (tree.Place (tree.Element n m e)) = omega arith
 size_small tells (tree.ExprTree.Call f args) = omega arith
@@ -62,14 +63,14 @@ module _ (o : Owner) (size : tree.ExprTree → ℕ) (small : (e : tree.ExprTree)
 
   start_small : (t : tree.StartTree) → start_slots o size t ≤ start_weight t
   start_small tree.StartTree.Empty = omega arith
-  start_small (tree.StartTree.Declare ds) = declarators_small ds
+  start_small (tree.StartTree.Declare ty ds) = declarators_small ds
   start_small (tree.StartTree.Change c) = omega arith
 
   mutual
     pub stmt_small : (a : tree.StmtTree) → stmt_slots o size a ≤ stmt_weight a
     stmt_small tree.StmtTree.Empty = omega arith
     stmt_small (tree.Block ss) = omega (arith, stmts_small ss)
-    stmt_small (tree.StmtTree.Declare ds) = declarators_small ds
+    stmt_small (tree.StmtTree.Declare ty ds) = declarators_small ds
     stmt_small (tree.StmtTree.Change c) = omega arith
     stmt_small (tree.StmtTree.Call f args) = omega arith
     stmt_small (tree.If c a) = stmt_small a
@@ -100,7 +101,7 @@ mutual
   tasks_small : (a : tree.StmtTree) → tasks_weight (tasks_of a) ≤ stmt_weight a
   tasks_small tree.StmtTree.Empty = omega arith
   tasks_small (tree.Block ss) = omega (arith, all_tasks_small ss)
-  tasks_small (tree.StmtTree.Declare ds) = omega arith
+  tasks_small (tree.StmtTree.Declare ty ds) = omega arith
   tasks_small (tree.StmtTree.Change c) = omega arith
   tasks_small (tree.StmtTree.Call f args) = omega arith
   tasks_small (tree.If c a) = tasks_small a

@@ -9,7 +9,7 @@ use Rattle.lowering_draft.specs.Emission.Units.{capped, no_units, program_units,
 use Rattle.lowering_draft.specs.declared.units.Units.{Units}
 use Rattle.os_ast.specs.Marks.{HasPlaces}
 use Rattle.os_ast.specs.Names.{main_id}
-use Rattle.os_ast.specs.Notes.Programs.{file, param_names}
+use Rattle.os_ast.specs.Notes.Programs.{file, param_list}
 use Rattle.os_ast.specs.Spelling.{kind_of, symbols, spell}
 use Rattle.os_ast.specs.Trees as tree
 use Rattle.os_ast.specs.Violations.{captured_by_tasks, names, violations}
@@ -55,7 +55,7 @@ module _ (rs : List Resolved) (ordered : InOrder rs) where
           (1 + stmts_slots owner.OfMain (size rs ordered) f.body) = slots_more made.units _ in
           omega (arith, go (with_main (told_at rs) f made), more)
       by_case false go =
-          let n = length (param_names f.params) in
+          let n = length (param_list f.params) in
           let more : slots_in (with_plain (told_at rs) f made).units ≡ slots_in made.units + capped
           (n + stmts_slots owner.OfFunction (size rs ordered) f.body) = slots_more made.units _ in
           omega (arith, go (with_plain (told_at rs) f made), more)

@@ -71,6 +71,7 @@ module _ (tells : ℕ → What) where
   mutual
     pub expr_spawned : (e : tree.ExprTree) → SpawnsNothing (expr_code tells e)
     expr_spawned (tree.Number n) d = refl
+    expr_spawned (tree.Wide n) d = refl
     expr_spawned (tree.Place t) d = place_spawned t d
     expr_spawned (tree.ExprTree.Call f args) d = instrs_spawned (Turn ∷ calling (tells f.mark.place) ∷ []) (args_code tells args d) ∙ args_spawned args d
     expr_spawned (tree.Paren e) d = expr_spawned e d
@@ -95,6 +96,7 @@ module _ (tells : ℕ → What) where
     pub condition_spawned : (e : tree.ExprTree) (fails : Label) → SpawnsNothing (condition_code tells e fails)
     condition_spawned (tree.Number zero) fails d = refl
     condition_spawned (tree.Number (suc n)) fails d = refl
+    condition_spawned (tree.Wide n) fails d = refl
     condition_spawned (tree.Place t) fails d = expr_spawned (tree.Place t) d
     condition_spawned (tree.ExprTree.Call f args) fails d = expr_spawned (tree.ExprTree.Call f args) d
     condition_spawned (tree.Paren e) fails d = condition_spawned e fails d
@@ -178,7 +180,7 @@ module _ (tells : ℕ → What) where
 
   pub start_spawned : (start : tree.StartTree) → SpawnsNothing (start_code tells start)
   start_spawned tree.StartTree.Empty d = refl
-  start_spawned (tree.StartTree.Declare ds) d = declarators_spawned ds d
+  start_spawned (tree.StartTree.Declare ty ds) d = declarators_spawned ds d
   start_spawned (tree.StartTree.Change c) d = change_spawned c d
 
   stream_spawned : (t : tree.TargetTree) → SpawnsNothing (stream_code tells t)
@@ -232,7 +234,7 @@ module _ (tells : ℕ → What) where
     pub stmt_spawned : (s : tree.StmtTree) → Spawns (stmt_code tells s) (length (tasks_of s))
     stmt_spawned tree.StmtTree.Empty x next d = omega (arith, jump_spawned next d)
     stmt_spawned (tree.Block ss) x next d = block_spawned ss x next d
-    stmt_spawned (tree.StmtTree.Declare ds) x next d = omega (arith, jump_spawned next (declarators_code tells ds d), declarators_spawned tells ds d)
+    stmt_spawned (tree.StmtTree.Declare ty ds) x next d = omega (arith, jump_spawned next (declarators_code tells ds d), declarators_spawned tells ds d)
     stmt_spawned (tree.StmtTree.Change c) x next d = omega (arith, jump_spawned next (change_code tells c d), change_spawned tells c d)
     stmt_spawned (tree.StmtTree.Call f args) x next d =
         let made = expr_code tells (tree.ExprTree.Call f args) d in

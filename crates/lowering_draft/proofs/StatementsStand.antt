@@ -101,13 +101,13 @@ module _ (code : Parts) (place_of : ℕ → ℕ) (b : Body) (leave : IsLeave b.l
         tick_goes code place_of b m t is_t arrow e is_e x leaves next d are becomes
     stmt_stands (tree.Taskwait m) leveled.taskwait x leaves next d are becomes =
         jump_stands code place_of (StmtAt code place_of b (tree.Taskwait m) x) (length d.instrs) next d (λ made. (refl, refl)) becomes
-    stmt_stands (tree.StmtTree.Declare ds) is x leaves next d are becomes = elim is [ ]
+    stmt_stands (tree.StmtTree.Declare ty ds) is x leaves next d are becomes = elim is [ ]
 
     pub block_stands : (ss : tree.Stmts) → AreStmts ss → GoesAll code place_of b ss
     block_stands tree.no_stmts leveled.no_stmts x leaves next d are becomes =
         jump_stands code place_of (StmtsAt code place_of b tree.no_stmts x) (length d.instrs) next d (λ made. (refl, refl)) becomes
-    block_stands (tree.stmt (tree.StmtTree.Declare ds) rest) (leveled.declare is more) x leaves next d are becomes =
-        let goes = declare_stands code place_of b ds (declarators_given is) in
-        stmts_stand (tree.StmtTree.Declare ds) goes rest (block_stands rest more) x leaves next d are becomes
+    block_stands (tree.stmt (tree.StmtTree.Declare ty ds) rest) (leveled.declare is more) x leaves next d are becomes =
+        let goes = declare_stands code place_of b ty ds (declarators_given is) in
+        stmts_stand (tree.StmtTree.Declare ty ds) goes rest (block_stands rest more) x leaves next d are becomes
     block_stands (tree.stmt a rest) (leveled.stmt is more) x leaves next d are becomes =
         stmts_stand a (stmt_stands a is) rest (block_stands rest more) x leaves next d are becomes

@@ -14,8 +14,11 @@ use Rattle.os_ast.specs.Spelling.{Symbol, bare, marked, symbols, ◌⨾◌}
 use Rattle.os_ast.specs.Trees as tree
 use Rattle.os_ast.specs.declared.expr.Mark.{Mark}
 use Rattle.os_ast.specs.declared.expr.Name.{Name}
+use Rattle.os_ast.specs.declared.program.Param.{Param}
 use Rattle.os_ast.specs.declared.program.Params.{Params}
 use Rattle.os_ast.specs.declared.program.Params.TheVariants as params_of
+use Rattle.os_ast.specs.declared.ty.Ty.{Ty}
+use Rattle.os_ast.specs.declared.ty.Ty.TheVariants as ty_of
 use Rattle.os_lexer.specs.declared.token.Key.TheVariants as keys
 use Rattle.os_lexer.specs.declared.token.Kind.{Kind}
 use Rattle.os_lexer.specs.declared.token.Kind.TheVariants as kind
@@ -58,19 +61,26 @@ past_step (Some c) rest ts h = past_change c rest ts h
 
 past_start : (t : tree.StartTree) (rest : List Symbol) (ts : List TaskTree) → Among ts rest → Among ts (spelling.start t rest)
 past_start tree.StartTree.Empty rest ts h = skip h
-past_start (tree.StartTree.Declare ds) rest ts h = past_stmt (tree.StmtTree.Declare ds) rest ts h
+past_start (tree.StartTree.Declare ty ds) rest ts h = past_stmt (tree.StmtTree.Declare ty ds) rest ts h
 past_start (tree.StartTree.Change c) rest ts h = past_change c (spelling.punct puncts.Semicolon rest) ts (skip h)
 
-more_params : (ns : List Name) (rest : List Symbol) (ts : List TaskTree) → Among ts rest →
-    Among ts (spelling.each (λ n. spelling.punct puncts.Comma ⨾ (spelling.key keys.Int ⨾ spelling.name n)) ns rest)
+past_type : (t : Ty) (rest : List Symbol) (ts : List TaskTree) → Among ts rest → Among ts (spelling.type_words t rest)
+past_type ty_of.Int rest ts h = skip h
+past_type ty_of.Unsigned rest ts h = skip h
+past_type ty_of.UnsignedInt rest ts h = skip (skip h)
+
+abbrev further : List Param → List Symbol → List Symbol
+further ps rest = spelling.each (λ p. spelling.punct puncts.Comma ⨾ spelling.param p) ps rest
+
+more_params : (ps : List Param) (rest : List Symbol) (ts : List TaskTree) → Among ts rest → Among ts (further ps rest)
 more_params [] rest ts h = h
-more_params (n ∷ ns) rest ts h = skip (skip (skip (more_params ns rest ts h)))
+more_params (p ∷ ps) rest ts h = skip (past_type p.ty (spelling.name p.name (further ps rest)) ts (skip (more_params ps rest ts h)))
 
 past_params : (ps : Params) (rest : List Symbol) (ts : List TaskTree) → Among ts rest → Among ts (spelling.params ps rest)
 past_params params_of.Empty rest ts h = h
 past_params params_of.Void rest ts h = skip h
 past_params (params_of.Names []) rest ts h = h
-past_params (params_of.Names (n ∷ ns)) rest ts h = skip (skip (more_params ns rest ts h))
+past_params (params_of.Names (p ∷ ps)) rest ts h = past_type p.ty (spelling.name p.name (further ps rest)) ts (skip (more_params ps rest ts h))
 
 -- a task, whose PragmaStart is its first symbol
 abbrev tail_of : List Symbol → List Symbol
@@ -88,7 +98,7 @@ mutual
   among_stmt : (a : tree.StmtTree) (rest : List Symbol) (ts : List TaskTree) → Among ts rest → Among (tasks_of a ++ ts) (spelling.stmt a rest)
   among_stmt tree.StmtTree.Empty rest ts h = skip h
   among_stmt (tree.Block ss) rest ts h = skip (among_stmts ss (spelling.punct puncts.CloseBrace rest) ts (skip h))
-  among_stmt (tree.StmtTree.Declare ds) rest ts h = past_stmt (tree.StmtTree.Declare ds) rest ts h
+  among_stmt (tree.StmtTree.Declare ty ds) rest ts h = past_stmt (tree.StmtTree.Declare ty ds) rest ts h
   among_stmt (tree.StmtTree.Change c) rest ts h = past_stmt (tree.StmtTree.Change c) rest ts h
   among_stmt (tree.StmtTree.Call f args) rest ts h = past_stmt (tree.StmtTree.Call f args) rest ts h
   among_stmt (tree.If c a) rest ts h =
@@ -131,7 +141,8 @@ among_function f rest =
     let behind = spelling.punct puncts.CloseParen (spelling.punct puncts.OpenBrace body) in
     let inner : Among (all_tasks_of f.body) body =
     subst (λ us. Among us body) (append_none (all_tasks_of f.body)) (among_stmts f.body (spelling.punct puncts.CloseBrace rest) [] none) in
-    skip (skip (skip (past_params f.params behind (all_tasks_of f.body) (skip (skip inner)))))
+    past_type f.ty (spelling.name f.name (spelling.punct puncts.OpenParen (spelling.params f.params behind))) (all_tasks_of f.body)
+    (skip (skip (past_params f.params behind (all_tasks_of f.body) (skip (skip inner)))))
 
 among_program : (is : List tree.ItemTree) → Among (program_tasks is) (spelling.each spelling.item is [])
 among_program [] = none

@@ -33,7 +33,7 @@ mutual
       with_stmt_tasks tells captured a made ≡ with_tasks tells captured (tasks_of a) made
   stmt_tasks-listed tells captured tree.StmtTree.Empty made = refl
   stmt_tasks-listed tells captured (tree.Block ss) made = block_tasks-listed tells captured ss made
-  stmt_tasks-listed tells captured (tree.StmtTree.Declare ds) made = refl
+  stmt_tasks-listed tells captured (tree.StmtTree.Declare ty ds) made = refl
   stmt_tasks-listed tells captured (tree.StmtTree.Change c) made = refl
   stmt_tasks-listed tells captured (tree.StmtTree.Call f args) made = refl
   stmt_tasks-listed tells captured (tree.If c a) made = stmt_tasks-listed tells captured a made

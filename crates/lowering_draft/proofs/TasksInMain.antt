@@ -6,12 +6,12 @@ use Rattle.std.proofs.lemmas.List.{length-map}
 use Rattle.os_ast.specs.Captured.{captured, slots_of}
 use Rattle.os_ast.specs.Leveled.{AreAll, AreStmts, IsItem, IsStmt, cons}
 use Rattle.os_ast.specs.Limits.{captured_limit, items_limit}
-use Rattle.os_ast.specs.Names.{Scope, enter, in_loop, in_unit, main_id}
+use Rattle.os_ast.specs.Names.{Scope, enter, in_loop, in_unit, main_id, typed}
 use Rattle.os_ast.specs.Notes.Clauses.{captured_in, clauses_notes, in_task, in_task_body, parts_notes}
 use Rattle.os_ast.specs.Notes.Declarators.{after_declarators, after_start, declarators_notes, start_notes}
 use Rattle.os_ast.specs.Notes.Expressions.{expr_notes, place_notes, step_notes, value_notes}
 use Rattle.os_ast.specs.Notes.Kinds.{Global, Note, Task}
-use Rattle.os_ast.specs.Notes.Programs.{after_item, after_param, in_body, in_function, item_notes, items_notes, param_names, params_notes, round_body}
+use Rattle.os_ast.specs.Notes.Programs.{after_item, after_param, in_body, in_function, item_notes, items_notes, param_list, params_notes, round_body}
 use Rattle.os_ast.specs.Notes.Statements.{after_stmt, stmt_notes, stmts_notes}
 use Rattle.os_ast.specs.Parts.{Part, count_items, parts}
 use Rattle.os_ast.specs.Rules.{is_main_body}
@@ -23,6 +23,7 @@ use Rattle.os_ast.specs.declared.names.Direction.TheVariants as direction
 use Rattle.os_ast.specs.declared.names.Owner.{Owner}
 use Rattle.os_ast.specs.declared.names.Owner.TheVariants as owner
 use Rattle.os_ast.specs.declared.names.Role.TheVariants as role
+use Rattle.os_ast.specs.declared.program.Param.{Param}
 use Rattle.lowering_relation.proofs.Files.{params_owner}
 use Rattle.lowering_relation.proofs.NoTasks.{IsOther, captures_both, items_owner, none_args, none_both, none_change, none_declarators, none_expr, none_parts, none_place, none_start, none_step, none_stmt, none_stmts, none_value}
 use Rattle.lowering_relation.proofs.Static.{declarators_onward, start_onward, stmt_onward}
@@ -59,7 +60,7 @@ mutual
   pub no_tasks : (a : tree.StmtTree) (s : Scope) → IsOther s.owner → AreLawful (stmt_notes s a) → tasks_of a ≡ []
   no_tasks tree.StmtTree.Empty s other lawful = refl
   no_tasks (tree.Block ss) s other lawful = none_of_all ss (enter s) other lawful
-  no_tasks (tree.StmtTree.Declare ds) s other lawful = refl
+  no_tasks (tree.StmtTree.Declare ty ds) s other lawful = refl
   no_tasks (tree.StmtTree.Change c) s other lawful = refl
   no_tasks (tree.StmtTree.Call f args) s other lawful = refl
   no_tasks (tree.If c a) s other lawful = no_tasks a s other (lawful-rest (expr_notes s c) (stmt_notes s a) lawful)
@@ -173,7 +174,8 @@ mutual
   match_stmts : {ss : tree.Stmts} → AreStmts ss → (s : Scope) → s.owner ≡ owner.OfMain → AreLawful (stmts_notes s ss)
       → Match (all_tasks_of ss) (captures (stmts_notes s ss))
   match_stmts AreStmts.no_stmts s own lawful = tt
-  match_stmts (AreStmts.declare {ds = ds} {ss = ss} _ rest) s own lawful =
+  match_stmts (AreStmts.declare {t = ty} {ds = ds} {ss = ss} _ rest) s0 own lawful =
+      let s = typed ty s0 in
       let x = declarators_notes s ds in
       let y = stmts_notes (after_declarators s ds) ss in
       behind_none (all_tasks_of ss) x y (none_declarators ds s)
@@ -191,23 +193,23 @@ inside o s = enter (round_body o (enter (in_unit o s)))
 
 pub main_owner : (s : Scope) (f : tree.FunctionTree) → (f.name.id == main_id) ≡ true → (in_body s f).owner ≡ owner.OfMain
 main_owner s f is =
-    params_owner (param_names f.params) (in_function s f.name.id)
+    params_owner (param_list f.params) (in_function s f.name.id)
     ∙ ap (λ t. (inside (if t then owner.OfMain else owner.OfFunction) s).owner) is
 
 pub function_owner : (s : Scope) (f : tree.FunctionTree) → (f.name.id == main_id) ≡ false → (in_body s f).owner ≡ owner.OfFunction
 function_owner s f is =
-    params_owner (param_names f.params) (in_function s f.name.id)
+    params_owner (param_list f.params) (in_function s f.name.id)
     ∙ ap (λ t. (inside (if t then owner.OfMain else owner.OfFunction) s).owner) is
 
 pub function_other : (s : Scope) (f : tree.FunctionTree) → (f.name.id == main_id) ≡ false → IsOther (in_body s f).owner
 function_other s f is e = let x : owner.OfFunction ≡ owner.OfMain = sym (function_owner s f is) ∙ e in absurd (cc)
 
-none_front : (s : Scope) (ns : List Name) → captures (params_notes s ns) ≡ []
+none_front : (s : Scope) (ns : List Param) → captures (params_notes s ns) ≡ []
 none_front s [] = refl
 none_front s (n ∷ ns) = none_front (after_param s n) ns
 
 abbrev front : Scope → tree.FunctionTree → List Note
-front s f = Global s f.name ∷ params_notes (in_function s f.name.id) (param_names f.params)
+front s f = Global s f.name ∷ params_notes (in_function s f.name.id) (param_list f.params)
 
 pub lawful_body : (s : Scope) (f : tree.FunctionTree) (rest : List Note) → AreLawful (item_notes s (tree.Function f) ++ rest)
     → AreLawful (stmts_notes (in_body s f) f.body)
@@ -244,7 +246,7 @@ match_items (tree.Function f ∷ is) s (cons (IsItem.function _ body) leveled) l
     own_captures =
         captures_both (item_notes s i) behind
         ∙ ap (λ cs. cs ++ captures behind)
-        (captures_both (front s f) own_notes ∙ ap (λ cs. cs ++ captures own_notes) (none_front (in_function s f.name.id) (param_names f.params)))
+        (captures_both (front s f) own_notes ∙ ap (λ cs. cs ++ captures own_notes) (none_front (in_function s f.name.id) (param_list f.params)))
 
     by_case : (t : Bool) → (f.name.id == main_id) ≡ t → Matched (after_item s i) is → Matched s (i ∷ is)
     by_case true e more = record {

@@ -23,7 +23,7 @@ pub fn stmt_slots(told: &Told<'_>, owner: Owner, stmt: &Stmt) -> u32
 {
     match stmt {
         Stmt::Block(stmts) => stmts_slots(told, owner, stmts),
-        Stmt::Declare(declarators) => declarators_slots(told, owner, declarators),
+        Stmt::Declare(_, declarators) => declarators_slots(told, owner, declarators),
         Stmt::If(_, first, None) => stmt_slots(told, owner, first),
         Stmt::If(_, first, Some(second)) => {
             stmt_slots(told, owner, first).saturating_add(stmt_slots(told, owner, second))
@@ -62,7 +62,7 @@ fn start_slots(told: &Told<'_>, owner: Owner, start: &Start) -> u32
     ensures { result ≡ capped (start_slots owner (size_by (told_at told.now.names.now)) (start_tree start.now)) }
 {
     match start {
-        Start::Declare(declarators) => declarators_slots(told, owner, declarators),
+        Start::Declare(_, declarators) => declarators_slots(told, owner, declarators),
         Start::Empty | Start::Change(_) => 0,
     }
 }
@@ -100,7 +100,7 @@ fn size_by(told: &Told<'_>, size: &Expr) -> u32
     ensures { result ≡ size_by (told_at told.now.names.now) (expr_tree size.now) }
 {
     match size {
-        Expr::Number(number) => limited(i64::from(*number)),
+        Expr::Number(number) | Expr::Wide(number) => limited(i64::from(*number)),
         Expr::Place(Target { name, index: None }) => constant_size(told.at(name.mark.place)),
         _ => 0,
     }

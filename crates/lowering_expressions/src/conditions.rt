@@ -48,9 +48,11 @@ pub fn emit_condition(
             | Level::Sum
             | Level::Product => emit_test(draft, told, condition, fails),
         },
-        Expr::Place(_) | Expr::Call(_) | Expr::Unary(_, _, _) | Expr::Choice(_, _, _) => {
-            emit_test(draft, told, condition, fails)
-        }
+        Expr::Wide(_)
+        | Expr::Place(_)
+        | Expr::Call(_)
+        | Expr::Unary(_, _, _)
+        | Expr::Choice(_, _, _) => emit_test(draft, told, condition, fails),
     }
 }
 

@@ -19,7 +19,7 @@ pub fn emit_start(draft: &mut Draft, told: &Told<'_>, start: &Start) -> Result<(
 {
     match start {
         Start::Empty => Ok(()),
-        Start::Declare(declarators) => emit_declarators(draft, told, declarators),
+        Start::Declare(_, declarators) => emit_declarators(draft, told, declarators),
         Start::Change(change) => emit_change(draft, told, change),
     }
 }

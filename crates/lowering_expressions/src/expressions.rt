@@ -24,6 +24,7 @@ pub fn emit_expr(draft: &mut Draft, told: &Told<'_>, expr: &Expr) -> Result<(), 
 {
     match expr {
         Expr::Number(number) => draft.emit(Instr::Push(literal(*number))),
+        Expr::Wide(number) => draft.emit(Instr::Push(number.cast_signed())),
         Expr::Place(target) => emit_place(draft, told, target),
         Expr::Call(call) => emit_call(draft, told, call),
         Expr::Paren(inner) => emit_expr(draft, told, inner),
@@ -118,7 +119,8 @@ fn worked_out(operator: Unary, operand: &Expr) -> Option<i32>
 {
     match operand {
         Expr::Number(number) => apply_unary(operator_of_one(operator), literal(*number)).ok(),
-        Expr::Place(_)
+        Expr::Wide(_)
+        | Expr::Place(_)
         | Expr::Call(_)
         | Expr::Paren(_)
         | Expr::Unary(_, _, _)

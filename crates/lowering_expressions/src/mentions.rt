@@ -15,7 +15,7 @@ pub(crate) fn mentions(expr: &Expr, id: u32) -> bool
     ensures { result ≡ is_in id (expr_names (expr_tree expr.now)) }
 {
     match expr {
-        Expr::Number(_) => false,
+        Expr::Number(_) | Expr::Wide(_) => false,
         Expr::Place(target) => target_mentions(target, id),
         Expr::Call(call) => call.name.id == id || args_mention(&call.args, id),
         Expr::Paren(inner) => mentions(inner, id),

@@ -14,7 +14,7 @@ pub(crate) fn is_quiet(expr: &Expr) -> bool
     ensures { result ≡ is_quiet (expr_tree expr.now) }
 {
     match expr {
-        Expr::Number(_) => true,
+        Expr::Number(_) | Expr::Wide(_) => true,
         Expr::Place(target) => target.index.is_none(),
         Expr::Call(_) => false,
         Expr::Paren(inner) => is_quiet(inner),

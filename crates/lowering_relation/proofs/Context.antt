@@ -10,7 +10,7 @@ use Rattle.cddf_meaning.specs.declared.variable.Variable.TheVariants as variable
 use Rattle.flow_core_laws.specs.declared.activation.Activation.{Activation}
 use Rattle.flow_core_laws.specs.declared.claim.Claim.{Claim}
 use Rattle.os_ast.specs.Meanings.{meaning_in, resolved}
-use Rattle.os_ast.specs.Names.{Scope, lookup, entity_of}
+use Rattle.os_ast.specs.Names.{Scope, lookup, entity_of, flag_of, typed}
 use Rattle.os_ast.specs.Notes.Kinds.{Note, Used}
 use Rattle.os_ast.specs.Rules.{UseRule, rules, violates, if_declared, is_wrong_kind, has_other_count}
 use Rattle.os_ast.specs.Violations.{resolutions_of}
@@ -24,6 +24,7 @@ use Rattle.os_ast.specs.declared.names.Role.TheVariants as role
 use Rattle.os_ast.specs.declared.names.Use.{Use}
 use Rattle.os_ast.specs.declared.names.Use.TheVariants as usage
 use Rattle.os_ast.specs.declared.names.What.{What}
+use Rattle.os_ast.specs.declared.ty.Ty.{Ty}
 use Rattle.os_code.specs.declared.instr.Instr.TheVariants as instr
 use Rattle.os_code.specs.declared.parts.Parts.{Parts}
 use Rattle.os_code.specs.Machine.{Frame, TaskWindow}
@@ -41,20 +42,20 @@ in_order_tail : (lo : ℕ) (rs : List Resolved) → IsBelowNext lo rs → InOrde
 in_order_tail lo [] h = tt
 in_order_tail lo (r ∷ rs) h = h.1
 
-told_first : (r : Resolved) (rs : List Resolved) (p : ℕ) (w : What) → r ≡ resolved p w → told_at (r ∷ rs) p ≡ w
-told_first r rs p w e =
+told_first : (r : Resolved) (rs : List Resolved) (p : ℕ) (w : What) (b : Bool) → r ≡ resolved p w b → told_at (r ∷ rs) p ≡ w
+told_first r rs p w b e =
     ap (λ (x : Resolved). told_at (x ∷ rs) p) e ∙ ap (λ t. if t then w else told_at rs p) (eq-eqb p p refl)
 
-pub told_is : (rs : List Resolved) (p : ℕ) (w : What) → InOrder rs → Contains rs (resolved p w) → told_at rs p ≡ w
-told_is [] p w o (k, lt, e) = absurd (omega (arith, lt))
-told_is (r ∷ rs) p w o (zero, lt, e) = told_first r rs p w e
-told_is (r ∷ rs) p w o (suc k, lt, e) = by_case (r.place == p) refl (told_is rs p w (in_order_tail r.place rs o) (k, omega (arith, lt), e))
+pub told_is : (rs : List Resolved) (p : ℕ) (w : What) (b : Bool) → InOrder rs → Contains rs (resolved p w b) → told_at rs p ≡ w
+told_is [] p w b o (k, lt, e) = absurd (omega (arith, lt))
+told_is (r ∷ rs) p w b o (zero, lt, e) = told_first r rs p w b e
+told_is (r ∷ rs) p w b o (suc k, lt, e) = by_case (r.place == p) refl (told_is rs p w b (in_order_tail r.place rs o) (k, omega (arith, lt), e))
   where
     by_case : (t : Bool) → (r.place == p) ≡ t → told_at rs p ≡ w → (if t then r.what else told_at rs p) ≡ w
     by_case false _ next = next
     by_case true same next =
-        let here : r ≡ resolved p r.what = ap (λ q. resolved q r.what) (eqb-true r.place p same) in
-        one-meaning (r ∷ rs) p r.what w o (0, omega arith, here) (suc k, lt, e)
+        let here : r ≡ resolved p r.what r.unsigned = ap (λ q. resolved q r.what r.unsigned) (eqb-true r.place p same) in
+        one-meaning (r ∷ rs) p r.what w r.unsigned b o (0, omega arith, here) (suc k, lt, e)
 
 -- What a body works on beside its slots: a function has nothing, and leaves what its caller has; a task has items with
 -- these claims; `main` creates activations, and has some of the code's streams so far.
@@ -170,6 +171,10 @@ pub record In (c : Context) (s : Scope) (es : List Entry) : Type 0 where
   pub deep : c.floor ≤ s.depth
   pub arrays : AreBehindFirst es
 
+-- a declaration of a type begins
+pub in_typed : (c : Context) (ty : Ty) (s : Scope) (es : List Entry) → In c s es → In c (typed ty s) es
+in_typed c ty s es is = record { owner = is.owner; captured = is.captured; entries = is.entries; deep = is.deep; arrays = is.arrays }
+
 -- a used name
 pub record IsUsed (c : Context) (s : Scope) (n : Name) (u : Use) : Type 0 where
   pub entity : Entity
@@ -191,7 +196,7 @@ used c s es n u ns is h =
     record {
       entity = d.0;
       is = d.1;
-      told = told_is c.names n.mark.place (meaning_in s.owner s.captured d.0) c.ordered w ∙ ap (λ o. meaning_in o s.captured d.0) is.owner ∙ ap (λ xs. meaning_in c.owner xs d.0) is.captured;
+      told = told_is c.names n.mark.place (meaning_in s.owner s.captured d.0) (flag_of (lookup s.entries n.id)) c.ordered w ∙ ap (λ o. meaning_in o s.captured d.0) is.owner ∙ ap (λ xs. meaning_in c.owner xs d.0) is.captured;
       kind = kept_rule is_wrong_kind s n u d.0 d.1 h.0.0.1.0;
       count = kept_rule has_other_count s n u d.0 d.1 h.0.0.1.1.1.0;
       lawful = h.0.0;

@@ -1,5 +1,5 @@
 -- The code of declarators does what they say.
-use Rattle.std.proofs.Common.{◌≡◌, ℕ, ◌+◌, ◌<◌, ◌≤◌, ◌&&◌, Bool, true, false, not, List, [], ◌∷◌, ◌++◌, length, set, replicate, Option, Some, None, ℤ, pos, refl, sym, ap, ◌∙◌, subst, arith, length-set}
+use Rattle.std.proofs.Common.{◌≡◌, ℕ, ◌+◌, ◌<◌, ◌≤◌, ◌&&◌, Bool, true, false, not, List, [], ◌∷◌, ◌++◌, length, set, replicate, Option, Some, None, ℤ, pos, refl, sym, ap, ◌∙◌, subst, arith, length-set, ◌^◌}
 use Rattle.std.specs.Prelude.{unwrap_or}
 use Rattle.cddf_meaning.specs.Flow.{Ran, given, goes_on}
 use Rattle.cddf_meaning.specs.Run.{Around, run_scalar, array_size, run_array, run_sized, run_declarator, run_declarators}
@@ -31,7 +31,7 @@ use Rattle.lowering_relation.specs.Declarators.{cleared, named_elsewhere, HasSca
 use Rattle.lowering_relation.specs.Expressions.{Stands}
 use Rattle.lowering_relation.proofs.Alignment.{declared_scalar, declared_array}
 use Rattle.lowering_relation.proofs.Context.{resources, Kept, Context, means, tells, told_is, Agree, agree_first, agree_rest}
-use Rattle.lowering_relation.proofs.Declares.{means_scalar, scalar_behind, means_array, means_in_text, or_first, not_false, size_known, limit_kept, stored_own, in_behind, stacked_behind, size_runs}
+use Rattle.lowering_relation.proofs.Declares.{means_scalar, scalar_behind, means_array, means_in_text, or_first, not_false, size_known, size_small, limit_kept, stored_own, in_behind, stacked_behind, size_runs}
 use Rattle.lowering_relation.proofs.Elsewhere.{value_elsewhere}
 use Rattle.lowering_relation.proofs.Exprs.{Ready, expr_runs}
 use Rattle.lowering_relation.proofs.Flows.{Does, does_from, given_does, settled, AlignedIn, went_on, flows_does}
@@ -74,7 +74,7 @@ module _ (c : Context) (callers : List Frame) (leaves : Instr) (total : ℕ) (si
     Declares from to after r = Does c.code (at callers from stack m turns) (settled c callers leaves total to broke continued stack within after) r
 
     abbrev scalar_entry : Name → Entry
-    scalar_entry n = record { id = n.id; depth = s.depth; entity = scalar_entity s.owner s.slots }
+    scalar_entry n = record { id = n.id; depth = s.depth; entity = scalar_entity s.owner s.slots; unsigned = s.unsigned }
 
     mean : (n : Name) → means c (scalar_entry n).entity ≡ what.Scalar s.slots
     mean n = ap (λ o. means c (scalar_entity o s.slots)) ready.scope.owner ∙ means_scalar c.owner c.captured s.slots
@@ -140,15 +140,15 @@ module _ (c : Context) (callers : List Frame) (leaves : Instr) (total : ℕ) (si
         (λ x u q. first_stored n x.value m end x.turns fits ready.aligned len ready.kept is)
 
     abbrev array_entry : Name → ℕ → Entry
-    array_entry n k = record { id = n.id; depth = s.depth; entity = entity.Array s.slots k }
+    array_entry n k = record { id = n.id; depth = s.depth; entity = entity.Array s.slots k; unsigned = s.unsigned }
 
-    array_does : (n : Name) (size : tree.ExprTree) (k : ℕ) (from to : ℕ) → s.slots + k ≤ total → size_value s size ≡ Some (pos k) → array_size (pos k) ≡ k →
+    array_does : (n : Name) (size : tree.ExprTree) (k : ℕ) (from to : ℕ) → k < 2 ^ 31 → s.slots + k ≤ total → size_value s size ≡ Some (pos k) → array_size (pos k) ≡ k →
         Stands c.code (instr.Zero s.slots k ∷ []) from to → Declares from to (array_entry n k ∷ es) (run_array c.file n.id size st turns)
     unfolding act
-    array_does n size k from to fits sized same h =
+    array_does n size k from to small fits sized same h =
         let m1 = with_slots m (zeroed m.slots s.slots k) in
         let fits2 : s.slots + k ≤ length m.slots = omega (arith, fits, len) in
-        subst (λ a. Declares from to (array_entry n k ∷ es) (given a st (λ x. goes_on (declared n.id (Array (replicate (array_size x.value) (pos 0))) st) x.turns))) (sym (size_runs c size s es st m (pos k) turns ready sized))
+        subst (λ a. Declares from to (array_entry n k ∷ es) (given a st (λ x. goes_on (declared n.id (Array (replicate (array_size x.value) (pos 0))) st) x.turns))) (sym (size_runs c size s es st m (pos k) k turns refl small ready sized))
         (subst (λ j. Declares from to (array_entry n k ∷ es) (goes_on (declared n.id (Array (replicate j (pos 0))) st) turns)) (sym same)
         (went_on c callers leaves total (array_entry n k ∷ es) (declared n.id (Array (replicate k (pos 0))) st) m1 turns (zeroed_length m.slots s.slots k fits2 ∙ len)
         (kept_slots c.side st m (bind n.id (Array (replicate k (pos 0))) st.bound) (zeroed m.slots s.slots k) ready.kept)
@@ -157,7 +157,7 @@ module _ (c : Context) (callers : List Frame) (leaves : Instr) (total : ℕ) (si
         (one c.code (acts c.code (at callers from stack m turns) (instr.Zero s.slots k) h.0)))))
 
   pub told : (s : Scope) (d : tree.DeclaratorTree) → Agree c (declarator_notes s d) → tells c d.name.mark.place ≡ meaning (declared_entity s d)
-  told s d agree = told_is c.names d.name.mark.place (meaning (declared_entity s d)) c.ordered agree.0.1.0
+  told s d agree = told_is c.names d.name.mark.place (meaning (declared_entity s d)) s.unsigned c.ordered agree.0.1.0
 
   pub scalar_done : (n : Name) (first : Option tree.ExprTree) → DeclaratorRuns (record { name = n; size = None; stream = false; first = first })
   scalar_done n first s es st m broke continued from to stack turns within ready stacked fits len agree h =
@@ -182,7 +182,7 @@ module _ (c : Context) (callers : List Frame) (leaves : Instr) (total : ℕ) (si
 
     abbrev ArrayGoal : Form → Name → tree.IndexTree → Scope → List Entry → State → Store → ℕ → ℕ → ℕ → ℕ → List ℤ → ℕ → (List Entry → Type 0) → Type 0
     ArrayGoal f n i s es st m broke continued from to stack turns within =
-        Does c.code (at callers from stack m turns) (settled c callers leaves total to broke continued stack within (record { id = n.id; depth = (taken s f).depth; entity = form_entity s f } ∷ es)) (run_array c.file n.id i.value st turns)
+        Does c.code (at callers from stack m turns) (settled c callers leaves total to broke continued stack within (record { id = n.id; depth = (taken s f).depth; entity = form_entity s f; unsigned = (taken s f).unsigned } ∷ es)) (run_array c.file n.id i.value st turns)
 
     array_done : (n : Name) (i : tree.IndexTree) (first : Option tree.ExprTree) (f : Form) (s : Scope) (es : List Entry) (st : State) (m : Store) (broke continued from to : ℕ) (stack : List ℤ) (turns : ℕ) (within : List Entry → Type 0) →
         f ≡ form_of.Array (size_of s i.value) → Ready c s es st m → Stacked (means c) s.slots (es ++ c.bound) → (taken s f).slots ≤ total → length m.slots ≡ total →
@@ -196,7 +196,7 @@ module _ (c : Context) (callers : List Frame) (leaves : Instr) (total : ℕ) (si
         let g : f ≡ form_of.Array (Some k) = is ∙ ap form_of.Array sized in
         let d : tree.DeclaratorTree = record { name = n; size = Some i; stream = false; first = first } in
         subst (λ x. ArrayGoal x n i s es st m broke continued from to stack turns within) (sym g)
-        (array_does s es st m broke continued stack turns within ready stacked len n i.value k from to (subst (λ x. (taken s x).slots ≤ total) g fits) known.is
+        (array_does s es st m broke continued stack turns within ready stacked len n i.value k from to (size_small k known.within) (subst (λ x. (taken s x).slots ≤ total) g fits) known.is
         (ap (λ o. unwrap_or o 0) (limit_kept k known.within))
         (subst (λ w. HasDeclared c.code (tells c) w d from to) (says ∙ ap (λ x. meaning (form_entity s x)) g) h))
 

@@ -1,5 +1,7 @@
 -- The code of declarations does what they say.
-use Rattle.std.proofs.Common.{◌≡◌, ℕ, ◌+◌, ◌==◌, ◌&&◌, ◌||◌, Bool, true, false, not, if◌then◌else◌, List, [], ◌∷◌, ◌++◌, length, leb, Option, Some, None, Ok, ℤ, pos, negsuc, refl, sym, ap, ◌∙◌, subst, inl, inr, arith, eq-eqb}
+use Rattle.std.proofs.Common.{◌≡◌, ℕ, ◌+◌, ◌==◌, ◌&&◌, ◌||◌, Bool, true, false, not, if◌then◌else◌, List, [], ◌∷◌, ◌++◌, length, leb, Option, Some, None, Ok, ℤ, pos, negsuc, refl, sym, ap, ◌∙◌, subst, inl, inr, arith, eq-eqb, ◌<◌, ◌≤◌, ◌^◌, leb-true}
+use Rattle.std.proofs.lemmas.Int.{to_z_pos}
+use Rattle.std.specs.Int.{w32, cast_signed}
 use Rattle.std.specs.Prelude.{◌⊎◌, unwrap_or}
 use Rattle.cddf_meaning.specs.Answers.{left}
 use Rattle.cddf_meaning.specs.File.{variable, or_in_file}
@@ -98,6 +100,17 @@ size_known (Some (pos n)) h = record { size = n; is = refl; within = h }
 pub limit_kept : (n : ℕ) → (leb 1 n && leb n size_limit) ≡ true → within_limit (pos n) ≡ Some n
 limit_kept n h = ap (λ t. if t then Some n else None) h
 
+pub size_small : (n : ℕ) → (leb 1 n && leb n size_limit) ≡ true → n < 2 ^ 31
+size_small n h = by_case (leb 1 n) h
+  where
+    by_case : (t : Bool) → (t && leb n size_limit) ≡ true → n < 2 ^ 31
+    by_case true k = let le : n ≤ 65536 = leb-true n 65536 k in omega (arith, le)
+    by_case false k = absurd (cc)
+
+-- a wide number that is an `int` has its bits
+small_bits : (n : ℕ) → n < 2 ^ 31 → cast_signed w32 n ≡ pos n
+small_bits n small = to_z_pos w32 n small
+
 pub constant_known : (o : Option Entity) (v : ℤ) → constant_of o ≡ Some v → o ≡ Some (entity.Constant v)
 constant_known None v h = absurd (cc)
 constant_known (Some (entity.Constant x)) v h = let e : x ≡ v = cc in ap (λ y. Some (entity.Constant y)) e
@@ -138,26 +151,31 @@ module _ (c : Context) where
         arrays = (form_behind s (form s d), is.arrays);
       }
 
-  stacked_form : (s : Scope) (es : List Entry) (id : ℕ) (f : Form) → s.owner ≡ c.owner → Stacked (means c) s.slots es →
-      Stacked (means c) (taken s f).slots (record { id = id; depth = (taken s f).depth; entity = form_entity s f } ∷ es)
-  stacked_form s es id form_of.Scalar own st =
-      stacked_scalar (resources c.side) (means c) s.slots es (record { id = id; depth = s.depth; entity = scalar_entity s.owner s.slots }) (ap (λ o. meaning_in c.owner c.captured (scalar_entity o s.slots)) own ∙ means_scalar c.owner c.captured s.slots) st
-  stacked_form s es id (form_of.Array size) own st =
-      stacked_array (resources c.side) (means c) s.slots (unwrap_or size 0) es (record { id = id; depth = s.depth; entity = entity.Array s.slots (unwrap_or size 0) }) (means_array c.owner c.captured s.slots (unwrap_or size 0)) st
-  stacked_form s es id form_of.Window own st =
-      stacked_window (resources c.side) (means c) s.slots es (record { id = id; depth = s.depth; entity = entity.Window s.slots }) (means_window c.owner c.captured s.slots) st
-  stacked_form s es id form_of.Stream own st =
+  stacked_form : (s : Scope) (es : List Entry) (id : ℕ) (f : Form) (b : Bool) → s.owner ≡ c.owner → Stacked (means c) s.slots es →
+      Stacked (means c) (taken s f).slots (record { id = id; depth = (taken s f).depth; entity = form_entity s f; unsigned = b } ∷ es)
+  stacked_form s es id form_of.Scalar b own st =
+      stacked_scalar (resources c.side) (means c) s.slots es (record { id = id; depth = s.depth; entity = scalar_entity s.owner s.slots; unsigned = b }) (ap (λ o. meaning_in c.owner c.captured (scalar_entity o s.slots)) own ∙ means_scalar c.owner c.captured s.slots) st
+  stacked_form s es id (form_of.Array size) b own st =
+      stacked_array (resources c.side) (means c) s.slots (unwrap_or size 0) es (record { id = id; depth = s.depth; entity = entity.Array s.slots (unwrap_or size 0); unsigned = b }) (means_array c.owner c.captured s.slots (unwrap_or size 0)) st
+  stacked_form s es id form_of.Window b own st =
+      stacked_window (resources c.side) (means c) s.slots es (record { id = id; depth = s.depth; entity = entity.Window s.slots; unsigned = b }) (means_window c.owner c.captured s.slots) st
+  stacked_form s es id form_of.Stream b own st =
       (s.slots, subst (λ w. Takes w s.slots s.slots) (sym (means_stream c.owner c.captured (2 + s.streams))) (omega arith), st)
-  stacked_form s es id (form_of.Streams size) own st =
+  stacked_form s es id (form_of.Streams size) b own st =
       (s.slots, subst (λ w. Takes w s.slots s.slots) (sym (means_streams c.owner c.captured (2 + s.streams) (unwrap_or size 0))) (omega arith), st)
 
   pub stacked_behind : (s : Scope) (es : List Entry) (d : tree.DeclaratorTree) → s.owner ≡ c.owner → Stacked (means c) s.slots es → Stacked (means c) (after_declarator s d).slots (entry s d ∷ es)
-  stacked_behind s es d own st = stacked_form s es d.name.id (form s d) own st
+  stacked_behind s es d own st = stacked_form s es d.name.id (form s d) (taken s (form s d)).unsigned own st
 
-  -- the size of a local array
-  pub size_runs : (e : tree.ExprTree) (s : Scope) (es : List Entry) (st : State) (m : Store) (v : ℤ) (turns : ℕ) → Ready c s es st m → size_value s e ≡ Some v → value c.file e st turns ≡ Ok (left v turns)
-  size_runs (tree.Number n) s es st m v turns ready h = let e : pos n ≡ v = cc in ap (λ x. Ok (left x turns)) e
-  size_runs (tree.Place (tree.Variable n)) s es st m v turns ready h = ap (λ x. Ok (left x turns)) (ap (scalar_value st) constant)
+  -- the size of a local array, which is an `int` also where it is wide
+  pub size_runs : (e : tree.ExprTree) (s : Scope) (es : List Entry) (st : State) (m : Store) (v : ℤ) (k turns : ℕ) → v ≡ pos k → k < 2 ^ 31 → Ready c s es st m → size_value s e ≡ Some v → value c.file e st turns ≡ Ok (left v turns)
+  size_runs (tree.Number n) s es st m v k turns is_k small ready h = let e : pos n ≡ v = cc in ap (λ x. Ok (left x turns)) e
+  size_runs (tree.Wide n) s es st m v k turns is_k small ready h =
+      let e : pos n ≡ v = cc in
+      let same : pos n ≡ pos k = e ∙ is_k in
+      let same_k : n ≡ k = cc in
+      ap (λ x. Ok (left x turns)) (small_bits n (omega (arith, same_k, small)) ∙ e)
+  size_runs (tree.Place (tree.Variable n)) s es st m v k turns is_k small ready h = ap (λ x. Ok (left x turns)) (ap (scalar_value st) constant)
     where
       in_text : entity_of (lookup (es ++ c.round) n.id) ≡ Some (entity.Constant v)
       in_text = subst (λ xs. entity_of (lookup xs n.id) ≡ Some (entity.Constant v)) ready.scope.entries (constant_known (entity_of (lookup s.entries n.id)) v h)
@@ -179,12 +197,12 @@ module _ (c : Context) where
 
       constant : variable c.file st n.id ≡ Some (variable_of.Constant v)
       constant = by_split (split es c.round c.bound n.id)
-  size_runs (tree.Place (tree.Element n mark e)) s es st m v turns ready h = absurd (cc)
-  size_runs (tree.ExprTree.Call f args) s es st m v turns ready h = absurd (cc)
-  size_runs (tree.Paren e) s es st m v turns ready h = absurd (cc)
-  size_runs (tree.Unary op mark e) s es st m v turns ready h = absurd (cc)
-  size_runs (tree.Chain l first links) s es st m v turns ready h = absurd (cc)
-  size_runs (tree.Choice x a b) s es st m v turns ready h = absurd (cc)
+  size_runs (tree.Place (tree.Element n mark e)) s es st m v k turns is_k small ready h = absurd (cc)
+  size_runs (tree.ExprTree.Call f args) s es st m v k turns is_k small ready h = absurd (cc)
+  size_runs (tree.Paren e) s es st m v k turns is_k small ready h = absurd (cc)
+  size_runs (tree.Unary op mark e) s es st m v k turns is_k small ready h = absurd (cc)
+  size_runs (tree.Chain l first links) s es st m v k turns is_k small ready h = absurd (cc)
+  size_runs (tree.Choice x a b) s es st m v k turns is_k small ready h = absurd (cc)
 
   pub declarators_in : (ds : List tree.DeclaratorTree) (s : Scope) (es : List Entry) → In c s es → In c (after_declarators s ds) (made s ds es)
   declarators_in [] s es is = is

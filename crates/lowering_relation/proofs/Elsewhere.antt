@@ -103,6 +103,7 @@ module _ (file : File) (s : State) (one other : List Binding) where
   mutual
     pub value_same : (e : tree.ExprTree) (turns : ℕ) → FindSame one other (expr_names e) → value file e here turns ≡ value file e there turns
     value_same (tree.Number n) turns h = refl
+    value_same (tree.Wide n) turns h = refl
     value_same (tree.Place t) turns h = place_same t turns h
     value_same (tree.ExprTree.Call f args) turns h =
         same_then (values file args here turns) (values file args there turns) (call_value file.calls (variable file here f.id)) (call_value file.calls (variable file there f.id))

@@ -1,5 +1,6 @@
 -- The code of an expression does what its value says.
 use Rattle.std.proofs.Common.{◌≡◌, ℕ, suc, ◌+◌, ◌==◌, Bool, true, false, not, if◌then◌else◌, List, [], ◌∷◌, ◌++◌, length, Option, Some, None, Ok, ℤ, pos, refl, sym, ap, ◌∙◌, subst, inl, inr, eqb-true}
+use Rattle.std.specs.Int.{w32, cast_signed}
 use Rattle.c_int.specs.Operators.{is_zero, truth}
 use Rattle.c_int.specs.declared.operators.Binary as int_binary
 use Rattle.c_int.specs.declared.operators.Unary.TheVariants as int_unary
@@ -12,7 +13,7 @@ use Rattle.cddf_meaning.specs.Variables.{find}
 use Rattle.cddf_meaning.specs.declared.variable.Variable.{Variable}
 use Rattle.cddf_meaning.specs.declared.variable.Variable.TheVariants.{Function}
 use Rattle.cddf_meaning.specs.declared.variable.Variable.TheVariants as variable_of
-use Rattle.os_ast.specs.Names.{Scope}
+use Rattle.os_ast.specs.Names.{Scope, typed}
 use Rattle.os_ast.specs.Notes.Expressions.{count_args, args_notes, expr_notes, place_notes, links_notes}
 use Rattle.os_ast.specs.Rules.{is_wrong_kind, has_other_count}
 use Rattle.os_ast.specs.Trees as tree
@@ -28,6 +29,7 @@ use Rattle.os_ast.specs.declared.names.Shape.TheVariants as shape
 use Rattle.os_ast.specs.declared.names.Use.TheVariants as usage
 use Rattle.os_ast.specs.declared.names.What.{What}
 use Rattle.os_ast.specs.declared.names.What.TheVariants as what
+use Rattle.os_ast.specs.declared.ty.Ty.{Ty}
 use Rattle.os_code.specs.declared.instr.Instr.TheVariants as instr
 use Rattle.os_code.specs.declared.parts.Parts.{Parts}
 use Rattle.os_code.specs.Machine.{Frame}
@@ -35,7 +37,7 @@ use Rattle.os_code.specs.Parts.{instr_at}
 use Rattle.lowering_relation.specs.Alignment.{Resources, Holds, Aligned}
 use Rattle.lowering_relation.specs.Expressions.{Stands, operation_of, operation, HasUnary, operated, worked_out, HasLink, HasExpr, HasPlace, HasLinks, HasArgs}
 use Rattle.lowering_relation.specs.Names.{reading, reading_at, calling}
-use Rattle.lowering_relation.proofs.Context.{resources, Kept, Context, means, tells, Agree, agree_first, agree_rest, In, used, Named, name, IsCallable}
+use Rattle.lowering_relation.proofs.Context.{resources, Kept, Context, means, tells, Agree, agree_first, agree_rest, In, used, Named, name, IsCallable, in_typed}
 use Rattle.lowering_relation.proofs.Names.{means_function, reads, reads_at}
 use Rattle.lowering_relation.proofs.Steps.{Store, at, pushed, onto, pushed_all, Leads, stays, leads_on, Meets, gives, halts, meets_then, push, drop_top, jump, jump_zero, unary_step, binary_step}
 
@@ -44,6 +46,9 @@ pub record Ready (c : Context) (s : Scope) (es : List Entry) (st : State) (m : S
   pub scope : In c s es
   pub aligned : Aligned (resources c.side) (means c) m.slots st.bound (es ++ c.bound)
   pub kept : Kept c.side st m
+
+pub ready_typed : (c : Context) (ty : Ty) (s : Scope) (es : List Entry) (st : State) (m : Store) → Ready c s es st m → Ready c (typed ty s) es st m
+ready_typed c ty s es st m ready = record { scope = in_typed c ty s es ready.scope; aligned = ready.aligned; kept = ready.kept }
 
 not_not : (t : Bool) → truth (is_zero (truth t)) ≡ truth (not t)
 not_not true = refl
@@ -181,6 +186,8 @@ module _ (c : Context) (callers : List Frame) (s : Scope) (es : List Entry) (st 
         Meets c.code (at callers from stack m turns) (pushed callers to stack m) (value c.file e st turns)
     expr_runs (tree.Number n) from to stack turns agree h =
         ends_at c.code callers (from + 1) to stack m h.1 (gives (left (pos n) turns) tt (push c.code callers (pos n) from stack m turns h.0))
+    expr_runs (tree.Wide n) from to stack turns agree h =
+        ends_at c.code callers (from + 1) to stack m h.1 (gives (left (cast_signed w32 n) turns) tt (push c.code callers (cast_signed w32 n) from stack m turns h.0))
     expr_runs (tree.Place t) from to stack turns agree h = place_runs t from to stack turns agree h
     expr_runs (tree.ExprTree.Call f args) from to stack turns agree h =
         let u = usage.Called (count_args args) in

@@ -13,12 +13,13 @@ use Rattle.cddf_meaning.proofs.Files.{item-falls}
 use Rattle.os_ast.specs.Leveled.{AreAll, cons, IsItem, AreStmts}
 use Rattle.os_ast.specs.Names.{Scope, lookup, entity_of, enter, in_unit, main_id, constant_value}
 use Rattle.os_ast.specs.Notes.Kinds.{Note, Global}
-use Rattle.os_ast.specs.Notes.Programs.{owner_of, param_names, round_body, after_params, params_notes, after_item, after_items, after_function, item_notes, items_notes, in_body}
+use Rattle.os_ast.specs.Notes.Programs.{owner_of, param_list, round_body, after_params, params_notes, after_item, after_items, after_function, item_notes, items_notes, in_body}
 use Rattle.os_ast.specs.Notes.Programs as programs
 use Rattle.os_ast.specs.Notes.Statements.{after_stmts, stmts_notes}
 use Rattle.os_ast.specs.Trees as tree
 use Rattle.os_ast.specs.Parts.{is_in}
-use Rattle.os_ast.specs.Violations.{captures, is_empty, is_main, has_main}
+use Rattle.os_ast.specs.Types.{is_unsigned}
+use Rattle.os_ast.specs.Violations.{captures, is_int, is_empty, is_main, has_main}
 use Rattle.os_ast.specs.declared.expr.Name.{Name}
 use Rattle.os_ast.specs.declared.names.Entity.{Entity}
 use Rattle.os_ast.specs.declared.names.Entity.TheVariants as entity
@@ -26,6 +27,7 @@ use Rattle.os_ast.specs.declared.names.Entry.{Entry}
 use Rattle.os_ast.specs.declared.names.Owner.{Owner}
 use Rattle.os_ast.specs.declared.names.Owner.TheVariants as owner
 use Rattle.os_ast.specs.declared.names.Resolved.{Resolved}
+use Rattle.os_ast.specs.declared.program.Param.{Param}
 use Rattle.os_code.specs.declared.parts.Parts.{Parts}
 use Rattle.lowering_relation.specs.Names.{told_at}
 use Rattle.lowering_relation.specs.Programs.{size_by, HasFunction, HasMain, HasUnit, HasFunctions}
@@ -113,7 +115,7 @@ pub record AtMain (code : Parts) (rs : List Resolved) (tasks : List TaskTree) (o
   pub depth : scope.depth ≡ outer.depth
   pub few : (after_stmts (in_body scope function) function.body).streams ≤ (after_items outer listed).streams
   -- it has no parameters
-  pub bare : (ids : List ℕ) → AreApart ids listed → has_main listed ≡ true → param_names function.params ≡ []
+  pub bare : (ids : List ℕ) → AreApart ids listed → has_main listed ≡ true → param_list function.params ≡ []
 
 -- behind an item in which no task of `main` stands
 further : {code : Parts} {rs : List Resolved} {tasks : List TaskTree} {outer inner : Scope} (i : tree.ItemTree) (is : List tree.ItemTree) {m : Main} (ns : List Note) →
@@ -147,25 +149,26 @@ no_more [] ids h apart = refl
 no_more (tree.Constant c ∷ is) ids h apart = no_more is (c.name.id ∷ ids) (or_right (c.name.id == main_id) (is_in main_id ids) h) apart.1
 no_more (tree.Function f ∷ is) ids h apart = by_case (f.name.id == main_id) refl (no_more is (f.name.id ∷ ids) (or_right (f.name.id == main_id) (is_in main_id ids) h) apart.1)
   where
-    by_case : (t : Bool) → (f.name.id == main_id) ≡ t → has_main is ≡ false → ((t && is_empty (param_names f.params)) || has_main is) ≡ false
+    by_case : (t : Bool) → (f.name.id == main_id) ≡ t → has_main is ≡ false → ((t && is_int f.ty && is_empty (param_list f.params)) || has_main is) ≡ false
     by_case true e next = let there : is_in f.name.id ids ≡ true = subst (λ n. is_in n ids ≡ true) (sym (eqb-true f.name.id main_id e)) h in let bad : true ≡ false = sym there ∙ apart.0 in absurd (cc)
     by_case false e next = next
 
-pub bare_main : (f : tree.FunctionTree) (is : List tree.ItemTree) (ids : List ℕ) → (f.name.id == main_id) ≡ true → AreApart ids (tree.Function f ∷ is) → has_main (tree.Function f ∷ is) ≡ true → param_names f.params ≡ []
-bare_main f is ids named apart h = by_params (param_names f.params) (sym (ap (λ b. (b && is_empty (param_names f.params)) || has_main is) named) ∙ h)
+pub bare_main : (f : tree.FunctionTree) (is : List tree.ItemTree) (ids : List ℕ) → (f.name.id == main_id) ≡ true → AreApart ids (tree.Function f ∷ is) → has_main (tree.Function f ∷ is) ≡ true → param_list f.params ≡ []
+bare_main f is ids named apart h = by_params (is_int f.ty) (param_list f.params) (sym (ap (λ b. (b && is_int f.ty && is_empty (param_list f.params)) || has_main is) named) ∙ h)
   where
     none : has_main is ≡ false
     none = no_more is (f.name.id ∷ ids) (or_left (f.name.id == main_id) (is_in main_id ids) named) apart.1
 
-    by_params : (ns : List Name) → (is_empty ns || has_main is) ≡ true → ns ≡ []
-    by_params [] k = refl
-    by_params (n ∷ ns) k = let bad : true ≡ false = sym k ∙ none in absurd (cc)
+    by_params : (int : Bool) (ns : List Param) → ((int && is_empty ns) || has_main is) ≡ true → ns ≡ []
+    by_params int [] k = refl
+    by_params true (n ∷ ns) k = let bad : true ≡ false = sym k ∙ none in absurd (cc)
+    by_params false (n ∷ ns) k = let bad : true ≡ false = sym k ∙ none in absurd (cc)
 
-pub params_owner : (ns : List Name) (s : Scope) → (after_params s ns).owner ≡ s.owner
+pub params_owner : (ns : List Param) (s : Scope) → (after_params s ns).owner ≡ s.owner
 params_owner [] s = refl
 params_owner (n ∷ ns) s = params_owner ns (programs.after_param s n)
 
-pub none_front : (s : Scope) (ns : List Name) → captures (params_notes s ns) ≡ []
+pub none_front : (s : Scope) (ns : List Param) → captures (params_notes s ns) ≡ []
 none_front s [] = refl
 none_front s (n ∷ ns) = none_front (programs.after_param s n) ns
 
@@ -181,7 +184,7 @@ module _ (code : Parts) (rs : List Resolved) (ordered : InOrder rs) (tasks : Lis
 
   module _ (s : Scope) (f : tree.FunctionTree) where
     abbrev front : List Note
-    front = Global s f.name ∷ params_notes (programs.in_function s f.name.id) (param_names f.params)
+    front = Global s f.name ∷ params_notes (programs.in_function s f.name.id) (param_list f.params)
 
     lawful_body : (rest : List Note) → AreLawful (item_notes s (tree.Function f) ++ rest) → AreLawful (stmts_notes (in_body s f) f.body)
     lawful_body rest h = lawful-rest front (stmts_notes (in_body s f) f.body) (lawful-first (item_notes s (tree.Function f)) rest h)
@@ -192,10 +195,10 @@ module _ (code : Parts) (rs : List Resolved) (ordered : InOrder rs) (tasks : Lis
   -- a function that isn't `main` is callable behind its body
   callable : (file : File) (falls : CallsFall file) (s : Scope) (f : tree.FunctionTree) (number : ℕ) → (f.name.id == main_id) ≡ false → FileFits code file s.entries → AreStmts f.body →
       AreLawful (stmts_notes (in_body s f) f.body) → Tells rs (stmts_notes (in_body s f) f.body) → HasFunction code (told_at rs) number f →
-      IsCallable code (with_item file (tree.Function f)) file.count number (length (param_names f.params))
+      IsCallable code (with_item file (tree.Function f)) file.count number (length (param_list f.params))
   callable file falls s f number other fits leveled lawful tells has callers args p stack m turns len at_turn at_call =
       let own = is_function f.name.id other in
-      let ns = param_names f.params in
+      let ns = param_list f.params in
       let s0 = programs.in_function s f.name.id in
       let none : s0.slots ≡ 0 = ap (λ o. (inside o s).slots) own in
       let is_owner : s0.owner ≡ owner.OfFunction = ap (λ o. (inside o s).owner) own in
@@ -235,7 +238,7 @@ module _ (code : Parts) (rs : List Resolved) (ordered : InOrder rs) (tasks : Lis
       let rest = items_notes (after_item s i) is in
       further i is (item_notes s i) refl refl refl refl refl refl refl
       (finds_main is (with_item file i) (after_item s i) number m leveled (item-falls file falls i)
-      (fits_more code file (with_item file i) s.entries (record { id = x.name.id; depth = s.depth; entity = entity.Constant (constant_value x) }) (variable.Constant (constant_value x)) fits (omega arith) (λ place args turns lt. refl) refl refl) (tt, all)
+      (fits_more code file (with_item file i) s.entries (record { id = x.name.id; depth = s.depth; entity = entity.Constant (constant_value x); unsigned = is_unsigned x.ty }) (variable.Constant (constant_value x)) fits (omega arith) (λ place args turns lt. refl) refl refl) (tt, all)
       count (lawful-rest (item_notes s i) rest lawful) (tells-rest rs (item_notes s i) rest tells) has found)
   finds_main (tree.Function f ∷ is) file s number m (cons (IsItem.function _ body) leveled) falls fits all count lawful tells has found =
       by_case (f.name.id == main_id) refl has.0 found
@@ -244,19 +247,19 @@ module _ (code : Parts) (rs : List Resolved) (ordered : InOrder rs) (tasks : Lis
       let rest = items_notes (after_item s i) is in
       let more : (after_item s i).functions ≡ s.functions + 1 = functions_behind s f in
       let runs = callable file falls s f number other fits body (lawful_body s f rest lawful) (tells_body s f rest tells) unit in
-      further i is (item_notes s i) (ap (λ t. if t then all_tasks_of f.body else program_tasks is) other) (none_both front_notes (stmts_notes (in_body s f) f.body) (none_front (programs.in_function s f.name.id) (param_names f.params)) (none_stmts f.body (in_body s f) (not_main other))) refl refl
-      (stmts_streams body (in_body s f) (λ e. absurd (not_main other e)) (lawful_body s f rest lawful) ∙ body_streams s f) refl (ap (λ t. t && is_empty (param_names f.params)) other)
+      further i is (item_notes s i) (ap (λ t. if t then all_tasks_of f.body else program_tasks is) other) (none_both front_notes (stmts_notes (in_body s f) f.body) (none_front (programs.in_function s f.name.id) (param_list f.params)) (none_stmts f.body (in_body s f) (not_main other))) refl refl
+      (stmts_streams body (in_body s f) (λ e. absurd (not_main other e)) (lawful_body s f rest lawful) ∙ body_streams s f) refl (ap (λ t. t && is_int f.ty && is_empty (param_list f.params)) other)
       (finds_main is (with_item file i) (after_item s i) (suc number) m leveled (item-falls file falls i)
-      (fits_more code file (with_item file i) s.entries (record { id = f.name.id; depth = s.depth; entity = entity.Function (after_stmts (in_body s f) f.body).functions (length (param_names f.params)) }) (variable.Function file.count) fits (omega arith) (same_calls file f) refl
-      (file.count, refl, omega arith, subst (λ k. IsCallable code (with_item file i) file.count k (length (param_names f.params))) (omega (arith, more, count)) runs)) (tt, all)
+      (fits_more code file (with_item file i) s.entries (record { id = f.name.id; depth = s.depth; entity = entity.Function (after_stmts (in_body s f) f.body).functions (length (param_list f.params)); unsigned = is_unsigned f.ty }) (variable.Function file.count) fits (omega arith) (same_calls file f) refl
+      (file.count, refl, omega arith, subst (λ k. IsCallable code (with_item file i) file.count k (length (param_list f.params))) (omega (arith, more, count)) runs)) (tt, all)
       (omega (arith, more, count)) (lawful-rest (item_notes s i) rest lawful) (tells-rest rs (item_notes s i) rest tells) has.1 found2))
     where
       front_notes : List Note
-      front_notes = Global s f.name ∷ params_notes (programs.in_function s f.name.id) (param_names f.params)
+      front_notes = Global s f.name ∷ params_notes (programs.in_function s f.name.id) (param_list f.params)
 
       not_main : (f.name.id == main_id) ≡ false → IsOther (in_body s f).owner
       not_main other e =
-          let x : (in_body s f).owner ≡ owner.OfFunction = params_owner (param_names f.params) (programs.in_function s f.name.id) ∙ ap (λ o. (inside o s).owner) (is_function f.name.id other) in
+          let x : (in_body s f).owner ≡ owner.OfFunction = params_owner (param_list f.params) (programs.in_function s f.name.id) ∙ ap (λ o. (inside o s).owner) (is_function f.name.id other) in
           let y : owner.OfFunction ≡ owner.OfMain = sym x ∙ e in
           absurd (cc)
 
@@ -287,8 +290,8 @@ module _ (code : Parts) (rs : List Resolved) (ordered : InOrder rs) (tasks : Lis
             own_captures =
                 captures_both (item_notes s (tree.Function f)) (items_notes (after_item s (tree.Function f)) is)
                 ∙ ap (λ cs. cs ++ captures (items_notes (after_item s (tree.Function f)) is))
-                (captures_both (Global s f.name ∷ params_notes (programs.in_function s f.name.id) (param_names f.params)) (stmts_notes (in_body s f) f.body)
-                ∙ ap (λ cs. cs ++ captures (stmts_notes (in_body s f) f.body)) (none_front (programs.in_function s f.name.id) (param_names f.params)));
+                (captures_both (Global s f.name ∷ params_notes (programs.in_function s f.name.id) (param_list f.params)) (stmts_notes (in_body s f) f.body)
+                ∙ ap (λ cs. cs ++ captures (stmts_notes (in_body s f) f.body)) (none_front (programs.in_function s f.name.id) (param_list f.params)));
           })
       by_case false e unit found2 go = go e unit found2
 

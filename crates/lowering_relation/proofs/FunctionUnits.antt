@@ -3,7 +3,7 @@ use Rattle.std.proofs.Common.{◌≡◌, ℕ, ◌+◌, ◌<◌, ◌≤◌, ◌==
 use Rattle.std.specs.Prelude.{⊤}
 use Rattle.os_ast.specs.Leveled.{AreStmts}
 use Rattle.os_ast.specs.Names.{Scope, enter, in_unit, main_id}
-use Rattle.os_ast.specs.Notes.Programs.{owner_of, param_names, round_body, after_param, after_params, in_body}
+use Rattle.os_ast.specs.Notes.Programs.{owner_of, param_list, round_body, after_param, after_params, in_body}
 use Rattle.os_ast.specs.Notes.Programs as programs
 use Rattle.os_ast.specs.Notes.Statements.{after_stmts, stmts_notes}
 use Rattle.os_ast.specs.Trees as tree
@@ -14,6 +14,7 @@ use Rattle.os_ast.specs.declared.names.Entry.{Entry}
 use Rattle.os_ast.specs.declared.names.Owner.{Owner}
 use Rattle.os_ast.specs.declared.names.Owner.TheVariants as owner
 use Rattle.os_ast.specs.declared.names.Resolved.{Resolved}
+use Rattle.os_ast.specs.declared.program.Param.{Param}
 use Rattle.os_code.specs.Effects.{operands_of, stands_in}
 use Rattle.os_code.specs.Parts.{Main, Function, kind_at}
 use Rattle.os_code.specs.declared.instr.Instr.TheVariants as instr
@@ -85,11 +86,11 @@ module _ (code : Parts) (body : Body) (number : ℕ) (unit : CodeUnit) (o : Owne
   all_file_may (e ∷ es) all = (file_may e.id e.entity all.0, all_file_may es all.1)
 
 -- parameters
-params_in : (t : Text) (ns : List Name) (s : Scope) → In t s → (after_params s ns).slots ≤ t.home.slots → In t (after_params s ns)
+params_in : (t : Text) (ns : List Param) (s : Scope) → In t s → (after_params s ns).slots ≤ t.home.slots → In t (after_params s ns)
 params_in t [] s is le = is
 params_in t (n ∷ ns) s is le =
     params_in t ns (after_param s n)
-    (record { owner = is.owner; captured = is.captured; may = (scalar_may t s.owner n.id s.slots is.owner (omega (arith, le, params_slots ns (after_param s n))), is.may) })
+    (record { owner = is.owner; captured = is.captured; may = (scalar_may t s.owner n.name.id s.slots is.owner (omega (arith, le, params_slots ns (after_param s n))), is.may) })
     le
 
 module _ (code : Parts) (rs : List Resolved) (ordered : InOrder rs) (s : Scope) (f : tree.FunctionTree) (leveled : AreStmts f.body) (lawful : AreLawful (stmts_notes (in_body s f) f.body))
@@ -136,18 +137,18 @@ module _ (code : Parts) (rs : List Resolved) (ordered : InOrder rs) (s : Scope) 
         none : s0.slots ≡ 0
         none = ap (λ o. (round o).slots) own
 
-        first : body_scope.slots ≡ s0.slots + length (param_names f.params)
-        first = params_slots (param_names f.params) s0
+        first : body_scope.slots ≡ s0.slots + length (param_list f.params)
+        first = params_slots (param_list f.params) s0
 
         room : (after_stmts body_scope f.body).slots ≤ has.unit.slots
         room =
             let size : stmts_slots body_scope.owner (size_by (told_at rs)) f.body ≡ stmts_slots owner.OfFunction (size_by (told_at rs)) f.body =
-            ap (λ o. stmts_slots o (size_by (told_at rs)) f.body) (params_owner (param_names f.params) s0 ∙ is_owner) in
+            ap (λ o. stmts_slots o (size_by (told_at rs)) f.body) (params_owner (param_list f.params) s0 ∙ is_owner) in
             omega (arith, sum, size, first, none, has.slots)
 
         begins : In t body_scope
         begins =
-            params_in t (param_names f.params) s0
+            params_in t (param_list f.params) s0
             (record {
               owner = is_owner;
               captured = ap (λ o. (round o).captured) own;
@@ -155,7 +156,7 @@ module _ (code : Parts) (rs : List Resolved) (ordered : InOrder rs) (s : Scope) 
             })
             (omega (arith, first, none, has.slots))
 
-    module _ (tasks : List TaskTree) (named : (f.name.id == main_id) ≡ true) (bare : param_names f.params ≡ []) (kind : kind_at code number ≡ Main) (some : 2 ≤ code.streams)
+    module _ (tasks : List TaskTree) (named : (f.name.id == main_id) ≡ true) (bare : param_list f.params ≡ []) (kind : kind_at code number ≡ Main) (some : 2 ≤ code.streams)
         (few : 2 + (after_stmts body_scope f.body).streams ≤ code.streams) (has : HasMain code (told_at rs) tasks number f) where
       abbrev pub main_home : Home
       main_home = home_of code (in_main (told_at rs) tasks) number has.unit

@@ -19,9 +19,10 @@ use Rattle.os_ast.specs.Leveled.{AreStmts}
 use Rattle.os_ast.specs.Meanings.{meaning_in}
 use Rattle.os_ast.specs.Names.{Scope, lookup, entity_of}
 use Rattle.os_ast.specs.Notes.Declarators.{scalar_entity}
-use Rattle.os_ast.specs.Notes.Programs.{param_names, after_param, after_params}
+use Rattle.os_ast.specs.Notes.Programs.{param_list, after_param, after_params}
 use Rattle.os_ast.specs.Notes.Statements.{after_stmts, stmts_notes}
 use Rattle.os_ast.specs.Trees as tree
+use Rattle.os_ast.specs.Types.{is_unsigned}
 use Rattle.os_ast.specs.declared.expr.Name.{Name}
 use Rattle.os_ast.specs.declared.names.Entity.{Entity}
 use Rattle.os_ast.specs.declared.names.Entity.TheVariants as entity
@@ -29,6 +30,7 @@ use Rattle.os_ast.specs.declared.names.Entry.{Entry}
 use Rattle.os_ast.specs.declared.names.Owner.TheVariants as owner
 use Rattle.os_ast.specs.declared.names.Resolved.{Resolved}
 use Rattle.os_ast.specs.declared.names.What.TheVariants as what
+use Rattle.os_ast.specs.declared.program.Param.{Param}
 use Rattle.os_code.specs.declared.instr.Instr.TheVariants as instr
 use Rattle.os_code.specs.declared.parts.Parts.{Parts}
 use Rattle.os_code.specs.declared.unit.Unit.{Unit as CodeUnit}
@@ -67,23 +69,23 @@ popped vs st n go is =
     ∙ ap (go vs) (drop-append-le n (reverse vs) st le ∙ ap (λ xs. xs ++ st) (drop_all n (reverse vs) (omega (arith, long, is))))
 
 -- the declarations of parameters
-abbrev pub param_entry : Scope → Name → Entry
-param_entry s n = record { id = n.id; depth = s.depth; entity = scalar_entity s.owner s.slots }
+abbrev pub param_entry : Scope → Param → Entry
+param_entry s n = record { id = n.name.id; depth = s.depth; entity = scalar_entity s.owner s.slots; unsigned = is_unsigned n.ty }
 
-abbrev pub made_params : Scope → List Name → List Entry → List Entry
+abbrev pub made_params : Scope → List Param → List Entry → List Entry
 made_params s [] es = es
 made_params s (n ∷ ns) es = made_params (after_param s n) ns (param_entry s n ∷ es)
 
-pub params_slots : (ns : List Name) (s : Scope) → (after_params s ns).slots ≡ s.slots + length ns
+pub params_slots : (ns : List Param) (s : Scope) → (after_params s ns).slots ≡ s.slots + length ns
 params_slots [] s = omega arith
 params_slots (n ∷ ns) s = let h = params_slots ns (after_param s n) in omega (arith, h)
 
-params_depth : (ns : List Name) (s : Scope) → (after_params s ns).depth ≡ s.depth
+params_depth : (ns : List Param) (s : Scope) → (after_params s ns).depth ≡ s.depth
 params_depth [] s = refl
 params_depth (n ∷ ns) s = params_depth ns (after_param s n)
 
 module _ (c : Context) where
-  pub params_in : (ns : List Name) (s : Scope) (es : List Entry) → In c s es → In c (after_params s ns) (made_params s ns es)
+  pub params_in : (ns : List Param) (s : Scope) (es : List Entry) → In c s es → In c (after_params s ns) (made_params s ns es)
   params_in [] s es is = is
   params_in (n ∷ ns) s es is =
       params_in ns (after_param s n) (param_entry s n ∷ es) (record {
@@ -97,19 +99,19 @@ module _ (c : Context) where
   param_means : (s : Scope) → s.owner ≡ c.owner → means c (scalar_entity s.owner s.slots) ≡ what.Scalar s.slots
   param_means s own = ap (λ o. meaning_in c.owner c.captured (scalar_entity o s.slots)) own ∙ means_scalar c.owner c.captured s.slots
 
-  pub params_stacked : (ns : List Name) (s : Scope) (es : List Entry) → s.owner ≡ c.owner → Stacked (means c) s.slots (es ++ c.bound) → Stacked (means c) (after_params s ns).slots (made_params s ns es ++ c.bound)
+  pub params_stacked : (ns : List Param) (s : Scope) (es : List Entry) → s.owner ≡ c.owner → Stacked (means c) s.slots (es ++ c.bound) → Stacked (means c) (after_params s ns).slots (made_params s ns es ++ c.bound)
   params_stacked [] s es own st = st
   params_stacked (n ∷ ns) s es own st =
       params_stacked ns (after_param s n) (param_entry s n ∷ es) own (stacked_scalar (resources c.side) (means c) s.slots (es ++ c.bound) (param_entry s n) (param_means s own) st)
 
   -- parameters stand in the first slots
-  pub params_aligned : (ns : List Name) (vs slots : List ℤ) (s : Scope) (es : List Entry) (bound : List Binding) → s.owner ≡ c.owner → length vs ≡ length ns →
+  pub params_aligned : (ns : List Param) (vs slots : List ℤ) (s : Scope) (es : List Entry) (bound : List Binding) → s.owner ≡ c.owner → length vs ≡ length ns →
       ((i : ℕ) → i < length vs → slot_at slots (s.slots + i) ≡ slot_at vs i) → Aligned (resources c.side) (means c) slots bound (es ++ c.bound) →
       Aligned (resources c.side) (means c) slots (bind_params ns vs bound) (made_params s ns es ++ c.bound)
   params_aligned [] vs slots s es bound own len same al = al
   params_aligned (n ∷ ns) [] slots s es bound own len same al = absurd (omega (arith, len))
   params_aligned (n ∷ ns) (v ∷ vs) slots s es bound own len same al =
-      params_aligned ns vs slots (after_param s n) (param_entry s n ∷ es) (bind n.id (variable.Scalar v) bound) own (omega (arith, len))
+      params_aligned ns vs slots (after_param s n) (param_entry s n ∷ es) (bind n.name.id (variable.Scalar v) bound) own (omega (arith, len))
       (λ i lt. let e : s.slots + 1 + i ≡ s.slots + suc i = omega arith in ap (λ k. slot_at slots k) e ∙ same (suc i) (omega (arith, lt)))
       (refl, (s.slots, param_means s own, let z : s.slots ≡ s.slots + 0 = omega arith in ap (λ k. slot_at slots k) z ∙ same 0 (omega arith)), al)
 
@@ -188,19 +190,19 @@ module _ (code : Parts) (file : File) (falls : CallsFall file) (names : List Res
     pub last : ℕ
     pub body : HasStmts code (record { tells = told_at names; tasks = []; leaves = instr.Return }) f.body end end end u.start end
     pub off : Stands code (instr.Push (pos 0) ∷ instr.Return ∷ []) end last
-    pub args : u.args ≡ length (param_names f.params)
+    pub args : u.args ≡ length (param_list f.params)
     pub room : u.args ≤ u.slots
-    pub slots : (after_stmts (after_params s (param_names f.params)) f.body).slots ≤ u.slots
+    pub slots : (after_stmts (after_params s (param_list f.params)) f.body).slots ≤ u.slots
 
   pub function_runs : (f : tree.FunctionTree) (number : ℕ) (s : Scope) (u : CodeUnit) (callers : List Frame) (args : List ℤ) (p : ℕ) (stack : List ℤ) (m : Store) (turns : ℕ) →
       AreStmts f.body → 0 < s.depth → s.owner ≡ owner.OfFunction → s.captured ≡ [] → s.slots ≡ 0 → s.entries ≡ es →
-      ((m : Store) → Agree (function_context m) (stmts_notes (after_params s (param_names f.params)) f.body)) → IsFunctionCode f s u → unit_at code number ≡ Some u → length args ≡ length (param_names f.params) →
+      ((m : Store) → Agree (function_context m) (stmts_notes (after_params s (param_list f.params)) f.body)) → IsFunctionCode f s u → unit_at code number ≡ Some u → length args ≡ length (param_list f.params) →
       instr_at code p ≡ Some instr.Turn → instr_at code (p + 1) ≡ Some (instr.Call number) →
       Meets code (at callers p (onto args stack) m turns) (pushed callers (p + 1 + 1) stack m) (call_function file f args turns)
   unfolding act
   function_runs f number s u callers args p stack m zero is deep own caps none here agree h unit len at_turn at_call = halts (no_turn code callers p (onto args stack) m at_turn)
   function_runs f number s u callers args p stack m (suc turns) is deep own caps none here agree h unit len at_turn at_call =
-      let ns = param_names f.params in
+      let ns = param_list f.params in
       let c = function_context m in
       let s1 = after_params s ns in
       let m1 = with_slots m (frame_slots u args) in

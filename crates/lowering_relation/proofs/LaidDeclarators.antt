@@ -2,7 +2,7 @@
 use Rattle.std.proofs.Common.{◌≡◌, ℕ, ◌+◌, ◌≤◌, ◌&&◌, Bool, true, false, not, if◌then◌else◌, List, [], ◌∷◌, Option, Some, None, refl, subst, arith, pos}
 use Rattle.std.specs.Prelude.{⊤}
 use Rattle.os_ast.specs.Meanings.{meaning}
-use Rattle.os_ast.specs.Names.{Scope}
+use Rattle.os_ast.specs.Names.{Scope, typed}
 use Rattle.os_ast.specs.Notes.Declarators.{scalar_entity, sized_form, form_entity, size_of, is_window, sized_notes, size_notes, declared_entity, after_declarator, declarator_notes, declarators_notes, start_notes}
 use Rattle.os_ast.specs.Notes.Expressions.{expr_notes, value_notes}
 use Rattle.os_ast.specs.Trees as tree
@@ -85,5 +85,5 @@ module _ (h : Home) where
 
   pub start_lays : (t : tree.StartTree) (s : Scope) (from to : ℕ) → AllFit h (start_notes s t) → HasStart h.code (tells h) t from to → Lays h ⊤ from 0 to 0
   start_lays tree.StartTree.Empty s from to fit has = to_end h has (nothing h from 0)
-  start_lays (tree.StartTree.Declare ds) s from to fit has = declarators_lay ds s from to fit has
+  start_lays (tree.StartTree.Declare ty ds) s from to fit has = declarators_lay ds (typed ty s) from to fit has
   start_lays (tree.StartTree.Change c) s from to fit has = change_lays h s fit has

@@ -1,5 +1,6 @@
 -- The code of an expression leaves one operand more.
 use Rattle.std.proofs.Common.{◌≡◌, ℕ, suc, ◌+◌, ◌<◌, ◌≤◌, [], ◌∷◌, ◌++◌, Some, refl, subst, inl, arith, pos}
+use Rattle.std.specs.Int.{w32, cast_signed}
 use Rattle.std.specs.Prelude.{⊤}
 use Rattle.c_int.specs.declared.operators.Unary.TheVariants as int_unary
 use Rattle.cddf_meaning.specs.Operators.{operator_of_one}
@@ -124,6 +125,8 @@ module _ (h : Home) where
     pub expr_lays : (e : tree.ExprTree) (s : Scope) (from to x : ℕ) → AllFit h (expr_notes s e) → HasExpr h.code (tells h) e from to → Value from x to
     expr_lays (tree.Number n) s from to x fit has =
         (omega (arith, has.1), straight h (instr.Push (pos n) ∷ []) from to x (suc x) has ((refl, refl, refl, refl), omega arith, tt, omega arith))
+    expr_lays (tree.Wide n) s from to x fit has =
+        (omega (arith, has.1), straight h (instr.Push (cast_signed w32 n) ∷ []) from to x (suc x) has ((refl, refl, refl, refl), omega arith, tt, omega arith))
     expr_lays (tree.Place t) s from to x fit has = place_lays t s from to x fit has
     expr_lays (tree.ExprTree.Call f args) s from to x fit has =
         let before = args_lay args s from has.0 x fit.1 has.1 in

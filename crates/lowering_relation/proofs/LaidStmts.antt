@@ -3,7 +3,7 @@ use Rattle.std.proofs.Common.{◌≡◌, ℕ, ◌+◌, ◌<◌, ◌≤◌, List,
 use Rattle.std.proofs.lemmas.Bool.{cases_lt}
 use Rattle.std.specs.Prelude.{⊤, ◌⊎◌, IsTrue, length}
 use Rattle.os_ast.specs.Captured.{captured}
-use Rattle.os_ast.specs.Names.{Scope, enter, in_loop}
+use Rattle.os_ast.specs.Names.{Scope, enter, in_loop, typed}
 use Rattle.os_ast.specs.Notes.Clauses.{parts_notes}
 use Rattle.os_ast.specs.Notes.Declarators.{after_start, start_notes}
 use Rattle.os_ast.specs.Notes.Expressions.{expr_notes, place_notes, value_notes, step_notes}
@@ -181,7 +181,7 @@ module _ (h : Home) (left : IsLeft h) where
         HasStmt h.code h.body a broke continued next from to → Runs broke continued next from to
     stmt_lays tree.StmtTree.Empty s broke continued next from to fit spawned has = (λ e. has.1, to_end h has.0 (nothing h from 0))
     stmt_lays (tree.Block ss) s broke continued next from to fit spawned has = stmts_lay ss (enter s) broke continued next from to fit spawned has
-    stmt_lays (tree.StmtTree.Declare ds) s broke continued next from to fit spawned has = (λ e. has.1, free h (declarators_lay h ds s from to fit has.0))
+    stmt_lays (tree.StmtTree.Declare ty ds) s broke continued next from to fit spawned has = (λ e. has.1, free h (declarators_lay h ds (typed ty s) from to fit has.0))
     stmt_lays (tree.StmtTree.Change c) s broke continued next from to fit spawned has = (λ e. has.1, free h (change_lays h s fit has.0))
     stmt_lays (tree.StmtTree.Call f args) s broke continued next from to fit spawned has = (
       λ e. has.3,

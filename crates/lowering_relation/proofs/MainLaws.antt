@@ -12,12 +12,12 @@ use Rattle.cddf_meaning.specs.declared.site.Site.{Site}
 use Rattle.flow_core_laws.specs.declared.control.Control.{Control}
 use Rattle.flow_core_laws.proofs.Stretches.{slice_get-append_left}
 use Rattle.os_ast.specs.Names.{Scope, main_id, osin_id, osout_id, osin_len_id}
-use Rattle.os_ast.specs.Notes.Programs.{owner_of, param_names, round_body, after_params, after_item, in_body, items_notes}
+use Rattle.os_ast.specs.Notes.Programs.{owner_of, param_list, round_body, after_params, after_item, in_body, items_notes}
 use Rattle.os_ast.specs.Notes.Programs as programs
 use Rattle.os_ast.specs.Notes.Statements.{after_stmts, stmts_notes}
 use Rattle.os_ast.specs.Spelling.{spell}
 use Rattle.os_ast.specs.Trees as tree
-use Rattle.os_ast.specs.Violations.{violations_of, names, captures, captured_by_tasks, is_empty, has_main, no_main, violated, violations}
+use Rattle.os_ast.specs.Violations.{violations_of, names, captures, captured_by_tasks, is_int, is_empty, has_main, no_main, violated, violations}
 use Rattle.os_ast.specs.Notes.Programs.{program_notes}
 use Rattle.os_ast.specs.declared.names.Entity.TheVariants as entity
 use Rattle.os_ast.specs.declared.names.Entry.{Entry}
@@ -71,14 +71,14 @@ finds (tree.Function f ∷ is) file s h none =
     by_case : (t : Bool) → (f.name.id == main_id) ≡ t → (if t then Some (main_at file s f) else main_behind (with_item file (tree.Function f)) (after_item s (tree.Function f)) is) ≡ None →
         (has_main is ≡ true → main_behind (with_item file (tree.Function f)) (after_item s (tree.Function f)) is ≡ None → ⊥) → ⊥
     by_case true e k next = absurd (cc)
-    by_case false e k next = next (sym (ap (λ t. (t && is_empty (param_names f.params)) || has_main is) e) ∙ h) k
+    by_case false e k next = next (sym (ap (λ t. (t && is_int f.ty && is_empty (param_list f.params)) || has_main is) e) ∙ h) k
 
 -- what is round the body of `main`
 abbrev pub round_entries : Scope → List Entry
 round_entries s =
-    record { id = osin_len_id; depth = s.depth + 1; entity = entity.InputLength }
-    ∷ record { id = osout_id; depth = s.depth + 1; entity = entity.Stream 1 }
-    ∷ record { id = osin_id; depth = s.depth + 1; entity = entity.Stream 0 }
+    record { id = osin_len_id; depth = s.depth + 1; entity = entity.InputLength; unsigned = false }
+    ∷ record { id = osout_id; depth = s.depth + 1; entity = entity.Stream 1; unsigned = false }
+    ∷ record { id = osin_id; depth = s.depth + 1; entity = entity.Stream 0; unsigned = false }
     ∷ []
 
 module _ (p : tree.ProgramTree) (code : Parts) (input_len budget : ℕ) (stands : StandsFor code p) where
@@ -154,7 +154,7 @@ module _ (p : tree.ProgramTree) (code : Parts) (input_len budget : ℕ) (stands 
       m0 : Store
       m0 = record { slots = frame_slots has.unit (pos input_len ∷ []); windows = []; created = []; skips = replicate code.streams 0 }
 
-      bare : param_names f.params ≡ []
+      bare : param_list f.params ≡ []
       bare = at_main.bare [] (distinct-program p (lawful-program p stands.lawful)) (main_there p stands.lawful)
 
       own_owner : owner_of f.name.id ≡ owner.OfMain

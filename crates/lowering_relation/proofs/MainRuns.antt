@@ -16,7 +16,7 @@ use Rattle.cddf_meaning.specs.declared.variable.Variable.TheVariants as variable
 use Rattle.os_ast.specs.Leveled.{IsStmt, AreStmts}
 use Rattle.os_ast.specs.Limits.{is_size}
 use Rattle.os_ast.specs.Meanings.{meaning}
-use Rattle.os_ast.specs.Names.{Scope}
+use Rattle.os_ast.specs.Names.{Scope, typed}
 use Rattle.os_ast.specs.Notes.Declarators.{size_value, size_of, limited, form, form_with, taken, after_declarator, after_declarators, declarator_notes, declarators_notes}
 use Rattle.os_ast.specs.Notes.Kinds.{Note}
 use Rattle.os_ast.specs.Notes.Statements.{after_stmt, after_stmts, stmt_notes, stmts_notes}
@@ -28,6 +28,7 @@ use Rattle.os_ast.specs.declared.names.Entry.{Entry}
 use Rattle.os_ast.specs.declared.names.Resolved.{Resolved}
 use Rattle.os_ast.specs.declared.names.What.{What}
 use Rattle.os_ast.specs.declared.names.What.TheVariants as what
+use Rattle.os_ast.specs.declared.ty.Ty.{Ty}
 use Rattle.os_code.specs.declared.instr.Instr.TheVariants as instr
 use Rattle.os_code.specs.declared.parts.Parts.{Parts}
 use Rattle.os_code.specs.Parts.{instr_at}
@@ -37,9 +38,9 @@ use Rattle.lowering_relation.specs.Names.{told_at}
 use Rattle.lowering_relation.specs.Statements.{Body, HasStmts}
 use Rattle.lowering_relation.specs.Tasks.{TaskTree}
 use Rattle.lowering_relation.proofs.Alignment.{stacked_more}
-use Rattle.lowering_relation.proofs.Context.{InMain, resources, Kept, Context, means, tells, Agree}
+use Rattle.lowering_relation.proofs.Context.{InMain, resources, Kept, Context, means, tells, Agree, in_typed}
 use Rattle.lowering_relation.proofs.Declarators.{DeclaratorRuns, told, scalar_done}
-use Rattle.lowering_relation.proofs.Declares.{or_first, not_false, size_known, limit_kept, in_behind, stacked_behind, size_runs}
+use Rattle.lowering_relation.proofs.Declares.{or_first, not_false, size_known, size_small, limit_kept, in_behind, stacked_behind, size_runs}
 use Rattle.lowering_relation.proofs.Exprs.{Ready}
 use Rattle.lowering_relation.proofs.Files.{agrees}
 use Rattle.lowering_relation.proofs.Flows.{AlignedIn, exactly}
@@ -207,7 +208,7 @@ module _ (code : Parts) (file : File) (falls : CallsFall file) (names : List Res
       let size : array_size (pos k) ≡ k = ap (λ x. unwrap_or x 0) (limit_kept k known.within) in
       let says : told_at names n.mark.place ≡ what.Stream (2 + s.streams) (unwrap_or (size_of s i.value) 0) = told c [] instr.End total sites s d agree in
       let nothing : from ≡ to = subst (λ w. HasDeclared code (told_at names) w d from to) says h in
-      subst (λ a. MainEnds code (at [] from [] m turns) (flows next (given a st (λ x. goes_on (with_streams n.id (array_size x.value) st) x.turns)))) (sym (size_runs c i.value s es st m (pos k) turns o.ready known.is))
+      subst (λ a. MainEnds code (at [] from [] m turns) (flows next (given a st (λ x. goes_on (with_streams n.id (array_size x.value) st) x.turns)))) (sym (size_runs c i.value s es st m (pos k) k turns refl (size_small k known.within) o.ready known.is))
       (subst (λ j. MainEnds code (at [] from [] m turns) (next (with_streams n.id j st) turns)) (sym size)
       (stays_at from to m turns (next (with_streams n.id k st) turns) nothing
       (go (with_streams n.id k st) m turns (streams_behind s es st m d k o refl (ap (what.Stream (2 + s.streams)) count) (ap (λ j. s.streams + j) count) few))))
@@ -234,6 +235,19 @@ module _ (code : Parts) (file : File) (falls : CallsFall file) (names : List Res
       (declarator_ends d s es st m from h.0 turns (λ st1 t1. flows next (run_declarators u ds st1 t1)) o (omega (arith, fits2, on.slots)) (omega (arith, few, on.streams))
       (lawful-first (declarator_notes s d) (declarators_notes s1 ds) lawful) (tells-first names (declarator_notes s d) (declarators_notes s1 ds) tells) h.1
       (λ st1 m1 t1 o1. declarators_end ds s1 (entry s d ∷ es) st1 m1 h.0 to mid t1 next o1 fits2 few (lawful-rest (declarator_notes s d) (declarators_notes s1 ds) lawful) (tells-rest names (declarator_notes s d) (declarators_notes s1 ds) tells) h.2 there go))
+
+  -- a declaration of a type begins
+  outer_typed : (ty : Ty) (s : Scope) (es : List Entry) (st : State) (m : Store) → Outer s es st m → Outer (typed ty s) es st m
+  outer_typed ty s es st m o = record {
+    streams = o.streams;
+    later = o.later;
+    ready = record { scope = in_typed (context o.streams o.later) ty s es o.ready.scope; aligned = o.ready.aligned; kept = o.ready.kept };
+    depth = o.depth;
+    counted = o.counted;
+    all = o.all;
+    stacked = o.stacked;
+    long = o.long;
+  }
 
   -- behind a statement that declares nothing
   stmt_behind : {a : tree.StmtTree} (is : IsStmt a) (s : Scope) (es : List Entry) (st st1 : State) (m m1 : Store) (o : Outer s es st m) → AreLawful (stmt_notes s a) → length m1.slots ≡ total → Kept (InMain o.streams o.later) st1 m1 →
@@ -271,10 +285,12 @@ module _ (code : Parts) (file : File) (falls : CallsFall file) (names : List Res
   pub stmts_end : {ss : tree.Stmts} → AreStmts ss → StmtsEnd ss
   stmts_end AreStmts.no_stmts s es st m from to turns o fits2 few lawful tells own h =
       stays_at from end m turns (goes_on st turns) (h.0 ∙ sym h.1) (at_end GoesOn st m end [] turns turns stays at_the_end o.ready.kept.0)
-  stmts_end (AreStmts.declare {ds = ds} {ss = ss} _ rest) s es st m from to turns o fits2 few lawful tells own h =
+  stmts_end (AreStmts.declare {t = ty} {ds = ds} {ss = ss} _ rest) s0 es st m from to turns before fits2 few lawful tells own h =
+      let s = typed ty s0 in
+      let o = outer_typed ty s0 es st m before in
       let s1 = after_declarators s ds in
       let on = stmts_onward ss s1 in
-      let p = has_rest code b (tree.StmtTree.Declare ds) ss end end end from to h in
+      let p = has_rest code b (tree.StmtTree.Declare ty ds) ss end end end from to h in
       declarators_end ds s es st m from p.1 p.0 turns (run_all u ss) o (omega (arith, fits2, on.slots)) (omega (arith, few, on.streams))
       (lawful-first (declarators_notes s ds) (stmts_notes s1 ss) lawful) (tells-first names (declarators_notes s ds) (stmts_notes s1 ss) tells) p.2.0 p.2.1
       (λ st1 m1 t1 o1. rest_ends ss s1 (made s ds es) st1 m1 p.0 p.1 to t1 o1 p.3

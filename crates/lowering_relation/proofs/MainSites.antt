@@ -8,7 +8,7 @@ use Rattle.cddf_meaning.specs.declared.site.Site.{Site as MeaningSite}
 use Rattle.flow_core_laws.proofs.Stretches.{slice_get-append_left, slice_get-append_right}
 use Rattle.os_ast.specs.Captured.{Scalar, captured, slots_of}
 use Rattle.os_ast.specs.Leveled.{IsStmt, AreStmts}
-use Rattle.os_ast.specs.Names.{Scope, enter, in_loop}
+use Rattle.os_ast.specs.Names.{Scope, enter, in_loop, typed}
 use Rattle.os_ast.specs.Notes.Clauses.{in_task, captured_in, in_task_body, parts_notes, clauses_notes}
 use Rattle.os_ast.specs.Notes.Declarators.{after_declarators, declarators_notes, after_start, start_notes}
 use Rattle.os_ast.specs.Notes.Expressions.{expr_notes, value_notes, step_notes}
@@ -29,7 +29,7 @@ use Rattle.lowering_relation.proofs.NoTasks.{captures_both, none_both, none_expr
 use Rattle.lowering_relation.proofs.Owning.{OfTask, Owns, OwnsAll}
 use Rattle.lowering_relation.proofs.Spawns.{IsSite}
 use Rattle.lowering_relation.proofs.TaskMarks.{Rises, got, position_is, rises_mapped, rises_unmapped}
-use Rattle.lowering_relation.proofs.TaskTexts.{InMain, Match, declarators_main, start_main, stmt_main, same_main, match_stmt, strip}
+use Rattle.lowering_relation.proofs.TaskTexts.{InMain, Match, declarators_main, start_main, stmt_main, same_main, match_stmt, strip, typed_main}
 use Rattle.window_check_laws.specs.Told.{Tells, AreLawful}
 use Rattle.window_check_laws.proofs.Told.{tells-first, tells-rest, lawful-first, lawful-rest}
 
@@ -117,7 +117,9 @@ module _ (rs : List Resolved) (file : List Entry) (tasks : List MeaningTask) (sl
     pub owns_stmts : {ss : tree.Stmts} → AreStmts ss → (s : Scope) (k : ℕ) → InMain file s → AreLawful (stmts_notes s ss) → Tells rs (stmts_notes s ss) → Stretch tasks k (tasks_in_all s ss) → Stretch slots k (captures (stmts_notes s ss)) →
         OwnsAll IsNumbered s ss
     owns_stmts AreStmts.no_stmts s k h lawful tells x y = tt
-    owns_stmts (AreStmts.declare {ds = ds} {ss = ss} _ rest) s k h lawful tells x y =
+    owns_stmts (AreStmts.declare {t = ty} {ds = ds} {ss = ss} _ rest) s0 k known lawful tells x y =
+        let s = typed ty s0 in
+        let h = typed_main rs file ty s0 known in
         let first = declarators_notes s ds in
         let s1 = after_declarators s ds in
         let last = stmts_notes s1 ss in
@@ -140,7 +142,7 @@ mutual
   pub owns_more : {known other : OfTask} (a : tree.StmtTree) (s : Scope) → ((s : Scope) (m : Mark) (cs : List tree.ClauseTree) (b : tree.StmtTree) → known s m cs b → other s m cs b) → Owns known s a → Owns other s a
   owns_more tree.StmtTree.Empty s f h = tt
   owns_more (tree.Block ss) s f h = all_own_more ss (enter s) f h
-  owns_more (tree.StmtTree.Declare ds) s f h = tt
+  owns_more (tree.StmtTree.Declare ty ds) s f h = tt
   owns_more (tree.StmtTree.Change c) s f h = tt
   owns_more (tree.StmtTree.Call g args) s f h = tt
   owns_more (tree.If c a) s f h = owns_more a s f h

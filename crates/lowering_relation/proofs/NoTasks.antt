@@ -1,7 +1,7 @@
 -- Parts of a program in which no task of `main` stands.
 use Rattle.std.proofs.Common.{◌≡◌, ℕ, suc, ◌&&◌, Bool, true, false, not, if◌then◌else◌, List, [], ◌∷◌, ◌++◌, Option, Some, None, refl, sym, ap, ◌∙◌, append_assoc}
 use Rattle.os_ast.specs.Captured.{captured, slots_of}
-use Rattle.os_ast.specs.Names.{Scope, enter, in_loop}
+use Rattle.os_ast.specs.Names.{Scope, enter, in_loop, typed}
 use Rattle.os_ast.specs.Notes.Clauses.{with_items, in_task, captured_in, in_task_body, window_notes, parts_notes, clauses_notes}
 use Rattle.os_ast.specs.Notes.Declarators.{is_window, after_declarator, declarator_notes, declarators_notes, size_notes, sized_notes, after_start, start_notes}
 use Rattle.os_ast.specs.Notes.Expressions.{expr_notes, place_notes, args_notes, links_notes, value_notes, index_notes, change_notes, step_notes}
@@ -27,6 +27,7 @@ none_both xs ys a b = captures_both xs ys ∙ ap (λ cs. cs ++ captures ys) a �
 mutual
   pub none_expr : (e : tree.ExprTree) (s : Scope) → captures (expr_notes s e) ≡ []
   none_expr (tree.Number n) s = refl
+  none_expr (tree.Wide n) s = refl
   none_expr (tree.Place t) s = none_place t s role.Value
   none_expr (tree.ExprTree.Call f args) s = none_args args s
   none_expr (tree.Paren e) s = none_expr e s
@@ -78,6 +79,7 @@ none_parts (Item d i ∷ ps) s before =
 
 none_size : (s : Scope) (e : tree.ExprTree) → captures (size_notes s e) ≡ []
 none_size s (tree.Number n) = refl
+none_size s (tree.Wide n) = refl
 none_size s (tree.Place (tree.Variable n)) = refl
 none_size s (tree.Place (tree.Element n m e)) = refl
 none_size s (tree.ExprTree.Call f args) = refl
@@ -103,7 +105,7 @@ none_declarators (d ∷ ds) s =
 
 pub none_start : (t : tree.StartTree) (s : Scope) → captures (start_notes s t) ≡ []
 none_start tree.StartTree.Empty s = refl
-none_start (tree.StartTree.Declare ds) s = none_declarators ds s
+none_start (tree.StartTree.Declare ty ds) s = none_declarators ds (typed ty s)
 none_start (tree.StartTree.Change c) s = none_change c s
 
 pub items_owner : (ps : List Part) (s inner : Scope) (item : ℕ) → (with_items s inner item ps).owner ≡ inner.owner
@@ -126,7 +128,7 @@ mutual
   pub none_stmt : (a : tree.StmtTree) (s : Scope) → IsOther s.owner → captures (stmt_notes s a) ≡ []
   none_stmt tree.StmtTree.Empty s own = refl
   none_stmt (tree.Block ss) s own = none_stmts ss (enter s) own
-  none_stmt (tree.StmtTree.Declare ds) s own = none_declarators ds s
+  none_stmt (tree.StmtTree.Declare ty ds) s own = none_declarators ds (typed ty s)
   none_stmt (tree.StmtTree.Change c) s own = none_change c s
   none_stmt (tree.StmtTree.Call f args) s own = none_args args s
   none_stmt (tree.If c a) s own = none_both (expr_notes s c) (stmt_notes s a) (none_expr c s) (none_stmt a s own)

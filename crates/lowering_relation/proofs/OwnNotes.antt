@@ -1,6 +1,6 @@
 -- What stands in a statement without the bodies of its tasks.
 use Rattle.std.proofs.Common.{List, [], ◌∷◌, ◌++◌}
-use Rattle.os_ast.specs.Names.{Scope, enter, in_loop}
+use Rattle.os_ast.specs.Names.{Scope, enter, in_loop, typed}
 use Rattle.os_ast.specs.Notes.Clauses.{clauses_notes}
 use Rattle.os_ast.specs.Notes.Declarators.{declarators_notes, after_start, start_notes}
 use Rattle.os_ast.specs.Notes.Expressions.{count_args, expr_notes, args_notes, place_notes, value_notes, change_notes, step_notes}
@@ -16,7 +16,7 @@ abbrev mutual
   pub own_notes : Scope → tree.StmtTree → List Note
   own_notes s tree.StmtTree.Empty = []
   own_notes s (tree.Block ss) = all_own_notes (enter s) ss
-  own_notes s (tree.StmtTree.Declare ds) = declarators_notes s ds
+  own_notes s (tree.StmtTree.Declare ty ds) = declarators_notes (typed ty s) ds
   own_notes s (tree.StmtTree.Change c) = change_notes s c
   own_notes s (tree.StmtTree.Call f args) = Used s f (usage.Called (count_args args)) ∷ args_notes s args
   own_notes s (tree.If c a) = expr_notes s c ++ own_notes s a

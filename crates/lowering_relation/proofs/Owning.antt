@@ -20,7 +20,7 @@ abbrev mutual
   Owns known s (tree.For start test step a) = Owns known (in_loop (after_start (enter s) start)) a
   Owns known s (tree.Task m cs a) = known s m cs a
   Owns known s tree.StmtTree.Empty = ⊤
-  Owns known s (tree.StmtTree.Declare ds) = ⊤
+  Owns known s (tree.StmtTree.Declare ty ds) = ⊤
   Owns known s (tree.StmtTree.Change c) = ⊤
   Owns known s (tree.StmtTree.Call f args) = ⊤
   Owns known s (tree.Break m) = ⊤
@@ -41,7 +41,7 @@ mutual
   pub owns_nothing : (a : tree.StmtTree) (s : Scope) → Owns nothing s a
   owns_nothing tree.StmtTree.Empty s = tt
   owns_nothing (tree.Block ss) s = all_own_nothing ss (enter s)
-  owns_nothing (tree.StmtTree.Declare ds) s = tt
+  owns_nothing (tree.StmtTree.Declare ty ds) s = tt
   owns_nothing (tree.StmtTree.Change c) s = tt
   owns_nothing (tree.StmtTree.Call f args) s = tt
   owns_nothing (tree.If c a) s = owns_nothing a s

@@ -5,12 +5,12 @@ use Rattle.std.specs.Option.{option_map_or}
 use Rattle.os_ast.specs.Leveled.{AreAll, cons, IsItem, AreStmts}
 use Rattle.os_ast.specs.Names.{Scope, main_id, enter, in_unit}
 use Rattle.os_ast.specs.Notes.Kinds.{Note, Global}
-use Rattle.os_ast.specs.Notes.Programs.{owner_of, param_names, params_notes, after_item, after_items, item_notes, items_notes, in_body, round_body}
+use Rattle.os_ast.specs.Notes.Programs.{owner_of, param_list, params_notes, after_item, after_items, item_notes, items_notes, in_body, round_body}
 use Rattle.os_ast.specs.Notes.Programs as programs
 use Rattle.os_ast.specs.Notes.Statements.{after_stmts, stmts_notes}
 use Rattle.os_ast.specs.Parts.{is_in}
 use Rattle.os_ast.specs.Trees as tree
-use Rattle.os_ast.specs.Violations.{captures, is_empty, has_main}
+use Rattle.os_ast.specs.Violations.{captures, is_int, is_empty, has_main}
 use Rattle.os_ast.specs.declared.names.Owner.TheVariants as owner
 use Rattle.os_ast.specs.declared.names.Resolved.{Resolved}
 use Rattle.os_code.specs.Parts.{Function, kind_at, unit_at}
@@ -55,19 +55,19 @@ not_again (tree.Function f ∷ is) ids h apart (suc j) g is_there named =
 
 -- `main` has no parameters
 pub mains_bare : (is : List tree.ItemTree) (ids : List ℕ) → AreApart ids is → has_main is ≡ true → (j : ℕ) (g : tree.FunctionTree) →
-    slice_get (functions_of is) j ≡ Some g → (g.name.id == main_id) ≡ true → param_names g.params ≡ []
+    slice_get (functions_of is) j ≡ Some g → (g.name.id == main_id) ≡ true → param_list g.params ≡ []
 mains_bare [] ids apart h j g there named = absurd (cc)
 mains_bare (tree.Constant c ∷ is) ids apart h j g there named = mains_bare is (c.name.id ∷ ids) apart.1 h j g there named
 mains_bare (tree.Function f ∷ is) ids apart h zero g there named =
     let same : f ≡ g = cc in
     let here : (f.name.id == main_id) ≡ true = ap (λ (x : tree.FunctionTree). x.name.id == main_id) same ∙ named in
-    ap (λ (x : tree.FunctionTree). param_names x.params) (sym same) ∙ bare_main f is ids here apart h
+    ap (λ (x : tree.FunctionTree). param_list x.params) (sym same) ∙ bare_main f is ids here apart h
 mains_bare (tree.Function f ∷ is) ids apart h (suc j) g there named =
     by_case (f.name.id == main_id) refl (λ k. mains_bare is (f.name.id ∷ ids) apart.1 k j g there named)
   where
-    by_case : (t : Bool) → (f.name.id == main_id) ≡ t → (has_main is ≡ true → param_names g.params ≡ []) → param_names g.params ≡ []
+    by_case : (t : Bool) → (f.name.id == main_id) ≡ t → (has_main is ≡ true → param_list g.params ≡ []) → param_list g.params ≡ []
     by_case true e next = absurd (not_again is (f.name.id ∷ ids) (or_left (f.name.id == main_id) (is_in main_id ids) e) apart.1 j g there named)
-    by_case false e next = next (sym (ap (λ b. (b && is_empty (param_names f.params)) || has_main is) e) ∙ h)
+    by_case false e next = next (sym (ap (λ b. (b && is_int f.ty && is_empty (param_list f.params)) || has_main is) e) ∙ h)
 
 -- the tasks of a program are those of `main`
 pub mains_tasks : (is : List tree.ItemTree) (ids : List ℕ) → AreApart ids is → (j : ℕ) (g : tree.FunctionTree) → slice_get (functions_of is) j ≡ Some g →
@@ -106,7 +106,7 @@ module _ (code : Parts) (rs : List Resolved) (tasks : List TaskTree) where
           MainNumber first (tree.Function f ∷ is)
       by_case true e unit next = record { place = 0; function = f; is_there = refl; named = e; is_main = omega (arith, unit.is_main) }
       by_case false e unit next =
-          let m = next (sym (ap (λ b. (b && is_empty (param_names f.params)) || has_main is) e) ∙ h) in
+          let m = next (sym (ap (λ b. (b && is_int f.ty && is_empty (param_list f.params)) || has_main is) e) ∙ h) in
           record { place = suc m.place; function = m.function; is_there = m.is_there; named = m.named; is_main = omega (arith, m.is_main) }
 
   -- a function, with what the file declares before it
@@ -121,7 +121,7 @@ module _ (code : Parts) (rs : List Resolved) (tasks : List TaskTree) where
     pub few : (after_stmts (in_body scope g) g.body).streams ≤ streams
 
   abbrev front : Scope → tree.FunctionTree → List Note
-  front s f = Global s f.name ∷ params_notes (programs.in_function s f.name.id) (param_names f.params)
+  front s f = Global s f.name ∷ params_notes (programs.in_function s f.name.id) (param_list f.params)
 
   abbrev here : (f : tree.FunctionTree) (is : List tree.ItemTree) (s : Scope) (number : ℕ) → AreStmts f.body → AllFileMay code number s.entries →
       AllOfFile s.entries → AreLawful (items_notes s (tree.Function f ∷ is)) →
@@ -140,7 +140,7 @@ module _ (code : Parts) (rs : List Resolved) (tasks : List TaskTree) where
   -- a function in the scope behind it
   declared : (t : Bool) (f : tree.FunctionTree) (number : ℕ) → (f.name.id == main_id) ≡ t → HasUnit t code (told_at rs) tasks number f →
       ((f.name.id == main_id) ≡ false → kind_at code number ≡ Function) →
-      (f.name.id == main_id) ≡ false → (option_map_or (λ (unit : CodeUnit). unit.args) (unit_at code number) 0 ≡ length (param_names f.params)) × (number < suc number) × (kind_at code number ≡ Function)
+      (f.name.id == main_id) ≡ false → (option_map_or (λ (unit : CodeUnit). unit.args) (unit_at code number) 0 ≡ length (param_list f.params)) × (number < suc number) × (kind_at code number ≡ Function)
   declared true f number e has kind other = let bad : true ≡ false = sym e ∙ other in absurd (cc)
   declared false f number e has kind other =
       (ap (λ o. option_map_or (λ (unit : CodeUnit). unit.args) o 0) has.is_unit ∙ has.args, omega arith, kind other)
@@ -151,7 +151,7 @@ module _ (code : Parts) (rs : List Resolved) (tasks : List TaskTree) where
   next_may f s number count may has kind =
       let inner = after_stmts (in_body s f) f.body in
       let same : inner.functions ≡ number = omega (arith, functions_behind s f, count) in (
-        subst (λ n. (f.name.id == main_id) ≡ false → (option_map_or (λ (unit : CodeUnit). unit.args) (unit_at code n) 0 ≡ length (param_names f.params)) × (n < suc number) × (kind_at code n ≡ Function)) (sym same)
+        subst (λ n. (f.name.id == main_id) ≡ false → (option_map_or (λ (unit : CodeUnit). unit.args) (unit_at code n) 0 ≡ length (param_list f.params)) × (n < suc number) × (kind_at code n ≡ Function)) (sym same)
             (declared (f.name.id == main_id) f number refl has kind),
         all_later code number (suc number) s.entries (omega arith) may,
       )
@@ -197,13 +197,13 @@ module _ (code : Parts) (rs : List Resolved) (tasks : List TaskTree) where
   not_main : (s : Scope) (f : tree.FunctionTree) → (f.name.id == main_id) ≡ false → IsOther (in_body s f).owner
   not_main s f other e =
       let own : owner_of f.name.id ≡ owner.OfFunction = ap (λ t. if t then owner.OfMain else owner.OfFunction) other in
-      let x : (in_body s f).owner ≡ owner.OfFunction = params_owner (param_names f.params) (programs.in_function s f.name.id) ∙ ap (λ o. (enter (round_body o (enter (in_unit o s)))).owner) own in
+      let x : (in_body s f).owner ≡ owner.OfFunction = params_owner (param_list f.params) (programs.in_function s f.name.id) ∙ ap (λ o. (enter (round_body o (enter (in_unit o s)))).owner) own in
       let y : owner.OfFunction ≡ owner.OfMain = sym x ∙ e in
       absurd (cc)
 
   no_captures : (s : Scope) (f : tree.FunctionTree) → (f.name.id == main_id) ≡ false → captures (item_notes s (tree.Function f)) ≡ []
   no_captures s f other =
-      none_both (front s f) (stmts_notes (in_body s f) f.body) (none_front (programs.in_function s f.name.id) (param_names f.params))
+      none_both (front s f) (stmts_notes (in_body s f) f.body) (none_front (programs.in_function s f.name.id) (param_list f.params))
       (none_stmts f.body (in_body s f) (not_main s f other))
 
   pub main_place : (is : List tree.ItemTree) (s : Scope) (number : ℕ) → AreAll IsItem is → AllFileMay code number s.entries → AllOfFile s.entries →
@@ -225,7 +225,7 @@ module _ (code : Parts) (rs : List Resolved) (tasks : List TaskTree) where
       main_place is (after_item s i) (suc number) leveled (next_may f s number count may has.0 (λ o. ap (kind_at code) (sym first) ∙ kinds 0 f refl o)) (tt, all) (omega (arith, functions_behind s f, count))
       (lawful-rest (item_notes s i) rest lawful) (tells-rest rs (item_notes s i) rest tells) has.1
       (λ k x at_k o. let e : suc number + k ≡ number + suc k = omega arith in ap (kind_at code) e ∙ kinds (suc k) x at_k o)
-      (sym (ap (λ b. (b && is_empty (param_names f.params)) || has_main is) other) ∙ some))
+      (sym (ap (λ b. (b && is_int f.ty && is_empty (param_list f.params)) || has_main is) other) ∙ some))
     where
       i : tree.ItemTree
       i = tree.Function f
@@ -246,7 +246,7 @@ module _ (code : Parts) (rs : List Resolved) (tasks : List TaskTree) where
         rest = captures rest;
         own_captures =
             captures_both (item_notes s i) rest
-            ∙ ap (λ cs. cs ++ captures rest) (captures_both (front s f) (stmts_notes (in_body s f) f.body) ∙ ap (λ cs. cs ++ captures (stmts_notes (in_body s f) f.body)) (none_front (programs.in_function s f.name.id) (param_names f.params)));
+            ∙ ap (λ cs. cs ++ captures rest) (captures_both (front s f) (stmts_notes (in_body s f) f.body) ∙ ap (λ cs. cs ++ captures (stmts_notes (in_body s f) f.body)) (none_front (programs.in_function s f.name.id) (param_list f.params)));
       }
       by_case false e next =
           let m = next e in

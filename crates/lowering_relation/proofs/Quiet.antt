@@ -1,5 +1,6 @@
 -- A quiet expression gives a number, and takes no turns.
 use Rattle.std.proofs.Common.{◌≡◌, ℕ, ◌&&◌, Bool, true, false, if◌then◌else◌, Ok, ℤ, pos, refl, ap, ◌∙◌}
+use Rattle.std.specs.Int.{w32, cast_signed}
 use Rattle.c_int.specs.Operators.{is_zero}
 use Rattle.cddf_meaning.specs.Answers.{Answer, and_then, Left, left, with_turns}
 use Rattle.cddf_meaning.specs.File.{File, variable}
@@ -63,6 +64,7 @@ linked_gives binary.Remainder line turns v right h g = absurd (cc)
 mutual
   pub quiet_gives : (file : File) (e : tree.ExprTree) (s : State) (turns : ℕ) → is_quiet e ≡ true → Gives turns (value file e s turns)
   quiet_gives file (tree.Number n) s turns h = (pos n, refl)
+  quiet_gives file (tree.Wide n) s turns h = (cast_signed w32 n, refl)
   quiet_gives file (tree.Place (tree.Variable n)) s turns h = (scalar_value s (variable file s n.id), refl)
   quiet_gives file (tree.Place (tree.Element n m e)) s turns h = absurd (cc)
   quiet_gives file (tree.ExprTree.Call f args) s turns h = absurd (cc)

@@ -17,7 +17,7 @@ use Rattle.cddf_meaning.specs.declared.variable.Variable.{Variable}
 use Rattle.cddf_meaning.specs.declared.variable.Variable.TheVariants.{Constant, Function, Scalar, Array, Window, Stream, Item}
 use Rattle.os_ast.specs.FreeNames.{expr_names, target_names}
 use Rattle.os_ast.specs.Limits.{is_size}
-use Rattle.os_ast.specs.Names.{Scope}
+use Rattle.os_ast.specs.Names.{Scope, typed}
 use Rattle.os_ast.specs.Notes.Declarators.{form, sized_form, size_of, size_value, after_declarator, declarator_notes, declarators_notes, sized_notes, size_notes, is_window, start_notes}
 use Rattle.os_ast.specs.Notes.Expressions.{expr_notes, place_notes, value_notes, change_notes}
 use Rattle.os_ast.specs.Parts.{is_in, target_name}
@@ -30,7 +30,7 @@ use Rattle.os_ast.specs.declared.names.Owner.{Owner}
 use Rattle.os_ast.specs.declared.names.Owner.TheVariants as owner
 use Rattle.os_ast.specs.declared.names.Role.TheVariants as role
 use Rattle.lowering_relation.specs.FoundNames.{AreElse, with_more}
-use Rattle.lowering_relation.proofs.Context.{Context, Agree, agree_first, agree_rest, In}
+use Rattle.lowering_relation.proofs.Context.{Context, Agree, agree_first, agree_rest, In, in_typed}
 use Rattle.lowering_relation.proofs.Declarators.{around_of}
 use Rattle.lowering_relation.proofs.Declares.{or_first, not_false, size_known, in_behind}
 use Rattle.lowering_relation.proofs.Elsewhere.{same_then, scalar_same, elements_same}
@@ -252,5 +252,5 @@ module _ (c : Context) (more : List Binding) (apart : AreElse c.file more) (site
   pub start_same : (t : tree.StartTree) (s : Scope) (es : List Entry) (st : State) (turns : ℕ) (within : List Entry → Type 0) → In c s es → Matches c st.bound es → Agree c (start_notes s t) →
       Same (made_first s t es) within (run_start (around_of c sites) t st turns) (run_start (around_of c sites) t (with_more more st) turns)
   start_same tree.StartTree.Empty s es st turns within is same agree = went st turns same
-  start_same (tree.StartTree.Declare ds) s es st turns within is same agree = declarators_same ds s es st turns within is same agree
+  start_same (tree.StartTree.Declare ty ds) s es st turns within is same agree = declarators_same ds (typed ty s) es st turns within (in_typed c ty s es is) same agree
   start_same (tree.StartTree.Change x) s es st turns within is same agree = change_same s es is x st turns within same agree

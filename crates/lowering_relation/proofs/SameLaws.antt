@@ -18,7 +18,7 @@ use Rattle.os_ast.specs.Captured as captures
 use Rattle.os_ast.specs.Captured.{captured}
 use Rattle.os_ast.specs.Leveled.{AreAll, IsItem}
 use Rattle.os_ast.specs.Names.{Scope, entity_of}
-use Rattle.os_ast.specs.Notes.Programs.{owner_of, param_names, after_param, after_params, after_items, in_body, items_notes}
+use Rattle.os_ast.specs.Notes.Programs.{owner_of, param_list, after_param, after_params, after_items, in_body, items_notes}
 use Rattle.os_ast.specs.Notes.Programs as programs
 use Rattle.os_ast.specs.Notes.Statements.{stmts_notes}
 use Rattle.os_ast.specs.Parts.{Part, Item as ItemPart, Private, parts, item_name}
@@ -28,6 +28,7 @@ use Rattle.os_ast.specs.Violations as text
 use Rattle.os_ast.specs.declared.expr.Name.{Name}
 use Rattle.os_ast.specs.declared.names.Entry.{Entry}
 use Rattle.os_ast.specs.declared.names.Owner.TheVariants as owner
+use Rattle.os_ast.specs.declared.program.Param.{Param}
 use Rattle.lowering_relation.specs.FoundNames.{IsLawful, AreElse, with_more, MainFindsItsNames, TasksFindTheirNames, FunctionsFindTheirNames}
 use Rattle.lowering_relation.specs.Tasks.{program_tasks}
 use Rattle.lowering_relation.proofs.Context.{Context, In}
@@ -78,10 +79,10 @@ module _ (c : Context) (more : List Binding) (within : List Entry → Type 0) (a
   same_result (ended e activations) = refl
 
 -- what is in scope where a body begins
-params_ids : (ns : List Name) (vs : List ℤ) (s : Scope) (bound : List Binding) (es : List Entry) → ids bound ≡ entry_ids es → ids (bind_params ns vs bound) ≡ entry_ids (made_params s ns es)
+params_ids : (ns : List Param) (vs : List ℤ) (s : Scope) (bound : List Binding) (es : List Entry) → ids bound ≡ entry_ids es → ids (bind_params ns vs bound) ≡ entry_ids (made_params s ns es)
 params_ids [] vs s bound es h = h
-params_ids (n ∷ ns) [] s bound es h = params_ids ns [] (after_param s n) (bind n.id (Scalar (pos 0)) bound) (param_entry s n ∷ es) (ap (λ xs. n.id ∷ xs) h)
-params_ids (n ∷ ns) (v ∷ vs) s bound es h = params_ids ns vs (after_param s n) (bind n.id (Scalar v) bound) (param_entry s n ∷ es) (ap (λ xs. n.id ∷ xs) h)
+params_ids (n ∷ ns) [] s bound es h = params_ids ns [] (after_param s n) (bind n.name.id (Scalar (pos 0)) bound) (param_entry s n ∷ es) (ap (λ xs. n.name.id ∷ xs) h)
+params_ids (n ∷ ns) (v ∷ vs) s bound es h = params_ids ns vs (after_param s n) (bind n.name.id (Scalar v) bound) (param_entry s n ∷ es) (ap (λ xs. n.name.id ∷ xs) h)
 
 captured_ids : (es : List Entry) (cs : List captures.Scalar) (vs : List ℤ) (bound : List Binding) (xs : List Entry) → ids bound ≡ entry_ids xs → ids (bind_captured (map (λ (x : captures.Scalar). x.id) cs) vs bound) ≡ entry_ids (made_captured es cs xs)
 captured_ids es [] vs bound xs h = h
@@ -117,8 +118,8 @@ functions_find items rest f more args turns program other apart =
     c : Context
     c = function_context no_code file at.falls (names p) order s.entries at.fits (record { slots = []; windows = []; created = []; skips = [] })
 
-    ns : List Name
-    ns = param_names f.params
+    ns : List Param
+    ns = param_list f.params
 
     s0 : Scope
     s0 = programs.in_function s f.name.id

@@ -139,6 +139,7 @@ module _ (c : Context) where
     mutual
       pub seen_expr : (e : tree.ExprTree) → Agree c (expr_notes s e) → AllSeen c.file bound (expr_names e)
       seen_expr (tree.Number n) agree = no_names c.file bound
+      seen_expr (tree.Wide n) agree = no_names c.file bound
       seen_expr (tree.Place t) agree = seen_place role.Value tt t agree
       seen_expr (tree.ExprTree.Call f args) agree =
           one_more c.file bound f.id (args_names args) (seen_used f (usage.Called (count_args args)) (args_notes s args) tt agree) (seen_args args agree.1)
@@ -175,6 +176,7 @@ module _ (c : Context) where
     -- the name of a constant, where it is a size
     pub seen_size : (e : tree.ExprTree) (v : ℤ) → size_value s e ≡ Some v → AllSeen c.file bound (expr_names e)
     seen_size (tree.Number n) v h = no_names c.file bound
+    seen_size (tree.Wide n) v h = no_names c.file bound
     seen_size (tree.Place (tree.Variable n)) v h =
         let there = constant_known (entity_of (lookup s.entries n.id)) v h in
         one_more c.file bound n.id [] (seen_by s es bound n.id (entity.Constant v) is same there (λ e. c.constants n.id v (ap entity_of (sym e) ∙ there))) (no_names c.file bound)

@@ -9,11 +9,12 @@ use Rattle.cddf_meaning.proofs.Files.{item-falls}
 use Rattle.os_ast.specs.Leveled.{AreAll, cons, IsItem, AreStmts}
 use Rattle.os_ast.specs.Names.{Scope, main_id, constant_value}
 use Rattle.os_ast.specs.Notes.Kinds.{Note, Global}
-use Rattle.os_ast.specs.Notes.Programs.{param_names, params_notes, after_item, after_items, item_notes, items_notes, in_body}
+use Rattle.os_ast.specs.Notes.Programs.{param_list, params_notes, after_item, after_items, item_notes, items_notes, in_body}
 use Rattle.os_ast.specs.Notes.Programs as programs
 use Rattle.os_ast.specs.Notes.Statements.{after_stmts, stmts_notes}
 use Rattle.os_ast.specs.Trees as tree
-use Rattle.os_ast.specs.Violations.{is_empty, has_main}
+use Rattle.os_ast.specs.Types.{is_unsigned}
+use Rattle.os_ast.specs.Violations.{is_int, is_empty, has_main}
 use Rattle.os_ast.specs.declared.names.Entity.TheVariants as entity
 use Rattle.os_ast.specs.declared.names.Resolved.{Resolved}
 use Rattle.os_code.specs.declared.parts.Parts.{Parts}
@@ -46,7 +47,7 @@ pub placed : (rs : List Resolved) → InOrder rs → (items rest : List tree.Ite
     FileFits no_code file s.entries → AllOfFile s.entries → AreLawful (items_notes s (items ++ tree.Function f ∷ rest)) → Tells rs (items_notes s (items ++ tree.Function f ∷ rest)) →
     IsPlaced rs (with_items file items) (after_items s items) f
 placed rs ordered [] rest f file s (cons (IsItem.function _ body) _) falls fits all lawful tells =
-    let front : List Note = Global s f.name ∷ params_notes (programs.in_function s f.name.id) (param_names f.params) in
+    let front : List Note = Global s f.name ∷ params_notes (programs.in_function s f.name.id) (param_list f.params) in
     let own = stmts_notes (in_body s f) f.body in
     let behind = items_notes (after_item s (tree.Function f)) rest in
     record {
@@ -61,15 +62,15 @@ placed rs ordered (tree.Constant x ∷ items) rest f file s (cons _ leveled) fal
     let i = tree.Constant x in
     let behind = items_notes (after_item s i) (items ++ tree.Function f ∷ rest) in
     placed rs ordered items rest f (with_item file i) (after_item s i) leveled (item-falls file falls i)
-    (fits_more no_code file (with_item file i) s.entries (record { id = x.name.id; depth = s.depth; entity = entity.Constant (constant_value x) }) (variable.Constant (constant_value x)) fits (omega arith) (λ place args turns lt. refl) refl refl) (tt, all)
+    (fits_more no_code file (with_item file i) s.entries (record { id = x.name.id; depth = s.depth; entity = entity.Constant (constant_value x); unsigned = is_unsigned x.ty }) (variable.Constant (constant_value x)) fits (omega arith) (λ place args turns lt. refl) refl refl) (tt, all)
     (lawful-rest (item_notes s i) behind lawful) (tells-rest rs (item_notes s i) behind tells)
 placed rs ordered (tree.Function g ∷ items) rest f file s (cons _ leveled) falls fits all lawful tells =
     let i = tree.Function g in
     let number = (after_stmts (in_body s g) g.body).functions in
-    let params = length (param_names g.params) in
+    let params = length (param_list g.params) in
     let behind = items_notes (after_item s i) (items ++ tree.Function f ∷ rest) in
     placed rs ordered items rest f (with_item file i) (after_item s i) leveled (item-falls file falls i)
-    (fits_more no_code file (with_item file i) s.entries (record { id = g.name.id; depth = s.depth; entity = entity.Function number params }) (variable.Function file.count) fits (omega arith)
+    (fits_more no_code file (with_item file i) s.entries (record { id = g.name.id; depth = s.depth; entity = entity.Function number params; unsigned = is_unsigned g.ty }) (variable.Function file.count) fits (omega arith)
     (same_calls no_code rs ordered [] file g) refl (file.count, refl, omega arith, nothing_called (with_item file i) file.count number params)) (tt, all)
     (lawful-rest (item_notes s i) behind lawful) (tells-rest rs (item_notes s i) behind tells)
 
@@ -84,7 +85,7 @@ pub record MainIn (listed : List tree.ItemTree) (file : File) (s : Scope) (m : M
   pub tasks : program_tasks listed ≡ all_tasks_of function.body
   pub depth : (after_items s items).depth ≡ s.depth
   -- it has no parameters
-  pub bare : (ids : List ℕ) → AreApart ids listed → has_main listed ≡ true → param_names function.params ≡ []
+  pub bare : (ids : List ℕ) → AreApart ids listed → has_main listed ≡ true → param_list function.params ≡ []
 
 further : (i : tree.ItemTree) (is : List tree.ItemTree) (file : File) (s : Scope) (m : Main) → program_tasks (i ∷ is) ≡ program_tasks is → has_main (i ∷ is) ≡ has_main is → (after_item s i).depth ≡ s.depth →
     MainIn is (with_item file i) (after_item s i) m → MainIn (i ∷ is) file s m
@@ -121,4 +122,4 @@ main_in (tree.Function f ∷ is) file s m found = by_case (f.name.id == main_id)
           bare = λ ids apart h. bare_main f is ids e apart h;
         }
     by_case false e k next =
-        further (tree.Function f) is file s m (ap (λ t. if t then all_tasks_of f.body else program_tasks is) e) (ap (λ t. (t && is_empty (param_names f.params)) || has_main is) e) refl (next k)
+        further (tree.Function f) is file s m (ap (λ t. if t then all_tasks_of f.body else program_tasks is) e) (ap (λ t. (t && is_int f.ty && is_empty (param_list f.params)) || has_main is) e) refl (next k)

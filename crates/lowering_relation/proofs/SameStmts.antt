@@ -12,7 +12,7 @@ use Rattle.cddf_meaning.specs.declared.site.Site.{Site}
 use Rattle.cddf_meaning.specs.declared.variable.Binding.{Binding}
 use Rattle.os_ast.specs.Captured.{captured}
 use Rattle.os_ast.specs.Leveled.{IsStmt, AreStmts}
-use Rattle.os_ast.specs.Names.{Scope, enter, in_loop}
+use Rattle.os_ast.specs.Names.{Scope, enter, in_loop, typed}
 use Rattle.os_ast.specs.Notes.Clauses.{in_task_body, parts_notes, clauses_notes}
 use Rattle.os_ast.specs.Notes.Declarators.{after_declarators, declarators_notes, after_start, start_notes}
 use Rattle.os_ast.specs.Notes.Expressions.{count_args, expr_notes, args_notes, value_notes, step_notes}
@@ -25,7 +25,7 @@ use Rattle.os_ast.specs.declared.names.Entry.{Entry}
 use Rattle.os_ast.specs.declared.names.Owner.TheVariants as owner
 use Rattle.os_ast.specs.declared.names.Use.TheVariants as usage
 use Rattle.lowering_relation.specs.FoundNames.{AreElse, with_more}
-use Rattle.lowering_relation.proofs.Context.{Context, Agree, agree_first, agree_rest, In}
+use Rattle.lowering_relation.proofs.Context.{Context, Agree, agree_first, agree_rest, In, in_typed}
 use Rattle.lowering_relation.proofs.Declarators.{around_of}
 use Rattle.lowering_relation.proofs.Declares.{declarators_in}
 use Rattle.lowering_relation.proofs.Elsewhere.{same_then}
@@ -55,7 +55,7 @@ module _ (c : Context) (more : List Binding) (apart : AreElse c.file more) (site
 
   start_in : (t : tree.StartTree) (s : Scope) (es : List Entry) → In c s es → In c (after_start s t) (made_first s t es)
   start_in tree.StartTree.Empty s es is = is
-  start_in (tree.StartTree.Declare ds) s es is = declarators_in c ds s es is
+  start_in (tree.StartTree.Declare ty ds) s es is = declarators_in c ds (typed ty s) es (in_typed c ty s es is)
   start_in (tree.StartTree.Change x) s es is = is
 
   expr_same : (s : Scope) (es : List Entry) (st : State) (e : tree.ExprTree) (turns : ℕ) → In c s es → Matches c st.bound es → Agree c (expr_notes s e) → value c.file e st turns ≡ value c.file e (with_more more st) turns
@@ -143,7 +143,9 @@ module _ (c : Context) (more : List Binding) (apart : AreElse c.file more) (site
     pub stmts_same : {ss : tree.Stmts} → AreStmts ss → (s : Scope) (es : List Entry) (st : State) (turns : ℕ) → In c s es → Matches c st.bound es → Agree c (stmts_notes s ss) → OwnsAll known s ss →
         Same (around es) (made_all s ss es) (run_all u ss st turns) (run_all u ss (with_more more st) turns)
     stmts_same AreStmts.no_stmts s es st turns is same agree own = went st turns same
-    stmts_same (AreStmts.declare {ds = ds} {ss = ss} _ rest) s es st turns is same agree own =
+    stmts_same (AreStmts.declare {t = ty} {ds = ds} {ss = ss} _ rest) s0 es st turns before same agree own =
+        let s = typed ty s0 in
+        let is = in_typed c ty s0 es before in
         let s1 = after_declarators s ds in
         flows_same c more (exactly (made s ds es)) (around es) (made s ds es) (made_all s1 ss (made s ds es)) (run_all u ss) (run_all u ss) (λ x e. subst (λ y. Extends y es) (sym e) (made_extends ds s es))
         (declarators_same c more apart sites ds s es st turns (exactly (made s ds es)) is same (agree_first c (declarators_notes s ds) (stmts_notes s1 ss) agree))

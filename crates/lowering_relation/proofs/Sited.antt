@@ -165,7 +165,7 @@ module _ (n : ℕ) where
 
   start_sited : (u : Around) (start : tree.StartTree) → RunsSited (run_start u start)
   start_sited u tree.StartTree.Empty s turns h = h
-  start_sited u (tree.StartTree.Declare ds) s turns h = declarators_sited u ds s turns h
+  start_sited u (tree.StartTree.Declare ty ds) s turns h = declarators_sited u ds s turns h
   start_sited u (tree.StartTree.Change c) s turns h = change_sited u.file c s turns h
 
   step_sited : (file : File) (step : Option tree.ChangeTree) → RunsSited (run_step file step)
@@ -212,7 +212,7 @@ module _ (u : Around) (n : ℕ) (below : (m : Mark) (k : ℕ) → task_number u.
     run_sited : (a : tree.StmtTree) → RunsSited n (run u a)
     run_sited tree.StmtTree.Empty s turns h = h
     run_sited (tree.Block ss) s turns h = left_sited n s (run_all u ss s turns) (all_sited ss s turns h)
-    run_sited (tree.StmtTree.Declare ds) s turns h = declarators_sited n u ds s turns h
+    run_sited (tree.StmtTree.Declare ty ds) s turns h = declarators_sited n u ds s turns h
     run_sited (tree.StmtTree.Change c) s turns h = change_sited n u.file c s turns h
     run_sited (tree.StmtTree.Call f args) s turns h =
         given_sited n s (and_then (values u.file args s turns) (call_value u.file.calls (variable u.file s f.id))) (λ v. goes_on s v.turns) h (λ v. h)

@@ -3,7 +3,7 @@ use Rattle.std.proofs.Common.{◌≡◌, ℕ, zero, suc, ◌<◌, ◌≤◌, Lis
 use Rattle.std.proofs.lemmas.List.{length-map}
 use Rattle.std.specs.Prelude.{⊤, All}
 use Rattle.os_ast.specs.Captured.{Scalar, captured, slots_of}
-use Rattle.os_ast.specs.Names.{Scope, enter, in_loop}
+use Rattle.os_ast.specs.Names.{Scope, enter, in_loop, typed}
 use Rattle.os_ast.specs.Notes.Clauses.{in_task, captured_in, in_task_body, window_notes, part_notes, parts_notes, clauses_notes}
 use Rattle.os_ast.specs.Notes.Declarators.{after_start, start_notes}
 use Rattle.os_ast.specs.Notes.Expressions.{expr_notes, place_notes, value_notes, step_notes}
@@ -67,7 +67,7 @@ module _ (h : Home) where
     pub stmt_caught : (a : tree.StmtTree) (s : Scope) → AllFit h (own_notes s a) → AllCaught (captures (stmt_notes s a))
     stmt_caught tree.StmtTree.Empty s fit = tt
     stmt_caught (tree.Block ss) s fit = stmts_caught ss (enter s) fit
-    stmt_caught (tree.StmtTree.Declare ds) s fit = subst AllCaught (sym (none_declarators ds s)) tt
+    stmt_caught (tree.StmtTree.Declare ty ds) s fit = subst AllCaught (sym (none_declarators ds (typed ty s))) tt
     stmt_caught (tree.StmtTree.Change c) s fit = subst AllCaught (sym (none_change c s)) tt
     stmt_caught (tree.StmtTree.Call f args) s fit = subst AllCaught (sym (none_args args s)) tt
     stmt_caught (tree.If c a) s fit =
@@ -173,7 +173,7 @@ module _ (h : Home) where
     pub stmt_tasks : (a : tree.StmtTree) (s : Scope) → AllFit h (own_notes s a) → AllTasks (tasks_of a)
     stmt_tasks tree.StmtTree.Empty s fit = tt
     stmt_tasks (tree.Block ss) s fit = stmts_tasks ss (enter s) fit
-    stmt_tasks (tree.StmtTree.Declare ds) s fit = tt
+    stmt_tasks (tree.StmtTree.Declare ty ds) s fit = tt
     stmt_tasks (tree.StmtTree.Change c) s fit = tt
     stmt_tasks (tree.StmtTree.Call f args) s fit = tt
     stmt_tasks (tree.If c a) s fit = stmt_tasks a s (fit_rest h (expr_notes s c) (own_notes s a) fit)

@@ -4,7 +4,7 @@ use Rattle.std.specs.Prelude.{unwrap_or}
 use Rattle.os_ast.specs.Captured.{captured}
 use Rattle.os_ast.specs.Limits.{is_size}
 use Rattle.os_ast.specs.Meanings.{meaning_in}
-use Rattle.os_ast.specs.Names.{Scope, lookup, entity_of, enter, in_loop}
+use Rattle.os_ast.specs.Names.{Scope, lookup, entity_of, enter, in_loop, typed, flag_of}
 use Rattle.os_ast.specs.Notes.Clauses.{in_task_body, parts_notes, window_notes, clauses_notes}
 use Rattle.os_ast.specs.Notes.Declarators.{limited, constant_of, size_value, size_of, size_told, form, form_with, is_window, after_declarator, declarator_notes, declarators_notes, size_notes, sized_notes, after_start, start_notes}
 use Rattle.os_ast.specs.Notes.Expressions.{expr_notes, place_notes, args_notes, links_notes, value_notes, index_notes, change_notes, step_notes}
@@ -58,6 +58,7 @@ module _ (size : tree.ExprTree → ℕ) where
   mutual
     expr_sizes : (e : tree.ExprTree) (s : Scope) → HasSizes size (expr_notes s e)
     expr_sizes (tree.Number n) s = tt
+    expr_sizes (tree.Wide n) s = tt
     expr_sizes (tree.Place t) s = place_sizes t s role.Value
     expr_sizes (tree.ExprTree.Call f args) s = args_sizes args s
     expr_sizes (tree.Paren e) s = expr_sizes e s
@@ -109,6 +110,7 @@ module _ (size : tree.ExprTree → ℕ) where
 
   sized_sizes : (s : Scope) (e : tree.ExprTree) → HasSizes size (size_notes s e)
   sized_sizes s (tree.Number n) = tt
+  sized_sizes s (tree.Wide n) = tt
   sized_sizes s (tree.Place (tree.Variable n)) = tt
   sized_sizes s (tree.Place (tree.Element n m e)) = tt
   sized_sizes s (tree.ExprTree.Call f args) = tt
@@ -168,17 +170,18 @@ module _ (rs : List Resolved) (ordered : InOrder rs) where
   used_size : (s : Scope) (n : Name) (u : Use) (ns : List Note) → AreLawful (Used s n u ∷ ns) → Tells rs (Used s n u ∷ ns) → unwrap_or (size_of s (tree.Place (tree.Variable n))) 0 ≡ size (tree.Place (tree.Variable n))
   used_size s n u ns lawful tells =
       let d = declared-use s n u (lawful.0, tt) in
-      let w = told_is rs n.mark.place (meaning_in s.owner s.captured d.0) ordered (told-use rs s n u d.0 d.1 (tells.0, tt)) in
+      let w = told_is rs n.mark.place (meaning_in s.owner s.captured d.0) (flag_of (lookup s.entries n.id)) ordered (told-use rs s n u d.0 d.1 (tells.0, tt)) in
       ap (λ o. unwrap_or (limited (constant_of o)) 0) d.1 ∙ constant_limit s.owner s.captured d.0 ∙ ap constant_size (sym w)
 
   -- one that is the name of a constant
-  named_size : (s : Scope) (n : Name) (o : Option ℤ) (k : ℕ) → o ≡ Some (pos k) → AreIn rs (constant_meaning n.mark o) → unwrap_or (limited o) 0 ≡ size (tree.Place (tree.Variable n))
+  named_size : (s : Scope) (n : Name) (o : Option ℤ) (k : ℕ) → o ≡ Some (pos k) → AreIn rs (constant_meaning n.mark (flag_of (lookup s.entries n.id)) o) → unwrap_or (limited o) 0 ≡ size (tree.Place (tree.Variable n))
   named_size s n o k is h =
-      let w = told_is rs n.mark.place (what.Constant (pos k)) ordered (subst (λ x. AreIn rs (constant_meaning n.mark x)) is h).0 in
+      let w = told_is rs n.mark.place (what.Constant (pos k)) (flag_of (lookup s.entries n.id)) ordered (subst (λ x. AreIn rs (constant_meaning n.mark (flag_of (lookup s.entries n.id)) x)) is h).0 in
       ap (λ x. unwrap_or (limited x) 0) is ∙ ap constant_size (sym w)
 
   by_name : (s : Scope) (e : tree.ExprTree) → IsKnown s e → Tells rs (size_notes s e) → unwrap_or (size_of s e) 0 ≡ size e
   by_name s (tree.Number n) h tells = refl
+  by_name s (tree.Wide n) h tells = refl
   by_name s (tree.Place (tree.Variable n)) h tells = named_size s n (constant_of (entity_of (lookup s.entries n.id))) h.0 h.1 tells.0
   by_name s (tree.Place (tree.Element n m e)) h tells = refl
   by_name s (tree.ExprTree.Call f args) h tells = refl
@@ -189,6 +192,7 @@ module _ (rs : List Resolved) (ordered : InOrder rs) where
 
   by_value : (s : Scope) (e : tree.ExprTree) → AreLawful (expr_notes s e) → Tells rs (expr_notes s e) → unwrap_or (size_of s e) 0 ≡ size e
   by_value s (tree.Number n) lawful tells = refl
+  by_value s (tree.Wide n) lawful tells = refl
   by_value s (tree.Place (tree.Variable n)) lawful tells = used_size s n (usage.Place role.Value shape.Bare) [] lawful tells
   by_value s (tree.Place (tree.Element n m e)) lawful tells = refl
   by_value s (tree.ExprTree.Call f args) lawful tells = refl
@@ -239,14 +243,14 @@ module _ (rs : List Resolved) (ordered : InOrder rs) where
 
   start_sizes : (t : tree.StartTree) (s : Scope) → AreLawful (start_notes s t) → Tells rs (start_notes s t) → HasSizes size (start_notes s t)
   start_sizes tree.StartTree.Empty s lawful tells = tt
-  start_sizes (tree.StartTree.Declare ds) s lawful tells = declarators_sizes ds s lawful tells
+  start_sizes (tree.StartTree.Declare ty ds) s lawful tells = declarators_sizes ds (typed ty s) lawful tells
   start_sizes (tree.StartTree.Change c) s lawful tells = change_sizes size c s
 
   mutual
     pub stmt_sizes : (a : tree.StmtTree) (s : Scope) → AreLawful (stmt_notes s a) → Tells rs (stmt_notes s a) → HasSizes size (stmt_notes s a)
     stmt_sizes tree.StmtTree.Empty s lawful tells = tt
     stmt_sizes (tree.Block ss) s lawful tells = stmts_sizes ss (enter s) lawful tells
-    stmt_sizes (tree.StmtTree.Declare ds) s lawful tells = declarators_sizes ds s lawful tells
+    stmt_sizes (tree.StmtTree.Declare ty ds) s lawful tells = declarators_sizes ds (typed ty s) lawful tells
     stmt_sizes (tree.StmtTree.Change c) s lawful tells = change_sizes size c s
     stmt_sizes (tree.StmtTree.Call f args) s lawful tells = args_sizes size args s
     stmt_sizes (tree.If c a) s lawful tells =

@@ -2,8 +2,8 @@
 use Rattle.std.proofs.Common.{◌≡◌, ◌≤◌, ℕ, suc, List, [], ◌∷◌, ◌++◌, refl, sym, ap, ◌∙◌, arith, append_assoc}
 use Rattle.os_ast.specs.Captured.{captured, slots_of}
 use Rattle.os_ast.specs.Leveled.{IsStmt}
-use Rattle.os_ast.specs.Names.{Scope, declare, enter, in_loop}
-use Rattle.os_ast.specs.Notes.Clauses.{with_items, in_task, in_task_body, captured_in, item_entity}
+use Rattle.os_ast.specs.Names.{Scope, declare, flagged, typed, enter, in_loop}
+use Rattle.os_ast.specs.Notes.Clauses.{with_items, in_task, in_task_body, captured_in, item_entity, item_flag}
 use Rattle.os_ast.specs.Notes.Declarators.{after_declarator, after_declarators, after_start, taken, form, declared_entity}
 use Rattle.os_ast.specs.Notes.Statements.{after_stmt, after_stmts}
 use Rattle.os_ast.specs.Parts.{Part, Item, Private, parts, item_name}
@@ -11,6 +11,7 @@ use Rattle.os_ast.specs.Trees as tree
 use Rattle.os_ast.specs.declared.names.Entry.{Entry}
 use Rattle.os_ast.specs.declared.names.Form.{Form}
 use Rattle.os_ast.specs.declared.names.Form.TheVariants as form_of
+use Rattle.os_ast.specs.declared.ty.Ty.{Ty}
 use Rattle.lowering_relation.proofs.Flows.{Extends}
 
 -- the same body, at the same depth, with no fewer slots and streams taken
@@ -49,7 +50,7 @@ taken_entries s (form_of.Streams size) = refl
 
 -- a declarator's entry
 abbrev pub entry : Scope → tree.DeclaratorTree → Entry
-entry s d = record { id = d.name.id; depth = (taken s (form s d)).depth; entity = declared_entity s d }
+entry s d = record { id = d.name.id; depth = (taken s (form s d)).depth; entity = declared_entity s d; unsigned = (taken s (form s d)).unsigned }
 
 pub declarator_onward : (s : Scope) (d : tree.DeclaratorTree) → Onward s (after_declarator s d)
 declarator_onward s d =
@@ -66,11 +67,11 @@ made s (d ∷ ds) es = made (after_declarator s d) ds (entry s d ∷ es)
 
 abbrev pub made_first : Scope → tree.StartTree → List Entry → List Entry
 made_first s tree.StartTree.Empty es = es
-made_first s (tree.StartTree.Declare ds) es = made s ds es
+made_first s (tree.StartTree.Declare ty ds) es = made (typed ty s) ds es
 made_first s (tree.StartTree.Change c) es = es
 
 abbrev pub made_by : Scope → tree.StmtTree → List Entry → List Entry
-made_by s (tree.StmtTree.Declare ds) es = made s ds es
+made_by s (tree.StmtTree.Declare ty ds) es = made (typed ty s) ds es
 made_by s _ es = es
 
 abbrev pub made_all : Scope → tree.Stmts → List Entry → List Entry
@@ -97,22 +98,26 @@ pub declarators_onward : (ds : List tree.DeclaratorTree) (s : Scope) → Onward 
 declarators_onward [] s = here s
 declarators_onward (d ∷ ds) s = onward (declarator_onward s d) (declarators_onward ds (after_declarator s d))
 
+-- a scope in which a declaration of a type has begun
+pub typed_onward : (ty : Ty) (s t : Scope) → Onward (typed ty s) t → Onward s t
+typed_onward ty s t a = record { owner = a.owner; captured = a.captured; depth = a.depth; slots = a.slots; streams = a.streams }
+
 pub start_onward : (t : tree.StartTree) (s : Scope) → Onward s (after_start s t)
 start_onward tree.StartTree.Empty s = here s
-start_onward (tree.StartTree.Declare ds) s = declarators_onward ds s
+start_onward (tree.StartTree.Declare ty ds) s = typed_onward ty s (after_declarators (typed ty s) ds) (declarators_onward ds (typed ty s))
 start_onward (tree.StartTree.Change c) s = here s
 
 -- the clauses of a task declare no stream
 pub items_streams : (s inner : Scope) (n : ℕ) (ps : List Part) → (with_items s inner n ps).streams ≡ inner.streams
 items_streams s inner n [] = refl
-items_streams s inner n (Item d i ∷ ps) = items_streams s (declare inner (item_name i.stream i.window).id (item_entity s n d i)) (suc n) ps
+items_streams s inner n (Item d i ∷ ps) = items_streams s (declare (flagged (item_flag s i) inner) (item_name i.stream i.window).id (item_entity s n d i)) (suc n) ps
 items_streams s inner n (Private p ∷ ps) = items_streams s inner n ps
 
 mutual
   pub stmt_onward : (a : tree.StmtTree) (s : Scope) → Onward s (after_stmt s a)
   stmt_onward tree.StmtTree.Empty s = here s
   stmt_onward (tree.Block ss) s = let t = stmts_onward ss (enter s) in record { owner = t.owner; captured = t.captured; depth = refl; slots = t.slots; streams = t.streams }
-  stmt_onward (tree.StmtTree.Declare ds) s = declarators_onward ds s
+  stmt_onward (tree.StmtTree.Declare ty ds) s = typed_onward ty s (after_declarators (typed ty s) ds) (declarators_onward ds (typed ty s))
   stmt_onward (tree.StmtTree.Change c) s = here s
   stmt_onward (tree.StmtTree.Call f args) s = here s
   stmt_onward (tree.If c a) s = stmt_onward a s
@@ -147,13 +152,13 @@ made_extends (d ∷ ds) s es = extends_more (entry s d ∷ [], refl) (made_exten
 
 pub first_extends : (t : tree.StartTree) (s : Scope) (es : List Entry) → Extends (made_first s t es) es
 first_extends tree.StartTree.Empty s es = ([], refl)
-first_extends (tree.StartTree.Declare ds) s es = made_extends ds s es
+first_extends (tree.StartTree.Declare ty ds) s es = made_extends ds (typed ty s) es
 first_extends (tree.StartTree.Change c) s es = ([], refl)
 
 by_extends : (a : tree.StmtTree) (s : Scope) (es : List Entry) → Extends (made_by s a es) es
 by_extends tree.StmtTree.Empty s es = ([], refl)
 by_extends (tree.Block ss) s es = ([], refl)
-by_extends (tree.StmtTree.Declare ds) s es = made_extends ds s es
+by_extends (tree.StmtTree.Declare ty ds) s es = made_extends ds (typed ty s) es
 by_extends (tree.StmtTree.Change c) s es = ([], refl)
 by_extends (tree.StmtTree.Call f args) s es = ([], refl)
 by_extends (tree.If c a) s es = ([], refl)

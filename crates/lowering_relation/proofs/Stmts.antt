@@ -11,7 +11,7 @@ use Rattle.cddf_meaning.specs.declared.site.Site.{Site}
 use Rattle.cddf_meaning.proofs.Falls.{value-falls}
 use Rattle.cddf_meaning.proofs.Keeps.{run-keeps}
 use Rattle.os_ast.specs.Leveled.{IsStmt, AreStmts}
-use Rattle.os_ast.specs.Names.{Scope, enter, in_loop}
+use Rattle.os_ast.specs.Names.{Scope, enter, in_loop, typed}
 use Rattle.os_ast.specs.Notes.Clauses.{in_task_body, parts_notes, clauses_notes}
 use Rattle.os_ast.specs.Notes.Declarators.{after_declarators, declarators_notes, after_start, start_notes}
 use Rattle.os_ast.specs.Notes.Expressions.{expr_notes, value_notes, change_notes, step_notes}
@@ -39,10 +39,10 @@ use Rattle.lowering_relation.specs.Tasks.{TaskTree}
 use Rattle.lowering_relation.proofs.Alignment.{stacked_more}
 use Rattle.lowering_relation.proofs.Changes.{change_does}
 use Rattle.lowering_relation.proofs.Conditions.{cond_runs, test_runs}
-use Rattle.lowering_relation.proofs.Context.{resources, Kept, Context, means, tells, Agree, agree_first, agree_rest, In}
+use Rattle.lowering_relation.proofs.Context.{resources, Kept, Context, means, tells, Agree, agree_first, agree_rest, In, in_typed}
 use Rattle.lowering_relation.proofs.Declarators.{around_of, DeclaratorDoes, declarators_does}
 use Rattle.lowering_relation.proofs.Declares.{declarators_in, declarators_stacked}
-use Rattle.lowering_relation.proofs.Exprs.{Ready, expr_runs}
+use Rattle.lowering_relation.proofs.Exprs.{Ready, expr_runs, ready_typed}
 use Rattle.lowering_relation.proofs.Flows.{After, Does, went, ended, given_does, exactly, Extends, around, settled, AlignedIn, DoesFrom, went_on, flows_does, scope_does, jumped, branch_does, loop_does}
 use Rattle.lowering_relation.proofs.Owning.{OfTask, Owns, OwnsAll}
 use Rattle.lowering_relation.proofs.Static.{Onward, declarators_onward, stmt_onward, stmts_onward, made, made_first, made_all, none_made, first_extends, all_extend, extends_more, made_extends}
@@ -144,19 +144,19 @@ module _ (c : Context) (callers : List Frame) (leaves : Instr) (total : ℕ) (si
         Does c.code (at callers from stack m turns) (settled c callers leaves total to broke continued stack within (made_first s t es)) (run_start (around_of c sites) t st turns)
     start_does tree.StartTree.Empty s es st m broke continued from to stack turns within ready deep stacked fits len agree h =
         went_on c callers leaves total es st m turns len ready.kept ready.aligned (onto_next from to to stack m turns h refl)
-    start_does (tree.StartTree.Declare ds) s es st m broke continued from to stack turns within ready deep stacked fits len agree h =
-        declarators_does c callers leaves total sites control ds s es st m broke continued from to stack turns within ready deep stacked fits len agree h
+    start_does (tree.StartTree.Declare ty ds) s es st m broke continued from to stack turns within ready deep stacked fits len agree h =
+        declarators_does c callers leaves total sites control ds (typed ty s) es st m broke continued from to stack turns within (ready_typed c ty s es st m ready) deep stacked fits len agree h
     start_does (tree.StartTree.Change x) s es st m broke continued from to stack turns within ready deep stacked fits len agree h =
         change_does c callers leaves total s es s.slots st m ready stacked fits len x broke continued from to stack turns within agree h
 
     start_in : (t : tree.StartTree) (s : Scope) (es : List Entry) → In c s es → In c (after_start s t) (made_first s t es)
     start_in tree.StartTree.Empty s es is = is
-    start_in (tree.StartTree.Declare ds) s es is = declarators_in c ds s es is
+    start_in (tree.StartTree.Declare ty ds) s es is = declarators_in c ds (typed ty s) es (in_typed c ty s es is)
     start_in (tree.StartTree.Change x) s es is = is
 
     start_stacked : (t : tree.StartTree) (s : Scope) (es : List Entry) → In c s es → Stacked (means c) s.slots (es ++ c.bound) → Stacked (means c) (after_start s t).slots (made_first s t es ++ c.bound)
     start_stacked tree.StartTree.Empty s es is st = st
-    start_stacked (tree.StartTree.Declare ds) s es is st = declarators_stacked c ds s es is st
+    start_stacked (tree.StartTree.Declare ty ds) s es is st = declarators_stacked c ds (typed ty s) es (in_typed c ty s es is) st
     start_stacked (tree.StartTree.Change x) s es is st = st
 
     test_falls : (test : Option tree.ExprTree) (st : State) (turns : ℕ) → Falls turns (run_test c.file test st turns)
@@ -275,9 +275,11 @@ module _ (c : Context) (callers : List Frame) (leaves : Instr) (total : ℕ) (si
           Does c.code (at callers from stack m turns) (settled c callers leaves total next broke continued stack (around es) (made_all s ss es)) (run_all (around_of c sites) ss st turns)
       stmts_does AreStmts.no_stmts s es st m broke continued next from to stack turns ready deep stacked fits len agree own h =
           went_on c callers leaves total es st m turns len ready.kept ready.aligned (onto_next from to next stack m turns h.0 h.1)
-      stmts_does (AreStmts.declare {ds = ds} {ss = ss} _ rest) s es st m broke continued next from to stack turns ready deep stacked fits len agree own h =
+      stmts_does (AreStmts.declare {t = ty} {ds = ds} {ss = ss} _ rest) s0 es st m broke continued next from to stack turns before deep stacked fits len agree own h =
+          let s = typed ty s0 in
+          let ready = ready_typed c ty s0 es st m before in
           let s1 = after_declarators s ds in
-          let p = has_rest c.code body_of (tree.StmtTree.Declare ds) ss broke continued next from to h in
+          let p = has_rest c.code body_of (tree.StmtTree.Declare ty ds) ss broke continued next from to h in
           flows_does c callers leaves total p.0 next broke continued stack (exactly (made s ds es)) (around es) (made s ds es) (made_all s1 ss (made s ds es)) (run_all (around_of c sites) ss)
           (λ x e. subst (λ y. Extends y es) (sym e) (made_extends ds s es))
           (ends_next p.0 p.1 broke continued stack (exactly (made s ds es)) (made s ds es) p.2.1

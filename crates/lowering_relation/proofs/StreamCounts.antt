@@ -2,11 +2,11 @@
 use Rattle.std.proofs.Common.{◌≡◌, ℕ, ◌≤◌, ◌&&◌, Bool, true, false, not, List, [], ◌∷◌, ◌++◌, Option, Some, None, refl, sym, ◌∙◌, arith, ne_eqb}
 use Rattle.os_ast.specs.Captured.{captured, slots_of}
 use Rattle.os_ast.specs.Leveled.{IsStmt, AreStmts}
-use Rattle.os_ast.specs.Names.{Scope, enter, in_loop, in_unit}
+use Rattle.os_ast.specs.Names.{Scope, enter, in_loop, in_unit, typed}
 use Rattle.os_ast.specs.Notes.Clauses.{in_task, captured_in, in_task_body, clauses_notes}
 use Rattle.os_ast.specs.Notes.Declarators.{sized_form, form_with, size_of, taken, after_declarator, after_declarators, declarator_notes, declarators_notes, after_start, start_notes}
 use Rattle.os_ast.specs.Notes.Expressions.{expr_notes, value_notes, step_notes}
-use Rattle.os_ast.specs.Notes.Programs.{owner_of, param_names, round_body, after_param, after_params, after_item, after_items, in_body}
+use Rattle.os_ast.specs.Notes.Programs.{owner_of, param_list, round_body, after_param, after_params, after_item, after_items, in_body}
 use Rattle.os_ast.specs.Notes.Programs as programs
 use Rattle.os_ast.specs.Notes.Statements.{after_stmt, after_stmts, stmt_notes, stmts_notes}
 use Rattle.os_ast.specs.Parts.{parts}
@@ -15,6 +15,7 @@ use Rattle.os_ast.specs.Trees as tree
 use Rattle.os_ast.specs.declared.expr.Name.{Name}
 use Rattle.os_ast.specs.declared.names.Owner.{Owner}
 use Rattle.os_ast.specs.declared.names.Owner.TheVariants as owner
+use Rattle.os_ast.specs.declared.program.Param.{Param}
 use Rattle.lowering_relation.proofs.NoTasks.{items_owner}
 use Rattle.lowering_relation.proofs.Static.{items_streams, declarator_onward, declarators_onward, start_onward, stmt_onward, stmts_onward}
 use Rattle.window_check_laws.specs.Told.{AreLawful}
@@ -57,7 +58,7 @@ declarators_streams (d ∷ ds) s deep h =
 
 start_streams : (t : tree.StartTree) (s : Scope) → AtLeast 3 s → AreLawful (start_notes s t) → (after_start s t).streams ≡ s.streams
 start_streams tree.StartTree.Empty s deep h = refl
-start_streams (tree.StartTree.Declare ds) s deep h = declarators_streams ds s deep h
+start_streams (tree.StartTree.Declare ty ds) s deep h = declarators_streams ds (typed ty s) deep h
 start_streams (tree.StartTree.Change c) s deep h = refl
 
 within : (s : Scope) → AtLeast 2 s → AtLeast 3 (enter s)
@@ -101,7 +102,8 @@ mutual
 
   pub stmts_streams : {ss : tree.Stmts} → AreStmts ss → (s : Scope) → AtLeast 3 s → AreLawful (stmts_notes s ss) → (after_stmts s ss).streams ≡ s.streams
   stmts_streams AreStmts.no_stmts s deep h = refl
-  stmts_streams (AreStmts.declare {ds = ds} {ss = ss} _ rest) s deep h =
+  stmts_streams (AreStmts.declare {t = ty} {ds = ds} {ss = ss} _ rest) s0 deep h =
+      let s = typed ty s0 in
       let s1 = after_declarators s ds in
       let o = declarators_onward ds s in
       stmts_streams rest s1 (on 3 s s1 o.owner o.depth deep) (lawful-rest (declarators_notes s ds) (stmts_notes s1 ss) h)
@@ -118,12 +120,12 @@ round_streams owner.OfMain s = refl
 round_streams owner.OfFunction s = refl
 round_streams owner.OfTask s = refl
 
-params_streams : (ns : List Name) (s : Scope) → (after_params s ns).streams ≡ s.streams
+params_streams : (ns : List Param) (s : Scope) → (after_params s ns).streams ≡ s.streams
 params_streams [] s = refl
 params_streams (n ∷ ns) s = params_streams ns (after_param s n)
 
 pub body_streams : (s : Scope) (f : tree.FunctionTree) → (in_body s f).streams ≡ s.streams
-body_streams s f = params_streams (param_names f.params) (programs.in_function s f.name.id) ∙ round_streams (owner_of f.name.id) s
+body_streams s f = params_streams (param_list f.params) (programs.in_function s f.name.id) ∙ round_streams (owner_of f.name.id) s
 
 -- Items never take streams away.
 pub items_more : (is : List tree.ItemTree) (s : Scope) → s.streams ≤ (after_items s is).streams

@@ -8,8 +8,8 @@ use Rattle.cddf_meaning.specs.Variables.{find}
 use Rattle.flow_core_laws.specs.declared.claim.Claim.{Claim}
 use Rattle.os_ast.specs.Captured.{Scalar, captured, slots_of}
 use Rattle.os_ast.specs.FreeNames.{task_names}
-use Rattle.os_ast.specs.Names.{Scope, lookup, entity_of, declare}
-use Rattle.os_ast.specs.Notes.Clauses.{item_entity, with_items, in_task, captured_in, in_task_body}
+use Rattle.os_ast.specs.Names.{Scope, lookup, entity_of, declare, flag_of, flagged}
+use Rattle.os_ast.specs.Notes.Clauses.{item_entity, with_items, in_task, captured_in, in_task_body, item_flag}
 use Rattle.os_ast.specs.Notes.Kinds.{Note, Used, Sized, Declared, Given, Global, Left, Returned, Pragma, Task, Listed}
 use Rattle.os_ast.specs.Notes.Statements.{stmt_notes}
 use Rattle.os_ast.specs.Parts.{Part, Item, Private, parts, item_name, is_in, private_ids}
@@ -41,27 +41,27 @@ use Rattle.window_check_laws.proofs.Named.{captured-members}
 -- the declarations of items, as they stand within others
 abbrev pub made_items : Scope → ℕ → ℕ → List Part → List Entry → List Entry
 made_items s depth item [] es = es
-made_items s depth item (Item d i ∷ ps) es = made_items s depth (suc item) ps (record { id = (item_name i.stream i.window).id; depth = depth; entity = item_entity s item d i } ∷ es)
+made_items s depth item (Item d i ∷ ps) es = made_items s depth (suc item) ps (record { id = (item_name i.stream i.window).id; depth = depth; entity = item_entity s item d i; unsigned = item_flag s i } ∷ es)
 made_items s depth item (Private n ∷ ps) es = made_items s depth item ps es
 
 pub items_entries : (s inner : Scope) (ps : List Part) (item : ℕ) → (with_items s inner item ps).entries ≡ made_items s inner.depth item ps inner.entries
 items_entries s inner [] item = refl
-items_entries s inner (Item d i ∷ ps) item = items_entries s (declare inner (item_name i.stream i.window).id (item_entity s item d i)) ps (suc item)
+items_entries s inner (Item d i ∷ ps) item = items_entries s (declare (flagged (item_flag s i) inner) (item_name i.stream i.window).id (item_entity s item d i)) ps (suc item)
 items_entries s inner (Private n ∷ ps) item = items_entries s inner ps item
 
 pub items_captured : (s inner : Scope) (ps : List Part) (item : ℕ) → (with_items s inner item ps).captured ≡ inner.captured
 items_captured s inner [] item = refl
-items_captured s inner (Item d i ∷ ps) item = items_captured s (declare inner (item_name i.stream i.window).id (item_entity s item d i)) ps (suc item)
+items_captured s inner (Item d i ∷ ps) item = items_captured s (declare (flagged (item_flag s i) inner) (item_name i.stream i.window).id (item_entity s item d i)) ps (suc item)
 items_captured s inner (Private n ∷ ps) item = items_captured s inner ps item
 
 pub items_slots : (s inner : Scope) (ps : List Part) (item : ℕ) → (with_items s inner item ps).slots ≡ inner.slots
 items_slots s inner [] item = refl
-items_slots s inner (Item d i ∷ ps) item = items_slots s (declare inner (item_name i.stream i.window).id (item_entity s item d i)) ps (suc item)
+items_slots s inner (Item d i ∷ ps) item = items_slots s (declare (flagged (item_flag s i) inner) (item_name i.stream i.window).id (item_entity s item d i)) ps (suc item)
 items_slots s inner (Private n ∷ ps) item = items_slots s inner ps item
 
 pub items_onto : (s : Scope) (depth item : ℕ) (ps : List Part) (xs ys : List Entry) → made_items s depth item ps (xs ++ ys) ≡ made_items s depth item ps xs ++ ys
 items_onto s depth item [] xs ys = refl
-items_onto s depth item (Item d i ∷ ps) xs ys = items_onto s depth (suc item) ps (record { id = (item_name i.stream i.window).id; depth = depth; entity = item_entity s item d i } ∷ xs) ys
+items_onto s depth item (Item d i ∷ ps) xs ys = items_onto s depth (suc item) ps (record { id = (item_name i.stream i.window).id; depth = depth; entity = item_entity s item d i; unsigned = item_flag s i } ∷ xs) ys
 items_onto s depth item (Private n ∷ ps) xs ys = items_onto s depth item ps xs ys
 
 -- the declaration of a captured scalar
@@ -70,7 +70,7 @@ entity_or c None = entity.Control c.slot
 entity_or c (Some e) = e.entity
 
 abbrev pub captured_entry : List Entry → Scalar → Entry
-captured_entry es c = record { id = c.id; depth = 0; entity = entity_or c (lookup es c.id) }
+captured_entry es c = record { id = c.id; depth = 0; entity = entity_or c (lookup es c.id); unsigned = flag_of (lookup es c.id) }
 
 abbrev pub made_captured : List Entry → List Scalar → List Entry → List Entry
 made_captured es [] xs = xs

@@ -15,12 +15,13 @@ use Rattle.flow_core_laws.specs.declared.activation.Activation.{Activation}
 use Rattle.flow_core_laws.specs.declared.outcome.Outcome.{Outcome}
 use Rattle.os_ast.specs.Names.{Scope, enter, in_unit, main_id}
 use Rattle.os_ast.specs.Notes.Declarators.{scalar_entity}
-use Rattle.os_ast.specs.Notes.Programs.{owner_of, param_names, round_body, after_param, after_params, after_item, in_body, program_notes, items_notes}
+use Rattle.os_ast.specs.Notes.Programs.{owner_of, param_list, round_body, after_param, after_params, after_item, in_body, program_notes, items_notes}
 use Rattle.os_ast.specs.Notes.Programs as programs
 use Rattle.os_ast.specs.Notes.Statements.{stmts_notes}
 use Rattle.os_ast.specs.Stacked.{main_extent}
 use Rattle.os_ast.specs.Stacked as text
 use Rattle.os_ast.specs.Trees as tree
+use Rattle.os_ast.specs.Types.{is_unsigned}
 use Rattle.os_ast.specs.Violations.{names, captures, captured_by_tasks}
 use Rattle.os_ast.specs.declared.expr.Name.{Name}
 use Rattle.os_ast.specs.declared.names.Entity.{Entity}
@@ -28,6 +29,7 @@ use Rattle.os_ast.specs.declared.names.Entity.TheVariants as entity
 use Rattle.os_ast.specs.declared.names.Entry.{Entry}
 use Rattle.os_ast.specs.declared.names.Owner.{Owner}
 use Rattle.os_ast.specs.declared.names.Owner.TheVariants as owner
+use Rattle.os_ast.specs.declared.program.Param.{Param}
 use Rattle.os_code.specs.declared.parts.Parts.{Parts}
 use Rattle.os_code.specs.declared.site.Site.{Site}
 use Rattle.os_code.specs.declared.unit.Unit.{Unit as CodeUnit}
@@ -70,21 +72,21 @@ file_stacked (e ∷ es) top all = no_extent e.entity top es all.0 (file_stacked 
 abbrev pub round_of : Owner → Scope → Scope
 round_of o s = enter (round_body o (enter (in_unit o s)))
 
-main_params : (file : List Entry) (ns : List Name) (s : Scope) → InMain file s → InMain file (after_params s ns)
+main_params : (file : List Entry) (ns : List Param) (s : Scope) → InMain file s → InMain file (after_params s ns)
 main_params file [] s h = h
 main_params file (n ∷ ns) s h = main_params file ns (after_param s n) (record {
   owner = h.owner;
-  inner = record { id = n.id; depth = s.depth; entity = scalar_entity s.owner s.slots } ∷ h.inner;
-  entries = ap (λ es. record { id = n.id; depth = s.depth; entity = scalar_entity s.owner s.slots } ∷ es) h.entries;
+  inner = record { id = n.name.id; depth = s.depth; entity = scalar_entity s.owner s.slots; unsigned = is_unsigned n.ty } ∷ h.inner;
+  entries = ap (λ es. record { id = n.name.id; depth = s.depth; entity = scalar_entity s.owner s.slots; unsigned = is_unsigned n.ty } ∷ es) h.entries;
   all = (subst (λ o. IsOfMain (scalar_entity o s.slots)) (sym h.owner) tt, h.all);
   stacked =
-      subst (λ o. text.Stacked (extent_in o) (s.slots + 1) (record { id = n.id; depth = s.depth; entity = scalar_entity o s.slots } ∷ s.entries)) (sym h.owner)
+      subst (λ o. text.Stacked (extent_in o) (s.slots + 1) (record { id = n.name.id; depth = s.depth; entity = scalar_entity o s.slots; unsigned = is_unsigned n.ty } ∷ s.entries)) (sym h.owner)
       (omega arith, subst (λ o. text.Stacked (extent_in o) s.slots s.entries) h.owner h.stacked);
 })
 
 pub main_body : (s : Scope) (f : tree.FunctionTree) → (f.name.id == main_id) ≡ true → AllOfFile s.entries → InMain s.entries (in_body s f)
 main_body s f is all =
-    main_params s.entries (param_names f.params) (programs.in_function s f.name.id)
+    main_params s.entries (param_list f.params) (programs.in_function s f.name.id)
     (subst (λ o. InMain s.entries (round_of o s)) (sym own)
     (record { owner = refl; inner = _ ∷ _ ∷ _ ∷ []; entries = refl; all = (tt, (tt, (tt, tt))); stacked = (omega arith, (omega arith, (omega arith, file_stacked s.entries 0 all))) }))
   where

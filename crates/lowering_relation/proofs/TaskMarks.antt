@@ -9,9 +9,12 @@ use Rattle.os_ast.specs.Spelling.{Symbol, bare, marked, Printer, ◌⨾◌, symb
 use Rattle.os_ast.specs.Trees as tree
 use Rattle.os_ast.specs.declared.expr.Mark.{Mark}
 use Rattle.os_ast.specs.declared.expr.Name.{Name}
+use Rattle.os_ast.specs.declared.program.Param.{Param}
 use Rattle.os_ast.specs.declared.program.Params.{Params}
 use Rattle.os_ast.specs.declared.program.Params.TheVariants as params_of
 use Rattle.os_ast.proofs.Prints.{Prints, prints_expr, prints_stmt, prints_item}
+use Rattle.os_ast.specs.declared.ty.Ty.{Ty}
+use Rattle.os_ast.specs.declared.ty.Ty.TheVariants as ty_of
 use Rattle.os_lexer.specs.declared.token.Key.TheVariants as keys
 use Rattle.os_lexer.specs.declared.token.Kind.{Kind}
 use Rattle.os_lexer.specs.declared.token.Punct.TheVariants as puncts
@@ -94,7 +97,7 @@ change (tree.Before t s m) = token_at and silent (prints_expr (tree.Place t))
 
 start : (t : tree.StartTree) → Walks (spelling.start t) []
 start tree.StartTree.Empty = token
-start (tree.StartTree.Declare ds) = silent (prints_stmt (tree.StmtTree.Declare ds))
+start (tree.StartTree.Declare ty ds) = silent (prints_stmt (tree.StmtTree.Declare ty ds))
 start (tree.StartTree.Change c) = change c and token
 
 nothing : Walks spelling.nothing []
@@ -112,7 +115,7 @@ mutual
   walks_stmt : (a : tree.StmtTree) → Walks (spelling.stmt a) (tasks_of a)
   walks_stmt tree.StmtTree.Empty = token
   walks_stmt (tree.Block ss) = token and closed (walks_stmts ss) token
-  walks_stmt (tree.StmtTree.Declare ds) = silent (prints_stmt (tree.StmtTree.Declare ds))
+  walks_stmt (tree.StmtTree.Declare ty ds) = silent (prints_stmt (tree.StmtTree.Declare ty ds))
   walks_stmt (tree.StmtTree.Change c) = silent (prints_stmt (tree.StmtTree.Change c))
   walks_stmt (tree.StmtTree.Call f args) = silent (prints_stmt (tree.StmtTree.Call f args))
   walks_stmt (tree.If c a) = token and in_parens (silent (prints_expr c)) and walks_stmt a
@@ -135,15 +138,20 @@ mutual
   walks_stmts tree.no_stmts = nothing
   walks_stmts (tree.stmt a rest) = walks_stmt a and walks_stmts rest
 
-more_params : (ns : List Name) → Walks (spelling.each (λ n. spelling.punct puncts.Comma ⨾ spelling.key keys.Int ⨾ spelling.name n) ns) []
+type_words : (t : Ty) → Walks (spelling.type_words t) []
+type_words ty_of.Int = token
+type_words ty_of.Unsigned = token
+type_words ty_of.UnsignedInt = token and token
+
+more_params : (ns : List Param) → Walks (spelling.each (λ n. spelling.punct puncts.Comma ⨾ spelling.param n) ns) []
 more_params [] = nothing
-more_params (n ∷ ns) = (token and token and token_at) and more_params ns
+more_params (n ∷ ns) = (token and type_words n.ty and token_at) and more_params ns
 
 params : (ps : Params) → Walks (spelling.params ps) []
 params params_of.Empty = nothing
 params params_of.Void = token
 params (params_of.Names []) = nothing
-params (params_of.Names (n ∷ ns)) = (token and token_at) and more_params ns
+params (params_of.Names (n ∷ ns)) = (type_words n.ty and token_at) and more_params ns
 
 -- those of `main`, wherever it stands
 abbrev pub Rising : List TaskTree → Type 0
@@ -158,7 +166,7 @@ walks_items (tree.Function f ∷ is) lo h = by_case (f.name.id == main_id) (λ f
   where
     by_case : (t : Bool) → ((from : ℕ) → HasFrom from (spelling.each spelling.item is []) → Rising (program_tasks is)) → Rising (if t then all_tasks_of f.body else program_tasks is)
     by_case true next =
-        let body : Walks (spelling.item (tree.Function f)) (all_tasks_of f.body) = token and token_at and in_parens (params f.params) and token and closed (walks_stmts f.body) token in
+        let body : Walks (spelling.item (tree.Function f)) (all_tasks_of f.body) = type_words f.ty and token_at and in_parens (params f.params) and token and closed (walks_stmts f.body) token in
         let r = body.walk lo (spelling.each spelling.item is []) h in
         (lo, r.to, r.order)
     by_case false next =

@@ -4,7 +4,7 @@ use Rattle.std.specs.Prelude.{⊤}
 use Rattle.cddf_meaning.specs.Tasks.{Task as MeaningTask, task_at, tasks_in, tasks_in_all}
 use Rattle.os_ast.specs.Captured.{captured, slots_of}
 use Rattle.os_ast.specs.Leveled.{IsStmt, AreStmts}
-use Rattle.os_ast.specs.Names.{Scope, enter, in_loop}
+use Rattle.os_ast.specs.Names.{Scope, enter, in_loop, typed}
 use Rattle.os_ast.specs.Notes.Clauses.{in_task, captured_in, in_task_body, parts_notes, clauses_notes}
 use Rattle.os_ast.specs.Notes.Declarators.{scalar_entity, after_declarator, after_declarators, declarators_notes, form, form_with, form_entity, sized_form, after_start, start_notes, size_of}
 use Rattle.os_ast.specs.Notes.Expressions.{expr_notes, place_notes, value_notes, step_notes}
@@ -24,6 +24,7 @@ use Rattle.os_ast.specs.declared.names.Owner.{Owner}
 use Rattle.os_ast.specs.declared.names.Owner.TheVariants as owner
 use Rattle.os_ast.specs.declared.names.Resolved.{Resolved}
 use Rattle.os_ast.specs.declared.names.Role.TheVariants as role
+use Rattle.os_ast.specs.declared.ty.Ty.{Ty}
 use Rattle.lowering_relation.specs.Tasks.{TaskTree, tasks_of, all_tasks_of}
 use Rattle.lowering_relation.proofs.NoTasks.{captures_both, none_both, none_expr, none_place, none_args, none_value, none_change, none_step, none_parts, none_declarators, none_start, none_stmt, items_owner}
 use Rattle.lowering_relation.proofs.Static.{entry, declarator_entries, declarator_onward, stmt_onward}
@@ -78,7 +79,7 @@ mutual
   pub stripped : (a : tree.StmtTree) (s : Scope) → map strip (tasks_in s a) ≡ tasks_of a
   stripped tree.StmtTree.Empty s = refl
   stripped (tree.Block ss) s = all_stripped ss (enter s)
-  stripped (tree.StmtTree.Declare ds) s = refl
+  stripped (tree.StmtTree.Declare ty ds) s = refl
   stripped (tree.StmtTree.Change c) s = refl
   stripped (tree.StmtTree.Call f args) s = refl
   stripped (tree.If c a) s = stripped a s
@@ -148,9 +149,13 @@ module _ (rs : List Resolved) (file : List Entry) where
     stacked = subst (λ o. text.Stacked (extent_in o) (after_declarator s d).slots (after_declarator s d).entries) (sym (declarator_onward s d).owner) (stacked-declarator s d h.stacked);
   })
 
+  -- a declaration of a type begins
+  pub typed_main : (ty : Ty) (s : Scope) → InMain file s → InMain file (typed ty s)
+  typed_main ty s h = record { owner = h.owner; inner = h.inner; entries = h.entries; all = h.all; stacked = h.stacked }
+
   pub start_main : (t : tree.StartTree) (s : Scope) → InMain file s → InMain file (after_start s t)
   start_main tree.StartTree.Empty s h = h
-  start_main (tree.StartTree.Declare ds) s h = declarators_main ds s h
+  start_main (tree.StartTree.Declare ty ds) s h = declarators_main ds (typed ty s) (typed_main ty s h)
   start_main (tree.StartTree.Change c) s h = h
 
   pub stmt_main : {a : tree.StmtTree} → IsStmt a → (s : Scope) → InMain file s → InMain file (after_stmt s a)
@@ -221,7 +226,9 @@ module _ (rs : List Resolved) (file : List Entry) where
 
     pub match_stmts : {ss : tree.Stmts} → AreStmts ss → (s : Scope) → InMain file s → AreLawful (stmts_notes s ss) → Tells rs (stmts_notes s ss) → Match (tasks_in_all s ss) (captures (stmts_notes s ss))
     match_stmts AreStmts.no_stmts s h lawful tells = tt
-    match_stmts (AreStmts.declare {ds = ds} {ss = ss} _ rest) s h lawful tells =
+    match_stmts (AreStmts.declare {t = ty} {ds = ds} {ss = ss} _ rest) s0 known lawful tells =
+        let s = typed ty s0 in
+        let h = typed_main ty s0 known in
         let x = declarators_notes s ds in
         let y = stmts_notes (after_declarators s ds) ss in
         behind_none (tasks_in_all (after_declarators s ds) ss) x y (none_declarators ds s) (match_stmts rest (after_declarators s ds) (declarators_main ds s h) (lawful-rest x y lawful) (tells-rest rs x y tells))

@@ -4,7 +4,7 @@ use Rattle.std.proofs.lemmas.Option.{slice_get_within}
 use Rattle.cddf_meaning.specs.Tasks.{Task as MeaningTask, task_at}
 use Rattle.os_ast.specs.Captured.{Scalar, captured, slots_of}
 use Rattle.os_ast.specs.Names.{Scope, lookup, entity_of}
-use Rattle.os_ast.specs.Notes.Clauses.{named_entity, item_entity, in_task, captured_in, in_task_body}
+use Rattle.os_ast.specs.Notes.Clauses.{named_entity, item_entity, in_task, captured_in, in_task_body, item_flag}
 use Rattle.os_ast.specs.Notes.Kinds.{Note, Used, Sized, Declared, Given, Global, Left, Returned, Pragma, Task, Listed}
 use Rattle.os_ast.specs.Notes.Statements.{after_stmt, stmt_notes}
 use Rattle.os_ast.specs.Parts.{Part, Item, Private, parts, item_name, is_in, private_ids}
@@ -104,7 +104,7 @@ module _ (h : Home) (site : Site) (kind : h.kind ≡ code_parts.Task site) (tell
   items_may (Item d i ∷ ps) k es rows all =
       let e : k + 0 ≡ k = omega arith in
       let is : slice_get site.items k ≡ Some (site_item tells d i) = ap (slice_get site.items) (sym e) ∙ rows 0 in
-      items_may ps (suc k) (record { id = (item_name i.stream i.window).id; depth = depth; entity = item_entity s k d i } ∷ es)
+      items_may ps (suc k) (record { id = (item_name i.stream i.window).id; depth = depth; entity = item_entity s k d i; unsigned = item_flag s i } ∷ es)
       (λ j. let f : suc k + j ≡ k + suc j = omega arith in ap (slice_get site.items) f ∙ rows (suc j))
       (named_may (item_name i.stream i.window).id k d i.window (entity_of (lookup s.entries (item_name i.stream i.window).id)) ((site, kind, slice_get_within site.items k (site_item tells d i) is), written d i k is), all)
 

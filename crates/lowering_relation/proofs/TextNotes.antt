@@ -17,6 +17,7 @@ module _ (t : Text) (s : Scope) (is : In t s) where
   mutual
     pub expr_scoped : (e : tree.ExprTree) → AllScoped t (expr_notes s e)
     expr_scoped (tree.Number n) = tt
+    expr_scoped (tree.Wide n) = tt
     expr_scoped (tree.Place p) = place_scoped p role.Value tt tt
     expr_scoped (tree.ExprTree.Call f args) = ((is, tt), args_scoped args)
     expr_scoped (tree.Paren e) = expr_scoped e
@@ -57,6 +58,7 @@ module _ (t : Text) (s : Scope) (is : In t s) where
 
   size_scoped : (e : tree.ExprTree) → AllScoped t (size_notes s e)
   size_scoped (tree.Number n) = tt
+  size_scoped (tree.Wide n) = tt
   size_scoped (tree.Place (tree.Variable n)) = (tt, tt)
   size_scoped (tree.Place (tree.Element n m e)) = tt
   size_scoped (tree.ExprTree.Call f args) = tt

@@ -6,7 +6,7 @@ use Rattle.os_ast.specs.Captured.{Scalar, captured, slots_of}
 use Rattle.os_ast.specs.FreeNames.{task_names}
 use Rattle.os_ast.specs.Leveled.{IsStmt, AreStmts}
 use Rattle.os_ast.specs.Limits.{is_size, size_limit}
-use Rattle.os_ast.specs.Names.{Scope, lookup, entity_of, enter, in_loop}
+use Rattle.os_ast.specs.Names.{Scope, lookup, entity_of, enter, in_loop, typed}
 use Rattle.os_ast.specs.Notes.Clauses.{in_task_body, parts_notes, clauses_notes}
 use Rattle.os_ast.specs.Notes.Declarators.{scalar_entity, sized_form, form_with, form_entity, size_of, size_told, limited, taken, after_declarator, after_declarators, declarator_notes, declarators_notes, sized_notes, after_start, start_notes}
 use Rattle.os_ast.specs.Notes.Expressions.{count_args, expr_notes, place_notes, args_notes, value_notes, change_notes, step_notes}
@@ -22,6 +22,7 @@ use Rattle.os_ast.specs.declared.names.Owner.{Owner}
 use Rattle.os_ast.specs.declared.names.Owner.TheVariants as owner
 use Rattle.os_ast.specs.declared.names.Role.TheVariants as role
 use Rattle.os_ast.specs.declared.names.Use.TheVariants as usage
+use Rattle.os_ast.specs.declared.ty.Ty.{Ty}
 use Rattle.lowering_relation.proofs.Capturing.{HasSlot, AreScalars, captured_scalars}
 use Rattle.lowering_relation.proofs.Homes.{Home, AllFit}
 use Rattle.lowering_relation.proofs.OwnNotes.{own_notes, all_own_notes}
@@ -138,14 +139,18 @@ module _ (t : Text) where
       (known_first t here rest known))
       (declarators_fit ds (after_declarator s d) inner room (known_rest t here rest known))
 
+  -- a declaration of a type begins
+  typed_in : (ty : Ty) (s : Scope) → In t s → In t (typed ty s)
+  typed_in ty s is = record { owner = is.owner; captured = is.captured; may = is.may }
+
   start_in : (x : tree.StartTree) (s : Scope) → In t s → HasRoom t (after_start s x) → Known t (start_notes s x) → In t (after_start s x)
   start_in tree.StartTree.Empty s is room known = is
-  start_in (tree.StartTree.Declare ds) s is room known = declarators_in ds s is room known
+  start_in (tree.StartTree.Declare ty ds) s is room known = declarators_in ds (typed ty s) (typed_in ty s is) room known
   start_in (tree.StartTree.Change c) s is room known = is
 
   start_fits : (x : tree.StartTree) (s : Scope) → In t s → HasRoom t (after_start s x) → Known t (start_notes s x) → AllFit t.home (start_notes s x)
   start_fits tree.StartTree.Empty s is room known = tt
-  start_fits (tree.StartTree.Declare ds) s is room known = declarators_fit ds s is room known
+  start_fits (tree.StartTree.Declare ty ds) s is room known = declarators_fit ds (typed ty s) (typed_in ty s is) room known
   start_fits (tree.StartTree.Change c) s is room known = all_fit t (change_notes s c) (change_scoped t s is c) known
 
   -- captured scalars have slots of `main`
@@ -249,7 +254,9 @@ module _ (t : Text) where
     pub stmts_fit : {ss : tree.Stmts} → AreStmts ss → (s : Scope) → In t s → HasRoom t (after_stmts s ss) → Known t (stmts_notes s ss) →
         AllFit t.home (all_own_notes s ss)
     stmts_fit AreStmts.no_stmts s is room known = tt
-    stmts_fit (AreStmts.declare {ds = ds} {ss = ss} _ rest) s is room known =
+    stmts_fit (AreStmts.declare {t = ty} {ds = ds} {ss = ss} _ rest) s0 in_round room known =
+        let s = typed ty s0 in
+        let is = typed_in ty s0 in_round in
         let next = after_declarators s ds in
         let x = declarators_notes s ds in
         let y = stmts_notes next ss in

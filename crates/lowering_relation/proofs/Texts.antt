@@ -6,7 +6,7 @@ use Rattle.std.specs.Prelude.{⊤, ◌⊎◌, All, unwrap_or, nat_lt, cond, ltb}
 use Rattle.os_ast.specs.Captured.{slots_of}
 use Rattle.os_ast.specs.Limits.{items_limit, captured_limit}
 use Rattle.os_ast.specs.Meanings.{meaning, meaning_in, place_in}
-use Rattle.os_ast.specs.Names.{Scope, lookup, entity_of, main_id}
+use Rattle.os_ast.specs.Names.{Scope, lookup, entity_of, main_id, flag_of}
 use Rattle.os_ast.specs.Notes.Declarators.{declared_entity, form_with, form_entity, scalar_entity, sized_form, taken, after_declarator, size_of}
 use Rattle.os_ast.specs.Notes.Kinds.{Note, Used, Sized, Declared, Given, Global, Left, Returned, Pragma, Task, Listed}
 use Rattle.os_ast.specs.Parts.{is_in}
@@ -341,7 +341,7 @@ module _ (t : Text) where
       let w = told-use t.names s n u d.0 d.1 (told, tt) in
       let same : tells t.home n.mark.place ≡ meaning_in t.owner t.captured d.0 =
       ap (λ f. f n.mark.place) t.told
-      ∙ told_is t.names n.mark.place (meaning_in s.owner s.captured d.0) t.ordered w
+      ∙ told_is t.names n.mark.place (meaning_in s.owner s.captured d.0) (flag_of (lookup s.entries n.id)) t.ordered w
       ∙ ap (λ o. meaning_in o s.captured d.0) is.owner
       ∙ ap (λ xs. meaning_in t.owner xs d.0) is.captured in
       subst (FitsUse t.home u) (sym same) (use_fits s n u d.0 is placed lawful catches d.1)
@@ -373,7 +373,7 @@ module _ (t : Text) where
   note_fits : (n : Note) → Scoped t n → KeepsAll rules n → AreIn t.names (resolutions_of n) → Catches t.owner t.captured n → FitsNote t.home n
   note_fits (Used s n u) scoped lawful told catches = told_use s n u scoped.0 scoped.1 lawful told catches
   note_fits (Declared s d) scoped lawful told catches = (
-    ap (λ f. f d.name.mark.place) t.told ∙ told_is t.names d.name.mark.place (meaning (declared_entity s d)) t.ordered told.0,
+    ap (λ f. f d.name.mark.place) t.told ∙ told_is t.names d.name.mark.place (meaning (declared_entity s d)) s.unsigned t.ordered told.0,
     form_fits s d.stream d.size scoped.0 scoped.1,
   )
   note_fits (Pragma s m) scoped lawful told catches = main_kind s.owner (sym scoped.owner) lawful.1.1.1.1.1.1.1.0

@@ -90,7 +90,7 @@ module _ (code : Parts) (file : File) (falls : CallsFall file) (names : List Res
 
   abbrev WindowGoal : Form → Name → tree.IndexTree → Scope → List Entry → State → Store → ℕ → ℕ → ℕ → ℕ → List ℤ → ℕ → (List Entry → Type 0) → Type 0
   WindowGoal f n i s es st m broke continued from to stack turns within =
-      Does code (at callers from stack m turns) (settled c callers leaves total to broke continued stack within (record { id = n.id; depth = (taken s f).depth; entity = form_entity s f } ∷ es)) (run_window file n.id i st turns)
+      Does code (at callers from stack m turns) (settled c callers leaves total to broke continued stack within (record { id = n.id; depth = (taken s f).depth; entity = form_entity s f; unsigned = (taken s f).unsigned } ∷ es)) (run_window file n.id i st turns)
 
   pub window_done : (n : Name) (i : tree.IndexTree) (first : Option tree.ExprTree) → DeclaratorRuns c callers leaves total sites (record { name = n; size = Some i; stream = false; first = first })
   window_done n i first s es st m broke continued from to stack turns within ready stacked fits2 len agree h =
@@ -113,7 +113,7 @@ module _ (code : Parts) (file : File) (falls : CallsFall file) (names : List Res
       is_form = ap (λ o. sized_form o (size_of s i.value)) ready.scope.owner
 
       window_entry : Entry
-      window_entry = record { id = n.id; depth = s.depth; entity = entity.Window s.slots }
+      window_entry = record { id = n.id; depth = s.depth; entity = entity.Window s.slots; unsigned = s.unsigned }
 
       room : s.slots + 1 ≤ total
       room = subst (λ f. (taken s f).slots ≤ total) is_form fits2

@@ -44,6 +44,7 @@ is_quiet_two _ = false
 abbrev mutual
   pub is_quiet : tree.ExprTree → Bool
   is_quiet (tree.Number n) = true
+  is_quiet (tree.Wide n) = true
   is_quiet (tree.Place (tree.Variable n)) = true
   is_quiet (tree.Place (tree.Element n m e)) = false
   is_quiet (tree.ExprTree.Call f args) = false

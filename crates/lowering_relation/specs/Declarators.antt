@@ -41,5 +41,5 @@ HasDeclarators code tells (d ∷ ds) from to =
 
 abbrev pub HasStart : Parts → (ℕ → What) → tree.StartTree → (from to : ℕ) → Type 0
 HasStart code tells tree.StartTree.Empty from to = from ≡ to
-HasStart code tells (tree.StartTree.Declare ds) from to = HasDeclarators code tells ds from to
+HasStart code tells (tree.StartTree.Declare ty ds) from to = HasDeclarators code tells ds from to
 HasStart code tells (tree.StartTree.Change c) from to = HasChange code tells c from to

@@ -1,6 +1,7 @@
 -- Which instructions stand for an expression, from one place to another: its code pushes its value. `tells` says what
 -- the name at a place means.
 use Rattle.std.specs.Prelude.{◌≡◌, ℕ, suc, ◌+◌, List, [], ◌∷◌, Option, Some, None, Ok, ℤ, pos}
+use Rattle.std.specs.Int.{w32, cast_signed}
 use Rattle.c_int.specs.declared.operators.Binary as int_binary
 use Rattle.c_int.specs.declared.operators.Unary.TheVariants as int_unary
 use Rattle.cddf_meaning.specs.Operators.{operator_of_one, operator_of_two, unary_value}
@@ -52,6 +53,7 @@ HasLink code op line right from to = (end : ℕ) × right from end × Stands cod
 abbrev mutual
   pub HasExpr : Parts → (ℕ → What) → tree.ExprTree → (from to : ℕ) → Type 0
   HasExpr code tells (tree.Number n) from to = Stands code (Push (pos n) ∷ []) from to
+  HasExpr code tells (tree.Wide n) from to = Stands code (Push (cast_signed w32 n) ∷ []) from to
   HasExpr code tells (tree.Place t) from to = HasPlace code tells t from to
   HasExpr code tells (tree.ExprTree.Call f args) from to =
       (end : ℕ) × HasArgs code tells args from end × Stands code (Turn ∷ calling (tells f.mark.place) ∷ []) end to

@@ -14,7 +14,7 @@ use Rattle.flow_core_laws.specs.declared.activation.Activation.{Activation}
 use Rattle.os_ast.specs.Leveled.{IsLeveled}
 use Rattle.os_ast.specs.Marks.{HasPlaces}
 use Rattle.os_ast.specs.Names.{main_id}
-use Rattle.os_ast.specs.Notes.Programs.{param_names}
+use Rattle.os_ast.specs.Notes.Programs.{param_list}
 use Rattle.os_ast.specs.Trees as tree
 use Rattle.os_ast.specs.Violations.{violations}
 
@@ -54,5 +54,5 @@ FunctionsFindTheirNames =
     (items rest : List tree.ItemTree) (f : tree.FunctionTree) (more : List Binding) (args : List ℤ) (turns : ℕ)
     → IsLawful (items ++ tree.Function f ∷ rest) →
     (f.name.id == main_id) ≡ false → AreElse (file_of items) more →
-    returned (run_all (in_function (file_of items)) f.body (with_more more (state_of (bind_params (param_names f.params) args []) [])) turns)
+    returned (run_all (in_function (file_of items)) f.body (with_more more (state_of (bind_params (param_list f.params) args []) [])) turns)
     ≡ call_function (file_of items) f args (suc turns)

@@ -2,7 +2,7 @@
 use Rattle.std.specs.Prelude.{◌≡◌, ⊤, ℕ, suc, ◌+◌, ◌==◌, Bool, true, false, List, [], ◌∷◌, length, Some, slice_get, pos, unwrap_or}
 use Rattle.os_ast.specs.Names.{main_id}
 use Rattle.os_ast.specs.Notes.Declarators.{within_limit}
-use Rattle.os_ast.specs.Notes.Programs.{param_names}
+use Rattle.os_ast.specs.Notes.Programs.{param_list}
 use Rattle.os_ast.specs.Trees as tree
 use Rattle.os_ast.specs.declared.names.Owner.TheVariants as owner
 use Rattle.os_ast.specs.declared.names.What.{What}
@@ -24,6 +24,7 @@ constant_size _ = 0
 
 abbrev pub size_by : (ℕ → What) → tree.ExprTree → ℕ
 size_by tells (tree.Number n) = unwrap_or (within_limit (pos n)) 0
+size_by tells (tree.Wide n) = unwrap_or (within_limit (pos n)) 0
 size_by tells (tree.Place (tree.Variable n)) = constant_size (tells n.mark.place)
 size_by tells _ = 0
 
@@ -40,8 +41,8 @@ pub record HasFunction (code : Parts) (tells : ℕ → What) (number : ℕ) (f :
   pub body : HasStmts code (in_function tells) f.body end end end unit.start end
   pub falls_off : Stands code (Push (pos 0) ∷ Return ∷ []) end last
   pub fills : unit.start + unit.stack ≡ last
-  pub args : unit.args ≡ length (param_names f.params)
-  pub slots : unit.slots ≡ length (param_names f.params) + stmts_slots owner.OfFunction (size_by tells) f.body
+  pub args : unit.args ≡ length (param_list f.params)
+  pub slots : unit.slots ≡ length (param_list f.params) + stmts_slots owner.OfFunction (size_by tells) f.body
 
 abbrev pub in_main : (ℕ → What) → List TaskTree → Body
 in_main tells tasks = record { tells = tells; tasks = tasks; leaves = End }

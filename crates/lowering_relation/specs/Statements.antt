@@ -51,7 +51,7 @@ abbrev mutual
   pub HasStmt : Parts → Body → tree.StmtTree → (broke continued next from to : ℕ) → Type 0
   HasStmt code b tree.StmtTree.Empty broke continued next from to = (from ≡ to) × (next ≡ to)
   HasStmt code b (tree.Block ss) broke continued next from to = HasStmts code b ss broke continued next from to
-  HasStmt code b (tree.StmtTree.Declare ds) broke continued next from to = HasDeclarators code b.tells ds from to × (next ≡ to)
+  HasStmt code b (tree.StmtTree.Declare ty ds) broke continued next from to = HasDeclarators code b.tells ds from to × (next ≡ to)
   HasStmt code b (tree.StmtTree.Change c) broke continued next from to = HasChange code b.tells c from to × (next ≡ to)
   HasStmt code b (tree.StmtTree.Call f args) broke continued next from to =
       (end : ℕ) × HasExpr code b.tells (tree.ExprTree.Call f args) from end × Stands code (Drop ∷ []) end to × (next ≡ to)

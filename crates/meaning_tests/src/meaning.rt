@@ -2,6 +2,11 @@
 
 mod large;
 
+ghost use Rattle.std.specs.Prelude.{All, IfOk};
+ghost use Rattle.os_ast.specs.Spelling.{spell};
+ghost use Rattle.os_ast.specs.Views.{program_tree};
+ghost use Rattle.os_lexer.specs.Laws.{HasSmallNumber};
+
 use crate::bodies::{BEFORE, BODIES};
 use crate::case::Case;
 use crate::flows::FLOWS;
@@ -17,7 +22,9 @@ use std::test::Fail;
 use window_check::Checked;
 
 /// A program that violates no rule.
-fn accepted(alloc: Global, text: &str) -> Result<Checked, Fail> {
+fn accepted(alloc: Global, text: &str) -> Result<Checked, Fail>
+    ensures { IfOk result (λ checked. All HasSmallNumber (spell (program_tree checked.program))) }
+{
     if text.len() > 262_144 {
         return Err(Fail::from("the text is too long"));
     }
@@ -93,7 +100,9 @@ fn outcome(
     activation: &Activation,
     inputs: &[i32],
     budget: u64,
-) -> Result<String, Fail> {
+) -> Result<String, Fail>
+    requires { All HasSmallNumber (spell (program_tree program.now)) }
+{
     let (end, outputs) = plain_body(alloc, program, activation, inputs, budget)?;
     body_text(alloc, end, outputs.as_slice())
 }

@@ -1,7 +1,7 @@
 -- Statements only add declarations to what is in scope, and a block or a loop leaves it as it was.
 use Rattle.std.proofs.Common.{List, [], ◌∷◌}
 use Rattle.os_ast.specs.Kept.{Keeps, same, more}
-use Rattle.os_ast.specs.Names.{Scope, in_loop}
+use Rattle.os_ast.specs.Names.{Scope, in_loop, typed}
 use Rattle.os_ast.specs.Notes.Declarators.{after_declarators, after_declarator, taken, form}
 use Rattle.os_ast.specs.Notes.Statements.{after_stmt, after_stmts}
 use Rattle.os_ast.specs.Trees as tree
@@ -27,7 +27,7 @@ keeps-declarators s (d ∷ ds) = keeps-then (more (keeps-taken s (form s d))) (k
 pub keeps-stmt : (s : Scope) (a : tree.StmtTree) → Keeps s.entries (after_stmt s a).entries
 keeps-stmt s tree.StmtTree.Empty = same
 keeps-stmt s (tree.Block ss) = same
-keeps-stmt s (tree.StmtTree.Declare ds) = keeps-declarators s ds
+keeps-stmt s (tree.StmtTree.Declare t ds) = keeps-declarators (typed t s) ds
 keeps-stmt s (tree.StmtTree.Change c) = same
 keeps-stmt s (tree.StmtTree.Call f args) = same
 keeps-stmt s (tree.If c a) = keeps-stmt s a

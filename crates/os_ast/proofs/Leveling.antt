@@ -7,6 +7,7 @@ pub ruleset levels = (
   leveled.chain,
   leveled.unary,
   leveled.number,
+  leveled.wide,
   leveled.place,
   leveled.IsExpr.call,
   leveled.paren,

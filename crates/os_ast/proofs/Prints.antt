@@ -1,12 +1,13 @@
 -- A printer puts the same symbols in front of whatever follows.
-use Rattle.std.proofs.Common.{◌≡◌, Bool, true, false, List, [], ◌∷◌, ◌++◌, Option, Some, None, refl, sym, append_assoc}
+use Rattle.std.proofs.Common.{◌≡◌, ℕ, Bool, true, false, List, [], ◌∷◌, ◌++◌, Option, Some, None, refl, sym, append_assoc}
 use Rattle.os_ast.specs.Spelling as s
 use Rattle.os_ast.specs.Spelling.{Symbol, Printer, ◌⨾◌}
 use Rattle.os_ast.specs.Trees as tree
 use Rattle.os_ast.specs.declared.expr.Mark.{Mark}
 use Rattle.os_ast.specs.declared.program.Params.{Params}
 use Rattle.os_ast.specs.declared.program.Params.TheVariants as params_of
-use Rattle.os_lexer.specs.declared.token.Key.TheVariants as keys
+use Rattle.os_ast.specs.declared.ty.Ty.{Ty}
+use Rattle.os_ast.specs.declared.ty.Ty.TheVariants as ty_of
 use Rattle.os_lexer.specs.declared.token.Kind.{Kind}
 use Rattle.os_lexer.specs.declared.token.Punct.{Punct}
 use Rattle.os_lexer.specs.declared.token.Punct.TheVariants as puncts
@@ -51,6 +52,7 @@ mutual
   prints_expr (tree.Chain level first rest) = prints_expr first then links rest
   prints_expr (tree.Unary op m e) = token_at then prints_expr e
   prints_expr (tree.Number n) = token
+  prints_expr (tree.Wide n) = token
   prints_expr (tree.Place t) = target t
   prints_expr (tree.ExprTree.Call f es) = token_at then in_parens (args es)
   prints_expr (tree.Paren e) = in_parens (prints_expr e)
@@ -84,8 +86,13 @@ attribute true = token then in_parens (in_parens token)
 pub declarator : (d : tree.DeclaratorTree) → Prints (s.declarator d)
 declarator d = token_at then optional s.index index d.size then attribute d.stream then optional s.first_value first_value d.first
 
-pub declare : (ds : List tree.DeclaratorTree) → Prints (s.declare ds)
-declare ds = token then listed s.declarator declarator ds then token
+pub type_words : (t : Ty) → Prints (s.type_words t)
+type_words ty_of.Int = token
+type_words ty_of.Unsigned = token
+type_words ty_of.UnsignedInt = token then token
+
+pub declare : (t : Ty) (ds : List tree.DeclaratorTree) → Prints (s.declare t ds)
+declare t ds = type_words t then listed s.declarator declarator ds then token
 
 pub change : (c : tree.ChangeTree) → Prints (s.change c)
 change (tree.Set t a m e) = target t then token_at then prints_expr e
@@ -94,7 +101,7 @@ change (tree.Before t step m) = token_at then target t
 
 pub start : (st : tree.StartTree) → Prints (s.start st)
 start tree.StartTree.Empty = token
-start (tree.StartTree.Declare ds) = declare ds
+start (tree.StartTree.Declare t ds) = declare t ds
 start (tree.StartTree.Change c) = change c then token
 
 pub join : (arrow : Punct) (j : tree.JoinTree) → Prints (s.join arrow j)
@@ -134,7 +141,7 @@ mutual
   prints_stmt (tree.Task m cs body) = token_at then token then token then each s.clause clause cs then token then prints_stmt body
   prints_stmt (tree.Tick m t a e) = token_at then token then token then in_parens (target t then token_at then prints_expr e) then token
   prints_stmt (tree.Taskwait m) = token_at then token then token then token
-  prints_stmt (tree.StmtTree.Declare ds) = declare ds
+  prints_stmt (tree.StmtTree.Declare t ds) = declare t ds
 
   pub stmts : (ss : tree.Stmts) → Prints (s.stmts ss)
   stmts tree.no_stmts = nothing
@@ -147,8 +154,12 @@ sign true = token
 pub params : (ps : Params) → Prints (s.params ps)
 params params_of.Empty = nothing
 params params_of.Void = token
-params (params_of.Names ns) = listed (λ n. s.key keys.Int ⨾ s.name n) (λ n. token then token_at) ns
+params (params_of.Names ps) = listed s.param (λ p. type_words p.ty then token_at) ps
+
+pub numeral : (wide : Bool) (n : ℕ) → Prints (s.numeral wide n)
+numeral false n = token
+numeral true n = token
 
 pub prints_item : (i : tree.ItemTree) → Prints (s.item i)
-prints_item (tree.Constant c) = token then token then token_at then token then sign c.minus then token then token
-prints_item (tree.Function f) = token then token_at then in_parens (params f.params) then token then stmts f.body then token
+prints_item (tree.Constant c) = token then type_words c.ty then token_at then token then sign c.minus then numeral c.wide c.size then token
+prints_item (tree.Function f) = type_words f.ty then token_at then in_parens (params f.params) then token then stmts f.body then token

@@ -9,6 +9,7 @@ use Rattle.os_ast.specs.declared.expr.Binary.{Binary}
 use Rattle.os_ast.specs.declared.expr.Level.{Level}
 use Rattle.os_ast.specs.declared.program.Params.{Params}
 use Rattle.os_ast.specs.declared.stmt.Assign.{Assign}
+use Rattle.os_ast.specs.declared.ty.Ty.{Ty}
 
 both : {A B C : Type 0} (f : A → B → C) {a c : A} {b d : B} → a ≡ c → b ≡ d → f a b ≡ f c d
 both f {a} {c} {b} {d} h k = ap (λ x. f x b) h ∙ ap (λ y. f c y) k
@@ -34,6 +35,7 @@ mutual
   expr_once (IsExpr.chain a b c) (IsExpr.chain p q r) = three IsExpr.chain (expr_once a p) (less_once b q) (links_once c r)
   expr_once (IsExpr.unary a b) (IsExpr.unary p q) = both IsExpr.unary (expr_once a p) (le_prop b q)
   expr_once (IsExpr.number a) (IsExpr.number p) = ap IsExpr.number (less_once a p)
+  expr_once IsExpr.wide IsExpr.wide = refl
   expr_once (IsExpr.place a) (IsExpr.place p) = ap IsExpr.place (target_once a p)
   expr_once (IsExpr.call a) (IsExpr.call p) = ap IsExpr.call (args_once a p)
   expr_once (IsExpr.paren a) (IsExpr.paren p) = ap IsExpr.paren (expr_once a p)
@@ -114,7 +116,7 @@ clauses_once : {cs : List tree.ClauseTree} (p q : AreClauses cs) → p ≡ q
 clauses_once AreClauses.no_clauses AreClauses.no_clauses = refl
 clauses_once (AreClauses.clauses a b) (AreClauses.clauses p q) = both AreClauses.clauses (kind_once a p) (all_once (λ x p q. clause_once p q) b q)
 
-no_declaration : {ds : List tree.DeclaratorTree} → IsStmt (tree.StmtTree.Declare ds) → ⊥
+no_declaration : {t : Ty} {ds : List tree.DeclaratorTree} → IsStmt (tree.StmtTree.Declare t ds) → ⊥
 no_declaration h = elim h [ ]
 
 mutual
@@ -149,6 +151,7 @@ params_once IsParams.names IsParams.names = refl
 
 program_item_once : {i : tree.ItemTree} (p q : IsItem i) → p ≡ q
 program_item_once (IsItem.constant a) (IsItem.constant p) = ap IsItem.constant (less_once a p)
+program_item_once IsItem.wide_constant IsItem.wide_constant = refl
 program_item_once (IsItem.function a b) (IsItem.function p q) = both IsItem.function (params_once a p) (stmts_once b q)
 
 -- two proofs that a program is leveled are equal

@@ -13,6 +13,7 @@ pub data BeginsWith (P : Kind → Type 0) : List Symbol → Type 0 where
 -- a number, a name, `(`, or an operator with one operand
 pub data CanBeginExpr : Kind → Type 0 where
   number : {n : ℕ} → CanBeginExpr (kind.Number n)
+  wide : {n : ℕ} → CanBeginExpr (kind.Wide n)
   name : {n : ℕ} → CanBeginExpr (kind.Name n)
   paren : CanBeginExpr (kind.Punct puncts.OpenParen)
   minus : CanBeginExpr (kind.Punct puncts.Minus)
@@ -20,7 +21,7 @@ pub data CanBeginExpr : Kind → Type 0 where
   not : CanBeginExpr (kind.Punct puncts.Not)
   invert : CanBeginExpr (kind.Punct puncts.Invert)
 
--- `;`, `{`, a name, `++` or `--`, a word of a statement, `int` of a declaration, or a pragma
+-- `;`, `{`, a name, `++` or `--`, a word of a statement, `int` or `unsigned` of a declaration, or a pragma
 pub data CanBeginStmt : Kind → Type 0 where
   semicolon : CanBeginStmt (kind.Punct puncts.Semicolon)
   brace : CanBeginStmt (kind.Punct puncts.OpenBrace)
@@ -28,6 +29,7 @@ pub data CanBeginStmt : Kind → Type 0 where
   up : CanBeginStmt (kind.Punct puncts.Up)
   down : CanBeginStmt (kind.Punct puncts.Down)
   int : CanBeginStmt (kind.Key keys.Int)
+  unsigned : CanBeginStmt (kind.Key keys.Unsigned)
   if : CanBeginStmt (kind.Key keys.If)
   while : CanBeginStmt (kind.Key keys.While)
   for : CanBeginStmt (kind.Key keys.For)
@@ -36,7 +38,8 @@ pub data CanBeginStmt : Kind → Type 0 where
   return : CanBeginStmt (kind.Key keys.Return)
   pragma : CanBeginStmt kind.PragmaStart
 
--- `const` or `int`
+-- `const`, `int` or `unsigned`
 pub data CanBeginItem : Kind → Type 0 where
   const : CanBeginItem (kind.Key keys.Const)
   int : CanBeginItem (kind.Key keys.Int)
+  unsigned : CanBeginItem (kind.Key keys.Unsigned)

@@ -53,7 +53,7 @@ listed_twice_code = 21
 abbrev pub task_limit_code : ℕ
 task_limit_code = 22
 
--- there is no function `main` without parameters
+-- there is no function `main` of type `int` without parameters
 abbrev pub no_main_code : ℕ
 no_main_code = 23
 

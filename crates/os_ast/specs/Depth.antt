@@ -14,6 +14,7 @@ deepest depth (x ∷ xs) = max (depth x) (deepest depth xs)
 abbrev mutual
   pub expr_depth : tree.ExprTree → ℕ
   expr_depth (tree.Number n) = 1
+  expr_depth (tree.Wide n) = 1
   expr_depth (tree.Place t) = 1 + target_depth t
   expr_depth (tree.ExprTree.Call f args) = 1 + args_depth args
   expr_depth (tree.Paren e) = 1 + expr_depth e
@@ -53,7 +54,7 @@ change_depth (tree.Before t s m) = target_depth t
 
 abbrev pub start_depth : tree.StartTree → ℕ
 start_depth tree.StartTree.Empty = 0
-start_depth (tree.StartTree.Declare ds) = deepest declarator_depth ds
+start_depth (tree.StartTree.Declare ty ds) = deepest declarator_depth ds
 start_depth (tree.StartTree.Change c) = change_depth c
 
 abbrev pub step_depth : Option tree.ChangeTree → ℕ
@@ -76,7 +77,7 @@ abbrev mutual
   pub stmt_depth : tree.StmtTree → ℕ
   stmt_depth tree.StmtTree.Empty = 1
   stmt_depth (tree.Block stmts) = 1 + stmts_depth stmts
-  stmt_depth (tree.StmtTree.Declare ds) = 1 + deepest declarator_depth ds
+  stmt_depth (tree.StmtTree.Declare ty ds) = 1 + deepest declarator_depth ds
   stmt_depth (tree.StmtTree.Change c) = 1 + change_depth c
   stmt_depth (tree.StmtTree.Call f args) = 1 + args_depth args
   stmt_depth (tree.If c a) = 1 + max (expr_depth c) (stmt_depth a)

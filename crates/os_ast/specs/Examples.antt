@@ -13,10 +13,16 @@ pub mod SmoothNames
 pub mod Spreading
 pub mod Stages
 pub mod Subtractions
+pub mod Unsigned
 use Rattle.std.specs.Prelude.{ℕ, ◌+◌, false, List, [], ◌∷◌, Option, Some, None}
+use Rattle.os_ast.specs.Meanings.{resolved}
 use Rattle.os_ast.specs.Trees as tree
 use Rattle.os_ast.specs.declared.expr.Mark.{Mark}
 use Rattle.os_ast.specs.declared.expr.Name.{Name}
+use Rattle.os_ast.specs.declared.names.Resolved.{Resolved}
+use Rattle.os_ast.specs.declared.names.What.{What}
+use Rattle.os_ast.specs.declared.program.Param.{Param}
+use Rattle.os_ast.specs.declared.ty.Ty.TheVariants as ty
 use Rattle.os_lexer.specs.declared.token.Kind.{Kind}
 use Rattle.os_lexer.specs.declared.token.Token.{Token}
 
@@ -31,6 +37,14 @@ mark place line = record { place = place; line = line }
 -- a name with its number, its place and its line
 abbrev pub named : ℕ → ℕ → ℕ → Name
 named id place line = record { id = id; mark = mark place line }
+
+-- a parameter of type `int`
+abbrev pub int_param : ℕ → ℕ → ℕ → Param
+int_param id place line = record { ty = ty.Int; name = named id place line }
+
+-- a name of type `int`, by its place, and what it means
+abbrev pub int_named : ℕ → What → Resolved
+int_named place w = resolved place w false
 
 abbrev pub variable : ℕ → ℕ → ℕ → tree.TargetTree
 variable id place line = tree.Variable (named id place line)

@@ -8,6 +8,7 @@ use Rattle.os_ast.specs.Trees as tree
 abbrev mutual
   pub expr_names : tree.ExprTree → List ℕ
   expr_names (tree.Number n) = []
+  expr_names (tree.Wide n) = []
   expr_names (tree.Place t) = target_names t
   expr_names (tree.ExprTree.Call f args) = f.id ∷ args_names args
   expr_names (tree.Paren e) = expr_names e
@@ -71,19 +72,19 @@ declarators_names (d ∷ ds) = without (d.name.id ∷ []) (value_names d.first +
 
 abbrev pub start_ids : tree.StartTree → List ℕ
 start_ids tree.StartTree.Empty = []
-start_ids (tree.StartTree.Declare ds) = declared_ids ds
+start_ids (tree.StartTree.Declare t ds) = declared_ids ds
 start_ids (tree.StartTree.Change c) = []
 
 abbrev pub start_names : tree.StartTree → List ℕ
 start_names tree.StartTree.Empty = []
-start_names (tree.StartTree.Declare ds) = declarators_names ds
+start_names (tree.StartTree.Declare t ds) = declarators_names ds
 start_names (tree.StartTree.Change c) = change_names c
 
 -- the names that a statement or declaration declares in the scope in which it stands
 abbrev pub stmt_ids : tree.StmtTree → List ℕ
 stmt_ids tree.StmtTree.Empty = []
 stmt_ids (tree.Block ss) = []
-stmt_ids (tree.StmtTree.Declare ds) = declared_ids ds
+stmt_ids (tree.StmtTree.Declare t ds) = declared_ids ds
 stmt_ids (tree.StmtTree.Change c) = []
 stmt_ids (tree.StmtTree.Call f args) = []
 stmt_ids (tree.If c a) = stmt_ids a
@@ -102,7 +103,7 @@ abbrev mutual
   pub stmt_names : tree.StmtTree → List ℕ
   stmt_names tree.StmtTree.Empty = []
   stmt_names (tree.Block ss) = stmts_names ss
-  stmt_names (tree.StmtTree.Declare ds) = declarators_names ds
+  stmt_names (tree.StmtTree.Declare t ds) = declarators_names ds
   stmt_names (tree.StmtTree.Change c) = change_names c
   stmt_names (tree.StmtTree.Call f args) = f.id ∷ args_names args
   stmt_names (tree.If c a) = expr_names c ++ stmt_names a

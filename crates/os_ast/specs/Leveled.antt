@@ -9,10 +9,12 @@ use Rattle.os_ast.specs.declared.expr.Level.{Level}
 use Rattle.os_ast.specs.declared.expr.Mark.{Mark}
 use Rattle.os_ast.specs.declared.expr.Name.{Name}
 use Rattle.os_ast.specs.declared.expr.Unary as operator
+use Rattle.os_ast.specs.declared.program.Param.{Param}
 use Rattle.os_ast.specs.declared.program.Params.{Params}
 use Rattle.os_ast.specs.declared.program.Params.TheVariants as params_of
 use Rattle.os_ast.specs.declared.stmt.Assign.{Assign}
 use Rattle.os_ast.specs.declared.stmt.Step.{Step}
+use Rattle.os_ast.specs.declared.ty.Ty.{Ty}
 
 -- The level of an expression by number: from 0, a choice, to 12, what stands by itself.
 abbrev pub level : tree.ExprTree → ℕ
@@ -20,6 +22,7 @@ level (tree.Choice c a b) = 0
 level (tree.Chain l first links) = precedence l
 level (tree.Unary op m e) = 11
 level (tree.Number n) = 12
+level (tree.Wide n) = 12
 level (tree.Place t) = 12
 level (tree.ExprTree.Call f args) = 12
 level (tree.Paren e) = 12
@@ -34,6 +37,7 @@ mutual
         IsExpr (tree.Chain l first (tree.link op m e rest))
     unary : {op : operator.Unary} {m : Mark} {e : tree.ExprTree} → IsExpr e → 11 ≤ level e → IsExpr (tree.Unary op m e)
     number : {n : ℕ} → n < 2 ^ 31 → IsExpr (tree.Number n)
+    wide : {n : ℕ} → IsExpr (tree.Wide n)
     place : {t : tree.TargetTree} → IsTarget t → IsExpr (tree.Place t)
     call : {f : Name} {args : tree.Args} → AreArgs args → IsExpr (tree.ExprTree.Call f args)
     paren : {e : tree.ExprTree} → IsExpr e → IsExpr (tree.Paren e)
@@ -98,7 +102,7 @@ pub data IsChange : tree.ChangeTree → Type 0 where
 -- declare1 | [ change ] ";"
 pub data IsStart : tree.StartTree → Type 0 where
   empty : IsStart tree.StartTree.Empty
-  declare : {ds : List tree.DeclaratorTree} → AreListed IsHeadDeclarator ds → IsStart (tree.StartTree.Declare ds)
+  declare : {t : Ty} {ds : List tree.DeclaratorTree} → AreListed IsHeadDeclarator ds → IsStart (tree.StartTree.Declare t ds)
   change : {c : tree.ChangeTree} → IsChange c → IsStart (tree.StartTree.Change c)
 
 -- in = stream ">>" name [ "[" expr "]" ] | name
@@ -136,7 +140,7 @@ takes_else (tree.For start test step s) = takes_else s
 takes_else (tree.Task m cs s) = takes_else s
 takes_else tree.StmtTree.Empty = false
 takes_else (tree.Block ss) = false
-takes_else (tree.StmtTree.Declare ds) = false
+takes_else (tree.StmtTree.Declare t ds) = false
 takes_else (tree.StmtTree.Change c) = false
 takes_else (tree.StmtTree.Call f args) = false
 takes_else (tree.Break m) = false
@@ -170,22 +174,24 @@ mutual
   -- a declaration stands directly in a block
   pub data AreStmts : tree.Stmts → Type 0 where
     no_stmts : AreStmts tree.no_stmts
-    declare : {ds : List tree.DeclaratorTree} {ss : tree.Stmts} →
-        AreListed IsDeclarator ds → AreStmts ss → AreStmts (tree.stmt (tree.StmtTree.Declare ds) ss)
+    declare : {t : Ty} {ds : List tree.DeclaratorTree} {ss : tree.Stmts} →
+        AreListed IsDeclarator ds → AreStmts ss → AreStmts (tree.stmt (tree.StmtTree.Declare t ds) ss)
     stmt : {s : tree.StmtTree} {ss : tree.Stmts} → IsStmt s → AreStmts ss → AreStmts (tree.stmt s ss)
 
--- params = "void" | "int" name { "," "int" name }
+-- params = "void" | type name { "," type name }
 pub data IsParams : Params → Type 0 where
   empty : IsParams params_of.Empty
   void : IsParams params_of.Void
-  names : {n : Name} {ns : List Name} → IsParams (params_of.Names (n ∷ ns))
+  names : {p : Param} {ps : List Param} → IsParams (params_of.Names (p ∷ ps))
 
 -- constant | function
 pub data IsItem : tree.ItemTree → Type 0 where
-  constant : {n : Name} {minus : Bool} {size : ℕ} → size < 2 ^ 31 →
-      IsItem (tree.Constant (record { name = n; minus = minus; size = size }))
-  function : {n : Name} {params : Params} {body : tree.Stmts} → IsParams params → AreStmts body →
-      IsItem (tree.Function (record { name = n; params = params; body = body }))
+  constant : {t : Ty} {n : Name} {minus : Bool} {size : ℕ} → size < 2 ^ 31 →
+      IsItem (tree.Constant (record { ty = t; name = n; minus = minus; size = size; wide = false }))
+  wide_constant : {t : Ty} {n : Name} {minus : Bool} {size : ℕ} →
+      IsItem (tree.Constant (record { ty = t; name = n; minus = minus; size = size; wide = true }))
+  function : {t : Ty} {n : Name} {params : Params} {body : tree.Stmts} → IsParams params → AreStmts body →
+      IsItem (tree.Function (record { ty = t; name = n; params = params; body = body }))
 
 -- every part stands where the grammar admits it, and the depth is within the limit
 pub record IsLeveled (p : tree.ProgramTree) : Type 0 where

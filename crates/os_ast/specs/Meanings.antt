@@ -1,5 +1,5 @@
 -- What a name token means to the stages after the checks: numbers of functions, slots, streams and items.
-use Rattle.std.specs.Prelude.{ℕ, ◌==◌, List, position, unwrap_or}
+use Rattle.std.specs.Prelude.{ℕ, Bool, ◌==◌, List, position, unwrap_or}
 use Rattle.os_ast.specs.declared.names.What.{What}
 use Rattle.os_ast.specs.declared.names.What.TheVariants as what
 use Rattle.os_ast.specs.declared.names.Owner.{Owner}
@@ -38,6 +38,6 @@ meaning_in owner.OfTask captured e = meaning_in_task captured e
 meaning_in owner.OfMain captured e = meaning e
 meaning_in owner.OfFunction captured e = meaning e
 
--- a name token, by its place, and what it means
-abbrev pub resolved : ℕ → What → Resolved
-resolved place w = record { place = place; what = w }
+-- a name token, by its place, what it means, and whether that is of the type `unsigned`
+abbrev pub resolved : ℕ → What → Bool → Resolved
+resolved place w unsigned = record { place = place; what = w; unsigned = unsigned }

@@ -1,11 +1,14 @@
 -- What names mean: declarations, scopes, and what is in scope at a place.
-use Rattle.std.specs.Prelude.{ℕ, ◌+◌, ◌==◌, Bool, true, false, if◌then◌else◌, List, [], ◌∷◌, Option, Some, None, ℤ, pos, neg_ℤ}
+use Rattle.std.specs.Prelude.{ℕ, ◌+◌, ◌==◌, Bool, true, false, if◌then◌else◌, List, [], ◌∷◌, Option, Some, None, ℤ, pos, neg_ℤ, ◌^◌, unsigned_abs}
+use Rattle.std.specs.Int.{w32, cast_signed, int_rem_euclid}
 -- the numbers that the lexer gives the names which a program doesn't declare, or that mean more than others
 pub use Rattle.os_lexer.specs.Names.{main_id, osin_id, osout_id, osin_len_id}
+use Rattle.os_ast.specs.Types.{is_unsigned}
 use Rattle.os_ast.specs.declared.names.Entity.{Entity}
 use Rattle.os_ast.specs.declared.names.Entry.{Entry}
 use Rattle.os_ast.specs.declared.names.Owner.{Owner}
 use Rattle.os_ast.specs.declared.program.Constant.{Constant as ConstantItem}
+use Rattle.os_ast.specs.declared.ty.Ty.{Ty}
 
 -- A place of the program: what is in scope there, from the innermost declaration on, how many scopes are open inside
 -- that of the file, whose body it is, whether a loop of that body is round it, and what is taken by the declarations before it.
@@ -23,6 +26,8 @@ pub record Scope : Type 0 where
   pub arrays : ℕ
   pub streams : ℕ
   pub functions : ℕ
+  -- whether the last declaration is of the type `unsigned`
+  pub unsigned : Bool
 
 -- A body begins: a function's or a task's, with slots and elements of its own and in no loop.
 abbrev pub in_unit : Owner → Scope → Scope
@@ -38,6 +43,11 @@ abbrev pub entity_of : Option Entry → Option Entity
 entity_of None = None
 entity_of (Some e) = Some e.entity
 
+-- whether what a name is declared as where it stands is of the type `unsigned`
+abbrev pub flag_of : Option Entry → Bool
+flag_of None = false
+flag_of (Some e) = e.unsigned
+
 abbrev pub stands_at : ℕ → Option Entry → Bool
 stands_at depth None = false
 stands_at depth (Some e) = e.depth == depth
@@ -46,9 +56,16 @@ stands_at depth (Some e) = e.depth == depth
 abbrev pub is_declared : Scope → ℕ → Bool
 is_declared s id = stands_at s.depth (lookup s.entries id)
 
--- the scope with one more declaration
+-- A declaration of a type begins.
+abbrev pub flagged : Bool → Scope → Scope
+flagged unsigned s = record s { unsigned = unsigned }
+
+abbrev pub typed : Ty → Scope → Scope
+typed t s = flagged (is_unsigned t) s
+
+-- the scope with one more declaration, of the type that was begun with
 abbrev pub declare : Scope → ℕ → Entity → Scope
-declare s id e = record s { entries = record { id = id; depth = s.depth; entity = e } ∷ s.entries }
+declare s id e = record s { entries = record { id = id; depth = s.depth; entity = e; unsigned = s.unsigned } ∷ s.entries }
 
 -- a new innermost scope
 abbrev pub enter : Scope → Scope
@@ -71,6 +88,7 @@ in_loop s = record s { loop = true }
 abbrev pub behind : Scope → Scope → Scope
 behind before body = record body { loop = before.loop }
 
--- the value of a constant
+-- The 32 bits of a constant, as an `int`: its number, or that below 0 behind a `-`, modulo 2^32. No number is anything else as
+-- an `int` or as an `unsigned` that it is converted to.
 abbrev pub constant_value : ConstantItem → ℤ
-constant_value c = if c.minus then neg_ℤ (pos c.size) else pos c.size
+constant_value c = cast_signed w32 (unsigned_abs (int_rem_euclid (if c.minus then neg_ℤ (pos c.size) else pos c.size) (pos (2 ^ 32))))

@@ -105,7 +105,7 @@ is_wrong_kind id usage.Private e = not (is_control e) && not (is_input_length e)
 -- 12: a name is declared a second time in one scope
 abbrev pub is_declared_twice : Note → Bool
 is_declared_twice (Declared s d) = is_declared s d.name.id
-is_declared_twice (Given s n) = is_declared s n.id
+is_declared_twice (Given s p) = is_declared s p.name.id
 is_declared_twice (Global s n) = is_declared s n.id
 is_declared_twice _ = false
 

@@ -6,8 +6,11 @@ use Rattle.os_ast.specs.Trees as tree
 use Rattle.os_ast.specs.declared.expr.Mark.{Mark}
 use Rattle.os_ast.specs.declared.expr.Name.{Name}
 use Rattle.os_ast.specs.declared.program.Constant.{Constant}
+use Rattle.os_ast.specs.declared.program.Param.{Param}
 use Rattle.os_ast.specs.declared.program.Params.{Params}
 use Rattle.os_ast.specs.declared.program.Params.TheVariants as params_of
+use Rattle.os_ast.specs.declared.ty.Ty.{Ty}
+use Rattle.os_ast.specs.declared.ty.Ty.TheVariants as ty_of
 use Rattle.os_lexer.specs.Names.{omp_id, task_id, tick_id, taskwait_id, input_id, output_id, firstprivate_id, stream_id}
 use Rattle.os_lexer.specs.declared.token.Key.{Key}
 use Rattle.os_lexer.specs.declared.token.Key.TheVariants as keys
@@ -62,8 +65,18 @@ punct_at p = token_at (kind.Punct p)
 abbrev pub name : Name → Printer
 name n = token_at (kind.Name n.id) n.mark
 
+-- a number of either kind
 abbrev pub number : ℕ → Printer
 number n = token (kind.Number n)
+
+abbrev pub wide : ℕ → Printer
+wide n = token (kind.Wide n)
+
+-- type = "int" | "unsigned" [ "int" ]
+abbrev pub type_words : Ty → Printer
+type_words ty_of.Int = key keys.Int
+type_words ty_of.Unsigned = key keys.Unsigned
+type_words ty_of.UnsignedInt = key keys.Unsigned ⨾ key keys.Int
 
 -- the words of pragmas, by the numbers of their names
 abbrev pub word : ℕ → Printer
@@ -129,6 +142,7 @@ abbrev mutual
   expr (tree.Chain level first rest) = expr first ⨾ links rest
   expr (tree.Unary op m e) = punct_at (unary_mark op) m ⨾ expr e
   expr (tree.Number n) = number n
+  expr (tree.Wide n) = wide n
   expr (tree.Place t) = target t
   expr (tree.ExprTree.Call f es) = name f ⨾ in_parens (args es)
   expr (tree.Paren e) = in_parens (expr e)
@@ -175,10 +189,14 @@ attribute true = key keys.Attribute ⨾ in_parens (in_parens stream_word)
 abbrev pub declarator : tree.DeclaratorTree → Printer
 declarator d = name d.name ⨾ optional index d.size ⨾ attribute d.stream ⨾ optional first_value d.first
 
--- declare  = "int" declr { "," declr } ";"
--- declare1 = "int" name [ "=" expr ] { "," name [ "=" expr ] } ";"
-abbrev pub declare : List tree.DeclaratorTree → Printer
-declare ds = key keys.Int ⨾ listed declarator ds ⨾ punct puncts.Semicolon
+-- declr { "," declr } ";"
+abbrev pub declared : List tree.DeclaratorTree → Printer
+declared ds = listed declarator ds ⨾ punct puncts.Semicolon
+
+-- declare  = type declr { "," declr } ";"
+-- declare1 = type name [ "=" expr ] { "," name [ "=" expr ] } ";"
+abbrev pub declare : Ty → List tree.DeclaratorTree → Printer
+declare t ds = type_words t ⨾ declared ds
 
 -- change = target assign expr | target ( "++" | "--" ) | ( "++" | "--" ) target
 -- assign = "=" | "+=" | "-=" | "*=" | "/=" | "%=" | "<<=" | ">>=" | "&=" | "^=" | "|="
@@ -190,7 +208,7 @@ change (tree.Before t s m) = punct_at (step_mark s) m ⨾ target t
 -- declare1 | [ change ] ";"
 abbrev pub start : tree.StartTree → Printer
 start tree.StartTree.Empty = punct puncts.Semicolon
-start (tree.StartTree.Declare ds) = declare ds
+start (tree.StartTree.Declare t ds) = declare t ds
 start (tree.StartTree.Change c) = change c ⨾ punct puncts.Semicolon
 
 -- arrow name [ "[" expr "]" ]
@@ -250,7 +268,7 @@ abbrev mutual
   stmt (tree.Tick m t arrow e) =
       pragma m ⨾ omp ⨾ tick_word ⨾ in_parens (target t ⨾ punct_at puncts.ShiftRight arrow ⨾ expr e) ⨾ token kind.PragmaEnd
   stmt (tree.Taskwait m) = pragma m ⨾ omp ⨾ taskwait_word ⨾ token kind.PragmaEnd
-  stmt (tree.StmtTree.Declare ds) = declare ds
+  stmt (tree.StmtTree.Declare t ds) = declare t ds
 
   -- { declare | stmt }
   pub stmts : tree.Stmts → Printer
@@ -262,22 +280,31 @@ abbrev pub sign : Bool → Printer
 sign false = nothing
 sign true = punct puncts.Minus
 
--- constant = "const" "int" name "=" [ "-" ] number ";"
+-- the number of a constant, which is wide or isn't
+abbrev pub numeral : Bool → ℕ → Printer
+numeral false n = number n
+numeral true n = wide n
+
+-- constant = "const" type name "=" [ "-" ] number ";"
 abbrev pub constant : Constant → Printer
 constant c =
-    key keys.Const ⨾ key keys.Int ⨾ name c.name ⨾ punct puncts.Set ⨾ sign c.minus ⨾ number c.size ⨾ punct puncts.Semicolon
+    key keys.Const ⨾ type_words c.ty ⨾ name c.name ⨾ punct puncts.Set ⨾ sign c.minus ⨾ numeral c.wide c.size ⨾ punct puncts.Semicolon
 
--- params = "void" | "int" name { "," "int" name }
+-- type name
+abbrev pub param : Param → Printer
+param p = type_words p.ty ⨾ name p.name
+
+-- params = "void" | type name { "," type name }
 abbrev pub params : Params → Printer
 params params_of.Empty = nothing
 params params_of.Void = key keys.Void
-params (params_of.Names ns) = listed (λ n. key keys.Int ⨾ name n) ns
+params (params_of.Names ps) = listed param ps
 
--- function = "int" name "(" [ params ] ")" block
+-- function = type name "(" [ params ] ")" block
 -- block    = "{" { declare | stmt } "}"
 abbrev pub function : tree.FunctionTree → Printer
 function f =
-    key keys.Int ⨾ name f.name ⨾ in_parens (params f.params) ⨾ punct puncts.OpenBrace ⨾ stmts f.body ⨾ punct puncts.CloseBrace
+    type_words f.ty ⨾ name f.name ⨾ in_parens (params f.params) ⨾ punct puncts.OpenBrace ⨾ stmts f.body ⨾ punct puncts.CloseBrace
 
 -- constant | function
 abbrev pub item : tree.ItemTree → Printer

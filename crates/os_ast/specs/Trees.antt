@@ -9,11 +9,13 @@ use Rattle.os_ast.specs.declared.program.Constant as constant
 use Rattle.os_ast.specs.declared.program.Params.{Params}
 use Rattle.os_ast.specs.declared.stmt.Assign.{Assign}
 use Rattle.os_ast.specs.declared.stmt.Step.{Step}
+use Rattle.os_ast.specs.declared.ty.Ty.{Ty}
 
 mutual
   -- an expression
   pub data ExprTree : Type 0 where
     Number : ℕ → ExprTree
+    Wide : ℕ → ExprTree
     Place : TargetTree → ExprTree
     Call : Name → Args → ExprTree
     Paren : ExprTree → ExprTree
@@ -57,7 +59,7 @@ pub data ChangeTree : Type 0 where
 -- what stands before the first semicolon in the head of a for
 pub data StartTree : Type 0 where
   Empty : StartTree
-  Declare : List DeclaratorTree → StartTree
+  Declare : Ty → List DeclaratorTree → StartTree
   Change : ChangeTree → StartTree
 
 -- the arrow of an item, and what follows it
@@ -87,7 +89,7 @@ mutual
   pub data StmtTree : Type 0 where
     Empty : StmtTree
     Block : Stmts → StmtTree
-    Declare : List DeclaratorTree → StmtTree
+    Declare : Ty → List DeclaratorTree → StmtTree
     Change : ChangeTree → StmtTree
     Call : Name → Args → StmtTree
     If : ExprTree → StmtTree → StmtTree
@@ -108,6 +110,7 @@ mutual
 
 -- a function
 pub record FunctionTree : Type 0 where
+  pub ty : Ty
   pub name : Name
   pub params : Params
   pub body : Stmts

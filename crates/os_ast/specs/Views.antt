@@ -25,6 +25,7 @@ use Rattle.os_ast.specs.declared.stmt.Stmt as stmt
 abbrev mutual
   pub expr_tree : expr.Expr → tree.ExprTree
   expr_tree (expr.Number n) = tree.Number n
+  expr_tree (expr.Wide n) = tree.Wide n
   expr_tree (expr.Place t) = tree.Place (target_tree t)
   expr_tree (expr.Call' f shape args) = tree.Call f (args_row args)
   expr_tree (expr.Paren' p e) = tree.Paren (expr_tree e)
@@ -73,7 +74,7 @@ change_tree (change.Before t s m) = tree.Before (target_tree t) s m
 
 abbrev pub start_tree : Start → tree.StartTree
 start_tree start.Empty = tree.StartTree.Empty
-start_tree (start.Declare ds) = tree.StartTree.Declare (map declarator_tree ds)
+start_tree (start.Declare ty ds) = tree.StartTree.Declare ty (map declarator_tree ds)
 start_tree (start.Change c) = tree.StartTree.Change (change_tree c)
 
 abbrev pub join_tree : Join → tree.JoinTree
@@ -95,7 +96,7 @@ abbrev mutual
   pub stmt_tree : stmt.Stmt → tree.StmtTree
   stmt_tree stmt.Empty = tree.StmtTree.Empty
   stmt_tree (stmt.Block' shape stmts) = tree.Block (stmts_row stmts)
-  stmt_tree (stmt.Declare ds) = tree.StmtTree.Declare (map declarator_tree ds)
+  stmt_tree (stmt.Declare ty ds) = tree.StmtTree.Declare ty (map declarator_tree ds)
   stmt_tree (stmt.Change c) = tree.StmtTree.Change (change_tree c)
   stmt_tree (stmt.Call c) = tree.StmtTree.Call c.name (args_tree c.args)
   stmt_tree (stmt.If' c p a other) = branches (expr_tree c) (stmt_tree a) other
@@ -123,7 +124,7 @@ stmts_tree (s ∷ ss) = tree.stmt (stmt_tree s) (stmts_tree ss)
 
 abbrev pub item_tree : Item → tree.ItemTree
 item_tree (item.Constant c) = tree.Constant c
-item_tree (item.Function f) = tree.Function record { name = f.name; params = f.params; body = stmts_tree f.body }
+item_tree (item.Function f) = tree.Function record { ty = f.ty; name = f.name; params = f.params; body = stmts_tree f.body }
 
 abbrev pub program_tree : Program → tree.ProgramTree
 program_tree p = map item_tree p.items

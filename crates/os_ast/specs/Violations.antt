@@ -1,21 +1,23 @@
 -- The violations of a program, its refusal, and what its names mean where there is none.
-use Rattle.std.specs.Prelude.{◌≡◌, ℕ, ◌+◌, ◌<◌, ◌≤◌, ◌==◌, ◌&&◌, ◌||◌, Bool, true, false, List, [], ◌∷◌, ◌++◌, length, All, Contains, if◌then◌else◌, Option, Some, None, ℤ}
+use Rattle.std.specs.Prelude.{◌≡◌, ℕ, ◌+◌, ◌<◌, ◌≤◌, ◌==◌, ◌&&◌, ◌||◌, Bool, true, false, not, List, [], ◌∷◌, ◌++◌, length, All, Contains, if◌then◌else◌, Option, Some, None, ℤ}
 use Rattle.os_ast.specs.Captured.{slots_of}
 use Rattle.os_ast.specs.Codes.{no_main_code}
 use Rattle.os_ast.specs.Meanings.{meaning, meaning_in, resolved}
-use Rattle.os_ast.specs.Names.{lookup, entity_of, main_id}
+use Rattle.os_ast.specs.Names.{lookup, entity_of, flag_of, main_id}
 use Rattle.os_ast.specs.Notes.Declarators.{constant_of, declared_entity, scalar_entity}
 use Rattle.os_ast.specs.Notes.Kinds.{Note, Used, Sized, Declared, Given, Task, mark_of}
-use Rattle.os_ast.specs.Notes.Programs.{program_notes, after_items, file, param_names}
+use Rattle.os_ast.specs.Notes.Programs.{program_notes, after_items, file, param_list}
 use Rattle.os_ast.specs.Rules.{codes}
 use Rattle.os_ast.specs.Spelling.{spell}
 use Rattle.os_ast.specs.Trees as tree
+use Rattle.os_ast.specs.Types.{is_unsigned}
 use Rattle.os_ast.specs.declared.expr.Mark.{Mark}
 use Rattle.os_ast.specs.declared.names.Entity.{Entity}
 use Rattle.os_ast.specs.declared.names.Owner.{Owner}
 use Rattle.os_ast.specs.declared.names.Owner.TheVariants as owner
 use Rattle.os_ast.specs.declared.names.Resolved.{Resolved}
 use Rattle.os_ast.specs.declared.names.What.TheVariants as what
+use Rattle.os_ast.specs.declared.ty.Ty.{Ty}
 use Rattle.os_ast.specs.declared.violation.Violation.{Violation}
 
 -- a violation by its parts
@@ -32,20 +34,20 @@ abbrev pub violations_of : List Note → List Violation
 violations_of [] = []
 violations_of (n ∷ rest) = violations_at (mark_of n) (codes n) ++ violations_of rest
 
-abbrev pub declared_meaning : Mark → Owner → List ℕ → Option Entity → List Resolved
-declared_meaning m o captured None = []
-declared_meaning m o captured (Some e) = resolved m.place (meaning_in o captured e) ∷ []
+abbrev pub declared_meaning : Mark → Bool → Owner → List ℕ → Option Entity → List Resolved
+declared_meaning m unsigned o captured None = []
+declared_meaning m unsigned o captured (Some e) = resolved m.place (meaning_in o captured e) unsigned ∷ []
 
-abbrev pub constant_meaning : Mark → Option ℤ → List Resolved
-constant_meaning m None = []
-constant_meaning m (Some v) = resolved m.place (what.Constant v) ∷ []
+abbrev pub constant_meaning : Mark → Bool → Option ℤ → List Resolved
+constant_meaning m unsigned None = []
+constant_meaning m unsigned (Some v) = resolved m.place (what.Constant v) unsigned ∷ []
 
--- what a name means that is used, or is the size of an array, or declares a variable
+-- What a name means that is used, or is the size of an array, or declares a variable, and whether that is of the type `unsigned`
 abbrev pub resolutions_of : Note → List Resolved
-resolutions_of (Used s n u) = declared_meaning n.mark s.owner s.captured (entity_of (lookup s.entries n.id))
-resolutions_of (Sized s n) = constant_meaning n.mark (constant_of (entity_of (lookup s.entries n.id)))
-resolutions_of (Declared s d) = resolved d.name.mark.place (meaning (declared_entity s d)) ∷ []
-resolutions_of (Given s n) = resolved n.mark.place (meaning (scalar_entity s.owner s.slots)) ∷ []
+resolutions_of (Used s n u) = declared_meaning n.mark (flag_of (lookup s.entries n.id)) s.owner s.captured (entity_of (lookup s.entries n.id))
+resolutions_of (Sized s n) = constant_meaning n.mark (flag_of (lookup s.entries n.id)) (constant_of (entity_of (lookup s.entries n.id)))
+resolutions_of (Declared s d) = resolved d.name.mark.place (meaning (declared_entity s d)) s.unsigned ∷ []
+resolutions_of (Given s p) = resolved p.name.mark.place (meaning (scalar_entity s.owner s.slots)) (is_unsigned p.ty) ∷ []
 resolutions_of _ = []
 
 abbrev pub resolutions : List Note → List Resolved
@@ -70,10 +72,13 @@ abbrev pub is_empty : {A : Type 0} → List A → Bool
 is_empty [] = true
 is_empty (x ∷ xs) = false
 
--- a function `main` without parameters
+abbrev pub is_int : Ty → Bool
+is_int t = not (is_unsigned t)
+
+-- a function `main` of type `int` without parameters
 abbrev pub is_main : tree.ItemTree → Bool
 is_main (tree.Constant c) = false
-is_main (tree.Function f) = (f.name.id == main_id) && is_empty (param_names f.params)
+is_main (tree.Function f) = (f.name.id == main_id) && is_int f.ty && is_empty (param_list f.params)
 
 abbrev pub has_main : List tree.ItemTree → Bool
 has_main [] = false

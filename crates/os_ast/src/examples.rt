@@ -8,6 +8,7 @@ ghost use Rattle.os_ast.specs.Examples.Parentheses as parentheses;
 ghost use Rattle.os_ast.specs.Examples.Productions as productions;
 ghost use Rattle.os_ast.specs.Examples.Smooth as smooth;
 ghost use Rattle.os_ast.specs.Examples.Subtractions as subtractions;
+ghost use Rattle.os_ast.specs.Examples.Unsigned as unsigned;
 ghost use Rattle.os_ast.specs.Leveled.{IsLeveled};
 ghost use Rattle.os_ast.specs.Means.{Means};
 ghost use Rattle.os_ast.specs.Spelling.{spell};
@@ -45,4 +46,9 @@ pub fn inverting()
 /// A program with the productions that the others leave out.
 pub fn other_productions()
     ensures { Means productions.tokens productions.program }
+{}
+
+/// A program with a constant, a function, a parameter and a variable of the type `unsigned`, and with a wide number.
+pub fn unsigned_declarations()
+    ensures { Means unsigned.tokens unsigned.program }
 {}

@@ -66,8 +66,10 @@ pub enum Binary {
 #[cycle(expr)]
 #[derive(Drop)]
 pub enum Expr {
-    /// At most 2,147,483,647.
+    /// An `int` of at most 2,147,483,647.
     Number(u32),
+    /// A number of the type `unsigned`.
+    Wide(u32),
     Place(Target),
     Call(Call),
     Paren(Box<Expr>),

@@ -20,12 +20,14 @@ mod pragma;
 mod program;
 pub mod refusals;
 mod stmt;
+mod ty;
 mod violation;
 
 pub use expr::{Binary, Call, Expr, Index, Level, Link, Mark, Name, Target, Unary};
 pub use names::{Direction, Entity, Entry, Form, Owner, Resolved, Role, Shape, Use, What};
 pub use nesting::depth;
 pub use pragma::{Clause, ClauseItem, ClauseKind, Join, TaskSite, TickSite};
-pub use program::{Constant, Function, Item, Params, Program};
+pub use program::{Constant, Function, Item, Param, Params, Program};
 pub use stmt::{Assign, Change, Declarator, Head, Start, Step, Stmt};
+pub use ty::Ty;
 pub use violation::Violation;

@@ -40,12 +40,14 @@ pub enum Entity {
     View(u32, Direction),
 }
 
-/// A declaration, and how many scopes are open where it stands.
+/// A declaration, how many scopes are open where it stands, and whether what it declares is of the type `unsigned`: the
+/// constant, the function's result, the variable, the elements of the window or of the stream.
 #[derive(Clone, Copy, Debug, PartialEq, Eq)]
 pub struct Entry {
     pub id: u32,
     pub depth: u32,
     pub entity: Entity,
+    pub unsigned: bool,
 }
 
 /// What a name token means. Slots are those of the function, task or main in which it stands.
@@ -69,11 +71,13 @@ pub enum What {
     View(u32),
 }
 
-/// A name token, by its place among the tokens, and what it means.
+/// A name token, by its place among the tokens, what it means, and whether that is of the type `unsigned`: a constant, a
+/// function's result, a variable, or elements.
 #[derive(Clone, Copy, Debug, PartialEq, Eq)]
 pub struct Resolved {
     pub place: u32,
     pub what: What,
+    pub unsigned: bool,
 }
 
 /// Whether a name stands with an index.

@@ -56,7 +56,7 @@ fn depth_of_stmt(stmt: &Stmt) -> u32
     match stmt {
         Stmt::Empty | Stmt::Break(_) | Stmt::Continue(_) | Stmt::Taskwait(_) => 1,
         Stmt::Block(stmts) => 1 + depth_of_stmts(stmts),
-        Stmt::Declare(declarators) => 1 + depth_of_declarators(declarators),
+        Stmt::Declare(_, declarators) => 1 + depth_of_declarators(declarators),
         Stmt::Change(change) => 1 + depth_of_change(change),
         Stmt::Call(call) => 1 + depth_of_args(&call.args),
         Stmt::If(condition, first, second) => {
@@ -113,7 +113,7 @@ fn depth_of_start(start: &Start) -> u32
 {
     match start {
         Start::Empty => 0,
-        Start::Declare(declarators) => depth_of_declarators(declarators),
+        Start::Declare(_, declarators) => depth_of_declarators(declarators),
         Start::Change(change) => depth_of_change(change),
     }
 }
@@ -210,7 +210,7 @@ fn depth_of_expr(expr: &Expr) -> u32
     ensures { result ≡ expr_depth (expr_tree expr.now) }
 {
     match expr {
-        Expr::Number(_) => 1,
+        Expr::Number(_) | Expr::Wide(_) => 1,
         Expr::Place(target) => 1 + depth_of_target(target),
         Expr::Call(call) => 1 + depth_of_args(&call.args),
         Expr::Paren(inner) => 1 + depth_of_expr(inner),

@@ -1,5 +1,6 @@
 use crate::expr::Name;
 use crate::stmt::Stmt;
+use crate::ty::Ty;
 use os_io::List;
 
 #[derive(Drop)]
@@ -13,13 +14,22 @@ pub enum Item {
     Function(Function),
 }
 
-/// `const int NAME = SIZE;`, with a `-` before the size or without.
+/// `const TYPE NAME = SIZE;`, with a `-` before the size or without.
 #[derive(Drop)]
 pub struct Constant {
+    pub ty: Ty,
     pub name: Name,
     pub minus: bool,
-    /// At most 2,147,483,647.
+    /// At most 2,147,483,647, where the size isn't wide.
     pub size: u32,
+    /// Whether the size is a number of the type `unsigned`.
+    pub wide: bool,
+}
+
+#[derive(Clone, Copy, Debug, PartialEq, Eq)]
+pub struct Param {
+    pub ty: Ty,
+    pub name: Name,
 }
 
 /// What stands between the parentheses of a function: nothing, `void` or parameters.
@@ -27,11 +37,13 @@ pub struct Constant {
 pub enum Params {
     Empty,
     Void,
-    Names(List<Name>),
+    Names(List<Param>),
 }
 
 #[derive(Drop)]
 pub struct Function {
+    /// The type of its result.
+    pub ty: Ty,
     pub name: Name,
     pub params: Params,
     pub body: List<Stmt>,

@@ -10,6 +10,7 @@ ghost use Rattle.os_ast.specs.Examples.Smooth as smooth;
 ghost use Rattle.os_ast.specs.Examples.SmoothNames as smooth_names;
 ghost use Rattle.os_ast.specs.Examples.Spreading as spreading;
 ghost use Rattle.os_ast.specs.Examples.Stages as stages;
+ghost use Rattle.os_ast.specs.Examples.Unsigned as unsigned;
 ghost use Rattle.os_ast.specs.Violations.{names, streams, violated, violations};
 
 /// Programs that are refused, with their violations.
@@ -41,6 +42,7 @@ pub fn broken_rules()
     ensures items_beyond_the_limit { violations rules_of.items_beyond_the_limit ≡ violated 25 22 2 ∷ [] }
     ensures changed_input { violations rules_of.changed_input ≡ violated 19 14 3 ∷ [] }
     ensures no_main { violations rules_of.no_main ≡ violated 10 23 1 ∷ [] }
+    ensures main_of_unsigned { violations rules_of.main_of_unsigned ≡ violated 6 23 1 ∷ [] }
     ensures main_with_a_parameter { violations rules_of.main_with_a_parameter ≡ violated 8 23 1 ∷ [] }
     ensures function_in_its_own_body { violations rules_of.function_in_its_own_body ≡ violated 7 10 1 ∷ [] }
     ensures variable_of_a_loop_behind_it { violations rules_of.variable_of_a_loop_behind_it ≡ violated 21 10 1 ∷ [] }
@@ -88,4 +90,10 @@ pub fn names_of_spreading()
 pub fn names_of_smoothing()
     ensures lawful { violations smooth.program ≡ [] }
     ensures meanings { names smooth.program ≡ smooth_names.meanings }
+{}
+
+/// The names of `unsigned` constants, parameters and variables are told to be so.
+pub fn names_of_unsigned()
+    ensures lawful { violations unsigned.program ≡ [] }
+    ensures meanings { names unsigned.program ≡ unsigned.meanings }
 {}

@@ -1,5 +1,6 @@
 use crate::expr::{Binary, Call, Expr, Index, Mark, Name, Target};
 use crate::pragma::{TaskSite, TickSite};
+use crate::ty::Ty;
 use os_io::List;
 
 /// `=`, or the assigning form of an operator, as `+=`.
@@ -39,7 +40,7 @@ pub struct Declarator {
 #[derive(Drop)]
 pub enum Start {
     Empty,
-    Declare(List<Declarator>),
+    Declare(Ty, List<Declarator>),
     Change(Change),
 }
 
@@ -58,7 +59,7 @@ pub enum Stmt {
     /// `;`
     Empty,
     Block(List<Stmt>),
-    Declare(List<Declarator>),
+    Declare(Ty, List<Declarator>),
     Change(Change),
     Call(Call),
     /// The condition, the first branch, and the one after `else`.

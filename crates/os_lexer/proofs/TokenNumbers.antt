@@ -1,13 +1,14 @@
--- The numbers of tokens are small.
-use Rattle.std.proofs.Common.{ℕ, ◌+◌, List, [], length, take, drop, Option, Some, None, sym, subst, arith, All, leb-true}
-use Rattle.std.proofs.lemmas.Bool.{cond_both}
+-- The numbers of tokens are small, and none has the key `unsigned`.
+use Rattle.std.proofs.Common.{◌≡◌, ◌≢◌, ℕ, ◌+◌, ◌&&◌, Bool, true, false, List, [], ◌∷◌, length, take, drop, Option, Some, None, refl, ap, sym, ◌∙◌, subst, arith, All, leb-true, bytes_eq}
+use Rattle.std.proofs.lemmas.Bool.{cond_both, and_parts, false≢true}
 use Rattle.std.proofs.lemmas.List.Elements.{All-append, All-push}
 use Rattle.std.specs.List.{list_any}
+use Rattle.std.specs.Map.{lookup}
 use Rattle.std.specs.Prelude.{nat_le}
 use Rattle.os_lexer.specs.Bytes.{is_line_feed}
 use Rattle.os_lexer.specs.Cover.{Point, token_of, Step, skips, gives, Leads, here, on, tokens_at_end}
 use Rattle.os_lexer.specs.Effects.{effect, directive_effect, space_effect, number_effect, word_kind, mode_after_token}
-use Rattle.os_lexer.specs.Keywords.{key_of}
+use Rattle.os_lexer.specs.Keywords.{keywords, key_of}
 use Rattle.os_lexer.specs.Laws.{HasSmallNumber, SmallNumbers}
 use Rattle.os_lexer.specs.Names.{name_number}
 use Rattle.os_lexer.specs.Numbers.{number_value}
@@ -19,6 +20,7 @@ use Rattle.os_lexer.specs.declared.form.Form.TheVariants as form
 use Rattle.os_lexer.specs.declared.mode.Mode.{Mode}
 use Rattle.os_lexer.specs.declared.mode.Mode.TheVariants.{LineStart, InLine, InPragma}
 use Rattle.os_lexer.specs.declared.token.Key.{Key}
+use Rattle.os_lexer.specs.declared.token.Key.TheVariants as keys
 use Rattle.os_lexer.specs.declared.token.Kind.TheVariants as kind
 use Rattle.os_lexer.specs.declared.token.Token.{Token}
 
@@ -38,9 +40,23 @@ directive_small LineStart lawful small = small
 directive_small InLine lawful small = tt
 directive_small InPragma lawful small = tt
 
-word_small : (key : Option Key) (name : ℕ) → HasSmallNumber (word_kind key name)
-word_small None name = tt
-word_small (Some key) name = tt
+abbrev is_other : Key → Bool
+is_other keys.Unsigned = false
+is_other _ = true
+
+abbrev are_others : List (List ℕ × Key) → Bool
+are_others [] = true
+are_others (row ∷ rows) = is_other row.1 && are_others rows
+
+other : (key : Key) → is_other key ≡ true → key ≢ keys.Unsigned
+other key h e = false≢true (sym (ap is_other e) ∙ h)
+
+word_small : (is_word : List ℕ → Bool) (name : ℕ) (rows : List (List ℕ × Key)) → are_others rows ≡ true → HasSmallNumber (word_kind (lookup is_word rows) name)
+word_small is_word name [] all = tt
+word_small is_word name (row ∷ rows) all =
+    let parts = and_parts (is_other row.1) (are_others rows) all in
+    cond_both (is_word row.0) (Some row.1) (lookup is_word rows) (λ key. HasSmallNumber (word_kind key name)) (λ _. other row.1 parts.0)
+    (λ _. word_small is_word name rows parts.1)
 
 number_small : (mode : Mode) (v : Option ℕ) → GivesSmall (number_effect mode v)
 number_small mode None = tt
@@ -55,7 +71,7 @@ effect_small mode name form.OpenComment s = tt
 effect_small mode name form.IncludeLine s = directive_small mode (Skip LineStart) tt
 effect_small mode name form.PragmaStart s = directive_small mode (Give kind.PragmaStart InPragma) tt
 effect_small mode name form.OtherDirective s = tt
-effect_small mode name form.Word s = word_small (key_of s) name
+effect_small mode name form.Word s = word_small (bytes_eq s) name keywords refl
 effect_small mode name form.Number s = number_small mode (number_value s)
 effect_small mode name (form.Mark k) s = tt
 

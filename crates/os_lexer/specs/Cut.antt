@@ -23,6 +23,7 @@ use Rattle.os_lexer.specs.declared.token.Token.{Token}
 abbrev pub opens_pragma : Kind → Bool → Bool
 opens_pragma (kind.Name n) round = round
 opens_pragma (kind.Number n) round = round
+opens_pragma (kind.Wide n) round = round
 opens_pragma (kind.Key k) round = round
 opens_pragma (kind.Punct m) round = round
 opens_pragma kind.PragmaStart round = true

@@ -28,6 +28,7 @@ point_of lexer = record { at = lexer.at; mode = lexer.mode; tokens = lexer.token
 abbrev pub is_name : Kind → Bool
 is_name (kind.Name n) = true
 is_name (kind.Number n) = false
+is_name (kind.Wide n) = false
 is_name (kind.Key k) = false
 is_name (kind.Punct m) = false
 is_name kind.PragmaStart = false

@@ -25,7 +25,7 @@ pub fn lex(alloc: Global, text: &[u8]) -> Result<Vec<Token>, LexError>
     ensures faulted { (code line : ℕ) → IsFirstFault text.now code line
         → IsToldUnlessMemory code line result }
 
-    // No text has more tokens than bytes, and no number is above 2,147,483,647.
+    // No text has more tokens than bytes, no number is above 2,147,483,647 or wide, and no key is `unsigned`.
     ensures few { IfOk result (λ tokens. length tokens.items ≤ length text.now) }
     ensures small { IfOk result (λ tokens. All (λ token. HasSmallNumber token.kind) tokens.items) }
 {

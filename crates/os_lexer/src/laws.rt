@@ -10,7 +10,8 @@ pub fn one_cover()
 {}
 
 /// The token cover is the cut of the whole text into lexemes, each the longest form at its point, with the kinds and
-/// lines of the tokens. It has at most as many tokens as the text has bytes, and no number above 2,147,483,647.
+/// lines of the tokens. It has at most as many tokens as the text has bytes, no number above 2,147,483,647 or wide, and no
+/// key `unsigned`.
 pub fn cover_cuts()
     ensures cuts { CoverCuts }
     ensures few { FewTokens }

@@ -44,7 +44,12 @@ impl<'a> Spellings<'a> {
     {
         match kind {
             Kind::Name(_) => self.note(spelling, index),
-            Kind::Number(_) | Kind::Key(_) | Kind::Punct(_) | Kind::PragmaStart | Kind::PragmaEnd =>
+            Kind::Number(_)
+            | Kind::Wide(_)
+            | Kind::Key(_)
+            | Kind::Punct(_)
+            | Kind::PragmaStart
+            | Kind::PragmaEnd =>
                 Ok(()),
         }
     }

@@ -1,37 +1,39 @@
 //! Programs, functions and constants.
 
 ghost use Rattle.std.specs.Prelude.{◌≡◌, ◌+◌, ◌-◌, ◌≤◌, ◌<◌, length, map, OnOk};
-ghost use Rattle.os_ast.specs.declared.expr.Name.{Name};
+ghost use Rattle.os_ast.specs.declared.program.Param.{Param};
 ghost use Rattle.os_ast.specs.Views.{stmts_tree, item_tree};
 ghost use Rattle.os_parser_expressions.specs.Gives.{Gives};
 ghost use Rattle.os_parser_grammar.specs.Reading.{Same, got, after};
 ghost use Rattle.os_parser_grammar.specs.Statements.{inner, param, params, function, number, minus, constant, item, is_more, program};
 
 use crate::stmt::block;
-use os_ast::{Constant, Function, Item, Name, Params};
+use os_ast::{Constant, Function, Item, Param, Params};
 use os_io::List;
 use os_lexer::{Key, Kind, Punct};
 use os_parser_expressions::{Cursor, ProductionError};
+use os_parser_grammar::Numeral;
 use os_parser_parts::comma_list::{Part, comma_list};
-use os_parser_parts::{name, number_at};
+use os_parser_parts::{name, number_at, type_words};
 use std::alloc::Global;
 
-/// `"int" name`, a parameter of `params`.
-struct Param;
+/// `type name`, a parameter of `params`.
+struct ParamPart;
 
-impl Part for Param {
-    type Item = Name;
+impl Part for ParamPart {
+    type Item = Param;
 
-    ghost Tree = { Name };
+    ghost Tree = { Param };
 
     ghost view = { Same };
 
     ghost reads = { λ part. param };
 
     #[tactic(auto, unfolding(os_parser_grammar::specs::Statements::param))]
-    fn read(&self, alloc: Global, cursor: &mut Cursor<'_>) -> Result<Name, ProductionError> {
-        cursor.expect(Kind::Key(Key::Int))?;
-        name(cursor)
+    fn read(&self, alloc: Global, cursor: &mut Cursor<'_>) -> Result<Param, ProductionError> {
+        let ty = type_words(cursor)?;
+        let name = name(cursor)?;
+        Ok(Param { ty, name })
     }
 }
 
@@ -48,30 +50,35 @@ fn params(alloc: Global, cursor: &mut Cursor<'_>) -> Result<Params, ProductionEr
         cursor.advance();
         return Ok(Params::Void);
     }
-    let names = comma_list(alloc, cursor, &Param)?;
-    Ok(Params::Names(names))
+    let params = comma_list(alloc, cursor, &ParamPart)?;
+    Ok(Params::Names(params))
 }
 
-/// `function = "int" name "(" [ params ] ")" block`, from its `int` on.
+/// `function = type name "(" [ params ] ")" block`
 #[tactic(auto, unfolding(os_parser_grammar::specs::Statements::function))]
 fn function(alloc: Global, cursor: &mut Cursor<'_>, depth: u32) -> Result<Item, ProductionError>
     ensures gives { Gives item_tree result cursor.new (function (inner depth) cursor.old) }
     ensures within { length cursor.new ≤ length cursor.old }
     ensures taken { OnOk result (length cursor.new ≤ length (after cursor.old)) }
 {
-    cursor.advance();
+    let ty = type_words(cursor)?;
     let name = name(cursor)?;
     cursor.expect(Kind::Punct(Punct::OpenParen))?;
     let params = params(alloc, cursor)?;
     cursor.expect(Kind::Punct(Punct::CloseParen))?;
     cursor.expect(Kind::Punct(Punct::OpenBrace))?;
     let body = block(alloc, cursor, depth)?;
-    Ok(Item::Function(Function { name, params, body }))
+    Ok(Item::Function(Function {
+        ty,
+        name,
+        params,
+        body,
+    }))
 }
 
-/// `number`, which is below 2^31.
+/// `number`, which is below 2^31 where it isn't wide.
 #[tactic(auto, unfolding(os_parser_grammar::specs::Statements::number))]
-fn number(cursor: &mut Cursor<'_>) -> Result<u32, ProductionError>
+fn number(cursor: &mut Cursor<'_>) -> Result<Numeral, ProductionError>
     ensures gives { Gives Same result cursor.new (number cursor.old) }
     ensures within { length cursor.new ≤ length cursor.old }
 {
@@ -97,7 +104,7 @@ fn minus(cursor: &mut Cursor<'_>) -> bool
     true
 }
 
-/// `constant = "const" "int" name "=" [ "-" ] number ";"`, from its `const` on.
+/// `constant = "const" type name "=" [ "-" ] number ";"`, from its `const` on.
 #[tactic(auto, unfolding(os_parser_grammar::specs::Statements::constant))]
 fn constant(cursor: &mut Cursor<'_>) -> Result<Item, ProductionError>
     ensures gives { Gives item_tree result cursor.new (constant cursor.old) }
@@ -105,13 +112,19 @@ fn constant(cursor: &mut Cursor<'_>) -> Result<Item, ProductionError>
     ensures taken { OnOk result (length cursor.new ≤ length (after cursor.old)) }
 {
     cursor.advance();
-    cursor.expect(Kind::Key(Key::Int))?;
+    let ty = type_words(cursor)?;
     let name = name(cursor)?;
     cursor.expect(Kind::Punct(Punct::Set))?;
     let minus = minus(cursor);
-    let size = number(cursor)?;
+    let Numeral { size, wide } = number(cursor)?;
     cursor.expect(Kind::Punct(Punct::Semicolon))?;
-    Ok(Item::Constant(Constant { name, minus, size }))
+    Ok(Item::Constant(Constant {
+        ty,
+        name,
+        minus,
+        size,
+        wide,
+    }))
 }
 
 /// `constant | function`
@@ -124,10 +137,7 @@ fn item(alloc: Global, cursor: &mut Cursor<'_>, depth: u32) -> Result<Item, Prod
     if cursor.is_at(Kind::Key(Key::Const)) {
         return constant(cursor);
     }
-    if cursor.is_at(Kind::Key(Key::Int)) {
-        return function(alloc, cursor, depth);
-    }
-    Err(ProductionError::Syntax)
+    function(alloc, cursor, depth)
 }
 
 /// Whether tokens are left.

@@ -14,7 +14,8 @@ use os_lexer::{Key, Kind, Punct};
 use os_parser_expressions::{Cursor, ProductionError, deeper};
 use os_parser_grammar::StmtStart;
 use os_parser_parts::{
-    before, clauses, condition, declare, head, named_stmt, return_stmt, stmt_at, taskwait, tick,
+    before, begins_type, clauses, condition, declared, head, named_stmt, return_stmt, stmt_at,
+    taskwait, tick, type_words,
 };
 use std::alloc::Global;
 
@@ -108,9 +109,10 @@ fn block_item(alloc: Global, cursor: &mut Cursor<'_>, depth: u32) -> Result<Stmt
     ensures taken { OnOk result (length cursor.new ≤ length (after cursor.old)) }
 {
     let depth = deeper(depth)?;
-    if cursor.is_at(Kind::Key(Key::Int)) {
-        let declarators = declare(alloc, cursor, depth)?;
-        return Ok(Stmt::Declare(declarators));
+    if begins_type(cursor) {
+        let ty = type_words(cursor)?;
+        let declarators = declared(alloc, cursor, depth)?;
+        return Ok(Stmt::Declare(ty, declarators));
     }
     stmt(alloc, cursor, depth)
 }

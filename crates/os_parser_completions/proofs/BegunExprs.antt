@@ -24,7 +24,7 @@ use Rattle.os_parser_grammar.specs.Reading.{Read, Reader, got, fails, after, mar
 use Rattle.os_parser_grammar.specs.declared.operand_start.OperandStart.{OperandStart}
 use Rattle.os_parser_grammar.proofs.SameKinds.{same-self}
 use Rattle.os_parser_grammar.proofs.Sound.{Takes}
-use Rattle.os_parser_grammar.proofs.SoundExprs.{ReadExpr, ReadTarget, ReadIndex, ReadArgs, ReadLinks, SoundReaders, SoundBelow, in_parens, index-sound, target_of-sound, more_args-sound, some_args-sound, args-sound, operand-sound, below-sound, Starts, a_number, a_name, a_paren, a_sign, another, kind-starts, Operators, some, none, kind-operators, Operator, operator-level, SoundReader, links-sound, precedence-level_at, chains-sound}
+use Rattle.os_parser_grammar.proofs.SoundExprs.{ReadExpr, ReadTarget, ReadIndex, ReadArgs, ReadLinks, SoundReaders, SoundBelow, in_parens, index-sound, target_of-sound, more_args-sound, some_args-sound, args-sound, operand-sound, below-sound, Starts, a_number, a_wide, a_name, a_paren, a_sign, another, kind-starts, Operators, some, none, kind-operators, Operator, operator-level, SoundReader, links-sound, precedence-level_at, chains-sound}
 use Rattle.os_parser_completions.proofs.Opens.{OpensAll, here, takes-opens, prints_token, prints_mark, opens-bare, opens-marked, Refused, refused-then, refused-if, refused-expect}
 
 -- an expression of at least a level and at most a depth, which the tokens up to the rest begin
@@ -285,6 +285,7 @@ operand-begun : {k : Kind} {st : OperandStart} (d : ℕ) (b : Option Readers) (m
     Refused (BegunExpr 11 (suc d) (placed k m ∷ ts)) (operand_by st b (placed k m ∷ ts))
 unfolding operand_by
 operand-begun d b m ts h (a_number n small) = tt
+operand-begun d b m ts h (a_wide n) = tt
 operand-begun d b m ts h (a_name n) =
     refused-weaker _ _ (named b (record { id = n; mark = m }) ts) (named-refused d b (record { id = n; mark = m }) ts _ h (λ ps f. means.marked f))
 operand-begun d b m ts h a_paren = paren-refused d b _ h (same-self (kind.Punct puncts.OpenParen))

@@ -23,7 +23,7 @@ use Rattle.os_parser_grammar.specs.declared.change_sign.ChangeSign.{ChangeSign}
 use Rattle.os_ast.proofs.Prints.{Prints}
 use Rattle.os_ast.specs.Spelling.{Symbol, Printer, ◌⨾◌}
 use Rattle.os_parser_grammar.specs.Reading.{Read, Reader, got, fails, after, mark_at, begins}
-use Rattle.os_parser_grammar.specs.Statements.{many, commas, list_of, name, target, size, value, attribute, declarator_by, declarator, head_declarator, declare, head_declare, change_by, change_of, before, ended, join, alone, clause_item, in_parens, clause_kind, clause, first_clause, some_clauses, clauses, line_goes_on}
+use Rattle.os_parser_grammar.specs.Statements.{many, commas, list_of, name, target, size, value, attribute, declarator_by, declarator, head_declarator, type_words, declared, head_declared, change_by, change_of, before, ended, join, alone, clause_item, in_parens, clause_kind, clause, first_clause, some_clauses, clauses, line_goes_on}
 use Rattle.os_parser_grammar.proofs.Sound.{Takes, Sound}
 use Rattle.os_parser_grammar.proofs.SoundExprs.{ReadExpr, ReadTarget, ReadIndex, index-sound}
 use Rattle.os_parser_grammar.proofs.SoundParts.{ReadPart, Spelled, many-sound, comma-sound, list_of-sound, name-sound, target-sound, size-sound, value-sound, attribute-sound, declarator-sound, head_declarator-sound, ChangeSigns, a_set, a_step, another, kind-changes, Joins, join-sound, clause_item-sound, in_parens-sound, IsName, a_name, no_depth, name-part, firstprivate-is, clause_kind-sound, clause-sound, IsFirst, first_clause-sound, are-clauses}
@@ -127,6 +127,7 @@ unfolding name
 name-refused [] = no-name []
 name-refused (placed (kind.Name n) m ∷ ts) = tt
 name-refused (placed (kind.Number n) m ∷ ts) = no-name _
+name-refused (placed (kind.Wide n) m ∷ ts) = no-name _
 name-refused (placed (kind.Punct p) m ∷ ts) = no-name _
 name-refused (placed (kind.Key k) m ∷ ts) = no-name _
 name-refused (placed kind.PragmaStart m ∷ ts) = no-name _
@@ -281,49 +282,59 @@ head_declarator-refused d b ts h =
     })
     (λ v vs rv. tt))
 
-pub declare-refused : (d : ℕ) (b : Option Readers) (ts : List Placed) → BegunBelow d b → begins (kind.Key keys.Int) ts ≡ true →
-    Refused (BegunPart (AreListed IsDeclarator) (deepest declarator_depth) spelling.declare d ts) (declare b ts)
-unfolding declare
-declare-refused d b ts h int =
-    refused-then (ReadPart (AreListed IsDeclarator) (deepest declarator_depth) (spelling.listed spelling.declarator) d (after ts))
-    (BegunPart (AreListed IsDeclarator) (deepest declarator_depth) (spelling.listed spelling.declarator) d (after ts)) _ (list_of (declarator b) (after ts)) _
-    (list_of-sound IsDeclarator declarator_depth spelling.declarator d (declarator b) (after ts) (λ us. declarator-sound d b us (sound-below d b h)))
-    (list_of-refused IsDeclarator declarator_depth spelling.declarator d (declarator b) (after ts) prints.declarator (λ us. declarator-sound d b us (sound-below d b h)) (λ us. declarator-refused d b us h))
+-- A type is refused at its first token alone.
+pub type-refused : (ts : List Placed) → Refused (λ rest. rest ≡ ts) (type_words ts)
+unfolding type_words
+type-refused ts =
+    refused-if _ (begins (kind.Key keys.Int) ts) _ _
+    (λ _. tt)
+    (λ _. refused-if _ (begins (kind.Key keys.Unsigned) ts) _ _
+    (λ _. refused-if _ (begins (kind.Key keys.Int) (after ts)) _ _ (λ _. tt) (λ _. tt))
+    (λ _. refl))
+
+pub declared-refused : (d : ℕ) (b : Option Readers) (ts : List Placed) → BegunBelow d b →
+    Refused (BegunPart (AreListed IsDeclarator) (deepest declarator_depth) spelling.declared d ts) (declared b ts)
+unfolding declared
+declared-refused d b ts h =
+    refused-then (ReadPart (AreListed IsDeclarator) (deepest declarator_depth) (spelling.listed spelling.declarator) d ts)
+    (BegunPart (AreListed IsDeclarator) (deepest declarator_depth) (spelling.listed spelling.declarator) d ts) _ (list_of (declarator b) ts) _
+    (list_of-sound IsDeclarator declarator_depth spelling.declarator d (declarator b) ts (λ us. declarator-sound d b us (sound-below d b h)))
+    (list_of-refused IsDeclarator declarator_depth spelling.declarator d (declarator b) ts prints.declarator (λ us. declarator-sound d b us (sound-below d b h)) (λ us. declarator-refused d b us h))
     (λ rest x. record {
       whole = x.whole;
       leveled = x.leveled;
       shallow = x.shallow;
-      opens = λ ps. opens-bare (kind.Key keys.Int) ts int (x.opens _);
+      opens = λ ps. x.opens _;
     })
     (λ ds us rd. refused-expect (kind.Punct puncts.Semicolon) _ us _
     (record {
       whole = ds;
       leveled = rd.leveled;
       shallow = rd.shallow;
-      opens = λ ps. opens-bare (kind.Key keys.Int) ts int (takes-opens (spelling.listed spelling.declarator ds) (prints.listed spelling.declarator prints.declarator ds) rd.takes here);
+      opens = λ ps. takes-opens (spelling.listed spelling.declarator ds) (prints.listed spelling.declarator prints.declarator ds) rd.takes here;
     })
     (λ _ vs semicolon. tt))
 
-pub head_declare-refused : (d : ℕ) (b : Option Readers) (ts : List Placed) → BegunBelow d b → begins (kind.Key keys.Int) ts ≡ true →
-    Refused (BegunPart (AreListed IsHeadDeclarator) (deepest declarator_depth) spelling.declare d ts) (head_declare b ts)
-unfolding head_declare
-head_declare-refused d b ts h int =
-    refused-then (ReadPart (AreListed IsHeadDeclarator) (deepest declarator_depth) (spelling.listed spelling.declarator) d (after ts))
-    (BegunPart (AreListed IsHeadDeclarator) (deepest declarator_depth) (spelling.listed spelling.declarator) d (after ts)) _ (list_of (head_declarator b) (after ts)) _
-    (list_of-sound IsHeadDeclarator declarator_depth spelling.declarator d (head_declarator b) (after ts) (λ us. head_declarator-sound d b us (sound-below d b h)))
-    (list_of-refused IsHeadDeclarator declarator_depth spelling.declarator d (head_declarator b) (after ts) prints.declarator (λ us. head_declarator-sound d b us (sound-below d b h)) (λ us. head_declarator-refused d b us h))
+pub head_declared-refused : (d : ℕ) (b : Option Readers) (ts : List Placed) → BegunBelow d b →
+    Refused (BegunPart (AreListed IsHeadDeclarator) (deepest declarator_depth) spelling.declared d ts) (head_declared b ts)
+unfolding head_declared
+head_declared-refused d b ts h =
+    refused-then (ReadPart (AreListed IsHeadDeclarator) (deepest declarator_depth) (spelling.listed spelling.declarator) d ts)
+    (BegunPart (AreListed IsHeadDeclarator) (deepest declarator_depth) (spelling.listed spelling.declarator) d ts) _ (list_of (head_declarator b) ts) _
+    (list_of-sound IsHeadDeclarator declarator_depth spelling.declarator d (head_declarator b) ts (λ us. head_declarator-sound d b us (sound-below d b h)))
+    (list_of-refused IsHeadDeclarator declarator_depth spelling.declarator d (head_declarator b) ts prints.declarator (λ us. head_declarator-sound d b us (sound-below d b h)) (λ us. head_declarator-refused d b us h))
     (λ rest x. record {
       whole = x.whole;
       leveled = x.leveled;
       shallow = x.shallow;
-      opens = λ ps. opens-bare (kind.Key keys.Int) ts int (x.opens _);
+      opens = λ ps. x.opens _;
     })
     (λ ds us rd. refused-expect (kind.Punct puncts.Semicolon) _ us _
     (record {
       whole = ds;
       leveled = rd.leveled;
       shallow = rd.shallow;
-      opens = λ ps. opens-bare (kind.Key keys.Int) ts int (takes-opens (spelling.listed spelling.declarator ds) (prints.listed spelling.declarator prints.declarator ds) rd.takes here);
+      opens = λ ps. takes-opens (spelling.listed spelling.declarator ds) (prints.listed spelling.declarator prints.declarator ds) rd.takes here;
     })
     (λ _ vs semicolon. tt))
 

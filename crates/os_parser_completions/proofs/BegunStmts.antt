@@ -11,6 +11,7 @@ use Rattle.os_ast.specs.Trees as tree
 use Rattle.os_ast.specs.Trees.{ExprTree, StartTree, ChangeTree, StmtTree, Stmts, ItemTree}
 use Rattle.os_ast.specs.declared.expr.Mark.{Mark}
 use Rattle.os_ast.specs.declared.expr.Name.{Name}
+use Rattle.os_ast.specs.declared.ty.Ty.TheVariants as ty_of
 use Rattle.os_ast.specs.declared.program.Params.{Params}
 use Rattle.os_ast.specs.declared.program.Params.TheVariants as params_of
 use Rattle.os_ast.specs.declared.stmt.Step.TheVariants as step_of
@@ -20,7 +21,7 @@ use Rattle.os_lexer.specs.declared.token.Kind.TheVariants as kind
 use Rattle.os_lexer.specs.declared.token.Punct.TheVariants as puncts
 use Rattle.os_parser_grammar.specs.Expressions.{Readers, args, target_of, below}
 use Rattle.os_parser_grammar.specs.Reading.{Read, Reader, got, fails, after, mark_at, begins, expect}
-use Rattle.os_parser_grammar.specs.Statements.{Inner, deep, readers_of, inner, inner_item, list_of, name, target, declare, head_declare, change, change_begun, change_of, before, named_stmt, block_item, stmts, block, condition, if_stmt, while_stmt, start, head_test, step, head, HeadTree, for_stmt, return_stmt, clauses, task, ticked, tick, taskwait, pragma, stmt_by, stmt_on, param, params, function, number, minus, constant, item, is_more, program, number_by}
+use Rattle.os_parser_grammar.specs.Statements.{Inner, deep, readers_of, inner, inner_item, list_of, name, target, type_words, begins_type, declared, head_declared, change, change_begun, change_of, before, named_stmt, block_item, stmts, block, condition, if_stmt, while_stmt, start, head_test, step, head, HeadTree, for_stmt, return_stmt, clauses, task, ticked, tick, taskwait, pragma, stmt_by, stmt_on, param, params, function, number, minus, constant, item, is_more, program, number_by}
 use Rattle.os_parser_grammar.specs.declared.stmt_start.StmtStart.{StmtStart}
 use Rattle.os_lexer.specs.Names.{omp_id, task_id, tick_id, taskwait_id}
 use Rattle.os_ast.specs.Depth.{deepest, declarator_depth, clause_depth}
@@ -31,11 +32,11 @@ use Rattle.os_parser_grammar.proofs.SameKinds.{same-self}
 use Rattle.os_parser_grammar.proofs.Sound.{Takes, Sound, sound-then, expect-sound, begins-bare, begins-marked}
 use Rattle.os_parser_grammar.proofs.SoundExprs.{ReadExpr, ReadTarget, ReadArgs, SoundReaders, SoundBelow, sound-deeper, args-sound, target_of-sound}
 use Rattle.os_parser_grammar.proofs.SoundExprs as exprs
-use Rattle.os_parser_grammar.proofs.SoundParts.{ReadPart, Spelled, list_of-sound, name-sound, target-sound, declare-sound, head_declare-sound, Changes, change_of-sound, before-sound, clauses-sound}
-use Rattle.os_parser_grammar.proofs.SoundStmts.{ReadStmt, IsInner, a_declare, a_stmt, ReadInner, SoundInner, SoundDeep, readers_of-sound, are-more, closed, stmts-sound, block-sound, condition-sound, none-left, Starts, a_semicolon, a_brace, a_name, a_step, an_if, a_while, a_for, a_break, a_continue, a_return, a_pragma, another, kind-starts, change-sound, start-sound, test-sound, step-sound, head_spelling, ReadHead, head-sound, opened, inner-sound, IsName, any_name, no_depth, parameter, param-sound, names-are, ReadParams, params-sound, ReadNumber, number-sound, minus-sound, item-sound}
+use Rattle.os_parser_grammar.proofs.SoundParts.{ReadPart, Spelled, list_of-sound, name-sound, target-sound, type-sound, declared-sound, head_declared-sound, Changes, change_of-sound, before-sound, clauses-sound}
+use Rattle.os_parser_grammar.proofs.SoundStmts.{ReadStmt, IsInner, a_declare, a_stmt, ReadInner, SoundInner, SoundDeep, readers_of-sound, are-more, closed, stmts-sound, block-sound, condition-sound, none-left, Starts, a_semicolon, a_brace, a_name, a_step, an_if, a_while, a_for, a_break, a_continue, a_return, a_pragma, another, kind-starts, change-sound, start-sound, test-sound, step-sound, head_spelling, ReadHead, head-sound, opened, inner-sound, IsParam, any_param, no_depth, param-sound, names-are, constant-is, ReadParams, params-sound, ReadNumber, number-sound, minus-sound, item-sound}
 use Rattle.os_parser_completions.proofs.Opens.{OpensAll, here, plain, noted, takes-opens, prints_token, prints_mark, opens-bare, opens-marked, Refused, refused-then, refused-if, refused-expect}
 use Rattle.os_parser_completions.proofs.BegunExprs.{BegunExpr, BegunTarget, BegunArgs, BegunReaders, BegunBelow, sound-below, refused-deeper, args-refused, target_of-refused, below-begun, expr-refused, operand-refused}
-use Rattle.os_parser_completions.proofs.BegunParts.{no_mark, no_name, BegunPart, BegunSpelled, many-refused, list_of-refused, name-refused, target-refused, declare-refused, head_declare-refused, BegunChange, stepped, change_of-refused, before-refused, ended-refused, clauses-refused, BegunClauses}
+use Rattle.os_parser_completions.proofs.BegunParts.{no_mark, no_name, BegunPart, BegunSpelled, many-refused, list_of-refused, name-refused, target-refused, type-refused, declared-refused, head_declared-refused, BegunChange, stepped, change_of-refused, before-refused, ended-refused, clauses-refused, BegunClauses}
 use Rattle.os_ast.proofs.Prints as prints
 
 abbrev pub BegunStmt : ℕ → List Placed → List Placed → Type 0
@@ -128,11 +129,18 @@ block_item-refused : (d : ℕ) (b : Option Readers) (stmt : Reader StmtTree) (ts
     Refused (BegunStmt (suc d) ts) (stmt ts) → Refused (BegunInner (suc d) ts) (block_item b stmt ts)
 unfolding block_item
 block_item-refused d b stmt ts h s =
-    refused-if _ (begins (kind.Key keys.Int) ts) _ _
-    (λ int. refused-then (ReadPart (AreListed IsDeclarator) (deepest declarator_depth) spelling.declare d ts)
-    (BegunPart (AreListed IsDeclarator) (deepest declarator_depth) spelling.declare d ts) _ (declare b ts) _ (declare-sound d b ts (sound-below d b h) int) (declare-refused d b ts h int)
-    (λ rest x. record { whole = tree.StmtTree.Declare x.whole; leveled = a_declare x.leveled; shallow = omega (arith, x.shallow); opens = x.opens })
-    (λ ds us rd. tt))
+    refused-if _ (begins_type ts) _ _
+    (λ _. refused-then (Spelled spelling.type_words ts) (λ rest. rest ≡ ts) _ (type_words ts) _ (type-sound ts) (type-refused ts)
+    (λ rest is. subst (BegunInner (suc d) ts) (sym is) (record { whole = tree.StmtTree.Empty; leveled = a_stmt leveled.IsStmt.empty; shallow = omega arith; opens = λ ps. here }))
+    (λ t us rt. refused-then (ReadPart (AreListed IsDeclarator) (deepest declarator_depth) spelling.declared d us)
+    (BegunPart (AreListed IsDeclarator) (deepest declarator_depth) spelling.declared d us) _ (declared b us) _ (declared-sound d b us (sound-below d b h)) (declared-refused d b us h)
+    (λ rest x. record {
+      whole = tree.StmtTree.Declare t x.whole;
+      leveled = a_declare x.leveled;
+      shallow = omega (arith, x.shallow);
+      opens = λ ps. takes-opens (spelling.type_words t) (prints.type_words t) rt (x.opens ps);
+    })
+    (λ ds vs rd. tt)))
     (λ _. refused-map (BegunStmt (suc d) ts) _ (stmt ts) s (λ rest x. record { whole = x.whole; leveled = a_stmt x.leveled; shallow = x.shallow; opens = x.opens }))
 
 -- conditions
@@ -256,11 +264,18 @@ unfolding start
 start-refused d b ts h =
     refused-if _ (begins (kind.Punct puncts.Semicolon) ts) _ _
     (λ semicolon. tt)
-    (λ _. refused-if _ (begins (kind.Key keys.Int) ts) _ _
-    (λ int. refused-then (ReadPart (AreListed IsHeadDeclarator) (deepest declarator_depth) spelling.declare d ts)
-    (BegunPart (AreListed IsHeadDeclarator) (deepest declarator_depth) spelling.declare d ts) _ (head_declare b ts) _ (head_declare-sound d b ts (sound-below d b h) int) (head_declare-refused d b ts h int)
-    (λ rest x. record { whole = tree.StartTree.Declare x.whole; leveled = leveled.IsStart.declare x.leveled; shallow = x.shallow; opens = x.opens })
-    (λ ds us rd. tt))
+    (λ _. refused-if _ (begins_type ts) _ _
+    (λ _. refused-then (Spelled spelling.type_words ts) (λ rest. rest ≡ ts) _ (type_words ts) _ (type-sound ts) (type-refused ts)
+    (λ rest is. subst (BegunStart d ts) (sym is) (record { whole = tree.StartTree.Empty; leveled = leveled.IsStart.empty; shallow = omega arith; opens = λ ps. here }))
+    (λ t us rt. refused-then (ReadPart (AreListed IsHeadDeclarator) (deepest declarator_depth) spelling.declared d us)
+    (BegunPart (AreListed IsHeadDeclarator) (deepest declarator_depth) spelling.declared d us) _ (head_declared b us) _ (head_declared-sound d b us (sound-below d b h)) (head_declared-refused d b us h)
+    (λ rest x. record {
+      whole = tree.StartTree.Declare t x.whole;
+      leveled = leveled.IsStart.declare x.leveled;
+      shallow = x.shallow;
+      opens = λ ps. takes-opens (spelling.type_words t) (prints.type_words t) rt (x.opens ps);
+    })
+    (λ ds vs rd. tt)))
     (λ _. ended-refused (Changes d ts) (BegunChange d ts) _ (change b ts) tree.StartTree.Change (change-sound d b ts (sound-below d b h)) (change-refused d b ts h)
     (λ rest x. record { whole = tree.StartTree.Change x.whole; leveled = leveled.IsStart.change x.leveled; shallow = x.shallow; opens = λ ps. x.opens _ })
     (λ c us rc. record {
@@ -659,19 +674,20 @@ inner-begun (suc d) = record {
 }
 
 -- functions and constants
-no-param : (ts : List Placed) → BegunPart IsName no_depth parameter 0 ts ts
-unfolding no_depth
-no-param ts = record { whole = no_name; leveled = any_name; shallow = omega arith; opens = λ ps. here }
-
-param-begun : (ts us : List Placed) (r : Read Name) → Takes (spelling.key keys.Int) ts us → Refused (BegunSpelled spelling.name us) r →
-    Refused (BegunPart IsName no_depth parameter 0 ts) r
-unfolding no_depth
-param-begun ts us (got n rest) int h = tt
-param-begun ts us (fails rest) int x = record { whole = x.whole; leveled = any_name; shallow = omega arith; opens = λ ps. takes-opens _ prints_token int (x.opens ps) }
-
-param-refused : (ts : List Placed) → Refused (BegunPart IsName no_depth parameter 0 ts) (param ts)
-unfolding param
-param-refused ts = refused-expect (kind.Key keys.Int) _ ts _ (no-param ts) (λ _ us int. param-begun ts us (name us) int.plain (name-refused us))
+param-refused : (ts : List Placed) → Refused (BegunPart IsParam no_depth spelling.param 0 ts) (param ts)
+unfolding param no_depth
+param-refused ts =
+    refused-then (Spelled spelling.type_words ts) (λ rest. rest ≡ ts) _ (type_words ts) _ (type-sound ts) (type-refused ts)
+    (λ rest is. subst (BegunPart IsParam no_depth spelling.param 0 ts) (sym is)
+    (record { whole = record { ty = ty_of.Int; name = no_name }; leveled = any_param; shallow = omega arith; opens = λ ps. here }))
+    (λ t us rt. refused-then (Spelled spelling.name us) (BegunSpelled spelling.name us) _ (name us) _ (name-sound us) (name-refused us)
+    (λ rest x. record {
+      whole = record { ty = t; name = x.whole };
+      leveled = any_param;
+      shallow = omega arith;
+      opens = λ ps. takes-opens (spelling.type_words t) (prints.type_words t) rt (x.opens ps);
+    })
+    (λ n vs rn. tt))
 
 record BegunParams (ts rest : List Placed) : Type 0 where
   whole : Params
@@ -685,68 +701,78 @@ params-refused ts =
     (λ _. tt)
     (λ _. refused-if _ (begins (kind.Key keys.Void) ts) _ _
     (λ word. tt)
-    (λ _. refused-then (ReadPart (AreListed IsName) (deepest no_depth) (spelling.listed parameter) 0 ts) (BegunPart (AreListed IsName) (deepest no_depth) (spelling.listed parameter) 0 ts) _ (list_of param ts) _
-    (list_of-sound IsName no_depth parameter 0 param ts param-sound)
-    (list_of-refused IsName no_depth parameter 0 param ts (λ n. record { in_front = λ rest. refl }) param-sound param-refused)
+    (λ _. refused-then (ReadPart (AreListed IsParam) (deepest no_depth) (spelling.listed spelling.param) 0 ts) (BegunPart (AreListed IsParam) (deepest no_depth) (spelling.listed spelling.param) 0 ts) _ (list_of param ts) _
+    (list_of-sound IsParam no_depth spelling.param 0 param ts param-sound)
+    (list_of-refused IsParam no_depth spelling.param 0 param ts (λ p. prints.◌then◌ (prints.type_words p.ty) prints_mark) param-sound param-refused)
     (λ rest x. record { whole = params_of.Names x.whole; leveled = names-are x.leveled; opens = x.opens })
     (λ ns us rns. tt)))
 
 abbrev pub BegunTop : ℕ → List Placed → List Placed → Type 0
 BegunTop d = BegunPart IsItem item_depth spelling.item d
 
-function-refused : (d : ℕ) (s : Option Inner) (ts : List Placed) → BegunDeep d s → begins (kind.Key keys.Int) ts ≡ true →
+no-item : (d : ℕ) (ts : List Placed) → BegunTop d ts ts
+no-item d ts = record {
+  whole = tree.Constant (record { ty = ty_of.Int; name = no_name; minus = false; size = 0; wide = false });
+  leveled = leveled.IsItem.constant (omega arith);
+  shallow = omega arith;
+  opens = λ ps. here;
+}
+
+function-refused : (d : ℕ) (s : Option Inner) (ts : List Placed) → BegunDeep d s →
     Refused (BegunTop (suc d) ts) (function s ts)
 unfolding function
-function-refused d s ts h int =
-    refused-then (Spelled spelling.name (after ts)) (BegunSpelled spelling.name (after ts)) _ (name (after ts)) _ (name-sound (after ts)) (name-refused (after ts))
+function-refused d s ts h =
+    refused-then (Spelled spelling.type_words ts) (λ rest. rest ≡ ts) _ (type_words ts) _ (type-sound ts) (type-refused ts)
+    (λ rest is. subst (BegunTop (suc d) ts) (sym is) (no-item (suc d) ts))
+    (λ t t0 rt. refused-then (Spelled spelling.name t0) (BegunSpelled spelling.name t0) _ (name t0) _ (name-sound t0) (name-refused t0)
     (λ rest x. record {
-      whole = tree.Function (record { name = x.whole; params = params_of.Empty; body = tree.no_stmts });
+      whole = tree.Function (record { ty = t; name = x.whole; params = params_of.Empty; body = tree.no_stmts });
       leveled = leveled.IsItem.function leveled.IsParams.empty leveled.AreStmts.no_stmts;
       shallow = omega arith;
-      opens = λ ps. opens-bare (kind.Key keys.Int) ts int (x.opens _);
+      opens = λ ps. takes-opens (spelling.type_words t) (prints.type_words t) rt (x.opens _);
     })
     (λ n t1 rn. refused-expect (kind.Punct puncts.OpenParen) _ t1 _
     (record {
-      whole = tree.Function (record { name = n; params = params_of.Empty; body = tree.no_stmts });
+      whole = tree.Function (record { ty = t; name = n; params = params_of.Empty; body = tree.no_stmts });
       leveled = leveled.IsItem.function leveled.IsParams.empty leveled.AreStmts.no_stmts;
       shallow = omega arith;
-      opens = λ ps. opens-bare (kind.Key keys.Int) ts int (takes-opens (spelling.name n) prints_mark rn here);
+      opens = λ ps. takes-opens (spelling.type_words t) (prints.type_words t) rt (takes-opens (spelling.name n) prints_mark rn here);
     })
     (λ _ t2 e2. refused-then (ReadParams t2) (BegunParams t2) _ (params t2) _ (params-sound t2) (params-refused t2)
     (λ rest x. record {
-      whole = tree.Function (record { name = n; params = x.whole; body = tree.no_stmts });
+      whole = tree.Function (record { ty = t; name = n; params = x.whole; body = tree.no_stmts });
       leveled = leveled.IsItem.function x.leveled leveled.AreStmts.no_stmts;
       shallow = omega arith;
-      opens = λ ps. opens-bare (kind.Key keys.Int) ts int (takes-opens (spelling.name n) prints_mark rn (takes-opens _ prints_token e2.plain (x.opens _)));
+      opens = λ ps. takes-opens (spelling.type_words t) (prints.type_words t) rt (takes-opens (spelling.name n) prints_mark rn (takes-opens _ prints_token e2.plain (x.opens _)));
     })
     (λ p t3 rps. refused-expect (kind.Punct puncts.CloseParen) _ t3 _
     (record {
-      whole = tree.Function (record { name = n; params = p; body = tree.no_stmts });
+      whole = tree.Function (record { ty = t; name = n; params = p; body = tree.no_stmts });
       leveled = leveled.IsItem.function rps.leveled leveled.AreStmts.no_stmts;
       shallow = omega arith;
-      opens = λ ps. opens-bare (kind.Key keys.Int) ts int (takes-opens (spelling.name n) prints_mark rn (takes-opens _ prints_token e2.plain
+      opens = λ ps. takes-opens (spelling.type_words t) (prints.type_words t) rt (takes-opens (spelling.name n) prints_mark rn (takes-opens _ prints_token e2.plain
           (takes-opens (spelling.params p) (prints.params p) rps.takes here)));
     })
     (λ _ t4 e4. refused-expect (kind.Punct puncts.OpenBrace) _ t4 _
     (record {
-      whole = tree.Function (record { name = n; params = p; body = tree.no_stmts });
+      whole = tree.Function (record { ty = t; name = n; params = p; body = tree.no_stmts });
       leveled = leveled.IsItem.function rps.leveled leveled.AreStmts.no_stmts;
       shallow = omega arith;
-      opens = λ ps. opens-bare (kind.Key keys.Int) ts int (takes-opens (spelling.name n) prints_mark rn (takes-opens _ prints_token e2.plain
+      opens = λ ps. takes-opens (spelling.type_words t) (prints.type_words t) rt (takes-opens (spelling.name n) prints_mark rn (takes-opens _ prints_token e2.plain
           (takes-opens (spelling.params p) (prints.params p) rps.takes (takes-opens _ prints_token e4.plain here))));
     })
     (λ _ t5 e5. refused-then (ReadPart AreStmts stmts_depth closed d t5) (BegunStmts d t5) _ (block s t5) _ (block-sound d s t5 (sound-inside d s h)) (block-refused d s t5 h)
     (λ rest x. record {
-      whole = tree.Function (record { name = n; params = p; body = x.whole });
+      whole = tree.Function (record { ty = t; name = n; params = p; body = x.whole });
       leveled = leveled.IsItem.function rps.leveled x.leveled;
       shallow = omega (arith, x.shallow);
-      opens = λ ps. opens-bare (kind.Key keys.Int) ts int (takes-opens (spelling.name n) prints_mark rn (takes-opens _ prints_token e2.plain
+      opens = λ ps. takes-opens (spelling.type_words t) (prints.type_words t) rt (takes-opens (spelling.name n) prints_mark rn (takes-opens _ prints_token e2.plain
           (takes-opens (spelling.params p) (prints.params p) rps.takes (takes-opens _ prints_token e4.plain (takes-opens _ prints_token e5.plain (x.opens ps))))));
     })
-    (λ ss t6 rss. tt))))))
+    (λ ss t6 rss. tt)))))))
 
 number-case : (n : ℕ) (m : Mark) (ts : List Placed) (b : Bool) →
-    Refused (λ rest. rest ≡ placed (kind.Number n) m ∷ ts) (number_by (cond b (Some n) None) (placed (kind.Number n) m ∷ ts))
+    Refused (λ rest. rest ≡ placed (kind.Number n) m ∷ ts) (number_by (cond b (Some (record { size = n; wide = false })) None) (placed (kind.Number n) m ∷ ts))
 number-case n m ts true = tt
 number-case n m ts false = refl
 
@@ -754,6 +780,7 @@ number-refused : (ts : List Placed) → Refused (λ rest. rest ≡ ts) (number t
 unfolding number
 number-refused [] = refl
 number-refused (placed (kind.Number n) m ∷ ts) = number-case n m ts (nat_lt n (2 ^ 31))
+number-refused (placed (kind.Wide n) m ∷ ts) = tt
 number-refused (placed (kind.Name n) m ∷ ts) = refl
 number-refused (placed (kind.Punct p) m ∷ ts) = refl
 number-refused (placed (kind.Key k) m ∷ ts) = refl
@@ -767,44 +794,44 @@ never-refused ts = refused-if _ (begins (kind.Punct puncts.Minus) ts) _ _ (λ e.
 constant-refused : (d : ℕ) (ts : List Placed) → begins (kind.Key keys.Const) ts ≡ true → Refused (BegunTop d ts) (constant ts)
 unfolding constant
 constant-refused d ts word =
-    refused-expect (kind.Key keys.Int) _ (after ts) _
-    (record {
-      whole = tree.Constant (record { name = no_name; minus = false; size = 0 });
+    refused-then (Spelled spelling.type_words (after ts)) (λ rest. rest ≡ after ts) _ (type_words (after ts)) _ (type-sound (after ts)) (type-refused (after ts))
+    (λ rest is. subst (BegunTop d ts) (sym is) (record {
+      whole = tree.Constant (record { ty = ty_of.Int; name = no_name; minus = false; size = 0; wide = false });
       leveled = leveled.IsItem.constant (omega arith);
       shallow = omega arith;
       opens = λ ps. opens-bare (kind.Key keys.Const) ts word here;
-    })
-    (λ _ t1 e1. refused-then (Spelled spelling.name t1) (BegunSpelled spelling.name t1) _ (name t1) _ (name-sound t1) (name-refused t1)
+    }))
+    (λ t t1 rt. refused-then (Spelled spelling.name t1) (BegunSpelled spelling.name t1) _ (name t1) _ (name-sound t1) (name-refused t1)
     (λ rest x. record {
-      whole = tree.Constant (record { name = x.whole; minus = false; size = 0 });
+      whole = tree.Constant (record { ty = t; name = x.whole; minus = false; size = 0; wide = false });
       leveled = leveled.IsItem.constant (omega arith);
       shallow = omega arith;
-      opens = λ ps. opens-bare (kind.Key keys.Const) ts word (takes-opens _ prints_token e1.plain (x.opens _));
+      opens = λ ps. opens-bare (kind.Key keys.Const) ts word (takes-opens (spelling.type_words t) (prints.type_words t) rt (x.opens _));
     })
     (λ n t2 rn. refused-expect (kind.Punct puncts.Set) _ t2 _
     (record {
-      whole = tree.Constant (record { name = n; minus = false; size = 0 });
+      whole = tree.Constant (record { ty = t; name = n; minus = false; size = 0; wide = false });
       leveled = leveled.IsItem.constant (omega arith);
       shallow = omega arith;
-      opens = λ ps. opens-bare (kind.Key keys.Const) ts word (takes-opens _ prints_token e1.plain (takes-opens (spelling.name n) prints_mark rn here));
+      opens = λ ps. opens-bare (kind.Key keys.Const) ts word (takes-opens (spelling.type_words t) (prints.type_words t) rt (takes-opens (spelling.name n) prints_mark rn here));
     })
     (λ _ t3 e3. refused-then (Spelled spelling.sign t3) (λ rest. ⊥) _ (minus t3) _ (minus-sound t3) (never-refused t3)
     (λ rest x. absurd x)
     (λ m t4 rm. refused-then (ReadNumber t4) (λ rest. rest ≡ t4) _ (number t4) _ (number-sound t4) (number-refused t4)
     (λ rest is. subst (BegunTop d ts) (sym is) (record {
-      whole = tree.Constant (record { name = n; minus = m; size = 0 });
+      whole = tree.Constant (record { ty = t; name = n; minus = m; size = 0; wide = false });
       leveled = leveled.IsItem.constant (omega arith);
       shallow = omega arith;
-      opens = λ ps. opens-bare (kind.Key keys.Const) ts word (takes-opens _ prints_token e1.plain (takes-opens (spelling.name n) prints_mark rn
+      opens = λ ps. opens-bare (kind.Key keys.Const) ts word (takes-opens (spelling.type_words t) (prints.type_words t) rt (takes-opens (spelling.name n) prints_mark rn
           (takes-opens _ prints_token e3.plain (takes-opens (spelling.sign m) (prints.sign m) rm here))));
     }))
     (λ v t5 rv. refused-expect (kind.Punct puncts.Semicolon) _ t5 _
     (record {
-      whole = tree.Constant (record { name = n; minus = m; size = v });
-      leveled = leveled.IsItem.constant rv.small;
+      whole = tree.Constant (record { ty = t; name = n; minus = m; size = v.size; wide = v.wide });
+      leveled = constant-is rv.is;
       shallow = omega arith;
-      opens = λ ps. opens-bare (kind.Key keys.Const) ts word (takes-opens _ prints_token e1.plain (takes-opens (spelling.name n) prints_mark rn
-          (takes-opens _ prints_token e3.plain (takes-opens (spelling.sign m) (prints.sign m) rm (takes-opens (spelling.number v) prints_token rv.takes here)))));
+      opens = λ ps. opens-bare (kind.Key keys.Const) ts word (takes-opens (spelling.type_words t) (prints.type_words t) rt (takes-opens (spelling.name n) prints_mark rn
+          (takes-opens _ prints_token e3.plain (takes-opens (spelling.sign m) (prints.sign m) rm (takes-opens (spelling.numeral v.wide v.size) (prints.numeral v.wide v.size) rv.takes here)))));
     })
     (λ _ t6 e6. tt))))))
 
@@ -813,14 +840,7 @@ unfolding item
 item-refused d s ts h =
     refused-if _ (begins (kind.Key keys.Const) ts) _ _
     (λ word. constant-refused (suc d) ts word)
-    (λ _. refused-if _ (begins (kind.Key keys.Int) ts) _ _
-    (λ int. function-refused d s ts h int)
-    (λ _. record {
-      whole = tree.Constant (record { name = no_name; minus = false; size = 0 });
-      leveled = leveled.IsItem.constant (omega arith);
-      shallow = omega arith;
-      opens = λ ps. here;
-    }))
+    (λ _. function-refused d s ts h)
 
 -- where a program is refused, one begins with all tokens before
 pub program-refused : (d : ℕ) (ts : List Placed) →

@@ -144,6 +144,10 @@ fn operand(alloc: Global, cursor: &mut Cursor<'_>, depth: u32) -> Result<Expr, P
             cursor.advance();
             Ok(Expr::Number(number))
         }
+        OperandStart::Wide(number) => {
+            cursor.advance();
+            Ok(Expr::Wide(number))
+        }
         OperandStart::Name(id) => {
             let mark = cursor.mark();
             cursor.advance();

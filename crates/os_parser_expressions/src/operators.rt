@@ -79,6 +79,7 @@ fn operand_start(kind: Kind) -> OperandStart
 {
     match kind {
         Kind::Number(number) => number_start(number),
+        Kind::Wide(number) => OperandStart::Wide(number),
         Kind::Name(id) => OperandStart::Name(id),
         Kind::Punct(punct) => punct_start(punct),
         Kind::Key(_) | Kind::PragmaStart | Kind::PragmaEnd => OperandStart::Other,
@@ -150,8 +151,12 @@ fn binary_of(kind: Kind) -> Option<Binary>
 {
     match kind {
         Kind::Punct(punct) => punct_binary(punct),
-        Kind::Number(_) | Kind::Name(_) | Kind::Key(_) | Kind::PragmaStart | Kind::PragmaEnd =>
-            None,
+        Kind::Number(_)
+        | Kind::Wide(_)
+        | Kind::Name(_)
+        | Kind::Key(_)
+        | Kind::PragmaStart
+        | Kind::PragmaEnd => None,
     }
 }
 

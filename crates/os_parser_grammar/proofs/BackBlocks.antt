@@ -11,6 +11,7 @@ use Rattle.os_ast.specs.Spelling.{Symbol, Printer, bare, marked}
 use Rattle.os_ast.specs.Trees as tree
 use Rattle.os_ast.specs.Trees.{ExprTree, Args, TargetTree, DeclaratorTree, StartTree, ChangeTree, ClauseTree, StmtTree, Stmts, ItemTree}
 use Rattle.os_ast.specs.declared.expr.Name.{Name}
+use Rattle.os_ast.specs.declared.ty.Ty.{Ty}
 use Rattle.os_ast.proofs.Begins.{stmt-begins}
 use Rattle.os_ast.proofs.Prints.{prints_stmt}
 use Rattle.os_lexer.specs.declared.token.Key.TheVariants as keys
@@ -20,10 +21,10 @@ use Rattle.os_lexer.specs.declared.token.Punct.TheVariants as puncts
 use Rattle.os_parser_grammar.specs.Expressions.{args, below}
 use Rattle.os_parser_grammar.specs.Kinds.{same}
 use Rattle.os_parser_grammar.specs.Reading.{Reader, begins}
-use Rattle.os_parser_grammar.specs.Statements.{Inner, inner, inner_item, declare, before, block_item, stmts, block, stmt_on}
+use Rattle.os_parser_grammar.specs.Statements.{Inner, inner, inner_item, type_words, begins_type, declared, before, block_item, stmts, block, stmt_on}
 use Rattle.os_parser_grammar.specs.declared.stmt_start.StmtStart.TheVariants as starts
 use Rattle.os_parser_grammar.proofs.BackExprs.{Back, Plain, plain-back, Noted, noted-back, depth-some, name_of, back-target, back-args, back-expr}
-use Rattle.os_parser_grammar.proofs.BackParts.{begins-not, back-whole, back-declare}
+use Rattle.os_parser_grammar.proofs.BackParts.{begins-not, back-whole, back-declared, back-type, type-begun, type-begins, listed-names}
 use Rattle.os_parser_grammar.proofs.BackChanges.{step-starts, Targeted, back-set, back-after, back-before, ended-back, ending, closed, back-start, back-test, back-step}
 use Rattle.os_parser_grammar.proofs.BackClauses.{back-clauses}
 use Rattle.os_parser_grammar.proofs.BackStmts.{stmt-some, print-less, lift, not-other, empty-back, block-back, named-change, stepped-back, call-back, back-condition, if-back, if_else-back, while-back, for-back, break-back, continue-back, return-back, task-back, tick-back, taskwait-back}
@@ -39,6 +40,7 @@ stmt-else l can.CanBeginStmt.name = refl
 stmt-else l can.CanBeginStmt.up = refl
 stmt-else l can.CanBeginStmt.down = refl
 stmt-else l can.CanBeginStmt.int = refl
+stmt-else l can.CanBeginStmt.unsigned = refl
 stmt-else l can.CanBeginStmt.if = refl
 stmt-else l can.CanBeginStmt.while = refl
 stmt-else l can.CanBeginStmt.for = refl
@@ -54,6 +56,7 @@ stmt-close l can.CanBeginStmt.name = refl
 stmt-close l can.CanBeginStmt.up = refl
 stmt-close l can.CanBeginStmt.down = refl
 stmt-close l can.CanBeginStmt.int = refl
+stmt-close l can.CanBeginStmt.unsigned = refl
 stmt-close l can.CanBeginStmt.if = refl
 stmt-close l can.CanBeginStmt.while = refl
 stmt-close l can.CanBeginStmt.for = refl
@@ -98,16 +101,16 @@ pub block-read : (s : Option Inner) (ss : Stmts) (ps : List Symbol) (ts : List P
 unfolding block
 block-read s ss ps ts b = record { rest = b.rest; read = b.read; fits = b.fits; within = b.within }
 
-declare-item : (c : ℕ) (ds : List DeclaratorTree) (ps p0 : List Symbol) (ts : List Placed) → Plain (kind.Key keys.Int) p0 ts → Back (declare (below c)) ds ps ts →
-    Back (inner_item (inner (suc c))) (tree.StmtTree.Declare ds) ps ts
+declare-item : (c : ℕ) (t : Ty) (ds : List DeclaratorTree) (ps p0 : List Symbol) (ts : List Placed) → begins_type ts ≡ true → (a : Back type_words t p0 ts) →
+    Back (declared (below c)) ds ps a.rest → Back (inner_item (inner (suc c))) (tree.StmtTree.Declare t ds) ps ts
 unfolding inner_item block_item inner
-declare-item c ds ps p0 ts t b =
-    let int : begins (kind.Key keys.Int) ts ≡ true = rw t.head refl in
-    record { rest = b.rest; read = rw (int, b.read) refl; fits = b.fits; within = b.within }
+declare-item c t ds ps p0 ts on a b =
+    record { rest = b.rest; read = rw (on, a.read, b.read) refl; fits = b.fits; within = omega (arith, a.within, b.within) }
 
-stmt-item : (c : ℕ) (s : StmtTree) (ps : List Symbol) (ts : List Placed) → begins (kind.Key keys.Int) ts ≡ false → Back (stmt_on (inner c)) s ps ts → Back (inner_item (inner (suc c))) s ps ts
+stmt-item : (c : ℕ) (s : StmtTree) (ps : List Symbol) (ts : List Placed) → begins (kind.Key keys.Int) ts ≡ false → begins (kind.Key keys.Unsigned) ts ≡ false →
+    Back (stmt_on (inner c)) s ps ts → Back (inner_item (inner (suc c))) s ps ts
 unfolding inner_item block_item inner
-stmt-item c s ps ts off b = record { rest = b.rest; read = rw off b.read; fits = b.fits; within = b.within }
+stmt-item c s ps ts off out b = record { rest = b.rest; read = rw (off, out) b.read; fits = b.fits; within = b.within }
 
 -- a change and its semicolon
 targeted-stmt : (d : ℕ) (c : ChangeTree) (ps : List Symbol) (ts : List Placed) → Targeted d c (bare (kind.Punct puncts.Semicolon) ∷ ps) ts → Back (stmt_on (inner d)) (tree.StmtTree.Change c) ps ts
@@ -206,15 +209,16 @@ mutual
   back-stmts zero d are h fit less = absurd (omega arith)
   back-stmts (suc f) d leveled.AreStmts.no_stmts h fit less = stmts-none f (inner_item (inner d)) _ _ (plain-back fit)
   back-stmts (suc f) zero (leveled.AreStmts.declare is rest) h fit less = absurd (omega (arith, h))
-  back-stmts (suc f) (suc c) (leveled.AreStmts.declare {ds} {ss} is rest) h fit less =
-      let a = declare-item c ds _ _ _ (plain-back fit) (back-declare c _ _ is (omega (arith, h)) fit) in
-      let shorter = print-less _ _ a.rest (prints_stmt (tree.StmtTree.Declare ds)) (stmt-begins (tree.StmtTree.Declare ds) []) fit a.fits in
-      let off = begins-not (kind.Punct puncts.CloseBrace) _ _ (stmt-begins (tree.StmtTree.Declare ds) _) stmt-close fit in
+  back-stmts (suc f) (suc c) (leveled.AreStmts.declare {t} {ds} {ss} is rest) h fit less =
+      let b = back-type t _ _ (listed-names ds _ is) fit in
+      let a = declare-item c t ds _ _ _ (type-begins _ _ (type-begun t _) fit) b (back-declared c _ b.rest is (omega (arith, h)) b.fits) in
+      let shorter = print-less _ _ a.rest (prints_stmt (tree.StmtTree.Declare t ds)) (stmt-begins (tree.StmtTree.Declare t ds) []) fit a.fits in
+      let off = begins-not (kind.Punct puncts.CloseBrace) _ _ (stmt-begins (tree.StmtTree.Declare t ds) _) stmt-close fit in
       stmts-more f (inner_item (inner (suc c))) _ ss _ _ _ off a (back-stmts f (suc c) rest (omega (arith, h)) a.fits (omega (arith, less, shorter)))
   back-stmts (suc f) zero (leveled.AreStmts.stmt {s} {ss} is rest) h fit less = let some = stmt-some s in absurd (omega (arith, h))
   back-stmts (suc f) (suc c) (leveled.AreStmts.stmt {s} {ss} is rest) h fit less =
       let b = back-stmt c is (omega (arith, h)) (λ _. stmts-free ss _) fit in
-      let a = stmt-item c s _ _ (not-other (kind.Key keys.Int) (inner c) s _ b.rest refl b.read) b in
+      let a = stmt-item c s _ _ (not-other (kind.Key keys.Int) (inner c) s _ b.rest refl b.read) (not-other (kind.Key keys.Unsigned) (inner c) s _ b.rest refl b.read) b in
       let shorter = print-less _ _ a.rest (prints_stmt s) (stmt-begins s []) fit a.fits in
       let off = begins-not (kind.Punct puncts.CloseBrace) _ _ (stmt-begins s _) stmt-close fit in
       stmts-more f (inner_item (inner (suc c))) s ss _ _ _ off a (back-stmts f (suc c) rest (omega (arith, h)) a.fits (omega (arith, less, shorter)))

@@ -15,8 +15,8 @@ use Rattle.os_ast.specs.Trees.{ExprTree, TargetTree, IndexTree, DeclaratorTree, 
 use Rattle.os_ast.specs.declared.expr.Mark.{Mark}
 use Rattle.os_ast.specs.declared.stmt.Assign.{Assign}
 use Rattle.os_ast.specs.declared.stmt.Step.{Step}
+use Rattle.os_ast.specs.declared.ty.Ty.{Ty}
 use Rattle.os_ast.specs.declared.stmt.Step.TheVariants as step_of
-use Rattle.os_lexer.specs.declared.token.Key.TheVariants as keys
 use Rattle.os_lexer.specs.declared.token.Kind.{Kind}
 use Rattle.os_lexer.specs.declared.token.Kind.TheVariants as kind
 use Rattle.os_lexer.specs.declared.token.Punct.TheVariants as puncts
@@ -24,14 +24,14 @@ use Rattle.os_parser_grammar.specs.Beginners.{change_sign, stmt_start}
 use Rattle.os_parser_grammar.specs.Expressions.{Readers, expr_on, layer, below}
 use Rattle.os_parser_grammar.specs.Kinds.{same}
 use Rattle.os_parser_grammar.specs.Reading.{Reader, got, begins}
-use Rattle.os_parser_grammar.specs.Statements.{name, target, head_declare, change_of, before, change, ended, start, head_test, step}
+use Rattle.os_parser_grammar.specs.Statements.{name, target, type_words, begins_type, head_declared, change_of, before, change, ended, start, head_test, step}
 use Rattle.os_parser_grammar.specs.declared.change_sign.ChangeSign.TheVariants as signs
 use Rattle.os_parser_grammar.specs.declared.stmt_start.StmtStart.TheVariants as starts
 use Rattle.os_parser_grammar.proofs.Follows.{Stops, stops-more, grows}
 use Rattle.os_parser_grammar.proofs.BackExprs.{Back, Plain, plain-back, Noted, noted-back, expect-back, depth-some, BackTarget, back-target, back-expr}
 use Rattle.os_ast.specs.Beginnings.{CanBeginExpr}
 use Rattle.os_ast.proofs.Begins.{expr-begins}
-use Rattle.os_parser_grammar.proofs.BackParts.{begins-not, back-whole, back-head_declare}
+use Rattle.os_parser_grammar.proofs.BackParts.{begins-not, back-whole, back-head_declared, back-type, IsTypeWord, int, unsigned, type-begun, type-begins, listed-names}
 
 step-changes : (s : Step) → change_sign (kind.Punct (step_mark s)) ≡ signs.Step s
 step-changes step_of.Up = refl
@@ -136,7 +136,7 @@ back-before d {t} {s} {m} ps ts it h stop f =
 pub record BackChange (d : ℕ) (c : ChangeTree) (ps : List Symbol) (ts : List Placed) : Type 0 where
   pub back : Back (change (below d)) c ps ts
   pub starts : begins (kind.Punct puncts.Semicolon) ts ≡ false
-  pub named : begins (kind.Key keys.Int) ts ≡ false
+  pub named : begins_type ts ≡ false
   pub paren : begins (kind.Punct puncts.CloseParen) ts ≡ false
 
 targeted-change : (d : ℕ) (c : ChangeTree) (ps : List Symbol) (ts : List Placed) → Targeted d c ps ts → BackChange d c ps ts
@@ -200,13 +200,15 @@ start-empty d ps ts t =
     let size = ap length t.head in
     record { rest = t.rest; read = rw t.head refl; fits = t.fits; within = omega arith }
 
-start-declare : (d : ℕ) (ds : List DeclaratorTree) (ps : List Symbol) (ts : List Placed) (qs : List Symbol) → Plain (kind.Key keys.Int) qs ts → Back (head_declare (below d)) ds ps ts →
-    Back (start (below d)) (tree.StartTree.Declare ds) ps ts
+word-semicolon : (l : Kind) → IsTypeWord l → same l (kind.Punct puncts.Semicolon) ≡ false
+word-semicolon l int = refl
+word-semicolon l unsigned = refl
+
+start-declare : (d : ℕ) (t : Ty) (ds : List DeclaratorTree) (ps qs : List Symbol) (ts : List Placed) → begins (kind.Punct puncts.Semicolon) ts ≡ false → begins_type ts ≡ true →
+    (a : Back type_words t qs ts) → Back (head_declared (below d)) ds ps a.rest → Back (start (below d)) (tree.StartTree.Declare t ds) ps ts
 unfolding start
-start-declare d ds ps ts qs t b =
-    let off : begins (kind.Punct puncts.Semicolon) ts ≡ false = rw t.head refl in
-    let int : begins (kind.Key keys.Int) ts ≡ true = rw t.head refl in
-    record { rest = b.rest; read = rw (off, int, b.read) refl; fits = b.fits; within = b.within }
+start-declare d t ds ps qs ts off on a b =
+    record { rest = b.rest; read = rw (off, on, a.read, b.read) refl; fits = b.fits; within = omega (arith, a.within, b.within) }
 
 start-change : (d : ℕ) (c : ChangeTree) (ps : List Symbol) (ts : List Placed) → (b : BackChange d c (bare (kind.Punct puncts.Semicolon) ∷ ps) ts) →
     Back (λ us. ended (change (below d) us) tree.StartTree.Change) (tree.StartTree.Change c) ps ts → Back (start (below d)) (tree.StartTree.Change c) ps ts
@@ -217,13 +219,17 @@ start-change d c ps ts b e =
 pub back-start : (d : ℕ) {st : StartTree} (ps : List Symbol) (ts : List Placed) → IsStart st → start_depth st ≤ d → Fit (spelling.start st ps) ts →
     Back (start (below d)) st ps ts
 back-start d ps ts leveled.IsStart.empty h f = start-empty d ps ts (plain-back f)
-back-start d ps ts (leveled.IsStart.declare is) h f = start-declare d _ ps ts _ (plain-back f) (back-head_declare d ps ts is h f)
+back-start d ps ts (leveled.IsStart.declare {t} {ds} is) h f =
+    let off = begins-not (kind.Punct puncts.Semicolon) _ ts (type-begun t _) word-semicolon f in
+    let a = back-type t _ ts (listed-names ds ps is) f in
+    start-declare d t ds ps _ ts off (type-begins _ ts (type-begun t _) f) a (back-head_declared d ps a.rest is h a.fits)
 back-start d ps ts (leveled.IsStart.change is) h f =
     let b = back-change d _ ts is h (ending ps) f in
     start-change d _ ps ts b (ended-back (change (below d)) tree.StartTree.Change _ ps ts b.back)
 
 can-end : (l : Kind) → CanBeginExpr l → same l (kind.Punct puncts.Semicolon) ≡ false
 can-end l can.CanBeginExpr.number = refl
+can-end l can.CanBeginExpr.wide = refl
 can-end l can.CanBeginExpr.name = refl
 can-end l can.CanBeginExpr.paren = refl
 can-end l can.CanBeginExpr.minus = refl

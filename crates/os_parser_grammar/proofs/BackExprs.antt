@@ -90,6 +90,7 @@ lower (suc k) d n e ps ts h s b =
 
 pub depth-some : (e : ExprTree) → 1 ≤ expr_depth e
 depth-some (tree.Number n) = omega arith
+depth-some (tree.Wide n) = omega arith
 depth-some (tree.Place t) = omega arith
 depth-some (tree.ExprTree.Call f es) = omega arith
 depth-some (tree.Paren e) = omega arith
@@ -137,6 +138,7 @@ level-least (tree.Choice c a b) = omega arith
 level-least (tree.Chain l first rest) = let h = precedence-most l in omega arith
 level-least (tree.Unary op m e) = omega arith
 level-least (tree.Number n) = omega arith
+level-least (tree.Wide n) = omega arith
 level-least (tree.Place t) = omega arith
 level-least (tree.ExprTree.Call f es) = omega arith
 level-least (tree.Paren e) = omega arith
@@ -157,6 +159,12 @@ unfolding operand operand_by
 back-number d n ps ts small t =
     let size = ap length t.head in
     record { rest = t.rest; read = rw (t.head, lt-ltb n (2 ^ 31) small) refl; fits = t.fits; within = omega arith }
+
+back-wide : (d n : ℕ) (ps : List Symbol) (ts : List Placed) → Plain (kind.Wide n) ps ts → Back (operand (below d)) (tree.Wide n) ps ts
+unfolding operand operand_by
+back-wide d n ps ts t =
+    let size = ap length t.head in
+    record { rest = t.rest; read = rw t.head refl; fits = t.fits; within = omega arith }
 
 back-paren : (c : ℕ) (e : ExprTree) (ps : List Symbol) (ts : List Placed) → (t : Plain (kind.Punct puncts.OpenParen) (spelling.expr e (bare (kind.Punct puncts.CloseParen) ∷ ps)) ts) →
     (b : Back (expr_on (below c)) e (bare (kind.Punct puncts.CloseParen) ∷ ps) t.rest) → Plain (kind.Punct puncts.CloseParen) ps b.rest →
@@ -254,6 +262,7 @@ back-call d n es ps ts t b =
 
 can-not : {k : Kind} → CanBeginExpr k → same k (kind.Punct puncts.CloseParen) ≡ false
 can-not can.CanBeginExpr.number = refl
+can-not can.CanBeginExpr.wide = refl
 can-not can.CanBeginExpr.name = refl
 can-not can.CanBeginExpr.paren = refl
 can-not can.CanBeginExpr.minus = refl
@@ -405,6 +414,7 @@ mutual
   base : (d : ℕ) {e : ExprTree} {ps : List Symbol} {ts : List Placed} → IsExpr e → expr_depth e ≤ suc d →
       Fit (spelling.expr e ps) ts → Stops (level e) ps → Back (at d (level e)) e ps ts
   base d (leveled.number small) h f s = standing d (back-number d _ _ _ small (plain-back f))
+  base d leveled.wide h f s = standing d (back-wide d _ _ _ (plain-back f))
   base d (leveled.place target) h f s = standing d (back-place d _ _ _ (back-target d target (omega arith) f s))
   base d (leveled.IsExpr.call are) h f s =
       let t = noted-back f in

@@ -11,6 +11,8 @@ use Rattle.os_ast.specs.Spelling as spelling
 use Rattle.os_ast.specs.Spelling.{Symbol, Printer, bare, marked, ◌⨾◌}
 use Rattle.os_ast.specs.Trees.{ExprTree, TargetTree, IndexTree, DeclaratorTree}
 use Rattle.os_ast.specs.declared.expr.Name.{Name}
+use Rattle.os_ast.specs.declared.ty.Ty.{Ty}
+use Rattle.os_ast.specs.declared.ty.Ty.TheVariants as ty_of
 use Rattle.os_lexer.specs.Names.{stream_id}
 use Rattle.os_lexer.specs.declared.token.Key.TheVariants as keys
 use Rattle.os_lexer.specs.declared.token.Kind.{Kind}
@@ -19,7 +21,7 @@ use Rattle.os_lexer.specs.declared.token.Punct.TheVariants as puncts
 use Rattle.os_parser_grammar.specs.Expressions.{expr_on, below}
 use Rattle.os_parser_grammar.specs.Kinds.{same}
 use Rattle.os_parser_grammar.specs.Reading.{Reader, got, begins, after}
-use Rattle.os_parser_grammar.specs.Statements.{many, commas, list_of, name, target, size, value, attribute, declarator, head_declarator, declare, head_declare}
+use Rattle.os_parser_grammar.specs.Statements.{many, commas, list_of, name, target, size, value, attribute, declarator, head_declarator, type_words, begins_type, declared, head_declared}
 use Rattle.os_parser_grammar.proofs.Follows.{Stops, grows, no-token}
 use Rattle.os_parser_grammar.proofs.BackExprs.{Back, Plain, plain-back, Noted, noted-back, expect-back, depth-some, BackTarget, back-index, bracket, back-expr}
 
@@ -298,36 +300,86 @@ back-head_declarator d ps ts (leveled.IsHeadDeclarator.head {n} is) h e f =
     let v = back-value d ps a.rest is (omega (arith, h)) e a.fits in
     record { rest = v.rest; read = rw (a.read, v.read) refl; fits = v.fits; within = omega (arith, a.within, v.within) }
 
-declare-read : (d : ℕ) (ds : List DeclaratorTree) (ps qs : List Symbol) (ts : List Placed) → (t : Plain (kind.Key keys.Int) qs ts) →
-    (l : Back (list_of (declarator (below d))) ds (bare (kind.Punct puncts.Semicolon) ∷ ps) t.rest) → Plain (kind.Punct puncts.Semicolon) ps l.rest →
-    Back (declare (below d)) ds ps ts
-unfolding declare
-declare-read d ds ps qs ts t l u =
-    let s0 = ap length t.head in
+declared-read : (d : ℕ) (ds : List DeclaratorTree) (ps : List Symbol) (ts : List Placed) →
+    (l : Back (list_of (declarator (below d))) ds (bare (kind.Punct puncts.Semicolon) ∷ ps) ts) → Plain (kind.Punct puncts.Semicolon) ps l.rest →
+    Back (declared (below d)) ds ps ts
+unfolding declared
+declared-read d ds ps ts l u =
     let s1 = ap length u.head in
-    record { rest = u.rest; read = rw (t.head, l.read, u.head, expect-back (kind.Punct puncts.Semicolon) u.mark u.rest) refl; fits = u.fits; within = omega (arith, l.within) }
+    record { rest = u.rest; read = rw (l.read, u.head, expect-back (kind.Punct puncts.Semicolon) u.mark u.rest) refl; fits = u.fits; within = omega (arith, l.within) }
 
-pub back-declare : (d : ℕ) {ds : List DeclaratorTree} (ps : List Symbol) (ts : List Placed) → AreListed IsDeclarator ds → deepest declarator_depth ds ≤ d →
-    Fit (spelling.declare ds ps) ts → Back (declare (below d)) ds ps ts
-back-declare d {ds} ps ts is h f =
-    let t = plain-back f in
-    let l = back-list (λ x. IsDeclarator x × (declarator_depth x ≤ d)) spelling.declarator (declarator (below d)) (kind.Punct puncts.Semicolon) ps t.rest
-    (listed-within declarator_depth d is h) EndsList.semicolon (λ x qs us i e g. back-declarator d qs us i.0 i.1 e g) t.fits in
-    declare-read d ds ps _ ts t l (plain-back l.fits)
+pub back-declared : (d : ℕ) {ds : List DeclaratorTree} (ps : List Symbol) (ts : List Placed) → AreListed IsDeclarator ds → deepest declarator_depth ds ≤ d →
+    Fit (spelling.declared ds ps) ts → Back (declared (below d)) ds ps ts
+back-declared d {ds} ps ts is h f =
+    let l = back-list (λ x. IsDeclarator x × (declarator_depth x ≤ d)) spelling.declarator (declarator (below d)) (kind.Punct puncts.Semicolon) ps ts
+    (listed-within declarator_depth d is h) EndsList.semicolon (λ x qs us i e g. back-declarator d qs us i.0 i.1 e g) f in
+    declared-read d ds ps ts l (plain-back l.fits)
 
-head_declare-read : (d : ℕ) (ds : List DeclaratorTree) (ps qs : List Symbol) (ts : List Placed) → (t : Plain (kind.Key keys.Int) qs ts) →
-    (l : Back (list_of (head_declarator (below d))) ds (bare (kind.Punct puncts.Semicolon) ∷ ps) t.rest) → Plain (kind.Punct puncts.Semicolon) ps l.rest →
-    Back (head_declare (below d)) ds ps ts
-unfolding head_declare
-head_declare-read d ds ps qs ts t l u =
-    let s0 = ap length t.head in
+head_declared-read : (d : ℕ) (ds : List DeclaratorTree) (ps : List Symbol) (ts : List Placed) →
+    (l : Back (list_of (head_declarator (below d))) ds (bare (kind.Punct puncts.Semicolon) ∷ ps) ts) → Plain (kind.Punct puncts.Semicolon) ps l.rest →
+    Back (head_declared (below d)) ds ps ts
+unfolding head_declared
+head_declared-read d ds ps ts l u =
     let s1 = ap length u.head in
-    record { rest = u.rest; read = rw (t.head, l.read, u.head, expect-back (kind.Punct puncts.Semicolon) u.mark u.rest) refl; fits = u.fits; within = omega (arith, l.within) }
+    record { rest = u.rest; read = rw (l.read, u.head, expect-back (kind.Punct puncts.Semicolon) u.mark u.rest) refl; fits = u.fits; within = omega (arith, l.within) }
 
-pub back-head_declare : (d : ℕ) {ds : List DeclaratorTree} (ps : List Symbol) (ts : List Placed) → AreListed IsHeadDeclarator ds → deepest declarator_depth ds ≤ d →
-    Fit (spelling.declare ds ps) ts → Back (head_declare (below d)) ds ps ts
-back-head_declare d {ds} ps ts is h f =
-    let t = plain-back f in
-    let l = back-list (λ x. IsHeadDeclarator x × (declarator_depth x ≤ d)) spelling.declarator (head_declarator (below d)) (kind.Punct puncts.Semicolon) ps t.rest
-    (listed-within declarator_depth d is h) EndsList.semicolon (λ x qs us i e g. back-head_declarator d qs us i.0 i.1 e g) t.fits in
-    head_declare-read d ds ps _ ts t l (plain-back l.fits)
+pub back-head_declared : (d : ℕ) {ds : List DeclaratorTree} (ps : List Symbol) (ts : List Placed) → AreListed IsHeadDeclarator ds → deepest declarator_depth ds ≤ d →
+    Fit (spelling.declared ds ps) ts → Back (head_declared (below d)) ds ps ts
+back-head_declared d {ds} ps ts is h f =
+    let l = back-list (λ x. IsHeadDeclarator x × (declarator_depth x ≤ d)) spelling.declarator (head_declarator (below d)) (kind.Punct puncts.Semicolon) ps ts
+    (listed-within declarator_depth d is h) EndsList.semicolon (λ x qs us i e g. back-head_declarator d qs us i.0 i.1 e g) f in
+    head_declared-read d ds ps ts l (plain-back l.fits)
+
+-- types
+type-int : (ps : List Symbol) (ts : List Placed) → Plain (kind.Key keys.Int) ps ts → Back type_words ty_of.Int ps ts
+unfolding type_words
+type-int ps ts t =
+    let size = ap length t.head in
+    record { rest = t.rest; read = rw t.head refl; fits = t.fits; within = omega arith }
+
+type-unsigned : (ps : List Symbol) (ts : List Placed) → (t : Plain (kind.Key keys.Unsigned) ps ts) → begins (kind.Key keys.Int) t.rest ≡ false → Back type_words ty_of.Unsigned ps ts
+unfolding type_words
+type-unsigned ps ts t off =
+    let size = ap length t.head in
+    record { rest = t.rest; read = rw (t.head, off) refl; fits = t.fits; within = omega arith }
+
+type-unsigned_int : (ps qs : List Symbol) (ts : List Placed) → (t : Plain (kind.Key keys.Unsigned) qs ts) → Plain (kind.Key keys.Int) ps t.rest → Back type_words ty_of.UnsignedInt ps ts
+unfolding type_words
+type-unsigned_int ps qs ts t u =
+    let size = ap length t.head in
+    let more = ap length u.head in
+    record { rest = u.rest; read = rw (t.head, u.head) refl; fits = u.fits; within = omega arith }
+
+-- a name stands behind a type
+pub data BehindType : Kind → Type 0 where
+  a_name : {n : ℕ} → BehindType (kind.Name n)
+
+no-int : (l : Kind) → BehindType l → same l (kind.Key keys.Int) ≡ false
+no-int l a_name = refl
+
+pub back-type : (t : Ty) (ps : List Symbol) (ts : List Placed) → BeginsWith BehindType ps → Fit (spelling.type_words t ps) ts → Back type_words t ps ts
+back-type ty_of.Int ps ts b f = type-int ps ts (plain-back f)
+back-type ty_of.Unsigned ps ts b f = let t = plain-back f in type-unsigned ps ts t (begins-not (kind.Key keys.Int) ps t.rest b no-int t.fits)
+back-type ty_of.UnsignedInt ps ts b f = let t = plain-back f in type-unsigned_int ps _ ts t (plain-back t.fits)
+
+-- what a type begins with
+pub data IsTypeWord : Kind → Type 0 where
+  int : IsTypeWord (kind.Key keys.Int)
+  unsigned : IsTypeWord (kind.Key keys.Unsigned)
+
+pub type-begun : (t : Ty) (ps : List Symbol) → BeginsWith IsTypeWord (spelling.type_words t ps)
+type-begun ty_of.Int ps = can.begins int
+type-begun ty_of.Unsigned ps = can.begins unsigned
+type-begun ty_of.UnsignedInt ps = can.begins unsigned
+
+pub type-begins : (ps : List Symbol) (ts : List Placed) → BeginsWith IsTypeWord ps → Fit ps ts → begins_type ts ≡ true
+type-begins (bare k ∷ ps) (placed j m ∷ ts) (can.begins int) (means.bare f) = refl
+type-begins (bare k ∷ ps) (placed j m ∷ ts) (can.begins unsigned) (means.bare f) = refl
+type-begins (marked k n ∷ ps) (placed j m ∷ ts) (can.begins int) (means.marked f) = refl
+type-begins (marked k n ∷ ps) (placed j m ∷ ts) (can.begins unsigned) (means.marked f) = refl
+type-begins [] ts q f = elim q [ ]
+type-begins (bare k ∷ ps) [] q f = elim f [ ]
+type-begins (marked k n ∷ ps) [] q f = elim f [ ]
+
+pub listed-names : {P : DeclaratorTree → Type 0} (ds : List DeclaratorTree) (ps : List Symbol) → AreListed P ds → BeginsWith BehindType (spelling.declared ds ps)
+listed-names ds ps (leveled.AreListed.listed x xs) = can.begins a_name

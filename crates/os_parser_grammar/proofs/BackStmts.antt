@@ -35,7 +35,7 @@ use Rattle.os_parser_grammar.proofs.BackChanges.{Targeted, closed}
 pub stmt-some : (s : StmtTree) → 1 ≤ stmt_depth s
 stmt-some tree.StmtTree.Empty = omega arith
 stmt-some (tree.Block ss) = omega arith
-stmt-some (tree.StmtTree.Declare ds) = omega arith
+stmt-some (tree.StmtTree.Declare t ds) = omega arith
 stmt-some (tree.StmtTree.Change c) = omega arith
 stmt-some (tree.StmtTree.Call f es) = omega arith
 stmt-some (tree.If c a) = omega arith

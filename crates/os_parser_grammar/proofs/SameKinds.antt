@@ -12,7 +12,7 @@ use Rattle.os_lexer.specs.declared.token.Punct.{Punct}
 use Rattle.os_lexer.specs.declared.token.Punct.TheVariants as puncts
 
 abbrev key_at : ℕ → Key
-key_at n = cond (eqb n 0) keys.Int (cond (eqb n 1) keys.Const (cond (eqb n 2) keys.Void (cond (eqb n 3) keys.If (cond (eqb n 4) keys.Else (cond (eqb n 5) keys.While (cond (eqb n 6) keys.For (cond (eqb n 7) keys.Break (cond (eqb n 8) keys.Continue (cond (eqb n 9) keys.Return (cond (eqb n 10) keys.Attribute (keys.Other)))))))))))
+key_at n = cond (eqb n 0) keys.Int (cond (eqb n 1) keys.Const (cond (eqb n 2) keys.Void (cond (eqb n 3) keys.If (cond (eqb n 4) keys.Else (cond (eqb n 5) keys.While (cond (eqb n 6) keys.For (cond (eqb n 7) keys.Break (cond (eqb n 8) keys.Continue (cond (eqb n 9) keys.Return (cond (eqb n 10) keys.Attribute (cond (eqb n 11) keys.Unsigned (keys.Other))))))))))))
 
 abbrev punct_at : ℕ → Punct
 punct_at n = cond (eqb n 0) puncts.ShiftLeftSet (cond (eqb n 1) puncts.ShiftRightSet (cond (eqb n 2) puncts.AddSet (cond (eqb n 3) puncts.SubtractSet (cond (eqb n 4) puncts.MultiplySet (cond (eqb n 5) puncts.DivideSet (cond (eqb n 6) puncts.RemainderSet (cond (eqb n 7) puncts.BitAndSet (cond (eqb n 8) puncts.BitXorSet (cond (eqb n 9) puncts.BitOrSet (cond (eqb n 10) puncts.Up (cond (eqb n 11) puncts.Down (cond (eqb n 12) puncts.ShiftLeft (cond (eqb n 13) puncts.ShiftRight (cond (eqb n 14) puncts.LessEqual (cond (eqb n 15) puncts.GreaterEqual (cond (eqb n 16) puncts.Equal (cond (eqb n 17) puncts.Unequal (cond (eqb n 18) puncts.And (cond (eqb n 19) puncts.Or (cond (eqb n 20) puncts.Plus (cond (eqb n 21) puncts.Minus (cond (eqb n 22) puncts.Star (cond (eqb n 23) puncts.Slash (cond (eqb n 24) puncts.Percent (cond (eqb n 25) puncts.Less (cond (eqb n 26) puncts.Greater (cond (eqb n 27) puncts.Set (cond (eqb n 28) puncts.BitAnd (cond (eqb n 29) puncts.BitXor (cond (eqb n 30) puncts.BitOr (cond (eqb n 31) puncts.Not (cond (eqb n 32) puncts.Invert (cond (eqb n 33) puncts.Question (cond (eqb n 34) puncts.Colon (cond (eqb n 35) puncts.Semicolon (cond (eqb n 36) puncts.Comma (cond (eqb n 37) puncts.OpenParen (cond (eqb n 38) puncts.CloseParen (cond (eqb n 39) puncts.OpenBracket (cond (eqb n 40) puncts.CloseBracket (cond (eqb n 41) puncts.OpenBrace (puncts.CloseBrace))))))))))))))))))))))))))))))))))))))))))
@@ -29,6 +29,7 @@ key_at-number keys.Break = refl
 key_at-number keys.Continue = refl
 key_at-number keys.Return = refl
 key_at-number keys.Attribute = refl
+key_at-number keys.Unsigned = refl
 key_at-number keys.Other = refl
 
 punct_at-number : (p : Punct) → punct_at (punct_number p) ≡ p
@@ -85,6 +86,7 @@ punct_number-injective a b e = sym (punct_at-number a) ∙ ap punct_at e ∙ pun
 pub same-equal : (a b : Kind) → same a b ≡ true → a ≡ b
 same-equal (kind.Name a) (kind.Name b) e = ap kind.Name (eqb-true a b e)
 same-equal (kind.Number a) (kind.Number b) e = ap kind.Number (eqb-true a b e)
+same-equal (kind.Wide a) (kind.Wide b) e = ap kind.Wide (eqb-true a b e)
 same-equal (kind.Key a) (kind.Key b) e = ap kind.Key (key_number-injective a b (eqb-true _ _ e))
 same-equal (kind.Punct a) (kind.Punct b) e = ap kind.Punct (punct_number-injective a b (eqb-true _ _ e))
 same-equal kind.PragmaStart kind.PragmaStart e = refl
@@ -94,6 +96,7 @@ same-equal _ _ e = absurd (cc e)
 pub same-self : (a : Kind) → same a a ≡ true
 same-self (kind.Name a) = eq-eqb a a refl
 same-self (kind.Number a) = eq-eqb a a refl
+same-self (kind.Wide a) = eq-eqb a a refl
 same-self (kind.Key a) = eq-eqb _ _ refl
 same-self (kind.Punct a) = eq-eqb _ _ refl
 same-self kind.PragmaStart = refl

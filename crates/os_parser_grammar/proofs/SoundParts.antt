@@ -27,7 +27,7 @@ use Rattle.os_lexer.specs.declared.token.Punct.TheVariants as puncts
 use Rattle.os_parser_grammar.specs.Beginners.{change_sign, punct_change}
 use Rattle.os_parser_grammar.specs.Expressions.{Readers, index}
 use Rattle.os_parser_grammar.specs.Reading.{Read, Reader, got, fails, after, begins, expect}
-use Rattle.os_parser_grammar.specs.Statements.{many, commas, list_of, name, target, size, value, attribute, declarator_by, declarator, head_declarator, declare, head_declare, change_by, change_of, before, ended, join, alone, clause_item, in_parens, clause_kind, clause, first_clause, some_clauses, clauses, line_goes_on}
+use Rattle.os_parser_grammar.specs.Statements.{many, commas, list_of, name, target, size, value, attribute, declarator_by, declarator, head_declarator, type_words, declared, head_declared, change_by, change_of, before, ended, join, alone, clause_item, in_parens, clause_kind, clause, first_clause, some_clauses, clauses, line_goes_on}
 use Rattle.os_parser_grammar.specs.declared.change_sign.ChangeSign.{ChangeSign}
 use Rattle.os_parser_grammar.specs.declared.change_sign.ChangeSign.TheVariants as signs
 use Rattle.os_parser_grammar.proofs.Sound.{Takes, Sound, sound-then, sound-if, begins-bare, begins-marked, expect-sound}
@@ -94,6 +94,7 @@ unfolding name
 name-sound [] = tt
 name-sound (placed (kind.Name n) m ∷ ts) = λ ps f. means.marked f
 name-sound (placed (kind.Number n) m ∷ ts) = tt
+name-sound (placed (kind.Wide n) m ∷ ts) = tt
 name-sound (placed (kind.Punct p) m ∷ ts) = tt
 name-sound (placed (kind.Key k) m ∷ ts) = tt
 name-sound (placed kind.PragmaStart m ∷ ts) = tt
@@ -174,30 +175,42 @@ head_declarator-sound d b ts h =
     sound-then _ _ (value b us) _ (value-sound d b us h) (λ v vs rv.
     record { leveled = leveled.IsHeadDeclarator.head rv.leveled; shallow = omega (arith, rv.shallow); takes = λ ps g. rn _ (rv.takes ps g) }))
 
-pub declare-sound : (d : ℕ) (b : Option Readers) (ts : List Placed) → SoundBelow d b → begins (kind.Key keys.Int) ts ≡ true →
-    Sound (ReadPart (AreListed IsDeclarator) (deepest declarator_depth) spelling.declare d ts) (declare b ts)
-unfolding declare
-declare-sound d b ts h int =
-    sound-then _ _ (list_of (declarator b) (after ts)) _
-    (list_of-sound IsDeclarator declarator_depth spelling.declarator d (declarator b) (after ts) (λ us. declarator-sound d b us h)) (λ ds us rd.
+-- types
+pub type-sound : (ts : List Placed) → Sound (Spelled spelling.type_words ts) (type_words ts)
+unfolding type_words
+type-sound ts =
+    sound-if _ (begins (kind.Key keys.Int) ts) _ _
+    (λ int ps g. begins-bare (kind.Key keys.Int) ts int ps g)
+    (λ _. sound-if _ (begins (kind.Key keys.Unsigned) ts) _ _
+    (λ word. sound-if _ (begins (kind.Key keys.Int) (after ts)) _ _
+    (λ int ps g. begins-bare (kind.Key keys.Unsigned) ts word _ (begins-bare (kind.Key keys.Int) (after ts) int ps g))
+    (λ _ ps g. begins-bare (kind.Key keys.Unsigned) ts word ps g))
+    (λ _. tt))
+
+pub declared-sound : (d : ℕ) (b : Option Readers) (ts : List Placed) → SoundBelow d b →
+    Sound (ReadPart (AreListed IsDeclarator) (deepest declarator_depth) spelling.declared d ts) (declared b ts)
+unfolding declared
+declared-sound d b ts h =
+    sound-then _ _ (list_of (declarator b) ts) _
+    (list_of-sound IsDeclarator declarator_depth spelling.declarator d (declarator b) ts (λ us. declarator-sound d b us h)) (λ ds us rd.
     sound-then _ _ (expect (kind.Punct puncts.Semicolon) us) _ (expect-sound _ us) (λ _ vs semicolon.
     record {
       leveled = rd.leveled;
       shallow = rd.shallow;
-      takes = λ ps g. begins-bare (kind.Key keys.Int) ts int _ (rd.takes _ (semicolon.plain ps g));
+      takes = λ ps g. rd.takes _ (semicolon.plain ps g);
     }))
 
-pub head_declare-sound : (d : ℕ) (b : Option Readers) (ts : List Placed) → SoundBelow d b → begins (kind.Key keys.Int) ts ≡ true →
-    Sound (ReadPart (AreListed IsHeadDeclarator) (deepest declarator_depth) spelling.declare d ts) (head_declare b ts)
-unfolding head_declare
-head_declare-sound d b ts h int =
-    sound-then _ _ (list_of (head_declarator b) (after ts)) _
-    (list_of-sound IsHeadDeclarator declarator_depth spelling.declarator d (head_declarator b) (after ts) (λ us. head_declarator-sound d b us h)) (λ ds us rd.
+pub head_declared-sound : (d : ℕ) (b : Option Readers) (ts : List Placed) → SoundBelow d b →
+    Sound (ReadPart (AreListed IsHeadDeclarator) (deepest declarator_depth) spelling.declared d ts) (head_declared b ts)
+unfolding head_declared
+head_declared-sound d b ts h =
+    sound-then _ _ (list_of (head_declarator b) ts) _
+    (list_of-sound IsHeadDeclarator declarator_depth spelling.declarator d (head_declarator b) ts (λ us. head_declarator-sound d b us h)) (λ ds us rd.
     sound-then _ _ (expect (kind.Punct puncts.Semicolon) us) _ (expect-sound _ us) (λ _ vs semicolon.
     record {
       leveled = rd.leveled;
       shallow = rd.shallow;
-      takes = λ ps g. begins-bare (kind.Key keys.Int) ts int _ (rd.takes _ (semicolon.plain ps g));
+      takes = λ ps g. rd.takes _ (semicolon.plain ps g);
     }))
 
 -- changes
@@ -225,6 +238,7 @@ punct-changes _ = another
 pub kind-changes : (k : Kind) → ChangeSigns k (change_sign k)
 kind-changes (kind.Punct p) = punct-changes p
 kind-changes (kind.Number n) = another
+kind-changes (kind.Wide n) = another
 kind-changes (kind.Name n) = another
 kind-changes (kind.Key k) = another
 kind-changes kind.PragmaStart = another

@@ -13,6 +13,9 @@ use Rattle.os_ast.specs.Trees as tree
 use Rattle.os_ast.specs.Trees.{ExprTree, StartTree, ChangeTree, StmtTree, Stmts, ItemTree}
 use Rattle.os_ast.specs.declared.expr.Mark.{Mark}
 use Rattle.os_ast.specs.declared.expr.Name.{Name}
+use Rattle.os_ast.specs.declared.program.Param.{Param}
+use Rattle.os_ast.specs.declared.ty.Ty.{Ty}
+use Rattle.os_parser_grammar.specs.declared.numeral.Numeral.{Numeral}
 use Rattle.os_ast.specs.declared.program.Params.{Params}
 use Rattle.os_ast.specs.declared.program.Params.TheVariants as params_of
 use Rattle.os_ast.specs.declared.stmt.Step.{Step}
@@ -27,13 +30,13 @@ use Rattle.os_lexer.specs.declared.token.Punct.TheVariants as puncts
 use Rattle.os_parser_grammar.specs.Beginners.{stmt_start, punct_stmt, key_stmt}
 use Rattle.os_parser_grammar.specs.Expressions.{Readers, args, target_of, below}
 use Rattle.os_parser_grammar.specs.Reading.{Read, Reader, got, fails, after, mark_at, begins, expect}
-use Rattle.os_parser_grammar.specs.Statements.{Inner, deep, readers_of, inner, inner_item, list_of, name, target, declare, head_declare, change, change_begun, change_of, before, named_stmt, block_item, stmts, block, condition, if_stmt, while_stmt, start, head_test, step, head, HeadTree, for_stmt, return_stmt, clauses, task, ticked, tick, taskwait, pragma, stmt_by, stmt_on, param, params, function, number, minus, constant, item, is_more, program, number_by}
+use Rattle.os_parser_grammar.specs.Statements.{Inner, deep, readers_of, inner, inner_item, list_of, name, target, type_words, begins_type, declared, head_declared, change, change_begun, change_of, before, named_stmt, block_item, stmts, block, condition, if_stmt, while_stmt, start, head_test, step, head, HeadTree, for_stmt, return_stmt, clauses, task, ticked, tick, taskwait, pragma, stmt_by, stmt_on, param, params, function, number, minus, constant, item, is_more, program, number_by}
 use Rattle.os_parser_grammar.specs.declared.stmt_start.StmtStart.{StmtStart}
 use Rattle.os_parser_grammar.specs.declared.stmt_start.StmtStart.TheVariants as starts
 use Rattle.os_parser_grammar.proofs.SameKinds.{same-self}
 use Rattle.os_parser_grammar.proofs.Sound.{Takes, Sound, sound-then, sound-if, begins-bare, begins-marked, expect-sound}
 use Rattle.os_parser_grammar.proofs.SoundExprs.{SoundReaders, SoundBelow, sound-deeper, args-sound, target_of-sound, expr-sound, operand-sound, below-sound}
-use Rattle.os_parser_grammar.proofs.SoundParts.{ReadPart, Spelled, many-sound, list_of-sound, name-sound, target-sound, declare-sound, head_declare-sound, Changes, change_of-sound, before-sound, ended-sound, clauses-sound}
+use Rattle.os_parser_grammar.proofs.SoundParts.{ReadPart, Spelled, many-sound, list_of-sound, name-sound, target-sound, type-sound, declared-sound, head_declared-sound, Changes, change_of-sound, before-sound, ended-sound, clauses-sound}
 
 -- a statement that the tokens spell; no `else` that would be its own is left
 pub record ReadStmt (d : ℕ) (ts : List Placed) (s : StmtTree) (rest : List Placed) : Type 0 where
@@ -44,7 +47,7 @@ pub record ReadStmt (d : ℕ) (ts : List Placed) (s : StmtTree) (rest : List Pla
 
 -- a statement or a declaration
 pub data IsInner : StmtTree → Type 0 where
-  a_declare : {ds : List tree.DeclaratorTree} → AreListed IsDeclarator ds → IsInner (tree.StmtTree.Declare ds)
+  a_declare : {t : Ty} {ds : List tree.DeclaratorTree} → AreListed IsDeclarator ds → IsInner (tree.StmtTree.Declare t ds)
   a_stmt : {s : StmtTree} → IsStmt s → IsInner s
 
 abbrev pub ReadInner : ℕ → List Placed → StmtTree → List Placed → Type 0
@@ -103,9 +106,10 @@ pub block_item-sound : (d : ℕ) (b : Option Readers) (stmt : Reader StmtTree) (
     Sound (ReadStmt (suc d) ts) (stmt ts) → Sound (ReadInner (suc d) ts) (block_item b stmt ts)
 unfolding block_item
 block_item-sound d b stmt ts h s =
-    sound-if _ (begins (kind.Key keys.Int) ts) _ _
-    (λ int. sound-then _ _ (declare b ts) _ (declare-sound d b ts h int) (λ ds us rd.
-    record { leveled = a_declare rd.leveled; shallow = omega (arith, rd.shallow); takes = rd.takes }))
+    sound-if _ (begins_type ts) _ _
+    (λ _. sound-then _ _ (type_words ts) _ (type-sound ts) (λ t us rt.
+    sound-then _ _ (declared b us) _ (declared-sound d b us h) (λ ds vs rd.
+    record { leveled = a_declare rd.leveled; shallow = omega (arith, rd.shallow); takes = λ ps g. rt _ (rd.takes ps g) })))
     (λ _. as-inner (suc d) ts (stmt ts) s)
 
 -- conditions
@@ -197,6 +201,7 @@ kind-starts (kind.Name n) = a_name n
 kind-starts (kind.Punct p) = punct-starts p
 kind-starts (kind.Key k) = key-starts k
 kind-starts (kind.Number n) = another
+kind-starts (kind.Wide n) = another
 kind-starts kind.PragmaStart = a_pragma
 kind-starts kind.PragmaEnd = another
 
@@ -228,9 +233,10 @@ unfolding start
 start-sound d b ts h =
     sound-if _ (begins (kind.Punct puncts.Semicolon) ts) _ _
     (λ semicolon. record { leveled = leveled.IsStart.empty; shallow = omega arith; takes = λ ps g. begins-bare (kind.Punct puncts.Semicolon) ts semicolon ps g })
-    (λ _. sound-if _ (begins (kind.Key keys.Int) ts) _ _
-    (λ int. sound-then _ _ (head_declare b ts) _ (head_declare-sound d b ts h int) (λ ds us rd.
-    record { leveled = leveled.IsStart.declare rd.leveled; shallow = rd.shallow; takes = rd.takes }))
+    (λ _. sound-if _ (begins_type ts) _ _
+    (λ _. sound-then _ _ (type_words ts) _ (type-sound ts) (λ t us rt.
+    sound-then _ _ (head_declared b us) _ (head_declared-sound d b us h) (λ ds vs rd.
+    record { leveled = leveled.IsStart.declare rd.leveled; shallow = rd.shallow; takes = λ ps g. rt _ (rd.takes ps g) })))
     (λ _. ended-sound (Changes d ts) _ (change b ts) tree.StartTree.Change (change-sound d b ts h) (λ c us vs rc semicolon.
     record { leveled = leveled.IsStart.change rc.leveled; shallow = rc.shallow; takes = λ ps g. rc.takes _ (semicolon ps g) })))
 
@@ -446,27 +452,20 @@ inner-sound (suc d) = record {
 }
 
 -- functions and constants
-pub data IsName : Name → Type 0 where
-  any_name : {n : Name} → IsName n
+pub data IsParam : Param → Type 0 where
+  any_param : {p : Param} → IsParam p
 
-unfoldable pub no_depth : Name → ℕ
-no_depth n = 0
+unfoldable pub no_depth : Param → ℕ
+no_depth p = 0
 
-abbrev pub parameter : Name → Printer
-parameter n = spelling.key keys.Int ⨾ spelling.name n
-
-pub param-part : (ts us : List Placed) (r : Read Name) → Takes (spelling.key keys.Int) ts us → Sound (Spelled spelling.name us) r →
-    Sound (ReadPart IsName no_depth parameter 0 ts) r
-unfolding no_depth
-param-part ts us (got n rest) int h = record { leveled = any_name; shallow = omega arith; takes = λ ps g. int _ (h ps g) }
-param-part ts us (fails rest) int h = tt
-
-pub param-sound : (ts : List Placed) → Sound (ReadPart IsName no_depth parameter 0 ts) (param ts)
-unfolding param
+pub param-sound : (ts : List Placed) → Sound (ReadPart IsParam no_depth spelling.param 0 ts) (param ts)
+unfolding param no_depth
 param-sound ts =
-    sound-then _ _ (expect (kind.Key keys.Int) ts) _ (expect-sound _ ts) (λ _ us int. param-part ts us (name us) int.plain (name-sound us))
+    sound-then _ _ (type_words ts) _ (type-sound ts) (λ t us rt.
+    sound-then _ _ (name us) _ (name-sound us) (λ n vs rn.
+    record { leveled = any_param; shallow = omega arith; takes = λ ps g. rt _ (rn ps g) }))
 
-pub names-are : {ns : List Name} → AreListed IsName ns → IsParams (params_of.Names ns)
+pub names-are : {ps : List Param} → AreListed IsParam ps → IsParams (params_of.Names ps)
 names-are (leveled.AreListed.listed x xs) = leveled.IsParams.names
 
 pub record ReadParams (ts : List Placed) (p : Params) (rest : List Placed) : Type 0 where
@@ -480,17 +479,18 @@ params-sound ts =
     (λ _. record { leveled = leveled.IsParams.empty; takes = λ ps g. g })
     (λ _. sound-if _ (begins (kind.Key keys.Void) ts) _ _
     (λ word. record { leveled = leveled.IsParams.void; takes = λ ps g. begins-bare (kind.Key keys.Void) ts word ps g })
-    (λ _. sound-then _ _ (list_of param ts) _ (list_of-sound IsName no_depth parameter 0 param ts param-sound) (λ ns us rns.
+    (λ _. sound-then _ _ (list_of param ts) _ (list_of-sound IsParam no_depth spelling.param 0 param ts param-sound) (λ ns us rns.
     record { leveled = names-are rns.leveled; takes = rns.takes })))
 
 abbrev pub ReadItem : ℕ → List Placed → ItemTree → List Placed → Type 0
 ReadItem d = ReadPart IsItem item_depth spelling.item d
 
-pub function-sound : (d : ℕ) (s : Option Inner) (ts : List Placed) → SoundDeep d s → begins (kind.Key keys.Int) ts ≡ true →
+pub function-sound : (d : ℕ) (s : Option Inner) (ts : List Placed) → SoundDeep d s →
     Sound (ReadItem (suc d) ts) (function s ts)
 unfolding function
-function-sound d s ts h int =
-    sound-then _ _ (name (after ts)) _ (name-sound (after ts)) (λ n t1 rn.
+function-sound d s ts h =
+    sound-then _ _ (type_words ts) _ (type-sound ts) (λ t t0 rt.
+    sound-then _ _ (name t0) _ (name-sound t0) (λ n t1 rn.
     sound-then _ _ (expect (kind.Punct puncts.OpenParen) t1) _ (expect-sound _ t1) (λ _ t2 e2.
     sound-then _ _ (params t2) _ (params-sound t2) (λ ps t3 rps.
     sound-then _ _ (expect (kind.Punct puncts.CloseParen) t3) _ (expect-sound _ t3) (λ _ t4 e4.
@@ -499,22 +499,31 @@ function-sound d s ts h int =
     record {
       leveled = leveled.IsItem.function rps.leveled rss.leveled;
       shallow = omega (arith, rss.shallow);
-      takes = λ qs g. begins-bare (kind.Key keys.Int) ts int _ (rn _ (e2.plain _ (rps.takes _ (e4.plain _ (e5.plain _ (rss.takes qs g))))));
-    }))))))
+      takes = λ qs g. rt _ (rn _ (e2.plain _ (rps.takes _ (e4.plain _ (e5.plain _ (rss.takes qs g))))));
+    })))))))
 
-pub record ReadNumber (ts : List Placed) (n : ℕ) (rest : List Placed) : Type 0 where
-  pub small : n < 2 ^ 31
-  pub takes : Takes (spelling.number n) ts rest
+pub data IsNumeral : Numeral → Type 0 where
+  small : {n : ℕ} → n < 2 ^ 31 → IsNumeral (record { size = n; wide = false })
+  wide : {n : ℕ} → IsNumeral (record { size = n; wide = true })
+
+pub record ReadNumber (ts : List Placed) (v : Numeral) (rest : List Placed) : Type 0 where
+  pub is : IsNumeral v
+  pub takes : Takes (spelling.numeral v.wide v.size) ts rest
+
+pub constant-is : {t : Ty} {n : Name} {m : Bool} {v : Numeral} → IsNumeral v → IsItem (tree.Constant (record { ty = t; name = n; minus = m; size = v.size; wide = v.wide }))
+constant-is (small h) = leveled.IsItem.constant h
+constant-is wide = leveled.IsItem.wide_constant
 
 pub number-cases : (n : ℕ) (m : Mark) (ts : List Placed) (b : Bool) → nat_lt n (2 ^ 31) ≡ b →
-    Sound (ReadNumber (placed (kind.Number n) m ∷ ts)) (number_by (cond b (Some n) None) (placed (kind.Number n) m ∷ ts))
-number-cases n m ts true e = record { small = ltb-true n _ e; takes = λ ps g. means.bare g }
+    Sound (ReadNumber (placed (kind.Number n) m ∷ ts)) (number_by (cond b (Some (record { size = n; wide = false })) None) (placed (kind.Number n) m ∷ ts))
+number-cases n m ts true e = record { is = small (ltb-true n _ e); takes = λ ps g. means.bare g }
 number-cases n m ts false e = tt
 
 pub number-sound : (ts : List Placed) → Sound (ReadNumber ts) (number ts)
 unfolding number
 number-sound [] = tt
 number-sound (placed (kind.Number n) m ∷ ts) = number-cases n m ts (nat_lt n (2 ^ 31)) refl
+number-sound (placed (kind.Wide n) m ∷ ts) = record { is = wide; takes = λ ps g. means.bare g }
 number-sound (placed (kind.Name n) m ∷ ts) = tt
 number-sound (placed (kind.Punct p) m ∷ ts) = tt
 number-sound (placed (kind.Key k) m ∷ ts) = tt
@@ -531,16 +540,16 @@ minus-sound ts =
 pub constant-sound : (d : ℕ) (ts : List Placed) → begins (kind.Key keys.Const) ts ≡ true → Sound (ReadItem d ts) (constant ts)
 unfolding constant
 constant-sound d ts word =
-    sound-then _ _ (expect (kind.Key keys.Int) (after ts)) _ (expect-sound _ (after ts)) (λ _ t1 e1.
+    sound-then _ _ (type_words (after ts)) _ (type-sound (after ts)) (λ t t1 rt.
     sound-then _ _ (name t1) _ (name-sound t1) (λ n t2 rn.
     sound-then _ _ (expect (kind.Punct puncts.Set) t2) _ (expect-sound _ t2) (λ _ t3 e3.
     sound-then _ _ (minus t3) _ (minus-sound t3) (λ m t4 rm.
     sound-then _ _ (number t4) _ (number-sound t4) (λ v t5 rv.
     sound-then _ _ (expect (kind.Punct puncts.Semicolon) t5) _ (expect-sound _ t5) (λ _ t6 e6.
     record {
-      leveled = leveled.IsItem.constant rv.small;
+      leveled = constant-is rv.is;
       shallow = omega arith;
-      takes = λ ps g. begins-bare (kind.Key keys.Const) ts word _ (e1.plain _ (rn _ (e3.plain _ (rm _ (rv.takes _ (e6.plain ps g))))));
+      takes = λ ps g. begins-bare (kind.Key keys.Const) ts word _ (rt _ (rn _ (e3.plain _ (rm _ (rv.takes _ (e6.plain ps g))))));
     }))))))
 
 pub item-sound : (d : ℕ) (s : Option Inner) (ts : List Placed) → SoundDeep d s → Sound (ReadItem (suc d) ts) (item s ts)
@@ -548,9 +557,7 @@ unfolding item
 item-sound d s ts h =
     sound-if _ (begins (kind.Key keys.Const) ts) _ _
     (λ word. constant-sound (suc d) ts word)
-    (λ _. sound-if _ (begins (kind.Key keys.Int) ts) _ _
-    (λ int. function-sound d s ts h int)
-    (λ _. tt))
+    (λ _. function-sound d s ts h)
 
 -- what is read as a program is one
 pub program-sound : (d : ℕ) (ts : List Placed) →

@@ -1,5 +1,5 @@
 -- What the next token says of a statement.
-use Rattle.std.specs.Prelude.{ℕ, List, [], ◌∷◌, Option, Some, None, nat_lt, ◌^◌, if◌then◌else◌}
+use Rattle.std.specs.Prelude.{ℕ, true, false, List, [], ◌∷◌, Option, Some, None, nat_lt, ◌^◌, if◌then◌else◌}
 use Rattle.os_ast.specs.Means.{Placed, placed}
 use Rattle.os_ast.specs.declared.expr.Binary.TheVariants as binary
 use Rattle.os_ast.specs.declared.stmt.Assign.TheVariants as assign
@@ -12,6 +12,7 @@ use Rattle.os_lexer.specs.declared.token.Punct.{Punct}
 use Rattle.os_lexer.specs.declared.token.Punct.TheVariants as puncts
 use Rattle.os_parser_grammar.specs.declared.change_sign.ChangeSign.{ChangeSign}
 use Rattle.os_parser_grammar.specs.declared.change_sign.ChangeSign.TheVariants as signs
+use Rattle.os_parser_grammar.specs.declared.numeral.Numeral.{Numeral}
 use Rattle.os_parser_grammar.specs.declared.stmt_start.StmtStart.{StmtStart}
 use Rattle.os_parser_grammar.specs.declared.stmt_start.StmtStart.TheVariants as starts
 
@@ -74,6 +75,7 @@ key_stmt keys.Break = starts.Break
 key_stmt keys.Continue = starts.Continue
 key_stmt keys.Return = starts.Return
 key_stmt keys.Attribute = starts.Other
+key_stmt keys.Unsigned = starts.Other
 key_stmt keys.Other = starts.Other
 
 -- how a statement that begins with a token goes on
@@ -82,6 +84,7 @@ stmt_start (kind.Name n) = starts.Name n
 stmt_start (kind.Punct p) = punct_stmt p
 stmt_start (kind.Key k) = key_stmt k
 stmt_start (kind.Number n) = starts.Other
+stmt_start (kind.Wide n) = starts.Other
 stmt_start kind.PragmaStart = starts.Pragma
 stmt_start kind.PragmaEnd = starts.Other
 
@@ -140,6 +143,7 @@ abbrev pub change_sign : Kind → ChangeSign
 change_sign (kind.Punct p) = punct_change p
 change_sign (kind.Name n) = signs.Other
 change_sign (kind.Number n) = signs.Other
+change_sign (kind.Wide n) = signs.Other
 change_sign (kind.Key k) = signs.Other
 change_sign kind.PragmaStart = signs.Other
 change_sign kind.PragmaEnd = signs.Other
@@ -153,6 +157,7 @@ abbrev pub name_of : Kind → Option ℕ
 name_of (kind.Name n) = Some n
 name_of (kind.Punct p) = None
 name_of (kind.Number n) = None
+name_of (kind.Wide n) = None
 name_of (kind.Key k) = None
 name_of kind.PragmaStart = None
 name_of kind.PragmaEnd = None
@@ -161,15 +166,16 @@ abbrev pub name_at : List Placed → Option ℕ
 name_at [] = None
 name_at (placed k m ∷ ts) = name_of k
 
--- the next token, where it is a number below 2^31
-abbrev pub number_of : Kind → Option ℕ
-number_of (kind.Number n) = if nat_lt n (2 ^ 31) then Some n else None
+-- the next token, where it is a number below 2^31, or a wide one
+abbrev pub number_of : Kind → Option Numeral
+number_of (kind.Number n) = if nat_lt n (2 ^ 31) then Some (record { size = n; wide = false }) else None
+number_of (kind.Wide n) = Some (record { size = n; wide = true })
 number_of (kind.Name n) = None
 number_of (kind.Punct p) = None
 number_of (kind.Key k) = None
 number_of kind.PragmaStart = None
 number_of kind.PragmaEnd = None
 
-abbrev pub number_at : List Placed → Option ℕ
+abbrev pub number_at : List Placed → Option Numeral
 number_at [] = None
 number_at (placed k m ∷ ts) = number_of k

@@ -77,6 +77,7 @@ sign op below ts = deeper below ts (λ r. r.operand (after ts) >>= λ e us. got 
 -- unary
 unfoldable pub operand_by : OperandStart → Option Readers → Reader ExprTree
 operand_by (starts.Number n) below ts = got (tree.Number n) (after ts)
+operand_by (starts.Wide n) below ts = got (tree.Wide n) (after ts)
 operand_by (starts.Name id) below ts = named below (record { id = id; mark = mark_at ts }) (after ts)
 operand_by starts.Paren below ts = paren below ts
 operand_by (starts.Sign op) below ts = sign op below ts

@@ -20,7 +20,8 @@ key_number keys.Break = 7
 key_number keys.Continue = 8
 key_number keys.Return = 9
 key_number keys.Attribute = 10
-key_number keys.Other = 11
+key_number keys.Unsigned = 11
+key_number keys.Other = 12
 
 -- the number of a mark
 abbrev pub punct_number : Punct → ℕ
@@ -72,6 +73,7 @@ punct_number puncts.CloseBrace = 42
 abbrev pub same : Kind → Kind → Bool
 same (kind.Name a) (kind.Name b) = nat_eq a b
 same (kind.Number a) (kind.Number b) = nat_eq a b
+same (kind.Wide a) (kind.Wide b) = nat_eq a b
 same (kind.Key a) (kind.Key b) = nat_eq (key_number a) (key_number b)
 same (kind.Punct a) (kind.Punct b) = nat_eq (punct_number a) (punct_number b)
 same kind.PragmaStart kind.PragmaStart = true

@@ -63,6 +63,7 @@ punct_start puncts.CloseBrace = starts.Other
 -- how an operand that begins with a token goes on; a number is below 2^31
 abbrev pub operand_start : Kind → OperandStart
 operand_start (kind.Number n) = if nat_lt n (2 ^ 31) then starts.Number n else starts.Other
+operand_start (kind.Wide n) = starts.Wide n
 operand_start (kind.Name n) = starts.Name n
 operand_start (kind.Punct p) = punct_start p
 operand_start (kind.Key k) = starts.Other
@@ -123,6 +124,7 @@ punct_binary puncts.CloseBrace = None
 abbrev pub binary_of : Kind → Option Binary
 binary_of (kind.Punct p) = punct_binary p
 binary_of (kind.Number n) = None
+binary_of (kind.Wide n) = None
 binary_of (kind.Name n) = None
 binary_of (kind.Key k) = None
 binary_of kind.PragmaStart = None

@@ -1,16 +1,19 @@
 -- What reading statements and programs gives: one definition for each production.
-use Rattle.std.specs.Prelude.{ℕ, zero, suc, Bool, true, false, not, List, [], ◌∷◌, length, Option, Some, None, option_map, if◌then◌else◌}
+use Rattle.std.specs.Prelude.{ℕ, zero, suc, ◌||◌, Bool, true, false, not, List, [], ◌∷◌, length, Option, Some, None, option_map, if◌then◌else◌}
 use Rattle.os_ast.specs.Means.{Placed}
 use Rattle.os_ast.specs.Trees as tree
 use Rattle.os_ast.specs.Trees.{ExprTree, TargetTree, IndexTree, Args, DeclaratorTree, ChangeTree, StartTree, JoinTree, ClauseItemTree, ClauseKindTree, ClauseTree, StmtTree, Stmts, ItemTree, ProgramTree}
 use Rattle.os_ast.specs.declared.expr.Mark.{Mark}
 use Rattle.os_ast.specs.declared.expr.Name.{Name}
+use Rattle.os_ast.specs.declared.program.Param.{Param}
 use Rattle.os_ast.specs.declared.program.Params.{Params}
 use Rattle.os_ast.specs.declared.program.Params.TheVariants as params_of
 use Rattle.os_ast.specs.Views.{expr_tree, target_tree, start_tree, change_tree}
 use Rattle.os_ast.specs.declared.pragma.TickSite.{TickSite}
 use Rattle.os_ast.specs.declared.stmt.Head.{Head}
 use Rattle.os_ast.specs.declared.stmt.Step.{Step}
+use Rattle.os_ast.specs.declared.ty.Ty.{Ty}
+use Rattle.os_ast.specs.declared.ty.Ty.TheVariants as ty_of
 use Rattle.os_lexer.specs.Names.{omp_id, task_id, tick_id, taskwait_id, input_id, output_id, firstprivate_id, stream_id}
 use Rattle.os_lexer.specs.declared.token.Key.TheVariants as keys
 use Rattle.os_lexer.specs.declared.token.Kind.TheVariants as kind
@@ -21,6 +24,7 @@ use Rattle.os_parser_grammar.specs.Expressions.{Readers, deeper, index, target_o
 use Rattle.os_parser_grammar.specs.Reading.{Read, Reader, got, fails, ◌>>=◌, after, mark_at, begins, expect}
 use Rattle.os_parser_grammar.specs.declared.change_sign.ChangeSign.{ChangeSign}
 use Rattle.os_parser_grammar.specs.declared.change_sign.ChangeSign.TheVariants as signs
+use Rattle.os_parser_grammar.specs.declared.numeral.Numeral.{Numeral}
 use Rattle.os_parser_grammar.specs.declared.stmt_start.StmtStart.{StmtStart}
 use Rattle.os_parser_grammar.specs.declared.stmt_start.StmtStart.TheVariants as starts
 
@@ -87,13 +91,25 @@ declarator b ts = name ts >>= λ n t1. size b t1 >>= λ s t2. attribute t2 >>= �
 unfoldable pub head_declarator : Option Readers → Reader DeclaratorTree
 head_declarator b ts = name ts >>= λ n us. scalar b n false us
 
--- declare, from `int` on
-unfoldable pub declare : Option Readers → Reader (List DeclaratorTree)
-declare b ts = list_of (declarator b) (after ts) >>= λ ds us. expect (kind.Punct puncts.Semicolon) us >>= λ _ vs. got ds vs
+-- whether a type begins
+abbrev pub begins_type : List Placed → Bool
+begins_type ts = begins (kind.Key keys.Int) ts || begins (kind.Key keys.Unsigned) ts
 
--- declare1, from `int` on
-unfoldable pub head_declare : Option Readers → Reader (List DeclaratorTree)
-head_declare b ts = list_of (head_declarator b) (after ts) >>= λ ds us. expect (kind.Punct puncts.Semicolon) us >>= λ _ vs. got ds vs
+-- type
+unfoldable pub type_words : Reader Ty
+type_words ts =
+    if begins (kind.Key keys.Int) ts then got ty_of.Int (after ts) else
+    if begins (kind.Key keys.Unsigned) ts
+    then (if begins (kind.Key keys.Int) (after ts) then got ty_of.UnsignedInt (after (after ts)) else got ty_of.Unsigned (after ts))
+    else fails ts
+
+-- declare, behind its type
+unfoldable pub declared : Option Readers → Reader (List DeclaratorTree)
+declared b ts = list_of (declarator b) ts >>= λ ds us. expect (kind.Punct puncts.Semicolon) us >>= λ _ vs. got ds vs
+
+-- declare1, behind its type
+unfoldable pub head_declared : Option Readers → Reader (List DeclaratorTree)
+head_declared b ts = list_of (head_declarator b) ts >>= λ ds us. expect (kind.Punct puncts.Semicolon) us >>= λ _ vs. got ds vs
 
 abbrev pub change_by : ChangeSign → Option Readers → TargetTree → Reader ChangeTree
 change_by (signs.Assign a) b t ts = deeper b ts (λ r. r.expr (after ts) >>= λ e us. got (tree.Set t a (mark_at ts) e) us)
@@ -146,7 +162,7 @@ readers_of (Some r) = Some r.readers
 -- a declaration or a statement in a block
 unfoldable pub block_item : Option Readers → Reader StmtTree → Reader StmtTree
 block_item b stmt ts =
-    if begins (kind.Key keys.Int) ts then (declare b ts >>= λ ds us. got (tree.StmtTree.Declare ds) us) else stmt ts
+    if begins_type ts then (type_words ts >>= λ t us. declared b us >>= λ ds vs. got (tree.StmtTree.Declare t ds) vs) else stmt ts
 
 -- { declare | stmt } "}"
 unfoldable pub stmts : ℕ → Reader StmtTree → Reader Stmts
@@ -185,7 +201,7 @@ while_stmt s ts = deep s ts (λ r. condition r.readers (after ts) >>= λ c us. r
 unfoldable pub start : Option Readers → Reader StartTree
 start b ts =
     if begins (kind.Punct puncts.Semicolon) ts then got tree.StartTree.Empty (after ts) else
-    if begins (kind.Key keys.Int) ts then (head_declare b ts >>= λ ds us. got (tree.StartTree.Declare ds) us)
+    if begins_type ts then (type_words ts >>= λ t us. head_declared b us >>= λ ds vs. got (tree.StartTree.Declare t ds) vs)
     else ended (change b ts) tree.StartTree.Change
 
 -- [ expr ] ";"
@@ -333,30 +349,30 @@ inner (suc d) = Some (record {
   item = block_item (below d) (stmt_on (inner d));
 })
 
--- "int" name
-unfoldable pub param : Reader Name
-param ts = expect (kind.Key keys.Int) ts >>= λ _ us. name us
+-- type name
+unfoldable pub param : Reader Param
+param ts = type_words ts >>= λ t us. name us >>= λ n vs. got (record { ty = t; name = n }) vs
 
 -- [ params ]
 unfoldable pub params : Reader Params
 params ts =
     if begins (kind.Punct puncts.CloseParen) ts then got params_of.Empty ts else
     if begins (kind.Key keys.Void) ts then got params_of.Void (after ts) else
-    (list_of param ts >>= λ ns us. got (params_of.Names ns) us)
+    (list_of param ts >>= λ ps us. got (params_of.Names ps) us)
 
--- function, from its `int` on; its statements are at most a depth deep
+-- function; its statements are at most a depth deep
 unfoldable pub function : Option Inner → Reader ItemTree
 function s ts =
-    name (after ts) >>= λ n t1. expect (kind.Punct puncts.OpenParen) t1 >>= λ _ t2. params t2 >>= λ ps t3.
+    type_words ts >>= λ t t0. name t0 >>= λ n t1. expect (kind.Punct puncts.OpenParen) t1 >>= λ _ t2. params t2 >>= λ ps t3.
     expect (kind.Punct puncts.CloseParen) t3 >>= λ _ t4. expect (kind.Punct puncts.OpenBrace) t4 >>= λ _ t5.
-    block s t5 >>= λ ss t6. got (tree.Function (record { name = n; params = ps; body = ss })) t6
+    block s t5 >>= λ ss t6. got (tree.Function (record { ty = t; name = n; params = ps; body = ss })) t6
 
-abbrev pub number_by : Option ℕ → Reader ℕ
+abbrev pub number_by : Option Numeral → Reader Numeral
 number_by None ts = fails ts
 number_by (Some n) ts = got n (after ts)
 
 -- number
-unfoldable pub number : Reader ℕ
+unfoldable pub number : Reader Numeral
 number ts = number_by (number_at ts) ts
 
 -- [ "-" ]
@@ -366,15 +382,14 @@ minus ts = if begins (kind.Punct puncts.Minus) ts then got true (after ts) else 
 -- constant, from its `const` on
 unfoldable pub constant : Reader ItemTree
 constant ts =
-    expect (kind.Key keys.Int) (after ts) >>= λ _ t1. name t1 >>= λ n t2. expect (kind.Punct puncts.Set) t2 >>= λ _ t3.
+    type_words (after ts) >>= λ t t1. name t1 >>= λ n t2. expect (kind.Punct puncts.Set) t2 >>= λ _ t3.
     minus t3 >>= λ m t4. number t4 >>= λ v t5. expect (kind.Punct puncts.Semicolon) t5 >>= λ _ t6.
-    got (tree.Constant (record { name = n; minus = m; size = v })) t6
+    got (tree.Constant (record { ty = t; name = n; minus = m; size = v.size; wide = v.wide })) t6
 
 -- constant | function
 unfoldable pub item : Option Inner → Reader ItemTree
 item s ts =
-    if begins (kind.Key keys.Const) ts then constant ts else
-    if begins (kind.Key keys.Int) ts then function s ts else fails ts
+    if begins (kind.Key keys.Const) ts then constant ts else function s ts
 
 abbrev pub is_more : List Placed → Bool
 is_more [] = false

@@ -11,9 +11,11 @@
 
 mod change_sign;
 pub mod laws;
+mod numeral;
 mod operand_start;
 mod stmt_start;
 
 pub use change_sign::ChangeSign;
+pub use numeral::Numeral;
 pub use operand_start::OperandStart;
 pub use stmt_start::StmtStart;

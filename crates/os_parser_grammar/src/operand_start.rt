@@ -5,6 +5,8 @@ use os_ast::Unary;
 pub enum OperandStart {
     /// A number below 2^31.
     Number(u32),
+    /// A number of the type `unsigned`.
+    Wide(u32),
     /// A name, with its number.
     Name(u32),
     /// An opening parenthesis.

@@ -4,11 +4,11 @@ ghost use Rattle.std.specs.Prelude.{◌≡◌, ◌+◌, ◌-◌, ◌≤◌, ◌<
 ghost use Rattle.os_ast.specs.Views.{expr_tree, declarator_tree, change_tree, start_tree};
 ghost use Rattle.os_parser_grammar.specs.Expressions.{below, layer};
 ghost use Rattle.os_parser_expressions.specs.Gives.{Gives};
-ghost use Rattle.os_parser_grammar.specs.Statements.{condition, start, head_test, step, change, head_declare, head, head_tree};
+ghost use Rattle.os_parser_grammar.specs.Statements.{condition, start, head_test, step, change, begins_type, type_words, head_declared, head, head_tree};
 
-use crate::parts::{change, head_declare};
+use crate::parts::{begins_type, change, head_declared, type_words};
 use os_ast::{Change, Expr, Head, Start};
-use os_lexer::{Key, Kind, Punct};
+use os_lexer::{Kind, Punct};
 use os_parser_expressions::{Cursor, ProductionError, deeper, expr};
 use std::alloc::Global;
 
@@ -38,9 +38,10 @@ fn start(alloc: Global, cursor: &mut Cursor<'_>, depth: u32) -> Result<Start, Pr
         cursor.advance();
         return Ok(Start::Empty);
     }
-    if cursor.is_at(Kind::Key(Key::Int)) {
-        let declarators = head_declare(alloc, cursor, depth)?;
-        return Ok(Start::Declare(declarators));
+    if begins_type(cursor) {
+        let ty = type_words(cursor)?;
+        let declarators = head_declared(alloc, cursor, depth)?;
+        return Ok(Start::Declare(ty, declarators));
     }
     let change = change(alloc, cursor, depth)?;
     cursor.expect(Kind::Punct(Punct::Semicolon))?;

@@ -14,6 +14,6 @@ mod pragmas;
 mod starts;
 
 pub use heads::{condition, head};
-pub use parts::{before, declare, name, named_stmt, return_stmt};
+pub use parts::{before, begins_type, declared, name, named_stmt, return_stmt, type_words};
 pub use pragmas::{clauses, taskwait, tick};
 pub use starts::{number_at, stmt_at};

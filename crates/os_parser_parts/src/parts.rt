@@ -7,11 +7,11 @@ ghost use Rattle.os_ast.specs.Views.{expr_tree, target_tree, index_tree, declara
 ghost use Rattle.os_parser_grammar.specs.Expressions.{below};
 ghost use Rattle.os_parser_expressions.specs.Gives.{Gives};
 ghost use Rattle.os_parser_grammar.specs.Reading.{Same, after};
-ghost use Rattle.os_parser_grammar.specs.Statements.{name, target, size, value, attribute, scalar, declarator, head_declarator, declare, head_declare, change_of, change_by, before, change, ended, named_stmt, return_stmt};
+ghost use Rattle.os_parser_grammar.specs.Statements.{name, target, size, value, attribute, scalar, declarator, head_declarator, type_words, begins_type, declared, head_declared, change_of, change_by, before, change, ended, named_stmt, return_stmt};
 
 use crate::comma_list::{Part, comma_list};
 use crate::starts::{change_at, name_at, stmt_at};
-use os_ast::{Assign, Call, Change, Declarator, Expr, Index, Mark, Name, Step, Stmt, Target};
+use os_ast::{Assign, Call, Change, Declarator, Expr, Index, Mark, Name, Step, Stmt, Target, Ty};
 use os_io::List;
 use os_lexer::names::STREAM;
 use os_lexer::{Key, Kind, Punct};
@@ -33,6 +33,35 @@ pub fn name(cursor: &mut Cursor<'_>) -> Result<Name, ProductionError>
         }
         None => Err(ProductionError::Syntax),
     }
+}
+
+/// Whether a type begins with the next token.
+pub fn begins_type(cursor: &Cursor<'_>) -> bool
+    ensures { result ≡ begins_type cursor.now }
+{
+    cursor.is_at(Kind::Key(Key::Int)) || cursor.is_at(Kind::Key(Key::Unsigned))
+}
+
+/// `type = "int" | "unsigned" [ "int" ]`
+#[tactic(auto, using(os_parser_grammar::proofs::Tokens::lengths), unfolding(os_parser_grammar::specs::Statements::type_words))]
+pub fn type_words(cursor: &mut Cursor<'_>) -> Result<Ty, ProductionError>
+    ensures gives { Gives Same result cursor.new (type_words cursor.old) }
+    ensures within { length cursor.new ≤ length cursor.old }
+    ensures taken { OnOk result (length cursor.new ≤ length (after cursor.old)) }
+{
+    if cursor.is_at(Kind::Key(Key::Int)) {
+        cursor.advance();
+        return Ok(Ty::Int);
+    }
+    if !cursor.is_at(Kind::Key(Key::Unsigned)) {
+        return Err(ProductionError::Syntax);
+    }
+    cursor.advance();
+    if !cursor.is_at(Kind::Key(Key::Int)) {
+        return Ok(Ty::Unsigned);
+    }
+    cursor.advance();
+    Ok(Ty::UnsignedInt)
 }
 
 /// `target = name [ "[" expr "]" ]`, which is also `stream`.
@@ -231,34 +260,31 @@ pub fn before(
     Ok(Change::Before(target, step, mark))
 }
 
-/// `declare = "int" declr { "," declr } ";"`, from its `int` on.
-#[tactic(auto, unfolding(os_parser_grammar::specs::Statements::declare))]
-pub fn declare(
+/// `declr { "," declr } ";"`, a declaration behind its type.
+#[tactic(auto, unfolding(os_parser_grammar::specs::Statements::declared))]
+pub fn declared(
     alloc: Global,
     cursor: &mut Cursor<'_>,
     depth: u32,
 ) -> Result<List<Declarator>, ProductionError>
-    ensures gives { Gives (map declarator_tree) result cursor.new (declare (below depth) cursor.old) }
+    ensures gives { Gives (map declarator_tree) result cursor.new (declared (below depth) cursor.old) }
     ensures within { length cursor.new ≤ length cursor.old }
-    ensures taken { OnOk result (length cursor.new ≤ length (after cursor.old)) }
 {
-    cursor.advance();
     let declarators = comma_list(alloc, cursor, &DeclaratorPart { depth })?;
     cursor.expect(Kind::Punct(Punct::Semicolon))?;
     Ok(declarators)
 }
 
-/// `declare1 = "int" name [ "=" expr ] { "," name [ "=" expr ] } ";"`, from its `int` on.
-#[tactic(auto, unfolding(os_parser_grammar::specs::Statements::head_declare))]
-pub(crate) fn head_declare(
+/// `name [ "=" expr ] { "," name [ "=" expr ] } ";"`, a declaration of `declare1` behind its type.
+#[tactic(auto, unfolding(os_parser_grammar::specs::Statements::head_declared))]
+pub(crate) fn head_declared(
     alloc: Global,
     cursor: &mut Cursor<'_>,
     depth: u32,
 ) -> Result<List<Declarator>, ProductionError>
-    ensures gives { Gives (map declarator_tree) result cursor.new (head_declare (below depth) cursor.old) }
+    ensures gives { Gives (map declarator_tree) result cursor.new (head_declared (below depth) cursor.old) }
     ensures within { length cursor.new ≤ length cursor.old }
 {
-    cursor.advance();
     let declarators = comma_list(alloc, cursor, &HeadDeclaratorPart { depth })?;
     cursor.expect(Kind::Punct(Punct::Semicolon))?;
     Ok(declarators)

@@ -7,7 +7,7 @@ ghost use Rattle.os_parser_grammar.specs.Beginners.{punct_stmt, key_stmt, stmt_s
 use os_ast::{Assign, Binary, Step};
 use os_lexer::{Key, Kind, Punct};
 use os_parser_expressions::{Cursor, NUMBER_BOUND};
-use os_parser_grammar::{ChangeSign, StmtStart};
+use os_parser_grammar::{ChangeSign, Numeral, StmtStart};
 
 fn punct_stmt(punct: Punct) -> StmtStart
     ensures { result ≡ punct_stmt punct }
@@ -69,8 +69,13 @@ fn key_stmt(key: Key) -> StmtStart
         Key::Break => StmtStart::Break,
         Key::Continue => StmtStart::Continue,
         Key::Return => StmtStart::Return,
-        Key::Int | Key::Const | Key::Void | Key::Else | Key::Attribute | Key::Other =>
-            StmtStart::Other,
+        Key::Int
+        | Key::Const
+        | Key::Void
+        | Key::Else
+        | Key::Attribute
+        | Key::Unsigned
+        | Key::Other => StmtStart::Other,
     }
 }
 
@@ -82,7 +87,7 @@ fn stmt_start(kind: Kind) -> StmtStart
         Kind::Punct(punct) => punct_stmt(punct),
         Kind::Key(key) => key_stmt(key),
         Kind::PragmaStart => StmtStart::Pragma,
-        Kind::Number(_) | Kind::PragmaEnd => StmtStart::Other,
+        Kind::Number(_) | Kind::Wide(_) | Kind::PragmaEnd => StmtStart::Other,
     }
 }
 
@@ -151,9 +156,12 @@ fn change_sign(kind: Kind) -> ChangeSign
 {
     match kind {
         Kind::Punct(punct) => punct_change(punct),
-        Kind::Name(_) | Kind::Number(_) | Kind::Key(_) | Kind::PragmaStart | Kind::PragmaEnd => {
-            ChangeSign::Other
-        }
+        Kind::Name(_)
+        | Kind::Number(_)
+        | Kind::Wide(_)
+        | Kind::Key(_)
+        | Kind::PragmaStart
+        | Kind::PragmaEnd => ChangeSign::Other,
     }
 }
 
@@ -172,8 +180,12 @@ fn name_of(kind: Kind) -> Option<u32>
 {
     match kind {
         Kind::Name(id) => Some(id),
-        Kind::Number(_) | Kind::Punct(_) | Kind::Key(_) | Kind::PragmaStart | Kind::PragmaEnd =>
-            None,
+        Kind::Number(_)
+        | Kind::Wide(_)
+        | Kind::Punct(_)
+        | Kind::Key(_)
+        | Kind::PragmaStart
+        | Kind::PragmaEnd => None,
     }
 }
 
@@ -187,27 +199,28 @@ pub(crate) fn name_at(cursor: &Cursor<'_>) -> Option<u32>
     }
 }
 
-fn small(number: u32) -> Option<u32>
-    ensures { result ≡ number_of (kind.Number number) }
+fn small(size: u32) -> Option<Numeral>
+    ensures { result ≡ number_of (kind.Number size) }
 {
-    if number < NUMBER_BOUND {
-        Some(number)
+    if size < NUMBER_BOUND {
+        Some(Numeral { size, wide: false })
     } else {
         None
     }
 }
 
-fn number_of(kind: Kind) -> Option<u32>
+fn number_of(kind: Kind) -> Option<Numeral>
     ensures { result ≡ number_of kind }
 {
     match kind {
-        Kind::Number(number) => small(number),
+        Kind::Number(size) => small(size),
+        Kind::Wide(size) => Some(Numeral { size, wide: true }),
         Kind::Name(_) | Kind::Punct(_) | Kind::Key(_) | Kind::PragmaStart | Kind::PragmaEnd => None,
     }
 }
 
 /// The next token's number, where it is one that a program may have.
-pub fn number_at(cursor: &Cursor<'_>) -> Option<u32>
+pub fn number_at(cursor: &Cursor<'_>) -> Option<Numeral>
     ensures { result ≡ number_at cursor.now }
 {
     match cursor.kind() {

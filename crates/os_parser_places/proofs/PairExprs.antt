@@ -117,6 +117,7 @@ pair-sign op b h =
 pair-operand_by : (st : OperandStart) (b : Option Readers) → PairBelow b → Pair flat 0 (operand_by st b) (operand_by st b)
 unfolding operand_by
 pair-operand_by (starts.Number n) b h = pair-any (pair-next (λ ts. got (tree.Number n)) (λ us. got (tree.Number n)) (λ ts us. pair-got refl))
+pair-operand_by (starts.Wide n) b h = pair-any (pair-next (λ ts. got (tree.Wide n)) (λ us. got (tree.Wide n)) (λ ts us. pair-got refl))
 pair-operand_by (starts.Name id) b h =
     pair-any (pair-next (λ ts. named b (record { id = id; mark = mark_at ts })) (λ us. named b (record { id = id; mark = mark_at us })) (λ ts us. pair-named b _ _ h))
 pair-operand_by starts.Paren b h = pair-paren b h

@@ -1,5 +1,5 @@
 -- A reader of statements or of a program is refused at the same token whatever follows it.
-use Rattle.std.proofs.Common.{◌≡◌, ℕ, zero, suc, ◌≤◌, ◌<◌, Bool, true, false, not, List, Option, Some, None, length, refl, ap, arith}
+use Rattle.std.proofs.Common.{◌≡◌, ℕ, zero, suc, ◌≤◌, ◌<◌, Bool, true, false, not, List, Option, Some, None, cond, length, refl, ap, arith}
 use Rattle.os_ast.specs.Means.{Placed}
 use Rattle.os_ast.specs.Trees as tree
 use Rattle.os_ast.specs.Trees.{ExprTree, TargetTree, IndexTree, Args, DeclaratorTree, ChangeTree, StartTree, JoinTree, ClauseItemTree, ClauseKindTree, ClauseTree, StmtTree, Stmts, ItemTree}
@@ -7,6 +7,7 @@ use Rattle.os_ast.specs.declared.expr.Mark.{Mark}
 use Rattle.os_ast.specs.declared.expr.Name.{Name}
 use Rattle.os_ast.specs.declared.program.Params.TheVariants as params_of
 use Rattle.os_ast.specs.declared.stmt.Step.{Step}
+use Rattle.os_ast.specs.declared.ty.Ty.TheVariants as ty_of
 use Rattle.os_lexer.specs.Names.{task_id, tick_id, taskwait_id, input_id, output_id, firstprivate_id}
 use Rattle.os_lexer.specs.declared.token.Key.TheVariants as keys
 use Rattle.os_lexer.specs.declared.token.Kind.{Kind}
@@ -16,14 +17,15 @@ use Rattle.os_lexer.specs.declared.token.Punct.TheVariants as puncts
 use Rattle.os_parser_grammar.specs.Beginners.{stmt_at, change_at, name_at, number_at}
 use Rattle.os_parser_grammar.specs.Expressions.{Readers, below}
 use Rattle.os_parser_grammar.specs.Reading.{Read, Reader, got, ◌>>=◌, after, mark_at, begins, expect}
-use Rattle.os_parser_grammar.specs.Statements.{list_of, name_by, name, target, size, value, attribute, scalar, declarator_by, declarator, head_declarator, declare, head_declare, change_by, change_of, before, change_begun, change, ended, named_stmt, Inner, deep, readers_of, block_item, stmts, inner_item, block, condition, if_stmt, while_stmt, start, head_test, step, head, for_stmt, return_stmt, join, alone, clause_item, in_parens, clause_kind, clause, line_goes_on, first_clause, some_clauses, clauses, task, ticked, tick, taskwait, pragma, stmt_by, stmt_on, inner, param, params, function, number_by, number, minus, constant, item, is_more, program}
+use Rattle.os_parser_grammar.specs.Statements.{name_by, name, target, size, value, attribute, scalar, declarator_by, declarator, head_declarator, type_words, begins_type, declared, head_declared, change_by, change_of, before, change_begun, change, ended, named_stmt, Inner, deep, readers_of, block_item, stmts, inner_item, block, condition, if_stmt, while_stmt, start, head_test, step, head, for_stmt, return_stmt, join, alone, clause_item, in_parens, clause_kind, clause, line_goes_on, first_clause, some_clauses, clauses, task, ticked, tick, taskwait, pragma, stmt_by, stmt_on, inner, param, params, function, number_by, number, minus, constant, item, is_more, program}
 use Rattle.os_parser_grammar.specs.declared.change_sign.ChangeSign.{ChangeSign}
 use Rattle.os_parser_grammar.specs.declared.change_sign.ChangeSign.TheVariants as signs
+use Rattle.os_parser_grammar.specs.declared.numeral.Numeral.{Numeral}
 use Rattle.os_parser_grammar.specs.declared.stmt_start.StmtStart.{StmtStart}
 use Rattle.os_parser_grammar.specs.declared.stmt_start.StmtStart.TheVariants as starts
 use Rattle.os_parser_places.proofs.Alike.{Alike, last, more, Shrinks, flat, left-then, left-if, length-alike, begins-alike}
 use Rattle.os_parser_places.proofs.PairExprs.{target_shape, pair-index, pair-target_of, pair-expr, pair-then_expr, pair-args, pair-expr_on, pair-operand, below-pair}
-use Rattle.os_parser_places.proofs.Pairs.{Pair, PairReaders, PairBelow, Goes, both, neither, past, goes-if, pair-gives, pair-fails, pair-expect, pair-next, pair-then, pair-if, SaysAlike, pair-deeper, pair-many, pair-list, pair-got, pair-any, pair-by, name-says, number-says, stmt-says, change-says}
+use Rattle.os_parser_places.proofs.Pairs.{Pair, PairReaders, PairBelow, Goes, both, neither, past, goes-if, pair-gives, pair-fails, pair-expect, pair-next, pair-then, pair-if, pair-cond, SaysAlike, pair-deeper, pair-many, pair-list, pair-got, pair-any, pair-by, name-says, number-says, stmt-says, change-says}
 
 -- a token of a kind, behind the next one
 pair-skip : (k : Kind) → Pair flat 1 (λ ts. expect k (after ts)) (λ us. expect k (after us))
@@ -96,16 +98,35 @@ pair-head_declarator : (b : Option Readers) → PairBelow b → Pair flat 1 (hea
 unfolding head_declarator
 pair-head_declarator b h = pair-then 1 0 (omega arith) pair-name (λ ts us n p e. pair-scalar b n p false h)
 
-pair-declare : (b : Option Readers) → PairBelow b → Pair flat 1 (declare b) (declare b)
-unfolding declare
-pair-declare b h =
-    pair-then 1 0 (omega arith) (pair-next (λ ts. list_of (declarator b)) (λ us. list_of (declarator b)) (λ ts us. pair-list (declarator b) (pair-any (pair-declarator b h)))) (λ ts us x y e.
+-- types
+pair-type : Pair flat 1 type_words type_words
+unfolding type_words
+pair-type =
+    pair-if (kind.Key keys.Int) (pair-next (λ ts. got ty_of.Int) (λ us. got ty_of.Int) (λ ts us. pair-got refl))
+    (pair-if (kind.Key keys.Unsigned)
+    (pair-next
+    (λ ts vs. cond (begins (kind.Key keys.Int) vs) (got ty_of.UnsignedInt (after vs)) (got ty_of.Unsigned vs))
+    (λ us vs. cond (begins (kind.Key keys.Int) vs) (got ty_of.UnsignedInt (after vs)) (got ty_of.Unsigned vs))
+    (λ ts us. pair-if (kind.Key keys.Int) (pair-any (pair-next (λ ts. got ty_of.UnsignedInt) (λ us. got ty_of.UnsignedInt) (λ ts us. pair-got refl))) (pair-got refl)))
+    pair-fails)
+
+type-alike : {xs ys : List Placed} {d : ℕ} {ts us : List Placed} → Alike xs ys d ts us → begins_type ts ≡ begins_type us
+type-alike last = refl
+type-alike (more a) = refl
+
+type-says : SaysAlike begins_type
+type-says = record { alike = λ a. type-alike a }
+
+pair-declared : (b : Option Readers) → PairBelow b → Pair flat 0 (declared b) (declared b)
+unfolding declared
+pair-declared b h =
+    pair-then 0 0 (omega arith) (pair-list (declarator b) (pair-any (pair-declarator b h))) (λ ts us x y e.
     pair-then 0 0 (omega arith) (pair-expect _) (λ ts us m n f. pair-gives (λ vs ws. refl)))
 
-pair-head_declare : (b : Option Readers) → PairBelow b → Pair flat 1 (head_declare b) (head_declare b)
-unfolding head_declare
-pair-head_declare b h =
-    pair-then 1 0 (omega arith) (pair-next (λ ts. list_of (head_declarator b)) (λ us. list_of (head_declarator b)) (λ ts us. pair-list (head_declarator b) (pair-any (pair-head_declarator b h)))) (λ ts us x y e.
+pair-head_declared : (b : Option Readers) → PairBelow b → Pair flat 0 (head_declared b) (head_declared b)
+unfolding head_declared
+pair-head_declared b h =
+    pair-then 0 0 (omega arith) (pair-list (head_declarator b) (pair-any (pair-head_declarator b h))) (λ ts us x y e.
     pair-then 0 0 (omega arith) (pair-expect _) (λ ts us m n f. pair-gives (λ vs ws. refl)))
 
 -- changes
@@ -173,7 +194,9 @@ readers_of-local (Some r) h = h.readers
 -- blocks
 pair-block_item : (b : Option Readers) (stmt : Reader StmtTree) → PairBelow b → Pair flat 1 stmt stmt → Pair flat 1 (block_item b stmt) (block_item b stmt)
 unfolding block_item
-pair-block_item b stmt h p = pair-if (kind.Key keys.Int) (pair-then 1 0 (omega arith) (pair-declare b h) (λ ts us x y e. pair-gives (λ vs ws. refl))) p
+pair-block_item b stmt h p =
+    pair-cond begins_type type-says
+    (pair-then 1 0 (omega arith) pair-type (λ ts us t u e. pair-then 0 0 (omega arith) (pair-declared b h) (λ ts us x y e. pair-gives (λ vs ws. refl)))) p
 
 pair-closed : Pair flat 1 (λ ts. got tree.no_stmts (after ts)) (λ us. got tree.no_stmts (after us))
 pair-closed = pair-next (λ ts. got tree.no_stmts) (λ us. got tree.no_stmts) (λ ts us. pair-got refl)
@@ -251,7 +274,8 @@ pair-start : (b : Option Readers) → PairBelow b → Pair flat 0 (start b) (sta
 unfolding start
 pair-start b h =
     pair-if (kind.Punct puncts.Semicolon) (pair-any (pair-next (λ ts. got tree.StartTree.Empty) (λ us. got tree.StartTree.Empty) (λ ts us. pair-got refl)))
-    (pair-if (kind.Key keys.Int) (pair-then 1 0 (omega arith) (pair-head_declare b h) (λ ts us x y e. pair-gives (λ vs ws. refl)))
+    (pair-cond begins_type type-says
+    (pair-then 1 0 (omega arith) pair-type (λ ts us t u e. pair-then 0 0 (omega arith) (pair-head_declared b h) (λ ts us x y e. pair-gives (λ vs ws. refl))))
     (pair-ended 0 _ _ (pair-any (pair-change b h))))
 
 pair-head_test : (r : Readers) → PairReaders r → Pair flat 0 (head_test r) (head_test r)
@@ -405,7 +429,7 @@ inner-pair (suc d) = record {
 -- functions and constants
 pair-param : Pair flat 0 param param
 unfolding param
-pair-param = pair-then 0 1 (omega arith) (pair-expect _) (λ ts us m n e. pair-name)
+pair-param = pair-then 1 1 (omega arith) pair-type (λ ts us t u e. pair-then 1 0 (omega arith) pair-name (λ ts us n p e. pair-gives (λ vs ws. refl)))
 
 pair-params : Pair flat 0 params params
 unfolding params
@@ -417,12 +441,12 @@ pair-params =
 pair-function : (s : Option Inner) → PairDeep s → Pair flat 1 (function s) (function s)
 unfolding function
 pair-function s h =
-    pair-then 2 0 (omega arith) (pair-next (λ ts. name) (λ us. name) (λ ts us. pair-name)) (λ ts us n p e.
+    pair-then 1 0 (omega arith) pair-type (λ ts us t u e. pair-then 1 0 (omega arith) pair-name (λ ts us n p e.
     pair-then 0 0 (omega arith) (pair-expect _) (λ ts us m n q. pair-then 0 0 (omega arith) pair-params (λ ts us v w f.
     pair-then 0 0 (omega arith) (pair-expect _) (λ ts us m n q. pair-then 0 0 (omega arith) (pair-expect _) (λ ts us m n q.
-    pair-then 0 0 (omega arith) (pair-block s h) (λ ts us x y g. pair-gives (λ vs ws. refl)))))))
+    pair-then 0 0 (omega arith) (pair-block s h) (λ ts us x y g. pair-gives (λ vs ws. refl))))))))
 
-pair-number_by : (o : Option ℕ) → Pair flat 1 (number_by o) (number_by o)
+pair-number_by : (o : Option Numeral) → Pair flat 1 (number_by o) (number_by o)
 pair-number_by None = pair-fails
 pair-number_by (Some n) = pair-next (λ ts. got n) (λ us. got n) (λ ts us. pair-got refl)
 
@@ -437,13 +461,13 @@ pair-minus = pair-if (kind.Punct puncts.Minus) (pair-any (pair-next (λ ts. got 
 pair-constant : Pair flat 1 constant constant
 unfolding constant
 pair-constant =
-    pair-then 1 0 (omega arith) (pair-skip _) (λ ts us m n q. pair-then 1 0 (omega arith) pair-name (λ ts us n p e.
+    pair-then 2 0 (omega arith) (pair-next (λ ts. type_words) (λ us. type_words) (λ ts us. pair-type)) (λ ts us t u q. pair-then 1 0 (omega arith) pair-name (λ ts us n p e.
     pair-then 0 0 (omega arith) (pair-expect _) (λ ts us m n q. pair-then 0 0 (omega arith) pair-minus (λ ts us v w f.
     pair-then 1 0 (omega arith) pair-number (λ ts us x y g. pair-then 0 0 (omega arith) (pair-expect _) (λ ts us m n q. pair-gives (λ vs ws. refl)))))))
 
 pair-item : (s : Option Inner) → PairDeep s → Pair flat 1 (item s) (item s)
 unfolding item
-pair-item s h = pair-if (kind.Key keys.Const) pair-constant (pair-if (kind.Key keys.Int) (pair-function s h) pair-fails)
+pair-item s h = pair-if (kind.Key keys.Const) pair-constant (pair-function s h)
 
 more-alike : {xs ys : List Placed} {d : ℕ} {ts us : List Placed} → Alike xs ys d ts us → is_more ts ≡ is_more us
 more-alike last = refl

@@ -94,7 +94,7 @@ fn is_told(group: &[Token], could: &[Token]) -> bool {
 /// The word for a token that could come.
 fn single(token: Token) -> Word<'static> {
     match token.kind {
-        Kind::Number(_) => Word::Plain("a number"),
+        Kind::Number(_) | Kind::Wide(_) => Word::Plain("a number"),
         _ => word_of(TOKENS.as_bytes(), token),
     }
 }

@@ -1,9 +1,11 @@
 -- A function step by step, and the items of a program one after another.
 use Rattle.std.proofs.Common.{◌≡◌, ◌+◌, ◌≤◌, List, ◌∷◌, length, refl, ap, sym, ◌∙◌, arith}
+use Rattle.os_ast.specs.Types.{is_unsigned}
+use Rattle.os_ast.specs.declared.program.Param.{Param}
 use Rattle.os_ast.specs.Leveled.{AreAll, cons, IsItem}
 use Rattle.os_ast.specs.Names.{Scope, is_declared}
 use Rattle.os_ast.specs.Notes.Kinds.{Global}
-use Rattle.os_ast.specs.Notes.Programs.{param_names, in_function, in_body, after_params, params_notes, after_item, after_items, item_notes, items_notes}
+use Rattle.os_ast.specs.Notes.Programs.{param_list, in_function, in_body, after_params, params_notes, after_item, after_items, item_notes, items_notes}
 use Rattle.os_ast.specs.Notes.Statements.{after_stmts, stmts_notes}
 use Rattle.os_ast.specs.Trees as tree
 use Rattle.os_ast.specs.Rules.{when}
@@ -20,30 +22,30 @@ use Rattle.window_check_names.specs.declared.found.Found.{Found}
 use Rattle.window_check_laws.specs.Room.{HasRoom, stmts_weight, item_weight, items_weight, room_end}
 use Rattle.window_check_names.specs.Scopes.{around_of, ended, with_function}
 
-pub body-scope : (s begun inside : Scope) (names : List Name) (f : tree.FunctionTree) → names ≡ param_names f.params → begun ≡ in_function s f.name.id → inside ≡ after_params begun names → inside ≡ in_body s f
+pub body-scope : (s begun inside : Scope) (names : List Param) (f : tree.FunctionTree) → names ≡ param_list f.params → begun ≡ in_function s f.name.id → inside ≡ after_params begun names → inside ≡ in_body s f
 body-scope s begun inside names f params begin given = rw (given, begin, params)
 
 -- the counts have room for the function itself
 pub function-room : (s inside after end : Scope) (f : tree.FunctionTree) → s.owner ≡ owner.OfFunction → HasRoom s (item_weight (tree.Function f)) →
     inside ≡ in_body s f → after ≡ after_stmts inside f.body → end ≡ ended (around_of s) after → end.functions + 1 ≤ room_end
 function-room s inside after end f is room body stmts ending =
-    let l = length (param_names f.params) in
+    let l = length (param_list f.params) in
     let w = stmts_weight f.body in
     let behind = room_stmts (in_body s f) f.body 1 (room_in_body s f (w + 1) is (room_less s (6 + l + w) (4 + l + (w + 1)) room (omega arith))) in
     rw (ending, stmts, body) behind.functions
 
-pub function-scope : (s inside after end : Scope) (names : List Name) (f : tree.FunctionTree) → names ≡ param_names f.params →
+pub function-scope : (s inside after end : Scope) (names : List Param) (f : tree.FunctionTree) → names ≡ param_list f.params →
     inside ≡ in_body s f → after ≡ after_stmts inside f.body → end ≡ ended (around_of s) after →
-    with_function end f.name.id (length names) ≡ after_item s (tree.Function f)
+    with_function end (is_unsigned f.ty) f.name.id (length names) ≡ after_item s (tree.Function f)
 function-scope s inside after end names f params body stmts ending =
-    rw (ending, stmts, body, params) (ap (λ (e : Scope). with_function e f.name.id (length (param_names f.params))) (ended_function s f))
+    rw (ending, stmts, body, params) (ap (λ (e : Scope). with_function e (is_unsigned f.ty) f.name.id (length (param_list f.params))) (ended_function s f))
 
-pub function-found : (f named given found : Found) (s begun inside : Scope) (names : List Name) (t : tree.FunctionTree) →
-    names ≡ param_names t.params → begun ≡ in_function s t.name.id → inside ≡ in_body s t →
+pub function-found : (f named given found : Found) (s begun inside : Scope) (names : List Param) (t : tree.FunctionTree) →
+    names ≡ param_list t.params → begun ≡ in_function s t.name.id → inside ≡ in_body s t →
     named ≡ with_violation f t.name.mark (least_code (when (is_declared s t.name.id) 12)) → given ≡ noted named (params_notes begun names) →
     found ≡ noted given (stmts_notes inside t.body) → found ≡ noted f (item_notes s (tree.Function t))
 function-found f named given found s begun inside names t params begin body adding giving finding =
-    let ps = params_notes (in_function s t.name.id) (param_names t.params) in
+    let ps = params_notes (in_function s t.name.id) (param_list t.params) in
     let ss = stmts_notes (in_body s t) t.body in
     rw (finding, giving, adding, body, begin, params)
     (ap (λ (g : Found). noted (noted g ps) ss) (with_violation-global f s t.name) ∙ sym (noted-append (note f (Global s t.name)) ps ss))

@@ -1,5 +1,6 @@
 -- A loop over parts: what is found of one part and of the rest is what is found of both.
 use Rattle.std.proofs.Common.{◌≡◌, ℕ, ◌+◌, ◌-◌, ◌<◌, List, ◌∷◌, ◌++◌, length, get_or, map, drop, add-one, ap, sym, subst, ◌∙◌, arith}
+use Rattle.os_ast.specs.declared.program.Param.{Param}
 use Rattle.os_ast.specs.Names.{Scope}
 use Rattle.os_ast.specs.Notes.Declarators.{after_declarator, after_declarators, declarator_notes, declarators_notes}
 use Rattle.os_ast.specs.Notes.Kinds.{Note, Given}
@@ -49,23 +50,23 @@ declarators_found-next s after f found end ds i d h is sofar step noting =
     rw step (noted-loop f found _ (declarator_notes s t) rest (declarators_notes-drop s ds i d h is) noting ∙ sofar)
 
 -- a parameter, and those behind it
-pub params_room-next : (s after : Scope) (ns : List Name) (i : ℕ) (n : Name) → i < length ns → HasRoom s (length ns - i) → after ≡ after_param s (get_or ns i n) →
+pub params_room-next : (s after : Scope) (ns : List Param) (i : ℕ) (n : Param) → i < length ns → HasRoom s (length ns - i) → after ≡ after_param s (get_or ns i n) →
     HasRoom after (length ns - (i + 1))
 params_room-next s after ns i n h room step =
     rw step (room_param s (get_or ns i n) (length ns - (i + 1)) (room_less s (length ns - i) (1 + (length ns - (i + 1))) room (omega arith)))
 
-name-next : (ns : List Name) (i : ℕ) (n : Name) → i < length ns → drop i ns ≡ get_or ns i n ∷ drop (i + 1) ns
+name-next : (ns : List Param) (i : ℕ) (n : Param) → i < length ns → drop i ns ≡ get_or ns i n ∷ drop (i + 1) ns
 name-next ns i n h = drop-cons ns i n h ∙ ap (λ (k : ℕ). get_or ns i n ∷ drop k ns) (sym (add-one i))
 
-pub params_scopes-next : (s after end : Scope) (ns : List Name) (i : ℕ) (n : Name) → i < length ns → after_params s (drop i ns) ≡ end → after ≡ after_param s (get_or ns i n) →
+pub params_scopes-next : (s after end : Scope) (ns : List Param) (i : ℕ) (n : Param) → i < length ns → after_params s (drop i ns) ≡ end → after ≡ after_param s (get_or ns i n) →
     after_params after (drop (i + 1) ns) ≡ end
 params_scopes-next s after end ns i n h sofar step =
     ap (λ (x : Scope). after_params x (drop (i + 1) ns)) step ∙ ap (after_params s) (sym (name-next ns i n h)) ∙ sofar
 
-pub params_found-next : (s after : Scope) (f found end : Found) (ns : List Name) (i : ℕ) (n : Name) → i < length ns → noted f (params_notes s (drop i ns)) ≡ end →
+pub params_found-next : (s after : Scope) (f found end : Found) (ns : List Param) (i : ℕ) (n : Param) → i < length ns → noted f (params_notes s (drop i ns)) ≡ end →
     after ≡ after_param s (get_or ns i n) → found ≡ note f (Given s (get_or ns i n)) → noted found (params_notes after (drop (i + 1) ns)) ≡ end
 params_found-next s after f found end ns i n h sofar step noting =
     ap (λ (g : Found). noted g (params_notes after (drop (i + 1) ns))) noting
     ∙ ap (λ (x : Scope). noted (note f (Given s (get_or ns i n))) (params_notes x (drop (i + 1) ns))) step
-    ∙ ap (λ (xs : List Name). noted f (params_notes s xs)) (sym (name-next ns i n h))
+    ∙ ap (λ (xs : List Param). noted f (params_notes s xs)) (sym (name-next ns i n h))
     ∙ sofar

@@ -1,11 +1,12 @@
 -- Behind a block, a `for`, a task and a function what was entered is restored.
 use Rattle.std.proofs.Common.{◌≡◌, ℕ, List, [], ◌∷◌}
+use Rattle.os_ast.specs.declared.program.Param.{Param}
 use Rattle.os_ast.proofs.Kept.{keeps-declarators, keeps-stmt, keeps-stmts}
 use Rattle.os_ast.specs.Kept.{Keeps, same, more}
-use Rattle.os_ast.specs.Names.{Scope, declare, enter, in_loop, in_unit, leave, after_unit}
+use Rattle.os_ast.specs.Names.{Scope, declare, enter, in_loop, in_unit, leave, after_unit, typed, flagged}
 use Rattle.os_ast.specs.Notes.Clauses.{in_task}
 use Rattle.os_ast.specs.Notes.Declarators.{after_start}
-use Rattle.os_ast.specs.Notes.Programs.{in_body, in_function, after_param, after_params, round_body, owner_of, param_names}
+use Rattle.os_ast.specs.Notes.Programs.{in_body, in_function, after_param, after_params, round_body, owner_of, param_list}
 use Rattle.os_ast.specs.Notes.Statements.{after_stmt, after_stmts}
 use Rattle.os_ast.specs.Trees as tree
 use Rattle.os_ast.specs.declared.expr.Name.{Name}
@@ -23,7 +24,7 @@ returned_block s ss = returned_leave s (after_stmts (enter s) ss) (keeps-stmts (
 
 keeps_start : (s : Scope) (start : tree.StartTree) → Keeps s.entries (after_start s start).entries
 keeps_start s tree.StartTree.Empty = same
-keeps_start s (tree.StartTree.Declare ds) = keeps-declarators s ds
+keeps_start s (tree.StartTree.Declare t ds) = keeps-declarators (typed t s) ds
 keeps_start s (tree.StartTree.Change c) = same
 
 -- a `for`
@@ -36,7 +37,7 @@ returned_for s start a =
 keeps_names : (s : Scope) (is : List ItemName) → Keeps s.entries (after_names s is).entries
 keeps_names s [] = same
 keeps_names s (i ∷ is) =
-    let named = declare s i.id i.entity in
+    let named = declare (flagged i.unsigned s) i.id i.entity in
     keeps-then {a = s.entries} {b = named.entries} (more same) (keeps_names named is)
 
 -- a task
@@ -46,7 +47,7 @@ ended_task s slots is a =
     let inner = in_named_task s slots is in
     ended_unit s (after_stmt inner a) (keeps-then (keeps_names (in_task s slots) is) (keeps-stmt inner a))
 
-keeps_params : (s : Scope) (ns : List Name) → Keeps s.entries (after_params s ns).entries
+keeps_params : (s : Scope) (ns : List Param) → Keeps s.entries (after_params s ns).entries
 keeps_params s [] = same
 keeps_params s (n ∷ ns) = keeps-then {a = s.entries} {b = (after_param s n).entries} (more same) (keeps_params (after_param s n) ns)
 
@@ -58,7 +59,7 @@ keeps_round owner.OfTask s = same
 keeps_in_body : (s : Scope) (f : tree.FunctionTree) → Keeps s.entries (in_body s f).entries
 keeps_in_body s f =
     let o = owner_of f.name.id in
-    keeps-then (keeps_round o (enter (in_unit o s))) (keeps_params (in_function s f.name.id) (param_names f.params))
+    keeps-then (keeps_round o (enter (in_unit o s))) (keeps_params (in_function s f.name.id) (param_list f.params))
 
 -- a function
 pub ended_function : (s : Scope) (f : tree.FunctionTree) →

@@ -2,14 +2,14 @@
 
 ghost use Rattle.std.specs.Prelude.{◌≡◌, ◌&&◌, not, OnOk, map, option_map};
 ghost use Rattle.os_ast.specs.Notes.Declarators.{form, sized_form, is_window, sized_notes, declarator_notes, declarators_notes, after_declarator, after_declarators, after_start, start_notes};
-ghost use Rattle.os_ast.specs.Names.{is_declared};
+ghost use Rattle.os_ast.specs.Names.{is_declared, typed};
 ghost use Rattle.os_ast.specs.Rules.{is_outermost, when};
 ghost use Rattle.os_ast.specs.Views.{declarator_tree, index_tree, start_tree};
 ghost use Rattle.window_check_names.specs.Codes.{least_code, lesser_code};
 ghost use Rattle.window_check_names.specs.Findings.{noted};
 ghost use Rattle.window_check_laws.specs.Room.{HasRoom, declarator_weight, declarators_weight, start_weight};
 
-use os_ast::{Declarator, Form, Index, Owner, Start};
+use os_ast::{Declarator, Form, Index, Owner, Start, Ty};
 use os_io::{List, Memory};
 use window_check_names::codes::{self, lesser, when};
 use window_check_names::expressions::{change, expr, value};
@@ -101,7 +101,12 @@ fn declarator(scopes: &mut Scopes, found: &mut Found, declarator: &Declarator) -
     let form = form(scopes, declarator);
     let entity = scopes.form_entity(form);
     let code = declarator_code(scopes, declarator, scopes.code_with(form));
-    found.declare(declarator.name.mark, code, meaning(entity))?;
+    found.declare(
+        declarator.name.mark,
+        code,
+        meaning(entity),
+        scopes.unsigned(),
+    )?;
     sized(scopes, found, declarator.stream, &declarator.size)?;
     scopes.take(form);
     scopes.declare(declarator.name.id, entity)?;
@@ -109,7 +114,7 @@ fn declarator(scopes: &mut Scopes, found: &mut Found, declarator: &Declarator) -
 }
 
 /// The declarators of a declaration.
-pub(crate) fn declarators(
+fn declarators(
     scopes: &mut Scopes,
     found: &mut Found,
     declarators: &List<Declarator>,
@@ -124,6 +129,21 @@ pub(crate) fn declarators(
     Ok(())
 }
 
+/// A declaration: its declarators are of its type.
+pub(crate) fn declaration(
+    scopes: &mut Scopes,
+    found: &mut Found,
+    ty: Ty,
+    list: &List<Declarator>,
+) -> Result<(), Memory>
+    requires { HasRoom scopes.old (declarators_weight (map declarator_tree list.now)) }
+    ensures scopes { OnOk result (scopes.new ≡ after_declarators (typed ty scopes.old) (map declarator_tree list.now)) }
+    ensures found { OnOk result (found.new ≡ noted found.old (declarators_notes (typed ty scopes.old) (map declarator_tree list.now))) }
+{
+    scopes.set_unsigned(ty.is_unsigned());
+    declarators(scopes, found, list)
+}
+
 /// What stands before the first semicolon in the head of a `for`.
 pub(crate) fn start(scopes: &mut Scopes, found: &mut Found, start: &Start) -> Result<(), Memory>
     requires { HasRoom scopes.old (start_weight (start_tree start.now)) }
@@ -132,7 +152,7 @@ pub(crate) fn start(scopes: &mut Scopes, found: &mut Found, start: &Start) -> Re
 {
     match start {
         Start::Empty => Ok(()),
-        Start::Declare(list) => declarators(scopes, found, list),
+        Start::Declare(ty, list) => declaration(scopes, found, *ty, list),
         Start::Change(first) => change(scopes, found, first),
     }
 }

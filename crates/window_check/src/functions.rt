@@ -6,7 +6,7 @@ ghost use Rattle.os_ast.specs.Names.{constant_value, is_declared};
 ghost use Rattle.os_ast.specs.Rules.{when};
 ghost use Rattle.window_check_names.specs.Codes.{least_code};
 ghost use Rattle.os_ast.specs.Notes.Kinds.{Given};
-ghost use Rattle.os_ast.specs.Notes.Programs.{owner_of, param_names, after_param, after_params, params_notes, after_item, item_notes, after_items, items_notes, in_function};
+ghost use Rattle.os_ast.specs.Notes.Programs.{owner_of, param_list, after_param, after_params, params_notes, after_item, item_notes, after_items, items_notes, in_function};
 ghost use Rattle.os_ast.specs.Trees as tree;
 ghost use Rattle.os_ast.specs.Views.{item_tree};
 ghost use Rattle.os_ast.specs.Violations.{is_main, has_main};
@@ -17,7 +17,7 @@ ghost use Rattle.window_check_laws.specs.Room.{HasRoom, item_weight, items_weigh
 ghost use Rattle.window_check_names.specs.Scopes.{around_of};
 
 use crate::statements::stmts;
-use os_ast::{Constant, Entity, Form, Function, Item, Name, Owner, Params};
+use os_ast::{Constant, Entity, Form, Function, Item, Name, Owner, Param, Params};
 use os_io::{List, Memory};
 use os_lexer::names::MAIN;
 use std::alloc::Global;
@@ -35,22 +35,26 @@ fn owner_of(id: u32) -> Owner
     }
 }
 
-/// The value of a constant. A number token is below 2^31, and its type has more numbers.
+/// The 32 bits of a constant, as an `int`.
+#[tactic(auto, using(crate::proofs::Constants::constant_bits))]
 fn constant_value(constant: &Constant) -> i32
-    requires { constant.now.size < 2 ^ 31 }
     ensures { result ≡ constant_value constant.now }
 {
-    let size = constant.size as i32;
-    if constant.minus { -size } else { size }
+    let size = constant.size.cast_signed();
+    if constant.minus {
+        size.wrapping_neg()
+    } else {
+        size
+    }
 }
 
-/// The names of a function's parameters.
-fn param_names(params: &Params) -> &[Name]
-    ensures { result.now ≡ param_names params.now }
+/// The parameters of a function.
+fn param_list(params: &Params) -> &[Param]
+    ensures { result.now ≡ param_list params.now }
 {
     match params {
         Params::Empty | Params::Void => &[],
-        Params::Names(names) => names.as_slice(),
+        Params::Names(params) => params.as_slice(),
     }
 }
 
@@ -63,25 +67,32 @@ fn twice(scopes: &Scopes, name: Name) -> Option<u8>
 
 /// A parameter.
 #[tactic(auto, using(window_check_names::proofs::AddedViolations::added_notes))]
-fn param(scopes: &mut Scopes, found: &mut Found, name: Name) -> Result<(), Memory>
+fn param(scopes: &mut Scopes, found: &mut Found, param: Param) -> Result<(), Memory>
     requires { HasRoom scopes.old 1 }
-    ensures scopes { OnOk result (scopes.new ≡ after_param scopes.old name) }
-    ensures found { OnOk result (found.new ≡ note found.old (Given scopes.old name)) }
+    ensures scopes { OnOk result (scopes.new ≡ after_param scopes.old param) }
+    ensures found { OnOk result (found.new ≡ note found.old (Given scopes.old param)) }
 {
+    let Param { ty, name } = param;
     let entity = scopes.scalar();
-    found.declare(name.mark, twice(scopes, name), meaning(entity))?;
+    found.declare(
+        name.mark,
+        twice(scopes, name),
+        meaning(entity),
+        ty.is_unsigned(),
+    )?;
     scopes.take(Form::Scalar);
+    scopes.set_unsigned(ty.is_unsigned());
     scopes.declare(name.id, entity)
 }
 
 /// The parameters of a function.
-fn params(scopes: &mut Scopes, found: &mut Found, names: &[Name]) -> Result<(), Memory>
-    requires { HasRoom scopes.old (length names.now) }
-    ensures scopes { OnOk result (scopes.new ≡ after_params scopes.old names.now) }
-    ensures found { OnOk result (found.new ≡ noted found.old (params_notes scopes.old names.now)) }
+fn params(scopes: &mut Scopes, found: &mut Found, list: &[Param]) -> Result<(), Memory>
+    requires { HasRoom scopes.old (length list.now) }
+    ensures scopes { OnOk result (scopes.new ≡ after_params scopes.old list.now) }
+    ensures found { OnOk result (found.new ≡ noted found.old (params_notes scopes.old list.now)) }
 {
-    for name in names {
-        param(scopes, found, *name)?;
+    for next in list {
+        param(scopes, found, *next)?;
     }
     Ok(())
 }
@@ -89,12 +100,12 @@ fn params(scopes: &mut Scopes, found: &mut Found, names: &[Name]) -> Result<(), 
 /// A constant.
 #[tactic(auto, using(window_check_names::proofs::AddedViolations::added_notes))]
 fn constant(scopes: &mut Scopes, found: &mut Found, constant: &Constant) -> Result<(), Memory>
-    requires { constant.now.size < 2 ^ 31 }
     ensures scopes { OnOk result (scopes.new ≡ after_item scopes.old (tree.Constant constant.now)) }
     ensures found { OnOk result (found.new ≡ noted found.old (item_notes scopes.old (tree.Constant constant.now))) }
 {
     let name = constant.name;
     found.add_violation(name.mark, twice(scopes, name));
+    scopes.set_unsigned(constant.ty.is_unsigned());
     scopes.declare(name.id, Entity::Constant(constant_value(constant)))
 }
 
@@ -124,13 +135,13 @@ fn function(
     ensures found { OnOk result (found.new ≡ noted found.old (item_notes scopes.old (item_tree (variant.Function function.now)))) }
 {
     let name = function.name;
-    let names = param_names(&function.params);
+    let list = param_list(&function.params);
     found.add_violation(name.mark, twice(scopes, name));
     let around = begin_function(alloc, scopes, name.id)?;
-    params(scopes, found, names)?;
+    params(scopes, found, list)?;
     stmts(alloc, scopes, found, &function.body)?;
     scopes.end(around);
-    scopes.declare_function(name.id, names.len() as u32)
+    scopes.declare_function(name.id, list.len() as u32, function.ty.is_unsigned())
 }
 
 /// A constant or a function.
@@ -166,19 +177,21 @@ pub(crate) fn items(
     Ok(())
 }
 
-/// Whether an item is a function `main` without parameters.
+/// Whether an item is a function `main` of type `int` without parameters.
 fn is_main(item: &Item) -> bool
     ensures { result ≡ is_main (item_tree item.now) }
 {
     match item {
         Item::Constant(_) => false,
         Item::Function(function) => {
-            function.name.id == MAIN && param_names(&function.params).is_empty()
+            function.name.id == MAIN
+                && !function.ty.is_unsigned()
+                && param_list(&function.params).is_empty()
         }
     }
 }
 
-/// Whether there is a function `main` without parameters.
+/// Whether there is a function `main` of type `int` without parameters.
 #[tactic(auto, using(crate::proofs::Rules::items))]
 pub(crate) fn has_main(items: &List<Item>) -> bool
     ensures { result ≡ has_main (map item_tree items.now) }

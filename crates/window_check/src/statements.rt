@@ -14,7 +14,7 @@ ghost use Rattle.window_check_laws.specs.Room.{HasRoom, stmt_weight, stmts_weigh
 ghost use Rattle.window_check.specs.Statements.{else_tree, in_named_task, listed_in};
 ghost use Rattle.os_ast.specs.declared.names.Owner.TheVariants as owners;
 
-use crate::declarators::{declarators, start};
+use crate::declarators::{declaration, start};
 use os_ast::{Direction, Head, Owner, Role, Stmt, TaskSite, TickSite};
 use os_io::{List, Memory};
 use std::alloc::Global;
@@ -54,7 +54,7 @@ fn stmt(alloc: Global, scopes: &mut Scopes, found: &mut Found, stmt: &Stmt) -> R
     match stmt {
         Stmt::Empty => Ok(()),
         Stmt::Block(list) => block(alloc, scopes, found, list),
-        Stmt::Declare(list) => declarators(scopes, found, list),
+        Stmt::Declare(ty, list) => declaration(scopes, found, *ty, list),
         Stmt::Change(next) => change(scopes, found, next),
         Stmt::Call(call) => called(scopes, found, call),
         Stmt::If(condition, first, second) => {
@@ -248,9 +248,11 @@ fn listed(
     ensures captured { IfOk result (λ slots. slots ≡ listed_in owners.OfMain scopes.old others items.now (stmt_tree stmt.now)) }
 {
     let totals = scopes.totals();
+    let unsigned = scopes.unsigned();
     let mut found = Found::Listing(others);
     body(alloc, scopes, &mut found, stmt, items, Slots::none(alloc))?;
     scopes.set_totals(totals);
+    scopes.set_unsigned(unsigned);
     Ok(found.into_listed(alloc))
 }
 

@@ -43,27 +43,27 @@ between_among lo ids (c ∷ cs) hi b = chosen (is_in c.id ids) (between_among (c
     chosen true h = (b.0, h)
     chosen false h = between_lower lo (c.slot + 1) (among ids cs) hi (omega (arith, b.0)) h
 
-between_declared : (id : ℕ) (e : Entity) (top : ℕ) (es : List Entry) → Stacked main_extent top (record { id = id; depth = 0; entity = e } ∷ es) →
+between_declared : (id : ℕ) (e : Entity) (u : Bool) (top : ℕ) (es : List Entry) → Stacked main_extent top (record { id = id; depth = 0; entity = e; unsigned = u } ∷ es) →
     ((t : ℕ) → Stacked main_extent t es → Between 0 (scalars es) t) → Between 0 (others id (scalars es) ++ scalar_of id e) top
-between_declared id (entity.Control slot) top es h ih =
+between_declared id (entity.Control slot) u top es h ih =
     between_append 0 (others id (scalars es)) slot _ top (between_others 0 id (scalars es) slot (ih slot h.1)) (omega arith, omega (arith, h.0))
-between_declared id entity.InputLength top es h ih =
+between_declared id entity.InputLength u top es h ih =
     between_append 0 (others id (scalars es)) 0 _ top (between_others 0 id (scalars es) 0 (ih 0 h.1)) (omega arith, omega (arith, h.0))
-between_declared id (entity.Window slot) top es h ih =
+between_declared id (entity.Window slot) u top es h ih =
     between_append 0 (others id (scalars es)) slot [] top (between_others 0 id (scalars es) slot (ih slot h.1)) (omega (arith, h.0))
-between_declared id (entity.Constant v) top es h ih = between_append 0 (others id (scalars es)) top [] top (between_others 0 id (scalars es) top (ih top h.1)) (omega arith)
-between_declared id (entity.Function n k) top es h ih = between_append 0 (others id (scalars es)) top [] top (between_others 0 id (scalars es) top (ih top h.1)) (omega arith)
-between_declared id (entity.Scalar n) top es h ih = between_append 0 (others id (scalars es)) top [] top (between_others 0 id (scalars es) top (ih top h.1)) (omega arith)
-between_declared id (entity.Array n k) top es h ih = between_append 0 (others id (scalars es)) top [] top (between_others 0 id (scalars es) top (ih top h.1)) (omega arith)
-between_declared id (entity.Stream n) top es h ih = between_append 0 (others id (scalars es)) top [] top (between_others 0 id (scalars es) top (ih top h.1)) (omega arith)
-between_declared id (entity.Streams n k) top es h ih = between_append 0 (others id (scalars es)) top [] top (between_others 0 id (scalars es) top (ih top h.1)) (omega arith)
-between_declared id (entity.Element n k) top es h ih = between_append 0 (others id (scalars es)) top [] top (between_others 0 id (scalars es) top (ih top h.1)) (omega arith)
-between_declared id (entity.View n k) top es h ih = between_append 0 (others id (scalars es)) top [] top (between_others 0 id (scalars es) top (ih top h.1)) (omega arith)
+between_declared id (entity.Constant v) u top es h ih = between_append 0 (others id (scalars es)) top [] top (between_others 0 id (scalars es) top (ih top h.1)) (omega arith)
+between_declared id (entity.Function n k) u top es h ih = between_append 0 (others id (scalars es)) top [] top (between_others 0 id (scalars es) top (ih top h.1)) (omega arith)
+between_declared id (entity.Scalar n) u top es h ih = between_append 0 (others id (scalars es)) top [] top (between_others 0 id (scalars es) top (ih top h.1)) (omega arith)
+between_declared id (entity.Array n k) u top es h ih = between_append 0 (others id (scalars es)) top [] top (between_others 0 id (scalars es) top (ih top h.1)) (omega arith)
+between_declared id (entity.Stream n) u top es h ih = between_append 0 (others id (scalars es)) top [] top (between_others 0 id (scalars es) top (ih top h.1)) (omega arith)
+between_declared id (entity.Streams n k) u top es h ih = between_append 0 (others id (scalars es)) top [] top (between_others 0 id (scalars es) top (ih top h.1)) (omega arith)
+between_declared id (entity.Element n k) u top es h ih = between_append 0 (others id (scalars es)) top [] top (between_others 0 id (scalars es) top (ih top h.1)) (omega arith)
+between_declared id (entity.View n k) u top es h ih = between_append 0 (others id (scalars es)) top [] top (between_others 0 id (scalars es) top (ih top h.1)) (omega arith)
 
 -- the scalars in scope, in the order of their declarations
 between_scalars : (top : ℕ) (es : List Entry) → Stacked main_extent top es → Between 0 (scalars es) top
 between_scalars top [] h = omega arith
-between_scalars top (e ∷ es) h = between_declared e.id e.entity top es h (λ t k. between_scalars t es k)
+between_scalars top (e ∷ es) h = between_declared e.id e.entity e.unsigned top es h (λ t k. between_scalars t es k)
 
 ascends_slots : (lo : ℕ) (cs : List Scalar) (hi : ℕ) → Between lo cs hi → Ascends lo (map (λ c. c.slot) cs)
 ascends_slots lo [] hi b = tt

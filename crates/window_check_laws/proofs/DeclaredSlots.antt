@@ -1,12 +1,12 @@
 -- The slots that declarators take are paid by what they declare and by the elements of arrays.
 use Rattle.std.proofs.Common.{◌≡◌, ◌∙◌, ℕ, suc, ◌+◌, ◌≤◌, List, [], ◌∷◌, length, refl, arith}
-use Rattle.os_ast.specs.Names.{Scope, enter, in_unit}
+use Rattle.os_ast.specs.declared.program.Param.{Param}
+use Rattle.os_ast.specs.Names.{Scope, enter, in_unit, typed}
 use Rattle.os_ast.specs.Notes.Clauses.{with_items}
 use Rattle.os_ast.specs.Notes.Declarators.{after_declarator, after_declarators, after_start, declarator_notes, declarators_notes, form, start_notes, taken}
-use Rattle.os_ast.specs.Notes.Programs.{after_param, after_params, in_body, in_function, owner_of, param_names, params_notes, round_body}
+use Rattle.os_ast.specs.Notes.Programs.{after_param, after_params, in_body, in_function, owner_of, param_list, params_notes, round_body}
 use Rattle.os_ast.specs.Parts.{Item, Part, Private}
 use Rattle.os_ast.specs.Trees as tree
-use Rattle.os_ast.specs.declared.expr.Name.{Name}
 use Rattle.os_ast.specs.declared.names.Form.{Form}
 use Rattle.os_ast.specs.declared.names.Form.TheVariants as form_of
 use Rattle.os_ast.specs.declared.names.Owner.{Owner}
@@ -34,15 +34,15 @@ declarators_paid (d ∷ ds) s =
 
 pub start_paid : (t : tree.StartTree) (s : Scope) → (after_start s t).slots + s.arrays ≤ s.slots + declared_in (start_notes s t) + (after_start s t).arrays
 start_paid tree.StartTree.Empty s = omega arith
-start_paid (tree.StartTree.Declare ds) s = declarators_paid ds s
+start_paid (tree.StartTree.Declare t ds) s = declarators_paid ds (typed t s)
 start_paid (tree.StartTree.Change c) s = omega arith
 
 -- parameters
-pub params_paid : (ns : List Name) (s : Scope) → length ns ≤ declared_in (params_notes s ns)
+pub params_paid : (ns : List Param) (s : Scope) → length ns ≤ declared_in (params_notes s ns)
 params_paid [] s = omega arith
 params_paid (n ∷ ns) s = omega (arith, params_paid ns (after_param s n))
 
-params_arrays : (ns : List Name) (s : Scope) → (after_params s ns).arrays ≡ s.arrays
+params_arrays : (ns : List Param) (s : Scope) → (after_params s ns).arrays ≡ s.arrays
 params_arrays [] s = refl
 params_arrays (n ∷ ns) s = params_arrays ns (after_param s n)
 
@@ -52,4 +52,4 @@ round_arrays owner.OfFunction s = refl
 round_arrays owner.OfTask s = refl
 
 pub body_arrays : (s : Scope) (f : tree.FunctionTree) → (in_body s f).arrays ≡ s.arrays
-body_arrays s f = params_arrays (param_names f.params) (in_function s f.name.id) ∙ round_arrays (owner_of f.name.id) s
+body_arrays s f = params_arrays (param_list f.params) (in_function s f.name.id) ∙ round_arrays (owner_of f.name.id) s

@@ -3,18 +3,19 @@ use Rattle.std.proofs.Common.{◌≡◌, ℕ, ◌+◌, ◌≤◌, ◌==◌, ◌&
 use Rattle.std.specs.Prelude.{is_some, unwrap_or}
 use Rattle.std.proofs.lemmas.List.{length-map}
 use Rattle.std.proofs.lemmas.Bool.{leb-true}
+use Rattle.os_ast.specs.Types.{is_unsigned}
+use Rattle.os_ast.specs.declared.program.Param.{Param}
 use Rattle.os_ast.specs.Captured.{Scalar, scalars, others, scalar_of, among, captured, slots_of}
 use Rattle.os_ast.specs.FreeNames.{task_names}
 use Rattle.os_ast.specs.Limits.{size_limit}
-use Rattle.os_ast.specs.Names.{Scope, lookup, entity_of, declare, enter, in_loop, in_unit, leave, after_unit, behind}
-use Rattle.os_ast.specs.Notes.Clauses.{with_items, in_task, in_task_body, captured_in, item_entity, named_entity}
+use Rattle.os_ast.specs.Names.{Scope, lookup, entity_of, declare, enter, in_loop, in_unit, leave, after_unit, behind, typed, flagged}
+use Rattle.os_ast.specs.Notes.Clauses.{with_items, in_task, in_task_body, captured_in, item_entity, named_entity, item_flag}
 use Rattle.os_ast.specs.Notes.Declarators.{form, form_with, sized_form, size_value, limited, taken, declared_entity, after_declarator, after_declarators, after_start}
-use Rattle.os_ast.specs.Notes.Programs.{in_body, in_function, after_param, after_params, after_item, after_items, after_function, round_body, owner_of, param_names}
+use Rattle.os_ast.specs.Notes.Programs.{in_body, in_function, after_param, after_params, after_item, after_items, after_function, round_body, owner_of, param_list}
 use Rattle.os_ast.specs.Notes.Statements.{after_stmt, after_stmts}
 use Rattle.os_ast.specs.Parts.{Part, Item, Private, parts, item_name, is_in}
 use Rattle.os_ast.specs.Stacked.{Stacked, main_extent}
 use Rattle.os_ast.specs.Trees as tree
-use Rattle.os_ast.specs.declared.expr.Name.{Name}
 use Rattle.os_ast.specs.declared.names.Direction.{Direction}
 use Rattle.os_ast.specs.declared.names.Entity.{Entity}
 use Rattle.os_ast.specs.declared.names.Entity.TheVariants as entity
@@ -137,7 +138,7 @@ some_weight (Some i) = omega arith
 
 -- a declarator takes no more than its form
 room_taken : (s : Scope) (f : Form) (id : ℕ) (e : Entity) (w n : ℕ) → form_weight f ≤ w → 1 ≤ w → HasRoom s (w + n) →
-    IsOrdered s.owner (taken s f).slots (record { id = id; depth = s.depth; entity = e } ∷ s.entries) → HasRoom (declare (taken s f) id e) n
+    IsOrdered s.owner (taken s f).slots (record { id = id; depth = s.depth; entity = e; unsigned = s.unsigned } ∷ s.entries) → HasRoom (declare (taken s f) id e) n
 room_taken s form_of.Scalar id e w n fits some h order = record {
   slots = omega (arith, h.slots, fits, some);
   depth = omega (arith, h.depth, fits, some);
@@ -205,9 +206,22 @@ room_declarators s (d ∷ ds) n h =
     (room_declarator s d (declarators_weight ds + n)
     (room_less s (declarators_weight (d ∷ ds) + n) (declarator_weight d + (declarators_weight ds + n)) h (omega arith)))
 
+-- a declaration of a type begins
+pub room_flagged : (s : Scope) (u : Bool) (n : ℕ) → HasRoom s n → HasRoom (flagged u s) n
+room_flagged s u n h = record {
+  slots = h.slots;
+  depth = h.depth;
+  functions = h.functions;
+  elements = h.elements;
+  arrays = h.arrays;
+  streams = h.streams;
+  entries = h.entries;
+  order = h.order;
+}
+
 pub room_start : (s : Scope) (start : tree.StartTree) (n : ℕ) → HasRoom s (start_weight start + n) → HasRoom (after_start s start) n
 room_start s tree.StartTree.Empty n h = room_less s _ n h (omega arith)
-room_start s (tree.StartTree.Declare ds) n h = room_declarators s ds n h
+room_start s (tree.StartTree.Declare t ds) n h = room_declarators (typed t s) ds n (room_flagged s (is_unsigned t) _ h)
 room_start s (tree.StartTree.Change c) n h = room_less s _ n h (omega arith)
 
 -- a task captures no more scalars than are in scope
@@ -273,7 +287,7 @@ room_declared s id e n none h = record {
   arrays = omega (arith, h.arrays);
   streams = omega (arith, h.streams);
   entries = omega (arith, h.entries);
-  order = ordered_other s.owner s.slots s.slots s.entries (record { id = id; depth = s.depth; entity = e }) none (omega arith) h.order;
+  order = ordered_other s.owner s.slots s.slots s.entries (record { id = id; depth = s.depth; entity = e; unsigned = s.unsigned }) none (omega arith) h.order;
 }
 
 named_apart : (i : ℕ) (d : Direction) (j : Option tree.JoinTree) (e : Option Entity) → main_extent (named_entity i d j e) ≡ None
@@ -297,10 +311,11 @@ item_apart s i d it = named_apart i d it.window (entity_of (lookup s.entries (it
 pub room_items : (s inner : Scope) (i : ℕ) (ps : List Part) (n : ℕ) → HasRoom inner (length ps + n) → HasRoom (with_items s inner i ps) n
 room_items s inner i [] n h = room_less inner _ n h (omega arith)
 room_items s inner i (Item d it ∷ ps) n h =
-    let named = declare inner (item_name it.stream it.window).id (item_entity s i d it) in
+    let flag = item_flag s it in
+    let named = declare (flagged flag inner) (item_name it.stream it.window).id (item_entity s i d it) in
     room_items s named (suc i) ps n
-    (room_declared inner (item_name it.stream it.window).id (item_entity s i d it) (length ps + n) (item_apart s i d it)
-    (room_less inner (length (Item d it ∷ ps) + n) (1 + (length ps + n)) h (omega arith)))
+    (room_declared (flagged flag inner) (item_name it.stream it.window).id (item_entity s i d it) (length ps + n) (item_apart s i d it)
+    (room_flagged inner flag (1 + (length ps + n)) (room_less inner (length (Item d it ∷ ps) + n) (1 + (length ps + n)) h (omega arith))))
 room_items s inner i (Private p ∷ ps) n h =
     room_items s inner i ps n (room_less inner (length (Private p ∷ ps) + n) (length ps + n) h (omega arith))
 
@@ -316,7 +331,7 @@ mutual
       room_leave s (after_stmts (enter s) ss) n (room_less s _ n h (omega arith))
       (room_stmts (enter s) ss n (room_enter s (stmts_weight ss + n) (room_less s _ (1 + (stmts_weight ss + n)) h (omega arith))))
       (owner_stmts (enter s) ss) (rise_stmts (enter s) ss)
-  room_stmt s (tree.StmtTree.Declare ds) n h = room_declarators s ds n h
+  room_stmt s (tree.StmtTree.Declare t ds) n h = room_declarators (typed t s) ds n (room_flagged s (is_unsigned t) _ h)
   room_stmt s (tree.StmtTree.Change c) n h = room_less s _ n h (omega arith)
   room_stmt s (tree.StmtTree.Call f args) n h = room_less s _ n h (omega arith)
   room_stmt s (tree.If c a) n h = room_stmt s a n h
@@ -352,7 +367,7 @@ mutual
       room_stmts (after_stmt s a) rest n
       (room_stmt s a (stmts_weight rest + n) (room_less s _ (stmt_weight a + (stmts_weight rest + n)) h (omega arith)))
 
-pub room_param : (s : Scope) (p : Name) (n : ℕ) → HasRoom s (1 + n) → HasRoom (after_param s p) n
+pub room_param : (s : Scope) (p : Param) (n : ℕ) → HasRoom s (1 + n) → HasRoom (after_param s p) n
 room_param s p n h = record {
   slots = omega (arith, h.slots);
   depth = omega (arith, h.depth);
@@ -361,10 +376,10 @@ room_param s p n h = record {
   arrays = omega (arith, h.arrays);
   streams = omega (arith, h.streams);
   entries = omega (arith, h.entries);
-  order = ordered_scalar s.owner p.id s.depth s.slots s.entries h.order;
+  order = ordered_scalar s.owner p.name.id s.depth s.slots (is_unsigned p.ty) s.entries h.order;
 }
 
-pub room_params : (s : Scope) (ps : List Name) (n : ℕ) → HasRoom s (length ps + n) → HasRoom (after_params s ps) n
+pub room_params : (s : Scope) (ps : List Param) (n : ℕ) → HasRoom s (length ps + n) → HasRoom (after_params s ps) n
 room_params s [] n h = room_less s _ n h (omega arith)
 room_params s (p ∷ ps) n h =
     room_params (after_param s p) ps n
@@ -418,15 +433,15 @@ pub room_in_function : (s : Scope) (id : ℕ) (n : ℕ) → s.owner ≡ owner.Of
 room_in_function s id n is h = round_room (owner_of id) s n is h
 
 pub room_in_body : (s : Scope) (f : tree.FunctionTree) (n : ℕ) → s.owner ≡ owner.OfFunction →
-    HasRoom s (4 + length (param_names f.params) + n) → HasRoom (in_body s f) n
+    HasRoom s (4 + length (param_list f.params) + n) → HasRoom (in_body s f) n
 room_in_body s f n is h =
-    let ps = param_names f.params in
+    let ps = param_list f.params in
     room_params (in_function s f.name.id) ps n
     (room_in_function s f.name.id (length ps + n) is (room_less s _ (4 + (length ps + n)) h (omega arith)))
 
 -- behind a function, which is one more
 pub room_function : (s inner : Scope) (f : tree.FunctionTree) (n : ℕ) → HasRoom s (1 + n) → HasRoom inner (2 + n) → HasRoom (after_function s inner f) n
-room_function s inner f n h k = room_declared (record (after_unit s inner) { functions = inner.functions + 1 }) f.name.id _ n refl (record {
+room_function s inner f n h k = room_declared (typed f.ty (record (after_unit s inner) { functions = inner.functions + 1 })) f.name.id _ n refl (record {
   slots = h.slots;
   depth = h.depth;
   functions = omega (arith, k.functions);
@@ -438,10 +453,10 @@ room_function s inner f n h k = room_declared (record (after_unit s inner) { fun
 })
 
 pub room_item : (s : Scope) (i : tree.ItemTree) (n : ℕ) → s.owner ≡ owner.OfFunction → HasRoom s (item_weight i + n) → HasRoom (after_item s i) n
-room_item s (tree.Constant c) n is h = room_declared s c.name.id _ n refl h
+room_item s (tree.Constant c) n is h = room_declared (typed c.ty s) c.name.id _ n refl (room_flagged s (is_unsigned c.ty) (1 + n) h)
 room_item s (tree.Function f) n is h =
     let inner = after_stmts (in_body s f) f.body in
-    let l = length (param_names f.params) in
+    let l = length (param_list f.params) in
     let w = stmts_weight f.body in
     room_function s inner f n (room_less s _ (1 + n) h (omega arith))
     (room_stmts (in_body s f) f.body (2 + n)
@@ -469,6 +484,6 @@ room_in_for s start n h =
     room_in_loop (after_start (enter s) start) n
     (room_start (enter s) start n (room_enter s (start_weight start + n) (room_less s _ (1 + (start_weight start + n)) h (omega arith))))
 
-pub room_for_body : (s : Scope) (f : tree.FunctionTree) → s.owner ≡ owner.OfFunction → HasRoom s (6 + length (param_names f.params) + stmts_weight f.body) →
+pub room_for_body : (s : Scope) (f : tree.FunctionTree) → s.owner ≡ owner.OfFunction → HasRoom s (6 + length (param_list f.params) + stmts_weight f.body) →
     HasRoom (in_body s f) (stmts_weight f.body)
-room_for_body s f is h = room_in_body s f (stmts_weight f.body) is (room_less s _ (4 + length (param_names f.params) + stmts_weight f.body) h (omega arith))
+room_for_body s f is h = room_in_body s f (stmts_weight f.body) is (room_less s _ (4 + length (param_list f.params) + stmts_weight f.body) h (omega arith))

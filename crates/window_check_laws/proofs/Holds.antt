@@ -1,10 +1,13 @@
 -- What holds of each scope of a lawful program, step by step.
 use Rattle.std.proofs.Common.{◌≡◌, ◌≤◌, ◌<◌, ℕ, suc, ◌+◌, ◌==◌, Bool, true, false, if◌then◌else◌, List, [], ◌∷◌, length, Option, Some, None, refl, sym, ap, subst, ◌∙◌, arith, eqb-true, inl, inr}
 use Rattle.std.specs.Prelude.{⊤, ◌⊎◌}
+use Rattle.os_ast.specs.declared.ty.Ty.{Ty}
+use Rattle.os_ast.specs.Types.{is_unsigned}
+use Rattle.os_ast.specs.declared.program.Param.{Param}
 use Rattle.os_ast.specs.Captured.{captured, slots_of}
 use Rattle.os_ast.specs.Leveled.{IsStmt}
-use Rattle.os_ast.specs.Names.{Scope, lookup, entity_of, declare, enter, in_loop, in_unit, osin_id, osout_id, osin_len_id}
-use Rattle.os_ast.specs.Notes.Clauses.{with_items, in_task, in_task_body, captured_in, named_entity, item_entity}
+use Rattle.os_ast.specs.Names.{Scope, lookup, entity_of, declare, enter, in_loop, in_unit, osin_id, osout_id, osin_len_id, typed, flagged}
+use Rattle.os_ast.specs.Notes.Clauses.{with_items, in_task, in_task_body, captured_in, named_entity, item_entity, item_flag}
 use Rattle.os_ast.specs.Notes.Declarators.{size_of, sized_form, form, form_with, taken, form_entity, declared_entity, scalar_entity, after_declarator, after_declarators, after_start}
 use Rattle.os_ast.specs.Notes.Programs.{after_param, after_params, round_body}
 use Rattle.os_ast.specs.Notes.Statements.{after_stmt}
@@ -12,7 +15,6 @@ use Rattle.os_ast.specs.Parts.{Part, Item, Private, item_name}
 use Rattle.os_ast.specs.Stacked.{Stacked, Extent, main_extent, unit_extent, begins, ends}
 use Rattle.os_ast.specs.Trees as tree
 use Rattle.os_ast.specs.Violations.{streams}
-use Rattle.os_ast.specs.declared.expr.Name.{Name}
 use Rattle.os_ast.specs.declared.names.Direction.{Direction}
 use Rattle.os_ast.specs.declared.names.Entity.{Entity}
 use Rattle.os_ast.specs.declared.names.Entity.TheVariants as entity
@@ -105,7 +107,7 @@ holds-declared p s id e h new stacked bare = record {
 }
   where
     by_case : (other : ℕ) (d : Entity) (t : Bool) → (id == other) ≡ t →
-        entity_of (if t then Some (record { id = id; depth = s.depth; entity = e }) else lookup s.entries other) ≡ Some d →
+        entity_of (if t then Some (record { id = id; depth = s.depth; entity = e; unsigned = s.unsigned }) else lookup s.entries other) ≡ Some d →
         KnownSo p s.functions s.streams other d
     by_case other d true same is =
         let x : e ≡ d = cc in
@@ -163,9 +165,12 @@ pub holds-declarators : (p : tree.ProgramTree) (s : Scope) (ds : List tree.Decla
 holds-declarators p s [] h = h
 holds-declarators p s (d ∷ ds) h = holds-declarators p (after_declarator s d) ds (holds-declarator p s d h)
 
+pub holds-typed : (p : tree.ProgramTree) (t : Ty) (s : Scope) → Holds p s → Holds p (typed t s)
+holds-typed p t s h = holds-on p s (typed t s) refl refl (omega arith) (omega arith) (omega arith) h
+
 pub holds-start : (p : tree.ProgramTree) (s : Scope) (t : tree.StartTree) → Holds p s → Holds p (after_start s t)
 holds-start p s tree.StartTree.Empty h = h
-holds-start p s (tree.StartTree.Declare ds) h = holds-declarators p s ds h
+holds-start p s (tree.StartTree.Declare t ds) h = holds-declarators p (typed t s) ds (holds-typed p t s h)
 holds-start p s (tree.StartTree.Change c) h = h
 
 pub holds-stmt : (p : tree.ProgramTree) {a : tree.StmtTree} → IsStmt a → (s : Scope) → Holds p s → Holds p (after_stmt s a)
@@ -211,9 +216,9 @@ free-item : (p : tree.ProgramTree) (functions streams id : ℕ) (e : Entity) (it
 free-item p functions streams id e item d (inl is) = subst (IsFree p functions streams id) (sym is) (record { known = tt; none = refl })
 free-item p functions streams id e item d (inr is) = subst (IsFree p functions streams id) (sym is) (record { known = tt; none = refl })
 
-pub stacked-free : (top id depth : ℕ) (e : Entity) (es : List Entry) → unit_extent e ≡ None → Stacked unit_extent top es →
-    Stacked unit_extent top (record { id = id; depth = depth; entity = e } ∷ es)
-stacked-free top id depth e es none h =
+pub stacked-free : (top id depth : ℕ) (e : Entity) (u : Bool) (es : List Entry) → unit_extent e ≡ None → Stacked unit_extent top es →
+    Stacked unit_extent top (record { id = id; depth = depth; entity = e; unsigned = u } ∷ es)
+stacked-free top id depth e u es none h =
     subst (λ (x : Option Extent). (ends x top ≤ top) × Stacked unit_extent (begins x top) es) (sym none) (omega arith, h)
 
 holds-items : (p : tree.ProgramTree) (s inner : Scope) (n : ℕ) (ps : List Part) → inner.owner ≡ owner.OfTask → Holds p inner → Holds p (with_items s inner n ps)
@@ -222,11 +227,12 @@ holds-items p s inner n (Private m ∷ ps) own h = holds-items p s inner n ps ow
 holds-items p s inner n (Item d i ∷ ps) own h =
     let id = (item_name i.stream i.window).id in
     let e = item_entity s n d i in
+    let typed_inner = flagged (item_flag s i) inner in
     let free = free-item p inner.functions inner.streams id e n d (is-item n d i.window (entity_of (lookup s.entries (item_name i.stream i.window).id))) in
-    holds-items p s (declare inner id e) (suc n) ps own
-    (holds-declared p inner id e h free.known
-    (subst (λ (o : Owner). Stacked (extent_in o) inner.slots (declare inner id e).entries) (sym own)
-    (stacked-free inner.slots id inner.depth e inner.entries free.none (subst (λ (o : Owner). Stacked (extent_in o) inner.slots inner.entries) own h.stacked)))
+    holds-items p s (declare typed_inner id e) (suc n) ps own
+    (holds-declared p typed_inner id e (holds-on p inner typed_inner refl refl (omega arith) (omega arith) (omega arith) h) free.known
+    (subst (λ (o : Owner). Stacked (extent_in o) inner.slots (declare typed_inner id e).entries) (sym own)
+    (stacked-free inner.slots id inner.depth e (item_flag s i) inner.entries free.none (subst (λ (o : Owner). Stacked (extent_in o) inner.slots inner.entries) own h.stacked)))
     (λ is. free.none))
 
 pub holds-task : (p : tree.ProgramTree) (s : Scope) (ps : List Part) (a : tree.StmtTree) → s.owner ≡ owner.OfMain → Holds p s → Holds p (in_task_body s ps a)
@@ -239,15 +245,15 @@ holds-task p s ps a main h =
     })
 
 -- parameters
-pub holds-param : (p : tree.ProgramTree) (s : Scope) (n : Name) → Holds p s → Holds p (after_param s n)
+pub holds-param : (p : tree.ProgramTree) (s : Scope) (n : Param) → Holds p s → Holds p (after_param s n)
 holds-param p s n h =
-    holds-declared p (record s { slots = s.slots + 1 }) n.id (scalar_entity s.owner s.slots)
-    (holds-on p s (record s { slots = s.slots + 1 }) refl refl (omega arith) (omega arith) (omega arith) h)
-    (known-scalar p s.owner s.functions s.streams n.id s.slots)
-    (stacked-scalar s.owner n.id s.depth s.slots s.entries h.stacked)
+    holds-declared p (typed n.ty (record s { slots = s.slots + 1 })) n.name.id (scalar_entity s.owner s.slots)
+    (holds-on p s (typed n.ty (record s { slots = s.slots + 1 })) refl refl (omega arith) (omega arith) (omega arith) h)
+    (known-scalar p s.owner s.functions s.streams n.name.id s.slots)
+    (stacked-scalar s.owner n.name.id s.depth s.slots (is_unsigned n.ty) s.entries h.stacked)
     (λ is. bare-scalar s.owner s.slots is)
 
-pub holds-params : (p : tree.ProgramTree) (s : Scope) (ns : List Name) → Holds p s → Holds p (after_params s ns)
+pub holds-params : (p : tree.ProgramTree) (s : Scope) (ns : List Param) → Holds p s → Holds p (after_params s ns)
 holds-params p s [] h = h
 holds-params p s (n ∷ ns) h = holds-params p (after_param s n) ns (holds-param p s n h)
 
@@ -286,7 +292,7 @@ holds-inside p owner.OfTask s none h = record {
 }
 holds-inside p owner.OfMain s none h =
     let free = slotless-units s.entries none in
-    let start = record (enter (in_unit owner.OfMain s)) { slots = 1 } in
+    let start = flagged false (record (enter (in_unit owner.OfMain s)) { slots = 1 }) in
     let one = declare start osin_id (entity.Stream 0) in
     let two = declare one osout_id (entity.Stream 1) in
     let three = declare two osin_len_id entity.InputLength in

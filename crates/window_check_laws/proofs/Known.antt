@@ -1,22 +1,23 @@
 -- What stands in a lawful program stands where all that is in scope is known.
 use Rattle.std.proofs.Common.{◌≡◌, ◌≤◌, ℕ, zero, suc, ◌+◌, ◌==◌, ◌&&◌, ◌||◌, Bool, true, false, not, if◌then◌else◌, List, [], ◌∷◌, ◌++◌, length, Option, Some, None, ℤ, refl, sym, ap, subst, ◌∙◌, arith, eq-eqb, Contains}
 use Rattle.std.specs.Prelude.{⊤, unwrap_or}
+use Rattle.os_ast.specs.Types.{is_unsigned}
+use Rattle.os_ast.specs.declared.program.Param.{Param}
 use Rattle.os_ast.specs.Captured.{captured, slots_of}
 use Rattle.os_ast.specs.Leveled.{AreAll, cons, IsItem, IsStmt, AreStmts, IsLeveled}
 use Rattle.os_ast.specs.Limits.{is_size}
-use Rattle.os_ast.specs.Names.{Scope, lookup, entity_of, declare, enter, in_loop, constant_value}
+use Rattle.os_ast.specs.Names.{Scope, lookup, entity_of, declare, enter, in_loop, constant_value, typed}
 use Rattle.os_ast.specs.Notes.Clauses.{in_task, in_task_body, captured_in, window_notes, part_notes, parts_notes, clauses_notes}
 use Rattle.os_ast.specs.Notes.Declarators.{limited, constant_of, size_value, size_told, size_of, form, form_with, after_declarator, after_declarators, is_window, declarator_notes, declarators_notes, size_notes, sized_notes, after_start, start_notes}
 use Rattle.os_ast.specs.Notes.Expressions.{expr_notes, place_notes, args_notes, links_notes, value_notes, index_notes, change_notes, step_notes}
 use Rattle.os_ast.specs.Notes.Kinds.{Note, Used, Sized, Declared, Given, Global, Left, Returned, Pragma, Task, Listed}
-use Rattle.os_ast.specs.Notes.Programs.{in_body, in_function, after_param, after_item, after_items, params_notes, item_notes, items_notes, owner_of, param_names, file, program_notes}
+use Rattle.os_ast.specs.Notes.Programs.{in_body, in_function, after_param, after_item, after_items, params_notes, item_notes, items_notes, owner_of, param_list, file, program_notes}
 use Rattle.os_ast.specs.Notes.Statements.{after_stmt, after_stmts, stmt_notes, stmts_notes}
 use Rattle.os_ast.specs.Parts.{Part, Item, Private, parts, part_name, count_items, is_in}
 use Rattle.os_ast.specs.Rules.{has_no_size, has_too_many, is_main_body}
 use Rattle.os_ast.specs.Stacked.{Stacked}
 use Rattle.os_ast.specs.Trees as tree
 use Rattle.os_ast.specs.Violations.{streams, violations}
-use Rattle.os_ast.specs.declared.expr.Name.{Name}
 use Rattle.os_ast.specs.declared.names.Direction.TheVariants as direction
 use Rattle.os_ast.specs.declared.names.Entity.{Entity}
 use Rattle.os_ast.specs.declared.names.Entity.TheVariants as entity
@@ -27,7 +28,7 @@ use Rattle.os_ast.specs.declared.names.Role.TheVariants as role
 use Rattle.os_ast.specs.declared.program.Constant.{Constant as ConstantItem}
 use Rattle.window_check_laws.proofs.Counted.{functions_stmts, functions_in_body}
 use Rattle.window_check_laws.proofs.Globals.{distinct-program}
-use Rattle.window_check_laws.proofs.Holds.{Holds, sound, holds-declared, holds-declarator, holds-declarators, holds-start, holds-stmt, holds-enter, holds-in_loop, holds-task, holds-param, holds-params, holds-inside, holds-on, AreSlotless, inside, stacked-free}
+use Rattle.window_check_laws.proofs.Holds.{Holds, sound, holds-declared, holds-declarator, holds-declarators, holds-start, holds-stmt, holds-enter, holds-in_loop, holds-task, holds-param, holds-params, holds-inside, holds-on, AreSlotless, inside, stacked-free, holds-typed}
 use Rattle.window_check_laws.proofs.Rise.{grow_taken, grow_declarators, grow_stmt, grow_stmts, grow_items, streams_items, streams_in_body}
 use Rattle.window_check_laws.proofs.Told.{lawful-first, lawful-rest, lawful-program}
 use Rattle.window_check_laws.specs.Globals.{AreApart}
@@ -93,6 +94,7 @@ module _ (p : tree.ProgramTree) (s : Scope) (ok : IsSound p s) where
   mutual
     stand-expr : (e : tree.ExprTree) → AllStand p (expr_notes s e)
     stand-expr (tree.Number n) = tt
+    stand-expr (tree.Wide n) = tt
     stand-expr (tree.Place t) = stand-place role.Value t
     stand-expr (tree.ExprTree.Call f args) = (ok, stand-args args)
     stand-expr (tree.Paren e) = stand-expr e
@@ -177,6 +179,7 @@ constant-there (Some (entity.View n x)) v h = absurd (cc)
 module _ (p : tree.ProgramTree) (s : Scope) (ok : IsSound p s) where
   stand-size : (e : tree.ExprTree) → (v : ℤ) × (size_value s e ≡ Some v) → AllStand p (size_notes s e)
   stand-size (tree.Number n) h = tt
+  stand-size (tree.Wide n) h = tt
   stand-size (tree.Place (tree.Variable n)) h =
       let there = constant-there (entity_of (lookup s.entries n.id)) h.0 h.1 in
       ((ok, record { value = h.0; there = there; declared = ok.known n.id (entity.Constant h.0) there }), tt)
@@ -208,6 +211,7 @@ module _ (p : tree.ProgramTree) (s : Scope) (ok : IsSound p s) where
 
   named-size : (e : tree.ExprTree) → (v : ℤ) × (size_value s e ≡ Some v) → unwrap_or (size_of s e) 0 ≡ size_in p e
   named-size (tree.Number n) h = refl
+  named-size (tree.Wide n) h = refl
   named-size (tree.Place (tree.Variable n)) h =
       let there = constant-there (entity_of (lookup s.entries n.id)) h.0 h.1 in
       ap (λ (o : Option Entity). unwrap_or (limited (constant_of o)) 0) (there ∙ sym (ok.known n.id (entity.Constant h.0) there))
@@ -252,7 +256,7 @@ module _ (p : tree.ProgramTree) (top : ℕ) (few : 2 + top ≤ streams p) where
 
   stand-start : (s : Scope) (t : tree.StartTree) → Holds p s → (after_start s t).streams ≤ top → AreLawful (start_notes s t) → AllStand p (start_notes s t)
   stand-start s tree.StartTree.Empty h below k = tt
-  stand-start s (tree.StartTree.Declare ds) h below k = stand-declarators s ds h below k
+  stand-start s (tree.StartTree.Declare t ds) h below k = stand-declarators (typed t s) ds (holds-typed p t s h) below k
   stand-start s (tree.StartTree.Change c) h below k = stand-change p s (sound-below s below h) c
 
   in-main : (o : Owner) → is_main_body o ≡ true → o ≡ owner.OfMain
@@ -323,7 +327,9 @@ module _ (p : tree.ProgramTree) (top : ℕ) (few : 2 + top ≤ streams p) where
     stand-stmts : {ss : tree.Stmts} → AreStmts ss → (s : Scope) → Holds p s → (after_stmts s ss).streams ≤ top → AreLawful (stmts_notes s ss) →
         AllStand p (stmts_notes s ss)
     stand-stmts AreStmts.no_stmts s h below k = tt
-    stand-stmts (AreStmts.declare {ds = ds} {ss = ss} _ rest) s h below k =
+    stand-stmts (AreStmts.declare {t = t} {ds = ds} {ss = ss} _ rest) around known below k =
+        let s = typed t around in
+        let h = holds-typed p t around known in
         let after = after_declarators s ds in
         all-stand p (declarators_notes s ds) (stmts_notes after ss)
         (stand-declarators s ds h (omega (arith, below, grow_stmts after ss)) (lawful-first (declarators_notes s ds) (stmts_notes after ss) k))
@@ -334,7 +340,7 @@ module _ (p : tree.ProgramTree) (top : ℕ) (few : 2 + top ≤ streams p) where
         (stand-stmt is s h (omega (arith, below, grow_stmts after ss)) (lawful-first (stmt_notes s a) (stmts_notes after ss) k))
         (stand-stmts rest after (holds-stmt p is s h) below (lawful-rest (stmt_notes s a) (stmts_notes after ss) k))
 
-  stand-params : (s : Scope) (ns : List Name) → Holds p s → s.streams ≤ top → AllStand p (params_notes s ns)
+  stand-params : (s : Scope) (ns : List Param) → Holds p s → s.streams ≤ top → AllStand p (params_notes s ns)
   stand-params s [] h below = tt
   stand-params s (n ∷ ns) h below = (sound-below s below h, stand-params (after_param s n) ns (holds-param p s n h) below)
 
@@ -363,7 +369,7 @@ left-function : (p : tree.ProgramTree) (before : List ℕ) (number : ℕ) (f : t
     AreLeft p (f.name.id ∷ before) (suc number) is
 left-function p before number f is left id out =
     let parts = or-parts (f.name.id == id) (is_in id before) out in
-    left id parts.1 ∙ ap (λ (t : Bool). if t then Some (entity.Function number (length (param_names f.params))) else global_behind (suc number) is id) parts.0
+    left id parts.1 ∙ ap (λ (t : Bool). if t then Some (entity.Function number (length (param_list f.params))) else global_behind (suc number) is id) parts.0
 
 module _ (p : tree.ProgramTree) (top : ℕ) (few : 2 + top ≤ streams p) where
   -- what is known of the file's scope
@@ -375,7 +381,7 @@ module _ (p : tree.ProgramTree) (top : ℕ) (few : 2 + top ≤ streams p) where
 
   body-holds : (s : Scope) (f : tree.FunctionTree) → AreSlotless s.entries → Holds p s → Holds p (in_body s f)
   body-holds s f none h =
-      holds-params p (in_function s f.name.id) (param_names f.params) (holds-inside p (owner_of f.name.id) s none h)
+      holds-params p (in_function s f.name.id) (param_list f.params) (holds-inside p (owner_of f.name.id) s none h)
 
   constant-in : (s : Scope) (before : List ℕ) (c : ConstantItem) (is : List tree.ItemTree) → is_in c.name.id before ≡ false →
       InFile s before (tree.Constant c ∷ is) →
@@ -386,9 +392,9 @@ module _ (p : tree.ProgramTree) (top : ℕ) (few : 2 + top ≤ streams p) where
       h.left c.name.id out ∙ ap (λ (t : Bool). if t then Some (entity.Constant v) else global_behind s.functions is c.name.id)
       (eq-eqb c.name.id c.name.id refl) in
       record {
-        holds = holds-declared p s c.name.id (entity.Constant v) h.holds new
+        holds = holds-declared p (typed c.ty s) c.name.id (entity.Constant v) (holds-typed p c.ty s h.holds) new
             (subst (λ (o : Owner). Stacked (extent_in o) s.slots (after_item s (tree.Constant c)).entries) (sym h.own)
-            (stacked-free s.slots c.name.id s.depth (entity.Constant v) s.entries refl
+            (stacked-free s.slots c.name.id s.depth (entity.Constant v) (is_unsigned c.ty) s.entries refl
             (subst (λ (o : Owner). Stacked (extent_in o) s.slots s.entries) h.own h.holds.stacked)))
             (λ is. refl);
         own = h.own;
@@ -402,8 +408,8 @@ module _ (p : tree.ProgramTree) (top : ℕ) (few : 2 + top ≤ streams p) where
   function-in s before f is out h =
       let inner = after_stmts (in_body s f) f.body in
       let count : inner.functions ≡ s.functions = functions_stmts (in_body s f) f.body ∙ functions_in_body s f in
-      let params = length (param_names f.params) in
-      let next = record s { functions = inner.functions + 1; streams = inner.streams; arrays = inner.arrays } in
+      let params = length (param_list f.params) in
+      let next = typed f.ty (record s { functions = inner.functions + 1; streams = inner.streams; arrays = inner.arrays }) in
       let new : global p f.name.id ≡ Some (entity.Function inner.functions params) =
       h.left f.name.id out
       ∙ ap (λ (t : Bool). if t then Some (entity.Function s.functions params) else global_behind (suc s.functions) is f.name.id)
@@ -414,7 +420,7 @@ module _ (p : tree.ProgramTree) (top : ℕ) (few : 2 + top ≤ streams p) where
       let e = entity.Function inner.functions params in
       let declared : Holds p (declare next f.name.id e) = holds-declared p next f.name.id e at_next (new, omega arith)
       (subst (λ (o : Owner). Stacked (extent_in o) s.slots (declare next f.name.id e).entries) (sym h.own)
-      (stacked-free s.slots f.name.id s.depth e s.entries refl (subst (λ (o : Owner). Stacked (extent_in o) s.slots s.entries) h.own h.holds.stacked)))
+      (stacked-free s.slots f.name.id s.depth e (is_unsigned f.ty) s.entries refl (subst (λ (o : Owner). Stacked (extent_in o) s.slots s.entries) h.own h.holds.stacked)))
       (λ is. refl) in
       let after = after_item s (tree.Function f) in
       record {
@@ -435,14 +441,14 @@ module _ (p : tree.ProgramTree) (top : ℕ) (few : 2 + top ≤ streams p) where
       let i = tree.Function f in
       let after = after_item s i in
       let inside = in_body s f in
-      let given = params_notes (in_function s f.name.id) (param_names f.params) in
+      let given = params_notes (in_function s f.name.id) (param_list f.params) in
       let low : (after_stmts inside f.body).streams ≤ top = omega (arith, below, grow_items after is) in
       let first : s.streams ≤ top = omega (arith, low, grow_stmts inside f.body, streams_in_body s f) in
       let own = lawful-first (item_notes s i) (items_notes after is) k in
       all-stand p (item_notes s i) (items_notes after is) (
         sound-below p top few s first h.holds,
         all-stand p given (stmts_notes inside f.body)
-            (stand-params p top few (in_function s f.name.id) (param_names f.params) (holds-inside p (owner_of f.name.id) s h.none h.holds)
+            (stand-params p top few (in_function s f.name.id) (param_list f.params) (holds-inside p (owner_of f.name.id) s h.none h.holds)
             (round-low (owner_of f.name.id) s first))
             (stand-stmts p top few body inside (body-holds s f h.none h.holds) low (lawful-rest given (stmts_notes inside f.body) own.1)),
       )

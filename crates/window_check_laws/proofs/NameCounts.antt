@@ -1,9 +1,9 @@
 -- A lawful program has no more names than tokens: so many variables it declares, and so many uses has it of them.
-use Rattle.std.proofs.Common.{◌≡◌, ℕ, suc, ◌+◌, ◌<◌, ◌≤◌, List, [], ◌∷◌, ◌++◌, length, length-append, Option, Some, None, sym, subst, refl, arith}
+use Rattle.std.proofs.Common.{◌≡◌, ℕ, suc, ◌+◌, ◌<◌, ◌≤◌, List, [], ◌∷◌, ◌++◌, length, length-append, Option, Some, None, sym, subst, refl, arith, Bool}
 use Rattle.std.specs.Prelude.{⊤}
 use Rattle.std.proofs.lemmas.List.{length-map}
 use Rattle.os_ast.specs.Marks.{HasMark, HasPlaces}
-use Rattle.os_ast.specs.Names.{entity_of, lookup}
+use Rattle.os_ast.specs.Names.{entity_of, lookup, flag_of}
 use Rattle.os_ast.specs.Notes.Declarators.{constant_of}
 use Rattle.os_ast.specs.Notes.Kinds.{Declared, Given, Global, Left, Listed, Note, Pragma, Returned, Sized, Task, Used}
 use Rattle.os_ast.specs.Notes.Programs.{file, program_notes}
@@ -61,11 +61,11 @@ used_in-append [] ys = omega arith
 used_in-append (n ∷ xs) ys = omega (arith, used_in-append xs ys)
 
 -- a name that is declared has a meaning
-one_meaning : (m : Mark) (o : _) (captured : List ℕ) (d : Option Entity) (e : Entity) → d ≡ Some e → 1 ≤ length (declared_meaning m o captured d)
-one_meaning m o captured d e is = subst (λ x. 1 ≤ length (declared_meaning m o captured x)) (sym is) (omega arith)
+one_meaning : (m : Mark) (u : Bool) (o : _) (captured : List ℕ) (d : Option Entity) (e : Entity) → d ≡ Some e → 1 ≤ length (declared_meaning m u o captured d)
+one_meaning m u o captured d e is = subst (λ x. 1 ≤ length (declared_meaning m u o captured x)) (sym is) (omega arith)
 
 each_has_one : (n : Note) → AreLawful (n ∷ []) → declares n + uses n ≤ length (resolutions_of n)
-each_has_one (Used s n u) lawful = let d = declared-use s n u lawful in one_meaning n.mark s.owner s.captured (entity_of (lookup s.entries n.id)) d.0 d.1
+each_has_one (Used s n u) lawful = let d = declared-use s n u lawful in one_meaning n.mark (flag_of (lookup s.entries n.id)) s.owner s.captured (entity_of (lookup s.entries n.id)) d.0 d.1
 each_has_one (Declared s d) lawful = omega arith
 each_has_one (Given s n) lawful = omega arith
 each_has_one (Sized s n) lawful = omega arith
@@ -105,17 +105,17 @@ below_both : (n : ℕ) (rs ss : List Resolved) → Below n rs → Below n ss →
 below_both n [] ss a b = b
 below_both n (r ∷ rs) ss a b = (a.0, below_both n rs ss a.1 b)
 
-declared_below : (n : ℕ) (m : Mark) (o : _) (captured : List ℕ) (d : Option Entity) → m.place < n → Below n (declared_meaning m o captured d)
-declared_below n m o captured None lt = tt
-declared_below n m o captured (Some e) lt = (lt, tt)
+declared_below : (n : ℕ) (m : Mark) (u : Bool) (o : _) (captured : List ℕ) (d : Option Entity) → m.place < n → Below n (declared_meaning m u o captured d)
+declared_below n m u o captured None lt = tt
+declared_below n m u o captured (Some e) lt = (lt, tt)
 
-constant_below : (n : ℕ) (m : Mark) (v : _) → m.place < n → Below n (constant_meaning m v)
-constant_below n m None lt = tt
-constant_below n m (Some v) lt = (lt, tt)
+constant_below : (n : ℕ) (m : Mark) (u : Bool) (v : _) → m.place < n → Below n (constant_meaning m u v)
+constant_below n m u None lt = tt
+constant_below n m u (Some v) lt = (lt, tt)
 
 each_below : (n : ℕ) (x : Note) → AreOf (λ m. m.place < n) (x ∷ []) → Below n (resolutions_of x)
-each_below k (Used s n u) h = declared_below k n.mark s.owner s.captured (entity_of (lookup s.entries n.id)) h.0
-each_below k (Sized s n) h = constant_below k n.mark (constant_of (entity_of (lookup s.entries n.id))) h.0
+each_below k (Used s n u) h = declared_below k n.mark (flag_of (lookup s.entries n.id)) s.owner s.captured (entity_of (lookup s.entries n.id)) h.0
+each_below k (Sized s n) h = constant_below k n.mark (flag_of (lookup s.entries n.id)) (constant_of (entity_of (lookup s.entries n.id))) h.0
 each_below k (Declared s d) h = (h.0, tt)
 each_below k (Given s n) h = (h.0, tt)
 each_below k (Global s n) h = tt

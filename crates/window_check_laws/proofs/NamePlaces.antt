@@ -2,14 +2,17 @@
 use Rattle.std.proofs.Common.{◌≡◌, ℕ, ◌&&◌, ◌||◌, Bool, true, false, not, if◌then◌else◌, List, [], ◌∷◌, ◌++◌, map, Option, Some, None, ℤ, refl, ap, sym, subst, ◌∙◌, append_assoc}
 use Rattle.std.specs.Prelude.{is_none}
 use Rattle.std.proofs.lemmas.List.{append-nil, map-append}
+use Rattle.os_ast.specs.declared.ty.Ty.{Ty}
+use Rattle.os_ast.specs.declared.ty.Ty.TheVariants as ty_of
+use Rattle.os_ast.specs.declared.program.Param.{Param}
 use Rattle.os_ast.specs.Captured.{captured}
 use Rattle.os_ast.specs.Limits.{is_size}
-use Rattle.os_ast.specs.Names.{Scope, lookup, entity_of, enter, in_loop}
+use Rattle.os_ast.specs.Names.{Scope, lookup, entity_of, enter, in_loop, typed, flag_of}
 use Rattle.os_ast.specs.Notes.Clauses.{part_notes, parts_notes, window_notes, shape_of, clauses_notes, in_task_body}
 use Rattle.os_ast.specs.Notes.Declarators.{form, form_with, sized_form, size_of, size_told, size_value, constant_of, declarator_notes, declarators_notes, after_declarator, after_start, start_notes, sized_notes, size_notes, is_window}
 use Rattle.os_ast.specs.Notes.Expressions.{expr_notes, place_notes, args_notes, links_notes, value_notes, index_notes, change_notes, step_notes, count_args}
 use Rattle.os_ast.specs.Notes.Kinds.{Note, Used, Task}
-use Rattle.os_ast.specs.Notes.Programs.{params_notes, after_param, param_names, item_notes, items_notes, after_item, in_function, in_body, program_notes, file}
+use Rattle.os_ast.specs.Notes.Programs.{params_notes, after_param, param_list, item_notes, items_notes, after_item, in_function, in_body, program_notes, file}
 use Rattle.os_ast.specs.Notes.Statements.{stmt_notes, stmts_notes, after_stmt}
 use Rattle.os_ast.specs.Parts.{Part, Item, Private, parts, parts_of, part_name, count_items}
 use Rattle.os_ast.specs.Rules.{rules, has_no_size, has_too_many}
@@ -55,19 +58,20 @@ joined : {x y : List ℕ} (z : List ℕ) (xs ys : List Note) → x ≡ told xs +
 joined {x} {y} z xs ys a b =
     a ∙ ap (λ ws. told xs ++ ws) b ∙ sym (append_assoc (told xs) (told ys) z) ∙ ap (λ ws. ws ++ z) (sym (told-append xs ys))
 
-known : (m : Mark) (o : Owner) (cs : List ℕ) (d : Option Entity) → is_none d ≡ false → map (λ (r : Resolved). r.place) (declared_meaning m o cs d) ≡ m.place ∷ []
-known m o cs None h = absurd (cc)
-known m o cs (Some e) h = refl
+known : (m : Mark) (u : Bool) (o : Owner) (cs : List ℕ) (d : Option Entity) → is_none d ≡ false → map (λ (r : Resolved). r.place) (declared_meaning m u o cs d) ≡ m.place ∷ []
+known m u o cs None h = absurd (cc)
+known m u o cs (Some e) h = refl
 
 -- a used name
 used : (s : Scope) (n : Name) (u : Use) (ns : List Note) {x : List ℕ} (z : List ℕ) → KeepsAll rules (Used s n u) → x ≡ told ns ++ z → n.mark.place ∷ x ≡ told (Used s n u ∷ ns) ++ z
 used s n u ns {x} z h e =
     ap (λ ws. n.mark.place ∷ ws) e
-    ∙ ap (λ ws. (ws ++ told ns) ++ z) (sym (known n.mark s.owner s.captured (entity_of (lookup s.entries n.id)) h.0))
+    ∙ ap (λ ws. (ws ++ told ns) ++ z) (sym (known n.mark (flag_of (lookup s.entries n.id)) s.owner s.captured (entity_of (lookup s.entries n.id)) h.0))
 
 mutual
   at-expr : (s : Scope) (e : tree.ExprTree) (rest : List Symbol) → AreLawful (expr_notes s e) → name_places (spelling.expr e rest) ≡ told (expr_notes s e) ++ name_places rest
   at-expr s (tree.Number n) rest h = refl
+  at-expr s (tree.Wide n) rest h = refl
   at-expr s (tree.Place t) rest h = at-place s role.Value t rest h
   at-expr s (tree.ExprTree.Call f es) rest h =
       used s f (usage.Called (count_args es)) (args_notes s es) _ h.0 (at-args s es (spelling.punct puncts.CloseParen rest) h.1)
@@ -133,14 +137,15 @@ at-step s None rest h = refl
 at-step s (Some c) rest h = at-change s c rest h
 
 -- a lawful size is a number, or names a constant
-constant-place : (m : Mark) (v : Option ℤ) → is_size v ≡ true → map (λ (r : Resolved). r.place) (constant_meaning m v) ≡ m.place ∷ []
-constant-place m None h = absurd (cc)
-constant-place m (Some v) h = refl
+constant-place : (m : Mark) (u : Bool) (v : Option ℤ) → is_size v ≡ true → map (λ (r : Resolved). r.place) (constant_meaning m u v) ≡ m.place ∷ []
+constant-place m u None h = absurd (cc)
+constant-place m u (Some v) h = refl
 
 at-size : (s : Scope) (e : tree.ExprTree) (rest : List Symbol) → is_size (size_value s e) ≡ true → name_places (spelling.expr e rest) ≡ told (size_notes s e) ++ name_places rest
 at-size s (tree.Number n) rest h = refl
+at-size s (tree.Wide n) rest h = refl
 at-size s (tree.Place (tree.Variable n)) rest h =
-    ap (λ ws. (ws ++ []) ++ name_places rest) (sym (constant-place n.mark (constant_of (entity_of (lookup s.entries n.id))) h))
+    ap (λ ws. (ws ++ []) ++ name_places rest) (sym (constant-place n.mark (flag_of (lookup s.entries n.id)) (constant_of (entity_of (lookup s.entries n.id))) h))
 at-size s (tree.Place (tree.Element n m e)) rest h = absurd (cc)
 at-size s (tree.ExprTree.Call f es) rest h = absurd (cc)
 at-size s (tree.Paren e) rest h = absurd (cc)
@@ -207,9 +212,15 @@ at-listed s (d ∷ ds) rest h =
     let more = declarators_notes (after_declarator s d) ds in
     joined _ (declarator_notes s d) more (at-declarator s d _ (lawful-first (declarator_notes s d) more h)) (at-declarators (after_declarator s d) ds rest (lawful-rest (declarator_notes s d) more h))
 
+-- the words of a type are no names
+typeless : (t : Ty) (rest : List Symbol) → name_places (spelling.type_words t rest) ≡ name_places rest
+typeless ty_of.Int rest = refl
+typeless ty_of.Unsigned rest = refl
+typeless ty_of.UnsignedInt rest = refl
+
 at-start : (s : Scope) (st : tree.StartTree) (rest : List Symbol) → AreLawful (start_notes s st) → name_places (spelling.start st rest) ≡ told (start_notes s st) ++ name_places rest
 at-start s tree.StartTree.Empty rest h = refl
-at-start s (tree.StartTree.Declare ds) rest h = at-listed s ds (spelling.punct puncts.Semicolon rest) h
+at-start s (tree.StartTree.Declare t ds) rest h = typeless t _ ∙ at-listed (typed t s) ds (spelling.punct puncts.Semicolon rest) h
 at-start s (tree.StartTree.Change c) rest h = at-change s c (spelling.punct puncts.Semicolon rest) h
 
 -- clauses
@@ -291,7 +302,7 @@ mutual
   at-stmt : (s : Scope) (a : tree.StmtTree) (rest : List Symbol) → AreLawful (stmt_notes s a) → name_places (spelling.stmt a rest) ≡ told (stmt_notes s a) ++ name_places rest
   at-stmt s tree.StmtTree.Empty rest h = refl
   at-stmt s (tree.Block ss) rest h = at-stmts (enter s) ss (spelling.punct puncts.CloseBrace rest) h
-  at-stmt s (tree.StmtTree.Declare ds) rest h = at-listed s ds (spelling.punct puncts.Semicolon rest) h
+  at-stmt s (tree.StmtTree.Declare t ds) rest h = typeless t _ ∙ at-listed (typed t s) ds (spelling.punct puncts.Semicolon rest) h
   at-stmt s (tree.StmtTree.Change c) rest h = at-change s c (spelling.punct puncts.Semicolon rest) h
   at-stmt s (tree.StmtTree.Call f es) rest h = at-expr s (tree.ExprTree.Call f es) (spelling.punct puncts.Semicolon rest) h
   at-stmt s (tree.If c a) rest h =
@@ -352,21 +363,21 @@ mutual
       let more = stmts_notes (after_stmt s a) ss in
       joined _ here more (at-stmt s a (spelling.stmts ss rest) (lawful-first here more h)) (at-stmts (after_stmt s a) ss rest (lawful-rest here more h))
 
-at-params : (s : Scope) (ns : List Name) (rest : List Symbol) →
-    name_places (spelling.each (λ n. spelling.punct puncts.Comma ⨾ (spelling.key keys.Int ⨾ spelling.name n)) ns rest) ≡ told (params_notes s ns) ++ name_places rest
+at-params : (s : Scope) (ns : List Param) (rest : List Symbol) →
+    name_places (spelling.each (λ p. spelling.punct puncts.Comma ⨾ spelling.param p) ns rest) ≡ told (params_notes s ns) ++ name_places rest
 at-params s [] rest = refl
-at-params s (n ∷ ns) rest = ap (λ ws. n.mark.place ∷ ws) (at-params (after_param s n) ns rest)
+at-params s (p ∷ ps) rest = typeless p.ty _ ∙ ap (λ ws. p.name.mark.place ∷ ws) (at-params (after_param s p) ps rest)
 
-at-param_list : (s : Scope) (ps : Params) (rest : List Symbol) → name_places (spelling.params ps rest) ≡ told (params_notes s (param_names ps)) ++ name_places rest
+at-param_list : (s : Scope) (ps : Params) (rest : List Symbol) → name_places (spelling.params ps rest) ≡ told (params_notes s (param_list ps)) ++ name_places rest
 at-param_list s params_of.Empty rest = refl
 at-param_list s params_of.Void rest = refl
 at-param_list s (params_of.Names []) rest = refl
-at-param_list s (params_of.Names (n ∷ ns)) rest = ap (λ ws. n.mark.place ∷ ws) (at-params (after_param s n) ns rest)
+at-param_list s (params_of.Names (p ∷ ps)) rest = typeless p.ty _ ∙ ap (λ ws. p.name.mark.place ∷ ws) (at-params (after_param s p) ps rest)
 
 at-item_of_file : (s : Scope) (i : tree.ItemTree) → AreLawful (item_notes s i) → item_places i ≡ told (item_notes s i)
 at-item_of_file s (tree.Constant c) h = refl
 at-item_of_file s (tree.Function f) h =
-    let given = params_notes (in_function s f.name.id) (param_names f.params) in
+    let given = params_notes (in_function s f.name.id) (param_list f.params) in
     let body = stmts_notes (in_body s f) f.body in
     joined _ given body (at-param_list (in_function s f.name.id) f.params (spelling.stmts f.body [])) (at-stmts (in_body s f) f.body [] (lawful-rest given body h.1))
     ∙ append-nil (told (given ++ body))

@@ -3,8 +3,8 @@ use Rattle.std.proofs.Common.{◌≡◌, ℕ, suc, ◌==◌, ◌||◌, ◌&&◌,
 use Rattle.std.proofs.lemmas.List.{append-nil}
 use Rattle.os_ast.specs.Captured.{captured, slots_of}
 use Rattle.os_ast.specs.FreeNames.{expr_names, target_names, args_names, links_names, value_names, index_names, change_names, step_names, join_names, parts_names, without, declared_ids, declarators_names, start_ids, start_names, stmt_ids, stmt_names, stmts_names, task_names}
-use Rattle.os_ast.specs.Names.{Scope, lookup, entity_of, declare, enter, in_loop}
-use Rattle.os_ast.specs.Notes.Clauses.{window_notes, part_notes, parts_notes, named_entity, item_entity, with_items, in_task, in_task_body, captured_in, clauses_notes}
+use Rattle.os_ast.specs.Names.{Scope, lookup, entity_of, declare, enter, in_loop, typed, flagged}
+use Rattle.os_ast.specs.Notes.Clauses.{window_notes, part_notes, parts_notes, named_entity, item_entity, with_items, in_task, in_task_body, captured_in, clauses_notes, item_flag}
 use Rattle.os_ast.specs.Notes.Declarators.{form, form_entity, declared_entity, taken, scalar_entity, is_window, size_notes, sized_notes, declarators_notes, after_declarator, after_declarators, after_start, start_notes}
 use Rattle.os_ast.specs.Notes.Expressions.{expr_notes, place_notes, args_notes, links_notes, value_notes, index_notes, change_notes, step_notes}
 use Rattle.os_ast.specs.Notes.Kinds.{Note}
@@ -45,6 +45,7 @@ two es xs ys ids more a b =
 mutual
   named-expr : (s : Scope) (e : tree.ExprTree) → used_slots (expr_notes s e) ≡ slots_named s.entries (expr_names e)
   named-expr s (tree.Number n) = refl
+  named-expr s (tree.Wide n) = refl
   named-expr s (tree.Place t) = named-place s _ t
   named-expr s (tree.ExprTree.Call f args) = ap (λ zs. control_slots (entity_of (lookup s.entries f.id)) ++ zs) (named-args s args)
   named-expr s (tree.Paren e) = named-expr s e
@@ -132,10 +133,10 @@ hide_then first second third xs ys h k id =
     both false true = refl
     both false false = refl
 
-hide_one : (id depth : ℕ) (e : Entity) (es : List Entry) → control_slots (Some e) ≡ [] → Hide (record { id = id; depth = depth; entity = e } ∷ es) es (id ∷ [])
-hide_one id depth e es none n = chosen (id == n)
+hide_one : (id depth : ℕ) (e : Entity) (u : Bool) (es : List Entry) → control_slots (Some e) ≡ [] → Hide (record { id = id; depth = depth; entity = e; unsigned = u } ∷ es) es (id ∷ [])
+hide_one id depth e u es none n = chosen (id == n)
   where
-    chosen : (t : Bool) → control_slots (entity_of (if t then Some (record { id = id; depth = depth; entity = e }) else lookup es n))
+    chosen : (t : Bool) → control_slots (entity_of (if t then Some (record { id = id; depth = depth; entity = e; unsigned = u }) else lookup es n))
         ≡ (if t || false then [] else control_slots (entity_of (lookup es n)))
     chosen true = none
     chosen false = refl
@@ -163,7 +164,7 @@ taken_entries s (form_of.Streams n) = refl
 hide_declarator : (s : Scope) (d : tree.DeclaratorTree) → s.owner ≡ owner.OfTask → Hide (after_declarator s d).entries s.entries (d.name.id ∷ [])
 hide_declarator s d h =
     subst (λ (es : List Entry). Hide (after_declarator s d).entries es (d.name.id ∷ [])) (taken_entries s (form s d))
-    (hide_one d.name.id (taken s (form s d)).depth (declared_entity s d) (taken s (form s d)).entries (form_apart s (form s d) h))
+    (hide_one d.name.id (taken s (form s d)).depth (declared_entity s d) (taken s (form s d)).unsigned (taken s (form s d)).entries (form_apart s (form s d) h))
 
 task_declarator : (s : Scope) (d : tree.DeclaratorTree) → s.owner ≡ owner.OfTask → (after_declarator s d).owner ≡ owner.OfTask
 task_declarator s d h = owner_declarator s d ∙ h
@@ -177,6 +178,7 @@ hide_declarators s (d ∷ ds) h =
 -- sizes name no variable of what is round the task
 size_names : (s : Scope) (e : tree.ExprTree) → used_slots (size_notes s e) ≡ []
 size_names s (tree.Number n) = refl
+size_names s (tree.Wide n) = refl
 size_names s (tree.Place (tree.Variable n)) = refl
 size_names s (tree.Place (tree.Element n m e)) = refl
 size_names s (tree.ExprTree.Call f args) = refl
@@ -215,12 +217,12 @@ named-declarators s (d ∷ ds) h =
 
 hide_start : (s : Scope) (t : tree.StartTree) → s.owner ≡ owner.OfTask → Hide (after_start s t).entries s.entries (start_ids t)
 hide_start s tree.StartTree.Empty h = λ id. refl
-hide_start s (tree.StartTree.Declare ds) h = hide_declarators s ds h
+hide_start s (tree.StartTree.Declare t ds) h = hide_declarators (typed t s) ds h
 hide_start s (tree.StartTree.Change c) h = λ id. refl
 
 named-start : (s : Scope) (t : tree.StartTree) → s.owner ≡ owner.OfTask → used_slots (start_notes s t) ≡ slots_named s.entries (start_names t)
 named-start s tree.StartTree.Empty h = refl
-named-start s (tree.StartTree.Declare ds) h = named-declarators s ds h
+named-start s (tree.StartTree.Declare t ds) h = named-declarators (typed t s) ds h
 named-start s (tree.StartTree.Change c) h = named-change s c
 
 item_hides : (item : ℕ) (d : Direction) (j : Option tree.JoinTree) (e : Option Entity) → control_slots (Some (named_entity item d j e)) ≡ []
@@ -243,16 +245,16 @@ hide_items s inner item [] = λ id. refl
 hide_items s inner item (Item d i ∷ ps) =
     let name = (item_name i.stream i.window).id in
     let entity = item_entity s item d i in
-    let named = declare inner name entity in
+    let named = declare (flagged (item_flag s i) inner) name entity in
     hide_then inner.entries named.entries (with_items s named (suc item) ps).entries (name ∷ []) (item_ids ps)
-    (hide_one name inner.depth entity inner.entries (item_hides item d i.window (entity_of (lookup s.entries name))))
+    (hide_one name inner.depth entity (item_flag s i) inner.entries (item_hides item d i.window (entity_of (lookup s.entries name))))
     (hide_items s named (suc item) ps)
 hide_items s inner item (Private n ∷ ps) = hide_items s inner item ps
 
 hide_stmt : (s : Scope) (a : tree.StmtTree) → s.owner ≡ owner.OfTask → Hide (after_stmt s a).entries s.entries (stmt_ids a)
 hide_stmt s tree.StmtTree.Empty h = λ id. refl
 hide_stmt s (tree.Block ss) h = λ id. refl
-hide_stmt s (tree.StmtTree.Declare ds) h = hide_declarators s ds h
+hide_stmt s (tree.StmtTree.Declare t ds) h = hide_declarators (typed t s) ds h
 hide_stmt s (tree.StmtTree.Change c) h = λ id. refl
 hide_stmt s (tree.StmtTree.Call f args) h = λ id. refl
 hide_stmt s (tree.If c a) h = hide_stmt s a h
@@ -276,7 +278,7 @@ mutual
   named-stmt : (s : Scope) (a : tree.StmtTree) → s.owner ≡ owner.OfTask → used_slots (stmt_notes s a) ≡ slots_named s.entries (stmt_names a)
   named-stmt s tree.StmtTree.Empty h = refl
   named-stmt s (tree.Block ss) h = named-stmts (enter s) ss h
-  named-stmt s (tree.StmtTree.Declare ds) h = named-declarators s ds h
+  named-stmt s (tree.StmtTree.Declare t ds) h = named-declarators (typed t s) ds h
   named-stmt s (tree.StmtTree.Change c) h = named-change s c
   named-stmt s (tree.StmtTree.Call f args) h = ap (λ zs. control_slots (entity_of (lookup s.entries f.id)) ++ zs) (named-args s args)
   named-stmt s (tree.If c a) h = two s.entries (expr_notes s c) (stmt_notes s a) (expr_names c) (stmt_names a) (named-expr s c) (named-stmt s a h)

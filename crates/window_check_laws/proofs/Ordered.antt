@@ -1,14 +1,17 @@
 -- Names are noted in the order of their places.
 use Rattle.std.proofs.Common.{◌≡◌, ◌≤◌, ◌+◌, ℕ, suc, List, [], ◌∷◌, ◌++◌, map, Option, Some, None, refl, ap, sym, subst, ◌∙◌, append_assoc, Bool, true, false, not, ◌&&◌, if◌then◌else◌, ℤ, arith}
 use Rattle.std.specs.Prelude.{⊤}
+use Rattle.os_ast.specs.declared.ty.Ty.TheVariants as ty_of
+use Rattle.os_ast.specs.declared.ty.Ty.{Ty}
+use Rattle.os_ast.specs.declared.program.Param.{Param}
 use Rattle.os_ast.specs.Captured.{captured}
 use Rattle.os_ast.specs.Marks.{HasMark, HasPlaces}
-use Rattle.os_ast.specs.Names.{Scope, entity_of, lookup, enter, in_loop}
+use Rattle.os_ast.specs.Names.{Scope, entity_of, lookup, enter, in_loop, typed, flag_of}
 use Rattle.os_ast.specs.Notes.Clauses.{part_notes, parts_notes, window_notes, shape_of, in_task_body}
 use Rattle.os_ast.specs.Notes.Declarators.{declarator_notes, declarators_notes, after_declarator, after_start, start_notes, sized_notes, size_notes, constant_of, is_window}
 use Rattle.os_ast.specs.Notes.Expressions.{expr_notes, place_notes, args_notes, links_notes, value_notes, index_notes, change_notes, step_notes, count_args}
 use Rattle.os_ast.specs.Notes.Kinds.{Note, Used, Sized, Declared, Given, Global, Left, Returned, Pragma, Task, Listed}
-use Rattle.os_ast.specs.Notes.Programs.{params_notes, after_param, param_names, item_notes, items_notes, after_item, in_function, in_body, program_notes, file}
+use Rattle.os_ast.specs.Notes.Programs.{params_notes, after_param, param_list, item_notes, items_notes, after_item, in_function, in_body, program_notes, file}
 use Rattle.os_ast.specs.Notes.Statements.{stmt_notes, stmts_notes, after_stmt}
 use Rattle.os_ast.specs.Operators.{assign_mark, step_mark}
 use Rattle.os_ast.specs.Parts.{Part, Item, Private, parts, parts_of, part_name, count_items, target_name}
@@ -46,7 +49,7 @@ abbrev pub name_mark : Note → List Mark
 name_mark (Used s n u) = n.mark ∷ []
 name_mark (Sized s n) = n.mark ∷ []
 name_mark (Declared s d) = d.name.mark ∷ []
-name_mark (Given s n) = n.mark ∷ []
+name_mark (Given s p) = p.name.mark ∷ []
 name_mark _ = []
 
 abbrev pub name_marks : List Note → List Mark
@@ -129,6 +132,7 @@ used s n u lo rest h a = with_name (Used s n u) n.mark refl h (silent (suc lo) r
 mutual
   in-expr : (s : Scope) (e : tree.ExprTree) (lo : ℕ) (rest : List Symbol) → HasFrom lo (spelling.expr e rest) → Passed lo (expr_notes s e) rest
   in-expr s (tree.Number n) lo rest h = opened (silent (suc lo) rest h)
+  in-expr s (tree.Wide n) lo rest h = opened (silent (suc lo) rest h)
   in-expr s (tree.Place t) lo rest h = in-place s role.Value t lo rest h
   in-expr s (tree.ExprTree.Call f es) lo rest h =
       closed (with_name (Used s f (usage.Called (count_args es))) f.mark refl h.0 (opened (in-args s es (suc (suc lo)) (spelling.punct puncts.CloseParen rest) h.1)))
@@ -199,6 +203,7 @@ in-size_name : (s : Scope) (e : tree.ExprTree) (lo : ℕ) (rest : List Symbol) �
 in-size_name s (tree.Place (tree.Variable n)) lo rest h = with_name (Sized s n) n.mark refl h.0 (silent (suc lo) rest h.1)
 in-size_name s (tree.Place (tree.Element n m e)) lo rest h = unnamed (in-expr s (tree.Place (tree.Element n m e)) lo rest h)
 in-size_name s (tree.Number n) lo rest h = unnamed (in-expr s (tree.Number n) lo rest h)
+in-size_name s (tree.Wide n) lo rest h = unnamed (in-expr s (tree.Wide n) lo rest h)
 in-size_name s (tree.ExprTree.Call f es) lo rest h = unnamed (in-expr s (tree.ExprTree.Call f es) lo rest h)
 in-size_name s (tree.Paren e) lo rest h = unnamed (in-expr s (tree.Paren e) lo rest h)
 in-size_name s (tree.Unary op m e) lo rest h = unnamed (in-expr s (tree.Unary op m e) lo rest h)
@@ -237,12 +242,19 @@ in-listed s (d ∷ ds) lo rest h =
     let one = in-declarator s d lo _ h in
     both one (in-declarators (after_declarator s d) ds one.to rest one.after)
 
-in-declare : (s : Scope) (ds : List tree.DeclaratorTree) (lo : ℕ) (rest : List Symbol) → HasFrom lo (spelling.declare ds rest) → Passed lo (declarators_notes s ds) rest
-in-declare s ds lo rest h = opened (closed (in-listed s ds (suc lo) (spelling.punct puncts.Semicolon rest) h))
+-- the words of a type before a part
+behind_type : (t : Ty) {lo : ℕ} {ns : List Note} (ps : List Symbol) {rest : List Symbol} → HasFrom lo (spelling.type_words t ps) →
+    ((mid : ℕ) → HasFrom mid ps → Passed mid ns rest) → Passed lo ns rest
+behind_type ty_of.Int {lo} ps h k = opened (k (suc lo) h)
+behind_type ty_of.Unsigned {lo} ps h k = opened (k (suc lo) h)
+behind_type ty_of.UnsignedInt {lo} ps h k = opened (opened (k (suc (suc lo)) h))
+
+in-declare : (s : Scope) (t : Ty) (ds : List tree.DeclaratorTree) (lo : ℕ) (rest : List Symbol) → HasFrom lo (spelling.declare t ds rest) → Passed lo (declarators_notes s ds) rest
+in-declare s t ds lo rest h = behind_type t _ h (λ mid g. closed (in-listed s ds mid (spelling.punct puncts.Semicolon rest) g))
 
 in-start : (s : Scope) (st : tree.StartTree) (lo : ℕ) (rest : List Symbol) → HasFrom lo (spelling.start st rest) → Passed lo (start_notes s st) rest
 in-start s tree.StartTree.Empty lo rest h = opened (silent (suc lo) rest h)
-in-start s (tree.StartTree.Declare ds) lo rest h = in-declare s ds lo rest h
+in-start s (tree.StartTree.Declare t ds) lo rest h = in-declare (typed t s) t ds lo rest h
 in-start s (tree.StartTree.Change c) lo rest h = closed (in-change s c lo (spelling.punct puncts.Semicolon rest) h)
 
 -- the parts of clauses
@@ -332,7 +344,7 @@ mutual
   in-stmt : (s : Scope) (a : tree.StmtTree) (lo : ℕ) (rest : List Symbol) → HasFrom lo (spelling.stmt a rest) → Passed lo (stmt_notes s a) rest
   in-stmt s tree.StmtTree.Empty lo rest h = opened (silent (suc lo) rest h)
   in-stmt s (tree.Block ss) lo rest h = opened (closed (in-stmts (enter s) ss (suc lo) (spelling.punct puncts.CloseBrace rest) h))
-  in-stmt s (tree.StmtTree.Declare ds) lo rest h = in-declare s ds lo rest h
+  in-stmt s (tree.StmtTree.Declare t ds) lo rest h = in-declare (typed t s) t ds lo rest h
   in-stmt s (tree.StmtTree.Change c) lo rest h = closed (in-change s c lo (spelling.punct puncts.Semicolon rest) h)
   in-stmt s (tree.StmtTree.Call f es) lo rest h = closed (in-expr s (tree.ExprTree.Call f es) lo (spelling.punct puncts.Semicolon rest) h)
   in-stmt s (tree.If c a) lo rest h =
@@ -378,30 +390,36 @@ mutual
       both one (in-stmts (after_stmt s a) ss one.to rest one.after)
 
 -- functions and programs
-in-params : (s : Scope) (ns : List Name) (lo : ℕ) (rest : List Symbol) →
-    HasFrom lo (spelling.each (λ n. spelling.punct puncts.Comma ⨾ (spelling.key keys.Int ⨾ spelling.name n)) ns rest) → Passed lo (params_notes s ns) rest
+in-params : (s : Scope) (ns : List Param) (lo : ℕ) (rest : List Symbol) →
+    HasFrom lo (spelling.each (λ p. spelling.punct puncts.Comma ⨾ spelling.param p) ns rest) → Passed lo (params_notes s ns) rest
 in-params s [] lo rest h = silent lo rest h
-in-params s (n ∷ ns) lo rest h = opened (opened (with_name (Given s n) n.mark refl h.0 (in-params (after_param s n) ns (suc (suc (suc lo))) rest h.1)))
+in-params s (p ∷ ps) lo rest h =
+    opened (behind_type p.ty _ h (λ mid g. with_name (Given s p) p.name.mark refl g.0 (in-params (after_param s p) ps (suc mid) rest g.1)))
 
-in-param_list : (s : Scope) (ps : Params) (lo : ℕ) (rest : List Symbol) → HasFrom lo (spelling.params ps rest) → Passed lo (params_notes s (param_names ps)) rest
+in-param_list : (s : Scope) (ps : Params) (lo : ℕ) (rest : List Symbol) → HasFrom lo (spelling.params ps rest) → Passed lo (params_notes s (param_list ps)) rest
 in-param_list s params_of.Empty lo rest h = silent lo rest h
 in-param_list s params_of.Void lo rest h = opened (silent (suc lo) rest h)
 in-param_list s (params_of.Names []) lo rest h = silent lo rest h
-in-param_list s (params_of.Names (n ∷ ns)) lo rest h = opened (with_name (Given s n) n.mark refl h.0 (in-params (after_param s n) ns (suc (suc lo)) rest h.1))
+in-param_list s (params_of.Names (p ∷ ps)) lo rest h =
+    behind_type p.ty _ h (λ mid g. with_name (Given s p) p.name.mark refl g.0 (in-params (after_param s p) ps (suc mid) rest g.1))
 
 in-sign : (minus : Bool) (lo : ℕ) (rest : List Symbol) → HasFrom lo (spelling.sign minus rest) → Passed lo [] rest
 in-sign false lo rest h = silent lo rest h
 in-sign true lo rest h = opened (silent (suc lo) rest h)
 
+closed_number : (wide : Bool) (size : ℕ) {lo : ℕ} {ns : List Note} {rest : List Symbol} → Passed lo ns (spelling.numeral wide size rest) → Passed lo ns rest
+closed_number false size p = closed p
+closed_number true size p = closed p
+
 in-programs_item : (s : Scope) (i : tree.ItemTree) (lo : ℕ) (rest : List Symbol) → HasFrom lo (spelling.item i rest) → Passed lo (item_notes s i) rest
 in-programs_item s (tree.Constant c) lo rest h =
-    let number = spelling.number c.size (spelling.punct puncts.Semicolon rest) in
-    let named = quiet (Global s c.name) refl (opened (opened (opened (closed (silent (suc (suc (suc lo))) (spelling.punct puncts.Set (spelling.sign c.minus number)) h.1))))) in
-    closed (closed (silently named (in-sign c.minus named.to number named.after)))
+    let number = spelling.numeral c.wide c.size (spelling.punct puncts.Semicolon rest) in
+    let named = quiet (Global s c.name) refl (opened (behind_type c.ty _ h (λ mid g. opened (closed (silent (suc mid) (spelling.punct puncts.Set (spelling.sign c.minus number)) g.1))))) in
+    closed (closed_number c.wide c.size (silently named (in-sign c.minus named.to number named.after)))
 in-programs_item s (tree.Function f) lo rest h =
     let body = spelling.stmts f.body (spelling.punct puncts.CloseBrace rest) in
     let behind = spelling.punct puncts.CloseParen (spelling.punct puncts.OpenBrace body) in
-    let one = opened (opened (opened (closed (closed (in-param_list (in_function s f.name.id) f.params (suc (suc (suc lo))) behind h.1))))) in
+    let one = behind_type f.ty _ h (λ mid g. opened (opened (closed (closed (in-param_list (in_function s f.name.id) f.params (suc (suc mid)) behind g.1))))) in
     let two = quiet (Global s f.name) refl one in
     closed (both two (in-stmts (in_body s f) f.body two.to (spelling.punct puncts.CloseBrace rest) two.after))
 
@@ -422,17 +440,17 @@ below_next place [] hi a = tt
 below_next place (Used s n u ∷ ns) hi a =
     below_found (entity_of (lookup s.entries n.id)) (below_next place ns hi (ascend-lower (suc place) (suc n.mark.place) (name_marks ns) hi (omega (arith, a.0)) a.1)) (below_next n.mark.place ns hi a.1)
   where
-    below_found : (d : Option Entity) → IsBelowNext place (resolutions ns) → IsBelowNext n.mark.place (resolutions ns) → IsBelowNext place (declared_meaning n.mark s.owner s.captured d ++ resolutions ns)
+    below_found : (d : Option Entity) → IsBelowNext place (resolutions ns) → IsBelowNext n.mark.place (resolutions ns) → IsBelowNext place (declared_meaning n.mark (flag_of (lookup s.entries n.id)) s.owner s.captured d ++ resolutions ns)
     below_found None h k = h
     below_found (Some e) h k = (omega (arith, a.0), k)
 below_next place (Sized s n ∷ ns) hi a =
     below_found (constant_of (entity_of (lookup s.entries n.id))) (below_next place ns hi (ascend-lower (suc place) (suc n.mark.place) (name_marks ns) hi (omega (arith, a.0)) a.1)) (below_next n.mark.place ns hi a.1)
   where
-    below_found : (v : Option ℤ) → IsBelowNext place (resolutions ns) → IsBelowNext n.mark.place (resolutions ns) → IsBelowNext place (constant_meaning n.mark v ++ resolutions ns)
+    below_found : (v : Option ℤ) → IsBelowNext place (resolutions ns) → IsBelowNext n.mark.place (resolutions ns) → IsBelowNext place (constant_meaning n.mark (flag_of (lookup s.entries n.id)) v ++ resolutions ns)
     below_found None h k = h
     below_found (Some v) h k = (omega (arith, a.0), k)
 below_next place (Declared s d ∷ ns) hi a = (omega (arith, a.0), below_next d.name.mark.place ns hi a.1)
-below_next place (Given s n ∷ ns) hi a = (omega (arith, a.0), below_next n.mark.place ns hi a.1)
+below_next place (Given s p ∷ ns) hi a = (omega (arith, a.0), below_next p.name.mark.place ns hi a.1)
 below_next place (Global s n ∷ ns) hi a = below_next place ns hi a
 below_next place (Left s m ∷ ns) hi a = below_next place ns hi a
 below_next place (Returned s m ∷ ns) hi a = below_next place ns hi a
@@ -444,16 +462,16 @@ in_order : (lo : ℕ) (ns : List Note) (hi : ℕ) → Ascend lo (name_marks ns) 
 in_order lo [] hi a = tt
 in_order lo (Used s n u ∷ ns) hi a = order_found (entity_of (lookup s.entries n.id)) (in_order (suc n.mark.place) ns hi a.1)
   where
-    order_found : (d : Option Entity) → InOrder (resolutions ns) → InOrder (declared_meaning n.mark s.owner s.captured d ++ resolutions ns)
+    order_found : (d : Option Entity) → InOrder (resolutions ns) → InOrder (declared_meaning n.mark (flag_of (lookup s.entries n.id)) s.owner s.captured d ++ resolutions ns)
     order_found None h = h
     order_found (Some e) h = below_next n.mark.place ns hi a.1
 in_order lo (Sized s n ∷ ns) hi a = order_found (constant_of (entity_of (lookup s.entries n.id))) (in_order (suc n.mark.place) ns hi a.1)
   where
-    order_found : (v : Option ℤ) → InOrder (resolutions ns) → InOrder (constant_meaning n.mark v ++ resolutions ns)
+    order_found : (v : Option ℤ) → InOrder (resolutions ns) → InOrder (constant_meaning n.mark (flag_of (lookup s.entries n.id)) v ++ resolutions ns)
     order_found None h = h
     order_found (Some v) h = below_next n.mark.place ns hi a.1
 in_order lo (Declared s d ∷ ns) hi a = below_next d.name.mark.place ns hi a.1
-in_order lo (Given s n ∷ ns) hi a = below_next n.mark.place ns hi a.1
+in_order lo (Given s p ∷ ns) hi a = below_next p.name.mark.place ns hi a.1
 in_order lo (Global s n ∷ ns) hi a = in_order lo ns hi a
 in_order lo (Left s m ∷ ns) hi a = in_order lo ns hi a
 in_order lo (Returned s m ∷ ns) hi a = in_order lo ns hi a

@@ -1,12 +1,15 @@
 -- Every token that is noted is one whose mark the tree keeps.
 use Rattle.std.proofs.Common.{ℕ, List, [], ◌∷◌, ◌++◌, map, Option, Some, None, Bool, true, false, not, ◌&&◌, if◌then◌else◌}
 use Rattle.std.specs.Prelude.{⊤}
-use Rattle.os_ast.specs.Names.{Scope, enter, in_loop}
+use Rattle.os_ast.specs.declared.ty.Ty.TheVariants as ty_of
+use Rattle.os_ast.specs.declared.ty.Ty.{Ty}
+use Rattle.os_ast.specs.declared.program.Param.{Param}
+use Rattle.os_ast.specs.Names.{Scope, enter, in_loop, typed}
 use Rattle.os_ast.specs.Notes.Clauses.{part_notes, parts_notes, window_notes, clauses_notes, in_task_body}
 use Rattle.os_ast.specs.Notes.Declarators.{declarator_notes, declarators_notes, after_declarator, after_start, start_notes, sized_notes, size_notes, is_window}
 use Rattle.os_ast.specs.Notes.Expressions.{expr_notes, place_notes, args_notes, links_notes, value_notes, index_notes, change_notes, step_notes}
 use Rattle.os_ast.specs.Notes.Kinds.{Note, mark_of}
-use Rattle.os_ast.specs.Notes.Programs.{params_notes, after_param, param_names, item_notes, items_notes, after_item, in_function, in_body}
+use Rattle.os_ast.specs.Notes.Programs.{params_notes, after_param, param_list, item_notes, items_notes, after_item, in_function, in_body}
 use Rattle.os_ast.specs.Notes.Statements.{stmt_notes, stmts_notes, after_stmt}
 use Rattle.os_ast.specs.Parts.{Part, Item, Private, parts, parts_of, part_name, target_name}
 use Rattle.os_ast.specs.Spelling as spelling
@@ -20,7 +23,6 @@ use Rattle.os_ast.specs.declared.names.Role.{Role}
 use Rattle.os_ast.specs.declared.names.Role.TheVariants as role
 use Rattle.os_ast.specs.declared.program.Params.{Params}
 use Rattle.os_ast.specs.declared.program.Params.TheVariants as params_of
-use Rattle.os_lexer.specs.declared.token.Key.TheVariants as keys
 use Rattle.os_lexer.specs.declared.token.Punct.{Punct}
 use Rattle.os_lexer.specs.declared.token.Punct.TheVariants as puncts
 
@@ -42,6 +44,7 @@ of-append P (n ∷ xs) ys a b = (a.0, of-append P xs ys a.1 b)
 mutual
   of-expr : (P : Mark → Type 0) (s : Scope) (e : tree.ExprTree) (rest : List Symbol) → HasKept P (spelling.expr e rest) → AreOf P (expr_notes s e) × HasKept P rest
   of-expr P s (tree.Number n) rest h = (tt, h)
+  of-expr P s (tree.Wide n) rest h = (tt, h)
   of-expr P s (tree.Place t) rest h = of-place P s role.Value t rest h
   of-expr P s (tree.ExprTree.Call f es) rest h = let more = of-args P s es _ h.1 in ((h.0, more.0), more.1)
   of-expr P s (tree.Paren e) rest h = of-expr P s e _ h
@@ -109,6 +112,7 @@ of-size_name : (P : Mark → Type 0) (s : Scope) (e : tree.ExprTree) (rest : Lis
 of-size_name P s (tree.Place (tree.Variable n)) rest h = (h.0, tt)
 of-size_name P s (tree.Place (tree.Element n m e)) rest h = tt
 of-size_name P s (tree.Number n) rest h = tt
+of-size_name P s (tree.Wide n) rest h = tt
 of-size_name P s (tree.ExprTree.Call f es) rest h = tt
 of-size_name P s (tree.Paren e) rest h = tt
 of-size_name P s (tree.Unary op m e) rest h = tt
@@ -147,9 +151,14 @@ of-listed P s (d ∷ ds) rest h =
     let more = of-declarators P (after_declarator s d) ds rest one.1 in
     (of-append P (declarator_notes s d) (declarators_notes (after_declarator s d) ds) one.0 more.0, more.1)
 
+of-type : (P : Mark → Type 0) (t : Ty) (rest : List Symbol) → HasKept P (spelling.type_words t rest) → HasKept P rest
+of-type P ty_of.Int rest h = h
+of-type P ty_of.Unsigned rest h = h
+of-type P ty_of.UnsignedInt rest h = h
+
 of-start : (P : Mark → Type 0) (s : Scope) (st : tree.StartTree) (rest : List Symbol) → HasKept P (spelling.start st rest) → AreOf P (start_notes s st) × HasKept P rest
 of-start P s tree.StartTree.Empty rest h = (tt, h)
-of-start P s (tree.StartTree.Declare ds) rest h = of-listed P s ds _ h
+of-start P s (tree.StartTree.Declare t ds) rest h = of-listed P (typed t s) ds _ (of-type P t _ h)
 of-start P s (tree.StartTree.Change c) rest h = of-change P s c _ h
 
 -- the parts of clauses
@@ -234,7 +243,7 @@ mutual
   of-stmt : (P : Mark → Type 0) (s : Scope) (a : tree.StmtTree) (rest : List Symbol) → HasKept P (spelling.stmt a rest) → AreOf P (stmt_notes s a) × HasKept P rest
   of-stmt P s tree.StmtTree.Empty rest h = (tt, h)
   of-stmt P s (tree.Block ss) rest h = of-stmts P (enter s) ss _ h
-  of-stmt P s (tree.StmtTree.Declare ds) rest h = of-listed P s ds _ h
+  of-stmt P s (tree.StmtTree.Declare t ds) rest h = of-listed P (typed t s) ds _ (of-type P t _ h)
   of-stmt P s (tree.StmtTree.Change c) rest h = of-change P s c _ h
   of-stmt P s (tree.StmtTree.Call f es) rest h = of-expr P s (tree.ExprTree.Call f es) _ h
   of-stmt P s (tree.If c a) rest h =
@@ -283,31 +292,38 @@ mutual
       (of-append P (stmt_notes s a) (stmts_notes (after_stmt s a) ss) one.0 more.0, more.1)
 
 -- functions and programs
-of-params : (P : Mark → Type 0) (s : Scope) (ns : List Name) (rest : List Symbol) →
-    HasKept P (spelling.each (λ n. spelling.punct puncts.Comma ⨾ (spelling.key keys.Int ⨾ spelling.name n)) ns rest) → AreOf P (params_notes s ns) × HasKept P rest
+of-params : (P : Mark → Type 0) (s : Scope) (ns : List Param) (rest : List Symbol) →
+    HasKept P (spelling.each (λ p. spelling.punct puncts.Comma ⨾ spelling.param p) ns rest) → AreOf P (params_notes s ns) × HasKept P rest
 of-params P s [] rest h = (tt, h)
-of-params P s (n ∷ ns) rest h =
-    let more = of-params P (after_param s n) ns rest h.1 in
-    ((h.0, more.0), more.1)
+of-params P s (p ∷ ps) rest h =
+    let name = of-type P p.ty _ h in
+    let more = of-params P (after_param s p) ps rest name.1 in
+    ((name.0, more.0), more.1)
 
-of-param_list : (P : Mark → Type 0) (s : Scope) (ps : Params) (rest : List Symbol) → HasKept P (spelling.params ps rest) → AreOf P (params_notes s (param_names ps)) × HasKept P rest
+of-param_list : (P : Mark → Type 0) (s : Scope) (ps : Params) (rest : List Symbol) → HasKept P (spelling.params ps rest) → AreOf P (params_notes s (param_list ps)) × HasKept P rest
 of-param_list P s params_of.Empty rest h = (tt, h)
 of-param_list P s params_of.Void rest h = (tt, h)
 of-param_list P s (params_of.Names []) rest h = (tt, h)
-of-param_list P s (params_of.Names (n ∷ ns)) rest h =
-    let more = of-params P (after_param s n) ns rest h.1 in
-    ((h.0, more.0), more.1)
+of-param_list P s (params_of.Names (p ∷ ps)) rest h =
+    let name = of-type P p.ty _ h in
+    let more = of-params P (after_param s p) ps rest name.1 in
+    ((name.0, more.0), more.1)
 
 of-sign : (P : Mark → Type 0) (minus : Bool) (rest : List Symbol) → HasKept P (spelling.sign minus rest) → HasKept P rest
 of-sign P false rest h = h
 of-sign P true rest h = h
 
+of-numeral : (P : Mark → Type 0) (wide : Bool) (size : ℕ) (rest : List Symbol) → HasKept P (spelling.numeral wide size rest) → HasKept P rest
+of-numeral P false size rest h = h
+of-numeral P true size rest h = h
+
 of-programs_item : (P : Mark → Type 0) (s : Scope) (i : tree.ItemTree) (rest : List Symbol) → HasKept P (spelling.item i rest) → AreOf P (item_notes s i) × HasKept P rest
-of-programs_item P s (tree.Constant c) rest h = ((h.0, tt), of-sign P c.minus _ h.1)
+of-programs_item P s (tree.Constant c) rest h = let name = of-type P c.ty _ h in ((name.0, tt), of-numeral P c.wide c.size _ (of-sign P c.minus _ name.1))
 of-programs_item P s (tree.Function f) rest h =
-    let one = of-param_list P (in_function s f.name.id) f.params _ h.1 in
+    let name = of-type P f.ty _ h in
+    let one = of-param_list P (in_function s f.name.id) f.params _ name.1 in
     let two = of-stmts P (in_body s f) f.body _ one.1 in
-    ((h.0, of-append P (params_notes (in_function s f.name.id) (param_names f.params)) (stmts_notes (in_body s f) f.body) one.0 two.0), two.1)
+    ((name.0, of-append P (params_notes (in_function s f.name.id) (param_list f.params)) (stmts_notes (in_body s f) f.body) one.0 two.0), two.1)
 
 pub of-program : (P : Mark → Type 0) (s : Scope) (is : List tree.ItemTree) (rest : List Symbol) → HasKept P (spelling.each spelling.item is rest) → AreOf P (items_notes s is) × HasKept P rest
 of-program P s [] rest h = (tt, h)

@@ -1,14 +1,14 @@
 -- Slots of a body and streams of a program are never given back.
 use Rattle.std.proofs.Common.{◌≡◌, ◌≤◌, ℕ, suc, List, [], ◌∷◌, refl, ◌∙◌, arith}
+use Rattle.os_ast.specs.declared.program.Param.{Param}
 use Rattle.os_ast.specs.Captured.{captured, slots_of}
-use Rattle.os_ast.specs.Names.{Scope, declare, enter, in_loop, in_unit}
-use Rattle.os_ast.specs.Notes.Clauses.{with_items, in_task, in_task_body, captured_in, item_entity}
+use Rattle.os_ast.specs.Names.{Scope, declare, enter, in_loop, in_unit, typed, flagged}
+use Rattle.os_ast.specs.Notes.Clauses.{with_items, in_task, in_task_body, captured_in, item_entity, item_flag}
 use Rattle.os_ast.specs.Notes.Declarators.{form, taken, after_declarator, after_declarators, after_start}
-use Rattle.os_ast.specs.Notes.Programs.{in_body, in_function, after_param, after_params, after_item, after_items, round_body, owner_of, param_names}
+use Rattle.os_ast.specs.Notes.Programs.{in_body, in_function, after_param, after_params, after_item, after_items, round_body, owner_of, param_list}
 use Rattle.os_ast.specs.Notes.Statements.{after_stmt, after_stmts}
 use Rattle.os_ast.specs.Parts.{Part, Item, Private, parts, item_name}
 use Rattle.os_ast.specs.Trees as tree
-use Rattle.os_ast.specs.declared.expr.Name.{Name}
 use Rattle.os_ast.specs.declared.names.Form.{Form}
 use Rattle.os_ast.specs.declared.names.Form.TheVariants as form_of
 use Rattle.os_ast.specs.declared.names.Owner.{Owner}
@@ -27,14 +27,14 @@ rise_declarators s (d ∷ ds) = omega (arith, rise_taken s (form s d), rise_decl
 
 pub rise_start : (s : Scope) (t : tree.StartTree) → s.slots ≤ (after_start s t).slots
 rise_start s tree.StartTree.Empty = omega arith
-rise_start s (tree.StartTree.Declare ds) = rise_declarators s ds
+rise_start s (tree.StartTree.Declare t ds) = rise_declarators (typed t s) ds
 rise_start s (tree.StartTree.Change c) = omega arith
 
 mutual
   pub rise_stmt : (s : Scope) (a : tree.StmtTree) → s.slots ≤ (after_stmt s a).slots
   rise_stmt s tree.StmtTree.Empty = omega arith
   rise_stmt s (tree.Block ss) = rise_stmts (enter s) ss
-  rise_stmt s (tree.StmtTree.Declare ds) = rise_declarators s ds
+  rise_stmt s (tree.StmtTree.Declare t ds) = rise_declarators (typed t s) ds
   rise_stmt s (tree.StmtTree.Change c) = omega arith
   rise_stmt s (tree.StmtTree.Call f args) = omega arith
   rise_stmt s (tree.If c a) = rise_stmt s a
@@ -66,20 +66,20 @@ grow_declarators s (d ∷ ds) = omega (arith, grow_taken s (form s d), grow_decl
 
 pub grow_start : (s : Scope) (t : tree.StartTree) → s.streams ≤ (after_start s t).streams
 grow_start s tree.StartTree.Empty = omega arith
-grow_start s (tree.StartTree.Declare ds) = grow_declarators s ds
+grow_start s (tree.StartTree.Declare t ds) = grow_declarators (typed t s) ds
 grow_start s (tree.StartTree.Change c) = omega arith
 
 pub streams_items : (s inner : Scope) (n : ℕ) (ps : List Part) → (with_items s inner n ps).streams ≡ inner.streams
 streams_items s inner n [] = refl
 streams_items s inner n (Item d i ∷ ps) =
-    streams_items s (declare inner (item_name i.stream i.window).id (item_entity s n d i)) (suc n) ps
+    streams_items s (declare (flagged (item_flag s i) inner) (item_name i.stream i.window).id (item_entity s n d i)) (suc n) ps
 streams_items s inner n (Private p ∷ ps) = streams_items s inner n ps
 
 mutual
   pub grow_stmt : (s : Scope) (a : tree.StmtTree) → s.streams ≤ (after_stmt s a).streams
   grow_stmt s tree.StmtTree.Empty = omega arith
   grow_stmt s (tree.Block ss) = grow_stmts (enter s) ss
-  grow_stmt s (tree.StmtTree.Declare ds) = grow_declarators s ds
+  grow_stmt s (tree.StmtTree.Declare t ds) = grow_declarators (typed t s) ds
   grow_stmt s (tree.StmtTree.Change c) = omega arith
   grow_stmt s (tree.StmtTree.Call f args) = omega arith
   grow_stmt s (tree.If c a) = grow_stmt s a
@@ -99,7 +99,7 @@ mutual
   grow_stmts s tree.no_stmts = omega arith
   grow_stmts s (tree.stmt a rest) = omega (arith, grow_stmt s a, grow_stmts (after_stmt s a) rest)
 
-streams_params : (s : Scope) (ns : List Name) → (after_params s ns).streams ≡ s.streams
+streams_params : (s : Scope) (ns : List Param) → (after_params s ns).streams ≡ s.streams
 streams_params s [] = refl
 streams_params s (n ∷ ns) = streams_params (after_param s n) ns
 
@@ -112,7 +112,7 @@ streams_round owner.OfTask s = refl
 pub streams_in_body : (s : Scope) (f : tree.FunctionTree) → (in_body s f).streams ≡ s.streams
 streams_in_body s f =
     let o = owner_of f.name.id in
-    streams_params (in_function s f.name.id) (param_names f.params) ∙ streams_round o (enter (in_unit o s))
+    streams_params (in_function s f.name.id) (param_list f.params) ∙ streams_round o (enter (in_unit o s))
 
 pub grow_items : (s : Scope) (is : List tree.ItemTree) → s.streams ≤ (after_items s is).streams
 grow_items s [] = omega arith

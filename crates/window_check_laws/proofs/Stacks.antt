@@ -54,29 +54,29 @@ ordered_slot slots es e is h = record {
   outside = λ is. absurd (cc);
 }
 
-pub ordered_scalar : (o : Owner) (id depth slots : ℕ) (es : List Entry) → IsOrdered o slots es →
-    IsOrdered o (slots + 1) (record { id = id; depth = depth; entity = scalar_entity o slots } ∷ es)
-ordered_scalar owner.OfMain id depth slots es h = ordered_slot slots es (record { id = id; depth = depth; entity = entity.Control slots }) refl h
-ordered_scalar owner.OfFunction id depth slots es h =
-    ordered_other owner.OfFunction slots (slots + 1) es (record { id = id; depth = depth; entity = entity.Scalar slots }) refl (omega arith) h
-ordered_scalar owner.OfTask id depth slots es h =
-    ordered_other owner.OfTask slots (slots + 1) es (record { id = id; depth = depth; entity = entity.Scalar slots }) refl (omega arith) h
+pub ordered_scalar : (o : Owner) (id depth slots : ℕ) (u : Bool) (es : List Entry) → IsOrdered o slots es →
+    IsOrdered o (slots + 1) (record { id = id; depth = depth; entity = scalar_entity o slots; unsigned = u } ∷ es)
+ordered_scalar owner.OfMain id depth slots u es h = ordered_slot slots es (record { id = id; depth = depth; entity = entity.Control slots; unsigned = u }) refl h
+ordered_scalar owner.OfFunction id depth slots u es h =
+    ordered_other owner.OfFunction slots (slots + 1) es (record { id = id; depth = depth; entity = entity.Scalar slots; unsigned = u }) refl (omega arith) h
+ordered_scalar owner.OfTask id depth slots u es h =
+    ordered_other owner.OfTask slots (slots + 1) es (record { id = id; depth = depth; entity = entity.Scalar slots; unsigned = u }) refl (omega arith) h
 
 -- the scope behind a declarator of a form, as far as its order goes
 abbrev pub OrderedBehind : Scope → ℕ → Form → Type 0
-OrderedBehind s id f = IsOrdered s.owner (taken s f).slots (record { id = id; depth = s.depth; entity = form_entity s f } ∷ s.entries)
+OrderedBehind s id f = IsOrdered s.owner (taken s f).slots (record { id = id; depth = s.depth; entity = form_entity s f; unsigned = s.unsigned } ∷ s.entries)
 
 ordered_sized : (o : Owner) (s : Scope) (id : ℕ) (size : Option ℕ) → s.owner ≡ o → IsOrdered s.owner s.slots s.entries → OrderedBehind s id (sized_form o size)
 ordered_sized owner.OfMain s id size is h =
-    subst (λ (o : Owner). IsOrdered o (s.slots + 1) (record { id = id; depth = s.depth; entity = entity.Window s.slots } ∷ s.entries)) (sym is)
-    (ordered_slot s.slots s.entries (record { id = id; depth = s.depth; entity = entity.Window s.slots }) refl
+    subst (λ (o : Owner). IsOrdered o (s.slots + 1) (record { id = id; depth = s.depth; entity = entity.Window s.slots; unsigned = s.unsigned } ∷ s.entries)) (sym is)
+    (ordered_slot s.slots s.entries (record { id = id; depth = s.depth; entity = entity.Window s.slots; unsigned = s.unsigned }) refl
     (subst (λ (o : Owner). IsOrdered o s.slots s.entries) is h))
 ordered_sized owner.OfFunction s id size is h = ordered_other s.owner s.slots _ s.entries _ refl (omega arith) h
 ordered_sized owner.OfTask s id size is h = ordered_other s.owner s.slots _ s.entries _ refl (omega arith) h
 
 pub ordered_form : (s : Scope) (id : ℕ) (stream : Bool) (size : Option tree.IndexTree) → IsOrdered s.owner s.slots s.entries →
     OrderedBehind s id (form_with s stream size)
-ordered_form s id false None h = ordered_scalar s.owner id s.depth s.slots s.entries h
+ordered_form s id false None h = ordered_scalar s.owner id s.depth s.slots s.unsigned s.entries h
 ordered_form s id false (Some i) h = ordered_sized s.owner s id (size_of s i.value) refl h
 ordered_form s id true None h = ordered_other s.owner s.slots s.slots s.entries _ refl (omega arith) h
 ordered_form s id true (Some i) h = ordered_other s.owner s.slots s.slots s.entries _ refl (omega arith) h

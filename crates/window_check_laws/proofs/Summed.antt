@@ -1,19 +1,19 @@
 -- Slots are summed over the tree, and lie above one another in scope.
 use Rattle.std.proofs.Common.{◌≡◌, ◌≤◌, ◌+◌, ℕ, suc, length, Bool, true, false, List, [], ◌∷◌, ◌++◌, Option, Some, None, refl, ap, sym, subst, ◌∙◌, arith}
 use Rattle.std.specs.Prelude.{unwrap_or}
+use Rattle.os_ast.specs.declared.program.Param.{Param}
 use Rattle.os_ast.specs.Captured.{captured, slots_of}
 use Rattle.os_ast.specs.Leveled.{IsStmt, AreStmts}
-use Rattle.os_ast.specs.Names.{Scope, declare, enter, in_loop, in_unit}
-use Rattle.os_ast.specs.Notes.Clauses.{captured_in, in_task, in_task_body, item_entity, with_items}
+use Rattle.os_ast.specs.Names.{Scope, declare, enter, in_loop, in_unit, typed, flagged}
+use Rattle.os_ast.specs.Notes.Clauses.{captured_in, in_task, in_task_body, item_entity, with_items, item_flag}
 use Rattle.os_ast.specs.Notes.Declarators.{form, form_with, sized_form, size_of, taken, form_entity, declared_entity, scalar_entity, declarator_notes, declarators_notes, after_declarator, after_declarators, after_start, start_notes}
 use Rattle.os_ast.specs.Notes.Expressions.{expr_notes, value_notes, step_notes}
 use Rattle.os_ast.specs.Notes.Kinds.{Note, Used, Sized, Declared, Given, Global, Left, Returned, Pragma, Task, Listed}
-use Rattle.os_ast.specs.Notes.Programs.{after_param, after_params, in_body, in_function, owner_of, param_names, round_body}
+use Rattle.os_ast.specs.Notes.Programs.{after_param, after_params, in_body, in_function, owner_of, param_list, round_body}
 use Rattle.os_ast.specs.Notes.Statements.{after_stmt, after_stmts, stmt_notes, stmts_notes}
 use Rattle.os_ast.specs.Parts.{Item, Part, Private, item_name}
 use Rattle.os_ast.specs.Stacked.{Extent, Stacked, begins, ends}
 use Rattle.os_ast.specs.Trees as tree
-use Rattle.os_ast.specs.declared.expr.Name.{Name}
 use Rattle.os_ast.specs.declared.names.Entity.{Entity}
 use Rattle.os_ast.specs.declared.names.Entity.TheVariants as entity
 use Rattle.os_ast.specs.declared.names.Entry.{Entry}
@@ -77,14 +77,14 @@ summed-declarators size s (d ∷ ds) h =
 
 summed-start : (size : tree.ExprTree → ℕ) (s : Scope) (t : tree.StartTree) → HasSizes size (start_notes s t) → (after_start s t).slots ≡ s.slots + start_slots s.owner size t
 summed-start size s tree.StartTree.Empty h = omega arith
-summed-start size s (tree.StartTree.Declare ds) h = summed-declarators size s ds h
+summed-start size s (tree.StartTree.Declare t ds) h = summed-declarators size (typed t s) ds h
 summed-start size s (tree.StartTree.Change c) h = omega arith
 
 mutual
   pub summed-stmt : (size : tree.ExprTree → ℕ) (s : Scope) (a : tree.StmtTree) → HasSizes size (stmt_notes s a) → (after_stmt s a).slots ≡ s.slots + stmt_slots s.owner size a
   summed-stmt size s tree.StmtTree.Empty h = omega arith
   summed-stmt size s (tree.Block ss) h = summed-stmts size (enter s) ss h
-  summed-stmt size s (tree.StmtTree.Declare ds) h = summed-declarators size s ds h
+  summed-stmt size s (tree.StmtTree.Declare t ds) h = summed-declarators size (typed t s) ds h
   summed-stmt size s (tree.StmtTree.Change c) h = omega arith
   summed-stmt size s (tree.StmtTree.Call f args) h = omega arith
   summed-stmt size s (tree.If c a) h = summed-stmt size s a (sizes-rest size (expr_notes s c) (stmt_notes s a) h)
@@ -123,7 +123,7 @@ mutual
       omega (arith, one, two, same)
 
 -- A body begins behind its parameters, or behind what its task captures.
-slots-params : (s : Scope) (ns : List Name) → (after_params s ns).slots ≡ s.slots + length ns
+slots-params : (s : Scope) (ns : List Param) → (after_params s ns).slots ≡ s.slots + length ns
 slots-params s [] = omega arith
 slots-params s (n ∷ ns) = omega (arith, slots-params (after_param s n) ns)
 
@@ -132,15 +132,15 @@ slots-round owner.OfMain s = refl
 slots-round owner.OfFunction s = refl
 slots-round owner.OfTask s = refl
 
-pub slots-in_body : (s : Scope) (f : tree.FunctionTree) → (in_body s f).slots ≡ slots_round (owner_of f.name.id) + length (param_names f.params)
+pub slots-in_body : (s : Scope) (f : tree.FunctionTree) → (in_body s f).slots ≡ slots_round (owner_of f.name.id) + length (param_list f.params)
 slots-in_body s f =
     let round = slots-round (owner_of f.name.id) s in
-    let given = slots-params (in_function s f.name.id) (param_names f.params) in
+    let given = slots-params (in_function s f.name.id) (param_list f.params) in
     omega (arith, round, given)
 
 slots-items : (s inner : Scope) (n : ℕ) (ps : List Part) → (with_items s inner n ps).slots ≡ inner.slots
 slots-items s inner n [] = refl
-slots-items s inner n (Item d i ∷ ps) = slots-items s (declare inner (item_name i.stream i.window).id (item_entity s n d i)) (suc n) ps
+slots-items s inner n (Item d i ∷ ps) = slots-items s (declare (flagged (item_flag s i) inner) (item_name i.stream i.window).id (item_entity s n d i)) (suc n) ps
 slots-items s inner n (Private p ∷ ps) = slots-items s inner n ps
 
 pub slots-in_task : (s : Scope) (ps : List Part) (a : tree.StmtTree) →
@@ -165,14 +165,14 @@ stays_in (IsStmt.tick _ _) s = refl
 stays_in IsStmt.taskwait s = refl
 
 -- what is declared next lies above what is in scope
-pub stacked-scalar : (o : Owner) (id depth slots : ℕ) (es : List Entry) → Stacked (extent_in o) slots es →
-    Stacked (extent_in o) (slots + 1) (record { id = id; depth = depth; entity = scalar_entity o slots } ∷ es)
-stacked-scalar owner.OfMain id depth slots es h = (omega arith, h)
-stacked-scalar owner.OfFunction id depth slots es h = (omega arith, h)
-stacked-scalar owner.OfTask id depth slots es h = (omega arith, h)
+pub stacked-scalar : (o : Owner) (id depth slots : ℕ) (u : Bool) (es : List Entry) → Stacked (extent_in o) slots es →
+    Stacked (extent_in o) (slots + 1) (record { id = id; depth = depth; entity = scalar_entity o slots; unsigned = u } ∷ es)
+stacked-scalar owner.OfMain id depth slots u es h = (omega arith, h)
+stacked-scalar owner.OfFunction id depth slots u es h = (omega arith, h)
+stacked-scalar owner.OfTask id depth slots u es h = (omega arith, h)
 
 abbrev StackedBehind : Owner → Scope → ℕ → Form → Type 0
-StackedBehind o s id f = Stacked (extent_in o) (taken s f).slots (record { id = id; depth = (taken s f).depth; entity = form_entity s f } ∷ s.entries)
+StackedBehind o s id f = Stacked (extent_in o) (taken s f).slots (record { id = id; depth = (taken s f).depth; entity = form_entity s f; unsigned = (taken s f).unsigned } ∷ s.entries)
 
 stacked-sized : (o : Owner) (s : Scope) (id : ℕ) (v : Option ℕ) → Stacked (extent_in o) s.slots s.entries → StackedBehind o s id (sized_form o v)
 stacked-sized owner.OfMain s id v h = (omega arith, h)
@@ -189,21 +189,21 @@ no-extents owner.OfMain n k = refl
 no-extents owner.OfFunction n k = refl
 no-extents owner.OfTask n k = refl
 
-pub stacked-none : (o : Owner) (top id depth : ℕ) (e : Entity) (es : List Entry) → extent_in o e ≡ None → Stacked (extent_in o) top es →
-    Stacked (extent_in o) top (record { id = id; depth = depth; entity = e } ∷ es)
-stacked-none o top id depth e es none h =
+pub stacked-none : (o : Owner) (top id depth : ℕ) (e : Entity) (u : Bool) (es : List Entry) → extent_in o e ≡ None → Stacked (extent_in o) top es →
+    Stacked (extent_in o) top (record { id = id; depth = depth; entity = e; unsigned = u } ∷ es)
+stacked-none o top id depth e u es none h =
     subst (λ (x : Option Extent). (ends x top ≤ top) × Stacked (extent_in o) (begins x top) es) (sym none) (omega arith, h)
 
 stacked-form : (s : Scope) (id : ℕ) (stream : Bool) (i : Option tree.IndexTree) → Stacked (extent_in s.owner) s.slots s.entries → StackedBehind s.owner s id (form_with s stream i)
-stacked-form s id false None h = stacked-scalar s.owner id s.depth s.slots s.entries h
+stacked-form s id false None h = stacked-scalar s.owner id s.depth s.slots s.unsigned s.entries h
 stacked-form s id false (Some i) h = stacked-sized s.owner s id (size_of s i.value) h
-stacked-form s id true None h = stacked-none s.owner s.slots id s.depth (entity.Stream (2 + s.streams)) s.entries (no-extent s.owner (2 + s.streams)) h
-stacked-form s id true (Some i) h = stacked-none s.owner s.slots id s.depth (form_entity s (form_with s true (Some i))) s.entries (no-extents s.owner (2 + s.streams) (unwrap_or (size_of s i.value) 0)) h
+stacked-form s id true None h = stacked-none s.owner s.slots id s.depth (entity.Stream (2 + s.streams)) s.unsigned s.entries (no-extent s.owner (2 + s.streams)) h
+stacked-form s id true (Some i) h = stacked-none s.owner s.slots id s.depth (form_entity s (form_with s true (Some i))) s.unsigned s.entries (no-extents s.owner (2 + s.streams) (unwrap_or (size_of s i.value) 0)) h
 
 pub stacked-declarator : (s : Scope) (d : tree.DeclaratorTree) → Stacked (extent_in s.owner) s.slots s.entries →
     Stacked (extent_in s.owner) (after_declarator s d).slots (after_declarator s d).entries
 stacked-declarator s d h =
-    subst (λ (es : List Entry). Stacked (extent_in s.owner) (taken s (form s d)).slots (record { id = d.name.id; depth = (taken s (form s d)).depth; entity = declared_entity s d } ∷ es))
+    subst (λ (es : List Entry). Stacked (extent_in s.owner) (taken s (form s d)).slots (record { id = d.name.id; depth = (taken s (form s d)).depth; entity = declared_entity s d; unsigned = (taken s (form s d)).unsigned } ∷ es))
     (sym (taken-entries s (form s d))) (stacked-form s d.name.id d.stream d.size h)
   where
     taken-entries : (s : Scope) (f : Form) → (taken s f).entries ≡ s.entries
@@ -232,8 +232,9 @@ stacked-stmt {a = a} is s h =
 pub stacked-stmts : {ss : tree.Stmts} → AreStmts ss → (s : Scope) → Stacked (extent_in s.owner) s.slots s.entries →
     Stacked (extent_in s.owner) (after_stmts s ss).slots (after_stmts s ss).entries
 stacked-stmts AreStmts.no_stmts s h = h
-stacked-stmts (AreStmts.declare {ds = ds} {ss = ss} _ rest) s h =
-    moved s (after_declarators s ds) ss (owner_stmt s (tree.StmtTree.Declare ds)) (stacked-declarators s ds h) (λ k. stacked-stmts rest (after_declarators s ds) k)
+stacked-stmts (AreStmts.declare {t = t} {ds = ds} {ss = ss} _ rest) s h =
+    let after = after_declarators (typed t s) ds in
+    moved s after ss (owner_stmt s (tree.StmtTree.Declare t ds)) (stacked-declarators (typed t s) ds h) (λ k. stacked-stmts rest after k)
   where
     moved : (s after : Scope) (ss : tree.Stmts) → after.owner ≡ s.owner → Stacked (extent_in s.owner) after.slots after.entries →
         (Stacked (extent_in after.owner) after.slots after.entries → Stacked (extent_in after.owner) (after_stmts after ss).slots (after_stmts after ss).entries) →

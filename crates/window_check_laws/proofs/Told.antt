@@ -2,7 +2,7 @@
 use Rattle.std.proofs.Common.{◌≡◌, ◌<◌, ℕ, zero, suc, Bool, true, false, List, [], ◌∷◌, ◌++◌, Option, Some, None, refl, ap, sym, subst, ◌∙◌, Contains, arith}
 use Rattle.std.specs.Prelude.{is_none}
 use Rattle.os_ast.specs.Meanings.{meaning_in, resolved}
-use Rattle.os_ast.specs.Names.{Scope, lookup, entity_of}
+use Rattle.os_ast.specs.Names.{Scope, lookup, entity_of, flag_of}
 use Rattle.os_ast.specs.Notes.Kinds.{Note, Used, mark_of}
 use Rattle.os_ast.specs.Notes.Programs.{program_notes}
 use Rattle.os_ast.specs.Rules.{Rule, rules, codes, codes_among, when}
@@ -55,13 +55,13 @@ tells-rest rs [] ys h = h
 tells-rest rs (x ∷ xs) ys h = tells-rest rs xs ys h.1
 
 -- what is said of a name that is declared
-told-by : (rs : List Resolved) (m : Mark) (s : Scope) (d : Option Entity) (e : Entity) → d ≡ Some e → AreIn rs (declared_meaning m s.owner s.captured d) →
-    Contains rs (resolved m.place (meaning_in s.owner s.captured e))
-told-by rs m s d e is h = (subst (λ (x : Option Entity). AreIn rs (declared_meaning m s.owner s.captured x)) is h).0
+told-by : (rs : List Resolved) (m : Mark) (b : Bool) (s : Scope) (d : Option Entity) (e : Entity) → d ≡ Some e → AreIn rs (declared_meaning m b s.owner s.captured d) →
+    Contains rs (resolved m.place (meaning_in s.owner s.captured e) b)
+told-by rs m b s d e is h = (subst (λ (x : Option Entity). AreIn rs (declared_meaning m b s.owner s.captured x)) is h).0
 
 pub told-use : (rs : List Resolved) (s : Scope) (n : Name) (u : Use) (e : Entity) → entity_of (lookup s.entries n.id) ≡ Some e →
-    Tells rs (Used s n u ∷ []) → Contains rs (resolved n.mark.place (meaning_in s.owner s.captured e))
-told-use rs s n u e is h = told-by rs n.mark s (entity_of (lookup s.entries n.id)) e is h.0
+    Tells rs (Used s n u ∷ []) → Contains rs (resolved n.mark.place (meaning_in s.owner s.captured e) (flag_of (lookup s.entries n.id)))
+told-use rs s n u e is h = told-by rs n.mark (flag_of (lookup s.entries n.id)) s (entity_of (lookup s.entries n.id)) e is h.0
 
 -- lawful parts
 pub lawful-first : (xs ys : List Note) → AreLawful (xs ++ ys) → AreLawful xs
@@ -110,29 +110,29 @@ pub declared-use : (s : Scope) (n : Name) (u : Use) → AreLawful (Used s n u �
 declared-use s n u h = declared-by (entity_of (lookup s.entries n.id)) h.0.0
 
 -- a place has one meaning
-below-all : (lo : ℕ) (rs : List Resolved) (q : ℕ) (w : What) → IsBelowNext lo rs → Contains rs (resolved q w) → lo < q
-below-all lo [] q w h (k, lt, e) = absurd (omega (arith, lt))
-below-all lo (r ∷ rs) q w h (zero, lt, e) =
+below-all : (lo : ℕ) (rs : List Resolved) (q : ℕ) (w : What) (b : Bool) → IsBelowNext lo rs → Contains rs (resolved q w b) → lo < q
+below-all lo [] q w b h (k, lt, e) = absurd (omega (arith, lt))
+below-all lo (r ∷ rs) q w b h (zero, lt, e) =
     let same : r.place ≡ q = ap (λ (x : Resolved). x.place) e in
     omega (arith, h.0, same)
-below-all lo (r ∷ rs) q w h (suc k, lt, e) =
-    let far : r.place < q = below-all r.place rs q w h.1 (k, omega (arith, lt), e) in
+below-all lo (r ∷ rs) q w b h (suc k, lt, e) =
+    let far : r.place < q = below-all r.place rs q w b h.1 (k, omega (arith, lt), e) in
     omega (arith, h.0, far)
 
 in-order-tail : (lo : ℕ) (rs : List Resolved) → IsBelowNext lo rs → InOrder rs
 in-order-tail lo [] h = tt
 in-order-tail lo (r ∷ rs) h = h.1
 
-pub one-meaning : (rs : List Resolved) (p : ℕ) (v w : What) → InOrder rs → Contains rs (resolved p v) → Contains rs (resolved p w) → v ≡ w
-one-meaning [] p v w o (k, lt, e) c = absurd (omega (arith, lt))
-one-meaning (r ∷ rs) p v w o (zero, _, e) (zero, _, f) = ap (λ (x : Resolved). x.what) (sym e ∙ f)
-one-meaning (r ∷ rs) p v w o (zero, _, e) (suc k, lt, f) =
+pub one-meaning : (rs : List Resolved) (p : ℕ) (v w : What) (a b : Bool) → InOrder rs → Contains rs (resolved p v a) → Contains rs (resolved p w b) → v ≡ w
+one-meaning [] p v w a b o (k, lt, e) c = absurd (omega (arith, lt))
+one-meaning (r ∷ rs) p v w a b o (zero, _, e) (zero, _, f) = ap (λ (x : Resolved). x.what) (sym e ∙ f)
+one-meaning (r ∷ rs) p v w a b o (zero, _, e) (suc k, lt, f) =
     let same : r.place ≡ p = ap (λ (x : Resolved). x.place) e in
-    let far : r.place < p = below-all r.place rs p w o (k, omega (arith, lt), f) in
+    let far : r.place < p = below-all r.place rs p w b o (k, omega (arith, lt), f) in
     absurd (omega (arith, same, far))
-one-meaning (r ∷ rs) p v w o (suc k, lt, e) (zero, _, f) =
+one-meaning (r ∷ rs) p v w a b o (suc k, lt, e) (zero, _, f) =
     let same : r.place ≡ p = ap (λ (x : Resolved). x.place) f in
-    let far : r.place < p = below-all r.place rs p v o (k, omega (arith, lt), e) in
+    let far : r.place < p = below-all r.place rs p v a o (k, omega (arith, lt), e) in
     absurd (omega (arith, same, far))
-one-meaning (r ∷ rs) p v w o (suc k, lt, e) (suc j, lk, f) =
-    one-meaning rs p v w (in-order-tail r.place rs o) (k, omega (arith, lt), e) (j, omega (arith, lk), f)
+one-meaning (r ∷ rs) p v w a b o (suc k, lt, e) (suc j, lk, f) =
+    one-meaning rs p v w a b (in-order-tail r.place rs o) (k, omega (arith, lt), e) (j, omega (arith, lk), f)

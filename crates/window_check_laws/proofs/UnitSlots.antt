@@ -4,12 +4,12 @@ use Rattle.std.proofs.Common.{◌≡◌, ◌≤◌, ℕ, ◌+◌, List, [], ◌�
 use Rattle.std.proofs.lemmas.List.{length-map}
 use Rattle.os_ast.specs.Captured.{captured, slots_of}
 use Rattle.os_ast.specs.Marks.{HasPlaces}
-use Rattle.os_ast.specs.Names.{Scope, enter, in_loop}
+use Rattle.os_ast.specs.Names.{Scope, enter, in_loop, typed}
 use Rattle.os_ast.specs.Notes.Clauses.{captured_in, clauses_notes, in_task, in_task_body}
 use Rattle.os_ast.specs.Notes.Declarators.{after_start, start_notes}
 use Rattle.os_ast.specs.Notes.Expressions.{expr_notes, step_notes, value_notes}
 use Rattle.os_ast.specs.Notes.Kinds.{Global, Note}
-use Rattle.os_ast.specs.Notes.Programs.{after_item, after_items, file, in_body, in_function, item_notes, items_notes, owner_of, param_names, params_notes}
+use Rattle.os_ast.specs.Notes.Programs.{after_item, after_items, file, in_body, in_function, item_notes, items_notes, owner_of, param_list, params_notes}
 use Rattle.os_ast.specs.Notes.Statements.{after_stmt, after_stmts, stmt_notes, stmts_notes}
 use Rattle.os_ast.specs.Parts.{parts}
 use Rattle.os_ast.specs.Spelling.{kind_of, symbols, spell}
@@ -66,7 +66,7 @@ mutual
   stmt-paid : (a : tree.StmtTree) (s : Scope) → RoomInMain s (stmt_weight a) → IsPaid s (after_stmt s a) (tasks_slots s a) (stmt_notes s a)
   stmt-paid tree.StmtTree.Empty s room = omega arith
   stmt-paid (tree.Block ss) s room = stmts-paid ss (enter s) (λ main. room_enter s (stmts_weight ss) (room main))
-  stmt-paid (tree.StmtTree.Declare ds) s room = omega (arith, declarators_paid ds s)
+  stmt-paid (tree.StmtTree.Declare t ds) s room = omega (arith, declarators_paid ds (typed t s))
   stmt-paid (tree.StmtTree.Change c) s room = omega arith
   stmt-paid (tree.StmtTree.Call f args) s room = omega arith
   stmt-paid (tree.If c a) s room =
@@ -171,7 +171,7 @@ items-paid (tree.Constant c ∷ is) s own room =
     )
 items-paid (tree.Function f ∷ is) s own room =
     let i = tree.Function f in
-    let ns = param_names f.params in
+    let ns = param_list f.params in
     let inside = in_body s f in
     let given = params_notes (in_function s f.name.id) ns in
     let front = Global s f.name ∷ given in

@@ -1,11 +1,14 @@
 -- What a program declares is little for its tokens: each makes room for 16,383.
-use Rattle.std.proofs.Common.{ap, refl, ◌≤◌, ◌+◌, ◌*◌, if◌then◌else◌, List, [], ◌∷◌, map, length, length-append, Option, Some, None, Bool, true, false, arith}
+use Rattle.std.proofs.Common.{ap, refl, ◌≤◌, ◌+◌, ◌*◌, if◌then◌else◌, List, [], ◌∷◌, map, length, length-append, Option, Some, None, Bool, true, false, arith, ℕ}
 use Rattle.std.specs.Prelude.{is_some}
 use Rattle.std.proofs.lemmas.List.{length-map}
+use Rattle.os_ast.specs.declared.ty.Ty.TheVariants as ty_of
+use Rattle.os_ast.specs.declared.ty.Ty.{Ty}
+use Rattle.os_ast.specs.declared.program.Param.{Param}
 use Rattle.os_ast.proofs.Prints.{prints_item}
 use Rattle.os_ast.specs.Limits.{size_limit}
 use Rattle.os_ast.specs.Parts.{Item, Private, parts, parts_of}
-use Rattle.os_ast.specs.Notes.Programs.{file, param_names}
+use Rattle.os_ast.specs.Notes.Programs.{file, param_list}
 use Rattle.os_ast.specs.Operators.{assign_mark, step_mark}
 use Rattle.os_ast.specs.Spelling as spelling
 use Rattle.os_ast.specs.Spelling.{Symbol, ◌⨾◌}
@@ -25,6 +28,7 @@ use Rattle.window_check_laws.specs.Room.{HasRoom, declarator_weight, declarators
 mutual
   long-expr : (e : tree.ExprTree) (rest : List Symbol) → 1 + length rest ≤ length (spelling.expr e rest)
   long-expr (tree.Number n) rest = omega arith
+  long-expr (tree.Wide n) rest = omega arith
   long-expr (tree.Place t) rest = long-target t rest
   long-expr (tree.ExprTree.Call f es) rest = omega (arith, long-args es (spelling.punct puncts.CloseParen rest))
   long-expr (tree.Paren e) rest = omega (arith, long-expr e (spelling.punct puncts.CloseParen rest))
@@ -105,9 +109,19 @@ long-listed (d ∷ ds) rest =
     let more = spelling.each (λ d. spelling.punct puncts.Comma ⨾ spelling.declarator d) ds rest in
     omega (arith, long-declarators ds rest, long-declarator d more)
 
+long-type : (t : Ty) (rest : List Symbol) → 1 + length rest ≤ length (spelling.type_words t rest)
+long-type ty_of.Int rest = omega arith
+long-type ty_of.Unsigned rest = omega arith
+long-type ty_of.UnsignedInt rest = omega arith
+
+long-declare : (t : Ty) (ds : List tree.DeclaratorTree) (rest : List Symbol) → declarators_weight ds + 16383 * length rest ≤ 16383 * length (spelling.declare t ds rest)
+long-declare t ds rest =
+    let last = spelling.punct puncts.Semicolon rest in
+    omega (arith, long-listed ds last, long-type t (spelling.listed spelling.declarator ds last))
+
 long-start : (s : tree.StartTree) (rest : List Symbol) → start_weight s + 16383 * length rest ≤ 16383 * length (spelling.start s rest)
 long-start tree.StartTree.Empty rest = omega arith
-long-start (tree.StartTree.Declare ds) rest = omega (arith, long-listed ds (spelling.punct puncts.Semicolon rest))
+long-start (tree.StartTree.Declare t ds) rest = omega (arith, long-declare t ds rest)
 long-start (tree.StartTree.Change c) rest = omega (arith, long-change c (spelling.punct puncts.Semicolon rest))
 
 long-join : (arrow : Punct) (j : Option tree.JoinTree) (rest : List Symbol) → length rest ≤ length (spelling.optional (spelling.join arrow) j rest)
@@ -164,7 +178,7 @@ mutual
   long-stmt : (a : tree.StmtTree) (rest : List Symbol) → stmt_weight a + 16383 * length rest ≤ 16383 * length (spelling.stmt a rest)
   long-stmt tree.StmtTree.Empty rest = omega arith
   long-stmt (tree.Block ss) rest = omega (arith, long-stmts ss (spelling.punct puncts.CloseBrace rest))
-  long-stmt (tree.StmtTree.Declare ds) rest = omega (arith, long-listed ds (spelling.punct puncts.Semicolon rest))
+  long-stmt (tree.StmtTree.Declare t ds) rest = omega (arith, long-declare t ds rest)
   long-stmt (tree.StmtTree.Change c) rest = omega (arith, long-change c (spelling.punct puncts.Semicolon rest))
   long-stmt (tree.StmtTree.Call f es) rest = omega (arith, long-args es (spelling.punct puncts.CloseParen (spelling.punct puncts.Semicolon rest)))
   long-stmt (tree.If c a) rest =
@@ -197,25 +211,38 @@ mutual
   long-stmts tree.no_stmts rest = omega arith
   long-stmts (tree.stmt a ss) rest = omega (arith, long-stmts ss rest, long-stmt a (spelling.stmts ss rest))
 
-long-more_params : (ns : List Name) (rest : List Symbol) → length ns + length rest ≤ length (spelling.each (λ n. spelling.punct puncts.Comma ⨾ (spelling.key keys.Int ⨾ spelling.name n)) ns rest)
+long-more_params : (ns : List Param) (rest : List Symbol) → length ns + length rest ≤ length (spelling.each (λ p. spelling.punct puncts.Comma ⨾ spelling.param p) ns rest)
 long-more_params [] rest = omega arith
-long-more_params (n ∷ ns) rest = omega (arith, long-more_params ns rest)
+long-more_params (p ∷ ps) rest =
+    let more = spelling.each (λ p. spelling.punct puncts.Comma ⨾ spelling.param p) ps rest in
+    omega (arith, long-more_params ps rest, long-type p.ty (spelling.name p.name more))
 
-long-params : (ps : Params) (rest : List Symbol) → length (param_names ps) + length rest ≤ length (spelling.params ps rest)
+long-params : (ps : Params) (rest : List Symbol) → length (param_list ps) + length rest ≤ length (spelling.params ps rest)
 long-params params_of.Empty rest = omega arith
 long-params params_of.Void rest = omega arith
 long-params (params_of.Names []) rest = omega arith
-long-params (params_of.Names (n ∷ ns)) rest = omega (arith, long-more_params ns rest)
+long-params (params_of.Names (p ∷ ps)) rest =
+    let more = spelling.each (λ p. spelling.punct puncts.Comma ⨾ spelling.param p) ps rest in
+    omega (arith, long-more_params ps rest, long-type p.ty (spelling.name p.name more))
 
 long-sign : (minus : Bool) (rest : List Symbol) → length rest ≤ length (spelling.sign minus rest)
 long-sign false rest = omega arith
 long-sign true rest = omega arith
 
+long-numeral : (wide : Bool) (size : ℕ) (rest : List Symbol) → 1 + length rest ≤ length (spelling.numeral wide size rest)
+long-numeral false size rest = omega arith
+long-numeral true size rest = omega arith
+
 long-programs_item : (i : tree.ItemTree) (rest : List Symbol) → item_weight i + 16383 * length rest ≤ 16383 * length (spelling.item i rest)
-long-programs_item (tree.Constant c) rest = omega (arith, long-sign c.minus (spelling.number c.size (spelling.punct puncts.Semicolon rest)))
+long-programs_item (tree.Constant c) rest =
+    let number = spelling.numeral c.wide c.size (spelling.punct puncts.Semicolon rest) in
+    let set = spelling.punct puncts.Set (spelling.sign c.minus number) in
+    omega (arith, long-sign c.minus number, long-numeral c.wide c.size (spelling.punct puncts.Semicolon rest), long-type c.ty (spelling.name c.name set))
 long-programs_item (tree.Function f) rest =
     let body = spelling.stmts f.body (spelling.punct puncts.CloseBrace rest) in
-    omega (arith, long-stmts f.body (spelling.punct puncts.CloseBrace rest), long-params f.params (spelling.punct puncts.CloseParen (spelling.punct puncts.OpenBrace body)))
+    let behind = spelling.punct puncts.CloseParen (spelling.punct puncts.OpenBrace body) in
+    let named = spelling.name f.name (spelling.punct puncts.OpenParen (spelling.params f.params behind)) in
+    omega (arith, long-stmts f.body (spelling.punct puncts.CloseBrace rest), long-params f.params behind, long-type f.ty named)
 
 long-program : (is : List tree.ItemTree) (rest : List Symbol) → items_weight is + 16383 * length rest ≤ 16383 * length (spelling.each spelling.item is rest)
 long-program [] rest = omega arith
@@ -233,7 +260,8 @@ functions_few (tree.Constant c ∷ is) =
     omega (arith, functions_few is, ap length ((prints_item (tree.Constant c)).in_front rest), length-append (spelling.item (tree.Constant c) []) rest)
 functions_few (tree.Function f ∷ is) =
     let rest = spelling.each spelling.item is [] in
-    omega (arith, functions_few is, ap length ((prints_item (tree.Function f)).in_front rest), length-append (spelling.item (tree.Function f) []) rest)
+    let body = spelling.punct puncts.OpenBrace (spelling.stmts f.body (spelling.punct puncts.CloseBrace [])) in
+    omega (arith, functions_few is, long-type f.ty (spelling.name f.name (spelling.in_parens (spelling.params f.params) body)), ap length ((prints_item (tree.Function f)).in_front rest), length-append (spelling.item (tree.Function f) []) rest)
 
 -- a program has room that has few tokens
 pub room : (p : tree.ProgramTree) → length (spelling.spell p) ≤ 262144 → HasRoom file (items_weight p)

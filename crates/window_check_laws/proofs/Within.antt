@@ -1,17 +1,17 @@
 -- What a lawful program declares is within the limits.
 use Rattle.std.proofs.Common.{◌≡◌, ◌||◌, ℕ, suc, Bool, true, false, List, [], ◌∷◌, ◌++◌, refl, arith, ltb, ltb-false}
+use Rattle.os_ast.specs.declared.program.Param.{Param}
 use Rattle.os_ast.specs.Captured.{captured, slots_of}
 use Rattle.os_ast.specs.Limits.{elements_limit, arrays_limit, streams_limit}
-use Rattle.os_ast.specs.Names.{Scope, declare, enter, in_loop, in_unit}
-use Rattle.os_ast.specs.Notes.Clauses.{with_items, in_task, in_task_body, captured_in, item_entity, clauses_notes}
+use Rattle.os_ast.specs.Names.{Scope, declare, enter, in_loop, in_unit, typed, flagged}
+use Rattle.os_ast.specs.Notes.Clauses.{with_items, in_task, in_task_body, captured_in, item_entity, clauses_notes, item_flag}
 use Rattle.os_ast.specs.Notes.Declarators.{form, size_told, taken, declared_entity, declarator_notes, declarators_notes, after_declarator, after_declarators, after_start, start_notes}
 use Rattle.os_ast.specs.Notes.Expressions.{expr_notes, value_notes, step_notes}
-use Rattle.os_ast.specs.Notes.Programs.{in_body, in_function, after_param, after_params, after_item, after_items, item_notes, items_notes, params_notes, round_body, owner_of, param_names}
+use Rattle.os_ast.specs.Notes.Programs.{in_body, in_function, after_param, after_params, after_item, after_items, item_notes, items_notes, params_notes, round_body, owner_of, param_list}
 use Rattle.os_ast.specs.Notes.Statements.{after_stmt, after_stmts, stmt_notes, stmts_notes}
 use Rattle.os_ast.specs.Parts.{Part, Item, Private, parts, item_name}
 use Rattle.os_ast.specs.Rules.{has_no_size, has_too_many}
 use Rattle.os_ast.specs.Trees as tree
-use Rattle.os_ast.specs.declared.expr.Name.{Name}
 use Rattle.os_ast.specs.declared.names.Form.{Form}
 use Rattle.os_ast.specs.declared.names.Form.TheVariants as form_of
 use Rattle.os_ast.specs.declared.names.Owner.{Owner}
@@ -48,20 +48,20 @@ within-declarators s (d ∷ ds) h k =
 
 within-start : (s : Scope) (t : tree.StartTree) → IsWithin s → AreLawful (start_notes s t) → IsWithin (after_start s t)
 within-start s tree.StartTree.Empty h k = h
-within-start s (tree.StartTree.Declare ds) h k = within-declarators s ds h k
+within-start s (tree.StartTree.Declare t ds) h k = within-declarators (typed t s) ds (record { streams = h.streams; arrays = h.arrays }) k
 within-start s (tree.StartTree.Change c) h k = h
 
 within-items : (s inner : Scope) (n : ℕ) (ps : List Part) → IsWithin inner → IsWithin (with_items s inner n ps)
 within-items s inner n [] h = h
 within-items s inner n (Item d i ∷ ps) h =
-    within-items s (declare inner (item_name i.stream i.window).id (item_entity s n d i)) (suc n) ps (record { streams = h.streams; arrays = h.arrays })
+    within-items s (declare (flagged (item_flag s i) inner) (item_name i.stream i.window).id (item_entity s n d i)) (suc n) ps (record { streams = h.streams; arrays = h.arrays })
 within-items s inner n (Private p ∷ ps) h = within-items s inner n ps h
 
 mutual
   within-stmt : (s : Scope) (a : tree.StmtTree) → IsWithin s → AreLawful (stmt_notes s a) → IsWithin (after_stmt s a)
   within-stmt s tree.StmtTree.Empty h k = h
   within-stmt s (tree.Block ss) h k = moved {s = after_stmts (enter s) ss} refl refl (within-stmts (enter s) ss (moved {s = s} refl refl h) k)
-  within-stmt s (tree.StmtTree.Declare ds) h k = within-declarators s ds h k
+  within-stmt s (tree.StmtTree.Declare t ds) h k = within-declarators (typed t s) ds (record { streams = h.streams; arrays = h.arrays }) k
   within-stmt s (tree.StmtTree.Change c) h k = h
   within-stmt s (tree.StmtTree.Call f args) h k = h
   within-stmt s (tree.If c a) h k = within-stmt s a h (lawful-rest (expr_notes s c) (stmt_notes s a) k)
@@ -101,7 +101,7 @@ mutual
       let after = after_stmt s a in
       within-stmts after rest (within-stmt s a h (lawful-first (stmt_notes s a) (stmts_notes after rest) k)) (lawful-rest (stmt_notes s a) (stmts_notes after rest) k)
 
-within-params : (s : Scope) (ns : List Name) → IsWithin s → IsWithin (after_params s ns)
+within-params : (s : Scope) (ns : List Param) → IsWithin s → IsWithin (after_params s ns)
 within-params s [] h = h
 within-params s (n ∷ ns) h = within-params (after_param s n) ns (record { streams = h.streams; arrays = h.arrays })
 
@@ -114,9 +114,9 @@ within-item : (s : Scope) (i : tree.ItemTree) → IsWithin s → AreLawful (item
 within-item s (tree.Constant c) h k = record { streams = h.streams; arrays = h.arrays }
 within-item s (tree.Function f) h k =
     let body = in_body s f in
-    let given = params_notes (in_function s f.name.id) (param_names f.params) in
+    let given = params_notes (in_function s f.name.id) (param_list f.params) in
     moved {s = after_stmts body f.body} refl refl
-    (within-stmts body f.body (within-params (in_function s f.name.id) (param_names f.params) (within-round (owner_of f.name.id) s h)) (lawful-rest given (stmts_notes body f.body) k.1))
+    (within-stmts body f.body (within-params (in_function s f.name.id) (param_list f.params) (within-round (owner_of f.name.id) s h)) (lawful-rest given (stmts_notes body f.body) k.1))
 
 pub within-items_of_file : (s : Scope) (is : List tree.ItemTree) → IsWithin s → AreLawful (items_notes s is) → IsWithin (after_items s is)
 within-items_of_file s [] h k = h

@@ -3,7 +3,7 @@ use Rattle.std.specs.Prelude.{⊤, ◌≡◌, ℕ, suc, ◌+◌, ◌<◌, ◌≤
 use Rattle.os_ast.specs.Names.{Scope, lookup, entity_of, constant_value}
 use Rattle.os_ast.specs.Notes.Declarators.{limited, constant_of}
 use Rattle.os_ast.specs.Notes.Kinds.{Note, Used, Sized, Declared, Given, Global, Left, Returned, Pragma, Task, Listed}
-use Rattle.os_ast.specs.Notes.Programs.{param_names}
+use Rattle.os_ast.specs.Notes.Programs.{param_list}
 use Rattle.os_ast.specs.Stacked.{Stacked}
 use Rattle.os_ast.specs.Trees as tree
 use Rattle.os_ast.specs.Violations.{streams}
@@ -17,7 +17,7 @@ global_behind number [] id = None
 global_behind number (tree.Constant c ∷ is) id =
     if c.name.id == id then Some (entity.Constant (constant_value c)) else global_behind number is id
 global_behind number (tree.Function f ∷ is) id =
-    if f.name.id == id then Some (entity.Function number (length (param_names f.params))) else global_behind (suc number) is id
+    if f.name.id == id then Some (entity.Function number (length (param_list f.params))) else global_behind (suc number) is id
 
 -- what the item of a name declares in a program
 abbrev pub global : tree.ProgramTree → ℕ → Option Entity
@@ -53,6 +53,7 @@ pub record IsConstant (p : tree.ProgramTree) (s : Scope) (id : ℕ) : Type 0 whe
 -- stands for it.
 abbrev pub size_in : tree.ProgramTree → tree.ExprTree → ℕ
 size_in p (tree.Number n) = unwrap_or (limited (Some (pos n))) 0
+size_in p (tree.Wide n) = unwrap_or (limited (Some (pos n))) 0
 size_in p (tree.Place (tree.Variable n)) = unwrap_or (limited (constant_of (global p n.id))) 0
 size_in p _ = 0
 

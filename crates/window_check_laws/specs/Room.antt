@@ -2,7 +2,7 @@
 use Rattle.std.specs.Prelude.{◌≡◌, ℕ, ◌+◌, ◌≤◌, List, [], ◌∷◌, length, if◌then◌else◌, is_some, unwrap_or}
 use Rattle.os_ast.specs.Limits.{size_limit}
 use Rattle.os_ast.specs.Names.{Scope}
-use Rattle.os_ast.specs.Notes.Programs.{param_names}
+use Rattle.os_ast.specs.Notes.Programs.{param_list}
 use Rattle.os_ast.specs.Parts.{parts}
 use Rattle.os_ast.specs.Stacked.{Stacked, main_extent}
 use Rattle.os_ast.specs.Trees as tree
@@ -22,7 +22,7 @@ declarators_weight (d ∷ ds) = declarator_weight d + declarators_weight ds
 
 abbrev pub start_weight : tree.StartTree → ℕ
 start_weight tree.StartTree.Empty = 0
-start_weight (tree.StartTree.Declare ds) = declarators_weight ds
+start_weight (tree.StartTree.Declare t ds) = declarators_weight ds
 start_weight (tree.StartTree.Change c) = 0
 
 abbrev mutual
@@ -30,7 +30,7 @@ abbrev mutual
   pub stmt_weight : tree.StmtTree → ℕ
   stmt_weight tree.StmtTree.Empty = 0
   stmt_weight (tree.Block ss) = 1 + stmts_weight ss
-  stmt_weight (tree.StmtTree.Declare ds) = declarators_weight ds
+  stmt_weight (tree.StmtTree.Declare t ds) = declarators_weight ds
   stmt_weight (tree.StmtTree.Change c) = 0
   stmt_weight (tree.StmtTree.Call f args) = 0
   stmt_weight (tree.If c a) = stmt_weight a
@@ -52,7 +52,7 @@ abbrev mutual
 -- parameter
 abbrev pub item_weight : tree.ItemTree → ℕ
 item_weight (tree.Constant c) = 1
-item_weight (tree.Function f) = 6 + length (param_names f.params) + stmts_weight f.body
+item_weight (tree.Function f) = 6 + length (param_list f.params) + stmts_weight f.body
 
 abbrev pub items_weight : List tree.ItemTree → ℕ
 items_weight [] = 0

@@ -28,7 +28,7 @@ module _ (o : Owner) (size : tree.ExprTree → ℕ) where
 
   abbrev pub start_slots : tree.StartTree → ℕ
   start_slots tree.StartTree.Empty = 0
-  start_slots (tree.StartTree.Declare ds) = declarators_slots ds
+  start_slots (tree.StartTree.Declare t ds) = declarators_slots ds
   start_slots (tree.StartTree.Change c) = 0
 
   -- A task has slots of its own.
@@ -36,7 +36,7 @@ module _ (o : Owner) (size : tree.ExprTree → ℕ) where
     pub stmt_slots : tree.StmtTree → ℕ
     stmt_slots tree.StmtTree.Empty = 0
     stmt_slots (tree.Block ss) = stmts_slots ss
-    stmt_slots (tree.StmtTree.Declare ds) = declarators_slots ds
+    stmt_slots (tree.StmtTree.Declare t ds) = declarators_slots ds
     stmt_slots (tree.StmtTree.Change c) = 0
     stmt_slots (tree.StmtTree.Call f args) = 0
     stmt_slots (tree.If c a) = stmt_slots a

@@ -13,7 +13,7 @@ abbrev mutual
   pub tasks_slots : Scope → tree.StmtTree → ℕ
   tasks_slots s tree.StmtTree.Empty = 0
   tasks_slots s (tree.Block ss) = all_tasks_slots (enter s) ss
-  tasks_slots s (tree.StmtTree.Declare ds) = 0
+  tasks_slots s (tree.StmtTree.Declare t ds) = 0
   tasks_slots s (tree.StmtTree.Change c) = 0
   tasks_slots s (tree.StmtTree.Call f args) = 0
   tasks_slots s (tree.If c a) = tasks_slots s a

@@ -5,11 +5,11 @@ ghost use Rattle.os_ast.specs.Leveled.{AreStmts, IsLeveled, IsStmt};
 ghost use Rattle.os_ast.specs.Marks.{HasPlaces};
 ghost use Rattle.os_ast.specs.Meanings.{meaning_in, resolved};
 ghost use Rattle.os_ast.specs.Means.{Means};
-ghost use Rattle.os_ast.specs.Names.{Scope, lookup, entity_of};
+ghost use Rattle.os_ast.specs.Names.{Scope, lookup, entity_of, flag_of};
 ghost use Rattle.os_ast.specs.Notes.Clauses.{captured_in, in_task_body};
 ghost use Rattle.os_ast.specs.Notes.Declarators.{after_declarator};
 ghost use Rattle.os_ast.specs.Notes.Kinds.{Note, Used};
-ghost use Rattle.os_ast.specs.Notes.Programs.{after_items, file, in_body, owner_of, param_names, program_notes};
+ghost use Rattle.os_ast.specs.Notes.Programs.{after_items, file, in_body, owner_of, param_list, program_notes};
 ghost use Rattle.os_ast.specs.Notes.Statements.{after_stmt, after_stmts, stmt_notes, stmts_notes};
 ghost use Rattle.os_ast.specs.Parts.{Part, private_ids, is_in};
 ghost use Rattle.os_ast.specs.Spelling.{spell};
@@ -24,7 +24,7 @@ ghost use Rattle.os_ast.specs.declared.names.Resolved.{Resolved};
 ghost use Rattle.os_ast.specs.declared.names.Use.{Use};
 ghost use Rattle.os_ast.specs.declared.names.What.{What};
 ghost use Rattle.os_lexer.specs.declared.token.Token.{Token};
-ghost use Rattle.std.specs.Prelude.{◌≡◌, ◌≤◌, ◌||◌, ◌+◌, ◌++◌, ◌∷◌, [], ℕ, List, Contains, length, map};
+ghost use Rattle.std.specs.Prelude.{◌≡◌, ◌≤◌, ◌||◌, ◌+◌, ◌++◌, ◌∷◌, [], ℕ, Bool, List, Contains, length, map};
 ghost use Rattle.window_check_laws.specs.CapturedByUse.{Ascends, slots_named, used_slots};
 ghost use Rattle.window_check_laws.specs.Globals.{AreApart, IsWithin, count_functions};
 ghost use Rattle.window_check_laws.specs.Known.{Stands, size_in};
@@ -69,13 +69,14 @@ pub fn names_tell()
     ensures lawful_rest { (xs ys : List Note) → AreLawful (xs ++ ys) → AreLawful ys }
 {}
 
-/// A used name of a lawful program is declared in scope, the list says at its place what its declaration means there,
-/// and it says no other thing.
+/// A used name of a lawful program is declared in scope, the list says at its place what its declaration means there and
+/// whether it is of the type `unsigned`, and it says no other meaning.
 pub fn used_names_are_told()
     ensures declared { (s : Scope) (n : Name) (u : Use) → AreLawful (Used s n u ∷ []) → (e : Entity) × (entity_of (lookup s.entries n.id) ≡ Some e) }
     ensures told { (rs : List Resolved) (s : Scope) (n : Name) (u : Use) (e : Entity) → entity_of (lookup s.entries n.id) ≡ Some e →
-        Tells rs (Used s n u ∷ []) → Contains rs (resolved n.mark.place (meaning_in s.owner s.captured e)) }
-    ensures one { (rs : List Resolved) (p : ℕ) (v w : What) → InOrder rs → Contains rs (resolved p v) → Contains rs (resolved p w) → v ≡ w }
+        Tells rs (Used s n u ∷ []) → Contains rs (resolved n.mark.place (meaning_in s.owner s.captured e) (flag_of (lookup s.entries n.id))) }
+    ensures one { (rs : List Resolved) (p : ℕ) (v w : What) (a b : Bool) → InOrder rs →
+        Contains rs (resolved p v a) → Contains rs (resolved p w b) → v ≡ w }
 {}
 
 /// A statement that is no declaration leaves in scope what was there, and the slots of what is in scope lie above one
@@ -95,7 +96,7 @@ pub fn slots_are_stacked()
 /// and in a task behind the captured scalars.
 pub fn slots_are_summed()
     ensures function { (s : Scope) (f : tree.FunctionTree) →
-        (in_body s f).slots ≡ slots_round (owner_of f.name.id) + length (param_names f.params) }
+        (in_body s f).slots ≡ slots_round (owner_of f.name.id) + length (param_list f.params) }
     ensures task { (s : Scope) (ps : List Part) (a : tree.StmtTree) →
         (in_task_body s ps a).slots ≡ length (captured_in s.owner (slots_of (captured s.entries ps a))) }
     ensures statement { (size : tree.ExprTree → ℕ) (s : Scope) (a : tree.StmtTree) → HasSizes size (stmt_notes s a) →

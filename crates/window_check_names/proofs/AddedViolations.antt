@@ -5,7 +5,7 @@ use Rattle.std.proofs.lemmas.List.{length-map}
 use Rattle.os_ast.specs.Captured.{Scalar, slots_of}
 use Rattle.os_ast.specs.Limits.{is_size, elements_limit, arrays_limit, streams_limit}
 use Rattle.os_ast.specs.Meanings.{meaning}
-use Rattle.os_ast.specs.Names.{Scope, declare, is_declared, lookup, entity_of}
+use Rattle.os_ast.specs.Names.{Scope, declare, is_declared, lookup, entity_of, flag_of}
 use Rattle.os_ast.specs.Notes.Clauses.{captured_in}
 use Rattle.os_ast.specs.Notes.Declarators.{form, form_with, sized_form, limited, size_value, size_told, taken, after_declarator, scalar_entity, declared_entity, constant_of}
 use Rattle.os_ast.specs.Notes.Kinds.{Sized, Declared, Given, Global, Left, Returned, Pragma, Task, Listed}
@@ -14,6 +14,8 @@ use Rattle.os_ast.specs.Trees.{DeclaratorTree, IndexTree}
 use Rattle.os_ast.specs.Violations.{constant_meaning, main_task}
 use Rattle.os_ast.specs.declared.expr.Mark.{Mark}
 use Rattle.os_ast.specs.declared.expr.Name.{Name}
+use Rattle.os_ast.specs.declared.program.Param.{Param}
+use Rattle.os_ast.specs.Types.{is_unsigned}
 use Rattle.os_ast.specs.Parts.{is_in}
 use Rattle.os_ast.specs.declared.names.Form.{Form}
 use Rattle.os_ast.specs.declared.names.Form.TheVariants as form_of
@@ -57,11 +59,12 @@ with_violation-listed (Listing slots) before n = refl
 with_violation-listed (Judging j) before n = recoded j n.mark (alone (is_in n.id before) 21)
 
 -- a parameter
-pub means-given : (f : Found) (s : Scope) (n : Name) →
-    means (with_violation f n.mark (least_code (when (is_declared s n.id) 12))) n.mark (meaning (scalar_entity s.owner s.slots)) ≡ note f (Given s n)
-means-given (Listing slots) s n = refl
-means-given (Judging j) s n =
-    ap (λ f. means f n.mark (meaning (scalar_entity s.owner s.slots))) (recoded j n.mark (alone (is_declared s n.id) 12))
+pub means-given : (f : Found) (s : Scope) (p : Param) →
+    means (with_violation f p.name.mark (least_code (when (is_declared s p.name.id) 12))) p.name.mark (meaning (scalar_entity s.owner s.slots)) (is_unsigned p.ty)
+    ≡ note f (Given s p)
+means-given (Listing slots) s p = refl
+means-given (Judging j) s p =
+    ap (λ f. means f p.name.mark (meaning (scalar_entity s.owner s.slots)) (is_unsigned p.ty)) (recoded j p.name.mark (alone (is_declared s p.name.id) 12))
 
 -- a declarator
 three : (a b c : Bool) → lesser_code (least_code (when a 12)) (lesser_code (least_code (when b 15)) (least_code (when c 17))) ≡ least_code (when a 12 ++ (when b 15 ++ (when c 17 ++ [])))
@@ -112,14 +115,14 @@ pub means-declared : (f : Found) (s : Scope) (d : DeclaratorTree) →
     (with_violation f d.name.mark
     (lesser_code (least_code (when (is_declared s d.name.id) 12))
     (lesser_code (least_code (when (passes_limit (taken s (form s d)) (form s d)) 15)) (least_code (when (d.stream && not (is_outermost s.owner s.depth)) 17)))))
-    d.name.mark (meaning (declared_entity s d))
+    d.name.mark (meaning (declared_entity s d)) s.unsigned
     ≡ note f (Declared s d)
 means-declared (Listing slots) s d = refl
 means-declared (Judging j) s d =
     let twice = is_declared s d.name.id in
     let apart = d.stream && not (is_outermost s.owner s.depth) in
     ap
-    (λ f. means f d.name.mark (meaning (declared_entity s d)))
+    (λ f. means f d.name.mark (meaning (declared_entity s d)) s.unsigned)
     (recoded j d.name.mark
     (three twice (passes_limit (taken s (form s d)) (form s d)) apart
     ∙ ap
@@ -127,17 +130,17 @@ means-declared (Judging j) s d =
     (sym (wrong-size s (after_declarator s d) d.stream d.size ∙ passes-same s d))))
 
 -- the name of a size
-constant-sized-in : (j : Judged) (m : Mark) (v : Option ℤ) → constant_found (Judging j) m v ≡ Judging (record j { names = pushed j.names (constant_meaning m v) })
-constant-sized-in j m None = refl
-constant-sized-in j m (Some v) = refl
+constant-sized-in : (j : Judged) (m : Mark) (u : Bool) (v : Option ℤ) → constant_found (Judging j) m v u ≡ Judging (record j { names = pushed j.names (constant_meaning m u v) })
+constant-sized-in j m u None = refl
+constant-sized-in j m u (Some v) = refl
 
-pub constant-sized : (f : Found) (s : Scope) (n : Name) → constant_found f n.mark (constant_of (entity_of (lookup s.entries n.id))) ≡ note f (Sized s n)
+pub constant-sized : (f : Found) (s : Scope) (n : Name) → constant_found f n.mark (constant_of (entity_of (lookup s.entries n.id))) (flag_of (lookup s.entries n.id)) ≡ note f (Sized s n)
 constant-sized (Listing slots) s n = listing (constant_of (entity_of (lookup s.entries n.id)))
   where
-    listing : (v : Option ℤ) → constant_found (Listing slots) n.mark v ≡ Listing slots
+    listing : (v : Option ℤ) → constant_found (Listing slots) n.mark v (flag_of (lookup s.entries n.id)) ≡ Listing slots
     listing None = refl
     listing (Some v) = refl
-constant-sized (Judging j) s n = constant-sized-in j n.mark (constant_of (entity_of (lookup s.entries n.id)))
+constant-sized (Judging j) s n = constant-sized-in j n.mark (flag_of (lookup s.entries n.id)) (constant_of (entity_of (lookup s.entries n.id)))
 
 -- the start of a task: where it stands elsewhere than in `main`, that is the least violation
 behind : (b : Bool) → least_code (17 ∷ []) ≡ least_code (when true 17 ++ (when b 22 ++ []))

@@ -5,7 +5,7 @@ use Rattle.std.specs.BTreeMap.{is_at}
 use Rattle.std.specs.List.{list_any}
 use Rattle.std.specs.Ordering.{nat_cmp, is_eq}
 use Rattle.std.proofs.lemmas.Bool.{cases_order, lt-ltb, le-ltb, ne_eqb}
-use Rattle.os_ast.specs.Names.{Scope, lookup, entity_of, declare}
+use Rattle.os_ast.specs.Names.{Scope, lookup, entity_of, declare, flagged}
 use Rattle.os_ast.specs.Notes.Clauses.{part_notes, parts_notes, window_notes, shape_of, with_items, named_entity}
 use Rattle.os_ast.specs.Notes.Expressions.{place_notes, index_notes}
 use Rattle.os_ast.specs.Notes.Kinds.{Used, Listed}
@@ -112,7 +112,7 @@ inside-named (Some (entity.View i e)) item d (Some j) = refl
 
 pub after_names-append : (s : Scope) (is more : List ItemName) → after_names s (is ++ more) ≡ after_names (after_names s is) more
 after_names-append s [] more = refl
-after_names-append s (i ∷ is) more = after_names-append (declare s i.id i.entity) is more
+after_names-append s (i ∷ is) more = after_names-append (declare (flagged i.unsigned s) i.id i.entity) is more
 
 with_items-more : (s inner : Scope) (l : ListedParts) (d : Direction) (i : tree.ClauseItemTree) (ps : List Part) →
     with_items s (after_names inner (after_part s l (Item d i)).items) (length (after_part s l (Item d i)).items) ps

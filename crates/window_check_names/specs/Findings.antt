@@ -62,18 +62,18 @@ abbrev pub with_violation : Found → Mark → Option ℕ → Found
 with_violation (Listing slots) m code = Listing slots
 with_violation (Judging j) m code = Judging (judged_with_violation j m code)
 
--- what a name means
-abbrev pub named : Judged → Mark → What → Judged
-named j m w = record j { names = j.names ++ resolved m.place w ∷ [] }
+-- what a name means, and whether that is of the type `unsigned`
+abbrev pub named : Judged → Mark → What → Bool → Judged
+named j m w unsigned = record j { names = j.names ++ resolved m.place w unsigned ∷ [] }
 
-abbrev pub means : Found → Mark → What → Found
-means (Listing slots) m w = Listing slots
-means (Judging j) m w = Judging (named j m w)
+abbrev pub means : Found → Mark → What → Bool → Found
+means (Listing slots) m w unsigned = Listing slots
+means (Judging j) m w unsigned = Judging (named j m w unsigned)
 
 -- the value of a constant, where a name is one's
-abbrev pub constant_found : Found → Mark → Option ℤ → Found
-constant_found f m None = f
-constant_found f m (Some v) = means f m (what.Constant v)
+abbrev pub constant_found : Found → Mark → Option ℤ → Bool → Found
+constant_found f m None unsigned = f
+constant_found f m (Some v) unsigned = means f m (what.Constant v) unsigned
 
 -- the start of a task: elsewhere than in `main` none may stand
 abbrev pub task_codes : Owner → ℕ → List ℕ → List ℕ

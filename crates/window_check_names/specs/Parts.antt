@@ -2,13 +2,14 @@
 use Rattle.std.specs.Prelude.{ℕ, Bool, true, false, List, [], ◌∷◌, ◌++◌, length, Option, Some, is_some}
 use Rattle.std.specs.BTreeSet.{insert_key}
 use Rattle.std.specs.Ordering.{nat_cmp}
-use Rattle.os_ast.specs.Names.{Scope, lookup, entity_of, declare}
+use Rattle.os_ast.specs.Names.{Scope, lookup, entity_of, flag_of, flagged, declare}
 use Rattle.os_ast.specs.Notes.Clauses.{part_notes}
 use Rattle.os_ast.specs.Notes.Kinds.{Note}
 use Rattle.os_ast.specs.Parts.{Part, Item, Private, item_name}
 use Rattle.os_ast.specs.declared.names.Direction.{Direction}
 use Rattle.os_ast.specs.declared.names.Entity.{Entity}
 use Rattle.os_ast.specs.declared.names.Entity.TheVariants as entity
+use Rattle.os_ast.specs.declared.names.Entry.{Entry}
 use Rattle.window_check_laws.specs.Slots.{with_slots, control_slots}
 use Rattle.window_check_names.specs.declared.parts.ItemName.{ItemName}
 
@@ -27,10 +28,10 @@ inside (Some (entity.Window slot)) number true d = entity.View number d
 inside (Some (entity.Window slot)) number false d = entity.Element number d
 inside _ number joined d = entity.Element number d
 
-abbrev pub with_item : Option Entity → ListedParts → ℕ → Bool → Direction → ListedParts
+abbrev pub with_item : Option Entry → ListedParts → ℕ → Bool → Direction → ListedParts
 with_item e l id joined d = record l {
   names = insert_key nat_cmp l.names id;
-  items = l.items ++ record { id = id; entity = inside e (length l.items) joined d } ∷ [];
+  items = l.items ++ record { id = id; entity = inside (entity_of e) (length l.items) joined d; unsigned = flag_of e } ∷ [];
 }
 
 abbrev pub with_private : Option Entity → ListedParts → ℕ → ListedParts
@@ -39,7 +40,7 @@ with_private e l id = record l { names = insert_key nat_cmp l.names id; slots = 
 abbrev pub after_part : Scope → ListedParts → Part → ListedParts
 after_part s l (Item d i) =
     let id = (item_name i.stream i.window).id in
-    with_item (entity_of (lookup s.entries id)) l id (is_some i.window) d
+    with_item (lookup s.entries id) l id (is_some i.window) d
 after_part s l (Private n) = with_private (entity_of (lookup s.entries n.id)) l n.id
 
 abbrev pub after_parts : Scope → ListedParts → List Part → ListedParts
@@ -54,4 +55,4 @@ listed_notes s l (p ∷ ps) = part_notes s l.names p ++ listed_notes s (after_pa
 -- the scope with the names of items
 abbrev pub after_names : Scope → List ItemName → Scope
 after_names s [] = s
-after_names s (i ∷ is) = after_names (declare s i.id i.entity) is
+after_names s (i ∷ is) = after_names (declare (flagged i.unsigned s) i.id i.entity) is

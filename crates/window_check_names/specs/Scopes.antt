@@ -1,6 +1,6 @@
 -- What the ends of scopes and bodies restore.
-use Rattle.std.specs.Prelude.{ℕ, ◌+◌, ◌-◌, length, drop}
-use Rattle.os_ast.specs.Names.{Scope, declare}
+use Rattle.std.specs.Prelude.{ℕ, Bool, ◌+◌, ◌-◌, length, drop}
+use Rattle.os_ast.specs.Names.{Scope, flagged, declare}
 use Rattle.os_ast.specs.declared.names.Entity.TheVariants as entity
 use Rattle.window_check_names.specs.declared.scopes.Around.{Around}
 use Rattle.window_check_names.specs.declared.scopes.Outer.{Outer}
@@ -23,5 +23,5 @@ abbrev pub with_totals : Totals → Scope → Scope
 with_totals t s = record s { arrays = t.arrays; streams = t.streams; functions = t.functions }
 
 -- the scope with one more function
-abbrev pub with_function : Scope → ℕ → ℕ → Scope
-with_function s id params = declare (record s { functions = s.functions + 1 }) id (entity.Function s.functions params)
+abbrev pub with_function : Scope → Bool → ℕ → ℕ → Scope
+with_function s unsigned id params = declare (flagged unsigned (record s { functions = s.functions + 1 })) id (entity.Function s.functions params)

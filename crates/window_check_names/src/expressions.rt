@@ -19,7 +19,7 @@ pub fn expr(scopes: &Scopes, found: &mut Found, expr: &Expr) -> Result<(), Memor
     ensures { OnOk result (found.new ≡ noted found.old (expr_notes scopes.now (expr_tree expr.now))) }
 {
     match expr {
-        Expr::Number(_) => Ok(()),
+        Expr::Number(_) | Expr::Wide(_) => Ok(()),
         Expr::Place(target) => place(scopes, found, Role::Value, target),
         Expr::Call(call) => called(scopes, found, call),
         Expr::Paren(inner) => self::expr(scopes, found, inner),

@@ -92,13 +92,14 @@ impl Judged {
         }
     }
 
-    /// A name means this.
-    pub(crate) fn name(&mut self, mark: Mark, what: What) -> Result<(), Memory>
-        ensures { OnOk result (self.new ≡ named self.old mark what) }
+    /// A name means this, which is of the type `unsigned` or isn't.
+    pub(crate) fn name(&mut self, mark: Mark, what: What, unsigned: bool) -> Result<(), Memory>
+        ensures { OnOk result (self.new ≡ named self.old mark what unsigned) }
     {
         self.names.push(Resolved {
             place: mark.place,
             what,
+            unsigned,
         })
     }
 
@@ -138,30 +139,41 @@ impl Found {
         }
     }
 
-    fn name(&mut self, mark: Mark, what: What) -> Result<(), Memory>
-        ensures { OnOk result (self.new ≡ means self.old mark what) }
+    fn name(&mut self, mark: Mark, what: What, unsigned: bool) -> Result<(), Memory>
+        ensures { OnOk result (self.new ≡ means self.old mark what unsigned) }
     {
         match self {
             Found::Listing(_) => Ok(()),
-            Found::Judging(judged) => judged.name(mark, what),
+            Found::Judging(judged) => judged.name(mark, what, unsigned),
         }
     }
 
-    /// A name is declared, which violates a rule where there is a code, and means this.
-    pub fn declare(&mut self, mark: Mark, code: Option<u8>, what: What) -> Result<(), Memory>
-        ensures { OnOk result (self.new ≡ means (with_violation self.old mark code) mark what) }
+    /// A name is declared, which violates a rule where there is a code, and means this, of the type `unsigned` or not.
+    pub fn declare(
+        &mut self,
+        mark: Mark,
+        code: Option<u8>,
+        what: What,
+        unsigned: bool,
+    ) -> Result<(), Memory>
+        ensures { OnOk result (self.new ≡ means (with_violation self.old mark code) mark what unsigned) }
     {
         self.add_violation(mark, code);
-        self.name(mark, what)
+        self.name(mark, what, unsigned)
     }
 
     /// A name stands as a size, and is that of a constant where there is a value.
-    pub(crate) fn constant(&mut self, mark: Mark, value: Option<i32>) -> Result<(), Memory>
-        ensures { OnOk result (self.new ≡ constant_found self.old mark value) }
+    pub(crate) fn constant(
+        &mut self,
+        mark: Mark,
+        value: Option<i32>,
+        unsigned: bool,
+    ) -> Result<(), Memory>
+        ensures { OnOk result (self.new ≡ constant_found self.old mark value unsigned) }
     {
         match value {
             None => Ok(()),
-            Some(value) => self.name(mark, What::Constant(value)),
+            Some(value) => self.name(mark, What::Constant(value), unsigned),
         }
     }
 

@@ -15,11 +15,12 @@ use std::alloc::Global;
 use std::collections::BTreeSet;
 use std::marker::Model;
 
-/// The name of a task's item, and what it is in the task's body.
+/// The name of a task's item, what it is in the task's body, and whether its elements are of the type `unsigned`.
 #[derive(Clone, Copy, Debug, PartialEq, Eq)]
 pub struct ItemName {
     pub id: u32,
     pub entity: Entity,
+    pub unsigned: bool,
 }
 
 /// The name that an item has in the task's body: that behind the arrow, or the stream's where it stands alone.
@@ -84,7 +85,11 @@ impl Listed {
             _ => Entity::Element(number, direction),
         };
         self.names.insert(id)?;
-        self.items.push(ItemName { id, entity })
+        self.items.push(ItemName {
+            id,
+            entity,
+            unsigned: scopes.is_unsigned(id),
+        })
     }
 
     /// One more `firstprivate` name.
@@ -114,6 +119,7 @@ pub fn declare_items(scopes: &mut Scopes, items: &List<ItemName>) -> Result<(), 
     ensures { OnOk result (scopes.new ≡ after_names scopes.old items.now) }
 {
     for item in items.as_slice() {
+        scopes.set_unsigned(item.unsigned);
         scopes.declare(item.id, item.entity)?;
     }
     Ok(())

@@ -1,6 +1,6 @@
 ghost use Rattle.std.specs.Prelude.{◌≡◌, ◌+◌, ◌≤◌, OnOk, length};
 ghost use Rattle.os_ast.specs.Meanings.{meaning_in};
-ghost use Rattle.os_ast.specs.Names.{Scope, lookup, entity_of, is_declared, declare, enter, in_loop, in_unit};
+ghost use Rattle.os_ast.specs.Names.{Scope, lookup, entity_of, flag_of, is_declared, flagged, declare, enter, in_loop, in_unit};
 ghost use Rattle.os_ast.specs.Notes.Clauses.{in_task};
 ghost use Rattle.os_ast.specs.Notes.Declarators.{form_entity, taken, scalar_entity, with_array, with_streams};
 ghost use Rattle.os_ast.specs.Notes.Programs.{file, round_body};
@@ -43,6 +43,7 @@ pub struct Scopes {
     arrays: u32,
     streams: u32,
     functions: u32,
+    unsigned: bool,
 }
 
 impl Model for Scopes {
@@ -61,6 +62,7 @@ impl Model for Scopes {
       arrays = s.arrays;
       streams = s.streams;
       functions = s.functions;
+      unsigned = s.unsigned;
     } };
 }
 
@@ -106,6 +108,7 @@ impl Scopes {
             arrays: 0,
             streams: 0,
             functions: 0,
+            unsigned: false,
         }
     }
 
@@ -137,6 +140,37 @@ impl Scopes {
         self.streams
     }
 
+    /// Whether the last declaration is of the type `unsigned`.
+    pub fn unsigned(&self) -> bool
+        ensures { result ≡ self.now.unsigned }
+    {
+        self.unsigned
+    }
+
+    /// A declaration of a type begins, which is `unsigned` or isn't.
+    pub fn set_unsigned(&mut self, unsigned: bool)
+        ensures { self.new ≡ flagged unsigned self.old }
+    {
+        self.unsigned = unsigned;
+    }
+
+    /// The declaration of a name that counts here, which is the innermost one.
+    pub fn entry(&self, id: u32) -> Option<Entry>
+        ensures { result ≡ lookup self.now.entries id }
+    {
+        self.declared.entry(id)
+    }
+
+    /// Whether what a name is declared as is of the type `unsigned`.
+    pub fn is_unsigned(&self, id: u32) -> bool
+        ensures { result ≡ flag_of (lookup self.now.entries id) }
+    {
+        match self.declared.entry(id) {
+            Some(entry) => entry.unsigned,
+            None => false,
+        }
+    }
+
     /// What a name is declared as: the innermost declaration counts.
     pub fn entity(&self, id: u32) -> Option<Entity>
         ensures { result ≡ entity_of (lookup self.now.entries id) }
@@ -165,7 +199,7 @@ impl Scopes {
         }
     }
 
-    /// One more declaration in the innermost scope.
+    /// One more declaration in the innermost scope, of the type that was begun with.
     pub fn declare(&mut self, id: u32, entity: Entity) -> Result<(), Memory>
         ensures { OnOk result (self.new ≡ declare self.old id entity) }
     {
@@ -173,6 +207,7 @@ impl Scopes {
             id,
             depth: self.depth,
             entity,
+            unsigned: self.unsigned,
         })
     }
 
@@ -387,6 +422,7 @@ impl Scopes {
     fn declare_main(&mut self) -> Result<(), Memory>
         ensures { OnOk result (self.new ≡ round_body owners.OfMain self.old) }
     {
+        self.unsigned = false;
         self.declare(OSIN, Entity::Stream(0))?;
         self.declare(OSOUT, Entity::Stream(1))?;
         self.declare(OSIN_LEN, Entity::InputLength)?;
@@ -394,13 +430,14 @@ impl Scopes {
         Ok(())
     }
 
-    /// One more function of the program, with so many parameters.
-    pub fn declare_function(&mut self, id: u32, params: u32) -> Result<(), Memory>
+    /// One more function of the program, with so many parameters, whose result is of the type `unsigned` or isn't.
+    pub fn declare_function(&mut self, id: u32, params: u32, unsigned: bool) -> Result<(), Memory>
         requires { self.old.functions + 1 ≤ room_end }
-        ensures { OnOk result (self.new ≡ with_function self.old id params) }
+        ensures { OnOk result (self.new ≡ with_function self.old unsigned id params) }
     {
         let number = self.functions;
         self.functions += 1;
+        self.unsigned = unsigned;
         self.declare(id, Entity::Function(number, params))
     }
 }

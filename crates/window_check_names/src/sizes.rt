@@ -49,7 +49,7 @@ fn bare_name(expr: &Expr) -> Option<Name>
 fn size_value(scopes: &Scopes, size: &Expr) -> Option<i64>
     ensures { result ≡ size_value scopes.now (expr_tree size.now) }
 {
-    if let Expr::Number(number) = size {
+    if let Expr::Number(number) | Expr::Wide(number) = size {
         return Some(*number as i64);
     }
     let name = bare_name(size)?;
@@ -73,5 +73,9 @@ pub fn size_name(scopes: &Scopes, found: &mut Found, size: &Expr) -> Result<(), 
     let Some(name) = bare_name(size) else {
         return Ok(());
     };
-    found.constant(name.mark, constant_of(scopes.entity(name.id)))
+    found.constant(
+        name.mark,
+        constant_of(scopes.entity(name.id)),
+        scopes.is_unsigned(name.id),
+    )
 }

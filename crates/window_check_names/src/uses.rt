@@ -174,14 +174,14 @@ pub(crate) fn used(scopes: &Scopes, found: &mut Found, name: Name, usage: Use) -
 fn judge(scopes: &Scopes, all: &mut Judged, name: Name, usage: Use) -> Result<(), Memory>
     ensures { OnOk result (all.new ≡ judged all.old (Used scopes.now name usage)) }
 {
-    match scopes.entity(name.id) {
+    match scopes.entry(name.id) {
         None => {
             all.add_violation(name.mark, Some(codes::UNKNOWN));
             Ok(())
         }
-        Some(entity) => {
-            all.add_violation(name.mark, use_code(name.id, usage, entity));
-            all.name(name.mark, scopes.meaning(entity))
+        Some(entry) => {
+            all.add_violation(name.mark, use_code(name.id, usage, entry.entity));
+            all.name(name.mark, scopes.meaning(entry.entity), entry.unsigned)
         }
     }
 }

@@ -250,7 +250,7 @@ functions::entered-returns-in_err-take_unit-clause-gives t c =
 pub functions::entered-returns-in_err-flow-clause-gives : goal.functions::entered-returns-in_err-flow-clause-gives
 functions::entered-returns-in_err-flow-clause-gives t c =
     let state = c.in_ok-state.ensures
-    ∙ ap (λ ns. state_of (bind_params ns c.args.args.now []) []) c.param_names.ensures in
+    ∙ ap (λ ns. state_of (bind_params ns c.args.args.now []) []) c.param_list.ensures in
     let runs = call-one (file_of (map item_tree c.args.file.now)) c.args.function.now c.args.args.now c.args.turns.now c.take_unit.new.turns
     c.in_ok-state.state c.in_ok-take_unit.ensures.taken state in
     let p = err_from_is_err_and c.from_residual-in_err-flow.result c.from_residual-in_err-flow.ensures.1 in
@@ -259,7 +259,7 @@ functions::entered-returns-in_err-flow-clause-gives t c =
 pub functions::entered-returns-clause-gives : goal.functions::entered-returns-clause-gives
 functions::entered-returns-clause-gives t c =
     let state = c.in_ok-state.ensures
-    ∙ ap (λ ns. state_of (bind_params ns c.args.args.now []) []) c.param_names.ensures in
+    ∙ ap (λ ns. state_of (bind_params ns c.args.args.now []) []) c.param_list.ensures in
     let runs = call-one (file_of (map item_tree c.args.file.now)) c.args.function.now c.args.args.now c.args.turns.now c.take_unit.new.turns
     c.in_ok-state.state c.in_ok-take_unit.ensures.taken state in
     let given : result_of c.in_ok-flow.flow ≡ to_z w32 (of_z w32 c.result_of.result) = search (rules, c.result_of.ensures) in

@@ -5,7 +5,7 @@
 
 use os_ast::{
     Call, Change, Clause, ClauseItem, ClauseKind, Constant, Declarator, Expr, Function, Head,
-    Index, Item, Mark, Name, Params, Program, Start, Stmt, Target,
+    Index, Item, Mark, Name, Params, Program, Start, Stmt, Target, Ty,
 };
 use os_lexer::Token;
 use std::alloc::Global;
@@ -71,6 +71,10 @@ impl<'a> Shown<'a> {
     fn put_expr(&mut self, expr: &Expr) {
         match expr {
             Expr::Number(number) => self.put_debug(number),
+            Expr::Wide(number) => {
+                self.put_debug(number);
+                self.put("u");
+            }
             Expr::Place(target) => self.put_target(target),
             Expr::Call(call) => self.put_call(call),
             Expr::Paren(inner) => {
@@ -155,8 +159,18 @@ impl<'a> Shown<'a> {
         }
     }
 
-    fn put_declare(&mut self, declarators: &[Declarator]) {
+    /// The words of a type but `int`, behind a space.
+    fn put_type(&mut self, ty: Ty) {
+        match ty {
+            Ty::Int => {}
+            Ty::Unsigned => self.put(" unsigned"),
+            Ty::UnsignedInt => self.put(" unsigned int"),
+        }
+    }
+
+    fn put_declare(&mut self, ty: Ty, declarators: &[Declarator]) {
         self.put("(declare");
+        self.put_type(ty);
         for declarator in declarators {
             self.put(" ");
             self.put_declarator(declarator);
@@ -194,7 +208,7 @@ impl<'a> Shown<'a> {
     fn put_start(&mut self, start: &Start) {
         match start {
             Start::Empty => self.put("_"),
-            Start::Declare(declarators) => self.put_declare(declarators.as_slice()),
+            Start::Declare(ty, declarators) => self.put_declare(*ty, declarators.as_slice()),
             Start::Change(change) => self.put_change(change),
         }
     }
@@ -261,7 +275,7 @@ impl<'a> Shown<'a> {
                 }
                 self.put(")");
             }
-            Stmt::Declare(declarators) => self.put_declare(declarators.as_slice()),
+            Stmt::Declare(ty, declarators) => self.put_declare(*ty, declarators.as_slice()),
             Stmt::Change(change) => self.put_change(change),
             Stmt::Call(call) => self.put_call(call),
             Stmt::If(condition, first, second) => {
@@ -317,25 +331,36 @@ impl<'a> Shown<'a> {
     }
 
     fn put_constant(&mut self, constant: &Constant) {
-        self.put("(constant ");
+        self.put("(constant");
+        self.put_type(constant.ty);
+        self.put(" ");
         self.put_mark(constant.name.mark);
         if constant.minus {
             self.put(" -");
         }
         self.put(" ");
         self.put_debug(&constant.size);
+        if constant.wide {
+            self.put("u");
+        }
         self.put(")");
     }
 
     fn put_function(&mut self, function: &Function) {
-        self.put("(function ");
+        self.put("(function");
+        self.put_type(function.ty);
+        self.put(" ");
         self.put_mark(function.name.mark);
         match &function.params {
             Params::Empty => self.put(" _"),
             Params::Void => self.put(" void"),
-            Params::Names(names) => {
+            Params::Names(params) => {
                 self.put(" (params");
-                self.put_names(names.as_slice());
+                for param in params.as_slice() {
+                    self.put_type(param.ty);
+                    self.put(" ");
+                    self.put_mark(param.name.mark);
+                }
                 self.put(")");
             }
         }

@@ -39,5 +39,5 @@ declarators_code tells (d ∷ ds) draft = declarators_code tells ds (declared_co
 
 abbrev pub start_code : (ℕ → What) → tree.StartTree → Emission
 start_code tells tree.StartTree.Empty draft = draft
-start_code tells (tree.StartTree.Declare ds) draft = declarators_code tells ds draft
+start_code tells (tree.StartTree.Declare ty ds) draft = declarators_code tells ds draft
 start_code tells (tree.StartTree.Change c) draft = change_code tells c draft

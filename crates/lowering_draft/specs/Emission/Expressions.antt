@@ -1,5 +1,6 @@
 -- The code of expressions: a draft with it, by the draft before.
 use Rattle.std.specs.Prelude.{ℕ, min, [], ◌∷◌, Option, Some, None, ℤ, pos}
+use Rattle.std.specs.Int.{w32, cast_signed}
 use Rattle.std.specs.Result.{result_ok}
 use Rattle.c_int.specs.Operators.{unary_value}
 use Rattle.c_int.specs.declared.operators.Unary.TheVariants as int_unary
@@ -69,6 +70,7 @@ choice_code otherwise done condition first second draft =
 abbrev mutual
   pub expr_code : (ℕ → What) → tree.ExprTree → Emission
   expr_code tells (tree.Number n) draft = with_instr draft (Push (literal n))
+  expr_code tells (tree.Wide n) draft = with_instr draft (Push (cast_signed w32 n))
   expr_code tells (tree.Place t) draft = place_code tells t draft
   expr_code tells (tree.ExprTree.Call f args) draft =
       with_instrs (args_code tells args draft) (Turn ∷ calling (tells f.mark.place) ∷ [])

@@ -71,7 +71,7 @@ loop_code tells test step x end a draft = loop_from tells test step (next_label 
 
 -- Statements without statements in them. `break`, `continue` and `return` don't go on.
 abbrev pub simple_code : (ℕ → What) → Exits → Option Label → tree.StmtTree → Emission
-simple_code tells x next (tree.StmtTree.Declare ds) draft = jump_on next (declarators_code tells ds draft)
+simple_code tells x next (tree.StmtTree.Declare ty ds) draft = jump_on next (declarators_code tells ds draft)
 simple_code tells x next (tree.StmtTree.Change c) draft = jump_on next (change_code tells c draft)
 simple_code tells x next (tree.StmtTree.Call f args) draft =
     jump_on next (with_instr (expr_code tells (tree.ExprTree.Call f args) draft) Drop)

@@ -8,7 +8,7 @@ use Rattle.lowering_draft.specs.declared.draft.Label.{Label}
 use Rattle.lowering_draft.specs.declared.exits.Exits.{Exits}
 use Rattle.lowering_draft.specs.declared.units.Units.{Units}
 use Rattle.os_ast.specs.Names.{main_id}
-use Rattle.os_ast.specs.Notes.Programs.{param_names}
+use Rattle.os_ast.specs.Notes.Programs.{param_list}
 use Rattle.os_ast.specs.Parts.{parts}
 use Rattle.os_ast.specs.Trees as tree
 use Rattle.os_ast.specs.Views.{clause_tree, stmt_tree, stmts_tree}
@@ -26,7 +26,7 @@ use Rattle.window_check_laws.specs.Sums.{stmt_slots, stmts_slots}
 
 -- the tree of a function, and of a task's pragma
 abbrev pub function_tree : Function → tree.FunctionTree
-function_tree f = record { name = f.name; params = f.params; body = stmts_tree f.body }
+function_tree f = record { ty = f.ty; name = f.name; params = f.params; body = stmts_tree f.body }
 
 abbrev pub task_tree : TaskSite → TaskTree
 task_tree t = record { mark = t.mark; parts = parts (map clause_tree t.clauses); body = stmt_tree t.body }
@@ -73,8 +73,8 @@ with_main tells f made =
 
 abbrev pub with_plain : (ℕ → What) → tree.FunctionTree → Units → Units
 with_plain tells f made =
-    with_unit (function_code tells f.body) (length (param_names f.params))
-    (capped (length (param_names f.params) + stmts_slots owner.OfFunction (size_by tells) f.body)) made
+    with_unit (function_code tells f.body) (length (param_list f.params))
+    (capped (length (param_list f.params) + stmts_slots owner.OfFunction (size_by tells) f.body)) made
 
 abbrev pub with_function : (is_main : Bool) → (ℕ → What) → tree.FunctionTree → Units → Units
 with_function true tells f made = with_main tells f made

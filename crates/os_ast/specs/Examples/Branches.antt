@@ -1,6 +1,7 @@
 -- int f(int a) { if (a) if (a) ; else return 1; return 2; }
 use Rattle.std.specs.Prelude.{List, [], ◌∷◌}
-use Rattle.os_ast.specs.Examples.{on, mark, named, value, block}
+use Rattle.os_ast.specs.declared.ty.Ty.TheVariants as ty
+use Rattle.os_ast.specs.Examples.{on, mark, named, value, block, int_param}
 use Rattle.os_ast.specs.Trees as tree
 use Rattle.os_ast.specs.declared.program.Params.TheVariants as params
 use Rattle.os_lexer.specs.declared.token.Key.TheVariants as k
@@ -40,8 +41,9 @@ tokens =
 abbrev pub with_first : tree.StmtTree → tree.ProgramTree
 with_first s =
     tree.Function record {
+      ty = ty.Int;
       name = named 13 1 1;
-      params = params.Names (named 16 4 1 ∷ []);
+      params = params.Names (int_param 16 4 1 ∷ []);
       body = block (s ∷ tree.Return (mark 20 1) (tree.Number 2) ∷ []);
     } ∷ []
 

@@ -15,6 +15,7 @@
 --     return 0;
 -- }
 use Rattle.std.specs.Prelude.{ℕ, false, List, [], ◌∷◌, ◌++◌, ◌+◌, Some}
+use Rattle.os_ast.specs.declared.ty.Ty.TheVariants as ty
 use Rattle.os_ast.specs.Examples.{on, mark, named, variable, element, value, value_at, index, scalar, scalar_of, window, joined, clause, block}
 use Rattle.os_ast.specs.Trees as tree
 use Rattle.os_ast.specs.declared.expr.Binary.TheVariants as op
@@ -140,7 +141,7 @@ left place =
 abbrev pub body : tree.StmtTree
 body =
     tree.Block (block (
-    tree.StmtTree.Declare (scalar (named 92 80 10) ∷ [])
+    tree.StmtTree.Declare ty.Int (scalar (named 92 80 10) ∷ [])
     ∷ tree.For
     (tree.StartTree.Change (tree.Set (variable 92 84 11) assign.Plain (mark 85 11) (tree.Number 0)))
     (Some (tree.Chain level.Order (value 92 88 11) (tree.link op.Less (mark 89 11) (value 43 90 11) tree.no_links)))
@@ -153,12 +154,12 @@ body =
 abbrev pub turn : tree.StmtTree
 turn =
     tree.Block (block (
-    tree.StmtTree.Declare (scalar_of (named 43 31 6)
+    tree.StmtTree.Declare ty.Int (scalar_of (named 43 31 6)
     (tree.Choice
     (tree.Chain level.Order (left 33) (tree.link op.Less (mark 36 6) (value 14 37 6) tree.no_links))
     (left 39)
     (value 14 43 6)) ∷ [])
-    ∷ tree.StmtTree.Declare (window 58 46 7 (value 43 48 7) ∷ window 63 51 7 (value 43 53 7) ∷ [])
+    ∷ tree.StmtTree.Declare ty.Int (window 58 46 7 (value 43 48 7) ∷ window 63 51 7 (value 43 53 7) ∷ [])
     ∷ tree.Task (mark 56 8)
     (clause (tree.Input (joined (variable 9 61 8) (mark 62 8) (named 58 63 8) (index 64 8 (value 43 65 8)) ∷ []))
     ∷ clause (tree.Output (joined (variable 10 70 8) (mark 71 8) (named 63 72 8) (index 73 8 (value 43 74 8)) ∷ []))
@@ -168,12 +169,13 @@ turn =
 
 abbrev pub program : tree.ProgramTree
 program =
-    tree.Constant (record { name = named 14 2 2; minus = false; size = 4 })
+    tree.Constant (record { ty = ty.Int; name = named 14 2 2; minus = false; size = 4; wide = false })
     ∷ tree.Function record {
+      ty = ty.Int;
       name = named 8 7 3;
       params = params.Void;
       body = block (
-          tree.StmtTree.Declare (scalar (named 25 13 4) ∷ [])
+          tree.StmtTree.Declare ty.Int (scalar (named 25 13 4) ∷ [])
           ∷ tree.For
           (tree.StartTree.Change (tree.Set (variable 25 17 5) assign.Plain (mark 18 5) (tree.Number 0)))
           (Some (tree.Chain level.Order (value 25 21 5) (tree.link op.Less (mark 22 5) (value 11 23 5) tree.no_links)))

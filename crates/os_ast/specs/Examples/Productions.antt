@@ -11,8 +11,9 @@
 --     for (int i = 0; ; ) { }
 --     for (; a || b && c; a <<= 1) if (a) ; else a = 1;
 -- }
-use Rattle.std.specs.Prelude.{true, List, [], ◌∷◌, ◌++◌, Some, None}
-use Rattle.os_ast.specs.Examples.{on, mark, named, variable, element, value, index, scalar_of, joined, clause, block}
+use Rattle.std.specs.Prelude.{false, true, List, [], ◌∷◌, ◌++◌, Some, None}
+use Rattle.os_ast.specs.declared.ty.Ty.TheVariants as ty
+use Rattle.os_ast.specs.Examples.{on, mark, named, variable, element, value, index, scalar_of, joined, clause, block, int_param}
 use Rattle.os_ast.specs.Trees as tree
 use Rattle.os_ast.specs.declared.expr.Binary.TheVariants as op
 use Rattle.os_ast.specs.declared.expr.Level.TheVariants as level
@@ -183,11 +184,12 @@ tokens =
     ++ on 12 (punct p.CloseBrace ∷ [])
 
 abbrev pub constant : tree.ItemTree
-constant = tree.Constant (record { name = named 14 2 1; minus = true; size = 5 })
+constant = tree.Constant (record { ty = ty.Int; name = named 14 2 1; minus = true; size = 5; wide = false })
 
 abbrev pub plus : tree.ItemTree
 plus =
     tree.Function record {
+      ty = ty.Int;
       name = named 20 8 2;
       params = params.Empty;
       body = block (tree.Return (mark 12 2)
@@ -199,8 +201,9 @@ plus =
 abbrev pub loops : tree.ItemTree
 loops =
     tree.Function record {
+      ty = ty.Int;
       name = named 36 24 3;
-      params = params.Names (named 39 27 3 ∷ named 42 30 3 ∷ []);
+      params = params.Names (int_param 39 27 3 ∷ int_param 42 30 3 ∷ []);
       body = block (
           tree.While (tree.Unary unary.Not (mark 35 3) (value 39 36 3))
           (tree.Block (block (
@@ -216,7 +219,7 @@ loops =
 
 abbrev pub streams : tree.StmtTree
 streams =
-    tree.StmtTree.Declare (
+    tree.StmtTree.Declare ty.Int (
     record { name = named 78 66 5; size = index 67 5 (tree.Number 3); stream = true; first = None }
     ∷ record { name = named 89 77 5; size = None; stream = true; first = None }
     ∷ [])
@@ -247,6 +250,7 @@ program =
     ∷ plus
     ∷ loops
     ∷ tree.Function record {
+      ty = ty.Int;
       name = named 8 60 4;
       params = params.Void;
       body = block (
@@ -254,7 +258,7 @@ program =
           ∷ tree.Tick (mark 85 6) (element 78 89 6 (tree.Number 0)) (mark 93 6) (tree.Number 2)
           ∷ tree.Taskwait (mark 97 7)
           ∷ task
-          ∷ tree.For (tree.StartTree.Declare (scalar_of (named 141 129 10) (tree.Number 0) ∷ [])) None None (tree.Block tree.no_stmts)
+          ∷ tree.For (tree.StartTree.Declare ty.Int (scalar_of (named 141 129 10) (tree.Number 0) ∷ [])) None None (tree.Block tree.no_stmts)
           ∷ shifts
           ∷ []);
     }

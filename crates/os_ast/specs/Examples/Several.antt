@@ -1,5 +1,6 @@
 -- Programs with several violations.
 use Rattle.std.specs.Prelude.{false, true, [], ◌∷◌, None}
+use Rattle.os_ast.specs.declared.ty.Ty.TheVariants as ty
 use Rattle.os_ast.specs.Examples.{mark, named, variable, element, joined, block}
 use Rattle.os_ast.specs.Trees as tree
 use Rattle.os_ast.specs.declared.program.Params.TheVariants as params
@@ -10,11 +11,12 @@ abbrev pub single_stream_with_index : tree.ProgramTree
 single_stream_with_index =
     tree.Function
     record {
+      ty = ty.Int;
       name = (named 8 1 1);
       params = params.Void;
       body =
           (block
-          (tree.StmtTree.Declare (record { name = (named 19 7 1); size = None; stream = true; first = None } ∷ [])
+          (tree.StmtTree.Declare ty.Int (record { name = (named 19 7 1); size = None; stream = true; first = None } ∷ [])
           ∷ tree.StmtTree.Change (tree.Set (element 19 15 1 (tree.Number 0)) assign.Plain (mark 19 1) (tree.Number 1)) ∷ []));
     } ∷ []
 
@@ -26,11 +28,12 @@ abbrev pub wrong_name_behind_too_many_items : tree.ProgramTree
 wrong_name_behind_too_many_items =
     tree.Function
     record {
+      ty = ty.Int;
       name = (named 8 1 1);
       params = params.Void;
       body =
           (block
-          (tree.StmtTree.Declare
+          (tree.StmtTree.Declare ty.Int
           (record { name = (named 19 7 1); size = None; stream = false; first = None }
           ∷ record { name = (named 21 9 1); size = None; stream = false; first = None }
           ∷ record { name = (named 23 11 1); size = None; stream = false; first = None }
@@ -62,4 +65,4 @@ wrong_name_behind_too_many_items =
 abbrev pub no_main_and_others : tree.ProgramTree
 no_main_and_others =
     tree.Function
-    record { name = (named 13 1 1); params = params.Void; body = (block (tree.Break (mark 6 1) ∷ tree.Return (mark 8 1) (tree.Number 0) ∷ [])) } ∷ []
+    record { ty = ty.Int; name = (named 13 1 1); params = params.Void; body = (block (tree.Break (mark 6 1) ∷ tree.Return (mark 8 1) (tree.Number 0) ∷ [])) } ∷ []

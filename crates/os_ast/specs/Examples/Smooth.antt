@@ -9,6 +9,7 @@
 --     return 0;
 -- }
 use Rattle.std.specs.Prelude.{List, [], ◌∷◌, ◌++◌, Some, None}
+use Rattle.os_ast.specs.declared.ty.Ty.TheVariants as ty
 use Rattle.os_ast.specs.Examples.{on, mark, named, variable, value, value_at, index, scalar, window, joined, clause, block}
 use Rattle.os_ast.specs.Trees as tree
 use Rattle.os_ast.specs.declared.expr.Binary.TheVariants as op
@@ -105,10 +106,11 @@ body =
 abbrev pub program : tree.ProgramTree
 program =
     tree.Function record {
+      ty = ty.Int;
       name = named 8 1 1;
       params = params.Void;
       body = block (
-          tree.StmtTree.Declare (scalar (named 19 7 2) ∷ [])
+          tree.StmtTree.Declare ty.Int (scalar (named 19 7 2) ∷ [])
           ∷ tree.For
           (tree.StartTree.Change (tree.Set (variable 19 11 3) assign.Plain (mark 12 3) (tree.Number 0)))
           (Some (tree.Chain level.Order
@@ -116,7 +118,7 @@ program =
           (tree.link op.Less (mark 18 3) (value 11 19 3) tree.no_links)))
           (Some (tree.After (variable 19 21 3) step.Up (mark 22 3)))
           (tree.Block (block (
-          tree.StmtTree.Declare (window 38 26 4 (tree.Number 3) ∷ scalar (named 43 31 4) ∷ [])
+          tree.StmtTree.Declare ty.Int (window 38 26 4 (tree.Number 3) ∷ scalar (named 43 31 4) ∷ [])
           ∷ body
           ∷ [])))
           ∷ tree.Return (mark 74 8) (tree.Number 0)

@@ -14,10 +14,10 @@
 --     return 0;
 -- }
 use Rattle.std.specs.Prelude.{List, false, true, [], ◌∷◌, Some, None}
-use Rattle.os_ast.specs.Examples.{mark, named, variable, element, index, joined, block}
+use Rattle.os_ast.specs.declared.ty.Ty.TheVariants as ty
+use Rattle.os_ast.specs.Examples.{mark, named, variable, element, index, joined, block, int_named}
 use Rattle.os_ast.specs.Trees as tree
 use Rattle.os_ast.specs.declared.names.What.TheVariants as what
-use Rattle.os_ast.specs.Meanings.{resolved}
 use Rattle.os_ast.specs.declared.names.Resolved.{Resolved}
 use Rattle.os_ast.specs.declared.expr.Binary.TheVariants as op
 use Rattle.os_ast.specs.declared.expr.Level.TheVariants as level
@@ -29,12 +29,13 @@ abbrev pub program : tree.ProgramTree
 program =
     tree.Function
     record {
+      ty = ty.Int;
       name = (named 8 1 1);
       params = params.Void;
       body =
           (block
-          (tree.StmtTree.Declare (record { name = (named 19 7 2); size = (index 8 2 (tree.Number 3)); stream = true; first = None } ∷ [])
-          ∷ tree.StmtTree.Declare
+          (tree.StmtTree.Declare ty.Int (record { name = (named 19 7 2); size = (index 8 2 (tree.Number 3)); stream = true; first = None } ∷ [])
+          ∷ tree.StmtTree.Declare ty.Int
           (record { name = (named 31 19 3); size = None; stream = false; first = None }
           ∷ record { name = (named 33 21 3); size = None; stream = false; first = None } ∷ [])
           ∷ tree.For (tree.StartTree.Change (tree.Set (variable 31 25 4) assign.Plain (mark 26 4) (tree.Number 0)))
@@ -43,7 +44,7 @@ program =
           (Some (tree.After (variable 31 33 4) step.Up (mark 34 4)))
           (tree.Block
           (block
-          (tree.StmtTree.Declare
+          (tree.StmtTree.Declare ty.Int
           (record { name = (named 50 38 5); size = None; stream = false; first = None }
           ∷ record { name = (named 52 40 5); size = None; stream = false; first = None }
           ∷ record { name = (named 54 42 5); size = None; stream = false; first = None }
@@ -90,12 +91,12 @@ program =
 -- what each name means, by its place
 abbrev pub meanings : List Resolved
 meanings =
-    resolved 7 (what.Stream 2 3) ∷ resolved 19 (what.Scalar 1) ∷ resolved 21 (what.Scalar 2) ∷ resolved 25 (what.Scalar 1) ∷ resolved 29 (what.Scalar 1)
-    ∷ resolved 31 (what.Scalar 0) ∷ resolved 33 (what.Scalar 1) ∷ resolved 38 (what.Scalar 3) ∷ resolved 40 (what.Scalar 4) ∷ resolved 42 (what.Scalar 5)
-    ∷ resolved 44 (what.Scalar 6) ∷ resolved 46 (what.Scalar 7) ∷ resolved 53 (what.Stream 0 1) ∷ resolved 55 (what.Scalar 3)
-    ∷ resolved 59 (what.Stream 2 3) ∷ resolved 64 (what.Scalar 4) ∷ resolved 66 (what.Stream 2 3) ∷ resolved 71 (what.Scalar 5)
-    ∷ resolved 73 (what.Stream 2 3) ∷ resolved 78 (what.Scalar 6) ∷ resolved 82 (what.Element 1) ∷ resolved 84 (what.Element 0)
-    ∷ resolved 86 (what.Element 2) ∷ resolved 88 (what.Element 0) ∷ resolved 92 (what.Element 3) ∷ resolved 94 (what.Element 0)
-    ∷ resolved 101 (what.Scalar 2) ∷ resolved 105 (what.Scalar 2) ∷ resolved 109 (what.Scalar 2) ∷ resolved 118 (what.Stream 2 3)
-    ∷ resolved 120 (what.Scalar 2) ∷ resolved 123 (what.Scalar 3) ∷ resolved 127 (what.Stream 1 1) ∷ resolved 129 (what.Scalar 7)
-    ∷ resolved 132 (what.Element 1) ∷ resolved 134 (what.Element 0) ∷ []
+    int_named 7 (what.Stream 2 3) ∷ int_named 19 (what.Scalar 1) ∷ int_named 21 (what.Scalar 2) ∷ int_named 25 (what.Scalar 1) ∷ int_named 29 (what.Scalar 1)
+    ∷ int_named 31 (what.Scalar 0) ∷ int_named 33 (what.Scalar 1) ∷ int_named 38 (what.Scalar 3) ∷ int_named 40 (what.Scalar 4) ∷ int_named 42 (what.Scalar 5)
+    ∷ int_named 44 (what.Scalar 6) ∷ int_named 46 (what.Scalar 7) ∷ int_named 53 (what.Stream 0 1) ∷ int_named 55 (what.Scalar 3)
+    ∷ int_named 59 (what.Stream 2 3) ∷ int_named 64 (what.Scalar 4) ∷ int_named 66 (what.Stream 2 3) ∷ int_named 71 (what.Scalar 5)
+    ∷ int_named 73 (what.Stream 2 3) ∷ int_named 78 (what.Scalar 6) ∷ int_named 82 (what.Element 1) ∷ int_named 84 (what.Element 0)
+    ∷ int_named 86 (what.Element 2) ∷ int_named 88 (what.Element 0) ∷ int_named 92 (what.Element 3) ∷ int_named 94 (what.Element 0)
+    ∷ int_named 101 (what.Scalar 2) ∷ int_named 105 (what.Scalar 2) ∷ int_named 109 (what.Scalar 2) ∷ int_named 118 (what.Stream 2 3)
+    ∷ int_named 120 (what.Scalar 2) ∷ int_named 123 (what.Scalar 3) ∷ int_named 127 (what.Stream 1 1) ∷ int_named 129 (what.Scalar 7)
+    ∷ int_named 132 (what.Element 1) ∷ int_named 134 (what.Element 0) ∷ []

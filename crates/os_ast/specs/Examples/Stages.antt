@@ -22,10 +22,10 @@
 --     return 0;
 -- }
 use Rattle.std.specs.Prelude.{List, false, true, [], ◌∷◌, Some, None}
-use Rattle.os_ast.specs.Examples.{mark, named, variable, element, index, joined, block}
+use Rattle.os_ast.specs.declared.ty.Ty.TheVariants as ty
+use Rattle.os_ast.specs.Examples.{mark, named, variable, element, index, joined, block, int_named, int_param}
 use Rattle.os_ast.specs.Trees as tree
 use Rattle.os_ast.specs.declared.names.What.TheVariants as what
-use Rattle.os_ast.specs.Meanings.{resolved}
 use Rattle.os_ast.specs.declared.names.Resolved.{Resolved}
 use Rattle.os_ast.specs.declared.expr.Binary.TheVariants as op
 use Rattle.os_ast.specs.declared.expr.Level.TheVariants as level
@@ -36,8 +36,9 @@ abbrev pub program : tree.ProgramTree
 program =
     tree.Function
     record {
+      ty = ty.Int;
       name = (named 13 1 1);
-      params = params.Names ((named 16 4 1) ∷ []);
+      params = params.Names (int_param 16 4 1 ∷ []);
       body =
           (block
           (tree.Return (mark 7 2)
@@ -50,12 +51,13 @@ program =
     }
     ∷ tree.Function
     record {
+      ty = ty.Int;
       name = (named 8 22 4);
       params = params.Void;
       body =
           (block
-          (tree.StmtTree.Declare (record { name = (named 40 28 5); size = None; stream = true; first = None } ∷ [])
-          ∷ tree.StmtTree.Declare (record { name = (named 49 37 6); size = None; stream = false; first = None } ∷ [])
+          (tree.StmtTree.Declare ty.Int (record { name = (named 40 28 5); size = None; stream = true; first = None } ∷ [])
+          ∷ tree.StmtTree.Declare ty.Int (record { name = (named 49 37 6); size = None; stream = false; first = None } ∷ [])
           ∷ tree.For (tree.StartTree.Change (tree.Set (variable 49 41 7) assign.Plain (mark 42 7) (tree.Number 0)))
           (Some
           (tree.Chain level.Order
@@ -64,7 +66,7 @@ program =
           (Some (tree.Set (variable 49 51 7) (assign.With op.Add) (mark 52 7) (tree.Number 2)))
           (tree.Block
           (block
-          (tree.StmtTree.Declare
+          (tree.StmtTree.Declare ty.Int
           (record { name = (named 69 57 8); size = (index 58 8 (tree.Number 2)); stream = false; first = None }
           ∷ record { name = (named 74 62 8); size = (index 63 8 (tree.Number 2)); stream = false; first = None }
           ∷ record { name = (named 79 67 8); size = (index 68 8 (tree.Number 2)); stream = false; first = None }
@@ -80,7 +82,7 @@ program =
           } ∷ [])
           (tree.Block
           (block
-          (tree.StmtTree.Declare
+          (tree.StmtTree.Declare ty.Int
           (record {
             name = (named 16 101 11);
             size = None;
@@ -133,11 +135,11 @@ program =
 -- what each name means, by its place
 abbrev pub meanings : List Resolved
 meanings =
-    resolved 4 (what.Scalar 0) ∷ resolved 10 (what.Scalar 0) ∷ resolved 28 (what.Stream 2 1) ∷ resolved 37 (what.Scalar 1) ∷ resolved 41 (what.Scalar 1)
-    ∷ resolved 45 (what.Scalar 1) ∷ resolved 49 (what.Scalar 0) ∷ resolved 51 (what.Scalar 1) ∷ resolved 57 (what.Window 2) ∷ resolved 62 (what.Window 3)
-    ∷ resolved 67 (what.Window 4) ∷ resolved 72 (what.Window 5) ∷ resolved 82 (what.Stream 0 1) ∷ resolved 84 (what.Window 2)
-    ∷ resolved 91 (what.Stream 2 1) ∷ resolved 93 (what.Window 3) ∷ resolved 101 (what.Scalar 0) ∷ resolved 103 (what.Function 0)
-    ∷ resolved 105 (what.View 0) ∷ resolved 110 (what.View 0) ∷ resolved 116 (what.View 1) ∷ resolved 122 (what.View 0) ∷ resolved 128 (what.Scalar 0)
-    ∷ resolved 136 (what.View 1) ∷ resolved 141 (what.Scalar 0) ∷ resolved 149 (what.Stream 2 1) ∷ resolved 151 (what.Window 4)
-    ∷ resolved 158 (what.Stream 1 1) ∷ resolved 160 (what.Window 5) ∷ resolved 167 (what.View 1) ∷ resolved 172 (what.View 0) ∷ resolved 177 (what.View 1)
-    ∷ resolved 183 (what.View 0) ∷ []
+    int_named 4 (what.Scalar 0) ∷ int_named 10 (what.Scalar 0) ∷ int_named 28 (what.Stream 2 1) ∷ int_named 37 (what.Scalar 1) ∷ int_named 41 (what.Scalar 1)
+    ∷ int_named 45 (what.Scalar 1) ∷ int_named 49 (what.Scalar 0) ∷ int_named 51 (what.Scalar 1) ∷ int_named 57 (what.Window 2) ∷ int_named 62 (what.Window 3)
+    ∷ int_named 67 (what.Window 4) ∷ int_named 72 (what.Window 5) ∷ int_named 82 (what.Stream 0 1) ∷ int_named 84 (what.Window 2)
+    ∷ int_named 91 (what.Stream 2 1) ∷ int_named 93 (what.Window 3) ∷ int_named 101 (what.Scalar 0) ∷ int_named 103 (what.Function 0)
+    ∷ int_named 105 (what.View 0) ∷ int_named 110 (what.View 0) ∷ int_named 116 (what.View 1) ∷ int_named 122 (what.View 0) ∷ int_named 128 (what.Scalar 0)
+    ∷ int_named 136 (what.View 1) ∷ int_named 141 (what.Scalar 0) ∷ int_named 149 (what.Stream 2 1) ∷ int_named 151 (what.Window 4)
+    ∷ int_named 158 (what.Stream 1 1) ∷ int_named 160 (what.Window 5) ∷ int_named 167 (what.View 1) ∷ int_named 172 (what.View 0) ∷ int_named 177 (what.View 1)
+    ∷ int_named 183 (what.View 0) ∷ []

@@ -1,5 +1,6 @@
 -- int f(void) { return 1-2-3; }
 use Rattle.std.specs.Prelude.{List, [], ◌∷◌}
+use Rattle.os_ast.specs.declared.ty.Ty.TheVariants as ty
 use Rattle.os_ast.specs.Examples.{on, mark, named, block}
 use Rattle.os_ast.specs.Trees as tree
 use Rattle.os_ast.specs.declared.expr.Binary.TheVariants as op
@@ -31,6 +32,7 @@ tokens =
 abbrev pub program : tree.ProgramTree
 program =
     tree.Function record {
+      ty = ty.Int;
       name = named 13 1 1;
       params = params.Void;
       body = block (tree.Return (mark 6 1)

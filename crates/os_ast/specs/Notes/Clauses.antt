@@ -1,7 +1,7 @@
 -- The clauses of tasks.
-use Rattle.std.specs.Prelude.{ℕ, suc, List, [], ◌∷◌, ◌++◌, length, Option, Some, None}
+use Rattle.std.specs.Prelude.{ℕ, suc, Bool, List, [], ◌∷◌, ◌++◌, length, Option, Some, None}
 use Rattle.os_ast.specs.Captured.{captured, slots_of}
-use Rattle.os_ast.specs.Names.{Scope, lookup, entity_of, declare, enter, in_unit}
+use Rattle.os_ast.specs.Names.{Scope, lookup, entity_of, flag_of, flagged, declare, enter, in_unit}
 use Rattle.os_ast.specs.Notes.Expressions.{place_notes, index_notes}
 use Rattle.os_ast.specs.Notes.Kinds.{Note, Used, Task, Listed}
 use Rattle.os_ast.specs.Parts.{Part, Item, Private, target_name, item_name, part_name, count_items}
@@ -47,11 +47,15 @@ named_entity item d None _ = entity.Element item d
 abbrev pub item_entity : Scope → ℕ → Direction → tree.ClauseItemTree → Entity
 item_entity s item d i = named_entity item d i.window (entity_of (lookup s.entries (item_name i.stream i.window).id))
 
+-- An item's name has the type of its scalar, or of its window's or stream's elements.
+abbrev pub item_flag : Scope → tree.ClauseItemTree → Bool
+item_flag s i = flag_of (lookup s.entries (item_name i.stream i.window).id)
+
 -- the scope of the clauses, round the body; the items are looked up in the scope that is round the task
 abbrev pub with_items : Scope → Scope → ℕ → List Part → Scope
 with_items s inner item [] = inner
 with_items s inner item (Item d i ∷ ps) =
-    with_items s (declare inner (item_name i.stream i.window).id (item_entity s item d i)) (suc item) ps
+    with_items s (declare (flagged (item_flag s i) inner) (item_name i.stream i.window).id (item_entity s item d i)) (suc item) ps
 with_items s inner item (Private n ∷ ps) = with_items s inner item ps
 
 -- the scope round a task's body, before the names of its items: the captured scalars have the first slots

@@ -1,7 +1,7 @@
 -- Declarators: what they declare and take, and what stands in them.
 use Rattle.std.specs.Prelude.{ℕ, ◌+◌, ◌&&◌, Bool, true, false, not, if◌then◌else◌, List, [], ◌∷◌, ◌++◌, Option, Some, None, ℤ, pos, negsuc, unwrap_or}
 use Rattle.os_ast.specs.Limits.{is_size}
-use Rattle.os_ast.specs.Names.{Scope, lookup, entity_of, declare}
+use Rattle.os_ast.specs.Names.{Scope, lookup, entity_of, declare, typed}
 use Rattle.os_ast.specs.Notes.Expressions.{expr_notes, value_notes, change_notes}
 use Rattle.os_ast.specs.Notes.Kinds.{Note, Sized, Declared}
 use Rattle.os_ast.specs.Trees as tree
@@ -16,9 +16,11 @@ abbrev pub constant_of : Option Entity → Option ℤ
 constant_of (Some (entity.Constant v)) = Some v
 constant_of _ = None
 
--- the value of a size that is a number or the name of a constant
+-- The value of a size that is a number or the name of a constant, which stands by its bits: those of an `unsigned` that is no `int`
+-- are below 0, and it is no size either.
 abbrev pub size_value : Scope → tree.ExprTree → Option ℤ
 size_value s (tree.Number n) = Some (pos n)
+size_value s (tree.Wide n) = Some (pos n)
 size_value s (tree.Place (tree.Variable n)) = constant_of (entity_of (lookup s.entries n.id))
 size_value s _ = None
 
@@ -118,10 +120,10 @@ declarators_notes s (d ∷ ds) = declarator_notes s d ++ declarators_notes (afte
 
 abbrev pub after_start : Scope → tree.StartTree → Scope
 after_start s tree.StartTree.Empty = s
-after_start s (tree.StartTree.Declare ds) = after_declarators s ds
+after_start s (tree.StartTree.Declare t ds) = after_declarators (typed t s) ds
 after_start s (tree.StartTree.Change c) = s
 
 abbrev pub start_notes : Scope → tree.StartTree → List Note
 start_notes s tree.StartTree.Empty = []
-start_notes s (tree.StartTree.Declare ds) = declarators_notes s ds
+start_notes s (tree.StartTree.Declare t ds) = declarators_notes (typed t s) ds
 start_notes s (tree.StartTree.Change c) = change_notes s c

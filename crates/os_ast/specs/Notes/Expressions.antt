@@ -17,6 +17,7 @@ count_args (tree.arg e es) = suc (count_args es)
 abbrev mutual
   pub expr_notes : Scope → tree.ExprTree → List Note
   expr_notes s (tree.Number n) = []
+  expr_notes s (tree.Wide n) = []
   expr_notes s (tree.Place t) = place_notes s role.Value t
   expr_notes s (tree.ExprTree.Call f args) = Used s f (usage.Called (count_args args)) ∷ args_notes s args
   expr_notes s (tree.Paren e) = expr_notes s e

@@ -6,6 +6,7 @@ use Rattle.os_ast.specs.Trees.{DeclaratorTree}
 use Rattle.os_ast.specs.declared.expr.Mark.{Mark}
 use Rattle.os_ast.specs.declared.expr.Name.{Name}
 use Rattle.os_ast.specs.declared.names.Use.{Use}
+use Rattle.os_ast.specs.declared.program.Param.{Param}
 
 -- each with the scope in which it stands
 pub data Note : Type 0 where
@@ -16,7 +17,7 @@ pub data Note : Type 0 where
   -- the name of a declarator
   Declared : Scope → DeclaratorTree → Note
   -- the name of a parameter
-  Given : Scope → Name → Note
+  Given : Scope → Param → Note
   -- the name of a constant or of a function, where it is declared
   Global : Scope → Name → Note
   -- `break` or `continue`
@@ -35,7 +36,7 @@ abbrev pub mark_of : Note → Mark
 mark_of (Used s n u) = n.mark
 mark_of (Sized s n) = n.mark
 mark_of (Declared s d) = d.name.mark
-mark_of (Given s n) = n.mark
+mark_of (Given s p) = p.name.mark
 mark_of (Global s n) = n.mark
 mark_of (Left s m) = m
 mark_of (Returned s m) = m

@@ -1,6 +1,6 @@
 -- Statements, what is in scope after each, and what stands in them.
 use Rattle.std.specs.Prelude.{List, [], ◌∷◌, ◌++◌}
-use Rattle.os_ast.specs.Names.{Scope, enter, leave, after_unit, in_loop, behind}
+use Rattle.os_ast.specs.Names.{Scope, enter, leave, after_unit, in_loop, behind, typed}
 use Rattle.os_ast.specs.Notes.Clauses.{in_task_body, clauses_notes}
 use Rattle.os_ast.specs.Notes.Declarators.{after_declarators, declarators_notes, after_start, start_notes}
 use Rattle.os_ast.specs.Notes.Expressions.{count_args, expr_notes, place_notes, args_notes, value_notes, change_notes, step_notes}
@@ -16,7 +16,7 @@ abbrev mutual
   pub after_stmt : Scope → tree.StmtTree → Scope
   after_stmt s tree.StmtTree.Empty = s
   after_stmt s (tree.Block ss) = leave s (after_stmts (enter s) ss)
-  after_stmt s (tree.StmtTree.Declare ds) = after_declarators s ds
+  after_stmt s (tree.StmtTree.Declare t ds) = after_declarators (typed t s) ds
   after_stmt s (tree.StmtTree.Change c) = s
   after_stmt s (tree.StmtTree.Call f args) = s
   after_stmt s (tree.If c a) = after_stmt s a
@@ -38,7 +38,7 @@ abbrev mutual
   pub stmt_notes : Scope → tree.StmtTree → List Note
   stmt_notes s tree.StmtTree.Empty = []
   stmt_notes s (tree.Block ss) = stmts_notes (enter s) ss
-  stmt_notes s (tree.StmtTree.Declare ds) = declarators_notes s ds
+  stmt_notes s (tree.StmtTree.Declare t ds) = declarators_notes (typed t s) ds
   stmt_notes s (tree.StmtTree.Change c) = change_notes s c
   stmt_notes s (tree.StmtTree.Call f args) = Used s f (usage.Called (count_args args)) ∷ args_notes s args
   stmt_notes s (tree.If c a) = expr_notes s c ++ stmt_notes s a

@@ -4,7 +4,7 @@ use Rattle.cddf_meaning_plain_state.specs.FunctionTrees.{function_tree}
 use Rattle.os_ast.specs.Views.{item_tree}
 use Rattle.cddf_meaning_plain_tasks.proofs.tasks.known_in_main.Given as goal
 
-abbrev pub invariant-loop-name : goal.invariant-loop-name
-invariant-loop-name l =
-    l.known.items ++ map known_param (drop l.name-index l.name-items)
+abbrev pub invariant-loop-param : goal.invariant-loop-param
+invariant-loop-param l =
+    l.known.items ++ map known_param (drop l.param-index l.param-items)
     ≡ known_in_main (map item_tree l.main.file.now) (function_tree l.main.function.now)

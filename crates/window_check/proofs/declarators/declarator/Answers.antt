@@ -18,6 +18,6 @@ returns-clause-found c =
     let d = declarator_tree c.args.declarator.now in
     IfOk-equal c.value.result _ _ _ c.value.ensures
     (declarator-steps c.args.found.now c.declare.new.self c.sized.new.found c.args.scopes.now c.take.new.self c.declare-2.new.self d
-    c.form-form.result c.form_entity-entity.result c.code_with.result c.declarator_code-code.result c.meaning.result
-    c.form-form.ensures c.form_entity-entity.ensures c.code_with.ensures c.declarator_code-code.ensures c.meaning.ensures
+    c.form-form.result c.form_entity-entity.result c.code_with.result c.declarator_code-code.result c.meaning.result c.unsigned.result
+    c.form-form.ensures c.form_entity-entity.ensures c.code_with.ensures c.declarator_code-code.ensures c.meaning.ensures c.unsigned.ensures
     c.in_ok-declare.ensures c.in_ok-sized.ensures c.take.ensures c.in_ok-declare-2.ensures)

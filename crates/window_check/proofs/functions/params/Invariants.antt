@@ -4,9 +4,9 @@ use Rattle.window_check_names.specs.Findings.{noted}
 use Rattle.window_check_laws.specs.Room.{HasRoom}
 use Rattle.window_check.proofs.functions.params.Given as goal
 
-abbrev pub invariant-loop-name : goal.invariant-loop-name
-invariant-loop-name l = record {
-  room : HasRoom l.scopes (length l.names - l.name-index);
-  scopes : after_params l.scopes (drop l.name-index l.names) ≡ after_params l.fn.scopes l.names;
-  found : noted l.found (params_notes l.scopes (drop l.name-index l.names)) ≡ noted l.fn.found (params_notes l.fn.scopes l.names);
+abbrev pub invariant-loop-next : goal.invariant-loop-next
+invariant-loop-next l = record {
+  room : HasRoom l.scopes (length l.list - l.next-index);
+  scopes : after_params l.scopes (drop l.next-index l.list) ≡ after_params l.fn.scopes l.list;
+  found : noted l.found (params_notes l.scopes (drop l.next-index l.list)) ≡ noted l.fn.found (params_notes l.fn.scopes l.list);
 }

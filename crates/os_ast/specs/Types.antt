@@ -1,0 +1,10 @@
+-- The types of what is declared.
+use Rattle.std.specs.Prelude.{Bool, true, false}
+use Rattle.os_ast.specs.declared.ty.Ty.{Ty}
+use Rattle.os_ast.specs.declared.ty.Ty.TheVariants as ty
+
+-- `unsigned` and `unsigned int` are one type
+abbrev pub is_unsigned : Ty → Bool
+is_unsigned ty.Int = false
+is_unsigned ty.Unsigned = true
+is_unsigned ty.UnsignedInt = true
