@@ -66,12 +66,7 @@ fn activation_ends_so(
 }
 
 /// The first activation of a program ends so.
-fn first_ends_so(
-    rt: &impl Abort,
-    alloc: Global,
-    compiled: &Compiled,
-    row: Row,
-) -> Result<(), Fail>
+fn first_ends_so(rt: &impl Abort, alloc: Global, compiled: &Compiled, row: Row) -> Result<(), Fail>
     requires { All HasSmallNumber (spell (program_tree compiled.now.checked.program)) }
 {
     let control = control_beside(rt, alloc, compiled, 0, 0)?;

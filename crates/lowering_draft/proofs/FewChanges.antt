@@ -38,7 +38,6 @@ fetching_at_few : (old : Bool) (w : What) (line : ℕ) → length (fetching_at o
 fetching_at_few true w line = omega arith
 fetching_at_few false w line = omega arith
 
-
 -- the words of a type
 pub type_words_grow : (t : Ty) (rest : List Symbol) → length rest + 1 ≤ length (spelling.type_words t rest)
 type_words_grow ty_of.Int rest = omega arith

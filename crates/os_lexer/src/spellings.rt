@@ -49,8 +49,7 @@ impl<'a> Spellings<'a> {
             | Kind::Key(_)
             | Kind::Punct(_)
             | Kind::PragmaStart
-            | Kind::PragmaEnd =>
-                Ok(()),
+            | Kind::PragmaEnd => Ok(()),
         }
     }
 
