@@ -4,7 +4,8 @@
 Call it in a fresh clone on a machine that has kept nothing, where the time from nothing is wanted: what an earlier run
 passed is not proved again. It prints a table of the minutes that proofs, tests and must-fail edits took, by crate in the
 order of crates.txt, and their sum beside that of the whole run (which builds and runs programs too). With --write it puts
-the table into docs/WORKING.md. It looks at the processes once a second, so up to a second of each is missed.
+the table into docs/WORKING.md, where a crate that was kept, and so took no time, stays as it stands. It looks at the
+processes once a second, so up to a second of each is missed.
 Its status is that of the gate."""
 import os
 import resource
@@ -69,6 +70,8 @@ def write(rows):
         lines = page.read().split("\n")
     first = lines.index(rows[0])
     behind = next(at for at in range(first, len(lines)) if not lines[at].startswith("|"))
+    before = {line.split("|")[1]: line for line in lines[first:behind]}
+    rows = [before.get(row.split("|")[1], row) if row.endswith("| - | - | - |") else row for row in rows]
     with open(path, "w") as page:
         page.write("\n".join(lines[:first] + rows + lines[behind:]))
 

@@ -1,5 +1,4 @@
 pub mod Stacks
-pub mod Following
 pub mod Facts
 pub mod Moving
 pub mod Held
@@ -11,3 +10,4 @@ pub mod Starting
 pub mod Looping
 pub mod Ending
 pub mod Forms
+pub mod UnderWay

@@ -5,3 +5,6 @@ pub mod Room
 pub mod Rows
 pub mod Halting
 pub mod Ending
+pub mod Frames
+pub mod Following
+pub mod UnderWay

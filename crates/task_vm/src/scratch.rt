@@ -1,27 +1,29 @@
-ghost use Rattle.std.specs.Prelude.{◌≡◌, IfOk};
+ghost use Rattle.std.specs.Prelude.{◌≡◌, ◌+◌, ◌-◌, ◌++◌, ◌≤◌, length, replicate, pos, IfOk};
 
 use crate::registers::Caller;
 use os_code::Code;
-use os_io::Memory;
+use os_io::{Memory, Room};
 use std::alloc::Global;
 use std::marker::Model;
 
 /// The working room of `run_task`: made once for a code, and good for every run of it.
-#[derive(Debug, Drop)]
+#[derive(Drop)]
 pub struct Scratch {
     pub(crate) stack: Vec<i32>,
-    pub(crate) slots: Vec<i32>,
+    /// It holds as many as the deepest call so far needed, and has memory for those of every chain of calls: what no task
+    /// reaches isn't touched.
+    pub(crate) slots: Room<i32>,
     pub(crate) callers: Vec<Caller>,
     pub(crate) steps: u64,
 }
 
 impl Model for Scratch {
-    ghost use Rattle.std.specs.Prelude.{vec_len};
+    ghost use Rattle.std.specs.Prelude.{◌+◌, length, vec_len};
     ghost use Rattle.task_vm.specs.Space.{Space};
 
     ghost Value = { Space };
 
-    ghost view = { λ s. record { stack = vec_len s.stack; slots = vec_len s.slots; calls = vec_len s.callers; steps = s.steps } };
+    ghost view = { λ s. record { stack = vec_len s.stack; slots = length s.slots.items + s.slots.spare; calls = vec_len s.callers; steps = s.steps } };
 }
 
 impl Scratch {
@@ -33,9 +35,12 @@ impl Scratch {
         ensures made { IfOk result (IsMadeFor (parts_of code.now)) }
         ensures steps { IfOk result (λ scratch. scratch.steps ≡ 0) }
     {
+        let Ok(slots) = u32::try_from(code.slots_need()) else {
+            return Err(Memory);
+        };
         Ok(Scratch {
             stack: vec![in alloc; 0; code.stack_need() as usize]?,
-            slots: vec![in alloc; 0; code.slots_need() as usize]?,
+            slots: Room::new(alloc, slots)?,
             callers: vec![in alloc; Caller {
                 place: 0,
                 operands: 0,
@@ -51,5 +56,17 @@ impl Scratch {
         ensures { result ≡ self.now.steps }
     {
         self.steps
+    }
+}
+
+/// Fills a room up with zeros, until it holds so many slots.
+pub(crate) fn reach(slots: &mut Room<i32>, count: usize)
+    requires { count ≤ length slots.old.items + slots.old.spare }
+    ensures items { slots.new.items ≡ slots.old.items ++ replicate (count - length slots.old.items) (pos 0) }
+    ensures room { length slots.new.items + slots.new.spare ≡ length slots.old.items + slots.old.spare }
+{
+    let missing = count.saturating_sub(slots.len());
+    for _ in 0..missing {
+        slots.push_spare(0);
     }
 }

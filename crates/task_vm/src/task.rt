@@ -16,7 +16,7 @@ ghost use Rattle.task_vm.specs.Space.{IsMadeFor};
 
 use crate::registers::{fill_frame, unit_at};
 use crate::running::{Stop, run};
-use crate::scratch::Scratch;
+use crate::scratch::{Scratch, reach};
 use flow_core_laws::{Activation, Claim, TaskEnd};
 use os_code::{Code, Unit};
 
@@ -26,8 +26,6 @@ use os_code::{Code, Unit};
 /// The activation has to fit the code, and the scratch to be made for it, as it is again at every end. The outputs of
 /// a task that isn't `Done` are of no meaning. It takes no memory, and ends within `(budget + 1) * (code length + 1)`
 /// steps.
-// Inside a caller the loop would share its registers with what surrounds it.
-#[inline(never)]
 pub fn run_task(
     code: &Code,
     activation: &Activation,
@@ -53,6 +51,7 @@ pub fn run_task(
 {
     outputs.fill(0);
     let entry = entry_of(code, activation);
+    reach(&mut scratch.slots, entry.unit.slots as usize);
     fill_frame(
         scratch.slots.as_mut_slice(),
         0,
@@ -66,9 +65,10 @@ pub fn run_task(
         inputs,
         outputs,
         scratch.stack.as_mut_slice(),
-        scratch.slots.as_mut_slice(),
+        &mut scratch.slots,
         scratch.callers.as_mut_slice(),
         budget,
+        code.slots_need() as usize,
     );
     scratch.steps = stopped.steps;
     end_at(

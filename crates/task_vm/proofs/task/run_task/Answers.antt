@@ -1,4 +1,5 @@
-use Rattle.std.proofs.Common.{length, List, sym, ap, ◌∙◌, arith}
+use Rattle.std.proofs.Common.{◌≡◌, ℕ, ◌-◌, ◌≤◌, ◌++◌, length, take, drop, replicate, List, ℤ, pos, refl, sym, ap, ◌∙◌, arith, length-append, length-drop}
+use Rattle.std.proofs.lemmas.List.{length-replicate, length-take-le}
 use Rattle.flow_core_laws.specs.declared.claim.Claim.{Claim}
 use Rattle.os_code.specs.Codes.{parts_of}
 use Rattle.task_vm.specs.Ending.{end_of, all_bytes_from}
@@ -6,6 +7,20 @@ use Rattle.task_vm.specs.Space.{Space}
 use Rattle.task_vm.proofs.Ending.{ending}
 use Rattle.task_vm.proofs.Starting.{captured, slots-fit, slots-ready}
 use Rattle.task_vm.proofs.task.run_task.Goals as goal
+
+-- what a room holds once it reaches so far
+held : (before after : List ℤ) (count : ℕ) → after ≡ before ++ replicate (count - length before) (pos 0) → count ≤ length after
+held before after count is =
+    let size = ap length is in
+    let sum = length-append before (replicate (count - length before) (pos 0)) in
+    let more = length-replicate (count - length before) (pos 0) in
+    omega (arith, size, sum, more)
+
+-- a loan keeps the number of items
+kept : (lent items : List ℤ) → length (take (length items) (lent ++ drop (length lent) items)) ≡ length items
+kept lent items =
+    length-take-le (length items) (lent ++ drop (length lent) items)
+    (let sum = length-append lent (drop (length lent) items) in let rest = length-drop (length lent) items in omega (arith, sum, rest))
 
 pub fill_frame-requires-clause-few : goal.fill_frame-requires-clause-few
 fill_frame-requires-clause-few c =
@@ -15,20 +30,42 @@ fill_frame-requires-clause-few c =
     let e = ap length c.as_slice.ensures in
     omega (arith, n, m, e)
 
+pub reach-requires : goal.reach-requires
+reach-requires c =
+    let few = slots-fit (parts_of c.args.code.now) c.args.code.now.valid c.args.activation.now c.requires.fits c.args.inputs.now c.args.budget c.entry_of-entry.result.unit c.entry_of-entry.ensures.unit c.args.scratch.now c.requires.made in
+    let view = ap (λ (s : Space). s.slots) c.scratch.view_is in
+    omega (arith, few, view)
+
 pub fill_frame-requires-clause-inside : goal.fill_frame-requires-clause-inside
 fill_frame-requires-clause-inside c =
-    let few = slots-fit (parts_of c.args.code.now) c.args.code.now.valid c.args.activation.now c.requires.fits c.args.inputs.now c.args.budget c.entry_of-entry.result.unit c.entry_of-entry.ensures.unit c.args.scratch.now c.requires.made in
-    let size = c.as_mut_slice.ensures.len in
-    let view = ap (λ (s : Space). s.slots) c.scratch.view_is in
-    omega (arith, few, size, view)
+    let reach = held c.scratch.inside.slots.items c.reach.new.slots.items c.entry_of-entry.result.unit.slots c.reach.ensures.items in
+    let size = ap length c.as_mut_slice.ensures.value in
+    omega (arith, reach, size)
 
 pub run-stopped-requires-clause-slots : goal.run-stopped-requires-clause-slots
 run-stopped-requires-clause-slots c =
     let fits = captured (parts_of c.args.code.now) c.args.code.now.valid c.args.activation.now c.requires.fits c.args.inputs.now c.args.budget c.entry_of-entry.result.unit c.entry_of-entry.ensures.unit in
-    let few = slots-fit (parts_of c.args.code.now) c.args.code.now.valid c.args.activation.now c.requires.fits c.args.inputs.now c.args.budget c.entry_of-entry.result.unit c.entry_of-entry.ensures.unit c.args.scratch.now c.requires.made in
+    let reach = held c.scratch.inside.slots.items c.reach.new.slots.items c.entry_of-entry.result.unit.slots c.reach.ensures.items in
+    slots-ready (length c.reach.new.slots.items) c.entry_of-entry.result.unit.slots c.entry_of-entry.result.unit.args c.as_slice.result.now c.args.activation.now.captured c.fill_frame.new.slots
+    c.reach.new.slots.items _ _ c.as_slice.ensures fits.0 fits.1 reach c.fill_frame.ensures refl
+
+pub run-stopped-requires-clause-most : goal.run-stopped-requires-clause-most
+run-stopped-requires-clause-most c =
     let view = ap (λ (s : Space). s.slots) c.scratch.view_is in
-    slots-ready c.scratch.inside.slots.len c.entry_of-entry.result.unit.slots c.entry_of-entry.result.unit.args c.as_slice.result.now c.args.activation.now.captured c.fill_frame.new.slots
-    c.scratch.inside.slots.items c.as_mut_slice-3.result.now _ c.as_slice.ensures fits.0 fits.1 (omega (arith, few, view)) c.fill_frame.ensures c.as_mut_slice-3.ensures.value
+    let same = kept c.fill_frame.new.slots c.reach.new.slots.items in
+    c.slots_need.ensures.least _ (λ chain is. let few = c.requires.made.slots chain is in omega (arith, few, view, same, c.reach.ensures.room))
+
+pub returns-clause-made_again : goal.returns-clause-made_again
+returns-clause-made_again c =
+    let view = ap (λ (s : Space). s.slots) c.scratch.view_is in
+    let stack = ap (λ (s : Space). s.stack) c.scratch.view_is in
+    let calls = ap (λ (s : Space). s.calls) c.scratch.view_is in
+    let same = kept c.fill_frame.new.slots c.reach.new.slots.items in
+    record {
+      stack = λ chain is. let few = c.requires.made.stack chain is in omega (arith, few, stack);
+      slots = λ chain is. let few = c.requires.made.slots chain is in omega (arith, few, view, same, c.reach.ensures.room, c.run-stopped.ensures.slots);
+      calls = λ chain is. let few = c.requires.made.calls chain is in omega (arith, few, calls);
+    }
 
 pub returns-clause-end : goal.returns-clause-end
 returns-clause-end c =
