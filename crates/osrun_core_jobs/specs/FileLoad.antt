@@ -20,5 +20,5 @@ IsLoadRefusal view old new subject name (refusal.TooLong s) =
     (s ≡ subject) × (view.given new ≡ limit_of subject + 1) × IfSome (view.holds old name) (λ told. limit_of subject < length told)
 IsLoadRefusal view old new subject name (refusal.ReadFault s) =
     (s ≡ subject) × (view.given new ≤ limit_of subject) × HasRisen (view.faults old) (view.faults new)
-IsLoadRefusal view old new subject name refusal.Memory = Unit {0}
-IsLoadRefusal view old new subject name (refusal.Refused code line) = ⊥
+IsLoadRefusal view old new _ name refusal.Memory = Unit {0}
+IsLoadRefusal view old new _ name (refusal.Refused code line) = ⊥

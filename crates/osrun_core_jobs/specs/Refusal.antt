@@ -27,6 +27,6 @@ refusal_line refusal.Memory = []
 -- the status of a refusal
 abbrev pub refusal_status : Refusal → Status
 refusal_status (refusal.Refused code at) = status.Refused
-refusal_status (refusal.TooLong subject) = status.TooLong
-refusal_status (refusal.ReadFault subject) = status.ReadFault
+refusal_status (refusal.TooLong _) = status.TooLong
+refusal_status (refusal.ReadFault _) = status.ReadFault
 refusal_status refusal.Memory = status.NoMemory
