@@ -12,6 +12,8 @@ use std::process::Abort;
 /// The code of a text that is a program.
 pub(crate) fn compiled(rt: &impl Abort, alloc: Global, text: &str) -> Option<Code> {
     assert!(rt; text.len() <= 262_144);
-    let checked = read_program(alloc, text.as_bytes()).ok()?;
-    lower(alloc, &checked).ok()
+    match read_program(alloc, text.as_bytes()) {
+        Ok(checked) => lower(alloc, &checked).ok(),
+        Err(_) => None,
+    }
 }

@@ -96,15 +96,6 @@ const PROGRAMS: [&str; 9] = [
     INVERT, SMOOTH, LIFT, PIPELINE, BROADCAST, WAITING, BACKWARD, KEPT, STARVED,
 ];
 
-/// The code of a text that is a program.
-fn compiled(rt: &impl Abort, alloc: Global, text: &str) -> Option<Code> {
-    assert!(rt; text.len() <= 262_144);
-    match read_program(alloc, text.as_bytes()) {
-        Ok(checked) => lower(alloc, &checked).ok(),
-        Err(_) => None,
-    }
-}
-
 /// A run in epochs of at most so many activations, by so many workers.
 fn run<R: Threads + Sync>(
     rt: &R,

@@ -6,6 +6,7 @@ mod refusals;
 mod shapes;
 mod shown;
 mod trees;
+mod unsigned;
 
 use os_lexer::lex;
 use os_parser::{ParseError, parse};

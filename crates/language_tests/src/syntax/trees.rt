@@ -4,7 +4,7 @@ ghost use Rattle.std.specs.Prelude.{◌≡◌, ◌<◌, ◌+◌, IfOk};
 ghost use Rattle.os_ast.specs.Depth.{expr_depth, program_depth};
 ghost use Rattle.os_ast.specs.Views.{expr_tree, program_tree};
 
-use os_ast::{Expr, Function, Item, Mark, Name, Params, Program, Stmt, depth};
+use os_ast::{Expr, Function, Item, Mark, Name, Params, Program, Stmt, Ty, depth};
 use os_io::{List, Memory};
 use std::alloc::Global;
 
@@ -29,6 +29,7 @@ fn returning(alloc: Global, pairs: u32) -> Result<Program, Memory>
     body.push(Stmt::Return(HERE, parenthesized(alloc, pairs)?))?;
     let mut items = List::new(alloc);
     items.push(Item::Function(Function {
+        ty: Ty::Int,
         name: Name { id: 8, mark: HERE },
         params: Params::Void,
         body,
