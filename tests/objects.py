@@ -7,7 +7,8 @@
 - DRAWN valid codes, 1000 where no number is given, that are drawn from what no compiler writes: units in any order, code that nothing
   reaches, calls that open a unit, jumps to and fro. Each runs to its end, the same by one worker and by four.
 
-With the words --write DRAWN FILE it runs nothing, and writes as many drawn objects into the file, each behind its length as four bytes.
+With the words --write DRAWN FILE SEED it runs nothing, and writes as many drawn objects into the file, each behind its length as four
+bytes, the lowest first.
 It isn't called by .ci/run: ./build has to have built the program. The last line is `N passed, M failed`."""
 import itertools
 import os
@@ -358,8 +359,8 @@ class Draw:
         return Parts(self.streams, self.kinds.index("main"), self.units, list(self.sites.values()), code)
 
 
-def drawn_objects(count):
-    rng = random.Random(count)
+def drawn_objects(count, seed=0):
+    rng = random.Random(seed)
     for _ in range(count):
         parts = Draw(rng).parts()
         assert Code(parts).is_valid()
@@ -433,7 +434,7 @@ def objects():
 def main(words):
     if words[:1] == ["--write"]:
         with open(words[2], "wb") as file:
-            for data in drawn_objects(int(words[1])):
+            for data in drawn_objects(int(words[1]), int(words[3])):
                 file.write(struct.pack("<I", len(data)) + data)
         return 0
     if not os.access(OSRUN, os.X_OK):
