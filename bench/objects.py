@@ -21,7 +21,7 @@ TOP = os.path.dirname(os.path.dirname(os.path.abspath(__file__)))
 OSRUN = os.environ.get("OSRUN", f"{TOP}/crates/osrun/out/osrun")
 BELOW = ["os_io", "c_int", "flow_core_laws", "os_code", "os_object_validity", "os_object"]
 NUMBERS = 67108864 // 4 - 2
-PUSH, DROP, JUMP, TURN, END, SPAWN = 0, 1, 14, 16, 19, 23
+PUSH, DROP, JUMP, JUMP_ZERO, TURN, END, SPAWN = 0, 1, 14, 15, 16, 19, 23
 
 
 def repeated(numbers, count):
@@ -44,6 +44,15 @@ def turns():
 def operands():
     """An operand that is pushed and dropped again."""
     return behind([2, 0, 1, 0, 1, 1, 1, 0], [PUSH, 7, DROP], [END], 2)
+
+
+def jumps():
+    """Each jump leaves an `End` behind it that waits while the jump is followed."""
+    count = (NUMBERS - 10) // 5
+    code = repeated([PUSH, 1, JUMP_ZERO, 0, END], 5 * count)
+    for number in range(count):
+        code[5 * number + 3] = 3 * (number + 1)
+    return array.array("I", [2, 0, 1, 0, 1, 1, 1, 0, 3 * count + 1]) + code + array.array("I", [END]), 3 * count + 1
 
 
 def functions():
@@ -78,7 +87,7 @@ def an_instruction_25():
     return behind([2, 0, 1, 0, 1, 1, 0, 0], [TURN], [25], 1)
 
 
-KINDS = {"turns": turns, "operands": operands, "functions": functions, "tasks": tasks, "a last turn": past_its_end, "a last number 25": an_instruction_25}
+KINDS = {"turns": turns, "operands": operands, "jumps": jumps, "functions": functions, "tasks": tasks, "a last turn": past_its_end, "a last number 25": an_instruction_25}
 
 
 def scratch():
@@ -149,7 +158,7 @@ def drawn(program, count):
 
 def runs():
     print("| `exec` of | workers | s | MB | status |\n|---|---|---|---|---|")
-    for kind, make in {"turns": turns, "operands": operands, "functions": functions, "a task with a room of 64 MB": scratch}.items():
+    for kind, make in {"turns": turns, "operands": operands, "jumps": jumps, "functions": functions, "a task with a room of 64 MB": scratch}.items():
         with open("it.o", "wb") as file:
             file.write(object_of(make()[0]))
         for workers in ("1", "4", "64"):
