@@ -22,6 +22,8 @@ synopsis() {
     [ "$name" = osrun ] && [ "$1" = 2 ] && [ -t 2 ] || return 0
     echo "osrun run PROGRAM INPUT [--workers N] [--budget N] [--control N]" >&2
     echo "osrun gen SEED BLOCKS [--workers N]" >&2
+    echo "osrun compile PROGRAM" >&2
+    echo "osrun exec OBJECT INPUT [--workers N] [--budget N] [--control N]" >&2
     echo "osrun serve JOBS" >&2
 }
 

@@ -325,6 +325,18 @@ for text in "$top"/examples/*.c; do
         agree "the object of $(basename "$text"), run by $workers workers" "$of_text" wanted "$told_of_text"
     done
 done
+run compile "$top/examples/divide.c"
+mv out text.o
+run exec text.o zero.bin
+check "the object of a program of which a byte traps" 1 32 "trapped 1 code 2 line 8 / control done / output 1 of 3"
+run compile /dev/stdin <"$top/examples/invert.c"
+mv out text.o
+run exec text.o in.bin --budget 0
+check "tasks of an object without a budget" 1 "" "over-budget 0 / control done / output 0 of 4"
+run exec text.o in.bin --control 0
+check "the main of an object without a budget" 1 "" "control over-budget / output 0 of 0"
+run exec /dev/stdin in.bin <text.o
+check "an object from standard input" 0 fefdfcfb "control done / output 4 of 4"
 "$osrun" compile first.c >/dev/full 2>report
 status=$?
 : >out
@@ -626,7 +638,9 @@ status=$?
 check "a task of an array" 0 "" ""
 
 # Whichever allocation fails, the status is 7 and nothing is written, or the answer is that of ample memory. A run
-# makes fewer than 400 of them, and so do bytes that are made and bad words.
+# makes fewer than 400 of them, and so do bytes that are made, objects and bad words.
+run compile first.c
+mv out first.o
 compiler=$(command -v cc || command -v clang || echo "$(dirname "$(readlink -f "$(command -v rt)")")/../toolchain/bin/clang")
 "$compiler" -shared -fPIC -nostdlib -O1 -o failing_allocation.so "$top/tests/failing_allocation.c"
 # run_without NUMBER WORD..: runs the words, and lets the allocation of that number fail.
@@ -647,6 +661,18 @@ for number in $(seq 1 399); do
     else
         lines "allocation $number of bytes that are made fails" "seed 1 blocks 2" "input 8 sum 1363" "output 8 sum 1172" "status 0"
     fi
+    run_without "$number" compile first.c
+    if [ "$status" = 7 ]; then
+        check "allocation $number of an object that is written fails" 7 "" ""
+    else
+        agree "allocation $number of an object that is written fails" 0 first.o ""
+    fi
+    run_without "$number" exec first.o in.bin
+    if [ "$status" = 7 ]; then
+        check "allocation $number of an object that is run fails" 7 "" ""
+    else
+        check "allocation $number of an object that is run fails" 0 04030201 "control done / output 4 of 4"
+    fi
     run_without "$number" run --help
     if [ "$status" = 7 ]; then
         check "allocation $number of bad words fails" 7 "" ""
@@ -660,6 +686,10 @@ run_without 400 run first.c in.bin
 check "a run makes fewer allocations" 0 04030201 "control done / output 4 of 4"
 run_without 400 gen 1 2
 lines "bytes that are made make fewer allocations" "seed 1 blocks 2" "input 8 sum 1363" "output 8 sum 1172" "status 0"
+run_without 400 compile first.c
+agree "an object that is written makes fewer allocations" 0 first.o ""
+run_without 400 exec first.o in.bin
+check "an object that is run makes fewer allocations" 0 04030201 "control done / output 4 of 4"
 run_without 400 run --help
 check "bad words make fewer allocations" 2 "" usage
 

@@ -6,6 +6,7 @@ object.py --check compares it with the object that is shown there, with cuts of 
 """
 import struct
 import sys
+from collections import namedtuple
 
 MARK = b"OSO1"
 # The instructions by their numbers, each with its fields.
@@ -21,6 +22,12 @@ UNARY = ["-", "+", "!", "~", "unsigned -"]
 BINARY = ["*", "/", "%", "+", "-", "<<", ">>", "<", "<=", ">", ">=", "==", "!=", "&", "^", "|"]
 BINARY += ["unsigned " + operator for operator in BINARY[:11]]
 SHOWN = bytes.fromhex("4f534f31 02000000 00000000 01000000 00000000 01000000 01000000 00000000 00000000 01000000 13000000")
+
+# The parts of a code. An instruction is its name and its fields in order, as numbers; a window is its slot, or None.
+Parts = namedtuple("Parts", "streams main units sites instructions")
+Unit = namedtuple("Unit", "start args slots stack")
+Site = namedtuple("Site", "unit line captured items")
+Item = namedtuple("Item", "write stream window")
 
 
 class NoParts(Exception):
@@ -44,64 +51,76 @@ class Reader:
         return number
 
     def members(self, member):
-        for index in range(self.number()):
-            yield index, member()
+        return [member() for _ in range(self.number())]
 
-    def end(self):
+    def unit(self):
+        return Unit(*(self.number() for _ in range(4)))
+
+    def item(self):
+        write, stream, window = self.number(2), self.number(), self.number()
+        return Item(write, stream, window - 1 if window else None)
+
+    def site(self):
+        return Site(self.number(), self.number(), self.members(self.number), self.members(self.item))
+
+    def field(self, field, name):
+        if field == "operator":
+            return self.number(len(UNARY if name == "Unary" else BINARY))
+        number = self.number()
+        return number - (1 << 32) if field == "number" and number >= 1 << 31 else number
+
+    def instruction(self):
+        name, fields = INSTRUCTIONS[self.number(len(INSTRUCTIONS))]
+        return (name, *(self.field(field, name) for field in fields))
+
+    def parts(self):
+        streams, main = self.number(), self.number()
+        parts = Parts(streams, main, self.members(self.unit), self.members(self.site), self.members(self.instruction))
         if next(self.numbers, None) is not None:
             raise NoParts("numbers stand behind the instructions")
+        return parts
 
 
-def unit(reader):
-    start, args, slots, stack = (reader.number() for _ in range(4))
-    return f"start {start} args {args} slots {slots} stack {stack}"
+def read(data):
+    """The parts of a code that the bytes spell."""
+    return Reader(data).parts()
 
 
-def item(reader):
-    way, stream, window = reader.number(2), reader.number(), reader.number()
-    return f"{'writes' if way else 'reads'} stream {stream}" + (f" horizon in slot {window - 1}" if window else "")
+def item_text(item):
+    return f"{'writes' if item.write else 'reads'} stream {item.stream}" + ("" if item.window is None else f" horizon in slot {item.window}")
 
 
-def site(reader):
-    number, line = reader.number(), reader.number()
-    captured = [str(slot) for _, slot in reader.members(reader.number)]
-    items = [text for _, text in reader.members(lambda: item(reader))]
-    return f"unit {number} line {line} captured [{', '.join(captured)}] items [{', '.join(items)}]"
+def site_text(site):
+    captured, items = ", ".join(map(str, site.captured)), ", ".join(map(item_text, site.items))
+    return f"unit {site.unit} line {site.line} captured [{captured}] items [{items}]"
 
 
-def field(reader, name, instruction):
-    if name == "operator":
-        operators = UNARY if instruction == "Unary" else BINARY
-        return operators[reader.number(len(operators))]
-    number = reader.number()
-    return str(number - (1 << 32) if name == "number" and number >= 1 << 31 else number)
+def instruction_text(instruction):
+    name, *numbers = instruction
+    operators = UNARY if name == "Unary" else BINARY
+    fields = dict(INSTRUCTIONS)[name]
+    return " ".join([name] + [f"{field} {operators[number] if field == 'operator' else number}" for field, number in zip(fields, numbers)])
 
 
-def instruction(reader):
-    name, fields = INSTRUCTIONS[reader.number(len(INSTRUCTIONS))]
-    return " ".join([name] + [f"{f} {field(reader, f, name)}" for f in fields])
-
-
-def lines(data):
-    """The object as lines of text."""
-    reader = Reader(data)
-    shown = [f"streams {reader.number()}", f"main {reader.number()}"]
-    for kind, member in (("unit", unit), ("site", site), ("place", instruction)):
-        shown += [f"{kind} {index}: {text}" for index, text in reader.members(lambda: member(reader))]
-    reader.end()
-    return shown
+def lines(parts):
+    """The parts as lines of text."""
+    shown = [f"streams {parts.streams}", f"main {parts.main}"]
+    for index, unit in enumerate(parts.units):
+        shown.append(f"unit {index}: start {unit.start} args {unit.args} slots {unit.slots} stack {unit.stack}")
+    shown += [f"site {index}: {site_text(site)}" for index, site in enumerate(parts.sites)]
+    return shown + [f"place {index}: {instruction_text(instruction)}" for index, instruction in enumerate(parts.instructions)]
 
 
 def spells(data):
     try:
-        lines(data)
+        read(data)
     except NoParts:
         return False
     return True
 
 
 def check():
-    assert lines(SHOWN) == ["streams 2", "main 0", "unit 0: start 0 args 1 slots 1 stack 0", "place 0: End"]
+    assert lines(read(SHOWN)) == ["streams 2", "main 0", "unit 0: start 0 args 1 slots 1 stack 0", "place 0: End"]
     assert not any(spells(SHOWN[:length]) for length in range(len(SHOWN)))
     assert not spells(SHOWN + b"\0") and not spells(SHOWN + bytes(4))
     for place in range(len(SHOWN)):
@@ -120,7 +139,7 @@ def main():
     with open(sys.argv[1], "rb") as file:
         data = file.read()
     try:
-        print("\n".join(lines(data)))
+        print("\n".join(lines(read(data))))
     except NoParts as why:
         print(f"{sys.argv[1]}: no object: {why}", file=sys.stderr)
         return 1

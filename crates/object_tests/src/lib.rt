@@ -7,6 +7,8 @@
 #[cfg(test)]
 mod answers;
 #[cfg(test)]
+mod drawn;
+#[cfg(test)]
 mod format;
 #[cfg(test)]
 mod validity;

@@ -4,3 +4,4 @@ pub mod Parts
 pub mod Spelling
 pub mod Few
 pub mod Objects
+pub mod RoundTrip

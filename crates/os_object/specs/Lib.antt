@@ -1,5 +1,6 @@
--- What a reader believes: the bytes of parts, and what they are read as.
+-- What a reader believes: the bytes of parts, what they are read as, and what becomes of codes that are written and read.
 pub mod Object
 pub mod Answers
+pub mod RoundTrip
 -- What restates private functions.
 pub mod Fronts

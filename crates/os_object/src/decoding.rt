@@ -19,6 +19,8 @@ pub fn decode(alloc: Global, bytes: &[u8]) -> Result<Code, ObjectError>
     requires { length bytes.now ≤ 67108864 }
     // Where there is a code, the bytes are its object.
     ensures spelled { IfOk result (λ code. Spells bytes.now (parts_of code)) }
+    // The code is valid.
+    ensures valid { IfOk result (λ code. IsValid (parts_of code)) }
     // An object is read as the code that it is of. It is refused as `Invalid` only where the parts aren't valid, and as
     // `Format` never.
     ensures exact { (parts : CodeParts) → Spells bytes.now parts → IsReadAs parts result }
