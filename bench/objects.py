@@ -87,7 +87,8 @@ def an_instruction_25():
     return behind([2, 0, 1, 0, 1, 1, 0, 0], [TURN], [25], 1)
 
 
-KINDS = {"turns": turns, "operands": operands, "jumps": jumps, "functions": functions, "tasks": tasks, "a last turn": past_its_end, "a last number 25": an_instruction_25}
+VALID = {"turns": turns, "operands": operands, "jumps": jumps, "functions": functions, "tasks": tasks}
+KINDS = VALID | {"turns, the last one without an end": past_its_end, "turns, and a number that no instruction has": an_instruction_25}
 
 
 def scratch():
@@ -97,6 +98,18 @@ def scratch():
     length = NUMBERS - len(head) - 1 - len(main)
     head[6] = length
     return array.array("I", head + [257 + length] + main) + repeated([TURN], length - 1) + array.array("I", [END]), 257 + length
+
+
+def callers():
+    """As many functions, beside a task that `main` creates 256 times: a worker has room for a call of each of them."""
+    main = [SPAWN, 0] * 256 + [END]
+    count = (NUMBERS - len(main) - 20) // 7
+    units, code = array.array("I", [2, count, count + 2]), array.array("I", [2 * count + 258])
+    for number in range(count):
+        units.extend((2 * number, 0, 0, 0))
+        code.extend((TURN, JUMP, 2 * number))
+    units.extend((2 * count, 1, 1, 0, 2 * count + 257, 0, 0, 0, 1, count + 1, 1, 0, 0))
+    return units + code + array.array("I", main + [END]), 2 * count + 258
 
 
 def object_of(numbers):
@@ -158,7 +171,7 @@ def drawn(program, count):
 
 def runs():
     print("| `exec` of | workers | s | MB | status |\n|---|---|---|---|---|")
-    for kind, make in {"turns": turns, "operands": operands, "jumps": jumps, "functions": functions, "a task with a room of 64 MB": scratch}.items():
+    for kind, make in (VALID | {"a task with a long stack": scratch, "a task beside functions": callers}).items():
         with open("it.o", "wb") as file:
             file.write(object_of(make()[0]))
         for workers in ("1", "4", "64"):

@@ -240,7 +240,7 @@ class Body:
         items = self.draw.sites[self.number].items
         ways, outputs = [], [item for item, named in enumerate(items) if named.write]
         if items and height >= 1:
-            ways += [lambda: self.add("ItemCheck", self.rng.randrange(len(items)), line), lambda: self.add("ItemLoad", self.rng.randrange(len(items)), line)]
+            ways += [lambda name=name: self.add(name, self.rng.randrange(len(items)), line) for name in ("ItemCheck", "ItemLoad")]
         if outputs and height >= 2:
             ways += [lambda: self.add("ItemStore", self.rng.choice(outputs), line)] * 2
         return ways
@@ -248,7 +248,8 @@ class Body:
     def ways_of_main(self, height, line):
         rng, slots, ways = self.rng, self.unit.slots, []
         if height >= 1:
-            ways += [lambda: self.add("Window", rng.randrange(slots), line), lambda: self.add("BurstIn", line), lambda: self.add("BurstOut", rng.randrange(slots), line)]
+            ways += [lambda name=name: self.add(name, rng.randrange(slots), line) for name in ("Window", "BurstOut")]
+            ways.append(lambda: self.add("BurstIn", line))
         if height >= 2:
             ways.append(self.tick)
         return ways + [self.spawn] * 4 if self.draw.sites else ways
