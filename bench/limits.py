@@ -3,7 +3,8 @@
 
 Stack: for each way in which a program can nest to the depth of 200 that is the limit, the least limit on the stack of the process, in
 kilobytes, with which the program is still read, compiled and run. Room: the most memory of a run whose tasks call 16 functions
-with 65,536 elements of local arrays each, as many as a program may have, by 1, 4 and 64 workers. Turns: the seconds of a million turns
+with 65,536 elements of local arrays each, as many as a program may have, by 1, 4 and 64 workers, and of one whose tasks could call
+them and don't. Turns: the seconds of a million turns
 of a loop, each of which sets a local array of so many elements to zeros."""
 import os
 import resource
@@ -69,12 +70,14 @@ def rooms():
         f"return a[x]{f' + f{k - 1}(x)' if k else ''}; }}\n"
         for k in range(16)
     )
-    write(functions + "int main(void) {\nint i, y;\nfor (i = 0; i < 512; i++) {\n#pragma omp task output(osout << y)\ny = f15(i) & 255;\n}\n}\n")
-    print("| workers | KB at most |\n|---|---|")
-    for workers in ("1", "4", "64"):
-        words = ["/usr/bin/time", "-f", "%M", OSRUN, "run", "program.c", os.devnull, "--workers", workers]
-        made = subprocess.run(words, stdout=subprocess.DEVNULL, stderr=subprocess.PIPE, text=True, check=False)
-        print(f"| {workers} | {made.stderr.splitlines()[-1]} |{'' if made.returncode == 0 else f' status {made.returncode}'}")
+    print("| the tasks | workers | KB at most |\n|---|---|---|")
+    for what, condition in (("call them", "i < 512"), ("don't call them", "i == 512")):
+        call = f"if ({condition}) y = f15(i) & 255; else y = i & 255;"
+        write(functions + f"int main(void) {{\nint i, y;\nfor (i = 0; i < 512; i++) {{\n#pragma omp task output(osout << y)\n{call}\n}}\n}}\n")
+        for workers in ("1", "4", "64"):
+            words = ["/usr/bin/time", "-f", "%M", OSRUN, "run", "program.c", os.devnull, "--workers", workers]
+            made = subprocess.run(words, stdout=subprocess.DEVNULL, stderr=subprocess.PIPE, text=True, check=False)
+            print(f"| {what} | {workers} | {made.stderr.splitlines()[-1]} |{'' if made.returncode == 0 else f' status {made.returncode}'}")
 
 
 def turns():

@@ -23,6 +23,6 @@ error_is_memory never text p errors.Memory accepted h = refl
 pub not_refused : NeverBoth → (text : List ℕ) (p : ProgramTree) → IsAccepted text p → (cause : Refusal) → IsRefusalOf text cause → ⊥
 not_refused never text p accepted (refusals.Refused code (Some line)) h = never text p code line accepted h
 not_refused never text p accepted (refusals.Refused code None) h = h
-not_refused never text p accepted (refusals.TooLong subject) h = h
-not_refused never text p accepted (refusals.ReadFault subject) h = h
+not_refused never text p accepted (refusals.TooLong _) h = h
+not_refused never text p accepted (refusals.ReadFault _) h = h
 not_refused never text p accepted refusals.Memory h = h

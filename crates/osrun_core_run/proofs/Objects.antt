@@ -38,8 +38,8 @@ object_not_refused one bytes parts is (refusals.Refused code (Some line)) h = h
 object_not_refused one bytes parts is (refusals.Refused code None) (inl h) = h.1 parts is.spelled
 object_not_refused one bytes parts is (refusals.Refused code None) (inr h) =
     h.1.2 (subst IsValid (one bytes parts h.1.0 is.spelled h.1.1) is.valid)
-object_not_refused one bytes parts is (refusals.TooLong subject) h = h
-object_not_refused one bytes parts is (refusals.ReadFault subject) h = h
+object_not_refused one bytes parts is (refusals.TooLong _) h = h
+object_not_refused one bytes parts is (refusals.ReadFault _) h = h
 object_not_refused one bytes parts is refusals.Memory h = h
 
 -- nor are the bytes of another file

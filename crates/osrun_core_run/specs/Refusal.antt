@@ -36,9 +36,9 @@ IsUnusable Object bytes code None = IsNoObject bytes code
 -- the bytes of such a file are refused so
 abbrev pub IsRefusalAs : Subject → List ℕ → Refusal → Type 0
 IsRefusalAs subject bytes (refusals.Refused code line) = IsUnusable subject bytes code line
-IsRefusalAs subject bytes (refusals.TooLong other) = ⊥
-IsRefusalAs subject bytes (refusals.ReadFault other) = ⊥
-IsRefusalAs subject bytes refusals.Memory = ⊥
+IsRefusalAs _ bytes (refusals.TooLong other) = ⊥
+IsRefusalAs _ bytes (refusals.ReadFault other) = ⊥
+IsRefusalAs _ bytes refusals.Memory = ⊥
 
 -- a text is refused so
 abbrev pub IsRefusalOf : List ℕ → Refusal → Type 0
