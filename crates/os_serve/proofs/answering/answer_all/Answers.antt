@@ -1,6 +1,7 @@
 use Rattle.std.proofs.Common.{◌∙◌, ◌+◌, arith, refl, subst, sym}
 use Rattle.os_serve_answers.proofs.Next.{begins, few_jobs, goes_on, may_run, out_of_memory, reads_on, stops_by}
-use Rattle.os_serve_answers.specs.Answered.{IsAnswered, IsServing, StopsServing}
+use Rattle.os_serve_answers.specs.Answered.{IsAnswered, StopsServing}
+use Rattle.os_serve_answers.specs.Between.{IsServing}
 use Rattle.os_serve_jobs.specs.Reading.{IsDone, IsReading, waiting_lines}
 use Rattle.os_serve.specs.Command.{MayRun}
 use Rattle.os_serve.specs.Commands.{IsReplyTo}

@@ -1,5 +1,5 @@
 use Rattle.std.proofs.Common.{◌≡◌, ◌-◌}
-use Rattle.os_serve_answers.specs.Answered.{IsServing}
+use Rattle.os_serve_answers.specs.Between.{IsServing}
 use Rattle.os_serve_jobs.specs.Reading.{IsReading, waiting_lines}
 use Rattle.os_serve.specs.Commands.{IsReplyTo}
 use Rattle.os_serve.proofs.answering.answer_all.Given as goal
