@@ -82,8 +82,8 @@ pub record IsStopped {J O E : Type 0} (of_jobs : FilesView J) (jobs_old jobs_new
   pub report_kept : report_new ≡ report_old
 
 -- what each status says
-abbrev pub ServedCause : {J O E : Type 0} → FilesView J → J → J → SinkView O → O → O → SinkView E → E → E → List ℕ → List (List ℕ) → List Reply
-    → Status → Type 0
+abbrev pub ServedCause : {J O E : Type 0} → FilesView J → J → J → SinkView O → O → O → SinkView E → E → E → List ℕ → List (List ℕ)
+    → List Reply → Status → Type 0
 ServedCause of_jobs jobs_old jobs_new of_out out_old out_new of_report report_old report_new name lines replies statuses.AllDone =
     IsServed of_jobs jobs_old jobs_new of_out out_old out_new report_old report_new name lines replies
 ServedCause of_jobs jobs_old jobs_new of_out out_old out_new of_report report_old report_new name lines replies statuses.NotAllDone = ⊥
