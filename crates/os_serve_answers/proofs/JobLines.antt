@@ -1,16 +1,15 @@
 -- Lines that were read are jobs of the file, and not too many.
-use Rattle.std.proofs.Common.{◌≡◌, ◌≢◌, ◌∙◌, ◌⊎◌, inl, inr, subst, ℕ, zero, suc, ◌+◌, ◌-◌, ◌<◌, ◌≤◌, List, [], ◌∷◌, ◌++◌, Option, Some, None, All, IfSome, refl, sym, ap, arith, append_assoc, append-nil, length, take, drop}
+use Rattle.std.proofs.Common.{◌≡◌, ◌≢◌, ◌∙◌, ◌⊎◌, inl, inr, subst, ℕ, zero, suc, ◌+◌, ◌-◌, ◌≤◌, List, [], ◌∷◌, ◌++◌, Option, Some, None, All, IfSome, refl, sym, ap, arith, append_assoc, append-nil, length, take}
 use Rattle.std.specs.List.{flat_map}
 use Rattle.std.specs.Io.KnownBytes.{IsAtEnd, prepend_known}
-use Rattle.std.proofs.lemmas.List.{length-append, take-append-le, take-take}
+use Rattle.std.proofs.lemmas.List.{length-append, take-append-le}
 use Rattle.std.proofs.lemmas.List.Concat.{flat_map-append}
 use Rattle.std.proofs.lemmas.List.Elements.{All-take}
 use Rattle.std.proofs.Math.Seq.{take-append_seam, take-append-add}
-use Rattle.os_io.specs.Counts.{HasRisen}
 use Rattle.os_io.specs.declared.files.Files.{Ghosts as FilesView}
 use Rattle.os_serve_jobs.proofs.FirstJobs.{told_front}
-use Rattle.os_serve_jobs.specs.Lines.{AreLines, IsEndedIn, IsJobIn, IsLastIn, IsLine, StartsWith, ended, jobs_limit, last_line}
-use Rattle.os_serve_jobs.specs.Reading.{HasRead, IsFailedAt, IsOpenAt, IsTooLong, IsWhole, ReadSoFar, StandsBy, uncut}
+use Rattle.os_serve_jobs.specs.Lines.{IsEndedIn, IsJobIn, IsLine, StartsWith, ended, last_line}
+use Rattle.os_serve_jobs.specs.Reading.{HasRead, StandsBy, uncut}
 use Rattle.os_serve_jobs.specs.declared.reading.Reading.{Reading}
 use Rattle.os_serve_jobs.specs.declared.source.Source.{Source}
 use Rattle.os_serve_jobs.specs.declared.source.Source.TheVariants.{AtEnd, Failed, Open, TooLong}

@@ -1,5 +1,5 @@
 -- What a call of the server comes to, status by status.
-use Rattle.std.proofs.Common.{◌≡◌, ◌≢◌, ◌∙◌, ◌⊎◌, inl, inr, subst, ℕ, zero, suc, ◌+◌, ◌<◌, ◌≤◌, List, [], ◌∷◌, ◌++◌, Option, None, Some, IfSome, refl, sym, ap, arith, append-nil, length, take}
+use Rattle.std.proofs.Common.{◌≡◌, ◌≢◌, ◌∙◌, ◌⊎◌, inl, inr, subst, ℕ, zero, suc, ◌+◌, ◌<◌, ◌≤◌, List, [], ◌++◌, Option, None, Some, IfSome, refl, sym, ap, arith, length, take}
 use Rattle.std.specs.Io.KnownBytes.{IsAtEnd, prepend_known}
 use Rattle.std.proofs.lemmas.List.{length-append, take_all}
 use Rattle.os_io.specs.Counts.{HasRisen}
@@ -9,11 +9,10 @@ use Rattle.osrun_core_jobs.specs.Status.{code_of}
 use Rattle.osrun_core_jobs.specs.Telling.{HasTrouble}
 use Rattle.osrun_core_jobs.specs.declared.status.Status.{Status}
 use Rattle.osrun_core_jobs.specs.declared.status.Status.TheVariants as statuses
-use Rattle.os_serve_answers.specs.Replies.{AreReplies, Run}
+use Rattle.os_serve_answers.specs.Replies.{Run}
 use Rattle.os_serve_answers.specs.Said.{AnswersJobs, HaveReplies}
 use Rattle.os_serve_answers.specs.Serving.{AreFirst, IsBroken, IsCutIn, IsCutOff, IsServed, IsStopped, ServedCause, Serves, WasGiven}
 use Rattle.os_serve_jobs.proofs.FirstJobs.{all_jobs, all_whole, fewer, first_past, first_read, first_unread, no_lines, read_past, read_whole, some_jobs, told_front, within_or_past}
-use Rattle.os_serve_jobs.specs.Answers.{Reply}
 use Rattle.os_serve_jobs.specs.Lines.{AreEnded, AreFirstJobs, AreJobs, AreLines, StartsWith, jobs_limit}
 
 -- the status with a number

@@ -1,8 +1,8 @@
 -- Which lines are the jobs of a file, and which are its first ones.
-use Rattle.std.proofs.Common.{◌≡◌, ◌≢◌, ◌∙◌, ◌⊎◌, ◌==◌, inl, inr, subst, ℕ, zero, suc, ◌+◌, ◌-◌, ◌<◌, ◌≤◌, Bool, true, false, List, [], ◌∷◌, ◌++◌, Option, Some, None, All, IfSome, refl, sym, ap, arith, append_assoc, append-nil, length, take, drop}
+use Rattle.std.proofs.Common.{◌≡◌, ◌≢◌, ◌∙◌, ◌⊎◌, inl, inr, subst, ℕ, ◌+◌, ◌-◌, ◌<◌, ◌≤◌, true, false, List, [], ◌∷◌, ◌++◌, Option, Some, None, All, IfSome, refl, sym, ap, arith, append_assoc, append-nil, length, take}
 use Rattle.std.specs.Io.KnownBytes.{IsAtEnd, prepend_known}
 use Rattle.std.specs.List.{flat_map, slice_split}
-use Rattle.std.proofs.lemmas.List.{length-append, take-append-le, take-take, take_all}
+use Rattle.std.proofs.lemmas.List.{length-append, take-append-le}
 use Rattle.std.proofs.lemmas.List.Concat.{flat_map-append}
 use Rattle.std.proofs.lemmas.List.Elements.{All-append, All-cons, All-head, All-nil, All-tail}
 use Rattle.std.proofs.lemmas.List.Splits.{slice_split_at, slice_split_none}
@@ -10,10 +10,9 @@ use Rattle.std.proofs.lemmas.Bool.Decides.{eqb_tells, leb_tells}
 use Rattle.std.proofs.Math.Dec.{eqb}
 use Rattle.std.proofs.Math.Seq.{take-append-add}
 use Rattle.std.proofs.lemmas.Option.{same_Some}
-use Rattle.os_io.specs.Counts.{HasRisen}
 use Rattle.os_io.specs.declared.files.Files.{Ghosts as FilesView}
 use Rattle.os_serve_jobs.specs.Lines.{AreEnded, AreFirstJobs, AreJobs, AreLines, IsLine, StartsWith, ended, jobs_limit, last_line}
-use Rattle.os_serve_jobs.specs.Reading.{HasRead, IsFailedAt, IsOpenAt, IsTooLong, IsWhole, ReadSoFar, StandsBy, uncut}
+use Rattle.os_serve_jobs.specs.Reading.{HasRead, StandsBy, uncut}
 use Rattle.os_serve_jobs.specs.declared.reading.Reading.{Reading}
 use Rattle.os_serve_jobs.specs.declared.source.Source.{Source}
 use Rattle.os_serve_jobs.specs.declared.source.Source.TheVariants.{AtEnd, Failed, Open, TooLong}

@@ -1,6 +1,6 @@
 -- What was read, as it is read on and cut.
-use Rattle.std.proofs.Common.{◌≡◌, ◌∙◌, ◌⊎◌, inl, inr, subst, ℕ, zero, suc, ◌+◌, ◌-◌, ◌<◌, ◌≤◌, List, [], ◌∷◌, ◌++◌, Option, Some, None, Result, Ok, Err, All, refl, sym, ap, arith, append_assoc, append-nil, length, take, drop, vec_len}
-use Rattle.std.specs.Prelude.{Bool, false, is_err, OnErr, OnOk, MatchResult, slice_range}
+use Rattle.std.proofs.Common.{◌≡◌, ◌∙◌, inl, inr, subst, ℕ, ◌+◌, ◌-◌, ◌<◌, ◌≤◌, List, [], ◌++◌, Option, Some, None, Result, Ok, Err, All, refl, sym, ap, arith, append_assoc, append-nil, length, take, drop, vec_len}
+use Rattle.std.specs.Prelude.{false, is_err, OnErr, OnOk, MatchResult, slice_range}
 use Rattle.std.specs.declared.alloc.Global.{Global}
 use Rattle.std.specs.declared.vec.Vec.{Vec}
 use Rattle.std.specs.List.{flat_map}
@@ -10,11 +10,10 @@ use Rattle.std.proofs.lemmas.List.Concat.{flat_map-append}
 use Rattle.std.proofs.lemmas.List.Elements.{All-append, All-drop, All-nil, All-take}
 use Rattle.std.proofs.Math.Seq.{drop-append_seam, take-append_seam, take-append-add}
 use Rattle.os_io.proofs.Pieces.{prepend_known-prepend}
-use Rattle.os_io.specs.Counts.{HasRisen, raised}
 use Rattle.os_io.specs.declared.files.Files.{Ghosts as FilesView}
 use Rattle.os_serve_jobs.specs.Cutting.{IsCut, TookPiece}
 use Rattle.os_serve_jobs.specs.Lines.{AreLines, IsLine, StartsWith, ended, jobs_limit, last_line}
-use Rattle.os_serve_jobs.specs.Reading.{CutsOn, HasRead, IsFailedAt, IsOpenAt, IsTooLong, IsWhole, ReadSoFar, StandsBy, uncut, waiting_lines}
+use Rattle.os_serve_jobs.specs.Reading.{CutsOn, HasRead, IsOpenAt, ReadSoFar, StandsBy, uncut, waiting_lines}
 use Rattle.os_serve_jobs.specs.declared.reading.Reading.{Reading}
 use Rattle.os_serve_jobs.specs.declared.source.Source.{Source}
 use Rattle.os_serve_jobs.specs.declared.source.Source.TheVariants.{AtEnd, Failed, Open, TooLong}

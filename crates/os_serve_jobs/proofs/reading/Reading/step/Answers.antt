@@ -1,4 +1,3 @@
-use Rattle.std.proofs.Common.{refl}
 use Rattle.os_serve_jobs.specs.Reading.{waiting_lines}
 use Rattle.os_serve_jobs.proofs.ReadOn.{cuts_more, cuts_none, cuts_on}
 use Rattle.os_serve_jobs.proofs.reading.Reading.step.Goals as goal
