@@ -577,6 +577,17 @@ for job in $(seq 0 999); do
 done 3>thousand.jobs 4>wanted
 run serve thousand.jobs
 agree "a thousand jobs over the same file" 0 wanted ""
+# A file of jobs as long as may be: 4,096 jobs of 1,024 bytes, of which the last one has no line feed. With a byte more it isn't answered.
+yes "$(printf '%-1023s' stop)" | head -n 4095 >most.jobs
+printf '%-1024s' 'run first.c in.bin' >>most.jobs
+awk 'BEGIN { for (job = 0; job < 4095; job++) printf "job %d status 2 out 0 report 6\nusage\n", job }' >wanted
+cp wanted ended
+printf 'job 4095 status 0 out 4 report 27\n\004\003\002\001control done\noutput 4 of 4\n' >>wanted
+run serve most.jobs
+agree "a file of jobs of 4,194,304 bytes" 0 wanted ""
+printf ' ' >>most.jobs
+run serve most.jobs
+agree "a file of jobs of 4,194,305 bytes" 4 ended "too long jobs"
 # Jobs of each kind, one after the other, are answered as the command answers their words.
 cat >kinds.jobs <<'END'
 run first.c in.bin
@@ -682,6 +693,22 @@ for number in $(seq 1 399); do
 done
 run_without 1 run first.c in.bin
 check "the first allocation fails" 7 "" ""
+# Of a server the job for which memory is wanted is answered so, and no other; or the server itself ends, behind the answers before.
+printf 'job 0 status 0 out 4 report 27\n\004\003\002\001control done\noutput 4 of 4\n' >first.7
+printf 'job 1 status 2 out 0 report 6\nusage\n' | cat first.7 - >both.0
+printf 'job 0 status 7 out 0 report 0\njob 1 status 2 out 0 report 6\nusage\n' >first_wants.0
+printf 'job 1 status 7 out 0 report 0\n' | cat first.7 - >second_wants.0
+: >none.7
+for number in $(seq 1 449); do
+    run_without "$number" serve two.jobs
+    wanted=both.0
+    for front in *."$status"; do
+        if cmp -s out "$front"; then wanted=$front; fi
+    done
+    agree "allocation $number of a server fails" "${wanted##*.}" "$wanted" ""
+done
+run_without 450 serve two.jobs
+agree "a server of two jobs makes fewer allocations" 0 both.0 ""
 run_without 400 run first.c in.bin
 check "a run makes fewer allocations" 0 04030201 "control done / output 4 of 4"
 run_without 400 gen 1 2

@@ -1,5 +1,5 @@
 -- What words ask for, by the first of them and by how many there are.
-use Rattle.std.proofs.Common.{◌≡◌, ◌≢◌, ◌∙◌, ℕ, ◌<◌, Bool, true, false, List, [], ◌∷◌, Option, None, Some, refl, sym, ap, arith, get_or, length}
+use Rattle.std.proofs.Common.{◌≡◌, ◌≢◌, ◌∙◌, ◌<◌, Bool, true, List, [], ◌∷◌, None, Some, refl, sym, ap, arith, get_or, length}
 use Rattle.std.specs.Prelude.{codes, string_bytes, if◌then◌else◌}
 use Rattle.std.specs.Str.{bytes_eq}
 use Rattle.std.specs.declared.alloc.Global.{Global}

@@ -1,9 +1,8 @@
 -- What a job is answered.
-use Rattle.std.proofs.Common.{◌≡◌, ◌∙◌, ◌⊎◌, inl, inr, subst, ℕ, ◌+◌, ◌≤◌, Bool, true, false, List, [], ◌∷◌, Option, Some, refl, sym, ap, arith, take, slice_get}
-use Rattle.std.specs.Prelude.{IsTrue}
+use Rattle.std.proofs.Common.{◌≡◌, ◌∙◌, inl, inr, subst, ℕ, ◌+◌, Bool, true, false, List, [], ◌∷◌, refl, sym, ap, take}
 use Rattle.std.specs.Option.{ForSome}
 use Rattle.os_io.specs.declared.files.Files.{Ghosts as FilesView}
-use Rattle.osrun_core_answer.specs.Answers.{AnswersRequest, asked_files}
+use Rattle.osrun_core_answer.specs.Answers.{AnswersRequest}
 use Rattle.osrun_core_jobs.specs.Files.{JobFile, MayOpen, files_of}
 use Rattle.osrun_core_jobs.specs.Reading.{ReadsInOrder, WereRead}
 use Rattle.osrun_core_run.specs.Refusal.{IsUsable}

@@ -6,14 +6,15 @@
 //! All other words are answered as `run_words` answers them.
 //!
 //! The contract says that the bytes written are the answers to the jobs, each once and none else, and that the k-th answer is the
-//! k-th job's: what the command leaves for its words. The reading of lines, and what an answer looks like, are `os_serve_jobs`, and the
-//! order of the answers is `os_serve_answers`.
+//! k-th job's: what the command leaves for its words. `laws::serves_say` has what that comes to, status by status. The reading of lines,
+//! and what an answer looks like, are `os_serve_jobs`, and the order of the answers is `os_serve_answers`.
 #![tactic(auto)]
 
 mod answering;
 mod asked;
 mod beside;
 mod commands;
+pub mod laws;
 mod serving;
 mod words;
 

@@ -1,12 +1,12 @@
 -- What a call of the server leaves, by how far the jobs were answered.
-use Rattle.std.proofs.Common.{◌≡◌, ◌∙◌, ◌⊎◌, inl, inr, subst, ℕ, ◌+◌, ◌<◌, ◌≤◌, List, [], ◌∷◌, ◌++◌, Option, refl, sym, ap, arith, length, take}
+use Rattle.std.proofs.Common.{◌≡◌, ◌⊎◌, inl, inr, subst, ℕ, List, [], ◌++◌, refl, sym, arith, length}
 use Rattle.std.specs.Io.KnownBytes.{prepend_known}
 use Rattle.std.proofs.lemmas.List.{take_all}
 use Rattle.os_io.specs.Counts.{HasRisen}
 use Rattle.os_io.specs.declared.files.Files.{Ghosts as FilesView}
 use Rattle.os_io.specs.declared.sink.Sink.{Ghosts as SinkView}
 use Rattle.osrun_core_jobs.specs.Status.{code_of}
-use Rattle.osrun_core_jobs.specs.Telling.{IsCutShort, Took}
+use Rattle.osrun_core_jobs.specs.Telling.{Took}
 use Rattle.osrun_core_jobs.specs.declared.status.Status.{Status}
 use Rattle.osrun_core_jobs.specs.declared.status.Status.TheVariants as statuses
 use Rattle.os_serve_answers.specs.Answered.{EndsBy, IsAnswered, IsOutOfMemory, IsOutOfOutput, StopsServing, stop_status}
@@ -16,8 +16,8 @@ use Rattle.os_serve_answers.specs.declared.stop.Stop.TheVariants as stops
 use Rattle.os_serve_answers.specs.Serving.{AreFirst, ServedCause, Serves, WasGiven}
 use Rattle.os_serve_jobs.proofs.ReadOn.{uncut-line}
 use Rattle.os_serve_jobs.specs.Answers.{Reply, answers}
-use Rattle.os_serve_jobs.specs.Lines.{AreLines, IsLine, StartsWith, jobs_limit}
-use Rattle.os_serve_jobs.specs.Reading.{HasRead, IsDone, IsReading, StandsBy, uncut}
+use Rattle.os_serve_jobs.specs.Lines.{IsLine, StartsWith}
+use Rattle.os_serve_jobs.specs.Reading.{IsDone, IsReading, StandsBy, uncut}
 use Rattle.os_serve_jobs.specs.declared.reading.Reading.{Reading}
 use Rattle.os_serve_jobs.specs.declared.source.Source.{Source}
 use Rattle.os_serve_jobs.specs.declared.source.Source.TheVariants.{AtEnd, Failed, Open, TooLong}

@@ -1,16 +1,15 @@
 -- Lines that were read are jobs of the file, and not too many.
-use Rattle.std.proofs.Common.{◌≡◌, ◌≢◌, ◌∙◌, ◌⊎◌, inl, inr, subst, ℕ, zero, suc, ◌+◌, ◌-◌, ◌<◌, ◌≤◌, List, [], ◌∷◌, ◌++◌, Option, Some, None, All, IfSome, refl, sym, ap, arith, append_assoc, append-nil, length, take, drop}
+use Rattle.std.proofs.Common.{◌≡◌, ◌≢◌, ◌∙◌, ◌⊎◌, inl, inr, subst, ℕ, zero, suc, ◌+◌, ◌-◌, ◌≤◌, List, [], ◌∷◌, ◌++◌, Option, Some, None, All, IfSome, refl, sym, ap, arith, append_assoc, append-nil, length, take}
 use Rattle.std.specs.List.{flat_map}
 use Rattle.std.specs.Io.KnownBytes.{IsAtEnd, prepend_known}
-use Rattle.std.proofs.lemmas.List.{length-append, take-append-le, take-take}
+use Rattle.std.proofs.lemmas.List.{length-append, take-append-le}
 use Rattle.std.proofs.lemmas.List.Concat.{flat_map-append}
 use Rattle.std.proofs.lemmas.List.Elements.{All-take}
-use Rattle.std.proofs.lemmas.Option.{same_Some}
 use Rattle.std.proofs.Math.Seq.{take-append_seam, take-append-add}
-use Rattle.os_io.specs.Counts.{HasRisen}
 use Rattle.os_io.specs.declared.files.Files.{Ghosts as FilesView}
-use Rattle.os_serve_jobs.specs.Lines.{AreLines, IsEndedIn, IsJobIn, IsLastIn, IsLine, StartsWith, ended, jobs_limit, last_line}
-use Rattle.os_serve_jobs.specs.Reading.{HasRead, IsFailedAt, IsOpenAt, IsTooLong, IsWhole, ReadSoFar, StandsBy, uncut}
+use Rattle.os_serve_jobs.proofs.FirstJobs.{told_front}
+use Rattle.os_serve_jobs.specs.Lines.{IsEndedIn, IsJobIn, IsLine, StartsWith, ended, last_line}
+use Rattle.os_serve_jobs.specs.Reading.{HasRead, StandsBy, uncut}
 use Rattle.os_serve_jobs.specs.declared.reading.Reading.{Reading}
 use Rattle.os_serve_jobs.specs.declared.source.Source.{Source}
 use Rattle.os_serve_jobs.specs.declared.source.Source.TheVariants.{AtEnd, Failed, Open, TooLong}
@@ -37,11 +36,6 @@ last_within [] = omega arith
 last_within (byte ∷ bytes) = omega arith
 
 -- ---- lines of a front
-
--- what is told, with what was read in front
-told_front : (bytes read : List ℕ) (rest : Option (List ℕ)) → Some bytes ≡ prepend_known read rest → (behind : List ℕ) × (rest ≡ Some behind) × (bytes ≡ read ++ behind)
-told_front bytes read None is = absurd (cc)
-told_front bytes read (Some behind) is = (behind, refl, same_Some bytes (read ++ behind) is)
 
 -- a line among those with which a front begins
 among : (bytes front left behind : List ℕ) (earlier : List (List ℕ)) (line : List ℕ) (more : List (List ℕ)) → bytes ≡ front ++ behind

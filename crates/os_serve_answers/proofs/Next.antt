@@ -7,10 +7,12 @@ use Rattle.os_io.specs.declared.sink.Sink.{Ghosts as SinkView}
 use Rattle.osrun_core_jobs.specs.Telling.{IsCutShort, Took}
 use Rattle.os_serve_answers.proofs.JobLines.{few, is_job}
 use Rattle.os_serve_answers.proofs.Written.{answers_to_more, cut_later, one_more, took_more, took_nothing}
-use Rattle.os_serve_answers.specs.Answered.{AnswersNext, IsAnswered, IsOutOfMemory, IsServing, StopsServing}
+use Rattle.os_serve_answers.specs.Answered.{AnswersNext, IsAnswered, IsOutOfMemory, StopsServing}
+use Rattle.os_serve_answers.specs.Between.{IsServing}
 use Rattle.os_serve_answers.specs.Replies.{AreReplies, Run}
 use Rattle.os_serve_answers.specs.declared.stop.Stop.{Stop}
 use Rattle.os_serve_answers.specs.declared.stop.Stop.TheVariants as stops
+use Rattle.os_serve_jobs.proofs.FirstJobs.{are_first_jobs}
 use Rattle.os_serve_jobs.specs.Answers.{Reply, answer, answers}
 use Rattle.os_serve_jobs.specs.Lines.{IsJobIn}
 use Rattle.os_serve_jobs.specs.Reading.{HasRead, ReadsOn}
@@ -85,6 +87,8 @@ module _ {J F O : Type 0} (of_jobs : FilesView J) (run : Run F) (of_out : SinkVi
           lines = s.lines ++ line ∷ [];
           replies = s.replies ++ reply ∷ [];
           has_read = read_behind told faults jobs_old jobs reading_old reading s.lines waiting_old waiting_mid waiting line first reads s.has_read;
+          first_jobs = are_first_jobs of_jobs told faults jobs reading ((s.lines ++ line ∷ []) ++ waiting)
+              (read_behind told faults jobs_old jobs reading_old reading s.lines waiting_old waiting_mid waiting line first reads s.has_read);
           are_replies = one_more run files_first files_old files s.lines s.replies line reply s.are_replies is_reply;
           output = all_output files_first out_first s.lines s.replies s.are_replies s.counted s.output;
           counted = one_longer number s.lines line s.counted;
@@ -113,6 +117,7 @@ module _ {J F O : Type 0} (of_jobs : FilesView J) (run : Run F) (of_out : SinkVi
       lines = [];
       replies = [];
       has_read = has;
+      first_jobs = are_first_jobs of_jobs told faults jobs reading [] has;
       are_replies = refl;
       output = took_nothing of_out out;
       counted = refl;
@@ -127,6 +132,7 @@ module _ {J F O : Type 0} (of_jobs : FilesView J) (run : Run F) (of_out : SinkVi
       lines = s.lines;
       replies = s.replies;
       has_read = reads told faults s.lines s.has_read;
+      first_jobs = are_first_jobs of_jobs told faults jobs reading (s.lines ++ waiting) (reads told faults s.lines s.has_read);
       are_replies = s.are_replies;
       output = s.output;
       counted = s.counted;

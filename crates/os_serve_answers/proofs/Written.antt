@@ -1,11 +1,10 @@
 -- What was written, one text after the other, and the answers so far.
-use Rattle.std.proofs.Common.{◌≡◌, ◌∙◌, ◌⊎◌, inl, inr, subst, ℕ, zero, suc, ◌+◌, ◌<◌, ◌≤◌, List, [], ◌∷◌, ◌++◌, Option, Some, None, Result, Ok, Err, refl, sym, ap, arith, append_assoc, append-nil, length, take}
-use Rattle.std.specs.Prelude.{MatchResult, true, false, is_err}
+use Rattle.std.proofs.Common.{◌≡◌, ◌∙◌, inl, inr, subst, ℕ, ◌+◌, List, [], ◌∷◌, ◌++◌, Option, Some, None, Result, Ok, Err, refl, sym, ap, arith, append_assoc, append-nil, length, take}
+use Rattle.std.specs.Prelude.{true, false, is_err}
 use Rattle.std.specs.Io.KnownBytes.{append_known}
 use Rattle.std.proofs.lemmas.List.{length-append, take-append-le}
 use Rattle.std.proofs.Math.Seq.{take-append-add}
 use Rattle.os_io.specs.Counts.{HasRisen}
-use Rattle.os_io.specs.Writing.{TookProperPrefix}
 use Rattle.os_io.specs.declared.sink.Sink.{Ghosts as SinkView}
 use Rattle.os_io.specs.declared.writing.WriteError.{WriteError}
 use Rattle.osrun_core_jobs.specs.Telling.{HasTrouble, IsCutShort, IsWritten, Took}

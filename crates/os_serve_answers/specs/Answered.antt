@@ -1,11 +1,12 @@
--- How far the jobs were answered, for private functions.
-use Rattle.std.specs.Prelude.{◌≡◌, ℕ, List, ◌++◌, ◌+◌, MatchResult, Option, Result, codes, length}
+-- How far the jobs were answered when the server ends, for private functions.
+use Rattle.std.specs.Prelude.{◌≡◌, ℕ, List, ◌++◌, ◌+◌, MatchResult, Option, Result, codes}
 use Rattle.collector.specs.Line.{line}
 use Rattle.os_io.specs.declared.files.Files.{Ghosts as FilesView}
 use Rattle.os_io.specs.declared.sink.Sink.{Ghosts as SinkView}
 use Rattle.osrun_core_jobs.specs.Telling.{IsCutShort, Tells, Took}
 use Rattle.osrun_core_jobs.specs.declared.status.Status.{Status}
 use Rattle.osrun_core_jobs.specs.declared.status.Status.TheVariants as statuses
+use Rattle.os_serve_answers.specs.Between.{IsServing}
 use Rattle.os_serve_answers.specs.Replies.{AreReplies, Run}
 use Rattle.os_serve_answers.specs.declared.stop.Stop.{Stop}
 use Rattle.os_serve_answers.specs.declared.stop.Stop.TheVariants as stops
@@ -14,16 +15,6 @@ use Rattle.os_serve_jobs.specs.Reading.{HasRead, IsDone, IsReading}
 use Rattle.os_serve_jobs.specs.declared.reading.Reading.{Reading}
 use Rattle.os_serve_jobs.specs.declared.source.Source.{Source}
 use Rattle.os_serve_jobs.specs.declared.source.Source.TheVariants.{AtEnd, Failed, Open, TooLong}
-
--- The first jobs were answered, and further ones wait behind them.
-pub record IsServing {J F O : Type 0} (of_jobs : FilesView J) (told : Option (List ℕ)) (faults : ℕ) (jobs : J) (reading : Reading)
-    (waiting : List (List ℕ)) (run : Run F) (files_old files : F) (of_out : SinkView O) (out_old out : O) (number : ℕ) : Type 0 where
-  pub lines : List (List ℕ)
-  pub replies : List Reply
-  pub has_read : HasRead of_jobs told faults jobs reading (lines ++ waiting)
-  pub are_replies : AreReplies run files_old files lines replies
-  pub output : Took of_out out_old out (answers replies)
-  pub counted : number ≡ length lines
 
 -- The first jobs were answered, but for a part of the last answer.
 pub record IsOutOfOutput {J F O : Type 0} (of_jobs : FilesView J) (told : Option (List ℕ)) (faults : ℕ) (jobs : J) (reading : Reading)
@@ -68,8 +59,9 @@ pub record IsAnswered {J F O : Type 0} (of_jobs : FilesView J) (told : Option (L
   pub output : Took of_out out_old out (answers replies)
 
 -- Where the first jobs were answered and further ones wait, one more was answered; or the server stopped.
-abbrev pub AnswersNext : {J F O : Type 0} → FilesView J → (jobs_old jobs : J) → (reading_old reading : Reading) → (waiting_old waiting : List (List ℕ))
-    → Run F → (files_old files : F) → SinkView O → (out_old out : O) → ℕ → Result (Unit {0}) Stop → Type 0
+abbrev pub AnswersNext : {J F O : Type 0} → FilesView J → (jobs_old jobs : J) → (reading_old reading : Reading)
+    → (waiting_old waiting : List (List ℕ)) → Run F → (files_old files : F) → SinkView O → (out_old out : O) → ℕ
+    → Result (Unit {0}) Stop → Type 0
 AnswersNext {J} {F} {O} of_jobs jobs_old jobs reading_old reading waiting_old waiting run files_old files of_out out_old out number result =
     (told : Option (List ℕ)) (faults : ℕ) (files_first : F) (out_first : O)
     → IsServing of_jobs told faults jobs_old reading_old waiting_old run files_first files_old of_out out_first out_old number
@@ -78,8 +70,8 @@ AnswersNext {J} {F} {O} of_jobs jobs_old jobs reading_old reading waiting_old wa
     (StopsServing of_jobs told faults jobs reading run files_first files of_out out_first out)
 
 -- all jobs of a file were answered, to its end, or the server stopped
-abbrev pub AnswersAll : {J F O : Type 0} → FilesView J → Option (List ℕ) → ℕ → J → Reading → Run F → (files_old files : F) → SinkView O → (out_old out : O)
-    → Result (Unit {0}) Stop → Type 0
+abbrev pub AnswersAll : {J F O : Type 0} → FilesView J → Option (List ℕ) → ℕ → J → Reading → Run F → (files_old files : F)
+    → SinkView O → (out_old out : O) → Result (Unit {0}) Stop → Type 0
 AnswersAll of_jobs told faults jobs reading run files_old files of_out out_old out result = MatchResult result
     (λ _. IsAnswered of_jobs told faults jobs reading run files_old files of_out out_old out × IsDone reading × IsReading reading)
     (StopsServing of_jobs told faults jobs reading run files_old files of_out out_old out)

@@ -1,5 +1,5 @@
 -- What a call of the server leaves.
-use Rattle.std.specs.Prelude.{◌≡◌, ◌≤◌, ◌+◌, ◌⊎◌, ℕ, List, [], ◌++◌, Option, codes, length, take}
+use Rattle.std.specs.Prelude.{◌≡◌, ◌≤◌, ◌+◌, ◌⊎◌, ℕ, List, [], ◌++◌, codes, length, take}
 use Rattle.std.specs.Io.KnownBytes.{IsAtEnd, prepend_known}
 use Rattle.collector.specs.Line.{line}
 use Rattle.os_io.specs.Counts.{HasRisen}
@@ -82,8 +82,8 @@ pub record IsStopped {J O E : Type 0} (of_jobs : FilesView J) (jobs_old jobs_new
   pub report_kept : report_new ≡ report_old
 
 -- what each status says
-abbrev pub ServedCause : {J O E : Type 0} → FilesView J → J → J → SinkView O → O → O → SinkView E → E → E → List ℕ → List (List ℕ) → List Reply
-    → Status → Type 0
+abbrev pub ServedCause : {J O E : Type 0} → FilesView J → J → J → SinkView O → O → O → SinkView E → E → E → List ℕ → List (List ℕ)
+    → List Reply → Status → Type 0
 ServedCause of_jobs jobs_old jobs_new of_out out_old out_new of_report report_old report_new name lines replies statuses.AllDone =
     IsServed of_jobs jobs_old jobs_new of_out out_old out_new report_old report_new name lines replies
 ServedCause of_jobs jobs_old jobs_new of_out out_old out_new of_report report_old report_new name lines replies statuses.NotAllDone = ⊥

@@ -1,3 +1,4 @@
+pub mod FirstJobs
 pub mod Headings
 pub mod LineWords
 pub mod ReadOn

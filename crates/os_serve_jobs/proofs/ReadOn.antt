@@ -1,6 +1,6 @@
 -- What was read, as it is read on and cut.
-use Rattle.std.proofs.Common.{◌≡◌, ◌∙◌, ◌⊎◌, inl, inr, subst, ℕ, zero, suc, ◌+◌, ◌-◌, ◌<◌, ◌≤◌, List, [], ◌∷◌, ◌++◌, Option, Some, None, Result, Ok, Err, All, refl, sym, ap, arith, append_assoc, append-nil, length, take, drop, vec_len}
-use Rattle.std.specs.Prelude.{Bool, false, is_err, OnErr, OnOk, MatchResult, slice_range}
+use Rattle.std.proofs.Common.{◌≡◌, ◌∙◌, inl, inr, subst, ℕ, ◌+◌, ◌-◌, ◌<◌, ◌≤◌, List, [], ◌++◌, Option, Some, None, Result, Ok, Err, All, refl, sym, ap, arith, append_assoc, append-nil, length, take, drop, vec_len}
+use Rattle.std.specs.Prelude.{false, is_err, OnErr, OnOk, MatchResult, slice_range}
 use Rattle.std.specs.declared.alloc.Global.{Global}
 use Rattle.std.specs.declared.vec.Vec.{Vec}
 use Rattle.std.specs.List.{flat_map}
@@ -10,11 +10,10 @@ use Rattle.std.proofs.lemmas.List.Concat.{flat_map-append}
 use Rattle.std.proofs.lemmas.List.Elements.{All-append, All-drop, All-nil, All-take}
 use Rattle.std.proofs.Math.Seq.{drop-append_seam, take-append_seam, take-append-add}
 use Rattle.os_io.proofs.Pieces.{prepend_known-prepend}
-use Rattle.os_io.specs.Counts.{HasRisen, raised}
 use Rattle.os_io.specs.declared.files.Files.{Ghosts as FilesView}
 use Rattle.os_serve_jobs.specs.Cutting.{IsCut, TookPiece}
 use Rattle.os_serve_jobs.specs.Lines.{AreLines, IsLine, StartsWith, ended, jobs_limit, last_line}
-use Rattle.os_serve_jobs.specs.Reading.{HasRead, IsFailedAt, IsOpenAt, IsTooLong, IsWhole, ReadSoFar, StandsBy, uncut, waiting_lines}
+use Rattle.os_serve_jobs.specs.Reading.{CutsOn, HasRead, IsOpenAt, ReadSoFar, StandsBy, uncut, waiting_lines}
 use Rattle.os_serve_jobs.specs.declared.reading.Reading.{Reading}
 use Rattle.os_serve_jobs.specs.declared.source.Source.{Source}
 use Rattle.os_serve_jobs.specs.declared.source.Source.TheVariants.{AtEnd, Failed, Open, TooLong}
@@ -78,6 +77,29 @@ same_cut waiting_old waiting_new line_old line_new xs items next filled count cu
     ∙ cut.same
     ∙ append_assoc (flat_map ended waiting_old) line_old (slice_range xs next filled))
 
+-- nothing was cut
+pub cuts_none : (reading : Reading) (waiting : List (List ℕ)) → CutsOn reading reading waiting waiting
+cuts_none reading waiting = record {
+  same = refl;
+  each = λ lines. lines;
+  source = refl;
+  total = refl;
+  none = λ none. (refl, none);
+}
+
+-- one more line was cut, where there was something to cut
+pub cuts_more : (first before reading : Reading) (waiting_first waiting_before waiting : List (List ℕ)) → CutsOn first before waiting_first waiting_before
+    → before.next < before.filled → before.filled ≤ vec_len before.piece
+    → flat_map ended waiting ++ uncut reading ≡ flat_map ended waiting_before ++ uncut before → (All IsLine waiting_before → All IsLine waiting)
+    → reading.source ≡ before.source → reading.total ≡ before.total → CutsOn first reading waiting_first waiting
+cuts_more first before reading waiting_first waiting_before waiting cuts some within same each source total = record {
+  same = same ∙ cuts.same;
+  each = λ lines. each (cuts.each lines);
+  source = source ∙ cuts.source;
+  total = total ∙ cuts.total;
+  none = λ none. absurd (let left = ap length (cuts.none none).1 in let more = uncut-some before some within in omega (arith, left, more));
+}
+
 module _ {J : Type 0} (view : FilesView J) (told : Option (List ℕ)) (faults : ℕ) where
   -- how it stands, by another name of how more may come
   pub stands_by : (jobs : J) (lines : List (List ℕ)) (read left : List ℕ) (source other : Source) → source ≡ other
@@ -118,34 +140,43 @@ module _ {J : Type 0} (view : FilesView J) (told : Option (List ℕ)) (faults : 
   }
 
   cut_stands : (jobs : J) (read left_old left_new : List ℕ) (before waiting_old waiting_new : List (List ℕ)) (source : Source)
-      → flat_map ended waiting_new ++ left_new ≡ flat_map ended waiting_old ++ left_old → (All IsLine waiting_old → All IsLine waiting_new) → 0 < length left_old
+      → flat_map ended waiting_new ++ left_new ≡ flat_map ended waiting_old ++ left_old → (All IsLine waiting_old → All IsLine waiting_new)
+      → (left_old ≡ [] → (waiting_new ≡ waiting_old) × (left_new ≡ []))
       → StandsBy view told faults jobs (before ++ waiting_old) read left_old source → StandsBy view told faults jobs (before ++ waiting_new) read left_new source
-  cut_stands jobs read left_old left_new before waiting_old waiting_new Open same each some s = record {
+  cut_stands jobs read left_old left_new before waiting_old waiting_new Open same each none s = record {
     so_far = s.so_far;
     fits = s.fits;
     starts = starts_cut read left_old left_new before waiting_old waiting_new same each s.starts;
   }
-  cut_stands jobs read left_old left_new before waiting_old waiting_new AtEnd same each some s = absurd (let none = ap length s.none_left in omega (arith, none, some))
-  cut_stands jobs read left_old left_new before waiting_old waiting_new TooLong same each some s = record {
+  cut_stands jobs read left_old left_new before waiting_old waiting_new AtEnd same each none s =
+      let kept = none s.none_left in
+      record {
+        so_far = s.so_far;
+        fits = s.fits;
+        at_end = s.at_end;
+        lines_are = subst (λ w. AreLines read (before ++ w)) (sym kept.0) s.lines_are;
+        none_left = kept.1;
+      }
+  cut_stands jobs read left_old left_new before waiting_old waiting_new TooLong same each none s = record {
     so_far = s.so_far;
     one_past = s.one_past;
     starts = starts_cut (take jobs_limit read) left_old left_new before waiting_old waiting_new same each s.starts;
   }
-  cut_stands jobs read left_old left_new before waiting_old waiting_new Failed same each some s = record {
+  cut_stands jobs read left_old left_new before waiting_old waiting_new Failed same each none s = record {
     front = s.front;
     fits = s.fits;
     fault = s.fault;
     starts = starts_cut read left_old left_new before waiting_old waiting_new same each s.starts;
   }
 
-  pub cut_on : (jobs : J) (reading_old reading_new : Reading) (before waiting_old waiting_new : List (List ℕ)) → reading_new.source ≡ reading_old.source
-      → flat_map ended waiting_new ++ uncut reading_new ≡ flat_map ended waiting_old ++ uncut reading_old → (All IsLine waiting_old → All IsLine waiting_new)
-      → 0 < length (uncut reading_old) → HasRead view told faults jobs reading_old (before ++ waiting_old) → HasRead view told faults jobs reading_new (before ++ waiting_new)
-  cut_on jobs reading_old reading_new before waiting_old waiting_new source same each some has = record {
+  -- lines were cut off what was read
+  pub cuts_on : (jobs : J) (reading_old reading_new : Reading) (before waiting_old waiting_new : List (List ℕ)) → CutsOn reading_old reading_new waiting_old waiting_new
+      → HasRead view told faults jobs reading_old (before ++ waiting_old) → HasRead view told faults jobs reading_new (before ++ waiting_new)
+  cuts_on jobs reading_old reading_new before waiting_old waiting_new cuts has = record {
     read = has.read;
     given = has.given;
-    stands = stands_by jobs (before ++ waiting_new) has.read (uncut reading_new) reading_old.source reading_new.source (sym source)
-        (cut_stands jobs has.read (uncut reading_old) (uncut reading_new) before waiting_old waiting_new reading_old.source same each some has.stands);
+    stands = stands_by jobs (before ++ waiting_new) has.read (uncut reading_new) reading_old.source reading_new.source (sym cuts.source)
+        (cut_stands jobs has.read (uncut reading_old) (uncut reading_new) before waiting_old waiting_new reading_old.source cuts.same cuts.each cuts.none has.stands);
   }
 
   -- ---- what is read

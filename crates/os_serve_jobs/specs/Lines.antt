@@ -1,5 +1,5 @@
 -- The lines of a file of jobs. A line is seen without the line feed that ends it.
-use Rattle.std.specs.Prelude.{◌≡◌, ◌≢◌, ◌≤◌, ◌⊎◌, ℕ, List, [], ◌∷◌, ◌++◌, All, length, take}
+use Rattle.std.specs.Prelude.{◌≡◌, ◌≢◌, ◌<◌, ◌≤◌, ◌⊎◌, ℕ, List, [], ◌∷◌, ◌++◌, All, length, take}
 use Rattle.std.specs.List.{flat_map}
 
 -- how many bytes a file of jobs may have
@@ -55,3 +55,13 @@ pub record IsLastIn (held : List ℕ) (line : List ℕ) : Type 0 where
 -- It is a job of the file that holds the bytes.
 abbrev pub IsJobIn : List ℕ → List ℕ → Type 0
 IsJobIn held line = IsEndedIn held line ⊎ IsLastIn held line
+
+-- These are all jobs of the file that holds the bytes, in their order: all its lines, or, where it has more bytes than the limit, those
+-- that end in a line feed within it.
+abbrev pub AreJobs : List ℕ → List (List ℕ) → Type 0
+AreJobs held jobs =
+    ((length held ≤ jobs_limit) × AreLines held jobs) ⊎ ((jobs_limit < length held) × AreEnded (take jobs_limit held) jobs)
+
+-- These are its first jobs, in their order and with none left out.
+abbrev pub AreFirstJobs : List ℕ → List (List ℕ) → Type 0
+AreFirstJobs held lines = (more : List (List ℕ)) × AreJobs held (lines ++ more)

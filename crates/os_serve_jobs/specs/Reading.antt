@@ -1,11 +1,13 @@
 -- How far a file of jobs was read.
-use Rattle.std.specs.Prelude.{◌≡◌, ◌≢◌, ◌≤◌, ◌+◌, ◌⊎◌, ℕ, List, [], ◌++◌, Option, length, map, slice_range, take, vec_len}
+use Rattle.std.specs.Prelude.{◌≡◌, ◌≢◌, ◌≤◌, ◌+◌, ◌⊎◌, ◌++◌}
+use Rattle.std.specs.Prelude.{ℕ, List, [], All, Option, length, map, slice_range, take, vec_len}
+use Rattle.std.specs.List.{flat_map}
 use Rattle.std.specs.declared.vec.Vec.{Vec}
 use Rattle.std.specs.declared.alloc.Global.{Global}
 use Rattle.std.specs.Io.KnownBytes.{IsAtEnd, prepend_known}
 use Rattle.os_io.specs.Counts.{HasRisen}
 use Rattle.os_io.specs.declared.files.Files.{Ghosts as FilesView}
-use Rattle.os_serve_jobs.specs.Lines.{AreLines, IsLine, StartsWith, jobs_limit}
+use Rattle.os_serve_jobs.specs.Lines.{AreLines, IsLine, StartsWith, ended, jobs_limit}
 use Rattle.os_serve_jobs.specs.declared.reading.Reading.{Reading}
 use Rattle.os_serve_jobs.specs.declared.source.Source.{Source}
 use Rattle.os_serve_jobs.specs.declared.source.Source.TheVariants.{AtEnd, Failed, Open, TooLong}
@@ -74,6 +76,14 @@ abbrev pub ReadsOn : {J : Type 0} → FilesView J → (jobs_old jobs_new : J) �
 ReadsOn view jobs_old jobs_new reading_old reading_new waiting_old waiting_new =
     (told : Option (List ℕ)) (faults : ℕ) (before : List (List ℕ)) → HasRead view told faults jobs_old reading_old (before ++ waiting_old)
     → HasRead view told faults jobs_new reading_new (before ++ waiting_new)
+
+-- Nothing was read, and lines were cut off what was: lines, and what is not cut yet, are what they were, one after the other.
+pub record CutsOn (reading_old reading_new : Reading) (waiting_old waiting_new : List (List ℕ)) : Type 0 where
+  pub same : flat_map ended waiting_new ++ uncut reading_new ≡ flat_map ended waiting_old ++ uncut reading_old
+  pub each : All IsLine waiting_old → All IsLine waiting_new
+  pub source : reading_new.source ≡ reading_old.source
+  pub total : reading_new.total ≡ reading_old.total
+  pub none : uncut reading_old ≡ [] → (waiting_new ≡ waiting_old) × (uncut reading_new ≡ [])
 
 -- what holds of the room of every reading
 pub record IsReading (reading : Reading) : Type 0 where

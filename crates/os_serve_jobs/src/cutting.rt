@@ -1,4 +1,4 @@
-ghost use Rattle.std.specs.Prelude.{◌≡◌, ◌<◌, ◌≤◌, ◌+◌, ◌∷◌, ◌++◌, [], IfOk, MatchOption, OnErr, drop, length, take};
+ghost use Rattle.std.specs.Prelude.{◌≡◌, ◌<◌, ◌≤◌, ◌+◌, ◌∷◌, ◌++◌, [], IfOk, MatchOption, OnErr, drop, length, take, vec_len};
 ghost use Rattle.os_serve_jobs.specs.Cutting.{IsCut};
 ghost use Rattle.os_serve_jobs.specs.Lines.{IsLine};
 ghost use Rattle.os_serve_jobs.specs.Reading.{waiting_lines};
@@ -34,6 +34,7 @@ pub(crate) fn cut(
     ensures cut { IfOk result (λ count. IsCut (waiting_lines waiting.old.items) (waiting_lines waiting.new.items) line.old.items line.new.items
         piece.now count) }
     ensures some { IfOk result (λ count. 0 < length piece.now → 0 < count) }
+    ensures one { vec_len waiting.new ≤ vec_len waiting.old + 1 }
     ensures line { OnErr result (line.new.items ≡ line.old.items) }
     ensures waiting { OnErr result (waiting.new.items ≡ waiting.old.items) }
 {
@@ -54,6 +55,7 @@ pub(crate) fn end_line(
 ) -> Result<(), Memory>
     ensures waits { IfOk result (λ _. waiting_lines waiting.new.items ≡ waiting_lines waiting.old.items ++ (line.old.items ++ last.now) ∷ []) }
     ensures begun { IfOk result (λ _. line.new.items ≡ []) }
+    ensures one { vec_len waiting.new ≤ vec_len waiting.old + 1 }
     ensures line { OnErr result (line.new.items ≡ line.old.items) }
     ensures waiting { OnErr result (waiting.new.items ≡ waiting.old.items) }
 {

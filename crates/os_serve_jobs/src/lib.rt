@@ -6,12 +6,13 @@
 //! answer.
 //!
 //! Which bytes are lines, what a line's words are, and what an answer looks like are definitions of this crate; what the jobs are
-//! answered is none of its business.
+//! answered is none of its business. `laws` say that a file has one list of jobs, and that what is read of it are the first ones.
 #![tactic(auto)]
 
 mod cutting;
 mod heading;
 mod kept;
+pub mod laws;
 mod reading;
 mod source;
 mod words;

@@ -1,8 +1,8 @@
-ghost use Rattle.std.specs.Prelude.{◌≡◌, ◌<◌, ◌≤◌, ◌+◌, ◌⊎◌, ◌∷◌, ◌++◌, [], All, IsTrue, OnErr, OnOk, false, vec_len};
+ghost use Rattle.std.specs.Prelude.{◌≡◌, ◌<◌, ◌≤◌, ◌+◌, ◌⊎◌, ◌∷◌, ◌++◌, [], All, IsTrue, OnErr, OnOk, false, max, vec_len};
 ghost use Rattle.std.specs.List.{flat_map};
 ghost use Rattle.os_serve_jobs.specs.Cutting.{HasMore, TookPiece, left_to_do};
 ghost use Rattle.os_serve_jobs.specs.Lines.{IsLine, ended, jobs_limit, last_line};
-ghost use Rattle.os_serve_jobs.specs.Reading.{HasRead, IsDone, IsFresh, IsReading, ReadsOn, uncut, waiting_lines};
+ghost use Rattle.os_serve_jobs.specs.Reading.{CutsOn, HasRead, IsDone, IsFresh, IsReading, ReadsOn, uncut, waiting_lines};
 
 use crate::cutting::{cut, end_line};
 use crate::source::Source;
@@ -72,9 +72,30 @@ impl Reading {
         ensures given { J.given jobs.new ≡ self.new.total }
         ensures reads { ReadsOn J.Files jobs.old jobs.new self.old self.new (waiting_lines waiting.old.items) (waiting_lines waiting.new.items) }
         ensures enough { OnOk result ((most ≤ vec_len waiting.new) ⊎ IsDone self.new) }
+        ensures few { vec_len waiting.new ≤ max most (vec_len waiting.old) }
     {
         'reading: while waiting.len() < most && !self.is_done() {
             self.step(alloc, jobs, waiting)?;
+        }
+        Ok(())
+    }
+
+    /// Cuts lines off what was read already, until so many wait or all of it is cut. It reads nothing. Where `Memory` comes, nothing is
+    /// lost of what was read.
+    pub fn cut_on(
+        &mut self,
+        alloc: Global,
+        waiting: &mut Vec<Vec<u8>>,
+        most: usize,
+    ) -> Result<(), Memory>
+        requires { IsReading self.old }
+        ensures is_reading { IsReading self.new }
+        ensures cuts { CutsOn self.old self.new (waiting_lines waiting.old.items) (waiting_lines waiting.new.items) }
+        ensures enough { OnOk result ((most ≤ vec_len waiting.new) ⊎ (self.new.next ≡ self.new.filled)) }
+        ensures few { vec_len waiting.new ≤ max most (vec_len waiting.old) }
+    {
+        'cutting: while waiting.len() < most && self.next < self.filled {
+            self.cut_next(alloc, waiting)?;
         }
         Ok(())
     }
@@ -101,6 +122,7 @@ impl Reading {
         ensures is_reading { IsReading self.new }
         ensures given { J.given jobs.new ≡ self.new.total }
         ensures reads { ReadsOn J.Files jobs.old jobs.new self.old self.new (waiting_lines waiting.old.items) (waiting_lines waiting.new.items) }
+        ensures one { vec_len waiting.new ≤ vec_len waiting.old + 1 }
         ensures smaller { OnOk result (left_to_do self.new < left_to_do self.old) }
     {
         if self.next < self.filled {
@@ -119,6 +141,7 @@ impl Reading {
         ensures each { All IsLine (waiting_lines waiting.old.items) → All IsLine (waiting_lines waiting.new.items) }
         ensures total { self.new.total ≡ self.old.total }
         ensures source { self.new.source ≡ self.old.source }
+        ensures one { vec_len waiting.new ≤ vec_len waiting.old + 1 }
         ensures smaller { OnOk result (left_to_do self.new < left_to_do self.old) }
     {
         let count = cut(
@@ -145,6 +168,7 @@ impl Reading {
         ensures is_reading { IsReading self.new }
         ensures given { J.given jobs.new ≡ self.new.total }
         ensures reads { ReadsOn J.Files jobs.old jobs.new self.old self.new (waiting_lines waiting.old.items) (waiting_lines waiting.new.items) }
+        ensures one { vec_len waiting.new ≤ vec_len waiting.old + 1 }
         ensures smaller { OnOk result (left_to_do self.new < left_to_do self.old) }
     {
         self.make_room()?;
@@ -217,6 +241,7 @@ impl Reading {
         ensures left { OnErr result (uncut self.new ≡ uncut self.old) }
         ensures waiting { OnErr result (waiting.new.items ≡ waiting.old.items) }
         ensures source { OnErr result (self.new.source ≡ self.old.source) }
+        ensures one { vec_len waiting.new ≤ vec_len waiting.old + 1 }
         ensures smaller { OnOk result (left_to_do self.new < left_to_do self.old) }
     {
         if !self.line.is_empty() {

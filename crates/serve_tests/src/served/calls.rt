@@ -25,7 +25,10 @@ const DIVIDE: &str = r"int main(void) {
 }
 ";
 
-/// The files that jobs may name: two programs, one text that is none, and two inputs.
+/// How many bytes a program may have.
+const PROGRAM_LIMIT: usize = 262_144;
+
+/// The files that jobs may name: two programs, one text that is none, one that is too long, and two inputs.
 pub(super) fn small_files(alloc: Global) -> Result<MemFiles, Fail> {
     let mut files = MemFiles::new(alloc);
     files.add("first.c", FIRST.as_bytes())?;
@@ -33,6 +36,9 @@ pub(super) fn small_files(alloc: Global) -> Result<MemFiles, Fail> {
     files.add("divide.c", DIVIDE.as_bytes())?;
     files.add("gap.bin", &[2, 0, 5])?;
     files.add("bad.c", b"int main(void) { y = ; }\n")?;
+    let mut long = Vec::new(alloc);
+    long.resize(PROGRAM_LIMIT + 1, b' ')?;
+    files.add("long.c", long.as_slice())?;
     Ok(files)
 }
 

@@ -10,7 +10,7 @@ use std::thread::Threads;
 /// The jobs, and what is written of them.
 type Row = (&'static [u8], &'static [u8]);
 
-const ROWS: [Row; 14] = [
+const ROWS: [Row; 15] = [
     (
         b"run first.c in.bin\nstop",
         b"job 0 status 0 out 4 report 27\n\x04\x03\x02\x01control done\noutput 4 of 4\njob 1 status 2 out 0 report 6\nusage\n",
@@ -42,6 +42,10 @@ const ROWS: [Row; 14] = [
         b"job 0 status 5 out 0 report 17\nread fault input\n\
 job 1 status 5 out 0 report 19\nread fault program\n\
 job 2 status 0 out 4 report 27\n\x04\x03\x02\x01control done\noutput 4 of 4\n",
+    ),
+    (
+        b"run long.c in.bin\nrun first.c in.bin\n",
+        b"job 0 status 4 out 0 report 17\ntoo long program\njob 1 status 0 out 4 report 27\n\x04\x03\x02\x01control done\noutput 4 of 4\n",
     ),
     (
         b"gen 1 2\n",

@@ -37,3 +37,30 @@ fn an_output_is_cut_behind_each_answer(rt: HostRuntime) -> Result<(), Fail> {
     }
     Ok(())
 }
+
+/// The number of the write that fails, and how many bytes were taken before: an answer is written as its heading, its output and its
+/// report, of which the second has no output.
+const BREAKS: [(u64, usize); 9] = [
+    (0, 0),
+    (1, 31),
+    (2, 35),
+    (3, 62),
+    (4, 92),
+    (5, 98),
+    (6, 129),
+    (7, 133),
+    (8, 160),
+];
+
+#[test]
+fn an_output_breaks_within_and_behind_each_answer(rt: HostRuntime) -> Result<(), Fail> {
+    for (write, taken) in BREAKS {
+        let mut out = MemSink::new(rt.alloc(), 1000, 1000)?;
+        out.fail_at(write)?;
+        let left = call(&rt, &["serve", "jobs"], jobs_of(rt.alloc(), JOBS)?, out)?;
+        assert!(rt; left.status == if taken < ANSWERS.len() { 6 } else { 0 });
+        assert!(rt; left.out.as_slice() == &ANSWERS[..taken.min(ANSWERS.len())]);
+        assert!(rt; left.report.is_empty());
+    }
+    Ok(())
+}

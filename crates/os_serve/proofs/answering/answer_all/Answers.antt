@@ -1,6 +1,7 @@
-use Rattle.std.proofs.Common.{◌∙◌, ◌+◌, arith, refl, subst, sym}
+use Rattle.std.proofs.Common.{◌∙◌, ◌+◌, ap, arith, length, refl, subst, sym}
 use Rattle.os_serve_answers.proofs.Next.{begins, few_jobs, goes_on, may_run, out_of_memory, reads_on, stops_by}
-use Rattle.os_serve_answers.specs.Answered.{IsAnswered, IsServing, StopsServing}
+use Rattle.os_serve_answers.specs.Answered.{IsAnswered, StopsServing}
+use Rattle.os_serve_answers.specs.Between.{IsServing}
 use Rattle.os_serve_jobs.specs.Reading.{IsDone, IsReading, waiting_lines}
 use Rattle.os_serve.specs.Command.{MayRun}
 use Rattle.os_serve.specs.Commands.{IsReplyTo}
@@ -12,6 +13,7 @@ serving-init g c = record {
   is_reading = c.open.ensures.is_reading;
   given = c.open.ensures.given;
   may = refl;
+  few = (let ok = c.new-waiting.result.ok.0 in let none = ap length c.new-waiting.ensures.items in omega (arith, ok, none));
   serving = rw c.new-waiting.ensures.items (begins g.J.Files (IsReplyTo g.F.Files) g.O.Sink (g.J.Files.holds c.args.jobs.now c.args.name.now)
       (g.J.Files.faults c.args.jobs.now) c.open.new.jobs c.open.new.self c.args.files.now c.args.out.now c.open.ensures.begun);
 }
@@ -84,6 +86,7 @@ serving-preserved g c =
       is_reading = n.ensures.is_reading;
       given = n.ensures.given;
       may = n.ensures.may ∙ s.invariant.may;
+      few = (let before = s.invariant.few in let read = r.ensures.few in let next = n.ensures.few in omega (arith, before, read, next));
       serving = goes_on
           (IsServing g.J.Files told faults n.new.jobs n.new.reading (waiting_lines n.new.waiting.items) run c.args.files.now n.new.files g.O.Sink c.args.out.now n.new.out
           (s.number + 1))

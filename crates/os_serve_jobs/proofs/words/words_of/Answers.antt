@@ -3,8 +3,7 @@ use Rattle.std.specs.Prelude.{string_bytes}
 use Rattle.std.specs.Str.{IsUtf8}
 use Rattle.std.proofs.lemmas.List.{length-drop, map-append}
 use Rattle.std.proofs.lemmas.List.Elements.{All-push}
-use Rattle.os_serve_jobs.specs.Words.{IsText}
-use Rattle.os_serve_jobs.proofs.LineWords.{all_text, all_words, bad_word, one_blank, one_word}
+use Rattle.os_serve_jobs.proofs.LineWords.{all_text, all_words, bad_word, one_word}
 use Rattle.os_serve_jobs.proofs.words.words_of.Goals as goal
 
 pub returns-in_default : goal.returns-in_default
