@@ -1,0 +1,7 @@
+pub mod Elements
+pub mod Roots
+pub mod Sources
+pub mod There
+pub mod FewPieces
+pub mod SoundTests
+pub mod Examples

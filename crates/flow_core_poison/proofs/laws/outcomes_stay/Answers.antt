@@ -1,0 +1,12 @@
+use Rattle.std.proofs.Common.{length}
+use Rattle.flow_core_poison.specs.Poisoning.{poisoning}
+use Rattle.flow_core_poison.specs.Streams.{stream_reads, stream_element}
+use Rattle.flow_core_poison.specs.Plans.{plan_reads, plan_element}
+use Rattle.flow_core_laws.proofs.Rounds.{outcome_stays}
+use Rattle.flow_core_poison.proofs.laws.outcomes_stay.Goals as goal
+
+pub returns-clause-streams : goal.returns-clause-streams
+returns-clause-streams c = λ activations input body. outcome_stays stream_element (stream_reads activations input) (poisoning body) (length activations)
+
+pub returns-clause-plans : goal.returns-clause-plans
+returns-clause-plans c = λ plan outcome. outcome_stays (plan_element plan) (plan_reads plan) (poisoning outcome) (length plan.frames)

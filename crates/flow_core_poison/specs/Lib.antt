@@ -1,0 +1,13 @@
+-- What a reader believes: how an activation ends, what is there of an element, what an activation makes of poison,
+pub mod Outcome
+pub mod Element
+pub mod Poisoning
+-- what a list of activations means,
+pub mod Streams
+pub mod There
+-- and the same over a plan.
+pub mod Plans
+pub mod IsSound
+pub mod StandsFor
+pub mod Serves
+pub mod Laws

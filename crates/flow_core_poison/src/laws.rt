@@ -1,0 +1,58 @@
+//! Laws of the meaning, for the proofs of other runtimes. Each is a call that does nothing and
+//! ensures its law. What holds of claims and their positions stands in `flow_core_laws::laws`.
+
+ghost use Rattle.flow_core_laws.specs.Laws.{IsSettled, KeepsOutcomes, IsFixed, RoundsFire, IsConfluent};
+ghost use Rattle.flow_core_poison.specs.Laws.{OfStreams, OfPlans, LeastRootsAreLeast, OthersAreValues, MeansTheStreams, SinkIsTheOutput, EndsSayWhatIsThere, HasFewPieces};
+
+/// A round runs what is enabled, and nothing else.
+pub fn one_round()
+    ensures streams { OfStreams (λ element. RoundsFire element) }
+    ensures plans { OfPlans (λ element. RoundsFire element) }
+{}
+
+/// One more round changes nothing in a meaning.
+pub fn settled()
+    ensures streams { OfStreams (λ element. IsSettled element) }
+    ensures plans { OfPlans (λ element. IsSettled element) }
+{}
+
+/// An outcome never changes from the round on in which it came.
+pub fn outcomes_stay()
+    ensures streams { OfStreams (λ element. KeepsOutcomes element) }
+    ensures plans { OfPlans (λ element. KeepsOutcomes element) }
+{}
+
+/// In a meaning an activation has an outcome exactly where all its inputs are there: poisoned, where one of
+/// them is poison, and else that of its body.
+pub fn fixed_point()
+    ensures streams { OfStreams (λ element. IsFixed element) }
+    ensures plans { OfPlans (λ element. IsFixed element) }
+{}
+
+/// The order in which enabled activations run doesn't matter.
+pub fn confluence()
+    ensures streams { OfStreams (λ element. IsConfluent element) }
+    ensures plans { OfPlans (λ element. IsConfluent element) }
+{}
+
+/// By which root an activation is poisoned, and when it runs its body.
+pub fn least_roots()
+    ensures least { LeastRootsAreLeast }
+    ensures values { OthersAreValues }
+{}
+
+/// A plan means what the activations mean for which it stands, and its sink holds their output.
+pub fn plan_meaning()
+    ensures meaning { MeansTheStreams }
+    ensures sink { SinkIsTheOutput }
+{}
+
+/// The ends and the length of the input say which elements are there.
+pub fn ends_say_what_is_there()
+    ensures { EndsSayWhatIsThere }
+{}
+
+/// A sound plan has at most as many pieces as cells, since each piece fills at least one and no two fill the same.
+pub fn few_pieces()
+    ensures { HasFewPieces }
+{}

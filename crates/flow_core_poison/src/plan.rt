@@ -1,0 +1,43 @@
+ghost use Rattle.std.specs.Prelude.{◌≡◌};
+ghost use Rattle.flow_core_poison.specs.Plans.{frame_at, number_at};
+
+use crate::elem::Elem;
+use flow_core_laws::{FramePlan, Piece};
+use os_io::List;
+
+/// Activations with their positions worked out.
+///
+/// With N activations the frames are 0 to N - 1. Frame N is the sink: nobody runs it, and its cells
+/// are the elements that leave the run.
+#[derive(Debug, Drop)]
+pub struct Plan {
+    pub frames: List<FramePlan>,
+    pub sink: FramePlan,
+    pub pieces: List<Piece>,
+    /// The element that each cell has at opening, a value or poison, or none.
+    pub filled: List<Option<Elem>>,
+    /// The number of each frame's activation, ascending. Poison names its root by this number.
+    pub numbers: List<u32>,
+}
+
+impl Plan {
+    /// The frame of a number, and the sink for every number from N on.
+    pub fn frame(&self, number: u32) -> FramePlan
+        ensures { result ≡ frame_at self.now number }
+    {
+        match self.frames.as_slice().get(number as usize) {
+            Some(frame) => *frame,
+            None => self.sink,
+        }
+    }
+
+    /// The number of a frame's activation; a frame for which the plan has none counts by its own.
+    pub fn number(&self, frame: u32) -> u32
+        ensures { result ≡ number_at self.now frame }
+    {
+        match self.numbers.as_slice().get(frame as usize) {
+            Some(number) => *number,
+            None => frame,
+        }
+    }
+}

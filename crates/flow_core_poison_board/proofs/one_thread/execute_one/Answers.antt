@@ -1,0 +1,28 @@
+use Rattle.std.proofs.Common.{length, ◌∙◌, arith}
+use Rattle.flow_core_poison.specs.Plans.{plan_reads, plan_element, plan_meaning}
+use Rattle.flow_core_poison.specs.Poisoning.{poisoning}
+use Rattle.flow_core_laws.proofs.Rounds.{length-meaning}
+use Rattle.flow_core_poison_board.proofs.Running.{IsRun-opening, all_ended, ends_meant, sink_meant, sink_fits}
+use Rattle.flow_core_poison_board.proofs.one_thread.execute_one.Goals as goal
+
+pub run_all-requires-clause-begins : goal.run_all-requires-clause-begins
+run_all-requires-clause-begins g c = λ _ _. IsRun-opening _ _ _ c.in_ok-board.ensures.counted c.in_ok-board.ensures.filled c.in_ok-board.ensures.waiting
+
+pub close-requires : goal.close-requires
+close-requires g c = sink_fits _ _ _ c.requires.sound c.in_ok-run_all.ensures.counted
+
+pub returns-clause-ends : goal.returns-clause-ends
+returns-clause-ends g c =
+    let plan = c.args.plan.now in
+    let outcome = g.B.Bodies.outcome c.args.bodies.now in
+    let run = c.in_ok-run_all.ensures in
+    let all = all_ended plan outcome c.run_all.new.board _ c.requires.sound run (omega arith) in
+    c.in_ok-ends.ensures.ends ∙ ends_meant plan (plan_meaning plan outcome) _ _ (length-meaning (plan_element plan) (plan_reads plan) (poisoning outcome) (length plan.frames)) run.shows all
+
+pub returns-clause-output : goal.returns-clause-output
+returns-clause-output g c =
+    let plan = c.args.plan.now in
+    let outcome = g.B.Bodies.outcome c.args.bodies.now in
+    let run = c.in_ok-run_all.ensures in
+    let all = all_ended plan outcome c.run_all.new.board _ c.requires.sound run (omega arith) in
+    c.in_ok-ends.ensures.output ∙ sink_meant plan (plan_meaning plan outcome) _ _ _ c.requires.sound run.counted run.shows all

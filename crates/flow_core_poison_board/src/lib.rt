@@ -1,0 +1,19 @@
+//! Running plans of control-driven data flow in which failed activations poison what they should have written.
+//!
+//! What plans, ends and bodies are and what they mean stands in `flow_core_poison`. `execute_one` runs a plan on
+//! one thread. Its promise is the plan's meaning, exactly: the end of each frame and the element of each sink cell,
+//! a value or poison, and none where the meaning has none. Other runtimes build on `Board`, which has the cells
+//! of a run and what each frame misses. A frame that ends carries something into every cell that it feeds, so a
+//! frame waits no longer than for the ends of those that write what it reads; a frame with poison among its cells
+//! runs no body.
+#![tactic(auto)]
+
+mod board;
+mod cells;
+mod one_thread;
+mod waits;
+
+pub use board::Board;
+pub use cells::gather;
+pub use one_thread::execute_one;
+pub use waits::Waits;
