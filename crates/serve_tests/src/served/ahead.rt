@@ -87,13 +87,14 @@ impl<'c> Files for Lines<'c> {
     }
 
     fn read(&mut self, buf: &mut [u8]) -> Result<usize, Failed> {
-        if self.left == 0 || buf.len() < LINE.len() {
-            return Ok(0);
+        let mut count = 0;
+        if self.left > 0 && buf.len() >= LINE.len() {
+            self.left -= 1;
+            self.counts.lines.fetch_add(1, Ordering::SeqCst);
+            buf[..LINE.len()].copy_from_slice(LINE);
+            count = LINE.len();
         }
-        self.left -= 1;
-        self.counts.lines.fetch_add(1, Ordering::SeqCst);
-        buf[..LINE.len()].copy_from_slice(LINE);
-        self.given = self.given.saturating_add(LINE.len() as u64);
-        Ok(LINE.len())
+        self.given = self.given.saturating_add(count as u64);
+        Ok(count)
     }
 }
