@@ -58,10 +58,10 @@ fn checked(alloc: Global, tokens: &[Token], all: &[Token]) -> Result<(), CheckEr
     };
     meaning_by_tokens();
     marks_have_places();
-    match check(alloc, program) {
-        Ok(_) => Ok(()),
-        Err(error) => Err(error),
+    if let Err(error) = check(alloc, program) {
+        return Err(error);
     }
+    Ok(())
 }
 
 /// The least violation of the program that tokens mean; none where it violates no rule, and where they mean no program.

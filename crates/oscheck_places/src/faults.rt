@@ -127,16 +127,28 @@ fn fault_end(text: &[u8], code: u8, point: usize) -> Option<usize> {
     if code == 2 {
         let opens = byte == b'/' && byte_at(text, next) == b'*';
         let behind = point.saturating_add(2);
-        return if opens && !is_closed(text, behind) { Some(behind) } else { None };
+        return if opens && !is_closed(text, behind) {
+            Some(behind)
+        } else {
+            None
+        };
     }
     if byte.is_ascii_digit() {
         let begins = point == 0 || !is_word(byte_at(text, point.saturating_sub(1)));
-        return if begins { Some(word_end(text, point)) } else { None };
+        return if begins {
+            Some(word_end(text, point))
+        } else {
+            None
+        };
     }
     if code == 1 && byte == b'#' {
         return Some(word_end(text, blanks_end(text, next)));
     }
-    if code == 1 && !is_harmless(byte) { Some(next) } else { None }
+    if code == 1 && !is_harmless(byte) {
+        Some(next)
+    } else {
+        None
+    }
 }
 
 /// Whether the fault with a code begins at a point: the front of the text before it has tokens, and the front up to its end has
@@ -144,8 +156,10 @@ fn fault_end(text: &[u8], code: u8, point: usize) -> Option<usize> {
 fn begins_at(alloc: Global, text: &[u8], code: u8, point: usize, end: usize) -> Result<bool, Memory>
     requires { length text.now ≤ text_limit }
 {
-    Ok(says(alloc, text, point)? == Answer::Tokens
-        && says(alloc, text, end)? == Answer::Fault(code))
+    Ok(
+        says(alloc, text, point)? == Answer::Tokens
+            && says(alloc, text, end)? == Answer::Fault(code),
+    )
 }
 
 /// Where a line begins, by its number.
