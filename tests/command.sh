@@ -725,9 +725,33 @@ check "bad words make fewer allocations" 2 "" usage
 "$top/oscheck" first.c empty.c none.c >"$work/report" 2>&1
 status=$?
 check "files that are judged" 2 "" "first.c: accepted / empty.c:1: error 23: no function main without parameters: write int main(void) / none.c: can't be read"
-"$top/oscheck" first.c "$(printf 'in\377')" >"$work/report" 2>&1
+# judges NAME STATUS REPORT WORD..: judges files, and compares what is told of them, together with the output.
+judges() {
+    : >out
+    "$top/oscheck" "${@:4}" >report 2>&1
+    status=$?
+    check "$1" "$2" "" "$3"
+}
+strange=$(printf 'in\377\t.c')
+cp first.c "$strange"
+judges "a name that isn't text" 0 'in\xff\t.c: accepted' "$strange"
+printf 'int main(void) { x = 1; }\n' >"$strange"
+judges "a file whose name isn't text, between others" 1 \
+    "first.c: accepted / in\\xff\\t.c:1:18: error 10: 'x' isn't declared here: declare it before, in a scope that is still open /     1 | int main(void) { x = 1; } /       |                  ^ / first.c: accepted" \
+    first.c "$strange" first.c
+rm "$strange"
+judges "a missing file whose name isn't text" 2 'in\xff\t.c: can'"'"'t be read / first.c: accepted' "$strange" first.c
+judges "the version" 0 "oscheck 1.0" --version
+judges "the version before a file" 0 "oscheck 1.0" --version none.c
+judges "a word that is no option" 2 "--al: no option, and no file that can be read / first.c: accepted" --al first.c
+judges "an option behind a file" 2 "first.c: accepted / --version: no option, and no file that can be read" first.c --version
+"$top/oscheck" --help >help 2>report
 status=$?
-check "a name that isn't text" 2 "" "a word isn't text"
+: >out
+check "help" 0 "" ""
+judges "no words" 0 "$(sed -e ':a' -e '$!{N;ba' -e '}' -e 's|\n| / |g' help)"
+head -n 1 help >report
+check "the front of the help" 0 "" "oscheck judges OpenStream programs as a compiler does. Nothing is run."
 # judge_without NUMBER WORD..: judges files, and lets the allocation of that number fail.
 judge_without() {
     : >out
@@ -738,12 +762,13 @@ judge_without 1 first.c
 check "no memory for the words of a judge" 2 "" "memory ran out"
 judge_without 20 first.c empty.c
 check "no memory for a file that is judged" 2 "" "first.c: memory ran out / empty.c:1: error 23: no function main without parameters: write int main(void)"
-# stops NAME TEXT WANTED: compares what is told of a text that is no program.
+# stops NAME TEXT WANTED: compares the first line that is told of a text that is no program.
 stops() {
     printf '%b' "$2" >stop.c
     : >out
-    "$top/oscheck" stop.c >report 2>&1
+    "$top/oscheck" stop.c >told 2>&1
     status=$?
+    head -n 1 told >report
     check "$1" 1 "" "stop.c:$3"
 }
 stops "a text that ends early" 'int main(void) {\n' "1:17: error 4: expected a statement, '}' or 'int', found the end of the text"
@@ -751,9 +776,36 @@ stops "a text with a bracket too many" 'int main(void) {\n}}' "2:2: error 4: exp
 stops "an expression without its end" 'int main(void) {\n    return 1\n}\n' "3:1: error 4: expected an operator, ';' or '?', found '}'"
 stops "an operator without an operand" 'int main(void) {\n    return 1 +;\n}\n' "2:15: error 4: expected an expression, found ';'"
 stops "two names side by side" 'int main(void) {\n\tif (a b) ;\n}\n' "2:8: error 4: expected an operator, ')', '(', '[' or '?', found 'b'"
-stops "a pragma of no kind" 'int main(void) {\n#pragma omp tusk\n}\n' "2:13: error 4: expected 'task', 'tick' or 'taskwait', found 'tusk'"
+stops "a pragma of no kind" 'int main(void) {\n#pragma omp tusk\n}\n' "2:13: error 4: found 'tusk': there are no pragmas but omp task, omp tick and omp taskwait"
 stops "a pragma with more behind it" 'int main(void) {\n#pragma omp taskwait 1\n}\n' "2:22: error 4: expected the end of the line, found '1'"
 stops "a pragma that ends early" 'int main(void) {\n#pragma omp tick(s >>\n1)\n}\n' "2:22: error 4: expected an expression, found the end of the line"
+# Each text of tests/told with what is told of it: above all what C has and this language hasn't.
+(cd "$top/tests/told" && "$top/oscheck" ./*.c) >told 2>&1
+status=$?
+cat "$top"/tests/told/*.told | sed 's|^\([a-z_]*\.c:\)|./\1|' >wanted
+: >out
+diff wanted told >report
+check "texts in tests/told" 1 "" ""
+# shows NAME TEXT WANTED: compares all that is told of a text, whose lines are parted by " / ".
+shows() {
+    printf '%b' "$2" >stop.c
+    : >out
+    "$top/oscheck" stop.c >report 2>&1
+    status=$?
+    check "$1" 1 "" "stop.c:$3"
+}
+shows "a mark behind the text" 'int main(void) {\n' "1:17: error 4: expected a statement, '}' or 'int', found the end of the text /     1 | int main(void) { /       |                 ^"
+shows "a line with bytes that are no text" 'int main(void) { /* \377\001 */ x = 1; }\n' \
+    "1:27: error 10: 'x' isn't declared here: declare it before, in a scope that is still open /     1 | int main(void) { /* ?  */ x = 1; } /       |                           ^"
+shows "a byte behind others that are harmless" "int main(void) { /* ' */ int x = 1; // '\n    x = 2 @ 3; }\n" \
+    "2:11: error 1: '@' begins no token: take it out /     2 |     x = 2 @ 3; } /       |           ^"
+shows "an open comment behind a closed one" 'int main(void) { /* a */ /* b\n' \
+    "1:26: error 2: a comment that is never closed: end it by */ /     1 | int main(void) { /* a */ /* b /       |                          ^~"
+shows "a large number behind another" 'int main(void) { int x = 1 + 99999999999; }\n' \
+    "1:30: error 3: a number above 2147483647: use a smaller one /     1 | int main(void) { int x = 1 + 99999999999; } /       |                              ^~~~~~~~~~~"
+blanks=$(printf '%200s' '')
+shows "a long line" "int main(void) {$blanks x = 1;$blanks }\n" \
+    "1:218: error 10: 'x' isn't declared here: declare it before, in a scope that is still open /     1 | ${blanks:0:119} x = 1;${blanks:0:34} /       | ${blanks:0:120}^"
 # completes NAME STATUS TEXT OUT REPORT: asks for a program that begins as a text does; in OUT the lines are parted by " / ".
 completes() {
     printf '%b' "$3" >stop.c
@@ -769,10 +821,10 @@ completes "a pragma that is cut in a comment, completed" 0 'int main(void) {\n#p
     "int main(void) { / #pragma omp task input( osin ) /  ; }" ""
 completes "a pragma without its line's end, completed" 0 'int main(void) {\n#pragma omp task' "int main(void) { / #pragma omp task /  ; }" ""
 completes "a program, completed" 0 'int main(void) {\n x = 1; }\n' "int main(void) { /  x = 1; }" ""
-completes "a text with a byte that begins no token, completed" 1 'int main(void) { $' "" "stop.c:1: error 1: a byte or a run of characters that begins no token: take it out"
+completes "a text with a byte that begins no token, completed" 1 'int main(void) { $' "" "stop.c:1:18: error 1: '\$' begins no token: take it out /     1 | int main(void) { \$ /       |                  ^"
 "$top/oscheck" --complete stop.c none.c >out 2>report
 status=$?
-check "files that can't be completed" 2 "" "stop.c:1: error 1: a byte or a run of characters that begins no token: take it out / none.c: can't be read"
+check "files that can't be completed" 2 "" "stop.c:1:18: error 1: '\$' begins no token: take it out /     1 | int main(void) { \$ /       |                  ^ / none.c: can't be read"
 
 # The program that packs slots.
 # packs NAME STATUS INPUT OUT REPORT WORD..: runs it over an input; the output is compared in hexadecimal.

@@ -25,6 +25,8 @@ OSCHECK = f"{TOP}/oscheck"
 # As many files are judged by one call: where the toolchain runs the program, a call has two minutes.
 CALL = 50
 
+# What is told to stand at the place of a refusal.
+FOUND = r"found ('[^']*'|the end of the \w+)"
 TOKEN = re.compile(
     r"(?P<none>\s+|//[^\n]*|/\*.*?\*/|#[ \t]*include[^\n]*)|#[ \t]*pragma|\w+|<<=|>>=|[-+*/%&^|=!<>]=|\+\+|--|<<|>>|&&|\|\||.", re.S
 )
@@ -95,7 +97,7 @@ def judged(texts):
                 file.write(text)
         by_name = {}
         for line in call(*names).split("\n"):
-            found = re.match(r"(t\d+\.c):(?:(\d+)(?::(\d+))?: error (\d+)(?:.*, found (.*))?| accepted$)", line)
+            found = re.match(rf"(t\d+\.c):(?:(\d+)(?::(\d+))?: error (\d+): (?:(?:.*, )?{FOUND})?| accepted$)", line)
             if found:
                 by_name[found[1]] = found[4] and (int(found[4]), int(found[2]), int(found[3] or 0), found[5])
         told += [by_name[name] for name in names]

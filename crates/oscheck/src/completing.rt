@@ -4,10 +4,12 @@ ghost use Rattle.std.specs.Prelude.{◌≤◌, length};
 ghost use Rattle.os_lexer.specs.Limits.{text_limit};
 
 use crate::completion::completion;
-use crate::judging::{Judged, tell_no_memory, tell_rule};
-use crate::sentences::NO_PROGRAM;
+use crate::judged::Judged;
+use crate::judging::tell_error;
+use crate::telling::{Named, tell_no_memory};
 use front_end::{TEXT_LIMIT, TextError, read_program};
 use os_io::Memory;
+use oscheck_sentences::NO_PROGRAM;
 use std::alloc::Global;
 use std::io;
 
@@ -48,14 +50,14 @@ pub(crate) fn complete_text(
     out: &mut impl io::Write,
     told: &mut impl io::Write,
     alloc: Global,
-    name: &str,
-    text: &[u8],
+    named: Named<'_>,
 ) -> io::Result<Judged>
-    requires { length text.now ≤ text_limit }
+    requires { length named.text.now ≤ text_limit }
 {
+    let Named { name, text } = named;
     match read_program(alloc, text) {
-        Err(TextError::Refused { code, line }) if code < NO_PROGRAM => tell_rule(
-            told, name, code, line,
+        Err(TextError::Refused { code, line }) if code < NO_PROGRAM => tell_error(
+            told, alloc, named, code, line,
         ),
         Err(
             TextError::Refused {

@@ -5,11 +5,11 @@ ghost use Rattle.os_ast.specs.Means.{Means};
 ghost use Rattle.os_ast.specs.Trees.{ProgramTree};
 ghost use Rattle.os_lexer.specs.Limits.{text_limit};
 
-use crate::word::{Word, word_of};
 use os_io::Memory;
 use os_lexer::names::STREAM;
 use os_lexer::{Kind, TEXT_LIMIT, Token, lex};
 use os_parser::{ParseError, is_front, parse};
+use oscheck_sentences::{Word, word_of};
 use std::alloc::Global;
 
 /// How many words are told at most.

@@ -5,21 +5,26 @@ ghost use Rattle.os_lexer.specs.Limits.{text_limit};
 
 use crate::expected::expected;
 use crate::open_part::open_part;
-use crate::word::{Word, word_of, write_choice};
 use os_io::Memory;
 use os_lexer::{Kind, TEXT_LIMIT, Token, lex};
 use os_parser::{ParseError, parse};
+use oscheck_places::Spot;
+use oscheck_sentences::{Word, missing, word_of, write_choice};
 use std::alloc::Global;
 use std::io;
+
+/// What could stand at a place, or what is missing there that C has.
+#[derive(Drop)]
+enum Wanted {
+    Expected(Vec<Word<'static>>),
+    Missing(&'static str),
+}
 
 /// What is told of a text whose tokens mean no program.
 #[derive(Drop)]
 pub(crate) struct Stop<'a> {
-    line: u32,
-    /// The byte in the line, from 1 on.
-    column: u32,
-    /// What could stand there.
-    expected: Vec<Word<'static>>,
+    spot: Spot,
+    wanted: Wanted,
     /// What stands there.
     found: Word<'a>,
 }
@@ -35,18 +40,40 @@ impl<'a> Stop<'a> {
         }
     }
 
-    /// Writes where it is and what could stand there.
-    pub(crate) fn write(&self, out: &mut impl io::Write, name: &str, code: u8) -> io::Result<()> {
-        write!(out, "{name}:{}:{}: error {code}: ", self.line, self.column)?;
-        if !self.expected.is_empty() {
-            write!(out, "expected ")?;
-            write_choice(out, &self.expected)?;
-            write!(out, ", ")?;
-        }
-        write!(out, "found ")?;
-        self.found.write(out)?;
-        writeln!(out)
+    /// Which bytes of the text it is told of.
+    pub(crate) fn spot(&self) -> Spot {
+        self.spot
     }
+
+    /// Writes what could stand there, or what is missing, and what stands there.
+    pub(crate) fn write(&self, out: &mut impl io::Write) -> io::Result<()> {
+        match &self.wanted {
+            Wanted::Expected(words) => write_expected(out, words, self.found),
+            Wanted::Missing(sentence) => write_missing(out, sentence, self.found),
+        }
+    }
+}
+
+/// Writes what could stand at a place, and what stands there.
+fn write_expected(
+    out: &mut impl io::Write,
+    words: &[Word<'static>],
+    found: Word<'_>,
+) -> io::Result<()> {
+    if !words.is_empty() {
+        write!(out, "expected ")?;
+        write_choice(out, words)?;
+        write!(out, ", ")?;
+    }
+    write!(out, "found ")?;
+    found.write(out)
+}
+
+/// Writes what stands at a place, and what is missing there.
+fn write_missing(out: &mut impl io::Write, sentence: &str, found: Word<'_>) -> io::Result<()> {
+    write!(out, "found ")?;
+    found.write(out)?;
+    write!(out, ": {sentence}")
 }
 
 /// Where the tokens of a text stop.
@@ -55,17 +82,39 @@ fn stop_of<'a>(alloc: Global, text: &'a [u8], tokens: &[Token]) -> Result<Stop<'
 {
     match parse(alloc, tokens) {
         Err(ParseError::Syntax { place, line }) => {
-            let expected = expected_at(alloc, tokens, place as usize)?;
             let found = found_at(text, tokens, place as usize);
-            let column = column(text, offset_of(tokens, place as usize));
+            let wanted = wanted_at(alloc, tokens, place as usize, found)?;
+            let spot = spot_at(tokens, place as usize, line);
             Ok(Stop {
-                line,
-                column,
-                expected,
+                spot,
+                wanted,
                 found,
             })
         }
         _ => Err(Memory),
+    }
+}
+
+/// What is missing at a place that C has there, or what could stand there.
+fn wanted_at(
+    alloc: Global,
+    tokens: &[Token],
+    place: usize,
+    found: Word<'_>,
+) -> Result<Wanted, Memory> {
+    match missing_at(tokens, place, found) {
+        Some(sentence) => Ok(Wanted::Missing(sentence)),
+        None => Ok(Wanted::Expected(expected_at(alloc, tokens, place)?)),
+    }
+}
+
+/// What is missing at a place that C has there.
+fn missing_at(tokens: &[Token], place: usize, found: Word<'_>) -> Option<&'static str> {
+    let token = tokens.get(place)?;
+    let front = tokens.get(..place)?;
+    match found {
+        Word::Spelled(word) => missing(front, token.kind, word),
+        Word::Plain(_) => None,
     }
 }
 
@@ -98,11 +147,18 @@ fn found_at<'a>(text: &'a [u8], tokens: &[Token], place: usize) -> Word<'a> {
     }
 }
 
-/// Where the token at a place begins in the text, or else where the last one ends in its line.
-fn offset_of(tokens: &[Token], place: usize) -> usize {
+/// The bytes of the token at a place, or else those behind the last one in its line, which are none.
+fn spot_at(tokens: &[Token], place: usize, line: u32) -> Spot {
     match tokens.get(place) {
-        Some(token) => token.start as usize,
-        None => last_end(tokens),
+        Some(token) => Spot::of_token(*token),
+        None => {
+            let end = last_end(tokens);
+            Spot {
+                line,
+                start: end,
+                end,
+            }
+        }
     }
 }
 
@@ -113,17 +169,4 @@ fn last_end(tokens: &[Token]) -> usize {
         Some(token) => token.end as usize,
         None => 0,
     }
-}
-
-/// The column of a byte in its line, from 1 on.
-fn column(text: &[u8], offset: usize) -> u32 {
-    let mut column: u32 = 1;
-    for byte in text.iter().take(offset) {
-        column = if *byte == b'\n' {
-            1
-        } else {
-            column.saturating_add(1)
-        };
-    }
-    column
 }

@@ -5,7 +5,7 @@ use std::io;
 
 /// A word for a token, or for one of several.
 #[derive(Clone, Copy)]
-pub(crate) enum Word<'a> {
+pub enum Word<'a> {
     /// A word of English, as `a name`.
     Plain(&'a str),
     /// The token as it is spelled.
@@ -14,7 +14,7 @@ pub(crate) enum Word<'a> {
 
 impl<'a> Word<'a> {
     /// Writes the word: a spelled token stands in quotes.
-    pub(crate) fn write(self, out: &mut impl io::Write) -> io::Result<()> {
+    pub fn write(self, out: &mut impl io::Write) -> io::Result<()> {
         match self {
             Word::Plain(word) => write!(out, "{word}"),
             Word::Spelled(word) => write!(out, "'{word}'"),
@@ -23,7 +23,7 @@ impl<'a> Word<'a> {
 }
 
 /// The word for a token of a text.
-pub(crate) fn word_of<'a>(text: &'a [u8], token: Token) -> Word<'a> {
+pub fn word_of<'a>(text: &'a [u8], token: Token) -> Word<'a> {
     if token.kind == Kind::PragmaEnd {
         return Word::Plain("the end of the line");
     }
@@ -40,7 +40,7 @@ fn spelling<'a>(text: &'a [u8], token: Token) -> Option<&'a str> {
 }
 
 /// Writes words as a choice: `a`, `a or b`, `a, b or c`.
-pub(crate) fn write_choice(out: &mut impl io::Write, words: &[Word<'_>]) -> io::Result<()> {
+pub fn write_choice(out: &mut impl io::Write, words: &[Word<'_>]) -> io::Result<()> {
     let mut left = words.len();
     for word in words {
         word.write(out)?;

@@ -1,0 +1,47 @@
+//! What the words before the files ask for.
+
+use std::io;
+
+/// What `--version` tells.
+const VERSION: &str = "oscheck 1.0";
+
+/// What is told where no file is named, or help is asked for.
+const HELP: &str = "\
+oscheck judges OpenStream programs as a compiler does. Nothing is run.
+
+    oscheck FILE ..              tells of each file that it is accepted, or what is wrong with it, and where
+    oscheck --complete FILE ..   writes a program for each file: the text itself, or one that begins as it does
+    oscheck --help               tells this
+    oscheck --version            tells the version
+
+A word before the files that begins with - is an option; a file whose name does is named by ./-name.
+The status is 0 where all is well, 1 where a file is refused, and 2 where one couldn't be read or memory ran out.
+";
+
+/// A word that is no name of a file.
+#[derive(Clone, Copy, PartialEq, Eq)]
+pub(crate) enum Request {
+    Complete,
+    Help,
+    Version,
+}
+
+/// What a word asks for, where it is no name of a file.
+pub(crate) fn option_of(word: &str) -> Option<Request> {
+    match word {
+        "--complete" => Some(Request::Complete),
+        "--help" => Some(Request::Help),
+        "--version" => Some(Request::Version),
+        _ => None,
+    }
+}
+
+/// Tells how the program is used.
+pub(crate) fn tell_help(out: &mut impl io::Write) -> io::Result<()> {
+    write!(out, "{HELP}")
+}
+
+/// Tells the version.
+pub(crate) fn tell_version(out: &mut impl io::Write) -> io::Result<()> {
+    writeln!(out, "{VERSION}")
+}

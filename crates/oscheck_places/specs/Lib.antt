@@ -1,0 +1,2 @@
+-- What a reader believes: lines and columns.
+pub mod Lines

@@ -1,0 +1,205 @@
+//! Where the first fault of a text stands in its line. The lexer tells the line alone, so it is asked again, of the fronts of the
+//! text that end at a byte of that line where a fault could begin.
+
+ghost use Rattle.std.specs.Prelude.{◌≤◌, length, IfOk, IfSome};
+ghost use Rattle.os_lexer.specs.Limits.{text_limit};
+
+use crate::spot::Spot;
+use os_io::Memory;
+use os_lexer::{LexError, lex};
+use std::alloc::Global;
+
+/// How many bytes of a line are tried at most.
+const MOST: usize = 64;
+
+/// What the lexer says of a text.
+#[derive(Clone, Copy, PartialEq, Eq)]
+enum Answer {
+    Tokens,
+    Fault(u8),
+}
+
+/// What the lexer says of the front of a text.
+fn says(alloc: Global, text: &[u8], end: usize) -> Result<Answer, Memory>
+    requires { length text.now ≤ text_limit }
+{
+    match lex(alloc, &text[..end.min(text.len())]) {
+        Ok(_) => Ok(Answer::Tokens),
+        Err(LexError::BadByte { .. }) => Ok(Answer::Fault(1)),
+        Err(LexError::OpenComment { .. }) => Ok(Answer::Fault(2)),
+        Err(LexError::BigNumber { .. }) => Ok(Answer::Fault(3)),
+        Err(LexError::Memory) => Err(Memory),
+    }
+}
+
+/// The byte at a point, or a line feed behind the text.
+fn byte_at(text: &[u8], point: usize) -> u8 {
+    match text.get(point) {
+        Some(byte) => *byte,
+        None => b'\n',
+    }
+}
+
+fn is_word(byte: u8) -> bool {
+    byte.is_ascii_alphanumeric() || byte == b'_'
+}
+
+fn is_blank(byte: u8) -> bool {
+    byte == b' ' || byte == b'\t'
+}
+
+/// Where the letters, digits and `_` from a point on end.
+fn word_end(text: &[u8], point: usize) -> usize {
+    let mut end = point;
+    for byte in text.iter().skip(point) {
+        if !is_word(*byte) {
+            return end;
+        }
+        end = end.saturating_add(1);
+    }
+    end
+}
+
+/// Where the blanks from a point on end.
+fn blanks_end(text: &[u8], point: usize) -> usize {
+    let mut end = point;
+    for byte in text.iter().skip(point) {
+        if !is_blank(*byte) {
+            return end;
+        }
+        end = end.saturating_add(1);
+    }
+    end
+}
+
+/// Whether a `*/` stands at some point from one on.
+fn is_closed(text: &[u8], from: usize) -> bool {
+    let mut before = b' ';
+    for byte in text.iter().skip(from) {
+        if before == b'*' && *byte == b'/' {
+            return true;
+        }
+        before = *byte;
+    }
+    false
+}
+
+/// Whether a byte begins a mark, is white or goes on with a word, so that no fault begins there.
+fn is_harmless(byte: u8) -> bool {
+    is_word(byte)
+        || matches!(
+            byte,
+            b' ' | b'\t'
+                | b'\r'
+                | b'\n'
+                | 11
+                | 12
+                | b'<'
+                | b'>'
+                | b'+'
+                | b'-'
+                | b'*'
+                | b'/'
+                | b'%'
+                | b'&'
+                | b'^'
+                | b'|'
+                | b'='
+                | b'!'
+                | b'~'
+                | b'?'
+                | b':'
+                | b';'
+                | b','
+                | b'('
+                | b')'
+                | b'['
+                | b']'
+                | b'{'
+                | b'}'
+        )
+}
+
+/// Where a fault of a code ends that would begin at a point; none where none could begin there.
+fn fault_end(text: &[u8], code: u8, point: usize) -> Option<usize> {
+    let byte = byte_at(text, point);
+    let next = point.saturating_add(1);
+    if code == 2 {
+        let opens = byte == b'/' && byte_at(text, next) == b'*';
+        let behind = point.saturating_add(2);
+        return if opens && !is_closed(text, behind) {
+            Some(behind)
+        } else {
+            None
+        };
+    }
+    if byte.is_ascii_digit() {
+        let begins = point == 0 || !is_word(byte_at(text, point.saturating_sub(1)));
+        return if begins {
+            Some(word_end(text, point))
+        } else {
+            None
+        };
+    }
+    if code == 1 && byte == b'#' {
+        return Some(word_end(text, blanks_end(text, next)));
+    }
+    if code == 1 && !is_harmless(byte) {
+        Some(next)
+    } else {
+        None
+    }
+}
+
+/// Whether the fault with a code begins at a point: the front of the text before it has tokens, and the front up to its end has
+/// the fault.
+fn begins_at(alloc: Global, text: &[u8], code: u8, point: usize, end: usize) -> Result<bool, Memory>
+    requires { length text.now ≤ text_limit }
+{
+    Ok(
+        says(alloc, text, point)? == Answer::Tokens
+            && says(alloc, text, end)? == Answer::Fault(code),
+    )
+}
+
+/// Where a line begins, by its number.
+fn begin_of(text: &[u8], line: u32) -> usize {
+    let mut left = line.saturating_sub(1);
+    let mut point: usize = 0;
+    for byte in text {
+        if left == 0 {
+            return point;
+        }
+        if *byte == b'\n' {
+            left -= 1;
+        }
+        point = point.saturating_add(1);
+    }
+    point
+}
+
+/// The bytes of the first fault of a text, by its code and its line. None where it isn't found among the first bytes of the line at
+/// which a fault could begin.
+pub fn fault_spot(alloc: Global, text: &[u8], code: u8, line: u32) -> Result<Option<Spot>, Memory>
+    requires { length text.now ≤ text_limit }
+    ensures within { IfOk result (λ found. IfSome found (λ spot. spot.start ≤ length text.now)) }
+{
+    let begin = begin_of(text, line);
+    let mut tried: usize = 0;
+    for point in begin..text.len() {
+        if text[point] == b'\n' || tried >= MOST {
+            return Ok(None);
+        }
+        if let Some(end) = fault_end(text, code, point) {
+            tried += 1;
+            if begins_at(alloc, text, code, point, end)? {
+                return Ok(Some(Spot {
+                    line,
+                    start: point,
+                    end,
+                }));
+            }
+        }
+    }
+    Ok(None)
+}

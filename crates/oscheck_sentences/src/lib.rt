@@ -1,0 +1,16 @@
+//! What is told of a refused text, as sentences for who wrote it.
+//!
+//! `Word` is a word of a sentence about tokens. `of_rule` has what each rule says to the writer, with the name that it speaks of, and
+//! `of_fault` what is said of bytes that begin no token. `missing` knows what C has and this language hasn't: where such a word or mark
+//! stands at the place at which tokens stop being the front of any program, it says so, and what to write. It looks at tokens
+//! alone: no grammar stands here, and a sentence is said only of tokens that are refused.
+#![tactic(auto)]
+
+mod c_words;
+mod context;
+mod sentences;
+mod word;
+
+pub use c_words::missing;
+pub use sentences::{NO_PROGRAM, Sentence, of_fault, of_rule};
+pub use word::{Word, word_of, write_choice};

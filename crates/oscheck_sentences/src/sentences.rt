@@ -1,0 +1,170 @@
+//! What each code says to who wrote the text: what is wrong, and what to do.
+
+use crate::word::Word;
+use os_lexer::Kind;
+use std::io;
+
+/// The code of a text whose tokens mean no program. What could stand at the place is told in place of a sentence.
+pub const NO_PROGRAM: u8 = 4;
+
+/// A sentence about a word, which stands between its two parts.
+#[derive(Clone, Copy)]
+pub struct Sentence {
+    before: &'static str,
+    /// Whether the word is told.
+    is_told: bool,
+    after: &'static str,
+}
+
+impl Sentence {
+    /// Writes the sentence about a word.
+    pub fn write(&self, out: &mut impl io::Write, word: Word<'_>) -> io::Result<()> {
+        let Sentence {
+            before,
+            is_told,
+            after,
+        } = *self;
+        write!(out, "{before}")?;
+        if is_told {
+            word.write(out)?;
+        }
+        write!(out, "{after}")
+    }
+}
+
+/// A sentence that begins with its word.
+const fn of(after: &'static str) -> Sentence {
+    Sentence {
+        before: "",
+        is_told: true,
+        after,
+    }
+}
+
+/// A sentence that tells no word.
+const fn plain(before: &'static str) -> Sentence {
+    Sentence {
+        before,
+        is_told: false,
+        after: "",
+    }
+}
+
+/// The functions of C's library that are called most, and that aren't here.
+const LIBRARY: [&str; 12] = [
+    "printf", "puts", "putchar", "fprintf", "scanf", "getchar", "fopen", "fread", "fwrite",
+    "malloc", "free", "exit",
+];
+
+/// Whether some words have a word.
+pub(crate) fn has(words: &[&str], word: &str) -> bool {
+    for other in words {
+        if *other == word {
+            return true;
+        }
+    }
+    false
+}
+
+/// What is said of a name without a declaration.
+fn unknown(word: Word<'_>) -> Sentence {
+    match word {
+        Word::Spelled(name) if has(&LIBRARY, name) => of(
+            " isn't here, as nothing of C's library is: a program reads osin and writes osout by its tasks",
+        ),
+        _ => of(" isn't declared here: declare it before, in a scope that is still open"),
+    }
+}
+
+/// What is said of a misplaced pragma, or of a misplaced stream.
+fn misplaced(kind: Kind) -> Sentence {
+    match kind {
+        Kind::PragmaStart => {
+            plain("a pragma outside main or inside a task: move it into main, outside its tasks")
+        }
+        _ => of(" is a stream that isn't declared in the outermost block of main: move it there"),
+    }
+}
+
+/// The sentence for a code, 10 to 24, and the word and the kind of the token that violates the rule.
+pub fn of_rule(code: u8, word: Word<'_>, kind: Kind) -> Sentence {
+    match code {
+        10 => unknown(word),
+        11 => of(
+            " is of the wrong kind for this place: an array needs an index, a scalar none, a call a function, an item or tick a stream",
+        ),
+        12 => of(" is declared already in this scope: give it another name, or a block of its own"),
+        13 => of(
+            " is called with another number of arguments than it has parameters: pass as many",
+        ),
+        14 => of(
+            " can't be changed, being an input item, a constant, osin_len or a stream: change a variable or an output item",
+        ),
+        15 => of(
+            " has a size that isn't a number or constant from 1 to 65536, or passes the limit of arrays or streams: use a smaller constant",
+        ),
+        16 => of(
+            " stands outside a loop of the same function or task: put it into a loop of its own body",
+        ),
+        17 => misplaced(kind),
+        18 => plain("return in a task: assign to an output item"),
+        19 => of(" is a stream, which has no value: read it by a task with an input item"),
+        20 => of(
+            " stands at the wrong end, since osin is read and osout is written: turn the item round, or use another stream",
+        ),
+        21 => of(" stands twice in the clauses of a task: use a window or scalar for each item"),
+        22 => plain(
+            "a task with more than 8 items or more than 64 captured scalars: use a window for several elements",
+        ),
+        23 => plain("no function main without parameters: write int main(void)"),
+        24 => of(
+            " is a window outside the items of a task: name it in a task whose clauses have it",
+        ),
+        _ => plain("a rule is broken"),
+    }
+}
+
+/// The byte of some bytes at a place, or a blank behind them.
+fn byte_at(bytes: &[u8], place: usize) -> u8 {
+    match bytes.get(place) {
+        Some(byte) => *byte,
+        None => b' ',
+    }
+}
+
+/// Whether a `#` and blanks stand before a word that begins so.
+fn is_directive(bytes: &[u8], word: &str) -> bool {
+    match bytes.trim_ascii_end().strip_suffix(word.as_bytes()) {
+        Some(front) => matches!(front.trim_ascii_end(), [b'#']),
+        None => false,
+    }
+}
+
+/// What is said of a byte or of a run of characters that begins no token.
+fn of_bytes(bytes: &[u8]) -> Sentence {
+    match byte_at(bytes, 0) {
+        b'"' => plain(
+            "there are no strings: what a program writes goes through osout, a number for each byte",
+        ),
+        b'\'' => plain("there are no characters: write the number of the byte, as 65 for A"),
+        b'.' => plain("there are no fractions and no members: a number is whole"),
+        b'#' if is_directive(bytes, "define") => {
+            plain("there is no #define: write const int NAME = NUMBER;")
+        }
+        b'#' => plain(
+            "there are no directives but #include, which is passed over, and #pragma, each at the front of its line",
+        ),
+        b'\\' => plain("a backslash stands at the end of a line alone"),
+        b'0'..=b'9' => of(" is no number: take out what is no digit of it"),
+        _ => of(" begins no token: take it out"),
+    }
+}
+
+/// What is said of the first fault of a text, by its code from 1 to 3 and its bytes.
+pub fn of_fault(code: u8, bytes: &[u8]) -> Sentence {
+    match code {
+        1 => of_bytes(bytes),
+        2 => plain("a comment that is never closed: end it by */"),
+        _ => plain("a number above 2147483647: use a smaller one"),
+    }
+}

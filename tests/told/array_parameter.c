@@ -1,0 +1,2 @@
+int f(int a[], int n) { return n; }
+int main(void) { }

@@ -1,0 +1,2 @@
+enum { RED, GREEN };
+int main(void) { }

@@ -1,0 +1,2 @@
+int table[256];
+int main(void) { }

@@ -1,0 +1,2 @@
+int count = 0;
+int main(void) { }

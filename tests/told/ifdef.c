@@ -1,0 +1,3 @@
+#ifdef N
+#endif
+int main(void) { }

@@ -1,0 +1,3 @@
+int main(void) {
+    long n = 1;
+}

@@ -1,0 +1,2 @@
+int f(int *p) { return 0; }
+int main(void) { }

@@ -1,0 +1,5 @@
+int main(void) {
+    int a = 0;
+    if (a = 1)
+        a = 2;
+}

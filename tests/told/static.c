@@ -1,0 +1,2 @@
+static int f(void) { return 1; }
+int main(void) { }

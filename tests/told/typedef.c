@@ -1,0 +1,2 @@
+typedef int sample;
+int main(void) { }

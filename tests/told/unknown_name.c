@@ -1,0 +1,4 @@
+int main(void) {
+    int x = 1;
+    /* ä */ x = x * gain;
+}

@@ -1,0 +1,2 @@
+void f(int a) { }
+int main(void) { }
