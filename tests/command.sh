@@ -734,13 +734,10 @@ judges() {
 }
 strange=$(printf 'in\377\t.c')
 cp first.c "$strange"
-judges "a name that isn't text" 0 'in\xff\t.c: accepted' "$strange"
-printf 'int main(void) { x = 1; }\n' >"$strange"
-judges "a file whose name isn't text, between others" 1 \
-    "first.c: accepted / in\\xff\\t.c:1:18: error 10: 'x' isn't declared here: declare it before, in a scope that is still open /     1 | int main(void) { x = 1; } /       |                  ^ / first.c: accepted" \
+judges "a name that isn't text" 2 "in\\xff\\t.c: its name isn't text" "$strange"
+judges "a file whose name isn't text, between others" 2 "first.c: accepted / in\\xff\\t.c: its name isn't text / first.c: accepted" \
     first.c "$strange" first.c
 rm "$strange"
-judges "a missing file whose name isn't text" 2 'in\xff\t.c: can'"'"'t be read / first.c: accepted' "$strange" first.c
 judges "the version" 0 "oscheck 1.0" --version
 judges "the version before a file" 0 "oscheck 1.0" --version none.c
 judges "a word that is no option" 2 "--al: no option, and no file that can be read / first.c: accepted" --al first.c

@@ -5,7 +5,7 @@ use crate::judged::Judged;
 use crate::judging::{judge_text, tell_no_text};
 use crate::loading::text_of;
 use crate::options::{Request, option_of, tell_help, tell_version};
-use crate::telling::{Named, tell_no_memory};
+use crate::telling::Named;
 use crate::words::word_at;
 use os_io::Memory;
 use std::alloc::Global;
@@ -94,28 +94,19 @@ fn answer_name(rt: &HostRuntime, way: Way, name: Name<'_>) -> io::Result<Judged>
     }
 }
 
-/// Judges a file whose name isn't text, or completes it. It is told with its bytes escaped, and opened by the system, since std
-/// takes text alone for a name; what is open is then read by the name that the system has for it.
-fn answer_bytes(rt: &HostRuntime, way: Way, word: &[u8]) -> io::Result<Judged> {
-    let descriptor = os::open_read(word);
+/// Tells of a file that it can't be opened: std takes text alone for a name. The name is told with its bytes escaped.
+fn tell_no_name(out: &mut impl io::Write, word: &[u8]) -> io::Result<Judged> {
     let escaped = word.escape_ascii();
-    let told = format!(in rt.alloc(); "{escaped}");
-    let path = format!(in rt.alloc(); "/proc/self/fd/{descriptor}");
-    let judged = match (told, path) {
-        (Ok(told), Ok(path)) => answer_name(
-            rt,
-            way,
-            Name {
-                told: told.as_str(),
-                path: path.as_str(),
-            },
-        ),
-        _ => tell_no_memory(&mut rt.stdout(), "a file"),
-    };
-    if descriptor >= 0 {
-        libc::close(descriptor);
+    writeln!(out, "{escaped}: its name isn't text")?;
+    Ok(Judged::Unjudged)
+}
+
+/// Says that a file can't be judged, or completed, since its name isn't text.
+fn refuse_name(rt: &HostRuntime, way: Way, word: &[u8]) -> io::Result<Judged> {
+    match way {
+        Way::Judge => tell_no_name(&mut rt.stdout(), word),
+        Way::Complete => tell_no_name(&mut rt.stderr(), word),
     }
-    judged
 }
 
 /// Judges a file by the word that names it, or completes it.
@@ -129,7 +120,7 @@ fn answer_file(rt: &HostRuntime, way: Way, word: &[u8]) -> io::Result<Judged> {
                 path: name,
             },
         ),
-        Err(_) => answer_bytes(rt, way, word),
+        Err(_) => refuse_name(rt, way, word),
     }
 }
 
