@@ -1,6 +1,7 @@
 -- What stands at the front of numbers: behind two members that stand there, one spelling each, stands the same; and so it is with lists
 -- of such members.
-use Rattle.std.proofs.Common.{◌≡◌, ℕ, ◌<◌, ◌≤◌, List, [], ◌∷◌, ◌++◌, length, refl, sym, ap, ◌∙◌, append_assoc, append-nil, arith, length-append}
+use Rattle.std.proofs.Common.{◌≡◌, ℕ, ◌<◌, ◌≤◌, ◌*◌, ◌/◌, List, [], ◌∷◌, ◌++◌, length, refl, sym, ap, ◌∙◌, append_assoc, append-nil, arith, length-append}
+use Rattle.std.proofs.Math.Nat.{le-div_iff_mul-le, suc-mul}
 use Rattle.std.specs.List.{flat_map, AllByRecursion}
 use Rattle.os_object.specs.Object.{list_of}
 
@@ -19,14 +20,16 @@ ends-flat member ends (x ∷ xs) (y ∷ ys) a b n e =
     let counts : length xs ≡ length ys = omega arith in
     ends-flat member ends xs ys a b counts (ends.rests x y (flat_map member xs ++ a) (flat_map member ys ++ b) apart)
 
--- as many numbers as members, at least
-many : {A : Type 0} (member : A → List ℕ) → Ends member → (xs : List A) → length xs ≤ length (flat_map member xs)
-many member ends [] = omega arith
-many member ends (x ∷ xs) =
-    let rest = many member ends xs in
-    let here = ends.some x in
+-- so many numbers in each member make as many times the members, at least
+many : {A : Type 0} (member : A → List ℕ) (least : ℕ) → ((x : A) → least ≤ length (member x)) → (xs : List A)
+    → length xs * least ≤ length (flat_map member xs)
+many member least some [] = omega arith
+many member least some (x ∷ xs) =
+    let rest = many member least some xs in
+    let here = some x in
     let both = length-append (member x) (flat_map member xs) in
-    omega (arith, rest, here, both)
+    let more = suc-mul (length xs) least in
+    omega (arith, rest, here, both, more)
 
 -- the parts of an equation of two lists with a first number each
 record Cells (m n : ℕ) (a b : List ℕ) : Type 0 where
@@ -65,14 +68,15 @@ no_member member ends front rest numbers members count is parts short none xs af
     let n = c.first in
     no_flat member ends front rest xs after (sym parts ∙ c.rest) (omega (arith, n, short)) none
 
--- where no length stands that the numbers behind it can have, no list stands
-pub no_length : {A : Type 0} (member : A → List ℕ) → Ends member → (numbers : List ℕ)
-    → ((count : ℕ) (rest : List ℕ) → count ≤ length rest → numbers ≡ count ∷ rest → ⊥)
+-- where no length stands that the numbers behind it are enough for, no list stands
+pub no_length : {A : Type 0} (member : A → List ℕ) (least : ℕ) → 0 < least → ((x : A) → least ≤ length (member x)) → (numbers : List ℕ)
+    → ((count : ℕ) (rest : List ℕ) → count ≤ length rest / least → numbers ≡ count ∷ rest → ⊥)
     → (xs : List A) (after : List ℕ) → numbers ≡ list_of member xs ++ after → ⊥
-no_length member ends numbers none xs after e =
-    let some = many member ends xs in
+no_length member least positive some numbers none xs after e =
+    let all = many member least some xs in
     let both = length-append (flat_map member xs) after in
-    none (length xs) (flat_map member xs ++ after) (omega (arith, some, both)) e
+    let enough : length xs * least ≤ length (flat_map member xs ++ after) = omega (arith, all, both) in
+    none (length xs) (flat_map member xs ++ after) ((le-div_iff_mul-le positive).1 enough) e
 
 -- one more member in front of the rest
 pub with_member : {A : Type 0} (member : A → List ℕ) (members : List ℕ) (front new : List A) (x : A) (rest after : List ℕ)

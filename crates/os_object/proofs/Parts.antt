@@ -1,6 +1,6 @@
 -- Units, captured slots, items and sites at the front of numbers, and the parts of a code.
-use Rattle.std.proofs.Common.{◌≡◌, ℕ, zero, suc, ◌≤◌, Bool, true, false, List, [], ◌∷◌, ◌++◌, length, get_or, drop, Option, Some, None, refl, sym, ap, ◌∙◌, append_assoc, append-nil, add-one, arith}
-use Rattle.std.specs.List.{AllByRecursion}
+use Rattle.std.proofs.Common.{◌≡◌, ℕ, zero, suc, ◌≤◌, Bool, true, false, List, [], ◌∷◌, ◌++◌, length, get_or, drop, Option, Some, None, refl, sym, ap, ◌∙◌, append_assoc, append-nil, length-append, add-one, arith}
+use Rattle.std.specs.List.{AllByRecursion, flat_map}
 use Rattle.os_code.specs.declared.instr.Instr.{Instr}
 use Rattle.os_code.specs.declared.parts.Parts.{Parts}
 use Rattle.os_code.specs.declared.site.Site.{Site}
@@ -86,6 +86,10 @@ ends-site = record {
   rests = λ x y a b e. (ends-list item_numbers ends-item).rests x.items y.items a b (behind-slots x y a b e);
   some = λ x. omega arith;
 }
+
+-- its unit, its line and two lengths, at least
+pub four-site : (x : Site) → 4 ≤ length (site_numbers x)
+four-site x = let both = length-append (flat_map slot_numbers x.captured) (items_of x) in omega (arith, both)
 
 abbrev site_by : ℕ → ℕ → List ℕ → List SiteItem → Site
 site_by unit line captured items = record { unit = unit; line = line; captured = captured; items = items }

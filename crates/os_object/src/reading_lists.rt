@@ -1,6 +1,6 @@
 //! Lists at the front of numbers.
 
-ghost use Rattle.std.specs.Prelude.{◌≡◌, ◌++◌, ◌∷◌, ◌≤◌, List, ℕ, length, IfOk, IfErr, IfSome, IfNone};
+ghost use Rattle.std.specs.Prelude.{◌≡◌, ◌++◌, ◌∷◌, ◌≤◌, ◌<◌, ◌/◌, List, ℕ, length, IfOk, IfErr, IfSome, IfNone};
 ghost use Rattle.std.specs.List.{flat_map, AllByRecursion};
 ghost use Rattle.os_code.specs.declared.instr.Instr.{Instr as CodeInstr};
 ghost use Rattle.os_code.specs.declared.site.Site.{Site as CodeSite};
@@ -18,17 +18,26 @@ use os_code::{Instr, Site, SiteItem, Unit};
 use os_io::List;
 use std::alloc::Global;
 
-/// The length of a list at the front, and the numbers behind it. Each member is a number at least, so a length that
-/// passes how many there are is refused before any memory is taken for it.
-fn read_length(numbers: &[u32]) -> Option<(usize, &[u32])>
+/// How many numbers a member of each list has at least: all of a unit, those of a site that captures nothing and has no
+/// item, all of an item.
+const UNIT_NUMBERS: usize = 4;
+
+const SITE_NUMBERS: usize = 4;
+
+const ITEM_NUMBERS: usize = 3;
+
+/// The length of a list at the front, and the numbers behind it. A length that they are too few for, where each member has
+/// `least` of them, is refused before any memory is taken for it.
+fn read_length(numbers: &[u32], least: usize) -> Option<(usize, &[u32])>
+    requires some { 0 < least }
     ensures some { IfSome result (λ read. numbers.now ≡ read.0 ∷ read.1.now) }
-    ensures none { IfNone result ((count : ℕ) (rest : List ℕ) → count ≤ length rest → numbers.now ≡ count ∷ rest → ⊥) }
+    ensures none { IfNone result ((count : ℕ) (rest : List ℕ) → count ≤ length rest / least → numbers.now ≡ count ∷ rest → ⊥) }
 {
     let [count, rest @ ..] = numbers else {
         return None;
     };
     let count = *count as usize;
-    if count > rest.len() {
+    if count > rest.len() / least {
         return None;
     }
     Some((count, rest))
@@ -42,7 +51,7 @@ pub(crate) fn read_units(
     ensures ok { IfOk result (λ read. numbers.now ≡ list_of unit_numbers read.0 ++ read.1.now) }
     ensures err { IfErr result (λ error. IsRefused error ((units : List CodeUnit) (rest : List ℕ) → numbers.now ≡ list_of unit_numbers units ++ rest → ⊥)) }
 {
-    let Some((count, members)) = read_length(numbers) else {
+    let Some((count, members)) = read_length(numbers, UNIT_NUMBERS) else {
         return Err(ObjectError::Format);
     };
     let mut units = List::with_capacity(alloc, count)?;
@@ -62,7 +71,7 @@ pub(crate) fn read_slots(alloc: Global, numbers: &[u32]) -> Result<(List<u32>, &
     ensures ok { IfOk result (λ read. numbers.now ≡ list_of slot_numbers read.0 ++ read.1.now) }
     ensures err { IfErr result (λ error. IsRefused error ((slots : List ℕ) (rest : List ℕ) → numbers.now ≡ list_of slot_numbers slots ++ rest → ⊥)) }
 {
-    let Some((count, members)) = read_length(numbers) else {
+    let Some((count, members)) = read_length(numbers, 1) else {
         return Err(ObjectError::Format);
     };
     let mut slots = List::with_capacity(alloc, count)?;
@@ -85,7 +94,7 @@ pub(crate) fn read_items(
     ensures ok { IfOk result (λ read. numbers.now ≡ list_of item_numbers read.0 ++ read.1.now) }
     ensures err { IfErr result (λ error. IsRefused error ((items : List CodeItem) (rest : List ℕ) → numbers.now ≡ list_of item_numbers items ++ rest → ⊥)) }
 {
-    let Some((count, members)) = read_length(numbers) else {
+    let Some((count, members)) = read_length(numbers, ITEM_NUMBERS) else {
         return Err(ObjectError::Format);
     };
     let mut items = List::with_capacity(alloc, count)?;
@@ -127,7 +136,7 @@ pub(crate) fn read_sites(
     ensures ok { IfOk result (λ read. numbers.now ≡ list_of site_numbers read.0 ++ read.1.now) }
     ensures err { IfErr result (λ error. IsRefused error ((sites : List CodeSite) (rest : List ℕ) → numbers.now ≡ list_of site_numbers sites ++ rest → ⊥)) }
 {
-    let Some((count, members)) = read_length(numbers) else {
+    let Some((count, members)) = read_length(numbers, SITE_NUMBERS) else {
         return Err(ObjectError::Format);
     };
     let mut sites = List::with_capacity(alloc, count)?;
@@ -148,7 +157,7 @@ pub(crate) fn read_instrs(
     ensures ok { IfOk result (λ read. AllByRecursion IsInstr read.0 × (numbers.now ≡ list_of instr_numbers read.0 ++ read.1.now)) }
     ensures err { IfErr result (λ error. IsRefused error ((instrs : List CodeInstr) (rest : List ℕ) → numbers.now ≡ list_of instr_numbers instrs ++ rest → ⊥)) }
 {
-    let Some((count, members)) = read_length(numbers) else {
+    let Some((count, members)) = read_length(numbers, 1) else {
         return Err(ObjectError::Format);
     };
     let mut instrs = List::with_capacity(alloc, count)?;

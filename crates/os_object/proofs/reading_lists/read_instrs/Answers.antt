@@ -5,7 +5,7 @@ use Rattle.os_object.proofs.Instrs.{ends-instr}
 use Rattle.os_object.proofs.reading_lists.read_instrs.Goals as goal
 
 pub returns-in_default-clause-err : goal.returns-in_default-clause-err
-returns-in_default-clause-err c = no_length instr_numbers ends-instr c.args.numbers.now c.in_default.ensures.none
+returns-in_default-clause-err c = no_length instr_numbers 1 (omega arith) ends-instr.some c.args.numbers.now c.in_default.ensures.none
 
 pub returns-in_default-read_instr-clause-err : goal.returns-in_default-read_instr-clause-err
 returns-in_default-read_instr-clause-err c =

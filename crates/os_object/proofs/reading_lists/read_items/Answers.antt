@@ -5,7 +5,7 @@ use Rattle.os_object.proofs.Parts.{ends-item}
 use Rattle.os_object.proofs.reading_lists.read_items.Goals as goal
 
 pub returns-in_default-clause-err : goal.returns-in_default-clause-err
-returns-in_default-clause-err c = no_length item_numbers ends-item c.args.numbers.now c.in_default.ensures.none
+returns-in_default-clause-err c = no_length item_numbers 3 (omega arith) (λ x. omega arith) c.args.numbers.now c.in_default.ensures.none
 
 pub returns-in_default-read_item-clause-err : goal.returns-in_default-read_item-clause-err
 returns-in_default-read_item-clause-err c =

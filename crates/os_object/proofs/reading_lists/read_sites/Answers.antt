@@ -2,11 +2,11 @@ use Rattle.std.proofs.Common.{◌<◌, length, arith}
 use Rattle.std.proofs.lemmas.Result.{err_from_is_err_and}
 use Rattle.os_object.specs.Object.{site_numbers}
 use Rattle.os_object.proofs.Members.{no_length, no_member}
-use Rattle.os_object.proofs.Parts.{ends-site, refused-map}
+use Rattle.os_object.proofs.Parts.{ends-site, four-site, refused-map}
 use Rattle.os_object.proofs.reading_lists.read_sites.Goals as goal
 
 pub returns-in_default-clause-err : goal.returns-in_default-clause-err
-returns-in_default-clause-err c = no_length site_numbers ends-site c.args.numbers.now c.in_default.ensures.none
+returns-in_default-clause-err c = no_length site_numbers 4 (omega arith) four-site c.args.numbers.now c.in_default.ensures.none
 
 pub returns-in_err-site-clause-err : goal.returns-in_err-site-clause-err
 returns-in_err-site-clause-err c =

@@ -5,7 +5,7 @@ use Rattle.os_object.proofs.Parts.{ends-slot}
 use Rattle.os_object.proofs.reading_lists.read_slots.Goals as goal
 
 pub returns-in_default-clause-err : goal.returns-in_default-clause-err
-returns-in_default-clause-err c = no_length slot_numbers ends-slot c.args.numbers.now c.in_default.ensures.none
+returns-in_default-clause-err c = no_length slot_numbers 1 (omega arith) ends-slot.some c.args.numbers.now c.in_default.ensures.none
 
 pub returns-in_default-read_slot-clause-err : goal.returns-in_default-read_slot-clause-err
 returns-in_default-read_slot-clause-err c =

@@ -5,7 +5,7 @@ use Rattle.os_object.proofs.Parts.{ends-unit}
 use Rattle.os_object.proofs.reading_lists.read_units.Goals as goal
 
 pub returns-in_default-clause-err : goal.returns-in_default-clause-err
-returns-in_default-clause-err c = no_length unit_numbers ends-unit c.args.numbers.now c.in_default.ensures.none
+returns-in_default-clause-err c = no_length unit_numbers 4 (omega arith) (λ x. omega arith) c.args.numbers.now c.in_default.ensures.none
 
 pub returns-in_default-read_unit-clause-err : goal.returns-in_default-read_unit-clause-err
 returns-in_default-read_unit-clause-err c =
