@@ -1,5 +1,6 @@
 pub mod Elements
 pub mod Roots
+pub mod Failed
 pub mod Sources
 pub mod There
 pub mod FewPieces

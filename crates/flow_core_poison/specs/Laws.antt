@@ -1,6 +1,6 @@
 -- The laws of the meaning, as statements. Those of rounds are stated in `flow_core_laws` over elements and outcomes of
 -- every kind.
-use Rattle.std.specs.Prelude.{◌≡◌, ℕ, ℤ, ◌≤◌, List, Option, Some, None, is_some, slice_get, length, map, Contains}
+use Rattle.std.specs.Prelude.{◌≡◌, ◌≢◌, ℕ, ℤ, ◌≤◌, true, List, Option, Some, None, is_some, slice_get, length, map, Contains}
 use Rattle.flow_core_laws.specs.declared.activation.Activation.{Activation}
 use Rattle.flow_core_laws.specs.Outcome.{outcome_at}
 use Rattle.flow_core_laws.specs.Place.{Place}
@@ -8,9 +8,9 @@ use Rattle.flow_core_laws.specs.Streams.{output_count}
 use Rattle.flow_core_poison.specs.declared.elem.Elem.{Elem}
 use Rattle.flow_core_poison.specs.declared.elem.Elem.TheVariants.{Value, Poison}
 use Rattle.flow_core_poison.specs.declared.plan.Plan.{Plan}
-use Rattle.flow_core_poison.specs.declared.task_end.TaskEnd.TheVariants.{Done}
+use Rattle.flow_core_poison.specs.declared.task_end.TaskEnd.TheVariants.{Done, Poisoned}
 use Rattle.flow_core_poison.specs.declared.outcome.Outcome.{Outcome}
-use Rattle.flow_core_poison.specs.Outcome.{State, ends_of}
+use Rattle.flow_core_poison.specs.Outcome.{State, ends_of, has_failed}
 use Rattle.flow_core_poison.specs.Element.{Source}
 use Rattle.flow_core_poison.specs.Poisoning.{values_of, least_root, poisoning}
 use Rattle.flow_core_poison.specs.There.{is_there}
@@ -30,6 +30,17 @@ LeastRootsAreLeast = (elements : List Elem) (root : ℕ) → least_root elements
 -- a list without a least root has values alone
 abbrev pub OthersAreValues : Type 0
 OthersAreValues = (elements : List Elem) → least_root elements ≡ None → elements ≡ map Value (values_of elements)
+
+-- bodies never end poisoned by themselves: only inputs poison an activation
+abbrev pub NeverPoisons : (ℕ → List ℤ → Outcome) → Type 0
+NeverPoisons body = (activation : ℕ) (inputs : List ℤ) (root : ℕ) → (body activation inputs).end ≢ Poisoned root
+
+-- the root by which an activation is poisoned is one of the activations, and that one failed itself
+abbrev pub RootsFailed : Type 0
+RootsFailed =
+    (activations : List Activation) (input : List ℕ) (body : ℕ → List ℤ → Outcome) → NeverPoisons body
+    → (a root : ℕ) (o : Outcome) → outcome_at (stream_meaning activations input body) a ≡ Some o → o.end ≡ Poisoned root
+    → (q : Outcome) × (outcome_at (stream_meaning activations input body) root ≡ Some q) × (has_failed q.end ≡ true)
 
 -- a fact of rounds for what activations read and make of it, by the element of a source
 abbrev pub Fact : Type 1

@@ -29,6 +29,13 @@ root_of number (Trapped _ _) = Some number
 root_of number OverBudget = Some number
 root_of number (Poisoned root) = Some root
 
+-- whether an activation with this end failed itself: it trapped, or used up its turns
+abbrev pub has_failed : TaskEnd → Bool
+has_failed Done = false
+has_failed (Trapped _ _) = true
+has_failed OverBudget = true
+has_failed (Poisoned _) = false
+
 -- whether an end is Done
 abbrev pub is_done : TaskEnd → Bool
 is_done Done = true

@@ -2,7 +2,7 @@
 //! ensures its law. What holds of claims and their positions stands in `flow_core_laws::laws`.
 
 ghost use Rattle.flow_core_laws.specs.Laws.{IsSettled, KeepsOutcomes, IsFixed, RoundsFire, IsConfluent};
-ghost use Rattle.flow_core_poison.specs.Laws.{OfStreams, OfPlans, LeastRootsAreLeast, OthersAreValues, MeansTheStreams, SinkIsTheOutput, EndsSayWhatIsThere, HasFewPieces};
+ghost use Rattle.flow_core_poison.specs.Laws.{OfStreams, OfPlans, LeastRootsAreLeast, OthersAreValues, RootsFailed, MeansTheStreams, SinkIsTheOutput, EndsSayWhatIsThere, HasFewPieces};
 
 /// A round runs what is enabled, and nothing else.
 pub fn one_round()
@@ -39,6 +39,11 @@ pub fn confluence()
 pub fn least_roots()
     ensures least { LeastRootsAreLeast }
     ensures values { OthersAreValues }
+{}
+
+/// Each root of poison is an activation that trapped or used up its turns, where no body says of itself that it is poisoned.
+pub fn roots_failed()
+    ensures { RootsFailed }
 {}
 
 /// A plan means what the activations mean for which it stands, and its sink holds their output.

@@ -1,0 +1,10 @@
+pub mod Taken
+pub mod Prefixes
+pub mod Kept
+pub mod Epochs
+pub mod Leaving
+pub mod Choosing
+pub mod Carried
+pub mod Opening
+pub mod Held
+pub mod Serving

@@ -1,0 +1,12 @@
+use Rattle.flow_core_poison_epochs.proofs.Opening.{has_epoch}
+use Rattle.flow_core_poison_epochs.proofs.Held.{held_at_first, begins_epoch, held_after}
+use Rattle.flow_core_poison_epochs.proofs.laws.run_in_epochs.Goals as goal
+
+pub returns-clause-first : goal.returns-clause-first
+returns-clause-first c = held_at_first
+
+pub returns-clause-begins : goal.returns-clause-begins
+returns-clause-begins c = begins_epoch
+
+pub returns-clause-ends : goal.returns-clause-ends
+returns-clause-ends c = λ before new input body readers frames kept plan places e ends output run held run_ends run_output. held_after before new input body readers frames kept plan places (has_epoch before new input body readers frames kept plan places e) ends output run held run_ends run_output

@@ -1,0 +1,118 @@
+-- The laws of runs in parts, as statements. Where activations read is said in `flow_core_epochs`.
+use Rattle.std.specs.Prelude.{◌≡◌, ℕ, ℤ, ◌<◌, List, [], ◌++◌, Option, Some, All, Contains, slice_get, slice_index, map, length}
+use Rattle.flow_core_laws.specs.declared.activation.Activation.{Activation}
+use Rattle.flow_core_laws.specs.Outcome.{outcome_at}
+use Rattle.flow_core_laws.specs.Place.{Place}
+use Rattle.flow_core_epochs.specs.Epoch.{open_in, put_over, ReadNoOutput}
+use Rattle.flow_core_poison.specs.declared.elem.Elem.{Elem}
+use Rattle.flow_core_poison.specs.declared.plan.Plan.{Plan}
+use Rattle.flow_core_poison.specs.declared.outcome.Outcome.{Outcome}
+use Rattle.flow_core_poison.specs.declared.task_end.TaskEnd.{TaskEnd}
+use Rattle.flow_core_poison.specs.declared.ends.Ends.{Ends}
+use Rattle.flow_core_poison.specs.Outcome.{ends_of}
+use Rattle.flow_core_poison.specs.Streams.{stream_source, stream_element, stream_meaning}
+use Rattle.flow_core_poison.specs.Plans.{sink_elements}
+use Rattle.flow_core_poison.specs.Serves.{Serves}
+use Rattle.flow_core_poison_epochs.specs.Epoch.{Kept, IsKeptFor, StandsForEpoch, AreChosen, LeaveOutWaiting, IsEpoch, epoch_meaning, carried_over, IsCarried, IsOutside, IsHeld, IsHeldAfter, ServesAll}
+
+-- an activation with an outcome has the same one with more activations behind
+abbrev pub KeepsPrefixes : Type 0
+KeepsPrefixes =
+    (activations more : List Activation) (input : List ℕ) (body : ℕ → List ℤ → Outcome) (a : ℕ) (o : Outcome)
+    → outcome_at (stream_meaning activations input body) a ≡ Some o → outcome_at (stream_meaning (activations ++ more) input body) a ≡ Some o
+
+-- a fact of every epoch
+abbrev pub OfEpochs : ((before new : List Activation) (input : List ℕ) (body : ℕ → List ℤ → Outcome) (readers frames : List ℕ) (kept : List Kept)
+    (plan : Plan)
+    (places : List Place) → Type 0) → Type 0
+OfEpochs fact =
+    (before new : List Activation) (input : List ℕ) (body : ℕ → List ℤ → Outcome) (readers frames : List ℕ) (kept : List Kept) (plan : Plan)
+    (places : List Place)
+    → IsEpoch before new input body readers frames kept plan places → fact before new input body readers frames kept plan places
+
+-- the meaning of the epoch's plan, put over the meaning before it, is the meaning of all activations so far
+abbrev pub AddsUp : Type 0
+AddsUp =
+    OfEpochs (λ before new input body readers frames kept plan places. put_over (stream_meaning before input body) frames (epoch_meaning plan frames body)
+    (length (before ++ new)) ≡ stream_meaning (before ++ new) input body)
+
+-- so a frame has the outcome that the plan gives it
+abbrev pub FramesEnd : Type 0
+FramesEnd =
+    OfEpochs (λ before new input body readers frames kept plan places. (f a : ℕ) → slice_get frames f ≡ Some a
+    → outcome_at (stream_meaning (before ++ new) input body) a ≡ outcome_at (epoch_meaning plan frames body) f)
+
+-- its sink cells have the elements of the places that leave
+abbrev pub SinkIsWhatLeaves : Type 0
+SinkIsWhatLeaves =
+    OfEpochs (λ before new input body readers frames kept plan places. sink_elements plan (epoch_meaning plan frames body)
+    ≡ map (λ (p : Place). stream_element (stream_meaning (before ++ new) input body) (stream_source (before ++ new) input p)) places)
+
+-- before the first epoch there is nothing to carry
+abbrev pub NothingAtFirst : Type 0
+NothingAtFirst = (input : List ℕ) (body : ℕ → List ℤ → Outcome) → IsCarried [] input (stream_meaning [] input body) []
+
+-- what is carried serves every next epoch
+abbrev pub ServesNext : Type 0
+ServesNext =
+    (activations new : List Activation) (input : List ℕ) (body : ℕ → List ℤ → Outcome) (kept : List Kept) → ReadNoOutput (activations ++ new)
+    → IsCarried activations input (stream_meaning activations input body) kept → (frames : List ℕ)
+    → frames ≡ open_in (stream_meaning activations input body) (length (activations ++ new))
+    → IsKeptFor (activations ++ new) input (stream_meaning activations input body) frames kept × IsOutside (activations ++ new) frames kept
+
+-- an epoch for which all was carried carries all over
+abbrev pub CarriesOver : Type 0
+CarriesOver =
+    OfEpochs (λ before new input body readers frames kept plan places. IsCarried before input (stream_meaning before input body) kept
+    → IsCarried (before ++ new) input (stream_meaning (before ++ new) input body)
+    (carried_over (before ++ new) (open_in (stream_meaning (before ++ new) input body) (length (before ++ new))) kept places
+    (sink_elements plan (epoch_meaning plan frames body))))
+
+-- an element of the output that doesn't leave the epoch is what it was before
+abbrev pub OutputStays : Type 0
+OutputStays =
+    OfEpochs (λ before new input body readers frames kept plan places. (p : Place) → p.stream ≡ 1 → ¬ (Contains places p)
+    → stream_element (stream_meaning (before ++ new) input body) (stream_source (before ++ new) input p)
+    ≡ stream_element (stream_meaning before input body) (stream_source before input p))
+
+-- Before the first epoch nothing is held.
+abbrev pub HeldAtFirst : Type 0
+HeldAtFirst = (input : List ℕ) (body : ℕ → List ℤ → Outcome) → IsHeld [] input body [] [] []
+
+-- What is held serves the next epoch, whichever frames leave out only what waits: they run with what is kept.
+abbrev pub BeginsEpoch : Type 0
+BeginsEpoch =
+    (before new : List Activation) (input : List ℕ) (body : ℕ → List ℤ → Outcome) (ends : List (Option TaskEnd)) (kept : List Kept)
+    (output : List (Option Elem))
+    (readers frames : List ℕ)
+    → ReadNoOutput (before ++ new) → IsHeld before input body ends kept output → readers ≡ open_in ends (length (before ++ new))
+    → LeaveOutWaiting (before ++ new) input ends frames
+    → IsOutside (before ++ new) frames kept × ((plan : Plan) (places : List Place) → StandsForEpoch plan (before ++ new) input readers frames kept places
+    → IsEpoch before new input body readers frames kept plan places)
+
+-- What waits for an element that can't come gets no outcome from all activations so far.
+abbrev pub WaitingGetsNone : Type 0
+WaitingGetsNone =
+    (before new : List Activation) (input : List ℕ) (body : ℕ → List ℤ → Outcome) (frames : List ℕ)
+    → LeaveOutWaiting (before ++ new) input (ends_of (stream_meaning before input body)) frames → AreChosen before new input body frames
+
+-- All that have no end yet leave nothing out.
+abbrev pub AllLeaveOutNothing : Type 0
+AllLeaveOutNothing =
+    (activations : List Activation) (input : List ℕ) (ends : List (Option TaskEnd)) (frames : List ℕ) → frames ≡ open_in ends (length activations)
+    → LeaveOutWaiting activations input ends frames
+
+-- And what an epoch comes to is held after it.
+abbrev pub EndsEpoch : Type 0
+EndsEpoch =
+    OfEpochs (λ before new input body readers frames kept plan places. (ends : List (Option TaskEnd)) (output : List (Option Elem)) (run : Ends)
+    → IsHeld before input body ends kept output → run.ends ≡ ends_of (epoch_meaning plan frames body)
+    → run.output ≡ sink_elements plan (epoch_meaning plan frames body)
+    → IsHeldAfter (before ++ new) input body (put_over ends frames run.ends (length (before ++ new))) kept output places run.output)
+
+-- bodies that serve all activations serve the plan of an epoch, each frame by the body of its activation
+abbrev pub ServesFrames : (ℕ → List ℤ → Outcome) → (ℕ → ℕ → ℕ → Type 0) → Type 0
+ServesFrames body takes =
+    (plan : Plan) (activations : List Activation) (input : List ℕ) (readers frames : List ℕ) (kept : List Kept) (places : List Place)
+    → StandsForEpoch plan activations input readers frames kept places → All (λ a. a < length activations) frames → ServesAll activations body takes
+    → Serves plan (λ f. body (slice_index frames f)) (λ f inputs outputs. (f < length frames) × takes (slice_index frames f) inputs outputs)
