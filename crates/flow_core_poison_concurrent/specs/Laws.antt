@@ -1,9 +1,9 @@
 -- The laws of the core with poison, as statements.
-use Rattle.std.specs.Prelude.{◌≡◌, ℕ, ℤ, ◌+◌, ◌<◌, ◌≤◌, true, false, List, Some, None, IsSome, is_some, length, slice_get, ⊤}
+use Rattle.std.specs.Prelude.{◌≡◌, ℕ, ℤ, ◌+◌, ◌<◌, ◌≤◌, true, false, List, Some, None, IsSome, is_some, length, map, slice_get, ⊤}
 use Rattle.std.specs.Option.{option_map}
 use Rattle.flow_core_laws.specs.declared.plan.Piece.{Piece}
 use Rattle.flow_core_laws.specs.Outcome.{outcome_at}
-use Rattle.flow_core_laws.specs.Round.{IsEnabled, inputs_in}
+use Rattle.flow_core_laws.specs.Round.{IsEnabled, gathered, inputs_in}
 use Rattle.flow_core_laws.specs.Laws.{Reached}
 use Rattle.flow_core_concurrent.specs.declared.view.Run.{Run}
 use Rattle.flow_core_concurrent.specs.States.{times}
@@ -13,7 +13,7 @@ use Rattle.flow_core_poison.specs.declared.outcome.Outcome.{Outcome}
 use Rattle.flow_core_poison.specs.declared.task_end.TaskEnd.{TaskEnd}
 use Rattle.flow_core_poison.specs.declared.task_end.TaskEnd.TheVariants.{Done, Trapped}
 use Rattle.flow_core_poison.specs.Outcome.{State}
-use Rattle.flow_core_poison.specs.Plans.{plan_element, frame_at, held_at, cell_source, plan_reads, plan_meaning}
+use Rattle.flow_core_poison.specs.Plans.{plan_element, frame_at, held_at, cells_of, cell_source, plan_reads, plan_meaning}
 use Rattle.flow_core_poison.specs.IsSound.{IsSound, HasCell}
 use Rattle.flow_core_poison.specs.Serves.{Serves}
 use Rattle.flow_core_poison.specs.declared.elem.Elem.{Elem}
@@ -105,6 +105,15 @@ abbrev pub ReadsTheMeaning : Type 0
 ReadsTheMeaning =
     (known : Known) (state : CoreState) (seat : ℕ) (view : View) (run : Run) (cell : ℕ) → IsFit known → IsGood known state
     → CanRead known state seat view run cell → (elem : Elem) × (held_at state.cells cell ≡ Some elem) × (meant_at known cell ≡ Some elem)
+
+-- What a frame that a seat runs reads is all there, and decides its end: its outcome in the meaning is that of what it reads,
+-- poisoned by the least root among these elements, or else what its body makes of their values.
+abbrev pub ReadsDecideTheEnd : Type 0
+ReadsDecideTheEnd =
+    (known : Known) (outcome : ℕ → List ℤ → Outcome) (state : CoreState) (seat : ℕ) (view : View) (run : Run) → IsFit known → IsMeant known outcome
+    → IsGood known state → slice_get state.seats seat ≡ Some view → view.run ≡ Some run
+    → (inputs : List Elem) × (gathered (map (held_at state.cells) (cells_of known.plan run.frame)) ≡ Some inputs)
+    × (outcome_at known.meaning run.frame ≡ Some (poisoning outcome run.frame inputs))
 
 -- a STORE finds its cell empty, and has an element for it
 abbrev pub StoresIntoEmpty : Type 0

@@ -14,6 +14,7 @@ ghost use Rattle.flow_core_poison_concurrent.specs.Laws.{
   StepsKeepGood,
   ReachedIsGood,
   ReadsTheMeaning,
+  ReadsDecideTheEnd,
   StoresIntoEmpty,
   SubFindsItsCount,
   ClaimFindsItsCells,
@@ -75,9 +76,10 @@ pub fn steps_keep_good()
     ensures reached { ReachedIsGood }
 {}
 
-/// A READ gives the meaning's element, a value or poison.
+/// A READ gives the meaning's element, a value or poison, and what a frame reads decides the end that it finishes with.
 pub fn read_gives_the_meaning()
-    ensures { ReadsTheMeaning }
+    ensures element { ReadsTheMeaning }
+    ensures end { ReadsDecideTheEnd }
 {}
 
 /// A STORE finds its cell empty, and has an element for it, whatever the end of its frame is.

@@ -1,0 +1,4 @@
+pub mod Prefixes
+pub mod Firsts
+pub mod Covering
+pub mod Starving

@@ -1,0 +1,14 @@
+-- What is missing: the first element for which an activation waits, and who should give it.
+use Rattle.std.specs.Prelude.{ℕ, List, Option}
+use Rattle.std.specs.Option.{option_map}
+use Rattle.flow_core_laws.specs.declared.activation.Activation.{Activation}
+use Rattle.flow_core_poison.specs.declared.task_end.TaskEnd.{TaskEnd}
+use Rattle.flow_core_poison.specs.There.{missing_place}
+use Rattle.collector.specs.declared.missing.Missing.{Missing}
+use Rattle.collector.specs.Missing.{missing_at}
+
+-- The first missing element of an activation: the first one of its input windows, by clause item and then by
+-- position, that isn't there. An element of the input is there below its length, any other where its producer
+-- has an end, if only as poison.
+abbrev pub missing : List Activation → ℕ → List (Option TaskEnd) → ℕ → Option Missing
+missing activations input_len ends a = option_map (missing_at activations) (missing_place activations input_len ends a)

@@ -1,0 +1,16 @@
+-- The status of a run.
+use Rattle.std.specs.Prelude.{ℕ, List, Option, Bool, false, ◌&&◌, if◌then◌else◌}
+use Rattle.std.specs.Option.{option_map_or}
+use Rattle.std.specs.List.{list_all}
+use Rattle.flow_core_laws.specs.declared.control.ControlEnd.{ControlEnd}
+use Rattle.flow_core_poison.specs.declared.task_end.TaskEnd.{TaskEnd}
+use Rattle.flow_core_poison.specs.Outcome.{is_done}
+use Rattle.collector.specs.Status.{is_done_control}
+
+-- whether an activation with this end, or none, is Done
+abbrev pub has_done : Option TaskEnd → Bool
+has_done end = option_map_or is_done end false
+
+-- The status: 0 where every activation and the control program are Done, else 1.
+abbrev pub status : List (Option TaskEnd) → ControlEnd → ℕ
+status ends control = if list_all has_done ends && is_done_control control then 0 else 1

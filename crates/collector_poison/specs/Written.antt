@@ -1,0 +1,17 @@
+-- What is written: the complete prefix of the output stream, as bytes. It stops at poison as at a gap.
+use Rattle.std.specs.Prelude.{ℕ, ℤ, List, [], ◌∷◌, Option, Some, None, map}
+use Rattle.flow_core_poison.specs.declared.elem.Elem.{Elem}
+use Rattle.flow_core_poison.specs.declared.elem.Elem.TheVariants.{Value, Poison}
+use Rattle.collector.specs.Written.{byte_of}
+
+-- The values before the first element that isn't there or is poison.
+abbrev pub complete_prefix : List (Option Elem) → List ℤ
+complete_prefix [] = []
+complete_prefix (None ∷ rest) = []
+complete_prefix (Some (Value value) ∷ rest) = value ∷ complete_prefix rest
+complete_prefix (Some (Poison root) ∷ rest) = []
+
+-- The bytes that are written, by the elements of the output: one for each position that is claimed for
+-- writing, each where it is there.
+abbrev pub written : List (Option Elem) → List ℕ
+written output = map byte_of (complete_prefix output)

@@ -1,0 +1,88 @@
+-- The plan of an epoch whose elements may be poison, by the layout of all activations so far.
+use Rattle.std.specs.Prelude.{◌≡◌, ℕ, ℤ, ◌==◌, pos, if◌then◌else◌, List, ◌++◌, Option, Some, None, All, slice_get, slice_index, length, map, sum_by}
+use Rattle.std.specs.Option.{option_map, option_map_or}
+use Rattle.std.specs.List.{flat_map, range_with_len}
+use Rattle.flow_core_laws.specs.declared.activation.Activation.{Activation}
+use Rattle.flow_core_laws.specs.Window.{Window, producer}
+use Rattle.flow_core_laws.specs.Place.{Place}
+use Rattle.flow_core_epochs.specs.Epoch.{number_in, read_from, open_in, put_over}
+use Rattle.flow_core_poison.specs.declared.plan.Plan.{Plan}
+use Rattle.flow_core_poison.specs.declared.outcome.Outcome.{Outcome}
+use Rattle.flow_core_poison.specs.IsSound.{IsSound}
+use Rattle.flow_core_poison.specs.Streams.{stream_meaning}
+use Rattle.flow_core_poison.specs.declared.elem.Elem.{Elem}
+use Rattle.flow_core_poison.specs.declared.elem.Elem.TheVariants.{Value}
+use Rattle.flow_core_poison_epochs.specs.Epoch.{Kept, value_kept, epoch_meaning, AreChosen, IsKeptFor, StandsForEpoch}
+use Rattle.stream_match_layouts.specs.declared.layout.Layout.{Layout}
+use Rattle.stream_match_layouts.specs.Layout.{IsLayout, IsLayoutOf}
+use Rattle.stream_match_layouts.specs.Spans.{write_count, spans_of}
+use Rattle.stream_match.specs.Weave.{Reach, reach_places}
+use Rattle.stream_match.specs.EpochPlan.{AreFrames, leaving_reaches, reaches_over}
+use Rattle.stream_match_poison.specs.Weave.{Weave, IsWoven}
+
+-- what the element at a position of a stream is at opening, but for what is kept: the input's byte, where it is there
+abbrev pub opening_element : List ℕ → ℕ → ℕ → Option Elem
+opening_element input stream position = if stream == 0 then option_map (λ byte. Value (pos byte)) (slice_get input position) else None
+
+-- each kept element was written by an activation that is no frame
+abbrev pub WrittenOutside : List Activation → List ℕ → List Kept → Type 0
+WrittenOutside activations frames kept =
+    All (λ (k : Kept). (w : Window) × (producer activations k.place.stream k.place.position ≡ Some w) × (number_in frames w.activation ≡ None)) kept
+
+-- what is there at opening: what is kept, a value or poison, or else the input's byte
+abbrev pub epoch_opening : List ℕ → List Kept → ℕ → ℕ → Option Elem
+epoch_opening input kept stream position =
+    option_map_or (λ e. Some e) (value_kept kept (record { stream = stream; position = position })) (opening_element input stream position)
+
+-- frames of a layout that read what they read, and a sink
+abbrev pub weave_over : Layout → List ℕ → List ℕ → List Kept → List Reach → Weave
+weave_over layout input frames kept sink = record {
+  frames = length frames;
+  activations = frames;
+  number = number_in frames;
+  reaches = reaches_over layout frames sink;
+  opening = epoch_opening input kept;
+  outputs = λ f. sum_by write_count (spans_of layout (slice_index frames f));
+}
+
+-- an epoch: the sink takes what leaves
+abbrev pub epoch_weave : Layout → List ℕ → List ℕ → List Kept → List ℕ → Weave
+epoch_weave layout input frames kept cursors = weave_over layout input frames kept (leaving_reaches layout frames cursors)
+
+-- The plan of an epoch, and the places of its sink cells.
+pub record IsEpochPlanOf (layout : Layout) (input : List ℕ) (frames : List ℕ) (kept : List Kept) (cursors : List ℕ) (plan : Plan)
+    (places : List Place) : Type 0 where
+  pub woven : IsWoven layout (epoch_weave layout input frames kept cursors) plan
+  pub places_are : places ≡ flat_map reach_places (leaving_reaches layout frames cursors)
+
+-- Each such plan is sound, where what is kept was written by others.
+abbrev pub EpochPlansAreSound : Type 0
+EpochPlansAreSound =
+    (layout : Layout) (input : List ℕ) (frames : List ℕ) (kept : List Kept) (cursors : List ℕ) (plan : Plan) (places : List Place)
+    (activations : List Activation)
+    → IsLayout layout → IsLayoutOf layout activations → AreFrames layout frames → WrittenOutside activations frames kept
+    → IsEpochPlanOf layout input frames kept cursors plan places → IsSound plan
+
+-- And it stands for the epoch, where the cursors say what is still read.
+abbrev pub EpochPlansStand : Type 0
+EpochPlansStand =
+    (layout : Layout) (input : List ℕ) (readers frames : List ℕ) (kept : List Kept) (cursors : List ℕ) (plan : Plan) (places : List Place)
+    (activations : List Activation)
+    → IsLayout layout → IsLayoutOf layout activations → AreFrames layout frames → WrittenOutside activations frames kept
+    → cursors ≡ map (read_from activations readers) (range_with_len 0 (length layout.writers))
+    → IsEpochPlanOf layout input frames kept cursors plan places → StandsForEpoch plan activations input readers frames kept places
+
+-- So it goes on where the activations before it stopped: where all activations of the layout are those that were run and
+-- new ones, the readers are all that have no outcome yet, and what is left out of them gets none, the plan's meaning, put
+-- over the meaning of those that were run, is the meaning of all, poison included.
+abbrev pub EpochPlansGoOn : Type 0
+EpochPlansGoOn =
+    (layout : Layout) (input : List ℕ) (readers frames : List ℕ) (kept : List Kept) (cursors : List ℕ) (plan : Plan) (places : List Place)
+    (before new : List Activation) (body : ℕ → List ℤ → Outcome)
+    → IsLayout layout → IsLayoutOf layout (before ++ new) → AreFrames layout frames → WrittenOutside (before ++ new) frames kept
+    → cursors ≡ map (read_from (before ++ new) readers) (range_with_len 0 (length layout.writers))
+    → readers ≡ open_in (stream_meaning before input body) (length (before ++ new)) → AreChosen before new input body frames
+    → IsKeptFor (before ++ new) input (stream_meaning before input body) readers kept
+    → IsEpochPlanOf layout input frames kept cursors plan places
+    → put_over (stream_meaning before input body) frames (epoch_meaning plan frames body) (length (before ++ new))
+    ≡ stream_meaning (before ++ new) input body
