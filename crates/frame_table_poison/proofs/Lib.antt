@@ -1,0 +1,4 @@
+pub mod Spells
+pub mod Showing
+pub mod Steps
+pub mod Keeping
