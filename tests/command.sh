@@ -856,6 +856,76 @@ LD_PRELOAD=$work/failing_allocation.so FAILING_ALLOCATION=1 "$top/crates/ospack/
 status=$?
 check "no memory for the words of a packer" 7 "" "out of memory"
 
+# The program that shows runs.
+# shows NAME STATUS LINES WORD..: asks it for something, and compares what it tells.
+shows() {
+    : >out
+    "$top/osview" "${@:4}" >report 2>&1
+    status=$?
+    check "$1" "$2" "" "$3"
+}
+shows "a run where all is done" 0 \
+    "main ended after 1 activations / 1 of 1 activations are done / 4 of 4 bytes of the output are there" report first.c in.bin
+shows "a byte that traps, in a sentence" 1 \
+    "main ended after 3 activations / 2 of 3 activations are done / 1 of 3 bytes of the output are there / activation 1, of the task in line 7, trapped in line 8: division by zero" \
+    report "$top/examples/divide.c" zero.bin
+head -c 300 /dev/zero >zeros.bin
+shows "many that trap, in one line" 1 \
+    "main ended after 300 activations / 0 of 300 activations are done / 0 of 300 bytes of the output are there / activation 0, of the task in line 7, trapped in line 8: division by zero; likewise 299 more of this task" \
+    report "$top/examples/divide.c" zeros.bin
+shows "an input that ends before a window" 1 \
+    "main ended after 1 activations / 0 of 1 activations are done / 0 of 4 bytes of the output are there / activation 0, of the task in line 3, waits for element 2 of stream osin, which stands past the end of the input" \
+    report first.c short.bin
+cat >waits.c <<'END'
+int main(void) {
+    int st __attribute__((stream)), s[2] __attribute__((stream));
+    int k;
+    for (k = 0; k < 3; k++) {
+        int x, y;
+        #pragma omp task input(st >> x) output(st << y)
+        y = x + 1;
+    }
+    for (k = 0; k < 4; k++) {
+        int x, y;
+        #pragma omp task input(s[1] >> x) output(osout << y)
+        y = x;
+    }
+    #pragma omp task output(s[1] << k)
+    k = 300 / osin_len;
+    #pragma omp task input(s[0] >> k) output(osout << k)
+    k = k + 1;
+    #pragma omp task output(s[0] << k)
+    while (1) {
+    }
+    k = 1 / 0;
+}
+END
+shows "tasks that wait" 1 "$(printf '%s / ' \
+    "main trapped in line 21 after 10 activations: division by zero" "2 of 10 activations are done" "1 of 5 bytes of the output are there" \
+    "activation 0, of the task in line 6, waits for element 0 of stream st, which it writes itself; likewise 2 more of this task" \
+    "activation 4, of the task in line 11, waits for element 1 of stream s[1], which no task writes; likewise 2 more of this task" \
+    "activation 8, of the task in line 16, waits for element 0 of stream s[0] from activation 9, which used up its turns" \
+    "activation 9, of the task in line 18, used up its turns" | sed 's| / $||')" report waits.c in.bin
+shows "a program that is refused, and not run" 3 "refused 23 line 1" report empty.c in.bin
+shows "an input that is too long to be shown" 4 "too long input" report first.c long.bin
+shows "a folder for a program that is shown" 5 "read fault program" report folder in.bin
+shows "the version of what shows" 0 "osview 1.0" --version
+"$top/osview" --help >help 2>report
+status=$?
+: >out
+check "help of what shows" 0 "" ""
+for words in "" report "report first.c" "report first.c in.bin in.bin" "graph first.c in.bin" --versions; do
+    # shellcheck disable=SC2086
+    shows "words that ask for nothing to be shown: $words" 2 "$(sed -e ':a' -e '$!{N;ba' -e '}' -e 's|\n| / |g' help)" $words
+done
+"$top/osview" report first.c in.bin >/dev/full 2>report
+status=$?
+: >out
+check "a report in sentences for a full disk" 6 "" ""
+LD_PRELOAD=$work/failing_allocation.so FAILING_ALLOCATION=1 "$top/crates/osview/out/osview" report first.c in.bin >out 2>report
+status=$?
+check "no memory for the words of what shows" 7 "" ""
+
 # A coder of pictures that writes slots: what is packed is as long as the guide says, and gives back the picture. So does noise,
 # which is packed as it is.
 # squeezed NAME FILE LENGTH: codes a file, packs and unpacks what was written, and decodes it.

@@ -1,0 +1,68 @@
+//! The program `osview`: shows who wrote a program what a run of it came to, over the files and streams of the host.
+//!
+//! `osview report PROGRAM INPUT` runs the program over the input as `osrun run` does, and writes in sentences what became of its
+//! activations. What it writes is `answer_report`'s answer.
+#![tactic(auto)]
+
+mod request;
+mod telling;
+
+use os_io::{HostFiles, HostSink};
+use osrun_core_jobs::Status;
+use osview_answer::answer_report;
+use request::{Request, request_of};
+use std::os::fd::AsRawFd;
+use std::process::ExitCode;
+use std::rt::{Env, Files};
+use std::{env, fs, io};
+use task_workers::NoGate;
+use telling::{tell_help, tell_usage, tell_version};
+
+/// How many standard streams there are: their descriptors are 0, 1 and 2.
+const STANDARD_STREAMS: i32 = 3;
+
+/// What takes the place of a standard stream that the caller closed, if there is one. Else the next file that is opened would
+/// become that stream, and a name such as `/dev/stdin` would mean this file.
+fn stand_in<R: Files>(rt: &R) -> Option<R::File>
+where
+    R::File: AsRawFd,
+{
+    let file = fs::open(rt, "/dev/null").ok()?;
+    (file.as_raw_fd() < STANDARD_STREAMS).then_some(file)
+}
+
+/// The words behind the program's name. An error where one of them isn't text, or where memory is wanting.
+fn arguments(rt: &(impl Env + AllocGlobal)) -> io::Result<Vec<String>> {
+    let mut words = env::args(rt)?;
+    let _ = words.next();
+    Ok(words.collect(rt.alloc())?)
+}
+
+fn main(rt: HostRuntime) -> ExitCode {
+    let _stand_ins = [stand_in(&rt), stand_in(&rt), stand_in(&rt)];
+    let words = match arguments(&rt) {
+        Ok(words) => words,
+        Err(error) if error.kind() == io::ErrorKind::OutOfMemory => return ExitCode::from(
+            Status::NoMemory.code(),
+        ),
+        Err(_) => Vec::new(rt.alloc()),
+    };
+    let mut files = HostFiles::new(&rt);
+    let mut out = HostSink::new(rt.stdout());
+    let mut told = HostSink::new(rt.stderr());
+    let status = match request_of(&words) {
+        Some(Request::Report(job)) => answer_report(
+            &rt,
+            rt.alloc(),
+            &job,
+            &mut files,
+            &mut out,
+            &mut told,
+            &NoGate,
+        ),
+        Some(Request::Help) => tell_help(&mut rt.stdout()),
+        Some(Request::Version) => tell_version(&mut rt.stdout()),
+        None => tell_usage(&mut rt.stderr()),
+    };
+    ExitCode::from(status.code())
+}

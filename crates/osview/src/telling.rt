@@ -1,0 +1,42 @@
+//! What is told of the program itself.
+
+use osrun_core_jobs::Status;
+use std::io;
+
+/// What `--version` tells.
+const VERSION: &str = "osview 1.0";
+
+/// What is told where the words ask for nothing, or for help.
+const HELP: &str = "\
+osview shows what a run of an OpenStream program came to.
+
+    osview report PROGRAM INPUT   runs the program over the input, and tells in sentences what became of it
+    osview --help                 tells this
+    osview --version              tells the version
+
+The statuses are those of osrun run: 0 where all is done, 1 where not all is, 2 for other words, and 3 to 7 where there is no run.
+";
+
+/// How a telling ended.
+fn status_of(told: io::Result<()>, status: Status) -> Status {
+    match told {
+        Ok(()) => status,
+        Err(_) => Status::WriteFault,
+    }
+}
+
+/// Tells how the program is used.
+pub(crate) fn tell_help(out: &mut impl io::Write) -> Status {
+    status_of(write!(out, "{HELP}"), Status::AllDone)
+}
+
+/// Tells the version.
+pub(crate) fn tell_version(out: &mut impl io::Write) -> Status {
+    status_of(writeln!(out, "{VERSION}"), Status::AllDone)
+}
+
+/// Tells how the program is used, where the words ask for nothing.
+pub(crate) fn tell_usage(told: &mut impl io::Write) -> Status {
+    let _ = write!(told, "{HELP}");
+    Status::BadWords
+}

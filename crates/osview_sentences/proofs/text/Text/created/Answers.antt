@@ -1,0 +1,7 @@
+use Rattle.std.proofs.Common.{◌++◌, codes}
+use Rattle.std.specs.Fmt.{decimal}
+use Rattle.osview_sentences.proofs.Joined.{behind}
+use Rattle.osview_sentences.proofs.text.Text.created.Goals as goal
+
+pub returns : goal.returns
+returns c = behind c.args.self.now (codes " after " ++ decimal c.args.count) (codes " activations") c.in_ok-field.ensures c.in_ok-add.ensures

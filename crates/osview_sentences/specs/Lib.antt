@@ -1,0 +1,5 @@
+-- What a reader believes: what became of the activations of a run, how that is said, and the lines that are told.
+pub mod Facts
+pub mod Names
+pub mod Sentences
+pub mod Report

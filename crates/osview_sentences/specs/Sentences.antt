@@ -1,0 +1,87 @@
+-- What is said of an activation that isn't done, and which sentences are alike.
+use Rattle.std.specs.Prelude.{ℕ, ◌==◌, ◌&&◌, Bool, true, false, if◌then◌else◌, List, [], ◌++◌, codes}
+use Rattle.std.specs.Fmt.{decimal}
+use Rattle.osview_sentences.specs.Names.{stream_text}
+use Rattle.osview_sentences.specs.declared.fact.Fact.{Fact}
+use Rattle.osview_sentences.specs.declared.fact.Fact.TheVariants as fact
+use Rattle.osview_sentences.specs.declared.fact.Sentence.{Sentence}
+use Rattle.osview_sentences.specs.declared.fact.Supply.{Supply}
+use Rattle.osview_sentences.specs.declared.fact.Supply.TheVariants as supply
+use Rattle.osview_sentences.specs.declared.stream_name.StreamName.{StreamName}
+
+-- A trap in words. Its codes are 1 to 8.
+abbrev pub trap_text : ℕ → List ℕ
+trap_text code =
+    if code == 1 then codes "overflow, the result is no int"
+    else if code == 2 then codes "division by zero"
+    else if code == 3 then codes "a shift by less than 0 or more than 31, or to the left of a negative number or out of int"
+    else if code == 4 then codes "the index is outside the array, the view or the stream array"
+    else if code == 5 then codes "an element for osout is no byte"
+    else if code == 6 then codes "the size of the window is outside 1 to 65536"
+    else if code == 7 then codes "the burst or the tick is outside 0 to 65536"
+    else codes "the burst of the output window isn't its size"
+
+-- an element of a stream
+abbrev pub element_text : (name : List ℕ) → (position : ℕ) → List ℕ
+element_text name position = codes "element " ++ decimal position ++ codes " of stream " ++ name
+
+-- an activation should give it, and how that one fares
+abbrev pub from_text : (giver : ℕ) → (fares : List ℕ) → List ℕ
+from_text giver fares = codes " from activation " ++ decimal giver ++ codes ", which " ++ fares
+
+-- who should give an element
+abbrev pub supply_text : Supply → List ℕ
+supply_text supply.Ended = codes ", which stands past the end of the input"
+supply_text supply.Nobody = codes ", which no task writes"
+supply_text supply.Itself = codes ", which it writes itself"
+supply_text (supply.Trapped giver) = from_text giver (codes "trapped")
+supply_text (supply.OutOfTurns giver) = from_text giver (codes "used up its turns")
+supply_text (supply.Waiting giver) = from_text giver (codes "waits too")
+
+-- what became of an activation, where the streams have these names in a text
+abbrev pub fact_text : List ℕ → List StreamName → Fact → List ℕ
+fact_text text names (fact.Trapped code line) = codes "trapped in line " ++ decimal line ++ codes ": " ++ trap_text code
+fact_text text names fact.OverBudget = codes "used up its turns"
+fact_text text names (fact.Waits stream position by) =
+    codes "waits for " ++ element_text (stream_text text names stream) position ++ supply_text by
+
+-- What is said of an activation.
+abbrev pub sentence_text : List ℕ → List StreamName → Sentence → List ℕ
+sentence_text text names s =
+    codes "activation " ++ decimal s.activation ++ codes ", of the task in line " ++ decimal s.task_line ++ codes ", "
+    ++ fact_text text names s.fact
+
+-- whether an element is to be given in the same way
+abbrev pub is_supplied_so : Supply → Supply → Bool
+is_supplied_so supply.Ended supply.Ended = true
+is_supplied_so supply.Nobody supply.Nobody = true
+is_supplied_so supply.Itself supply.Itself = true
+is_supplied_so (supply.Trapped giver) (supply.Trapped other) = true
+is_supplied_so (supply.OutOfTurns giver) (supply.OutOfTurns other) = true
+is_supplied_so (supply.Waiting giver) (supply.Waiting other) = true
+is_supplied_so _ _ = false
+
+abbrev pub is_trap : (code line : ℕ) → Fact → Bool
+is_trap code line (fact.Trapped other at) = (other == code) && (at == line)
+is_trap code line fact.OverBudget = false
+is_trap code line (fact.Waits stream position by) = false
+
+abbrev pub is_over_budget : Fact → Bool
+is_over_budget (fact.Trapped code line) = false
+is_over_budget fact.OverBudget = true
+is_over_budget (fact.Waits stream position by) = false
+
+abbrev pub is_wait : (stream : ℕ) → Supply → Fact → Bool
+is_wait stream by (fact.Trapped code line) = false
+is_wait stream by fact.OverBudget = false
+is_wait stream by (fact.Waits other position other_by) = (other == stream) && is_supplied_so by other_by
+
+-- whether the same became of two activations, but for their numbers and for positions
+abbrev pub is_same : Fact → Fact → Bool
+is_same (fact.Trapped code line) other = is_trap code line other
+is_same fact.OverBudget other = is_over_budget other
+is_same (fact.Waits stream position by) other = is_wait stream by other
+
+-- Whether two sentences are alike: of activations of one task, to which the same happened.
+abbrev pub is_alike : Sentence → Sentence → Bool
+is_alike s other = (other.task_line == s.task_line) && is_same s.fact other.fact

@@ -1,0 +1,45 @@
+/// Who should give an element that isn't there.
+#[derive(Clone, Copy, Debug, PartialEq, Eq)]
+pub enum Supply {
+    /// The input, which has ended before it.
+    Ended,
+    /// No activation.
+    Nobody,
+    /// The activation that waits for it.
+    Itself,
+    /// Another activation, which trapped.
+    Trapped { giver: u32 },
+    /// Another activation, which used up its turns.
+    OutOfTurns { giver: u32 },
+    /// Another activation, which waits too.
+    Waiting { giver: u32 },
+}
+
+/// What became of an activation that isn't done.
+#[derive(Clone, Copy, Debug, PartialEq, Eq)]
+pub enum Fact {
+    /// It hit a trap, a code from 1 to 8, on a line of the program.
+    Trapped {
+        code: u8,
+        line: u32,
+    },
+    /// It used up its turns.
+    OverBudget,
+    /// It waits for the element at a position of a stream.
+    Waits {
+        stream: u32,
+        position: u64,
+        supply: Supply,
+    },
+}
+
+/// What became of one activation.
+#[derive(Clone, Copy, Debug, PartialEq, Eq)]
+pub struct Sentence {
+    /// The number of the activation.
+    pub activation: u32,
+    /// The line of its task's pragma.
+    pub task_line: u32,
+    /// What became of it.
+    pub fact: Fact,
+}

@@ -1,0 +1,147 @@
+ghost use Rattle.std.specs.Prelude.{◌≡◌, ◌<◌, ◌++◌, List, None, IfOk, OnOk, length, slice_index_or};
+ghost use Rattle.flow_core_laws.specs.declared.activation.Activation.{Activation};
+ghost use Rattle.osview_sentences.specs.Facts.{ended_by, fact_of, given_by, given_by_none, sentence_at, sentence_of, sentences, supply_of, waiting_for};
+ghost use Rattle.stream_match_layouts.specs.Layout.{IsLayout, IsLayoutOf};
+ghost use Rattle.stream_match_layouts.specs.Spans.{frame_count};
+
+use crate::fact::{Fact, Sentence, Supply};
+use collector::{Missing, first_missing};
+use flow_core_laws::{Ends, TaskEnd};
+use os_io::Memory;
+use std::alloc::Global;
+use stream_match_layouts::Layout;
+
+/// The end of an activation, if it has one.
+fn end_of(ends: &Ends, frame: u32) -> Option<TaskEnd>
+    ensures { result ≡ slice_index_or ends.now.ends frame None }
+{
+    match ends.ends.as_slice().get(frame as usize) {
+        Some(end) => *end,
+        None => None,
+    }
+}
+
+/// An activation that should give an element and doesn't, by how it ended.
+fn given_by(giver: u32, end: Option<TaskEnd>) -> Supply
+    ensures { result ≡ given_by giver end }
+{
+    match end {
+        None => Supply::Waiting { giver },
+        Some(TaskEnd::Done) => Supply::Waiting { giver },
+        Some(TaskEnd::Trapped { .. }) => Supply::Trapped { giver },
+        Some(TaskEnd::OverBudget) => Supply::OutOfTurns { giver },
+    }
+}
+
+/// An element that no activation writes.
+fn given_by_none(stream: u32) -> Supply
+    ensures { result ≡ given_by_none stream }
+{
+    if stream == 0 {
+        Supply::Ended
+    } else {
+        Supply::Nobody
+    }
+}
+
+/// Who should give the element that an activation misses.
+fn supply_of(ends: &Ends, frame: u32, missing: Missing) -> Supply
+    ensures { result ≡ supply_of ends.now.ends frame missing }
+{
+    match missing.producer {
+        Some(giver) => {
+            if giver == frame {
+                return Supply::Itself;
+            }
+            given_by(giver, end_of(ends, giver))
+        }
+        None => given_by_none(missing.stream),
+    }
+}
+
+/// An activation waits for its first missing element.
+fn waiting_for(ends: &Ends, frame: u32, missing: Missing) -> Fact
+    ensures { result ≡ waiting_for ends.now.ends frame missing }
+{
+    Fact::Waits {
+        stream: missing.stream,
+        position: missing.position,
+        supply: supply_of(ends, frame, missing),
+    }
+}
+
+/// What became of an activation with an end.
+fn ended_by(end: TaskEnd) -> Option<Fact>
+    ensures { result ≡ ended_by end }
+{
+    match end {
+        TaskEnd::Done => None,
+        TaskEnd::Trapped { code, line } => Some(Fact::Trapped { code, line }),
+        TaskEnd::OverBudget => Some(Fact::OverBudget),
+    }
+}
+
+/// What became of an activation, if it isn't done.
+fn fact_of(layout: &Layout, ends: &Ends, frame: u32) -> Option<Fact>
+    requires layout { IsLayout layout.now }
+    requires exists { frame < frame_count layout.now }
+    ensures { (activations : List Activation) → IsLayoutOf layout.now activations
+        → result ≡ fact_of activations layout.now.input_len ends.now.ends frame }
+{
+    if let Some(end) = end_of(ends, frame) {
+        return ended_by(end);
+    }
+    match first_missing(layout, ends, frame) {
+        Some(missing) => Some(waiting_for(ends, frame, missing)),
+        None => None,
+    }
+}
+
+/// The line of an activation's task.
+fn line_of(lines: &[u32], frame: u32) -> u32
+    ensures { result ≡ slice_index_or lines.now frame 0 }
+{
+    match lines.get(frame as usize) {
+        Some(line) => *line,
+        None => 0,
+    }
+}
+
+/// Adds the sentence of an activation, if it isn't done.
+fn add_sentence(
+    found: &mut Vec<Sentence>,
+    frame: u32,
+    line: u32,
+    fact: Option<Fact>,
+) -> Result<(), Memory>
+    ensures { OnOk result (found.new.items ≡ found.old.items ++ sentence_of frame line fact) }
+{
+    let Some(fact) = fact else {
+        return Ok(());
+    };
+    found.push(Sentence {
+        activation: frame,
+        task_line: line,
+        fact,
+    })?;
+    Ok(())
+}
+
+/// The sentences of the activations that aren't done, in control order.
+pub(crate) fn sentences(
+    alloc: Global,
+    layout: &Layout,
+    ends: &Ends,
+    lines: &[u32],
+) -> Result<Vec<Sentence>, Memory>
+    requires { IsLayout layout.now }
+    ensures { IfOk result (λ found. (activations : List Activation) → IsLayoutOf layout.now activations
+        → found.items ≡ sentences activations layout.now.input_len ends.now.ends lines.now) }
+{
+    let mut found = Vec::new(alloc);
+    for frame in 0..layout.starts.len() as u32 - 1 {
+        let fact = fact_of(layout, ends, frame);
+        add_sentence(&mut found, frame, line_of(lines, frame), fact)?;
+    }
+    Ok(found)
+}

@@ -1,0 +1,300 @@
+ghost use Rattle.std.specs.Prelude.{◌≡◌, ◌<◌, ◌++◌, List, IfOk, OnOk, count_by, drop, length, take};
+ghost use Rattle.std.specs.List.{list_any};
+ghost use Rattle.collector.specs.Status.{has_done};
+ghost use Rattle.collector.specs.Written.{written};
+ghost use Rattle.collector.specs.Line.{line};
+ghost use Rattle.flow_core_laws.specs.declared.activation.Activation.{Activation};
+ghost use Rattle.flow_core_laws.specs.Place.{written_count};
+ghost use Rattle.osview_sentences.specs.Report.{control_text, created_text, heading, likewise_text, limit_text, line_at, more_text, report, sentence_lines, share_text, told_at};
+ghost use Rattle.osview_sentences.specs.Sentences.{is_alike, sentence_text};
+ghost use Rattle.stream_match_layouts.specs.Layout.{IsLayout, IsLayoutOf};
+
+use crate::fact::Sentence;
+use crate::finding::sentences;
+use crate::stream_name::StreamName;
+use crate::text::Text;
+use crate::wording::trap_text;
+use flow_core_laws::{ControlEnd, Ends, TaskEnd};
+use os_io::Memory;
+use std::alloc::Global;
+use stream_match_layouts::Layout;
+
+/// What is counted in a run.
+#[derive(Clone, Copy)]
+struct Counts {
+    activations: u64,
+    /// How many of them are done.
+    done: u64,
+    /// How many bytes of the output stand before the first one that isn't there.
+    there: u64,
+    /// How many positions of the output are claimed for writing.
+    claimed: u64,
+}
+
+/// Whether one of some sentences is like another.
+fn is_among(sentence: Sentence, some: &[Sentence]) -> bool
+    ensures { result ≡ list_any (is_alike sentence) some.now }
+{
+    for other in some {
+        if sentence.is_alike(*other) {
+            return true;
+        }
+    }
+    false
+}
+
+/// How many of some sentences are like another.
+fn count_like(sentence: Sentence, some: &[Sentence]) -> u64
+    ensures { result ≡ count_by (is_alike sentence) some.now }
+{
+    let mut count = 0;
+    for other in some {
+        if sentence.is_alike(*other) {
+            count += 1;
+        }
+    }
+    count
+}
+
+/// How many activations are done.
+fn count_done(ends: &[Option<TaskEnd>]) -> u64
+    ensures { result ≡ count_by has_done ends.now }
+{
+    let mut count = 0;
+    for end in ends {
+        if matches!(end, Some(TaskEnd::Done)) {
+            count += 1;
+        }
+    }
+    count
+}
+
+/// How many elements stand before the first one that isn't there.
+fn written_length(elements: &[Option<i32>]) -> usize
+    ensures { result ≡ length (written elements.now) }
+{
+    for (count, element) in elements.iter().enumerate() {
+        if element.is_none() {
+            return count;
+        }
+    }
+    elements.len()
+}
+
+impl Text {
+    /// Adds that some more sentences are like the one that was told.
+    fn likewise(&mut self, more: u64) -> Result<(), Memory>
+        ensures { OnOk result (self.new ≡ self.old ++ likewise_text more) }
+    {
+        self.field(b"; likewise ", more)?;
+        self.add(b" more of this task")?;
+        Ok(())
+    }
+
+    /// Adds how many more sentences are like the one that was told, if there are any.
+    fn more(&mut self, more: u64) -> Result<(), Memory>
+        ensures { OnOk result (self.new ≡ self.old ++ more_text more) }
+    {
+        if more == 0 {
+            Ok(())
+        } else {
+            self.likewise(more)
+        }
+    }
+
+    /// Adds how many activations there were when `main` ended.
+    fn created(&mut self, count: u64) -> Result<(), Memory>
+        ensures { OnOk result (self.new ≡ self.old ++ created_text count) }
+    {
+        self.field(b" after ", count)?;
+        self.add(b" activations")?;
+        Ok(())
+    }
+
+    /// Adds that `main` went no further.
+    fn stopped(&mut self, what: &[u8], count: u64) -> Result<(), Memory>
+        ensures { OnOk result (self.new ≡ self.old ++ (what.now ++ created_text count)) }
+    {
+        self.add(what)?;
+        self.created(count)
+    }
+
+    /// Adds that `main` was stopped at a limit.
+    fn limit(&mut self, limit: u8, count: u64) -> Result<(), Memory>
+        ensures { OnOk result (self.new ≡ self.old ++ control_text (ControlEnd.Limit limit) count) }
+    {
+        self.add(b"main was stopped")?;
+        self.created(count)?;
+        self.add(limit_text(limit))?;
+        Ok(())
+    }
+
+    /// Adds that `main` trapped.
+    fn trapped(&mut self, code: u8, at: u32, count: u64) -> Result<(), Memory>
+        ensures { OnOk result (self.new ≡ self.old ++ control_text (ControlEnd.Trapped code at) count) }
+    {
+        self.field(b"main trapped in line ", at as u64)?;
+        self.created(count)?;
+        self.add(b": ")?;
+        self.add(trap_text(code))?;
+        Ok(())
+    }
+
+    /// Adds how `main` ended.
+    fn control(&mut self, control: ControlEnd, count: u64) -> Result<(), Memory>
+        ensures { OnOk result (self.new ≡ self.old ++ control_text control count) }
+    {
+        match control {
+            ControlEnd::Done => self.stopped(b"main ended", count),
+            ControlEnd::Trapped { code, line } => self.trapped(code, line, count),
+            ControlEnd::OverBudget => self.stopped(b"main used up its turns", count),
+            ControlEnd::Limit(limit) => self.limit(limit, count),
+        }
+    }
+
+    /// Adds the line that tells how `main` ended.
+    fn control_line(&mut self, control: ControlEnd, count: u64) -> Result<(), Memory>
+        ensures { OnOk result (self.new ≡ self.old ++ line (control_text control count)) }
+    {
+        self.control(control, count)?;
+        self.add(b"\n")
+    }
+
+    /// Adds a line that tells how many there are of how many.
+    fn share_line(&mut self, some: u64, all: u64, what: &[u8]) -> Result<(), Memory>
+        ensures { OnOk result (self.new ≡ self.old ++ line (share_text some all what.now)) }
+    {
+        self.number(some)?;
+        self.field(b" of ", all)?;
+        self.add(what)?;
+        self.add(b"\n")
+    }
+
+    /// Adds a sentence with the number of those that are like it, as a line.
+    fn sentence_line(
+        &mut self,
+        text: &[u8],
+        names: &[StreamName],
+        sentence: Sentence,
+        more: u64,
+    ) -> Result<(), Memory>
+        ensures { OnOk result (self.new ≡ self.old ++ line (sentence_text text.now names.now sentence ++ more_text more)) }
+    {
+        self.sentence(text, names, sentence)?;
+        self.more(more)?;
+        self.add(b"\n")?;
+        Ok(())
+    }
+
+    /// Adds the line of a sentence of some, where none before it is like it.
+    fn told_at(
+        &mut self,
+        text: &[u8],
+        names: &[StreamName],
+        all: &[Sentence],
+        place: usize,
+        sentence: Sentence,
+    ) -> Result<(), Memory>
+        requires { place < length all.now }
+        ensures { OnOk result (self.new ≡ self.old ++ told_at text.now names.now all.now place sentence) }
+    {
+        if is_among(sentence, &all[..place]) {
+            Ok(())
+        } else {
+            let more = count_like(sentence, &all[place + 1..]);
+            self.sentence_line(text, names, sentence, more)
+        }
+    }
+
+    /// Adds the line of the sentence at a place.
+    fn line_at(
+        &mut self,
+        text: &[u8],
+        names: &[StreamName],
+        all: &[Sentence],
+        place: usize,
+    ) -> Result<(), Memory>
+        requires { place < length all.now }
+        ensures { OnOk result (self.new ≡ self.old ++ line_at text.now names.now all.now place) }
+    {
+        match all.get(place) {
+            Some(sentence) => self.told_at(text, names, all, place, *sentence),
+            None => Ok(()),
+        }
+    }
+
+    /// Adds the lines of sentences.
+    fn lines(&mut self, text: &[u8], names: &[StreamName], all: &[Sentence]) -> Result<(), Memory>
+        ensures { OnOk result (self.new ≡ self.old ++ sentence_lines text.now names.now all.now) }
+    {
+        for place in 0..all.len() {
+            self.line_at(text, names, all, place)?;
+        }
+        Ok(())
+    }
+
+    /// Adds the lines before those of the sentences.
+    fn heading(&mut self, control: ControlEnd, count: Counts) -> Result<(), Memory>
+        ensures { OnOk result (self.new ≡ self.old ++ heading control count.activations count.done count.there count.claimed) }
+    {
+        self.control_line(control, count.activations)?;
+        self.share_line(count.done, count.activations, b" activations are done")?;
+        self.share_line(
+            count.there,
+            count.claimed,
+            b" bytes of the output are there",
+        )?;
+        Ok(())
+    }
+}
+
+/// What stopped `main` at a limit.
+fn limit_text(limit: u8) -> &'static [u8]
+    ensures { result.now ≡ limit_text limit }
+{
+    if limit == 1 {
+        b", as many as there may be: larger blocks need fewer"
+    } else {
+        b": the windows of one more would cover more than 4194304 elements in all"
+    }
+}
+
+/// What is counted in a run.
+fn count_all(layout: &Layout, ends: &Ends) -> Counts
+    requires { IsLayout layout.now }
+    ensures activations { (activations : List Activation) → IsLayoutOf layout.now activations → result.activations ≡ length activations }
+    ensures done { result.done ≡ count_by has_done ends.now.ends }
+    ensures there { result.there ≡ length (written ends.now.output) }
+    ensures claimed { (activations : List Activation) → IsLayoutOf layout.now activations
+        → result.claimed ≡ written_count activations 1 }
+{
+    Counts {
+        activations: layout.starts.len() as u64 - 1,
+        done: count_done(ends.ends.as_slice()),
+        there: written_length(ends.output.as_slice()) as u64,
+        claimed: layout.writes.as_slice()[1],
+    }
+}
+
+/// The report of a run in sentences: how `main` ended, how many activations are done, how many bytes of the output are there, and
+/// what became of the other activations. `lines` has the line of each activation's task, and `names` where the names of the streams
+/// stand in `text`.
+pub fn report_text(
+    alloc: Global,
+    text: &[u8],
+    names: &[StreamName],
+    lines: &[u32],
+    layout: &Layout,
+    ends: &Ends,
+    control: ControlEnd,
+) -> Result<Vec<u8>, Memory>
+    requires { IsLayout layout.now }
+    ensures { IfOk result (λ told. (activations : List Activation) → IsLayoutOf layout.now activations
+        → told.items ≡ report text.now names.now lines.now activations layout.now.input_len ends.now control) }
+{
+    let all = sentences(alloc, layout, ends, lines)?;
+    let mut told = Text::new(alloc);
+    told.heading(control, count_all(layout, ends))?;
+    told.lines(text, names, &all)?;
+    Ok(told.into_bytes())
+}

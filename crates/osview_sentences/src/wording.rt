@@ -1,0 +1,144 @@
+ghost use Rattle.std.specs.Prelude.{◌≡◌, ◌++◌, [], OnOk, codes};
+ghost use Rattle.std.specs.Fmt.{decimal};
+ghost use Rattle.osview_sentences.specs.Names.{called, stream_text};
+ghost use Rattle.osview_sentences.specs.Sentences.{element_text, fact_text, from_text, sentence_text, supply_text, trap_text};
+
+use crate::fact::{Fact, Sentence, Supply};
+use crate::stream_name::{StreamName, name_of};
+use crate::text::Text;
+use os_io::Memory;
+
+/// A trap in words.
+pub(crate) fn trap_text(code: u8) -> &'static [u8]
+    ensures { result.now ≡ trap_text code }
+{
+    match code {
+        1 => b"overflow, the result is no int",
+        2 => b"division by zero",
+        3 =>
+            b"a shift by less than 0 or more than 31, or to the left of a negative number or out of int",
+        4 => b"the index is outside the array, the view or the stream array",
+        5 => b"an element for osout is no byte",
+        6 => b"the size of the window is outside 1 to 65536",
+        7 => b"the burst or the tick is outside 0 to 65536",
+        _ => b"the burst of the output window isn't its size",
+    }
+}
+
+impl Text {
+    /// Adds what a stream is called by its name.
+    fn called(&mut self, text: &[u8], stream: u32, name: StreamName) -> Result<(), Memory>
+        ensures { OnOk result (self.new ≡ self.old ++ called text.now stream name) }
+    {
+        self.add(name.bytes(text))?;
+        if name.count == 1 {
+            return Ok(());
+        }
+        self.field(b"[", stream.saturating_sub(name.first) as u64)?;
+        self.add(b"]")
+    }
+
+    /// Adds what a stream is called.
+    fn stream(&mut self, text: &[u8], names: &[StreamName], stream: u32) -> Result<(), Memory>
+        ensures { OnOk result (self.new ≡ self.old ++ stream_text text.now names.now stream) }
+    {
+        match name_of(names, stream) {
+            Some(name) => self.called(text, stream, name),
+            None => self.number(stream as u64),
+        }
+    }
+
+    /// Adds that an activation should give an element, and how that one fares.
+    fn giver(&mut self, giver: u32, fares: &[u8]) -> Result<(), Memory>
+        ensures { OnOk result (self.new ≡ self.old ++ from_text giver fares.now) }
+    {
+        self.field(b" from activation ", giver as u64)?;
+        self.add(b", which ")?;
+        self.add(fares)?;
+        Ok(())
+    }
+
+    /// Adds who should give an element.
+    fn supply(&mut self, supply: Supply) -> Result<(), Memory>
+        ensures { OnOk result (self.new ≡ self.old ++ supply_text supply) }
+    {
+        match supply {
+            Supply::Ended => self.add(b", which stands past the end of the input"),
+            Supply::Nobody => self.add(b", which no task writes"),
+            Supply::Itself => self.add(b", which it writes itself"),
+            Supply::Trapped { giver } => self.giver(giver, b"trapped"),
+            Supply::OutOfTurns { giver } => self.giver(giver, b"used up its turns"),
+            Supply::Waiting { giver } => self.giver(giver, b"waits too"),
+        }
+    }
+
+    /// Adds where a trap was hit, and which.
+    fn trap(&mut self, code: u8, line: u32) -> Result<(), Memory>
+        ensures { OnOk result (self.new ≡ self.old ++ fact_text [] [] (Fact.Trapped code line)) }
+    {
+        self.field(b"trapped in line ", line as u64)?;
+        self.add(b": ")?;
+        self.add(trap_text(code))
+    }
+
+    /// Adds for which element it waits, but for who should give it.
+    fn element(
+        &mut self,
+        text: &[u8],
+        names: &[StreamName],
+        stream: u32,
+        position: u64,
+    ) -> Result<(), Memory>
+        ensures { OnOk result (self.new ≡ self.old ++ element_text (stream_text text.now names.now stream) position) }
+    {
+        self.field(b"element ", position)?;
+        self.add(b" of stream ")?;
+        self.stream(text, names, stream)?;
+        Ok(())
+    }
+
+    /// Adds what became of an activation.
+    fn fact(&mut self, text: &[u8], names: &[StreamName], fact: Fact) -> Result<(), Memory>
+        ensures { OnOk result (self.new ≡ self.old ++ fact_text text.now names.now fact) }
+    {
+        match fact {
+            Fact::Trapped { code, line } => self.trap(code, line),
+            Fact::OverBudget => self.add(b"used up its turns"),
+            Fact::Waits {
+                stream,
+                position,
+                supply,
+            } => {
+                self.add(b"waits for ")?;
+                self.element(text, names, stream, position)?;
+                self.supply(supply)?;
+                Ok(())
+            }
+        }
+    }
+
+    /// Adds which activation a sentence is of.
+    fn who(&mut self, sentence: Sentence) -> Result<(), Memory>
+        ensures { OnOk result (self.new ≡ self.old ++ (codes "activation " ++ decimal sentence.activation
+            ++ codes ", of the task in line " ++ decimal sentence.task_line ++ codes ", ")) }
+    {
+        self.field(b"activation ", sentence.activation as u64)?;
+        self.field(b", of the task in line ", sentence.task_line as u64)?;
+        self.add(b", ")?;
+        Ok(())
+    }
+
+    /// Adds a sentence.
+    pub(crate) fn sentence(
+        &mut self,
+        text: &[u8],
+        names: &[StreamName],
+        sentence: Sentence,
+    ) -> Result<(), Memory>
+        ensures { OnOk result (self.new ≡ self.old ++ sentence_text text.now names.now sentence) }
+    {
+        self.who(sentence)?;
+        self.fact(text, names, sentence.fact)?;
+        Ok(())
+    }
+}
