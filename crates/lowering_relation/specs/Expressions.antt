@@ -1,5 +1,5 @@
 -- Which instructions stand for an expression, from one place to another: its code pushes its value. `tells` says what
--- the name at a place means.
+-- the name at a place means, and of which type that is; an operator stands by the types of its operands.
 use Rattle.std.specs.Prelude.{◌≡◌, ℕ, suc, ◌+◌, Bool, false, List, [], ◌∷◌, Option, Some, None, Ok, ℤ, pos}
 use Rattle.std.specs.Int.{w32, cast_signed}
 use Rattle.c_int.specs.Machine.{unary_for, binary_for}

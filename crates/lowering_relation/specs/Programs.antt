@@ -87,7 +87,7 @@ pub record HasTask (code : Parts) (tells : ℕ → Resolved) (captured : List (L
   pub args : unit.args ≡ length site.captured
   pub slots : unit.slots ≡ length site.captured + stmt_slots owner.OfTask (size_by tells) t.body
 
--- A code stands for a program, by what its names mean, and by the slots in `main` that each task captures.
+-- A code stands for a program, by what its names mean and their types, and by the slots in `main` that each task captures.
 pub record HasProgram (code : Parts) (program : tree.ProgramTree) (tells : ℕ → Resolved) (captured : List (List ℕ)) (streams : ℕ) : Type 0 where
   pub functions : HasFunctions code tells (program_tasks program) 0 program
   pub tasks : (number : ℕ) (t : TaskTree) → slice_get (program_tasks program) number ≡ Some t → HasTask code tells captured number t

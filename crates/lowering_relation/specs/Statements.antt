@@ -16,7 +16,7 @@ use Rattle.lowering_relation.specs.Tasks.{TaskTree, number_of, HasStream, HasIte
 
 -- What a body stands in.
 pub record Body : Type 0 where
-  -- what the name at a place means
+  -- what the name at a place means, and of which type that is
   pub tells : ℕ → Resolved
   -- the tasks of the program
   pub tasks : List TaskTree
