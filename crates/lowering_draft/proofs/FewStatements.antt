@@ -21,7 +21,6 @@ use Rattle.os_ast.specs.Parts.{parts}
 use Rattle.os_ast.specs.Spelling as spelling
 use Rattle.os_ast.specs.Spelling.{Symbol, Printer, bare, change, clause, each, expr, optional, params, stmt, stmts, ◌⨾◌}
 use Rattle.os_ast.specs.Trees as tree
-use Rattle.os_ast.specs.declared.expr.Name.{Name}
 use Rattle.os_ast.specs.declared.names.Resolved.{Resolved}
 use Rattle.os_ast.specs.declared.program.Param.{Param}
 use Rattle.os_ast.specs.declared.program.Params.{Params}

@@ -2,9 +2,9 @@
 //!
 //! A `Draft` grows instruction by instruction; its jumps name labels, and each label gets its place when the draft comes
 //! there, which `resolve` puts in at last. `Units` is a code while it is made: the draft, and the units and sites so far.
-//! `Told` finds what a name means, and of which type it is; for each meaning there are instructions, for a body the slots that it takes, and for a
-//! task the items of its site. What is drafted for a part is a function of the tree, of what its names mean and of the draft
-//! before (`specs/Emission`).
+//! `Told` finds what a name means and whether that is `unsigned`; for each meaning there are instructions, for an operator the one
+//! that the types of its operands choose, for a body the slots that it takes, and for a task the items of its site. What is
+//! drafted for a part is a function of the tree, of what its names mean and of the draft before (`specs/Emission`).
 //!
 //! `laws` has what comes of it: a code which such a draft becomes stands for the part, by the relation of `lowering_relation`; its
 //! tasks are spawned one by one; and there are at most 8 instructions a token. The walks over the trees that make such

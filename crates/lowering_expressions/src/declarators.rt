@@ -46,7 +46,8 @@ fn emit_declarator(
     declarator: &Declarator,
 ) -> Result<(), Memory>
     ensures { OnOk result (draft.new
-        ≡ declared_code (told_at told.now.names.now) (told_at told.now.names.now declarator.now.name.mark.place).what (declarator_tree declarator.now) draft.old) }
+        ≡ declared_code (told_at told.now.names.now) (told_at told.now.names.now declarator.now.name.mark.place).what
+        (declarator_tree declarator.now) draft.old) }
 {
     match told.at(declarator.name.mark.place).what {
         What::Scalar(slot) => {

@@ -12,8 +12,8 @@ ghost use Rattle.lowering_relation.specs.Names.{flags_by, told_at};
 
 use c_int::apply_unary;
 use lowering_draft::{
-    Draft, Told, Types, calling, emit_operation, emit_reading, literal, operator_of_one, reading_at,
-    type_of_one, type_of_two, unary_for,
+    Draft, Told, Types, calling, emit_operation, emit_reading, literal, operator_of_one,
+    reading_at, type_of_one, type_of_two, unary_for,
 };
 use os_ast::{Binary, Call, Expr, Link, Mark, Target, Unary};
 use os_code::Instr;
@@ -177,12 +177,7 @@ fn emit_links(
 /// An operator and its right side, behind a number of this type, which is on its left.
 #[cycle(expressions)]
 #[tactic(auto, using(crate::proofs::Rules::expressions))]
-fn emit_link(
-    draft: &mut Draft,
-    told: &Told<'_>,
-    left: bool,
-    link: &Link,
-) -> Result<bool, Memory>
+fn emit_link(draft: &mut Draft, told: &Told<'_>, left: bool, link: &Link) -> Result<bool, Memory>
     ensures { IfOk result (λ unsigned.
         (unsigned ≡ type_of_two link.now.op left (type_by (told_at told.now.names.now) (expr_tree link.now.right)))
         × (draft.new ≡ with_link link.now.op link.now.mark.line left (type_by (told_at told.now.names.now) (expr_tree link.now.right))

@@ -63,7 +63,8 @@ abbrev pub test_code : (ℕ → Resolved) → Option tree.ExprTree → (end : La
 test_code tells None end draft = draft
 test_code tells (Some e) end draft = condition_code tells e end draft
 
-abbrev pub loop_from : (ℕ → Resolved) → Option tree.ExprTree → Option tree.ChangeTree → (again : Label) → Exits → (end : Label) → Part → Emission
+abbrev pub loop_from : (ℕ → Resolved) → Option tree.ExprTree → Option tree.ChangeTree → (again : Label) → Exits → (end : Label) → Part
+    → Emission
 loop_from tells test step again x end a draft = round_code tells step again x end a (begin_code again (test_code tells test end) draft)
 
 abbrev pub loop_code : (ℕ → Resolved) → Option tree.ExprTree → Option tree.ChangeTree → Exits → (end : Label) → Part → Emission
