@@ -1,14 +1,15 @@
 -- An expression spends its turns exactly.
-use Rattle.std.proofs.Common.{◌≡◌, ℕ, zero, suc, ◌+◌, ◌-◌, ◌≤◌, ◌<◌, ◌⊎◌, inl, inr, Bool, true, false, not, if◌then◌else◌, List, ◌∷◌, [], Option, Some, None, Ok, Err, ℤ, pos, arith, refl, ap, ◌∙◌}
+use Rattle.std.proofs.Common.{◌≡◌, ℕ, ◌+◌, ◌-◌, ◌≤◌, ◌<◌, ◌⊎◌, inl, inr, Bool, true, false, not, if◌then◌else◌, List, ◌∷◌, [], Option, Some, None, Ok, Err, ℤ, pos, arith, ap, ◌∙◌}
 use Rattle.std.specs.Int.{w32, cast_signed}
 use Rattle.std.proofs.lemmas.Bool.{cases_lt}
 use Rattle.c_int.specs.Operators.{is_zero, truth}
 use Rattle.cddf_meaning.specs.Answers.{Answer, Left, and_then, left, with_turns, over}
 use Rattle.cddf_meaning.specs.Exact.{Spends, IsExact}
-use Rattle.cddf_meaning.specs.File.{File, variable}
+use Rattle.cddf_meaning.specs.File.{File, variable, type_in}
 use Rattle.cddf_meaning.specs.Operators.{binary_value, unary_value}
 use Rattle.cddf_meaning.specs.State.{State}
 use Rattle.cddf_meaning.specs.Value.{value, place_value, values, chained, linked, call_value, as_truth, element_at, elements, scalar_value}
+use Rattle.cddf_meaning.specs.Types.{type_of_two}
 use Rattle.cddf_meaning.specs.Variables.{find}
 use Rattle.cddf_meaning.specs.declared.variable.Variable.{Variable}
 use Rattle.cddf_meaning.specs.declared.variable.Variable.TheVariants.{Constant, Function, Scalar, Array, Window, Stream, Item}
@@ -85,17 +86,17 @@ call-exact file calls (Some (Item item)) args turns = exact-here (pos 0) turns
 truth-exact : (n : Left ℤ) → IsExact ℤ (λ t. as_truth (left n.value t)) n.turns (as_truth n)
 truth-exact n = exact-here (truth (not (is_zero n.value))) n.turns
 
-linked-exact : (op : Binary) (line : ℕ) (v : ℤ) (right : ℕ → Answer (Left ℤ)) → ((turns : ℕ) → IsExact ℤ right turns (right turns)) → (turns : ℕ) →
-    IsExact ℤ (λ t. linked op line (left v t) right) turns (linked op line (left v turns) right)
-linked-exact binary.And line v right e turns =
+linked-exact : (op : Binary) (line : ℕ) (t u : Bool) (v : ℤ) (right : ℕ → Answer (Left ℤ)) → ((turns : ℕ) → IsExact ℤ right turns (right turns)) → (turns : ℕ) →
+    IsExact ℤ (λ k. linked op line t u (left v k) right) turns (linked op line t u (left v turns) right)
+linked-exact binary.And line t u v right e turns =
     exact-if (is_zero v) (λ t. Ok (left (pos 0) t)) (λ t. and_then (right t) as_truth) turns (exact-here (pos 0) turns)
     (exact-then right as_truth turns (right turns) (e turns) truth-exact)
-linked-exact binary.Or line v right e turns =
+linked-exact binary.Or line t u v right e turns =
     exact-if (is_zero v) (λ t. and_then (right t) as_truth) (λ t. Ok (left (pos 1) t)) turns
     (exact-then right as_truth turns (right turns) (e turns) truth-exact) (exact-here (pos 1) turns)
-linked-exact op line v right e turns =
-    exact-then right (λ b. with_turns b.turns (binary_value op line v b.value)) turns (right turns) (e turns)
-    (λ n. exact-with (binary_value op line v n.value) n.turns)
+linked-exact op line t u v right e turns =
+    exact-then right (λ b. with_turns b.turns (binary_value op line t u v b.value)) turns (right turns) (e turns)
+    (λ n. exact-with (binary_value op line t u v n.value) n.turns)
 
 mutual
   pub value-exact : (file : File) → CallsExact file → (e : tree.ExprTree) (s : State) (turns : ℕ) →
@@ -108,11 +109,11 @@ mutual
       (values-exact file calls args s turns) (λ n. call-exact file calls (variable file s f.id) n.value n.turns)
   value-exact file calls (tree.Paren e) s turns = value-exact file calls e s turns
   value-exact file calls (tree.Unary op m e) s turns =
-      exact-then (value file e s) (λ n. with_turns n.turns (unary_value op m.line n.value)) turns (value file e s turns)
-      (value-exact file calls e s turns) (λ n. exact-with (unary_value op m.line n.value) n.turns)
+      exact-then (value file e s) (λ n. with_turns n.turns (unary_value op m.line (type_in file s e) n.value)) turns (value file e s turns)
+      (value-exact file calls e s turns) (λ n. exact-with (unary_value op m.line (type_in file s e) n.value) n.turns)
   value-exact file calls (tree.Chain l first links) s turns =
-      exact-then (value file first s) (chained file links s) turns (value file first s turns) (value-exact file calls first s turns)
-      (λ n. chained-exact file calls links s n.value n.turns)
+      exact-then (value file first s) (chained file links s (type_in file s first)) turns (value file first s turns) (value-exact file calls first s turns)
+      (λ n. chained-exact file calls links s (type_in file s first) n.value n.turns)
   value-exact file calls (tree.Choice c a b) s turns =
       exact-then (value file c s) (λ n. if is_zero n.value then value file b s n.turns else value file a s n.turns) turns (value file c s turns)
       (value-exact file calls c s turns)
@@ -135,10 +136,11 @@ mutual
       (λ n. exact-then (values file es s) (λ ns. Ok (left (n.value ∷ ns.value) ns.turns)) n.turns (values file es s n.turns)
       (values-exact file calls es s n.turns) (λ ns. exact-here (n.value ∷ ns.value) ns.turns))
 
-  pub chained-exact : (file : File) → CallsExact file → (ls : tree.Links) (s : State) (v : ℤ) (turns : ℕ) →
-      IsExact ℤ (λ t. chained file ls s (left v t)) turns (chained file ls s (left v turns))
-  chained-exact file calls tree.no_links s v turns = exact-here v turns
-  chained-exact file calls (tree.link op m e rest) s v turns =
-      exact-then (λ t. linked op m.line (left v t) (value file e s)) (chained file rest s) turns (linked op m.line (left v turns) (value file e s))
-      (linked-exact op m.line v (value file e s) (value-exact file calls e s) turns)
-      (λ n. chained-exact file calls rest s n.value n.turns)
+  pub chained-exact : (file : File) → CallsExact file → (ls : tree.Links) (s : State) (u : Bool) (v : ℤ) (turns : ℕ) →
+      IsExact ℤ (λ t. chained file ls s u (left v t)) turns (chained file ls s u (left v turns))
+  chained-exact file calls tree.no_links s u v turns = exact-here v turns
+  chained-exact file calls (tree.link op m e rest) s u v turns =
+      exact-then (λ t. linked op m.line u (type_in file s e) (left v t) (value file e s)) (chained file rest s (type_of_two op u (type_in file s e))) turns
+      (linked op m.line u (type_in file s e) (left v turns) (value file e s))
+      (linked-exact op m.line u (type_in file s e) v (value file e s) (value-exact file calls e s) turns)
+      (λ n. chained-exact file calls rest s (type_of_two op u (type_in file s e)) n.value n.turns)

@@ -1,15 +1,15 @@
 -- A statement spends its turns exactly.
-use Rattle.std.proofs.Common.{◌≡◌, ℕ, zero, suc, ◌+◌, ◌-◌, ◌≤◌, ◌<◌, ◌⊎◌, inl, inr, Bool, true, false, if◌then◌else◌, List, [], ◌∷◌, ◌++◌, length, replicate, Option, Some, None, Ok, Err, ℤ, pos, arith, refl, ap, sym, subst, ◌∙◌}
+use Rattle.std.proofs.Common.{◌≡◌, ℕ, zero, suc, ◌+◌, ◌-◌, ◌≤◌, ◌<◌, ◌⊎◌, inl, inr, Bool, true, false, if◌then◌else◌, List, [], ◌∷◌, length, replicate, Option, Some, None, Ok, Err, ℤ, pos, arith, refl, ap, sym, subst, ◌∙◌}
 use Rattle.std.proofs.lemmas.Bool.{cases_lt}
 use Rattle.c_int.specs.Operators.{is_zero}
 use Rattle.cddf_meaning.specs.Answers.{Answer, Left, and_then, left, with_turns, over}
 use Rattle.cddf_meaning.specs.Claims.{limit}
 use Rattle.cddf_meaning.specs.Exact.{Spends, IsExact, SpendsIn, RunsExactly}
-use Rattle.cddf_meaning.specs.File.{File, variable}
+use Rattle.cddf_meaning.specs.File.{File, variable, type_in}
 use Rattle.cddf_meaning.specs.Flow.{Ran, Went, Ended, Runs, given, goes_on, flows, loops, left_from, left_state}
 use Rattle.cddf_meaning.specs.Moves.{Falls, CallsFall, Keeps}
 use Rattle.cddf_meaning.specs.Operators.{binary_value, step_operator}
-use Rattle.cddf_meaning.specs.Run.{Around, loop, assigned, aim_at, old_value, after_store, changed, run_change, run_scalar, run_array, run_window, window_size, with_streams, run_streams, run_unsized_or, run_sized, run_declarator, run_declarators, run_start, run_test, run_step, run, run_all, array_size}
+use Rattle.cddf_meaning.specs.Run.{Around, loop, assigned, aim_at, old_value, after_store, changed, run_change, run_scalar, run_array, run_window, window_size, with_streams, run_streams, run_unsized_or, run_declarator, run_declarators, run_start, run_test, run_step, run, run_all, array_size, target_type}
 use Rattle.cddf_meaning.specs.State.{State, declared, stored}
 use Rattle.cddf_meaning.specs.Streams.{stream_number, first_stream, stream_count, cursor_move, burst, burst_of, joined, item_claim, items_claims, claim_of, horizon_of, run_task, run_tick, tick_turn, moved, unless_limited, with_activation, captured_by, task_number}
 use Rattle.cddf_meaning.specs.Value.{value, values, checked, elements, call_value}
@@ -31,7 +31,8 @@ use Rattle.os_ast.specs.declared.names.Direction.{Direction}
 use Rattle.cddf_meaning.proofs.Enough.{given-same, if-same, flows-same, loops-same, loop-enough}
 use Rattle.cddf_meaning.proofs.Falls.{value-falls}
 use Rattle.cddf_meaning.proofs.Keeps.{keeps-on, test-falls, step-keeps, run-keeps}
-use Rattle.cddf_meaning.proofs.Exact.{CallsExact, exact-here, exact-with, exact-if, exact-then, value-exact, values-exact, call-exact}
+use Rattle.cddf_meaning.proofs.Exact.{CallsExact, exact-here, exact-with, exact-then, value-exact, values-exact, call-exact}
+use Rattle.os_ast.specs.Types.{is_unsigned}
 
 -- what a statement comes to where it is over budget
 abbrev IsOver : Ran → Type 0
@@ -238,16 +239,16 @@ change-exact : (file : File) → CallsExact file → (c : tree.ChangeTree) (s : 
     RunsExactly (run_change file c s) turns (run_change file c s turns)
 change-exact file calls (tree.Set t a m e) s turns =
     changed-exact file calls t
-    (λ old s turns. and_then (value file e s turns) (λ n. with_turns n.turns (assigned a m.line old n.value)))
-    (λ old s turns. exact-then (value file e s) (λ n. with_turns n.turns (assigned a m.line old n.value)) turns (value file e s turns)
-    (value-exact file calls e s turns) (λ n. exact-with (assigned a m.line old n.value) n.turns))
+    (λ old s turns. and_then (value file e s turns) (λ n. with_turns n.turns (assigned a m.line (target_type file s t) (type_in file s e) old n.value)))
+    (λ old s turns. exact-then (value file e s) (λ n. with_turns n.turns (assigned a m.line (target_type file s t) (type_in file s e) old n.value)) turns (value file e s turns)
+    (value-exact file calls e s turns) (λ n. exact-with (assigned a m.line (target_type file s t) (type_in file s e) old n.value) n.turns))
     s turns
 change-exact file calls (tree.After t p m) s turns =
-    changed-exact file calls t (λ old s turns. with_turns turns (binary_value (step_operator p) m.line old (pos 1)))
-    (λ old s turns. exact-with (binary_value (step_operator p) m.line old (pos 1)) turns) s turns
+    changed-exact file calls t (λ old s turns. with_turns turns (binary_value (step_operator p) m.line (target_type file s t) false old (pos 1)))
+    (λ old s turns. exact-with (binary_value (step_operator p) m.line (target_type file s t) false old (pos 1)) turns) s turns
 change-exact file calls (tree.Before t p m) s turns =
-    changed-exact file calls t (λ old s turns. with_turns turns (binary_value (step_operator p) m.line old (pos 1)))
-    (λ old s turns. exact-with (binary_value (step_operator p) m.line old (pos 1)) turns) s turns
+    changed-exact file calls t (λ old s turns. with_turns turns (binary_value (step_operator p) m.line (target_type file s t) false old (pos 1)))
+    (λ old s turns. exact-with (binary_value (step_operator p) m.line (target_type file s t) false old (pos 1)) turns) s turns
 
 valued-exact : (file : File) → CallsExact file → (e : tree.ExprTree) (s : State) (turns : ℕ) (next : Left ℤ → Ran) →
     ((n : Left ℤ) → RunsExactly (λ t. next (left n.value t)) n.turns (next n)) →
@@ -255,11 +256,11 @@ valued-exact : (file : File) → CallsExact file → (e : tree.ExprTree) (s : St
 valued-exact file calls e s turns next k =
     given-exact (value file e s) s next turns (value file e s turns) (value-exact file calls e s turns) (λ n i. k n)
 
-scalar-exact : (file : File) → CallsExact file → (id : ℕ) (first : Option tree.ExprTree) (s : State) (turns : ℕ) →
-    RunsExactly (run_scalar file id first s) turns (run_scalar file id first s turns)
-scalar-exact file calls id None s turns = went-exact GoesOn (declared id (Scalar (pos 0)) s) turns
-scalar-exact file calls id (Some e) s turns =
-    let inner = declared id (Scalar (pos 0)) s in
+scalar-exact : (file : File) → CallsExact file → (w : Bool) (id : ℕ) (first : Option tree.ExprTree) (s : State) (turns : ℕ) →
+    RunsExactly (run_scalar file w id first s) turns (run_scalar file w id first s turns)
+scalar-exact file calls w id None s turns = went-exact GoesOn (declared id w (Scalar (pos 0)) s) turns
+scalar-exact file calls w id (Some e) s turns =
+    let inner = declared id w (Scalar (pos 0)) s in
     valued-exact file calls e inner turns (λ n. goes_on (stored inner id n.value) n.turns) (λ n. went-exact GoesOn (stored inner id n.value) n.turns)
 
 either-exact : (t : Bool) (a b : Runs) → ((s : State) (turns : ℕ) → RunsExactly (a s) turns (a s turns)) →
@@ -268,51 +269,51 @@ either-exact : (t : Bool) (a b : Runs) → ((s : State) (turns : ℕ) → RunsEx
 either-exact true a b f g s turns = f s turns
 either-exact false a b f g s turns = g s turns
 
-streams-exact : (file : File) → CallsExact file → (id : ℕ) (size : Option tree.IndexTree) (s : State) (turns : ℕ) →
-    RunsExactly (run_streams file id size s) turns (run_streams file id size s turns)
-streams-exact file calls id None s turns = went-exact GoesOn (with_streams id 1 s) turns
-streams-exact file calls id (Some i) s turns =
-    valued-exact file calls i.value s turns (λ n. goes_on (with_streams id (array_size n.value) s) n.turns)
-    (λ n. went-exact GoesOn (with_streams id (array_size n.value) s) n.turns)
+streams-exact : (file : File) → CallsExact file → (w : Bool) (id : ℕ) (size : Option tree.IndexTree) (s : State) (turns : ℕ) →
+    RunsExactly (run_streams file w id size s) turns (run_streams file w id size s turns)
+streams-exact file calls w id None s turns = went-exact GoesOn (with_streams id w 1 s) turns
+streams-exact file calls w id (Some i) s turns =
+    valued-exact file calls i.value s turns (λ n. goes_on (with_streams id w (array_size n.value) s) n.turns)
+    (λ n. went-exact GoesOn (with_streams id w (array_size n.value) s) n.turns)
 
-window-exact : (file : File) → CallsExact file → (id : ℕ) (i : tree.IndexTree) (s : State) (turns : ℕ) →
-    RunsExactly (run_window file id i s) turns (run_window file id i s turns)
-window-exact file calls id i s turns =
+window-exact : (file : File) → CallsExact file → (w : Bool) (id : ℕ) (i : tree.IndexTree) (s : State) (turns : ℕ) →
+    RunsExactly (run_window file w id i s) turns (run_window file w id i s turns)
+window-exact file calls w id i s turns =
     valued-exact file calls i.value s turns
-    (λ n. given (window_size i.mark.line n.value) s (λ horizon. goes_on (declared id (Window horizon) s) n.turns))
-    (λ n. given-plain (window_size i.mark.line n.value) s (λ horizon. goes_on (declared id (Window horizon) s)) n.turns
-    (λ horizon. went-exact GoesOn (declared id (Window horizon) s) n.turns))
+    (λ n. given (window_size i.mark.line n.value) s (λ horizon. goes_on (declared id w (Window horizon) s) n.turns))
+    (λ n. given-plain (window_size i.mark.line n.value) s (λ horizon. goes_on (declared id w (Window horizon) s)) n.turns
+    (λ horizon. went-exact GoesOn (declared id w (Window horizon) s) n.turns))
 
-array-exact : (file : File) → CallsExact file → (id : ℕ) (size : tree.ExprTree) (s : State) (turns : ℕ) →
-    RunsExactly (run_array file id size s) turns (run_array file id size s turns)
-array-exact file calls id size s turns =
-    valued-exact file calls size s turns (λ n. goes_on (declared id (Array (replicate (array_size n.value) (pos 0))) s) n.turns)
-    (λ n. went-exact GoesOn (declared id (Array (replicate (array_size n.value) (pos 0))) s) n.turns)
+array-exact : (file : File) → CallsExact file → (w : Bool) (id : ℕ) (size : tree.ExprTree) (s : State) (turns : ℕ) →
+    RunsExactly (run_array file w id size s) turns (run_array file w id size s turns)
+array-exact file calls w id size s turns =
+    valued-exact file calls size s turns (λ n. goes_on (declared id w (Array (replicate (array_size n.value) (pos 0))) s) n.turns)
+    (λ n. went-exact GoesOn (declared id w (Array (replicate (array_size n.value) (pos 0))) s) n.turns)
 
-unsized-exact : (u : Around) → CallsExact u.file → (d : tree.DeclaratorTree) (size : Option tree.IndexTree) (s : State) (turns : ℕ) →
-    RunsExactly (run_unsized_or u d size s) turns (run_unsized_or u d size s turns)
-unsized-exact u calls d None s turns = scalar-exact u.file calls d.name.id d.first s turns
-unsized-exact u calls d (Some i) s turns =
-    either-exact u.is_control (run_window u.file d.name.id i) (run_array u.file d.name.id i.value)
-    (window-exact u.file calls d.name.id i) (array-exact u.file calls d.name.id i.value) s turns
+unsized-exact : (u : Around) → CallsExact u.file → (w : Bool) (d : tree.DeclaratorTree) (size : Option tree.IndexTree) (s : State) (turns : ℕ) →
+    RunsExactly (run_unsized_or u w d size s) turns (run_unsized_or u w d size s turns)
+unsized-exact u calls w d None s turns = scalar-exact u.file calls w d.name.id d.first s turns
+unsized-exact u calls w d (Some i) s turns =
+    either-exact u.is_control (run_window u.file w d.name.id i) (run_array u.file w d.name.id i.value)
+    (window-exact u.file calls w d.name.id i) (array-exact u.file calls w d.name.id i.value) s turns
 
-declarator-exact : (u : Around) → CallsExact u.file → (d : tree.DeclaratorTree) (s : State) (turns : ℕ) →
-    RunsExactly (run_declarator u d s) turns (run_declarator u d s turns)
-declarator-exact u calls d s turns =
-    either-exact d.stream (run_streams u.file d.name.id d.size) (run_unsized_or u d d.size)
-    (streams-exact u.file calls d.name.id d.size) (unsized-exact u calls d d.size) s turns
+declarator-exact : (u : Around) → CallsExact u.file → (w : Bool) (d : tree.DeclaratorTree) (s : State) (turns : ℕ) →
+    RunsExactly (run_declarator u w d s) turns (run_declarator u w d s turns)
+declarator-exact u calls w d s turns =
+    either-exact d.stream (run_streams u.file w d.name.id d.size) (run_unsized_or u w d d.size)
+    (streams-exact u.file calls w d.name.id d.size) (unsized-exact u calls w d d.size) s turns
 
-declarators-exact : (u : Around) → CallsExact u.file → (ds : List tree.DeclaratorTree) (s : State) (turns : ℕ) →
-    RunsExactly (run_declarators u ds s) turns (run_declarators u ds s turns)
-declarators-exact u calls [] s turns = went-exact GoesOn s turns
-declarators-exact u calls (d ∷ ds) s turns =
-    flows-exact (run_declarators u ds) (run_declarator u d s) turns (run_declarator u d s turns) (declarator-exact u calls d s turns)
-    (λ t left i. declarators-exact u calls ds t left)
+declarators-exact : (u : Around) → CallsExact u.file → (w : Bool) (ds : List tree.DeclaratorTree) (s : State) (turns : ℕ) →
+    RunsExactly (run_declarators u w ds s) turns (run_declarators u w ds s turns)
+declarators-exact u calls w [] s turns = went-exact GoesOn s turns
+declarators-exact u calls w (d ∷ ds) s turns =
+    flows-exact (run_declarators u w ds) (run_declarator u w d s) turns (run_declarator u w d s turns) (declarator-exact u calls w d s turns)
+    (λ t left i. declarators-exact u calls w ds t left)
 
 start-exact : (u : Around) → CallsExact u.file → (start : tree.StartTree) (s : State) (turns : ℕ) →
     RunsExactly (run_start u start s) turns (run_start u start s turns)
 start-exact u calls tree.StartTree.Empty s turns = went-exact GoesOn s turns
-start-exact u calls (tree.StartTree.Declare ty ds) s turns = declarators-exact u calls ds s turns
+start-exact u calls (tree.StartTree.Declare ty ds) s turns = declarators-exact u calls (is_unsigned ty) ds s turns
 start-exact u calls (tree.StartTree.Change c) s turns = change-exact u.file calls c s turns
 
 test-exact : (file : File) → CallsExact file → (test : Option tree.ExprTree) (s : State) (turns : ℕ) →
@@ -401,7 +402,7 @@ mutual
       RunsExactly (run u a s) turns (run u a s turns)
   run-exact u fall calls tree.StmtTree.Empty s turns = went-exact GoesOn s turns
   run-exact u fall calls (tree.Block ss) s turns = left-exact s (run_all u ss s) turns (run_all u ss s turns) (all-exact u fall calls ss s turns)
-  run-exact u fall calls (tree.StmtTree.Declare ty ds) s turns = declarators-exact u calls ds s turns
+  run-exact u fall calls (tree.StmtTree.Declare ty ds) s turns = declarators-exact u calls (is_unsigned ty) ds s turns
   run-exact u fall calls (tree.StmtTree.Change c) s turns = change-exact u.file calls c s turns
   run-exact u fall calls (tree.StmtTree.Call f args) s turns =
       given-exact (λ t. and_then (values u.file args s t) (call_value u.file.calls (variable u.file s f.id))) s (λ n. goes_on s n.turns) turns

@@ -2,11 +2,12 @@
 use Rattle.std.proofs.Common.{ℕ, ◌≤◌, Bool, true, false, if◌then◌else◌, List, ◌∷◌, Option, Some, None, Ok, Err, ℤ, pos, arith}
 use Rattle.c_int.specs.Operators.{is_zero}
 use Rattle.cddf_meaning.specs.Answers.{Answer, Left, and_then, left, with_turns}
-use Rattle.cddf_meaning.specs.File.{File, variable}
+use Rattle.cddf_meaning.specs.File.{File, variable, type_in}
 use Rattle.cddf_meaning.specs.Moves.{Falls, CallsFall}
 use Rattle.cddf_meaning.specs.Operators.{binary_value, unary_value}
 use Rattle.cddf_meaning.specs.State.{State}
 use Rattle.cddf_meaning.specs.Value.{value, place_value, values, chained, linked, call_value, as_truth, element_at, elements}
+use Rattle.cddf_meaning.specs.Types.{type_of_two}
 use Rattle.cddf_meaning.specs.Variables.{find}
 use Rattle.cddf_meaning.specs.declared.variable.Variable.{Variable}
 use Rattle.cddf_meaning.specs.declared.variable.Variable.TheVariants.{Constant, Function, Scalar, Array, Window, Stream, Item}
@@ -44,17 +45,17 @@ call-falls file calls (Some (Window h)) args = same args.turns
 call-falls file calls (Some (Stream first count)) args = same args.turns
 call-falls file calls (Some (Item item)) args = same args.turns
 
-linked-falls : (op : Binary) (line : ℕ) (a : Left ℤ) (right : ℕ → Answer (Left ℤ)) → ((turns : ℕ) → Falls turns (right turns)) →
-    Falls a.turns (linked op line a right)
-linked-falls binary.And line a right f =
+linked-falls : (op : Binary) (line : ℕ) (u v : Bool) (a : Left ℤ) (right : ℕ → Answer (Left ℤ)) → ((turns : ℕ) → Falls turns (right turns)) →
+    Falls a.turns (linked op line u v a right)
+linked-falls binary.And line u v a right f =
     falls-if (is_zero a.value) a.turns (Ok (left (pos 0) a.turns)) (and_then (right a.turns) as_truth) (same a.turns)
     (falls-then a.turns (right a.turns) as_truth (f a.turns) (λ n. same n.turns))
-linked-falls binary.Or line a right f =
+linked-falls binary.Or line u v a right f =
     falls-if (is_zero a.value) a.turns (and_then (right a.turns) as_truth) (Ok (left (pos 1) a.turns))
     (falls-then a.turns (right a.turns) as_truth (f a.turns) (λ n. same n.turns)) (same a.turns)
-linked-falls op line a right f =
-    falls-then a.turns (right a.turns) (λ b. with_turns b.turns (binary_value op line a.value b.value)) (f a.turns)
-    (λ n. falls-with n.turns (binary_value op line a.value n.value))
+linked-falls op line u v a right f =
+    falls-then a.turns (right a.turns) (λ b. with_turns b.turns (binary_value op line u v a.value b.value)) (f a.turns)
+    (λ n. falls-with n.turns (binary_value op line u v a.value n.value))
 
 mutual
   pub value-falls : (file : File) → CallsFall file → (e : tree.ExprTree) (s : State) (turns : ℕ) → Falls turns (value file e s turns)
@@ -66,11 +67,11 @@ mutual
       (call-falls file calls (variable file s f.id))
   value-falls file calls (tree.Paren e) s turns = value-falls file calls e s turns
   value-falls file calls (tree.Unary op m e) s turns =
-      falls-then turns (value file e s turns) (λ n. with_turns n.turns (unary_value op m.line n.value)) (value-falls file calls e s turns)
-      (λ n. falls-with n.turns (unary_value op m.line n.value))
+      falls-then turns (value file e s turns) (λ n. with_turns n.turns (unary_value op m.line (type_in file s e) n.value)) (value-falls file calls e s turns)
+      (λ n. falls-with n.turns (unary_value op m.line (type_in file s e) n.value))
   value-falls file calls (tree.Chain l first links) s turns =
-      falls-then turns (value file first s turns) (chained file links s) (value-falls file calls first s turns)
-      (chained-falls file calls links s)
+      falls-then turns (value file first s turns) (chained file links s (type_in file s first)) (value-falls file calls first s turns)
+      (chained-falls file calls links s (type_in file s first))
   value-falls file calls (tree.Choice c a b) s turns =
       falls-then turns (value file c s turns) (λ n. if is_zero n.value then value file b s n.turns else value file a s n.turns)
       (value-falls file calls c s turns)
@@ -92,9 +93,9 @@ mutual
       (λ n. falls-then n.turns (values file es s n.turns) (λ ns. Ok (left (n.value ∷ ns.value) ns.turns))
       (values-falls file calls es s n.turns) (λ ns. same ns.turns))
 
-  pub chained-falls : (file : File) → CallsFall file → (ls : tree.Links) (s : State) (n : Left ℤ) → Falls n.turns (chained file ls s n)
-  chained-falls file calls tree.no_links s n = same n.turns
-  chained-falls file calls (tree.link op m e rest) s n =
-      falls-then n.turns (linked op m.line n (value file e s)) (chained file rest s)
-      (linked-falls op m.line n (value file e s) (value-falls file calls e s))
-      (chained-falls file calls rest s)
+  pub chained-falls : (file : File) → CallsFall file → (ls : tree.Links) (s : State) (u : Bool) (n : Left ℤ) → Falls n.turns (chained file ls s u n)
+  chained-falls file calls tree.no_links s u n = same n.turns
+  chained-falls file calls (tree.link op m e rest) s u n =
+      falls-then n.turns (linked op m.line u (type_in file s e) n (value file e s)) (chained file rest s (type_of_two op u (type_in file s e)))
+      (linked-falls op m.line u (type_in file s e) n (value file e s) (value-falls file calls e s))
+      (chained-falls file calls rest s (type_of_two op u (type_in file s e)))

@@ -4,11 +4,11 @@ use Rattle.std.proofs.lemmas.List.{length-set}
 use Rattle.c_int.specs.Operators.{is_zero}
 use Rattle.cddf_meaning.specs.Answers.{Answer, Left, and_then, left, with_turns}
 use Rattle.cddf_meaning.specs.Claims.{limit}
-use Rattle.cddf_meaning.specs.File.{File, variable}
+use Rattle.cddf_meaning.specs.File.{File, variable, type_in}
 use Rattle.cddf_meaning.specs.Flow.{Ran, Went, Ended, Runs, given, goes_on, flows, loops, left_from}
 use Rattle.cddf_meaning.specs.Moves.{Falls, CallsFall, Keeps, item_lengths}
 use Rattle.cddf_meaning.specs.Operators.{binary_value, step_operator}
-use Rattle.cddf_meaning.specs.Run.{Around, loop, assigned, aim_at, old_value, after_store, changed, run_change, run_scalar, run_array, run_window, window_size, with_streams, run_streams, run_unsized_or, run_declarator, run_declarators, run_start, run_test, run_step, run, run_all, array_size}
+use Rattle.cddf_meaning.specs.Run.{Around, loop, assigned, aim_at, old_value, after_store, changed, run_change, run_scalar, run_array, run_window, window_size, with_streams, run_streams, run_unsized_or, run_declarator, run_declarators, run_start, run_test, run_step, run, run_all, array_size, target_type}
 use Rattle.cddf_meaning.specs.State.{State, declared, stored, stored_in, stored_in_at, with_element}
 use Rattle.cddf_meaning.specs.Streams.{stream_number, first_stream, stream_count, cursor_move, burst, burst_of, joined, item_claim, items_claims, claim_of, horizon_of, run_task, run_tick, tick_turn, unless_limited, with_activation, captured_by, task_number}
 use Rattle.cddf_meaning.specs.Value.{value, values, checked, elements, call_value}
@@ -25,6 +25,7 @@ use Rattle.os_ast.specs.Trees as tree
 use Rattle.os_ast.specs.declared.expr.Mark.{Mark}
 use Rattle.os_ast.specs.declared.names.Direction.{Direction}
 use Rattle.cddf_meaning.proofs.Falls.{falls-then, falls-with, value-falls, values-falls, call-falls}
+use Rattle.os_ast.specs.Types.{is_unsigned}
 
 keeps-less : (s : State) (turns less : ℕ) (r : Ran) → less ≤ turns → Keeps s less r → Keeps s turns r
 keeps-less s turns less (Ended ending acts) h k = tt
@@ -130,22 +131,22 @@ changed-keeps file calls t right f s turns =
 change-keeps : (file : File) → CallsFall file → (c : tree.ChangeTree) (s : State) (turns : ℕ) → Keeps s turns (run_change file c s turns)
 change-keeps file calls (tree.Set t a m e) s turns =
     changed-keeps file calls t
-    (λ old s turns. and_then (value file e s turns) (λ n. with_turns n.turns (assigned a m.line old n.value)))
-    (λ old s turns. falls-then turns (value file e s turns) (λ n. with_turns n.turns (assigned a m.line old n.value))
-    (value-falls file calls e s turns) (λ n. falls-with n.turns (assigned a m.line old n.value)))
+    (λ old s turns. and_then (value file e s turns) (λ n. with_turns n.turns (assigned a m.line (target_type file s t) (type_in file s e) old n.value)))
+    (λ old s turns. falls-then turns (value file e s turns) (λ n. with_turns n.turns (assigned a m.line (target_type file s t) (type_in file s e) old n.value))
+    (value-falls file calls e s turns) (λ n. falls-with n.turns (assigned a m.line (target_type file s t) (type_in file s e) old n.value)))
     s turns
 change-keeps file calls (tree.After t p m) s turns =
-    changed-keeps file calls t (λ old s turns. with_turns turns (binary_value (step_operator p) m.line old (pos 1)))
-    (λ old s turns. falls-with turns (binary_value (step_operator p) m.line old (pos 1))) s turns
+    changed-keeps file calls t (λ old s turns. with_turns turns (binary_value (step_operator p) m.line (target_type file s t) false old (pos 1)))
+    (λ old s turns. falls-with turns (binary_value (step_operator p) m.line (target_type file s t) false old (pos 1))) s turns
 change-keeps file calls (tree.Before t p m) s turns =
-    changed-keeps file calls t (λ old s turns. with_turns turns (binary_value (step_operator p) m.line old (pos 1)))
-    (λ old s turns. falls-with turns (binary_value (step_operator p) m.line old (pos 1))) s turns
+    changed-keeps file calls t (λ old s turns. with_turns turns (binary_value (step_operator p) m.line (target_type file s t) false old (pos 1)))
+    (λ old s turns. falls-with turns (binary_value (step_operator p) m.line (target_type file s t) false old (pos 1))) s turns
 
-scalar-keeps : (file : File) → CallsFall file → (id : ℕ) (first : Option tree.ExprTree) (s : State) (turns : ℕ) →
-    Keeps s turns (run_scalar file id first s turns)
-scalar-keeps file calls id None s turns = keeps-on s (declared id (Scalar (pos 0)) s) turns refl
-scalar-keeps file calls id (Some e) s turns =
-    let inner = declared id (Scalar (pos 0)) s in
+scalar-keeps : (file : File) → CallsFall file → (w : Bool) (id : ℕ) (first : Option tree.ExprTree) (s : State) (turns : ℕ) →
+    Keeps s turns (run_scalar file w id first s turns)
+scalar-keeps file calls w id None s turns = keeps-on s (declared id w (Scalar (pos 0)) s) turns refl
+scalar-keeps file calls w id (Some e) s turns =
+    let inner = declared id w (Scalar (pos 0)) s in
     given-left inner turns (value file e inner turns) (λ n. goes_on (stored inner id n.value) n.turns) (value-falls file calls e inner turns)
     (λ n. keeps-on inner (stored inner id n.value) n.turns (stored_in-keeps (find inner.bound id) inner id n.value))
 
@@ -159,46 +160,46 @@ either-keeps : (t : Bool) (a b : Runs) → ((s : State) (turns : ℕ) → Keeps 
 either-keeps true a b f g s turns = f s turns
 either-keeps false a b f g s turns = g s turns
 
-streams-keeps : (file : File) → CallsFall file → (id : ℕ) (size : Option tree.IndexTree) (s : State) (turns : ℕ) →
-    Keeps s turns (run_streams file id size s turns)
-streams-keeps file calls id None s turns = keeps-on s (with_streams id 1 s) turns refl
-streams-keeps file calls id (Some i) s turns =
-    valued-keeps file calls i.value s turns (λ n. goes_on (with_streams id (array_size n.value) s) n.turns)
-    (λ n. keeps-on s (with_streams id (array_size n.value) s) n.turns refl)
+streams-keeps : (file : File) → CallsFall file → (w : Bool) (id : ℕ) (size : Option tree.IndexTree) (s : State) (turns : ℕ) →
+    Keeps s turns (run_streams file w id size s turns)
+streams-keeps file calls w id None s turns = keeps-on s (with_streams id w 1 s) turns refl
+streams-keeps file calls w id (Some i) s turns =
+    valued-keeps file calls i.value s turns (λ n. goes_on (with_streams id w (array_size n.value) s) n.turns)
+    (λ n. keeps-on s (with_streams id w (array_size n.value) s) n.turns refl)
 
-window-keeps : (file : File) → CallsFall file → (id : ℕ) (i : tree.IndexTree) (s : State) (turns : ℕ) → Keeps s turns (run_window file id i s turns)
-window-keeps file calls id i s turns =
+window-keeps : (file : File) → CallsFall file → (w : Bool) (id : ℕ) (i : tree.IndexTree) (s : State) (turns : ℕ) → Keeps s turns (run_window file w id i s turns)
+window-keeps file calls w id i s turns =
     valued-keeps file calls i.value s turns
-    (λ n. given (window_size i.mark.line n.value) s (λ horizon. goes_on (declared id (Window horizon) s) n.turns))
-    (λ n. given-plain s n.turns (window_size i.mark.line n.value) (λ horizon. goes_on (declared id (Window horizon) s) n.turns)
-    (λ horizon. keeps-on s (declared id (Window horizon) s) n.turns refl))
+    (λ n. given (window_size i.mark.line n.value) s (λ horizon. goes_on (declared id w (Window horizon) s) n.turns))
+    (λ n. given-plain s n.turns (window_size i.mark.line n.value) (λ horizon. goes_on (declared id w (Window horizon) s) n.turns)
+    (λ horizon. keeps-on s (declared id w (Window horizon) s) n.turns refl))
 
-array-keeps : (file : File) → CallsFall file → (id : ℕ) (size : tree.ExprTree) (s : State) (turns : ℕ) → Keeps s turns (run_array file id size s turns)
-array-keeps file calls id size s turns =
-    valued-keeps file calls size s turns (λ n. goes_on (declared id (Array (replicate (array_size n.value) (pos 0))) s) n.turns)
-    (λ n. keeps-on s (declared id (Array (replicate (array_size n.value) (pos 0))) s) n.turns refl)
+array-keeps : (file : File) → CallsFall file → (w : Bool) (id : ℕ) (size : tree.ExprTree) (s : State) (turns : ℕ) → Keeps s turns (run_array file w id size s turns)
+array-keeps file calls w id size s turns =
+    valued-keeps file calls size s turns (λ n. goes_on (declared id w (Array (replicate (array_size n.value) (pos 0))) s) n.turns)
+    (λ n. keeps-on s (declared id w (Array (replicate (array_size n.value) (pos 0))) s) n.turns refl)
 
-unsized-keeps : (u : Around) → CallsFall u.file → (d : tree.DeclaratorTree) (size : Option tree.IndexTree) (s : State) (turns : ℕ) →
-    Keeps s turns (run_unsized_or u d size s turns)
-unsized-keeps u calls d None s turns = scalar-keeps u.file calls d.name.id d.first s turns
-unsized-keeps u calls d (Some i) s turns =
-    either-keeps u.is_control (run_window u.file d.name.id i) (run_array u.file d.name.id i.value)
-    (window-keeps u.file calls d.name.id i) (array-keeps u.file calls d.name.id i.value) s turns
+unsized-keeps : (u : Around) → CallsFall u.file → (w : Bool) (d : tree.DeclaratorTree) (size : Option tree.IndexTree) (s : State) (turns : ℕ) →
+    Keeps s turns (run_unsized_or u w d size s turns)
+unsized-keeps u calls w d None s turns = scalar-keeps u.file calls w d.name.id d.first s turns
+unsized-keeps u calls w d (Some i) s turns =
+    either-keeps u.is_control (run_window u.file w d.name.id i) (run_array u.file w d.name.id i.value)
+    (window-keeps u.file calls w d.name.id i) (array-keeps u.file calls w d.name.id i.value) s turns
 
-declarator-keeps : (u : Around) → CallsFall u.file → (d : tree.DeclaratorTree) (s : State) (turns : ℕ) → Keeps s turns (run_declarator u d s turns)
-declarator-keeps u calls d s turns =
-    either-keeps d.stream (run_streams u.file d.name.id d.size) (run_unsized_or u d d.size)
-    (streams-keeps u.file calls d.name.id d.size) (unsized-keeps u calls d d.size) s turns
+declarator-keeps : (u : Around) → CallsFall u.file → (w : Bool) (d : tree.DeclaratorTree) (s : State) (turns : ℕ) → Keeps s turns (run_declarator u w d s turns)
+declarator-keeps u calls w d s turns =
+    either-keeps d.stream (run_streams u.file w d.name.id d.size) (run_unsized_or u w d d.size)
+    (streams-keeps u.file calls w d.name.id d.size) (unsized-keeps u calls w d d.size) s turns
 
-declarators-keeps : (u : Around) → CallsFall u.file → (ds : List tree.DeclaratorTree) (s : State) (turns : ℕ) →
-    Keeps s turns (run_declarators u ds s turns)
-declarators-keeps u calls [] s turns = keeps-on s s turns refl
-declarators-keeps u calls (d ∷ ds) s turns =
-    flows-keeps s turns (run_declarators u ds) (run_declarator u d s turns) (declarator-keeps u calls d s turns) (declarators-keeps u calls ds)
+declarators-keeps : (u : Around) → CallsFall u.file → (w : Bool) (ds : List tree.DeclaratorTree) (s : State) (turns : ℕ) →
+    Keeps s turns (run_declarators u w ds s turns)
+declarators-keeps u calls w [] s turns = keeps-on s s turns refl
+declarators-keeps u calls w (d ∷ ds) s turns =
+    flows-keeps s turns (run_declarators u w ds) (run_declarator u w d s turns) (declarator-keeps u calls w d s turns) (declarators-keeps u calls w ds)
 
 start-keeps : (u : Around) → CallsFall u.file → (start : tree.StartTree) (s : State) (turns : ℕ) → Keeps s turns (run_start u start s turns)
 start-keeps u calls tree.StartTree.Empty s turns = keeps-on s s turns refl
-start-keeps u calls (tree.StartTree.Declare ty ds) s turns = declarators-keeps u calls ds s turns
+start-keeps u calls (tree.StartTree.Declare ty ds) s turns = declarators-keeps u calls (is_unsigned ty) ds s turns
 start-keeps u calls (tree.StartTree.Change c) s turns = change-keeps u.file calls c s turns
 
 pub test-falls : (file : File) → CallsFall file → (test : Option tree.ExprTree) (s : State) (turns : ℕ) → Falls turns (run_test file test s turns)
@@ -297,7 +298,7 @@ mutual
   pub run-keeps : (u : Around) → CallsFall u.file → (a : tree.StmtTree) (s : State) (turns : ℕ) → Keeps s turns (run u a s turns)
   run-keeps u calls tree.StmtTree.Empty s turns = keeps-on s s turns refl
   run-keeps u calls (tree.Block ss) s turns = left-keeps s s turns (run_all u ss s turns) (all-keeps u calls ss s turns)
-  run-keeps u calls (tree.StmtTree.Declare ty ds) s turns = declarators-keeps u calls ds s turns
+  run-keeps u calls (tree.StmtTree.Declare ty ds) s turns = declarators-keeps u calls (is_unsigned ty) ds s turns
   run-keeps u calls (tree.StmtTree.Change c) s turns = change-keeps u.file calls c s turns
   run-keeps u calls (tree.StmtTree.Call f args) s turns =
       given-left s turns (and_then (values u.file args s turns) (call_value u.file.calls (variable u.file s f.id))) (λ n. goes_on s n.turns)

@@ -4,7 +4,11 @@ pub mod ExactFiles
 pub mod ExactRuns
 pub mod Falls
 pub mod Files
+pub mod Ints
 pub mod IsIn
+pub mod Judging
 pub mod Keeps
 pub mod Sums
+pub mod TypedResults
+pub mod TypedValues
 pub mod Written

@@ -1,5 +1,5 @@
 -- What an evaluation comes to.
-use Rattle.std.specs.Prelude.{ℕ, ℤ, Result, Ok, Err}
+use Rattle.std.specs.Prelude.{ℕ, Result, Ok, Err}
 use Rattle.c_int.specs.Operators.{trap_code}
 use Rattle.c_int.specs.declared.trap.Trap.{Trap}
 use Rattle.cddf_meaning.specs.declared.ending.Ending.{Ending}
@@ -21,7 +21,7 @@ and_then (Ok a) next = next a
 and_then (Err ending) next = Err ending
 
 -- what an operator gives, or its trap with the line of the operator
-abbrev pub at_line : ℕ → Result ℤ Trap → Answer ℤ
+abbrev pub at_line : {A : Type 0} → ℕ → Result A Trap → Answer A
 at_line line (Ok v) = Ok v
 at_line line (Err trap) = traps (trap_code trap) line
 

@@ -10,6 +10,7 @@ use Rattle.cddf_meaning.specs.State.{state_of}
 use Rattle.cddf_meaning.specs.Tasks.{Task}
 use Rattle.cddf_meaning.specs.Variables.{bind}
 use Rattle.cddf_meaning.specs.declared.ending.Ending.TheVariants.{Trapped, OverBudget, Limited}
+use Rattle.cddf_meaning.specs.declared.typed_name.TypedName.{TypedName}
 use Rattle.cddf_meaning.specs.declared.variable.Binding.{Binding}
 use Rattle.cddf_meaning.specs.declared.variable.Variable.TheVariants.{Scalar, Item}
 use Rattle.flow_core_laws.specs.Byte.{is_byte}
@@ -18,25 +19,22 @@ use Rattle.flow_core_laws.specs.declared.activation.Activation.{Activation}
 use Rattle.flow_core_laws.specs.declared.claim.Claim.{Claim}
 use Rattle.flow_core_laws.specs.declared.outcome.Outcome.{Outcome}
 use Rattle.flow_core_laws.specs.declared.task_end.TaskEnd.TheVariants as end
-use Rattle.os_ast.specs.Parts as clauses
 use Rattle.os_ast.specs.Trees as tree
 
 -- The captured scalars, by their names. An activation that fits its task has a value for each.
-abbrev pub bind_captured : List ℕ → List ℤ → List Binding → List Binding
+abbrev pub bind_captured : List TypedName → List ℤ → List Binding → List Binding
 bind_captured [] vs bound = bound
-bind_captured (id ∷ ids) [] bound = bind_captured ids [] (bind id (Scalar (pos 0)) bound)
-bind_captured (id ∷ ids) (v ∷ vs) bound = bind_captured ids vs (bind id (Scalar v) bound)
+bind_captured (n ∷ ns) [] bound = bind_captured ns [] (bind n.id n.unsigned (Scalar (pos 0)) bound)
+bind_captured (n ∷ ns) (v ∷ vs) bound = bind_captured ns vs (bind n.id n.unsigned (Scalar v) bound)
 
 -- The names of the items, by their numbers in the order of the clauses.
-abbrev pub bind_items : ℕ → List clauses.Part → List Binding → List Binding
+abbrev pub bind_items : ℕ → List TypedName → List Binding → List Binding
 bind_items item [] bound = bound
-bind_items item (clauses.Item d i ∷ ps) bound =
-    bind_items (suc item) ps (bind (clauses.item_name i.stream i.window).id (Item item) bound)
-bind_items item (clauses.Private n ∷ ps) bound = bind_items item ps bound
+bind_items item (n ∷ ns) bound = bind_items (suc item) ns (bind n.id n.unsigned (Item item) bound)
 
 -- the declarations round the body of a task
 abbrev pub bound_round : Task → List ℤ → List Binding
-bound_round t values = bind_items 0 t.parts (bind_captured t.captured values [])
+bound_round t values = bind_items 0 t.items (bind_captured t.captured values [])
 
 -- The elements of the items, each as many as its claim's horizon: an input item has the next elements of the input, an
 -- output item is 0 at first. The input has the sum of the read horizons as length.

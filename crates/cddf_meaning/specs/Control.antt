@@ -1,5 +1,5 @@
 -- What the control program creates, and how it ends.
-use Rattle.std.specs.Prelude.{ℕ, true, List, [], ◌∷◌, Option, Some, None, pos}
+use Rattle.std.specs.Prelude.{ℕ, true, false, List, [], ◌∷◌, Option, Some, None, pos}
 use Rattle.cddf_meaning.specs.Flow.{Ran, Went, Ended}
 use Rattle.cddf_meaning.specs.Program.{Main, main_of}
 use Rattle.cddf_meaning.specs.Run.{Around, run_all}
@@ -29,9 +29,10 @@ control_of (Ended end activations) = record { activations = activations; end = c
 abbrev pub round_main : Main → Around
 round_main m = record { file = m.file; is_control = true; sites = sites_of m.tasks }
 
--- round the body of `main`: `osin`, which is stream 0, `osout`, which is stream 1, and `osin_len`
+-- round the body of `main`: `osin`, which is stream 0, `osout`, which is stream 1, and `osin_len`, each of the type `int`
 abbrev pub bound_round_main : (input_len : ℕ) → List Binding
-bound_round_main input_len = bind osin_len_id (Scalar (pos input_len)) (bind osout_id (Stream 1 1) (bind osin_id (Stream 0 1) []))
+bound_round_main input_len =
+    bind osin_len_id false (Scalar (pos input_len)) (bind osout_id false (Stream 1 1) (bind osin_id false (Stream 0 1) []))
 
 abbrev pub control_state : (input_len : ℕ) → State
 control_state input_len =

@@ -1,5 +1,5 @@
 -- What the functions of a program give. A function knows those that stand before it in the text.
-use Rattle.std.specs.Prelude.{ℕ, zero, suc, ◌+◌, ◌==◌, false, if◌then◌else◌, List, [], ◌∷◌, ℤ, pos, Ok, Err}
+use Rattle.std.specs.Prelude.{ℕ, zero, suc, ◌+◌, ◌==◌, Bool, false, if◌then◌else◌, List, [], ◌∷◌, ℤ, pos, Ok, Err}
 use Rattle.cddf_meaning.specs.Answers.{Answer, over, Left, left}
 use Rattle.cddf_meaning.specs.File.{Calls, File}
 use Rattle.cddf_meaning.specs.Flow.{Ran, Went, Ended}
@@ -14,6 +14,7 @@ use Rattle.cddf_meaning.specs.declared.variable.Variable.TheVariants.{Constant, 
 use Rattle.os_ast.specs.Names.{constant_value}
 use Rattle.os_ast.specs.Notes.Programs.{param_list}
 use Rattle.os_ast.specs.Trees as tree
+use Rattle.os_ast.specs.Types.{is_unsigned}
 use Rattle.os_ast.specs.declared.program.Param.{Param}
 
 -- A body that ends without a `return` gives 0. `break` and `continue` stand in loops alone.
@@ -28,11 +29,12 @@ abbrev pub returned : Ran → Answer (Left ℤ)
 returned (Went flow s turns) = Ok (left (result_of flow) turns)
 returned (Ended ending activations) = Err ending
 
--- each parameter is a scalar with the value of its argument; there are as many arguments as parameters
+-- Each parameter is a scalar with the value of its argument, whose bits a conversion to the parameter's type keeps. There are as many
+-- arguments as parameters.
 abbrev pub bind_params : List Param → List ℤ → List Binding → List Binding
 bind_params [] vs bound = bound
-bind_params (p ∷ ps) [] bound = bind_params ps [] (bind p.name.id (Scalar (pos 0)) bound)
-bind_params (p ∷ ps) (v ∷ vs) bound = bind_params ps vs (bind p.name.id (Scalar v) bound)
+bind_params (p ∷ ps) [] bound = bind_params ps [] (bind p.name.id (is_unsigned p.ty) (Scalar (pos 0)) bound)
+bind_params (p ∷ ps) (v ∷ vs) bound = bind_params ps vs (bind p.name.id (is_unsigned p.ty) (Scalar v) bound)
 
 -- what is round the body of a function or a task
 abbrev pub in_function : File → Around
@@ -48,6 +50,11 @@ abbrev pub item_id : tree.ItemTree → ℕ
 item_id (tree.Constant c) = c.name.id
 item_id (tree.Function f) = f.name.id
 
+-- whether the constant, or the function's result, is of the type `unsigned`
+abbrev pub item_unsigned : tree.ItemTree → Bool
+item_unsigned (tree.Constant c) = is_unsigned c.ty
+item_unsigned (tree.Function f) = is_unsigned f.ty
+
 -- what the item at this place declares
 abbrev pub item_variable : ℕ → tree.ItemTree → Variable
 item_variable place (tree.Constant c) = Constant (constant_value c)
@@ -61,7 +68,7 @@ calls_with file (tree.Function f) =
 -- The file with one more item. A constant or a function is in scope behind it.
 abbrev pub with_item : File → tree.ItemTree → File
 with_item file i = record {
-  names = bind (item_id i) (item_variable file.count i) file.names;
+  names = bind (item_id i) (item_unsigned i) (item_variable file.count i) file.names;
   count = file.count + 1;
   calls = calls_with file i;
 }

@@ -2,9 +2,11 @@
 pub mod Answers
 pub mod Operators
 pub mod Variables
+pub mod Types
 pub mod State
 pub mod File
 pub mod Value
+pub mod TypedValue
 pub mod Flow
 pub mod Claims
 pub mod Tasks
@@ -17,5 +19,8 @@ pub mod Control
 -- what laws and examples say
 pub mod Exact
 pub mod Examples
+pub mod Fitting
+pub mod Judged
 pub mod Moves
 pub mod Skips
+pub mod TypedExamples

@@ -1,5 +1,6 @@
--- The operators of the trees as operators on numbers. The line of a trap is the operator's.
-use Rattle.std.specs.Prelude.{ℕ, ℤ, pos, Option, Some, None, Ok}
+-- The operators of the trees as operators on bits, chosen by the types of the operands. The line of a trap is the operator's.
+use Rattle.std.specs.Prelude.{ℕ, Bool, ℤ, pos, Option, Some, None, Ok}
+use Rattle.c_int.specs.Machine.{unary_for, binary_for}
 use Rattle.c_int.specs.Operators as c_int
 use Rattle.c_int.specs.declared.operators.Binary as int_binary
 use Rattle.c_int.specs.declared.operators.Binary.TheVariants as two
@@ -40,20 +41,20 @@ operator_of_two binary.Multiply = Some two.Multiply
 operator_of_two binary.Divide = Some two.Divide
 operator_of_two binary.Remainder = Some two.Remainder
 
--- what an operator with one operand gives
-abbrev pub unary_value : Unary → ℕ → ℤ → Answer ℤ
-unary_value op line a = at_line line (c_int.unary_value (operator_of_one op) a)
+-- what an operator with one operand gives, by the type of the operand
+abbrev pub unary_value : Unary → ℕ → Bool → ℤ → Answer ℤ
+unary_value op line unsigned a = at_line line (c_int.unary_value (unary_for unsigned (operator_of_one op)) a)
 
 -- An operator that is none is never asked.
-abbrev pub given_by : Option int_binary.Binary → ℕ → ℤ → ℤ → Answer ℤ
-given_by None line a b = Ok (pos 0)
-given_by (Some op) line a b = at_line line (c_int.binary_value op a b)
+abbrev pub given_by : Option int_binary.Binary → ℕ → (left right : Bool) → ℤ → ℤ → Answer ℤ
+given_by None line left right a b = Ok (pos 0)
+given_by (Some op) line left right a b = at_line line (c_int.binary_value (binary_for left right op) a b)
 
--- what an operator with two operands gives that are both evaluated
-abbrev pub binary_value : Binary → ℕ → ℤ → ℤ → Answer ℤ
-binary_value op line a b = given_by (operator_of_two op) line a b
+-- what an operator with two operands gives that are both evaluated, by their types
+abbrev pub binary_value : Binary → ℕ → (left right : Bool) → ℤ → ℤ → Answer ℤ
+binary_value op line left right a b = given_by (operator_of_two op) line left right a b
 
--- `++` adds 1, and `--` takes 1.
+-- `++` adds 1, and `--` takes 1, in the type of the target: 1 is an `int`.
 abbrev pub step_operator : Step → Binary
 step_operator step.Up = binary.Add
 step_operator step.Down = binary.Subtract

@@ -1,8 +1,8 @@
 -- What a statement does. C11, 6.8; the declarations and pragmas of the control program by the rules of streams.
-use Rattle.std.specs.Prelude.{ℕ, zero, suc, Bool, if◌then◌else◌, leb, ◌&&◌, List, [], ◌∷◌, ◌++◌, length, get_or, replicate, Option, Some, None, ℤ, pos, negsuc, unwrap_or, Ok}
+use Rattle.std.specs.Prelude.{ℕ, zero, suc, Bool, false, if◌then◌else◌, leb, ◌&&◌, List, [], ◌∷◌, ◌++◌, length, get_or, replicate, Option, Some, None, ℤ, pos, negsuc, unwrap_or, Ok}
 use Rattle.c_int.specs.Operators.{is_zero}
 use Rattle.cddf_meaning.specs.Answers.{Answer, traps, and_then, Left, left, with_turns}
-use Rattle.cddf_meaning.specs.File.{File, variable}
+use Rattle.cddf_meaning.specs.File.{File, variable, flags, type_in}
 use Rattle.cddf_meaning.specs.Flow.{Went, Ended, Runs, given, goes_on, flows, loops, left_from}
 use Rattle.cddf_meaning.specs.Operators.{binary_value, step_operator}
 use Rattle.cddf_meaning.specs.State.{State, declared, stored, stored_at}
@@ -15,7 +15,8 @@ use Rattle.cddf_meaning.specs.Value.{value, values, call_value, scalar_value, el
 use Rattle.cddf_meaning.specs.declared.ending.Ending.TheVariants.{OverBudget}
 use Rattle.cddf_meaning.specs.declared.flow.Flow.TheVariants.{Breaks, Continues, Returns}
 use Rattle.cddf_meaning.specs.declared.variable.Variable.TheVariants.{Scalar, Array, Window, Stream}
-use Rattle.os_ast.specs.Parts.{parts}
+use Rattle.os_ast.specs.Parts.{parts, target_name}
+use Rattle.os_ast.specs.Types.{is_unsigned}
 use Rattle.os_ast.specs.Notes.Declarators.{within_limit}
 use Rattle.os_ast.specs.Trees as tree
 use Rattle.os_ast.specs.declared.stmt.Assign.TheVariants as assign_of
@@ -38,10 +39,11 @@ loop (suc most) test body step s (suc turns) =
     (λ n. if is_zero n.value then goes_on s n.turns
     else loops (λ s turns. flows (loop most test body step) (step s turns)) (body s n.turns))
 
--- what is stored: the right side, or what the operator gives of the old value and the right side
-abbrev pub assigned : Assign → ℕ → ℤ → ℤ → Answer ℤ
-assigned assign_of.Plain line old new = Ok new
-assigned (assign_of.With op) line old new = binary_value op line old new
+-- What is stored: the right side, or what the operator gives of the old value and the right side, by the types of the target and of
+-- the right side. A conversion to the type of the target keeps the bits.
+abbrev pub assigned : Assign → ℕ → (target right : Bool) → ℤ → ℤ → Answer ℤ
+assigned assign_of.Plain line target right old new = Ok new
+assigned (assign_of.With op) line target right old new = binary_value op line target right old new
 
 -- The target of a change: its index is evaluated, and checked with the line of its `[`.
 abbrev pub aim_at : File → tree.TargetTree → State → ℕ → Answer (Left Aim)
@@ -65,19 +67,27 @@ changed file t right s turns =
     given (aim_at file t s turns) s
     (λ a. given (right (old_value file s a.value) s a.turns) s (λ v. goes_on (after_store s a.value v.value) v.turns))
 
+-- the type of a target
+abbrev pub target_type : File → State → tree.TargetTree → Bool
+target_type file s t = flags file s (target_name t)
+
 -- `x op= e` operates as `x op e`; `++` and `--` add or take 1. The line of a trap is the operator's. C11, 6.5.16,
 -- 6.5.2.4 and 6.5.3.1.
 abbrev pub run_change : File → tree.ChangeTree → Runs
 run_change file (tree.Set t a m e) =
-    changed file t (λ old s turns. and_then (value file e s turns) (λ n. with_turns n.turns (assigned a m.line old n.value)))
-run_change file (tree.After t p m) = changed file t (λ old s turns. with_turns turns (binary_value (step_operator p) m.line old (pos 1)))
-run_change file (tree.Before t p m) = changed file t (λ old s turns. with_turns turns (binary_value (step_operator p) m.line old (pos 1)))
+    changed file t (λ old s turns. and_then (value file e s turns) 
+    (λ n. with_turns n.turns (assigned a m.line (target_type file s t) (type_in file s e) old n.value)))
+run_change file (tree.After t p m) =
+    changed file t (λ old s turns. with_turns turns (binary_value (step_operator p) m.line (target_type file s t) false old (pos 1)))
+run_change file (tree.Before t p m) =
+    changed file t (λ old s turns. with_turns turns (binary_value (step_operator p) m.line (target_type file s t) false old (pos 1)))
 
--- A scalar is 0 from its declarator on, also while its own first value is evaluated.
-abbrev pub run_scalar : File → ℕ → Option tree.ExprTree → Runs
-run_scalar file id None s turns = goes_on (declared id (Scalar (pos 0)) s) turns
-run_scalar file id (Some e) s turns =
-    let inner = declared id (Scalar (pos 0)) s in
+-- A scalar is 0 from its declarator on, also while its own first value is evaluated. What is declared is of the type of its
+-- declaration.
+abbrev pub run_scalar : File → Bool → ℕ → Option tree.ExprTree → Runs
+run_scalar file unsigned id None s turns = goes_on (declared id unsigned (Scalar (pos 0)) s) turns
+run_scalar file unsigned id (Some e) s turns =
+    let inner = declared id unsigned (Scalar (pos 0)) s in
     given (value file e inner turns) inner (λ n. goes_on (stored inner id n.value) n.turns)
 
 -- The size of a local array or of a stream array is a number or a constant from 1 to 65,536.
@@ -85,51 +95,52 @@ abbrev pub array_size : ℤ → ℕ
 array_size v = unwrap_or (within_limit v) 0
 
 -- A local array has as many zeros as its size.
-abbrev pub run_array : File → ℕ → tree.ExprTree → Runs
-run_array file id size s turns =
-    given (value file size s turns) s (λ n. goes_on (declared id (Array (replicate (array_size n.value) (pos 0))) s) n.turns)
+abbrev pub run_array : File → Bool → ℕ → tree.ExprTree → Runs
+run_array file unsigned id size s turns =
+    given (value file size s turns) s (λ n. goes_on (declared id unsigned (Array (replicate (array_size n.value) (pos 0))) s) n.turns)
 
 -- The size of a window is 1 to 65,536; else it is trap 6, with the line of its `[`.
 abbrev pub window_size : ℕ → ℤ → Answer ℕ
 window_size line (pos n) = if leb 1 n && leb n 65536 then Ok n else traps 6 line
 window_size line (negsuc n) = traps 6 line
 
-abbrev pub run_window : File → ℕ → tree.IndexTree → Runs
-run_window file id i s turns =
+abbrev pub run_window : File → Bool → ℕ → tree.IndexTree → Runs
+run_window file unsigned id i s turns =
     given (value file i.value s turns) s
-    (λ n. given (window_size i.mark.line n.value) s (λ horizon. goes_on (declared id (Window horizon) s) n.turns))
+    (λ n. given (window_size i.mark.line n.value) s (λ horizon. goes_on (declared id unsigned (Window horizon) s) n.turns))
 
 -- Streams are numbered in the order of the text, behind `osin` and `osout`: there is a skip for each stream so far.
-abbrev pub with_streams : ℕ → ℕ → State → State
-with_streams id count s =
-    record (declared id (Stream (length s.skips) count) s) { skips = s.skips ++ replicate count 0 }
+abbrev pub with_streams : ℕ → Bool → ℕ → State → State
+with_streams id unsigned count s =
+    record (declared id unsigned (Stream (length s.skips) count) s) { skips = s.skips ++ replicate count 0 }
 
-abbrev pub run_streams : File → ℕ → Option tree.IndexTree → Runs
-run_streams file id None s turns = goes_on (with_streams id 1 s) turns
-run_streams file id (Some i) s turns = given (value file i.value s turns) s (λ n. goes_on (with_streams id (array_size n.value) s) n.turns)
+abbrev pub run_streams : File → Bool → ℕ → Option tree.IndexTree → Runs
+run_streams file unsigned id None s turns = goes_on (with_streams id unsigned 1 s) turns
+run_streams file unsigned id (Some i) s turns =
+    given (value file i.value s turns) s (λ n. goes_on (with_streams id unsigned (array_size n.value) s) n.turns)
 
 -- an array of the control program is a window, every other is a local array
-abbrev pub run_sized : Around → ℕ → tree.IndexTree → Runs
-run_sized u id i = if u.is_control then run_window u.file id i else run_array u.file id i.value
+abbrev pub run_sized : Around → Bool → ℕ → tree.IndexTree → Runs
+run_sized u unsigned id i = if u.is_control then run_window u.file unsigned id i else run_array u.file unsigned id i.value
 
-abbrev pub run_unsized_or : Around → tree.DeclaratorTree → Option tree.IndexTree → Runs
-run_unsized_or u d None = run_scalar u.file d.name.id d.first
-run_unsized_or u d (Some i) = run_sized u d.name.id i
+abbrev pub run_unsized_or : Around → Bool → tree.DeclaratorTree → Option tree.IndexTree → Runs
+run_unsized_or u unsigned d None = run_scalar u.file unsigned d.name.id d.first
+run_unsized_or u unsigned d (Some i) = run_sized u unsigned d.name.id i
 
 -- A declaration sets its variable each time that it is executed. C11, 6.7.9. Streams are declared once, directly in the
 -- outermost block of `main`.
-abbrev pub run_declarator : Around → tree.DeclaratorTree → Runs
-run_declarator u d = if d.stream then run_streams u.file d.name.id d.size else run_unsized_or u d d.size
+abbrev pub run_declarator : Around → Bool → tree.DeclaratorTree → Runs
+run_declarator u unsigned d = if d.stream then run_streams u.file unsigned d.name.id d.size else run_unsized_or u unsigned d d.size
 
--- the declarators of a declaration, one after another
-abbrev pub run_declarators : Around → List tree.DeclaratorTree → Runs
-run_declarators u [] s turns = goes_on s turns
-run_declarators u (d ∷ ds) s turns = flows (run_declarators u ds) (run_declarator u d s turns)
+-- the declarators of a declaration, one after another, all of its type
+abbrev pub run_declarators : Around → Bool → List tree.DeclaratorTree → Runs
+run_declarators u unsigned [] s turns = goes_on s turns
+run_declarators u unsigned (d ∷ ds) s turns = flows (run_declarators u unsigned ds) (run_declarator u unsigned d s turns)
 
 -- what stands before the first `;` of a `for`
 abbrev pub run_start : Around → tree.StartTree → Runs
 run_start u tree.StartTree.Empty s turns = goes_on s turns
-run_start u (tree.StartTree.Declare ty ds) s turns = run_declarators u ds s turns
+run_start u (tree.StartTree.Declare ty ds) s turns = run_declarators u (is_unsigned ty) ds s turns
 run_start u (tree.StartTree.Change c) s turns = run_change u.file c s turns
 
 -- Without a test a loop goes on.
@@ -147,7 +158,7 @@ abbrev mutual
   pub run : Around → tree.StmtTree → Runs
   run u tree.StmtTree.Empty s turns = goes_on s turns
   run u (tree.Block ss) s turns = left_from s (run_all u ss s turns)
-  run u (tree.StmtTree.Declare ty ds) s turns = run_declarators u ds s turns
+  run u (tree.StmtTree.Declare ty ds) s turns = run_declarators u (is_unsigned ty) ds s turns
   run u (tree.StmtTree.Change c) s turns = run_change u.file c s turns
   run u (tree.StmtTree.Call f args) s turns =
       given (and_then (values u.file args s turns) (call_value u.file.calls (variable u.file s f.id))) s (λ n. goes_on s n.turns)

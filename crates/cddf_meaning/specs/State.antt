@@ -1,5 +1,5 @@
 -- What a body works on: its variables, and what it did to streams.
-use Rattle.std.specs.Prelude.{ℕ, List, [], get_or, set, Option, Some, ℤ}
+use Rattle.std.specs.Prelude.{ℕ, Bool, List, [], get_or, set, Option, Some, ℤ}
 use Rattle.cddf_meaning.specs.Variables.{find, assign, bind}
 use Rattle.cddf_meaning.specs.declared.variable.Binding.{Binding}
 use Rattle.cddf_meaning.specs.declared.variable.Variable.TheVariants.{Scalar, Array, Item}
@@ -21,8 +21,8 @@ abbrev pub state_of : List Binding → List (List ℤ) → State
 state_of bound items = record { bound = bound; items = items; activations = []; skips = [] }
 
 -- a name is in scope from here on
-abbrev pub declared : ℕ → Variable → State → State
-declared id v s = record s { bound = bind id v s.bound }
+abbrev pub declared : ℕ → Bool → Variable → State → State
+declared id unsigned v s = record s { bound = bind id unsigned v s.bound }
 
 -- the elements of an item
 abbrev pub item_elements : State → ℕ → List ℤ

@@ -1,11 +1,13 @@
--- The value of an expression. C11, 6.5; operands and arguments are evaluated from left to right.
-use Rattle.std.specs.Prelude.{ℕ, not, if◌then◌else◌, ltb, List, [], ◌∷◌, length, get_or, Option, Some, ℤ, pos, negsuc, Ok}
+-- The value of an expression, by its 32 bits: as the `int` that has them. C11, 6.5; operands and arguments are evaluated from left
+-- to right. Its type is that of `Types`, and `TypedValue` has both in one, by the operators between values with types.
+use Rattle.std.specs.Prelude.{ℕ, Bool, not, if◌then◌else◌, ltb, List, [], ◌∷◌, length, get_or, Option, Some, ℤ, pos, negsuc, Ok}
 use Rattle.std.specs.Int.{w32, cast_signed}
 use Rattle.c_int.specs.Operators.{is_zero, truth}
 use Rattle.cddf_meaning.specs.Answers.{Answer, Left, traps, and_then, left, with_turns}
-use Rattle.cddf_meaning.specs.File.{Calls, File, variable}
+use Rattle.cddf_meaning.specs.File.{Calls, File, variable, type_in}
 use Rattle.cddf_meaning.specs.Operators.{binary_value, unary_value}
 use Rattle.cddf_meaning.specs.State.{State, item_elements}
+use Rattle.cddf_meaning.specs.Types.{type_of_two}
 use Rattle.cddf_meaning.specs.Variables.{find}
 use Rattle.cddf_meaning.specs.declared.variable.Variable.TheVariants.{Constant, Function, Scalar, Array, Item}
 use Rattle.cddf_meaning.specs.declared.variable.Variable.{Variable}
@@ -44,12 +46,12 @@ call_value calls _ args = Ok (left (pos 0) args.turns)
 abbrev pub as_truth : Left ℤ → Answer (Left ℤ)
 as_truth n = Ok (left (truth (not (is_zero n.value))) n.turns)
 
--- An operator between a number and what stands on its right. The right side of `&&` is evaluated where the left
--- one isn't 0, that of `||` where it is 0, and that of every other operator always. C11, 6.5.13 and 6.5.14.
-abbrev pub linked : Binary → ℕ → Left ℤ → (ℕ → Answer (Left ℤ)) → Answer (Left ℤ)
-linked binary.And line a right = if is_zero a.value then Ok (left (pos 0) a.turns) else and_then (right a.turns) as_truth
-linked binary.Or line a right = if is_zero a.value then and_then (right a.turns) as_truth else Ok (left (pos 1) a.turns)
-linked op line a right = and_then (right a.turns) (λ b. with_turns b.turns (binary_value op line a.value b.value))
+-- An operator between a number of type `u` and what stands on its right, of type `v`. The right side of `&&` is evaluated where
+-- the left one isn't 0, that of `||` where it is 0, and that of every other operator always. C11, 6.5.13 and 6.5.14.
+abbrev pub linked : Binary → ℕ → (u v : Bool) → Left ℤ → (ℕ → Answer (Left ℤ)) → Answer (Left ℤ)
+linked binary.And line u v a right = if is_zero a.value then Ok (left (pos 0) a.turns) else and_then (right a.turns) as_truth
+linked binary.Or line u v a right = if is_zero a.value then and_then (right a.turns) as_truth else Ok (left (pos 1) a.turns)
+linked op line u v a right = and_then (right a.turns) (λ b. with_turns b.turns (binary_value op line u v a.value b.value))
 
 abbrev mutual
   -- The value of an expression, which changes no name. A wide number stands by its 32 bits.
@@ -61,8 +63,8 @@ abbrev mutual
       and_then (values file args s turns) (call_value file.calls (variable file s f.id))
   value file (tree.Paren e) s turns = value file e s turns
   value file (tree.Unary op m e) s turns =
-      and_then (value file e s turns) (λ n. with_turns n.turns (unary_value op m.line n.value))
-  value file (tree.Chain l first links) s turns = and_then (value file first s turns) (chained file links s)
+      and_then (value file e s turns) (λ n. with_turns n.turns (unary_value op m.line (type_in file s e) n.value))
+  value file (tree.Chain l first links) s turns = and_then (value file first s turns) (chained file links s (type_in file s first))
   -- `condition ? first : second` evaluates one of the two. C11, 6.5.15.
   value file (tree.Choice c a b) s turns =
       and_then (value file c s turns)
@@ -81,7 +83,8 @@ abbrev mutual
       and_then (value file e s turns)
       (λ n. and_then (values file es s n.turns) (λ ns. Ok (left (n.value ∷ ns.value) ns.turns)))
 
-  -- the links of a chain behind a number
-  pub chained : File → tree.Links → State → Left ℤ → Answer (Left ℤ)
-  chained file tree.no_links s n = Ok n
-  chained file (tree.link op m e rest) s n = and_then (linked op m.line n (value file e s)) (chained file rest s)
+  -- the links of a chain behind a number of type `u`
+  pub chained : File → tree.Links → State → (u : Bool) → Left ℤ → Answer (Left ℤ)
+  chained file tree.no_links s u n = Ok n
+  chained file (tree.link op m e rest) s u n =
+      and_then (linked op m.line u (type_in file s e) n (value file e s)) (chained file rest s (type_of_two op u (type_in file s e)))

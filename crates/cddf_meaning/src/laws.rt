@@ -3,18 +3,23 @@
 //! That an expression changes no name, and that the claims of the control program don't depend on what bodies do, is
 //! seen in the types: `value` gives no state, and `control` takes no body.
 
-ghost use Rattle.std.specs.Prelude.{◌≡◌, ◌<◌, ◌≤◌, ℕ, ℤ, List, get_or, length};
-ghost use Rattle.cddf_meaning.specs.Answers.{Answer, Left};
+ghost use Rattle.std.specs.Prelude.{◌≡◌, ◌<◌, ◌≤◌, ◌^◌, ℕ, ℤ, List, get_or, length, true};
+ghost use Rattle.cddf_meaning.specs.Answers.{Answer, Left, and_then};
 ghost use Rattle.cddf_meaning.specs.Body.{task_outcome};
 ghost use Rattle.cddf_meaning.specs.Exact.{IsExact, RunsExactly};
+ghost use Rattle.cddf_meaning.specs.File.{File, type_in};
+ghost use Rattle.cddf_meaning.specs.Fitting.{FileFits, GivesInt, RanFits, StateFits, items_fit, numbers_fit, stmt_fits};
 ghost use Rattle.cddf_meaning.specs.Flow.{Runs};
 ghost use Rattle.cddf_meaning.specs.Functions.{file_of};
+ghost use Rattle.cddf_meaning.specs.Judged.{JudgedByBits};
 ghost use Rattle.cddf_meaning.specs.Moves.{Falls, Keeps, read_horizons, written_horizons};
-ghost use Rattle.cddf_meaning.specs.Run.{Around, loop, run};
+ghost use Rattle.cddf_meaning.specs.Run.{Around, array_size, loop, run, window_size};
 ghost use Rattle.cddf_meaning.specs.Skips.{Move, since_read, skips_of};
 ghost use Rattle.cddf_meaning.specs.State.{State};
+ghost use Rattle.cddf_meaning.specs.Streams.{cursor_move, output_burst};
 ghost use Rattle.cddf_meaning.specs.Tasks.{Task};
-ghost use Rattle.cddf_meaning.specs.Value.{value};
+ghost use Rattle.cddf_meaning.specs.TypedValue.{typed_value, with_type};
+ghost use Rattle.cddf_meaning.specs.Value.{checked, value};
 ghost use Rattle.flow_core_laws.specs.declared.activation.Activation.{Activation};
 ghost use Rattle.flow_core_laws.specs.declared.task_end.TaskEnd.TheVariants as ends;
 ghost use Rattle.os_ast.specs.Trees as tree;
@@ -59,4 +64,30 @@ pub fn budgets_are_exact()
         IsExact ℤ (value (file_of items) e s) turns (value (file_of items) e s turns) }
     ensures statements { (items : List tree.ItemTree) (u : Around) (a : tree.StmtTree) (s : State) (turns : ℕ) →
         u.file ≡ file_of items → RunsExactly (run u a s) turns (run u a s turns) }
+{}
+
+/// The value of an expression with its type is the number of its type that has the bits of its value, or the same trap, wherever
+/// numbers stand for 32 bits. These bits are an `int`.
+pub fn values_have_types()
+    ensures values { (file : File) (e : tree.ExprTree) (s : State) (turns : ℕ) → FileFits file → StateFits s → numbers_fit e ≡ true →
+        typed_value file e s turns ≡ and_then (value file e s turns) (with_type (type_in file s e)) }
+    ensures bits { (file : File) (e : tree.ExprTree) (s : State) (turns : ℕ) → FileFits file → StateFits s → numbers_fit e ≡ true →
+        GivesInt (value file e s turns) }
+{}
+
+/// An index, a size, a burst and an amount are judged by their bits: as the numbers of their types that have these.
+pub fn judged_by_bits()
+    ensures index { (size line : ℕ) → size ≤ 2 ^ 31 → JudgedByBits (checked size line) }
+    ensures window { (line : ℕ) → JudgedByBits (window_size line) }
+    ensures array { JudgedByBits array_size }
+    ensures amount { (line : ℕ) → JudgedByBits (cursor_move line) }
+    ensures burst { (line horizon : ℕ) → horizon < 2 ^ 31 → JudgedByBits (output_burst line horizon) }
+{}
+
+/// Numbers that stand for 32 bits are `int`s behind each statement, and what functions return is too, where the numbers of the text
+/// are those of tokens. So the law on values speaks of every expression that a program comes to.
+pub fn numbers_stay_ints()
+    ensures files { (items : List tree.ItemTree) → items_fit items ≡ true → FileFits (file_of items) }
+    ensures statements { (u : Around) (a : tree.StmtTree) (s : State) (turns : ℕ) →
+        FileFits u.file → stmt_fits a ≡ true → StateFits s → RanFits (run u a s turns) }
 {}

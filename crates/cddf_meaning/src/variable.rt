@@ -25,4 +25,7 @@ pub struct Binding {
     /// The number that the lexer gave the name's spelling.
     pub id: u32,
     pub variable: Variable,
+    /// Whether it is of the type `unsigned`: a constant, a function's result, a scalar, or the elements of an array, a window, a
+    /// stream or an item.
+    pub unsigned: bool,
 }

@@ -1,11 +1,9 @@
 //! The end of a task's body, and what it writes.
 
-ghost use Rattle.std.specs.Prelude.{All, IfOk, map};
+ghost use Rattle.std.specs.Prelude.{IfOk, map};
 ghost use Rattle.cddf_meaning.specs.Body.{body, task_outcome};
 ghost use Rattle.cddf_meaning.specs.Functions.{file_of};
-ghost use Rattle.os_ast.specs.Spelling.{spell};
 ghost use Rattle.os_ast.specs.Views.{item_tree, program_tree};
-ghost use Rattle.os_lexer.specs.Laws.{HasSmallNumber};
 ghost use Rattle.cddf_meaning_plain_state.specs.Ends.{IsOutcome};
 ghost use Rattle.cddf_meaning_plain_tasks.specs.Sought.{task_of};
 
@@ -50,10 +48,9 @@ fn run_body(
 /// How an activation ends for its inputs, and the elements that it writes: those of its output items, in the order of
 /// the clauses. Where it isn't done it writes nothing.
 ///
-/// The program violates no rule and has neither the key `unsigned` nor a wide number, and the activation fits one of its
-/// tasks: by its number, by a value for each captured scalar, and by a claim for each item. The inputs are the elements of
-/// its input items, one item after another, as many as the horizons of its read claims add up to. The budget is that of one
-/// activation, in units. `Memory` is the one error; it says nothing of the program. The call is slow, and for tests.
+/// The program violates no rule, and the activation fits one of its tasks: by its number, by a value for each captured scalar,
+/// and by a claim for each item. The inputs are the elements of its input items, one item after another, as many as the
+/// horizons of its read claims add up to. The budget is that of one activation, in units. `Memory` is the one error; it says nothing of the program. The call is slow, and for tests.
 pub fn plain_body(
     alloc: Global,
     program: &Program,
@@ -61,7 +58,6 @@ pub fn plain_body(
     inputs: &[i32],
     budget: u64,
 ) -> Result<(TaskEnd, Vec<i32>), Memory>
-    requires { All HasSmallNumber (spell (program_tree program.now)) }
     ensures { IfOk result (λ r. IsOutcome r.0 r.1.items (body (program_tree program.now) activation.now inputs.now budget)) }
 {
     let Some(main) = main_of(program.items.as_slice()) else {

@@ -9,6 +9,8 @@ ghost use Rattle.cddf_meaning_plain_state.specs.Stops.{Gives, GoesOn};
 use crate::value::value;
 use cddf_meaning::Aim;
 use cddf_meaning_plain_state::changes::{assign, take_step};
+use cddf_meaning_plain_state::operators::Types;
+use cddf_meaning_plain_state::types::{target_type, type_of};
 use cddf_meaning_plain_state::{State, Stop};
 use os_ast::{Change, Item, Target};
 use std::alloc::Global;
@@ -52,11 +54,16 @@ pub(crate) fn change(
         Change::Set(target, operator, mark, expr) => {
             let aim = aim_at(alloc, file, target, state, turns)?;
             let right = value(alloc, file, expr, state, turns)?;
-            assign(file, *operator, *mark, aim, right, state)
+            let types = Types {
+                left: target_type(file, state, target),
+                right: type_of(file, state, expr),
+            };
+            assign(file, *operator, *mark, types, aim, right, state)
         }
         Change::After(target, step, mark) | Change::Before(target, step, mark) => {
             let aim = aim_at(alloc, file, target, state, turns)?;
-            take_step(file, *step, *mark, aim, state)
+            let unsigned = target_type(file, state, target);
+            take_step(file, *step, *mark, unsigned, aim, state)
         }
     }
 }

@@ -1,11 +1,9 @@
 //! The activations that the control program creates, and its end.
 
-ghost use Rattle.std.specs.Prelude.{◌≡◌, All, IfOk, map};
+ghost use Rattle.std.specs.Prelude.{◌≡◌, IfOk, map};
 ghost use Rattle.cddf_meaning.specs.Control.{control, control_of, control_state};
 ghost use Rattle.cddf_meaning.specs.Run.{run_all};
-ghost use Rattle.os_ast.specs.Spelling.{spell};
 ghost use Rattle.os_ast.specs.Views.{item_tree, program_tree, stmts_tree};
-ghost use Rattle.os_lexer.specs.Laws.{HasSmallNumber};
 ghost use Rattle.cddf_meaning_plain_tasks.specs.Units.{round_sites};
 
 use crate::run::stmts;
@@ -48,16 +46,14 @@ fn run_main(
 
 /// The activations that the control program creates for an input of so many bytes, in order, and its end.
 ///
-/// The program violates no rule and has neither the key `unsigned` nor a wide number. The input has at most 4,194,304
-/// bytes, and the budget is that of the control program, in units. `Memory` is the one error; it says nothing of the
-/// program. The call is slow, and for tests.
+/// The program violates no rule. The input has at most 4,194,304 bytes, and the budget is that of the control program, in
+/// units. `Memory` is the one error; it says nothing of the program. The call is slow, and for tests.
 pub fn plain_control(
     alloc: Global,
     program: &Program,
     input_len: u32,
     budget: u64,
 ) -> Result<Control, Memory>
-    requires { All HasSmallNumber (spell (program_tree program.now)) }
     ensures { IfOk result (λ c. c ≡ control (program_tree program.now) input_len budget) }
 {
     let Some(main) = main_of(program.items.as_slice()) else {

@@ -5,6 +5,7 @@ ghost use Rattle.std.specs.Prelude.{◌≤◌, map, option_map};
 ghost use Rattle.cddf_meaning.specs.Functions.{file_of};
 ghost use Rattle.cddf_meaning.specs.Run.{run, run_all, run_declarator, run_declarators, run_scalar, run_start, run_step, run_test};
 ghost use Rattle.os_ast.specs.Trees as tree;
+ghost use Rattle.os_ast.specs.Types.{is_unsigned};
 ghost use Rattle.os_ast.specs.Views.{change_tree, declarator_tree, expr_tree, item_tree, start_tree, stmt_tree, stmts_tree};
 ghost use Rattle.cddf_meaning_plain.specs.Loops.{repeated};
 ghost use Rattle.cddf_meaning_plain_state.specs.Stops.{GoesOn, Leaves, Tests};
@@ -20,7 +21,7 @@ use cddf_meaning_plain_state::operators::holds;
 use cddf_meaning_plain_state::sizes::array_size;
 use cddf_meaning_plain_state::{State, Stop};
 use cddf_meaning_plain_tasks::Unit;
-use os_ast::{Change, Declarator, Expr, Head, Item, Start, Stmt};
+use os_ast::{Change, Declarator, Expr, Head, Item, Start, Stmt, Ty};
 use os_io::List;
 use std::alloc::Global;
 
@@ -39,8 +40,8 @@ pub(crate) fn stmt(
     match stmt {
         Stmt::Empty | Stmt::Taskwait(_) => Ok(Flow::GoesOn),
         Stmt::Block(list) => block(alloc, unit, list, state, turns),
-        Stmt::Declare(_, list) => {
-            declarators(alloc, unit, list, state, turns)?;
+        Stmt::Declare(ty, list) => {
+            declarators(alloc, unit, *ty, list, state, turns)?;
             Ok(Flow::GoesOn)
         }
         Stmt::Change(next) => {
@@ -165,7 +166,7 @@ fn start(
 {
     match start {
         Start::Empty => Ok(()),
-        Start::Declare(_, list) => declarators(alloc, unit, list, state, turns),
+        Start::Declare(ty, list) => declarators(alloc, unit, *ty, list, state, turns),
         Start::Change(first) => change(alloc, unit.file, first, state, turns),
     }
 }
@@ -238,20 +239,21 @@ fn stepped(
     }
 }
 
-/// Runs the declarators of a declaration.
+/// Runs the declarators of a declaration of this type.
 #[cycle(meaning)]
 fn declarators(
     alloc: Global,
     unit: &Unit<'_>,
+    ty: Ty,
     list: &List<Declarator>,
     state: &mut State,
     turns: &mut u64,
 ) -> Result<(), Stop>
-    ensures goes_on { GoesOn result state.new turns.new (run_declarators (unit_of unit.now) (map declarator_tree list.now) state.old turns.old) }
+    ensures goes_on { GoesOn result state.new turns.new (run_declarators (unit_of unit.now) (is_unsigned ty) (map declarator_tree list.now) state.old turns.old) }
     ensures fewer { turns.new ≤ turns.old }
 {
     for next in list.as_slice() {
-        declarator(alloc, unit, next, state, turns)?;
+        declarator(alloc, unit, ty, next, state, turns)?;
     }
     Ok(())
 }
@@ -261,44 +263,47 @@ fn declarators(
 fn declarator(
     alloc: Global,
     unit: &Unit<'_>,
+    ty: Ty,
     declarator: &Declarator,
     state: &mut State,
     turns: &mut u64,
 ) -> Result<(), Stop>
-    ensures goes_on { GoesOn result state.new turns.new (run_declarator (unit_of unit.now) (declarator_tree declarator.now) state.old turns.old) }
+    ensures goes_on { GoesOn result state.new turns.new (run_declarator (unit_of unit.now) (is_unsigned ty) (declarator_tree declarator.now) state.old turns.old) }
     ensures fewer { turns.new ≤ turns.old }
 {
     let id = declarator.name.id;
+    let unsigned = ty.is_unsigned();
     match &declarator.size {
-        None if declarator.stream => state.declare_streams(id, 1),
-        None => scalar(alloc, unit.file, declarator, state, turns),
+        None if declarator.stream => state.declare_streams(id, unsigned, 1),
+        None => scalar(alloc, unit.file, ty, declarator, state, turns),
         Some(size) => {
             let number = value(alloc, unit.file, &size.value, state, turns)?;
             if declarator.stream {
-                state.declare_streams(id, array_size(number))
+                state.declare_streams(id, unsigned, array_size(number))
             } else if unit.is_control() {
-                state.declare_window(id, size.mark.line, number)
+                state.declare_window(id, unsigned, size.mark.line, number)
             } else {
-                state.declare_array(alloc, id, array_size(number))
+                state.declare_array(alloc, id, unsigned, array_size(number))
             }
         }
     }
 }
 
-/// Declares a scalar. It is 0 while its first value is evaluated.
+/// Declares a scalar of this type. It is 0 while its first value is evaluated.
 #[cycle(meaning)]
 fn scalar(
     alloc: Global,
     file: &[Item],
+    ty: Ty,
     declarator: &Declarator,
     state: &mut State,
     turns: &mut u64,
 ) -> Result<(), Stop>
-    ensures goes_on { GoesOn result state.new turns.new (run_scalar (file_of (map item_tree file.now)) declarator.now.name.id
+    ensures goes_on { GoesOn result state.new turns.new (run_scalar (file_of (map item_tree file.now)) (is_unsigned ty) declarator.now.name.id
         (option_map expr_tree declarator.now.first) state.old turns.old) }
     ensures fewer { turns.new ≤ turns.old }
 {
-    state.declare_scalar(declarator.name.id)?;
+    state.declare_scalar(declarator.name.id, ty.is_unsigned())?;
     if let Some(first) = &declarator.first {
         let number = value(alloc, file, first, state, turns)?;
         state.store(declarator.name.id, number);

@@ -11,7 +11,8 @@ ghost use Rattle.cddf_meaning_plain_state.specs.Stops.{Gives};
 use crate::functions::call_function;
 use cddf_meaning_plain_state::links::{link_value, needs_right};
 use cddf_meaning_plain_state::names::{Seen, int, scalar, seen_as};
-use cddf_meaning_plain_state::operators::{holds, unary};
+use cddf_meaning_plain_state::operators::{Types, holds, unary};
+use cddf_meaning_plain_state::types::{type_of, type_of_two};
 use cddf_meaning_plain_state::{State, Stop};
 use os_ast::{Call, Expr, Item, Link, Target};
 use os_io::List;
@@ -37,11 +38,13 @@ pub(crate) fn value(
         Expr::Paren(inner) => value(alloc, file, inner, state, turns),
         Expr::Unary(operator, mark, operand) => {
             let number = value(alloc, file, operand, state, turns)?;
-            unary(*operator, mark.line, number)
+            let unsigned = type_of(file, state, operand);
+            unary(*operator, mark.line, unsigned, number)
         }
         Expr::Chain(_, first, links) => {
             let number = value(alloc, file, first, state, turns)?;
-            chained(alloc, file, number, links, state, turns)
+            let unsigned = type_of(file, state, first);
+            chained(alloc, file, unsigned, number, links, state, turns)
         }
         Expr::Choice(condition, first, second) => {
             let chosen = value(alloc, file, condition, state, turns)?;
@@ -77,45 +80,53 @@ fn place(
     }
 }
 
-/// The links of a chain behind a number.
+/// The links of a chain behind a number of this type.
 #[cycle(meaning)]
 fn chained(
     alloc: Global,
     file: &[Item],
+    unsigned: bool,
     first: i32,
     links: &List<Link>,
     state: &State,
     turns: &mut u64,
 ) -> Result<i32, Stop>
-    ensures gives { Gives result turns.new (chained (file_of (map item_tree file.now)) (links_tree links.now) state.now (pair first turns.old)) }
+    ensures gives { Gives result turns.new (chained (file_of (map item_tree file.now)) (links_tree links.now) state.now unsigned (pair first turns.old)) }
     ensures fewer { turns.new ≤ turns.old }
 {
     let mut left = first;
+    let mut unsigned = unsigned;
     for link in links.as_slice() {
-        left = linked(alloc, file, left, link, state, turns)?;
+        let types = Types {
+            left: unsigned,
+            right: type_of(file, state, &link.right),
+        };
+        left = linked(alloc, file, types, left, link, state, turns)?;
+        unsigned = type_of_two(link.op, types);
     }
     Ok(left)
 }
 
-/// An operator between a number and what stands on its right.
+/// An operator between a number and what stands on its right, by the types of the two.
 #[cycle(meaning)]
 fn linked(
     alloc: Global,
     file: &[Item],
+    types: Types,
     left: i32,
     link: &Link,
     state: &State,
     turns: &mut u64,
 ) -> Result<i32, Stop>
-    ensures gives { Gives result turns.new (linked link.now.op link.now.mark.line (pair left turns.old)
+    ensures gives { Gives result turns.new (linked link.now.op link.now.mark.line types.left types.right (pair left turns.old)
         (value (file_of (map item_tree file.now)) (expr_tree link.now.right) state.now)) }
     ensures fewer { turns.new ≤ turns.old }
 {
     if !needs_right(link.op, left) {
-        return link_value(link, left, 0);
+        return link_value(link, types, left, 0);
     }
     let right = value(alloc, file, &link.right, state, turns)?;
-    link_value(link, left, right)
+    link_value(link, types, left, right)
 }
 
 /// What a call gives.

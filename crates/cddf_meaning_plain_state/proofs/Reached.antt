@@ -1,10 +1,10 @@
 -- What the first items of a file declare, an item at a time.
-use Rattle.std.proofs.Common.{◌≡◌, ◌≢◌, ℕ, zero, suc, ◌+◌, ◌<◌, List, [], ◌∷◌, ◌++◌, length, get_or, take, map, Some, refl, ap, sym, ◌∙◌, arith}
+use Rattle.std.proofs.Common.{◌≡◌, ◌≢◌, Bool, false, ℕ, zero, suc, ◌+◌, ◌<◌, List, [], ◌∷◌, ◌++◌, length, get_or, take, map, Some, refl, ap, sym, ◌∙◌, arith}
 use Rattle.std.proofs.Math.ListN.{get_or-map}
 use Rattle.std.proofs.lemmas.List.{length-map, length-take}
 use Rattle.cddf_meaning.specs.File.{File}
-use Rattle.cddf_meaning.specs.Functions.{file_of, with_item, with_items, empty_file, item_id, item_variable}
-use Rattle.cddf_meaning.specs.Variables.{bind, find}
+use Rattle.cddf_meaning.specs.Functions.{file_of, with_item, with_items, empty_file, item_id, item_unsigned, item_variable}
+use Rattle.cddf_meaning.specs.Variables.{bind, find, flag_or}
 use Rattle.cddf_meaning.specs.declared.variable.Binding.{Binding}
 use Rattle.cddf_meaning.specs.declared.variable.Variable.{Variable}
 use Rattle.os_ast.specs.Trees as tree
@@ -40,18 +40,18 @@ count-first items i inside =
     count-with_items empty_file (take i (map item_tree items))
     ∙ omega (arith, inside, length-map items item_tree, length-take i (map item_tree items))
 
-find-named : (a id : ℕ) (v : Variable) (bound : List Binding) → a ≡ id → find (bind a v bound) id ≡ Some v
-find-named a id v bound h = grind (arith, h)
+find-named : (a id : ℕ) (u : Bool) (v : Variable) (bound : List Binding) → a ≡ id → find (bind a u v bound) id ≡ Some v
+find-named a id u v bound h = grind (arith, h)
 
-find-unnamed : (a id : ℕ) (v : Variable) (bound : List Binding) → a ≢ id → find (bind a v bound) id ≡ find bound id
-find-unnamed a id v bound h = grind (arith, h)
+find-unnamed : (a id : ℕ) (u : Bool) (v : Variable) (bound : List Binding) → a ≢ id → find (bind a u v bound) id ≡ find bound id
+find-unnamed a id u v bound h = grind (arith, h)
 
 pub found-here : (items : List Item) (i id : ℕ) (x : Item) → i < length items → x ≡ get_or items i x → item_id (item_tree x) ≡ id →
     find (file_of (take (suc i) (map item_tree items))).names id ≡ Some (item_variable i (item_tree x))
 found-here items i id x inside is named =
     let before = file_of (take i (map item_tree items)) in
     ap (λ f. find f.names id) (file-step items i x inside is)
-    ∙ find-named (item_id (item_tree x)) id (item_variable before.count (item_tree x)) before.names named
+    ∙ find-named (item_id (item_tree x)) id (item_unsigned (item_tree x)) (item_variable before.count (item_tree x)) before.names named
     ∙ ap (λ n. Some (item_variable n (item_tree x))) (count-first items i inside)
 
 pub found-before : (items : List Item) (i id : ℕ) (x : Item) → i < length items → x ≡ get_or items i x → item_id (item_tree x) ≢ id →
@@ -59,7 +59,29 @@ pub found-before : (items : List Item) (i id : ℕ) (x : Item) → i < length it
 found-before items i id x inside is other =
     let before = file_of (take i (map item_tree items)) in
     ap (λ f. find f.names id) (file-step items i x inside is)
-    ∙ find-unnamed (item_id (item_tree x)) id (item_variable before.count (item_tree x)) before.names other
+    ∙ find-unnamed (item_id (item_tree x)) id (item_unsigned (item_tree x)) (item_variable before.count (item_tree x)) before.names other
+
+flag-named : (e : Bool) (a id : ℕ) (u : Bool) (v : Variable) (bound : List Binding) → a ≡ id → flag_or e (bind a u v bound) id ≡ u
+flag-named e a id u v bound h = grind (arith, h)
+
+flag-unnamed : (e : Bool) (a id : ℕ) (u : Bool) (v : Variable) (bound : List Binding) → a ≢ id →
+    flag_or e (bind a u v bound) id ≡ flag_or e bound id
+flag-unnamed e a id u v bound h = grind (arith, h)
+
+-- the type of what they declare
+pub flag-here : (items : List Item) (i id : ℕ) (x : Item) → i < length items → x ≡ get_or items i x → item_id (item_tree x) ≡ id →
+    flag_or false (file_of (take (suc i) (map item_tree items))).names id ≡ item_unsigned (item_tree x)
+flag-here items i id x inside is named =
+    let before = file_of (take i (map item_tree items)) in
+    ap (λ f. flag_or false f.names id) (file-step items i x inside is)
+    ∙ flag-named false (item_id (item_tree x)) id (item_unsigned (item_tree x)) (item_variable before.count (item_tree x)) before.names named
+
+pub flag-before : (items : List Item) (i id : ℕ) (x : Item) → i < length items → x ≡ get_or items i x → item_id (item_tree x) ≢ id →
+    flag_or false (file_of (take (suc i) (map item_tree items))).names id ≡ flag_or false (file_of (take i (map item_tree items))).names id
+flag-before items i id x inside is other =
+    let before = file_of (take i (map item_tree items)) in
+    ap (λ f. flag_or false f.names id) (file-step items i x inside is)
+    ∙ flag-unnamed false (item_id (item_tree x)) id (item_unsigned (item_tree x)) (item_variable before.count (item_tree x)) before.names other
 
 pub map-take-tree : (n : ℕ) (items : List Item) → map item_tree (take n items) ≡ take n (map item_tree items)
 map-take-tree zero items = refl

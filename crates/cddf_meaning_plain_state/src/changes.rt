@@ -1,6 +1,6 @@
 //! What a change stores.
 
-ghost use Rattle.std.specs.Prelude.{◌≡◌, Ok, map, pos};
+ghost use Rattle.std.specs.Prelude.{◌≡◌, Ok, false, map, pos};
 ghost use Rattle.cddf_meaning.specs.Answers.{and_then};
 ghost use Rattle.cddf_meaning.specs.Functions.{file_of};
 ghost use Rattle.cddf_meaning.specs.Operators as operators;
@@ -10,7 +10,7 @@ ghost use Rattle.os_ast.specs.Views.{item_tree};
 ghost use Rattle.cddf_meaning_plain_state.specs.Stops.{Comes, Now};
 
 use crate::names::scalar;
-use crate::operators::{binary, step_operator};
+use crate::operators::{Types, binary, step_operator};
 use crate::state::State;
 use crate::stop::Stop;
 use cddf_meaning::Aim;
@@ -26,53 +26,62 @@ fn old_value(file: &[Item], state: &State, aim: Aim) -> Result<i32, Stop>
     }
 }
 
-/// What is stored where the right side has this value.
+/// What is stored where the right side has this value, by the types of the target and of the right side.
 fn assigned(
     file: &[Item],
     state: &State,
     aim: Aim,
     assign: Assign,
     line: u32,
+    types: Types,
     right: i32,
 ) -> Result<i32, Stop>
-    ensures { Comes result (assigned assign line (old_value (file_of (map item_tree file.now)) state.now aim) right) }
+    ensures { Comes result (assigned assign line types.left types.right (old_value (file_of (map item_tree file.now)) state.now aim) right) }
 {
     match assign {
         Assign::Plain => Ok(right),
-        Assign::With(operator) => binary(operator, line, old_value(file, state, aim)?, right),
+        Assign::With(operator) => {
+            binary(operator, line, types, old_value(file, state, aim)?, right)
+        }
     }
 }
 
-/// Stores what an assignment gives where its right side has this value.
+/// Stores what an assignment gives where its right side has this value, by the types of the target and of the right side.
 pub fn assign(
     file: &[Item],
     operator: Assign,
     mark: Mark,
+    types: Types,
     aim: Aim,
     right: i32,
     state: &mut State,
 ) -> Result<(), Stop>
-    ensures { Now result state.new state.old (and_then (assigned operator mark.line (old_value (file_of (map item_tree file.now)) state.old aim) right)
+    ensures { Now result state.new state.old (and_then (assigned operator mark.line types.left types.right (old_value (file_of (map item_tree file.now)) state.old aim) right)
         (λ v. Ok (after_store state.old aim v))) }
 {
-    let number = assigned(file, state, aim, operator, mark.line, right)?;
+    let number = assigned(file, state, aim, operator, mark.line, types, right)?;
     state.write(aim, number);
     Ok(())
 }
 
-/// Adds 1 to a target, or takes 1 from it.
+/// Adds 1 to a target of this type, or takes 1 from it.
 pub fn take_step(
     file: &[Item],
     step: Step,
     mark: Mark,
+    unsigned: bool,
     aim: Aim,
     state: &mut State,
 ) -> Result<(), Stop>
-    ensures { Now result state.new state.old (and_then (binary_value (operators.step_operator step) mark.line
+    ensures { Now result state.new state.old (and_then (binary_value (operators.step_operator step) mark.line unsigned false
         (old_value (file_of (map item_tree file.now)) state.old aim) (pos 1)) (λ v. Ok (after_store state.old aim v))) }
 {
     let old = old_value(file, state, aim)?;
-    let number = binary(step_operator(step), mark.line, old, 1)?;
+    let types = Types {
+        left: unsigned,
+        right: false,
+    };
+    let number = binary(step_operator(step), mark.line, types, old, 1)?;
     state.write(aim, number);
     Ok(())
 }

@@ -66,7 +66,11 @@ pub fn with_params(alloc: Global, params: &[Param], args: &[i32]) -> Result<Stat
 {
     let mut state = State::new(alloc, Vec::new(alloc));
     for (place, param) in params.iter().enumerate() {
-        state.declare(param.name.id, Variable::Scalar(argument(args, place)))?;
+        state.declare(
+            param.name.id,
+            param.ty.is_unsigned(),
+            Variable::Scalar(argument(args, place)),
+        )?;
     }
     Ok(state)
 }

@@ -1,11 +1,11 @@
 //! What a name stands for where it is evaluated: in the body, and else in the file.
 
-ghost use Rattle.std.specs.Prelude.{◌≡◌, Ok, Some, map, pos};
-ghost use Rattle.cddf_meaning.specs.File.{variable};
-ghost use Rattle.cddf_meaning.specs.Functions.{file_of, item_id, item_variable};
+ghost use Rattle.std.specs.Prelude.{◌≡◌, Ok, Some, false, map, pos};
+ghost use Rattle.cddf_meaning.specs.File.{unsigned_name, variable};
+ghost use Rattle.cddf_meaning.specs.Functions.{file_of, item_id, item_unsigned, item_variable};
 ghost use Rattle.cddf_meaning.specs.State as states;
 ghost use Rattle.cddf_meaning.specs.Value.{scalar_value};
-ghost use Rattle.cddf_meaning.specs.Variables.{find};
+ghost use Rattle.cddf_meaning.specs.Variables.{find, flag_or};
 ghost use Rattle.os_ast.specs.Names.{constant_value};
 ghost use Rattle.os_ast.specs.Views.{item_tree};
 ghost use Rattle.cddf_meaning_plain_state.specs.Seen.{seen};
@@ -59,6 +59,16 @@ pub fn item_id(item: &Item) -> u32
     }
 }
 
+/// Whether what an item declares is of the type `unsigned`.
+pub fn item_unsigned(item: &Item) -> bool
+    ensures { result ≡ item_unsigned (item_tree item.now) }
+{
+    match item {
+        Item::Constant(constant) => constant.ty.is_unsigned(),
+        Item::Function(function) => function.ty.is_unsigned(),
+    }
+}
+
 /// What the item at a place of the file is seen as.
 fn seen_item(place: usize, item: &Item) -> Result<Seen, Stop>
     ensures { (s : states.State) → Comes result (Ok (seen s (Some (item_variable place (item_tree item.now))))) }
@@ -91,6 +101,31 @@ pub fn seen_as(file: &[Item], state: &State, id: u32) -> Result<Seen, Stop>
     match state.find(id) {
         Some(variable) => Ok(state.seen(variable)),
         None => seen_in_file(file, id),
+    }
+}
+
+/// Whether the last declaration of a name in the file is of the type `unsigned`.
+fn unsigned_in_file(file: &[Item], id: u32) -> bool
+    ensures { result ≡ flag_or false (file_of (map item_tree file.now)).names id }
+{
+    let mut place = file.len();
+    while place > 0 {
+        place -= 1;
+        let item = &file[place];
+        if item_id(item) == id {
+            return item_unsigned(item);
+        }
+    }
+    false
+}
+
+/// Whether what a name stands for is of the type `unsigned`.
+pub fn is_unsigned(file: &[Item], state: &State, id: u32) -> bool
+    ensures { result ≡ unsigned_name (file_of (map item_tree file.now)) state.now id }
+{
+    match state.flag(id) {
+        Some(unsigned) => unsigned,
+        None => unsigned_in_file(file, id),
     }
 }
 

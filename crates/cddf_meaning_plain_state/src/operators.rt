@@ -1,6 +1,7 @@
-//! The operators of the trees, by those on numbers.
+//! The operators of the trees, by those on bits that the types of the operands choose.
 
 ghost use Rattle.std.specs.Prelude.{◌≡◌, not};
+ghost use Rattle.c_int.specs.Machine.{binary_for, unary_for, unsigned_binary, works_unsigned};
 ghost use Rattle.c_int.specs.Operators.{is_zero};
 ghost use Rattle.cddf_meaning.specs.Answers.{at_line};
 ghost use Rattle.cddf_meaning.specs.Operators.{binary_value, operator_of_one, operator_of_two, step_operator, unary_value};
@@ -67,20 +68,78 @@ fn operator_of_two(operator: Binary) -> Option<c_int::Binary>
     }
 }
 
-/// What an operator of this line gives of its operand.
-pub fn unary(operator: Unary, line: u32, a: i32) -> Result<i32, Stop>
-    ensures { Comes result (unary_value operator line a) }
-{
-    at_line(line, apply_unary(operator_of_one(operator), a))
+/// The types of two operands: whether each is `unsigned`, and else `int`.
+#[derive(Clone, Copy, Debug, PartialEq, Eq)]
+pub struct Types {
+    pub left: bool,
+    pub right: bool,
 }
 
-/// What an operator of this line gives of its operands. `&&` and `||` are told apart before.
-pub(crate) fn binary(operator: Binary, line: u32, a: i32, b: i32) -> Result<i32, Stop>
-    ensures { Comes result (binary_value operator line a b) }
+/// The operator on bits that has an operand of this type.
+fn unary_for(unsigned: bool, operator: c_int::Unary) -> c_int::Unary
+    ensures { result ≡ unary_for unsigned operator }
+{
+    match operator {
+        c_int::Unary::Minus if unsigned => c_int::Unary::MinusUnsigned,
+        _ => operator,
+    }
+}
+
+/// The form for `unsigned` of an operator; one that has no such form is the same for both types.
+fn unsigned_binary(operator: c_int::Binary) -> c_int::Binary
+    ensures { result ≡ unsigned_binary operator }
+{
+    match operator {
+        c_int::Binary::Less => c_int::Binary::LessUnsigned,
+        c_int::Binary::LessEqual => c_int::Binary::LessEqualUnsigned,
+        c_int::Binary::Greater => c_int::Binary::GreaterUnsigned,
+        c_int::Binary::GreaterEqual => c_int::Binary::GreaterEqualUnsigned,
+        c_int::Binary::ShiftLeft => c_int::Binary::ShiftLeftUnsigned,
+        c_int::Binary::ShiftRight => c_int::Binary::ShiftRightUnsigned,
+        c_int::Binary::Add => c_int::Binary::AddUnsigned,
+        c_int::Binary::Subtract => c_int::Binary::SubtractUnsigned,
+        c_int::Binary::Multiply => c_int::Binary::MultiplyUnsigned,
+        c_int::Binary::Divide => c_int::Binary::DivideUnsigned,
+        c_int::Binary::Remainder => c_int::Binary::RemainderUnsigned,
+        _ => operator,
+    }
+}
+
+/// Whether an operator works in `unsigned`: a shift in the type of its left operand, every other where one operand is.
+fn works_unsigned(operator: c_int::Binary, types: Types) -> bool
+    ensures { result ≡ works_unsigned operator types.left types.right }
+{
+    match operator {
+        c_int::Binary::ShiftLeft | c_int::Binary::ShiftRight => types.left,
+        _ => types.left || types.right,
+    }
+}
+
+/// The operator on bits that has operands of these types.
+fn binary_for(types: Types, operator: c_int::Binary) -> c_int::Binary
+    ensures { result ≡ binary_for types.left types.right operator }
+{
+    if works_unsigned(operator, types) {
+        unsigned_binary(operator)
+    } else {
+        operator
+    }
+}
+
+/// What an operator of this line gives of its operand, by its type.
+pub fn unary(operator: Unary, line: u32, unsigned: bool, a: i32) -> Result<i32, Stop>
+    ensures { Comes result (unary_value operator line unsigned a) }
+{
+    at_line(line, apply_unary(unary_for(unsigned, operator_of_one(operator)), a))
+}
+
+/// What an operator of this line gives of its operands, by their types. `&&` and `||` are told apart before.
+pub(crate) fn binary(operator: Binary, line: u32, types: Types, a: i32, b: i32) -> Result<i32, Stop>
+    ensures { Comes result (binary_value operator line types.left types.right a b) }
 {
     match operator_of_two(operator) {
         None => Ok(0),
-        Some(operator) => at_line(line, apply_binary(operator, a, b)),
+        Some(operator) => at_line(line, apply_binary(binary_for(types, operator), a, b)),
     }
 }
 

@@ -1,14 +1,14 @@
 //! What a body works on: its variables, the elements of its items, and what it did to streams.
 
 ghost use Rattle.std.specs.Option.{option_copied};
-ghost use Rattle.std.specs.Prelude.{◌≡◌, ◌-◌, ◌^◌, [], IfOk, OnErr, OnOk, drop, get_or, length, min, pos, replicate, set};
+ghost use Rattle.std.specs.Prelude.{◌≡◌, ◌-◌, ◌^◌, Bool, [], IfOk, OnErr, OnOk, drop, get_or, length, min, pos, replicate, set, unwrap_or};
 ghost use Rattle.cddf_meaning.specs.Answers.{and_then};
 ghost use Rattle.cddf_meaning.specs.Claims.{horizons, limit, skips_behind, skips_behind_all, with_skip, with_skips};
 ghost use Rattle.cddf_meaning.specs.Run.{window_size, with_streams, after_store};
 ghost use Rattle.cddf_meaning.specs.State as states;
 ghost use Rattle.cddf_meaning.specs.Streams.{horizon_of, moved};
 ghost use Rattle.cddf_meaning.specs.Value.{checked, elements};
-ghost use Rattle.cddf_meaning.specs.Variables.{find};
+ghost use Rattle.cddf_meaning.specs.Variables.{find, flag_or};
 ghost use Rattle.cddf_meaning.specs.declared.variable.Variable.TheVariants as variables;
 ghost use Rattle.cddf_meaning_plain_state.specs.Claimed.{stream_at, streams_of, with_created};
 ghost use Rattle.cddf_meaning_plain_state.specs.Places.{IsInnermost};
@@ -164,6 +164,15 @@ impl State {
         Some(&self.bound[place].variable)
     }
 
+    /// Whether the innermost declaration of a name is of the type `unsigned`.
+    #[tactic(auto, using(crate::proofs::Places::flag_none))]
+    pub(crate) fn flag(&self, id: u32) -> Option<bool>
+        ensures { (elsewhere : Bool) → unwrap_or result elsewhere ≡ flag_or elsewhere self.now.bound id }
+    {
+        let place = innermost(&self.bound, id)?;
+        Some(self.bound[place].unsigned)
+    }
+
     /// What a variable of this state is seen as.
     pub(crate) fn seen(&self, variable: &Variable) -> Seen
         ensures { result ≡ seen self.now (Some variable.now) }
@@ -243,12 +252,16 @@ impl State {
         }
     }
 
-    /// A name is in scope from here on.
-    pub fn declare(&mut self, id: u32, variable: Variable) -> Result<(), Memory>
-        ensures ok { OnOk result (self.new ≡ states.declared id variable self.old) }
+    /// A name is in scope from here on, of the type `unsigned` or `int`.
+    pub fn declare(&mut self, id: u32, unsigned: bool, variable: Variable) -> Result<(), Memory>
+        ensures ok { OnOk result (self.new ≡ states.declared id unsigned variable self.old) }
         ensures err { OnErr result (self.new ≡ self.old) }
     {
-        self.bound.push(Binding { id, variable })?;
+        self.bound.push(Binding {
+            id,
+            variable,
+            unsigned,
+        })?;
         Ok(())
     }
 
@@ -322,29 +335,42 @@ impl State {
     }
 
     /// Declares a scalar, which is 0 until it is set.
-    pub fn declare_scalar(&mut self, id: u32) -> Result<(), Stop>
-        ensures { Made result self.new (states.declared id (variables.Scalar (pos 0)) self.old) }
+    pub fn declare_scalar(&mut self, id: u32, unsigned: bool) -> Result<(), Stop>
+        ensures { Made result self.new (states.declared id unsigned (variables.Scalar (pos 0)) self.old) }
     {
-        self.declare(id, Variable::Scalar(0))?;
+        self.declare(id, unsigned, Variable::Scalar(0))?;
         Ok(())
     }
 
     /// Declares a local array of so many zeros.
-    pub fn declare_array(&mut self, alloc: Global, id: u32, size: u32) -> Result<(), Stop>
-        ensures { Made result self.new (states.declared id (variables.Array (replicate size (pos 0))) self.old) }
+    pub fn declare_array(
+        &mut self,
+        alloc: Global,
+        id: u32,
+        unsigned: bool,
+        size: u32,
+    ) -> Result<(), Stop>
+        ensures { Made result self.new (states.declared id unsigned (variables.Array (replicate size (pos 0))) self.old) }
     {
         let elements = zeros(alloc, size)?;
-        self.declare(id, Variable::Array(elements))?;
+        self.declare(id, unsigned, Variable::Array(elements))?;
         Ok(())
     }
 
     /// Declares a window, with the line that a trap of its size has.
-    pub fn declare_window(&mut self, id: u32, line: u32, size: i32) -> Result<(), Stop>
-        ensures { Now result self.new self.old (and_then (window_size line size) (λ horizon. Ok (states.declared id (variables.Window horizon) self.old))) }
+    pub fn declare_window(
+        &mut self,
+        id: u32,
+        unsigned: bool,
+        line: u32,
+        size: i32,
+    ) -> Result<(), Stop>
+        ensures { Now result self.new self.old
+            (and_then (window_size line size) (λ horizon. Ok (states.declared id unsigned (variables.Window horizon) self.old))) }
     {
         match u32::try_from(size) {
             Ok(horizon) if 1 <= horizon && horizon <= WINDOW_LIMIT => {
-                self.declare(id, Variable::Window(horizon))?;
+                self.declare(id, unsigned, Variable::Window(horizon))?;
                 Ok(())
             }
             _ => Err(Stop::trap(WINDOW, line)),
@@ -352,12 +378,12 @@ impl State {
     }
 
     /// Declares a stream or an array of streams.
-    pub fn declare_streams(&mut self, id: u32, count: u32) -> Result<(), Stop>
-        ensures { Made result self.new (with_streams id count self.old) }
+    pub fn declare_streams(&mut self, id: u32, unsigned: bool, count: u32) -> Result<(), Stop>
+        ensures { Made result self.new (with_streams id unsigned count self.old) }
     {
         let first = u32::try_from(self.skips.len()).map_err(|_| Stop::Memory)?;
         self.skips.resize(self.skips.len() + count as usize, 0)?;
-        self.declare(id, Variable::Stream { first, count })?;
+        self.declare(id, unsigned, Variable::Stream { first, count })?;
         Ok(())
     }
 

@@ -2,19 +2,20 @@
 use Rattle.std.proofs.Common.{◌≡◌, ℕ, suc, ◌+◌, ◌<◌, ◌==◌, ◌&&◌, Bool, true, false, not, is_none, if◌then◌else◌, List, [], ◌∷◌, ◌++◌, length, get_or, drop, filter, map, Option, Some, None, refl, add-one, ap, sym, ◌∙◌}
 use Rattle.std.proofs.Math.Seq.{drop-cons}
 use Rattle.std.proofs.lemmas.List.{append_assoc, append-nil}
-use Rattle.cddf_meaning_plain_tasks.specs.Sought.{among, found_at, found_in, found_in_all, is_scalar, known, known_behind, known_declarator, known_in_main, known_item, known_of, known_param, known_start, others, with_all_known, with_known}
-use Rattle.cddf_meaning.specs.Tasks.{task_at, tasks_in, tasks_in_all}
+use Rattle.cddf_meaning_plain_tasks.specs.Sought.{among, found_at, found_in, found_in_all, is_scalar, known, known_behind, known_declarator, known_flag, known_in_main, known_item, known_of, known_param, known_start, others, typed_known, with_all_known, with_known}
+use Rattle.cddf_meaning.specs.Tasks.{task_at, tasks_in, tasks_in_all, typed_name}
 use Rattle.cddf_meaning_plain_tasks.specs.declared.known.Known.{Known}
 use Rattle.os_ast.specs.Captured as captures
 use Rattle.os_ast.specs.Captured.{Scalar}
 use Rattle.os_ast.specs.FreeNames.{task_names}
-use Rattle.os_ast.specs.Names.{Scope, enter, in_loop, main_id, osin_id, osout_id, osin_len_id, typed}
+use Rattle.os_ast.specs.Names.{Scope, enter, flag_of, in_loop, lookup, main_id, osin_id, osout_id, osin_len_id, typed}
 use Rattle.os_ast.specs.Notes.Declarators.{after_declarator, after_declarators, after_start, declared_entity, form, form_with, form_entity, scalar_entity, taken}
 use Rattle.os_ast.specs.Notes.Programs as notes
 use Rattle.os_ast.specs.Notes.Programs.{after_item, after_items, after_param, after_params, in_body, in_function, param_list}
 use Rattle.os_ast.specs.Notes.Statements.{after_stmt, after_stmts}
-use Rattle.os_ast.specs.Parts.{is_in, parts}
+use Rattle.os_ast.specs.Parts.{is_in, item_ids, parts}
 use Rattle.os_ast.specs.Trees as tree
+use Rattle.os_ast.specs.Types.{is_unsigned}
 use Rattle.os_ast.specs.declared.expr.Mark.{Mark}
 use Rattle.os_ast.specs.declared.expr.Name.{Name}
 use Rattle.os_ast.specs.declared.names.Entity.{Entity}
@@ -98,12 +99,39 @@ ids-scalars (e ∷ es) =
     ids-append (captures.others e.id (captures.scalars es)) (captures.scalar_of e.id e.entity)
     ∙ ap (λ is. is ++ ids (captures.scalar_of e.id e.entity)) (ids-others e.id (captures.scalars es) ∙ ap (others e.id) (ids-scalars es))
     ∙ ap (λ is. others e.id (with_all_known [] (known_of es)) ++ is) (ids-of e.id e.entity)
-    ∙ sym (known-last [] (known_of es) (known e.id (is_scalar e.entity)))
+    ∙ sym (known-last [] (known_of es) (known e.id (is_scalar e.entity) e.unsigned))
+
+-- the types of names in scope
+flag-last : (b : Bool) (ks : List Known) (k : Known) (id : ℕ) →
+    known_flag b (ks ++ k ∷ []) id ≡ (if k.id == id then k.unsigned else known_flag b ks id)
+flag-last b [] k id = refl
+flag-last b (x ∷ ks) k id = flag-last (if x.id == id then x.unsigned else b) ks k id
+
+flag-either : (b : Bool) (e : Entry) (o : Option Entry) → flag_of (if b then Some e else o) ≡ (if b then e.unsigned else flag_of o)
+flag-either true e o = refl
+flag-either false e o = refl
+
+flag-known : (es : List Entry) (id : ℕ) → flag_of (lookup es id) ≡ known_flag false (known_of es) id
+flag-known [] id = refl
+flag-known (e ∷ es) id =
+    flag-either (e.id == id) e (lookup es id)
+    ∙ ap (λ b. if e.id == id then e.unsigned else b) (flag-known es id)
+    ∙ sym (flag-last false (known_of es) (known e.id (is_scalar e.entity) e.unsigned) id)
+
+names-known : (es : List Entry) (is : List ℕ) → map (typed_name es) is ≡ map (typed_known (known_of es)) is
+names-known es [] = refl
+names-known es (id ∷ is) =
+    ap (λ b. record { id = id; unsigned = b } ∷ map (typed_name es) is) (flag-known es id)
+    ∙ ap (λ ns. typed_known (known_of es) id ∷ ns) (names-known es is)
 
 task-found : (s : Scope) (m : Mark) (cs : List tree.ClauseTree) (body : tree.StmtTree) → task_at s m cs body ≡ found_at (known_of s.entries) m cs body
 task-found s m cs body =
-    ap (λ captured. record { mark = m; parts = parts cs; body = body; captured = captured })
+    ap (λ ns. record { mark = m; parts = parts cs; body = body; captured = map (typed_name s.entries) ns; items = map (typed_name s.entries) (item_ids (parts cs)) })
     (ids-among (task_names (parts cs) body) (captures.scalars s.entries) ∙ ap (among (task_names (parts cs) body)) (ids-scalars s.entries))
+    ∙ ap (λ ns. record { mark = m; parts = parts cs; body = body; captured = ns; items = map (typed_name s.entries) (item_ids (parts cs)) })
+    (names-known s.entries (among (task_names (parts cs) body) (with_all_known [] (known_of s.entries))))
+    ∙ ap (λ ns. record { mark = m; parts = parts cs; body = body; captured = map (typed_known (known_of s.entries)) (among (task_names (parts cs) body) (with_all_known [] (known_of s.entries))); items = ns })
+    (names-known s.entries (item_ids (parts cs)))
 
 -- what a declarator and a statement leave in scope
 
@@ -120,6 +148,13 @@ entries-taken s (form_of.Array n) = refl
 entries-taken s form_of.Window = refl
 entries-taken s form_of.Stream = refl
 entries-taken s (form_of.Streams n) = refl
+
+unsigned-taken : (s : Scope) (f : Form) → (taken s f).unsigned ≡ s.unsigned
+unsigned-taken s form_of.Scalar = refl
+unsigned-taken s (form_of.Array n) = refl
+unsigned-taken s form_of.Window = refl
+unsigned-taken s form_of.Stream = refl
+unsigned-taken s (form_of.Streams n) = refl
 
 owner-declarators : (s : Scope) (ds : List tree.DeclaratorTree) → (after_declarators s ds).owner ≡ s.owner
 owner-declarators s [] = refl
@@ -162,18 +197,20 @@ form-known s h false None = rw h refl
 form-known s h false (Some i) = rw h refl
 
 declarator-known : (s : Scope) → s.owner ≡ owner.OfMain → (d : tree.DeclaratorTree) →
-    known_of (after_declarator s d).entries ≡ known_of s.entries ++ known_declarator d ∷ []
+    known_of (after_declarator s d).entries ≡ known_of s.entries ++ known_declarator s.unsigned d ∷ []
 declarator-known s h d =
-    ap (λ es. known_of es ++ known d.name.id (is_scalar (declared_entity s d)) ∷ []) (entries-taken s (form s d))
-    ∙ ap (λ b. known_of s.entries ++ known d.name.id b ∷ []) (form-known s h d.stream d.size)
+    ap (λ es. known_of es ++ known d.name.id (is_scalar (declared_entity s d)) (taken s (form s d)).unsigned ∷ []) (entries-taken s (form s d))
+    ∙ ap (λ b. known_of s.entries ++ known d.name.id b (taken s (form s d)).unsigned ∷ []) (form-known s h d.stream d.size)
+    ∙ ap (λ b. known_of s.entries ++ known d.name.id (not d.stream && is_none d.size) b ∷ []) (unsigned-taken s (form s d))
 
 declarators-known : (s : Scope) → s.owner ≡ owner.OfMain → (ds : List tree.DeclaratorTree) →
-    known_of (after_declarators s ds).entries ≡ known_of s.entries ++ map known_declarator ds
+    known_of (after_declarators s ds).entries ≡ known_of s.entries ++ map (known_declarator s.unsigned) ds
 declarators-known s h [] = sym (append-nil (known_of s.entries))
 declarators-known s h (d ∷ ds) =
     declarators-known (after_declarator s d) (owner-taken s (form s d) ∙ h) ds
-    ∙ ap (λ ks. ks ++ map known_declarator ds) (declarator-known s h d)
-    ∙ append_assoc (known_of s.entries) (known_declarator d ∷ []) (map known_declarator ds)
+    ∙ ap (λ b. known_of (after_declarator s d).entries ++ map (known_declarator b) ds) (unsigned-taken s (form s d))
+    ∙ ap (λ ks. ks ++ map (known_declarator s.unsigned) ds) (declarator-known s h d)
+    ∙ append_assoc (known_of s.entries) (known_declarator s.unsigned d ∷ []) (map (known_declarator s.unsigned) ds)
 
 start-known : (s : Scope) → s.owner ≡ owner.OfMain → (a : tree.StartTree) →
     known_of (after_start s a).entries ≡ known_of s.entries ++ known_start a
@@ -255,7 +292,7 @@ params-known : (s : Scope) → s.owner ≡ owner.OfMain → (ns : List Param) �
 params-known s h [] = sym (append-nil (known_of s.entries))
 params-known s h (n ∷ ns) =
     params-known (after_param s n) h ns
-    ∙ ap (λ b. known_of s.entries ++ known n.name.id b ∷ [] ++ map known_param ns) (param-scalar s h)
+    ∙ ap (λ b. known_of s.entries ++ known n.name.id b (is_unsigned n.ty) ∷ [] ++ map known_param ns) (param-scalar s h)
     ∙ append_assoc (known_of s.entries) (known_param n ∷ []) (map known_param ns)
 
 three : {A : Type 0} → (xs : List A) (a b c : A) (ys : List A) → xs ++ a ∷ [] ++ b ∷ [] ++ c ∷ [] ++ ys ≡ xs ++ a ∷ b ∷ c ∷ ys
@@ -275,5 +312,5 @@ main_found is f h =
     ∙ ap (λ ks. found_in_all ks f.body)
     (params-known t owned ns
     ∙ ap (λ ks. ks ++ map known_param ns)
-    (round ∙ ap (λ ks. ks ++ known osin_id false ∷ [] ++ known osout_id false ∷ [] ++ known osin_len_id true ∷ []) (items-known notes.file is))
-    ∙ three (map known_item is) (known osin_id false) (known osout_id false) (known osin_len_id true) (map known_param ns))
+    (round ∙ ap (λ ks. ks ++ known osin_id false false ∷ [] ++ known osout_id false false ∷ [] ++ known osin_len_id true false ∷ []) (items-known notes.file is))
+    ∙ three (map known_item is) (known osin_id false false) (known osout_id false false) (known osin_len_id true false) (map known_param ns))

@@ -1,4 +1,3 @@
-pub mod Bound
 pub mod Finding
 pub mod HasNames
 pub mod Mains

@@ -1,12 +1,10 @@
 -- The tasks of the control program, found with no more in scope than names: which of them are scalars of the control
 -- program. What is in scope is listed from the oldest declaration on.
-use Rattle.std.specs.Prelude.{ℕ, suc, ◌==◌, ◌&&◌, Bool, true, false, not, is_none, if◌then◌else◌, List, [], ◌∷◌, ◌++◌, map}
+use Rattle.std.specs.Prelude.{ℕ, ◌==◌, ◌&&◌, Bool, true, false, not, is_none, if◌then◌else◌, List, [], ◌∷◌, ◌++◌, map}
 use Rattle.cddf_meaning.specs.Tasks.{Task}
-use Rattle.cddf_meaning.specs.Variables.{bind}
 use Rattle.cddf_meaning_plain_tasks.specs.declared.found.Found.{Found}
 use Rattle.cddf_meaning_plain_tasks.specs.declared.known.Known.{Known}
-use Rattle.cddf_meaning.specs.declared.variable.Binding.{Binding}
-use Rattle.cddf_meaning.specs.declared.variable.Variable.TheVariants.{Item}
+use Rattle.cddf_meaning.specs.declared.typed_name.TypedName.{TypedName}
 use Rattle.os_ast.specs.FreeNames.{target_names, join_names, task_names}
 use Rattle.os_ast.specs.Names.{osin_id, osout_id, osin_len_id}
 use Rattle.os_ast.specs.Notes.Programs.{param_list}
@@ -19,7 +17,8 @@ use Rattle.os_ast.specs.declared.names.Entity.{Entity}
 use Rattle.os_ast.specs.declared.names.Entity.TheVariants as entity
 use Rattle.os_ast.specs.declared.names.Entry.{Entry}
 use Rattle.os_ast.specs.declared.program.Param.{Param}
-use Rattle.cddf_meaning.specs.Functions.{item_id}
+use Rattle.cddf_meaning.specs.Functions.{item_id, item_unsigned}
+use Rattle.os_ast.specs.Types.{is_unsigned}
 
 -- the numbers of names
 abbrev pub ids_of : List Name → List ℕ
@@ -36,38 +35,33 @@ abbrev pub items_names : List tree.ClauseItemTree → List ℕ
 items_names [] = []
 items_names (i ∷ is) = target_names i.stream ++ join_names i.window ++ items_names is
 
--- the names of items, by their numbers
-abbrev pub bind_ids : ℕ → List ℕ → List Binding → List Binding
-bind_ids item [] bound = bound
-bind_ids item (id ∷ ids) bound = bind_ids (suc item) ids (bind id (Item item) bound)
-
 abbrev pub is_scalar : Entity → Bool
 is_scalar (entity.Control slot) = true
 is_scalar entity.InputLength = true
 is_scalar _ = false
 
-abbrev pub known : ℕ → Bool → Known
-known id scalar = record { id = id; scalar = scalar }
+abbrev pub known : ℕ → Bool → Bool → Known
+known id scalar unsigned = record { id = id; scalar = scalar; unsigned = unsigned }
 
 -- what is in scope, which is listed from the newest declaration on
 abbrev pub known_of : List Entry → List Known
 known_of [] = []
-known_of (e ∷ es) = known_of es ++ known e.id (is_scalar e.entity) ∷ []
+known_of (e ∷ es) = known_of es ++ known e.id (is_scalar e.entity) e.unsigned ∷ []
 
--- In the control program a declarator without a size is a scalar or a stream.
-abbrev pub known_declarator : tree.DeclaratorTree → Known
-known_declarator d = known d.name.id (not d.stream && is_none d.size)
+-- In the control program a declarator without a size is a scalar or a stream. It is of the type of its declaration.
+abbrev pub known_declarator : Bool → tree.DeclaratorTree → Known
+known_declarator unsigned d = known d.name.id (not d.stream && is_none d.size) unsigned
 
 abbrev pub known_start : tree.StartTree → List Known
 known_start tree.StartTree.Empty = []
-known_start (tree.StartTree.Declare ty ds) = map known_declarator ds
+known_start (tree.StartTree.Declare ty ds) = map (known_declarator (is_unsigned ty)) ds
 known_start (tree.StartTree.Change c) = []
 
 -- what a statement of the control program declares in the scope in which it stands
 abbrev pub known_behind : tree.StmtTree → List Known
 known_behind tree.StmtTree.Empty = []
 known_behind (tree.Block ss) = []
-known_behind (tree.StmtTree.Declare ty ds) = map known_declarator ds
+known_behind (tree.StmtTree.Declare ty ds) = map (known_declarator (is_unsigned ty)) ds
 known_behind (tree.StmtTree.Change c) = []
 known_behind (tree.StmtTree.Call f args) = []
 known_behind (tree.If c a) = known_behind a
@@ -82,16 +76,16 @@ known_behind (tree.Tick m t arrow e) = []
 known_behind (tree.Taskwait m) = []
 
 abbrev pub known_item : tree.ItemTree → Known
-known_item i = known (item_id i) false
+known_item i = known (item_id i) false (item_unsigned i)
 
 abbrev pub known_param : Param → Known
-known_param p = known p.name.id true
+known_param p = known p.name.id true (is_unsigned p.ty)
 
 -- what is in scope round the body of `main`, behind these items of the file
 abbrev pub known_in_main : List tree.ItemTree → tree.FunctionTree → List Known
 known_in_main items f =
     map known_item items
-    ++ (known osin_id false ∷ known osout_id false ∷ known osin_len_id true ∷ map known_param (param_list f.params))
+    ++ (known osin_id false false ∷ known osout_id false false ∷ known osin_len_id true false ∷ map known_param (param_list f.params))
 
 -- other names
 abbrev pub others : ℕ → List ℕ → List ℕ
@@ -111,12 +105,21 @@ abbrev pub among : List ℕ → List ℕ → List ℕ
 among names [] = []
 among names (id ∷ ids) = if clauses.is_in id names then id ∷ among names ids else among names ids
 
+-- whether the newest of a name is of the type `unsigned`; where there is none, what is said of it elsewhere
+abbrev pub known_flag : Bool → List Known → ℕ → Bool
+known_flag elsewhere [] id = elsewhere
+known_flag elsewhere (k ∷ ks) id = known_flag (if k.id == id then k.unsigned else elsewhere) ks id
+
+abbrev pub typed_known : List Known → ℕ → TypedName
+typed_known ks id = record { id = id; unsigned = known_flag false ks id }
+
 abbrev pub found_at : List Known → Mark → List tree.ClauseTree → tree.StmtTree → Task
 found_at ks m cs body = record {
   mark = m;
   parts = clauses.parts cs;
   body = body;
-  captured = among (task_names (clauses.parts cs) body) (with_all_known [] ks);
+  captured = map (typed_known ks) (among (task_names (clauses.parts cs) body) (with_all_known [] ks));
+  items = map (typed_known ks) (clauses.item_ids (clauses.parts cs));
 }
 
 abbrev mutual
@@ -148,4 +151,5 @@ task_of f = record {
   parts = clauses.parts (map clause_tree f.site.now.clauses);
   body = stmt_tree f.site.now.body;
   captured = f.captured;
+  items = f.items;
 }

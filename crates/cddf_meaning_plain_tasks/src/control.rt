@@ -18,9 +18,9 @@ pub fn state_round(alloc: Global, input_len: u32) -> Result<State, Stop>
     ensures memory { IfErr result (λ stop. stop ≡ stops.Memory) }
 {
     let mut state = State::new(alloc, Vec::new(alloc));
-    state.declare_streams(OSIN, 1)?;
-    state.declare_streams(OSOUT, 1)?;
-    state.declare(OSIN_LEN, Variable::Scalar(int(input_len)?))?;
+    state.declare_streams(OSIN, false, 1)?;
+    state.declare_streams(OSOUT, false, 1)?;
+    state.declare(OSIN_LEN, false, Variable::Scalar(int(input_len)?))?;
     Ok(state)
 }
 

@@ -9,6 +9,7 @@
 pub mod body;
 pub mod control;
 mod found;
+mod items;
 mod known;
 mod naming;
 mod sites;

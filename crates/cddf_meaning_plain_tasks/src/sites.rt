@@ -1,11 +1,11 @@
 //! The tasks of the control program, as their pragmas find them.
 
 ghost use Rattle.std.specs.Prelude.{◌≡◌, ◌++◌, ◌==◌, [], ◌∷◌, IfOk, OnErr, OnOk, get_or, map, position};
-ghost use Rattle.cddf_meaning.specs.Tasks.{sites_of};
+ghost use Rattle.cddf_meaning.specs.Tasks.{ids, sites_of};
 ghost use Rattle.cddf_meaning_plain_tasks.specs.Sought.{task_of};
 
 use crate::found::Found;
-use cddf_meaning::Site;
+use cddf_meaning::{Site, TypedName};
 use os_io::{List, Memory};
 use std::alloc::Global;
 use std::collections::BTreeMap;
@@ -72,6 +72,17 @@ impl Sites {
     }
 }
 
+/// Names without their types.
+fn ids(alloc: Global, names: &[TypedName]) -> Result<List<u32>, Memory>
+    ensures { IfOk result (λ list. list ≡ ids names.now) }
+{
+    let mut list = List::new(alloc);
+    for name in names {
+        list.push(name.id)?;
+    }
+    Ok(list)
+}
+
 /// The tasks of a program as their pragmas find them.
 pub fn sites_of(alloc: Global, tasks: &[Found<'_>]) -> Result<Sites, Memory>
     ensures { IfOk result (λ sites. sites ≡ sites_of (map task_of tasks.now)) }
@@ -80,7 +91,7 @@ pub fn sites_of(alloc: Global, tasks: &[Found<'_>]) -> Result<Sites, Memory>
     for task in tasks {
         sites.push(Site {
             place: task.site.mark.place,
-            captured: List::from_slice(alloc, task.captured.as_slice())?,
+            captured: ids(alloc, task.captured.as_slice())?,
         })?;
     }
     Ok(sites)

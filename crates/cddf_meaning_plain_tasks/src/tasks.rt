@@ -1,6 +1,6 @@
 //! The control program of a program, and its tasks.
 
-ghost use Rattle.std.specs.Prelude.{◌≡◌, ◌++◌, if◌then◌else◌, List, [], ◌∷◌, IfOk, IfSome, OnOk, map, None, Some};
+ghost use Rattle.std.specs.Prelude.{◌≡◌, ◌++◌, if◌then◌else◌, List, [], ◌∷◌, IfOk, IfSome, OnOk, false, map, None, Some};
 ghost use Rattle.cddf_meaning.specs.File.{File};
 ghost use Rattle.cddf_meaning.specs.Functions.{file_of, with_item};
 ghost use Rattle.cddf_meaning.specs.Program.{main_at, main_behind, main_of};
@@ -11,16 +11,19 @@ ghost use Rattle.os_ast.specs.Notes.Programs as notes;
 ghost use Rattle.os_ast.specs.Notes.Programs.{after_item, after_items, in_body};
 ghost use Rattle.os_ast.specs.Parts.{is_in, parts};
 ghost use Rattle.os_ast.specs.Trees as tree;
+ghost use Rattle.os_ast.specs.Types.{is_unsigned};
 ghost use Rattle.os_ast.specs.Views.{clause_tree, declarator_tree, item_tree, start_tree, stmt_tree, stmts_tree};
 ghost use Rattle.cddf_meaning_plain_state.specs.FunctionTrees.{function_tree};
-ghost use Rattle.cddf_meaning_plain_tasks.specs.Sought.{among, found_at, found_in, found_in_all, known_behind, known_declarator, known_in_main, known_item, known_start, others, task_of, with_all_known, with_known};
+ghost use Rattle.cddf_meaning_plain_tasks.specs.Sought.{among, found_at, found_in, found_in_all, known_behind, known_declarator, known_flag, known_in_main, known_item, known_start, others, task_of, typed_known, with_all_known, with_known};
 
 use crate::found::Found;
+use crate::items::item_ids;
 use crate::known::Known;
 use crate::naming::in_task;
+use cddf_meaning::TypedName;
 use cddf_meaning_plain_state::functions::param_list;
-use cddf_meaning_plain_state::names::item_id;
-use os_ast::{Declarator, Function, Head, Item, Start, Stmt, TaskSite};
+use cddf_meaning_plain_state::names::{item_id, item_unsigned};
+use os_ast::{Declarator, Function, Head, Item, Start, Stmt, TaskSite, Ty};
 use os_io::{List, Memory};
 use os_lexer::names::{MAIN, OSIN, OSIN_LEN, OSOUT};
 use std::alloc::Global;
@@ -127,14 +130,42 @@ fn captured(alloc: Global, site: &TaskSite, known: &[Known]) -> Result<List<u32>
     Ok(captured)
 }
 
-/// Adds what declarators declare.
-fn declare(declarators: &List<Declarator>, known: &mut Vec<Known>) -> Result<(), Memory>
-    ensures { OnOk result (known.new.items ≡ known.old.items ++ map known_declarator (map declarator_tree declarators.now)) }
+/// Whether the newest declaration of a name is of the type `unsigned`.
+fn is_unsigned(known: &[Known], id: u32) -> bool
+    ensures { result ≡ known_flag false known.now id }
+{
+    let mut unsigned = false;
+    for next in known {
+        if next.id == id {
+            unsigned = next.unsigned;
+        }
+    }
+    unsigned
+}
+
+/// Names with the types that they have in scope.
+fn typed(alloc: Global, ids: &[u32], known: &[Known]) -> Result<List<TypedName>, Memory>
+    ensures { IfOk result (λ names. names ≡ map (typed_known known.now) ids.now) }
+{
+    let mut names = List::new(alloc);
+    for id in ids {
+        names.push(TypedName {
+            id: *id,
+            unsigned: is_unsigned(known, *id),
+        })?;
+    }
+    Ok(names)
+}
+
+/// Adds what declarators of a type declare.
+fn declare(ty: Ty, declarators: &List<Declarator>, known: &mut Vec<Known>) -> Result<(), Memory>
+    ensures { OnOk result (known.new.items ≡ known.old.items ++ map (known_declarator (is_unsigned ty)) (map declarator_tree declarators.now)) }
 {
     for declarator in declarators.as_slice() {
         known.push(Known {
             id: declarator.name.id,
             scalar: !declarator.stream && declarator.size.is_none(),
+            unsigned: ty.is_unsigned(),
         })?;
     }
     Ok(())
@@ -145,9 +176,25 @@ fn declare_start(start: &Start, known: &mut Vec<Known>) -> Result<(), Memory>
     ensures { OnOk result (known.new.items ≡ known.old.items ++ known_start (start_tree start.now)) }
 {
     match start {
-        Start::Declare(_, declarators) => declare(declarators, known),
+        Start::Declare(ty, declarators) => declare(*ty, declarators, known),
         Start::Empty | Start::Change(_) => Ok(()),
     }
+}
+
+/// A task, where this is in scope round it.
+#[tactic(auto, using(crate::proofs::HasNames::clauses_ids))]
+fn found<'p>(alloc: Global, site: &'p TaskSite, known: &[Known]) -> Result<Found<'p>, Memory>
+    ensures { IfOk result (λ f. task_of f ≡ found_at known.now site.now.mark (map clause_tree site.now.clauses) (stmt_tree site.now.body)) }
+{
+    let captured = captured(alloc, site, known)?;
+    let items = item_ids(alloc, &site.clauses)?;
+    let captured = typed(alloc, captured.as_slice(), known)?;
+    let items = typed(alloc, items.as_slice(), known)?;
+    Ok(Found {
+        site,
+        captured,
+        items,
+    })
 }
 
 /// Adds a task.
@@ -160,8 +207,8 @@ fn add_task<'p>(
     ensures { OnOk result (map task_of tasks.new.items ≡ map task_of tasks.old.items
         ++ found_at known.now site.now.mark (map clause_tree site.now.clauses) (stmt_tree site.now.body) ∷ []) }
 {
-    let captured = captured(alloc, site, known)?;
-    tasks.push(Found { site, captured })?;
+    let task = found(alloc, site, known)?;
+    tasks.push(task)?;
     Ok(())
 }
 
@@ -178,7 +225,7 @@ fn tasks_in<'p>(
 {
     match stmt {
         Stmt::Block(stmts) => tasks_in_block(alloc, stmts, known, tasks),
-        Stmt::Declare(_, declarators) => declare(declarators, known),
+        Stmt::Declare(ty, declarators) => declare(*ty, declarators, known),
         Stmt::If(_, first, second) => {
             tasks_in(alloc, first, known, tasks)?;
             match second {
@@ -240,19 +287,23 @@ fn known_in_main(alloc: Global, main: &Main<'_>) -> Result<Vec<Known>, Memory>
     known.push(Known {
         id: OSIN,
         scalar: false,
+        unsigned: false,
     })?;
     known.push(Known {
         id: OSOUT,
         scalar: false,
+        unsigned: false,
     })?;
     known.push(Known {
         id: OSIN_LEN,
         scalar: true,
+        unsigned: false,
     })?;
     for param in param_list(&main.function.params) {
         known.push(Known {
             id: param.name.id,
             scalar: true,
+            unsigned: param.ty.is_unsigned(),
         })?;
     }
     Ok(known)
@@ -266,6 +317,7 @@ fn known_in_file(alloc: Global, file: &[Item]) -> Result<Vec<Known>, Memory>
         known.push(Known {
             id: item_id(item),
             scalar: false,
+            unsigned: item_unsigned(item),
         })?;
     }
     Ok(known)

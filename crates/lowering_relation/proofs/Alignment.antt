@@ -2,7 +2,7 @@
 use Rattle.std.proofs.Common.{◌≡◌, ℕ, suc, ◌+◌, ◌-◌, ◌<◌, ◌≤◌, ◌==◌, Bool, true, false, if◌then◌else◌, List, [], ◌∷◌, ◌++◌, length, set, drop, Option, Some, None, ℤ, pos, refl, sym, ap, ◌∙◌, subst, arith, get_or-set_same, get_or-set_other, length-set, length-append, replicate}
 use Rattle.std.proofs.Math.ListN.{length-replicate}
 use Rattle.std.proofs.lemmas.List.{get_or-replicate}
-use Rattle.cddf_meaning.specs.Variables.{bind, find, assign, leave}
+use Rattle.cddf_meaning.specs.Variables.{bind, find, flag_or, assign, leave}
 use Rattle.cddf_meaning.specs.declared.variable.Binding.{Binding}
 use Rattle.cddf_meaning.specs.declared.variable.Variable.{Variable}
 use Rattle.cddf_meaning.specs.declared.variable.Variable.TheVariants.{Constant, Function, Scalar, Array, Window, Stream, Item}
@@ -14,6 +14,11 @@ use Rattle.os_ast.specs.declared.names.What.TheVariants as what
 use Rattle.os_code.specs.Machine.{zeroed}
 use Rattle.lowering_relation.specs.Alignment.{Takes, Stacked, slot_at, Resources, Holds, Aligned}
 use Rattle.lowering_relation.proofs.Slots.{SameBelow, SameFrom, set_at, zeroed_below, zeroed_at}
+
+-- the type of a declaration; where there is none, what is said of it elsewhere
+abbrev pub flag_or_of : Bool → Option Entry → Bool
+flag_or_of elsewhere None = elsewhere
+flag_or_of elsewhere (Some e) = e.unsigned
 
 takes_below : (w : What) (low top : ℕ) → Takes w low top → low ≤ top
 takes_below (what.Scalar slot) low top h = omega (arith, h.1)
@@ -67,8 +72,9 @@ module _ (has : Resources) where
     same_below top slots after (x ∷ bound) (e ∷ es) st same h =
         let le : st.0 ≤ top = takes_below (means e.entity) st.0 top st.1 in (
           h.0,
-          holds_same slots after x.variable (means e.entity) st.0 top st.1 (λ i lo hi. same i hi) h.1,
-          same_below st.0 slots after bound es st.2 (λ i lt. same i (omega (arith, lt, le))) h.2,
+          h.1,
+          holds_same slots after x.variable (means e.entity) st.0 top st.1 (λ i lo hi. same i hi) h.2,
+          same_below st.0 slots after bound es st.2 (λ i lt. same i (omega (arith, lt, le))) h.3,
         )
 
     -- where the slots of a name in scope are
@@ -108,7 +114,7 @@ module _ (has : Resources) where
     found slots (b ∷ bound) [] id d h is = elim h [ ]
     found slots (b ∷ bound) (e ∷ es) id d h is =
         subst (λ k. Found slots (if k == id then Some b.variable else find bound id) d) (sym h.0)
-        (found_at (e.id == id) slots b.variable (find bound id) e (lookup es id) d h.1 (found slots bound es id d h.2) is)
+        (found_at (e.id == id) slots b.variable (find bound id) e (lookup es id) d h.2 (found slots bound es id d h.3) is)
 
     missed_at : (t : Bool) (v : Variable) (u : Option Variable) (e : Entry) (rest : Option Entry) →
         (rest ≡ None → u ≡ None) → (if t then Some e else rest) ≡ None → (if t then Some v else u) ≡ None
@@ -122,7 +128,23 @@ module _ (has : Resources) where
     missed slots (b ∷ bound) [] id h is = elim h [ ]
     missed slots (b ∷ bound) (e ∷ es) id h is =
         subst (λ k. (if k == id then Some b.variable else find bound id) ≡ None) (sym h.0)
-        (missed_at (e.id == id) b.variable (find bound id) e (lookup es id) (missed slots bound es id h.2) is)
+        (missed_at (e.id == id) b.variable (find bound id) e (lookup es id) (missed slots bound es id h.3) is)
+
+    -- What is in scope has the type of its declaration.
+    pub flag_found : (slots : List ℤ) (bound : List Binding) (es : List Entry) (id : ℕ) (elsewhere : Bool) →
+        Aligned has means slots bound es → flag_or elsewhere bound id ≡ flag_or_of elsewhere (lookup es id)
+    flag_found slots [] [] id elsewhere h = refl
+    flag_found slots [] (e ∷ es) id elsewhere h = elim h [ ]
+    flag_found slots (b ∷ bound) [] id elsewhere h = elim h [ ]
+    flag_found slots (b ∷ bound) (e ∷ es) id elsewhere h =
+        ap (λ k. if k == id then b.unsigned else flag_or elsewhere bound id) h.0
+        ∙ ap (λ u. if e.id == id then u else flag_or elsewhere bound id) h.1
+        ∙ by_case (e.id == id) (flag_found slots bound es id elsewhere h.3)
+      where
+        by_case : (t : Bool) → flag_or elsewhere bound id ≡ flag_or_of elsewhere (lookup es id) →
+            (if t then e.unsigned else flag_or elsewhere bound id) ≡ flag_or_of elsewhere (if t then Some e else lookup es id)
+        by_case true next = refl
+        by_case false next = next
 
     -- what a store does to the slots of a variable, and to the others
     abbrev pub Stores : List ℤ → List ℤ → Variable → Entity → ℕ → ℕ → Type 0
@@ -130,21 +152,22 @@ module _ (has : Resources) where
 
     -- A variable is set: the slots change within its own alone, where its new value stands.
     assigned_at : (t : Bool) (top low : ℕ) (slots after : List ℤ) (b : Binding) (bound set_bound : List Binding) (e : Entry) (es : List Entry) (rest : Option Entry) (u : Variable) (d : Entity) →
-        b.id ≡ e.id → Takes (means e.entity) low top → Stacked means low es → Holds has slots b.variable (means e.entity) → Aligned has means slots bound es →
+        b.id ≡ e.id → b.unsigned ≡ e.unsigned → Takes (means e.entity) low top → Stacked means low es → Holds has slots b.variable (means e.entity) → Aligned has means slots bound es →
         entity_of (if t then Some e else rest) ≡ Some d →
         ((low2 above : ℕ) → above ≤ top → Takes (means d) low2 above → Stores slots after u d low2 above) →
         (entity_of rest ≡ Some d → TakesIn low d) →
         (entity_of rest ≡ Some d → ((low2 above : ℕ) → above ≤ low → Takes (means d) low2 above → Stores slots after u d low2 above) → Aligned has means after set_bound es) →
-        Aligned has means after (if t then bind b.id u bound else b ∷ set_bound) (e ∷ es)
-    assigned_at true top low slots after b bound set_bound e es rest u d same t st h tail is keep there next =
+        Aligned has means after (if t then bind b.id b.unsigned u bound else b ∷ set_bound) (e ∷ es)
+    assigned_at true top low slots after b bound set_bound e es rest u d same flag t st h tail is keep there next =
         let eq : e.entity ≡ d = cc in
         let k = keep low top (omega arith) (subst (λ x. Takes (means x) low top) eq t) in
-        (same, subst (λ x. Holds has after u (means x)) (sym eq) k.0, same_below low slots after bound es st k.1 tail)
-    assigned_at false top low slots after b bound set_bound e es rest u d same t st h tail is keep there next =
+        (same, flag, subst (λ x. Holds has after u (means x)) (sym eq) k.0, same_below low slots after bound es st k.1 tail)
+    assigned_at false top low slots after b bound set_bound e es rest u d same flag t st h tail is keep there next =
         let f = there is in
         let le : low ≤ top = takes_below (means e.entity) low top t in
         let k = keep f.0 f.1 (omega (arith, f.2, le)) f.3 in (
           same,
+          flag,
           holds_same slots after b.variable (means e.entity) low top t (λ i lo hi. k.2 i (omega (arith, f.2, lo))) h,
           next is (λ low2 above a2 h2. keep low2 above (omega (arith, a2, le)) h2),
         )
@@ -157,16 +180,17 @@ module _ (has : Resources) where
     assigned top slots after [] (e ∷ es) id d u st h is keep = elim h [ ]
     assigned top slots after (b ∷ bound) [] id d u st h is keep = elim h [ ]
     assigned top slots after (b ∷ bound) (e ∷ es) id d u st h is keep =
-        subst (λ x. Aligned has means after (if x == id then bind b.id u bound else b ∷ assign bound id u) (e ∷ es)) (sym h.0)
-        (assigned_at (e.id == id) top st.0 slots after b bound (assign bound id u) e es (lookup es id) u d h.0 st.1 st.2 h.1 h.2 is keep
+        subst (λ x. Aligned has means after (if x == id then bind b.id b.unsigned u bound else b ∷ assign bound id u) (e ∷ es)) (sym h.0)
+        (assigned_at (e.id == id) top st.0 slots after b bound (assign bound id u) e es (lookup es id) u d h.0 h.1 st.1 st.2 h.2 h.3 is keep
         (λ is2. taken st.0 es id d st.2 is2)
-        (λ is2 k2. assigned st.0 slots after bound es id d u st.2 h.2 is2 k2))
+        (λ is2 k2. assigned st.0 slots after bound es id d u st.2 h.3 is2 k2))
 
     -- a scalar is declared, in the next slot
     pub declared_scalar : (top : ℕ) (slots : List ℤ) (bound : List Binding) (es : List Entry) (e : Entry) (v : ℤ) → top < length slots →
         means e.entity ≡ what.Scalar top → Stacked means top es → Aligned has means slots bound es →
-        Aligned has means (set slots top v) (bind e.id (Scalar v) bound) (e ∷ es)
+        Aligned has means (set slots top v) (bind e.id e.unsigned (Scalar v) bound) (e ∷ es)
     declared_scalar top slots bound es e v lt is st h = (
+      refl,
       refl,
       (top, is, get_or-set_same slots top v (pos 0) lt),
       same_below top slots (set slots top v) bound es st (λ i below. get_or-set_other slots top i v (pos 0) (λ x. absurd (omega (arith, below, x)))) h,
@@ -215,9 +239,10 @@ module _ (has : Resources) where
     -- an array is declared, in the next slots
     pub declared_array : (top size : ℕ) (slots : List ℤ) (bound : List Binding) (es : List Entry) (e : Entry) → top + size ≤ length slots →
         means e.entity ≡ what.Array top size → Stacked means top es → Aligned has means slots bound es →
-        Aligned has means (zeroed slots top size) (bind e.id (Array (replicate size (pos 0))) bound) (e ∷ es)
+        Aligned has means (zeroed slots top size) (bind e.id e.unsigned (Array (replicate size (pos 0))) bound) (e ∷ es)
     declared_array top size slots bound es e fits is st h =
         let n : length (replicate size (pos 0)) ≡ size = length-replicate size (pos 0) in (
+          refl,
           refl,
           (
             top,
@@ -231,13 +256,13 @@ module _ (has : Resources) where
     aligned_length slots [] [] h = refl
     aligned_length slots [] (e ∷ es) h = elim h [ ]
     aligned_length slots (b ∷ bound) [] h = elim h [ ]
-    aligned_length slots (b ∷ bound) (e ∷ es) h = ap suc (aligned_length slots bound es h.2)
+    aligned_length slots (b ∷ bound) (e ∷ es) h = ap suc (aligned_length slots bound es h.3)
 
     dropped : (slots : List ℤ) (bound : List Binding) (added es : List Entry) → Aligned has means slots bound (added ++ es) →
         Aligned has means slots (drop (length added) bound) es
     dropped slots bound [] es h = h
     dropped slots [] (e ∷ added) es h = elim h [ ]
-    dropped slots (b ∷ bound) (e ∷ added) es h = dropped slots bound added es h.2
+    dropped slots (b ∷ bound) (e ∷ added) es h = dropped slots bound added es h.3
 
     -- a scope is left
     pub left : (slots was : List ℤ) (outer inner : List Binding) (added es : List Entry) → Aligned has means was outer es →

@@ -1,10 +1,10 @@
 -- The code of a change does what the change says.
 use Rattle.std.proofs.Common.{◌≡◌, ℕ, ◌+◌, ◌≤◌, Bool, true, false, List, [], ◌∷◌, ◌++◌, length, Some, Ok, Err, ℤ, pos, refl, sym, ap, ◌∙◌, subst}
 use Rattle.cddf_meaning.specs.Answers.{Answer, and_then, Left, left, with_turns}
-use Rattle.cddf_meaning.specs.File.{variable}
+use Rattle.cddf_meaning.specs.File.{variable, type_in}
 use Rattle.cddf_meaning.specs.Flow.{Ran, given, goes_on}
 use Rattle.cddf_meaning.specs.Operators.{binary_value, step_operator}
-use Rattle.cddf_meaning.specs.Run.{assigned, old_value, after_store, changed, run_change}
+use Rattle.cddf_meaning.specs.Run.{assigned, old_value, after_store, changed, target_type, run_change}
 use Rattle.cddf_meaning.specs.State.{State, stored, stored_at}
 use Rattle.cddf_meaning.specs.Value.{scalar_value, elements, checked, value}
 use Rattle.cddf_meaning.specs.Variables.{find}
@@ -29,7 +29,7 @@ use Rattle.os_code.specs.declared.parts.Parts.{Parts}
 use Rattle.os_code.specs.Machine.{Frame}
 use Rattle.os_code.specs.Parts.{instr_at}
 use Rattle.lowering_relation.specs.Alignment.{Stacked, slot_at}
-use Rattle.lowering_relation.specs.Changes.{is_quiet, HasChanged, HasChange, set, set_unchecked, after, before, needs_old, operating, HasAssigned, HasStepped}
+use Rattle.lowering_relation.specs.Changes.{is_quiet, HasChanged, HasChange, set, set_unchecked, after, before, needs_old, operating, HasAssigned, HasStepped, target_by}
 use Rattle.lowering_relation.specs.Expressions.{Stands, HasExpr}
 use Rattle.lowering_relation.specs.Names.{reading, aiming, storing, storing_at, fetching, fetching_at}
 use Rattle.lowering_relation.proofs.Context.{IsPlain, Context, means, tells, Agree, agree_first, agree_rest, IsUsed, used, name}
@@ -37,6 +37,7 @@ use Rattle.lowering_relation.proofs.Exprs.{Ready, ends_at, operates, expr_runs}
 use Rattle.lowering_relation.proofs.Flows.{Does, does_from, given_does, settled}
 use Rattle.lowering_relation.proofs.Names.{reads, fetches_at}
 use Rattle.lowering_relation.proofs.Quiet.{quiet_gives}
+use Rattle.lowering_relation.proofs.Types.{type_told, target_told}
 use Rattle.lowering_relation.proofs.Steps.{Store, at, pushed, checked_index, Leads, stays, leads_on, Meets, gives, meets_from, meets_then, copy_top, push}
 use Rattle.lowering_relation.proofs.Stores.{aimed, below_in, stores_name, stores_at}
 
@@ -127,7 +128,7 @@ module _ (c : Context) (callers : List Frame) (leaves : Instr) (total : ℕ) (s 
   -- where the right side is quiet, the store alone checks the index
   unchecked_does : (n : Name) (open_mark mark : Mark) (i e : tree.ExprTree) (broke continued from mid end : ℕ) (stack : List ℤ) (turns : ℕ) (within : List Entry → Type 0) →
       Agree c (change_notes s (tree.Set (tree.Element n open_mark i) assign_of.Plain mark e)) → is_quiet e ≡ true → HasExpr c.code (tells c) i from mid → HasExpr c.code (tells c) e mid end →
-      instr_at c.code end ≡ Some (storing_at (tells c n.mark.place) open_mark.line) →
+      instr_at c.code end ≡ Some (storing_at (tells c n.mark.place).what open_mark.line) →
       Does c.code (at callers from stack m turns) (settled c callers leaves total (end + 1) broke continued stack within es) (run_change c.file (tree.Set (tree.Element n open_mark i) assign_of.Plain mark e) st turns)
   unchecked_does n open_mark mark i e broke continued from mid end stack turns within agree quiet has_i has_e store =
       let u = usage.Place role.Changed shape.Indexed in
@@ -156,28 +157,38 @@ module _ (c : Context) (callers : List Frame) (leaves : Instr) (total : ℕ) (s 
           Does c.code (at callers mid (i ∷ stack) m t) (settled c callers leaves total (end + 1) broke continued stack within es) r
       pushed_on v i t (gives x w l) d = does_from l d
 
-  operates_assign : (a : Assign) (line p q : ℕ) (old : ℤ) (n : Left ℤ) (below : List ℤ) → Stands c.code (operating a line) p q →
-      Meets c.code (at callers p (n.value ∷ with_old (needs_old a) old below) m n.turns) (pushed callers q below m) (with_turns n.turns (assigned a line old n.value))
-  operates_assign assign_of.Plain line p q old n below h = ends_at c.code callers p q below m h (gives n tt stays)
-  operates_assign (assign_of.With op) line p q old n below h = operates c.code callers op line p q old n.value below m n.turns h
+  operates_assign : (a : Assign) (line : ℕ) (u v : Bool) (p q : ℕ) (old : ℤ) (n : Left ℤ) (below : List ℤ) → Stands c.code (operating a line u v) p q →
+      Meets c.code (at callers p (n.value ∷ with_old (needs_old a) old below) m n.turns) (pushed callers q below m) (with_turns n.turns (assigned a line u v old n.value))
+  operates_assign assign_of.Plain line u v p q old n below h = ends_at c.code callers p q below m h (gives n tt stays)
+  operates_assign (assign_of.With op) line u v p q old n below h = operates c.code callers op line u v p q old n.value below m n.turns h
 
-  stepped : (op : _) (line p q : ℕ) (x : ℤ) (below : List ℤ) (turns : ℕ) → HasStepped c.code op line p q →
-      Meets c.code (at callers p (x ∷ below) m turns) (pushed callers q below m) (with_turns turns (binary_value op line x (pos 1)))
-  stepped op line p q x below turns h = meets_from c.code (push c.code callers (pos 1) p (x ∷ below) m turns h.0) (operates c.code callers op line (p + 1) q x (pos 1) below m turns h.1)
+  stepped : (op : _) (line : ℕ) (u : Bool) (p q : ℕ) (x : ℤ) (below : List ℤ) (turns : ℕ) → HasStepped c.code op line u p q →
+      Meets c.code (at callers p (x ∷ below) m turns) (pushed callers q below m) (with_turns turns (binary_value op line u false x (pos 1)))
+  stepped op line u p q x below turns h = meets_from c.code (push c.code callers (pos 1) p (x ∷ below) m turns h.0) (operates c.code callers op line u false (p + 1) q x (pos 1) below m turns h.1)
 
   pub change_does : (x : tree.ChangeTree) (broke continued from to : ℕ) (stack : List ℤ) (turns : ℕ) (within : List Entry → Type 0) → Agree c (change_notes s x) → HasChange c.code (tells c) x from to →
       Does c.code (at callers from stack m turns) (settled c callers leaves total to broke continued stack within es) (run_change c.file x st turns)
   change_does (tree.Set t a mark e) broke continued from to stack turns within agree (set h) =
-      changed_does t (needs_old a) (λ old s2 t2. and_then (value c.file e s2 t2) (λ n. with_turns n.turns (assigned a mark.line old n.value))) (HasAssigned c.code (tells c) a mark.line e) broke continued from to stack turns within
-      (agree_first c (place_notes s role.Changed t) (expr_notes s e) agree)
-      (λ x below t2 p q has. meets_then c.code (λ n. with_turns n.turns (assigned a mark.line x n.value)) refl
-      (expr_runs c callers s es st m ready e p has.0 (with_old (needs_old a) x below) t2 (agree_rest c (place_notes s role.Changed t) (expr_notes s e) agree) has.1)
-      (λ n u. operates_assign a mark.line has.0 q x n below has.2)) h
+      let front = agree_first c (place_notes s role.Changed t) (expr_notes s e) agree in
+      let rest = agree_rest c (place_notes s role.Changed t) (expr_notes s e) agree in
+      let u = target_type c.file st t in
+      let v = type_in c.file st e in
+      changed_does t (needs_old a) (λ old s2 t2. and_then (value c.file e s2 t2) (λ n. with_turns n.turns (assigned a mark.line (target_type c.file s2 t) (type_in c.file s2 e) old n.value)))
+      (HasAssigned c.code (tells c) a mark.line (target_by (tells c) t) e) broke continued from to stack turns within front
+      (λ x below t2 p q has. meets_then c.code (λ n. with_turns n.turns (assigned a mark.line u v x n.value)) refl
+      (expr_runs c callers s es st m ready e p has.0 (with_old (needs_old a) x below) t2 rest has.1)
+      (λ n y. operates_assign a mark.line u v has.0 q x n below
+      (subst (λ b. Stands c.code (operating a mark.line b v) has.0 q) (target_told c s es st m.slots ready.scope ready.aligned t front)
+      (subst (λ b. Stands c.code (operating a mark.line (target_by (tells c) t) b) has.0 q) (type_told c s es st m.slots ready.scope ready.aligned e rest) has.2)))) h
   change_does (tree.Set (tree.Element n open_mark i) assign_of.Plain mark e) broke continued from to stack turns within agree (set_unchecked mid end quiet has_i has_e store) =
       unchecked_does n open_mark mark i e broke continued from mid end stack turns within agree quiet has_i has_e store
   change_does (tree.After t d mark) broke continued from to stack turns within agree (after h) =
-      changed_does t true (λ old s2 t2. with_turns t2 (binary_value (step_operator d) mark.line old (pos 1))) (HasStepped c.code (step_operator d) mark.line) broke continued from to stack turns within agree
-      (λ x below t2 p q has. stepped (step_operator d) mark.line p q x below t2 has) h
+      changed_does t true (λ old s2 t2. with_turns t2 (binary_value (step_operator d) mark.line (target_type c.file s2 t) false old (pos 1))) (HasStepped c.code (step_operator d) mark.line (target_by (tells c) t))
+      broke continued from to stack turns within agree
+      (λ x below t2 p q has. stepped (step_operator d) mark.line (target_type c.file st t) p q x below t2
+      (subst (λ b. HasStepped c.code (step_operator d) mark.line b p q) (target_told c s es st m.slots ready.scope ready.aligned t agree) has)) h
   change_does (tree.Before t d mark) broke continued from to stack turns within agree (before h) =
-      changed_does t true (λ old s2 t2. with_turns t2 (binary_value (step_operator d) mark.line old (pos 1))) (HasStepped c.code (step_operator d) mark.line) broke continued from to stack turns within agree
-      (λ x below t2 p q has. stepped (step_operator d) mark.line p q x below t2 has) h
+      changed_does t true (λ old s2 t2. with_turns t2 (binary_value (step_operator d) mark.line (target_type c.file s2 t) false old (pos 1))) (HasStepped c.code (step_operator d) mark.line (target_by (tells c) t))
+      broke continued from to stack turns within agree
+      (λ x below t2 p q has. stepped (step_operator d) mark.line (target_type c.file st t) p q x below t2
+      (subst (λ b. HasStepped c.code (step_operator d) mark.line b p q) (target_told c s es st m.slots ready.scope ready.aligned t agree) has)) h

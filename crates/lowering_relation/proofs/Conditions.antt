@@ -2,6 +2,7 @@
 use Rattle.std.proofs.Common.{◌≡◌, ℕ, suc, ◌+◌, Bool, true, false, not, if◌then◌else◌, List, Option, Some, None, Ok, ltb, ℤ, pos, refl, sym, ap, ◌∙◌, subst, arith}
 use Rattle.c_int.specs.Operators.{is_zero, truth}
 use Rattle.cddf_meaning.specs.Answers.{Answer, and_then, Left, left}
+use Rattle.cddf_meaning.specs.File.{type_in}
 use Rattle.cddf_meaning.specs.Run.{run_test}
 use Rattle.cddf_meaning.specs.State.{State}
 use Rattle.cddf_meaning.specs.Value.{as_truth, value, chained}
@@ -36,27 +37,27 @@ module _ (code : Parts) (callers : List Frame) (stack : List ℤ) (m : Store) wh
 
 module _ (c : Context) (callers : List Frame) (s : Scope) (es : List Entry) (st : State) (m : Store) (ready : Ready c s es st m) (stack : List ℤ) where
   -- a chain of `&&` behind 0 is 0
-  zero_chain : {links : tree.Links} {fails mid to : ℕ} → HaveConditions c.code (tells c) links fails mid to → (n : Left ℤ) → is_zero n.value ≡ true →
-      (v : ℤ) × (chained c.file links st n ≡ Ok (left v n.turns)) × (is_zero v ≡ true)
-  zero_chain no_more n z = (n.value, refl, z)
-  zero_chain (one_more {m = mark} {e = e} {rest = rest} h more) n z =
-      let r = zero_chain more (left (pos 0) n.turns) refl in
-      (r.0, ap (λ t. and_then (if t then Ok (left (pos 0) n.turns) else and_then (value c.file e st n.turns) as_truth) (chained c.file rest st)) z ∙ r.1, r.2)
+  zero_chain : {links : tree.Links} {fails mid to : ℕ} → HaveConditions c.code (tells c) links fails mid to → (y : Bool) (n : Left ℤ) → is_zero n.value ≡ true →
+      (v : ℤ) × (chained c.file links st y n ≡ Ok (left v n.turns)) × (is_zero v ≡ true)
+  zero_chain no_more y n z = (n.value, refl, z)
+  zero_chain (one_more {m = mark} {e = e} {rest = rest} h more) y n z =
+      let r = zero_chain more false (left (pos 0) n.turns) refl in
+      (r.0, ap (λ t. and_then (if t then Ok (left (pos 0) n.turns) else and_then (value c.file e st n.turns) as_truth) (chained c.file rest st false)) z ∙ r.1, r.2)
 
   not_zero : (t : Bool) → is_zero (truth (not t)) ≡ t
   not_zero true = refl
   not_zero false = refl
 
   -- behind a condition, by whether its value is 0
-  behind : {links : tree.Links} {fails mid to : ℕ} (t : Bool) (n : Left ℤ) → is_zero n.value ≡ t → HaveConditions c.code (tells c) links fails mid to →
-      (is_zero n.value ≡ false → Meets c.code (at callers mid stack m n.turns) (branched callers fails to stack m) (chained c.file links st n)) →
-      Meets c.code (at callers (if is_zero n.value then fails else mid) stack m n.turns) (branched callers fails to stack m) (chained c.file links st n)
-  behind {links = links} {fails = fails} {mid = mid} {to = to} true n z more go =
-      let r = zero_chain more n z in
-      subst (λ b. Meets c.code (at callers (if b then fails else mid) stack m n.turns) (branched callers fails to stack m) (chained c.file links st n)) (sym z)
+  behind : {links : tree.Links} {fails mid to : ℕ} (t y : Bool) (n : Left ℤ) → is_zero n.value ≡ t → HaveConditions c.code (tells c) links fails mid to →
+      (is_zero n.value ≡ false → Meets c.code (at callers mid stack m n.turns) (branched callers fails to stack m) (chained c.file links st y n)) →
+      Meets c.code (at callers (if is_zero n.value then fails else mid) stack m n.turns) (branched callers fails to stack m) (chained c.file links st y n)
+  behind {links = links} {fails = fails} {mid = mid} {to = to} true y n z more go =
+      let r = zero_chain more y n z in
+      subst (λ b. Meets c.code (at callers (if b then fails else mid) stack m n.turns) (branched callers fails to stack m) (chained c.file links st y n)) (sym z)
       (subst (Meets c.code (at callers fails stack m n.turns) (branched callers fails to stack m)) (sym r.1) (gives (left r.0 n.turns) tt (fails_at c.code callers stack m r.0 n.turns fails to r.2)))
-  behind {links = links} {fails = fails} {mid = mid} {to = to} false n z more go =
-      subst (λ b. Meets c.code (at callers (if b then fails else mid) stack m n.turns) (branched callers fails to stack m) (chained c.file links st n)) (sym z) (go z)
+  behind {links = links} {fails = fails} {mid = mid} {to = to} false y n z more go =
+      subst (λ b. Meets c.code (at callers (if b then fails else mid) stack m n.turns) (branched callers fails to stack m) (chained c.file links st y n)) (sym z) (go z)
 
   mutual
     pub cond_runs : {e : tree.ExprTree} {fails from to : ℕ} → HasCondition c.code (tells c) e fails from to → (turns : ℕ) → Agree c (expr_notes s e) →
@@ -67,20 +68,21 @@ module _ (c : Context) (callers : List Frame) (s : Scope) (es : List Entry) (st 
         gives (left (pos (suc n)) turns) tt (holds c.code callers stack m (pos (suc n)) turns fails p (let e : ltb (suc n) 1 ≡ false = grind arith in e))
     cond_runs (in_parens h) turns agree = cond_runs h turns agree
     cond_runs (each {first = first} {links = links} {fails = fails} {mid = mid} {to = to} h more) turns agree =
-        meets_then c.code (chained c.file links st) refl (cond_runs h turns (agree_first c (expr_notes s first) (links_notes s links) agree))
-        (λ n u. behind (is_zero n.value) n refl more (λ z. conds_run more n z (agree_rest c (expr_notes s first) (links_notes s links) agree)))
+        let y = type_in c.file st first in
+        meets_then c.code (chained c.file links st y) refl (cond_runs h turns (agree_first c (expr_notes s first) (links_notes s links) agree))
+        (λ n u. behind (is_zero n.value) y n refl more (λ z. conds_run more y n z (agree_rest c (expr_notes s first) (links_notes s links) agree)))
 
-    conds_run : {links : tree.Links} {fails mid to : ℕ} → HaveConditions c.code (tells c) links fails mid to → (n : Left ℤ) → is_zero n.value ≡ false → Agree c (links_notes s links) →
-        Meets c.code (at callers mid stack m n.turns) (branched callers fails to stack m) (chained c.file links st n)
-    conds_run (no_more {fails = fails} {at = p}) n z agree = gives n tt (holds c.code callers stack m n.value n.turns fails p z)
-    conds_run (one_more {m = mark} {e = e} {rest = rest} {fails = fails} {from = from} {mid = mid} {to = to} h more) n z agree =
-        subst (λ t. Meets c.code (at callers from stack m n.turns) (branched callers fails to stack m) (and_then (if t then Ok (left (pos 0) n.turns) else and_then (value c.file e st n.turns) as_truth) (chained c.file rest st))) (sym z)
-        (meets_in c.code (at callers from stack m n.turns) (branched callers fails to stack m) (value c.file e st n.turns) as_truth (chained c.file rest st)
-        (meets_then c.code (λ b. and_then (as_truth b) (chained c.file rest st)) refl (cond_runs h n.turns (agree_first c (expr_notes s e) (links_notes s rest) agree))
+    conds_run : {links : tree.Links} {fails mid to : ℕ} → HaveConditions c.code (tells c) links fails mid to → (y : Bool) (n : Left ℤ) → is_zero n.value ≡ false → Agree c (links_notes s links) →
+        Meets c.code (at callers mid stack m n.turns) (branched callers fails to stack m) (chained c.file links st y n)
+    conds_run (no_more {fails = fails} {at = p}) y n z agree = gives n tt (holds c.code callers stack m n.value n.turns fails p z)
+    conds_run (one_more {m = mark} {e = e} {rest = rest} {fails = fails} {from = from} {mid = mid} {to = to} h more) y n z agree =
+        subst (λ t. Meets c.code (at callers from stack m n.turns) (branched callers fails to stack m) (and_then (if t then Ok (left (pos 0) n.turns) else and_then (value c.file e st n.turns) as_truth) (chained c.file rest st false))) (sym z)
+        (meets_in c.code (at callers from stack m n.turns) (branched callers fails to stack m) (value c.file e st n.turns) as_truth (chained c.file rest st false)
+        (meets_then c.code (λ b. and_then (as_truth b) (chained c.file rest st false)) refl (cond_runs h n.turns (agree_first c (expr_notes s e) (links_notes s rest) agree))
         (λ b u.
-        subst (λ t. Meets c.code (at callers (if t then fails else mid) stack m b.turns) (branched callers fails to stack m) (chained c.file rest st (left (truth (not (is_zero b.value))) b.turns))) (not_zero (is_zero b.value))
-        (behind (is_zero (truth (not (is_zero b.value)))) (left (truth (not (is_zero b.value))) b.turns) refl more
-        (λ y. conds_run more (left (truth (not (is_zero b.value))) b.turns) y (agree_rest c (expr_notes s e) (links_notes s rest) agree))))))
+        subst (λ t. Meets c.code (at callers (if t then fails else mid) stack m b.turns) (branched callers fails to stack m) (chained c.file rest st false (left (truth (not (is_zero b.value))) b.turns))) (not_zero (is_zero b.value))
+        (behind (is_zero (truth (not (is_zero b.value)))) false (left (truth (not (is_zero b.value))) b.turns) refl more
+        (λ w. conds_run more false (left (truth (not (is_zero b.value))) b.turns) w (agree_rest c (expr_notes s e) (links_notes s rest) agree))))))
 
   -- a test, which may be left out
   pub test_runs : (test : Option tree.ExprTree) (fails from to turns : ℕ) → Agree c (value_notes s test) → HasTest c.code (tells c) test fails from to →

@@ -1,10 +1,10 @@
 -- What is known of a body's names, and what it does beside its slots.
 use Rattle.std.proofs.Common.{◌≡◌, ℕ, zero, suc, ◌+◌, ◌<◌, ◌≤◌, ◌==◌, Bool, true, false, if◌then◌else◌, List, [], ◌∷◌, ◌++◌, length, map, replicate, Option, Some, None, ℤ, refl, sym, ap, ◌∙◌, subst, inl, inr, arith, eq-eqb, eqb-true}
 use Rattle.std.specs.Prelude.{⊤, ◌⊎◌, Contains}
-use Rattle.cddf_meaning.specs.File.{File}
+use Rattle.cddf_meaning.specs.File.{File, flags}
 use Rattle.cddf_meaning.specs.Moves.{CallsFall}
 use Rattle.cddf_meaning.specs.State.{State}
-use Rattle.cddf_meaning.specs.Variables.{find}
+use Rattle.cddf_meaning.specs.Variables.{find, flag_or}
 use Rattle.cddf_meaning.specs.declared.variable.Variable.{Variable}
 use Rattle.cddf_meaning.specs.declared.variable.Variable.TheVariants as variable
 use Rattle.flow_core_laws.specs.declared.activation.Activation.{Activation}
@@ -30,32 +30,39 @@ use Rattle.os_code.specs.declared.parts.Parts.{Parts}
 use Rattle.os_code.specs.Machine.{Frame, TaskWindow}
 use Rattle.os_code.specs.Parts.{instr_at}
 use Rattle.lowering_relation.specs.Alignment.{Resources, Aligned}
-use Rattle.lowering_relation.specs.Names.{told_at}
-use Rattle.lowering_relation.proofs.Alignment.{Found, found, missed}
+use Rattle.lowering_relation.specs.Names.{told_at, flags_by}
+use Rattle.lowering_relation.proofs.Alignment.{Found, flag_or_of, found, missed, flag_found}
 use Rattle.lowering_relation.proofs.Steps.{Store, at, pushed, onto, Meets}
 use Rattle.window_check_laws.specs.Order.{IsBelowNext, InOrder}
 use Rattle.window_check_laws.specs.Told.{AreIn, KeepsAll}
-use Rattle.window_check_laws.proofs.Told.{told-use, declared-use, one-meaning}
+use Rattle.window_check_laws.proofs.Told.{told-use, declared-use}
 
 -- the list tells at a place what it has for that place
 in_order_tail : (lo : ℕ) (rs : List Resolved) → IsBelowNext lo rs → InOrder rs
 in_order_tail lo [] h = tt
 in_order_tail lo (r ∷ rs) h = h.1
 
-told_first : (r : Resolved) (rs : List Resolved) (p : ℕ) (w : What) (b : Bool) → r ≡ resolved p w b → told_at (r ∷ rs) p ≡ w
+told_first : (r : Resolved) (rs : List Resolved) (p : ℕ) (w : What) (b : Bool) → r ≡ resolved p w b → told_at (r ∷ rs) p ≡ resolved p w b
 told_first r rs p w b e =
-    ap (λ (x : Resolved). told_at (x ∷ rs) p) e ∙ ap (λ t. if t then w else told_at rs p) (eq-eqb p p refl)
+    ap (λ (x : Resolved). told_at (x ∷ rs) p) e ∙ ap (λ t. if t then resolved p w b else told_at rs p) (eq-eqb p p refl)
 
-pub told_is : (rs : List Resolved) (p : ℕ) (w : What) (b : Bool) → InOrder rs → Contains rs (resolved p w b) → told_at rs p ≡ w
+is_behind : (lo : ℕ) (rs : List Resolved) (p : ℕ) (w : What) (b : Bool) → IsBelowNext lo rs → Contains rs (resolved p w b) → lo < p
+is_behind lo [] p w b o (k, lt, e) = absurd (omega (arith, lt))
+is_behind lo (r ∷ rs) p w b o (zero, lt, e) =
+    let here : r.place ≡ p = ap (λ (x : Resolved). x.place) e in
+    omega (arith, o.0, here)
+is_behind lo (r ∷ rs) p w b o (suc k, lt, e) = omega (arith, o.0, is_behind r.place rs p w b o.1 (k, omega (arith, lt), e))
+
+pub told_is : (rs : List Resolved) (p : ℕ) (w : What) (b : Bool) → InOrder rs → Contains rs (resolved p w b) → told_at rs p ≡ resolved p w b
 told_is [] p w b o (k, lt, e) = absurd (omega (arith, lt))
 told_is (r ∷ rs) p w b o (zero, lt, e) = told_first r rs p w b e
 told_is (r ∷ rs) p w b o (suc k, lt, e) = by_case (r.place == p) refl (told_is rs p w b (in_order_tail r.place rs o) (k, omega (arith, lt), e))
   where
-    by_case : (t : Bool) → (r.place == p) ≡ t → told_at rs p ≡ w → (if t then r.what else told_at rs p) ≡ w
+    by_case : (t : Bool) → (r.place == p) ≡ t → told_at rs p ≡ resolved p w b → (if t then r else told_at rs p) ≡ resolved p w b
     by_case false _ next = next
     by_case true same next =
-        let here : r ≡ resolved p r.what r.unsigned = ap (λ q. resolved q r.what r.unsigned) (eqb-true r.place p same) in
-        one-meaning (r ∷ rs) p r.what w r.unsigned b o (0, omega arith, here) (suc k, lt, e)
+        let here : r.place ≡ p = eqb-true r.place p same in
+        absurd (omega (arith, here, is_behind r.place rs p w b o (k, omega (arith, lt), e)))
 
 -- What a body works on beside its slots: a function has nothing, and leaves what its caller has; a task has items with
 -- these claims; `main` creates activations, and has some of the code's streams so far.
@@ -107,6 +114,10 @@ FileHas code file v _ = ⊥
 abbrev pub Reaches : Parts → File → List Entry → ℕ → Entity → Type 0
 Reaches code file bound id d = (entity_of (lookup bound id) ≡ Some d) ⊎ ((lookup bound id ≡ None) × FileHas code file (find file.names id) d)
 
+-- the type of what such a name means
+abbrev pub flag_round : File → List Entry → ℕ → Bool
+flag_round file bound id = flag_or_of (flag_or false file.names id) (lookup bound id)
+
 -- How a name is used in a body, beside its pragmas.
 abbrev pub IsPlain : Use → Type 0
 IsPlain (usage.Place role.Value s) = ⊤
@@ -133,13 +144,16 @@ pub record Context : Type 1 where
   pub besides : Note → Type 0
   pub reaches : (s : Scope) (n : Name) (u : Use) (d : Entity) → IsPlain u → KeepsAll rules (Used s n u) → besides (Used s n u) → entity_of (lookup s.entries n.id) ≡ Some d →
       lookup s.entries n.id ≡ lookup round n.id → Reaches code file bound n.id d
+  -- and it is of the type that it has there
+  pub flagged : (s : Scope) (n : Name) (u : Use) (d : Entity) → IsPlain u → KeepsAll rules (Used s n u) → besides (Used s n u) → entity_of (lookup s.entries n.id) ≡ Some d →
+      lookup s.entries n.id ≡ lookup round n.id → flag_round file bound n.id ≡ flag_of (lookup round n.id)
   -- constants are the file's
   pub constants : (id : ℕ) (v : ℤ) → entity_of (lookup round id) ≡ Some (entity.Constant v) → Reaches code file bound id (entity.Constant v)
 
 abbrev pub means : Context → Entity → What
 means c d = meaning_in c.owner c.captured d
 
-abbrev pub tells : Context → ℕ → What
+abbrev pub tells : Context → ℕ → Resolved
 tells c = told_at c.names
 
 abbrev pub Agree : Context → List Note → Type 0
@@ -179,7 +193,8 @@ in_typed c ty s es is = record { owner = is.owner; captured = is.captured; entri
 pub record IsUsed (c : Context) (s : Scope) (n : Name) (u : Use) : Type 0 where
   pub entity : Entity
   pub is : entity_of (lookup s.entries n.id) ≡ Some entity
-  pub told : tells c n.mark.place ≡ means c entity
+  pub told : (tells c n.mark.place).what ≡ means c entity
+  pub flag : flags_by (tells c) n ≡ flag_of (lookup s.entries n.id)
   pub kind : is_wrong_kind n.id u entity ≡ false
   pub count : has_other_count n.id u entity ≡ false
   pub lawful : KeepsAll rules (Used s n u)
@@ -193,10 +208,12 @@ pub used : (c : Context) (s : Scope) (es : List Entry) (n : Name) (u : Use) (ns 
 used c s es n u ns is h =
     let d = declared-use s n u (h.0.0, tt) in
     let w = told-use c.names s n u d.0 d.1 (h.0.1, tt) in
+    let t = told_is c.names n.mark.place (meaning_in s.owner s.captured d.0) (flag_of (lookup s.entries n.id)) c.ordered w in
     record {
       entity = d.0;
       is = d.1;
-      told = told_is c.names n.mark.place (meaning_in s.owner s.captured d.0) (flag_of (lookup s.entries n.id)) c.ordered w ∙ ap (λ o. meaning_in o s.captured d.0) is.owner ∙ ap (λ xs. meaning_in c.owner xs d.0) is.captured;
+      told = ap (λ (r : Resolved). r.what) t ∙ ap (λ o. meaning_in o s.captured d.0) is.owner ∙ ap (λ xs. meaning_in c.owner xs d.0) is.captured;
+      flag = ap (λ (r : Resolved). r.unsigned) t;
       kind = kept_rule is_wrong_kind s n u d.0 d.1 h.0.0.1.0;
       count = kept_rule has_other_count s n u d.0 d.1 h.0.0.1.1.1.0;
       lawful = h.0.0;
@@ -236,3 +253,31 @@ name c s es st slots n u plain is k al = by_split (split es c.round c.bound n.id
     by_split (inl same) = inl (ap entity_of (sym same) ∙ in_text, found (resources c.side) (means c) slots st.bound (es ++ c.bound) n.id k.entity al (ap entity_of (sym same) ∙ in_text))
     by_split (inr same) =
         by_reach same.1 (c.reaches s n u k.entity plain k.lawful k.besides k.is (ap (λ xs. lookup xs n.id) is.entries ∙ same.0))
+
+-- Where something is declared, nothing is said of it elsewhere.
+pub declared_flag : (elsewhere : Bool) (found : Option Entry) (d : Entity) → entity_of found ≡ Some d → flag_or_of elsewhere found ≡ flag_of found
+declared_flag elsewhere None d is = absurd (cc)
+declared_flag elsewhere (Some e) d is = refl
+
+-- A name is of the type that the list of names tells.
+pub name_flag : (c : Context) (s : Scope) (es : List Entry) (st : State) (slots : List ℤ) (n : Name) (u : Use) → IsPlain u → In c s es → IsUsed c s n u →
+    Aligned (resources c.side) (means c) slots st.bound (es ++ c.bound) → flags_by (tells c) n ≡ flags c.file st n
+name_flag c s es st slots n u plain is k al = k.flag ∙ ap (λ xs. flag_of (lookup xs n.id)) is.entries ∙ sym (seen ∙ by_split (split es c.round c.bound n.id))
+  where
+    elsewhere : Bool
+    elsewhere = flag_or false c.file.names n.id
+
+    seen : flags c.file st n ≡ flag_or_of elsewhere (lookup (es ++ c.bound) n.id)
+    seen = flag_found (resources c.side) (means c) slots st.bound (es ++ c.bound) n.id elsewhere al
+
+    in_text : entity_of (lookup (es ++ c.round) n.id) ≡ Some k.entity
+    in_text = subst (λ xs. entity_of (lookup xs n.id) ≡ Some k.entity) is.entries k.is
+
+    by_split : (lookup (es ++ c.round) n.id ≡ lookup (es ++ c.bound) n.id) ⊎ ((lookup (es ++ c.round) n.id ≡ lookup c.round n.id) × (lookup (es ++ c.bound) n.id ≡ lookup c.bound n.id)) →
+        flag_or_of elsewhere (lookup (es ++ c.bound) n.id) ≡ flag_of (lookup (es ++ c.round) n.id)
+    by_split (inl same) =
+        declared_flag elsewhere (lookup (es ++ c.bound) n.id) k.entity (ap entity_of (sym same) ∙ in_text) ∙ ap flag_of (sym same)
+    by_split (inr same) =
+        ap (flag_or_of elsewhere) same.1
+        ∙ c.flagged s n u k.entity plain k.lawful k.besides k.is (ap (λ xs. lookup xs n.id) is.entries ∙ same.0)
+        ∙ ap flag_of (sym same.0)

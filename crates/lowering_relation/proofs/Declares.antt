@@ -125,11 +125,11 @@ constant_known (Some (entity.Streams n k)) v h = absurd (cc)
 constant_known (Some (entity.Element n d)) v h = absurd (cc)
 constant_known (Some (entity.View n d)) v h = absurd (cc)
 
-pub stored_own : (id : ℕ) (y x : ℤ) (st : State) → stored (declared id (Scalar y) st) id x ≡ declared id (Scalar x) st
-stored_own id y x st =
+pub stored_own : (id : ℕ) (w : Bool) (y x : ℤ) (st : State) → stored (declared id w (Scalar y) st) id x ≡ declared id w (Scalar x) st
+stored_own id w y x st =
     let e : (id == id) ≡ true = eq-eqb id id refl in
-    ap (λ t. stored_in (if t then Some (Scalar y) else find st.bound id) (declared id (Scalar y) st) id x) e
-    ∙ ap (λ t. record st { bound = if t then bind id (Scalar x) st.bound else record { id = id; variable = Scalar y } ∷ assign st.bound id (Scalar x) }) e
+    ap (λ t. stored_in (if t then Some (Scalar y) else find st.bound id) (declared id w (Scalar y) st) id x) e
+    ∙ ap (λ t. record st { bound = if t then bind id w (Scalar x) st.bound else record { id = id; variable = Scalar y; unsigned = w } ∷ assign st.bound id (Scalar x) }) e
 
 form_behind : (s : Scope) (f : Form) → IsBehindFirst (form_entity s f)
 form_behind s form_of.Scalar = scalar_behind s.owner s.slots

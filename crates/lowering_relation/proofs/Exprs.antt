@@ -1,13 +1,15 @@
 -- The code of an expression does what its value says.
 use Rattle.std.proofs.Common.{◌≡◌, ℕ, suc, ◌+◌, ◌==◌, Bool, true, false, not, if◌then◌else◌, List, [], ◌∷◌, ◌++◌, length, Option, Some, None, Ok, ℤ, pos, refl, sym, ap, ◌∙◌, subst, inl, inr, eqb-true}
 use Rattle.std.specs.Int.{w32, cast_signed}
+use Rattle.c_int.specs.Machine.{unary_for, binary_for}
 use Rattle.c_int.specs.Operators.{is_zero, truth}
 use Rattle.c_int.specs.declared.operators.Binary as int_binary
 use Rattle.c_int.specs.declared.operators.Unary.TheVariants as int_unary
 use Rattle.cddf_meaning.specs.Answers.{Answer, and_then, Left, left, with_turns}
-use Rattle.cddf_meaning.specs.File.{variable, or_in_file}
+use Rattle.cddf_meaning.specs.File.{variable, or_in_file, type_in}
 use Rattle.cddf_meaning.specs.Operators.{operator_of_one, operator_of_two, given_by, binary_value, unary_value}
 use Rattle.cddf_meaning.specs.State.{State}
+use Rattle.cddf_meaning.specs.Types.{type_of_two}
 use Rattle.cddf_meaning.specs.Value.{call_value, scalar_value, elements, element_at, as_truth, linked, value, place_value, values, chained}
 use Rattle.cddf_meaning.specs.Variables.{find}
 use Rattle.cddf_meaning.specs.declared.variable.Variable.{Variable}
@@ -35,10 +37,11 @@ use Rattle.os_code.specs.declared.parts.Parts.{Parts}
 use Rattle.os_code.specs.Machine.{Frame}
 use Rattle.os_code.specs.Parts.{instr_at}
 use Rattle.lowering_relation.specs.Alignment.{Resources, Holds, Aligned}
-use Rattle.lowering_relation.specs.Expressions.{Stands, operation_of, operation, HasUnary, operated, worked_out, HasLink, HasExpr, HasPlace, HasLinks, HasArgs}
+use Rattle.lowering_relation.specs.Expressions.{Stands, operation_of, operation, type_by, HasUnary, operated, worked_out, HasLink, HasExpr, HasPlace, HasLinks, HasArgs}
 use Rattle.lowering_relation.specs.Names.{reading, reading_at, calling}
 use Rattle.lowering_relation.proofs.Context.{resources, Kept, Context, means, tells, Agree, agree_first, agree_rest, In, used, Named, name, IsCallable, in_typed}
 use Rattle.lowering_relation.proofs.Names.{means_function, reads, reads_at}
+use Rattle.lowering_relation.proofs.Types.{type_told}
 use Rattle.lowering_relation.proofs.Steps.{Store, at, pushed, onto, pushed_all, Leads, stays, leads_on, Meets, gives, halts, meets_then, push, drop_top, jump, jump_zero, unary_step, binary_step}
 
 -- a state of the machine beside one of the meaning, in a scope of the body
@@ -125,61 +128,65 @@ module _ (code : Parts) (callers : List Frame) where
       subst (λ v. Meets code (at callers p (n.value ∷ stack) m n.turns) (pushed callers (p + 1 + 1) stack m) (Ok (left v n.turns))) (not_not (is_zero n.value))
       (twice_not line p n stack m a b)
 
-  operates_by : (op : Option int_binary.Binary) (line p to : ℕ) (a b : ℤ) (stack : List ℤ) (m : Store) (turns : ℕ) → Stands code (operation_of op line) p to →
-      Meets code (at callers p (b ∷ a ∷ stack) m turns) (pushed callers to stack m) (with_turns turns (given_by op line a b))
-  operates_by None line p to a b stack m turns h =
+  operates_by : (op : Option int_binary.Binary) (line : ℕ) (u v : Bool) (p to : ℕ) (a b : ℤ) (stack : List ℤ) (m : Store) (turns : ℕ) → Stands code (operation_of op line u v) p to →
+      Meets code (at callers p (b ∷ a ∷ stack) m turns) (pushed callers to stack m) (with_turns turns (given_by op line u v a b))
+  operates_by None line u v p to a b stack m turns h =
       gives (left (pos 0) turns) tt
       (leads_on code (drop_top code callers b p (a ∷ stack) m turns h.0)
       (leads_on code (drop_top code callers a (p + 1) stack m turns h.1.0)
       (subst (λ q. Leads code (at callers (p + 1 + 1) stack m turns) (at callers q (pos 0 ∷ stack) m turns)) h.1.1.1 (push code callers (pos 0) (p + 1 + 1) stack m turns h.1.1.0))))
-  operates_by (Some op) line p to a b stack m turns h =
-      ends_at (p + 1) to stack m h.1 (binary_step code callers op line p a b stack m turns h.0)
+  operates_by (Some op) line u v p to a b stack m turns h =
+      ends_at (p + 1) to stack m h.1 (binary_step code callers (binary_for u v op) line p a b stack m turns h.0)
 
-  pub operates : (op : Binary) (line p to : ℕ) (a b : ℤ) (stack : List ℤ) (m : Store) (turns : ℕ) → Stands code (operation op line) p to →
-      Meets code (at callers p (b ∷ a ∷ stack) m turns) (pushed callers to stack m) (with_turns turns (binary_value op line a b))
-  operates op line p to a b stack m turns h = operates_by (operator_of_two op) line p to a b stack m turns h
+  pub operates : (op : Binary) (line : ℕ) (u v : Bool) (p to : ℕ) (a b : ℤ) (stack : List ℤ) (m : Store) (turns : ℕ) → Stands code (operation op line u v) p to →
+      Meets code (at callers p (b ∷ a ∷ stack) m turns) (pushed callers to stack m) (with_turns turns (binary_value op line u v a b))
+  operates op line u v p to a b stack m turns h = operates_by (operator_of_two op) line u v p to a b stack m turns h
 
-  both : (op : Binary) (line : ℕ) (has : ℕ → ℕ → Type 0) (right : ℕ → Answer (Left ℤ)) (a : Left ℤ) (from to : ℕ) (stack : List ℤ) (m : Store) →
+  both : (op : Binary) (line : ℕ) (u v : Bool) (has : ℕ → ℕ → Type 0) (right : ℕ → Answer (Left ℤ)) (a : Left ℤ) (from to : ℕ) (stack : List ℤ) (m : Store) →
       ((st : List ℤ) (turns p q : ℕ) → has p q → Meets code (at callers p st m turns) (pushed callers q st m) (right turns)) →
-      ((end : ℕ) × has from end × Stands code (operation op line) end to) →
-      Meets code (at callers from (a.value ∷ stack) m a.turns) (pushed callers to stack m) (and_then (right a.turns) (λ b. with_turns b.turns (binary_value op line a.value b.value)))
-  both op line has right a from to stack m runs h =
-      meets_then code (λ b. with_turns b.turns (binary_value op line a.value b.value)) refl (runs (a.value ∷ stack) a.turns from h.0 h.1)
-      (λ b u. operates op line h.0 to a.value b.value stack m b.turns h.2)
+      ((end : ℕ) × has from end × Stands code (operation op line u v) end to) →
+      Meets code (at callers from (a.value ∷ stack) m a.turns) (pushed callers to stack m) (and_then (right a.turns) (λ b. with_turns b.turns (binary_value op line u v a.value b.value)))
+  both op line u v has right a from to stack m runs h =
+      meets_then code (λ b. with_turns b.turns (binary_value op line u v a.value b.value)) refl (runs (a.value ∷ stack) a.turns from h.0 h.1)
+      (λ b y. operates op line u v h.0 to a.value b.value stack m b.turns h.2)
 
-  link_runs : (op : Binary) (line : ℕ) (has : ℕ → ℕ → Type 0) (right : ℕ → Answer (Left ℤ)) (a : Left ℤ) (from to : ℕ) (stack : List ℤ) (m : Store) →
+  link_runs : (op : Binary) (line : ℕ) (u v : Bool) (has : ℕ → ℕ → Type 0) (right : ℕ → Answer (Left ℤ)) (a : Left ℤ) (from to : ℕ) (stack : List ℤ) (m : Store) →
       ((st : List ℤ) (turns p q : ℕ) → has p q → Meets code (at callers p st m turns) (pushed callers q st m) (right turns)) →
-      HasLink code op line has from to →
-      Meets code (at callers from (a.value ∷ stack) m a.turns) (pushed callers to stack m) (linked op line a right)
-  link_runs binary.And line has right a from to stack m runs h =
+      HasLink code op line u v has from to →
+      Meets code (at callers from (a.value ∷ stack) m a.turns) (pushed callers to stack m) (linked op line u v a right)
+  link_runs binary.And line u v has right a from to stack m runs h =
       let end = h.0 in
       jump_zero code callers from (end + 1 + 1 + 1) a.value stack m a.turns (pushed callers to stack m) (Ok (left (pos 0) a.turns)) (and_then (right a.turns) as_truth) h.1
       (ends_at (end + 1 + 1 + 1 + 1) to stack m h.3.1.1.1.1 (gives (left (pos 0) a.turns) tt (push code callers (pos 0) (end + 1 + 1 + 1) stack m a.turns h.3.1.1.1.0)))
       (meets_then code as_truth refl (runs stack a.turns (from + 1) end h.2)
-      (λ b u. jumps_on (end + 1 + 1) to stack m h.3.1.1.0 (makes_truth line end b stack m h.3.0 h.3.1.0)))
-  link_runs binary.Or line has right a from to stack m runs h =
+      (λ b y. jumps_on (end + 1 + 1) to stack m h.3.1.1.0 (makes_truth line end b stack m h.3.0 h.3.1.0)))
+  link_runs binary.Or line u v has right a from to stack m runs h =
       let end = h.0 in
       jump_zero code callers from (from + 1 + 1 + 1) a.value stack m a.turns (pushed callers to stack m) (and_then (right a.turns) as_truth) (Ok (left (pos 1) a.turns)) h.1
       (meets_then code as_truth refl (runs stack a.turns (from + 1 + 1 + 1) end h.3)
-      (λ b u. ends_at (end + 1 + 1) to stack m h.4.1.1 (makes_truth line end b stack m h.4.0 h.4.1.0)))
+      (λ b y. ends_at (end + 1 + 1) to stack m h.4.1.1 (makes_truth line end b stack m h.4.0 h.4.1.0)))
       (jumps_on (from + 1 + 1) to stack m h.2.1.0 (gives (left (pos 1) a.turns) tt (push code callers (pos 1) (from + 1) stack m a.turns h.2.0)))
-  link_runs op line has right a from to stack m runs h = both op line has right a from to stack m runs h
+  link_runs op line u v has right a from to stack m runs h = both op line u v has right a from to stack m runs h
 
-  unary_runs : (op : tree_unary.Unary) (line : ℕ) (e : tree.ExprTree) (has : ℕ → ℕ → Type 0) (v : Answer (Left ℤ)) (from to : ℕ) (stack : List ℤ) (m : Store) (turns : ℕ) →
-      ((n : ℕ) → e ≡ tree.Number n → v ≡ Ok (left (pos n) turns)) →
-      ((q : ℕ) → has from q → Meets code (at callers from stack m turns) (pushed callers q stack m) v) → HasUnary code op line e has from to →
-      Meets code (at callers from stack m turns) (pushed callers to stack m) (and_then v (λ n. with_turns n.turns (unary_value op line n.value)))
-  unary_runs op line e has v from to stack m turns number runs (operated end h is) =
-      meets_then code (λ n. with_turns n.turns (unary_value op line n.value)) refl (runs end h)
-      (λ n u. unary_step code callers (operator_of_one op) line end n.value stack m n.turns is)
-  unary_runs op line e has v from to stack m turns number runs (worked_out {n = n} {v = w} is given at_push) =
-      subst (λ a. Meets code (at callers from stack m turns) (pushed callers (from + 1) stack m) (and_then a (λ n. with_turns n.turns (unary_value op line n.value)))) (sym (number n is))
-      (subst (λ a. Meets code (at callers from stack m turns) (pushed callers (from + 1) stack m) (with_turns turns a)) (sym given)
+  unary_runs : (op : tree_unary.Unary) (line : ℕ) (unsigned : Bool) (e : tree.ExprTree) (has : ℕ → ℕ → Type 0) (v : Answer (Left ℤ)) (from to : ℕ) (stack : List ℤ) (m : Store) (turns : ℕ) →
+      ((n : ℕ) → e ≡ tree.Number n → (v ≡ Ok (left (pos n) turns)) × (unsigned ≡ false)) →
+      ((q : ℕ) → has from q → Meets code (at callers from stack m turns) (pushed callers q stack m) v) → HasUnary code op line unsigned e has from to →
+      Meets code (at callers from stack m turns) (pushed callers to stack m) (and_then v (λ n. with_turns n.turns (unary_value op line unsigned n.value)))
+  unary_runs op line unsigned e has v from to stack m turns number runs (operated end h is) =
+      meets_then code (λ n. with_turns n.turns (unary_value op line unsigned n.value)) refl (runs end h)
+      (λ n u. unary_step code callers (unary_for unsigned (operator_of_one op)) line end n.value stack m n.turns is)
+  unary_runs op line unsigned e has v from to stack m turns number runs (worked_out {n = n} {v = w} is given at_push) =
+      subst (λ a. Meets code (at callers from stack m turns) (pushed callers (from + 1) stack m) (and_then a (λ n. with_turns n.turns (unary_value op line unsigned n.value)))) (sym (number n is).0)
+      (subst (λ a. Meets code (at callers from stack m turns) (pushed callers (from + 1) stack m) (with_turns turns a)) (sym (ap (λ t. unary_value op line t (pos n)) (number n is).1 ∙ given))
       (gives (left w turns) tt (push code callers w from stack m turns at_push)))
 
 module _ (c : Context) (callers : List Frame) (s : Scope) (es : List Entry) (st : State) (m : Store) (ready : Ready c s es st m) where
-  number_value : (e : tree.ExprTree) (turns n : ℕ) → e ≡ tree.Number n → value c.file e st turns ≡ Ok (left (pos n) turns)
-  number_value e turns n is = ap (λ x. value c.file x st turns) is
+  number_value : (e : tree.ExprTree) (turns n : ℕ) → e ≡ tree.Number n → (value c.file e st turns ≡ Ok (left (pos n) turns)) × (type_in c.file st e ≡ false)
+  number_value e turns n is = (ap (λ x. value c.file x st turns) is, ap (type_in c.file st) is)
+
+  -- the types of operands, as the list of names tells them
+  type_of_operand : (e : tree.ExprTree) → Agree c (expr_notes s e) → type_by (tells c) e ≡ type_in c.file st e
+  type_of_operand e agree = type_told c s es st m.slots ready.scope ready.aligned e agree
 
   mutual
     pub expr_runs : (e : tree.ExprTree) (from to : ℕ) (stack : List ℤ) (turns : ℕ) → Agree c (expr_notes s e) → HasExpr c.code (tells c) e from to →
@@ -199,12 +206,14 @@ module _ (c : Context) (callers : List Frame) (s : Scope) (es : List Entry) (st 
         (ends_at c.code callers (h.0 + 1 + 1) to stack m h.2.1.1 (call.runs callers ns.value h.0 stack m ns.turns len h.2.0 calls)))
     expr_runs (tree.Paren e) from to stack turns agree h = expr_runs e from to stack turns agree h
     expr_runs (tree.Unary op mark e) from to stack turns agree h =
-        unary_runs c.code callers op mark.line e (HasExpr c.code (tells c) e) (value c.file e st turns) from to stack m turns (number_value e turns)
-        (λ q has. expr_runs e from q stack turns agree has) h
+        unary_runs c.code callers op mark.line (type_in c.file st e) e (HasExpr c.code (tells c) e) (value c.file e st turns) from to stack m turns (number_value e turns)
+        (λ q has. expr_runs e from q stack turns agree has) (subst (λ t. HasUnary c.code op mark.line t e (HasExpr c.code (tells c) e) from to) (type_of_operand e agree) h)
     expr_runs (tree.Chain l first links) from to stack turns agree h =
-        meets_then c.code (chained c.file links st) refl
-        (expr_runs first from h.0 stack turns (agree_first c (expr_notes s first) (links_notes s links) agree) h.1)
-        (λ n u. links_run links h.0 to stack n (agree_rest c (expr_notes s first) (links_notes s links) agree) h.2)
+        let front = agree_first c (expr_notes s first) (links_notes s links) agree in
+        meets_then c.code (chained c.file links st (type_in c.file st first)) refl
+        (expr_runs first from h.0 stack turns front h.1)
+        (λ n u. links_run links (type_in c.file st first) h.0 to stack n (agree_rest c (expr_notes s first) (links_notes s links) agree)
+        (subst (λ t. HasLinks c.code (tells c) links t h.0 to) (type_of_operand first front) h.2))
     expr_runs (tree.Choice x a b) from to stack turns agree h =
         let front = agree_first c (expr_notes s x ++ expr_notes s a) (expr_notes s b) agree in
         meets_then c.code (λ n. if is_zero n.value then value c.file b st n.turns else value c.file a st n.turns) refl
@@ -227,14 +236,18 @@ module _ (c : Context) (callers : List Frame) (s : Scope) (es : List Entry) (st 
         (reads_at c callers es st m n k.entity open_mark.line h.0 i.value stack i.turns (name c s es st m.slots n (usage.Place role.Value shape.Indexed) tt ready.scope k ready.aligned) ready.kept
         (h.2.0 ∙ ap (λ w. Some (reading_at w open_mark.line)) k.told)))
 
-    links_run : (ls : tree.Links) (from to : ℕ) (stack : List ℤ) (n : Left ℤ) → Agree c (links_notes s ls) → HasLinks c.code (tells c) ls from to →
-        Meets c.code (at callers from (n.value ∷ stack) m n.turns) (pushed callers to stack m) (chained c.file ls st n)
-    links_run tree.no_links from to stack n agree h = ends_at c.code callers from to stack m h (gives n tt stays)
-    links_run (tree.link op mark e rest) from to stack n agree h =
-        meets_then c.code (chained c.file rest st) refl
-        (link_runs c.code callers op mark.line (HasExpr c.code (tells c) e) (value c.file e st) n from h.0 stack m
-        (λ below turns p q has. expr_runs e p q below turns (agree_first c (expr_notes s e) (links_notes s rest) agree) has) h.1)
-        (λ k u. links_run rest h.0 to stack k (agree_rest c (expr_notes s e) (links_notes s rest) agree) h.2)
+    links_run : (ls : tree.Links) (u : Bool) (from to : ℕ) (stack : List ℤ) (n : Left ℤ) → Agree c (links_notes s ls) → HasLinks c.code (tells c) ls u from to →
+        Meets c.code (at callers from (n.value ∷ stack) m n.turns) (pushed callers to stack m) (chained c.file ls st u n)
+    links_run tree.no_links u from to stack n agree h = ends_at c.code callers from to stack m h (gives n tt stays)
+    links_run (tree.link op mark e rest) u from to stack n agree h =
+        let front = agree_first c (expr_notes s e) (links_notes s rest) agree in
+        let v = type_in c.file st e in
+        let same = type_of_operand e front in
+        meets_then c.code (chained c.file rest st (type_of_two op u v)) refl
+        (link_runs c.code callers op mark.line u v (HasExpr c.code (tells c) e) (value c.file e st) n from h.0 stack m
+        (λ below turns p q has. expr_runs e p q below turns front has) (subst (λ t. HasLink c.code op mark.line u t (HasExpr c.code (tells c) e) from h.0) same h.1))
+        (λ k y. links_run rest (type_of_two op u v) h.0 to stack k (agree_rest c (expr_notes s e) (links_notes s rest) agree)
+        (subst (λ t. HasLinks c.code (tells c) rest (type_of_two op u t) h.0 to) same h.2))
 
     args_run : (arguments : tree.Args) (from to : ℕ) (stack : List ℤ) (turns : ℕ) → Agree c (args_notes s arguments) → HasArgs c.code (tells c) arguments from to →
         Meets c.code (at callers from stack m turns) (pushed_all callers (count_args arguments) to stack m) (values c.file arguments st turns)

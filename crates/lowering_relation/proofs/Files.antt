@@ -6,12 +6,12 @@ use Rattle.cddf_meaning.specs.File.{File}
 use Rattle.cddf_meaning.specs.Functions.{call_function, with_item, empty_file}
 use Rattle.cddf_meaning.specs.Moves.{CallsFall}
 use Rattle.cddf_meaning.specs.Program.{Main, main_at, main_behind}
-use Rattle.cddf_meaning.specs.Variables.{bind, find}
+use Rattle.cddf_meaning.specs.Variables.{bind, find, flag_or}
 use Rattle.cddf_meaning.specs.declared.variable.Variable.{Variable}
 use Rattle.cddf_meaning.specs.declared.variable.Variable.TheVariants as variable
 use Rattle.cddf_meaning.proofs.Files.{item-falls}
 use Rattle.os_ast.specs.Leveled.{AreAll, cons, IsItem, AreStmts}
-use Rattle.os_ast.specs.Names.{Scope, lookup, entity_of, enter, in_unit, main_id, constant_value}
+use Rattle.os_ast.specs.Names.{Scope, lookup, entity_of, flag_of, enter, in_unit, main_id, constant_value}
 use Rattle.os_ast.specs.Notes.Kinds.{Note, Global}
 use Rattle.os_ast.specs.Notes.Programs.{owner_of, param_list, round_body, after_params, params_notes, after_item, after_items, after_function, item_notes, items_notes, in_body}
 use Rattle.os_ast.specs.Notes.Programs as programs
@@ -20,7 +20,6 @@ use Rattle.os_ast.specs.Trees as tree
 use Rattle.os_ast.specs.Parts.{is_in}
 use Rattle.os_ast.specs.Types.{is_unsigned}
 use Rattle.os_ast.specs.Violations.{captures, is_int, is_empty, is_main, has_main}
-use Rattle.os_ast.specs.declared.expr.Name.{Name}
 use Rattle.os_ast.specs.declared.names.Entity.{Entity}
 use Rattle.os_ast.specs.declared.names.Entity.TheVariants as entity
 use Rattle.os_ast.specs.declared.names.Entry.{Entry}
@@ -74,13 +73,19 @@ known_on code file other v (entity.View item x) le same h = h
 -- with one more declaration
 pub fits_more : (code : Parts) (file other : File) (es : List Entry) (e : Entry) (u : Variable) → FileFits code file es → file.count ≤ other.count →
     ((place : ℕ) (args : List ℤ) (turns : ℕ) → place < file.count → other.calls place args turns ≡ file.calls place args turns) →
-    other.names ≡ bind e.id u file.names → Known code other (Some u) e.entity → FileFits code other (e ∷ es)
-fits_more code file other es e u fits le same named new id d is =
-    subst (λ ns. Known code other (find ns id) d) (sym named) (by_case (e.id == id) is)
+    other.names ≡ bind e.id e.unsigned u file.names → Known code other (Some u) e.entity → FileFits code other (e ∷ es)
+fits_more code file other es e u fits le same named new = record {
+  known = λ id d is. subst (λ ns. Known code other (find ns id) d) (sym named) (by_case id d (e.id == id) is);
+  flag = λ id. ap (λ ns. flag_or false ns id) named ∙ flag_by id (e.id == id) (fits.flag id);
+}
   where
-    by_case : (t : Bool) → entity_of (if t then Some e else lookup es id) ≡ Some d → Known code other (if t then Some u else find file.names id) d
-    by_case true h = let x : e.entity ≡ d = cc in subst (Known code other (Some u)) x new
-    by_case false h = known_on code file other (find file.names id) d le same (fits id d h)
+    flag_by : (id : ℕ) (t : Bool) → flag_or false file.names id ≡ flag_of (lookup es id) → (if t then e.unsigned else flag_or false file.names id) ≡ flag_of (if t then Some e else lookup es id)
+    flag_by id true h = refl
+    flag_by id false h = h
+
+    by_case : (id : ℕ) (d : Entity) (t : Bool) → entity_of (if t then Some e else lookup es id) ≡ Some d → Known code other (if t then Some u else find file.names id) d
+    by_case id d true h = let x : e.entity ≡ d = cc in subst (Known code other (Some u)) x new
+    by_case id d false h = known_on code file other (find file.names id) d le same (fits.known id d h)
 
 -- the file declares constants and functions alone
 abbrev pub IsOfFile : Entity → Type 0
@@ -296,4 +301,4 @@ module _ (code : Parts) (rs : List Resolved) (ordered : InOrder rs) (tasks : Lis
       by_case false e unit found2 go = go e unit found2
 
   pub nothing_fits : FileFits code empty_file []
-  nothing_fits id d is = absurd (cc)
+  nothing_fits = record { known = λ id d is. absurd (cc); flag = λ id. refl }

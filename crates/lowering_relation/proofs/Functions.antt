@@ -1,5 +1,5 @@
 -- The code of a function does what a call of it gives.
-use Rattle.std.proofs.Common.{◌≡◌, ℕ, zero, suc, ◌+◌, ◌-◌, ◌<◌, ◌≤◌, true, if◌then◌else◌, List, [], ◌∷◌, ◌++◌, length, take, drop, reverse, replicate, Option, Some, ℤ, pos, refl, sym, ap, ◌∙◌, subst, inr, arith, append_assoc, length-append}
+use Rattle.std.proofs.Common.{◌≡◌, ℕ, zero, suc, ◌+◌, ◌-◌, ◌<◌, ◌≤◌, true, false, if◌then◌else◌, List, [], ◌∷◌, ◌++◌, length, take, drop, reverse, replicate, Option, Some, ℤ, pos, refl, sym, ap, ◌∙◌, subst, inr, arith, append_assoc, length-append}
 use Rattle.std.proofs.lemmas.Bool.{le-leb}
 use Rattle.std.proofs.lemmas.Grind.{reverse_onto}
 use Rattle.std.proofs.lemmas.List.{length-reverse, length-replicate, reverse-reverse, take-append-le, drop-append-le, take_all, drop_all, get_or_append_left}
@@ -10,20 +10,19 @@ use Rattle.cddf_meaning.specs.Flow.{Ran}
 use Rattle.cddf_meaning.specs.Functions.{returned, bind_params, call_function}
 use Rattle.cddf_meaning.specs.Moves.{CallsFall}
 use Rattle.cddf_meaning.specs.State.{state_of}
-use Rattle.cddf_meaning.specs.Variables.{bind, find}
+use Rattle.cddf_meaning.specs.Variables.{bind, find, flag_or}
 use Rattle.cddf_meaning.specs.declared.flow.Flow.TheVariants.{GoesOn, Breaks, Continues, Returns}
 use Rattle.cddf_meaning.specs.declared.variable.Binding.{Binding}
 use Rattle.cddf_meaning.specs.declared.variable.Variable.{Variable}
 use Rattle.cddf_meaning.specs.declared.variable.Variable.TheVariants as variable
 use Rattle.os_ast.specs.Leveled.{AreStmts}
 use Rattle.os_ast.specs.Meanings.{meaning_in}
-use Rattle.os_ast.specs.Names.{Scope, lookup, entity_of}
+use Rattle.os_ast.specs.Names.{Scope, lookup, entity_of, flag_of}
 use Rattle.os_ast.specs.Notes.Declarators.{scalar_entity}
 use Rattle.os_ast.specs.Notes.Programs.{param_list, after_param, after_params}
 use Rattle.os_ast.specs.Notes.Statements.{after_stmts, stmts_notes}
 use Rattle.os_ast.specs.Trees as tree
 use Rattle.os_ast.specs.Types.{is_unsigned}
-use Rattle.os_ast.specs.declared.expr.Name.{Name}
 use Rattle.os_ast.specs.declared.names.Entity.{Entity}
 use Rattle.os_ast.specs.declared.names.Entity.TheVariants as entity
 use Rattle.os_ast.specs.declared.names.Entry.{Entry}
@@ -111,9 +110,9 @@ module _ (c : Context) where
   params_aligned [] vs slots s es bound own len same al = al
   params_aligned (n ∷ ns) [] slots s es bound own len same al = absurd (omega (arith, len))
   params_aligned (n ∷ ns) (v ∷ vs) slots s es bound own len same al =
-      params_aligned ns vs slots (after_param s n) (param_entry s n ∷ es) (bind n.name.id (variable.Scalar v) bound) own (omega (arith, len))
+      params_aligned ns vs slots (after_param s n) (param_entry s n ∷ es) (bind n.name.id (is_unsigned n.ty) (variable.Scalar v) bound) own (omega (arith, len))
       (λ i lt. let e : s.slots + 1 + i ≡ s.slots + suc i = omega arith in ap (λ k. slot_at slots k) e ∙ same (suc i) (omega (arith, lt)))
-      (refl, (s.slots, param_means s own, let z : s.slots ≡ s.slots + 0 = omega arith in ap (λ k. slot_at slots k) z ∙ same 0 (omega arith)), al)
+      (refl, refl, (s.slots, param_means s own, let z : s.slots ≡ s.slots + 0 = omega arith in ap (λ k. slot_at slots k) z ∙ same 0 (omega arith)), al)
 
 -- What the file has for each declaration in scope in it. A function stands before the place where it is known.
 abbrev pub Known : Parts → File → Option Variable → Entity → Type 0
@@ -134,8 +133,10 @@ known_has code file v (entity.Streams first count) h = h
 known_has code file v (entity.Element item x) h = h
 known_has code file v (entity.View item x) h = h
 
-abbrev pub FileFits : Parts → File → List Entry → Type 0
-FileFits code file es = (id : ℕ) (d : Entity) → entity_of (lookup es id) ≡ Some d → Known code file (find file.names id) d
+pub record FileFits (code : Parts) (file : File) (es : List Entry) : Type 0 where
+  pub known : (id : ℕ) (d : Entity) → entity_of (lookup es id) ≡ Some d → Known code file (find file.names id) d
+  -- it is of the same type
+  pub flag : (id : ℕ) → flag_or false file.names id ≡ flag_of (lookup es id)
 
 module _ (code : Parts) (file : File) (falls : CallsFall file) (names : List Resolved) (ordered : InOrder names) (es : List Entry) (fits : FileFits code file es) where
   -- a function's body, called where these windows, activations and skips are
@@ -153,8 +154,9 @@ module _ (code : Parts) (file : File) (falls : CallsFall file) (names : List Res
     round = es;
     bound = [];
     besides = λ n. ⊤;
-    reaches = λ s n u d plain lawful b is same. inr (refl, known_has code file (find file.names n.id) d (fits n.id d (ap entity_of (sym same) ∙ is)));
-    constants = λ id v is. inr (refl, known_has code file (find file.names id) (entity.Constant v) (fits id (entity.Constant v) is));
+    reaches = λ s n u d plain lawful b is same. inr (refl, known_has code file (find file.names n.id) d (fits.known n.id d (ap entity_of (sym same) ∙ is)));
+    flagged = λ s n u d plain lawful b is same. fits.flag n.id;
+    constants = λ id v is. inr (refl, known_has code file (find file.names id) (entity.Constant v) (fits.known id (entity.Constant v) is));
   }
 
   module _ (callers : List Frame) (m : Store) (p : ℕ) (stack : List ℤ) where

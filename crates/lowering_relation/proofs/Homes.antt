@@ -9,6 +9,7 @@ use Rattle.os_ast.specs.Parts.{count_items}
 use Rattle.os_ast.specs.declared.names.Role.TheVariants as role
 use Rattle.os_ast.specs.declared.names.Use.{Use}
 use Rattle.os_ast.specs.declared.names.Use.TheVariants as usage
+use Rattle.os_ast.specs.declared.names.Resolved.{Resolved}
 use Rattle.os_ast.specs.declared.names.What.{What}
 use Rattle.os_ast.specs.declared.names.What.TheVariants as what
 use Rattle.os_code.specs.Effects.{operands_of, height_after, jump_of, needs_turn, stands_in}
@@ -34,7 +35,7 @@ pub record Home : Type 0 where
   pub last : ℕ
   pub slots : ℕ
 
-abbrev pub tells : Home → ℕ → What
+abbrev pub tells : Home → ℕ → Resolved
 tells h = h.body.tells
 
 abbrev pub HasItem : Home → ℕ → Type 0
@@ -121,8 +122,8 @@ FitsUse h (usage.Joined s) w = Fits h w
 FitsUse h usage.Private w = ⊤
 
 abbrev pub FitsNote : Home → Note → Type 0
-FitsNote h (Used s n u) = FitsUse h u (tells h n.mark.place)
-FitsNote h (Declared s d) = (tells h d.name.mark.place ≡ meaning (declared_entity s d)) × Fits h (meaning (declared_entity s d))
+FitsNote h (Used s n u) = FitsUse h u (tells h n.mark.place).what
+FitsNote h (Declared s d) = ((tells h d.name.mark.place).what ≡ meaning (declared_entity s d)) × Fits h (meaning (declared_entity s d))
 FitsNote h (Pragma s m) = h.kind ≡ Main
 FitsNote h (Task s m items captured) = (h.kind ≡ Main) × (items ≤ 8) × (length captured ≤ 64) × All (λ slot. slot < h.slots) (slots_of captured)
 FitsNote h _ = ⊤

@@ -155,8 +155,8 @@ module _ (code : Parts) (file : File) (falls : CallsFall file) (names : List Res
       (n.value, ap (λ v. if is_equal v (pos horizon) then Some horizon else None) w.0 ∙ ap (λ t. if t then Some horizon else None) (sym (equal_pos b horizon) ∙ eq-eqb b horizon w.1) ∙ ap Some (sym w.1), w.1)
       (subst (λ q. Leads code (at callers (p + 1) (n.value ∷ stack) m n.turns) (at callers q (n.value ∷ stack) m n.turns)) there stays))
 
-  burst_runs : (d : Direction) (n : Name) (e : Entity) (b : Option tree.IndexTree) (from to : ℕ) (stack : List ℤ) (turns : ℕ) → tells c n.mark.place ≡ means c e → Joins n e (shape_of b) → Agree c (index_notes s b) →
-      HasBurst code (tells c) d (tells c n.mark.place) b from to →
+  burst_runs : (d : Direction) (n : Name) (e : Entity) (b : Option tree.IndexTree) (from to : ℕ) (stack : List ℤ) (turns : ℕ) → (tells c n.mark.place).what ≡ means c e → Joins n e (shape_of b) → Agree c (index_notes s b) →
+      HasBurst code (tells c) d (tells c n.mark.place).what b from to →
       Meets code (at callers from stack m turns) (bursted d (horizon_of (find st.bound n.id)) to stack) (burst file d (horizon_of (find st.bound n.id)) b st turns)
   burst_runs d n e None from to stack turns told (scalar slot is mean) agree h =
       subst (λ k. Meets code (at callers from stack m turns) (bursted d k to stack) (burst file d k None st turns)) (sym (ap horizon_of is))
@@ -167,8 +167,8 @@ module _ (code : Parts) (file : File) (falls : CallsFall file) (names : List Res
       (expr_runs c callers s es st m ready i.value from h.0 stack turns agree h.1)
       (λ x u. checks_burst d slot i.mark.line horizon h.0 to x stack (h.2.0 ∙ ap (λ w. Some (bursting d w i.mark.line)) (told ∙ mean)) h.2.1 holds))
 
-  horizon_is : (n : Name) (e : Entity) (b : Option tree.IndexTree) → tells c n.mark.place ≡ means c e → Joins n e (shape_of b) →
-      machine.horizon_of m.slots (slot_of (tells c n.mark.place)) ≡ Some (horizon_of (find st.bound n.id))
+  horizon_is : (n : Name) (e : Entity) (b : Option tree.IndexTree) → (tells c n.mark.place).what ≡ means c e → Joins n e (shape_of b) →
+      machine.horizon_of m.slots (slot_of (tells c n.mark.place).what) ≡ Some (horizon_of (find st.bound n.id))
   horizon_is n e None told (scalar slot is mean) = ap (λ w. machine.horizon_of m.slots (slot_of w)) (told ∙ mean) ∙ ap Some (sym (ap horizon_of is))
   horizon_is n e (Some i) told (window slot horizon is mean holds lo hi) =
       ap (λ w. machine.horizon_of m.slots (slot_of w)) (told ∙ mean) ∙ ap size_of holds ∙ size_is horizon lo hi ∙ ap Some (sym (ap horizon_of is))

@@ -69,7 +69,7 @@ module _ (h : Home) where
     declared_lays false (Some i) fits sized valued has = window_lays s.owner i (size_of s i.value) fits sized has
 
   declarator_lays : (d : tree.DeclaratorTree) (s : Scope) (from to : ℕ) → AllFit h (declarator_notes s d) →
-      HasDeclared h.code (tells h) (tells h d.name.mark.place) d from to → Lays h ⊤ from 0 to 0
+      HasDeclared h.code (tells h) (tells h d.name.mark.place).what d from to → Lays h ⊤ from 0 to 0
   declarator_lays d s from to fit has =
       declared_lays s d.name d.first from to d.stream d.size fit.0.1
       (fit_first h (sized_notes s d.stream d.size) (value_notes (after_declarator s d) d.first) fit.1)

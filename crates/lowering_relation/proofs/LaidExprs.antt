@@ -1,9 +1,11 @@
 -- The code of an expression leaves one operand more.
-use Rattle.std.proofs.Common.{◌≡◌, ℕ, suc, ◌+◌, ◌<◌, ◌≤◌, [], ◌∷◌, ◌++◌, Some, refl, subst, inl, arith, pos}
+use Rattle.std.proofs.Common.{◌≡◌, ℕ, suc, ◌+◌, ◌<◌, ◌≤◌, Bool, [], ◌∷◌, ◌++◌, Some, refl, subst, inl, arith, pos}
 use Rattle.std.specs.Int.{w32, cast_signed}
 use Rattle.std.specs.Prelude.{⊤}
+use Rattle.c_int.specs.Machine.{unary_for}
 use Rattle.c_int.specs.declared.operators.Unary.TheVariants as int_unary
 use Rattle.cddf_meaning.specs.Operators.{operator_of_one}
+use Rattle.cddf_meaning.specs.Types.{type_of_two}
 use Rattle.os_ast.specs.Names.{Scope}
 use Rattle.os_ast.specs.Notes.Expressions.{count_args, expr_notes, place_notes, args_notes, links_notes}
 use Rattle.os_ast.specs.Trees as tree
@@ -15,7 +17,7 @@ use Rattle.os_ast.specs.declared.names.What.{What}
 use Rattle.os_ast.specs.declared.names.What.TheVariants as what
 use Rattle.os_code.specs.Parts.{instr_at}
 use Rattle.os_code.specs.declared.instr.Instr.TheVariants as instr
-use Rattle.lowering_relation.specs.Expressions.{Stands, operation, HasUnary, operated, worked_out, HasLink, HasExpr, HasPlace, HasLinks, HasArgs}
+use Rattle.lowering_relation.specs.Expressions.{Stands, operation, type_by, HasUnary, operated, worked_out, HasLink, HasExpr, HasPlace, HasLinks, HasArgs}
 use Rattle.lowering_relation.specs.Names.{reading, reading_at, calling}
 use Rattle.lowering_relation.proofs.Heights.{height_at}
 use Rattle.lowering_relation.proofs.Homes.{Home, tells, Unturned, IsTarget, IsCalled, AllFit}
@@ -35,8 +37,8 @@ module _ (h : Home) where
       straight h (instr.Unary int_unary.Not line ∷ instr.Unary int_unary.Not line ∷ []) from (from + 1 + 1) (suc x) (suc x) (a, (b, refl))
       ((refl, refl, refl, refl), omega arith, tt, ((refl, refl, refl, refl), omega arith, tt, omega arith))
 
-  module _ (line : ℕ) (right : ℕ → ℕ → Type 0) (lays : (x p q : ℕ) → right p q → Lays h ⊤ p x q (suc x)) where
-    lays_and : (from to x : ℕ) → HasLink h.code binary.And line right from to → Lays h ⊤ from (suc x) to (suc x)
+  module _ (line : ℕ) (u v : Bool) (right : ℕ → ℕ → Type 0) (lays : (x p q : ℕ) → right p q → Lays h ⊤ p x q (suc x)) where
+    lays_and : (from to x : ℕ) → HasLink h.code binary.And line u v right from to → Lays h ⊤ from (suc x) to (suc x)
     lays_and from to x s =
         let end = s.0 in
         let first = lays x (from + 1) end s.2 in
@@ -51,7 +53,7 @@ module _ (h : Home) where
         (jump.height (both.height (first.height f))) (jump.unturned (omega arith))) in
         closed h (then_lays h zero (then_lays h (free h first) (then_lays h (free h both) (then_lays h jump (free h last)))))
 
-    lays_or : (from to x : ℕ) → HasLink h.code binary.Or line right from to → Lays h ⊤ from (suc x) to (suc x)
+    lays_or : (from to x : ℕ) → HasLink h.code binary.Or line u v right from to → Lays h ⊤ from (suc x) to (suc x)
     lays_or from to x s =
         let end = s.0 in
         let push = straight h (instr.Push (pos 1) ∷ []) (from + 1) (from + 1 + 1) x (suc x) (s.2.0, refl) ((refl, refl, refl, refl), omega arith, tt, omega arith) in
@@ -66,27 +68,27 @@ module _ (h : Home) where
         (jump.height (push.height f)) (jump.unturned (omega arith))) in
         closed h (then_lays h zero (then_lays h (free h push) (then_lays h jump (then_lays h (free h first) (free h last)))))
 
-    lays_operation : (op : Binary) (from to x : ℕ) → (end : ℕ) × right from end × Stands h.code (operation op line) end to → Lays h ⊤ from (suc x) to (suc x)
+    lays_operation : (op : Binary) (from to x : ℕ) → (end : ℕ) × right from end × Stands h.code (operation op line u v) end to → Lays h ⊤ from (suc x) to (suc x)
     lays_operation op from to x s =
-        then_lays h (lays (suc x) from s.0 s.1) (straight h (operation op line) s.0 to (suc (suc x)) (suc x) s.2 (rises_operation h op line x))
+        then_lays h (lays (suc x) from s.0 s.1) (straight h (operation op line u v) s.0 to (suc (suc x)) (suc x) s.2 (rises_operation h op line u v x))
 
-    lays_link : (op : Binary) (from to x : ℕ) → HasLink h.code op line right from to → Lays h ⊤ from (suc x) to (suc x)
+    lays_link : (op : Binary) (from to x : ℕ) → HasLink h.code op line u v right from to → Lays h ⊤ from (suc x) to (suc x)
     lays_link binary.And from to x s = lays_and from to x s
     lays_link binary.Or from to x s = lays_or from to x s
     lays_link op from to x s = lays_operation op from to x s
 
-  lays_unary : (op : tree_unary.Unary) (line : ℕ) (e : tree.ExprTree) (has : ℕ → ℕ → Type 0) (from to x : ℕ) →
+  lays_unary : (op : tree_unary.Unary) (line : ℕ) (u : Bool) (e : tree.ExprTree) (has : ℕ → ℕ → Type 0) (from to x : ℕ) →
       ((q : ℕ) → has from q → Lays h ⊤ from x q (suc x)) →
-      HasUnary h.code op line e has from to → Lays h ⊤ from x to (suc x)
-  lays_unary op line e has from to x lays (operated end s is) =
-      then_lays h (lays end s) (straight h (instr.Unary (operator_of_one op) line ∷ []) end (end + 1) (suc x) (suc x) (is, refl) ((refl, refl, refl, refl), omega arith, tt, omega arith))
-  lays_unary op line e has from to x lays (worked_out {v = v} same given is) =
+      HasUnary h.code op line u e has from to → Lays h ⊤ from x to (suc x)
+  lays_unary op line u e has from to x lays (operated end s is) =
+      then_lays h (lays end s) (straight h (instr.Unary (unary_for u (operator_of_one op)) line ∷ []) end (end + 1) (suc x) (suc x) (is, refl) ((refl, refl, refl, refl), omega arith, tt, omega arith))
+  lays_unary op line u e has from to x lays (worked_out {v = v} same given is) =
       straight h (instr.Push v ∷ []) from (from + 1) x (suc x) (is, refl) ((refl, refl, refl, refl), omega arith, tt, omega arith)
 
-  unary_some : (op : tree_unary.Unary) (line : ℕ) (e : tree.ExprTree) (has : ℕ → ℕ → Type 0) (from to : ℕ) → ((q : ℕ) → has from q → from < q) →
-      HasUnary h.code op line e has from to → from < to
-  unary_some op line e has from to some (operated end s is) = omega (arith, some end s)
-  unary_some op line e has from to some (worked_out same given is) = omega arith
+  unary_some : (op : tree_unary.Unary) (line : ℕ) (u : Bool) (e : tree.ExprTree) (has : ℕ → ℕ → Type 0) (from to : ℕ) → ((q : ℕ) → has from q → from < q) →
+      HasUnary h.code op line u e has from to → from < to
+  unary_some op line u e has from to some (operated end s is) = omega (arith, some end s)
+  unary_some op line u e has from to some (worked_out same given is) = omega arith
 
   -- what reads a name has an instruction
   reading_some : (w : What) (line from to : ℕ) → Stands h.code (reading w line) from to → from < to
@@ -130,15 +132,15 @@ module _ (h : Home) where
     expr_lays (tree.Place t) s from to x fit has = place_lays t s from to x fit has
     expr_lays (tree.ExprTree.Call f args) s from to x fit has =
         let before = args_lay args s from has.0 x fit.1 has.1 in
-        (omega (arith, before.onward, has.2.1.1), then_lays h before (lays_call (tells h f.mark.place) (count_args args) has.0 to x fit.0 has.2))
+        (omega (arith, before.onward, has.2.1.1), then_lays h before (lays_call (tells h f.mark.place).what (count_args args) has.0 to x fit.0 has.2))
     expr_lays (tree.Paren e) s from to x fit has = expr_lays e s from to x fit has
     expr_lays (tree.Unary op m e) s from to x fit has = (
-      unary_some op m.line e (HasExpr h.code (tells h) e) from to (λ q k. (expr_lays e s from q x fit k).0) has,
-      lays_unary op m.line e (HasExpr h.code (tells h) e) from to x (λ q k. (expr_lays e s from q x fit k).1) has,
+      unary_some op m.line (type_by (tells h) e) e (HasExpr h.code (tells h) e) from to (λ q k. (expr_lays e s from q x fit k).0) has,
+      lays_unary op m.line (type_by (tells h) e) e (HasExpr h.code (tells h) e) from to x (λ q k. (expr_lays e s from q x fit k).1) has,
     )
     expr_lays (tree.Chain l first links) s from to x fit has =
         let a = expr_lays first s from has.0 x (fit_first h (expr_notes s first) (links_notes s links) fit) has.1 in
-        let b = links_lay links s has.0 to x (fit_rest h (expr_notes s first) (links_notes s links) fit) has.2 in
+        let b = links_lay links s (type_by (tells h) first) has.0 to x (fit_rest h (expr_notes s first) (links_notes s links) fit) has.2 in
         (omega (arith, a.0, b.onward), then_lays h a.1 b)
     expr_lays (tree.Choice c a b) s from to x fit has =
         let rest = expr_notes s a ++ expr_notes s b in
@@ -152,22 +154,22 @@ module _ (h : Home) where
     place_lays : (t : tree.TargetTree) (s : Scope) (from to x : ℕ) → AllFit h (place_notes s role.Value t) → HasPlace h.code (tells h) t from to →
         Value from x to
     place_lays (tree.Variable n) s from to x fit has = (
-      reading_some (tells h n.mark.place) n.mark.line from to has,
-      straight h (reading (tells h n.mark.place) n.mark.line) from to x (suc x) has (rises_reading h (tells h n.mark.place) n.mark.line x fit.0),
+      reading_some (tells h n.mark.place).what n.mark.line from to has,
+      straight h (reading (tells h n.mark.place).what n.mark.line) from to x (suc x) has (rises_reading h (tells h n.mark.place).what n.mark.line x fit.0),
     )
     place_lays (tree.Element n m e) s from to x fit has =
         let index = expr_lays e s from has.0 x fit.1 has.1 in (
           omega (arith, index.0, has.2.1),
-          then_lays h index.1 (straight h (reading_at (tells h n.mark.place) m.line ∷ []) has.0 to (suc x) (suc x) has.2 (rises_reading_at h (tells h n.mark.place) m.line x fit.0)),
+          then_lays h index.1 (straight h (reading_at (tells h n.mark.place).what m.line ∷ []) has.0 to (suc x) (suc x) has.2 (rises_reading_at h (tells h n.mark.place).what m.line x fit.0)),
         )
 
-    links_lay : (links : tree.Links) (s : Scope) (from to x : ℕ) → AllFit h (links_notes s links) → HasLinks h.code (tells h) links from to →
+    links_lay : (links : tree.Links) (s : Scope) (u : Bool) (from to x : ℕ) → AllFit h (links_notes s links) → HasLinks h.code (tells h) links u from to →
         Lays h ⊤ from (suc x) to (suc x)
-    links_lay tree.no_links s from to x fit has = to_end h has (nothing h from (suc x))
-    links_lay (tree.link op m e rest) s from to x fit has =
+    links_lay tree.no_links s u from to x fit has = to_end h has (nothing h from (suc x))
+    links_lay (tree.link op m e rest) s u from to x fit has =
         then_lays h
-        (lays_link m.line (HasExpr h.code (tells h) e) (λ y p q k. (expr_lays e s p q y (fit_first h (expr_notes s e) (links_notes s rest) fit) k).1) op from has.0 x has.1)
-        (links_lay rest s has.0 to x (fit_rest h (expr_notes s e) (links_notes s rest) fit) has.2)
+        (lays_link m.line u (type_by (tells h) e) (HasExpr h.code (tells h) e) (λ y p q k. (expr_lays e s p q y (fit_first h (expr_notes s e) (links_notes s rest) fit) k).1) op from has.0 x has.1)
+        (links_lay rest s (type_of_two op u (type_by (tells h) e)) has.0 to x (fit_rest h (expr_notes s e) (links_notes s rest) fit) has.2)
 
     args_lay : (args : tree.Args) (s : Scope) (from to x : ℕ) → AllFit h (args_notes s args) → HasArgs h.code (tells h) args from to →
         Lays h ⊤ from x to (x + count_args args)

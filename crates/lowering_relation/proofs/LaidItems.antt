@@ -21,7 +21,7 @@ use Rattle.lowering_relation.proofs.Lays.{Lays, Rises, fit_first, fit_rest, noth
 
 -- the stream of an item or a tick is there
 pub stream_fits : (h : Home) (d : Direction) (t : tree.TargetTree) (s : Scope) → AllFit h (place_notes s (role.Flow d) t) →
-    first_of (tells h (target_name t).mark.place) < h.code.streams
+    first_of (tells h (target_name t).mark.place).what < h.code.streams
 stream_fits h d (tree.Variable n) s fit = fit.0
 stream_fits h d (tree.Element n m e) s fit = fit.0
 
@@ -32,7 +32,7 @@ module _ (h : Home) (in_main : h.kind ≡ Main) where
       straight h (instr.Push (pos 0) ∷ []) from to x (suc x) has ((refl, refl, refl, refl), omega arith, tt, omega arith)
   stream_lays (tree.Element n m e) d s from to x fit has =
       then_lays h (expr_lays h e s from has.0 x fit.1 has.1).1
-      (straight h (instr.CheckAt (count_of (tells h n.mark.place)) m.line ∷ []) has.0 to (suc x) (suc x) has.2 ((refl, refl, refl, refl), omega arith, tt, omega arith))
+      (straight h (instr.CheckAt (count_of (tells h n.mark.place).what) m.line ∷ []) has.0 to (suc x) (suc x) has.2 ((refl, refl, refl, refl), omega arith, tt, omega arith))
 
   rises_bursting : (d : Direction) (w : What) (line x : ℕ) → Fits h w → Rises h (bursting d w line ∷ []) (suc x) (suc x)
   rises_bursting direction.Reads w line x fits = ((refl, refl, refl, refl), omega arith, in_main, omega arith)
@@ -57,7 +57,7 @@ module _ (h : Home) (in_main : h.kind ≡ Main) where
       HasJoin h.code (tells h) d join from to → Lays h ⊤ from x to (suc x)
   join_lays d stream None s before from to x fit has =
       straight h (instr.Push (pos 1) ∷ []) from to x (suc x) has ((refl, refl, refl, refl), omega arith, tt, omega arith)
-  join_lays d stream (Some j) s before from to x fit has = burst_lays d (tells h j.name.mark.place) j.burst s from to x fit.1.0 fit.1.1 has
+  join_lays d stream (Some j) s before from to x fit has = burst_lays d (tells h j.name.mark.place).what j.burst s from to x fit.1.0 fit.1.1 has
 
   pub items_lay : (ps : List Part) (s : Scope) (before : List ℕ) (from to x : ℕ) → AllFit h (parts_notes s before ps) → HasItems h.code (tells h) ps from to →
       Lays h ⊤ from x to (x + (count_items ps + count_items ps))

@@ -102,10 +102,10 @@ module _ (h : Home) where
   rises_storing_at (what.View item) line x fits out = ((refl, refl, refl, refl), omega arith, out, omega arith)
 
   -- an operator takes two operands and leaves one
-  rises_operation_of : (op : Option int_binary.Binary) (line x : ℕ) → Rises h (operation_of op line) (suc (suc x)) (suc x)
-  rises_operation_of None line x =
+  rises_operation_of : (op : Option int_binary.Binary) (line : ℕ) (u v : Bool) (x : ℕ) → Rises h (operation_of op line u v) (suc (suc x)) (suc x)
+  rises_operation_of None line u v x =
       ((refl, refl, refl, refl), omega arith, tt, ((refl, refl, refl, refl), omega arith, tt, ((refl, refl, refl, refl), omega arith, tt, omega arith)))
-  rises_operation_of (Some op) line x = ((refl, refl, refl, refl), omega arith, tt, omega arith)
+  rises_operation_of (Some op) line u v x = ((refl, refl, refl, refl), omega arith, tt, omega arith)
 
-  pub rises_operation : (op : Binary) (line x : ℕ) → Rises h (operation op line) (suc (suc x)) (suc x)
-  rises_operation op line x = rises_operation_of (operator_of_two op) line x
+  pub rises_operation : (op : Binary) (line : ℕ) (u v : Bool) (x : ℕ) → Rises h (operation op line u v) (suc (suc x)) (suc x)
+  rises_operation op line u v x = rises_operation_of (operator_of_two op) line u v x

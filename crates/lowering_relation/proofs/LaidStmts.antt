@@ -241,7 +241,7 @@ module _ (h : Home) (left : IsLeft h) where
           free h
               (then_lays h (stream_lays h fit.0 t direction.Reads s from has.0 0 fit_x has.2)
               (then_lays h (expr_lays h e s has.0 has.1 1 (fit_rest h x (expr_notes s e) fit.1) has.3).1
-              (tick_lays arrow.line (first_of (tells h (target_name t).mark.place)) has.1 to fit.0 (stream_fits h direction.Reads t s fit_x) has.4))),
+              (tick_lays arrow.line (first_of (tells h (target_name t).mark.place).what) has.1 to fit.0 (stream_fits h direction.Reads t s fit_x) has.4))),
         )
     stmt_lays (tree.Taskwait m) s broke continued next from to fit spawned has = (λ e. has.1, to_end h has.0 (nothing h from 0))
 

@@ -119,8 +119,9 @@ module _ (code : Parts) (file : File) (falls : CallsFall file) (names : List Res
     round = file_es;
     bound = [];
     besides = λ n. ⊤;
-    reaches = λ s n u d plain lawful b is same. inr (refl, known_has code file (find file.names n.id) d (fits n.id d (ap entity_of (sym same) ∙ is)));
-    constants = λ id v is. inr (refl, known_has code file (find file.names id) (entity.Constant v) (fits id (entity.Constant v) is));
+    reaches = λ s n u d plain lawful b is same. inr (refl, known_has code file (find file.names n.id) d (fits.known n.id d (ap entity_of (sym same) ∙ is)));
+    flagged = λ s n u d plain lawful b is same. fits.flag n.id;
+    constants = λ id v is. inr (refl, known_has code file (find file.names id) (entity.Constant v) (fits.known id (entity.Constant v) is));
   }
 
   module _ (streams later : ℕ) (s : Scope) (es : List Entry) (st : State) (m : Store) (ready : Ready (main_context streams later) s es st m) where
@@ -136,7 +137,7 @@ module _ (code : Parts) (file : File) (falls : CallsFall file) (names : List Res
 
         by_split : (lookup (es ++ file_es) id ≡ lookup (es ++ []) id) ⊎ ((lookup (es ++ file_es) id ≡ lookup file_es id) × (lookup (es ++ []) id ≡ lookup [] id)) → entity_of (lookup (es ++ []) id) ≡ Some d
         by_split (inl same) = ap entity_of (sym same) ∙ in_text
-        by_split (inr both) = absurd (known_apart code file (find file.names id) d own (fits id d (ap entity_of (sym both.0) ∙ in_text)))
+        by_split (inr both) = absurd (known_apart code file (find file.names id) d own (fits.known id d (ap entity_of (sym both.0) ∙ in_text)))
 
     -- what it is in the run
     pub record Held (id : ℕ) (d : Entity) : Type 0 where

@@ -188,7 +188,7 @@ module _ (p : tree.ProgramTree) (code : Parts) (input_len budget : ℕ) (stands 
             later = later;
             ready = record {
               scope = record { owner = refl; captured = refl; entries = refl; deep = omega arith; arrays = (tt, (tt, (tt, tt))) };
-              aligned = (refl, (0, refl, refl), (refl, (refl, omega arith), (refl, (refl, omega arith), tt)));
+              aligned = (refl, refl, (0, refl, refl), (refl, refl, (refl, omega arith), (refl, refl, (refl, omega arith), tt)));
               kept = (refl, refl, ap (λ n. replicate n 0) enough ∙ sym (replicate-append-replicate 2 later 0));
             };
             depth = (let d = at_main.depth in omega (arith, d));

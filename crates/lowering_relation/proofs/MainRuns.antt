@@ -49,7 +49,7 @@ use Rattle.lowering_relation.proofs.MainContexts.{main_context}
 use Rattle.lowering_relation.proofs.MainEnds.{MainEnds, at_end, flow_ends}
 use Rattle.lowering_relation.proofs.Owning.{OwnsAll}
 use Rattle.lowering_relation.proofs.Spawns.{IsSite, task_does}
-use Rattle.lowering_relation.proofs.Static.{entry, made, declarator_onward, declarators_onward, stmt_onward, stmts_onward}
+use Rattle.lowering_relation.proofs.Static.{entry, declarator_unsigned, made, declarator_onward, declarators_onward, stmt_onward, stmts_onward}
 use Rattle.lowering_relation.proofs.Steps.{Store, at, stays}
 use Rattle.lowering_relation.proofs.Stmts.{HasRest, last, more, has_rest, stmt_does}
 use Rattle.lowering_relation.proofs.StreamCounts.{sized_streams, stmt_streams}
@@ -88,7 +88,7 @@ aligned_later streams later now less means_of slots [] [] le h = tt
 aligned_later streams later now less means_of slots [] (e ∷ es) le h = elim h [ ]
 aligned_later streams later now less means_of slots (b ∷ bound) [] le h = elim h [ ]
 aligned_later streams later now less means_of slots (b ∷ bound) (e ∷ es) le h =
-    (h.0, holds_later streams later now less slots b.variable (means_of e.entity) le h.1, aligned_later streams later now less means_of slots bound es le h.2)
+    (h.0, h.1, holds_later streams later now less slots b.variable (means_of e.entity) le h.2, aligned_later streams later now less means_of slots bound es le h.3)
 
 plain_streams : (s : Scope) (size : Option tree.IndexTree) → (taken s (form_with s false size)).streams ≡ s.streams
 plain_streams s None = refl
@@ -122,7 +122,7 @@ module _ (code : Parts) (file : File) (falls : CallsFall file) (names : List Res
   -- behind the declaration of so many streams
   streams_behind : (s : Scope) (es : List Entry) (st : State) (m : Store) (d : tree.DeclaratorTree) (count : ℕ) → Outer s es st m → (entry s d).id ≡ d.name.id → meaning (entry s d).entity ≡ what.Stream (2 + s.streams) count →
       (after_declarator s d).streams ≡ s.streams + count → 2 + (after_declarator s d).streams ≤ code.streams →
-      Outer (after_declarator s d) (entry s d ∷ es) (with_streams d.name.id count st) m
+      Outer (after_declarator s d) (entry s d ∷ es) (with_streams d.name.id s.unsigned count st) m
   streams_behind s es st m d count o same mean taken_so few =
       let now = o.streams + count in
       let less = o.later - count in
@@ -139,6 +139,7 @@ module _ (code : Parts) (file : File) (falls : CallsFall file) (names : List Res
           scope = (let i = in_behind (context o.streams o.later) s es d o.ready.scope in record { owner = i.owner; captured = i.captured; entries = i.entries; deep = i.deep; arrays = i.arrays });
           aligned = (
             sym same,
+            sym (declarator_unsigned s d),
             (mean ∙ ap (λ k. what.Stream k count) (sym first), (let k = o.ready.kept.1 in omega (arith, k))),
             aligned_later o.streams o.later now less (means (context o.streams o.later)) m.slots st.bound (es ++ []) (omega arith) o.ready.aligned,
           );
@@ -176,8 +177,8 @@ module _ (code : Parts) (file : File) (falls : CallsFall file) (names : List Res
   abbrev DeclaratorEnds : tree.DeclaratorTree → Type 0
   DeclaratorEnds d =
       (s : Scope) (es : List Entry) (st : State) (m : Store) (from to turns : ℕ) (next : Runs) → Outer s es st m → (after_declarator s d).slots ≤ total → 2 + (after_declarator s d).streams ≤ code.streams →
-      AreLawful (declarator_notes s d) → Tells names (declarator_notes s d) → HasDeclared code (told_at names) (told_at names d.name.mark.place) d from to → Follows (after_declarator s d) (entry s d ∷ es) to next →
-      MainEnds code (at [] from [] m turns) (flows next (run_declarator u d st turns))
+      AreLawful (declarator_notes s d) → Tells names (declarator_notes s d) → HasDeclared code (told_at names) (told_at names d.name.mark.place).what d from to → Follows (after_declarator s d) (entry s d ∷ es) to next →
+      MainEnds code (at [] from [] m turns) (flows next (run_declarator u s.unsigned d st turns))
 
   by_runs : (d : tree.DeclaratorTree) → d.stream ≡ false → ((streams later : ℕ) → DeclaratorRuns (context streams later) [] instr.End total sites d) → (plain : (s : Scope) → (after_declarator s d).streams ≡ s.streams) → DeclaratorEnds d
   by_runs d none runs plain s es st m from to turns next o fits2 few lawful tells h go =
@@ -191,9 +192,9 @@ module _ (code : Parts) (file : File) (falls : CallsFall file) (names : List Res
   one_stream : (n : Name) (first : Option tree.ExprTree) → DeclaratorEnds (record { name = n; size = None; stream = true; first = first })
   one_stream n first s es st m from to turns next o fits2 few lawful tells h go =
       let d : tree.DeclaratorTree = record { name = n; size = None; stream = true; first = first } in
-      let says : told_at names n.mark.place ≡ what.Stream (2 + s.streams) 1 = told (context o.streams o.later) [] instr.End total sites s d (no_rule o.streams o.later (declarator_notes s d) lawful tells) in
+      let says : (told_at names n.mark.place).what ≡ what.Stream (2 + s.streams) 1 = told (context o.streams o.later) [] instr.End total sites s d (no_rule o.streams o.later (declarator_notes s d) lawful tells) in
       let nothing : from ≡ to = subst (λ w. HasDeclared code (told_at names) w d from to) says h in
-      stays_at from to m turns (next (with_streams n.id 1 st) turns) nothing (go (with_streams n.id 1 st) m turns (streams_behind s es st m d 1 o refl refl refl few))
+      stays_at from to m turns (next (with_streams n.id s.unsigned 1 st) turns) nothing (go (with_streams n.id s.unsigned 1 st) m turns (streams_behind s es st m d 1 o refl refl refl few))
 
   array_of_streams : (n : Name) (i : tree.IndexTree) (first : Option tree.ExprTree) → DeclaratorEnds (record { name = n; size = Some i; stream = true; first = first })
   array_of_streams n i first s es st m from to turns next o fits2 few lawful tells h go =
@@ -206,12 +207,12 @@ module _ (code : Parts) (file : File) (falls : CallsFall file) (names : List Res
       let sized : size_of s i.value ≡ Some k = ap limited known.is ∙ limit_kept k known.within in
       let count : unwrap_or (size_of s i.value) 0 ≡ k = ap (λ x. unwrap_or x 0) sized in
       let size : array_size (pos k) ≡ k = ap (λ x. unwrap_or x 0) (limit_kept k known.within) in
-      let says : told_at names n.mark.place ≡ what.Stream (2 + s.streams) (unwrap_or (size_of s i.value) 0) = told c [] instr.End total sites s d agree in
+      let says : (told_at names n.mark.place).what ≡ what.Stream (2 + s.streams) (unwrap_or (size_of s i.value) 0) = told c [] instr.End total sites s d agree in
       let nothing : from ≡ to = subst (λ w. HasDeclared code (told_at names) w d from to) says h in
-      subst (λ a. MainEnds code (at [] from [] m turns) (flows next (given a st (λ x. goes_on (with_streams n.id (array_size x.value) st) x.turns)))) (sym (size_runs c i.value s es st m (pos k) k turns refl (size_small k known.within) o.ready known.is))
-      (subst (λ j. MainEnds code (at [] from [] m turns) (next (with_streams n.id j st) turns)) (sym size)
-      (stays_at from to m turns (next (with_streams n.id k st) turns) nothing
-      (go (with_streams n.id k st) m turns (streams_behind s es st m d k o refl (ap (what.Stream (2 + s.streams)) count) (ap (λ j. s.streams + j) count) few))))
+      subst (λ a. MainEnds code (at [] from [] m turns) (flows next (given a st (λ x. goes_on (with_streams n.id s.unsigned (array_size x.value) st) x.turns)))) (sym (size_runs c i.value s es st m (pos k) k turns refl (size_small k known.within) o.ready known.is))
+      (subst (λ j. MainEnds code (at [] from [] m turns) (next (with_streams n.id s.unsigned j st) turns)) (sym size)
+      (stays_at from to m turns (next (with_streams n.id s.unsigned k st) turns) nothing
+      (go (with_streams n.id s.unsigned k st) m turns (streams_behind s es st m d k o refl (ap (what.Stream (2 + s.streams)) count) (ap (λ j. s.streams + j) count) few))))
 
   declarator_ends : (d : tree.DeclaratorTree) → DeclaratorEnds d
   declarator_ends d = by_parts d.name d.size d.stream d.first
@@ -226,15 +227,16 @@ module _ (code : Parts) (file : File) (falls : CallsFall file) (names : List Res
 
   declarators_end : (ds : List tree.DeclaratorTree) (s : Scope) (es : List Entry) (st : State) (m : Store) (from to mid turns : ℕ) (next : Runs) → Outer s es st m → (after_declarators s ds).slots ≤ total → 2 + (after_declarators s ds).streams ≤ code.streams →
       AreLawful (declarators_notes s ds) → Tells names (declarators_notes s ds) → HasDeclarators code (told_at names) ds from to → mid ≡ to → Follows (after_declarators s ds) (made s ds es) mid next →
-      MainEnds code (at [] from [] m turns) (flows next (run_declarators u ds st turns))
+      MainEnds code (at [] from [] m turns) (flows next (run_declarators u s.unsigned ds st turns))
   declarators_end [] s es st m from to mid turns next o fits2 few lawful tells h there go = stays_at from mid m turns (next st turns) (h ∙ sym there) (go st m turns o)
   declarators_end (d ∷ ds) s es st m from to mid turns next o fits2 few lawful tells h there go =
       let s1 = after_declarator s d in
       let on = declarators_onward ds s1 in
-      subst (MainEnds code (at [] from [] m turns)) (sym (flows_on next (run_declarators u ds) (run_declarator u d st turns)))
-      (declarator_ends d s es st m from h.0 turns (λ st1 t1. flows next (run_declarators u ds st1 t1)) o (omega (arith, fits2, on.slots)) (omega (arith, few, on.streams))
+      subst (MainEnds code (at [] from [] m turns)) (sym (flows_on next (run_declarators u s.unsigned ds) (run_declarator u s.unsigned d st turns)))
+      (declarator_ends d s es st m from h.0 turns (λ st1 t1. flows next (run_declarators u s.unsigned ds st1 t1)) o (omega (arith, fits2, on.slots)) (omega (arith, few, on.streams))
       (lawful-first (declarator_notes s d) (declarators_notes s1 ds) lawful) (tells-first names (declarator_notes s d) (declarators_notes s1 ds) tells) h.1
-      (λ st1 m1 t1 o1. declarators_end ds s1 (entry s d ∷ es) st1 m1 h.0 to mid t1 next o1 fits2 few (lawful-rest (declarator_notes s d) (declarators_notes s1 ds) lawful) (tells-rest names (declarator_notes s d) (declarators_notes s1 ds) tells) h.2 there go))
+      (λ st1 m1 t1 o1. subst (λ w. MainEnds code (at [] h.0 [] m1 t1) (flows next (run_declarators u w ds st1 t1))) (declarator_unsigned s d)
+      (declarators_end ds s1 (entry s d ∷ es) st1 m1 h.0 to mid t1 next o1 fits2 few (lawful-rest (declarator_notes s d) (declarators_notes s1 ds) lawful) (tells-rest names (declarator_notes s d) (declarators_notes s1 ds) tells) h.2 there go)))
 
   -- a declaration of a type begins
   outer_typed : (ty : Ty) (s : Scope) (es : List Entry) (st : State) (m : Store) → Outer s es st m → Outer (typed ty s) es st m

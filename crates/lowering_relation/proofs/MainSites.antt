@@ -3,7 +3,7 @@ use Rattle.std.proofs.Common.{◌≡◌, ℕ, suc, ◌+◌, List, [], ◌∷◌,
 use Rattle.std.proofs.lemmas.Option.{slice_get-map, slice_get_within}
 use Rattle.std.specs.Option.{option_map}
 use Rattle.cddf_meaning.specs.Streams.{task_number, captured_by}
-use Rattle.cddf_meaning.specs.Tasks.{Task as MeaningTask, task_at, tasks_in, tasks_in_all, sites_of}
+use Rattle.cddf_meaning.specs.Tasks.{Task as MeaningTask, typed_name, task_at, tasks_in, tasks_in_all, ids as ids_of, sites_of}
 use Rattle.cddf_meaning.specs.declared.site.Site.{Site as MeaningSite}
 use Rattle.flow_core_laws.proofs.Stretches.{slice_get-append_left, slice_get-append_right}
 use Rattle.os_ast.specs.Captured.{Scalar, captured, slots_of}
@@ -160,6 +160,11 @@ mutual
   all_own_more tree.no_stmts s f h = tt
   all_own_more (tree.stmt a rest) s f h = (owns_more a s f h.0, all_own_more rest (after_stmt s a) f h.1)
 
+-- names without their types
+ids_kept : (es : List Entry) (xs : List ℕ) → ids_of (map (typed_name es) xs) ≡ xs
+ids_kept es [] = refl
+ids_kept es (x ∷ xs) = ap (λ ys. x ∷ ys) (ids_kept es xs)
+
 -- a task by its place and by its number
 module _ (rs : List Resolved) (file : List Entry) (tasks : List MeaningTask) (trees : List TaskTree) (slots : List (List ℕ)) (stripped : trees ≡ map strip tasks) (lo hi : ℕ) (rises : Rises (λ (t : TaskTree). t.mark.place) lo trees hi)
     (s : Scope) (m : Mark) (cs : List tree.ClauseTree) (a : tree.StmtTree) (at : IsNumbered rs file tasks slots s m cs a) where
@@ -170,7 +175,7 @@ module _ (rs : List Resolved) (file : List Entry) (tasks : List MeaningTask) (tr
   ids = map (λ (x : Scalar). x.id) (captured s.entries (parts cs) a)
 
   abbrev site_as : MeaningTask → MeaningSite
-  site_as x = record { place = x.mark.place; captured = x.captured }
+  site_as x = record { place = x.mark.place; captured = ids_of x.captured }
 
   in_trees : slice_get trees at.number ≡ Some (strip t)
   in_trees = ap (λ ts. slice_get ts at.number) stripped ∙ slice_get-map strip tasks at.number ∙ ap (option_map strip) at.is
@@ -190,7 +195,7 @@ module _ (rs : List Resolved) (file : List Entry) (tasks : List MeaningTask) (tr
   pub captured_is : captured_by (sites_of tasks) at.number ≡ ids
   captured_is =
       got (map (λ (x : MeaningSite). x.captured) (sites_of tasks)) at.number ids []
-      (slice_get-map (λ (x : MeaningSite). x.captured) (sites_of tasks) at.number ∙ ap (option_map (λ (x : MeaningSite). x.captured)) in_sites)
+      (slice_get-map (λ (x : MeaningSite). x.captured) (sites_of tasks) at.number ∙ ap (option_map (λ (x : MeaningSite). x.captured)) in_sites ∙ ap Some (ids_kept s.entries ids))
 
   -- its site, where a code has one for each task
   pub site_of : (code : Parts) (all_slots : List (List ℕ)) → ((k : ℕ) (x : List ℕ) → slice_get slots k ≡ Some x → slice_get all_slots k ≡ Some x) →

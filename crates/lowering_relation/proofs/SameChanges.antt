@@ -2,10 +2,10 @@
 use Rattle.std.proofs.Common.{◌≡◌, ℕ, ◌==◌, ◌||◌, ◌&&◌, Bool, true, false, not, if◌then◌else◌, List, [], ◌∷◌, ◌++◌, length, get_or, set, replicate, Option, Some, None, Ok, Err, ℤ, pos, refl, sym, ap, ◌∙◌, subst, inl, eq-eqb}
 use Rattle.std.proofs.lemmas.Bool.{or_right}
 use Rattle.cddf_meaning.specs.Answers.{Answer, Left, left, and_then, with_turns}
-use Rattle.cddf_meaning.specs.File.{File, or_in_file}
+use Rattle.cddf_meaning.specs.File.{File, or_in_file, type_in}
 use Rattle.cddf_meaning.specs.Flow.{Ran, given, goes_on}
 use Rattle.cddf_meaning.specs.Operators.{binary_value, step_operator}
-use Rattle.cddf_meaning.specs.Run.{assigned, aim_at, old_value, after_store, changed, run_change, array_size, run_array, window_size, run_window, with_streams, run_sized, run_declarator, run_declarators, run_start}
+use Rattle.cddf_meaning.specs.Run.{assigned, aim_at, old_value, after_store, changed, target_type, run_change, array_size, run_array, window_size, run_window, with_streams, run_sized, run_declarator, run_declarators, run_start}
 use Rattle.cddf_meaning.specs.State.{State, declared, stored_in, stored, stored_in_at}
 use Rattle.cddf_meaning.specs.Value.{value, scalar_value, elements, checked}
 use Rattle.cddf_meaning.specs.Variables.{bind, find, assign}
@@ -23,6 +23,7 @@ use Rattle.os_ast.specs.Notes.Expressions.{expr_notes, place_notes, value_notes,
 use Rattle.os_ast.specs.Parts.{is_in, target_name}
 use Rattle.os_ast.specs.Rules.{has_no_size, has_too_many}
 use Rattle.os_ast.specs.Trees as tree
+use Rattle.os_ast.specs.Types.{is_unsigned}
 use Rattle.os_ast.specs.declared.expr.Name.{Name as NameToken}
 use Rattle.os_ast.specs.declared.names.Entry.{Entry}
 use Rattle.os_ast.specs.declared.names.Form.TheVariants as form_of
@@ -35,7 +36,7 @@ use Rattle.lowering_relation.proofs.Declarators.{around_of}
 use Rattle.lowering_relation.proofs.Declares.{or_first, not_false, size_known, in_behind}
 use Rattle.lowering_relation.proofs.Elsewhere.{same_then, scalar_same, elements_same}
 use Rattle.lowering_relation.proofs.SameFlows.{SameRan, went, given_same, flows_same}
-use Rattle.lowering_relation.proofs.SameNames.{ids, Seen, AllSeen, same_found, Matches, seen_expr, seen_size, seen_target, value_more}
+use Rattle.lowering_relation.proofs.SameNames.{ids, Seen, AllSeen, same_found, Matches, seen_expr, seen_size, seen_target, value_more, type_more, target_type_more}
 use Rattle.lowering_relation.proofs.Static.{entry, made, made_first}
 
 -- A name that is found is set where it is found.
@@ -43,7 +44,7 @@ assign_ids : (bound : List Binding) (id : ℕ) (v : Variable) → ids (assign bo
 assign_ids [] id v = refl
 assign_ids (b ∷ bound) id v = by_case (b.id == id) (assign_ids bound id v)
   where
-    by_case : (t : Bool) → ids (assign bound id v) ≡ ids bound → ids (if t then bind b.id v bound else b ∷ assign bound id v) ≡ b.id ∷ ids bound
+    by_case : (t : Bool) → ids (assign bound id v) ≡ ids bound → ids (if t then bind b.id b.unsigned v bound else b ∷ assign bound id v) ≡ b.id ∷ ids bound
     by_case true next = refl
     by_case false next = ap (λ xs. b.id ∷ xs) next
 
@@ -52,7 +53,7 @@ assign_more [] more id v x h = absurd (cc)
 assign_more (b ∷ bound) more id v x h = by_case (b.id == id) h (λ k. assign_more bound more id v x k)
   where
     by_case : (t : Bool) → (if t then Some b.variable else find bound id) ≡ Some x → (find bound id ≡ Some x → assign (bound ++ more) id v ≡ assign bound id v ++ more) →
-        (if t then bind b.id v (bound ++ more) else b ∷ assign (bound ++ more) id v) ≡ (if t then bind b.id v bound else b ∷ assign bound id v) ++ more
+        (if t then bind b.id b.unsigned v (bound ++ more) else b ∷ assign (bound ++ more) id v) ≡ (if t then bind b.id b.unsigned v bound else b ∷ assign bound id v) ++ more
     by_case true k next = refl
     by_case false k next = ap (λ xs. b ∷ xs) (next k)
 
@@ -153,70 +154,78 @@ module _ (c : Context) (more : List Binding) (apart : AreElse c.file more) (site
     pub change_same : (x : tree.ChangeTree) (st : State) (turns : ℕ) (within : List Entry → Type 0) → Matches c st.bound es → Agree c (change_notes s x) → Same es within (run_change c.file x st turns) (run_change c.file x (with_more more st) turns)
     change_same (tree.Set t a m e) st turns within same agree =
         let seen_e = seen_expr c s es is st.bound same e (agree_rest c (place_notes s role.Changed t) (expr_notes s e) agree) in
-        changed_same t (λ old s turns. and_then (value c.file e s turns) (λ n. with_turns n.turns (assigned a m.line old n.value))) st turns es within
-        (seen_target c s es is st.bound same t (agree_first c (place_notes s role.Changed t) (expr_notes s e) agree)) same
-        (λ old k. ap (λ z. and_then z (λ n. with_turns n.turns (assigned a m.line old n.value))) (value_more c.file more apart st e k seen_e))
+        let seen_t = seen_target c s es is st.bound same t (agree_first c (place_notes s role.Changed t) (expr_notes s e) agree) in
+        let st2 = with_more more st in
+        changed_same t (λ old s turns. and_then (value c.file e s turns) (λ n. with_turns n.turns (assigned a m.line (target_type c.file s t) (type_in c.file s e) old n.value))) st turns es within seen_t same
+        (λ old k.
+        ap (λ z. and_then z (λ n. with_turns n.turns (assigned a m.line (target_type c.file st t) (type_in c.file st e) old n.value))) (value_more c.file more apart st e k seen_e)
+        ∙ ap (λ u. and_then (value c.file e st2 k) (λ n. with_turns n.turns (assigned a m.line u (type_in c.file st e) old n.value))) (target_type_more c.file more apart st t seen_t)
+        ∙ ap (λ v. and_then (value c.file e st2 k) (λ n. with_turns n.turns (assigned a m.line (target_type c.file st2 t) v old n.value))) (type_more c.file more apart st e seen_e))
     change_same (tree.After t p m) st turns within same agree =
-        changed_same t (λ old s turns. with_turns turns (binary_value (step_operator p) m.line old (pos 1))) st turns es within (seen_target c s es is st.bound same t agree) same (λ old k. refl)
+        let seen_t = seen_target c s es is st.bound same t agree in
+        changed_same t (λ old s turns. with_turns turns (binary_value (step_operator p) m.line (target_type c.file s t) false old (pos 1))) st turns es within seen_t same
+        (λ old k. ap (λ u. with_turns k (binary_value (step_operator p) m.line u false old (pos 1))) (target_type_more c.file more apart st t seen_t))
     change_same (tree.Before t p m) st turns within same agree =
-        changed_same t (λ old s turns. with_turns turns (binary_value (step_operator p) m.line old (pos 1))) st turns es within (seen_target c s es is st.bound same t agree) same (λ old k. refl)
+        let seen_t = seen_target c s es is st.bound same t agree in
+        changed_same t (λ old s turns. with_turns turns (binary_value (step_operator p) m.line (target_type c.file s t) false old (pos 1))) st turns es within seen_t same
+        (λ old k. ap (λ u. with_turns k (binary_value (step_operator p) m.line u false old (pos 1))) (target_type_more c.file more apart st t seen_t))
 
     -- a declarator, by its parts
     abbrev DeclaratorSame : tree.DeclaratorTree → Type 1
-    DeclaratorSame d = (st : State) (turns : ℕ) (within : List Entry → Type 0) → Matches c st.bound es → Agree c (declarator_notes s d) →
-        Same (entry s d ∷ es) within (run_declarator (around_of c sites) d st turns) (run_declarator (around_of c sites) d (with_more more st) turns)
+    DeclaratorSame d = (w : Bool) (st : State) (turns : ℕ) (within : List Entry → Type 0) → Matches c st.bound es → Agree c (declarator_notes s d) →
+        Same (entry s d ∷ es) within (run_declarator (around_of c sites) w d st turns) (run_declarator (around_of c sites) w d (with_more more st) turns)
 
     scalar_same_by : (n : NameToken) (first : Option tree.ExprTree) → DeclaratorSame (record { name = n; size = None; stream = false; first = first })
-    scalar_same_by n None st turns within same agree = went (declared n.id (Scalar (pos 0)) st) turns (ap (λ xs. n.id ∷ xs) same)
-    scalar_same_by n (Some e) st turns within same agree =
+    scalar_same_by n None w st turns within same agree = went (declared n.id w (Scalar (pos 0)) st) turns (ap (λ xs. n.id ∷ xs) same)
+    scalar_same_by n (Some e) w st turns within same agree =
         let d : tree.DeclaratorTree = record { name = n; size = None; stream = false; first = Some e } in
-        let inner = declared n.id (Scalar (pos 0)) st in
+        let inner = declared n.id w (Scalar (pos 0)) st in
         let here : Matches c inner.bound (entry s d ∷ es) = ap (λ xs. n.id ∷ xs) same in
         given_same c more inner (value c.file e inner turns) (value c.file e (with_more more inner) turns) (λ x. goes_on (stored inner n.id x.value) x.turns) (λ x. goes_on (stored (with_more more inner) n.id x.value) x.turns)
         (value_more c.file more apart inner e turns (seen_expr c (after_declarator s d) (entry s d ∷ es) (in_behind c s es d is) inner.bound here e agree.1))
         (λ x q.
-        let w = written_more c.file more apart inner (Name n.id) x.value (inl (ap (λ b. b || is_in n.id (ids st.bound)) (eq-eqb n.id n.id refl))) in
-        subst (λ y. Same (entry s d ∷ es) within (goes_on (stored inner n.id x.value) x.turns) (goes_on y x.turns)) (sym w.0) (went (stored inner n.id x.value) x.turns (w.1 ∙ here)))
+        let written = written_more c.file more apart inner (Name n.id) x.value (inl (ap (λ b. b || is_in n.id (ids st.bound)) (eq-eqb n.id n.id refl))) in
+        subst (λ y. Same (entry s d ∷ es) within (goes_on (stored inner n.id x.value) x.turns) (goes_on y x.turns)) (sym written.0) (went (stored inner n.id x.value) x.turns (written.1 ∙ here)))
 
     size_more : (i : tree.IndexTree) (st : State) (turns : ℕ) → Matches c st.bound es → is_size (size_value s i.value) ≡ true → value c.file i.value st turns ≡ value c.file i.value (with_more more st) turns
     size_more i st turns same sized = let known = size_known (size_value s i.value) sized in value_more c.file more apart st i.value turns (seen_size c s es is st.bound same i.value (pos known.size) known.is)
 
     stream_same : (n : NameToken) (size : Option tree.IndexTree) (first : Option tree.ExprTree) → DeclaratorSame (record { name = n; size = size; stream = true; first = first })
-    stream_same n None first st turns within same agree = went (with_streams n.id 1 st) turns (ap (λ xs. n.id ∷ xs) same)
-    stream_same n (Some i) first st turns within same agree =
+    stream_same n None first w st turns within same agree = went (with_streams n.id w 1 st) turns (ap (λ xs. n.id ∷ xs) same)
+    stream_same n (Some i) first w st turns within same agree =
         let d : tree.DeclaratorTree = record { name = n; size = Some i; stream = true; first = first } in
         let kind = or_first (has_no_size (form s d) (size_value s i.value)) (has_too_many (after_declarator s d) (form s d)) agree.0.0.1.1.1.1.1.0 in
-        given_same c more st (value c.file i.value st turns) (value c.file i.value (with_more more st) turns) (λ x. goes_on (with_streams n.id (array_size x.value) st) x.turns)
-        (λ x. goes_on (with_streams n.id (array_size x.value) (with_more more st)) x.turns) (size_more i st turns same (not_false (is_size (size_value s i.value)) kind))
-        (λ x q. went (with_streams n.id (array_size x.value) st) x.turns (ap (λ xs. n.id ∷ xs) same))
+        given_same c more st (value c.file i.value st turns) (value c.file i.value (with_more more st) turns) (λ x. goes_on (with_streams n.id w (array_size x.value) st) x.turns)
+        (λ x. goes_on (with_streams n.id w (array_size x.value) (with_more more st)) x.turns) (size_more i st turns same (not_false (is_size (size_value s i.value)) kind))
+        (λ x q. went (with_streams n.id w (array_size x.value) st) x.turns (ap (λ xs. n.id ∷ xs) same))
 
-    window_same : (n : NameToken) (i : tree.IndexTree) (st : State) (turns : ℕ) (within : List Entry → Type 0) (after : List Entry) → AllSeen c.file st.bound (expr_names i.value) → ((v : ℕ) → Matches c (bind n.id (Window v) st.bound) after) →
-        Same after within (run_window c.file n.id i st turns) (run_window c.file n.id i (with_more more st) turns)
-    window_same n i st turns within after seen m =
-        given_same c more st (value c.file i.value st turns) (value c.file i.value (with_more more st) turns) (λ x. given (window_size i.mark.line x.value) st (λ horizon. goes_on (declared n.id (Window horizon) st) x.turns))
-        (λ x. given (window_size i.mark.line x.value) (with_more more st) (λ horizon. goes_on (declared n.id (Window horizon) (with_more more st)) x.turns)) (value_more c.file more apart st i.value turns seen)
-        (λ x q. given_same c more st (window_size i.mark.line x.value) (window_size i.mark.line x.value) (λ horizon. goes_on (declared n.id (Window horizon) st) x.turns)
-        (λ horizon. goes_on (declared n.id (Window horizon) (with_more more st)) x.turns) refl (λ horizon r. went (declared n.id (Window horizon) st) x.turns (m horizon)))
+    window_same : (w : Bool) (n : NameToken) (i : tree.IndexTree) (st : State) (turns : ℕ) (within : List Entry → Type 0) (after : List Entry) → AllSeen c.file st.bound (expr_names i.value) → ((v : ℕ) → Matches c (bind n.id w (Window v) st.bound) after) →
+        Same after within (run_window c.file w n.id i st turns) (run_window c.file w n.id i (with_more more st) turns)
+    window_same w n i st turns within after seen m =
+        given_same c more st (value c.file i.value st turns) (value c.file i.value (with_more more st) turns) (λ x. given (window_size i.mark.line x.value) st (λ horizon. goes_on (declared n.id w (Window horizon) st) x.turns))
+        (λ x. given (window_size i.mark.line x.value) (with_more more st) (λ horizon. goes_on (declared n.id w (Window horizon) (with_more more st)) x.turns)) (value_more c.file more apart st i.value turns seen)
+        (λ x q. given_same c more st (window_size i.mark.line x.value) (window_size i.mark.line x.value) (λ horizon. goes_on (declared n.id w (Window horizon) st) x.turns)
+        (λ horizon. goes_on (declared n.id w (Window horizon) (with_more more st)) x.turns) refl (λ horizon r. went (declared n.id w (Window horizon) st) x.turns (m horizon)))
 
-    array_same : (n : NameToken) (i : tree.IndexTree) (st : State) (turns : ℕ) (within : List Entry → Type 0) (after : List Entry) → Matches c st.bound es → is_size (size_value s i.value) ≡ true → ((v : List ℤ) → Matches c (bind n.id (Array v) st.bound) after) →
-        Same after within (run_array c.file n.id i.value st turns) (run_array c.file n.id i.value (with_more more st) turns)
-    array_same n i st turns within after same sized m =
-        given_same c more st (value c.file i.value st turns) (value c.file i.value (with_more more st) turns) (λ x. goes_on (declared n.id (Array (replicate (array_size x.value) (pos 0))) st) x.turns)
-        (λ x. goes_on (declared n.id (Array (replicate (array_size x.value) (pos 0))) (with_more more st)) x.turns) (size_more i st turns same sized)
-        (λ x q. went (declared n.id (Array (replicate (array_size x.value) (pos 0))) st) x.turns (m (replicate (array_size x.value) (pos 0))))
+    array_same : (w : Bool) (n : NameToken) (i : tree.IndexTree) (st : State) (turns : ℕ) (within : List Entry → Type 0) (after : List Entry) → Matches c st.bound es → is_size (size_value s i.value) ≡ true → ((v : List ℤ) → Matches c (bind n.id w (Array v) st.bound) after) →
+        Same after within (run_array c.file w n.id i.value st turns) (run_array c.file w n.id i.value (with_more more st) turns)
+    array_same w n i st turns within after same sized m =
+        given_same c more st (value c.file i.value st turns) (value c.file i.value (with_more more st) turns) (λ x. goes_on (declared n.id w (Array (replicate (array_size x.value) (pos 0))) st) x.turns)
+        (λ x. goes_on (declared n.id w (Array (replicate (array_size x.value) (pos 0))) (with_more more st)) x.turns) (size_more i st turns same sized)
+        (λ x q. went (declared n.id w (Array (replicate (array_size x.value) (pos 0))) st) x.turns (m (replicate (array_size x.value) (pos 0))))
 
     sized_same : (n : NameToken) (i : tree.IndexTree) (first : Option tree.ExprTree) → DeclaratorSame (record { name = n; size = Some i; stream = false; first = first })
-    sized_same n i first st turns within same agree = by_owner c.owner refl
+    sized_same n i first w st turns within same agree = by_owner c.owner refl
       where
         d : tree.DeclaratorTree
         d = record { name = n; size = Some i; stream = false; first = first }
 
         Goal : Bool → Type 0
-        Goal t = Same (entry s d ∷ es) within (run_sized (record { file = c.file; is_control = t; sites = sites }) n.id i st turns) (run_sized (record { file = c.file; is_control = t; sites = sites }) n.id i (with_more more st) turns)
+        Goal t = Same (entry s d ∷ es) within (run_sized (record { file = c.file; is_control = t; sites = sites }) w n.id i st turns) (run_sized (record { file = c.file; is_control = t; sites = sites }) w n.id i (with_more more st) turns)
 
         window_by : c.owner ≡ owner.OfMain → Goal true
         window_by own =
-            window_same n i st turns within (entry s d ∷ es)
+            window_same w n i st turns within (entry s d ∷ es)
             (seen_expr c s es is st.bound same i.value
             (subst (λ o. Agree c (if is_window o && not false then expr_notes s i.value else size_notes s i.value)) (is.owner ∙ own) (agree_first c (sized_notes s false (Some i)) (value_notes (after_declarator s d) first) agree.1)))
             (λ v. ap (λ xs. n.id ∷ xs) same)
@@ -225,7 +234,7 @@ module _ (c : Context) (more : List Binding) (apart : AreElse c.file more) (site
         array_by o own forms =
             let f : form s d ≡ form_of.Array (size_of s i.value) = ap (λ x. sized_form x (size_of s i.value)) (is.owner ∙ own) ∙ forms (size_of s i.value) in
             let kind = or_first (has_no_size (form s d) (size_value s i.value)) (has_too_many (after_declarator s d) (form s d)) agree.0.0.1.1.1.1.1.0 in
-            array_same n i st turns within (entry s d ∷ es) same (not_false (is_size (size_value s i.value)) (subst (λ x. has_no_size x (size_value s i.value) ≡ false) f kind)) (λ v. ap (λ xs. n.id ∷ xs) same)
+            array_same w n i st turns within (entry s d ∷ es) same (not_false (is_size (size_value s i.value)) (subst (λ x. has_no_size x (size_value s i.value) ≡ false) f kind)) (λ v. ap (λ xs. n.id ∷ xs) same)
 
         by_owner : (o : Owner) → c.owner ≡ o → Goal (is_window c.owner)
         by_owner owner.OfMain own = subst Goal (sym (ap is_window own)) (window_by own)
@@ -240,17 +249,17 @@ module _ (c : Context) (more : List Binding) (apart : AreElse c.file more) (site
         by_parts n None false first = scalar_same_by n first
         by_parts n (Some i) false first = sized_same n i first
 
-  pub declarators_same : (ds : List tree.DeclaratorTree) (s : Scope) (es : List Entry) (st : State) (turns : ℕ) (within : List Entry → Type 0) → In c s es → Matches c st.bound es → Agree c (declarators_notes s ds) →
-      Same (made s ds es) within (run_declarators (around_of c sites) ds st turns) (run_declarators (around_of c sites) ds (with_more more st) turns)
-  declarators_same [] s es st turns within is same agree = went st turns same
-  declarators_same (d ∷ ds) s es st turns within is same agree =
+  pub declarators_same : (w : Bool) (ds : List tree.DeclaratorTree) (s : Scope) (es : List Entry) (st : State) (turns : ℕ) (within : List Entry → Type 0) → In c s es → Matches c st.bound es → Agree c (declarators_notes s ds) →
+      Same (made s ds es) within (run_declarators (around_of c sites) w ds st turns) (run_declarators (around_of c sites) w ds (with_more more st) turns)
+  declarators_same w [] s es st turns within is same agree = went st turns same
+  declarators_same w (d ∷ ds) s es st turns within is same agree =
       let s1 = after_declarator s d in
-      flows_same c more within within (entry s d ∷ es) (made s1 ds (entry s d ∷ es)) (run_declarators (around_of c sites) ds) (run_declarators (around_of c sites) ds) (λ x i. i)
-      (declarator_same s es is d st turns within same (agree_first c (declarator_notes s d) (declarators_notes s1 ds) agree))
-      (λ st1 t1 m1. declarators_same ds s1 (entry s d ∷ es) st1 t1 within (in_behind c s es d is) m1 (agree_rest c (declarator_notes s d) (declarators_notes s1 ds) agree))
+      flows_same c more within within (entry s d ∷ es) (made s1 ds (entry s d ∷ es)) (run_declarators (around_of c sites) w ds) (run_declarators (around_of c sites) w ds) (λ x i. i)
+      (declarator_same s es is d w st turns within same (agree_first c (declarator_notes s d) (declarators_notes s1 ds) agree))
+      (λ st1 t1 m1. declarators_same w ds s1 (entry s d ∷ es) st1 t1 within (in_behind c s es d is) m1 (agree_rest c (declarator_notes s d) (declarators_notes s1 ds) agree))
 
   pub start_same : (t : tree.StartTree) (s : Scope) (es : List Entry) (st : State) (turns : ℕ) (within : List Entry → Type 0) → In c s es → Matches c st.bound es → Agree c (start_notes s t) →
       Same (made_first s t es) within (run_start (around_of c sites) t st turns) (run_start (around_of c sites) t (with_more more st) turns)
   start_same tree.StartTree.Empty s es st turns within is same agree = went st turns same
-  start_same (tree.StartTree.Declare ty ds) s es st turns within is same agree = declarators_same ds (typed ty s) es st turns within (in_typed c ty s es is) same agree
+  start_same (tree.StartTree.Declare ty ds) s es st turns within is same agree = declarators_same (is_unsigned ty) ds (typed ty s) es st turns within (in_typed c ty s es is) same agree
   start_same (tree.StartTree.Change x) s es st turns within is same agree = change_same s es is x st turns within same agree

@@ -8,7 +8,7 @@ use Rattle.cddf_meaning.specs.Functions.{returned, bind_params, in_function, emp
 use Rattle.cddf_meaning.specs.Program.{Main, main_of}
 use Rattle.cddf_meaning.specs.Run.{run, run_all}
 use Rattle.cddf_meaning.specs.State.{State, state_of}
-use Rattle.cddf_meaning.specs.Tasks.{Task, task_at, tasks_in_all, sites_of}
+use Rattle.cddf_meaning.specs.Tasks.{Task, typed_name, task_at, tasks_in_all, sites_of}
 use Rattle.cddf_meaning.specs.Variables.{bind, find}
 use Rattle.cddf_meaning.specs.declared.variable.Binding.{Binding}
 use Rattle.cddf_meaning.specs.declared.variable.Variable.TheVariants.{Scalar, Item}
@@ -17,15 +17,16 @@ use Rattle.flow_core_laws.specs.declared.claim.Claim.{Claim}
 use Rattle.os_ast.specs.Captured as captures
 use Rattle.os_ast.specs.Captured.{captured}
 use Rattle.os_ast.specs.Leveled.{AreAll, IsItem}
-use Rattle.os_ast.specs.Names.{Scope, entity_of}
+use Rattle.os_ast.specs.Names.{Scope, lookup, entity_of, flag_of}
+use Rattle.os_ast.specs.Notes.Clauses.{item_flag}
 use Rattle.os_ast.specs.Notes.Programs.{owner_of, param_list, after_param, after_params, after_items, in_body, items_notes}
 use Rattle.os_ast.specs.Notes.Programs as programs
 use Rattle.os_ast.specs.Notes.Statements.{stmts_notes}
-use Rattle.os_ast.specs.Parts.{Part, Item as ItemPart, Private, parts, item_name}
+use Rattle.os_ast.specs.Parts.{Part, Item as ItemPart, Private, parts, item_name, item_ids}
 use Rattle.os_ast.specs.Trees as tree
+use Rattle.os_ast.specs.Types.{is_unsigned}
 use Rattle.os_ast.specs.Violations.{names}
 use Rattle.os_ast.specs.Violations as text
-use Rattle.os_ast.specs.declared.expr.Name.{Name}
 use Rattle.os_ast.specs.declared.names.Entry.{Entry}
 use Rattle.os_ast.specs.declared.names.Owner.TheVariants as owner
 use Rattle.os_ast.specs.declared.program.Param.{Param}
@@ -81,17 +82,17 @@ module _ (c : Context) (more : List Binding) (within : List Entry → Type 0) (a
 -- what is in scope where a body begins
 params_ids : (ns : List Param) (vs : List ℤ) (s : Scope) (bound : List Binding) (es : List Entry) → ids bound ≡ entry_ids es → ids (bind_params ns vs bound) ≡ entry_ids (made_params s ns es)
 params_ids [] vs s bound es h = h
-params_ids (n ∷ ns) [] s bound es h = params_ids ns [] (after_param s n) (bind n.name.id (Scalar (pos 0)) bound) (param_entry s n ∷ es) (ap (λ xs. n.name.id ∷ xs) h)
-params_ids (n ∷ ns) (v ∷ vs) s bound es h = params_ids ns vs (after_param s n) (bind n.name.id (Scalar v) bound) (param_entry s n ∷ es) (ap (λ xs. n.name.id ∷ xs) h)
+params_ids (n ∷ ns) [] s bound es h = params_ids ns [] (after_param s n) (bind n.name.id (is_unsigned n.ty) (Scalar (pos 0)) bound) (param_entry s n ∷ es) (ap (λ xs. n.name.id ∷ xs) h)
+params_ids (n ∷ ns) (v ∷ vs) s bound es h = params_ids ns vs (after_param s n) (bind n.name.id (is_unsigned n.ty) (Scalar v) bound) (param_entry s n ∷ es) (ap (λ xs. n.name.id ∷ xs) h)
 
-captured_ids : (es : List Entry) (cs : List captures.Scalar) (vs : List ℤ) (bound : List Binding) (xs : List Entry) → ids bound ≡ entry_ids xs → ids (bind_captured (map (λ (x : captures.Scalar). x.id) cs) vs bound) ≡ entry_ids (made_captured es cs xs)
+captured_ids : (es : List Entry) (cs : List captures.Scalar) (vs : List ℤ) (bound : List Binding) (xs : List Entry) → ids bound ≡ entry_ids xs → ids (bind_captured (map (typed_name es) (map (λ (x : captures.Scalar). x.id) cs)) vs bound) ≡ entry_ids (made_captured es cs xs)
 captured_ids es [] vs bound xs h = h
-captured_ids es (x ∷ cs) [] bound xs h = captured_ids es cs [] (bind x.id (Scalar (pos 0)) bound) (captured_entry es x ∷ xs) (ap (λ ys. x.id ∷ ys) h)
-captured_ids es (x ∷ cs) (v ∷ vs) bound xs h = captured_ids es cs vs (bind x.id (Scalar v) bound) (captured_entry es x ∷ xs) (ap (λ ys. x.id ∷ ys) h)
+captured_ids es (x ∷ cs) [] bound xs h = captured_ids es cs [] (bind x.id (flag_of (lookup es x.id)) (Scalar (pos 0)) bound) (captured_entry es x ∷ xs) (ap (λ ys. x.id ∷ ys) h)
+captured_ids es (x ∷ cs) (v ∷ vs) bound xs h = captured_ids es cs vs (bind x.id (flag_of (lookup es x.id)) (Scalar v) bound) (captured_entry es x ∷ xs) (ap (λ ys. x.id ∷ ys) h)
 
-items_ids : (s : Scope) (depth item : ℕ) (ps : List Part) (bound : List Binding) (xs : List Entry) → ids bound ≡ entry_ids xs → ids (bind_items item ps bound) ≡ entry_ids (made_items s depth item ps xs)
+items_ids : (s : Scope) (depth item : ℕ) (ps : List Part) (bound : List Binding) (xs : List Entry) → ids bound ≡ entry_ids xs → ids (bind_items item (map (typed_name s.entries) (item_ids ps)) bound) ≡ entry_ids (made_items s depth item ps xs)
 items_ids s depth item [] bound xs h = h
-items_ids s depth item (ItemPart d i ∷ ps) bound xs h = items_ids s depth (suc item) ps (bind (item_name i.stream i.window).id (Item item) bound) _ (ap (λ ys. (item_name i.stream i.window).id ∷ ys) h)
+items_ids s depth item (ItemPart d i ∷ ps) bound xs h = items_ids s depth (suc item) ps (bind (item_name i.stream i.window).id (item_flag s i) (Item item) bound) _ (ap (λ ys. (item_name i.stream i.window).id ∷ ys) h)
 items_ids s depth item (Private n ∷ ps) bound xs h = items_ids s depth item ps bound xs h
 
 pub functions_find : FunctionsFindTheirNames
@@ -195,7 +196,7 @@ module _ (p : tree.ProgramTree) (program : IsLawful p) (m : Main) (found : main_
 
   sees : SeesAll c
   sees t es bound id d is same has =
-      seen_by c t es bound id d is same has (λ e. inr (refl, known_has no_code m.file (find m.file.names id) d (at.fits id d (ap entity_of (sym e) ∙ has))))
+      seen_by c t es bound id d is same has (λ e. inr (refl, known_has no_code m.file (find m.file.names id) d (at.fits.known id d (ap entity_of (sym e) ∙ has))))
 
   own : OwnsAll (IsNamed (sites_of tasks)) body_scope f.body
   own =

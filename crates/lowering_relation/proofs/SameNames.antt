@@ -2,10 +2,10 @@
 use Rattle.std.proofs.Common.{◌≡◌, ℕ, ◌==◌, ◌||◌, Bool, true, false, if◌then◌else◌, List, [], ◌∷◌, ◌++◌, map, Option, Some, None, ℤ, refl, sym, ap, ◌∙◌, subst, inl, inr, eqb-true}
 use Rattle.std.proofs.lemmas.Bool.{or_cases}
 use Rattle.std.specs.Prelude.{◌⊎◌}
-use Rattle.cddf_meaning.specs.File.{File, variable, or_in_file}
+use Rattle.cddf_meaning.specs.File.{File, variable, or_in_file, flags, type_in}
 use Rattle.cddf_meaning.specs.State.{State}
 use Rattle.cddf_meaning.specs.Value.{value, values}
-use Rattle.cddf_meaning.specs.Variables.{find}
+use Rattle.cddf_meaning.specs.Variables.{find, flag_or}
 use Rattle.cddf_meaning.specs.declared.variable.Binding.{Binding}
 use Rattle.cddf_meaning.specs.declared.variable.Variable.{Variable}
 use Rattle.cddf_meaning.proofs.IsIn.{in-append}
@@ -14,7 +14,7 @@ use Rattle.os_ast.specs.Names.{Scope, lookup, entity_of}
 use Rattle.os_ast.specs.Notes.Declarators.{size_value}
 use Rattle.os_ast.specs.Notes.Expressions.{count_args, expr_notes, place_notes, args_notes, links_notes}
 use Rattle.os_ast.specs.Notes.Kinds.{Note, Used}
-use Rattle.os_ast.specs.Parts.{is_in}
+use Rattle.os_ast.specs.Parts.{is_in, target_name}
 use Rattle.os_ast.specs.Trees as tree
 use Rattle.os_ast.specs.declared.expr.Name.{Name}
 use Rattle.os_ast.specs.declared.names.Entity.{Entity}
@@ -28,7 +28,7 @@ use Rattle.os_ast.specs.declared.names.Use.TheVariants as usage
 use Rattle.lowering_relation.specs.FoundNames.{AreElse, with_more}
 use Rattle.lowering_relation.proofs.Context.{FileHas, Reaches, IsPlain, Context, Agree, agree_first, agree_rest, In, used, split}
 use Rattle.lowering_relation.proofs.Declares.{constant_known}
-use Rattle.lowering_relation.proofs.Elsewhere.{FindSame, value_same, values_same}
+use Rattle.lowering_relation.proofs.Elsewhere.{FindSame, type_same, target_same, value_same, values_same}
 
 abbrev pub ids : List Binding → List ℕ
 ids bound = map (λ (b : Binding). b.id) bound
@@ -63,8 +63,39 @@ same_found file bound more id apart (inr (v, is)) = by_apart (apart id)
     by_apart (inl none) = let bad : None ≡ Some v = sym none ∙ is in absurd (cc)
     by_apart (inr none) = rest_missed bound more id none
 
+-- its type too
+front_flag : (bound more : List Binding) (id : ℕ) (elsewhere : Bool) → is_in id (ids bound) ≡ true → flag_or elsewhere bound id ≡ flag_or elsewhere (bound ++ more) id
+front_flag [] more id elsewhere h = absurd (cc)
+front_flag (b ∷ bound) more id elsewhere h = by_case (b.id == id) h (λ k. front_flag bound more id elsewhere k)
+  where
+    by_case : (t : Bool) → (t || is_in id (ids bound)) ≡ true → (is_in id (ids bound) ≡ true → flag_or elsewhere bound id ≡ flag_or elsewhere (bound ++ more) id) →
+        (if t then b.unsigned else flag_or elsewhere bound id) ≡ (if t then b.unsigned else flag_or elsewhere (bound ++ more) id)
+    by_case true k next = refl
+    by_case false k next = next k
+
+missed_flag : (more : List Binding) (id : ℕ) (elsewhere : Bool) → find more id ≡ None → elsewhere ≡ flag_or elsewhere more id
+missed_flag [] id elsewhere h = refl
+missed_flag (b ∷ more) id elsewhere h = by_case (b.id == id) h (λ k. missed_flag more id elsewhere k)
+  where
+    by_case : (t : Bool) → (if t then Some b.variable else find more id) ≡ None → (find more id ≡ None → elsewhere ≡ flag_or elsewhere more id) →
+        elsewhere ≡ (if t then b.unsigned else flag_or elsewhere more id)
+    by_case true k next = absurd (cc)
+    by_case false k next = next k
+
+rest_flag : (bound more : List Binding) (id : ℕ) (elsewhere : Bool) → find more id ≡ None → flag_or elsewhere bound id ≡ flag_or elsewhere (bound ++ more) id
+rest_flag [] more id elsewhere h = missed_flag more id elsewhere h
+rest_flag (b ∷ bound) more id elsewhere h = ap (λ u. if b.id == id then b.unsigned else u) (rest_flag bound more id elsewhere h)
+
+same_flag : (file : File) (bound more : List Binding) (id : ℕ) → AreElse file more → Seen file bound id → (elsewhere : Bool) → flag_or elsewhere bound id ≡ flag_or elsewhere (bound ++ more) id
+same_flag file bound more id apart (inl h) elsewhere = front_flag bound more id elsewhere h
+same_flag file bound more id apart (inr (v, is)) elsewhere = by_apart (apart id)
+  where
+    by_apart : (find file.names id ≡ None) ⊎ (find more id ≡ None) → flag_or elsewhere bound id ≡ flag_or elsewhere (bound ++ more) id
+    by_apart (inl none) = let bad : None ≡ Some v = sym none ∙ is in absurd (cc)
+    by_apart (inr none) = rest_flag bound more id elsewhere none
+
 pub all_same : (file : File) (bound more : List Binding) (names : List ℕ) → AreElse file more → AllSeen file bound names → FindSame bound (bound ++ more) names
-all_same file bound more names apart seen id is = same_found file bound more id apart (seen id is)
+all_same file bound more names apart seen id is = (same_found file bound more id apart (seen id is), same_flag file bound more id apart (seen id is))
 
 pub no_names : (file : File) (bound : List Binding) → AllSeen file bound []
 no_names file bound id h = absurd (cc)
@@ -197,6 +228,12 @@ module _ (c : Context) where
 module _ (file : File) (more : List Binding) (apart : AreElse file more) (st : State) where
   pub value_more : (e : tree.ExprTree) (turns : ℕ) → AllSeen file st.bound (expr_names e) → value file e st turns ≡ value file e (with_more more st) turns
   value_more e turns seen = value_same file st st.bound (st.bound ++ more) e turns (all_same file st.bound more (expr_names e) apart seen)
+
+  pub type_more : (e : tree.ExprTree) → AllSeen file st.bound (expr_names e) → type_in file st e ≡ type_in file (with_more more st) e
+  type_more e seen = type_same file st st.bound (st.bound ++ more) e (all_same file st.bound more (expr_names e) apart seen)
+
+  pub target_type_more : (t : tree.TargetTree) → AllSeen file st.bound (target_names t) → flags file st (target_name t) ≡ flags file (with_more more st) (target_name t)
+  target_type_more t seen = target_same file st st.bound (st.bound ++ more) t (all_same file st.bound more (target_names t) apart seen)
 
   pub values_more : (args : tree.Args) (turns : ℕ) → AllSeen file st.bound (args_names args) → values file args st turns ≡ values file args (with_more more st) turns
   values_more args turns seen = values_same file st st.bound (st.bound ++ more) args turns (all_same file st.bound more (args_names args) apart seen)

@@ -20,6 +20,7 @@ use Rattle.os_ast.specs.Notes.Kinds.{Task}
 use Rattle.os_ast.specs.Notes.Statements.{after_stmt, stmt_notes, stmts_notes}
 use Rattle.os_ast.specs.Parts.{parts, count_items}
 use Rattle.os_ast.specs.Trees as tree
+use Rattle.os_ast.specs.Types.{is_unsigned}
 use Rattle.os_ast.specs.declared.expr.Mark.{Mark}
 use Rattle.os_ast.specs.declared.names.Entry.{Entry}
 use Rattle.os_ast.specs.declared.names.Owner.TheVariants as owner
@@ -148,7 +149,7 @@ module _ (c : Context) (more : List Binding) (apart : AreElse c.file more) (site
         let is = in_typed c ty s0 es before in
         let s1 = after_declarators s ds in
         flows_same c more (exactly (made s ds es)) (around es) (made s ds es) (made_all s1 ss (made s ds es)) (run_all u ss) (run_all u ss) (λ x e. subst (λ y. Extends y es) (sym e) (made_extends ds s es))
-        (declarators_same c more apart sites ds s es st turns (exactly (made s ds es)) is same (agree_first c (declarators_notes s ds) (stmts_notes s1 ss) agree))
+        (declarators_same c more apart sites (is_unsigned ty) ds s es st turns (exactly (made s ds es)) is same (agree_first c (declarators_notes s ds) (stmts_notes s1 ss) agree))
         (λ st1 t1 m1. widened (made s ds es) es (made_all s1 ss (made s ds es)) (made_extends ds s es)
         (stmts_same rest s1 (made s ds es) st1 t1 (declarators_in c ds s es is) m1 (agree_rest c (declarators_notes s ds) (stmts_notes s1 ss) agree) own.1))
     stmts_same (AreStmts.stmt {s = a} {ss = ss} body rest) s es st turns is same agree own =

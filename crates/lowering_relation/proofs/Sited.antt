@@ -7,11 +7,11 @@ use Rattle.c_int.specs.Operators.{is_zero}
 use Rattle.cddf_meaning.specs.Answers.{Answer, and_then, Left, with_turns}
 use Rattle.cddf_meaning.specs.Claims.{limit}
 use Rattle.cddf_meaning.specs.Control.{control, control_in, control_of, control_state, round_main}
-use Rattle.cddf_meaning.specs.File.{File, variable}
+use Rattle.cddf_meaning.specs.File.{File, variable, type_in}
 use Rattle.cddf_meaning.specs.Flow.{Ran, Runs, Went, Ended, given, goes_on, flows, loops, left_from}
 use Rattle.cddf_meaning.specs.Operators.{binary_value, step_operator}
 use Rattle.cddf_meaning.specs.Program.{Main, main_of}
-use Rattle.cddf_meaning.specs.Run.{Around, loop, assigned, aim_at, old_value, after_store, changed, run_change, run_scalar, array_size, run_array, run_window, window_size, with_streams, run_streams, run_unsized_or, run_declarator, run_declarators, run_start, run_test, run_step, run, run_all}
+use Rattle.cddf_meaning.specs.Run.{Around, loop, assigned, aim_at, old_value, after_store, changed, target_type, run_change, run_scalar, array_size, run_array, run_window, window_size, with_streams, run_streams, run_unsized_or, run_declarator, run_declarators, run_start, run_test, run_step, run, run_all}
 use Rattle.cddf_meaning.specs.State.{State, declared, stored, stored_in, stored_in_at}
 use Rattle.cddf_meaning.specs.Streams.{stream_number, cursor_move, items_claims, run_task, run_tick, tick_turn, unless_limited, with_activation, captured_by, task_number}
 use Rattle.cddf_meaning.specs.Tasks.{Task, sites_of}
@@ -26,6 +26,7 @@ use Rattle.cddf_meaning.specs.declared.variable.Variable.TheVariants.{Constant, 
 use Rattle.flow_core_laws.specs.declared.activation.Activation.{Activation}
 use Rattle.os_ast.specs.Parts.{Part, parts}
 use Rattle.os_ast.specs.Trees as tree
+use Rattle.os_ast.specs.Types.{is_unsigned}
 use Rattle.os_ast.specs.declared.expr.Mark.{Mark}
 
 -- what was created by the end of a run
@@ -121,51 +122,51 @@ module _ (n : ℕ) where
 
   change_sited : (file : File) (c : tree.ChangeTree) → RunsSited (run_change file c)
   change_sited file (tree.Set t a m e) =
-      changed_sited file t (λ old s turns. and_then (value file e s turns) (λ n. with_turns n.turns (assigned a m.line old n.value)))
-  change_sited file (tree.After t p m) = changed_sited file t (λ old s turns. with_turns turns (binary_value (step_operator p) m.line old (pos 1)))
-  change_sited file (tree.Before t p m) = changed_sited file t (λ old s turns. with_turns turns (binary_value (step_operator p) m.line old (pos 1)))
+      changed_sited file t (λ old s turns. and_then (value file e s turns) (λ n. with_turns n.turns (assigned a m.line (target_type file s t) (type_in file s e) old n.value)))
+  change_sited file (tree.After t p m) = changed_sited file t (λ old s turns. with_turns turns (binary_value (step_operator p) m.line (target_type file s t) false old (pos 1)))
+  change_sited file (tree.Before t p m) = changed_sited file t (λ old s turns. with_turns turns (binary_value (step_operator p) m.line (target_type file s t) false old (pos 1)))
 
-  scalar_sited : (file : File) (id : ℕ) (first : Option tree.ExprTree) → RunsSited (run_scalar file id first)
-  scalar_sited file id None s turns h = h
-  scalar_sited file id (Some e) s turns h =
-      let inner = declared id (Scalar (pos 0)) s in
+  scalar_sited : (file : File) (w : Bool) (id : ℕ) (first : Option tree.ExprTree) → RunsSited (run_scalar file w id first)
+  scalar_sited file w id None s turns h = h
+  scalar_sited file w id (Some e) s turns h =
+      let inner = declared id w (Scalar (pos 0)) s in
       given_sited inner (value file e inner turns) (λ n. goes_on (stored inner id n.value) n.turns) h
       (λ n. on_sited inner (stored inner id n.value) n.turns (stored_in-made (find inner.bound id) inner id n.value) h)
 
-  streams_sited : (file : File) (id : ℕ) (size : Option tree.IndexTree) → RunsSited (run_streams file id size)
-  streams_sited file id None s turns h = h
-  streams_sited file id (Some i) s turns h =
-      given_sited s (value file i.value s turns) (λ n. goes_on (with_streams id (array_size n.value) s) n.turns) h (λ n. h)
+  streams_sited : (file : File) (w : Bool) (id : ℕ) (size : Option tree.IndexTree) → RunsSited (run_streams file w id size)
+  streams_sited file w id None s turns h = h
+  streams_sited file w id (Some i) s turns h =
+      given_sited s (value file i.value s turns) (λ n. goes_on (with_streams id w (array_size n.value) s) n.turns) h (λ n. h)
 
-  window_sited : (file : File) (id : ℕ) (i : tree.IndexTree) → RunsSited (run_window file id i)
-  window_sited file id i s turns h =
+  window_sited : (file : File) (w : Bool) (id : ℕ) (i : tree.IndexTree) → RunsSited (run_window file w id i)
+  window_sited file w id i s turns h =
       given_sited s (value file i.value s turns)
-      (λ n. given (window_size i.mark.line n.value) s (λ horizon. goes_on (declared id (Window horizon) s) n.turns)) h
-      (λ n. given_sited s (window_size i.mark.line n.value) (λ horizon. goes_on (declared id (Window horizon) s) n.turns) h (λ horizon. h))
+      (λ n. given (window_size i.mark.line n.value) s (λ horizon. goes_on (declared id w (Window horizon) s) n.turns)) h
+      (λ n. given_sited s (window_size i.mark.line n.value) (λ horizon. goes_on (declared id w (Window horizon) s) n.turns) h (λ horizon. h))
 
-  array_sited : (file : File) (id : ℕ) (size : tree.ExprTree) → RunsSited (run_array file id size)
-  array_sited file id size s turns h =
-      given_sited s (value file size s turns) (λ n. goes_on (declared id (Array (replicate (array_size n.value) (pos 0))) s) n.turns) h (λ n. h)
+  array_sited : (file : File) (w : Bool) (id : ℕ) (size : tree.ExprTree) → RunsSited (run_array file w id size)
+  array_sited file w id size s turns h =
+      given_sited s (value file size s turns) (λ n. goes_on (declared id w (Array (replicate (array_size n.value) (pos 0))) s) n.turns) h (λ n. h)
 
-  unsized_sited : (u : Around) (d : tree.DeclaratorTree) (size : Option tree.IndexTree) → RunsSited (run_unsized_or u d size)
-  unsized_sited u d None = scalar_sited u.file d.name.id d.first
-  unsized_sited u d (Some i) =
-      either_sited u.is_control (run_window u.file d.name.id i) (run_array u.file d.name.id i.value) (window_sited u.file d.name.id i)
-      (array_sited u.file d.name.id i.value)
+  unsized_sited : (u : Around) (w : Bool) (d : tree.DeclaratorTree) (size : Option tree.IndexTree) → RunsSited (run_unsized_or u w d size)
+  unsized_sited u w d None = scalar_sited u.file w d.name.id d.first
+  unsized_sited u w d (Some i) =
+      either_sited u.is_control (run_window u.file w d.name.id i) (run_array u.file w d.name.id i.value) (window_sited u.file w d.name.id i)
+      (array_sited u.file w d.name.id i.value)
 
-  declarator_sited : (u : Around) (d : tree.DeclaratorTree) → RunsSited (run_declarator u d)
-  declarator_sited u d =
-      either_sited d.stream (run_streams u.file d.name.id d.size) (run_unsized_or u d d.size) (streams_sited u.file d.name.id d.size)
-      (unsized_sited u d d.size)
+  declarator_sited : (u : Around) (w : Bool) (d : tree.DeclaratorTree) → RunsSited (run_declarator u w d)
+  declarator_sited u w d =
+      either_sited d.stream (run_streams u.file w d.name.id d.size) (run_unsized_or u w d d.size) (streams_sited u.file w d.name.id d.size)
+      (unsized_sited u w d d.size)
 
-  declarators_sited : (u : Around) (ds : List tree.DeclaratorTree) → RunsSited (run_declarators u ds)
-  declarators_sited u [] s turns h = h
-  declarators_sited u (d ∷ ds) s turns h =
-      flows_sited (run_declarators u ds) (run_declarator u d s turns) (declarator_sited u d s turns h) (declarators_sited u ds)
+  declarators_sited : (u : Around) (w : Bool) (ds : List tree.DeclaratorTree) → RunsSited (run_declarators u w ds)
+  declarators_sited u w [] s turns h = h
+  declarators_sited u w (d ∷ ds) s turns h =
+      flows_sited (run_declarators u w ds) (run_declarator u w d s turns) (declarator_sited u w d s turns h) (declarators_sited u w ds)
 
   start_sited : (u : Around) (start : tree.StartTree) → RunsSited (run_start u start)
   start_sited u tree.StartTree.Empty s turns h = h
-  start_sited u (tree.StartTree.Declare ty ds) s turns h = declarators_sited u ds s turns h
+  start_sited u (tree.StartTree.Declare ty ds) s turns h = declarators_sited u (is_unsigned ty) ds s turns h
   start_sited u (tree.StartTree.Change c) s turns h = change_sited u.file c s turns h
 
   step_sited : (file : File) (step : Option tree.ChangeTree) → RunsSited (run_step file step)
@@ -212,7 +213,7 @@ module _ (u : Around) (n : ℕ) (below : (m : Mark) (k : ℕ) → task_number u.
     run_sited : (a : tree.StmtTree) → RunsSited n (run u a)
     run_sited tree.StmtTree.Empty s turns h = h
     run_sited (tree.Block ss) s turns h = left_sited n s (run_all u ss s turns) (all_sited ss s turns h)
-    run_sited (tree.StmtTree.Declare ty ds) s turns h = declarators_sited n u ds s turns h
+    run_sited (tree.StmtTree.Declare ty ds) s turns h = declarators_sited n u (is_unsigned ty) ds s turns h
     run_sited (tree.StmtTree.Change c) s turns h = change_sited n u.file c s turns h
     run_sited (tree.StmtTree.Call f args) s turns h =
         given_sited n s (and_then (values u.file args s turns) (call_value u.file.calls (variable u.file s f.id))) (λ v. goes_on s v.turns) h (λ v. h)

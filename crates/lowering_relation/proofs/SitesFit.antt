@@ -141,7 +141,7 @@ module _ (h : Home) where
     where
       by_window : (w : Option tree.JoinTree) (slot : ℕ) → AllFit h (window_notes s before i.stream w) → window_of (tells h) w ≡ Some slot → slot < h.slots
       by_window None slot fit is = absurd (cc)
-      by_window (Some j) slot fit is = window_below (tells h j.name.mark.place) slot fit.1.0 is
+      by_window (Some j) slot fit is = window_below (tells h j.name.mark.place).what slot fit.1.0 is
 
   items_fit : (ps : List Part) (s : Scope) (before : List ℕ) → AllFit h (parts_notes s before ps) → All ItemFits (site_items (tells h) ps)
   items_fit [] s before fit = all_none ItemFits

@@ -171,13 +171,13 @@ module _ (rs : List Resolved) (ordered : InOrder rs) where
   used_size s n u ns lawful tells =
       let d = declared-use s n u (lawful.0, tt) in
       let w = told_is rs n.mark.place (meaning_in s.owner s.captured d.0) (flag_of (lookup s.entries n.id)) ordered (told-use rs s n u d.0 d.1 (tells.0, tt)) in
-      ap (λ o. unwrap_or (limited (constant_of o)) 0) d.1 ∙ constant_limit s.owner s.captured d.0 ∙ ap constant_size (sym w)
+      ap (λ o. unwrap_or (limited (constant_of o)) 0) d.1 ∙ constant_limit s.owner s.captured d.0 ∙ ap (λ (r : Resolved). constant_size r.what) (sym w)
 
   -- one that is the name of a constant
   named_size : (s : Scope) (n : Name) (o : Option ℤ) (k : ℕ) → o ≡ Some (pos k) → AreIn rs (constant_meaning n.mark (flag_of (lookup s.entries n.id)) o) → unwrap_or (limited o) 0 ≡ size (tree.Place (tree.Variable n))
   named_size s n o k is h =
       let w = told_is rs n.mark.place (what.Constant (pos k)) (flag_of (lookup s.entries n.id)) ordered (subst (λ x. AreIn rs (constant_meaning n.mark (flag_of (lookup s.entries n.id)) x)) is h).0 in
-      ap (λ x. unwrap_or (limited x) 0) is ∙ ap constant_size (sym w)
+      ap (λ x. unwrap_or (limited x) 0) is ∙ ap (λ (r : Resolved). constant_size r.what) (sym w)
 
   by_name : (s : Scope) (e : tree.ExprTree) → IsKnown s e → Tells rs (size_notes s e) → unwrap_or (size_of s e) 0 ≡ size e
   by_name s (tree.Number n) h tells = refl

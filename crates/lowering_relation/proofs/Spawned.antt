@@ -3,14 +3,14 @@ use Rattle.std.proofs.Common.{◌≡◌, ℕ, suc, ◌+◌, ◌*◌, List, [], �
 use Rattle.std.proofs.lemmas.Option.{slice_get_within}
 use Rattle.std.specs.Option.{option_map_or}
 use Rattle.os_ast.specs.Parts.{Part, Item, Private, count_items}
-use Rattle.os_ast.specs.declared.names.What.{What}
+use Rattle.os_ast.specs.declared.names.Resolved.{Resolved}
 use Rattle.os_code.specs.declared.site.Site.{Site}
 use Rattle.lowering_relation.specs.Programs.{HasTask}
 use Rattle.lowering_relation.specs.Tasks.{TaskTree, number_of, site_items}
 use Rattle.lowering_relation.proofs.Homes.{Home, AreSpawned}
 use Rattle.lowering_relation.proofs.TaskMarks.{Rises, place_of, position_is}
 
-pub items_length : (tells : ℕ → What) (ps : List Part) → length (site_items tells ps) ≡ count_items ps
+pub items_length : (tells : ℕ → Resolved) (ps : List Part) → length (site_items tells ps) ≡ count_items ps
 items_length tells [] = refl
 items_length tells (Private n ∷ ps) = items_length tells ps
 items_length tells (Item d i ∷ ps) = ap suc (items_length tells ps)
@@ -23,7 +23,7 @@ none_spawned h none (t ∷ ts) = (
   none_spawned h none ts,
 )
 
-module _ (h : Home) (tells : ℕ → What) (captured : List (List ℕ)) (lo hi : ℕ) (rises : Rises place_of lo h.body.tasks hi)
+module _ (h : Home) (tells : ℕ → Resolved) (captured : List (List ℕ)) (lo hi : ℕ) (rises : Rises place_of lo h.body.tasks hi)
     (has : (number : ℕ) (t : TaskTree) → slice_get h.body.tasks number ≡ Some t → HasTask h.code tells captured number t) where
   pub all_spawned : (ts : List TaskTree) (k : ℕ) → ((j : ℕ) (t : TaskTree) → slice_get ts j ≡ Some t → slice_get h.body.tasks (k + j) ≡ Some t) →
       AreSpawned h ts

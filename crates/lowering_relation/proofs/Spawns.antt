@@ -23,7 +23,6 @@ use Rattle.os_ast.specs.declared.names.Entity.{Entity}
 use Rattle.os_ast.specs.declared.names.Entity.TheVariants as entity
 use Rattle.os_ast.specs.declared.names.Entry.{Entry}
 use Rattle.os_ast.specs.declared.names.Resolved.{Resolved}
-use Rattle.os_ast.specs.declared.names.What.{What}
 use Rattle.os_code.specs.declared.instr.Instr.{Instr}
 use Rattle.os_code.specs.declared.instr.Instr.TheVariants as instr
 use Rattle.os_code.specs.declared.parts.Parts.{Parts}
@@ -48,7 +47,7 @@ use Rattle.window_check_laws.specs.Order.{InOrder}
 
 -- A task of `main`: its number in the meaning and in the code, and its site, whose captured slots are those of the
 -- scalars that it captures.
-pub record IsSite (code : Parts) (tells : ℕ → What) (sites : List MeaningSite) (tasks : List TaskTree) (s : Scope) (mark : Mark) (cs : List tree.ClauseTree) (a : tree.StmtTree) : Type 0 where
+pub record IsSite (code : Parts) (tells : ℕ → Resolved) (sites : List MeaningSite) (tasks : List TaskTree) (s : Scope) (mark : Mark) (cs : List tree.ClauseTree) (a : tree.StmtTree) : Type 0 where
   pub number : ℕ
   pub site : Site
   pub in_code : number_of tasks mark ≡ Some number

@@ -60,6 +60,17 @@ declarator_onward s d =
 pub declarator_entries : (s : Scope) (d : tree.DeclaratorTree) → (after_declarator s d).entries ≡ entry s d ∷ s.entries
 declarator_entries s d = ap (λ es. entry s d ∷ es) (taken_entries s (form s d))
 
+-- a declarator ends no declaration
+taken_unsigned : (s : Scope) (f : Form) → (taken s f).unsigned ≡ s.unsigned
+taken_unsigned s form_of.Scalar = refl
+taken_unsigned s (form_of.Array size) = refl
+taken_unsigned s form_of.Window = refl
+taken_unsigned s form_of.Stream = refl
+taken_unsigned s (form_of.Streams size) = refl
+
+pub declarator_unsigned : (s : Scope) (d : tree.DeclaratorTree) → (after_declarator s d).unsigned ≡ s.unsigned
+declarator_unsigned s d = taken_unsigned s (form s d)
+
 -- what declarations declare, within what was declared before
 abbrev pub made : Scope → List tree.DeclaratorTree → List Entry → List Entry
 made s [] es = es

@@ -12,7 +12,6 @@ use Rattle.os_ast.specs.Notes.Statements.{after_stmt, after_stmts, stmt_notes, s
 use Rattle.os_ast.specs.Parts.{parts}
 use Rattle.os_ast.specs.Rules.{is_outermost}
 use Rattle.os_ast.specs.Trees as tree
-use Rattle.os_ast.specs.declared.expr.Name.{Name}
 use Rattle.os_ast.specs.declared.names.Owner.{Owner}
 use Rattle.os_ast.specs.declared.names.Owner.TheVariants as owner
 use Rattle.os_ast.specs.declared.program.Param.{Param}

@@ -80,7 +80,7 @@ module _ (code : Parts) (file : File) (falls : CallsFall file) (names : List Res
   pub record TargetStream (t : tree.TargetTree) (dir : Direction) : Type 0 where
     pub first : ℕ
     pub count : ℕ
-    pub first_is : first_of (tells c (target_name t).mark.place) ≡ first
+    pub first_is : first_of (tells c (target_name t).mark.place).what ≡ first
     pub below : first + count ≤ streams
     pub allowed : (k : ℕ) → k < count → (first + k == forbidden dir) ≡ false
     pub runs : (from to : ℕ) (stack : List ℤ) (turns : ℕ) → HasStream code (tells c) t from to →

@@ -4,7 +4,8 @@ use Rattle.std.specs.Prelude.{⊤, ◌⊎◌}
 use Rattle.cddf_meaning.specs.File.{File}
 use Rattle.cddf_meaning.specs.Moves.{CallsFall}
 use Rattle.cddf_meaning.specs.Tasks.{Task as MeaningTask}
-use Rattle.cddf_meaning.specs.Variables.{find}
+use Rattle.cddf_meaning.specs.Variables.{find, flag_or}
+use Rattle.cddf_meaning.specs.declared.variable.Variable.{Variable}
 use Rattle.flow_core_laws.specs.declared.claim.Claim.{Claim}
 use Rattle.os_ast.specs.Captured.{Scalar, captured, slots_of}
 use Rattle.os_ast.specs.FreeNames.{task_names}
@@ -27,7 +28,8 @@ use Rattle.os_ast.specs.declared.names.Use.{Use}
 use Rattle.os_ast.specs.declared.names.Use.TheVariants as usage
 use Rattle.os_code.specs.declared.parts.Parts.{Parts}
 use Rattle.lowering_relation.proofs.Capturing.{HasSlot, AreScalars, captured_scalars, one_name}
-use Rattle.lowering_relation.proofs.Context.{InTask, Reaches, IsPlain, Context, Agree, In, kept_rule, split}
+use Rattle.lowering_relation.proofs.Alignment.{flag_or_of}
+use Rattle.lowering_relation.proofs.Context.{InTask, FileHas, Reaches, flag_round, IsPlain, Context, Agree, In, kept_rule, declared_flag, split}
 use Rattle.lowering_relation.proofs.Functions.{Known, known_has, FileFits}
 use Rattle.lowering_relation.proofs.NoTasks.{items_owner}
 use Rattle.lowering_relation.proofs.TaskTexts.{IsOfMain, AllOfMain, TaskAt}
@@ -85,7 +87,44 @@ in_file (e ∷ inner) file id d all other is = by_case (e.id == id) is (λ k. in
     by_case true k next = let same : e.entity ≡ d = cc in absurd (other (subst IsOfMain same all.0))
     by_case false k next = next k
 
+-- so such a name is the file's
+in_file_alone : (inner file : List Entry) (id : ℕ) (d : Entity) → AllOfMain inner → (IsOfMain d → ⊥) → entity_of (lookup (inner ++ file) id) ≡ Some d → lookup (inner ++ file) id ≡ lookup file id
+in_file_alone [] file id d all other is = refl
+in_file_alone (e ∷ inner) file id d all other is = by_case (e.id == id) is (λ k. in_file_alone inner file id d all.1 other k)
+  where
+    by_case : (t : Bool) → entity_of (if t then Some e else lookup (inner ++ file) id) ≡ Some d → (entity_of (lookup (inner ++ file) id) ≡ Some d → lookup (inner ++ file) id ≡ lookup file id) →
+        (if t then Some e else lookup (inner ++ file) id) ≡ lookup file id
+    by_case true k next = let same : e.entity ≡ d = cc in absurd (other (subst IsOfMain same all.0))
+    by_case false k next = next k
+
+-- the file has nothing that only `main` declares
+file_apart : (code : Parts) (file : File) (v : Option Variable) (d : Entity) → FileHas code file v d → IsOfMain d → ⊥
+file_apart code file v (entity.Constant x) h is = is
+file_apart code file v (entity.Function number params) h is = is
+file_apart code file v (entity.Scalar slot) h is = h
+file_apart code file v (entity.Control slot) h is = h
+file_apart code file v entity.InputLength h is = h
+file_apart code file v (entity.Array first size) h is = h
+file_apart code file v (entity.Window slot) h is = h
+file_apart code file v (entity.Stream number) h is = h
+file_apart code file v (entity.Streams first count) h is = h
+file_apart code file v (entity.Element item x) h is = h
+file_apart code file v (entity.View item x) h is = h
+
 module _ (es : List Entry) where
+  -- captured scalars have the types that they have in `main`
+  abbrev SameFlags : List Entry → Type 0
+  SameFlags xs = (id : ℕ) (d : Entity) → entity_of (lookup xs id) ≡ Some d → flag_of (lookup xs id) ≡ flag_of (lookup es id)
+
+  flags_caught : (cs : List Scalar) (xs : List Entry) → SameFlags xs → SameFlags (made_captured es cs xs)
+  flags_caught [] xs same = same
+  flags_caught (c ∷ cs) xs same = flags_caught cs (captured_entry es c ∷ xs) (λ id d is. by_case id d (c.id == id) refl is)
+    where
+      by_case : (id : ℕ) (d : Entity) (t : Bool) → (c.id == id) ≡ t → entity_of (if t then Some (captured_entry es c) else lookup xs id) ≡ Some d →
+          flag_of (if t then Some (captured_entry es c) else lookup xs id) ≡ flag_of (lookup es id)
+      by_case id d true e is = ap (λ k. flag_of (lookup es k)) (eqb-true c.id id e)
+      by_case id d false e is = same id d is
+
   by_own : (c : Scalar) (xs : List Entry) (id : ℕ) (d : Entity) (t : Bool) → (c.id == id) ≡ t → entity_of (lookup es id) ≡ Some d → (t ≡ false → entity_of (lookup xs id) ≡ Some d) →
       entity_of (if t then Some (captured_entry es c) else lookup xs id) ≡ Some d
   by_own c xs id d false e is more = more refl
@@ -237,7 +276,7 @@ module _ (code : Parts) (file : File) (falls : CallsFall file) (rs : List Resolv
 
   file_entity : (id : ℕ) (d : Entity) → (IsOfMain d → ⊥) → entity_of (lookup there.scope.entries id) ≡ Some d → Known code file (find file.names id) d
   file_entity id d other is =
-      fits id d (in_file there.in_main.inner file_es id d there.in_main.all other (subst (λ es. entity_of (lookup es id) ≡ Some d) there.in_main.entries is))
+      fits.known id d (in_file there.in_main.inner file_es id d there.in_main.all other (subst (λ es. entity_of (lookup es id) ≡ Some d) there.in_main.entries is))
 
   by_file : (id : ℕ) (d : Entity) → (IsOfMain d → ⊥) → control_slots (Some d) ≡ [] → entity_of (lookup there.scope.entries id) ≡ Some d → lookup bound id ≡ lookup caught_all id → Reaches code file bound id d
   by_file id d other none is same =
@@ -280,6 +319,37 @@ module _ (code : Parts) (file : File) (falls : CallsFall file) (rs : List Resolv
       by_split (inl e) = inl (ap entity_of (sym e) ∙ in_round)
       by_split (inr (text_side, run_side)) = by_entity s n u d plain lawful besides is (ap entity_of (sym text_side) ∙ in_round) run_side
 
+  -- what is reached has the type that it has in the text
+  flag_reached : (id : ℕ) (d : Entity) → entity_of (lookup inner.entries id) ≡ Some d → Reaches code file bound id d → flag_round file bound id ≡ flag_of (lookup inner.entries id)
+  flag_reached id d is reached = by_reach reached ∙ ap (λ es. flag_of (lookup es id)) (sym round_is)
+    where
+      elsewhere : Bool
+      elsewhere = flag_or false file.names id
+
+      in_round : entity_of (lookup (items ++ there.scope.entries) id) ≡ Some d
+      in_round = ap (λ es. entity_of (lookup es id)) (sym round_is) ∙ is
+
+      by_bound : entity_of (lookup bound id) ≡ Some d → Splits id → flag_of (lookup bound id) ≡ flag_of (lookup (items ++ there.scope.entries) id)
+      by_bound h (inl e) = ap flag_of (sym e)
+      by_bound h (inr (text_side, run_side)) =
+          ap flag_of run_side ∙ flags_caught there.scope.entries cs [] (λ k x none. absurd (cc)) id d (ap entity_of (sym run_side) ∙ h) ∙ ap flag_of (sym text_side)
+
+      by_none : lookup bound id ≡ None → FileHas code file (find file.names id) d → Splits id → elsewhere ≡ flag_of (lookup (items ++ there.scope.entries) id)
+      by_none none h (inl e) = let bad : None ≡ Some d = ap entity_of (sym (e ∙ none)) ∙ in_round in absurd (cc)
+      by_none none h (inr (text_side, run_side)) =
+          let main : entity_of (lookup there.scope.entries id) ≡ Some d = ap entity_of (sym text_side) ∙ in_round in
+          let alone : lookup there.scope.entries id ≡ lookup file_es id = ap (λ es. lookup es id) there.in_main.entries
+          ∙ in_file_alone there.in_main.inner file_es id d there.in_main.all (file_apart code file (find file.names id) d h) (ap (λ es. entity_of (lookup es id)) (sym there.in_main.entries) ∙ main) in
+          fits.flag id ∙ ap flag_of (sym (text_side ∙ alone))
+
+      by_reach : Reaches code file bound id d → flag_round file bound id ≡ flag_of (lookup (items ++ there.scope.entries) id)
+      by_reach (inl h) = declared_flag elsewhere (lookup bound id) d h ∙ by_bound h (split items there.scope.entries caught_all id)
+      by_reach (inr (none, h)) = ap (flag_or_of elsewhere) none ∙ by_none none h (split items there.scope.entries caught_all id)
+
+  pub flagged_reach : (s : Scope) (n : Name) (u : Use) (d : Entity) → IsPlain u → KeepsAll rules (Used s n u) → Besides slots (Used s n u) → entity_of (lookup s.entries n.id) ≡ Some d →
+      lookup s.entries n.id ≡ lookup inner.entries n.id → flag_round file bound n.id ≡ flag_of (lookup inner.entries n.id)
+  flagged_reach s n u d plain lawful besides is same = flag_reached n.id d (ap entity_of (sym same) ∙ is) (reach s n u d plain lawful besides is same)
+
   pub constant_reach : (id : ℕ) (v : ℤ) → entity_of (lookup inner.entries id) ≡ Some (entity.Constant v) → Reaches code file bound id (entity.Constant v)
   constant_reach id v is = by_split (split items there.scope.entries caught_all id)
     where
@@ -305,6 +375,7 @@ module _ (code : Parts) (file : File) (falls : CallsFall file) (rs : List Resolv
     bound = bound;
     besides = Besides slots;
     reaches = reach;
+    flagged = flagged_reach;
     constants = constant_reach;
   }
 

@@ -23,7 +23,6 @@ use Rattle.os_ast.specs.Stacked as text
 use Rattle.os_ast.specs.Trees as tree
 use Rattle.os_ast.specs.Types.{is_unsigned}
 use Rattle.os_ast.specs.Violations.{names, captures, captured_by_tasks}
-use Rattle.os_ast.specs.declared.expr.Name.{Name}
 use Rattle.os_ast.specs.declared.names.Entity.{Entity}
 use Rattle.os_ast.specs.declared.names.Entity.TheVariants as entity
 use Rattle.os_ast.specs.declared.names.Entry.{Entry}

@@ -26,7 +26,6 @@ use Rattle.os_ast.specs.Stacked as text
 use Rattle.os_ast.specs.declared.names.Entry.{Entry}
 use Rattle.os_ast.specs.declared.names.Owner.TheVariants as owner
 use Rattle.os_ast.specs.declared.names.Resolved.{Resolved}
-use Rattle.os_ast.specs.declared.names.What.{What}
 use Rattle.os_code.specs.declared.instr.Instr.TheVariants as instr
 use Rattle.os_code.specs.declared.parts.Parts.{Parts}
 use Rattle.os_code.specs.declared.site.SiteItem.{SiteItem}
@@ -63,7 +62,7 @@ claims_fit streams [] (c ∷ claims) h = elim h [ ]
 claims_fit streams (i ∷ items) [] h = elim h [ ]
 claims_fit streams (i ∷ items) (c ∷ claims) h = let r = claims_fit streams items claims h.1 in (ap suc r.0, (h.0.some, r.1))
 
-items_counted : (tells : ℕ → What) (qs : List Part) → length (site_items tells qs) ≡ count_items qs
+items_counted : (tells : ℕ → Resolved) (qs : List Part) → length (site_items tells qs) ≡ count_items qs
 items_counted tells [] = refl
 items_counted tells (Private n ∷ qs) = items_counted tells qs
 items_counted tells (Item d i ∷ qs) = ap suc (items_counted tells qs)

@@ -6,6 +6,7 @@ use Rattle.std.specs.Prelude.{⊤, ◌⊎◌}
 use Rattle.cddf_meaning.specs.Body as meaning
 use Rattle.cddf_meaning.specs.Body.{bind_captured, bind_items, item_lists}
 use Rattle.cddf_meaning.specs.Moves.{read_horizons}
+use Rattle.cddf_meaning.specs.Tasks.{typed_name}
 use Rattle.cddf_meaning.specs.Variables.{bind}
 use Rattle.cddf_meaning.specs.declared.variable.Binding.{Binding}
 use Rattle.cddf_meaning.specs.declared.variable.Variable.TheVariants as variable
@@ -13,9 +14,9 @@ use Rattle.flow_core_laws.specs.Byte.{is_byte}
 use Rattle.flow_core_laws.specs.declared.claim.Claim.{Claim}
 use Rattle.os_ast.specs.Captured.{Scalar, slots_of}
 use Rattle.os_ast.specs.Meanings.{meaning_in, place_in}
-use Rattle.os_ast.specs.Names.{Scope, lookup, entity_of}
-use Rattle.os_ast.specs.Notes.Clauses.{named_entity, item_entity}
-use Rattle.os_ast.specs.Parts.{Part, Item, Private, item_name, count_items}
+use Rattle.os_ast.specs.Names.{Scope, lookup, entity_of, flag_of}
+use Rattle.os_ast.specs.Notes.Clauses.{named_entity, item_entity, item_flag}
+use Rattle.os_ast.specs.Parts.{Part, Item, Private, item_name, item_ids, count_items}
 use Rattle.os_ast.specs.Trees as tree
 use Rattle.os_ast.specs.declared.names.Direction.{Direction}
 use Rattle.os_ast.specs.declared.names.Entity.{Entity}
@@ -85,13 +86,13 @@ module _ (slots : List ℕ) (ascends : Ascends 0 slots) (es : List Entry) where
 
   pub captured_aligned : (has : Resources) (held : List ℤ) (cs : List Scalar) (vs : List ℤ) (k : ℕ) (names : List Binding) (xs : List Entry) → AreScalars es cs → Points slots k cs → length vs ≡ length cs →
       ((i : ℕ) → i < length vs → slot_at held (k + i) ≡ slot_at vs i) → Aligned has (meaning_in owner.OfTask slots) held names xs →
-      Aligned has (meaning_in owner.OfTask slots) held (bind_captured (map (λ (c : Scalar). c.id) cs) vs names) (made_captured es cs xs)
+      Aligned has (meaning_in owner.OfTask slots) held (bind_captured (map (typed_name es) (map (λ (c : Scalar). c.id) cs)) vs names) (made_captured es cs xs)
   captured_aligned has held [] vs k names xs all at len same al = al
   captured_aligned has held (c ∷ cs) [] k names xs all at len same al = absurd (omega (arith, len))
   captured_aligned has held (c ∷ cs) (v ∷ vs) k names xs all at len same al =
-      captured_aligned has held cs vs (k + 1) (bind c.id (variable.Scalar v) names) (captured_entry es c ∷ xs) all.1 at.2 (omega (arith, len))
+      captured_aligned has held cs vs (k + 1) (bind c.id (flag_of (lookup es c.id)) (variable.Scalar v) names) (captured_entry es c ∷ xs) all.1 at.2 (omega (arith, len))
       (λ i lt. let e : k + 1 + i ≡ k + suc i = omega arith in ap (λ n. slot_at held n) e ∙ same (suc i) (omega (arith, lt)))
-      (refl, (k, mean c k all.0 at.0 at.1, let z : k ≡ k + 0 = omega arith in ap (λ n. slot_at held n) z ∙ same 0 (omega arith)), al)
+      (refl, refl, (k, mean c k all.0 at.0 at.1, let z : k ≡ k + 0 = omega arith in ap (λ n. slot_at held n) z ∙ same 0 (omega arith)), al)
 
 module _ (slots : List ℕ) where
   item_means : (s : Scope) (item : ℕ) (d : Direction) (i : tree.ClauseItemTree) →
@@ -124,10 +125,10 @@ module _ (slots : List ℕ) where
   items_stacked s depth item top (Private n ∷ ps) xs st = items_stacked s depth item top ps xs st
 
   pub items_aligned : (claims : List Claim) (held : List ℤ) (s : Scope) (depth item : ℕ) (ps : List Part) (names : List Binding) (xs : List Entry) → item + count_items ps ≤ length claims →
-      Aligned (resources (InTask claims)) (meaning_in owner.OfTask slots) held names xs → Aligned (resources (InTask claims)) (meaning_in owner.OfTask slots) held (bind_items item ps names) (made_items s depth item ps xs)
+      Aligned (resources (InTask claims)) (meaning_in owner.OfTask slots) held names xs → Aligned (resources (InTask claims)) (meaning_in owner.OfTask slots) held (bind_items item (map (typed_name s.entries) (item_ids ps)) names) (made_items s depth item ps xs)
   items_aligned claims held s depth item [] names xs le al = al
   items_aligned claims held s depth item (Item d i ∷ ps) names xs le al =
-      items_aligned claims held s depth (suc item) ps (bind (item_name i.stream i.window).id (variable.Item item) names) _ (omega (arith, le)) (refl, (omega (arith, le), item_means s item d i), al)
+      items_aligned claims held s depth (suc item) ps (bind (item_name i.stream i.window).id (item_flag s i) (variable.Item item) names) _ (omega (arith, le)) (refl, refl, (omega (arith, le), item_means s item d i), al)
   items_aligned claims held s depth item (Private n ∷ ps) names xs le al = items_aligned claims held s depth item ps names xs le al
 
 -- the windows at the start

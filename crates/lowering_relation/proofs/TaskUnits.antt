@@ -16,7 +16,6 @@ use Rattle.os_ast.specs.declared.names.Entity.TheVariants as entity
 use Rattle.os_ast.specs.declared.names.Entry.{Entry}
 use Rattle.os_ast.specs.declared.names.Owner.TheVariants as owner
 use Rattle.os_ast.specs.declared.names.Resolved.{Resolved}
-use Rattle.os_ast.specs.declared.names.What.{What}
 use Rattle.os_code.specs.Effects.{stands_in}
 use Rattle.os_code.specs.Parts as code_parts
 use Rattle.os_code.specs.Parts.{Main, kind_at}
@@ -67,7 +66,7 @@ all_main_may : (h : Home) (es : List Entry) → AllOfMain es → AllMay h owner.
 all_main_may h [] all = tt
 all_main_may h (e ∷ es) all = (main_may h e.id e.entity all.0, all_main_may h es all.1)
 
-module _ (h : Home) (site : Site) (kind : h.kind ≡ code_parts.Task site) (tells : ℕ → What) (s : Scope) (depth : ℕ) where
+module _ (h : Home) (site : Site) (kind : h.kind ≡ code_parts.Task site) (tells : ℕ → Resolved) (s : Scope) (depth : ℕ) where
   named_may : (id item : ℕ) (d : Direction) (w : Option tree.JoinTree) (e : Option Entity) → HasItem h item × IsWritten h d item →
       May h owner.OfTask id (named_entity item d w e)
   named_may id item d None e may = may

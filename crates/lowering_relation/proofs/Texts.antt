@@ -335,13 +335,13 @@ module _ (t : Text) where
 
   told_use : (s : Scope) (n : Name) (u : Use) → In t s → IsPlaced t u → KeepsAll rules (Used s n u) → AreIn t.names (resolutions_of (Used s n u)) →
       Catches t.owner t.captured (Used s n u) →
-      FitsUse t.home u (tells t.home n.mark.place)
+      FitsUse t.home u (tells t.home n.mark.place).what
   told_use s n u is placed lawful told catches =
       let d = declared-use s n u (lawful, tt) in
       let w = told-use t.names s n u d.0 d.1 (told, tt) in
-      let same : tells t.home n.mark.place ≡ meaning_in t.owner t.captured d.0 =
-      ap (λ f. f n.mark.place) t.told
-      ∙ told_is t.names n.mark.place (meaning_in s.owner s.captured d.0) (flag_of (lookup s.entries n.id)) t.ordered w
+      let same : (tells t.home n.mark.place).what ≡ meaning_in t.owner t.captured d.0 =
+      ap (λ f. (f n.mark.place).what) t.told
+      ∙ ap (λ (r : Resolved). r.what) (told_is t.names n.mark.place (meaning_in s.owner s.captured d.0) (flag_of (lookup s.entries n.id)) t.ordered w)
       ∙ ap (λ o. meaning_in o s.captured d.0) is.owner
       ∙ ap (λ xs. meaning_in t.owner xs d.0) is.captured in
       subst (FitsUse t.home u) (sym same) (use_fits s n u d.0 is placed lawful catches d.1)
@@ -373,7 +373,7 @@ module _ (t : Text) where
   note_fits : (n : Note) → Scoped t n → KeepsAll rules n → AreIn t.names (resolutions_of n) → Catches t.owner t.captured n → FitsNote t.home n
   note_fits (Used s n u) scoped lawful told catches = told_use s n u scoped.0 scoped.1 lawful told catches
   note_fits (Declared s d) scoped lawful told catches = (
-    ap (λ f. f d.name.mark.place) t.told ∙ told_is t.names d.name.mark.place (meaning (declared_entity s d)) s.unsigned t.ordered told.0,
+    ap (λ f. (f d.name.mark.place).what) t.told ∙ ap (λ (r : Resolved). r.what) (told_is t.names d.name.mark.place (meaning (declared_entity s d)) s.unsigned t.ordered told.0),
     form_fits s d.stream d.size scoped.0 scoped.1,
   )
   note_fits (Pragma s m) scoped lawful told catches = main_kind s.owner (sym scoped.owner) lawful.1.1.1.1.1.1.1.0

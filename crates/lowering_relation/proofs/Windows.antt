@@ -51,8 +51,9 @@ use Rattle.window_check_laws.specs.Order.{InOrder}
 -- a window is declared, in the next slot
 declared_window : (has : Resources) (means_of : Entity → What) (top : ℕ) (slots : List ℤ) (bound : List Binding) (es : List Entry) (e : Entry) (horizon : ℕ) → top < length slots → 1 ≤ horizon → horizon ≤ 65536 →
     means_of e.entity ≡ what.Window top → Stacked means_of top es → Aligned has means_of slots bound es →
-    Aligned has means_of (set slots top (pos horizon)) (bind e.id (Window horizon) bound) (e ∷ es)
+    Aligned has means_of (set slots top (pos horizon)) (bind e.id e.unsigned (Window horizon) bound) (e ∷ es)
 declared_window has means_of top slots bound es e horizon lt lo hi is st h = (
+  refl,
   refl,
   (top, is, get_or-set_same slots top (pos horizon) (pos 0) lt, lo, hi),
   same_below has means_of top slots (set slots top (pos horizon)) bound es st (λ i below. get_or-set_other slots top i (pos horizon) (pos 0) (λ x. absurd (omega (arith, below, x)))) h,
@@ -90,19 +91,19 @@ module _ (code : Parts) (file : File) (falls : CallsFall file) (names : List Res
 
   abbrev WindowGoal : Form → Name → tree.IndexTree → Scope → List Entry → State → Store → ℕ → ℕ → ℕ → ℕ → List ℤ → ℕ → (List Entry → Type 0) → Type 0
   WindowGoal f n i s es st m broke continued from to stack turns within =
-      Does code (at callers from stack m turns) (settled c callers leaves total to broke continued stack within (record { id = n.id; depth = (taken s f).depth; entity = form_entity s f; unsigned = (taken s f).unsigned } ∷ es)) (run_window file n.id i st turns)
+      Does code (at callers from stack m turns) (settled c callers leaves total to broke continued stack within (record { id = n.id; depth = (taken s f).depth; entity = form_entity s f; unsigned = (taken s f).unsigned } ∷ es)) (run_window file s.unsigned n.id i st turns)
 
   pub window_done : (n : Name) (i : tree.IndexTree) (first : Option tree.ExprTree) → DeclaratorRuns c callers leaves total sites (record { name = n; size = Some i; stream = false; first = first })
   window_done n i first s es st m broke continued from to stack turns within ready stacked fits2 len agree h =
       subst (λ f. WindowGoal f n i s es st m broke continued from to stack turns within) (sym is_form)
-      (given_does st m (λ x. given (window_size i.mark.line x.value) st (λ horizon. goes_on (declared n.id (Window horizon) st) x.turns)) refl ready.kept
+      (given_does st m (λ x. given (window_size i.mark.line x.value) st (λ horizon. goes_on (declared n.id s.unsigned (Window horizon) st) x.turns)) refl ready.kept
       (expr_runs c callers s es st m ready i.value from has.0 stack turns size_agrees has.1)
-      (λ x u q. given_does st m (λ horizon. goes_on (declared n.id (Window horizon) st) x.turns) refl ready.kept
+      (λ x u q. given_does st m (λ horizon. goes_on (declared n.id s.unsigned (Window horizon) st) x.turns) refl ready.kept
       (size_kept code callers s.slots i.mark.line has.0 x.value stack m x.turns has.2.0)
       (λ horizon w r.
-      subst (λ v. Does code (at callers (has.0 + 1) stack (with_slots m (set m.slots s.slots v)) x.turns) (settled c callers leaves total to broke continued stack within (window_entry ∷ es)) (goes_on (declared n.id (Window horizon) st) x.turns)) (sym w.0)
-      (went_on c callers leaves total (window_entry ∷ es) (declared n.id (Window horizon) st) (with_slots m (set m.slots s.slots (pos horizon))) x.turns (length-set m.slots s.slots (pos horizon) ∙ len)
-      (kept_slots (InMain streams later) st m (bind n.id (Window horizon) st.bound) (set m.slots s.slots (pos horizon)) ready.kept)
+      subst (λ v. Does code (at callers (has.0 + 1) stack (with_slots m (set m.slots s.slots v)) x.turns) (settled c callers leaves total to broke continued stack within (window_entry ∷ es)) (goes_on (declared n.id s.unsigned (Window horizon) st) x.turns)) (sym w.0)
+      (went_on c callers leaves total (window_entry ∷ es) (declared n.id s.unsigned (Window horizon) st) (with_slots m (set m.slots s.slots (pos horizon))) x.turns (length-set m.slots s.slots (pos horizon) ∙ len)
+      (kept_slots (InMain streams later) st m (bind n.id s.unsigned (Window horizon) st.bound) (set m.slots s.slots (pos horizon)) ready.kept)
       (declared_window (resources (InMain streams later)) (means c) s.slots m.slots st.bound (es ++ []) window_entry horizon (omega (arith, room, len)) w.1 w.2 refl stacked ready.aligned)
       (subst (λ q. Leads code (at callers (has.0 + 1) stack (with_slots m (set m.slots s.slots (pos horizon))) x.turns) (at callers q stack (with_slots m (set m.slots s.slots (pos horizon))) x.turns)) has.2.1 stays)))))
     where

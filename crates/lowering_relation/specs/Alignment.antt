@@ -45,10 +45,10 @@ Holds has slots (Window horizon) w =
 Holds has slots (Stream first count) w = (w ≡ what.Stream first count) × has.streams first count
 Holds has slots (Item item) w = has.item item × ((w ≡ what.Element item) ⊎ (w ≡ what.View item))
 
--- the variables of a body and its declarations in scope, from the innermost on, one for one
+-- the variables of a body and its declarations in scope, from the innermost on, one for one, each of the type of its declaration
 abbrev pub Aligned : Resources → (Entity → What) → List ℤ → List Binding → List Entry → Type 0
 Aligned has means slots [] [] = ⊤
 Aligned has means slots [] (e ∷ es) = ⊥
 Aligned has means slots (b ∷ bound) [] = ⊥
 Aligned has means slots (b ∷ bound) (e ∷ es) =
-    (b.id ≡ e.id) × Holds has slots b.variable (means e.entity) × Aligned has means slots bound es
+    (b.id ≡ e.id) × (b.unsigned ≡ e.unsigned) × Holds has slots b.variable (means e.entity) × Aligned has means slots bound es

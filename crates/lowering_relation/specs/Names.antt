@@ -1,16 +1,21 @@
 -- Which instructions read and set what a name means. A name of a lawful program means only what may stand where it
 -- does; for the rest something is said.
 use Rattle.std.specs.Prelude.{ℕ, ◌==◌, Bool, true, false, if◌then◌else◌, List, [], ◌∷◌, pos}
+use Rattle.cddf_meaning.specs.Types.{Flags}
 use Rattle.os_ast.specs.declared.names.Resolved.{Resolved}
 use Rattle.os_ast.specs.declared.names.What.{What}
 use Rattle.os_ast.specs.declared.names.What.TheVariants as what
 use Rattle.os_code.specs.declared.instr.Instr.{Instr}
 use Rattle.os_code.specs.declared.instr.Instr.TheVariants.{Push, Copy, Load, Store, CheckAt, LoadAt, StoreAt, ItemCheck, ItemLoad, ItemStore, Drop, Call}
 
--- what a list of names tells of the name at a place
-abbrev pub told_at : List Resolved → ℕ → What
-told_at [] place = what.Constant (pos 0)
-told_at (r ∷ rs) place = if r.place == place then r.what else told_at rs place
+-- What a list of names tells of the name at a place. Where there is none it is told as a constant of the type `int`.
+abbrev pub told_at : List Resolved → ℕ → Resolved
+told_at [] place = record { place = place; what = what.Constant (pos 0); unsigned = false }
+told_at (r ∷ rs) place = if r.place == place then r else told_at rs place
+
+-- whether what a name means is of the type `unsigned`
+abbrev pub flags_by : (ℕ → Resolved) → Flags
+flags_by tells n = (tells n.mark.place).unsigned
 
 -- what reads a name without an index; an item's one element has index 0
 abbrev pub reading : What → (line : ℕ) → List Instr

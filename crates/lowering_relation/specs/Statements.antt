@@ -3,7 +3,7 @@
 use Rattle.std.specs.Prelude.{◌≡◌, ℕ, ◌+◌, List, [], ◌∷◌, Option, Some, None}
 use Rattle.os_ast.specs.Parts.{parts, target_name}
 use Rattle.os_ast.specs.Trees as tree
-use Rattle.os_ast.specs.declared.names.What.{What}
+use Rattle.os_ast.specs.declared.names.Resolved.{Resolved}
 use Rattle.os_code.specs.declared.instr.Instr.{Instr}
 use Rattle.os_code.specs.declared.instr.Instr.TheVariants.{Drop, Jump, Turn, BurstIn, Spawn, Tick}
 use Rattle.os_code.specs.declared.parts.Parts.{Parts}
@@ -16,8 +16,8 @@ use Rattle.lowering_relation.specs.Tasks.{TaskTree, number_of, HasStream, HasIte
 
 -- What a body stands in.
 pub record Body : Type 0 where
-  -- what the name at a place means
-  pub tells : ℕ → What
+  -- what the name at a place means, and of which type that is
+  pub tells : ℕ → Resolved
   -- the tasks of the program
   pub tasks : List TaskTree
   -- what ends it by `return`: `Return`, or the `End` of `main`
@@ -29,20 +29,20 @@ pub data Ends (code : Parts) (part : (next from to : ℕ) → Type 0) (next : �
   by_jump : {from : ℕ} (end : ℕ) → part end from end → instr_at code end ≡ Some (Jump next) → Ends code part next from (end + 1)
 
 -- A test of a loop. Without one it goes on.
-abbrev pub HasTest : Parts → (ℕ → What) → Option tree.ExprTree → (fails from to : ℕ) → Type 0
+abbrev pub HasTest : Parts → (ℕ → Resolved) → Option tree.ExprTree → (fails from to : ℕ) → Type 0
 HasTest code tells None fails from to = from ≡ to
 HasTest code tells (Some e) fails from to = HasCondition code tells e fails from to
 
 -- The body and the step of a loop that begins at `again`; `part` is the body, by where `continue` goes to. Without a step
 -- both the body and `continue` go to the beginning; else they go to the step, which stands behind the body.
-abbrev pub HasRound : Parts → (ℕ → What) → (part : (continued next from to : ℕ) → Type 0) → Option tree.ChangeTree → (again from to : ℕ)
+abbrev pub HasRound : Parts → (ℕ → Resolved) → (part : (continued next from to : ℕ) → Type 0) → Option tree.ChangeTree → (again from to : ℕ)
     → Type 0
 HasRound code tells part None again from to = Ends code (part again) again from to
 HasRound code tells part (Some c) again from to =
     (step end : ℕ) × part step step from step × HasChange code tells c step end × Stands code (Jump again ∷ []) end to
 
 -- A loop begins with its unit. It goes on at `next` where its condition is 0.
-abbrev pub HasLoop : Parts → (ℕ → What) → Option tree.ExprTree → (part : (continued next from to : ℕ) → Type 0) → Option tree.ChangeTree
+abbrev pub HasLoop : Parts → (ℕ → Resolved) → Option tree.ExprTree → (part : (continued next from to : ℕ) → Type 0) → Option tree.ChangeTree
     → (next from to : ℕ) → Type 0
 HasLoop code tells test part step next from to =
     (begin : ℕ) × (instr_at code from ≡ Some Turn) × HasTest code tells test next (from + 1) begin × HasRound code tells part step from begin to
@@ -72,7 +72,7 @@ abbrev mutual
       × Stands code (Spawn number ∷ []) end to × (next ≡ to)
   HasStmt code b (tree.Tick m t arrow e) broke continued next from to =
       (mid end : ℕ) × HasStream code b.tells t from mid × HasExpr code b.tells e mid end
-      × Stands code (BurstIn arrow.line ∷ Turn ∷ Tick (first_of (b.tells (target_name t).mark.place)) ∷ []) end to × (next ≡ to)
+      × Stands code (BurstIn arrow.line ∷ Turn ∷ Tick (first_of (b.tells (target_name t).mark.place).what) ∷ []) end to × (next ≡ to)
   HasStmt code b (tree.Taskwait m) broke continued next from to = (from ≡ to) × (next ≡ to)
 
   -- The statements of a block; the last one goes on where the block does.

@@ -6,6 +6,7 @@ use Rattle.os_ast.specs.Trees as tree
 use Rattle.os_ast.specs.declared.expr.Mark.{Mark}
 use Rattle.os_ast.specs.declared.names.Direction.{Direction}
 use Rattle.os_ast.specs.declared.names.Direction.TheVariants as direction
+use Rattle.os_ast.specs.declared.names.Resolved.{Resolved}
 use Rattle.os_ast.specs.declared.names.What.{What}
 use Rattle.os_ast.specs.declared.names.What.TheVariants as what
 use Rattle.os_code.specs.declared.instr.Instr.{Instr}
@@ -47,10 +48,10 @@ abbrev pub number_of : List TaskTree → Mark → Option ℕ
 number_of tasks m = position (λ (t : TaskTree). t.mark.place == m.place) tasks
 
 -- The stream of an item or a tick: its index, counted from the first number. That of a single stream is 0.
-abbrev pub HasStream : Parts → (ℕ → What) → tree.TargetTree → (from to : ℕ) → Type 0
+abbrev pub HasStream : Parts → (ℕ → Resolved) → tree.TargetTree → (from to : ℕ) → Type 0
 HasStream code tells (tree.Variable n) from to = Stands code (Push (pos 0) ∷ []) from to
 HasStream code tells (tree.Element n m e) from to =
-    (end : ℕ) × HasExpr code tells e from end × Stands code (CheckAt (count_of (tells n.mark.place)) m.line ∷ []) end to
+    (end : ℕ) × HasExpr code tells e from end × Stands code (CheckAt (count_of (tells n.mark.place).what) m.line ∷ []) end to
 
 -- what checks a burst: that of an output item is its window's horizon
 abbrev pub bursting : Direction → What → (line : ℕ) → Instr
@@ -59,17 +60,17 @@ bursting direction.Writes (what.Window slot) line = BurstOut slot line
 bursting direction.Writes _ line = BurstIn line
 
 -- the burst of an item, 1 where none is written
-abbrev pub HasBurst : Parts → (ℕ → What) → Direction → What → Option tree.IndexTree → (from to : ℕ) → Type 0
+abbrev pub HasBurst : Parts → (ℕ → Resolved) → Direction → What → Option tree.IndexTree → (from to : ℕ) → Type 0
 HasBurst code tells d w None from to = Stands code (Push (pos 1) ∷ []) from to
 HasBurst code tells d w (Some i) from to =
     (end : ℕ) × HasExpr code tells i.value from end × Stands code (bursting d w i.mark.line ∷ []) end to
 
-abbrev pub HasJoin : Parts → (ℕ → What) → Direction → Option tree.JoinTree → (from to : ℕ) → Type 0
+abbrev pub HasJoin : Parts → (ℕ → Resolved) → Direction → Option tree.JoinTree → (from to : ℕ) → Type 0
 HasJoin code tells d None from to = Stands code (Push (pos 1) ∷ []) from to
-HasJoin code tells d (Some j) from to = HasBurst code tells d (tells j.name.mark.place) j.burst from to
+HasJoin code tells d (Some j) from to = HasBurst code tells d (tells j.name.mark.place).what j.burst from to
 
 -- the items of a task, one after another: the stream's index, then the burst
-abbrev pub HasItems : Parts → (ℕ → What) → List Part → (from to : ℕ) → Type 0
+abbrev pub HasItems : Parts → (ℕ → Resolved) → List Part → (from to : ℕ) → Type 0
 HasItems code tells [] from to = from ≡ to
 HasItems code tells (Private n ∷ ps) from to = HasItems code tells ps from to
 HasItems code tells (Item d i ∷ ps) from to =
@@ -84,18 +85,18 @@ abbrev pub slot_of : What → Option ℕ
 slot_of (what.Window slot) = Some slot
 slot_of _ = None
 
-abbrev pub window_of : (ℕ → What) → Option tree.JoinTree → Option ℕ
+abbrev pub window_of : (ℕ → Resolved) → Option tree.JoinTree → Option ℕ
 window_of tells None = None
-window_of tells (Some j) = slot_of (tells j.name.mark.place)
+window_of tells (Some j) = slot_of (tells j.name.mark.place).what
 
-abbrev pub site_item : (ℕ → What) → Direction → tree.ClauseItemTree → SiteItem
+abbrev pub site_item : (ℕ → Resolved) → Direction → tree.ClauseItemTree → SiteItem
 site_item tells d i = record {
   write = is_write d;
-  stream = first_of (tells (target_name i.stream).mark.place);
+  stream = first_of (tells (target_name i.stream).mark.place).what;
   window = window_of tells i.window;
 }
 
-abbrev pub site_items : (ℕ → What) → List Part → List SiteItem
+abbrev pub site_items : (ℕ → Resolved) → List Part → List SiteItem
 site_items tells [] = []
 site_items tells (Private n ∷ ps) = site_items tells ps
 site_items tells (Item d i ∷ ps) = site_item tells d i ∷ site_items tells ps

@@ -1,10 +1,11 @@
-use Rattle.std.proofs.Common.{◌≡◌, ◌<◌, map, option_map, pos, arith, rules, refl, ap, ◌∙◌, sym, subst, Ok, length, get_or, [], to_z, of_z, w32, ℕ, ℤ}
+use Rattle.std.proofs.Common.{◌≡◌, ◌<◌, Bool, map, option_map, pos, arith, rules, refl, ap, ◌∙◌, sym, subst, Ok, length, get_or, [], to_z, of_z, w32, ℕ, ℤ}
 use Rattle.std.specs.List.{take-map}
 use Rattle.std.specs.Option.{option_copied}
 use Rattle.os_ast.specs.Trees as ast
 use Rattle.os_ast.specs.Parts as clauses
 use Rattle.os_ast.specs.declared.pragma.ClauseKind.{ClauseKind}
 use Rattle.cddf_meaning.specs.Answers.{Answer, Left, left}
+use Rattle.cddf_meaning.specs.File.{type_in}
 use Rattle.cddf_meaning.specs.Run.{run, run_step, run_test}
 use Rattle.cddf_meaning_plain_state.specs.Stops.{Gives, Leaves, Stops}
 use Rattle.cddf_meaning.specs.Streams.{items_claims}
@@ -46,63 +47,73 @@ value::value-returns-in-Call-clause-gives t c =
 pub value::value-returns-in_ok-number-in-Chain-clause-gives : goal.value::value-returns-in_ok-number-in-Chain-clause-gives
 value::value-returns-in_ok-number-in-Chain-clause-gives t c =
     let tree = ap expr_tree c.in-Chain.is ∙ expr_tree-chain c.in-Chain.field-0 c.in-Chain.first c.in-Chain.links in
-    let P : ast.ExprTree → Type 0 = λ e.
-    Gives c.chained.result c.chained.new.turns (value (file_of (map item_tree c.args.file.now)) e c.args.state.now c.args.turns.now) in
-    let next : Left ℤ → Answer (Left ℤ) = chained (file_of (map item_tree c.args.file.now)) (links_tree c.in-Chain.links) c.args.state.now in
+    let file = file_of (map item_tree c.args.file.now) in
+    let s = c.args.state.now in
+    let links = links_tree c.in-Chain.links in
+    let rest = c.value-in-Chain.new.turns in
+    let P : ast.ExprTree → Type 0 = λ e. Gives c.chained.result c.chained.new.turns (value file e s c.args.turns.now) in
     let number = c.in_ok-number-in-Chain.number in
+    let unsigned = c.type_of-unsigned-in-Chain.result in
     let same : c.in-Chain.first.value ≡ c.deref-in-Chain.result.now = first_of (search (rules, c.deref-in-Chain.ensures), cc) in
+    let again : c.in-Chain.first.value ≡ c.deref-in-Chain-2.result.now = first_of (search (rules, c.deref-in-Chain-2.ensures), cc) in
+    let kind : unsigned ≡ type_in file s (expr_tree c.in-Chain.first.value) =
+    c.type_of-unsigned-in-Chain.ensures ∙ ap (λ e. type_in file s (expr_tree e)) (sym again) in
+    let next : Left ℤ → Answer (Left ℤ) = chained file links s (type_in file s (expr_tree c.in-Chain.first.value)) in
     let fits : to_z w32 (of_z w32 number) ≡ number = first_of (search rules, grind (arith, rules)) in
-    let Q : ℤ → Type 0 = λ v. Gives c.chained.result c.chained.new.turns (next (left v c.value-in-Chain.new.turns)) in
+    let Q : ℤ → Type 0 = λ v. Gives c.chained.result c.chained.new.turns (chained file links s unsigned (left v rest)) in
+    let R : Bool → Type 0 = λ u. Gives c.chained.result c.chained.new.turns (chained file links s u (left number rest)) in
     subst P (sym tree)
     (then-gives c.chained.result c.chained.new.turns _ _ next
-    (ap (λ e. value (file_of (map item_tree c.args.file.now)) (expr_tree e) c.args.state.now c.args.turns.now) same
-    ∙ c.in_ok-number-in-Chain.ensures.gives)
-    (subst Q fits c.chained.ensures.gives))
+    (ap (λ e. value file (expr_tree e) s c.args.turns.now) same ∙ c.in_ok-number-in-Chain.ensures.gives)
+    (subst R kind (subst Q fits c.chained.ensures.gives)))
 
 pub value::linked-returns-then-not-needs_right-clause-gives : goal.value::linked-returns-then-not-needs_right-clause-gives
 value::linked-returns-then-not-needs_right-clause-gives t c =
     let link = c.args.link.now in
+    let types = c.args.types in
     let turns = c.args.turns.now in
     let right : ℕ → Answer (Left ℤ) = value (file_of (map item_tree c.args.file.now)) (expr_tree link.right) c.args.state.now in
     let fits : to_z w32 (of_z w32 c.args.left) ≡ c.args.left = first_of (search rules, grind (arith, rules)) in
-    let P : ℤ → Type 0 = λ a. Gives c.link_value.result turns (linked link.op link.mark.line (left a turns) right) in
+    let P : ℤ → Type 0 = λ a. Gives c.link_value.result turns (linked link.op link.mark.line types.left types.right (left a turns) right) in
     let Q : Answer (Left ℤ) → Type 0 = λ x. Gives c.link_value.result turns x in
     subst P fits
-    (subst Q (sym (c.needs_right.ensures.not_needed c.if-not-needs_right.true link.mark.line turns right (pos 0)))
+    (subst Q (sym (c.needs_right.ensures.not_needed c.if-not-needs_right.true link.mark.line turns types.left types.right right (pos 0)))
     (c.link_value.ensures turns))
 
 pub value::linked-returns-in_err-right-clause-gives : goal.value::linked-returns-in_err-right-clause-gives
 value::linked-returns-in_err-right-clause-gives t c =
     let link = c.args.link.now in
+    let types = c.args.types in
     let turns = c.args.turns.now in
     let right : ℕ → Answer (Left ℤ) = value (file_of (map item_tree c.args.file.now)) (expr_tree link.right) c.args.state.now in
     let a = to_z w32 (of_z w32 c.args.left) in
     let fits : to_z w32 (of_z w32 c.args.left) ≡ c.args.left = first_of (search rules, grind (arith, rules)) in
-    let next : Left ℤ → Answer (Left ℤ) = λ b. linked link.op link.mark.line (left a b.turns) (λ turns. Ok (left b.value turns)) in
+    let next : Left ℤ → Answer (Left ℤ) = λ b. linked link.op link.mark.line types.left types.right (left a b.turns) (λ turns. Ok (left b.value turns)) in
     let reason = c.in_err-right.field-0.0 in
-    let P : ℤ → Type 0 = λ a. Stops reason (linked link.op link.mark.line (left a turns) right) in
+    let P : ℤ → Type 0 = λ a. Stops reason (linked link.op link.mark.line types.left types.right (left a turns) right) in
     let p = err_from_is_err_and c.from_residual.result c.from_residual.ensures.1 in
     rw (p.1, p.2)
     (subst P fits
-    (stops-as reason _ _ (c.needs_right.ensures.needed c.if-not-needs_right.false link.mark.line turns right)
+    (stops-as reason _ _ (c.needs_right.ensures.needed c.if-not-needs_right.false link.mark.line turns types.left types.right right)
     (stops-then reason (right turns) next c.in_err-right.ensures.gives)))
 
 pub value::linked-returns-clause-gives : goal.value::linked-returns-clause-gives
 value::linked-returns-clause-gives t c =
     let link = c.args.link.now in
+    let types = c.args.types in
     let turns = c.args.turns.now in
     let right : ℕ → Answer (Left ℤ) = value (file_of (map item_tree c.args.file.now)) (expr_tree link.right) c.args.state.now in
     let a = to_z w32 (of_z w32 c.args.left) in
     let fits : to_z w32 (of_z w32 c.args.left) ≡ c.args.left = first_of (search rules, grind (arith, rules)) in
-    let next : Left ℤ → Answer (Left ℤ) = λ b. linked link.op link.mark.line (left a b.turns) (λ turns. Ok (left b.value turns)) in
+    let next : Left ℤ → Answer (Left ℤ) = λ b. linked link.op link.mark.line types.left types.right (left a b.turns) (λ turns. Ok (left b.value turns)) in
     let rest = c.value.new.turns in
     let number = c.in_ok-right.right in
     let same : to_z w32 (of_z w32 number) ≡ number = first_of (search rules, grind (arith, rules)) in
-    let P : ℤ → Type 0 = λ a. Gives c.link_value-2.result rest (linked link.op link.mark.line (left a turns) right) in
+    let P : ℤ → Type 0 = λ a. Gives c.link_value-2.result rest (linked link.op link.mark.line types.left types.right (left a turns) right) in
     let Q : Answer (Left ℤ) → Type 0 = λ x. Gives c.link_value-2.result rest x in
     let R : ℤ → Type 0 = λ v. Gives c.link_value-2.result rest (next (left v rest)) in
     subst P fits
-    (subst Q (sym (c.needs_right.ensures.needed c.if-not-needs_right.false link.mark.line turns right))
+    (subst Q (sym (c.needs_right.ensures.needed c.if-not-needs_right.false link.mark.line turns types.left types.right right))
     (then-gives c.link_value-2.result rest (right turns) (left number rest) next c.in_ok-right.ensures.gives
     (subst R same (c.link_value-2.ensures rest))))
 

@@ -10,6 +10,7 @@ use Rattle.cddf_meaning_plain_tasks.specs.Units.{unit_of}
 use Rattle.cddf_meaning.specs.Value.{chained, values}
 use Rattle.cddf_meaning_plain.specs.Weights.{args_weight, change_weight, clause_weight, declarator_weight, expr_weight, file_weight, index_weight, item_weight, kind_weight, links_weight, start_weight, step_weight, stmt_weight, stmts_weight, target_weight, value_weight, weights}
 use Rattle.os_ast.specs.Parts as clause
+use Rattle.os_ast.specs.Types.{is_unsigned}
 use Rattle.os_ast.specs.Views.{args_tree, change_tree, clause_item_tree, clause_kind_tree, clause_tree, declarator_tree, expr_tree, item_tree, join_tree, links_tree, start_tree, stmt_tree, stmts_tree, target_tree}
 use Rattle.os_ast.specs.declared.program.Item.{Item}
 use Rattle.cddf_meaning_plain.proofs.+meaning.Given as goal
@@ -113,8 +114,8 @@ decreases-streams::tick l =
 abbrev pub invariant-value::chained-loop-link : goal.invariant-value::chained-loop-link
 invariant-value::chained-loop-link l =
     let file = file_of (map item_tree l.file) in
-    (chained file (links_tree (drop l.link-index l.links)) l.state (left l.left l.turns)
-    ≡ chained file (links_tree l.links) l.state (left l.initial.left l.initial.turns))
+    (chained file (links_tree (drop l.link-index l.links)) l.state l.unsigned (left l.left l.turns)
+    ≡ chained file (links_tree l.links) l.state l.initial.unsigned (left l.initial.left l.initial.turns))
     × (l.turns ≤ l.initial.turns)
 
 abbrev pub invariant-value::arguments-loop-arg : goal.invariant-value::arguments-loop-arg
@@ -132,8 +133,8 @@ invariant-run::stmts-loop-next l =
 
 abbrev pub invariant-run::declarators-loop-next : goal.invariant-run::declarators-loop-next
 invariant-run::declarators-loop-next l =
-    (run_declarators (unit_of l.unit) (map declarator_tree (drop l.next-index l.list)) l.state l.turns
-    ≡ run_declarators (unit_of l.unit) (map declarator_tree l.list) l.initial.state l.initial.turns)
+    (run_declarators (unit_of l.unit) (is_unsigned l.ty) (map declarator_tree (drop l.next-index l.list)) l.state l.turns
+    ≡ run_declarators (unit_of l.unit) (is_unsigned l.ty) (map declarator_tree l.list) l.initial.state l.initial.turns)
     × (l.turns ≤ l.initial.turns)
 
 abbrev pub invariant-run::repeat-loop-alloc : goal.invariant-run::repeat-loop-alloc

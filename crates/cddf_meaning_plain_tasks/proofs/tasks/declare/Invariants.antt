@@ -1,9 +1,10 @@
 use Rattle.std.proofs.Common.{◌≡◌, ◌++◌, drop, map}
 use Rattle.cddf_meaning_plain_tasks.specs.Sought.{known_declarator}
+use Rattle.os_ast.specs.Types.{is_unsigned}
 use Rattle.os_ast.specs.Views.{declarator_tree}
 use Rattle.cddf_meaning_plain_tasks.proofs.tasks.declare.Given as goal
 
 abbrev pub invariant-loop-declarator : goal.invariant-loop-declarator
 invariant-loop-declarator l =
-    l.known.items ++ map known_declarator (map declarator_tree (drop l.declarator-index l.declarators))
-    ≡ l.initial.known.items ++ map known_declarator (map declarator_tree l.declarators)
+    l.known.items ++ map (known_declarator (is_unsigned l.ty)) (map declarator_tree (drop l.declarator-index l.declarators))
+    ≡ l.initial.known.items ++ map (known_declarator (is_unsigned l.ty)) (map declarator_tree l.declarators)

@@ -1,7 +1,7 @@
 use Rattle.std.proofs.Common.{◌≡◌, ◌++◌, drop, map}
 use Rattle.cddf_meaning_plain_tasks.specs.Has.{clauses_item_ids}
 use Rattle.os_ast.specs.Views.{clause_tree}
-use Rattle.cddf_meaning_plain_tasks.proofs.body.item_ids.Given as goal
+use Rattle.cddf_meaning_plain_tasks.proofs.items.item_ids.Given as goal
 
 abbrev pub invariant-loop-clause : goal.invariant-loop-clause
 invariant-loop-clause l =

@@ -1,0 +1,95 @@
+//! The types of expressions, told by whether they are `unsigned`.
+
+ghost use Rattle.std.specs.Prelude.{◌≡◌, map};
+ghost use Rattle.cddf_meaning.specs.File.{flags, type_in};
+ghost use Rattle.cddf_meaning.specs.Functions.{file_of};
+ghost use Rattle.cddf_meaning.specs.Run.{target_type};
+ghost use Rattle.cddf_meaning.specs.Types.{type_behind, type_of_one, type_of_two};
+ghost use Rattle.os_ast.specs.Views.{expr_tree, item_tree, links_tree, target_tree};
+
+use crate::names::is_unsigned;
+use crate::operators::Types;
+use crate::state::State;
+use os_ast::{Binary, Expr, Item, Link, Target, Unary};
+use os_io::List;
+
+/// The type that an operator with one operand gives.
+fn type_of_one(operator: Unary, operand: bool) -> bool
+    ensures { result ≡ type_of_one operator operand }
+{
+    match operator {
+        Unary::Not => false,
+        Unary::Minus | Unary::Plus | Unary::Invert => operand,
+    }
+}
+
+/// The type that an operator with two operands gives.
+pub fn type_of_two(operator: Binary, types: Types) -> bool
+    ensures { result ≡ type_of_two operator types.left types.right }
+{
+    match operator {
+        Binary::Or
+        | Binary::And
+        | Binary::Equal
+        | Binary::Unequal
+        | Binary::Less
+        | Binary::LessEqual
+        | Binary::Greater
+        | Binary::GreaterEqual => false,
+        Binary::ShiftLeft | Binary::ShiftRight => types.left,
+        Binary::BitOr
+        | Binary::BitXor
+        | Binary::BitAnd
+        | Binary::Add
+        | Binary::Subtract
+        | Binary::Multiply
+        | Binary::Divide
+        | Binary::Remainder => types.left || types.right,
+    }
+}
+
+/// Whether a target, or what stands as one, is of the type `unsigned`.
+pub fn target_type(file: &[Item], state: &State, target: &Target) -> bool
+    ensures { result ≡ target_type (file_of (map item_tree file.now)) state.now (target_tree target.now) }
+{
+    match &target.index {
+        None => is_unsigned(file, state, target.name.id),
+        Some(_) => is_unsigned(file, state, target.name.id),
+    }
+}
+
+/// Whether an expression is of the type `unsigned`.
+#[cycle(types)]
+#[tactic(auto, using(os_ast::proofs::Rows::rows))]
+pub fn type_of(file: &[Item], state: &State, expr: &Expr) -> bool
+    ensures { result ≡ type_in (file_of (map item_tree file.now)) state.now (expr_tree expr.now) }
+{
+    match expr {
+        Expr::Number(_) => false,
+        Expr::Wide(_) => true,
+        Expr::Place(target) => target_type(file, state, target),
+        Expr::Call(call) => is_unsigned(file, state, call.name.id),
+        Expr::Paren(inner) => type_of(file, state, inner),
+        Expr::Unary(operator, _, operand) => type_of_one(*operator, type_of(file, state, operand)),
+        Expr::Chain(_, first, links) => {
+            let left = type_of(file, state, first);
+            type_behind(file, state, links, left)
+        }
+        Expr::Choice(_, first, second) => {
+            type_of(file, state, first) || type_of(file, state, second)
+        }
+    }
+}
+
+/// The type behind the links of a chain.
+#[cycle(types)]
+fn type_behind(file: &[Item], state: &State, links: &List<Link>, first: bool) -> bool
+    ensures { result ≡ type_behind (flags (file_of (map item_tree file.now)) state.now) (links_tree links.now) first }
+{
+    let mut left = first;
+    for link in links.as_slice() {
+        let right = type_of(file, state, &link.right);
+        left = type_of_two(link.op, Types { left, right });
+    }
+    left
+}
