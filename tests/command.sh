@@ -170,10 +170,11 @@ for shown in shown.*; do
     fi
 done
 
-# The programs that tests of crates have as texts stand in the examples, word for word. These four are run here alone.
+# The programs that tests of crates have as texts stand in the examples, word for word. These are run here alone.
 texts=$(cat "$top/crates/kernels/src/texts.rt" "$top/crates/compiler_tests/src/examples.rt")
 for example in "$top"/examples/*.c; do
     case ${example##*/} in gain.c | curve.c | squeeze.c | unsqueeze.c) continue ;; esac
+    case ${example##*/} in crc.c | adler.c | noise.c | unnoise.c | rice.c | unrice.c) continue ;; esac
     if [[ $texts == *'r"'"$(cat "$example")"$'\n";'* ]]; then
         passed=$((passed + 1))
     else
@@ -947,6 +948,66 @@ bytes 65536 "x / 8388608" >noise.picture
 squeezed "noise, squeezed" noise.picture 65584
 head -c 65536 /dev/zero >black
 squeezed "a black picture, squeezed" black 496
+
+# Sums that zlib makes, too: of nothing, of less than a block, of several blocks and a rest.
+for file in nothing.bin three.bin odd.bin sine.bin picture; do
+    for sum in crc:crc32 adler:adler32; do
+        python3 -c 'import sys, zlib
+with open(sys.argv[2], "rb") as file:
+    sys.stdout.buffer.write(getattr(zlib, sys.argv[1])(file.read()).to_bytes(4, "big"))' "${sum#*:}" "$file" >wanted
+        for workers in 1 4; do
+            run run "$top/examples/${sum%:*}.c" "$file" --workers "$workers"
+            agree "${sum%:*} over $file by $workers workers" 0 wanted "control done / output 4 of 4"
+        done
+    done
+done
+
+# Noise as another program makes it, over a picture, and the picture without it.
+printf '\377\002\003\200' >seed
+cat seed picture >seeded
+python3 -c 'import sys
+def mixed(x):
+    x = (x ^ x >> 16) * 0x85ebca6b & 0xffffffff
+    x = (x ^ x >> 13) * 0xc2b2ae35 & 0xffffffff
+    return x ^ x >> 16
+data = sys.stdin.buffer.read()
+seed, data = int.from_bytes(data[:4], "little"), data[4:]
+made = bytearray()
+for at, byte in enumerate(data):
+    if at % 256 == 0:
+        x = mixed(seed + mixed(at // 256 + 1) & 0xffffffff) | 1
+    x ^= x << 13 & 0xffffffff
+    x ^= x >> 17
+    x ^= x << 5 & 0xffffffff
+    made.append(byte + (x >> 24) & 255)
+sys.stdout.buffer.write(made)' <seeded >noisy
+for workers in 1 4; do
+    run run "$top/examples/noise.c" seeded --workers "$workers"
+    agree "noise over a picture by $workers workers" 0 noisy "control done / output 262144 of 262144"
+done
+cat seed noisy >seeded
+run run "$top/examples/unnoise.c" seeded
+agree "a picture without its noise" 0 picture "control done / output 262144 of 262144"
+
+# Bits that are packed give back the bytes, of which those behind the last whole block are left out.
+# packed_bits FILE LENGTH: codes a file, packs and unpacks what was written, and decodes it; how long that is, another program counted.
+packed_bits() {
+    head -c $(($(wc -c <"$1") / 256 * 256)) "$1" >wanted
+    run run "$top/examples/rice.c" "$1"
+    "$top/ospack" pack 259 <out >packed
+    "$top/ospack" unpack 259 <packed >slots
+    run run "$top/examples/unrice.c" slots
+    if [ "$status" = 0 ] && cmp -s wanted out && [ "$(wc -c <packed)" = "$2" ]; then
+        passed=$((passed + 1))
+    else
+        failed=$((failed + 1))
+        printf 'bits of %s: status %s, report %s, %s bytes packed\n' "$1" "$status" "$(told)" "$(wc -c <packed)"
+    fi
+}
+packed_bits sine.bin 2832
+packed_bits odd.bin 4144
+packed_bits picture 168520
+packed_bits nothing.bin 0
 
 # Where the program isn't built, or was built from another commit, the toolchain runs it, and the first line says so.
 copy=$work/copy
