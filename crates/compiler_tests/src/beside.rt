@@ -1,11 +1,8 @@
 //! What the machines make of a program beside what it means.
 
 ghost use Rattle.std.specs.Prelude.{◌≡◌, ◌≤◌, All, IfOk};
-ghost use Rattle.os_ast.specs.Spelling.{spell};
-ghost use Rattle.os_ast.specs.Views.{program_tree};
 ghost use Rattle.os_code.specs.Codes.{parts_of};
 ghost use Rattle.os_code.specs.Tasks.{Fits};
-ghost use Rattle.os_lexer.specs.Laws.{HasSmallNumber};
 ghost use Rattle.task_vm.specs.Space.{IsMadeFor};
 
 use crate::compiled::{Compiled, compile};
@@ -52,7 +49,6 @@ pub(crate) fn control_beside(
     input_len: u32,
     budget: u64,
 ) -> Result<Control, Fail>
-    requires small { All HasSmallNumber (spell (program_tree compiled.now.checked.program)) }
     requires input { input_len ≤ 4194304 }
     requires budget { budget ≤ 1000000000 }
     ensures fit { IfOk result (λ control. All (Fits (parts_of compiled.now.code)) control.activations) }
@@ -110,7 +106,6 @@ pub(crate) fn body_beside(
     scratch: &mut Scratch,
     budget: u64,
 ) -> Result<(TaskEnd, Vec<i32>), Fail>
-    requires small { All HasSmallNumber (spell (program_tree compiled.now.checked.program)) }
     requires fits { Fits (parts_of compiled.now.code) activation.now }
     requires made { IsMadeFor (parts_of compiled.now.code) scratch.old }
     requires budget { budget ≤ 1000000000 }
@@ -152,7 +147,6 @@ fn budgets_beside(
     activation: &Activation,
     scratch: &mut Scratch,
 ) -> Result<(), Fail>
-    requires small { All HasSmallNumber (spell (program_tree compiled.now.checked.program)) }
     requires fits { Fits (parts_of compiled.now.code) activation.now }
     requires made { IsMadeFor (parts_of compiled.now.code) scratch.old }
     ensures made_again { IsMadeFor (parts_of compiled.now.code) scratch.new }
@@ -184,7 +178,6 @@ pub(crate) fn bodies_beside(
     compiled: &Compiled,
     control: &Control,
 ) -> Result<(), Fail>
-    requires small { All HasSmallNumber (spell (program_tree compiled.now.checked.program)) }
     requires fits { All (Fits (parts_of compiled.now.code)) control.now.activations }
 {
     let mut scratch = Scratch::new(alloc, &compiled.code)?;
@@ -202,7 +195,6 @@ pub(crate) fn bodies_within(
     control: &Control,
     budget: u64,
 ) -> Result<(), Fail>
-    requires small { All HasSmallNumber (spell (program_tree compiled.now.checked.program)) }
     requires fits { All (Fits (parts_of compiled.now.code)) control.now.activations }
     requires budget { budget ≤ 1000000000 }
 {

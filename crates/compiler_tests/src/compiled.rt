@@ -1,10 +1,5 @@
 //! A program with its code.
 
-ghost use Rattle.std.specs.Prelude.{All, IfOk};
-ghost use Rattle.os_ast.specs.Spelling.{spell};
-ghost use Rattle.os_ast.specs.Views.{program_tree};
-ghost use Rattle.os_lexer.specs.Laws.{HasSmallNumber};
-
 use front_end::{TextError, read_program};
 use lowering::lower;
 use os_code::Code;
@@ -20,9 +15,7 @@ pub(crate) struct Compiled {
 }
 
 /// The program of a text, compiled.
-pub(crate) fn compile(rt: &impl Abort, alloc: Global, text: &str) -> Result<Compiled, TextError>
-    ensures { IfOk result (λ compiled. All HasSmallNumber (spell (program_tree compiled.checked.program))) }
-{
+pub(crate) fn compile(rt: &impl Abort, alloc: Global, text: &str) -> Result<Compiled, TextError> {
     assert!(rt; text.len() <= 262_144);
     let answer = read_program(alloc, text.as_bytes());
     assert!(rt; answer.is_ok(), "{text}");

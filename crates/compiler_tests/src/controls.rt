@@ -1,11 +1,8 @@
 //! Each control program of the tables beside what it means.
 
 ghost use Rattle.std.specs.Prelude.{All, IfOk};
-ghost use Rattle.os_ast.specs.Spelling.{spell};
-ghost use Rattle.os_ast.specs.Views.{program_tree};
 ghost use Rattle.os_code.specs.Codes.{parts_of};
 ghost use Rattle.os_code.specs.Tasks.{Fits};
-ghost use Rattle.os_lexer.specs.Laws.{HasSmallNumber};
 
 use crate::beside::{bodies_beside, control_beside, whole_beside};
 use crate::compiled::{Compiled, compile};
@@ -32,7 +29,6 @@ fn run_beside(
     compiled: &Compiled,
     run: &Run,
 ) -> Result<Control, Fail>
-    requires { All HasSmallNumber (spell (program_tree compiled.now.checked.program)) }
     ensures fit { IfOk result (λ control. All (Fits (parts_of compiled.now.code)) control.activations) }
 {
     let (input_len, budget, _) = *run;
@@ -51,9 +47,7 @@ fn runs_beside(
     alloc: Global,
     compiled: &Compiled,
     runs: &[Run],
-) -> Result<(), Fail>
-    requires { All HasSmallNumber (spell (program_tree compiled.now.checked.program)) }
-{
+) -> Result<(), Fail> {
     for run in runs {
         run_beside(rt, alloc, compiled, run)?;
     }

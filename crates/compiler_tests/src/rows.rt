@@ -1,11 +1,7 @@
 //! Bodies whose ends follow from the rules of the language, worked out by hand.
 
-ghost use Rattle.std.specs.Prelude.{All};
-ghost use Rattle.os_ast.specs.Spelling.{spell};
-ghost use Rattle.os_ast.specs.Views.{program_tree};
 ghost use Rattle.os_code.specs.Codes.{parts_of};
 ghost use Rattle.os_code.specs.Tasks.{Fits};
-ghost use Rattle.os_lexer.specs.Laws.{HasSmallNumber};
 
 use crate::beside::{body_beside, control_beside};
 use crate::compiled::{Compiled, compile};
@@ -54,7 +50,6 @@ fn activation_ends_so(
     activation: &Activation,
     row: Row,
 ) -> Result<(), Fail>
-    requires small { All HasSmallNumber (spell (program_tree compiled.now.checked.program)) }
     requires fits { Fits (parts_of compiled.now.code) activation.now }
 {
     let (body, budget, end) = row;
@@ -66,9 +61,12 @@ fn activation_ends_so(
 }
 
 /// The first activation of a program ends so.
-fn first_ends_so(rt: &impl Abort, alloc: Global, compiled: &Compiled, row: Row) -> Result<(), Fail>
-    requires { All HasSmallNumber (spell (program_tree compiled.now.checked.program)) }
-{
+fn first_ends_so(
+    rt: &impl Abort,
+    alloc: Global,
+    compiled: &Compiled,
+    row: Row,
+) -> Result<(), Fail> {
     let control = control_beside(rt, alloc, compiled, 0, 0)?;
     let Some(activation) = control.activations.as_slice().first() else {
         return Err(Fail::from("an activation"));

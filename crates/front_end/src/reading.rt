@@ -1,9 +1,7 @@
-ghost use Rattle.std.specs.Prelude.{◌≤◌, All, length, IfOk, IfErr};
+ghost use Rattle.std.specs.Prelude.{◌≤◌, length, IfOk, IfErr};
 ghost use Rattle.front_end.specs.Texts.{AcceptedOrRefused, IsAccepted, IsTrueOf, NeverBoth, OneProgram, OneRefusal};
-ghost use Rattle.os_ast.specs.Spelling.{spell};
 ghost use Rattle.os_ast.specs.Views.{program_tree};
 ghost use Rattle.os_lexer.specs.Cover.{IsTokenCover};
-ghost use Rattle.os_lexer.specs.Laws.{HasSmallNumber};
 ghost use Rattle.os_lexer.specs.Limits.{text_limit};
 
 use crate::text_error::{TextError, fault_error, syntax_error, violation_error};
@@ -17,8 +15,6 @@ use window_check::{Checked, check, marks_have_places};
 pub fn read_program(alloc: Global, text: &[u8]) -> Result<Checked, TextError>
     requires { length text.now ≤ text_limit }
     ensures accepted { IfOk result (λ checked. IsAccepted text.now (program_tree checked.program)) }
-    // It is spelled without the key `unsigned` and without wide numbers, since the lexer gives none.
-    ensures small { IfOk result (λ checked. All HasSmallNumber (spell (program_tree checked.program))) }
     ensures refused { IfErr result (IsTrueOf text.now) }
 {
     match lex(alloc, text) {
@@ -31,9 +27,7 @@ pub fn read_program(alloc: Global, text: &[u8]) -> Result<Checked, TextError>
 fn read_tokens(alloc: Global, text: &[u8], tokens: &[Token]) -> Result<Checked, TextError>
     requires cover { IsTokenCover text.now tokens.now }
     requires few { length tokens.now ≤ text_limit }
-    requires small { All (λ token. HasSmallNumber token.kind) tokens.now }
     ensures accepted { IfOk result (λ checked. IsAccepted text.now (program_tree checked.program)) }
-    ensures small { IfOk result (λ checked. All HasSmallNumber (spell (program_tree checked.program))) }
     ensures refused { IfErr result (IsTrueOf text.now) }
 {
     let program = match parse(alloc, tokens) {

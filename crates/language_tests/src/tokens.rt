@@ -103,7 +103,7 @@ fn comments(rt: HostRuntime) -> Result<(), Fail> {
     check_all(&rt, rt.alloc(), &COMMENTS)
 }
 
-static WORDS: [Case; 7] = [
+static WORDS: [Case; 8] = [
     (
         b"int intx xint if0 _if",
         "Key(Int)@0-3:1 Name(13)@4-8:1 Name(14)@9-13:1 Name(15)@14-17:1 Name(16)@18-21:1",
@@ -125,6 +125,11 @@ static WORDS: [Case; 7] = [
         b"a b a osin b a1 A",
         "Name(12)@0-1:1 Name(13)@2-3:1 Name(12)@4-5:1 Name(9)@6-10:1 Name(13)@11-12:1 Name(17)@13-15:1 Name(18)@16-17:1",
     ),
+    (
+        b"unsigned unsigne unsigned_ unsigned0 _unsigned Unsigned unsignedint u U",
+        "Key(Unsigned)@0-8:1 Name(13)@9-16:1 Name(14)@17-26:1 Name(15)@27-36:1 Name(16)@37-46:1 Name(17)@47-55:1 Name(18)@56-67:1 \
+         Name(19)@68-69:1 Name(20)@70-71:1",
+    ),
     (b"x int x", "Name(12)@0-1:1 Key(Int)@2-5:1 Name(12)@6-7:1"),
     (
         b"+ a + a",
@@ -137,7 +142,7 @@ fn words(rt: HostRuntime) -> Result<(), Fail> {
     check_all(&rt, rt.alloc(), &WORDS)
 }
 
-static NUMBERS: [Case; 16] = [
+static NUMBERS: [Case; 19] = [
     (
         b"0 1 10 2147483647",
         "Number(0)@0-1:1 Number(1)@2-3:1 Number(10)@4-6:1 Number(2147483647)@7-17:1",
@@ -157,17 +162,75 @@ static NUMBERS: [Case; 16] = [
     (b"0X", "BadByte { line: 1 }"),
     (b"09", "BadByte { line: 1 }"),
     (b"1_", "BadByte { line: 1 }"),
-    (b"020000000000", "BigNumber { line: 1 }"),
     (b"99999999999999999999999999999999", "BigNumber { line: 1 }"),
     (b"0b1", "BadByte { line: 1 }"),
     (b"1.5", "BadByte { line: 1 }"),
+    (b"2147483648", "BigNumber { line: 1 }"),
+    (b"4294967295", "BigNumber { line: 1 }"),
     (b"4294967296", "BigNumber { line: 1 }"),
+    (b"0x100000000", "BigNumber { line: 1 }"),
+    (b"040000000000", "BigNumber { line: 1 }"),
     (b"0xffffffffffffffffffffffff1", "BigNumber { line: 1 }"),
 ];
 
 #[test]
 fn numbers(rt: HostRuntime) -> Result<(), Fail> {
     check_all(&rt, rt.alloc(), &NUMBERS)
+}
+
+static WIDE_NUMBERS: [Case; 28] = [
+    (
+        b"0u 1U 2147483647u 2147483648u 4294967295U",
+        "Wide(0)@0-2:1 Wide(1)@3-5:1 Wide(2147483647)@6-17:1 Wide(2147483648)@18-29:1 Wide(4294967295)@30-41:1",
+    ),
+    (
+        b"00u 0777U 017777777777u 037777777777u",
+        "Wide(0)@0-3:1 Wide(511)@4-9:1 Wide(2147483647)@10-23:1 Wide(4294967295)@24-37:1",
+    ),
+    (
+        b"0x0u 0XfFU 0x7fffffffu 0xFfFfFfFfU",
+        "Wide(0)@0-4:1 Wide(255)@5-10:1 Wide(2147483647)@11-22:1 Wide(4294967295)@23-34:1",
+    ),
+    (
+        b"020000000000 037777777777 0x80000000 0Xffffffff 0x00000000fffffffe",
+        "Wide(2147483648)@0-12:1 Wide(4294967295)@13-25:1 Wide(2147483648)@26-36:1 Wide(4294967295)@37-47:1 \
+         Wide(4294967294)@48-66:1",
+    ),
+    (
+        b"1u+2U-3",
+        "Wide(1)@0-2:1 Punct(Plus)@2-3:1 Wide(2)@3-5:1 Punct(Minus)@5-6:1 Number(3)@6-7:1",
+    ),
+    (b"1 u", "Number(1)@0-1:1 Name(13)@2-3:1"),
+    (b"4294967296u", "BigNumber { line: 1 }"),
+    (
+        b"99999999999999999999999999999999U",
+        "BigNumber { line: 1 }",
+    ),
+    (b"0x100000000u", "BigNumber { line: 1 }"),
+    (b"040000000000U", "BigNumber { line: 1 }"),
+    (b"\n4294967296u", "BigNumber { line: 2 }"),
+    (b"08u", "BadByte { line: 1 }"),
+    (b"09U", "BadByte { line: 1 }"),
+    (b"0xu", "BadByte { line: 1 }"),
+    (b"0XU", "BadByte { line: 1 }"),
+    (b"1uu", "BadByte { line: 1 }"),
+    (b"1uU", "BadByte { line: 1 }"),
+    (b"0x1uu", "BadByte { line: 1 }"),
+    (b"0uu", "BadByte { line: 1 }"),
+    (b"1L", "BadByte { line: 1 }"),
+    (b"1uL", "BadByte { line: 1 }"),
+    (b"1Lu", "BadByte { line: 1 }"),
+    (b"1ull", "BadByte { line: 1 }"),
+    (b"1u_", "BadByte { line: 1 }"),
+    (b"1_u", "BadByte { line: 1 }"),
+    (b"1u2", "BadByte { line: 1 }"),
+    (b"1au", "BadByte { line: 1 }"),
+    (b"0b1u", "BadByte { line: 1 }"),
+];
+
+#[test]
+fn wide_numbers(rt: HostRuntime) -> Result<(), Fail> {
+    check_all(&rt, rt.alloc(), &WIDE_NUMBERS)
 }
 
 static MARKS_ARE_THE_LONGEST: [Case; 12] = [

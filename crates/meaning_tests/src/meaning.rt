@@ -2,11 +2,6 @@
 
 mod large;
 
-ghost use Rattle.std.specs.Prelude.{All, IfOk};
-ghost use Rattle.os_ast.specs.Spelling.{spell};
-ghost use Rattle.os_ast.specs.Views.{program_tree};
-ghost use Rattle.os_lexer.specs.Laws.{HasSmallNumber};
-
 use crate::bodies::{BEFORE, BODIES};
 use crate::case::Case;
 use crate::flows::FLOWS;
@@ -22,9 +17,7 @@ use std::test::Fail;
 use window_check::Checked;
 
 /// A program that violates no rule.
-fn accepted(alloc: Global, text: &str) -> Result<Checked, Fail>
-    ensures { IfOk result (λ checked. All HasSmallNumber (spell (program_tree checked.program))) }
-{
+fn accepted(alloc: Global, text: &str) -> Result<Checked, Fail> {
     if text.len() > 262_144 {
         return Err(Fail::from("the text is too long"));
     }
@@ -100,9 +93,7 @@ fn outcome(
     activation: &Activation,
     inputs: &[i32],
     budget: u64,
-) -> Result<String, Fail>
-    requires { All HasSmallNumber (spell (program_tree program.now)) }
-{
+) -> Result<String, Fail> {
     let (end, outputs) = plain_body(alloc, program, activation, inputs, budget)?;
     body_text(alloc, end, outputs.as_slice())
 }

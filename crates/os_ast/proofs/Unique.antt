@@ -35,7 +35,7 @@ mutual
   expr_once (IsExpr.chain a b c) (IsExpr.chain p q r) = three IsExpr.chain (expr_once a p) (less_once b q) (links_once c r)
   expr_once (IsExpr.unary a b) (IsExpr.unary p q) = both IsExpr.unary (expr_once a p) (le_prop b q)
   expr_once (IsExpr.number a) (IsExpr.number p) = ap IsExpr.number (less_once a p)
-  expr_once IsExpr.wide IsExpr.wide = refl
+  expr_once (IsExpr.wide a) (IsExpr.wide p) = ap IsExpr.wide (less_once a p)
   expr_once (IsExpr.place a) (IsExpr.place p) = ap IsExpr.place (target_once a p)
   expr_once (IsExpr.call a) (IsExpr.call p) = ap IsExpr.call (args_once a p)
   expr_once (IsExpr.paren a) (IsExpr.paren p) = ap IsExpr.paren (expr_once a p)
@@ -151,7 +151,7 @@ params_once IsParams.names IsParams.names = refl
 
 program_item_once : {i : tree.ItemTree} (p q : IsItem i) → p ≡ q
 program_item_once (IsItem.constant a) (IsItem.constant p) = ap IsItem.constant (less_once a p)
-program_item_once IsItem.wide_constant IsItem.wide_constant = refl
+program_item_once (IsItem.wide_constant a) (IsItem.wide_constant p) = ap IsItem.wide_constant (less_once a p)
 program_item_once (IsItem.function a b) (IsItem.function p q) = both IsItem.function (params_once a p) (stmts_once b q)
 
 -- two proofs that a program is leveled are equal

@@ -37,7 +37,7 @@ mutual
         IsExpr (tree.Chain l first (tree.link op m e rest))
     unary : {op : operator.Unary} {m : Mark} {e : tree.ExprTree} → IsExpr e → 11 ≤ level e → IsExpr (tree.Unary op m e)
     number : {n : ℕ} → n < 2 ^ 31 → IsExpr (tree.Number n)
-    wide : {n : ℕ} → IsExpr (tree.Wide n)
+    wide : {n : ℕ} → n < 2 ^ 32 → IsExpr (tree.Wide n)
     place : {t : tree.TargetTree} → IsTarget t → IsExpr (tree.Place t)
     call : {f : Name} {args : tree.Args} → AreArgs args → IsExpr (tree.ExprTree.Call f args)
     paren : {e : tree.ExprTree} → IsExpr e → IsExpr (tree.Paren e)
@@ -188,7 +188,7 @@ pub data IsParams : Params → Type 0 where
 pub data IsItem : tree.ItemTree → Type 0 where
   constant : {t : Ty} {n : Name} {minus : Bool} {size : ℕ} → size < 2 ^ 31 →
       IsItem (tree.Constant (record { ty = t; name = n; minus = minus; size = size; wide = false }))
-  wide_constant : {t : Ty} {n : Name} {minus : Bool} {size : ℕ} →
+  wide_constant : {t : Ty} {n : Name} {minus : Bool} {size : ℕ} → size < 2 ^ 32 →
       IsItem (tree.Constant (record { ty = t; name = n; minus = minus; size = size; wide = true }))
   function : {t : Ty} {n : Name} {params : Params} {body : tree.Stmts} → IsParams params → AreStmts body →
       IsItem (tree.Function (record { ty = t; name = n; params = params; body = body }))

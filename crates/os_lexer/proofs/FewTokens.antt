@@ -1,5 +1,5 @@
 -- A text has at least as many bytes as tokens.
-use Rattle.std.proofs.Common.{◌≡◌, ℕ, ◌+◌, ◌≤◌, List, [], ◌∷◌, length, take, drop, Option, Some, None, refl, ap, subst, arith, ◌<◌, length-append, length-take-le, length-drop}
+use Rattle.std.proofs.Common.{◌≡◌, ℕ, ◌+◌, ◌≤◌, cond, ◌&&◌, List, [], ◌∷◌, length, take, drop, Option, Some, None, refl, ap, subst, arith, ◌<◌, length-append, length-take-le, length-drop}
 use Rattle.std.proofs.lemmas.Bool.{cond_both}
 use Rattle.std.specs.List.{list_any}
 use Rattle.std.specs.Prelude.{nat_le}
@@ -10,7 +10,7 @@ use Rattle.os_lexer.specs.Forms.{IsForm, IsLexeme}
 use Rattle.os_lexer.specs.Keywords.{key_of}
 use Rattle.os_lexer.specs.Laws.{FewTokens}
 use Rattle.os_lexer.specs.Names.{name_number}
-use Rattle.os_lexer.specs.Numbers.{number_value}
+use Rattle.os_lexer.specs.Numbers.{may_be_int, may_be_unsigned, number_value}
 use Rattle.os_lexer.specs.declared.effect.Effect.{Effect}
 use Rattle.os_lexer.specs.declared.effect.Effect.TheVariants.{Skip, Give, Fail}
 use Rattle.os_lexer.specs.declared.fault.Fault.TheVariants as fault
@@ -54,9 +54,14 @@ directive_owes LineStart n lawful owes = owes
 directive_owes InLine n lawful owes = tt
 directive_owes InPragma n lawful owes = tt
 
-number_owes : (mode : Mode) (n : ℕ) (v : Option ℕ) → 0 < n → OwesNoMore (owed mode) n (number_effect mode v)
-number_owes mode n None some = tt
-number_owes mode n (Some v) some = cond_both (nat_le v 2147483647) (Give (kind.Number v) (mode_after_token mode)) (Fail fault.BigNumber) (OwesNoMore (owed mode) n) (λ _. token_owes mode n (kind.Number v) some) (λ _. tt)
+number_owes : (mode : Mode) (n : ℕ) (s : List ℕ) (v : Option ℕ) → 0 < n → OwesNoMore (owed mode) n (number_effect mode s v)
+number_owes mode n s None some = tt
+number_owes mode n s (Some v) some =
+    let number = Give (kind.Number v) (mode_after_token mode) in
+    let wide = Give (kind.Wide v) (mode_after_token mode) in
+    let is_unsigned = may_be_unsigned s && nat_le v 4294967295 in
+    cond_both (may_be_int s && nat_le v 2147483647) number (cond is_unsigned wide (Fail fault.BigNumber)) (OwesNoMore (owed mode) n) (λ _. token_owes mode n (kind.Number v) some)
+    (λ _. cond_both is_unsigned wide (Fail fault.BigNumber) (OwesNoMore (owed mode) n) (λ _. token_owes mode n (kind.Wide v) some) (λ _. tt))
 
 -- `#pragma` has more than one byte
 pragma_long : (s : List ℕ) → IsForm form.PragmaStart s → 2 ≤ length s
@@ -72,7 +77,7 @@ effect_owes mode name n form.IncludeLine s some long p = directive_owes mode n (
 effect_owes mode name n form.PragmaStart s some long p = directive_owes mode n (Give kind.PragmaStart InPragma) (omega (arith, pragma_long s p, long))
 effect_owes mode name n form.OtherDirective s some long p = tt
 effect_owes mode name n form.Word s some long p = token_owes mode n (word_kind (key_of s) name) some
-effect_owes mode name n form.Number s some long p = number_owes mode n (number_value s) some
+effect_owes mode name n form.Number s some long p = number_owes mode n s (number_value s) some
 effect_owes mode name n (form.Mark k) s some long p = token_owes mode n (kind.Punct k) some
 
 -- there are at least as many bytes as tokens, the one that is owed included

@@ -7,6 +7,7 @@ pub mod Cuts
 pub mod CoverLaws
 pub mod Ends
 pub mod Values
+pub mod NumberEffects
 pub mod Positions
 pub mod NamedTokens
 pub mod Advance

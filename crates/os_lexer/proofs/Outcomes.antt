@@ -6,8 +6,8 @@ use Rattle.os_lexer.specs.declared.fault.LexError.{LexError}
 use Rattle.os_lexer.specs.declared.fault.LexError.TheVariants.{BadByte, OpenComment, BigNumber, Memory}
 use Rattle.os_lexer.specs.declared.token.Token.{Token}
 use Rattle.os_lexer.proofs.FewTokens.{few_tokens}
-use Rattle.os_lexer.specs.Laws.{HasSmallNumber}
-use Rattle.os_lexer.proofs.TokenNumbers.{small_numbers}
+use Rattle.os_lexer.specs.Laws.{HasFittingNumber}
+use Rattle.os_lexer.proofs.TokenNumbers.{numbers_fit}
 use Rattle.os_lexer.proofs.CoverLaws.{one_cover, one_fault, never_both}
 
 module _ (text : List ℕ) where
@@ -38,7 +38,7 @@ module _ (text : List ℕ) where
   few (Ok v) ok = few_tokens text v.items ok
   few (Err e) ok = tt
 
-  -- and no greater number
-  pub small : (r : Result (Vec Token Global) LexError) → IfOk r (λ v. IsTokenCover text v.items) → IfOk r (λ v. All (λ token. HasSmallNumber token.kind) v.items)
-  small (Ok v) ok = small_numbers text v.items ok
-  small (Err e) ok = tt
+  -- and its numbers have values of their types
+  pub fit : (r : Result (Vec Token Global) LexError) → IfOk r (λ v. IsTokenCover text v.items) → IfOk r (λ v. All (λ token. HasFittingNumber token.kind) v.items)
+  fit (Ok v) ok = numbers_fit text v.items ok
+  fit (Err e) ok = tt

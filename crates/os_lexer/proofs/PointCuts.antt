@@ -18,7 +18,7 @@ use Rattle.os_lexer.specs.Laws.{CoverCuts, FaultPoints}
 use Rattle.os_lexer.specs.Lines.{line_of}
 use Rattle.os_lexer.specs.Marks.{mark_spelling}
 use Rattle.os_lexer.specs.Names.{name_number}
-use Rattle.os_lexer.specs.Numbers.{number_value}
+use Rattle.os_lexer.specs.Numbers.{may_be_int, may_be_unsigned, number_value}
 use Rattle.os_lexer.specs.Reading.{class_of, lexeme, lexeme_at, all_marks, mark_of}
 use Rattle.os_lexer.specs.declared.bytes.Class.TheVariants.{White}
 use Rattle.os_lexer.specs.declared.effect.Effect.{Effect}
@@ -38,6 +38,7 @@ use Rattle.os_lexer.proofs.Advance.{line_of-later}
 use Rattle.os_lexer.proofs.Cuts.{IsLexeme-some, lexeme_at-is, leads_on}
 use Rattle.os_lexer.proofs.Longest.{lexeme_at-of_class}
 use Rattle.os_lexer.proofs.MarkSpellings.{mark_of-spelling, tested}
+use Rattle.os_lexer.proofs.NumberEffects.{and_false}
 
 -- ---- line feeds
 any_from : (b rest : Bool) (n : ℕ) → (rest ≡ true → 1 ≤ n) → (b || rest) ≡ true → 1 ≤ cond b 1 0 + n
@@ -82,10 +83,6 @@ unfolding mark_of
 mark_unfeed m = unnot _ (tested (λ s. not (list_any is_line_feed s)) all_marks (mark_spelling m) m refl (mark_of-spelling m))
 
 -- ---- tokens and lines
-and_false : (b : Bool) → (b && false) ≡ false
-and_false true = refl
-and_false false = refl
-
 are_later : (ts : List Token) (l m : ℕ) → l ≤ m → All (λ (t : Token). t.line ≤ l) ts → All (λ (t : Token). t.line ≤ m) ts
 are_later ts l m low all k d below = omega (arith, low, all k d below)
 
@@ -131,13 +128,20 @@ pragma_unskipped LineStart m e = cc
 pragma_unskipped InLine m e = cc
 pragma_unskipped InPragma m e = cc
 
-number_kept : (mode m : Mode) (v : ℕ) (b : Bool) → cond b (Give (kind.Number v) (mode_after_token mode)) (Fail fault.BigNumber) ≡ Skip m → ⊥
-number_kept mode m v true e = cc
-number_kept mode m v false e = cc
+-- a number by its value, where it may be an `int` and where it may be an `unsigned`
+abbrev given_number : Mode → ℕ → Bool → Bool → Effect
+given_number mode v is_int is_unsigned =
+    cond is_int (Give (kind.Number v) (mode_after_token mode)) (cond is_unsigned (Give (kind.Wide v) (mode_after_token mode)) (Fail fault.BigNumber))
 
-number_unskipped : (mode m : Mode) (v : Option ℕ) → number_effect mode v ≡ Skip m → ⊥
-number_unskipped mode m None e = cc
-number_unskipped mode m (Some v) e = number_kept mode m v (nat_le v 2147483647) e
+number_kept : (mode m : Mode) (v : ℕ) (is_int is_unsigned : Bool) → given_number mode v is_int is_unsigned ≡ Skip m → ⊥
+number_kept mode m v true is_unsigned e = cc
+number_kept mode m v false true e = cc
+number_kept mode m v false false e = cc
+
+number_unskipped : (mode m : Mode) (s : List ℕ) (v : Option ℕ) → number_effect mode s v ≡ Skip m → ⊥
+number_unskipped mode m s None e = cc
+number_unskipped mode m s (Some v) e =
+    number_kept mode m v (may_be_int s && nat_le v 2147483647) (may_be_unsigned s && nat_le v 4294967295) e
 
 -- a gap's line feed ends the line, but that of a joined line in a line comment
 skip_mode : (mode m : Mode) (name : ℕ) (f : Form) (s : List ℕ) → effect mode name f s ≡ Skip m →
@@ -151,7 +155,7 @@ skip_mode mode m name form.IncludeLine s e = inl (include_skip mode m s e)
 skip_mode mode m name form.PragmaStart s e = absurd (pragma_unskipped mode m e)
 skip_mode mode m name form.OtherDirective s e = absurd (cc e)
 skip_mode mode m name form.Word s e = absurd (cc e)
-skip_mode mode m name form.Number s e = absurd (number_unskipped mode m (number_value s) e)
+skip_mode mode m name form.Number s e = absurd (number_unskipped mode m s (number_value s) e)
 skip_mode mode m name (form.Mark k) s e = absurd (cc e)
 
 -- a token begins a pragma's line, ends it by its line feed, or stands on one line
@@ -190,14 +194,16 @@ word_opens : (key : Option Key) (name : ℕ) (b : Bool) → opens_pragma (word_k
 word_opens None name b = refl
 word_opens (Some key) name b = refl
 
-number_stays : (mode m : Mode) (s : List ℕ) (k : Kind) (v : ℕ) (b : Bool) → list_any is_line_feed s ≡ false →
-    cond b (Give (kind.Number v) (mode_after_token mode)) (Fail fault.BigNumber) ≡ Give k m → Gives mode s k m
-number_stays mode m s k v true none e = gives_along e (plain (λ b. refl) none)
-number_stays mode m s k v false none e = absurd (cc e)
+number_stays : (mode m : Mode) (s : List ℕ) (k : Kind) (v : ℕ) (is_int is_unsigned : Bool) → list_any is_line_feed s ≡ false →
+    given_number mode v is_int is_unsigned ≡ Give k m → Gives mode s k m
+number_stays mode m s k v true is_unsigned none e = gives_along e (plain (λ b. refl) none)
+number_stays mode m s k v false true none e = gives_along e (plain (λ b. refl) none)
+number_stays mode m s k v false false none e = absurd (cc e)
 
-number_gives : (mode m : Mode) (s : List ℕ) (k : Kind) (v : Option ℕ) → list_any is_line_feed s ≡ false → number_effect mode v ≡ Give k m → Gives mode s k m
+number_gives : (mode m : Mode) (s : List ℕ) (k : Kind) (v : Option ℕ) → list_any is_line_feed s ≡ false → number_effect mode s v ≡ Give k m → Gives mode s k m
 number_gives mode m s k None none e = absurd (cc e)
-number_gives mode m s k (Some v) none e = number_stays mode m s k v (nat_le v 2147483647) none e
+number_gives mode m s k (Some v) none e =
+    number_stays mode m s k v (may_be_int s && nat_le v 2147483647) (may_be_unsigned s && nat_le v 4294967295) none e
 
 give_mode : (mode m : Mode) (name : ℕ) (f : Form) (s : List ℕ) (k : Kind) → IsForm f s → effect mode name f s ≡ Give k m → Gives mode s k m
 give_mode mode m name form.Space s k p e = space_gives mode m s k e

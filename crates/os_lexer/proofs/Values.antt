@@ -4,7 +4,7 @@ use Rattle.std.proofs.lemmas.Bool.{cases_lt}
 use Rattle.std.proofs.lemmas.List.Sums.{fold_more}
 use Rattle.os_lexer.specs.Numbers.{value_in, digit_value}
 
-pub product_fits : (v b : ℕ) → v ≤ 2147483648 → b ≤ 16 → v * b ≤ 34359738368
+pub product_fits : (v b : ℕ) → v ≤ 4294967296 → b ≤ 16 → v * b ≤ 68719476736
 product_fits v b low high = omega (arith, mul-le-mul low high)
 
 capped : (v b d cap : ℕ) → 1 ≤ b → min (min v cap * b + d) cap ≡ min (v * b + d) cap
@@ -19,6 +19,6 @@ capped v b d cap one =
     (cases_lt v cap)
 
 -- one more digit
-pub value_in_more : (base : ℕ) (digits : List ℕ) (i v : ℕ) → 1 ≤ base → i < length digits → v ≡ min (value_in base (take i digits)) 2147483648 → min (v * base + digit_value (get_or digits i 0)) 2147483648 ≡ min (value_in base (take (i + 1) digits)) 2147483648
+pub value_in_more : (base : ℕ) (digits : List ℕ) (i v : ℕ) → 1 ≤ base → i < length digits → v ≡ min (value_in base (take i digits)) 4294967296 → min (v * base + digit_value (get_or digits i 0)) 4294967296 ≡ min (value_in base (take (i + 1) digits)) 4294967296
 value_in_more base digits i v one below is =
-    ap (λ k. min (k * base + digit_value (get_or digits i 0)) 2147483648) is ∙ capped (value_in base (take i digits)) base (digit_value (get_or digits i 0)) 2147483648 one ∙ ap (λ k. min k 2147483648) (sym (fold_more (λ value digit. value * base + digit_value digit) 0 digits i 0 below))
+    ap (λ k. min (k * base + digit_value (get_or digits i 0)) 4294967296) is ∙ capped (value_in base (take i digits)) base (digit_value (get_or digits i 0)) 4294967296 one ∙ ap (λ k. min k 4294967296) (sym (fold_more (λ value digit. value * base + digit_value digit) 0 digits i 0 below))

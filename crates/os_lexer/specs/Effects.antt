@@ -1,9 +1,9 @@
 -- What a lexeme of a text does: it is skipped, is a token, or is a fault. One row for each form.
-use Rattle.std.specs.Prelude.{ℕ, List, Option, Some, None, nat_le, if◌then◌else◌}
+use Rattle.std.specs.Prelude.{ℕ, ◌&&◌, List, Option, Some, None, nat_le, if◌then◌else◌}
 use Rattle.std.specs.List.{list_any}
 use Rattle.os_lexer.specs.Bytes.{is_line_feed}
 use Rattle.os_lexer.specs.Keywords.{key_of}
-use Rattle.os_lexer.specs.Numbers.{number_value}
+use Rattle.os_lexer.specs.Numbers.{may_be_int, may_be_unsigned, number_value}
 use Rattle.os_lexer.specs.declared.effect.Effect.{Effect}
 use Rattle.os_lexer.specs.declared.effect.Effect.TheVariants.{Skip, Give, Fail}
 use Rattle.os_lexer.specs.declared.fault.Fault.{Fault}
@@ -46,11 +46,14 @@ directive_effect LineStart effect = effect
 directive_effect InLine effect = Fail fault.BadByte
 directive_effect InPragma effect = Fail fault.BadByte
 
--- A run that begins with a digit and is no number is a bad byte. A value above 2,147,483,647 is a big number.
-abbrev pub number_effect : Mode → Option ℕ → Effect
-number_effect mode None = Fail fault.BadByte
-number_effect mode (Some value) =
-    if nat_le value 2147483647 then Give (kind.Number value) (mode_after_token mode) else Fail fault.BigNumber
+-- What a run that begins with a digit does: where it is no number it is a bad byte. An `int` is at most 2,147,483,647, an
+-- `unsigned` at most 4,294,967,295, and a number that fits no type that it may have is a big number.
+abbrev pub number_effect : Mode → List ℕ → Option ℕ → Effect
+number_effect mode run None = Fail fault.BadByte
+number_effect mode run (Some value) =
+    if may_be_int run && nat_le value 2147483647 then Give (kind.Number value) (mode_after_token mode)
+    else (if may_be_unsigned run && nat_le value 4294967295 then Give (kind.Wide value) (mode_after_token mode)
+    else Fail fault.BigNumber)
 
 -- a word that is no keyword is a name
 abbrev pub word_kind : Option Key → ℕ → Kind
@@ -68,5 +71,5 @@ effect mode name form.IncludeLine s = directive_effect mode (Skip LineStart)
 effect mode name form.PragmaStart s = directive_effect mode (Give kind.PragmaStart InPragma)
 effect mode name form.OtherDirective s = Fail fault.BadByte
 effect mode name form.Word s = Give (word_kind (key_of s) name) (mode_after_token mode)
-effect mode name form.Number s = number_effect mode (number_value s)
+effect mode name form.Number s = number_effect mode s (number_value s)
 effect mode name (form.Mark mark) s = Give (kind.Punct mark) (mode_after_token mode)

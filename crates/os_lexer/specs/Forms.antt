@@ -42,7 +42,7 @@ pub record IsWord (s : List ℕ) : Type 0 where
   pub run : IsRun s
   pub begins : IsTrue (is_letter (slice_index s 0))
 
--- a run that begins with a digit: a number, or none (C11, 6.4.4.1, without suffixes)
+-- a run that begins with a digit: a number, or none (C11, 6.4.4.1)
 pub record IsNumberRun (s : List ℕ) : Type 0 where
   pub run : IsRun s
   pub begins : IsTrue (is_digit (slice_index s 0))

@@ -17,6 +17,7 @@ keywords =
     (codes "break", key.Break) ∷
     (codes "continue", key.Continue) ∷
     (codes "return", key.Return) ∷
+    (codes "unsigned", key.Unsigned) ∷
     (codes "__attribute__", key.Attribute) ∷
     (codes "auto", key.Other) ∷
     (codes "case", key.Other) ∷
@@ -40,7 +41,6 @@ keywords =
     (codes "switch", key.Other) ∷
     (codes "typedef", key.Other) ∷
     (codes "union", key.Other) ∷
-    (codes "unsigned", key.Other) ∷
     (codes "volatile", key.Other) ∷
     (codes "_Alignas", key.Other) ∷
     (codes "_Alignof", key.Other) ∷

@@ -1,10 +1,9 @@
 -- What follows of the token cover and the first fault: that the definitions are the ones meant.
-use Rattle.std.specs.Prelude.{◌≡◌, ◌≢◌, ℕ, ◌<◌, ◌≤◌, ◌⊎◌, ◌↔◌, List, length, take, All, Option, Some, position, codes, bytes_eq}
+use Rattle.std.specs.Prelude.{◌≡◌, ℕ, ◌^◌, ◌<◌, ◌≤◌, ◌⊎◌, ◌↔◌, List, length, take, All, Option, Some, position, codes, bytes_eq}
 use Rattle.os_lexer.specs.Cover.{IsTokenCover, IsFirstFault}
 use Rattle.os_lexer.specs.Cut.{IsCut, IsFaultPoint}
 use Rattle.os_lexer.specs.Lines.{line_of}
 use Rattle.os_lexer.specs.Names.{fixed_names, omp_id, task_id, tick_id, taskwait_id, input_id, output_id, firstprivate_id, stream_id, main_id, osin_id, osout_id, osin_len_id}
-use Rattle.os_lexer.specs.declared.token.Key.TheVariants as keys
 use Rattle.os_lexer.specs.declared.token.Kind.{Kind}
 use Rattle.os_lexer.specs.declared.token.Kind.TheVariants as kind
 use Rattle.os_lexer.specs.declared.token.Token.{Token}
@@ -52,20 +51,20 @@ CoverBeforeFault =
 abbrev pub FewTokens : Type 0
 FewTokens = (text : List ℕ) (tokens : List Token) → IsTokenCover text tokens → length tokens ≤ length text
 
--- a number is at most 2,147,483,647, none is wide, and no key is `unsigned`
-abbrev pub HasSmallNumber : Kind → Type 0
-HasSmallNumber (kind.Name n) = Unit {0}
-HasSmallNumber (kind.Number value) = value ≤ 2147483647
-HasSmallNumber (kind.Wide value) = ⊥
-HasSmallNumber (kind.Key key) = key ≢ keys.Unsigned
-HasSmallNumber (kind.Punct mark) = Unit {0}
-HasSmallNumber kind.PragmaStart = Unit {0}
-HasSmallNumber kind.PragmaEnd = Unit {0}
+-- a number has a value of its type: one that isn't wide is an `int`, and a wide one an `unsigned`
+abbrev pub HasFittingNumber : Kind → Type 0
+HasFittingNumber (kind.Name n) = Unit {0}
+HasFittingNumber (kind.Number value) = value < 2 ^ 31
+HasFittingNumber (kind.Wide value) = value < 2 ^ 32
+HasFittingNumber (kind.Key key) = Unit {0}
+HasFittingNumber (kind.Punct mark) = Unit {0}
+HasFittingNumber kind.PragmaStart = Unit {0}
+HasFittingNumber kind.PragmaEnd = Unit {0}
 
 -- this holds of each token
-abbrev pub SmallNumbers : Type 0
-SmallNumbers =
-    (text : List ℕ) (tokens : List Token) → IsTokenCover text tokens → All (λ token. HasSmallNumber token.kind) tokens
+abbrev pub NumbersFit : Type 0
+NumbersFit =
+    (text : List ℕ) (tokens : List Token) → IsTokenCover text tokens → All (λ token. HasFittingNumber token.kind) tokens
 
 -- the number of a fixed name
 abbrev pub fixed_number : List ℕ → Option ℕ

@@ -1,5 +1,5 @@
--- The forms of numbers, and their values.
-use Rattle.std.specs.Prelude.{ℕ, ◌+◌, ◌-◌, ◌*◌, Bool, ◌&&◌, ◌||◌, List, [], ◌∷◌, Option, Some, None, fold, nat_le, nat_lt, ◌==◌, if◌then◌else◌}
+-- The forms of numbers, their values, and the types that they may have (C11, 6.4.4.1).
+use Rattle.std.specs.Prelude.{ℕ, ◌+◌, ◌-◌, ◌*◌, Bool, not, ◌&&◌, ◌||◌, List, [], ◌∷◌, length, take, Option, Some, None, fold, nat_le, nat_lt, ◌==◌, slice_index, if◌then◌else◌}
 use Rattle.std.specs.List.{list_all}
 use Rattle.os_lexer.specs.Bytes.{is_digit}
 
@@ -34,8 +34,32 @@ value_after_zero [] = Some 0
 value_after_zero (b ∷ rest) =
     if b == 120 || b == 88 then hexadecimal_value rest else value_if_all is_octal_digit 8 (b ∷ rest)
 
--- A decimal number has no leading zero. The value of a run that begins with a digit, if it is of a form.
-abbrev pub number_value : List ℕ → Option ℕ
-number_value [] = None
-number_value (b ∷ rest) =
+-- A decimal number has no leading zero. The value of a number without a suffix, if it is of a form.
+abbrev pub plain_value : List ℕ → Option ℕ
+plain_value [] = None
+plain_value (b ∷ rest) =
     if b == 48 then value_after_zero rest else value_if_all is_digit 10 (b ∷ rest)
+
+-- a run ends in `u` or `U`, the suffix of numbers that are `unsigned`
+abbrev pub has_suffix : List ℕ → Bool
+has_suffix run = slice_index run (length run - 1) == 117 || slice_index run (length run - 1) == 85
+
+-- the run without its suffix
+abbrev pub without_suffix : List ℕ → List ℕ
+without_suffix run = if has_suffix run then take (length run - 1) run else run
+
+-- A number may have that suffix, and no other one. The value of a run that begins with a digit, if it is a number.
+abbrev pub number_value : List ℕ → Option ℕ
+number_value run = plain_value (without_suffix run)
+
+-- a number that doesn't begin with `0` is decimal
+abbrev pub is_decimal : List ℕ → Bool
+is_decimal run = not (slice_index run 0 == 48)
+
+-- The type of a number is the first that its value fits, of those that it may have: `int`, where it has no suffix, and then
+-- `unsigned`, where it has one or isn't decimal. What C has behind these, as `long`, the language hasn't.
+abbrev pub may_be_int : List ℕ → Bool
+may_be_int run = not (has_suffix run)
+
+abbrev pub may_be_unsigned : List ℕ → Bool
+may_be_unsigned run = has_suffix run || not (is_decimal run)

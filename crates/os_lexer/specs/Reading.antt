@@ -160,7 +160,7 @@ lexeme_at bytes = lexeme_of (class_of (slice_index bytes 0)) bytes
 -- a value as far as it is read
 abbrev pub capped : Option ℕ → Option ℕ
 capped None = None
-capped (Some value) = Some (min value 2147483648)
+capped (Some value) = Some (min value 4294967296)
 
 -- a table of words in the code: what it has for a word
 abbrev pub key_in : List (Bor (List ℕ) × Key) → List ℕ → Option Key

@@ -1,7 +1,7 @@
 ghost use Rattle.std.specs.Prelude.{ℕ, ◌≤◌, List, length, All, IfOk, IfErr};
 ghost use Rattle.os_lexer.specs.Cover.{IsTokenCover, IsFirstFault};
 ghost use Rattle.os_lexer.specs.Answer.{IsFaultOf, IsGivenUnlessMemory, IsToldUnlessMemory};
-ghost use Rattle.os_lexer.specs.Laws.{HasSmallNumber};
+ghost use Rattle.os_lexer.specs.Laws.{HasFittingNumber};
 ghost use Rattle.os_lexer.specs.Limits.{text_limit};
 ghost use Rattle.os_lexer.specs.declared.token.Token.{Token};
 
@@ -25,9 +25,9 @@ pub fn lex(alloc: Global, text: &[u8]) -> Result<Vec<Token>, LexError>
     ensures faulted { (code line : ℕ) → IsFirstFault text.now code line
         → IsToldUnlessMemory code line result }
 
-    // No text has more tokens than bytes, no number is above 2,147,483,647 or wide, and no key is `unsigned`.
+    // No text has more tokens than bytes. A number is at most 2,147,483,647, and a wide one at most 4,294,967,295.
     ensures few { IfOk result (λ tokens. length tokens.items ≤ length text.now) }
-    ensures small { IfOk result (λ tokens. All (λ token. HasSmallNumber token.kind) tokens.items) }
+    ensures fit { IfOk result (λ tokens. All (λ token. HasFittingNumber token.kind) tokens.items) }
 {
     tokens_of(alloc, text)
 }

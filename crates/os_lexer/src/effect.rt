@@ -6,7 +6,7 @@ ghost use Rattle.os_lexer.specs.Numbers.{number_value};
 use crate::fault::Fault;
 use crate::form::Form;
 use crate::mode::{Mode, has_line_feed};
-use crate::numbers::number_value;
+use crate::numbers::{may_be_int, may_be_unsigned, number_value};
 use crate::token::Kind;
 use crate::words::key_of;
 
@@ -79,19 +79,22 @@ fn word_kind(word: &[u8], name: u32) -> Kind
 
 /// What a run that begins with a digit does.
 fn number_effect(mode: Mode, run: &[u8]) -> Effect
-    ensures { result ≡ number_effect mode (number_value run.now) }
+    ensures { result ≡ number_effect mode run.now (number_value run.now) }
 {
     match number_value(run) {
         None => Effect::Fail(Fault::BadByte),
-        Some(value) => value_effect(mode, value),
+        Some(value) => value_effect(mode, run, value),
     }
 }
 
-fn value_effect(mode: Mode, value: u32) -> Effect
-    ensures { result ≡ number_effect mode (Some value) }
+/// What a number of this value does: it has the first type that the value fits, of those that it may have.
+fn value_effect(mode: Mode, number: &[u8], value: u64) -> Effect
+    ensures { result ≡ number_effect mode number.now (Some value) }
 {
-    if value <= 2_147_483_647 {
-        Effect::Give(Kind::Number(value), mode.after_token())
+    if may_be_int(number) && value <= 2_147_483_647 {
+        Effect::Give(Kind::Number(value as u32), mode.after_token())
+    } else if may_be_unsigned(number) && value <= 4_294_967_295 {
+        Effect::Give(Kind::Wide(value as u32), mode.after_token())
     } else {
         Effect::Fail(Fault::BigNumber)
     }

@@ -11,7 +11,7 @@ pub enum LexError {
     /// A `/*` without `*/`. It has the code 2.
     #[error("open comment on line {line}")]
     OpenComment { line: u32 },
-    /// A number above 2,147,483,647. It has the code 3.
+    /// A number that has no type: one above 4,294,967,295, or a decimal one without suffix above 2,147,483,647. It has the code 3.
     #[error("big number on line {line}")]
     BigNumber { line: u32 },
     /// Memory ran out. This says nothing of the text.

@@ -1,5 +1,5 @@
 //! Laws of the token cover and the first fault. These functions do nothing: their contracts are the laws.
-ghost use Rattle.os_lexer.specs.Laws.{OneCover, OneFault, CoverOrFault, NeverBoth, CoverCuts, FaultPoints, CoverBeforeFault, FewTokens, SmallNumbers, FixedNamesAreNumbered};
+ghost use Rattle.os_lexer.specs.Laws.{OneCover, OneFault, CoverOrFault, NeverBoth, CoverCuts, FaultPoints, CoverBeforeFault, FewTokens, NumbersFit, FixedNamesAreNumbered};
 
 /// Each text has one outcome.
 pub fn one_cover()
@@ -10,12 +10,11 @@ pub fn one_cover()
 {}
 
 /// The token cover is the cut of the whole text into lexemes, each the longest form at its point, with the kinds and
-/// lines of the tokens. It has at most as many tokens as the text has bytes, no number above 2,147,483,647 or wide, and no
-/// key `unsigned`.
+/// lines of the tokens. It has at most as many tokens as the text has bytes, and a value of its type for each number.
 pub fn cover_cuts()
     ensures cuts { CoverCuts }
     ensures few { FewTokens }
-    ensures small { SmallNumbers }
+    ensures fit { NumbersFit }
 {}
 
 /// The first fault stands at the point that the text is cut to. The text before it has a cover, and no fault stands at an

@@ -1,16 +1,55 @@
-//! The forms of numbers, and their values.
+//! The forms of numbers, their values, and the types that they may have.
 ghost use Rattle.std.specs.Prelude.{◌≡◌, ◌≤◌, min};
 ghost use Rattle.std.specs.List.{list_all};
 ghost use Rattle.os_lexer.specs.Bytes.{is_digit};
-ghost use Rattle.os_lexer.specs.Numbers.{is_octal_digit, is_hexadecimal_digit, digit_value, value_in, value_if_all, number_value, value_after_zero, hexadecimal_value};
+ghost use Rattle.os_lexer.specs.Numbers.{is_octal_digit, is_hexadecimal_digit, is_decimal, digit_value, value_in, value_if_all, has_suffix, plain_value, number_value, may_be_int, may_be_unsigned, value_after_zero, hexadecimal_value};
 ghost use Rattle.os_lexer.specs.Reading.{capped};
 
 /// One more than the greatest number: a value is read up to it.
-const CAP: u64 = 1 << 31;
+const CAP: u64 = 1 << 32;
 
-/// The value of a run that begins with a digit, if it is a number, but at most 2,147,483,648.
-pub(crate) fn number_value(run: &[u8]) -> Option<u32>
+/// The value of a run that begins with a digit, if it is a number, but at most 4,294,967,296.
+pub(crate) fn number_value(run: &[u8]) -> Option<u64>
     ensures { result ≡ capped (number_value run.now) }
+{
+    if has_suffix(run) {
+        plain_value(&run[..run.len() - 1])
+    } else {
+        plain_value(run)
+    }
+}
+
+/// Whether a number may be an `int`, where its value is one.
+pub(crate) fn may_be_int(run: &[u8]) -> bool
+    ensures { result ≡ may_be_int run.now }
+{
+    !has_suffix(run)
+}
+
+/// Whether a number may be an `unsigned`, where its value is one.
+pub(crate) fn may_be_unsigned(run: &[u8]) -> bool
+    ensures { result ≡ may_be_unsigned run.now }
+{
+    has_suffix(run) || !is_decimal(run)
+}
+
+/// Whether a run ends in the suffix of numbers that are `unsigned`.
+fn has_suffix(run: &[u8]) -> bool
+    ensures { result ≡ has_suffix run.now }
+{
+    matches!(run, [.., b'u' | b'U'])
+}
+
+/// Whether a number is decimal, and neither octal nor hexadecimal.
+fn is_decimal(run: &[u8]) -> bool
+    ensures { result ≡ is_decimal run.now }
+{
+    !matches!(run, [b'0', ..])
+}
+
+/// The value of a number without a suffix, if it is of a form.
+fn plain_value(run: &[u8]) -> Option<u64>
+    ensures { result ≡ capped (plain_value run.now) }
 {
     match run {
         [] => None,
@@ -20,7 +59,7 @@ pub(crate) fn number_value(run: &[u8]) -> Option<u32>
 }
 
 /// The value of what follows a `0`.
-fn value_after_zero(rest: &[u8]) -> Option<u32>
+fn value_after_zero(rest: &[u8]) -> Option<u64>
     ensures { result ≡ capped (value_after_zero rest.now) }
 {
     match rest {
@@ -30,7 +69,7 @@ fn value_after_zero(rest: &[u8]) -> Option<u32>
     }
 }
 
-fn decimal_value(digits: &[u8]) -> Option<u32>
+fn decimal_value(digits: &[u8]) -> Option<u64>
     ensures { result ≡ capped (value_if_all is_digit 10 digits.now) }
 {
     if are_decimal(digits) {
@@ -40,7 +79,7 @@ fn decimal_value(digits: &[u8]) -> Option<u32>
     }
 }
 
-fn octal_value(digits: &[u8]) -> Option<u32>
+fn octal_value(digits: &[u8]) -> Option<u64>
     ensures { result ≡ capped (value_if_all is_octal_digit 8 digits.now) }
 {
     if are_octal(digits) {
@@ -50,7 +89,7 @@ fn octal_value(digits: &[u8]) -> Option<u32>
     }
 }
 
-fn hexadecimal_value(digits: &[u8]) -> Option<u32>
+fn hexadecimal_value(digits: &[u8]) -> Option<u64>
     ensures { result ≡ capped (hexadecimal_value digits.now) }
 {
     match digits {
@@ -59,7 +98,7 @@ fn hexadecimal_value(digits: &[u8]) -> Option<u32>
     }
 }
 
-fn all_hexadecimal_value(digits: &[u8]) -> Option<u32>
+fn all_hexadecimal_value(digits: &[u8]) -> Option<u64>
     ensures { result ≡ capped (value_if_all is_hexadecimal_digit 16 digits.now) }
 {
     if are_hexadecimal(digits) {
@@ -87,18 +126,18 @@ fn are_hexadecimal(digits: &[u8]) -> bool
     digits.iter().all(|digit| matches!(*digit, b'0'..=b'9' | b'A'..=b'F' | b'a'..=b'f'))
 }
 
-/// The number that the digits stand for, but at most 2,147,483,648.
+/// The number that the digits stand for, but at most 4,294,967,296.
 #[tactic(auto, using(crate::proofs::Values::product_fits, crate::proofs::Values::value_in_more))]
-fn value_in(base: u64, digits: &[u8]) -> u32
+fn value_in(base: u64, digits: &[u8]) -> u64
     requires low { 1 ≤ base }
     requires high { base ≤ 16 }
-    ensures { result ≡ min (value_in base digits.now) 2147483648 }
+    ensures { result ≡ min (value_in base digits.now) 4294967296 }
 {
     let mut value = 0;
     for digit in digits {
         value = (value * base + digit_value(*digit)).min(CAP);
     }
-    value as u32
+    value
 }
 
 /// What a digit counts.

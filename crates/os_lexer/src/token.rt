@@ -13,7 +13,7 @@ pub struct Token {
 /// The names `omp`, `task`, `tick`, `taskwait`, `input`, `output`, `firstprivate`, `stream`, `main`,
 /// `osin`, `osout` and `osin_len` have the numbers 0 to 11. Every other name has 12 plus the index of
 /// the first token with the same spelling. A number has its value, at most 2,147,483,647; a wide number, whose type is
-/// `unsigned`, has one of at most 4,294,967,295. The lexer gives no wide number.
+/// `unsigned`, has one of at most 4,294,967,295.
 #[derive(Clone, Copy, Debug, PartialEq, Eq)]
 pub enum Kind {
     Name(u32),
@@ -25,7 +25,7 @@ pub enum Kind {
     PragmaEnd,
 }
 
-/// A keyword of C11. `Other` stands for each keyword that no program uses, and the lexer gives it for `unsigned` too.
+/// A keyword of C11. `Other` stands for each keyword that no program uses.
 #[derive(Clone, Copy, Debug, PartialEq, Eq)]
 pub enum Key {
     Int,

@@ -285,7 +285,7 @@ operand-begun : {k : Kind} {st : OperandStart} (d : ℕ) (b : Option Readers) (m
     Refused (BegunExpr 11 (suc d) (placed k m ∷ ts)) (operand_by st b (placed k m ∷ ts))
 unfolding operand_by
 operand-begun d b m ts h (a_number n small) = tt
-operand-begun d b m ts h (a_wide n) = tt
+operand-begun d b m ts h (a_wide n fits) = tt
 operand-begun d b m ts h (a_name n) =
     refused-weaker _ _ (named b (record { id = n; mark = m }) ts) (named-refused d b (record { id = n; mark = m }) ts _ h (λ ps f. means.marked f))
 operand-begun d b m ts h a_paren = paren-refused d b _ h (same-self (kind.Punct puncts.OpenParen))

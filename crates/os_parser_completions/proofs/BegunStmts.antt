@@ -776,11 +776,16 @@ number-case : (n : ℕ) (m : Mark) (ts : List Placed) (b : Bool) →
 number-case n m ts true = tt
 number-case n m ts false = refl
 
+wide-case : (n : ℕ) (m : Mark) (ts : List Placed) (b : Bool) →
+    Refused (λ rest. rest ≡ placed (kind.Wide n) m ∷ ts) (number_by (cond b (Some (record { size = n; wide = true })) None) (placed (kind.Wide n) m ∷ ts))
+wide-case n m ts true = tt
+wide-case n m ts false = refl
+
 number-refused : (ts : List Placed) → Refused (λ rest. rest ≡ ts) (number ts)
 unfolding number
 number-refused [] = refl
 number-refused (placed (kind.Number n) m ∷ ts) = number-case n m ts (nat_lt n (2 ^ 31))
-number-refused (placed (kind.Wide n) m ∷ ts) = tt
+number-refused (placed (kind.Wide n) m ∷ ts) = wide-case n m ts (nat_lt n (2 ^ 32))
 number-refused (placed (kind.Name n) m ∷ ts) = refl
 number-refused (placed (kind.Punct p) m ∷ ts) = refl
 number-refused (placed (kind.Key k) m ∷ ts) = refl

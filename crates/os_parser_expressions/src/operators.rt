@@ -74,12 +74,19 @@ fn number_start(number: u32) -> OperandStart
     }
 }
 
+/// Each wide number may begin an operand, since it has 32 bits.
+fn wide_start(number: u32) -> OperandStart
+    ensures { result ≡ operand_start (kind.Wide number) }
+{
+    OperandStart::Wide(number)
+}
+
 fn operand_start(kind: Kind) -> OperandStart
     ensures { result ≡ operand_start kind }
 {
     match kind {
         Kind::Number(number) => number_start(number),
-        Kind::Wide(number) => OperandStart::Wide(number),
+        Kind::Wide(number) => wide_start(number),
         Kind::Name(id) => OperandStart::Name(id),
         Kind::Punct(punct) => punct_start(punct),
         Kind::Key(_) | Kind::PragmaStart | Kind::PragmaEnd => OperandStart::Other,

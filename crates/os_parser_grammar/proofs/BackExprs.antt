@@ -160,11 +160,11 @@ back-number d n ps ts small t =
     let size = ap length t.head in
     record { rest = t.rest; read = rw (t.head, lt-ltb n (2 ^ 31) small) refl; fits = t.fits; within = omega arith }
 
-back-wide : (d n : ℕ) (ps : List Symbol) (ts : List Placed) → Plain (kind.Wide n) ps ts → Back (operand (below d)) (tree.Wide n) ps ts
+back-wide : (d n : ℕ) (ps : List Symbol) (ts : List Placed) → n < 2 ^ 32 → Plain (kind.Wide n) ps ts → Back (operand (below d)) (tree.Wide n) ps ts
 unfolding operand operand_by
-back-wide d n ps ts t =
+back-wide d n ps ts fits t =
     let size = ap length t.head in
-    record { rest = t.rest; read = rw t.head refl; fits = t.fits; within = omega arith }
+    record { rest = t.rest; read = rw (t.head, lt-ltb n (2 ^ 32) fits) refl; fits = t.fits; within = omega arith }
 
 back-paren : (c : ℕ) (e : ExprTree) (ps : List Symbol) (ts : List Placed) → (t : Plain (kind.Punct puncts.OpenParen) (spelling.expr e (bare (kind.Punct puncts.CloseParen) ∷ ps)) ts) →
     (b : Back (expr_on (below c)) e (bare (kind.Punct puncts.CloseParen) ∷ ps) t.rest) → Plain (kind.Punct puncts.CloseParen) ps b.rest →
@@ -414,7 +414,7 @@ mutual
   base : (d : ℕ) {e : ExprTree} {ps : List Symbol} {ts : List Placed} → IsExpr e → expr_depth e ≤ suc d →
       Fit (spelling.expr e ps) ts → Stops (level e) ps → Back (at d (level e)) e ps ts
   base d (leveled.number small) h f s = standing d (back-number d _ _ _ small (plain-back f))
-  base d leveled.wide h f s = standing d (back-wide d _ _ _ (plain-back f))
+  base d (leveled.wide fits) h f s = standing d (back-wide d _ _ _ fits (plain-back f))
   base d (leveled.place target) h f s = standing d (back-place d _ _ _ (back-target d target (omega arith) f s))
   base d (leveled.IsExpr.call are) h f s =
       let t = noted-back f in

@@ -139,11 +139,11 @@ back-minus : (m : Bool) (k : Kind) (ps : List Symbol) (ts : List Placed) → sam
 back-minus true k ps ts other f = minus-some _ ts (plain-back f)
 back-minus false k ps ts other f = minus-none k ps ts other f (plain-back f)
 
-wide-back : (v : ℕ) (ps : List Symbol) (ts : List Placed) → Plain (kind.Wide v) ps ts → Back number (record { size = v; wide = true }) ps ts
+wide-back : (v : ℕ) (ps : List Symbol) (ts : List Placed) → v < 2 ^ 32 → Plain (kind.Wide v) ps ts → Back number (record { size = v; wide = true }) ps ts
 unfolding number
-wide-back v ps ts t =
+wide-back v ps ts wide t =
     let size = ap length t.head in
-    record { rest = t.rest; read = rw t.head refl; fits = t.fits; within = omega arith }
+    record { rest = t.rest; read = rw (t.head, lt-ltb v (2 ^ 32) wide) refl; fits = t.fits; within = omega arith }
 
 number-back : (v : ℕ) (ps : List Symbol) (ts : List Placed) → v < 2 ^ 31 → Plain (kind.Number v) ps ts → Back number (record { size = v; wide = false }) ps ts
 unfolding number
@@ -185,13 +185,13 @@ back-item d ps ts (leveled.IsItem.constant {t = y} {n = n} {minus = m} {size = v
     let b = back-minus m (kind.Number v) _ e.rest refl e.fits in
     let c = number-back v _ b.rest small (plain-back b.fits) in
     constant-item d _ ps _ ts t (constant-back y n m (record { size = v; wide = false }) ps _ _ _ _ _ _ ts t i a e b c (plain-back c.fits))
-back-item d ps ts (leveled.IsItem.wide_constant {t = y} {n = n} {minus = m} {size = v}) h f =
+back-item d ps ts (leveled.IsItem.wide_constant {t = y} {n = n} {minus = m} {size = v} fits) h f =
     let t = plain-back f in
     let i = back-type y _ t.rest (can.begins a_name) t.fits in
     let a = back-name n _ i.rest i.fits in
     let e = plain-back a.fits in
     let b = back-minus m (kind.Wide v) _ e.rest refl e.fits in
-    let c = wide-back v _ b.rest (plain-back b.fits) in
+    let c = wide-back v _ b.rest fits (plain-back b.fits) in
     constant-item d _ ps _ ts t (constant-back y n m (record { size = v; wide = true }) ps _ _ _ _ _ _ ts t i a e b c (plain-back c.fits))
 back-item d ps ts (leveled.IsItem.function {t = z} {n = n} {params = x} {body = ss} ip is) h f =
     let t = back-type z _ ts (can.begins a_name) f in

@@ -185,7 +185,7 @@ sign-sound op d b ts h opens =
 -- how tokens begin an operand
 pub data Starts : Kind → OperandStart → Type 0 where
   a_number : (n : ℕ) → n < 2 ^ 31 → Starts (kind.Number n) (starts.Number n)
-  a_wide : (n : ℕ) → Starts (kind.Wide n) (starts.Wide n)
+  a_wide : (n : ℕ) → n < 2 ^ 32 → Starts (kind.Wide n) (starts.Wide n)
   a_name : (n : ℕ) → Starts (kind.Name n) (starts.Name n)
   a_paren : Starts (kind.Punct puncts.OpenParen) starts.Paren
   a_sign : (op : Unary) → Starts (kind.Punct (unary_mark op)) (starts.Sign op)
@@ -204,9 +204,14 @@ number-starts : (n : ℕ) (b : Bool) → nat_lt n (2 ^ 31) ≡ b →
 number-starts n true e = a_number n (ltb-true n _ e)
 number-starts n false e = another
 
+wide-starts : (n : ℕ) (b : Bool) → nat_lt n (2 ^ 32) ≡ b →
+    Starts (kind.Wide n) (cond b (starts.Wide n) starts.Other)
+wide-starts n true e = a_wide n (ltb-true n _ e)
+wide-starts n false e = another
+
 pub kind-starts : (k : Kind) → Starts k (operand_start k)
 kind-starts (kind.Number n) = number-starts n (nat_lt n (2 ^ 31)) refl
-kind-starts (kind.Wide n) = a_wide n
+kind-starts (kind.Wide n) = wide-starts n (nat_lt n (2 ^ 32)) refl
 kind-starts (kind.Name n) = a_name n
 kind-starts (kind.Punct p) = punct-starts p
 kind-starts (kind.Key k) = another
@@ -223,8 +228,8 @@ operand-starts : {k : Kind} {st : OperandStart} (d : ℕ) (b : Option Readers) (
 unfolding operand_by
 operand-starts d b m ts h (a_number n small) =
     record { leveled = leveled.number small; above = omega arith; shallow = omega arith; takes = λ ps f. means.bare f }
-operand-starts d b m ts h (a_wide n) =
-    record { leveled = leveled.wide; above = omega arith; shallow = omega arith; takes = λ ps f. means.bare f }
+operand-starts d b m ts h (a_wide n fits) =
+    record { leveled = leveled.wide fits; above = omega arith; shallow = omega arith; takes = λ ps f. means.bare f }
 operand-starts d b m ts h (a_name n) =
     sound-weaker _ _ (named b (record { id = n; mark = m }) ts) (named-sound d b (record { id = n; mark = m }) ts _ h (λ ps f. means.marked f))
 operand-starts d b m ts h a_paren = paren-sound d b _ h (same-self (kind.Punct puncts.OpenParen))

@@ -504,7 +504,7 @@ function-sound d s ts h =
 
 pub data IsNumeral : Numeral → Type 0 where
   small : {n : ℕ} → n < 2 ^ 31 → IsNumeral (record { size = n; wide = false })
-  wide : {n : ℕ} → IsNumeral (record { size = n; wide = true })
+  wide : {n : ℕ} → n < 2 ^ 32 → IsNumeral (record { size = n; wide = true })
 
 pub record ReadNumber (ts : List Placed) (v : Numeral) (rest : List Placed) : Type 0 where
   pub is : IsNumeral v
@@ -512,18 +512,23 @@ pub record ReadNumber (ts : List Placed) (v : Numeral) (rest : List Placed) : Ty
 
 pub constant-is : {t : Ty} {n : Name} {m : Bool} {v : Numeral} → IsNumeral v → IsItem (tree.Constant (record { ty = t; name = n; minus = m; size = v.size; wide = v.wide }))
 constant-is (small h) = leveled.IsItem.constant h
-constant-is wide = leveled.IsItem.wide_constant
+constant-is (wide h) = leveled.IsItem.wide_constant h
 
 pub number-cases : (n : ℕ) (m : Mark) (ts : List Placed) (b : Bool) → nat_lt n (2 ^ 31) ≡ b →
     Sound (ReadNumber (placed (kind.Number n) m ∷ ts)) (number_by (cond b (Some (record { size = n; wide = false })) None) (placed (kind.Number n) m ∷ ts))
 number-cases n m ts true e = record { is = small (ltb-true n _ e); takes = λ ps g. means.bare g }
 number-cases n m ts false e = tt
 
+pub wide-cases : (n : ℕ) (m : Mark) (ts : List Placed) (b : Bool) → nat_lt n (2 ^ 32) ≡ b →
+    Sound (ReadNumber (placed (kind.Wide n) m ∷ ts)) (number_by (cond b (Some (record { size = n; wide = true })) None) (placed (kind.Wide n) m ∷ ts))
+wide-cases n m ts true e = record { is = wide (ltb-true n _ e); takes = λ ps g. means.bare g }
+wide-cases n m ts false e = tt
+
 pub number-sound : (ts : List Placed) → Sound (ReadNumber ts) (number ts)
 unfolding number
 number-sound [] = tt
 number-sound (placed (kind.Number n) m ∷ ts) = number-cases n m ts (nat_lt n (2 ^ 31)) refl
-number-sound (placed (kind.Wide n) m ∷ ts) = record { is = wide; takes = λ ps g. means.bare g }
+number-sound (placed (kind.Wide n) m ∷ ts) = wide-cases n m ts (nat_lt n (2 ^ 32)) refl
 number-sound (placed (kind.Name n) m ∷ ts) = tt
 number-sound (placed (kind.Punct p) m ∷ ts) = tt
 number-sound (placed (kind.Key k) m ∷ ts) = tt

@@ -166,10 +166,10 @@ abbrev pub name_at : List Placed → Option ℕ
 name_at [] = None
 name_at (placed k m ∷ ts) = name_of k
 
--- the next token, where it is a number below 2^31, or a wide one
+-- the next token, where it is a number below 2^31, or a wide one below 2^32
 abbrev pub number_of : Kind → Option Numeral
 number_of (kind.Number n) = if nat_lt n (2 ^ 31) then Some (record { size = n; wide = false }) else None
-number_of (kind.Wide n) = Some (record { size = n; wide = true })
+number_of (kind.Wide n) = if nat_lt n (2 ^ 32) then Some (record { size = n; wide = true }) else None
 number_of (kind.Name n) = None
 number_of (kind.Punct p) = None
 number_of (kind.Key k) = None

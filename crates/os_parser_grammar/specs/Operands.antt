@@ -60,10 +60,10 @@ punct_start puncts.CloseBracket = starts.Other
 punct_start puncts.OpenBrace = starts.Other
 punct_start puncts.CloseBrace = starts.Other
 
--- how an operand that begins with a token goes on; a number is below 2^31
+-- how an operand that begins with a token goes on; a number is below 2^31, and a wide one below 2^32
 abbrev pub operand_start : Kind → OperandStart
 operand_start (kind.Number n) = if nat_lt n (2 ^ 31) then starts.Number n else starts.Other
-operand_start (kind.Wide n) = starts.Wide n
+operand_start (kind.Wide n) = if nat_lt n (2 ^ 32) then starts.Wide n else starts.Other
 operand_start (kind.Name n) = starts.Name n
 operand_start (kind.Punct p) = punct_start p
 operand_start (kind.Key k) = starts.Other

@@ -209,12 +209,19 @@ fn small(size: u32) -> Option<Numeral>
     }
 }
 
+/// Each wide number is one that a program may have, since it has 32 bits.
+fn wide(size: u32) -> Option<Numeral>
+    ensures { result ≡ number_of (kind.Wide size) }
+{
+    Some(Numeral { size, wide: true })
+}
+
 fn number_of(kind: Kind) -> Option<Numeral>
     ensures { result ≡ number_of kind }
 {
     match kind {
         Kind::Number(size) => small(size),
-        Kind::Wide(size) => Some(Numeral { size, wide: true }),
+        Kind::Wide(size) => wide(size),
         Kind::Name(_) | Kind::Punct(_) | Kind::Key(_) | Kind::PragmaStart | Kind::PragmaEnd => None,
     }
 }

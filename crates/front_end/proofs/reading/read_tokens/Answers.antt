@@ -3,7 +3,6 @@ use Rattle.front_end.specs.Texts.{IsTrueOf}
 use Rattle.front_end.specs.declared.text_error.TextError.{TextError}
 use Rattle.os_ast.specs.Views.{program_tree}
 use Rattle.front_end.proofs.Answers.{true_syntax, true_violation}
-use Rattle.front_end.proofs.Small.{spelled_small}
 use Rattle.front_end.proofs.reading.read_tokens.Goals as goal
 
 pub returns-in-Err-clause-refused : goal.returns-in-Err-clause-refused
@@ -19,8 +18,3 @@ returns-in-Err-check-clause-refused c =
     subst (λ (e : TextError). IsTrueOf c.args.text.now e) (sym c.violation_error.ensures)
     (true_violation c.args.text.now (program_tree c.in-Ok.program) c.in-Err-check.error
     (c.args.tokens.now, c.requires.cover, c.in-Ok.ensures.found) c.in-Err-check.ensures.refused)
-
-pub returns-in-Ok-check-clause-small : goal.returns-in-Ok-check-clause-small
-returns-in-Ok-check-clause-small c =
-    spelled_small c.args.tokens.now c.in-Ok.program c.in-Ok-check.checked.program
-    (c.meaning_by_tokens.ensures.kinds c.args.tokens.now (program_tree c.in-Ok.program) c.in-Ok.ensures.found) c.in-Ok-check.ensures.accepted c.requires.small

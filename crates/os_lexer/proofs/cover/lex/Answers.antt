@@ -1,4 +1,4 @@
-use Rattle.os_lexer.proofs.Outcomes.{few, given, small, told}
+use Rattle.os_lexer.proofs.Outcomes.{few, fit, given, told}
 use Rattle.os_lexer.proofs.cover.lex.Goals as goal
 
 pub returns-clause-covered : goal.returns-clause-covered
@@ -10,5 +10,5 @@ returns-clause-faulted c = told c.args.text.now c.tokens_of.result c.tokens_of.e
 pub returns-clause-few : goal.returns-clause-few
 returns-clause-few c = few c.args.text.now c.tokens_of.result c.tokens_of.ensures.cover
 
-pub returns-clause-small : goal.returns-clause-small
-returns-clause-small c = small c.args.text.now c.tokens_of.result c.tokens_of.ensures.cover
+pub returns-clause-fit : goal.returns-clause-fit
+returns-clause-fit c = fit c.args.text.now c.tokens_of.result c.tokens_of.ensures.cover
