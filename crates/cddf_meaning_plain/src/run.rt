@@ -249,7 +249,8 @@ fn declarators(
     state: &mut State,
     turns: &mut u64,
 ) -> Result<(), Stop>
-    ensures goes_on { GoesOn result state.new turns.new (run_declarators (unit_of unit.now) (is_unsigned ty) (map declarator_tree list.now) state.old turns.old) }
+    ensures goes_on { GoesOn result state.new turns.new
+        (run_declarators (unit_of unit.now) (is_unsigned ty) (map declarator_tree list.now) state.old turns.old) }
     ensures fewer { turns.new ≤ turns.old }
 {
     for next in list.as_slice() {
@@ -268,7 +269,8 @@ fn declarator(
     state: &mut State,
     turns: &mut u64,
 ) -> Result<(), Stop>
-    ensures goes_on { GoesOn result state.new turns.new (run_declarator (unit_of unit.now) (is_unsigned ty) (declarator_tree declarator.now) state.old turns.old) }
+    ensures goes_on { GoesOn result state.new turns.new
+        (run_declarator (unit_of unit.now) (is_unsigned ty) (declarator_tree declarator.now) state.old turns.old) }
     ensures fewer { turns.new ≤ turns.old }
 {
     let id = declarator.name.id;

@@ -56,7 +56,8 @@ pub fn assign(
     right: i32,
     state: &mut State,
 ) -> Result<(), Stop>
-    ensures { Now result state.new state.old (and_then (assigned operator mark.line types.left types.right (old_value (file_of (map item_tree file.now)) state.old aim) right)
+    ensures { Now result state.new state.old
+        (and_then (assigned operator mark.line types.left types.right (old_value (file_of (map item_tree file.now)) state.old aim) right)
         (λ v. Ok (after_store state.old aim v))) }
 {
     let number = assigned(file, state, aim, operator, mark.line, types, right)?;

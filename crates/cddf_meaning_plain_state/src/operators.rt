@@ -130,7 +130,10 @@ fn binary_for(types: Types, operator: c_int::Binary) -> c_int::Binary
 pub fn unary(operator: Unary, line: u32, unsigned: bool, a: i32) -> Result<i32, Stop>
     ensures { Comes result (unary_value operator line unsigned a) }
 {
-    at_line(line, apply_unary(unary_for(unsigned, operator_of_one(operator)), a))
+    at_line(
+        line,
+        apply_unary(unary_for(unsigned, operator_of_one(operator)), a),
+    )
 }
 
 /// What an operator of this line gives of its operands, by their types. `&&` and `||` are told apart before.

@@ -59,7 +59,8 @@ abbrev mutual
   are_quiet (tree.link op m e rest) = is_quiet_two op && (is_quiet e && are_quiet rest)
 
 -- A target, what is stored there, and its store; `old` says whether the old value is fetched first.
-abbrev pub HasChanged : Parts → (ℕ → Resolved) → (old : Bool) → tree.TargetTree → (right : (from to : ℕ) → Type 0) → (from to : ℕ) → Type 0
+abbrev pub HasChanged : Parts → (ℕ → Resolved) → (old : Bool) → tree.TargetTree → (right : (from to : ℕ) → Type 0)
+    → (from to : ℕ) → Type 0
 HasChanged code tells old (tree.Variable n) right from to =
     (a b : ℕ) × Stands code (aiming (tells n.mark.place).what ++ fetching old (tells n.mark.place).what n.mark.line) from a
     × right a b × Stands code (storing (tells n.mark.place).what n.mark.line ∷ []) b to
