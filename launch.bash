@@ -58,7 +58,7 @@ trap 'rm -rf "$room"' EXIT
 said=$room/said
 for word in "$@"; do
     copy=$word
-    case $before in --*=* | --complete) before='' ;; esac
+    case $before in --*=* | --all | --complete | --first | --werror) before='' ;; esac
     if [ "${before#--}" = "$before" ] && [ -p "$word" ] && [ -r "$word" ]; then
         copy=file${#words[@]}
         names+=(-e "s|^$copy:|$word:|")

@@ -19,7 +19,7 @@ int main(void) {
         #pragma omp task input(osin >> a[STRIP]) output(osout << slot[SLOT])
         {
             int b[STRIP], order[STRIP], mean[2];
-            int k, step, axis, along, lines, n, line, left, right, m, run, number, low, ones, at, length;
+            int k, step, axis, along, n, line, left, right, m, run, number, low, ones, at, length;
             for (k = 0; k < STRIP; k++) b[k] = a[k];
             // Each step in both directions: what a number differs by from the mean of its neighbours; then the others, smoothed
             // by these.

@@ -741,6 +741,44 @@ judges "a file whose name isn't text, between others" 2 "first.c: accepted / in\
 rm "$strange"
 judges "the version" 0 "oscheck 1.0" --version
 judges "the version before a file" 0 "oscheck 1.0" --version none.c
+printf 'int main(void) {\n    int spare;\n}\n' >spare.c
+warned="spare.c:2:9: warning: nothing uses 'spare': take it out /     2 |     int spare; /       |         ^~~~~"
+judges "a program with a warning" 0 "$warned / spare.c: accepted / first.c: accepted" spare.c first.c
+judges "a program with a warning that is an error" 1 "$warned / spare.c: refused for its warnings / first.c: accepted" --werror spare.c first.c
+judges "no warning that is an error" 0 "first.c: accepted" --werror first.c
+{ printf 'int main(void) {\n'; for number in $(seq 22); do echo "int spare$number;"; done; echo '}'; } >spares.c
+"$top/oscheck" spares.c >told 2>&1
+status=$?
+grep -c warning: told >report
+tail -n 2 told >>report
+: >out
+check "more warnings than are told" 0 "" "20 / spares.c: 2 more warnings / spares.c: accepted"
+judges "the first warning" 0 "spares.c:2:5: warning: nothing uses 'spare1': take it out /     2 | int spare1; /       |     ^~~~~~ / spares.c: accepted" --first spares.c
+# tells NAME WANTED WORD..: compares how many errors are told of many.c, and the last line.
+{ printf 'int main(void) {\n'; for number in $(seq 22); do echo "y = x;"; done; echo '}'; } >many.c
+tells() {
+    "$top/oscheck" "${@:3}" many.c >told 2>&1
+    status=$?
+    grep -c error told >report
+    grep '^many.c' told | tail -n 1 | cut -c -60 >>report
+    : >out
+    check "$1" 1 "" "$2"
+}
+{
+    printf 'int main(void) {\nint y'
+    printf ', v%s' $(seq 65)
+    printf ';\n#pragma omp task\n#pragma omp task\ny = 0'
+    printf ' + v%s' $(seq 65)
+    printf ';\n}\n'
+} >deep.c
+"$top/oscheck" deep.c >told 2>&1
+status=$?
+grep -o '^deep.c[:0-9]* error [0-9]*' told >report
+: >out
+check "tasks in tasks that capture too much" 1 "" "deep.c:3:1: error 22 / deep.c:4:1: error 17 / deep.c:4:1: error 22"
+tells "twenty errors and how many more there are" "21 / many.c: 24 more errors"
+tells "the first error" "1 / many.c:2:1: error 10: 'y' isn't declared here: declare it be" --first
+tells "all errors" "44 / many.c:23:5: error 10: 'x' isn't declared here: declare it b" --all
 judges "a word that is no option" 2 "--al: no option, and no file that can be read / first.c: accepted" --al first.c
 judges "an option behind a file" 2 "first.c: accepted / --version: no option, and no file that can be read" first.c --version
 "$top/oscheck" --help >help 2>report

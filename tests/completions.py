@@ -96,7 +96,7 @@ def judged(texts):
             with open(name, "w", encoding="utf-8") as file:
                 file.write(text)
         by_name = {}
-        for line in call(*names).split("\n"):
+        for line in call("--first", *names).split("\n"):
             found = re.match(rf"(t\d+\.c):(?:(\d+)(?::(\d+))?: error (\d+): (?:(?:.*, )?{FOUND})?| accepted$)", line)
             if found:
                 by_name[found[1]] = found[4] and (int(found[4]), int(found[2]), int(found[3] or 0), found[5])

@@ -76,8 +76,8 @@ def judge(counts):
     names = [f"text{number}.c" for number in range(len(refused) + len(lawful))]
     for name, text in zip(names, [text for _, _, text in refused] + lawful):
         write(name, text)
-    ended = subprocess.run([OSCHECK, *names], capture_output=True, timeout=120, check=False)
-    told = [line for line in ended.stdout.decode().split("\n") if re.match(r"text\d+\.c:", line)]
+    ended = subprocess.run([OSCHECK, "--first", *names], capture_output=True, timeout=120, check=False)
+    told = [line for line in ended.stdout.decode().split("\n") if re.match(r"text\d+\.c:", line) and ": warning: " not in line]
     for name, line, (code, at, text) in zip(names, told, refused):
         found = re.match(rf"{name}:(\d+)(?::\d+)?: error (\d+): ", line)
         counts.add(text, found and (int(found[2]), int(found[1])), (code, at))

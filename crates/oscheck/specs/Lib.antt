@@ -1,3 +1,3 @@
--- What a reader believes: what is written of a text that goes on to a program, and where a rule is violated first.
+-- What a reader believes: what is written of a text that goes on to a program, and what is told of one that violates rules.
 pub mod Completions
-pub mod Numbered
+pub mod Listed

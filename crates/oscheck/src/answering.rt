@@ -4,6 +4,7 @@ use crate::completing::complete_text;
 use crate::judged::Judged;
 use crate::judging::{judge_text, tell_no_text};
 use crate::loading::text_of;
+use crate::manner::{Extent, Manner, Strictness};
 use crate::options::{Request, option_of, tell_help, tell_version};
 use crate::telling::Named;
 use crate::words::word_at;
@@ -31,6 +32,7 @@ struct Name<'a> {
 #[derive(Clone, Copy)]
 struct State {
     way: Way,
+    manner: Manner,
     /// Whether a file was named.
     has_file: bool,
     worst: Judged,
@@ -49,6 +51,7 @@ fn judge<R: Files>(
     out: &mut impl io::Write,
     alloc: Global,
     name: Name<'_>,
+    manner: Manner,
 ) -> io::Result<Judged> {
     match text_of(rt, alloc, name.path) {
         Ok(text) => judge_text(
@@ -58,6 +61,7 @@ fn judge<R: Files>(
                 name: name.told,
                 text: &text,
             },
+            manner,
         ),
         Err(why) => tell_no_text(out, name.told, why),
     }
@@ -86,10 +90,10 @@ fn complete<R: Files>(
 }
 
 /// Judges a file, or completes it.
-fn answer_name(rt: &HostRuntime, way: Way, name: Name<'_>) -> io::Result<Judged> {
+fn answer_name(rt: &HostRuntime, state: State, name: Name<'_>) -> io::Result<Judged> {
     let mut out = rt.stdout();
-    match way {
-        Way::Judge => judge(rt, &mut out, rt.alloc(), name),
+    match state.way {
+        Way::Judge => judge(rt, &mut out, rt.alloc(), name, state.manner),
         Way::Complete => complete(rt, &mut out, &mut rt.stderr(), rt.alloc(), name),
     }
 }
@@ -110,17 +114,17 @@ fn refuse_name(rt: &HostRuntime, way: Way, word: &[u8]) -> io::Result<Judged> {
 }
 
 /// Judges a file by the word that names it, or completes it.
-fn answer_file(rt: &HostRuntime, way: Way, word: &[u8]) -> io::Result<Judged> {
+fn answer_file(rt: &HostRuntime, state: State, word: &[u8]) -> io::Result<Judged> {
     match str::from_utf8(word) {
         Ok(name) => answer_name(
             rt,
-            way,
+            state,
             Name {
                 told: name,
                 path: name,
             },
         ),
-        Err(_) => refuse_name(rt, way, word),
+        Err(_) => refuse_name(rt, state.way, word),
     }
 }
 
@@ -142,6 +146,18 @@ fn take_option(rt: &HostRuntime, state: &mut State, option: Request) -> io::Resu
             state.way = Way::Complete;
             Ok(Next::GoOn)
         }
+        Request::First => {
+            state.manner.extent = Extent::First;
+            Ok(Next::GoOn)
+        }
+        Request::All => {
+            state.manner.extent = Extent::All;
+            Ok(Next::GoOn)
+        }
+        Request::Werror => {
+            state.manner.strictness = Strictness::Strict;
+            Ok(Next::GoOn)
+        }
         Request::Help => {
             tell_help(&mut rt.stdout())?;
             Ok(Next::Stop)
@@ -159,7 +175,7 @@ fn take_word(rt: &HostRuntime, state: &mut State, word: &[u8]) -> io::Result<Nex
         return take_option(rt, state, option);
     }
     state.has_file = true;
-    state.worst = state.worst.max(answer_file(rt, state.way, word)?);
+    state.worst = state.worst.max(answer_file(rt, *state, word)?);
     Ok(Next::GoOn)
 }
 
@@ -175,6 +191,10 @@ fn end(rt: &HostRuntime, state: State) -> io::Result<Judged> {
 pub(crate) fn answer_all(rt: &HostRuntime) -> io::Result<Judged> {
     let mut state = State {
         way: Way::Judge,
+        manner: Manner {
+            extent: Extent::Some,
+            strictness: Strictness::Lenient,
+        },
         has_file: false,
         worst: Judged::Accepted,
     };

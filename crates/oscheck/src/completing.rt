@@ -5,7 +5,7 @@ ghost use Rattle.os_lexer.specs.Limits.{text_limit};
 
 use crate::completion::completion;
 use crate::judged::Judged;
-use crate::judging::tell_error;
+use crate::judging::tell_fault;
 use crate::telling::{Named, tell_no_memory};
 use front_end::{TEXT_LIMIT, TextError, read_program};
 use os_io::Memory;
@@ -56,7 +56,7 @@ pub(crate) fn complete_text(
 {
     let Named { name, text } = named;
     match read_program(alloc, text) {
-        Err(TextError::Refused { code, line }) if code < NO_PROGRAM => tell_error(
+        Err(TextError::Refused { code, line }) if code < NO_PROGRAM => tell_fault(
             told, alloc, named, code, line,
         ),
         Err(

@@ -4,12 +4,14 @@ ghost use Rattle.std.specs.Prelude.{◌≤◌, length};
 ghost use Rattle.os_lexer.specs.Limits.{text_limit};
 
 use crate::judged::Judged;
-use crate::least::{Least, least_violation};
+use crate::listing::{listed, token_of};
 use crate::loading::NoText;
+use crate::manner::{Extent, Manner};
 use crate::stop::Stop;
-use crate::telling::{Named, show, tell_no_memory, tell_place};
+use crate::telling::{Named, show, tell_more, tell_no_memory, tell_place};
+use crate::warning::tell_accepted;
 use front_end::{TEXT_LIMIT, TextError, read_program};
-use os_ast::codes::NO_MAIN;
+use os_ast::Violation;
 use os_io::Memory;
 use os_lexer::{Kind, Token, lex};
 use oscheck_places::{Spot, fault_spot};
@@ -66,8 +68,8 @@ fn tell_stop(out: &mut impl io::Write, alloc: Global, named: Named<'_>) -> io::R
     }
 }
 
-/// Tells the first fault of the bytes of a text.
-fn tell_fault(
+/// Tells the first fault of the bytes of a text, by its code and its line.
+pub(crate) fn tell_fault(
     out: &mut impl io::Write,
     alloc: Global,
     named: Named<'_>,
@@ -104,49 +106,67 @@ fn word_of_bytes(bytes: &[u8]) -> Word<'_> {
     }
 }
 
-/// The least violation of a text, with the token that it stands at, where there is one.
-fn violation(alloc: Global, text: &[u8]) -> Result<Option<(Least, Option<Token>)>, Memory>
-    requires { length text.now ≤ text_limit }
+/// Tells the rules that a text violates, and where.
+fn tell_violations(
+    out: &mut impl io::Write,
+    alloc: Global,
+    named: Named<'_>,
+    extent: Extent,
+) -> io::Result<Judged>
+    requires { length named.text.now ≤ text_limit }
 {
-    match lex(alloc, text) {
-        Ok(tokens) => violation_of(alloc, &tokens),
-        Err(_) => Err(Memory),
+    match lex(alloc, named.text) {
+        Ok(tokens) => tell_listed(out, alloc, named, &tokens, extent),
+        Err(_) => tell_no_memory(out, named.name),
     }
 }
 
-/// The least violation of tokens, with the token that it stands at. That there is no `main` stands at none.
-fn violation_of(alloc: Global, tokens: &[Token]) -> Result<Option<(Least, Option<Token>)>, Memory>
+/// The same by the tokens of the text.
+fn tell_listed(
+    out: &mut impl io::Write,
+    alloc: Global,
+    named: Named<'_>,
+    tokens: &[Token],
+    extent: Extent,
+) -> io::Result<Judged>
     requires { length tokens.now ≤ text_limit }
 {
-    match least_violation(alloc, tokens)? {
-        Some(least) => Ok(Some((least, token_of(tokens, least)))),
-        None => Ok(None),
+    match listed(alloc, tokens) {
+        Ok(all) => tell_all(out, alloc, named, tokens, all.as_slice(), extent),
+        Err(Memory) => tell_no_memory(out, named.name),
     }
 }
 
-/// The token of a violation.
-fn token_of(tokens: &[Token], least: Least) -> Option<Token> {
-    if least.code == NO_MAIN {
-        return None;
+/// Tells the first of some violations, and how many more there are.
+fn tell_all(
+    out: &mut impl io::Write,
+    alloc: Global,
+    named: Named<'_>,
+    tokens: &[Token],
+    all: &[Violation],
+    extent: Extent,
+) -> io::Result<Judged> {
+    for number in 0..all.len().min(extent.most()) {
+        let judged = tell_violation(out, alloc, named, tokens, all[number])?;
+        if judged != Judged::Refused {
+            return Ok(judged);
+        }
     }
-    let token = tokens.get(least.place as usize)?;
-    Some(*token)
+    tell_more(out, named.name, extent.more(all.len()), "error")?;
+    Ok(Judged::Refused)
 }
 
-/// Tells the rule that a text violates, and where.
+/// Tells a violation.
 fn tell_violation(
     out: &mut impl io::Write,
     alloc: Global,
     named: Named<'_>,
-    code: u8,
-    line: u32,
-) -> io::Result<Judged>
-    requires { length named.text.now ≤ text_limit }
-{
-    match violation(alloc, named.text) {
-        Ok(Some((_, Some(token)))) => tell_token(out, alloc, named, code, token),
-        Ok(_) => tell_line(out, alloc, named, code, line),
-        Err(Memory) => tell_no_memory(out, named.name),
+    tokens: &[Token],
+    violation: Violation,
+) -> io::Result<Judged> {
+    match token_of(tokens, violation) {
+        Some(token) => tell_token(out, alloc, named, violation.code, token),
+        None => tell_line(out, alloc, named, violation.code, violation.line),
     }
 }
 
@@ -181,12 +201,13 @@ fn tell_line(
 }
 
 /// Tells what is wrong with a text, by its code and its line.
-pub(crate) fn tell_error(
+fn tell_error(
     out: &mut impl io::Write,
     alloc: Global,
     named: Named<'_>,
     code: u8,
     line: u32,
+    extent: Extent,
 ) -> io::Result<Judged>
     requires { length named.text.now ≤ text_limit }
 {
@@ -195,7 +216,7 @@ pub(crate) fn tell_error(
     } else if code <= BYTES {
         tell_fault(out, alloc, named, code, line)
     } else {
-        tell_violation(out, alloc, named, code, line)
+        tell_violations(out, alloc, named, extent)
     }
 }
 
@@ -204,16 +225,21 @@ pub(crate) fn judge_text(
     out: &mut impl io::Write,
     alloc: Global,
     named: Named<'_>,
+    manner: Manner,
 ) -> io::Result<Judged>
     requires { length named.text.now ≤ text_limit }
 {
     let name = named.name;
     match read_program(alloc, named.text) {
-        Ok(_) => {
-            writeln!(out, "{name}: accepted")?;
-            Ok(Judged::Accepted)
-        }
-        Err(TextError::Refused { code, line }) => tell_error(out, alloc, named, code, line),
+        Ok(_) => tell_accepted(out, alloc, named, manner),
+        Err(TextError::Refused { code, line }) => tell_error(
+            out,
+            alloc,
+            named,
+            code,
+            line,
+            manner.extent,
+        ),
         Err(TextError::Memory) => tell_no_memory(out, name),
     }
 }

@@ -10,6 +10,9 @@ const HELP: &str = "\
 oscheck judges OpenStream programs as a compiler does. Nothing is run.
 
     oscheck FILE ..              tells of each file that it is accepted, or what is wrong with it, and where
+    oscheck --first FILE ..      tells the first error or warning of each file alone
+    oscheck --all FILE ..        tells all of them; else it is twenty at most, and how many more there are
+    oscheck --werror FILE ..     refuses what is warned of too
     oscheck --complete FILE ..   writes a program for each file: the text itself, or one that begins as it does
     oscheck --help               tells this
     oscheck --version            tells the version
@@ -22,6 +25,12 @@ The status is 0 where all is well, 1 where a file is refused, and 2 where one co
 #[derive(Clone, Copy, PartialEq, Eq)]
 pub(crate) enum Request {
     Complete,
+    /// Only the first error or warning is told.
+    First,
+    /// All of them are told.
+    All,
+    /// Warnings are errors.
+    Werror,
     Help,
     Version,
 }
@@ -30,6 +39,9 @@ pub(crate) enum Request {
 pub(crate) fn option_of(word: &str) -> Option<Request> {
     match word {
         "--complete" => Some(Request::Complete),
+        "--first" => Some(Request::First),
+        "--all" => Some(Request::All),
+        "--werror" => Some(Request::Werror),
         "--help" => Some(Request::Help),
         "--version" => Some(Request::Version),
         _ => None,

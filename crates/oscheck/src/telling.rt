@@ -37,6 +37,20 @@ pub(crate) fn tell_place(
     write!(out, "{name}:{line}:{column}: error {code}: ")
 }
 
+/// Tells how many more errors or warnings there are, where there are some.
+pub(crate) fn tell_more(
+    out: &mut impl io::Write,
+    name: &str,
+    more: usize,
+    what: &str,
+) -> io::Result<()> {
+    match more {
+        0 => Ok(()),
+        1 => writeln!(out, "{name}: 1 more {what}"),
+        _ => writeln!(out, "{name}: {more} more {what}s"),
+    }
+}
+
 /// Ends the sentence of an error, and shows its line.
 pub(crate) fn show(
     out: &mut impl io::Write,

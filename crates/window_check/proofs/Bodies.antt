@@ -9,7 +9,6 @@ use Rattle.os_ast.specs.Notes.Programs.{param_list, in_function, in_body, after_
 use Rattle.os_ast.specs.Notes.Statements.{after_stmts, stmts_notes}
 use Rattle.os_ast.specs.Trees as tree
 use Rattle.os_ast.specs.Rules.{when}
-use Rattle.os_ast.specs.declared.expr.Name.{Name}
 use Rattle.os_ast.specs.declared.names.Owner.TheVariants as owner
 use Rattle.window_check_laws.proofs.HasRoom.{room_less, room_stmts, room_in_body, room_item, owner_item}
 use Rattle.window_check.proofs.Loops.{noted-loop}

@@ -16,10 +16,11 @@ use Rattle.window_check_laws.proofs.Named.{named-body, slots_named-append}
 use Rattle.window_check_laws.specs.CapturedByUse.{used_slots, slots_named}
 use Rattle.window_check_laws.specs.Slots.{with_slots, named_slots}
 use Rattle.window_check_names.proofs.Listing.{slots-all, items-all, with_slots-append}
-use Rattle.window_check_names.specs.Findings.{noted, slots_found}
+use Rattle.window_check_names.specs.Findings.{noted, slots_found, captured_for}
 use Rattle.window_check_names.specs.Parts.{ListedParts, none_listed, after_parts, after_names}
-use Rattle.window_check.specs.Statements.{in_named_task, listed_in}
-use Rattle.window_check_names.specs.declared.found.Found.TheVariants.{Listing}
+use Rattle.window_check.specs.Statements.{in_named_task, listed_for, listed_in}
+use Rattle.window_check_names.specs.declared.found.Found.{Found}
+use Rattle.window_check_names.specs.declared.found.Found.TheVariants.{Listing, Judging, Collecting}
 
 -- what a walk lists
 listed-all : (ns : List Note) (slots : List ℕ) → slots_found (noted (Listing slots) ns) ≡ with_slots (used_slots ns) slots
@@ -44,7 +45,9 @@ listed-in owner.OfMain s l ps a top st is =
     ∙ ap (λ (xs : List ℕ). with_slots xs []) (sym (slots_named-append s.entries (private_ids ps) names))
     ∙ collected s.entries (task_names ps a) top st
 
--- what a task captures, where its clauses list this
-pub listed-captured : (s : Scope) (l : ListedParts) (ps : List Part) (a : tree.StmtTree) (top : ℕ) → Stacked main_extent top s.entries →
-    l ≡ after_parts s none_listed ps → listed_in s.owner s l.slots l.items a ≡ captured_in s.owner (slots_of (captured s.entries ps a))
-listed-captured s l ps a top st is = listed-in s.owner s l ps a top st is
+-- what is wanted of a task that captures this, where its clauses list this
+pub listed-captured : (f : Found) (s : Scope) (l : ListedParts) (ps : List Part) (a : tree.StmtTree) (top : ℕ) → Stacked main_extent top s.entries →
+    l ≡ after_parts s none_listed ps → listed_for f s.owner s l.slots l.items a ≡ captured_for f s.owner (slots_of (captured s.entries ps a))
+listed-captured (Listing slots) s l ps a top st is = listed-in s.owner s l ps a top st is
+listed-captured (Judging j) s l ps a top st is = listed-in s.owner s l ps a top st is
+listed-captured (Collecting vs) s l ps a top st is = listed-in owner.OfMain s l ps a top st is

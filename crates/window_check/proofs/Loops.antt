@@ -7,7 +7,6 @@ use Rattle.os_ast.specs.Notes.Kinds.{Note, Given}
 use Rattle.os_ast.specs.Notes.Programs.{after_param, after_params, params_notes}
 use Rattle.os_ast.specs.Trees.{DeclaratorTree}
 use Rattle.os_ast.specs.Views.{declarator_tree}
-use Rattle.os_ast.specs.declared.expr.Name.{Name}
 use Rattle.os_ast.specs.declared.stmt.Declarator.{Declarator}
 use Rattle.std.proofs.Math.Seq.{drop-cons}
 use Rattle.window_check_laws.proofs.HasRoom.{room_less, room_declarator, room_param}

@@ -106,7 +106,7 @@ refused-end p is e =
 pub lawful : (p : tree.ProgramTree) → (all_judged p).least ≡ None → has_main p ≡ true → violations p ≡ []
 lawful p is e = rw (no_violations p is, e) refl
 
-pushed-all : {A : Type 0} (xs ys : List A) → pushed xs ys ≡ xs ++ ys
+pub pushed-all : {A : Type 0} (xs ys : List A) → pushed xs ys ≡ xs ++ ys
 pushed-all xs [] = sym (append-nil xs)
 pushed-all xs (y ∷ ys) = pushed-all (xs ++ y ∷ []) ys ∙ append_assoc xs (y ∷ []) ys
 

@@ -1,5 +1,5 @@
 -- A task, step by step: the scope of its body, what it captures, and what is found of it.
-use Rattle.std.proofs.Common.{◌≡◌, ℕ, ◌+◌, ◌≤◌, List, [], ◌∷◌, ◌++◌, length, ap, sym, subst, ◌∙◌, arith}
+use Rattle.std.proofs.Common.{◌≡◌, ℕ, ◌+◌, ◌≤◌, List, [], ◌∷◌, ◌++◌, length, refl, ap, sym, subst, ◌∙◌, arith}
 use Rattle.os_ast.specs.Captured.{captured, slots_of}
 use Rattle.os_ast.specs.Names.{Scope, after_unit}
 use Rattle.os_ast.specs.Notes.Clauses.{parts_notes, clauses_notes, with_items, in_task, in_task_body, captured_in}
@@ -9,16 +9,18 @@ use Rattle.os_ast.specs.Parts.{Part, count_items}
 use Rattle.os_ast.specs.Trees as tree
 use Rattle.os_ast.specs.declared.expr.Mark.{Mark}
 use Rattle.os_ast.specs.declared.names.Owner.{Owner}
+use Rattle.os_ast.specs.declared.names.Owner.TheVariants as owner
 use Rattle.window_check_names.proofs.AddedViolations.{started-task}
 use Rattle.window_check_laws.proofs.HasRoom.{room_less, room_in_task, room_items, captured_few}
 use Rattle.window_check_names.proofs.Listing.{items-all, count-all}
 use Rattle.window_check.proofs.Capturing.{listed-captured}
 use Rattle.window_check_names.proofs.Noted.{noted-append}
-use Rattle.window_check_names.specs.Findings.{note, noted, started}
+use Rattle.window_check_names.specs.Findings.{note, noted, started, captured_for}
 use Rattle.window_check_names.specs.Parts.{ListedParts, none_listed, after_parts, after_names}
 use Rattle.window_check_laws.specs.Room.{HasRoom, room_end}
-use Rattle.window_check.specs.Statements.{in_named_task, listed_in}
+use Rattle.window_check.specs.Statements.{in_named_task, listed_for}
 use Rattle.window_check_names.specs.declared.found.Found.{Found}
+use Rattle.window_check_names.specs.declared.found.Found.TheVariants.{Listing, Judging, Collecting}
 use Rattle.window_check_names.specs.declared.parts.ItemName.{ItemName}
 
 named-scope : (s : Scope) (slots : List ℕ) (l : ListedParts) (ps : List Part) (items : List ItemName) → l ≡ after_parts s none_listed ps → items ≡ l.items →
@@ -34,14 +36,34 @@ room-named s slots l ps items n listing is few room =
     (room_items s (in_task s slots) 0 ps n (room_in_task s slots (length ps + n) few (room_less s (1 + length ps + n) (1 + (length ps + n)) room (omega arith))))
 
 -- what the code lists is what the task captures
-pub slots-captured : (s : Scope) (l : ListedParts) (ps : List Part) (a : tree.StmtTree) (n : ℕ) (slots privates : List ℕ) (items : List ItemName) →
-    HasRoom s n → l ≡ after_parts s none_listed ps → items ≡ l.items → privates ≡ l.slots → slots ≡ listed_in s.owner s privates items a →
-    slots ≡ captured_in s.owner (slots_of (captured s.entries ps a))
-slots-captured s l ps a n slots privates items room listing is given listed =
+pub slots-captured : (f : Found) (s : Scope) (l : ListedParts) (ps : List Part) (a : tree.StmtTree) (n : ℕ) (slots privates : List ℕ) (items : List ItemName) →
+    HasRoom s n → l ≡ after_parts s none_listed ps → items ≡ l.items → privates ≡ l.slots → slots ≡ listed_for f s.owner s privates items a →
+    slots ≡ captured_for f s.owner (slots_of (captured s.entries ps a))
+slots-captured f s l ps a n slots privates items room listing is given listed =
     listed
-    ∙ ap (λ (xs : List ℕ). listed_in s.owner s xs items a) given
-    ∙ ap (λ (xs : List ItemName). listed_in s.owner s l.slots xs a) is
-    ∙ listed-captured s l ps a room.order.top room.order.stacked listing
+    ∙ ap (λ (xs : List ℕ). listed_for f s.owner s xs items a) given
+    ∙ ap (λ (xs : List ItemName). listed_for f s.owner s l.slots xs a) is
+    ∙ listed-captured f s l ps a room.order.top room.order.stacked listing
+
+-- what the body has of it
+captured_twice : (o : Owner) (slots : List ℕ) → captured_in o (captured_in o slots) ≡ captured_in o slots
+captured_twice owner.OfMain slots = refl
+captured_twice owner.OfFunction slots = refl
+captured_twice owner.OfTask slots = refl
+
+captured_of : (f : Found) (o : Owner) (slots : List ℕ) → captured_in o (captured_for f o slots) ≡ captured_in o slots
+captured_of (Listing listed) o slots = captured_twice o slots
+captured_of (Judging j) o slots = captured_twice o slots
+captured_of (Collecting vs) o slots = refl
+
+pub body-slots : (f : Found) (s t : Scope) (o : Owner) (ps : List Part) (a : tree.StmtTree) (slots given : List ℕ) →
+    t ≡ s → o ≡ t.owner → given ≡ captured_for f s.owner (slots_of (captured s.entries ps a)) → slots ≡ captured_in o given →
+    slots ≡ captured_in s.owner (slots_of (captured s.entries ps a))
+body-slots f s t o ps a slots given same whose is of =
+    of
+    ∙ ap (λ (x : Owner). captured_in x given) (whose ∙ ap (λ (x : Scope). x.owner) same)
+    ∙ ap (captured_in s.owner) is
+    ∙ captured_of f s.owner (slots_of (captured s.entries ps a))
 
 pub few-captured : (s : Scope) (ps : List Part) (a : tree.StmtTree) (slots : List ℕ) → slots ≡ captured_in s.owner (slots_of (captured s.entries ps a)) →
     length slots ≤ length s.entries
@@ -69,7 +91,7 @@ task-scopes s t l ps a slots items same listing is given =
 -- what is found of a task
 pub task-found : (f g h : Found) (s t : Scope) (m : Mark) (o : Owner) (count : ℕ) (l : ListedParts) (ps : List Part) (a : tree.StmtTree) (given slots : List ℕ) (items : List ItemName) →
     t ≡ s → o ≡ t.owner → l ≡ after_parts s none_listed ps → items ≡ l.items → count ≡ length items →
-    given ≡ captured_in s.owner (slots_of (captured s.entries ps a)) → slots ≡ given →
+    given ≡ captured_for g s.owner (slots_of (captured s.entries ps a)) → slots ≡ captured_in s.owner (slots_of (captured s.entries ps a)) →
     g ≡ noted f (parts_notes s [] ps) → h ≡ started g o m count given →
     noted h (stmt_notes (in_named_task t slots items) a) ≡ noted f (clauses_notes s m ps a ++ stmt_notes (in_task_body s ps a) a)
 task-found f g h s t m o count l ps a given slots items same whose listing is counted named ordered clauses starting =
@@ -80,12 +102,12 @@ task-found f g h s t m o count l ps a given slots items same whose listing is co
     counted ∙ ap (λ (xs : List ItemName). length xs) (is ∙ ap (λ (x : ListedParts). x.items) listing) ∙ count-all s ps in
     let start : h ≡ note front (Task s m (count_items ps) byname) =
     starting
-    ∙ ap (λ (x : Found). started x o m count given) clauses
-    ∙ ap (λ (x : Owner). started front x m count given) owned
-    ∙ ap (λ (k : ℕ). started front s.owner m k given) number
-    ∙ ap (λ (xs : List ℕ). started front s.owner m (count_items ps) xs) named
-    ∙ started-task front s m (count_items ps) byname in
+    ∙ ap (λ (x : Owner). started g x m count given) owned
+    ∙ ap (λ (k : ℕ). started g s.owner m k given) number
+    ∙ ap (λ (xs : List ℕ). started g s.owner m (count_items ps) xs) named
+    ∙ started-task g s m (count_items ps) byname
+    ∙ ap (λ (x : Found). note x (Task s m (count_items ps) byname)) clauses in
     ap (λ (x : Found). noted x (stmt_notes (in_named_task t slots items) a)) start
-    ∙ ap (λ (x : Scope). noted (note front (Task s m (count_items ps) byname)) (stmt_notes x a)) (task-scope s t l ps a slots items same listing is (ordered ∙ named))
+    ∙ ap (λ (x : Scope). noted (note front (Task s m (count_items ps) byname)) (stmt_notes x a)) (task-scope s t l ps a slots items same listing is ordered)
     ∙ ap (λ (x : Found). noted x (stmt_notes (in_task_body s ps a) a)) (sym (noted-append f (parts_notes s [] ps) (Task s m (count_items ps) byname ∷ [])))
     ∙ sym (noted-append f (clauses_notes s m ps a) (stmt_notes (in_task_body s ps a) a))

@@ -13,7 +13,8 @@ use Rattle.os_ast.specs.declared.names.Owner.TheVariants as owner
 use Rattle.os_ast.specs.declared.stmt.Stmt.{Stmt}
 use Rattle.window_check_names.specs.Findings.{noted, slots_found}
 use Rattle.window_check_names.specs.Parts.{after_names}
-use Rattle.window_check_names.specs.declared.found.Found.TheVariants.{Listing}
+use Rattle.window_check_names.specs.declared.found.Found.{Found}
+use Rattle.window_check_names.specs.declared.found.Found.TheVariants.{Listing, Judging, Collecting}
 use Rattle.window_check_names.specs.declared.parts.ItemName.{ItemName}
 
 -- what stands behind `else`: where there is none, it is as if nothing stood there
@@ -30,3 +31,9 @@ abbrev pub listed_in : Owner → Scope → List ℕ → List ItemName → tree.S
 listed_in owner.OfMain s others items body = slots_found (noted (Listing others) (stmt_notes (in_named_task s [] items) body))
 listed_in owner.OfFunction s others items body = []
 listed_in owner.OfTask s others items body = []
+
+-- the same, where a walk that collects violations wants them of every task
+abbrev pub listed_for : Found → Owner → Scope → List ℕ → List ItemName → tree.StmtTree → List ℕ
+listed_for (Listing slots) o s others items body = listed_in o s others items body
+listed_for (Judging j) o s others items body = listed_in o s others items body
+listed_for (Collecting vs) o s others items body = listed_in owner.OfMain s others items body

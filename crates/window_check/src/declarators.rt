@@ -1,17 +1,17 @@
 //! Declarators: what they declare and take, and which rules they violate.
 
-ghost use Rattle.std.specs.Prelude.{◌≡◌, ◌&&◌, not, OnOk, map, option_map};
+ghost use Rattle.std.specs.Prelude.{◌≡◌, ◌++◌, ◌&&◌, not, OnOk, map, option_map};
 ghost use Rattle.os_ast.specs.Notes.Declarators.{form, sized_form, is_window, sized_notes, declarator_notes, declarators_notes, after_declarator, after_declarators, after_start, start_notes};
 ghost use Rattle.os_ast.specs.Names.{is_declared, typed};
 ghost use Rattle.os_ast.specs.Rules.{is_outermost, when};
 ghost use Rattle.os_ast.specs.Views.{declarator_tree, index_tree, start_tree};
-ghost use Rattle.window_check_names.specs.Codes.{least_code, lesser_code};
+ghost use Rattle.window_check_names.specs.Codes.{all_codes, code_list, least_code};
 ghost use Rattle.window_check_names.specs.Findings.{noted};
 ghost use Rattle.window_check_laws.specs.Room.{HasRoom, declarator_weight, declarators_weight, start_weight};
 
 use os_ast::{Declarator, Form, Index, Owner, Start, Ty};
 use os_io::{List, Memory};
-use window_check_names::codes::{self, lesser, when};
+use window_check_names::codes::{self, Codes, when};
 use window_check_names::expressions::{change, expr, value};
 use window_check_names::{Found, Scopes, meaning, size_name, size_of};
 
@@ -79,17 +79,17 @@ fn sized(
     }
 }
 
-/// The least code of a declarator's name but for the size, whose code is handed in.
-fn declarator_code(scopes: &Scopes, declarator: &Declarator, size: Option<u8>) -> Option<u8>
-    ensures { result ≡ lesser_code (least_code (when (is_declared scopes.now declarator.now.name.id) 12))
-        (lesser_code size (least_code (when (declarator.now.stream && not (is_outermost scopes.now.owner scopes.now.depth)) 17))) }
+/// The codes of a declarator's name, where that for the size is handed in.
+fn declarator_codes(scopes: &Scopes, declarator: &Declarator, size: Option<u8>) -> Codes
+    ensures { all_codes result ≡ code_list (least_code (when (is_declared scopes.now declarator.now.name.id) 12))
+        ++ (code_list size ++ code_list (least_code (when (declarator.now.stream && not (is_outermost scopes.now.owner scopes.now.depth)) 17))) }
 {
     let twice = when(
         scopes.is_declared(declarator.name.id),
         codes::DECLARED_TWICE,
     );
     let misplaced = when(declarator.stream && !is_outermost(scopes), codes::MISPLACED);
-    lesser(twice, lesser(size, misplaced))
+    Codes::three(twice, size, misplaced)
 }
 
 /// One declarator.
@@ -100,10 +100,10 @@ fn declarator(scopes: &mut Scopes, found: &mut Found, declarator: &Declarator) -
 {
     let form = form(scopes, declarator);
     let entity = scopes.form_entity(form);
-    let code = declarator_code(scopes, declarator, scopes.code_with(form));
+    let codes = declarator_codes(scopes, declarator, scopes.code_with(form));
     found.declare(
         declarator.name.mark,
-        code,
+        codes,
         meaning(entity),
         scopes.unsigned(),
     )?;

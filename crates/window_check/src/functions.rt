@@ -21,7 +21,7 @@ use os_ast::{Constant, Entity, Form, Function, Item, Name, Owner, Param, Params}
 use os_io::{List, Memory};
 use os_lexer::names::MAIN;
 use std::alloc::Global;
-use window_check_names::codes::{self, when};
+use window_check_names::codes::{self, Codes, when};
 use window_check_names::{Around, Found, Scopes, meaning};
 
 /// Whose body that of a function with this name is: the control program is the function `main`.
@@ -76,7 +76,7 @@ fn param(scopes: &mut Scopes, found: &mut Found, param: Param) -> Result<(), Mem
     let entity = scopes.scalar();
     found.declare(
         name.mark,
-        twice(scopes, name),
+        Codes::one(twice(scopes, name)),
         meaning(entity),
         ty.is_unsigned(),
     )?;
@@ -104,7 +104,7 @@ fn constant(scopes: &mut Scopes, found: &mut Found, constant: &Constant) -> Resu
     ensures found { OnOk result (found.new ≡ noted found.old (item_notes scopes.old (tree.Constant constant.now))) }
 {
     let name = constant.name;
-    found.add_violation(name.mark, twice(scopes, name));
+    found.add_violation(name.mark, twice(scopes, name))?;
     scopes.set_unsigned(constant.ty.is_unsigned());
     scopes.declare(name.id, Entity::Constant(constant_value(constant)))
 }
@@ -136,7 +136,7 @@ fn function(
 {
     let name = function.name;
     let list = param_list(&function.params);
-    found.add_violation(name.mark, twice(scopes, name));
+    found.add_violation(name.mark, twice(scopes, name))?;
     let around = begin_function(alloc, scopes, name.id)?;
     params(scopes, found, list)?;
     stmts(alloc, scopes, found, &function.body)?;

@@ -2,7 +2,8 @@
 //!
 //! `check` takes a program and answers the refusal, which is the least of its violations by place and then by
 //! code, or the program with what each name means: the value of a constant, the number of a function, slots,
-//! streams and items. What a violation is and what a name means stand beside the trees, in os_ast.
+//! streams and items. `all_violations` lists all of them. What a violation is and what a name means stand beside the trees,
+//! in os_ast.
 //!
 //! The walk goes over the program once, in the order of the text. `Scopes` is what is in scope at a place, and
 //! `Found` is what was found so far, both of `window_check_names`; each function of the walk says of these two what the
@@ -16,11 +17,13 @@ mod checked;
 mod checker;
 mod declarators;
 mod functions;
+mod listing;
 mod statements;
 
 pub use check_error::CheckError;
 pub use checked::Checked;
 pub use checker::check;
+pub use listing::all_violations;
 pub use os_ast::{Resolved, What};
 pub use window_check_laws::{
     arrays_have_sizes, captured_scalars_are_used, functions_are_numbered, limits_are_kept,

@@ -11,7 +11,8 @@ ghost use Rattle.std.specs.Prelude.{not};
 ghost use Rattle.window_check_names.specs.Codes.{least_code};
 ghost use Rattle.window_check_names.specs.Findings.{noted};
 ghost use Rattle.window_check_laws.specs.Room.{HasRoom, stmt_weight, stmts_weight, start_weight, room_end};
-ghost use Rattle.window_check.specs.Statements.{else_tree, in_named_task, listed_in};
+ghost use Rattle.window_check.specs.Statements.{else_tree, in_named_task, listed_for, listed_in};
+ghost use Rattle.os_ast.specs.Notes.Clauses.{captured_in};
 ghost use Rattle.os_ast.specs.declared.names.Owner.TheVariants as owners;
 
 use crate::declarators::{declaration, start};
@@ -68,19 +69,15 @@ fn stmt(alloc: Global, scopes: &mut Scopes, found: &mut Found, stmt: &Stmt) -> R
         }
         Stmt::For(head, body) => for_loop(alloc, scopes, found, head, body),
         Stmt::Break(mark) | Stmt::Continue(mark) => {
-            found.add_violation(*mark, when(!scopes.in_loop(), codes::NO_LOOP));
-            Ok(())
+            found.add_violation(*mark, when(!scopes.in_loop(), codes::NO_LOOP))
         }
         Stmt::Return(mark, value) => {
-            found.add_violation(*mark, return_code(scopes.owner()));
+            found.add_violation(*mark, return_code(scopes.owner()))?;
             expr(scopes, found, value)
         }
         Stmt::Task(site) => task(alloc, scopes, found, site),
         Stmt::Tick(site) => tick(scopes, found, site),
-        Stmt::Taskwait(mark) => {
-            found.add_violation(*mark, pragma_code(scopes.owner()));
-            Ok(())
-        }
+        Stmt::Taskwait(mark) => { found.add_violation(*mark, pragma_code(scopes.owner())) }
     }
 }
 
@@ -187,7 +184,7 @@ fn tick(scopes: &Scopes, found: &mut Found, site: &TickSite) -> Result<(), Memor
     ensures { OnOk result (found.new ≡ noted found.old (stmt_notes scopes.now
         (tree.Tick site.now.mark (target_tree site.now.stream) site.now.arrow (expr_tree site.now.amount)))) }
 {
-    found.add_violation(site.mark, pragma_code(scopes.owner()));
+    found.add_violation(site.mark, pragma_code(scopes.owner()))?;
     place(scopes, found, Role::Flow(Direction::Reads), &site.stream)?;
     expr(scopes, found, &site.amount)
 }
@@ -206,18 +203,29 @@ fn task(
         (tree.Task site.now.mark (map clause_tree site.now.clauses) (stmt_tree site.now.body)))) }
 {
     let (items, privates) = clauses(alloc, scopes, found, &site.clauses)?.into_parts();
-    let captured = captured(alloc, scopes, &site.body, &items, privates)?;
+    let captured = captured(alloc, scopes, found, &site.body, &items, privates)?;
     found.task(alloc, scopes.owner(), site.mark, items.len(), &captured)?;
-    let slots = captured.in_order(alloc)?;
-    body(alloc, scopes, found, &site.body, &items, Slots::new(slots))
+    let slots = slots(alloc, scopes.owner(), &captured)?;
+    body(alloc, scopes, found, &site.body, &items, slots)
 }
 
-/// What a task captures with this body, these items and these `firstprivate` scalars: none, where it doesn't stand in
-/// `main`.
+/// The slots of what the body of a task captures: none, where the task doesn't stand in `main`.
+fn slots(alloc: Global, owner: Owner, captured: &Captured) -> Result<Slots, Memory>
+    ensures { IfOk result (λ slots. slots ≡ captured_in owner captured.now) }
+{
+    match owner {
+        Owner::OfMain => Ok(Slots::new(captured.in_order(alloc)?)),
+        Owner::OfFunction | Owner::OfTask => Ok(Slots::none(alloc)),
+    }
+}
+
+/// What a task captures with this body, these items and these `firstprivate` scalars, where that has to be known: none, where it
+/// doesn't stand in `main`, unless all violations are collected.
 #[cycle(stmts)]
 fn captured(
     alloc: Global,
     scopes: &mut Scopes,
+    found: &Found,
     body: &Stmt,
     items: &List<ItemName>,
     privates: Captured,
@@ -225,11 +233,14 @@ fn captured(
     requires room { HasRoom (in_named_task scopes.old [] items.now) (stmt_weight (stmt_tree body.now)) }
     requires depth { scopes.old.depth + 1 ≤ room_end }
     ensures scopes { OnOk result (scopes.new ≡ scopes.old) }
-    ensures captured { IfOk result (λ slots. slots ≡ listed_in scopes.old.owner scopes.old privates items.now (stmt_tree body.now)) }
+    ensures captured { IfOk result (λ slots. slots ≡ listed_for found.now scopes.old.owner scopes.old privates items.now (stmt_tree body.now)) }
 {
-    match scopes.owner() {
-        Owner::OfMain => listed(alloc, scopes, body, items, privates),
-        Owner::OfFunction | Owner::OfTask => Ok(Captured::new(alloc)),
+    match found {
+        Found::Collecting(_) => listed(alloc, scopes, body, items, privates),
+        Found::Listing(_) | Found::Judging(_) => match scopes.owner() {
+            Owner::OfMain => listed(alloc, scopes, body, items, privates),
+            Owner::OfFunction | Owner::OfTask => Ok(Captured::new(alloc)),
+        },
     }
 }
 

@@ -21,9 +21,10 @@ use Rattle.os_ast.specs.Rules.{when}
 use Rattle.window_check_laws.proofs.Ascending.{is_in-insert_key}
 use Rattle.window_check_names.proofs.Noted.{noted-append}
 use Rattle.window_check_names.specs.Codes.{least_code}
-use Rattle.window_check_names.specs.Findings.{note, noted, least_with}
+use Rattle.os_ast.specs.Violations.{violations_at}
+use Rattle.window_check_names.specs.Findings.{note, noted, least_with, pushed}
 use Rattle.window_check_names.specs.declared.found.Found.{Found}
-use Rattle.window_check_names.specs.declared.found.Found.TheVariants.{Listing, Judging}
+use Rattle.window_check_names.specs.declared.found.Found.TheVariants.{Listing, Judging, Collecting}
 use Rattle.window_check_laws.specs.CapturedByUse.{slots_named}
 use Rattle.window_check_laws.specs.Slots.{with_slot, with_slots, control_slots}
 use Rattle.window_check_names.specs.declared.parts.ItemName.{ItemName}
@@ -51,6 +52,8 @@ listed-same : (f : Found) (names before : List ℕ) → SameNames names before �
 listed-same (Listing slots) names before same n = refl
 listed-same (Judging j) names before same n =
     ap (λ (b : Bool). Judging (record j { least = least_with j.least n.mark (least_code (when b 21 ++ [])) })) (same n.id)
+listed-same (Collecting vs) names before same n =
+    ap (λ (b : Bool). Collecting (pushed vs (violations_at n.mark (when b 21 ++ [])))) (same n.id)
 
 window-same : (f : Found) (s : Scope) (names before : List ℕ) → SameNames names before → (t : tree.TargetTree) (j : Option tree.JoinTree) →
     noted f (window_notes s names t j) ≡ noted f (window_notes s before t j)

@@ -1,18 +1,19 @@
 -- What is found where a name is used, or stands as a size.
-use Rattle.std.proofs.Common.{◌≡◌, ℕ, List, Option, Some, None, refl, sym, ap, ◌∙◌, subst}
+use Rattle.std.proofs.Common.{◌≡◌, ℕ, List, [], ◌∷◌, Option, Some, None, refl, sym, ap, ◌∙◌, subst}
 use Rattle.os_ast.specs.Meanings.{meaning_in}
 use Rattle.os_ast.specs.Names.{Scope, lookup, entity_of, flag_of}
 use Rattle.os_ast.specs.Notes.Declarators.{constant_of, size_notes}
 use Rattle.os_ast.specs.Notes.Kinds.{Used, Sized}
 use Rattle.os_ast.specs.Trees as tree
-use Rattle.os_ast.specs.Violations.{declared_meaning}
+use Rattle.os_ast.specs.Violations.{declared_meaning, violations_at}
 use Rattle.os_ast.specs.declared.expr.Name.{Name}
 use Rattle.os_ast.specs.declared.names.Entry.{Entry}
 use Rattle.os_ast.specs.declared.names.Use.{Use}
+use Rattle.os_ast.specs.declared.violation.Violation.{Violation}
 use Rattle.window_check_names.proofs.AddedViolations.{constant-sized}
 use Rattle.window_check_names.proofs.ByCode.{by_code, used_codes}
 use Rattle.window_check_names.specs.Codes.{least_code}
-use Rattle.window_check_names.specs.Findings.{note, noted, judged, judged_with_violation, named, constant_found, least_with, pushed}
+use Rattle.window_check_names.specs.Findings.{note, noted, judged, collected, judged_with_violation, named, constant_found, least_with, pushed}
 use Rattle.window_check_names.specs.Sizes.{bare_name}
 use Rattle.window_check_names.specs.Uses.{use_codes}
 use Rattle.window_check_names.specs.declared.found.Found.{Found}
@@ -39,7 +40,19 @@ judged-known j s n u e h =
     (by_code n.id u e.entity)
     ∙ judged-by j s n u (Some e) h
 
-pub ruleset uses = (judged-unknown, judged-known)
+collected-by : (vs : List Violation) (s : Scope) (n : Name) (u : Use) (d : Option Entry) → d ≡ lookup s.entries n.id →
+    pushed vs (violations_at n.mark (used_codes n.id u (entity_of d))) ≡ collected vs (Used s n u)
+collected-by vs s n u d h = ap (λ (e : Option Entry). pushed vs (violations_at n.mark (used_codes n.id u (entity_of e)))) h
+
+pub collected-unknown : (vs : List Violation) (s : Scope) (n : Name) (u : Use) → None ≡ lookup s.entries n.id →
+    pushed vs (violations_at n.mark (10 ∷ [])) ≡ collected vs (Used s n u)
+collected-unknown vs s n u h = collected-by vs s n u None h
+
+pub collected-known : (vs : List Violation) (s : Scope) (n : Name) (u : Use) (e : Entry) → Some e ≡ lookup s.entries n.id →
+    pushed vs (violations_at n.mark (use_codes n.id u e.entity)) ≡ collected vs (Used s n u)
+collected-known vs s n u e h = ap (λ (cs : List ℕ). pushed vs (violations_at n.mark cs)) (by_code n.id u e.entity) ∙ collected-by vs s n u (Some e) h
+
+pub ruleset uses = (judged-unknown, judged-known, collected-unknown, collected-known)
 
 -- the name of a size
 pub sized-none : (f : Found) (s : Scope) (e : tree.ExprTree) → None ≡ bare_name e → f ≡ noted f (size_notes s e)

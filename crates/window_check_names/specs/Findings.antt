@@ -1,19 +1,20 @@
 -- What a walk over a program has found so far, token by token.
-use Rattle.std.specs.Prelude.{ℕ, ◌==◌, ◌||◌, ◌&&◌, ltb, Bool, if◌then◌else◌, List, [], ◌∷◌, ◌++◌, length, Option, Some, None, ℤ}
+use Rattle.std.specs.Prelude.{ℕ, ◌==◌, ◌||◌, ◌&&◌, ltb, Bool, not, if◌then◌else◌, List, [], ◌∷◌, ◌++◌, length, Option, Some, None, ℤ}
 use Rattle.os_ast.specs.Meanings.{resolved}
 use Rattle.os_ast.specs.Notes.Kinds.{Note, mark_of}
-use Rattle.os_ast.specs.Rules.{codes, when, takes_more}
-use Rattle.os_ast.specs.Violations.{violated, resolutions_of, captures_of, main_task}
+use Rattle.os_ast.specs.Rules.{codes, when, takes_more, is_main_body}
+use Rattle.os_ast.specs.Notes.Clauses.{captured_in}
+use Rattle.os_ast.specs.Violations.{violated, violations_at, resolutions_of, captures_of, main_task}
 use Rattle.os_ast.specs.declared.expr.Mark.{Mark}
 use Rattle.os_ast.specs.declared.names.Owner.{Owner}
 use Rattle.os_ast.specs.declared.names.Owner.TheVariants as owner
 use Rattle.os_ast.specs.declared.names.What.{What}
 use Rattle.os_ast.specs.declared.names.What.TheVariants as what
 use Rattle.os_ast.specs.declared.violation.Violation.{Violation}
-use Rattle.window_check_names.specs.Codes.{least_code}
+use Rattle.window_check_names.specs.Codes.{code_list, least_code}
 use Rattle.window_check_laws.specs.Slots.{with_slots, named_slots}
 use Rattle.window_check_names.specs.declared.found.Found.{Found}
-use Rattle.window_check_names.specs.declared.found.Found.TheVariants.{Listing, Judging}
+use Rattle.window_check_names.specs.declared.found.Found.TheVariants.{Listing, Judging, Collecting}
 use Rattle.window_check_names.specs.declared.found.Judged.{Judged}
 
 abbrev pub nothing_found : Judged
@@ -45,10 +46,15 @@ judged j n = record {
   captured = pushed j.captured (captures_of n);
 }
 
+-- or its violations are collected
+abbrev pub collected : List Violation → Note → List Violation
+collected vs n = pushed vs (violations_at (mark_of n) (codes n))
+
 -- or what it names is listed
 abbrev pub note : Found → Note → Found
 note (Listing slots) n = Listing (with_slots (named_slots n) slots)
 note (Judging j) n = Judging (judged j n)
+note (Collecting vs) n = Collecting (collected vs n)
 
 abbrev pub noted : Found → List Note → Found
 noted f [] = f
@@ -61,6 +67,13 @@ judged_with_violation j m code = record j { least = least_with j.least m code }
 abbrev pub with_violation : Found → Mark → Option ℕ → Found
 with_violation (Listing slots) m code = Listing slots
 with_violation (Judging j) m code = Judging (judged_with_violation j m code)
+with_violation (Collecting vs) m code = Collecting (pushed vs (violations_at m (code_list code)))
+
+-- a violation for each of some codes
+abbrev pub with_violations : Found → Mark → List ℕ → Found
+with_violations (Listing slots) m cs = Listing slots
+with_violations (Judging j) m cs = Judging (judged_with_violation j m (least_code cs))
+with_violations (Collecting vs) m cs = Collecting (pushed vs (violations_at m cs))
 
 -- what a name means, and whether that is of the type `unsigned`
 abbrev pub named : Judged → Mark → What → Bool → Judged
@@ -69,6 +82,7 @@ named j m w unsigned = record j { names = j.names ++ resolved m.place w unsigned
 abbrev pub means : Found → Mark → What → Bool → Found
 means (Listing slots) m w unsigned = Listing slots
 means (Judging j) m w unsigned = Judging (named j m w unsigned)
+means (Collecting vs) m w unsigned = Collecting vs
 
 -- the value of a constant, where a name is one's
 abbrev pub constant_found : Found → Mark → Option ℤ → Bool → Found
@@ -84,16 +98,36 @@ task_codes owner.OfTask items slots = 17 ∷ []
 abbrev pub started_in : Judged → Owner → Mark → ℕ → List ℕ → Judged
 started_in j o m items slots = record (judged_with_violation j m (least_code (task_codes o items slots))) { captured = pushed j.captured (main_task o slots) }
 
+-- all codes of the start of a task
+abbrev pub all_task_codes : Owner → ℕ → ℕ → List ℕ
+all_task_codes o items scalars = when (not (is_main_body o)) 17 ++ when (takes_more items scalars) 22
+
 abbrev pub started : Found → Owner → Mark → ℕ → List ℕ → Found
 started (Listing listed) o m items slots = Listing listed
 started (Judging j) o m items slots = Judging (started_in j o m items slots)
+started (Collecting vs) o m items slots = Collecting (pushed vs (violations_at m (all_task_codes o items (length slots))))
+
+-- Which scalars a walk has to know of a task that captures these: a task that stands elsewhere than in `main` is judged without them,
+-- but for the collecting of all violations.
+abbrev pub captured_for : Found → Owner → List ℕ → List ℕ
+captured_for (Listing listed) o slots = captured_in o slots
+captured_for (Judging j) o slots = captured_in o slots
+captured_for (Collecting vs) o slots = slots
 
 -- the slots that were listed
 abbrev pub slots_found : Found → List ℕ
 slots_found (Listing slots) = slots
 slots_found (Judging j) = []
+slots_found (Collecting vs) = []
 
 -- what was judged
 abbrev pub judged_in : Found → Judged
 judged_in (Listing slots) = nothing_found
 judged_in (Judging j) = j
+judged_in (Collecting vs) = nothing_found
+
+-- the violations that were collected
+abbrev pub violations_in : Found → List Violation
+violations_in (Listing slots) = []
+violations_in (Judging j) = []
+violations_in (Collecting vs) = vs

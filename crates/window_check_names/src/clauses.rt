@@ -50,7 +50,7 @@ fn window(
         (option_map join_tree item.now.window))) }
 {
     let name = item_name(item);
-    found.add_violation(name.mark, listed.again(name));
+    found.add_violation(name.mark, listed.again(name))?;
     match &item.window {
         None => Ok(()),
         Some(join) => joined(scopes, found, join),
@@ -103,7 +103,7 @@ fn private(
     ensures found { OnOk result (found.new ≡ noted found.old (part_notes scopes.now listed.old.names (Private name))) }
     ensures listed { OnOk result (listed.new ≡ after_part scopes.now listed.old (Private name)) }
 {
-    found.add_violation(name.mark, listed.again(name));
+    found.add_violation(name.mark, listed.again(name))?;
     used(scopes, found, name, Use::Private)?;
     listed.add_private(scopes, name)
 }

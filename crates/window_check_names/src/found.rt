@@ -1,10 +1,11 @@
 ghost use Rattle.std.specs.Prelude.{◌≡◌, OnOk};
-ghost use Rattle.window_check_names.specs.Findings.{nothing_found, before, lesser, with_violation, judged_with_violation, means, named, constant_found, started, started_in, slots_found, judged_in};
+ghost use Rattle.window_check_names.specs.Findings.{nothing_found, before, lesser, pushed, all_task_codes, with_violation, with_violations, judged_with_violation, means, named, constant_found, started, started_in, slots_found, judged_in, violations_in};
 ghost use Rattle.os_ast.specs.Rules.{when, takes_more};
-ghost use Rattle.window_check_names.specs.Codes.{least_code};
+ghost use Rattle.os_ast.specs.Violations.{violated, violations_at};
+ghost use Rattle.window_check_names.specs.Codes.{all_codes, code_list, least_code};
 
 use crate::captures::Captured;
-use crate::codes::{self, when};
+use crate::codes::{self, Codes, when};
 use os_ast::{Mark, Owner, Resolved, Violation, What};
 use os_io::{List, Memory};
 use std::alloc::Global;
@@ -21,6 +22,40 @@ pub enum Found {
     Listing(Captured),
     /// What the rules and the names say of it.
     Judging(Judged),
+    /// All its violations.
+    Collecting(List<Violation>),
+}
+
+/// The violation of a token by a code.
+fn violation(mark: Mark, code: u8) -> Violation
+    ensures { result ≡ violated mark.place code mark.line }
+{
+    Violation {
+        place: mark.place,
+        code,
+        line: mark.line,
+    }
+}
+
+/// Adds a violation, where there is a code.
+fn add_code(all: &mut List<Violation>, mark: Mark, code: Option<u8>) -> Result<(), Memory>
+    ensures { OnOk result (all.new ≡ pushed all.old (violations_at mark (code_list code))) }
+{
+    match code {
+        Some(code) => all.push(violation(mark, code)),
+        None => Ok(()),
+    }
+}
+
+/// Adds a violation for each code.
+#[tactic(auto, using(crate::proofs::Noted::collecting))]
+pub(crate) fn add_codes(all: &mut List<Violation>, mark: Mark, codes: Codes) -> Result<(), Memory>
+    ensures { OnOk result (all.new ≡ pushed all.old (violations_at mark (all_codes codes))) }
+{
+    let (first, second, third) = codes.parts();
+    add_code(all, mark, first)?;
+    add_code(all, mark, second)?;
+    add_code(all, mark, third)
 }
 
 /// The least violation so far, what each name means, and what each task captures.
@@ -83,12 +118,7 @@ impl Judged {
         ensures { self.new ≡ judged_with_violation self.old mark code }
     {
         if let Some(code) = code {
-            let violation = Violation {
-                place: mark.place,
-                code,
-                line: mark.line,
-            };
-            self.least = Some(lesser(self.least, violation));
+            self.least = Some(lesser(self.least, violation(mark, code)));
         }
     }
 
@@ -130,12 +160,30 @@ impl Judged {
 
 impl Found {
     /// A token violates a rule, where there is a code.
-    pub fn add_violation(&mut self, mark: Mark, code: Option<u8>)
-        ensures { self.new ≡ with_violation self.old mark code }
+    pub fn add_violation(&mut self, mark: Mark, code: Option<u8>) -> Result<(), Memory>
+        ensures { OnOk result (self.new ≡ with_violation self.old mark code) }
     {
         match self {
-            Found::Listing(_) => {}
-            Found::Judging(judged) => judged.add_violation(mark, code),
+            Found::Listing(_) => Ok(()),
+            Found::Judging(judged) => {
+                judged.add_violation(mark, code);
+                Ok(())
+            }
+            Found::Collecting(all) => add_code(all, mark, code),
+        }
+    }
+
+    /// A token violates as many rules as there are codes.
+    fn add_violations(&mut self, mark: Mark, codes: Codes) -> Result<(), Memory>
+        ensures { OnOk result (self.new ≡ with_violations self.old mark (all_codes codes)) }
+    {
+        match self {
+            Found::Listing(_) => Ok(()),
+            Found::Judging(judged) => {
+                judged.add_violation(mark, codes.least());
+                Ok(())
+            }
+            Found::Collecting(all) => add_codes(all, mark, codes),
         }
     }
 
@@ -143,22 +191,22 @@ impl Found {
         ensures { OnOk result (self.new ≡ means self.old mark what unsigned) }
     {
         match self {
-            Found::Listing(_) => Ok(()),
+            Found::Listing(_) | Found::Collecting(_) => Ok(()),
             Found::Judging(judged) => judged.name(mark, what, unsigned),
         }
     }
 
-    /// A name is declared, which violates a rule where there is a code, and means this, of the type `unsigned` or not.
+    /// A name is declared, which violates as many rules as there are codes, and means this, of the type `unsigned` or not.
     pub fn declare(
         &mut self,
         mark: Mark,
-        code: Option<u8>,
+        codes: Codes,
         what: What,
         unsigned: bool,
     ) -> Result<(), Memory>
-        ensures { OnOk result (self.new ≡ means (with_violation self.old mark code) mark what unsigned) }
+        ensures { OnOk result (self.new ≡ means (with_violations self.old mark (all_codes codes)) mark what unsigned) }
     {
-        self.add_violation(mark, code);
+        self.add_violations(mark, codes)?;
         self.name(mark, what, unsigned)
     }
 
@@ -191,26 +239,41 @@ impl Found {
         match self {
             Found::Listing(_) => Ok(()),
             Found::Judging(judged) => judged.task(alloc, owner, mark, items, captured),
+            Found::Collecting(all) => add_codes(
+                all,
+                mark,
+                task_codes(owner, items, captured.len()),
+            ),
         }
     }
 
-    /// The scalars that were listed; none, where the walk judged.
+    /// The scalars that were listed; none, where the walk did something else.
     pub fn into_listed(self, alloc: Global) -> Captured
         ensures { result ≡ slots_found self }
     {
         match self {
             Found::Listing(captured) => captured,
-            Found::Judging(_) => Captured::new(alloc),
+            Found::Judging(_) | Found::Collecting(_) => Captured::new(alloc),
         }
     }
 
-    /// What was judged; nothing, where the walk listed.
+    /// What was judged; nothing, where the walk did something else.
     pub fn into_judged(self, alloc: Global) -> Judged
         ensures { result ≡ judged_in self }
     {
         match self {
-            Found::Listing(_) => Judged::new(alloc),
+            Found::Listing(_) | Found::Collecting(_) => Judged::new(alloc),
             Found::Judging(judged) => judged,
+        }
+    }
+
+    /// The violations that were collected; none, where the walk did something else.
+    pub fn into_violations(self, alloc: Global) -> List<Violation>
+        ensures { result ≡ violations_in self }
+    {
+        match self {
+            Found::Listing(_) | Found::Judging(_) => List::new(alloc),
+            Found::Collecting(all) => all,
         }
     }
 }
@@ -223,4 +286,17 @@ fn task_code(items: usize, scalars: usize) -> Option<u8>
         ITEMS_LIMIT < items || CAPTURED_LIMIT < scalars,
         codes::TASK_LIMIT,
     )
+}
+
+/// All codes of the start of a task in a body of this owner.
+#[tactic(auto, using(crate::proofs::Noted::collecting))]
+fn task_codes(owner: Owner, items: usize, scalars: usize) -> Codes
+    ensures { all_codes result ≡ all_task_codes owner items scalars }
+{
+    match owner {
+        Owner::OfMain => Codes::one(task_code(items, scalars)),
+        Owner::OfFunction | Owner::OfTask => {
+            Codes::two(Some(codes::MISPLACED), task_code(items, scalars))
+        }
+    }
 }

@@ -1,9 +1,7 @@
-use Rattle.std.proofs.Common.{◌≡◌, ◌∙◌, ap, map}
-use Rattle.os_ast.specs.Names.{flagged}
-use Rattle.os_ast.specs.Types.{is_unsigned}
+use Rattle.std.proofs.Common.{map}
 use Rattle.os_ast.specs.Views.{declarator_tree}
 use Rattle.window_check_laws.proofs.HasRoom.{room_flagged}
-use Rattle.window_check_laws.specs.Room.{HasRoom, declarators_weight}
+use Rattle.window_check_laws.specs.Room.{declarators_weight}
 use Rattle.window_check.proofs.declarators.declaration.Goals as goal
 
 pub declarators-requires : goal.declarators-requires

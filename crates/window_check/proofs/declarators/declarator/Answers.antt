@@ -2,6 +2,7 @@ use Rattle.std.proofs.lemmas.Result.{IfOk-equal}
 use Rattle.os_ast.specs.Views.{declarator_tree}
 use Rattle.window_check.proofs.Declaring.{declarator-steps}
 use Rattle.window_check_laws.proofs.HasRoom.{room_form}
+use Rattle.window_check_names.specs.Codes.{all_codes}
 use Rattle.window_check.proofs.declarators.declarator.Goals as goal
 
 pub form_entity-entity-requires : goal.form_entity-entity-requires
@@ -18,6 +19,6 @@ returns-clause-found c =
     let d = declarator_tree c.args.declarator.now in
     IfOk-equal c.value.result _ _ _ c.value.ensures
     (declarator-steps c.args.found.now c.declare.new.self c.sized.new.found c.args.scopes.now c.take.new.self c.declare-2.new.self d
-    c.form-form.result c.form_entity-entity.result c.code_with.result c.declarator_code-code.result c.meaning.result c.unsigned.result
-    c.form-form.ensures c.form_entity-entity.ensures c.code_with.ensures c.declarator_code-code.ensures c.meaning.ensures c.unsigned.ensures
+    c.form-form.result c.form_entity-entity.result c.code_with.result (all_codes c.declarator_codes-codes.result) c.meaning.result c.unsigned.result
+    c.form-form.ensures c.form_entity-entity.ensures c.code_with.ensures c.declarator_codes-codes.ensures c.meaning.ensures c.unsigned.ensures
     c.in_ok-declare.ensures c.in_ok-sized.ensures c.take.ensures c.in_ok-declare-2.ensures)

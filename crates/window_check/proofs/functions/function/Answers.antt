@@ -55,7 +55,7 @@ returns-clause-found c =
     let begun = c.begin_function.new.scopes in
     let inside = c.params.new.scopes in
     let body : inside ≡ in_body s f = body-scope s begun inside names f c.param_list-list.ensures c.in_ok-around.ensures.scopes c.in_ok-params.ensures.scopes in
-    let adding = c.add_violation.ensures ∙ ap (with_violation c.args.found.now f.name.mark) c.twice.ensures in
+    let adding = c.in_ok-add_violation.ensures ∙ ap (with_violation c.args.found.now f.name.mark) c.twice.ensures in
     let found = function-found c.args.found.now c.add_violation.new.self c.params.new.found c.stmts.new.found s begun inside names f
     c.param_list-list.ensures c.in_ok-around.ensures.scopes body adding c.in_ok-params.ensures.found c.in_ok-stmts.ensures.found in
     on_ok_weaker c.declare_function.result (λ _. found) c.declare_function.ensures

@@ -12,7 +12,7 @@ use Rattle.window_check_laws.specs.Room.{stmt_weight}
 use Rattle.window_check_laws.proofs.HasRoom.{room_in_for}
 use Rattle.window_check.proofs.Restored.{returned_block, returned_for, ended_task}
 use Rattle.window_check.proofs.Steps as step
-use Rattle.window_check.proofs.Tasks.{room-named, slots-captured, few-captured, few-slots, task-scopes, task-found}
+use Rattle.window_check.proofs.Tasks.{room-named, slots-captured, body-slots, few-captured, few-slots, task-scopes, task-found}
 use Rattle.window_check_names.specs.Parts.{after_names}
 use Rattle.window_check.specs.Statements.{in_named_task}
 use Rattle.window_check.proofs.statements.+stmts.Goals as goal
@@ -152,13 +152,16 @@ task-body-requires t c =
     let a = stmt_tree c.args.site.now.body in
     let l = c.in_ok-clauses.field-0 in
     let items = c.into_parts-items.result.0 in
+    let g = c.clauses.new.found in
     let given =
-    slots-captured s l ps a _ c.in_ok-captured.captured c.into_parts-items.result.1 items c.requires c.in_ok-clauses.ensures.listed c.into_parts-items.ensures.items c.into_parts-items.ensures.captured c.in_ok-captured.ensures.captured in
-    let few = few-captured s ps a c.new.result (c.new.ensures ∙ c.in_ok-slots.ensures.same ∙ given) in (
+    slots-captured g s l ps a _ c.in_ok-captured.captured c.into_parts-items.result.1 items c.requires c.in_ok-clauses.ensures.listed c.into_parts-items.ensures.items c.into_parts-items.ensures.captured c.in_ok-captured.ensures.captured in
+    let slots = c.in_ok-slots.slots in
+    let of = body-slots g s c.captured.new.scopes c.owner-2.result ps a slots c.in_ok-captured.captured c.in_ok-captured.ensures.scopes c.owner-2.ensures given c.in_ok-slots.ensures in
+    let few = few-captured s ps a slots of in (
       search (rules, the_lemmas),
       rw c.in_ok-captured.ensures.scopes (
-        room-named s c.new.result l ps items (stmt_weight a) c.in_ok-clauses.ensures.listed c.into_parts-items.ensures.items few c.requires,
-        (omega (arith, c.requires.depth), few-slots s _ (length c.new.result) few c.requires),
+        room-named s slots l ps items (stmt_weight a) c.in_ok-clauses.ensures.listed c.into_parts-items.ensures.items few c.requires,
+        (omega (arith, c.requires.depth), few-slots s _ (length slots) few c.requires),
       ),
     )
 
@@ -169,11 +172,13 @@ task-returns-clause-scopes t c =
     let a = stmt_tree c.args.site.now.body in
     let l = c.in_ok-clauses.field-0 in
     let items = c.into_parts-items.result.0 in
+    let g = c.clauses.new.found in
     let given =
-    slots-captured s l ps a _ c.in_ok-captured.captured c.into_parts-items.result.1 items c.requires c.in_ok-clauses.ensures.listed c.into_parts-items.ensures.items c.into_parts-items.ensures.captured c.in_ok-captured.ensures.captured in
+    slots-captured g s l ps a _ c.in_ok-captured.captured c.into_parts-items.result.1 items c.requires c.in_ok-clauses.ensures.listed c.into_parts-items.ensures.items c.into_parts-items.ensures.captured c.in_ok-captured.ensures.captured in
+    let slots = c.in_ok-slots.slots in
+    let of = body-slots g s c.captured.new.scopes c.owner-2.result ps a slots c.in_ok-captured.captured c.in_ok-captured.ensures.scopes c.owner-2.ensures given c.in_ok-slots.ensures in
     IfOk-equal c.body.result _ _ _ c.body.ensures.scopes
-    (task-scopes s c.captured.new.scopes l ps a c.new.result items c.in_ok-captured.ensures.scopes c.in_ok-clauses.ensures.listed c.into_parts-items.ensures.items
-    (c.new.ensures ∙ c.in_ok-slots.ensures.same ∙ given))
+    (task-scopes s c.captured.new.scopes l ps a slots items c.in_ok-captured.ensures.scopes c.in_ok-clauses.ensures.listed c.into_parts-items.ensures.items of)
 
 pub task-returns-clause-found : goal.task-returns-clause-found
 task-returns-clause-found t c =
@@ -182,10 +187,13 @@ task-returns-clause-found t c =
     let a = stmt_tree c.args.site.now.body in
     let l = c.in_ok-clauses.field-0 in
     let items = c.into_parts-items.result.0 in
+    let g = c.clauses.new.found in
     let given =
-    slots-captured s l ps a _ c.in_ok-captured.captured c.into_parts-items.result.1 items c.requires c.in_ok-clauses.ensures.listed c.into_parts-items.ensures.items c.into_parts-items.ensures.captured c.in_ok-captured.ensures.captured in
+    slots-captured g s l ps a _ c.in_ok-captured.captured c.into_parts-items.result.1 items c.requires c.in_ok-clauses.ensures.listed c.into_parts-items.ensures.items c.into_parts-items.ensures.captured c.in_ok-captured.ensures.captured in
+    let slots = c.in_ok-slots.slots in
+    let of = body-slots g s c.captured.new.scopes c.owner-2.result ps a slots c.in_ok-captured.captured c.in_ok-captured.ensures.scopes c.owner-2.ensures given c.in_ok-slots.ensures in
     IfOk-equal c.body.result _ _ _ c.body.ensures.found
-    (task-found c.args.found.now c.clauses.new.found c.task.new.self s c.captured.new.scopes c.args.site.now.mark c.owner.result c.len.result l ps a
-    c.in_ok-captured.captured c.new.result items
+    (task-found c.args.found.now g c.task.new.self s c.captured.new.scopes c.args.site.now.mark c.owner.result c.len.result l ps a
+    c.in_ok-captured.captured slots items
     c.in_ok-captured.ensures.scopes c.owner.ensures c.in_ok-clauses.ensures.listed c.into_parts-items.ensures.items c.len.ensures
-    given (c.new.ensures ∙ c.in_ok-slots.ensures.same) c.in_ok-clauses.ensures.found c.in_ok-task.ensures)
+    given of c.in_ok-clauses.ensures.found c.in_ok-task.ensures)

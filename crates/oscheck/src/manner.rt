@@ -1,0 +1,41 @@
+/// How many errors of a file are told, and how many warnings.
+#[derive(Clone, Copy, PartialEq, Eq)]
+pub(crate) enum Extent {
+    First,
+    /// Twenty at most, and how many more there are.
+    Some,
+    All,
+}
+
+impl Extent {
+    /// How many are told at most.
+    pub(crate) fn most(self) -> usize {
+        match self {
+            Extent::First => 1,
+            Extent::Some => 20,
+            Extent::All => usize::MAX,
+        }
+    }
+
+    /// Of so many, how many more there are than are told, where that is told.
+    pub(crate) fn more(self, count: usize) -> usize {
+        match self {
+            Extent::First => 0,
+            Extent::Some | Extent::All => count.saturating_sub(self.most()),
+        }
+    }
+}
+
+/// Whether a program with warnings is accepted.
+#[derive(Clone, Copy, PartialEq, Eq)]
+pub(crate) enum Strictness {
+    Lenient,
+    Strict,
+}
+
+/// How files are judged.
+#[derive(Clone, Copy)]
+pub(crate) struct Manner {
+    pub(crate) extent: Extent,
+    pub(crate) strictness: Strictness,
+}

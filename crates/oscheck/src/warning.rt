@@ -1,0 +1,167 @@
+//! What an accepted program is warned of.
+
+ghost use Rattle.std.specs.Prelude.{◌<◌, ◌≤◌, length};
+ghost use Rattle.os_lexer.specs.Limits.{text_limit};
+ghost use Rattle.oscheck_warnings.specs.Warnings.{AreRepeated};
+
+use crate::judged::Judged;
+use crate::manner::{Extent, Manner, Strictness};
+use crate::telling::{Named, show, tell_more, tell_no_memory};
+use os_io::Memory;
+use os_lexer::{LexError, Token, lex};
+use oscheck_places::{Spot, column};
+use oscheck_sentences::{Word, word_of};
+use oscheck_warnings::{is_bare_task, is_lone_name, repeated_names};
+use std::alloc::Global;
+use std::io;
+
+/// What a token is warned of.
+#[derive(Clone, Copy)]
+enum Warning {
+    /// A task without clauses begins with it.
+    BareTask,
+    /// It is a name that is declared, and nothing uses it.
+    LoneName,
+}
+
+/// What there is to warn of at a place. The names that are spelled once more are handed in.
+fn warning_at(tokens: &[Token], repeated: &[bool], place: usize) -> Option<Warning>
+    requires within { place < length tokens.now }
+    requires few { length tokens.now ≤ text_limit }
+    requires repeated { AreRepeated tokens.now repeated.now }
+{
+    if is_bare_task(tokens, place) {
+        Some(Warning::BareTask)
+    } else if is_lone_name(tokens, repeated, place) {
+        Some(Warning::LoneName)
+    } else {
+        None
+    }
+}
+
+/// Tells a warning.
+fn tell_warning(
+    out: &mut impl io::Write,
+    alloc: Global,
+    named: Named<'_>,
+    token: Token,
+    warning: Warning,
+) -> io::Result<()> {
+    let spot = Spot::of_token(token);
+    tell_warned(out, named, spot)?;
+    match warning {
+        Warning::BareTask => write!(
+            out,
+            "a task without clauses reads no stream and writes none: give it an item, or take it out"
+        )?,
+        Warning::LoneName => tell_lone(out, word_of(named.text, token))?,
+    }
+    show(out, alloc, named, spot)?;
+    Ok(())
+}
+
+/// Tells that nothing uses a name.
+fn tell_lone(out: &mut impl io::Write, name: Word<'_>) -> io::Result<()> {
+    write!(out, "nothing uses ")?;
+    name.write(out)?;
+    write!(out, ": take it out")
+}
+
+/// Tells the place of a warning, which its sentence goes on from.
+fn tell_warned(out: &mut impl io::Write, named: Named<'_>, spot: Spot) -> io::Result<()> {
+    let Named { name, text } = named;
+    let line = spot.line;
+    if spot.start > text.len() {
+        return write!(out, "{name}:{line}: warning: ");
+    }
+    let column = column(text, spot.start);
+    write!(out, "{name}:{line}:{column}: warning: ")
+}
+
+/// Tells the first warnings of a program and how many more there are, and says how many there are in all.
+fn tell_warnings(
+    out: &mut impl io::Write,
+    alloc: Global,
+    named: Named<'_>,
+    tokens: &[Token],
+    repeated: &[bool],
+    extent: Extent,
+) -> io::Result<usize>
+    requires few { length tokens.now ≤ text_limit }
+    requires repeated { AreRepeated tokens.now repeated.now }
+{
+    let mut count: usize = 0;
+    for place in 0..tokens.len() {
+        if let Some(warning) = warning_at(tokens, repeated, place) {
+            if count < extent.most() {
+                tell_warning(out, alloc, named, tokens[place], warning)?;
+            }
+            count = count.saturating_add(1);
+        }
+    }
+    tell_more(out, named.name, extent.more(count), "warning")?;
+    Ok(count)
+}
+
+/// Tells what the tokens of an accepted program are warned of, and says how many warnings there are.
+fn warn_of(
+    out: &mut impl io::Write,
+    alloc: Global,
+    named: Named<'_>,
+    tokens: &[Token],
+    extent: Extent,
+) -> io::Result<Result<usize, Memory>>
+    requires { length tokens.now ≤ text_limit }
+{
+    match repeated_names(alloc, tokens) {
+        Ok(repeated) => Ok(Ok(tell_warnings(out, alloc, named, tokens, &repeated, extent)?)),
+        Err(Memory) => Ok(Err(Memory)),
+    }
+}
+
+/// Tells what an accepted program is warned of, and says how many warnings there are.
+fn warn(
+    out: &mut impl io::Write,
+    alloc: Global,
+    named: Named<'_>,
+    extent: Extent,
+) -> io::Result<Result<usize, Memory>>
+    requires { length named.text.now ≤ text_limit }
+{
+    match lex(alloc, named.text) {
+        Ok(tokens) => warn_of(out, alloc, named, &tokens, extent),
+        Err(LexError::Memory) => Ok(Err(Memory)),
+        Err(_) => Ok(Ok(0)),
+    }
+}
+
+/// Tells the warnings of an accepted program, and that it is accepted, unless warnings are errors and there are some.
+pub(crate) fn tell_accepted(
+    out: &mut impl io::Write,
+    alloc: Global,
+    named: Named<'_>,
+    manner: Manner,
+) -> io::Result<Judged>
+    requires { length named.text.now ≤ text_limit }
+{
+    let name = named.name;
+    match warn(out, alloc, named, manner.extent)? {
+        Ok(count) => tell_verdict(out, name, count, manner.strictness),
+        Err(Memory) => tell_no_memory(out, name),
+    }
+}
+
+/// Tells that a program with so many warnings is accepted, or that it isn't.
+fn tell_verdict(
+    out: &mut impl io::Write,
+    name: &str,
+    count: usize,
+    strictness: Strictness,
+) -> io::Result<Judged> {
+    if count > 0 && strictness == Strictness::Strict {
+        writeln!(out, "{name}: refused for its warnings")?;
+        return Ok(Judged::Refused);
+    }
+    writeln!(out, "{name}: accepted")?;
+    Ok(Judged::Accepted)
+}

@@ -1,0 +1,2 @@
+-- What a reader believes: where there is something to warn of.
+pub mod Warnings
