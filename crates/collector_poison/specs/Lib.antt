@@ -3,7 +3,7 @@ pub mod Written
 pub mod Missing
 pub mod Report
 pub mod Status
--- The states whose output is written, the laws, and two small runs with their reports.
+-- The states whose output is written, the laws, and three small runs with their reports.
 pub mod Reported
 pub mod Laws
 pub mod Runs

@@ -1,5 +1,5 @@
--- Two small runs that fail, written out. Each activation that doesn't fail gives the first of its inputs.
-use Rattle.std.specs.Prelude.{ℕ, ℤ, true, false, List, [], ◌∷◌, Option, None, take, slice_index_or}
+-- Three small runs that fail, written out. Each activation that doesn't fail gives 7.
+use Rattle.std.specs.Prelude.{ℕ, ℤ, true, false, List, [], ◌∷◌, Option, None, pos, slice_index_or}
 use Rattle.std.specs.Option.{option_map_or}
 use Rattle.flow_core_laws.specs.declared.claim.Claim.{Claim}
 use Rattle.flow_core_laws.specs.declared.activation.Activation.{Activation}
@@ -25,7 +25,7 @@ task claims = record { site = 0; captured = []; claims = claims }
 -- the body of an activation, by the ends of those that fail
 abbrev pub body : List (Option TaskEnd) → ℕ → List ℤ → Outcome
 body failing activation inputs =
-    option_map_or (λ (e : TaskEnd). outcome_of e []) (slice_index_or failing activation None) (outcome_of Done (take 1 inputs))
+    option_map_or (λ (e : TaskEnd). outcome_of e []) (slice_index_or failing activation None) (outcome_of Done (pos 7 ∷ []))
 
 -- what a run comes to, and its report
 abbrev pub run : List Activation → List (Option TaskEnd) → Ends
@@ -43,3 +43,7 @@ handed_on = task (writes 2 1 ∷ []) ∷ task (reads 2 1 ∷ writes 2 1 ∷ []) 
 -- have written.
 abbrev pub two_roots : List Activation
 two_roots = task (writes 2 1 ∷ []) ∷ task (writes 3 1 ∷ []) ∷ task (reads 3 1 ∷ reads 2 1 ∷ writes 1 1 ∷ []) ∷ []
+
+-- Three activations write to the output, one position each, and the second one uses up its turns.
+abbrev pub stops_at_poison : List Activation
+stops_at_poison = task (writes 1 1 ∷ []) ∷ task (writes 1 1 ∷ []) ∷ task (writes 1 1 ∷ []) ∷ []

@@ -5,7 +5,7 @@ ghost use Rattle.flow_core_laws.specs.declared.activation.Activation.{Activation
 ghost use Rattle.flow_core_poison.specs.declared.elem.Elem.{Elem};
 ghost use Rattle.flow_core_poison.specs.declared.ends.Ends.{Ends};
 ghost use Rattle.flow_core_poison.specs.declared.task_end.TaskEnd.{TaskEnd};
-ghost use Rattle.flow_core_poison.specs.declared.task_end.TaskEnd.TheVariants.{Trapped};
+ghost use Rattle.flow_core_poison.specs.declared.task_end.TaskEnd.TheVariants.{Trapped, OverBudget};
 ghost use Rattle.collector.specs.Line.{line};
 ghost use Rattle.collector_poison.specs.Laws.{
   AllIsWritten,
@@ -17,7 +17,7 @@ ghost use Rattle.collector_poison.specs.Laws.{
   ProducersAreStarved,
 };
 ghost use Rattle.collector_poison.specs.Reported.{AreOfState};
-ghost use Rattle.collector_poison.specs.Runs.{told, handed_on, two_roots};
+ghost use Rattle.collector_poison.specs.Runs.{run, told, handed_on, two_roots, stops_at_poison};
 ghost use Rattle.collector_poison.specs.Written.{written};
 
 /// What is written is the longest prefix of the output that has values alone.
@@ -57,8 +57,8 @@ pub fn all_but_done_have_lines()
     ensures producers { ProducersAreStarved }
 {}
 
-/// The reports of two small runs: a root that is handed on, with an activation that starves beside poison, and the least of
-/// two roots, though its element is read second.
+/// The reports of three small runs: a root that is handed on, with an activation that starves beside poison; the least of
+/// two roots, though its element is read second; and an output that stops at poison, though a value stands behind it.
 pub fn small_runs()
     ensures handed_on { told handed_on (Some (Trapped 2 5) ∷ [])
         ≡ line (codes "trapped 0 code 2 line 5") ++ line (codes "poisoned 1 by 0")
@@ -66,4 +66,7 @@ pub fn small_runs()
     ensures two_roots { told two_roots (Some (Trapped 2 5) ∷ Some (Trapped 2 7) ∷ [])
         ≡ line (codes "trapped 0 code 2 line 5") ++ line (codes "trapped 1 code 2 line 7") ++ line (codes "poisoned 2 by 0")
         ++ line (codes "control done") ++ line (codes "output 0 of 1") }
+    ensures stops_at_poison { told stops_at_poison (None ∷ Some OverBudget ∷ [])
+        ≡ line (codes "over-budget 1") ++ line (codes "control done") ++ line (codes "output 1 of 3") }
+    ensures writes_before_poison { written (run stops_at_poison (None ∷ Some OverBudget ∷ [])).output ≡ 7 ∷ [] }
 {}

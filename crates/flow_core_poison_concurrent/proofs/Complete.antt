@@ -39,7 +39,7 @@ use Rattle.flow_core_poison_concurrent.proofs.Counts.{counted-is, counted_at-is}
 use Rattle.flow_core_poison_concurrent.proofs.Parts.{run_at}
 use Rattle.flow_core_poison_concurrent.proofs.Subs.{last_is_only}
 
--- a cell that had a value at opening is given
+-- a cell that held something at opening is given
 pub source_given : (plan : Plan) (c : ℕ) (x : Elem) → cell_source plan c ≡ given x → held_at plan.filled c ≡ Some x
 unfolding cell_source
 source_given plan c x h = by (held_at plan.filled c) refl h

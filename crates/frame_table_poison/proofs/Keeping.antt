@@ -18,11 +18,15 @@ use Rattle.flow_core_poison_concurrent.proofs.Stores.{store_keeps}
 use Rattle.flow_core_poison_concurrent.proofs.Subs.{sub_keeps}
 use Rattle.flow_core_poison_concurrent.proofs.Finishes.{finish_keeps}
 use Rattle.flow_core_poison_concurrent.proofs.Looks.{look_keeps}
-use Rattle.frame_table_poison.specs.Spelled.{number_of_word, number_of_cell}
+use Rattle.frame_table_poison.specs.Spelled.{number_of_word, number_of_cell, numbers}
 use Rattle.frame_table_poison.specs.Shown.{shown, ShowsGood}
-use Rattle.frame_table_poison.specs.Laws.{SplitKeepsTheRule, JoinKeepsTheRule, ClaimKeepsTheRule, StoreKeepsTheRule, SubKeepsTheRule, FinishKeepsTheRule, LookKeepsTheRule, ReadsTheMeaning}
+use Rattle.frame_table_poison.specs.Laws.{SplitKeepsTheRule, JoinKeepsTheRule, ClaimKeepsTheRule, StoreKeepsTheRule, SubKeepsTheRule, FinishKeepsTheRule, LookKeepsTheRule, ReadsTheMeaning, OpensByTheRule, ClosedTellsTheMeaning}
 use Rattle.frame_table_poison.proofs.Steps.{claim_is, look_is, finish_is, store_is, sub_is, waits_with}
-use Rattle.frame_table_poison.proofs.Showing.{IsSpelled, frame_spelled, cell_shown, cell_spelled}
+use Rattle.frame_table_poison.proofs.Showing.{IsSpelled, frame_spelled, cell_shown, cell_spelled, frame_shown}
+use Rattle.flow_core_poison_concurrent.proofs.Opens.{opens_good}
+use Rattle.flow_core_poison_concurrent.proofs.Complete.{complete}
+use Rattle.flow_core_poison_concurrent.specs.Words.{end_in}
+use Rattle.flow_core_poison_concurrent.specs.Laws.{IsComplete}
 use Rattle.frame_table_poison.proofs.Spells.{lowered_number}
 
 -- the rule after a step that leads to a good state
@@ -96,3 +100,19 @@ reads_the_meaning known words views i v r c kept can = (read.0, sym (cell_shown 
         let b = can.is_its_cell.1 in
         let l = kept.good.cells_of_plan in
         omega (arith, a, b, l)
+
+pub opens_by_the_rule : OpensByTheRule
+opens_by_the_rule known words fit is spelled = record {
+  fit = fit;
+  good = subst (IsGood known) (sym is) (opens_good known fit.plan_is_sound);
+  spelled = spelled ∙ ap (λ (s : CoreState). numbers s.words s.cells) (sym is);
+}
+
+pub closed_tells : ClosedTellsTheMeaning
+closed_tells known outcome words views i v kept meant sees last idle looks = record {
+  ends = λ f lt. ap end_in (sym (frame_shown known.plan words views f kept.good.words_of_plan (omega (arith, lt)))) ∙ all.ends f lt;
+  cells = λ c lt. sym (cell_shown known.plan words views c (let e = kept.good.cells_of_plan in omega (arith, e, lt))) ∙ all.cells c;
+}
+  where
+    all : IsComplete known (shown known.plan words views)
+    all = complete known outcome (shown known.plan words views) i v kept.fit.plan_is_sound meant kept.good sees last idle looks

@@ -1,18 +1,20 @@
 -- For each kind of step: what it writes and the views that it leaves are that step of the core on the state that
 -- is shown. With what each step of the core keeps, the step keeps the rule of the table.
-use Rattle.std.specs.Prelude.{◌≡◌, ℕ, ◌+◌, ◌-◌, ◌%◌, ◌==◌, ◌<◌, ◌≤◌, if◌then◌else◌, List, [], ◌∷◌, ◌++◌, Some, length, slice_index, slice_set}
+use Rattle.std.specs.Prelude.{◌≡◌, ℕ, ◌+◌, ◌-◌, ◌%◌, ◌==◌, ◌<◌, ◌≤◌, if◌then◌else◌, List, [], ◌∷◌, ◌++◌, Some, length, slice_index, slice_set, ℤ, None, slice_get}
 use Rattle.flow_core_laws.specs.declared.plan.Piece.{Piece}
 use Rattle.flow_core_concurrent.specs.declared.view.Run.{Run}
 use Rattle.flow_core_poison.specs.declared.task_end.TaskEnd.{TaskEnd}
-use Rattle.flow_core_poison_concurrent.specs.Steps.{output_of, cut, share, after_split, after_join, with_joined, after_claim, stored, after_store, CanSub, after_sub, finished, after_finish, looked, after_look, next_look, CanSplit, CanJoin, CanClaim, CanRead, CanStore, CanFinish, CanLook, meant_at}
+use Rattle.flow_core_poison_concurrent.specs.Steps.{output_of, cut, share, after_split, after_join, with_joined, after_claim, stored, after_store, CanSub, after_sub, finished, after_finish, looked, after_look, next_look, CanSplit, CanJoin, CanClaim, CanRead, CanStore, CanFinish, CanLook, meant_at, end_of}
 use Rattle.flow_core_poison.specs.declared.elem.Elem.{Elem}
+use Rattle.flow_core_poison.specs.declared.outcome.Outcome.{Outcome}
+use Rattle.flow_core_poison_concurrent.specs.Words.{end_in}
 use Rattle.flow_core_poison_concurrent.specs.declared.known.Known.{Known}
 use Rattle.flow_core_poison_concurrent.specs.declared.view.View.{View}
 use Rattle.flow_core_poison_concurrent.specs.declared.word.Word.TheVariants.{Ended}
-use Rattle.flow_core_poison_concurrent.specs.States.{fresh}
-use Rattle.flow_core_poison_concurrent.specs.IsGood.{IsGood}
-use Rattle.flow_core_poison_concurrent.specs.Laws.{IsFit}
-use Rattle.frame_table_poison.specs.Spelled.{number_of_word, number_of_cell, word_of_number, cell_of_number}
+use Rattle.flow_core_poison_concurrent.specs.States.{fresh, opening}
+use Rattle.flow_core_poison_concurrent.specs.IsGood.{IsGood, IsLast}
+use Rattle.flow_core_poison_concurrent.specs.Laws.{IsFit, IsMeant}
+use Rattle.frame_table_poison.specs.Spelled.{number_of_word, number_of_cell, numbers, word_of_number, cell_of_number}
 use Rattle.frame_table_poison.specs.Shown.{shown, ShowsGood}
 use Rattle.frame_table_poison.specs.Plays.{claimed, subbed}
 
@@ -111,6 +113,25 @@ LookKeepsTheRule =
     (known : Known) (words : List ℕ) (views : List View) (seat : ℕ) (v : View) → ShowsGood known words views
     → CanLook known (shown known.plan words views) seat v
     → ShowsGood known words (slice_set views seat (looked v (next_look known v) (slice_index words (next_look known v) == 0)))
+
+-- At opening the rule holds: words that show the state at opening, and are just its numbers.
+abbrev pub OpensByTheRule : Type 0
+OpensByTheRule =
+    (known : Known) (words : List ℕ) → IsFit known → shown known.plan words (fresh known known.seats ∷ []) ≡ opening known
+    → words ≡ numbers (opening known).words (opening known).cells → ShowsGood known words (fresh known known.seats ∷ [])
+
+-- Where the last seat runs nothing and has looked as often as there are frames, the words tell the meaning: the end of
+-- each frame, or none, and the element of each cell, or none.
+pub record TellsTheMeaning (known : Known) (words : List ℕ) : Type 0 where
+  pub ends : (f : ℕ) → f < length known.plan.frames → end_in (word_of_number (slice_index words f)) ≡ end_of known f
+  pub cells : (c : ℕ) → c < length known.plan.filled
+      → cell_of_number (slice_index words (length known.plan.frames + 1 + c)) ≡ meant_at known c
+
+abbrev pub ClosedTellsTheMeaning : Type 0
+ClosedTellsTheMeaning =
+    (known : Known) (outcome : ℕ → List ℤ → Outcome) (words : List ℕ) (views : List View) (seat : ℕ) (v : View) → ShowsGood known words views
+    → IsMeant known outcome → slice_get views seat ≡ Some v → IsLast known v → v.run ≡ None → length known.plan.frames ≤ v.looks
+    → TellsTheMeaning known words
 
 -- And a load of a cell's word gives what the meaning has for it, a value or poison.
 abbrev pub ReadsTheMeaning : Type 0

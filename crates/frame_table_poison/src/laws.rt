@@ -16,6 +16,8 @@ ghost use Rattle.frame_table_poison.specs.Laws.{
   SubKeepsTheRule,
   FinishKeepsTheRule,
   LookKeepsTheRule,
+  OpensByTheRule,
+  ClosedTellsTheMeaning,
   ReadsTheMeaning,
 };
 
@@ -46,8 +48,9 @@ pub fn look_is_shown()
     ensures { LookIsShown }
 {}
 
-/// Each step on a table keeps its rule.
+/// A table is opened by its rule, and each step keeps it.
 pub fn rule_is_kept()
+    ensures opened { OpensByTheRule }
     ensures split { SplitKeepsTheRule }
     ensures join { JoinKeepsTheRule }
     ensures claim { ClaimKeepsTheRule }
@@ -55,6 +58,11 @@ pub fn rule_is_kept()
     ensures sub { SubKeepsTheRule }
     ensures finish { FinishKeepsTheRule }
     ensures look { LookKeepsTheRule }
+{}
+
+/// Where the last seat runs nothing and has looked as often as there are frames, the words tell the meaning.
+pub fn closed_tells_the_meaning()
+    ensures { ClosedTellsTheMeaning }
 {}
 
 /// By the rule a load of a cell's word gives the meaning's element, a value or poison.

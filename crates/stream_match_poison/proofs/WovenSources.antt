@@ -44,7 +44,7 @@ module _ (layout : Layout) (weave : Weave) (can : CanWeave layout weave) (plan :
   abbrev pub cell_of : ℕ → ℕ → ℕ → ℕ
   cell_of f i k = length (cells_of_first weave f) + (total (take i (weave.reaches f)) + k)
 
-  -- a cell with a value has it
+  -- a cell that holds something at opening is given it
   pub given_by : (f i k : ℕ) (v : Elem) → f ≤ weave.frames → i < length (weave.reaches f) → k < (reach_at weave f i).count → weave.opening (reach_at weave f i).stream ((reach_at weave f i).first + k) ≡ Some v → cell_source plan (cell_of f i k) ≡ given v
   unfolding cell_source
   given_by f i k v le lt kl e = ap (λ o. option_map_or given o (piece_source plan (cell_of f i k))) (opening layout weave plan laid f i k le lt kl ∙ e)
@@ -65,7 +65,7 @@ module _ (layout : Layout) (weave : Weave) (can : CanWeave layout weave) (plan :
       cell_source-covered plan r.0 (cell_of f i k) q (woven_sound layout weave can plan laid) at (omega arith) (omega arith)
       ∙ ap (fed g) (let e : q.first + (cell_of f i k - q.at) ≡ span.offset + ((reach_at weave f i).first + k - span.first) = omega arith in e)
 
-  -- a cell without a value that no piece covers comes from nobody
+  -- a cell that holds nothing at opening and that no piece covers comes from nobody
   from_nobody : (c : ℕ) → held_at plan.filled c ≡ None → ((number : ℕ) (p : Piece) → slice_get plan.pieces number ≡ Some p → p.at ≤ c → c < p.at + p.count → ⊥) → cell_source plan c ≡ nobody
   unfolding cell_source
   from_nobody c none free = by_piece (option_and_then (λ number. slice_get plan.pieces number) (piece_at plan c)) refl

@@ -12,3 +12,11 @@ returns-clause-handed_on c = refl
 pub returns-clause-two_roots : goal.returns-clause-two_roots
 unfolding windows input_places meaning rounds round digits
 returns-clause-two_roots c = refl
+
+pub returns-clause-stops_at_poison : goal.returns-clause-stops_at_poison
+unfolding windows input_places meaning rounds round digits
+returns-clause-stops_at_poison c = refl
+
+pub returns-clause-writes_before_poison : goal.returns-clause-writes_before_poison
+unfolding windows input_places meaning rounds round digits
+returns-clause-writes_before_poison c = refl

@@ -1,5 +1,8 @@
-use Rattle.frame_table_poison.proofs.Keeping.{split_rule, join_rule, claim_rule, store_rule, sub_rule, finish_rule, look_rule}
+use Rattle.frame_table_poison.proofs.Keeping.{opens_by_the_rule, split_rule, join_rule, claim_rule, store_rule, sub_rule, finish_rule, look_rule}
 use Rattle.frame_table_poison.proofs.laws.rule_is_kept.Goals as goal
+
+pub returns-clause-opened : goal.returns-clause-opened
+returns-clause-opened c = opens_by_the_rule
 
 pub returns-clause-split : goal.returns-clause-split
 returns-clause-split c = split_rule
