@@ -8,10 +8,10 @@ use Rattle.lowering_draft.specs.declared.draft.Draft.{Draft}
 use Rattle.lowering_draft.specs.declared.draft.Label.{Label}
 use Rattle.lowering_draft.specs.declared.exits.Exits.{Exits}
 use Rattle.os_ast.specs.Trees as tree
-use Rattle.os_ast.specs.declared.names.What.{What}
+use Rattle.os_ast.specs.declared.names.Resolved.{Resolved}
 use Rattle.os_code.specs.declared.instr.Instr.TheVariants.{Jump}
 
-module _ (tells : ℕ → What) (start : tree.StartTree) (test : Option tree.ExprTree) (a : tree.StmtTree) (x : Exits) (next : Option Label) where
+module _ (tells : ℕ → Resolved) (start : tree.StartTree) (test : Option tree.ExprTree) (a : tree.StmtTree) (x : Exits) (next : Option Label) where
   -- without a step
   pub for_made : (d opened_draft begun done : Draft) (end again : Label)
       → end ≡ end_of next d → opened_draft ≡ opened next d

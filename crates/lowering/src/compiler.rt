@@ -1,13 +1,12 @@
 //! The compiler: a code of a whole program.
 
-ghost use Rattle.std.specs.Prelude.{◌≡◌, ◌≤◌, ◌+◌, ◌*◌, All, IfOk, length};
+ghost use Rattle.std.specs.Prelude.{◌≡◌, ◌≤◌, ◌+◌, ◌*◌, IfOk, length};
 ghost use Rattle.lowering_draft.specs.Emission.Units.{parts_made, program_units};
 ghost use Rattle.lowering.specs.Meanings.{RunsBodies, RunsControl};
 ghost use Rattle.lowering.specs.declared.compiler.LowerError.TheVariants as errors;
 ghost use Rattle.os_ast.specs.Spelling.{spell};
 ghost use Rattle.os_ast.specs.Views.{program_tree};
 ghost use Rattle.os_code.specs.Codes.{parts_of};
-ghost use Rattle.os_lexer.specs.Laws.{HasSmallNumber};
 ghost use Rattle.lowering_relation.specs.Laws.{StandsFor};
 ghost use Rattle.lowering_relation.specs.Names.{told_at};
 ghost use Rattle.lowering_relation.specs.Tasks.{program_tasks};
@@ -43,8 +42,6 @@ impl From<Memory> for LowerError {
 /// one for each task, in the order of the text; the k-th site is that of the k-th task. It takes one walk over the program
 /// and a second pass over the code, and memory for no more than the code and its labels.
 pub fn lower(alloc: Global, checked: &Checked) -> Result<Code, LowerError>
-    // The program has neither the key `unsigned` nor a wide number.
-    requires { All HasSmallNumber (spell (program_tree checked.now.program)) }
     ensures stands { IfOk result (λ code. StandsFor (parts_of code) (program_tree checked.now.program)) }
     // what it does
     ensures bodies { IfOk result (λ code. RunsBodies (parts_of code) (program_tree checked.now.program)) }

@@ -80,7 +80,7 @@ fn emit_stream(draft: &mut Draft, told: &Told<'_>, stream: &Target) -> Result<()
         Some(index) => {
             emit_expr(draft, told, &index.value)?;
             draft.emit(Instr::CheckAt {
-                size: count_of(told.at(stream.name.mark.place)),
+                size: count_of(told.at(stream.name.mark.place).what),
                 line: index.mark.line,
             })
         }
@@ -95,14 +95,14 @@ fn emit_burst(
     join: &Join,
 ) -> Result<(), Memory>
     ensures { OnOk result (draft.new
-        ≡ burst_code (told_at told.now.names.now) direction (told_at told.now.names.now join.now.name.mark.place)
+        ≡ burst_code (told_at told.now.names.now) direction (told_at told.now.names.now join.now.name.mark.place).what
         (option_map index_tree join.now.burst) draft.old) }
 {
     match &join.burst {
         None => draft.emit(Instr::Push(1)),
         Some(index) => {
             emit_expr(draft, told, &index.value)?;
-            let window = told.at(join.name.mark.place);
+            let window = told.at(join.name.mark.place).what;
             draft.emit(bursting(direction, window, index.mark.line))
         }
     }
@@ -119,5 +119,6 @@ pub(crate) fn emit_tick(draft: &mut Draft, told: &Told<'_>, tick: &TickSite) -> 
         line: tick.arrow.line,
     })?;
     draft.emit(Instr::Turn)?;
-    draft.emit(Instr::Tick(first_of(told.at(tick.stream.name.mark.place))))
+    let stream = told.at(tick.stream.name.mark.place).what;
+    draft.emit(Instr::Tick(first_of(stream)))
 }

@@ -12,7 +12,6 @@ use Rattle.os_ast.specs.Parts.{count_items, parts}
 use Rattle.os_ast.specs.Trees as tree
 use Rattle.os_ast.specs.Violations.{captures, main_task}
 use Rattle.os_ast.specs.declared.expr.Mark.{Mark}
-use Rattle.os_ast.specs.declared.expr.Name.{Name}
 use Rattle.os_ast.specs.declared.names.Owner.{Owner}
 use Rattle.os_ast.specs.declared.names.Owner.TheVariants as owner
 use Rattle.os_ast.specs.declared.program.Param.{Param}

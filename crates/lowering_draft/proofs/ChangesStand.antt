@@ -15,13 +15,14 @@ use Rattle.os_ast.specs.Leveled.{IsChange, IsExpr, IsTarget}
 use Rattle.os_ast.specs.Trees as tree
 use Rattle.os_ast.specs.declared.expr.Binary.{Binary}
 use Rattle.os_ast.specs.declared.expr.Mark.{Mark}
+use Rattle.os_ast.specs.declared.names.Resolved.{Resolved}
 use Rattle.os_ast.specs.declared.names.What.{What}
 use Rattle.os_ast.specs.declared.names.What.TheVariants as what
 use Rattle.os_ast.specs.declared.stmt.Assign.TheVariants as assign
 use Rattle.os_code.specs.declared.instr.Instr.TheVariants.{Copy, Push}
 use Rattle.os_code.specs.declared.parts.Parts.{Parts}
-use Rattle.lowering_relation.specs.Changes.{HasAssigned, HasChange, HasChanged, HasStepped, is_quiet, set, set_unchecked, after, before}
-use Rattle.lowering_relation.specs.Expressions.{operation}
+use Rattle.lowering_relation.specs.Changes.{HasAssigned, HasChange, HasChanged, HasStepped, is_quiet, target_by, set, set_unchecked, after, before}
+use Rattle.lowering_relation.specs.Expressions.{operation, type_by}
 use Rattle.lowering_relation.specs.Names.{aiming, checking_at, fetching, fetching_at, storing, storing_at}
 
 -- instructions without labels
@@ -74,11 +75,11 @@ module _ (place_of : ℕ → ℕ) where
   plain-fetching_at true w line = ap (λ i. Copy ∷ i ∷ []) (plain-reading_at place_of w line)
   plain-fetching_at false w line = ap (λ i. i ∷ []) (plain-checking_at w line)
 
-module _ {code : Parts} {place_of : ℕ → ℕ} (tells : ℕ → What) where
+module _ {code : Parts} {place_of : ℕ → ℕ} (tells : ℕ → Resolved) where
   changed_stands : (old : Bool) (t : tree.TargetTree) → IsTarget t → {f : Emission} {right : (from to : ℕ) → Type 0} → IsPart code place_of f right → (d : Draft)
       → Becomes (changed_code tells old t f d) code place_of → HasChanged code tells old t right (length d.instrs) (length (changed_code tells old t f d).instrs)
   changed_stands old (tree.Variable n) is {f} {right} part d b =
-      let w = tells n.mark.place in
+      let w = (tells n.mark.place).what in
       let line = n.mark.line in
       let aimed = with_instrs d (aiming w) in
       let fetched = with_instrs aimed (fetching old w line) in
@@ -94,7 +95,7 @@ module _ {code : Parts} {place_of : ℕ → ℕ} (tells : ℕ → What) where
         stands_instr made (storing w line) (plain-storing place_of w line) b,
       )
   changed_stands old (tree.Element n m e) (leveled.element is) {f} {right} part d b =
-      let w = tells n.mark.place in
+      let w = (tells n.mark.place).what in
       let line = m.line in
       let index = expr_code tells e d in
       let fetched = with_instrs index (fetching_at old w line) in
@@ -110,43 +111,45 @@ module _ {code : Parts} {place_of : ℕ → ℕ} (tells : ℕ → What) where
         stands_instr made (storing_at w line) (plain-storing_at place_of w line) b,
       )
 
-  plain_part : (line : ℕ) (e : tree.ExprTree) → IsExpr e → IsPart code place_of (expr_code tells e) (HasAssigned code tells assign.Plain line e)
-  plain_part line e is = record { keeps = expr_kept tells e; stands = λ d b. (length (expr_code tells e d).instrs, expr_stands tells e is d b, refl) }
+  plain_part : (line : ℕ) (u : Bool) (e : tree.ExprTree) → IsExpr e → IsPart code place_of (expr_code tells e) (HasAssigned code tells assign.Plain line u e)
+  plain_part line u e is = record { keeps = expr_kept tells e; stands = λ d b. (length (expr_code tells e d).instrs, expr_stands tells e is d b, refl) }
 
-  operated_part : (op : Binary) (line : ℕ) (e : tree.ExprTree) → IsExpr e →
-      IsPart code place_of (operated_code tells op line e) (HasAssigned code tells (assign.With op) line e)
-  operated_part op line e is = record {
-    keeps = operated_kept tells op line e;
+  operated_part : (op : Binary) (line : ℕ) (u : Bool) (e : tree.ExprTree) → IsExpr e →
+      IsPart code place_of (operated_code tells op line u e) (HasAssigned code tells (assign.With op) line u e)
+  operated_part op line u e is = record {
+    keeps = operated_kept tells op line u e;
     stands = λ d b. (
       length (expr_code tells e d).instrs,
-      expr_stands tells e is d (back (keeps_instrs (kept (expr_code tells e d)) (operation op line)) b),
-      stands_plain (expr_code tells e d) (operation op line) (plain-operation place_of op line) b,
+      expr_stands tells e is d (back (keeps_instrs (kept (expr_code tells e d)) (operation op line u (type_by tells e))) b),
+      stands_plain (expr_code tells e d) (operation op line u (type_by tells e)) (plain-operation place_of op line u (type_by tells e)) b,
     );
   }
 
-  stepped_part : (op : Binary) (line : ℕ) → IsPart code place_of (stepped_code op line) (HasStepped code op line)
-  stepped_part op line = record {
-    keeps = stepped_kept op line;
-    stands = λ d b. stands_plain d (Push (pos 1) ∷ operation op line) (ap (λ is. Push (pos 1) ∷ is) (plain-operation place_of op line)) b;
+  stepped_part : (op : Binary) (line : ℕ) (u : Bool) → IsPart code place_of (stepped_code op line u) (HasStepped code op line u)
+  stepped_part op line u = record {
+    keeps = stepped_kept op line u;
+    stands = λ d b. stands_plain d (Push (pos 1) ∷ operation op line u false) (ap (λ is. Push (pos 1) ∷ is) (plain-operation place_of op line u false)) b;
   }
 
   plain_by : (q : Bool) (t : tree.TargetTree) → IsTarget t → (m : Mark) (e : tree.ExprTree) → IsExpr e → is_quiet e ≡ q → (d : Draft)
       → Becomes (store_code tells t (expr_code tells e (plain_aim tells q t d))) code place_of
       → HasChange code tells (tree.Set t assign.Plain m e) (length d.instrs) (length (store_code tells t (expr_code tells e (plain_aim tells q t d))).instrs)
-  plain_by true (tree.Variable n) is_t m e is quiet d b = set (changed_stands false (tree.Variable n) is_t (plain_part m.line e is) d b)
+  plain_by true (tree.Variable n) is_t m e is quiet d b =
+      set (changed_stands false (tree.Variable n) is_t (plain_part m.line (target_by tells (tree.Variable n)) e is) d b)
   plain_by true (tree.Element n bracket i) (leveled.element is_i) m e is quiet d b =
       let index = expr_code tells i d in
       let made = expr_code tells e index in
-      let stored = storing_at (tells n.mark.place) bracket.line in
+      let stored = storing_at (tells n.mark.place).what bracket.line in
       let bm : Becomes made code place_of = back (keeps_instr (kept made) stored) b in
       subst (HasChange code tells (tree.Set (tree.Element n bracket i) assign.Plain m e) (length d.instrs)) (sym (length-instr made stored))
       (set_unchecked (length index.instrs) (length made.instrs) quiet (expr_stands tells i is_i d (back (expr_kept tells e index) bm)) (expr_stands tells e is index bm)
-      (instr_stands made stored b ∙ ap Some (plain-storing_at place_of (tells n.mark.place) bracket.line)))
-  plain_by false t is_t m e is quiet d b = set (changed_stands false t is_t (plain_part m.line e is) d b)
+      (instr_stands made stored b ∙ ap Some (plain-storing_at place_of (tells n.mark.place).what bracket.line)))
+  plain_by false t is_t m e is quiet d b = set (changed_stands false t is_t (plain_part m.line (target_by tells t) e is) d b)
 
   pub change_stands : (c : tree.ChangeTree) → IsChange c → (d : Draft) → Becomes (change_code tells c d) code place_of →
       HasChange code tells c (length d.instrs) (length (change_code tells c d).instrs)
   change_stands (tree.Set t assign.Plain m e) (leveled.set is_t is_a is_e) d b = plain_by (is_quiet e) t is_t m e is_e refl d b
-  change_stands (tree.Set t (assign.With op) m e) (leveled.set is_t is_a is_e) d b = set (changed_stands true t is_t (operated_part op m.line e is_e) d b)
-  change_stands (tree.After t p m) (leveled.after is_t) d b = after (changed_stands true t is_t (stepped_part (step_operator p) m.line) d b)
-  change_stands (tree.Before t p m) (leveled.before is_t) d b = before (changed_stands true t is_t (stepped_part (step_operator p) m.line) d b)
+  change_stands (tree.Set t (assign.With op) m e) (leveled.set is_t is_a is_e) d b =
+      set (changed_stands true t is_t (operated_part op m.line (target_by tells t) e is_e) d b)
+  change_stands (tree.After t p m) (leveled.after is_t) d b = after (changed_stands true t is_t (stepped_part (step_operator p) m.line (target_by tells t)) d b)
+  change_stands (tree.Before t p m) (leveled.before is_t) d b = before (changed_stands true t is_t (stepped_part (step_operator p) m.line (target_by tells t)) d b)

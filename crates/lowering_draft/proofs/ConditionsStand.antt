@@ -19,7 +19,7 @@ use Rattle.os_ast.specs.declared.expr.Binary.TheVariants as binary
 use Rattle.os_ast.specs.declared.expr.Level.{Level}
 use Rattle.os_ast.specs.declared.expr.Level.TheVariants as level
 use Rattle.os_ast.specs.declared.expr.Mark.{Mark}
-use Rattle.os_ast.specs.declared.names.What.{What}
+use Rattle.os_ast.specs.declared.names.Resolved.{Resolved}
 use Rattle.os_code.specs.declared.instr.Instr.TheVariants.{JumpZero}
 use Rattle.os_code.specs.declared.parts.Parts.{Parts}
 use Rattle.lowering_relation.specs.Expressions.{HasCondition, HaveConditions, tested, always, in_parens, each, no_more, one_more}
@@ -29,7 +29,7 @@ is_and level.And = true
 is_and _ = false
 
 -- a link of `&&` is one
-and_link : (code : Parts) (tells : ℕ → What) (fails : ℕ) (op : Binary) (m : Mark) (e : tree.ExprTree) (rest : tree.Links) (from mid to : ℕ)
+and_link : (code : Parts) (tells : ℕ → Resolved) (fails : ℕ) (op : Binary) (m : Mark) (e : tree.ExprTree) (rest : tree.Links) (from mid to : ℕ)
     → level_of op ≡ level.And → HasCondition code tells e fails from mid → HaveConditions code tells rest fails mid to
     → HaveConditions code tells (tree.link op m e rest) fails from to
 and_link code tells fails binary.And m e rest from mid to same first more = one_more first more
@@ -51,7 +51,7 @@ and_link code tells fails binary.Multiply m e rest from mid to same first more =
 and_link code tells fails binary.Divide m e rest from mid to same first more = absurd (false≢true (ap is_and same))
 and_link code tells fails binary.Remainder m e rest from mid to same first more = absurd (false≢true (ap is_and same))
 
-module _ {code : Parts} {place_of : ℕ → ℕ} (tells : ℕ → What) (fails : Label) where
+module _ {code : Parts} {place_of : ℕ → ℕ} (tells : ℕ → Resolved) (fails : Label) where
   -- a value and its test
   tested_stands : (e : tree.ExprTree) → IsExpr e → (d : Draft) → Becomes (with_instr (expr_code tells e d) (JumpZero fails.number)) code place_of →
       HasCondition code tells e (place_of fails.number) (length d.instrs) (length (with_instr (expr_code tells e d) (JumpZero fails.number)).instrs)

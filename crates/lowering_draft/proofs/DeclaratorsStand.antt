@@ -15,13 +15,14 @@ use Rattle.os_ast.specs.Leveled as leveled
 use Rattle.os_ast.specs.Leveled.{AreAll, IsDeclarator, IsExpr, IsIndex, IsOptional, IsStart}
 use Rattle.os_ast.specs.Parts.{is_in}
 use Rattle.os_ast.specs.Trees as tree
+use Rattle.os_ast.specs.declared.names.Resolved.{Resolved}
 use Rattle.os_ast.specs.declared.names.What.{What}
 use Rattle.os_ast.specs.declared.names.What.TheVariants as what
 use Rattle.os_code.specs.declared.instr.Instr.TheVariants.{Push, Store, Window, Zero}
 use Rattle.os_code.specs.declared.parts.Parts.{Parts}
 use Rattle.lowering_relation.specs.Declarators.{HasDeclarators, HasDeclared, HasFirst, HasScalar, HasWindow, cleared, named_elsewhere}
 
-module _ (tells : ℕ → What) where
+module _ (tells : ℕ → Resolved) where
   cleared_kept : (named : Bool) (slot : ℕ) → KeepsLabels (cleared_code named slot)
   cleared_kept true slot d = keeps_instrs (kept d) (Push (pos 0) ∷ Store slot ∷ [])
   cleared_kept false slot d = kept d
@@ -46,14 +47,14 @@ module _ (tells : ℕ → What) where
 
   pub declarators_kept : (ds : List tree.DeclaratorTree) → KeepsLabels (declarators_code tells ds)
   declarators_kept [] d = kept d
-  declarators_kept (x ∷ ds) d = and_then_kept (declared_kept (tells x.name.mark.place) x d) (declarators_kept ds)
+  declarators_kept (x ∷ ds) d = and_then_kept (declared_kept (tells x.name.mark.place).what x d) (declarators_kept ds)
 
   pub start_kept : (start : tree.StartTree) → KeepsLabels (start_code tells start)
   start_kept tree.StartTree.Empty d = kept d
   start_kept (tree.StartTree.Declare ty ds) d = declarators_kept ds d
   start_kept (tree.StartTree.Change c) d = change_kept tells c d
 
-module _ {code : Parts} {place_of : ℕ → ℕ} (tells : ℕ → What) where
+module _ {code : Parts} {place_of : ℕ → ℕ} (tells : ℕ → Resolved) where
   first_stands : (named : Bool) (id slot : ℕ) (e : tree.ExprTree) → IsExpr e → is_in id (expr_names e) ≡ named → (d : Draft)
       → Becomes (with_instr (expr_code tells e (cleared_code named slot d)) (Store slot)) code place_of
       → HasFirst code tells id slot e (length d.instrs) (length (with_instr (expr_code tells e (cleared_code named slot d)) (Store slot)).instrs)
@@ -99,8 +100,8 @@ module _ {code : Parts} {place_of : ℕ → ℕ} (tells : ℕ → What) where
       → HasDeclarators code tells ds (length d.instrs) (length (declarators_code tells ds d).instrs)
   declarators_stand [] are d b = refl
   declarators_stand (x ∷ ds) (leveled.cons is are) d b =
-      let made = declared_code tells (tells x.name.mark.place) x d in (
+      let made = declared_code tells (tells x.name.mark.place).what x d in (
         length made.instrs,
-        declared_stands (tells x.name.mark.place) x is d (back (declarators_kept tells ds made) b),
+        declared_stands (tells x.name.mark.place).what x is d (back (declarators_kept tells ds made) b),
         declarators_stand ds are made b,
       )

@@ -1,15 +1,17 @@
 -- The code that a draft of an expression becomes stands for it.
-use Rattle.std.proofs.Common.{◌≡◌, ◌≢◌, ◌∙◌, ◌^◌, ℕ, ◌+◌, ◌<◌, List, [], ◌∷◌, ◌++◌, map, length, length-append, Option, Some, None, Ok, Err, Result, slice_get, ap, subst, sym, refl, arith}
+use Rattle.std.proofs.Common.{◌≡◌, ◌≢◌, ◌∙◌, ◌^◌, Bool, false, ℕ, ◌+◌, ◌<◌, List, [], ◌∷◌, ◌++◌, map, length, length-append, Option, Some, None, Ok, Err, Result, slice_get, ap, subst, sym, refl, arith}
 use Rattle.std.proofs.Math.Nat.{min-eq_left}
 use Rattle.std.proofs.lemmas.Option.{none-some, slice_get_within}
 use Rattle.std.specs.Int.{w32, cast_signed}
 use Rattle.std.specs.Prelude.{ℤ, pos}
 use Rattle.std.specs.Result.{result_ok}
+use Rattle.c_int.specs.Machine.{unary_for}
 use Rattle.c_int.specs.Operators as c_int
 use Rattle.c_int.specs.declared.operators.Unary.TheVariants as int_unary
 use Rattle.c_int.specs.declared.trap.Trap.{Trap}
 use Rattle.cddf_meaning.specs.Answers.{Answer, at_line, over}
 use Rattle.cddf_meaning.specs.Operators.{operator_of_one, unary_value}
+use Rattle.cddf_meaning.specs.Types.{type_of_two}
 use Rattle.lowering_draft.proofs.Becoming.{back, before_place, instr_stands, placed_here, slice_get-last}
 use Rattle.lowering_draft.proofs.Keeping.{Keeps, KeepsLabels, kept, keeps_instr, keeps_instrs, then_kept}
 use Rattle.lowering_draft.proofs.KeptExpressions.{args_kept, expr_kept, links_kept}
@@ -24,6 +26,7 @@ use Rattle.os_ast.specs.declared.expr.Binary.{Binary}
 use Rattle.os_ast.specs.declared.expr.Binary.TheVariants as binary
 use Rattle.os_ast.specs.declared.expr.Level.{Level}
 use Rattle.os_ast.specs.declared.expr.Unary.{Unary}
+use Rattle.os_ast.specs.declared.names.Resolved.{Resolved}
 use Rattle.os_ast.specs.declared.names.What.{What}
 use Rattle.os_ast.specs.declared.names.What.TheVariants as what
 use Rattle.os_code.specs.Parts.{instr_at}
@@ -31,7 +34,7 @@ use Rattle.os_code.specs.declared.instr.Instr.{Instr}
 use Rattle.os_code.specs.declared.instr.Instr.TheVariants as instr
 use Rattle.os_code.specs.declared.instr.Instr.TheVariants.{Drop, Jump, JumpZero, Push, Turn}
 use Rattle.os_code.specs.declared.parts.Parts.{Parts}
-use Rattle.lowering_relation.specs.Expressions.{HasArgs, HasExpr, HasLink, HasLinks, HasPlace, HasUnary, Stands, operation, operated, worked_out as worked_out_code}
+use Rattle.lowering_relation.specs.Expressions.{HasArgs, HasExpr, HasLink, HasLinks, HasPlace, HasUnary, Stands, operation, operated, type_by, worked_out as worked_out_code}
 use Rattle.lowering_relation.specs.Names.{calling, reading, reading_at}
 
 -- one instruction more
@@ -78,25 +81,25 @@ module _ (place_of : ℕ → ℕ) where
   plain-calling (what.Element item) = refl
   plain-calling (what.View item) = refl
 
-  pub plain-operation : (op : Binary) (line : ℕ) → map (with_places place_of) (operation op line) ≡ operation op line
-  plain-operation binary.Or line = refl
-  plain-operation binary.And line = refl
-  plain-operation binary.BitOr line = refl
-  plain-operation binary.BitXor line = refl
-  plain-operation binary.BitAnd line = refl
-  plain-operation binary.Equal line = refl
-  plain-operation binary.Unequal line = refl
-  plain-operation binary.Less line = refl
-  plain-operation binary.LessEqual line = refl
-  plain-operation binary.Greater line = refl
-  plain-operation binary.GreaterEqual line = refl
-  plain-operation binary.ShiftLeft line = refl
-  plain-operation binary.ShiftRight line = refl
-  plain-operation binary.Add line = refl
-  plain-operation binary.Subtract line = refl
-  plain-operation binary.Multiply line = refl
-  plain-operation binary.Divide line = refl
-  plain-operation binary.Remainder line = refl
+  pub plain-operation : (op : Binary) (line : ℕ) (u v : Bool) → map (with_places place_of) (operation op line u v) ≡ operation op line u v
+  plain-operation binary.Or line u v = refl
+  plain-operation binary.And line u v = refl
+  plain-operation binary.BitOr line u v = refl
+  plain-operation binary.BitXor line u v = refl
+  plain-operation binary.BitAnd line u v = refl
+  plain-operation binary.Equal line u v = refl
+  plain-operation binary.Unequal line u v = refl
+  plain-operation binary.Less line u v = refl
+  plain-operation binary.LessEqual line u v = refl
+  plain-operation binary.Greater line u v = refl
+  plain-operation binary.GreaterEqual line u v = refl
+  plain-operation binary.ShiftLeft line u v = refl
+  plain-operation binary.ShiftRight line u v = refl
+  plain-operation binary.Add line u v = refl
+  plain-operation binary.Subtract line u v = refl
+  plain-operation binary.Multiply line u v = refl
+  plain-operation binary.Divide line u v = refl
+  plain-operation binary.Remainder line u v = refl
 
 -- what an operator gives of a number
 number_small : (n : ℕ) → n < 2 ^ 31 → literal n ≡ pos n
@@ -178,9 +181,9 @@ module _ {code : Parts} {place_of : ℕ → ℕ} where
         subst (λ from. has_b from (length db.instrs)) (length-instr da (Jump done.number)) (pb.stands d5 bb),
       )
 
-  and_stands : {f : Emission} {has : (from to : ℕ) → Type 0} → (line : ℕ) → IsPart code place_of f has → (d : Draft)
-      → Becomes (with_link binary.And line f d) code place_of → HasLink code binary.And line has (length d.instrs) (length (with_link binary.And line f d).instrs)
-  and_stands {f} {has} line pf d becomes =
+  and_stands : {f : Emission} {has : (from to : ℕ) → Type 0} → (line : ℕ) (u v : Bool) → IsPart code place_of f has → (d : Draft)
+      → Becomes (with_link binary.And line u v f d) code place_of → HasLink code binary.And line u v has (length d.instrs) (length (with_link binary.And line u v f d).instrs)
+  and_stands {f} {has} line u v pf d becomes =
       let zero = next_label d in
       let done = next_label (with_label d) in
       let d2 = with_label (with_label d) in
@@ -216,9 +219,9 @@ module _ {code : Parts} {place_of : ℕ → ℕ} where
             (length dr.instrs) (length d4.instrs) (length d6.instrs) jumped (stands_instr d5 (Push (pos 0)) refl b6),
       )
 
-  or_stands : {f : Emission} {has : (from to : ℕ) → Type 0} → (line : ℕ) → IsPart code place_of f has → (d : Draft)
-      → Becomes (with_link binary.Or line f d) code place_of → HasLink code binary.Or line has (length d.instrs) (length (with_link binary.Or line f d).instrs)
-  or_stands {f} {has} line pf d becomes =
+  or_stands : {f : Emission} {has : (from to : ℕ) → Type 0} → (line : ℕ) (u v : Bool) → IsPart code place_of f has → (d : Draft)
+      → Becomes (with_link binary.Or line u v f d) code place_of → HasLink code binary.Or line u v has (length d.instrs) (length (with_link binary.Or line u v f d).instrs)
+  or_stands {f} {has} line u v pf d becomes =
       let zero = next_label d in
       let done = next_label (with_label d) in
       let d2 = with_label (with_label d) in
@@ -257,66 +260,67 @@ module _ {code : Parts} {place_of : ℕ → ℕ} where
         stands_plain dr truth refl b5,
       )
 
-  operated_link : {f : Emission} {has : (from to : ℕ) → Type 0} → (op : Binary) (line : ℕ) → IsPart code place_of f has → (d : Draft)
-      → Becomes (with_instrs (f d) (operation op line)) code place_of
-      → (end : ℕ) × has (length d.instrs) end × Stands code (operation op line) end (length (with_instrs (f d) (operation op line)).instrs)
-  operated_link {f} op line pf d b = (
+  operated_link : {f : Emission} {has : (from to : ℕ) → Type 0} → (op : Binary) (line : ℕ) (u v : Bool) → IsPart code place_of f has → (d : Draft)
+      → Becomes (with_instrs (f d) (operation op line u v)) code place_of
+      → (end : ℕ) × has (length d.instrs) end × Stands code (operation op line u v) end (length (with_instrs (f d) (operation op line u v)).instrs)
+  operated_link {f} op line u v pf d b = (
     length (f d).instrs,
-    pf.stands d (back (keeps_instrs (kept (f d)) (operation op line)) b),
-    stands_plain (f d) (operation op line) (plain-operation place_of op line) b,
+    pf.stands d (back (keeps_instrs (kept (f d)) (operation op line u v)) b),
+    stands_plain (f d) (operation op line u v) (plain-operation place_of op line u v) b,
   )
 
-  link_stands : {f : Emission} {has : (from to : ℕ) → Type 0} → (op : Binary) (line : ℕ) → IsPart code place_of f has → (d : Draft)
-      → Becomes (with_link op line f d) code place_of → HasLink code op line has (length d.instrs) (length (with_link op line f d).instrs)
-  link_stands binary.And line pf d b = and_stands line pf d b
-  link_stands binary.Or line pf d b = or_stands line pf d b
-  link_stands binary.BitOr line pf d b = operated_link binary.BitOr line pf d b
-  link_stands binary.BitXor line pf d b = operated_link binary.BitXor line pf d b
-  link_stands binary.BitAnd line pf d b = operated_link binary.BitAnd line pf d b
-  link_stands binary.Equal line pf d b = operated_link binary.Equal line pf d b
-  link_stands binary.Unequal line pf d b = operated_link binary.Unequal line pf d b
-  link_stands binary.Less line pf d b = operated_link binary.Less line pf d b
-  link_stands binary.LessEqual line pf d b = operated_link binary.LessEqual line pf d b
-  link_stands binary.Greater line pf d b = operated_link binary.Greater line pf d b
-  link_stands binary.GreaterEqual line pf d b = operated_link binary.GreaterEqual line pf d b
-  link_stands binary.ShiftLeft line pf d b = operated_link binary.ShiftLeft line pf d b
-  link_stands binary.ShiftRight line pf d b = operated_link binary.ShiftRight line pf d b
-  link_stands binary.Add line pf d b = operated_link binary.Add line pf d b
-  link_stands binary.Subtract line pf d b = operated_link binary.Subtract line pf d b
-  link_stands binary.Multiply line pf d b = operated_link binary.Multiply line pf d b
-  link_stands binary.Divide line pf d b = operated_link binary.Divide line pf d b
-  link_stands binary.Remainder line pf d b = operated_link binary.Remainder line pf d b
+  link_stands : {f : Emission} {has : (from to : ℕ) → Type 0} → (op : Binary) (line : ℕ) (u v : Bool) → IsPart code place_of f has → (d : Draft)
+      → Becomes (with_link op line u v f d) code place_of → HasLink code op line u v has (length d.instrs) (length (with_link op line u v f d).instrs)
+  link_stands binary.And line u v pf d b = and_stands line u v pf d b
+  link_stands binary.Or line u v pf d b = or_stands line u v pf d b
+  link_stands binary.BitOr line u v pf d b = operated_link binary.BitOr line u v pf d b
+  link_stands binary.BitXor line u v pf d b = operated_link binary.BitXor line u v pf d b
+  link_stands binary.BitAnd line u v pf d b = operated_link binary.BitAnd line u v pf d b
+  link_stands binary.Equal line u v pf d b = operated_link binary.Equal line u v pf d b
+  link_stands binary.Unequal line u v pf d b = operated_link binary.Unequal line u v pf d b
+  link_stands binary.Less line u v pf d b = operated_link binary.Less line u v pf d b
+  link_stands binary.LessEqual line u v pf d b = operated_link binary.LessEqual line u v pf d b
+  link_stands binary.Greater line u v pf d b = operated_link binary.Greater line u v pf d b
+  link_stands binary.GreaterEqual line u v pf d b = operated_link binary.GreaterEqual line u v pf d b
+  link_stands binary.ShiftLeft line u v pf d b = operated_link binary.ShiftLeft line u v pf d b
+  link_stands binary.ShiftRight line u v pf d b = operated_link binary.ShiftRight line u v pf d b
+  link_stands binary.Add line u v pf d b = operated_link binary.Add line u v pf d b
+  link_stands binary.Subtract line u v pf d b = operated_link binary.Subtract line u v pf d b
+  link_stands binary.Multiply line u v pf d b = operated_link binary.Multiply line u v pf d b
+  link_stands binary.Divide line u v pf d b = operated_link binary.Divide line u v pf d b
+  link_stands binary.Remainder line u v pf d b = operated_link binary.Remainder line u v pf d b
 
-  operated_unary : (op : Unary) (line : ℕ) (e : tree.ExprTree) → {f : Emission} {has : (from to : ℕ) → Type 0} → IsPart code place_of f has → (d : Draft)
-      → Becomes (with_unary None op line f d) code place_of → HasUnary code op line e has (length d.instrs) (length (with_unary None op line f d).instrs)
-  operated_unary op line e {f} {has} pf d b =
-      let i = instr.Unary (operator_of_one op) line in
-      subst (HasUnary code op line e has (length d.instrs)) (sym (length-instr (f d) i))
+  operated_unary : (op : Unary) (line : ℕ) (unsigned : Bool) (e : tree.ExprTree) → {f : Emission} {has : (from to : ℕ) → Type 0} → IsPart code place_of f has → (d : Draft)
+      → Becomes (with_unary None op line unsigned f d) code place_of → HasUnary code op line unsigned e has (length d.instrs) (length (with_unary None op line unsigned f d).instrs)
+  operated_unary op line unsigned e {f} {has} pf d b =
+      let i = instr.Unary (unary_for unsigned (operator_of_one op)) line in
+      subst (HasUnary code op line unsigned e has (length d.instrs)) (sym (length-instr (f d) i))
       (operated (length (f d).instrs) (pf.stands d (back (keeps_instr (kept (f d)) i) b)) (instr_stands (f d) i b))
 
   number_unary : (op : Unary) (line n : ℕ) → n < 2 ^ 31 → (w : Option ℤ) → result_ok (c_int.unary_value (operator_of_one op) (literal n)) ≡ w
       → (has : (from to : ℕ) → Type 0) → {f : Emission} → IsPart code place_of f has → (d : Draft)
-      → Becomes (with_unary w op line f d) code place_of → HasUnary code op line (tree.Number n) has (length d.instrs) (length (with_unary w op line f d).instrs)
+      → Becomes (with_unary w op line false f d) code place_of → HasUnary code op line false (tree.Number n) has (length d.instrs) (length (with_unary w op line false f d).instrs)
   number_unary op line n small (Some v) is has {f} pf d b =
-      let gives : unary_value op line (pos n) ≡ Ok v =
+      let gives : unary_value op line false (pos n) ≡ Ok v =
       given line (c_int.unary_value (operator_of_one op) (pos n)) v (ap (λ a. result_ok (c_int.unary_value (operator_of_one op) a)) (sym (number_small n small)) ∙ is) in
-      subst (HasUnary code op line (tree.Number n) has (length d.instrs)) (sym (length-instr d (Push v))) (worked_out_code refl gives (instr_stands d (Push v) b))
-  number_unary op line n small None is has {f} pf d b = operated_unary op line (tree.Number n) pf d b
+      subst (HasUnary code op line false (tree.Number n) has (length d.instrs)) (sym (length-instr d (Push v))) (worked_out_code refl gives (instr_stands d (Push v) b))
+  number_unary op line n small None is has {f} pf d b = operated_unary op line false (tree.Number n) pf d b
 
-module _ {code : Parts} {place_of : ℕ → ℕ} (tells : ℕ → What) where
+module _ {code : Parts} {place_of : ℕ → ℕ} (tells : ℕ → Resolved) where
   -- An operator of a number may be worked out, that of anything else isn't.
   unary_stands : (op : Unary) (line : ℕ) (e : tree.ExprTree) → IsExpr e → IsPart code place_of (expr_code tells e) (HasExpr code tells e) → (d : Draft)
-      → Becomes (with_unary (worked_out op e) op line (expr_code tells e) d) code place_of
-      → HasUnary code op line e (HasExpr code tells e) (length d.instrs) (length (with_unary (worked_out op e) op line (expr_code tells e) d).instrs)
+      → Becomes (with_unary (worked_out op e) op line (type_by tells e) (expr_code tells e) d) code place_of
+      → HasUnary code op line (type_by tells e) e (HasExpr code tells e) (length d.instrs)
+      (length (with_unary (worked_out op e) op line (type_by tells e) (expr_code tells e) d).instrs)
   unary_stands op line (tree.Number n) (leveled.number small) part d b =
       number_unary op line n small (worked_out op (tree.Number n)) refl (HasExpr code tells (tree.Number n)) part d b
-  unary_stands op line (tree.Wide n) is part d b = operated_unary op line (tree.Wide n) part d b
-  unary_stands op line (tree.Place t) is part d b = operated_unary op line (tree.Place t) part d b
-  unary_stands op line (tree.ExprTree.Call f args) is part d b = operated_unary op line (tree.ExprTree.Call f args) part d b
-  unary_stands op line (tree.Paren e) is part d b = operated_unary op line (tree.Paren e) part d b
-  unary_stands op line (tree.Unary o m e) is part d b = operated_unary op line (tree.Unary o m e) part d b
-  unary_stands op line (tree.Chain l first links) is part d b = operated_unary op line (tree.Chain l first links) part d b
-  unary_stands op line (tree.Choice c x y) is part d b = operated_unary op line (tree.Choice c x y) part d b
+  unary_stands op line (tree.Wide n) is part d b = operated_unary op line (type_by tells (tree.Wide n)) (tree.Wide n) part d b
+  unary_stands op line (tree.Place t) is part d b = operated_unary op line (type_by tells (tree.Place t)) (tree.Place t) part d b
+  unary_stands op line (tree.ExprTree.Call f args) is part d b = operated_unary op line (type_by tells (tree.ExprTree.Call f args)) (tree.ExprTree.Call f args) part d b
+  unary_stands op line (tree.Paren e) is part d b = operated_unary op line (type_by tells (tree.Paren e)) (tree.Paren e) part d b
+  unary_stands op line (tree.Unary o m e) is part d b = operated_unary op line (type_by tells (tree.Unary o m e)) (tree.Unary o m e) part d b
+  unary_stands op line (tree.Chain l first links) is part d b = operated_unary op line (type_by tells (tree.Chain l first links)) (tree.Chain l first links) part d b
+  unary_stands op line (tree.Choice c x y) is part d b = operated_unary op line (type_by tells (tree.Choice c x y)) (tree.Choice c x y) part d b
 
   mutual
     pub expr_stands : (e : tree.ExprTree) → IsExpr e → (d : Draft) → Becomes (expr_code tells e d) code place_of →
@@ -328,18 +332,18 @@ module _ {code : Parts} {place_of : ℕ → ℕ} (tells : ℕ → What) where
     expr_stands (tree.Place t) (leveled.place is) d b = place_stands t is d b
     expr_stands (tree.ExprTree.Call f args) (leveled.call are) d b =
         let made = args_code tells args d in
-        let is = Turn ∷ calling (tells f.mark.place) ∷ [] in (
+        let is = Turn ∷ calling (tells f.mark.place).what ∷ [] in (
           length made.instrs,
           args_stand args are d (back (keeps_instrs (kept made) is) b),
-          stands_plain made is (ap (λ i. Turn ∷ i ∷ []) (plain-calling place_of (tells f.mark.place))) b,
+          stands_plain made is (ap (λ i. Turn ∷ i ∷ []) (plain-calling place_of (tells f.mark.place).what)) b,
         )
     expr_stands (tree.Paren e) (leveled.paren is) d b = expr_stands e is d b
     expr_stands (tree.Unary op m e) (leveled.unary is high) d b = unary_stands op m.line e is (record { keeps = expr_kept tells e; stands = expr_stands e is }) d b
     expr_stands (tree.Chain l first (tree.link op m e rest)) (leveled.chain is low are) d b =
         let made = expr_code tells first d in (
           length made.instrs,
-          expr_stands first is d (back (links_kept tells (tree.link op m e rest) made) b),
-          links_stand l (tree.link op m e rest) are made b,
+          expr_stands first is d (back (links_kept tells (tree.link op m e rest) (type_by tells first) made) b),
+          links_stand l (tree.link op m e rest) are (type_by tells first) made b,
         )
     expr_stands (tree.Chain l first tree.no_links) is d b = elim is [ ]
     expr_stands (tree.Choice c x y) (leveled.choice is_c low is_x is_y) d b =
@@ -348,23 +352,24 @@ module _ {code : Parts} {place_of : ℕ → ℕ} (tells : ℕ → What) where
     place_stands : (t : tree.TargetTree) → IsTarget t → (d : Draft) → Becomes (place_code tells t d) code place_of →
         HasPlace code tells t (length d.instrs) (length (place_code tells t d).instrs)
     place_stands (tree.Variable n) leveled.variable d b =
-        stands_plain d (reading (tells n.mark.place) n.mark.line) (plain-reading place_of (tells n.mark.place) n.mark.line) b
+        stands_plain d (reading (tells n.mark.place).what n.mark.line) (plain-reading place_of (tells n.mark.place).what n.mark.line) b
     place_stands (tree.Element n m e) (leveled.element is) d b =
         let made = expr_code tells e d in
-        let i = reading_at (tells n.mark.place) m.line in (
+        let i = reading_at (tells n.mark.place).what m.line in (
           length made.instrs,
           expr_stands e is d (back (keeps_instr (kept made) i) b),
-          stands_instr made i (plain-reading_at place_of (tells n.mark.place) m.line) b,
+          stands_instr made i (plain-reading_at place_of (tells n.mark.place).what m.line) b,
         )
 
-    links_stand : (l : Level) (ls : tree.Links) → AreLinks l ls → (d : Draft) → Becomes (links_code tells ls d) code place_of →
-        HasLinks code tells ls (length d.instrs) (length (links_code tells ls d).instrs)
-    links_stand l tree.no_links leveled.no_links d b = refl
-    links_stand l (tree.link op m e rest) (leveled.link same is low are) d b =
-        let made = with_link op m.line (expr_code tells e) d in (
+    links_stand : (l : Level) (ls : tree.Links) → AreLinks l ls → (u : Bool) (d : Draft) → Becomes (links_code tells ls u d) code place_of →
+        HasLinks code tells ls u (length d.instrs) (length (links_code tells ls u d).instrs)
+    links_stand l tree.no_links leveled.no_links u d b = refl
+    links_stand l (tree.link op m e rest) (leveled.link same is low are) u d b =
+        let v = type_by tells e in
+        let made = with_link op m.line u v (expr_code tells e) d in (
           length made.instrs,
-          link_stands {has = HasExpr code tells e} op m.line (record { keeps = expr_kept tells e; stands = expr_stands e is }) d (back (links_kept tells rest made) b),
-          links_stand l rest are made b,
+          link_stands {has = HasExpr code tells e} op m.line u v (record { keeps = expr_kept tells e; stands = expr_stands e is }) d (back (links_kept tells rest (type_of_two op u v) made) b),
+          links_stand l rest are (type_of_two op u v) made b,
         )
 
     args_stand : (es : tree.Args) → AreArgs es → (d : Draft) → Becomes (args_code tells es d) code place_of →

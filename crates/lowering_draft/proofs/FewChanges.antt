@@ -18,6 +18,7 @@ use Rattle.os_ast.specs.Spelling.{Symbol, Printer, bare, marked, attribute, chan
 use Rattle.os_ast.specs.Operators.{assign_mark, step_mark}
 use Rattle.os_ast.specs.Trees as tree
 use Rattle.os_ast.specs.declared.expr.Binary.{Binary}
+use Rattle.os_ast.specs.declared.names.Resolved.{Resolved}
 use Rattle.os_ast.specs.declared.names.What.{What}
 use Rattle.os_ast.specs.declared.names.What.TheVariants as what
 use Rattle.os_ast.specs.declared.stmt.Assign.TheVariants as assign
@@ -26,8 +27,8 @@ use Rattle.os_ast.specs.declared.ty.Ty.TheVariants as ty_of
 use Rattle.os_code.specs.declared.instr.Instr.TheVariants.{Push, Store, Window, Zero}
 use Rattle.os_lexer.specs.declared.token.Kind.TheVariants as kind
 use Rattle.os_lexer.specs.declared.token.Punct.TheVariants as puncts
-use Rattle.lowering_relation.specs.Changes.{is_quiet}
-use Rattle.lowering_relation.specs.Expressions.{operation}
+use Rattle.lowering_relation.specs.Changes.{is_quiet, target_by}
+use Rattle.lowering_relation.specs.Expressions.{operation, type_by}
 use Rattle.lowering_relation.specs.Names.{aiming, fetching, fetching_at, storing, storing_at}
 
 fetching_few : (old : Bool) (w : What) (line : ℕ) → length (fetching old w line) ≤ 2
@@ -44,12 +45,12 @@ type_words_grow ty_of.Int rest = omega arith
 type_words_grow ty_of.Unsigned rest = omega arith
 type_words_grow ty_of.UnsignedInt rest = omega arith
 
-module _ (tells : ℕ → What) where
+module _ (tells : ℕ → Resolved) where
   -- A target pays for what stands before its value and for its store, and 4 more.
   aim_pays : (old : Bool) (t : tree.TargetTree) (d : Draft) (rest : List Symbol)
       → length (aim_code tells old t d).instrs + 5 + 8 * length rest ≤ length d.instrs + 8 * length (target t rest)
   aim_pays old (tree.Variable n) d rest =
-      let w = tells n.mark.place in
+      let w = (tells n.mark.place).what in
       omega (
         arith,
         length-instrs (with_instrs d (aiming w)) (fetching old w n.mark.line),
@@ -58,7 +59,7 @@ module _ (tells : ℕ → What) where
         fetching_few old w n.mark.line,
       )
   aim_pays old (tree.Element n m e) d rest =
-      let w = tells n.mark.place in
+      let w = (tells n.mark.place).what in
       omega (
         arith,
         expr_pays tells e d (bare (kind.Punct puncts.CloseBracket) ∷ rest),
@@ -73,12 +74,12 @@ module _ (tells : ℕ → What) where
   plain_aim_pays false t d rest = aim_pays false t d rest
 
   length-store : (t : tree.TargetTree) (d : Draft) → length (store_code tells t d).instrs ≡ length d.instrs + 1
-  length-store (tree.Variable n) d = length-instr d (storing (tells n.mark.place) n.mark.line)
-  length-store (tree.Element n m e) d = length-instr d (storing_at (tells n.mark.place) m.line)
+  length-store (tree.Variable n) d = length-instr d (storing (tells n.mark.place).what n.mark.line)
+  length-store (tree.Element n m e) d = length-instr d (storing_at (tells n.mark.place).what m.line)
 
-  length-stepped : (op : Binary) (line : ℕ) (d : Draft) → length (stepped_code op line d).instrs ≤ length d.instrs + 4
-  length-stepped op line d =
-      omega (arith, length-instr d (Push (pos 1)), length-instrs (with_instr d (Push (pos 1))) (operation op line), operation_few op line)
+  length-stepped : (op : Binary) (line : ℕ) (u : Bool) (d : Draft) → length (stepped_code op line u d).instrs ≤ length d.instrs + 4
+  length-stepped op line u d =
+      omega (arith, length-instr d (Push (pos 1)), length-instrs (with_instr d (Push (pos 1))) (operation op line u false), operation_few op line u false)
 
   pub change_pays : (c : tree.ChangeTree) → Pays (change_code tells c) (change c) 0
   change_pays (tree.Set t assign.Plain m e) d rest =
@@ -93,23 +94,24 @@ module _ (tells : ℕ → What) where
   change_pays (tree.Set t (assign.With op) m e) d rest =
       let aimed = aim_code tells true t d in
       let made = expr_code tells e aimed in
-      let operated = with_instrs made (operation op m.line) in
+      let u = target_by tells t in
+      let operated = with_instrs made (operation op m.line u (type_by tells e)) in
       omega (
         arith,
         aim_pays true t d (marked (kind.Punct (assign_mark (assign.With op))) m ∷ expr e rest),
         expr_pays tells e aimed rest,
-        length-instrs made (operation op m.line),
-        operation_few op m.line,
+        length-instrs made (operation op m.line u (type_by tells e)),
+        operation_few op m.line u (type_by tells e),
         length-store t operated,
       )
   change_pays (tree.After t p m) d rest =
       let aimed = aim_code tells true t d in
-      let stepped = stepped_code (step_operator p) m.line aimed in
-      omega (arith, aim_pays true t d (marked (kind.Punct (step_mark p)) m ∷ rest), length-stepped (step_operator p) m.line aimed, length-store t stepped)
+      let stepped = stepped_code (step_operator p) m.line (target_by tells t) aimed in
+      omega (arith, aim_pays true t d (marked (kind.Punct (step_mark p)) m ∷ rest), length-stepped (step_operator p) m.line (target_by tells t) aimed, length-store t stepped)
   change_pays (tree.Before t p m) d rest =
       let aimed = aim_code tells true t d in
-      let stepped = stepped_code (step_operator p) m.line aimed in
-      omega (arith, aim_pays true t d rest, length-stepped (step_operator p) m.line aimed, length-store t stepped)
+      let stepped = stepped_code (step_operator p) m.line (target_by tells t) aimed in
+      omega (arith, aim_pays true t d rest, length-stepped (step_operator p) m.line (target_by tells t) aimed, length-store t stepped)
 
   -- what is printed is no shorter than what follows
   expr_grows : (e : tree.ExprTree) (rest : List Symbol) → length rest ≤ length (expr e rest)
@@ -181,15 +183,15 @@ module _ (tells : ℕ → What) where
   more_pay [] d rest = omega arith
   more_pay (x ∷ ds) d rest =
       let more = each (λ y. punct puncts.Comma ⨾ declarator y) ds rest in
-      let made = declared_code tells (tells x.name.mark.place) x d in
-      omega (arith, declared_pays (tells x.name.mark.place) x d more, more_pay ds made rest)
+      let made = declared_code tells (tells x.name.mark.place).what x d in
+      omega (arith, declared_pays (tells x.name.mark.place).what x d more, more_pay ds made rest)
 
   listed_pay : (ds : List tree.DeclaratorTree) → Pays (declarators_code tells ds) (listed declarator ds) 0
   listed_pay [] d rest = omega arith
   listed_pay (x ∷ ds) d rest =
       let more = each (λ y. punct puncts.Comma ⨾ declarator y) ds rest in
-      let made = declared_code tells (tells x.name.mark.place) x d in
-      omega (arith, declared_pays (tells x.name.mark.place) x d more, more_pay ds made rest)
+      let made = declared_code tells (tells x.name.mark.place).what x d in
+      omega (arith, declared_pays (tells x.name.mark.place).what x d more, more_pay ds made rest)
 
   -- A declaration's key words and semicolon pay for more.
   pub declarators_pay : (ty : Ty) (ds : List tree.DeclaratorTree) (d : Draft) (rest : List Symbol)

@@ -1,9 +1,11 @@
 -- Expressions and conditions have few instructions for their tokens.
-use Rattle.std.proofs.Common.{ℕ, zero, suc, [], ◌∷◌, Option, Some, None, arith}
+use Rattle.std.proofs.Common.{ℕ, Bool, zero, suc, [], ◌∷◌, Option, Some, None, arith}
 use Rattle.std.specs.Int.{w32, cast_signed}
 use Rattle.std.specs.Prelude.{ℤ, pos}
+use Rattle.c_int.specs.Machine.{unary_for}
 use Rattle.c_int.specs.declared.operators.Unary.TheVariants as int_unary
 use Rattle.cddf_meaning.specs.Operators.{operator_of_one}
+use Rattle.cddf_meaning.specs.Types.{type_of_two}
 use Rattle.lowering_draft.proofs.ExpressionsStand.{length-instr}
 use Rattle.lowering_draft.proofs.Keeping.{KeepsLabels}
 use Rattle.lowering_draft.proofs.KeptExpressions.{expr_kept}
@@ -18,23 +20,24 @@ use Rattle.os_ast.specs.declared.expr.Binary.{Binary}
 use Rattle.os_ast.specs.declared.expr.Binary.TheVariants as binary
 use Rattle.os_ast.specs.declared.expr.Level.TheVariants as level
 use Rattle.os_ast.specs.declared.expr.Unary.{Unary}
-use Rattle.os_ast.specs.declared.names.What.{What}
+use Rattle.os_ast.specs.declared.names.Resolved.{Resolved}
 use Rattle.os_code.specs.declared.instr.Instr.TheVariants as instr
 use Rattle.os_code.specs.declared.instr.Instr.TheVariants.{Jump, JumpZero, Push, Turn}
 use Rattle.os_lexer.specs.declared.token.Kind.TheVariants as kind
 use Rattle.os_lexer.specs.declared.token.Punct.TheVariants as puncts
-use Rattle.lowering_relation.specs.Expressions.{operation}
+use Rattle.lowering_relation.specs.Expressions.{operation, type_by}
 use Rattle.lowering_relation.specs.Names.{calling, reading, reading_at}
 
-unary_pays : (v : Option ℤ) (op : Unary) (line : ℕ) (f : Emission) (p : Printer) → KeepsLabels f → Pays f p 0 → Pays (with_unary v op line f) p 1
-unary_pays (Some v) op line f p k pays d rest = omega (arith, pays d rest, (k d).no_shorter, length-instr d (Push v))
-unary_pays None op line f p k pays d rest = omega (arith, pays d rest, length-instr (f d) (instr.Unary (operator_of_one op) line))
+unary_pays : (v : Option ℤ) (op : Unary) (line : ℕ) (unsigned : Bool) (f : Emission) (p : Printer) → KeepsLabels f → Pays f p 0
+    → Pays (with_unary v op line unsigned f) p 1
+unary_pays (Some v) op line unsigned f p k pays d rest = omega (arith, pays d rest, (k d).no_shorter, length-instr d (Push v))
+unary_pays None op line unsigned f p k pays d rest = omega (arith, pays d rest, length-instr (f d) (instr.Unary (unary_for unsigned (operator_of_one op)) line))
 
-operated_pays : (op : Binary) (line : ℕ) (f : Emission) (p : Printer) → Pays f p 0 → Pays (λ d. with_instrs (f d) (operation op line)) p 5
-operated_pays op line f p pays d rest = omega (arith, pays d rest, length-instrs (f d) (operation op line), operation_few op line)
+operated_pays : (op : Binary) (line : ℕ) (u v : Bool) (f : Emission) (p : Printer) → Pays f p 0 → Pays (λ d. with_instrs (f d) (operation op line u v)) p 5
+operated_pays op line u v f p pays d rest = omega (arith, pays d rest, length-instrs (f d) (operation op line u v), operation_few op line u v)
 
-link_pays : (op : Binary) (line : ℕ) (f : Emission) (p : Printer) → Pays f p 0 → Pays (with_link op line f) p 5
-link_pays binary.And line f p pays d rest =
+link_pays : (op : Binary) (line : ℕ) (u v : Bool) (f : Emission) (p : Printer) → Pays f p 0 → Pays (with_link op line u v f) p 5
+link_pays binary.And line u v f p pays d rest =
     let zero = next_label d in
     let done = next_label (with_label d) in
     let d2 = with_label (with_label d) in
@@ -42,7 +45,7 @@ link_pays binary.And line f p pays d rest =
     let js = instr.Unary int_unary.Not line ∷ instr.Unary int_unary.Not line ∷ Jump done.number ∷ [] in
     let d4 = with_place (with_instrs (f d3) js) zero in
     omega (arith, pays d3 rest, length-instr d2 (JumpZero zero.number), length-instrs (f d3) js, length-instr d4 (Push (pos 0)))
-link_pays binary.Or line f p pays d rest =
+link_pays binary.Or line u v f p pays d rest =
     let zero = next_label d in
     let done = next_label (with_label d) in
     let d2 = with_label (with_label d) in
@@ -50,24 +53,24 @@ link_pays binary.Or line f p pays d rest =
     let d3 = with_place (with_instrs d2 js) zero in
     let truth = instr.Unary int_unary.Not line ∷ instr.Unary int_unary.Not line ∷ [] in
     omega (arith, pays d3 rest, length-instrs d2 js, length-instrs (f d3) truth)
-link_pays binary.BitOr line f p pays d rest = operated_pays binary.BitOr line f p pays d rest
-link_pays binary.BitXor line f p pays d rest = operated_pays binary.BitXor line f p pays d rest
-link_pays binary.BitAnd line f p pays d rest = operated_pays binary.BitAnd line f p pays d rest
-link_pays binary.Equal line f p pays d rest = operated_pays binary.Equal line f p pays d rest
-link_pays binary.Unequal line f p pays d rest = operated_pays binary.Unequal line f p pays d rest
-link_pays binary.Less line f p pays d rest = operated_pays binary.Less line f p pays d rest
-link_pays binary.LessEqual line f p pays d rest = operated_pays binary.LessEqual line f p pays d rest
-link_pays binary.Greater line f p pays d rest = operated_pays binary.Greater line f p pays d rest
-link_pays binary.GreaterEqual line f p pays d rest = operated_pays binary.GreaterEqual line f p pays d rest
-link_pays binary.ShiftLeft line f p pays d rest = operated_pays binary.ShiftLeft line f p pays d rest
-link_pays binary.ShiftRight line f p pays d rest = operated_pays binary.ShiftRight line f p pays d rest
-link_pays binary.Add line f p pays d rest = operated_pays binary.Add line f p pays d rest
-link_pays binary.Subtract line f p pays d rest = operated_pays binary.Subtract line f p pays d rest
-link_pays binary.Multiply line f p pays d rest = operated_pays binary.Multiply line f p pays d rest
-link_pays binary.Divide line f p pays d rest = operated_pays binary.Divide line f p pays d rest
-link_pays binary.Remainder line f p pays d rest = operated_pays binary.Remainder line f p pays d rest
+link_pays binary.BitOr line u v f p pays d rest = operated_pays binary.BitOr line u v f p pays d rest
+link_pays binary.BitXor line u v f p pays d rest = operated_pays binary.BitXor line u v f p pays d rest
+link_pays binary.BitAnd line u v f p pays d rest = operated_pays binary.BitAnd line u v f p pays d rest
+link_pays binary.Equal line u v f p pays d rest = operated_pays binary.Equal line u v f p pays d rest
+link_pays binary.Unequal line u v f p pays d rest = operated_pays binary.Unequal line u v f p pays d rest
+link_pays binary.Less line u v f p pays d rest = operated_pays binary.Less line u v f p pays d rest
+link_pays binary.LessEqual line u v f p pays d rest = operated_pays binary.LessEqual line u v f p pays d rest
+link_pays binary.Greater line u v f p pays d rest = operated_pays binary.Greater line u v f p pays d rest
+link_pays binary.GreaterEqual line u v f p pays d rest = operated_pays binary.GreaterEqual line u v f p pays d rest
+link_pays binary.ShiftLeft line u v f p pays d rest = operated_pays binary.ShiftLeft line u v f p pays d rest
+link_pays binary.ShiftRight line u v f p pays d rest = operated_pays binary.ShiftRight line u v f p pays d rest
+link_pays binary.Add line u v f p pays d rest = operated_pays binary.Add line u v f p pays d rest
+link_pays binary.Subtract line u v f p pays d rest = operated_pays binary.Subtract line u v f p pays d rest
+link_pays binary.Multiply line u v f p pays d rest = operated_pays binary.Multiply line u v f p pays d rest
+link_pays binary.Divide line u v f p pays d rest = operated_pays binary.Divide line u v f p pays d rest
+link_pays binary.Remainder line u v f p pays d rest = operated_pays binary.Remainder line u v f p pays d rest
 
-module _ (tells : ℕ → What) where
+module _ (tells : ℕ → Resolved) where
   mutual
     pub expr_pays : (e : tree.ExprTree) → Pays (expr_code tells e) (expr e) 0
     expr_pays (tree.Number n) d rest = omega (arith, length-instr d (Push (literal n)))
@@ -75,11 +78,11 @@ module _ (tells : ℕ → What) where
     expr_pays (tree.Place t) d rest = target_pays t d rest
     expr_pays (tree.ExprTree.Call f es) d rest =
         let closed = bare (kind.Punct puncts.CloseParen) ∷ rest in
-        omega (arith, args_pay es d closed, length-instrs (args_code tells es d) (Turn ∷ calling (tells f.mark.place) ∷ []))
+        omega (arith, args_pay es d closed, length-instrs (args_code tells es d) (Turn ∷ calling (tells f.mark.place).what ∷ []))
     expr_pays (tree.Paren e) d rest = omega (arith, expr_pays e d (bare (kind.Punct puncts.CloseParen) ∷ rest))
     expr_pays (tree.Unary op m e) d rest =
-        omega (arith, unary_pays (worked_out op e) op m.line (expr_code tells e) (expr e) (expr_kept tells e) (expr_pays e) d rest)
-    expr_pays (tree.Chain l first ls) d rest = omega (arith, expr_pays first d (links ls rest), links_pay ls (expr_code tells first d) rest)
+        omega (arith, unary_pays (worked_out op e) op m.line (type_by tells e) (expr_code tells e) (expr e) (expr_kept tells e) (expr_pays e) d rest)
+    expr_pays (tree.Chain l first ls) d rest = omega (arith, expr_pays first d (links ls rest), links_pay ls (type_by tells first) (expr_code tells first d) rest)
     expr_pays (tree.Choice c a b) d rest =
         let otherwise = next_label d in
         let done = next_label (with_label d) in
@@ -102,17 +105,17 @@ module _ (tells : ℕ → What) where
 
     pub target_pays : (t : tree.TargetTree) → Pays (place_code tells t) (target t) 0
     target_pays (tree.Variable n) d rest =
-        omega (arith, length-instrs d (reading (tells n.mark.place) n.mark.line), reading_few (tells n.mark.place) n.mark.line)
+        omega (arith, length-instrs d (reading (tells n.mark.place).what n.mark.line), reading_few (tells n.mark.place).what n.mark.line)
     target_pays (tree.Element n m e) d rest =
-        omega (arith, expr_pays e d (bare (kind.Punct puncts.CloseBracket) ∷ rest), length-instr (expr_code tells e d) (reading_at (tells n.mark.place) m.line))
+        omega (arith, expr_pays e d (bare (kind.Punct puncts.CloseBracket) ∷ rest), length-instr (expr_code tells e d) (reading_at (tells n.mark.place).what m.line))
 
-    links_pay : (ls : tree.Links) → Pays (links_code tells ls) (links ls) 0
-    links_pay tree.no_links d rest = omega arith
-    links_pay (tree.link op m e more) d rest =
+    links_pay : (ls : tree.Links) (u : Bool) → Pays (links_code tells ls u) (links ls) 0
+    links_pay tree.no_links u d rest = omega arith
+    links_pay (tree.link op m e more) u d rest =
         omega (
           arith,
-          link_pays op m.line (expr_code tells e) (expr e) (expr_pays e) d (links more rest),
-          links_pay more (with_link op m.line (expr_code tells e) d) rest,
+          link_pays op m.line u (type_by tells e) (expr_code tells e) (expr e) (expr_pays e) d (links more rest),
+          links_pay more (type_of_two op u (type_by tells e)) (with_link op m.line u (type_by tells e) (expr_code tells e) d) rest,
         )
 
     args_pay : (es : tree.Args) → Pays (args_code tells es) (args es) 0

@@ -21,8 +21,7 @@ use Rattle.os_ast.specs.Parts.{parts}
 use Rattle.os_ast.specs.Spelling as spelling
 use Rattle.os_ast.specs.Spelling.{Symbol, Printer, bare, change, clause, each, expr, optional, params, stmt, stmts, ◌⨾◌}
 use Rattle.os_ast.specs.Trees as tree
-use Rattle.os_ast.specs.declared.expr.Name.{Name}
-use Rattle.os_ast.specs.declared.names.What.{What}
+use Rattle.os_ast.specs.declared.names.Resolved.{Resolved}
 use Rattle.os_ast.specs.declared.program.Param.{Param}
 use Rattle.os_ast.specs.declared.program.Params.{Params}
 use Rattle.os_ast.specs.declared.program.Params.TheVariants as params_of
@@ -57,7 +56,7 @@ length-closed (Some next) end d = omega arith
 stmt_tokens : (a : tree.StmtTree) (rest : List Symbol) → length (stmt a rest) ≡ length (stmt a []) + length rest
 stmt_tokens a rest = ap (λ (ps : List Symbol). length ps) ((prints_stmt a).in_front rest) ∙ length-append (stmt a []) rest
 
-module _ (tells : ℕ → What) where
+module _ (tells : ℕ → Resolved) where
   test_pays : (test : Option tree.ExprTree) (end : Label) → Pays (test_code tells test end) (optional expr test) 1
   test_pays None end d rest = omega arith
   test_pays (Some e) end d rest = omega (arith, condition_pays tells e end d rest)
@@ -218,7 +217,7 @@ params_grow params_of.Void rest = omega arith
 params_grow (params_of.Names []) rest = omega arith
 params_grow (params_of.Names (p ∷ ps)) rest = omega (arith, more_grow ps rest, type_words_grow p.ty (spelling.name p.name (more_params ps rest)))
 
-pub function_pays : (tells : ℕ → What) (f : tree.FunctionTree)
+pub function_pays : (tells : ℕ → Resolved) (f : tree.FunctionTree)
     → PartPays (λ x next d. block_code tells f.body x next d) (spelling.function f) (units_most (all_tasks_of f.body) + 2) 0
 function_pays tells f x next d rest =
     let closed = bare (kind.Punct puncts.CloseBrace) ∷ rest in

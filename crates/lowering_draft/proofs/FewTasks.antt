@@ -16,6 +16,7 @@ use Rattle.os_ast.specs.declared.expr.Mark.{Mark}
 use Rattle.os_ast.specs.declared.expr.Name.{Name}
 use Rattle.os_ast.specs.declared.names.Direction.{Direction}
 use Rattle.os_ast.specs.declared.names.Direction.TheVariants as direction
+use Rattle.os_ast.specs.declared.names.Resolved.{Resolved}
 use Rattle.os_ast.specs.declared.names.What.{What}
 use Rattle.os_code.specs.declared.instr.Instr.TheVariants.{BurstIn, CheckAt, Push, Tick, Turn}
 use Rattle.os_lexer.specs.declared.token.Kind.TheVariants as kind
@@ -33,7 +34,7 @@ listed_grow : (ns : List Name) (rest : List Symbol) → length rest ≤ length (
 listed_grow [] rest = omega arith
 listed_grow (n ∷ ns) rest = omega (arith, names_grow ns rest)
 
-module _ (tells : ℕ → What) where
+module _ (tells : ℕ → Resolved) where
   -- A stream pays for its code, and 7 more.
   stream_pays : (t : tree.TargetTree) (d : Draft) (rest : List Symbol)
       → length (stream_code tells t d).instrs + 7 + 8 * length rest ≤ length d.instrs + 8 * length (target t rest)
@@ -42,7 +43,7 @@ module _ (tells : ℕ → What) where
       omega (
         arith,
         expr_pays tells e d (bare (kind.Punct puncts.CloseBracket) ∷ rest),
-        length-instr (expr_code tells e d) (CheckAt (count_of (tells n.mark.place)) m.line),
+        length-instr (expr_code tells e d) (CheckAt (count_of (tells n.mark.place).what) m.line),
       )
 
   burst_pays : (r : Direction) (w : What) (b : Option tree.IndexTree) → Pays (burst_code tells r w b) (optional index b) 1
@@ -56,7 +57,7 @@ module _ (tells : ℕ → What) where
 
   join_pays : (arrow : Punct) (r : Direction) (j : Option tree.JoinTree) → Pays (join_code tells r j) (optional (join arrow) j) 1
   join_pays arrow r None d rest = omega (arith, length-instr d (Push (pos 1)))
-  join_pays arrow r (Some j) d rest = omega (arith, burst_pays r (tells j.name.mark.place) j.burst d rest)
+  join_pays arrow r (Some j) d rest = omega (arith, burst_pays r (tells j.name.mark.place).what j.burst d rest)
 
   item_pays : (arrow : Punct) (r : Direction) (i : tree.ClauseItemTree) → Pays (item_code tells r i) (clause_item arrow i) 0
   item_pays arrow r i d rest =
@@ -111,5 +112,5 @@ module _ (tells : ℕ → What) where
         arith,
         stream_pays t d (marked (kind.Punct puncts.ShiftRight) m ∷ expr e rest),
         expr_pays tells e streamed rest,
-        length-instrs made (BurstIn line ∷ Turn ∷ Tick (first_of (tells (target_name t).mark.place)) ∷ []),
+        length-instrs made (BurstIn line ∷ Turn ∷ Tick (first_of (tells (target_name t).mark.place).what) ∷ []),
       )

@@ -14,7 +14,7 @@ use Rattle.os_ast.specs.Names.{main_id}
 use Rattle.os_ast.specs.Spelling as spelling
 use Rattle.os_ast.specs.Spelling.{Symbol, each, item, kind_of, symbols, sign}
 use Rattle.os_ast.specs.Trees as tree
-use Rattle.os_ast.specs.declared.names.What.{What}
+use Rattle.os_ast.specs.declared.names.Resolved.{Resolved}
 use Rattle.os_code.specs.declared.instr.Instr.TheVariants.{End, Push, Return}
 use Rattle.os_lexer.specs.declared.token.Punct.TheVariants as puncts
 use Rattle.lowering_relation.specs.Tasks.{TaskTree, all_tasks_of, program_tasks}
@@ -31,7 +31,7 @@ chosen_few : (t : Bool) (ts us : List TaskTree) → units_most (if t then ts els
 chosen_few true ts us = omega arith
 chosen_few false ts us = omega arith
 
-module _ (tells : ℕ → What) where
+module _ (tells : ℕ → Resolved) where
   function_few : (is_main : Bool) (f : tree.FunctionTree) (made : Units) (rest : List Symbol)
       → length (with_function is_main tells f made).draft.instrs + units_most (all_tasks_of f.body) + 8 * length rest
       ≤ length made.draft.instrs + 8 * length (item (tree.Function f) rest)

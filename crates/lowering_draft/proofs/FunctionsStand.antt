@@ -21,7 +21,7 @@ use Rattle.os_ast.specs.Notes.Programs.{after_item, in_body, item_notes, items_n
 use Rattle.os_ast.specs.Parts.{is_in}
 use Rattle.os_ast.specs.Trees as tree
 use Rattle.os_ast.specs.declared.names.Owner.TheVariants as owner
-use Rattle.os_ast.specs.declared.names.What.{What}
+use Rattle.os_ast.specs.declared.names.Resolved.{Resolved}
 use Rattle.os_code.specs.declared.instr.Instr.TheVariants.{End, Push, Return}
 use Rattle.os_code.specs.declared.parts.Parts.{Parts}
 use Rattle.lowering_relation.specs.Programs.{HasFunction, HasFunctions, HasMain, HasUnit, in_function, in_main, size_by}
@@ -34,7 +34,7 @@ use Rattle.window_check_laws.specs.Sums.{stmts_slots}
 use Rattle.window_check_laws.specs.Told.{AreLawful}
 
 module _
-    (tells : ℕ → What)
+    (tells : ℕ → Resolved)
     (tasks : List TaskTree)
     (streams : ℕ)
     (final : Units) where

@@ -12,7 +12,7 @@ use Rattle.lowering_draft.specs.declared.exits.Exits.{Exits}
 use Rattle.lowering_draft.specs.declared.units.Units.{Units}
 use Rattle.os_ast.specs.Names.{main_id}
 use Rattle.os_ast.specs.Trees as tree
-use Rattle.os_ast.specs.declared.names.What.{What}
+use Rattle.os_ast.specs.declared.names.Resolved.{Resolved}
 use Rattle.os_code.specs.declared.instr.Instr.{Instr}
 use Rattle.os_code.specs.declared.instr.Instr.TheVariants.{End, Push, Return}
 use Rattle.os_code.specs.declared.site.Site.{Site}
@@ -59,7 +59,7 @@ body_kept leaves f falls keeps d =
     let d2 = f (exits_of end leaves) None d1 in
     keeps_instrs (keeps_place (then_kept (keeps_label (kept d)) (keeps (exits_of end leaves) None d1)) end (omega arith)) falls
 
-module _ (tells : ℕ → What) where
+module _ (tells : ℕ → Resolved) where
   unit_grows : (code : Emission) (args slots : ℕ) (m : Units) → KeepsLabels code → Grows m (with_unit code args slots m)
   unit_grows code args slots m keeps = record {
     draft = keeps m.draft;

@@ -13,7 +13,7 @@ use Rattle.lowering_draft.specs.declared.draft.Label.{Label}
 use Rattle.lowering_draft.specs.declared.exits.Exits.{Exits}
 use Rattle.os_ast.specs.Parts.{parts}
 use Rattle.os_ast.specs.Trees as tree
-use Rattle.os_ast.specs.declared.names.What.{What}
+use Rattle.os_ast.specs.declared.names.Resolved.{Resolved}
 use Rattle.os_code.specs.declared.instr.Instr.TheVariants.{Drop, Jump, Turn}
 
 -- wherever a part is left and goes on
@@ -35,7 +35,7 @@ closed_kept (Some next) k = k
 begun_kept : {test : Emission} → KeepsLabels test → (d : Draft) → Keeps d (begin_code (next_label d) test (with_label d))
 begun_kept k d = and_then_kept (keeps_instr (keeps_place (keeps_label (kept d)) (next_label d) (next_is_new (kept d))) Turn) k
 
-module _ (tells : ℕ → What) where
+module _ (tells : ℕ → Resolved) where
   pub if_kept : (c : tree.ExprTree) (end : Label) (x : Exits) (next : Option Label) {a : Part} → KeepsAll a
       → KeepsLabels (λ d. a x next (condition_code tells c end d))
   if_kept c end x next k d = and_then_kept (condition_kept tells c end d) (k x next)

@@ -24,14 +24,14 @@ use Rattle.lowering_draft.specs.declared.exits.Exits.{Exits}
 use Rattle.os_ast.specs.Leveled as leveled
 use Rattle.os_ast.specs.Leveled.{IsChange, IsExpr, IsOptional, IsStart}
 use Rattle.os_ast.specs.Trees as tree
-use Rattle.os_ast.specs.declared.names.What.{What}
+use Rattle.os_ast.specs.declared.names.Resolved.{Resolved}
 use Rattle.os_code.specs.declared.instr.Instr.TheVariants.{Jump, Turn}
 use Rattle.os_code.specs.declared.parts.Parts.{Parts}
 use Rattle.lowering_relation.specs.Declarators.{HasStart}
 use Rattle.lowering_relation.specs.Statements.{Body, HasLoop, HasRound, HasStmt, HasTest}
 use Rattle.lowering_relation.specs.Tasks.{tasks_of}
 
-module _ {code : Parts} {place_of : ℕ → ℕ} (tells : ℕ → What) where
+module _ {code : Parts} {place_of : ℕ → ℕ} (tells : ℕ → Resolved) where
   -- what stands before a loop, and its test
   pub start_stands : (start : tree.StartTree) → IsStart start → (d : Draft) → Becomes (start_code tells start d) code place_of
       → HasStart code tells start (length d.instrs) (length (start_code tells start d).instrs)

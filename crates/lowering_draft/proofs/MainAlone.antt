@@ -7,7 +7,7 @@ use Rattle.lowering_draft.specs.declared.units.Units.{Units}
 use Rattle.os_ast.specs.Names.{main_id}
 use Rattle.os_ast.specs.Parts.{is_in}
 use Rattle.os_ast.specs.Trees as tree
-use Rattle.os_ast.specs.declared.names.What.{What}
+use Rattle.os_ast.specs.declared.names.Resolved.{Resolved}
 use Rattle.lowering_relation.specs.Tasks.{TaskTree}
 use Rattle.window_check_laws.specs.Globals.{AreApart}
 
@@ -17,13 +17,13 @@ NoMain [] = ⊤
 NoMain (tree.Constant c ∷ is) = NoMain is
 NoMain (tree.Function f ∷ is) = ((f.name.id == main_id) ≡ false) × NoMain is
 
-pub main_kept : (tells : ℕ → What) (is : List tree.ItemTree) (made : Units) → NoMain is → (with_functions tells is made).main ≡ made.main
+pub main_kept : (tells : ℕ → Resolved) (is : List tree.ItemTree) (made : Units) → NoMain is → (with_functions tells is made).main ≡ made.main
 main_kept tells [] made none = refl
 main_kept tells (tree.Constant c ∷ is) made none = main_kept tells is made none
 main_kept tells (tree.Function f ∷ is) made none =
     main_kept tells is (with_function (f.name.id == main_id) tells f made) none.1 ∙ ap (λ t. (with_function t tells f made).main) none.0
 
-pub tasks_keep_main : (tells : ℕ → What) (captured : List (List ℕ)) (ts : List TaskTree) (made : Units) → (with_tasks tells captured ts made).main ≡ made.main
+pub tasks_keep_main : (tells : ℕ → Resolved) (captured : List (List ℕ)) (ts : List TaskTree) (made : Units) → (with_tasks tells captured ts made).main ≡ made.main
 tasks_keep_main tells captured [] made = refl
 tasks_keep_main tells captured (t ∷ ts) made = tasks_keep_main tells captured ts (with_task tells captured t made)
 

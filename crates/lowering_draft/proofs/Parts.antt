@@ -6,10 +6,10 @@ use Rattle.lowering_draft.specs.declared.draft.Draft.{Draft}
 use Rattle.os_ast.specs.Parts.{Part, Item, Private, parts, parts_of}
 use Rattle.os_ast.specs.Views.{clause_kind_tree, clause_tree}
 use Rattle.os_ast.specs.declared.expr.Name.{Name}
-use Rattle.os_ast.specs.declared.names.What.{What}
+use Rattle.os_ast.specs.declared.names.Resolved.{Resolved}
 use Rattle.os_ast.specs.declared.pragma.Clause.{Clause}
 
-pub items_code-append : (tells : ℕ → What) (ps qs : List Part) (d : Draft) → items_code tells (ps ++ qs) d ≡ items_code tells qs (items_code tells ps d)
+pub items_code-append : (tells : ℕ → Resolved) (ps qs : List Part) (d : Draft) → items_code tells (ps ++ qs) d ≡ items_code tells qs (items_code tells ps d)
 items_code-append tells [] qs d = refl
 items_code-append tells (Item direction i ∷ ps) qs d = items_code-append tells ps qs (item_code tells direction i d)
 items_code-append tells (Private n ∷ ps) qs d = items_code-append tells ps qs d
@@ -18,6 +18,6 @@ pub parts-drop : (cs : List Clause) (i : ℕ) (c : Clause) → i < length cs →
     parts (map clause_tree (drop i cs)) ≡ parts_of (clause_kind_tree c.kind) ++ parts (map clause_tree (drop (i + 1) cs))
 parts-drop cs i c h is = rw (drop-cons cs i c h, ← is, add-one)
 
-pub items_code_private : (tells : ℕ → What) (ns : List Name) (d : Draft) → items_code tells (map Private ns) d ≡ d
+pub items_code_private : (tells : ℕ → Resolved) (ns : List Name) (d : Draft) → items_code tells (map Private ns) d ≡ d
 items_code_private tells [] d = refl
 items_code_private tells (n ∷ ns) d = items_code_private tells ns d

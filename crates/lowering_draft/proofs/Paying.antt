@@ -1,5 +1,5 @@
 -- How many instructions an emission adds, paid by the tokens of a printer, 8 for each.
-use Rattle.std.proofs.Common.{◌≡◌, ℕ, ◌+◌, ◌*◌, ◌≤◌, List, [], ◌∷◌, length, Option, Some, None, arith}
+use Rattle.std.proofs.Common.{◌≡◌, Bool, ℕ, ◌+◌, ◌*◌, ◌≤◌, List, [], ◌∷◌, length, Option, Some, None, arith}
 use Rattle.lowering_draft.proofs.ExpressionsStand.{length-instr}
 use Rattle.lowering_draft.specs.Draft.{with_instr, with_instrs}
 use Rattle.lowering_draft.specs.Emission.Expressions.{Emission}
@@ -44,9 +44,9 @@ aiming_few (what.Stream first count) = omega arith
 aiming_few (what.Element item) = omega arith
 aiming_few (what.View item) = omega arith
 
-operation_of_few : (op : Option int_binary.Binary) (line : ℕ) → length (operation_of op line) ≤ 3
-operation_of_few None line = omega arith
-operation_of_few (Some op) line = omega arith
+operation_of_few : (op : Option int_binary.Binary) (line : ℕ) (u v : Bool) → length (operation_of op line u v) ≤ 3
+operation_of_few None line u v = omega arith
+operation_of_few (Some op) line u v = omega arith
 
-pub operation_few : (op : Binary) (line : ℕ) → length (operation op line) ≤ 3
-operation_few op line = operation_of_few (operator_of_two op) line
+pub operation_few : (op : Binary) (line : ℕ) (u v : Bool) → length (operation op line u v) ≤ 3
+operation_few op line u v = operation_of_few (operator_of_two op) line u v

@@ -8,6 +8,7 @@ use Rattle.os_ast.specs.Notes.Declarators.{within_limit}
 use Rattle.os_ast.specs.Trees as tree
 use Rattle.os_ast.specs.declared.names.Owner.{Owner}
 use Rattle.os_ast.specs.declared.names.Owner.TheVariants as owner
+use Rattle.os_ast.specs.declared.names.Resolved.{Resolved}
 use Rattle.os_ast.specs.declared.names.What.{What}
 use Rattle.os_ast.specs.declared.names.What.TheVariants as what
 use Rattle.lowering_relation.specs.Programs.{constant_size, size_by}
@@ -34,10 +35,10 @@ constant_small (what.Stream n k) = omega arith
 constant_small (what.Element n) = omega arith
 constant_small (what.View n) = omega arith
 
-pub size_small : (tells : ℕ → What) (e : tree.ExprTree) → size_by tells e ≤ size_limit
+pub size_small : (tells : ℕ → Resolved) (e : tree.ExprTree) → size_by tells e ≤ size_limit
 size_small tells (tree.Number n) = limit_small (pos n)
 size_small tells (tree.Wide n) = limit_small (pos n)
-size_small tells (tree.Place (tree.Variable n)) = constant_small (tells n.mark.place)
+size_small tells (tree.Place (tree.Variable n)) = constant_small (tells n.mark.place).what
 size_small tells (tree.Place (tree.Element n m e)) = omega arith
 size_small tells (tree.ExprTree.Call f args) = omega arith
 size_small tells (tree.Paren e) = omega arith

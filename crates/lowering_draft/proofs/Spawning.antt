@@ -12,6 +12,7 @@ use Rattle.lowering_draft.specs.declared.draft.Draft.{Draft}
 use Rattle.lowering_draft.specs.declared.draft.Label.{Label}
 use Rattle.lowering_draft.specs.declared.exits.Exits.{Exits}
 use Rattle.cddf_meaning.specs.Operators.{step_operator}
+use Rattle.cddf_meaning.specs.Types.{type_of_two}
 use Rattle.os_ast.specs.FreeNames.{expr_names}
 use Rattle.os_ast.specs.Parts.{Part, Item, Private, is_in, parts}
 use Rattle.os_ast.specs.Trees as tree
@@ -20,14 +21,15 @@ use Rattle.os_ast.specs.declared.expr.Binary.TheVariants as binary
 use Rattle.os_ast.specs.declared.expr.Level.TheVariants as level
 use Rattle.os_ast.specs.declared.expr.Unary.{Unary}
 use Rattle.os_ast.specs.declared.names.Direction.{Direction}
+use Rattle.os_ast.specs.declared.names.Resolved.{Resolved}
 use Rattle.os_ast.specs.declared.names.What.{What}
 use Rattle.os_ast.specs.declared.names.What.TheVariants as what
 use Rattle.os_ast.specs.declared.stmt.Assign.TheVariants as assign
 use Rattle.os_code.specs.declared.instr.Instr.{Instr}
 use Rattle.os_code.specs.declared.instr.Instr.TheVariants.{BurstIn, JumpZero, Push, Store, Tick, Turn}
 use Rattle.os_code.specs.declared.instr.Instr.TheVariants as instr
-use Rattle.lowering_relation.specs.Changes.{is_quiet}
-use Rattle.lowering_relation.specs.Expressions.{operation}
+use Rattle.lowering_relation.specs.Changes.{is_quiet, target_by}
+use Rattle.lowering_relation.specs.Expressions.{operation, type_by}
 use Rattle.lowering_relation.specs.Names.{aiming, calling, fetching, fetching_at, reading}
 use Rattle.lowering_relation.specs.Tasks.{all_tasks_of, tasks_of}
 use Rattle.std.specs.Prelude.{pos}
@@ -40,53 +42,55 @@ pub instrs_spawned : (is : List Instr) (d : Draft) → (with_instrs d is).spawne
 instrs_spawned [] d = refl
 instrs_spawned (i ∷ is) d = instrs_spawned is (with_instr d i)
 
-unary_spawned : (v : Option ℤ) (op : Unary) (line : ℕ) (f : Emission) → SpawnsNothing f → SpawnsNothing (with_unary v op line f)
-unary_spawned (Some v) op line f k d = refl
-unary_spawned None op line f k d = k d
+unary_spawned : (v : Option ℤ) (op : Unary) (line : ℕ) (unsigned : Bool) (f : Emission) → SpawnsNothing f → SpawnsNothing (with_unary v op line unsigned f)
+unary_spawned (Some v) op line unsigned f k d = refl
+unary_spawned None op line unsigned f k d = k d
 
-operated_link : (op : Binary) (line : ℕ) (f : Emission) → SpawnsNothing f → (d : Draft) → (with_instrs (f d) (operation op line)).spawned ≡ d.spawned
-operated_link op line f k d = instrs_spawned (operation op line) (f d) ∙ k d
+operated_link : (op : Binary) (line : ℕ) (u v : Bool) (f : Emission) → SpawnsNothing f → (d : Draft)
+    → (with_instrs (f d) (operation op line u v)).spawned ≡ d.spawned
+operated_link op line u v f k d = instrs_spawned (operation op line u v) (f d) ∙ k d
 
-link_spawned : (op : Binary) (line : ℕ) (f : Emission) → SpawnsNothing f → SpawnsNothing (with_link op line f)
-link_spawned binary.And line f k d = k _
-link_spawned binary.Or line f k d = k _
-link_spawned binary.BitOr line f k d = operated_link binary.BitOr line f k d
-link_spawned binary.BitXor line f k d = operated_link binary.BitXor line f k d
-link_spawned binary.BitAnd line f k d = operated_link binary.BitAnd line f k d
-link_spawned binary.Equal line f k d = operated_link binary.Equal line f k d
-link_spawned binary.Unequal line f k d = operated_link binary.Unequal line f k d
-link_spawned binary.Less line f k d = operated_link binary.Less line f k d
-link_spawned binary.LessEqual line f k d = operated_link binary.LessEqual line f k d
-link_spawned binary.Greater line f k d = operated_link binary.Greater line f k d
-link_spawned binary.GreaterEqual line f k d = operated_link binary.GreaterEqual line f k d
-link_spawned binary.ShiftLeft line f k d = operated_link binary.ShiftLeft line f k d
-link_spawned binary.ShiftRight line f k d = operated_link binary.ShiftRight line f k d
-link_spawned binary.Add line f k d = operated_link binary.Add line f k d
-link_spawned binary.Subtract line f k d = operated_link binary.Subtract line f k d
-link_spawned binary.Multiply line f k d = operated_link binary.Multiply line f k d
-link_spawned binary.Divide line f k d = operated_link binary.Divide line f k d
-link_spawned binary.Remainder line f k d = operated_link binary.Remainder line f k d
+link_spawned : (op : Binary) (line : ℕ) (u v : Bool) (f : Emission) → SpawnsNothing f → SpawnsNothing (with_link op line u v f)
+link_spawned binary.And line u v f k d = k _
+link_spawned binary.Or line u v f k d = k _
+link_spawned binary.BitOr line u v f k d = operated_link binary.BitOr line u v f k d
+link_spawned binary.BitXor line u v f k d = operated_link binary.BitXor line u v f k d
+link_spawned binary.BitAnd line u v f k d = operated_link binary.BitAnd line u v f k d
+link_spawned binary.Equal line u v f k d = operated_link binary.Equal line u v f k d
+link_spawned binary.Unequal line u v f k d = operated_link binary.Unequal line u v f k d
+link_spawned binary.Less line u v f k d = operated_link binary.Less line u v f k d
+link_spawned binary.LessEqual line u v f k d = operated_link binary.LessEqual line u v f k d
+link_spawned binary.Greater line u v f k d = operated_link binary.Greater line u v f k d
+link_spawned binary.GreaterEqual line u v f k d = operated_link binary.GreaterEqual line u v f k d
+link_spawned binary.ShiftLeft line u v f k d = operated_link binary.ShiftLeft line u v f k d
+link_spawned binary.ShiftRight line u v f k d = operated_link binary.ShiftRight line u v f k d
+link_spawned binary.Add line u v f k d = operated_link binary.Add line u v f k d
+link_spawned binary.Subtract line u v f k d = operated_link binary.Subtract line u v f k d
+link_spawned binary.Multiply line u v f k d = operated_link binary.Multiply line u v f k d
+link_spawned binary.Divide line u v f k d = operated_link binary.Divide line u v f k d
+link_spawned binary.Remainder line u v f k d = operated_link binary.Remainder line u v f k d
 
-module _ (tells : ℕ → What) where
+module _ (tells : ℕ → Resolved) where
   mutual
     pub expr_spawned : (e : tree.ExprTree) → SpawnsNothing (expr_code tells e)
     expr_spawned (tree.Number n) d = refl
     expr_spawned (tree.Wide n) d = refl
     expr_spawned (tree.Place t) d = place_spawned t d
-    expr_spawned (tree.ExprTree.Call f args) d = instrs_spawned (Turn ∷ calling (tells f.mark.place) ∷ []) (args_code tells args d) ∙ args_spawned args d
+    expr_spawned (tree.ExprTree.Call f args) d = instrs_spawned (Turn ∷ calling (tells f.mark.place).what ∷ []) (args_code tells args d) ∙ args_spawned args d
     expr_spawned (tree.Paren e) d = expr_spawned e d
-    expr_spawned (tree.Unary op m e) d = unary_spawned (worked_out op e) op m.line (expr_code tells e) (expr_spawned e) d
-    expr_spawned (tree.Chain l first links) d = links_spawned links (expr_code tells first d) ∙ expr_spawned first d
+    expr_spawned (tree.Unary op m e) d = unary_spawned (worked_out op e) op m.line (type_by tells e) (expr_code tells e) (expr_spawned e) d
+    expr_spawned (tree.Chain l first links) d = links_spawned links (type_by tells first) (expr_code tells first d) ∙ expr_spawned first d
     expr_spawned (tree.Choice c a b) d = expr_spawned b _ ∙ expr_spawned a _ ∙ expr_spawned c _
 
     place_spawned : (t : tree.TargetTree) → SpawnsNothing (place_code tells t)
-    place_spawned (tree.Variable n) d = instrs_spawned (reading (tells n.mark.place) n.mark.line) d
+    place_spawned (tree.Variable n) d = instrs_spawned (reading (tells n.mark.place).what n.mark.line) d
     place_spawned (tree.Element n m e) d = expr_spawned e d
 
-    links_spawned : (ls : tree.Links) → SpawnsNothing (links_code tells ls)
-    links_spawned tree.no_links d = refl
-    links_spawned (tree.link op m e rest) d =
-        links_spawned rest (with_link op m.line (expr_code tells e) d) ∙ link_spawned op m.line (expr_code tells e) (expr_spawned e) d
+    links_spawned : (ls : tree.Links) (u : Bool) → SpawnsNothing (links_code tells ls u)
+    links_spawned tree.no_links u d = refl
+    links_spawned (tree.link op m e rest) u d =
+        let v = type_by tells e in
+        links_spawned rest (type_of_two op u v) (with_link op m.line u v (expr_code tells e) d) ∙ link_spawned op m.line u v (expr_code tells e) (expr_spawned e) d
 
     args_spawned : (es : tree.Args) → SpawnsNothing (args_code tells es)
     args_spawned tree.no_args d = refl
@@ -120,9 +124,9 @@ module _ (tells : ℕ → What) where
 
   aim_spawned : (old : Bool) (t : tree.TargetTree) → SpawnsNothing (aim_code tells old t)
   aim_spawned old (tree.Variable n) d =
-      instrs_spawned (fetching old (tells n.mark.place) n.mark.line) (with_instrs d (aiming (tells n.mark.place)))
-      ∙ instrs_spawned (aiming (tells n.mark.place)) d
-  aim_spawned old (tree.Element n m e) d = instrs_spawned (fetching_at old (tells n.mark.place) m.line) (expr_code tells e d) ∙ expr_spawned e d
+      instrs_spawned (fetching old (tells n.mark.place).what n.mark.line) (with_instrs d (aiming (tells n.mark.place).what))
+      ∙ instrs_spawned (aiming (tells n.mark.place).what) d
+  aim_spawned old (tree.Element n m e) d = instrs_spawned (fetching_at old (tells n.mark.place).what m.line) (expr_code tells e d) ∙ expr_spawned e d
 
   store_spawned : (t : tree.TargetTree) → SpawnsNothing (store_code tells t)
   store_spawned (tree.Variable n) d = refl
@@ -131,11 +135,11 @@ module _ (tells : ℕ → What) where
   changed_spawned : (old : Bool) (t : tree.TargetTree) (f : Emission) → SpawnsNothing f → SpawnsNothing (changed_code tells old t f)
   changed_spawned old t f k d = store_spawned t (f (aim_code tells old t d)) ∙ k (aim_code tells old t d) ∙ aim_spawned old t d
 
-  operated_spawned : (op : Binary) (line : ℕ) (e : tree.ExprTree) → SpawnsNothing (operated_code tells op line e)
-  operated_spawned op line e d = instrs_spawned (operation op line) (expr_code tells e d) ∙ expr_spawned e d
+  operated_spawned : (op : Binary) (line : ℕ) (u : Bool) (e : tree.ExprTree) → SpawnsNothing (operated_code tells op line u e)
+  operated_spawned op line u e d = instrs_spawned (operation op line u (type_by tells e)) (expr_code tells e d) ∙ expr_spawned e d
 
-  stepped_spawned : (op : Binary) (line : ℕ) → SpawnsNothing (stepped_code op line)
-  stepped_spawned op line d = instrs_spawned (operation op line) (with_instr d (Push (pos 1)))
+  stepped_spawned : (op : Binary) (line : ℕ) (u : Bool) → SpawnsNothing (stepped_code op line u)
+  stepped_spawned op line u d = instrs_spawned (operation op line u false) (with_instr d (Push (pos 1)))
 
   plain_aim_spawned : (quiet : Bool) (t : tree.TargetTree) → SpawnsNothing (plain_aim tells quiet t)
   plain_aim_spawned true (tree.Variable n) d = aim_spawned false (tree.Variable n) d
@@ -146,9 +150,10 @@ module _ (tells : ℕ → What) where
   change_spawned (tree.Set t assign.Plain m e) d =
       store_spawned t (expr_code tells e (plain_aim tells (is_quiet e) t d))
       ∙ expr_spawned e (plain_aim tells (is_quiet e) t d) ∙ plain_aim_spawned (is_quiet e) t d
-  change_spawned (tree.Set t (assign.With op) m e) d = changed_spawned true t (operated_code tells op m.line e) (operated_spawned op m.line e) d
-  change_spawned (tree.After t p m) d = changed_spawned true t (stepped_code (step_operator p) m.line) (stepped_spawned (step_operator p) m.line) d
-  change_spawned (tree.Before t p m) d = changed_spawned true t (stepped_code (step_operator p) m.line) (stepped_spawned (step_operator p) m.line) d
+  change_spawned (tree.Set t (assign.With op) m e) d =
+      changed_spawned true t (operated_code tells op m.line (target_by tells t) e) (operated_spawned op m.line (target_by tells t) e) d
+  change_spawned (tree.After t p m) d = changed_spawned true t (stepped_code (step_operator p) m.line (target_by tells t)) (stepped_spawned (step_operator p) m.line (target_by tells t)) d
+  change_spawned (tree.Before t p m) d = changed_spawned true t (stepped_code (step_operator p) m.line (target_by tells t)) (stepped_spawned (step_operator p) m.line (target_by tells t)) d
 
   cleared_spawned : (named : Bool) (slot : ℕ) → SpawnsNothing (cleared_code named slot)
   cleared_spawned true slot d = refl
@@ -176,7 +181,7 @@ module _ (tells : ℕ → What) where
   pub declarators_spawned : (ds : List tree.DeclaratorTree) → SpawnsNothing (declarators_code tells ds)
   declarators_spawned [] d = refl
   declarators_spawned (x ∷ ds) d =
-      declarators_spawned ds (declared_code tells (tells x.name.mark.place) x d) ∙ declared_spawned (tells x.name.mark.place) x d
+      declarators_spawned ds (declared_code tells (tells x.name.mark.place).what x d) ∙ declared_spawned (tells x.name.mark.place).what x d
 
   pub start_spawned : (start : tree.StartTree) → SpawnsNothing (start_code tells start)
   start_spawned tree.StartTree.Empty d = refl
@@ -193,7 +198,7 @@ module _ (tells : ℕ → What) where
 
   join_spawned : (r : Direction) (j : Option tree.JoinTree) → SpawnsNothing (join_code tells r j)
   join_spawned r None d = refl
-  join_spawned r (Some j) d = burst_spawned r (tells j.name.mark.place) j.burst d
+  join_spawned r (Some j) d = burst_spawned r (tells j.name.mark.place).what j.burst d
 
   pub items_spawned : (ps : List Part) → SpawnsNothing (items_code tells ps)
   items_spawned [] d = refl
@@ -220,7 +225,7 @@ closed_spawned (Some next) end d = refl
 abbrev pub Spawns : StmtPart → ℕ → Type 0
 Spawns f n = (x : Exits) (next : Option Label) (d : Draft) → (f x next d).spawned ≡ d.spawned + n
 
-module _ (tells : ℕ → What) where
+module _ (tells : ℕ → Resolved) where
   pub test_spawned : (test : Option tree.ExprTree) (end : Label) → SpawnsNothing (test_code tells test end)
   test_spawned None end d = refl
   test_spawned (Some e) end d = condition_spawned tells e end d

@@ -6,30 +6,30 @@ use Rattle.lowering_draft.specs.declared.units.Units.{Units}
 use Rattle.os_ast.specs.Parts.{Part, Item, Private}
 use Rattle.os_ast.specs.Trees as tree
 use Rattle.os_ast.specs.declared.expr.Name.{Name}
-use Rattle.os_ast.specs.declared.names.What.{What}
+use Rattle.os_ast.specs.declared.names.Resolved.{Resolved}
 use Rattle.os_code.specs.declared.site.SiteItem.{SiteItem}
 use Rattle.lowering_relation.specs.Tasks.{TaskTree, all_tasks_of, site_item, site_items, tasks_of}
 
-pub site_items-append : (tells : ℕ → What) (ps qs : List Part) → site_items tells (ps ++ qs) ≡ site_items tells ps ++ site_items tells qs
+pub site_items-append : (tells : ℕ → Resolved) (ps qs : List Part) → site_items tells (ps ++ qs) ≡ site_items tells ps ++ site_items tells qs
 site_items-append tells [] qs = refl
 site_items-append tells (Item d i ∷ ps) qs = ap (λ is. site_item tells d i ∷ is) (site_items-append tells ps qs)
 site_items-append tells (Private n ∷ ps) qs = site_items-append tells ps qs
 
-pub site_items_private : (tells : ℕ → What) (ns : List Name) → site_items tells (map Private ns) ≡ []
+pub site_items_private : (tells : ℕ → Resolved) (ns : List Name) → site_items tells (map Private ns) ≡ []
 site_items_private tells [] = refl
 site_items_private tells (n ∷ ns) = site_items_private tells ns
 
-pub nothing_private : (tells : ℕ → What) (made : List SiteItem) (ns : List Name) → made ≡ made ++ site_items tells (map Private ns)
+pub nothing_private : (tells : ℕ → Resolved) (made : List SiteItem) (ns : List Name) → made ≡ made ++ site_items tells (map Private ns)
 nothing_private tells made ns = sym (ap (λ is. made ++ is) (site_items_private tells ns) ∙ append-nil made)
 
-with_tasks-append : (tells : ℕ → What) (captured : List (List ℕ)) (ts us : List TaskTree) (made : Units) →
+with_tasks-append : (tells : ℕ → Resolved) (captured : List (List ℕ)) (ts us : List TaskTree) (made : Units) →
     with_tasks tells captured (ts ++ us) made ≡ with_tasks tells captured us (with_tasks tells captured ts made)
 with_tasks-append tells captured [] us made = refl
 with_tasks-append tells captured (t ∷ ts) us made = with_tasks-append tells captured ts us (with_task tells captured t made)
 
 -- the tasks of a statement by the tree, and as a list
 mutual
-  stmt_tasks-listed : (tells : ℕ → What) (captured : List (List ℕ)) (a : tree.StmtTree) (made : Units) →
+  stmt_tasks-listed : (tells : ℕ → Resolved) (captured : List (List ℕ)) (a : tree.StmtTree) (made : Units) →
       with_stmt_tasks tells captured a made ≡ with_tasks tells captured (tasks_of a) made
   stmt_tasks-listed tells captured tree.StmtTree.Empty made = refl
   stmt_tasks-listed tells captured (tree.Block ss) made = block_tasks-listed tells captured ss made
@@ -50,7 +50,7 @@ mutual
   stmt_tasks-listed tells captured (tree.Tick m t arrow e) made = refl
   stmt_tasks-listed tells captured (tree.Taskwait m) made = refl
 
-  pub block_tasks-listed : (tells : ℕ → What) (captured : List (List ℕ)) (ss : tree.Stmts) (made : Units) →
+  pub block_tasks-listed : (tells : ℕ → Resolved) (captured : List (List ℕ)) (ss : tree.Stmts) (made : Units) →
       with_block_tasks tells captured ss made ≡ with_tasks tells captured (all_tasks_of ss) made
   block_tasks-listed tells captured tree.no_stmts made = refl
   block_tasks-listed tells captured (tree.stmt a rest) made =

@@ -12,7 +12,7 @@ use Rattle.lowering_draft.specs.Emission.Units.{capped, parts_made, place_in, ta
 use Rattle.lowering_draft.specs.Going.{ends}
 use Rattle.lowering_draft.specs.declared.units.Units.{Units}
 use Rattle.os_ast.specs.declared.names.Owner.TheVariants as owner
-use Rattle.os_ast.specs.declared.names.What.{What}
+use Rattle.os_ast.specs.declared.names.Resolved.{Resolved}
 use Rattle.os_code.specs.declared.instr.Instr.TheVariants.{End}
 use Rattle.os_code.specs.declared.parts.Parts.{Parts}
 use Rattle.os_code.specs.declared.site.Site.{Site}
@@ -23,7 +23,7 @@ use Rattle.window_check_laws.specs.Room.{stmt_weight}
 use Rattle.window_check_laws.specs.Sums.{stmt_slots}
 
 module _
-    (tells : ℕ → What)
+    (tells : ℕ → Resolved)
     (captured : List (List ℕ))
     (streams : ℕ)
     (final : Units) where

@@ -16,6 +16,7 @@ use Rattle.os_ast.specs.Parts.{Part, Item, Private, target_name}
 use Rattle.os_ast.specs.Trees as tree
 use Rattle.os_ast.specs.declared.names.Direction.{Direction}
 use Rattle.os_ast.specs.declared.names.Direction.TheVariants as direction
+use Rattle.os_ast.specs.declared.names.Resolved.{Resolved}
 use Rattle.os_ast.specs.declared.names.What.{What}
 use Rattle.os_ast.specs.declared.names.What.TheVariants as what
 use Rattle.os_code.specs.declared.instr.Instr.TheVariants.{BurstIn, CheckAt, Push, Tick, Turn}
@@ -36,10 +37,10 @@ plain-bursting place_of direction.Writes (what.Stream first count) line = refl
 plain-bursting place_of direction.Writes (what.Element number) line = refl
 plain-bursting place_of direction.Writes (what.View number) line = refl
 
-module _ (tells : ℕ → What) where
+module _ (tells : ℕ → Resolved) where
   stream_kept : (t : tree.TargetTree) → KeepsLabels (stream_code tells t)
   stream_kept (tree.Variable n) d = keeps_instr (kept d) (Push (pos 0))
-  stream_kept (tree.Element n m e) d = keeps_instr (expr_kept tells e d) (CheckAt (count_of (tells n.mark.place)) m.line)
+  stream_kept (tree.Element n m e) d = keeps_instr (expr_kept tells e d) (CheckAt (count_of (tells n.mark.place).what) m.line)
 
   burst_kept : (r : Direction) (w : What) (b : Option tree.IndexTree) → KeepsLabels (burst_code tells r w b)
   burst_kept r w None d = keeps_instr (kept d) (Push (pos 1))
@@ -47,7 +48,7 @@ module _ (tells : ℕ → What) where
 
   join_kept : (r : Direction) (j : Option tree.JoinTree) → KeepsLabels (join_code tells r j)
   join_kept r None d = keeps_instr (kept d) (Push (pos 1))
-  join_kept r (Some j) d = burst_kept r (tells j.name.mark.place) j.burst d
+  join_kept r (Some j) d = burst_kept r (tells j.name.mark.place).what j.burst d
 
   item_kept : (r : Direction) (i : tree.ClauseItemTree) → KeepsLabels (item_code tells r i)
   item_kept r i d = and_then_kept (stream_kept i.stream d) (join_kept r i.window)
@@ -59,15 +60,15 @@ module _ (tells : ℕ → What) where
 
   pub tick_kept : (t : tree.TargetTree) (line : ℕ) (e : tree.ExprTree) → KeepsLabels (tick_code tells t line e)
   tick_kept t line e d =
-      keeps_instrs (and_then_kept (stream_kept t d) (expr_kept tells e)) (BurstIn line ∷ Turn ∷ Tick (first_of (tells (target_name t).mark.place)) ∷ [])
+      keeps_instrs (and_then_kept (stream_kept t d) (expr_kept tells e)) (BurstIn line ∷ Turn ∷ Tick (first_of (tells (target_name t).mark.place).what) ∷ [])
 
-module _ {code : Parts} {place_of : ℕ → ℕ} (tells : ℕ → What) where
+module _ {code : Parts} {place_of : ℕ → ℕ} (tells : ℕ → Resolved) where
   stream_stands : (t : tree.TargetTree) → IsTarget t → (d : Draft) → Becomes (stream_code tells t d) code place_of →
       HasStream code tells t (length d.instrs) (length (stream_code tells t d).instrs)
   stream_stands (tree.Variable n) is d b = stands_instr d (Push (pos 0)) refl b
   stream_stands (tree.Element n m e) (leveled.element is) d b =
       let made = expr_code tells e d in
-      let i = CheckAt (count_of (tells n.mark.place)) m.line in
+      let i = CheckAt (count_of (tells n.mark.place).what) m.line in
       (length made.instrs, expr_stands tells e is d (back (keeps_instr (kept made) i) b), stands_instr made i refl b)
 
   burst_stands : (r : Direction) (w : What) (x : Option tree.IndexTree) → ((i : tree.IndexTree) → x ≡ Some i → IsExpr i.value) → (d : Draft)
@@ -84,7 +85,7 @@ module _ {code : Parts} {place_of : ℕ → ℕ} (tells : ℕ → What) where
   join_stands : (r : Direction) (x : Option tree.JoinTree) → ((j : tree.JoinTree) (i : tree.IndexTree) → x ≡ Some j → j.burst ≡ Some i → IsExpr i.value) → (d : Draft)
       → Becomes (join_code tells r x d) code place_of → HasJoin code tells r x (length d.instrs) (length (join_code tells r x d).instrs)
   join_stands r None is d b = stands_instr d (Push (pos 1)) refl b
-  join_stands r (Some j) is d b = burst_stands r (tells j.name.mark.place) j.burst (λ i found. is j i refl found) d b
+  join_stands r (Some j) is d b = burst_stands r (tells j.name.mark.place).what j.burst (λ i found. is j i refl found) d b
 
   pub items_stand : (ps : List Part) → AreAll IsItem ps → (d : Draft) → Becomes (items_code tells ps d) code place_of →
       HasItems code tells ps (length d.instrs) (length (items_code tells ps d).instrs)
@@ -104,11 +105,11 @@ module _ {code : Parts} {place_of : ℕ → ℕ} (tells : ℕ → What) where
   pub tick_stands : (t : tree.TargetTree) → IsTarget t → (line : ℕ) (e : tree.ExprTree) → IsExpr e → (d : Draft)
       → Becomes (tick_code tells t line e d) code place_of
       → (mid end : ℕ) × HasStream code tells t (length d.instrs) mid × HasExpr code tells e mid end
-      × Stands code (BurstIn line ∷ Turn ∷ Tick (first_of (tells (target_name t).mark.place)) ∷ []) end (length (tick_code tells t line e d).instrs)
+      × Stands code (BurstIn line ∷ Turn ∷ Tick (first_of (tells (target_name t).mark.place).what) ∷ []) end (length (tick_code tells t line e d).instrs)
   tick_stands t is_t line e is_e d b =
       let streamed = stream_code tells t d in
       let made = expr_code tells e streamed in
-      let ticks = BurstIn line ∷ Turn ∷ Tick (first_of (tells (target_name t).mark.place)) ∷ [] in
+      let ticks = BurstIn line ∷ Turn ∷ Tick (first_of (tells (target_name t).mark.place).what) ∷ [] in
       let bm : Becomes made code place_of = back (keeps_instrs (kept made) ticks) b in (
         length streamed.instrs,
         length made.instrs,

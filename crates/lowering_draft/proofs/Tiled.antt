@@ -10,7 +10,7 @@ use Rattle.lowering_draft.specs.Emission.Units.{no_units, parts_made, program_un
 use Rattle.lowering_draft.specs.declared.units.Units.{Units}
 use Rattle.os_ast.specs.Names.{main_id}
 use Rattle.os_ast.specs.Trees as tree
-use Rattle.os_ast.specs.declared.names.What.{What}
+use Rattle.os_ast.specs.declared.names.Resolved.{Resolved}
 use Rattle.os_code.specs.declared.site.Site.{Site}
 use Rattle.os_code.specs.declared.unit.Unit.{Unit as CodeUnit}
 use Rattle.lowering_relation.specs.Tasks.{TaskTree, program_tasks}
@@ -25,7 +25,7 @@ tile_more (u ∷ us) from mid unit tiles starts = (tiles.0, tile_more us (from +
 abbrev Fills : Units → Type 0
 Fills made = Tile 0 (length made.draft.instrs) made.units
 
-module _ (tells : ℕ → What) where
+module _ (tells : ℕ → Resolved) where
   more_fills : (made after : Units) (unit : CodeUnit) → Fills made → unit.start ≡ length made.draft.instrs → after.units ≡ made.units ++ unit ∷ []
       → length made.draft.instrs + unit.stack ≡ length after.draft.instrs → Fills after
   more_fills made after unit fills starts is long =
@@ -51,19 +51,19 @@ module _ (tells : ℕ → What) where
       (more_fills made (with_task tells captured t made) _ fills refl refl (omega (arith, (task_grows tells captured t made).draft.no_shorter)))
 
 -- how many units there are
-function_counts : (is_main : Bool) (tells : ℕ → What) (f : tree.FunctionTree) (made : Units)
+function_counts : (is_main : Bool) (tells : ℕ → Resolved) (f : tree.FunctionTree) (made : Units)
     → length (with_function is_main tells f made).units ≡ length made.units + 1
 function_counts true tells f made = length-append made.units (_ ∷ [])
 function_counts false tells f made = length-append made.units (_ ∷ [])
 
-functions_count : (tells : ℕ → What) (is : List tree.ItemTree) (made : Units)
+functions_count : (tells : ℕ → Resolved) (is : List tree.ItemTree) (made : Units)
     → length (with_functions tells is made).units ≡ length made.units + count_functions is
 functions_count tells [] made = omega arith
 functions_count tells (tree.Constant c ∷ is) made = functions_count tells is made
 functions_count tells (tree.Function f ∷ is) made =
     omega (arith, functions_count tells is (with_function (f.name.id == main_id) tells f made), function_counts (f.name.id == main_id) tells f made)
 
-tasks_count : (tells : ℕ → What) (captured : List (List ℕ)) (ts : List TaskTree) (made : Units) →
+tasks_count : (tells : ℕ → Resolved) (captured : List (List ℕ)) (ts : List TaskTree) (made : Units) →
     length (with_tasks tells captured ts made).units ≡ length made.units + length ts
 tasks_count tells captured [] made = omega arith
 tasks_count tells captured (t ∷ ts) made =
@@ -82,7 +82,7 @@ of_last [] x y (suc k) le is = absurd (cc)
 of_last (z ∷ xs) x y zero le is = absurd (omega (arith, le))
 of_last (z ∷ xs) x y (suc k) le is = let more = of_last xs x y k (omega (arith, le)) is in (ap suc more.0, more.1)
 
-tasks_sited : (base : ℕ) (tells : ℕ → What) (captured : List (List ℕ)) (ts : List TaskTree) (made : Units) → Sited base made
+tasks_sited : (base : ℕ) (tells : ℕ → Resolved) (captured : List (List ℕ)) (ts : List TaskTree) (made : Units) → Sited base made
     → Sited base (with_tasks tells captured ts made)
 tasks_sited base tells captured [] made sited = sited
 tasks_sited base tells captured (t ∷ ts) made sited =
@@ -98,7 +98,7 @@ tasks_sited base tells captured (t ∷ ts) made sited =
       ];
     })
 
-functions_sited : (tells : ℕ → What) (is : List tree.ItemTree) (made : Units) → made.sites ≡ [] → (with_functions tells is made).sites ≡ []
+functions_sited : (tells : ℕ → Resolved) (is : List tree.ItemTree) (made : Units) → made.sites ≡ [] → (with_functions tells is made).sites ≡ []
 functions_sited tells [] made none = none
 functions_sited tells (tree.Constant c ∷ is) made none = functions_sited tells is made none
 functions_sited tells (tree.Function f ∷ is) made none = by_case (f.name.id == main_id) (λ after still. functions_sited tells is after still)
@@ -109,7 +109,7 @@ functions_sited tells (tree.Function f ∷ is) made none = by_case (f.name.id ==
     by_case false go = go (with_plain tells f made) none
 
 -- The units of what is made of a program lie in order, where they are not too long and have few slots.
-pub program_tiled : (tells : ℕ → What) (captured : List (List ℕ)) (streams : ℕ) (p : tree.ProgramTree)
+pub program_tiled : (tells : ℕ → Resolved) (captured : List (List ℕ)) (streams : ℕ) (p : tree.ProgramTree)
     → length (program_units tells captured p).draft.instrs < 2 ^ 32
     → sum_by (λ (unit : CodeUnit). unit.slots) (program_units tells captured p).units ≤ 2097152
     → IsTiled (parts_made streams (program_units tells captured p)) p

@@ -17,7 +17,7 @@ use Rattle.os_ast.specs.Notes.Programs.{file, program_notes}
 use Rattle.os_ast.specs.Spelling.{spell}
 use Rattle.os_ast.specs.Trees as tree
 use Rattle.os_ast.specs.Violations.{captured_by_tasks, streams, violations}
-use Rattle.os_ast.specs.declared.names.What.{What}
+use Rattle.os_ast.specs.declared.names.Resolved.{Resolved}
 use Rattle.lowering_relation.specs.Programs.{HasProgram, HasTask}
 use Rattle.lowering_relation.specs.Tasks.{TaskTree, all_tasks_of, program_tasks}
 use Rattle.window_check_laws.proofs.Globals.{distinct-program}
@@ -27,7 +27,7 @@ use Rattle.window_check_laws.specs.Room.{items_weight}
 use Rattle.window_check_laws.specs.Told.{AreLawful}
 
 -- functions make no sites, and each task makes one
-functions_no_sites : (tells : ℕ → What) (is : List tree.ItemTree) (made : Units) → (with_functions tells is made).sites ≡ made.sites
+functions_no_sites : (tells : ℕ → Resolved) (is : List tree.ItemTree) (made : Units) → (with_functions tells is made).sites ≡ made.sites
 functions_no_sites tells [] made = refl
 functions_no_sites tells (tree.Constant c ∷ is) made = functions_no_sites tells is made
 functions_no_sites tells (tree.Function f ∷ is) made =
@@ -37,7 +37,7 @@ functions_no_sites tells (tree.Function f ∷ is) made =
     by_case true = refl
     by_case false = refl
 
-pub tasks_sites : (tells : ℕ → What) (captured : List (List ℕ)) (ts : List TaskTree) (made : Units) →
+pub tasks_sites : (tells : ℕ → Resolved) (captured : List (List ℕ)) (ts : List TaskTree) (made : Units) →
     length (with_tasks tells captured ts made).sites ≡ length made.sites + length ts
 tasks_sites tells captured [] made = omega arith
 tasks_sites tells captured (t ∷ ts) made =
@@ -56,7 +56,7 @@ program_tasks_small (tree.Function f ∷ is) = by_case (f.name.id == main_id) (p
     by_case false more = omega (arith, more)
 
 -- What is made of a lawful program stands for it.
-pub program_stands : (tells : ℕ → What) (p : tree.ProgramTree) → IsLeveled p → HasPlaces p → violations p ≡ [] → length (spell p) ≤ 262144
+pub program_stands : (tells : ℕ → Resolved) (p : tree.ProgramTree) → IsLeveled p → HasPlaces p → violations p ≡ [] → length (spell p) ≤ 262144
     → HasProgram (parts_made (streams p) (program_units tells (captured_by_tasks p) p)) p tells (captured_by_tasks p) (streams p)
 program_stands tells p leveled places none few =
     let captured = captured_by_tasks p in

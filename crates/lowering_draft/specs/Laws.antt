@@ -15,7 +15,7 @@ use Rattle.lowering_draft.specs.declared.exits.Exits.{Exits}
 use Rattle.os_ast.specs.Leveled.{AreAll, AreStmts, IsChange, IsExpr, IsStmt}
 use Rattle.os_ast.specs.Parts.{Part}
 use Rattle.os_ast.specs.Trees as tree
-use Rattle.os_ast.specs.declared.names.What.{What}
+use Rattle.os_ast.specs.declared.names.Resolved.{Resolved}
 use Rattle.os_code.specs.declared.parts.Parts.{Parts}
 use Rattle.lowering_relation.specs.Changes.{HasChange}
 use Rattle.lowering_relation.specs.Declarators.{HasDeclarators}
@@ -28,23 +28,23 @@ abbrev pub Makes : Parts → (ℕ → ℕ) → Emission → ((from to : ℕ) →
 Makes code place_of f has = (d : Draft) → Becomes (f d) code place_of → has (length d.instrs) (length (f d).instrs)
 
 abbrev pub ExpressionsStand : Type 0
-ExpressionsStand = (code : Parts) (place_of : ℕ → ℕ) (tells : ℕ → What) (e : tree.ExprTree) → IsExpr e →
+ExpressionsStand = (code : Parts) (place_of : ℕ → ℕ) (tells : ℕ → Resolved) (e : tree.ExprTree) → IsExpr e →
     Makes code place_of (expr_code tells e) (HasExpr code tells e)
 
 abbrev pub ConditionsStand : Type 0
-ConditionsStand = (code : Parts) (place_of : ℕ → ℕ) (tells : ℕ → What) (fails : Label) (e : tree.ExprTree) → IsExpr e →
+ConditionsStand = (code : Parts) (place_of : ℕ → ℕ) (tells : ℕ → Resolved) (fails : Label) (e : tree.ExprTree) → IsExpr e →
     Makes code place_of (condition_code tells e fails) (HasCondition code tells e (place_of fails.number))
 
 abbrev pub ChangesStand : Type 0
-ChangesStand = (code : Parts) (place_of : ℕ → ℕ) (tells : ℕ → What) (c : tree.ChangeTree) → IsChange c →
+ChangesStand = (code : Parts) (place_of : ℕ → ℕ) (tells : ℕ → Resolved) (c : tree.ChangeTree) → IsChange c →
     Makes code place_of (change_code tells c) (HasChange code tells c)
 
 abbrev pub DeclaratorsStand : Type 0
-DeclaratorsStand = (code : Parts) (place_of : ℕ → ℕ) (tells : ℕ → What) (ds : List tree.DeclaratorTree) → AreAll IsGiven ds →
+DeclaratorsStand = (code : Parts) (place_of : ℕ → ℕ) (tells : ℕ → Resolved) (ds : List tree.DeclaratorTree) → AreAll IsGiven ds →
     Makes code place_of (declarators_code tells ds) (HasDeclarators code tells ds)
 
 abbrev pub ItemsStand : Type 0
-ItemsStand = (code : Parts) (place_of : ℕ → ℕ) (tells : ℕ → What) (ps : List Part) → AreAll IsItem ps →
+ItemsStand = (code : Parts) (place_of : ℕ → ℕ) (tells : ℕ → Resolved) (ps : List Part) → AreAll IsItem ps →
     Makes code place_of (items_code tells ps) (HasItems code tells ps)
 
 -- What the code of a statement or a block adds to a draft has something, by where `break` and `continue` go and where the
@@ -65,9 +65,9 @@ BlocksStand = (code : Parts) (place_of : ℕ → ℕ) (b : Body) (ss : tree.Stmt
 
 -- A draft spawns the tasks of a statement, one by one.
 abbrev pub TasksAreSpawned : Type 0
-TasksAreSpawned = (tells : ℕ → What) (s : tree.StmtTree) (x : Exits) (next : Option Label) (d : Draft) →
+TasksAreSpawned = (tells : ℕ → Resolved) (s : tree.StmtTree) (x : Exits) (next : Option Label) (d : Draft) →
     (stmt_code tells s x next d).spawned ≡ d.spawned + length (tasks_of s)
 
 abbrev pub BlocksAreSpawned : Type 0
-BlocksAreSpawned = (tells : ℕ → What) (ss : tree.Stmts) (x : Exits) (next : Option Label) (d : Draft) →
+BlocksAreSpawned = (tells : ℕ → Resolved) (ss : tree.Stmts) (x : Exits) (next : Option Label) (d : Draft) →
     (block_code tells ss x next d).spawned ≡ d.spawned + length (all_tasks_of ss)

@@ -2,9 +2,9 @@
 //!
 //! A `Draft` grows instruction by instruction; its jumps name labels, and each label gets its place when the draft comes
 //! there, which `resolve` puts in at last. `Units` is a code while it is made: the draft, and the units and sites so far.
-//! `Told` finds what a name means; for each meaning there are instructions, for a body the slots that it takes, and for a
-//! task the items of its site. What is drafted for a part is a function of the tree, of what its names mean and of the draft
-//! before (`specs/Emission`).
+//! `Told` finds what a name means and whether that is `unsigned`; for each meaning there are instructions, for an operator the one
+//! that the types of its operands choose, for a body the slots that it takes, and for a task the items of its site. What is
+//! drafted for a part is a function of the tree, of what its names mean and of the draft before (`specs/Emission`).
 //!
 //! `laws` has what comes of it: a code which such a draft becomes stands for the part, by the relation of `lowering_relation`; its
 //! tasks are spawned one by one; and there are at most 8 instructions a token. The walks over the trees that make such
@@ -20,6 +20,7 @@ mod operators;
 mod sites;
 mod slots;
 mod told;
+mod types;
 mod units;
 
 pub use draft::{Draft, Label};
@@ -29,8 +30,9 @@ pub use names::{
     bursting, calling, checking_at, count_of, emit_aiming, emit_element, emit_reading, first_of,
     reading_at, storing, storing_at,
 };
-pub use operators::{emit_operation, literal, operator_of_one, step_operator};
+pub use operators::{emit_operation, literal, operator_of_one, step_operator, unary_for};
 pub use sites::{captured_at, listed, site_items};
 pub use slots::{stmt_slots, stmts_slots};
 pub use told::Told;
+pub use types::{Types, type_of_one, type_of_two};
 pub use units::Units;

@@ -85,7 +85,7 @@ fn site_item(told: &Told<'_>, direction: Direction, item: &ClauseItem) -> SiteIt
 {
     SiteItem {
         write: is_write(direction),
-        stream: first_of(told.at(item.stream.name.mark.place)),
+        stream: first_of(told.at(item.stream.name.mark.place).what),
         window: window_of(told, &item.window),
     }
 }
@@ -105,6 +105,6 @@ fn window_of(told: &Told<'_>, window: &Option<Join>) -> Option<u32>
 {
     match window {
         None => None,
-        Some(join) => slot_of(told.at(join.name.mark.place)),
+        Some(join) => slot_of(told.at(join.name.mark.place).what),
     }
 }

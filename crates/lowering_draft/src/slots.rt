@@ -101,7 +101,7 @@ fn size_by(told: &Told<'_>, size: &Expr) -> u32
 {
     match size {
         Expr::Number(number) | Expr::Wide(number) => limited(i64::from(*number)),
-        Expr::Place(Target { name, index: None }) => constant_size(told.at(name.mark.place)),
+        Expr::Place(Target { name, index: None }) => constant_size(told.at(name.mark.place).what),
         _ => 0,
     }
 }

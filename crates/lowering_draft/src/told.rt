@@ -13,8 +13,8 @@ pub struct Told<'a> {
 
 impl<'a> Told<'a> {
     #[tactic(auto, using(crate::proofs::Placed::told_found, crate::proofs::Placed::told_absent))]
-    /// What the name at a place means, found by halving. A place that no name has is told a constant.
-    pub fn at(&self, place: u32) -> What
+    /// What the name at a place means, and of which type it is, found by halving. A place that no name has is told a constant.
+    pub fn at(&self, place: u32) -> Resolved
         ensures { result ≡ told_at self.now.names.now place }
     {
         let names = self.names;
@@ -24,7 +24,7 @@ impl<'a> Told<'a> {
             let middle = low + (high - low) / 2;
             let name = names[middle];
             if name.place == place {
-                return name.what;
+                return name;
             }
             if name.place < place {
                 low = middle + 1;
@@ -32,6 +32,10 @@ impl<'a> Told<'a> {
                 high = middle;
             }
         }
-        What::Constant(0)
+        Resolved {
+            place,
+            what: What::Constant(0),
+            unsigned: false,
+        }
     }
 }

@@ -1,15 +1,16 @@
 //! Changes of a target: its index is checked, then the right side is evaluated, then it is stored.
 
-ghost use Rattle.std.specs.Prelude.{◌≡◌, OnOk, false, true};
+ghost use Rattle.std.specs.Prelude.{◌≡◌, IfOk, OnOk, false, true};
 ghost use Rattle.cddf_meaning.specs.Operators.{step_operator};
 ghost use Rattle.lowering_draft.specs.Emission.Changes.{aim_code, change_code, changed_code, operated_code, plain_code, store_code, stepped_code};
 ghost use Rattle.os_ast.specs.Views.{change_tree, expr_tree, target_tree};
+ghost use Rattle.lowering_relation.specs.Changes.{target_by};
 ghost use Rattle.lowering_relation.specs.Names.{told_at};
 
 use crate::expressions::emit_expr;
 use crate::quiet::is_quiet;
 use lowering_draft::{
-    Draft, Told, checking_at, emit_aiming, emit_element, emit_operation, emit_reading,
+    Draft, Told, Types, checking_at, emit_aiming, emit_element, emit_operation, emit_reading,
     step_operator, storing, storing_at,
 };
 use os_ast::{Assign, Binary, Change, Expr, Mark, Step, Target};
@@ -64,15 +65,16 @@ fn emit_assign(
     value: &Expr,
 ) -> Result<(), Memory>
     ensures { OnOk result (draft.new ≡ changed_code (told_at told.now.names.now) true (target_tree target.now)
-        (operated_code (told_at told.now.names.now) operator mark.line (expr_tree value.now)) draft.old) }
+        (operated_code (told_at told.now.names.now) operator mark.line (target_by (told_at told.now.names.now) (target_tree target.now))
+        (expr_tree value.now)) draft.old) }
 {
-    emit_fetch(draft, told, target)?;
-    emit_expr(draft, told, value)?;
-    emit_operation(draft, operator, mark.line)?;
+    let left = emit_fetch(draft, told, target)?;
+    let right = emit_expr(draft, told, value)?;
+    emit_operation(draft, operator, Types { left, right }, mark.line)?;
     emit_store(draft, told, target)
 }
 
-/// `target++` and `target--`, before or behind.
+/// `target++` and `target--`, before or behind. The 1 of a step is an `int`.
 fn emit_step(
     draft: &mut Draft,
     told: &Told<'_>,
@@ -81,11 +83,12 @@ fn emit_step(
     mark: Mark,
 ) -> Result<(), Memory>
     ensures { OnOk result (draft.new ≡ changed_code (told_at told.now.names.now) true (target_tree target.now)
-        (stepped_code (step_operator step) mark.line) draft.old) }
+        (stepped_code (step_operator step) mark.line (target_by (told_at told.now.names.now) (target_tree target.now))) draft.old) }
 {
-    emit_fetch(draft, told, target)?;
+    let left = emit_fetch(draft, told, target)?;
     draft.emit(Instr::Push(1))?;
-    emit_operation(draft, step_operator(step), mark.line)?;
+    let types = Types { left, right: false };
+    emit_operation(draft, step_operator(step), types, mark.line)?;
     emit_store(draft, told, target)
 }
 
@@ -93,7 +96,7 @@ fn emit_step(
 fn emit_aim(draft: &mut Draft, told: &Told<'_>, target: &Target) -> Result<(), Memory>
     ensures { OnOk result (draft.new ≡ aim_code (told_at told.now.names.now) false (target_tree target.now) draft.old) }
 {
-    let what = told.at(target.name.mark.place);
+    let what = told.at(target.name.mark.place).what;
     match &target.index {
         None => emit_aiming(draft, what),
         Some(index) => {
@@ -103,22 +106,24 @@ fn emit_aim(draft: &mut Draft, told: &Told<'_>, target: &Target) -> Result<(), M
     }
 }
 
-/// The same, and the old value behind it.
-fn emit_fetch(draft: &mut Draft, told: &Told<'_>, target: &Target) -> Result<(), Memory>
-    ensures { OnOk result (draft.new ≡ aim_code (told_at told.now.names.now) true (target_tree target.now) draft.old) }
+/// The same, and the old value behind it. It tells whether this is of the type `unsigned`.
+fn emit_fetch(draft: &mut Draft, told: &Told<'_>, target: &Target) -> Result<bool, Memory>
+    ensures { IfOk result (λ unsigned. (unsigned ≡ target_by (told_at told.now.names.now) (target_tree target.now))
+        × (draft.new ≡ aim_code (told_at told.now.names.now) true (target_tree target.now) draft.old)) }
 {
     let name = target.name;
-    let what = told.at(name.mark.place);
+    let named = told.at(name.mark.place);
     match &target.index {
         None => {
-            emit_aiming(draft, what)?;
-            emit_reading(draft, what, name.mark.line)
+            emit_aiming(draft, named.what)?;
+            emit_reading(draft, named.what, name.mark.line)?
         }
         Some(index) => {
             emit_expr(draft, told, &index.value)?;
-            emit_element(draft, what, index.mark.line)
+            emit_element(draft, named.what, index.mark.line)?
         }
     }
+    Ok(named.unsigned)
 }
 
 /// Stores what is on the stack, behind what stands before it.
@@ -126,7 +131,7 @@ fn emit_store(draft: &mut Draft, told: &Told<'_>, target: &Target) -> Result<(),
     ensures { OnOk result (draft.new ≡ store_code (told_at told.now.names.now) (target_tree target.now) draft.old) }
 {
     let name = target.name;
-    let what = told.at(name.mark.place);
+    let what = told.at(name.mark.place).what;
     match &target.index {
         None => draft.emit(storing(what, name.mark.line)),
         Some(index) => draft.emit(storing_at(what, index.mark.line)),

@@ -46,9 +46,10 @@ fn emit_declarator(
     declarator: &Declarator,
 ) -> Result<(), Memory>
     ensures { OnOk result (draft.new
-        ≡ declared_code (told_at told.now.names.now) (told_at told.now.names.now declarator.now.name.mark.place) (declarator_tree declarator.now) draft.old) }
+        ≡ declared_code (told_at told.now.names.now) (told_at told.now.names.now declarator.now.name.mark.place).what
+        (declarator_tree declarator.now) draft.old) }
 {
-    match told.at(declarator.name.mark.place) {
+    match told.at(declarator.name.mark.place).what {
         What::Scalar(slot) => {
             emit_scalar(draft, told, declarator.name.id, slot, &declarator.first)
         }

@@ -1,48 +1,59 @@
-//! Expressions: their code pushes their value.
+//! Expressions: their code pushes their value, and each walk tells the type of what it went over.
 
-ghost use Rattle.std.specs.Prelude.{◌≡◌, OnOk, [], ◌∷◌};
+ghost use Rattle.std.specs.Prelude.{◌≡◌, IfOk, OnOk, [], ◌∷◌, false};
+ghost use Rattle.cddf_meaning.specs.Types.{type_behind, type_of_one, type_of_two};
 ghost use Rattle.lowering_draft.specs.Draft.{with_instrs};
-ghost use Rattle.lowering_draft.specs.Emission.Expressions.{args_code, expr_code, links_code, place_code, with_link, with_unary, worked_out};
+ghost use Rattle.lowering_draft.specs.Emission.Expressions.{args_code, expr_code, links_code, with_link, with_unary, worked_out};
 ghost use Rattle.c_int.specs.declared.operators.Unary.TheVariants as int_unary;
 ghost use Rattle.os_ast.specs.Trees as tree;
 ghost use Rattle.os_ast.specs.Views.{args_tree, expr_tree, links_tree, target_tree};
-ghost use Rattle.lowering_relation.specs.Names.{told_at};
+ghost use Rattle.lowering_relation.specs.Expressions.{type_by};
+ghost use Rattle.lowering_relation.specs.Names.{flags_by, told_at};
 
 use c_int::apply_unary;
 use lowering_draft::{
-    Draft, Told, calling, emit_operation, emit_reading, literal, operator_of_one, reading_at,
+    Draft, Told, Types, calling, emit_operation, emit_reading, literal, operator_of_one,
+    reading_at, type_of_one, type_of_two, unary_for,
 };
 use os_ast::{Binary, Call, Expr, Link, Mark, Target, Unary};
 use os_code::Instr;
 use os_io::{List, Memory};
 
-/// An expression.
+/// An expression. It tells whether this is of the type `unsigned`.
 #[cycle(expressions)]
 #[tactic(auto, using(crate::proofs::Rules::expressions))]
-pub fn emit_expr(draft: &mut Draft, told: &Told<'_>, expr: &Expr) -> Result<(), Memory>
-    ensures { OnOk result (draft.new ≡ expr_code (told_at told.now.names.now) (expr_tree expr.now) draft.old) }
+pub fn emit_expr(draft: &mut Draft, told: &Told<'_>, expr: &Expr) -> Result<bool, Memory>
+    ensures { IfOk result (λ unsigned. (unsigned ≡ type_by (told_at told.now.names.now) (expr_tree expr.now))
+        × (draft.new ≡ expr_code (told_at told.now.names.now) (expr_tree expr.now) draft.old)) }
 {
     match expr {
-        Expr::Number(number) => draft.emit(Instr::Push(literal(*number))),
-        Expr::Wide(number) => draft.emit(Instr::Push(number.cast_signed())),
+        Expr::Number(number) => {
+            draft.emit(Instr::Push(literal(*number)))?;
+            Ok(false)
+        }
+        Expr::Wide(number) => {
+            draft.emit(Instr::Push(number.cast_signed()))?;
+            Ok(true)
+        }
         Expr::Place(target) => emit_place(draft, told, target),
         Expr::Call(call) => emit_call(draft, told, call),
         Expr::Paren(inner) => emit_expr(draft, told, inner),
         Expr::Unary(operator, mark, operand) => emit_unary(draft, told, *operator, *mark, operand),
         Expr::Chain(_, first, links) => {
-            emit_expr(draft, told, first)?;
-            emit_links(draft, told, links)
+            let left = emit_expr(draft, told, first)?;
+            emit_links(draft, told, left, links)
         }
         Expr::Choice(condition, first, second) => {
             let otherwise = draft.label()?;
             let done = draft.label()?;
             emit_expr(draft, told, condition)?;
             draft.emit(Instr::JumpZero(otherwise.number))?;
-            emit_expr(draft, told, first)?;
+            let one = emit_expr(draft, told, first)?;
             draft.emit(Instr::Jump(done.number))?;
             draft.place(otherwise)?;
-            emit_expr(draft, told, second)?;
-            draft.place(done)
+            let other = emit_expr(draft, told, second)?;
+            draft.place(done)?;
+            Ok(one || other)
         }
     }
 }
@@ -50,29 +61,39 @@ pub fn emit_expr(draft: &mut Draft, told: &Told<'_>, expr: &Expr) -> Result<(), 
 /// A name without an index, or with one.
 #[cycle(expressions)]
 #[tactic(auto, using(crate::proofs::Rules::expressions))]
-pub(crate) fn emit_place(draft: &mut Draft, told: &Told<'_>, target: &Target) -> Result<(), Memory>
-    ensures { OnOk result (draft.new ≡ place_code (told_at told.now.names.now) (target_tree target.now) draft.old) }
+pub(crate) fn emit_place(
+    draft: &mut Draft,
+    told: &Told<'_>,
+    target: &Target,
+) -> Result<bool, Memory>
+    ensures { IfOk result (λ unsigned. (unsigned ≡ type_by (told_at told.now.names.now) (tree.Place (target_tree target.now)))
+        × (draft.new ≡ expr_code (told_at told.now.names.now) (tree.Place (target_tree target.now)) draft.old)) }
 {
     let name = target.name;
-    let what = told.at(name.mark.place);
+    let named = told.at(name.mark.place);
     match &target.index {
-        None => emit_reading(draft, what, name.mark.line),
+        None => emit_reading(draft, named.what, name.mark.line)?,
         Some(index) => {
             emit_expr(draft, told, &index.value)?;
-            draft.emit(reading_at(what, index.mark.line))
+            draft.emit(reading_at(named.what, index.mark.line))?
         }
     }
+    Ok(named.unsigned)
 }
 
 /// A call: its arguments, a unit of the budget, the call.
 #[cycle(expressions)]
 #[tactic(auto, using(crate::proofs::Rules::expressions))]
-pub fn emit_call(draft: &mut Draft, told: &Told<'_>, call: &Call) -> Result<(), Memory>
-    ensures { OnOk result (draft.new ≡ expr_code (told_at told.now.names.now) (tree.ExprTree.Call call.now.name (args_tree call.now.args)) draft.old) }
+pub fn emit_call(draft: &mut Draft, told: &Told<'_>, call: &Call) -> Result<bool, Memory>
+    ensures { IfOk result (λ unsigned.
+        (unsigned ≡ type_by (told_at told.now.names.now) (tree.ExprTree.Call call.now.name (args_tree call.now.args)))
+        × (draft.new ≡ expr_code (told_at told.now.names.now) (tree.ExprTree.Call call.now.name (args_tree call.now.args)) draft.old)) }
 {
     emit_args(draft, told, &call.args)?;
     draft.emit(Instr::Turn)?;
-    draft.emit(calling(told.at(call.name.mark.place)))
+    let named = told.at(call.name.mark.place);
+    draft.emit(calling(named.what))?;
+    Ok(named.unsigned)
 }
 
 /// The arguments of a call, from the first one on.
@@ -87,7 +108,7 @@ fn emit_args(draft: &mut Draft, told: &Told<'_>, args: &List<Expr>) -> Result<()
     Ok(())
 }
 
-/// An operator with one operand. Of a number it is worked out here, where it gives one.
+/// An operator with one operand. Of a number, which is an `int`, it is worked out here, where it gives one.
 #[cycle(expressions)]
 #[tactic(auto, using(crate::proofs::Rules::expressions))]
 fn emit_unary(
@@ -96,19 +117,24 @@ fn emit_unary(
     operator: Unary,
     mark: Mark,
     operand: &Expr,
-) -> Result<(), Memory>
-    ensures { OnOk result (draft.new
-        ≡ with_unary (worked_out operator (expr_tree operand.now)) operator mark.line
-        (expr_code (told_at told.now.names.now) (expr_tree operand.now)) draft.old) }
+) -> Result<bool, Memory>
+    ensures { IfOk result (λ unsigned. (unsigned ≡ type_of_one operator (type_by (told_at told.now.names.now) (expr_tree operand.now)))
+        × (draft.new ≡ with_unary (worked_out operator (expr_tree operand.now)) operator mark.line
+        (type_by (told_at told.now.names.now) (expr_tree operand.now))
+        (expr_code (told_at told.now.names.now) (expr_tree operand.now)) draft.old)) }
 {
     match worked_out(operator, operand) {
-        Some(value) => draft.emit(Instr::Push(value)),
+        Some(value) => {
+            draft.emit(Instr::Push(value))?;
+            Ok(false)
+        }
         None => {
-            emit_expr(draft, told, operand)?;
+            let unsigned = emit_expr(draft, told, operand)?;
             draft.emit(Instr::Unary {
-                op: operator_of_one(operator),
+                op: unary_for(unsigned, operator_of_one(operator)),
                 line: mark.line,
-            })
+            })?;
+            Ok(type_of_one(operator, unsigned))
         }
     }
 }
@@ -129,32 +155,49 @@ fn worked_out(operator: Unary, operand: &Expr) -> Option<i32>
     }
 }
 
-/// The links of a chain, behind the number on the left of the first one.
+/// The links of a chain, behind a number of this type, which is on the left of the first one.
 #[cycle(expressions)]
 #[tactic(auto, using(crate::proofs::Rules::expressions))]
-fn emit_links(draft: &mut Draft, told: &Told<'_>, links: &List<Link>) -> Result<(), Memory>
-    ensures { OnOk result (draft.new ≡ links_code (told_at told.now.names.now) (links_tree links.now) draft.old) }
+fn emit_links(
+    draft: &mut Draft,
+    told: &Told<'_>,
+    first: bool,
+    links: &List<Link>,
+) -> Result<bool, Memory>
+    ensures { IfOk result (λ unsigned. (unsigned ≡ type_behind (flags_by (told_at told.now.names.now)) (links_tree links.now) first)
+        × (draft.new ≡ links_code (told_at told.now.names.now) (links_tree links.now) first draft.old)) }
 {
+    let mut left = first;
     for link in links.as_slice() {
-        emit_link(draft, told, link)?;
+        left = emit_link(draft, told, left, link)?;
     }
-    Ok(())
+    Ok(left)
 }
 
-/// An operator and its right side, behind the number on its left.
+/// An operator and its right side, behind a number of this type, which is on its left.
 #[cycle(expressions)]
 #[tactic(auto, using(crate::proofs::Rules::expressions))]
-fn emit_link(draft: &mut Draft, told: &Told<'_>, link: &Link) -> Result<(), Memory>
-    ensures { OnOk result (draft.new ≡ with_link link.now.op link.now.mark.line
-        (expr_code (told_at told.now.names.now) (expr_tree link.now.right)) draft.old) }
+fn emit_link(draft: &mut Draft, told: &Told<'_>, left: bool, link: &Link) -> Result<bool, Memory>
+    ensures { IfOk result (λ unsigned.
+        (unsigned ≡ type_of_two link.now.op left (type_by (told_at told.now.names.now) (expr_tree link.now.right)))
+        × (draft.new ≡ with_link link.now.op link.now.mark.line left (type_by (told_at told.now.names.now) (expr_tree link.now.right))
+        (expr_code (told_at told.now.names.now) (expr_tree link.now.right)) draft.old)) }
 {
     let line = link.mark.line;
     match link.op {
-        Binary::And => emit_and(draft, told, line, &link.right),
-        Binary::Or => emit_or(draft, told, line, &link.right),
+        Binary::And => {
+            emit_and(draft, told, line, &link.right)?;
+            Ok(false)
+        }
+        Binary::Or => {
+            emit_or(draft, told, line, &link.right)?;
+            Ok(false)
+        }
         operator => {
-            emit_expr(draft, told, &link.right)?;
-            emit_operation(draft, operator, line)
+            let right = emit_expr(draft, told, &link.right)?;
+            let types = Types { left, right };
+            emit_operation(draft, operator, types, line)?;
+            Ok(type_of_two(operator, types))
         }
     }
 }
@@ -163,7 +206,7 @@ fn emit_link(draft: &mut Draft, told: &Told<'_>, link: &Link) -> Result<(), Memo
 #[cycle(expressions)]
 #[tactic(auto, using(crate::proofs::Rules::expressions))]
 fn emit_and(draft: &mut Draft, told: &Told<'_>, line: u32, right: &Expr) -> Result<(), Memory>
-    ensures { OnOk result (draft.new ≡ with_link Binary.And line (expr_code (told_at told.now.names.now) (expr_tree right.now)) draft.old) }
+    ensures { OnOk result (draft.new ≡ with_link Binary.And line false false (expr_code (told_at told.now.names.now) (expr_tree right.now)) draft.old) }
 {
     let zero = draft.label()?;
     let done = draft.label()?;
@@ -180,7 +223,7 @@ fn emit_and(draft: &mut Draft, told: &Told<'_>, line: u32, right: &Expr) -> Resu
 #[cycle(expressions)]
 #[tactic(auto, using(crate::proofs::Rules::expressions))]
 fn emit_or(draft: &mut Draft, told: &Told<'_>, line: u32, right: &Expr) -> Result<(), Memory>
-    ensures { OnOk result (draft.new ≡ with_link Binary.Or line (expr_code (told_at told.now.names.now) (expr_tree right.now)) draft.old) }
+    ensures { OnOk result (draft.new ≡ with_link Binary.Or line false false (expr_code (told_at told.now.names.now) (expr_tree right.now)) draft.old) }
 {
     let zero = draft.label()?;
     let done = draft.label()?;

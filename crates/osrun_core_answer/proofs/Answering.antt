@@ -20,8 +20,6 @@ use Rattle.osrun_core_jobs.specs.declared.refusal.Refusal.{Refusal}
 use Rattle.osrun_core_jobs.specs.declared.refusal.Refusal.TheVariants as refusals
 use Rattle.osrun_core_jobs.specs.declared.status.Status.{Status}
 use Rattle.osrun_core_jobs.specs.declared.status.Status.TheVariants as statuses
-use Rattle.osrun_core_jobs.specs.declared.subject.Subject.{Subject}
-use Rattle.osrun_core_jobs.specs.declared.subject.Subject.TheVariants as subjects
 use Rattle.osrun_core_run.specs.Laws.{NeverUsableAndRefused}
 use Rattle.osrun_core_run.specs.Reported.{IsReportOf}
 use Rattle.osrun_core_run.specs.Refusal.{IsUnusable, IsUsable}

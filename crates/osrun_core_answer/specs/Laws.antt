@@ -2,7 +2,7 @@
 use Rattle.std.specs.Prelude.{◌≡◌, ℕ, List, [], ◌∷◌, Option, Some}
 use Rattle.osrun_core_answer.specs.Outcome.{IsOutcome, IsOutcomeOfCompile, IsOutcomeOfExec, IsOutcomeOfRun, Outcome}
 use Rattle.osrun_core_jobs.specs.Files.{JobFile}
-use Rattle.osrun_core_jobs.specs.Jobs.{Compile, CompileJob, Exec, ExecJob, Gen, Job, Request, Run}
+use Rattle.osrun_core_jobs.specs.Jobs.{CompileJob, Exec, ExecJob, Gen, Job, Request, Run}
 
 -- the requests are the same, but for the number of workers
 abbrev pub SameButForWorkers : Request → Request → Type 0

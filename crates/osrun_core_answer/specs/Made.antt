@@ -1,12 +1,10 @@
 -- What calls on the way of a job answer.
-use Rattle.std.specs.Prelude.{◌≡◌, ◌⊎◌, ℕ, All, List, [], ◌∷◌, MatchResult, Result}
+use Rattle.std.specs.Prelude.{◌≡◌, ◌⊎◌, ℕ, List, [], ◌∷◌, MatchResult, Result}
 use Rattle.front_end.specs.Texts.{IsAccepted}
-use Rattle.os_ast.specs.Spelling.{spell}
 use Rattle.os_ast.specs.Trees.{ProgramTree}
 use Rattle.os_ast.specs.Views.{program_tree}
 use Rattle.os_io.specs.declared.files.Files.{Ghosts as FilesView}
 use Rattle.os_io.specs.declared.sink.Sink.{Ghosts as SinkView}
-use Rattle.os_lexer.specs.Laws.{HasSmallNumber}
 use Rattle.osrun_core_answer.specs.Outcome.{IsOutcome, Outcome}
 use Rattle.os_code.specs.Codes.{parts_of}
 use Rattle.os_code.specs.declared.code.Code.{Code}
@@ -27,11 +25,11 @@ use Rattle.osrun_core_run.specs.RunOf.{IsRunOf, IsRunOfCode}
 use Rattle.osrun_core_run.specs.declared.made.Run.{Run}
 use Rattle.window_check.specs.declared.checked.Checked.{Checked}
 
--- a program was read, which has neither the key `unsigned` nor a wide number, or it was opened and is the cause
+-- a program was read, or it was opened and is the cause
 abbrev pub ReadsProgram : {F : Type 0} → FilesView F → F → F → List ℕ → Result Checked Refusal → Type 0
 ReadsProgram view old new name result = MatchResult result
     (λ checked. (text : List ℕ) × WasRead IsUsable view old new (record { subject = subjects.Program; name = name }) text
-    × IsAccepted text (program_tree checked.program) × All HasSmallNumber (spell (program_tree checked.program)))
+    × IsAccepted text (program_tree checked.program))
     (λ refusal. Opened view old new (record { subject = subjects.Program; name = name })
     × IsFailed IsUnusable view old new (record { subject = subjects.Program; name = name }) refusal)
 

@@ -1,6 +1,6 @@
 -- An object is read as its code or refused, and never both.
-use Rattle.std.proofs.Common.{◌≡◌, ◌⊎◌, inl, inr, ℕ, List, Option, Some, None, refl, subst}
-use Rattle.std.specs.Prelude.{Result, Ok, Err}
+use Rattle.std.proofs.Common.{◌≡◌, ◌⊎◌, inl, inr, ℕ, List, Some, None, refl, subst}
+use Rattle.std.specs.Prelude.{Result, Err}
 use Rattle.front_end.specs.Texts.{NeverBoth}
 use Rattle.os_code.specs.IsValid.{IsValid}
 use Rattle.os_code.specs.declared.code.Code.{Code}

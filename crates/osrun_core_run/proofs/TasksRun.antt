@@ -14,7 +14,6 @@ use Rattle.flow_core_laws.specs.Streams.{output_elements, stream_ends, stream_me
 use Rattle.flow_core_laws.specs.declared.activation.Activation.{Activation}
 use Rattle.flow_core_laws.specs.declared.control.ControlEnd.{ControlEnd}
 use Rattle.flow_core_laws.specs.declared.ends.Ends.{Ends}
-use Rattle.flow_core_laws.specs.declared.outcome.Outcome.{Outcome}
 use Rattle.flow_core_laws.specs.declared.plan.Plan.{Plan}
 use Rattle.lowering.specs.Meanings.{RunsBodies}
 use Rattle.os_ast.specs.Trees.{ProgramTree}

@@ -1,5 +1,5 @@
 -- Codes: which stand for a program, which bytes are the object of one, and what a code's run comes to.
-use Rattle.std.specs.Prelude.{◌≡◌, ℕ, All, List, length}
+use Rattle.std.specs.Prelude.{ℕ, List}
 use Rattle.epoch_run_bodies.specs.Frames.{frame_outcome}
 use Rattle.flow_core_laws.specs.Streams.{stream_ends, stream_meaning}
 use Rattle.flow_core_laws.specs.declared.activation.Activation.{Activation}

@@ -1,9 +1,7 @@
-ghost use Rattle.std.specs.Prelude.{◌≡◌, ◌≤◌, ◌⊎◌, All, length, IfOk, IfErr, OnOk};
+ghost use Rattle.std.specs.Prelude.{◌≡◌, ◌≤◌, ◌⊎◌, length, IfOk, IfErr, OnOk};
 ghost use Rattle.front_end.specs.Texts.{IsAccepted};
-ghost use Rattle.os_ast.specs.Spelling.{spell};
 ghost use Rattle.os_ast.specs.Trees.{ProgramTree};
 ghost use Rattle.os_ast.specs.Views.{program_tree};
-ghost use Rattle.os_lexer.specs.Laws.{HasSmallNumber};
 ghost use Rattle.os_lexer.specs.Limits.{text_limit};
 ghost use Rattle.osrun_core_run.specs.Refusal.{IsRefusalOf};
 ghost use Rattle.osrun_core_jobs.specs.declared.refusal.Refusal.{Refusal as Cause};
@@ -18,7 +16,6 @@ use window_check::Checked;
 pub fn accept(alloc: Global, text: &[u8]) -> Result<Checked, Refusal>
     requires { length text.now ≤ text_limit }
     ensures program { IfOk result (λ checked. IsAccepted text.now (program_tree checked.program)) }
-    ensures small { IfOk result (λ checked. All HasSmallNumber (spell (program_tree checked.program))) }
     ensures refused { IfErr result (λ refusal. (refusal ≡ Refusal.Memory) ⊎ IsRefusalOf text.now refusal) }
     ensures accepted { (p : ProgramTree) → IsAccepted text.now p → IfErr result (λ refusal. refusal ≡ Refusal.Memory) }
     ensures rejected { (cause : Cause) → IsRefusalOf text.now cause → OnOk result ⊥ }

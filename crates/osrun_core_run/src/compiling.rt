@@ -1,8 +1,6 @@
-ghost use Rattle.std.specs.Prelude.{All, IfOk};
-ghost use Rattle.os_ast.specs.Spelling.{spell};
+ghost use Rattle.std.specs.Prelude.{IfOk};
 ghost use Rattle.os_ast.specs.Views.{program_tree};
 ghost use Rattle.os_code.specs.Codes.{parts_of};
-ghost use Rattle.os_lexer.specs.Laws.{HasSmallNumber};
 ghost use Rattle.osrun_core_run.specs.Code.{IsCodeOf};
 
 use lowering::{LowerError, lower};
@@ -13,8 +11,6 @@ use window_check::Checked;
 
 /// A code of a program.
 pub fn compile(alloc: Global, checked: &Checked) -> Result<Code, Memory>
-    // The program has neither the key `unsigned` nor a wide number.
-    requires small { All HasSmallNumber (spell (program_tree checked.now.program)) }
     ensures { IfOk result (λ code. IsCodeOf (parts_of code) (program_tree checked.now.program)) }
 {
     match lower(alloc, checked) {

@@ -1,7 +1,5 @@
-ghost use Rattle.std.specs.Prelude.{◌≤◌, All, length, IfOk};
-ghost use Rattle.os_ast.specs.Spelling.{spell};
+ghost use Rattle.std.specs.Prelude.{◌≤◌, length, IfOk};
 ghost use Rattle.os_ast.specs.Views.{program_tree};
-ghost use Rattle.os_lexer.specs.Laws.{HasSmallNumber};
 ghost use Rattle.osrun_core_run.specs.RunOf.{AreTerms, IsRunOf};
 
 use crate::code_run::run_code;
@@ -26,8 +24,6 @@ pub fn run_program<R: Threads + Sync, G: Gate>(
 ) -> Result<Run, Memory>
     requires within { AreTerms terms }
     requires few { length input.now ≤ 4194304 }
-    // The program has neither the key `unsigned` nor a wide number.
-    requires small { All HasSmallNumber (spell (program_tree checked.now.program)) }
     ensures run { IfOk result (λ run. IsRunOf terms.task_budget terms.control_budget
         (program_tree checked.now.program) input.now run.output.items run.layout run.ends run.control) }
 {

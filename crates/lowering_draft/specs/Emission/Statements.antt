@@ -11,7 +11,7 @@ use Rattle.lowering_draft.specs.declared.draft.Label.{Label}
 use Rattle.lowering_draft.specs.declared.exits.Exits.{Exits}
 use Rattle.os_ast.specs.Parts.{parts}
 use Rattle.os_ast.specs.Trees as tree
-use Rattle.os_ast.specs.declared.names.What.{What}
+use Rattle.os_ast.specs.declared.names.Resolved.{Resolved}
 use Rattle.os_code.specs.declared.instr.Instr.TheVariants.{Drop, Jump, Turn}
 
 abbrev pub in_loop : Exits → (broke continued : Label) → Exits
@@ -55,22 +55,23 @@ abbrev pub step_code : (step again : Label) → Exits → (end : Label) → Part
 step_code step again x end a change draft =
     with_instr (change (with_place (a (in_loop x end step) None draft) step)) (Jump again.number)
 
-abbrev pub round_code : (ℕ → What) → Option tree.ChangeTree → (again : Label) → Exits → (end : Label) → Part → Emission
+abbrev pub round_code : (ℕ → Resolved) → Option tree.ChangeTree → (again : Label) → Exits → (end : Label) → Part → Emission
 round_code tells None again x end a draft = a (in_loop x end again) (Some again) draft
 round_code tells (Some c) again x end a draft = step_code (next_label draft) again x end a (change_code tells c) (with_label draft)
 
-abbrev pub test_code : (ℕ → What) → Option tree.ExprTree → (end : Label) → Emission
+abbrev pub test_code : (ℕ → Resolved) → Option tree.ExprTree → (end : Label) → Emission
 test_code tells None end draft = draft
 test_code tells (Some e) end draft = condition_code tells e end draft
 
-abbrev pub loop_from : (ℕ → What) → Option tree.ExprTree → Option tree.ChangeTree → (again : Label) → Exits → (end : Label) → Part → Emission
+abbrev pub loop_from : (ℕ → Resolved) → Option tree.ExprTree → Option tree.ChangeTree → (again : Label) → Exits → (end : Label) → Part
+    → Emission
 loop_from tells test step again x end a draft = round_code tells step again x end a (begin_code again (test_code tells test end) draft)
 
-abbrev pub loop_code : (ℕ → What) → Option tree.ExprTree → Option tree.ChangeTree → Exits → (end : Label) → Part → Emission
+abbrev pub loop_code : (ℕ → Resolved) → Option tree.ExprTree → Option tree.ChangeTree → Exits → (end : Label) → Part → Emission
 loop_code tells test step x end a draft = loop_from tells test step (next_label draft) x end a (with_label draft)
 
 -- Statements without statements in them. `break`, `continue` and `return` don't go on.
-abbrev pub simple_code : (ℕ → What) → Exits → Option Label → tree.StmtTree → Emission
+abbrev pub simple_code : (ℕ → Resolved) → Exits → Option Label → tree.StmtTree → Emission
 simple_code tells x next (tree.StmtTree.Declare ty ds) draft = jump_on next (declarators_code tells ds draft)
 simple_code tells x next (tree.StmtTree.Change c) draft = jump_on next (change_code tells c draft)
 simple_code tells x next (tree.StmtTree.Call f args) draft =
@@ -83,7 +84,7 @@ simple_code tells x next (tree.Tick m t arrow e) draft = jump_on next (tick_code
 simple_code tells x next _ draft = jump_on next draft
 
 abbrev mutual
-  pub stmt_code : (ℕ → What) → tree.StmtTree → Part
+  pub stmt_code : (ℕ → Resolved) → tree.StmtTree → Part
   stmt_code tells (tree.Block ss) x next draft = block_code tells ss x next draft
   stmt_code tells (tree.If c a) x next draft =
       if_code x next (end_of next draft) (condition_code tells c) (stmt_code tells a) (opened next draft)
@@ -98,17 +99,17 @@ abbrev mutual
   stmt_code tells s x next draft = simple_code tells x next s draft
 
   -- The last statement of a block goes on where the block does.
-  pub block_code : (ℕ → What) → tree.Stmts → Part
+  pub block_code : (ℕ → Resolved) → tree.Stmts → Part
   block_code tells tree.no_stmts x next draft = jump_on next draft
   block_code tells (tree.stmt a rest) x next draft = rest_code tells rest x next (stmt_code tells a) draft
 
   -- statements behind one
-  pub rest_code : (ℕ → What) → tree.Stmts → Exits → Option Label → Part → Emission
+  pub rest_code : (ℕ → Resolved) → tree.Stmts → Exits → Option Label → Part → Emission
   rest_code tells tree.no_stmts x next a draft = a x next draft
   rest_code tells (tree.stmt b rest) x next a draft = rest_code tells rest x next (stmt_code tells b) (a x None draft)
 
 -- statements of a block, where none or some stood before
-abbrev pub tail_code : (ℕ → What) → tree.Stmts → Part
+abbrev pub tail_code : (ℕ → Resolved) → tree.Stmts → Part
 tail_code tells tree.no_stmts x next draft = draft
 tail_code tells (tree.stmt a rest) x next draft = rest_code tells rest x next (stmt_code tells a) draft
 

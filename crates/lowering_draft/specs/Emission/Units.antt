@@ -13,7 +13,7 @@ use Rattle.os_ast.specs.Parts.{parts}
 use Rattle.os_ast.specs.Trees as tree
 use Rattle.os_ast.specs.Views.{clause_tree, stmt_tree, stmts_tree}
 use Rattle.os_ast.specs.declared.names.Owner.TheVariants as owner
-use Rattle.os_ast.specs.declared.names.What.{What}
+use Rattle.os_ast.specs.declared.names.Resolved.{Resolved}
 use Rattle.os_ast.specs.declared.pragma.TaskSite.{TaskSite}
 use Rattle.os_ast.specs.declared.program.Function.{Function}
 use Rattle.os_code.specs.declared.instr.Instr.{Instr}
@@ -42,13 +42,13 @@ framed_code end leaves body falls draft = with_instrs (with_place (body (exits_o
 abbrev pub body_code : (leaves : Instr) → Part → (falls : List Instr) → Emission
 body_code leaves body falls draft = framed_code (next_label draft) leaves body falls (with_label draft)
 
-abbrev pub function_code : (ℕ → What) → tree.Stmts → Emission
+abbrev pub function_code : (ℕ → Resolved) → tree.Stmts → Emission
 function_code tells body = body_code Return (block_code tells body) (Push (pos 0) ∷ Return ∷ [])
 
-abbrev pub main_code : (ℕ → What) → tree.Stmts → Emission
+abbrev pub main_code : (ℕ → Resolved) → tree.Stmts → Emission
 main_code tells body = body_code End (block_code tells body) (End ∷ [])
 
-abbrev pub task_code : (ℕ → What) → tree.StmtTree → Emission
+abbrev pub task_code : (ℕ → Resolved) → tree.StmtTree → Emission
 task_code tells body = body_code End (stmt_code tells body) (End ∷ [])
 
 -- the greatest number of slots that a unit may name
@@ -67,24 +67,24 @@ unit_from start args slots made = record made {
 abbrev pub with_unit : Emission → (args slots : ℕ) → Units → Units
 with_unit code args slots made = unit_from (length made.draft.instrs) args slots (with_draft code made)
 
-abbrev pub with_main : (ℕ → What) → tree.FunctionTree → Units → Units
+abbrev pub with_main : (ℕ → Resolved) → tree.FunctionTree → Units → Units
 with_main tells f made =
     record (with_unit (main_code tells f.body) 1 (capped (1 + stmts_slots owner.OfMain (size_by tells) f.body)) made) { main = length made.units }
 
-abbrev pub with_plain : (ℕ → What) → tree.FunctionTree → Units → Units
+abbrev pub with_plain : (ℕ → Resolved) → tree.FunctionTree → Units → Units
 with_plain tells f made =
     with_unit (function_code tells f.body) (length (param_list f.params))
     (capped (length (param_list f.params) + stmts_slots owner.OfFunction (size_by tells) f.body)) made
 
-abbrev pub with_function : (is_main : Bool) → (ℕ → What) → tree.FunctionTree → Units → Units
+abbrev pub with_function : (is_main : Bool) → (ℕ → Resolved) → tree.FunctionTree → Units → Units
 with_function true tells f made = with_main tells f made
 with_function false tells f made = with_plain tells f made
 
-abbrev pub with_item : (ℕ → What) → tree.ItemTree → Units → Units
+abbrev pub with_item : (ℕ → Resolved) → tree.ItemTree → Units → Units
 with_item tells (tree.Constant c) made = made
 with_item tells (tree.Function f) made = with_function (f.name.id == main_id) tells f made
 
-abbrev pub with_functions : (ℕ → What) → List tree.ItemTree → Units → Units
+abbrev pub with_functions : (ℕ → Resolved) → List tree.ItemTree → Units → Units
 with_functions tells [] made = made
 with_functions tells (i ∷ is) made = with_functions tells is (with_item tells i made)
 
@@ -92,15 +92,15 @@ abbrev pub with_site : Site → Units → Units
 with_site site made = record made { sites = made.sites ++ site ∷ [] }
 
 -- a task that captures these slots of `main`
-abbrev pub with_capturing : (ℕ → What) → (slots : List ℕ) → TaskTree → Units → Units
+abbrev pub with_capturing : (ℕ → Resolved) → (slots : List ℕ) → TaskTree → Units → Units
 with_capturing tells slots t made =
     with_site (record { unit = length made.units; line = t.mark.line; captured = slots; items = site_items tells t.parts })
     (with_unit (task_code tells t.body) (length slots) (capped (length slots + stmt_slots owner.OfTask (size_by tells) t.body)) made)
 
-abbrev pub with_task : (ℕ → What) → (captured : List (List ℕ)) → TaskTree → Units → Units
+abbrev pub with_task : (ℕ → Resolved) → (captured : List (List ℕ)) → TaskTree → Units → Units
 with_task tells captured t made = with_capturing tells (get_or captured (length made.sites) []) t made
 
-abbrev pub with_tasks : (ℕ → What) → (captured : List (List ℕ)) → List TaskTree → Units → Units
+abbrev pub with_tasks : (ℕ → Resolved) → (captured : List (List ℕ)) → List TaskTree → Units → Units
 with_tasks tells captured [] made = made
 with_tasks tells captured (t ∷ ts) made = with_tasks tells captured ts (with_task tells captured t made)
 
@@ -108,7 +108,7 @@ abbrev pub no_units : Units
 no_units = record { draft = record { instrs = []; places = []; spawned = 0 }; units = []; sites = []; main = 0 }
 
 -- all units of a program
-abbrev pub program_units : (ℕ → What) → (captured : List (List ℕ)) → List tree.ItemTree → Units
+abbrev pub program_units : (ℕ → Resolved) → (captured : List (List ℕ)) → List tree.ItemTree → Units
 program_units tells captured p = with_tasks tells captured (program_tasks p) (with_functions tells p no_units)
 
 -- the place of a label, or 0 where it has none

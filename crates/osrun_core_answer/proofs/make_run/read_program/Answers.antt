@@ -36,5 +36,4 @@ returns g c =
       c.in_ok-text.text.items,
       was_read g.F.Files c.args.files.now c.load.new.files subjects.Program c.args.name.now c.in_ok-text.text.items l.loaded (p, accepted) l.opens l.no_fault l.holds l.may,
       accepted,
-      c.in_ok-checked.ensures.small,
     )

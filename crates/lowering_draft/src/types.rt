@@ -1,0 +1,48 @@
+//! The types of expressions, told by whether they are `unsigned`, and else `int`.
+
+ghost use Rattle.std.specs.Prelude.{◌≡◌};
+ghost use Rattle.cddf_meaning.specs.Types.{type_of_one, type_of_two};
+
+use os_ast::{Binary, Unary};
+
+/// The types of two operands: whether each is `unsigned`.
+#[derive(Clone, Copy, Debug, PartialEq, Eq)]
+pub struct Types {
+    pub left: bool,
+    pub right: bool,
+}
+
+/// The type that an operator with one operand gives.
+pub fn type_of_one(operator: Unary, operand: bool) -> bool
+    ensures { result ≡ type_of_one operator operand }
+{
+    match operator {
+        Unary::Not => false,
+        Unary::Minus | Unary::Plus | Unary::Invert => operand,
+    }
+}
+
+/// The type that an operator with two operands gives.
+pub fn type_of_two(operator: Binary, types: Types) -> bool
+    ensures { result ≡ type_of_two operator types.left types.right }
+{
+    match operator {
+        Binary::Or
+        | Binary::And
+        | Binary::Equal
+        | Binary::Unequal
+        | Binary::Less
+        | Binary::LessEqual
+        | Binary::Greater
+        | Binary::GreaterEqual => false,
+        Binary::ShiftLeft | Binary::ShiftRight => types.left,
+        Binary::BitOr
+        | Binary::BitXor
+        | Binary::BitAnd
+        | Binary::Add
+        | Binary::Subtract
+        | Binary::Multiply
+        | Binary::Divide
+        | Binary::Remainder => types.left || types.right,
+    }
+}
