@@ -47,7 +47,7 @@ static GROUPS: [Group; 5] = [
 
 /// A text with each token that programs have, in the order in which those are told that stand in no group.
 const TOKENS: &str =
-    "; , ) ] } ( [ { = ? : int const void if else while for break continue return __attribute__ 0 - + ! ~ ++ -- \
+    "; , ) ] } ( [ { = ? : int unsigned const void if else while for break continue return __attribute__ 0 - + ! ~ ++ -- \
      || && | ^ & == != < <= > >= << >> * / % += -= *= /= %= <<= >>= &= ^= |= \
      name omp task tick taskwait input output firstprivate stream\n#pragma";
 

@@ -72,6 +72,11 @@ fn is_cast(front: &[Token]) -> bool {
     ends_with(front, Kind::Punct(Punct::OpenParen)) && depth(front) > 0
 }
 
+/// Whether a word of C behind `unsigned` makes it another type.
+fn is_width(word: &str) -> bool {
+    has(&["char", "short", "long"], word)
+}
+
 /// What is said of a keyword of C that no program has.
 fn of_word(word: &str) -> Option<&'static str> {
     if word == "sizeof" {
@@ -90,18 +95,23 @@ fn of_key(front: &[Token], word: &str) -> Option<&'static str> {
     let sentence = of_word(word)?;
     if is_cast(front) {
         Some(CAST)
+    } else if is_width(word) && ends_with(front, Kind::Key(Key::Unsigned)) {
+        Some("unsigned stands alone or before int, and has 32 bits; leave the word out")
     } else {
         Some(sentence)
     }
 }
 
-/// What is said of `int` or `void`.
+/// What is said of `int`, `unsigned` or `void`.
 fn of_type(front: &[Token], key: Key) -> Option<&'static str> {
     if is_cast(front) {
         return Some(CAST);
     }
     if key == Key::Void && depth(front) == 0 && is_at_front(front) {
         return Some("a function has a value; write int, and return 0; at its end");
+    }
+    if key == Key::Unsigned && ends_with(front, Kind::Key(Key::Int)) {
+        return Some("unsigned stands before int, or alone");
     }
     None
 }
@@ -217,7 +227,7 @@ fn of_pragma(front: &[Token]) -> Option<&'static str> {
 pub fn missing(front: &[Token], kind: Kind, word: &str) -> Option<&'static str> {
     match kind {
         Kind::Key(Key::Other) => of_key(front, word),
-        Kind::Key(key @ (Key::Int | Key::Void)) => of_type(front, key),
+        Kind::Key(key @ (Key::Int | Key::Unsigned | Key::Void)) => of_type(front, key),
         Kind::Punct(mark) if depth(front) == 0 => outside(front, mark),
         Kind::Punct(mark) => of_mark(front, mark),
         Kind::Name(_) => of_pragma(front),

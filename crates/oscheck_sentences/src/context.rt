@@ -92,5 +92,8 @@ fn first(front: &[Token]) -> Option<Kind> {
 
 /// Whether a declaration stands there so far.
 pub(crate) fn is_declaration(front: &[Token]) -> bool {
-    matches!(first(front), Some(Kind::Key(Key::Int | Key::Const)))
+    matches!(
+        first(front),
+        Some(Kind::Key(Key::Int | Key::Unsigned | Key::Const))
+    )
 }

@@ -160,11 +160,19 @@ fn of_bytes(bytes: &[u8]) -> Sentence {
     }
 }
 
+/// What is said of a number that fits no type that it may have.
+fn of_number(bytes: &[u8]) -> Sentence {
+    match bytes {
+        [b'0', ..] | [.., b'u' | b'U'] => plain("a number above 4294967295: use a smaller one"),
+        _ => plain("a number above 2147483647: use a smaller one"),
+    }
+}
+
 /// What is said of the first fault of a text, by its code from 1 to 3 and its bytes.
 pub fn of_fault(code: u8, bytes: &[u8]) -> Sentence {
     match code {
         1 => of_bytes(bytes),
         2 => plain("a comment that is never closed: end it by */"),
-        _ => plain("a number above 2147483647: use a smaller one"),
+        _ => of_number(bytes),
     }
 }
