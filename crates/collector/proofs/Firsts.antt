@@ -1,24 +1,24 @@
 -- That what is missing comes first, and that what is written is there.
-use Rattle.std.proofs.Common.{◌≡◌, ℕ, zero, suc, ℤ, ◌<◌, inl, inr, Bool, true, false, cond, not, All, List, [], ◌∷◌, Option, Some, None, length, find, refl, sym, ap, ◌∙◌, arith, zero-add}
+use Rattle.std.proofs.Common.{◌≡◌, ℕ, ◌<◌, ◌⊎◌, inl, inr, Bool, true, false, All, List, Option, Some, None, length, map, refl, sym, ap, ◌∙◌, arith, zero-add, zero, suc, cond, not, [], ◌∷◌, find}
 use Rattle.std.specs.Prelude.{slice_get, is_some}
 use Rattle.std.specs.Option.{option_map}
 use Rattle.std.proofs.lemmas.List.{length-map}
-use Rattle.std.proofs.lemmas.List.Elements.{All-cons, All-nil}
 use Rattle.std.proofs.lemmas.List.FromFn.{get_or-map-range_with_len, length-map-range_with_len}
 use Rattle.std.proofs.lemmas.Option.{same_Some, slice_get-map, slice_get-get_or, slice_get_within}
 use Rattle.flow_core_laws.specs.declared.activation.Activation.{Activation}
+use Rattle.flow_core_laws.specs.Place.{Place, input_places, output_places, written_count}
+use Rattle.flow_core_laws.specs.declared.elem.Elem.{Elem}
+use Rattle.flow_core_laws.specs.declared.elem.Elem.TheVariants.{Value, Poison}
 use Rattle.flow_core_laws.specs.declared.ends.Ends.{Ends}
 use Rattle.flow_core_laws.specs.declared.task_end.TaskEnd.{TaskEnd}
-use Rattle.flow_core_laws.specs.Place.{Place, input_places, output_places, written_count}
 use Rattle.flow_core_laws.specs.There.{is_there, missing_place}
 use Rattle.collector.specs.declared.missing.Missing.{Missing}
-use Rattle.collector.specs.Laws.{IsLongestPrefix, IsWrittenOf, IsFirstMissing}
 use Rattle.collector.specs.Missing.{missing_at}
-use Rattle.collector.specs.Reported.{AreOfState}
+use Rattle.collector.specs.Laws.{IsLongestPrefix, IsWrittenOf, IsFirstMissing}
+use Rattle.collector.specs.Reported.{AreOfState, is_poison, is_poisoned}
 use Rattle.collector.specs.Written.{written}
 use Rattle.collector.proofs.Prefixes.{longest_prefix}
-
--- ---- the first element of a list that passes no test
+use Rattle.std.proofs.lemmas.List.Elements.{All-cons, All-nil}
 
 module _ {X : Type 0} (test : X → Bool) where
   none_in_rest : (x : X) (xs : List X) (b : Bool) → test x ≡ b → cond (not b) (Some x) (find (λ y. not (test y)) xs) ≡ None → (find (λ y. not (test y)) xs ≡ None → All (λ y. test y ≡ true) xs) → All (λ y. test y ≡ true) (x ∷ xs)
@@ -69,25 +69,38 @@ missing_first activations input_len ends a = record { none = no_missing (missing
 pub count_is : (activations : List Activation) (input_len : ℕ) (ends : Ends) → AreOfState activations input_len ends → length ends.output ≡ written_count activations 1
 count_is activations input_len ends state = sym (length-map ends.output is_some) ∙ ap length state.output ∙ length-map (output_places activations) (is_there activations input_len ends.ends) ∙ length-map-range_with_len (λ position. record { stream = 1; position = position }) 0 (written_count activations 1)
 
--- whether the element at a position of the output is there
-pub output_there : (activations : List Activation) (input_len : ℕ) (ends : Ends) → AreOfState activations input_len ends → (k : ℕ) (o : Option ℤ) → slice_get ends.output k ≡ Some o
-    → is_there activations input_len ends.ends (record { stream = 1; position = k }) ≡ is_some o
-output_there activations input_len ends state k o at =
-    let there = is_there activations input_len ends.ends in
+-- what a test of elements says of the output, where it is a test of places
+tested_at : (activations : List Activation) (output : List (Option Elem)) (test : Option Elem → Bool) (of_place : Place → Bool) → length output ≡ written_count activations 1 → map test output ≡ map of_place (output_places activations) → (k : ℕ) (o : Option Elem) → slice_get output k ≡ Some o
+    → of_place (record { stream = 1; position = k }) ≡ test o
+tested_at activations output test of_place count same k o at =
     let place : ℕ → Place = λ position. record { stream = 1; position = position } in
-    let lt : k < written_count activations 1 = omega (arith, count_is activations input_len ends state, slice_get_within ends.output k o at) in
+    let lt : k < written_count activations 1 = omega (arith, count, slice_get_within output k o at) in
     let stands : slice_get (output_places activations) k ≡ Some (place k) = slice_get-get_or (output_places activations) k (place k) (omega (arith, length-map-range_with_len place 0 (written_count activations 1))) ∙ ap Some (get_or-map-range_with_len place 0 (written_count activations 1) k k (place k) lt (zero-add k)) in
-    let both : Some (is_some o) ≡ Some (there (place k)) = ap (option_map is_some) (sym at) ∙ sym (slice_get-map is_some ends.output k) ∙ ap (λ bs. slice_get bs k) state.output ∙ slice_get-map there (output_places activations) k ∙ ap (option_map there) stands in
-    sym (same_Some (is_some o) (there (place k)) both)
+    let both : Some (test o) ≡ Some (of_place (place k)) = ap (option_map test) (sym at) ∙ sym (slice_get-map test output k) ∙ ap (λ bs. slice_get bs k) same ∙ slice_get-map of_place (output_places activations) k ∙ ap (option_map of_place) stands in
+    sym (same_Some (test o) (of_place (place k)) both)
+
+-- whether the element at a position of the output is there, and whether it is poison
+pub output_there : (activations : List Activation) (input_len : ℕ) (ends : Ends) → AreOfState activations input_len ends → (k : ℕ) (o : Option Elem) → slice_get ends.output k ≡ Some o
+    → is_there activations input_len ends.ends (record { stream = 1; position = k }) ≡ is_some o
+output_there activations input_len ends state = tested_at activations ends.output is_some (is_there activations input_len ends.ends) (count_is activations input_len ends state) state.output
+
+pub output_poisoned : (activations : List Activation) (input_len : ℕ) (ends : Ends) → AreOfState activations input_len ends → (k : ℕ) (o : Option Elem) → slice_get ends.output k ≡ Some o
+    → is_poisoned activations ends.ends (record { stream = 1; position = k }) ≡ is_poison o
+output_poisoned activations input_len ends state = tested_at activations ends.output is_poison (is_poisoned activations ends.ends) (count_is activations input_len ends state) state.poison
 
 pub written_there : (activations : List Activation) (input_len : ℕ) (ends : Ends) → AreOfState activations input_len ends → IsWrittenOf activations input_len ends
 written_there activations input_len ends state = record {
-  there = λ k lt. let (value, at, byte) = prefix.is_there k lt in output_there activations input_len ends state k (Some value) at;
-  ends_at_a_gap = elim prefix.is_longest [
-    | inl gap ↦ inl (output_there activations input_len ends state (length (written ends.output)) None gap)
-    | inr whole ↦ inr (whole ∙ count_is activations input_len ends state)
-  ];
+  there = λ k lt. let (value, at, byte) = prefix.has_values k lt in (output_there activations input_len ends state k (Some (Value value)) at, output_poisoned activations input_len ends state k (Some (Value value)) at);
+  ends_at_a_gap = gap prefix.is_longest;
 }
   where
     prefix : IsLongestPrefix ends.output (written ends.output)
     prefix = longest_prefix ends.output
+
+    gap : (slice_get ends.output (length (written ends.output)) ≡ Some None) ⊎ ((root : ℕ) × (slice_get ends.output (length (written ends.output)) ≡ Some (Some (Poison root)))) ⊎ (length (written ends.output) ≡ length ends.output)
+        → (is_there activations input_len ends.ends (record { stream = 1; position = length (written ends.output) }) ≡ false)
+        ⊎ (is_poisoned activations ends.ends (record { stream = 1; position = length (written ends.output) }) ≡ true)
+        ⊎ (length (written ends.output) ≡ written_count activations 1)
+    gap (inl none) = inl (output_there activations input_len ends state (length (written ends.output)) None none)
+    gap (inr (inl (root, is))) = inr (inl (output_poisoned activations input_len ends state (length (written ends.output)) (Some (Poison root)) is))
+    gap (inr (inr whole)) = inr (inr (whole ∙ count_is activations input_len ends state))

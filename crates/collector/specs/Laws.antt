@@ -1,31 +1,45 @@
 -- The laws of what is written and missing, as statements.
 use Rattle.std.specs.Prelude.{◌≡◌, ◌≢◌, ℕ, ℤ, ◌<◌, ◌⊎◌, true, false, List, [], Option, Some, None, IsSome, All, length, slice_get, slice_index_or}
 use Rattle.flow_core_laws.specs.declared.activation.Activation.{Activation}
+use Rattle.flow_core_laws.specs.declared.control.ControlEnd.{ControlEnd}
+use Rattle.flow_core_laws.specs.Place.{Place, input_places, written_count}
+use Rattle.flow_core_laws.specs.declared.elem.Elem.{Elem}
+use Rattle.flow_core_laws.specs.declared.elem.Elem.TheVariants.{Value, Poison}
 use Rattle.flow_core_laws.specs.declared.ends.Ends.{Ends}
 use Rattle.flow_core_laws.specs.declared.outcome.Outcome.{Outcome}
 use Rattle.flow_core_laws.specs.declared.task_end.TaskEnd.{TaskEnd}
 use Rattle.flow_core_laws.specs.Laws.{IsFilled}
-use Rattle.flow_core_laws.specs.Outcome.{is_done_at}
-use Rattle.flow_core_laws.specs.Place.{Place, input_places, written_count}
+use Rattle.flow_core_laws.specs.Outcome.{has_end_at, is_done_at}
 use Rattle.flow_core_laws.specs.Streams.{stream_ends, stream_meaning}
 use Rattle.flow_core_laws.specs.There.{is_there}
 use Rattle.collector.specs.declared.missing.Missing.{Missing}
-use Rattle.collector.specs.Missing.{missing, missing_at}
-use Rattle.collector.specs.Report.{activation_line}
+use Rattle.collector.specs.Missing.{missing_at, missing}
 use Rattle.collector.specs.Written.{byte_of, written}
+use Rattle.collector.specs.Report.{activation_line}
+use Rattle.collector.specs.Reported.{AreOfState, is_poisoned}
+use Rattle.collector.specs.Status.{has_done, status}
 
--- The bytes are the longest prefix of the elements that is complete: all of it is there, and nothing is there
--- behind it, or it goes to the end.
-pub record IsLongestPrefix (elements : List (Option ℤ)) (bytes : List ℕ) : Type 0 where
-  pub is_there : (k : ℕ) → k < length bytes → (value : ℤ) × (slice_get elements k ≡ Some (Some value))
+-- The producer of a missing element isn't Done, unless the element is one of the input, which no lawful claim writes.
+abbrev pub ProducersAreNotDone : Type 0
+ProducersAreNotDone = (activations : List Activation) (input_len : ℕ) (ends : List (Option TaskEnd)) (a : ℕ) (m : Missing) (producer : ℕ)
+    → missing activations input_len ends a ≡ Some m → m.stream ≢ 0 → m.producer ≡ Some producer → is_done_at ends producer ≡ false
+
+-- The bytes are the longest prefix of the elements that has values alone: all of it are values, and behind it nothing is
+-- there, or poison, or it goes to the end.
+pub record IsLongestPrefix (elements : List (Option Elem)) (bytes : List ℕ) : Type 0 where
+  pub has_values : (k : ℕ) → k < length bytes → (value : ℤ) × (slice_get elements k ≡ Some (Some (Value value)))
       × (slice_get bytes k ≡ Some (byte_of value))
-  pub is_longest : (slice_get elements (length bytes) ≡ Some None) ⊎ (length bytes ≡ length elements)
+  pub is_longest : (slice_get elements (length bytes) ≡ Some None) ⊎ ((root : ℕ) × (slice_get elements (length bytes) ≡ Some (Some (Poison root))))
+      ⊎ (length bytes ≡ length elements)
 
--- The written bytes are the elements of the output before the first position that isn't there: each of these
--- positions is there, and the next one isn't, or isn't claimed for writing.
+-- The written bytes are the elements of the output before the first position that isn't there or is poison: each of
+-- these positions is there and isn't poison, and the next one isn't there, or is poison, or isn't claimed for writing.
 pub record IsWrittenOf (activations : List Activation) (input_len : ℕ) (ends : Ends) : Type 0 where
-  pub there : (k : ℕ) → k < length (written ends.output) → is_there activations input_len ends.ends (record { stream = 1; position = k }) ≡ true
+  pub there : (k : ℕ) → k < length (written ends.output)
+      → (is_there activations input_len ends.ends (record { stream = 1; position = k }) ≡ true)
+      × (is_poisoned activations ends.ends (record { stream = 1; position = k }) ≡ false)
   pub ends_at_a_gap : (is_there activations input_len ends.ends (record { stream = 1; position = length (written ends.output) }) ≡ false)
+      ⊎ (is_poisoned activations ends.ends (record { stream = 1; position = length (written ends.output) }) ≡ true)
       ⊎ (length (written ends.output) ≡ written_count activations 1)
 
 -- The first missing element of an activation is one that it reads and that isn't there, and those before it
@@ -39,6 +53,13 @@ pub record IsFirstMissing (activations : List Activation) (input_len : ℕ) (end
       × ((j : ℕ) (other : Place) → j < k → slice_get (input_places activations a) j ≡ Some other
       → is_there activations input_len ends other ≡ true)
 
+-- where the output is that of a state and the status is 0, as many bytes are written as positions of the output are
+-- claimed
+abbrev pub AllIsWritten : Type 0
+AllIsWritten =
+    (activations : List Activation) (input_len : ℕ) (ends : Ends) (control : ControlEnd) → AreOfState activations input_len ends
+    → status ends.ends control ≡ 0 → length (written ends.output) ≡ written_count activations 1
+
 -- a fact of what the meaning of activations over an input comes to, where those that are Done filled their outputs
 abbrev pub OfFilled : (List Activation → ℕ → Ends → Type 0) → Type 0
 OfFilled fact = (activations : List Activation) (input : List ℕ) (body : ℕ → List ℤ → Outcome)
@@ -49,10 +70,12 @@ OfFilled fact = (activations : List Activation) (input : List ℕ) (body : ℕ �
 -- other has one.
 pub record HasItsLines (activations : List Activation) (input_len : ℕ) (ends : Ends) : Type 0 where
   pub misses : (a : ℕ) → a < length activations → slice_index_or ends.ends a None ≡ None → IsSome (missing activations input_len ends.ends a)
-  pub told : (a : ℕ) → a < length activations → is_done_at ends.ends a ≡ false → activation_line activations input_len ends.ends a ≢ []
-  pub untold : (a : ℕ) → is_done_at ends.ends a ≡ true → activation_line activations input_len ends.ends a ≡ []
+  pub told : (a : ℕ) → a < length activations → has_done (slice_index_or ends.ends a None) ≡ false
+      → activation_line activations input_len ends.ends a ≢ []
+  pub untold : (a : ℕ) → has_done (slice_index_or ends.ends a None) ≡ true → activation_line activations input_len ends.ends a ≡ []
 
--- The producer of a missing element isn't Done, unless the element is one of the input, which no lawful claim writes.
-abbrev pub ProducersAreNotDone : Type 0
-ProducersAreNotDone = (activations : List Activation) (input_len : ℕ) (ends : List (Option TaskEnd)) (a : ℕ) (m : Missing) (producer : ℕ)
-    → missing activations input_len ends a ≡ Some m → m.stream ≢ 0 → m.producer ≡ Some producer → is_done_at ends producer ≡ false
+-- The producer of a missing element has no end: it is starved too, as the report says. The element isn't one of the
+-- input, which no lawful claim writes.
+abbrev pub ProducersAreStarved : Type 0
+ProducersAreStarved = (activations : List Activation) (input_len : ℕ) (ends : List (Option TaskEnd)) (a : ℕ) (m : Missing) (producer : ℕ)
+    → missing activations input_len ends a ≡ Some m → m.stream ≢ 0 → m.producer ≡ Some producer → has_end_at ends producer ≡ false

@@ -3,10 +3,10 @@ use Rattle.std.specs.Prelude.{ℕ, List, Option}
 use Rattle.std.specs.Option.{option_map}
 use Rattle.flow_core_laws.specs.declared.activation.Activation.{Activation}
 use Rattle.flow_core_laws.specs.declared.task_end.TaskEnd.{TaskEnd}
-use Rattle.flow_core_laws.specs.Window.{Window, producer}
-use Rattle.flow_core_laws.specs.Place.{Place}
 use Rattle.flow_core_laws.specs.There.{missing_place}
 use Rattle.collector.specs.declared.missing.Missing.{Missing}
+use Rattle.flow_core_laws.specs.Window.{Window, producer}
+use Rattle.flow_core_laws.specs.Place.{Place}
 
 -- The activation whose write claim covers a place, or none.
 abbrev pub producing : List Activation → Place → Option ℕ
@@ -18,6 +18,6 @@ missing_at activations place = record { stream = place.stream; position = place.
 
 -- The first missing element of an activation: the first one of its input windows, by clause item and then by
 -- position, that isn't there. An element of the input is there below its length, any other where its producer
--- is Done by these ends.
+-- has an end, if only as poison.
 abbrev pub missing : List Activation → ℕ → List (Option TaskEnd) → ℕ → Option Missing
 missing activations input_len ends a = option_map (missing_at activations) (missing_place activations input_len ends a)

@@ -1,46 +1,25 @@
--- What is reported. The lines are those of this project's profile.
+-- What is reported. The lines are those of this project's profile, with one for each activation that was poisoned.
 use Rattle.std.specs.Prelude.{ℕ, List, [], ◌++◌, Option, None, length, codes, slice_index_or}
 use Rattle.std.specs.Option.{option_map_or}
 use Rattle.std.specs.List.{range_with_len, flat_map}
 use Rattle.std.specs.Fmt.{decimal}
 use Rattle.flow_core_laws.specs.declared.activation.Activation.{Activation}
+use Rattle.flow_core_laws.specs.declared.control.ControlEnd.{ControlEnd}
+use Rattle.flow_core_laws.specs.Place.{written_count}
 use Rattle.flow_core_laws.specs.declared.task_end.TaskEnd.{TaskEnd}
 use Rattle.flow_core_laws.specs.declared.task_end.TaskEnd.TheVariants as task_end
-use Rattle.flow_core_laws.specs.declared.control.ControlEnd.{ControlEnd}
-use Rattle.flow_core_laws.specs.declared.control.ControlEnd.TheVariants as control_end
 use Rattle.flow_core_laws.specs.declared.ends.Ends.{Ends}
-use Rattle.flow_core_laws.specs.Place.{written_count}
 use Rattle.collector.specs.declared.missing.Missing.{Missing}
 use Rattle.collector.specs.Line.{line}
 use Rattle.collector.specs.Missing.{missing}
 use Rattle.collector.specs.Written.{written}
+use Rattle.flow_core_laws.specs.declared.control.ControlEnd.TheVariants as control_end
 
 -- How an activation ended. One that is Done gives its elements, so it is no producer of a missing one.
 abbrev pub ending : TaskEnd → List ℕ
 ending task_end.Done = codes "done"
 ending (task_end.Trapped code line_number) = codes "trapped"
 ending task_end.OverBudget = codes "over-budget"
-
--- The producer of a missing element: its activation and how that ended, where no end is starvation; or none.
-abbrev pub producer_text : List (Option TaskEnd) → Option ℕ → List ℕ
-producer_text ends producer = option_map_or
-    (λ b. decimal b ++ codes " " ++ option_map_or ending (slice_index_or ends b None) (codes "starved")) producer (codes "none")
-
--- The line of an activation that is starved: its first missing element, with that element's producer.
-abbrev pub starved_line : List (Option TaskEnd) → ℕ → Missing → List ℕ
-starved_line ends a m = line (codes "starved " ++ decimal a ++ codes " stream " ++ decimal m.stream ++ codes " position " ++ decimal m.position
-    ++ codes " producer " ++ producer_text ends m.producer)
-
--- The line of an activation with an end; one that is Done has none.
-abbrev pub end_line : ℕ → TaskEnd → List ℕ
-end_line a task_end.Done = []
-end_line a (task_end.Trapped code line_number) = line (codes "trapped " ++ decimal a ++ codes " code " ++ decimal code ++ codes " line " ++ decimal line_number)
-end_line a task_end.OverBudget = line (codes "over-budget " ++ decimal a)
-
--- The line of an activation by its end; one without an end is starved, as long as an element is missing.
-abbrev pub activation_line : List Activation → ℕ → List (Option TaskEnd) → ℕ → List ℕ
-activation_line activations input_len ends a = option_map_or (end_line a) (slice_index_or ends a None)
-    (option_map_or (starved_line ends a) (missing activations input_len ends a) [])
 
 -- The line of the control program.
 abbrev pub control_line : ControlEnd → List ℕ
@@ -52,6 +31,27 @@ control_line (control_end.Limit limit) = line (codes "control limit " ++ decimal
 -- The line of the output: how many bytes were written, of how many positions that are claimed for writing.
 abbrev pub output_line : ℕ → ℕ → List ℕ
 output_line count claimed = line (codes "output " ++ decimal count ++ codes " of " ++ decimal claimed)
+
+-- The producer of a missing element: its activation, which is starved too, or none.
+abbrev pub producer_text : Option ℕ → List ℕ
+producer_text producer = option_map_or (λ b. decimal b ++ codes " starved") producer (codes "none")
+
+-- The line of an activation that is starved: its first missing element, with that element's producer.
+abbrev pub starved_line : ℕ → Missing → List ℕ
+starved_line a m = line (codes "starved " ++ decimal a ++ codes " stream " ++ decimal m.stream ++ codes " position " ++ decimal m.position
+    ++ codes " producer " ++ producer_text m.producer)
+
+-- The line of an activation with an end; one that is Done has none, and one that was poisoned tells the root.
+abbrev pub end_line : ℕ → TaskEnd → List ℕ
+end_line a task_end.Done = []
+end_line a (task_end.Trapped code line_number) = line (codes "trapped " ++ decimal a ++ codes " code " ++ decimal code ++ codes " line " ++ decimal line_number)
+end_line a task_end.OverBudget = line (codes "over-budget " ++ decimal a)
+end_line a (task_end.Poisoned root) = line (codes "poisoned " ++ decimal a ++ codes " by " ++ decimal root)
+
+-- The line of an activation by its end; one without an end is starved, as long as an element is missing.
+abbrev pub activation_line : List Activation → ℕ → List (Option TaskEnd) → ℕ → List ℕ
+activation_line activations input_len ends a = option_map_or (end_line a) (slice_index_or ends a None)
+    (option_map_or (starved_line a) (missing activations input_len ends a) [])
 
 -- The lines of the first activations that aren't Done, in control order.
 abbrev pub activation_lines : List Activation → ℕ → List (Option TaskEnd) → ℕ → List ℕ

@@ -1,3 +1,5 @@
 pub mod Carrying
 pub mod Showing
 pub mod Running
+pub mod Gathering
+pub mod Ending

@@ -9,22 +9,25 @@ use Rattle.std.proofs.lemmas.List.{get_or-set_same, get_or-set_other, same_lists
 use Rattle.std.proofs.lemmas.List.Sums.{sum_by-set}
 use Rattle.flow_core_laws.specs.declared.plan.FramePlan.{FramePlan}
 use Rattle.flow_core_laws.specs.declared.plan.Piece.{Piece}
+use Rattle.flow_core_laws.specs.declared.elem.Elem.{Elem}
 use Rattle.flow_core_laws.specs.declared.plan.Plan.{Plan}
 use Rattle.flow_core.specs.declared.board.Board.{Board}
 use Rattle.flow_core_laws.specs.declared.task_end.TaskEnd.{TaskEnd}
 use Rattle.flow_core.specs.declared.waits.Waits.{Waits}
 use Rattle.flow_core_laws.specs.declared.outcome.Outcome.{Outcome}
-use Rattle.flow_core_laws.specs.Outcome.{State, outcome_at, ends_of}
-use Rattle.flow_core_laws.specs.Element.{Source, given, fed, nobody, element, output_at}
+use Rattle.flow_core_laws.specs.Outcome.{outcome_at, State, ends_of}
+use Rattle.flow_core_laws.specs.Element.{Source, given, fed, nobody, written, output_at}
+use Rattle.flow_core_laws.specs.Poisoning.{poisoning}
 use Rattle.flow_core_laws.specs.Round.{gathered}
-use Rattle.flow_core_laws.specs.Plans.{frame_at, cells_of, value_at, cell_source, piece_at, plan_reads, plan_meaning, sink_elements}
+use Rattle.flow_core_laws.specs.Plans.{frame_at, number_at, cells_of, held_at, cell_source, piece_at, plan_reads, plan_element, plan_meaning, sink_elements}
 use Rattle.flow_core_laws.specs.IsSound.{IsSound}
 use Rattle.flow_core.specs.Waits.{OpensFull, OpensMore}
 use Rattle.flow_core.specs.Counted.{IsCounted}
 use Rattle.flow_core.specs.Shows.{end_at, shown, Shows}
 use Rattle.flow_core.specs.Board.{IsRun}
 use Rattle.flow_core_laws.proofs.Gathering.{gathered-cons, gathered_there, none_missing}
-use Rattle.flow_core_laws.proofs.Rounds.{Extends, element-extends, IsClosed, passes_from_closed}
+use Rattle.flow_core_laws.proofs.Rounds.{Extends, IsClosed, passes_from_closed}
+use Rattle.flow_core_laws.proofs.Elements.{element_kept}
 use Rattle.flow_core_laws.proofs.Sources.{map_map}
 use Rattle.flow_core.proofs.Showing.{part_of, stretch_of}
 
@@ -34,15 +37,15 @@ no_end [] f = refl
 no_end (p ∷ ps) zero = refl
 no_end (p ∷ ps) (suc f) = no_end ps f
 
--- a cell shows its value at opening, and nothing else
-shown_at_opening : (plan : Plan) (m : State) (c : ℕ) → value_at plan.filled c ≡ shown (map (λ (p : FramePlan). None) plan.frames) m (cell_source plan c)
+-- a cell shows what it holds at opening, and nothing else
+shown_at_opening : (plan : Plan) (m : State) (c : ℕ) → held_at plan.filled c ≡ shown (number_at plan) (map (λ (p : FramePlan). None) plan.frames) m (cell_source plan c)
 unfolding cell_source
-shown_at_opening plan m c = by_value (value_at plan.filled c) (option_and_then (λ number. slice_get plan.pieces number) (piece_at plan c))
+shown_at_opening plan m c = by_value (held_at plan.filled c) (option_and_then (λ number. slice_get plan.pieces number) (piece_at plan c))
   where
-    by_value : (o : Option ℤ) (f : Option Piece) → o ≡ shown (map (λ (p : FramePlan). None) plan.frames) m (option_map_or given o (option_map_or (λ (p : Piece). fed p.from (p.first + (c - p.at))) f nobody))
+    by_value : (o : Option Elem) (f : Option Piece) → o ≡ shown (number_at plan) (map (λ (p : FramePlan). None) plan.frames) m (option_map_or given o (option_map_or (λ (p : Piece). fed p.from (p.first + (c - p.at))) f nobody))
     by_value (Some v) f = refl
     by_value None None = refl
-    by_value None (Some p) = sym (ap (λ (e : Option TaskEnd). cond (is_some e) (output_at m p.from (p.first + (c - p.at))) None) (no_end plan.frames p.from))
+    by_value None (Some p) = sym (ap (λ (e : Option TaskEnd). cond (is_some e) (output_at (number_at plan) m p.from (p.first + (c - p.at))) None) (no_end plan.frames p.from))
 
 pub IsRun-opening : (plan : Plan) (m : State) (board : Board) → IsCounted plan board.cells.items board.waits → board.cells.items ≡ plan.filled → board.ends.items ≡ map (λ (p : FramePlan). None) plan.frames → IsRun plan m board 0
 IsRun-opening plan m board counted cells ends = record {
@@ -50,7 +53,7 @@ IsRun-opening plan m board counted cells ends = record {
   shows = record {
     ends_of_plan = ap length ends ∙ length-map plan.frames _;
     ends_are_meant = λ f e h. let n = ap (λ (xs : List (Option TaskEnd)). end_at xs f) ends ∙ no_end plan.frames f in absurd (cc);
-    cells_are_shown = λ c h. ap (λ (xs : List (Option ℤ)). value_at xs c) cells ∙ shown_at_opening plan m c ∙ ap (λ (xs : List (Option TaskEnd)). shown xs m (cell_source plan c)) (sym ends);
+    cells_are_shown = λ c h. ap (λ (xs : List (Option Elem)). held_at xs c) cells ∙ shown_at_opening plan m c ∙ ap (λ (xs : List (Option TaskEnd)). shown (number_at plan) xs m (cell_source plan c)) (sym ends);
   };
   have_ended = λ k h l. absurd (omega arith);
   wait_their_turn = λ k h l. ap (λ (xs : List (Option TaskEnd)). end_at xs (get_or board.waits.opened.items k 0)) ends ∙ no_end plan.frames _;
@@ -112,13 +115,13 @@ IsRun-more plan m old new turn e run lt counted shows opens ends = record {
     full f h (inr other) = opens.stay_full f (run.ended_full f (sym (ap is_some (end_of_other f other)) ∙ h))
 
 -- where one function has each element of a stretch that another has, it has them all
-gathered-stretch : (f g : ℕ → Option ℤ) (from n : ℕ) (vs : List ℤ) → ((c : ℕ) (v : ℤ) → from ≤ c → c < from + n → f c ≡ Some v → g c ≡ Some v) → gathered (map f (range_with_len from n)) ≡ Some vs → gathered (map g (range_with_len from n)) ≡ Some vs
+gathered-stretch : (f g : ℕ → Option Elem) (from n : ℕ) (vs : List Elem) → ((c : ℕ) (v : Elem) → from ≤ c → c < from + n → f c ≡ Some v → g c ≡ Some v) → gathered (map f (range_with_len from n)) ≡ Some vs → gathered (map g (range_with_len from n)) ≡ Some vs
 gathered-stretch f g from zero vs weaker h = h
 gathered-stretch f g from (suc n) vs weaker h =
     let (v, ws, at_x, at_xs, is) = gathered-cons (f from) (map f (range_with_len (from + 1) n)) vs h in
-    gathered_there (g from) (map g (range_with_len (from + 1) n)) v ws (weaker from v (omega arith) (omega arith) at_x) (gathered-stretch f g (from + 1) n ws (λ c w l u q. weaker c w (omega arith) (omega arith) q) at_xs) ∙ ap (λ (l : List ℤ). Some l) (sym is)
+    gathered_there (g from) (map g (range_with_len (from + 1) n)) v ws (weaker from v (omega arith) (omega arith) at_x) (gathered-stretch f g (from + 1) n ws (λ c w l u q. weaker c w (omega arith) (omega arith) q) at_xs) ∙ ap (λ (l : List Elem). Some l) (sym is)
 
-map-stretch : (f g : ℕ → Option ℤ) (from n : ℕ) → ((c : ℕ) → from ≤ c → c < from + n → f c ≡ g c) → map f (range_with_len from n) ≡ map g (range_with_len from n)
+map-stretch : (f g : ℕ → Option Elem) (from n : ℕ) → ((c : ℕ) → from ≤ c → c < from + n → f c ≡ g c) → map f (range_with_len from n) ≡ map g (range_with_len from n)
 map-stretch f g from zero same = refl
 map-stretch f g from (suc n) same =
     let here : f from ≡ g from = same from (omega arith) (omega arith) in
@@ -126,29 +129,29 @@ map-stretch f g from (suc n) same =
     cc
 
 -- At the end of a run every activation that has an outcome in the meaning has an end.
-reaches : (plan : Plan) (outcome : ℕ → List ℤ → Outcome) (board : Board) (turn : ℕ) → IsSound plan → IsRun plan (plan_meaning plan outcome) board turn → length board.waits.opened.items ≤ turn → IsClosed element (plan_reads plan) outcome (length plan.frames) (λ f. is_some (end_at board.ends.items f))
-reaches plan outcome board turn sound run over = record { passes = λ s extends earlier a vs lt inputs. by_cells s extends earlier a vs lt (ap gathered (sym (map_map (cell_source plan) (element s) (cells_of plan a))) ∙ inputs) }
+reaches : (plan : Plan) (outcome : ℕ → List ℤ → Outcome) (board : Board) (turn : ℕ) → IsSound plan → IsRun plan (plan_meaning plan outcome) board turn → length board.waits.opened.items ≤ turn → IsClosed (plan_element plan) (plan_reads plan) (poisoning outcome) (length plan.frames) (λ f. is_some (end_at board.ends.items f))
+reaches plan outcome board turn sound run over = record { passes = λ s extends earlier a vs lt inputs. by_cells s extends earlier a vs lt (ap gathered (sym (map_map (cell_source plan) (plan_element plan s) (cells_of plan a))) ∙ inputs) }
   where
     m : State
     m = plan_meaning plan outcome
 
-    shown_too : (s : State) → Extends s m → ((b : ℕ) (o : Outcome) → outcome_at s b ≡ Some o → is_some (end_at board.ends.items b) ≡ true) → (source : Source) (v : ℤ) → element s source ≡ Some v → shown board.ends.items m source ≡ Some v
+    shown_too : (s : State) → Extends s m → ((b : ℕ) (o : Outcome) → outcome_at s b ≡ Some o → is_some (end_at board.ends.items b) ≡ true) → (source : Source) (v : Elem) → plan_element plan s source ≡ Some v → shown (number_at plan) board.ends.items m source ≡ Some v
     shown_too s extends earlier (given w) v h = h
-    shown_too s extends earlier (fed b k) v h = option_and_then_some (λ (o : Outcome). slice_get o.outputs k) (outcome_at s b) v h (λ o is at. ap (λ (t : Bool). cond t (output_at m b k) None) (earlier b o is) ∙ element-extends s m extends.kept (fed b k) v h)
+    shown_too s extends earlier (fed b k) v h = option_and_then_some (λ (o : Outcome). written (number_at plan b) o k) (outcome_at s b) v h (λ o is at. ap (λ (t : Bool). cond t (output_at (number_at plan) m b k) None) (earlier b o is) ∙ element_kept (number_at plan) s m extends.kept (fed b k) v h)
     shown_too s extends earlier nobody v h = absurd (cc)
 
-    by_cells : (s : State) → Extends s m → ((b : ℕ) (o : Outcome) → outcome_at s b ≡ Some o → is_some (end_at board.ends.items b) ≡ true) → (a : ℕ) (vs : List ℤ) → a < length plan.frames → gathered (map (λ c. element s (cell_source plan c)) (cells_of plan a)) ≡ Some vs → is_some (end_at board.ends.items a) ≡ true
+    by_cells : (s : State) → Extends s m → ((b : ℕ) (o : Outcome) → outcome_at s b ≡ Some o → is_some (end_at board.ends.items b) ≡ true) → (a : ℕ) (vs : List Elem) → a < length plan.frames → gathered (map (λ c. plan_element plan s (cell_source plan c)) (cells_of plan a)) ≡ Some vs → is_some (end_at board.ends.items a) ≡ true
     by_cells s extends earlier a vs lt there =
         let exist = sound.cells_exist a (let le : a ≤ length plan.frames = omega arith in le) in
         let len = run.counted.cells_of_plan in
-        let in_cells = gathered-stretch (λ c. element s (cell_source plan c)) (value_at board.cells.items) (frame_at plan a).cell (frame_at plan a).inputs vs (λ c v l u h. run.shows.cells_are_shown c (omega arith) ∙ shown_too s extends earlier (cell_source plan c) v h) there in
-        let none = none_missing (value_at board.cells.items) (cells_of plan a) vs in_cells in
+        let in_cells = gathered-stretch (λ c. plan_element plan s (cell_source plan c)) (held_at board.cells.items) (frame_at plan a).cell (frame_at plan a).inputs vs (λ c v l u h. run.shows.cells_are_shown c (omega arith) ∙ shown_too s extends earlier (cell_source plan c) v h) there in
+        let none = none_missing (held_at board.cells.items) (cells_of plan a) vs in_cells in
         let full : get_or board.waits.missing.items a 0 ≡ 0 = run.counted.counts a lt ∙ none in
         let (k, k_lt, at) = run.counted.opens_full.listed a (let f = run.counted.frames_of_plan in omega arith) full in
         subst (λ (f : ℕ). is_some (end_at board.ends.items f) ≡ true) at (run.have_ended k (omega arith) k_lt)
 
 pub all_ended : (plan : Plan) (outcome : ℕ → List ℤ → Outcome) (board : Board) (turn : ℕ) → IsSound plan → IsRun plan (plan_meaning plan outcome) board turn → length board.waits.opened.items ≤ turn → (a : ℕ) (o : Outcome) → outcome_at (plan_meaning plan outcome) a ≡ Some o → is_some (end_at board.ends.items a) ≡ true
-all_ended plan outcome board turn sound run over = passes_from_closed element (plan_reads plan) outcome (length plan.frames) (λ f. is_some (end_at board.ends.items f)) (reaches plan outcome board turn sound run over)
+all_ended plan outcome board turn sound run over = passes_from_closed (plan_element plan) (plan_reads plan) (poisoning outcome) (length plan.frames) (λ f. is_some (end_at board.ends.items f)) (reaches plan outcome board turn sound run over)
 
 -- the outcome of a frame without an end
 outcome_or_none : (m : State) (ends : List (Option TaskEnd)) → ((a : ℕ) (o : Outcome) → outcome_at m a ≡ Some o → is_some (end_at ends a) ≡ true) → (a : ℕ) → end_at ends a ≡ None → outcome_at m a ≡ None
@@ -159,7 +162,7 @@ outcome_or_none m ends all a none = by_outcome (outcome_at m a) refl
     by_outcome (Some o) e = let t = all a o e in let n : is_some (end_at ends a) ≡ false = ap is_some none in absurd (cc)
 
 -- the ends of a run that is over are those of the meaning
-pub ends_meant : (plan : Plan) (m : State) (cells : List (Option ℤ)) (ends : List (Option TaskEnd)) → length m ≡ length plan.frames → Shows plan m cells ends → ((a : ℕ) (o : Outcome) → outcome_at m a ≡ Some o → is_some (end_at ends a) ≡ true) → ends ≡ ends_of m
+pub ends_meant : (plan : Plan) (m : State) (cells : List (Option Elem)) (ends : List (Option TaskEnd)) → length m ≡ length plan.frames → Shows plan m cells ends → ((a : ℕ) (o : Outcome) → outcome_at m a ≡ Some o → is_some (end_at ends a) ≡ true) → ends ≡ ends_of m
 ends_meant plan m cells ends len shows all = same_lists ends (ends_of m) (shows.ends_of_plan ∙ sym len ∙ sym (length-map m _)) (λ k d lt. at k d lt)
   where
     meant : (k : ℕ) (e : Option TaskEnd) → end_at ends k ≡ e → e ≡ option_map (λ (o : Outcome). o.end) (outcome_at m k)
@@ -173,9 +176,9 @@ ends_meant plan m cells ends len shows all = same_lists ends (ends_of m) (shows.
         get_or_default ends k d None lt ∙ meant k (end_at ends k) refl ∙ sym (get_or_from_slice_get (ends_of m) k _ d e)
 
 -- the sink cells of a run that is over are those of the meaning
-pub sink_meant : (plan : Plan) (m : State) (cells : List (Option ℤ)) (ends : List (Option TaskEnd)) (waits : Waits) → IsSound plan → IsCounted plan cells waits → Shows plan m cells ends → ((a : ℕ) (o : Outcome) → outcome_at m a ≡ Some o → is_some (end_at ends a) ≡ true) → part_of plan.sink cells ≡ sink_elements plan m
+pub sink_meant : (plan : Plan) (m : State) (cells : List (Option Elem)) (ends : List (Option TaskEnd)) (waits : Waits) → IsSound plan → IsCounted plan cells waits → Shows plan m cells ends → ((a : ℕ) (o : Outcome) → outcome_at m a ≡ Some o → is_some (end_at ends a) ≡ true) → part_of plan.sink cells ≡ sink_elements plan m
 sink_meant plan m cells ends waits sound counted shows all =
-    ap (λ (p : FramePlan). part_of p cells) (sym at_sink) ∙ stretch_of plan cells waits n sound counted (omega arith) ∙ map-stretch (value_at cells) (λ c. element m (cell_source plan c)) (frame_at plan n).cell (frame_at plan n).inputs (λ c l u. shows.cells_are_shown c (inside c u) ∙ shown_all (cell_source plan c)) ∙ sym (map_map (cell_source plan) (element m) (cells_of plan n))
+    ap (λ (p : FramePlan). part_of p cells) (sym at_sink) ∙ stretch_of plan cells waits n sound counted (omega arith) ∙ map-stretch (held_at cells) (λ c. plan_element plan m (cell_source plan c)) (frame_at plan n).cell (frame_at plan n).inputs (λ c l u. shows.cells_are_shown c (inside c u) ∙ shown_all (cell_source plan c)) ∙ sym (map_map (cell_source plan) (plan_element plan m) (cells_of plan n))
   where
     n : ℕ
     n = length plan.frames
@@ -186,11 +189,11 @@ sink_meant plan m cells ends waits sound counted shows all =
     inside : (c : ℕ) → c < (frame_at plan n).cell + (frame_at plan n).inputs → c < length cells
     inside c u = let exist = sound.cells_exist n (omega arith) in let len = counted.cells_of_plan in omega arith
 
-    shown_fed : (g k : ℕ) (e : Option TaskEnd) → end_at ends g ≡ e → cond (is_some (end_at ends g)) (output_at m g k) None ≡ output_at m g k
-    shown_fed g k None is = ap (λ (e : Option TaskEnd). cond (is_some e) (output_at m g k) None) is ∙ sym (ap (option_and_then (λ (o : Outcome). slice_get o.outputs k)) (outcome_or_none m ends all g is))
-    shown_fed g k (Some e) is = ap (λ (e : Option TaskEnd). cond (is_some e) (output_at m g k) None) is
+    shown_fed : (g k : ℕ) (e : Option TaskEnd) → end_at ends g ≡ e → cond (is_some (end_at ends g)) (output_at (number_at plan) m g k) None ≡ output_at (number_at plan) m g k
+    shown_fed g k None is = ap (λ (e : Option TaskEnd). cond (is_some e) (output_at (number_at plan) m g k) None) is ∙ sym (ap (option_and_then (λ (o : Outcome). written (number_at plan g) o k)) (outcome_or_none m ends all g is))
+    shown_fed g k (Some e) is = ap (λ (e : Option TaskEnd). cond (is_some e) (output_at (number_at plan) m g k) None) is
 
-    shown_all : (source : Source) → shown ends m source ≡ element m source
+    shown_all : (source : Source) → shown (number_at plan) ends m source ≡ plan_element plan m source
     shown_all (given v) = refl
     shown_all (fed g k) = shown_fed g k (end_at ends g) refl
     shown_all nobody = refl
@@ -213,7 +216,7 @@ IsRun-fewer plan m board turn e ends run lt set_is =
     omega (arith, n, s)
 
 -- the sink's cells exist
-pub sink_fits : (plan : Plan) (cells : List (Option ℤ)) (waits : Waits) → IsSound plan → IsCounted plan cells waits → plan.sink.cell + plan.sink.inputs ≤ length cells
+pub sink_fits : (plan : Plan) (cells : List (Option Elem)) (waits : Waits) → IsSound plan → IsCounted plan cells waits → plan.sink.cell + plan.sink.inputs ≤ length cells
 sink_fits plan cells waits sound counted =
     let at : frame_at plan (length plan.frames) ≡ plan.sink = get_or_past plan.frames (length plan.frames) plan.sink (omega arith) in
     let exist = sound.cells_exist (length plan.frames) (omega arith) in

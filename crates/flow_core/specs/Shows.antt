@@ -1,29 +1,30 @@
 -- What a run shows of the meaning.
 use Rattle.std.specs.Prelude.{◌≡◌, ℕ, ℤ, ◌<◌, List, Option, Some, None, is_some, if◌then◌else◌, length, slice_index_or}
 use Rattle.std.specs.Option.{option_map}
+use Rattle.flow_core_laws.specs.Outcome.{outcome_at, State}
+use Rattle.flow_core_laws.specs.declared.elem.Elem.{Elem}
 use Rattle.flow_core_laws.specs.declared.plan.Plan.{Plan}
 use Rattle.flow_core_laws.specs.declared.task_end.TaskEnd.{TaskEnd}
 use Rattle.flow_core_laws.specs.declared.task_end.TaskEnd.TheVariants.{Done}
 use Rattle.flow_core_laws.specs.declared.outcome.Outcome.{Outcome}
-use Rattle.flow_core_laws.specs.Outcome.{State, outcome_at}
 use Rattle.flow_core_laws.specs.Element.{Source, given, fed, nobody, output_at}
-use Rattle.flow_core_laws.specs.Plans.{value_at, cell_source}
+use Rattle.flow_core_laws.specs.Plans.{number_at, held_at, cell_source}
 
 -- the end of a frame so far
 abbrev pub end_at : List (Option TaskEnd) → ℕ → Option TaskEnd
 end_at ends frame = slice_index_or ends frame None
 
 -- The element of a source that a run shows: a given one, or one of a frame that has an end.
-abbrev pub shown : List (Option TaskEnd) → State → Source → Option ℤ
-shown ends meaning (given value) = Some value
-shown ends meaning (fed frame place) = if is_some (end_at ends frame) then output_at meaning frame place else None
-shown ends meaning nobody = None
+abbrev pub shown : (ℕ → ℕ) → List (Option TaskEnd) → State → Source → Option Elem
+shown number_of ends meaning (given elem) = Some elem
+shown number_of ends meaning (fed frame place) = if is_some (end_at ends frame) then output_at number_of meaning frame place else None
+shown number_of ends meaning nobody = None
 
 -- The ends are the meaning's, and the cells hold what the frames with an end gave.
-pub record Shows (plan : Plan) (meaning : State) (cells : List (Option ℤ)) (ends : List (Option TaskEnd)) : Type 0 where
+pub record Shows (plan : Plan) (meaning : State) (cells : List (Option Elem)) (ends : List (Option TaskEnd)) : Type 0 where
   pub ends_of_plan : length ends ≡ length plan.frames
   pub ends_are_meant : (f : ℕ) (e : TaskEnd) → end_at ends f ≡ Some e → option_map (λ (o : Outcome). o.end) (outcome_at meaning f) ≡ Some e
-  pub cells_are_shown : (c : ℕ) → c < length cells → value_at cells c ≡ shown ends meaning (cell_source plan c)
+  pub cells_are_shown : (c : ℕ) → c < length cells → held_at cells c ≡ shown (number_at plan) ends meaning (cell_source plan c)
 
 -- The meaning gives a frame an end, with these outputs where it is Done.
 abbrev pub Gives : State → ℕ → TaskEnd → List ℤ → Type 0

@@ -1,15 +1,14 @@
-ghost use Rattle.std.specs.Prelude.{◌≡◌, ◌+◌, ◌-◌, ◌<◌, ◌≤◌, ℕ, IsSome, Some, None, OnOk, IfOk, length, slice_get, slice_set, slice_range, map};
-ghost use Rattle.flow_core_laws.specs.Plans.{value_at, frame_at};
-ghost use Rattle.flow_core_laws.specs.Round.{gathered};
+ghost use Rattle.std.specs.Prelude.{◌≡◌, ◌+◌, ◌-◌, ◌<◌, ◌≤◌, ℕ, Some, None, OnOk, IfOk, length, slice_get, slice_set, slice_range, map};
+ghost use Rattle.flow_core_laws.specs.Plans.{frame_at};
 ghost use Rattle.flow_core_laws.specs.IsSound.{IsSound};
-ghost use Rattle.flow_core.specs.Waits.{OpensFull, OpensMore};
-ghost use Rattle.flow_core.specs.Counted.{IsCounted, Carries, AreEmpty, IsUnfed, Delivers};
-ghost use Rattle.flow_core.specs.Shows.{Shows, Gives, end_at};
 ghost use Rattle.flow_core_laws.specs.Outcome.{State};
+ghost use Rattle.flow_core.specs.Waits.{OpensMore};
+ghost use Rattle.flow_core.specs.Counted.{IsCounted, HasOutputs, Carries, AreEmpty, IsUnfed, Delivers};
+ghost use Rattle.flow_core.specs.Shows.{Shows, Gives, end_at};
 
 use crate::cells::fill;
 use crate::waits::Waits;
-use flow_core_laws::{Ends, Plan, TaskEnd};
+use flow_core_laws::{Elem, Ends, Plan, TaskEnd};
 use os_io::{List, Memory};
 use std::alloc::Global;
 
@@ -17,8 +16,8 @@ use std::alloc::Global;
 /// and outputs to. `open` takes all the memory of a run, and `take` needs none.
 #[derive(Debug, Drop)]
 pub struct Board {
-    /// The value of each cell so far, or none.
-    pub cells: Vec<Option<i32>>,
+    /// What each cell holds so far, a value or poison, or none.
+    pub cells: Vec<Option<Elem>>,
     /// What each frame still misses, and the frames that may run.
     pub waits: Waits,
     /// The end of each frame so far, or none.
@@ -59,7 +58,8 @@ impl Board {
         })
     }
 
-    /// Takes the end of a frame, with its outputs where it is `Done`.
+    /// Takes the end of a frame, with its outputs where it is `Done`. The cells that the frame feeds get these,
+    /// and after another end poison with its root.
     pub fn take(
         &mut self,
         plan: &Plan,
@@ -83,52 +83,60 @@ impl Board {
             → Shows plan.now meaning self.new.cells.items self.new.ends.items) }
     {
         self.ends[frame as usize] = Some(end);
-        let TaskEnd::Done = end else {
-            return Ok(());
-        };
-        self.deliver(plan, frame, outputs)?;
+        let root = end.root(plan.number(frame));
+        self.deliver(plan, frame, root, outputs)?;
         Ok(())
     }
 
-    /// Carries the output elements of a frame's pieces into their cells.
-    fn deliver(&mut self, plan: &Plan, frame: u32, outputs: &[i32]) -> Result<(), Memory>
+    /// Carries poison with a root, or else the output elements of a frame, over by its pieces into their cells.
+    fn deliver(
+        &mut self,
+        plan: &Plan,
+        frame: u32,
+        root: Option<u32>,
+        outputs: &[i32],
+    ) -> Result<(), Memory>
         requires sound { IsSound plan.now }
         requires exists { frame < length plan.now.frames }
-        requires fits { length outputs.now ≡ (frame_at plan.now frame).outputs }
+        requires fits { HasOutputs (frame_at plan.now frame).outputs root outputs.now }
         requires counted { IsCounted plan.now self.old.cells.items self.old.waits }
         requires empty { IsUnfed plan.now frame self.old.cells.items }
         ensures counted { OnOk result (IsCounted plan.now self.new.cells.items self.new.waits) }
         ensures carried { OnOk result
-            (Delivers plan.now frame outputs.now self.old.cells.items self.new.cells.items) }
+            (Delivers plan.now frame root outputs.now self.old.cells.items self.new.cells.items) }
         ensures opens { OnOk result (OpensMore self.old.waits self.new.waits) }
         ensures ends { self.new.ends.items ≡ self.old.ends.items }
     {
         let place = plan.frame(frame);
         let first = place.piece as usize;
         for number in first..first + place.pieces as usize {
-            self.deliver_piece(plan, number, outputs)?;
+            self.deliver_piece(plan, number, root, outputs)?;
         }
         Ok(())
     }
 
     /// Carries the elements of one piece, and lowers the count of the frame that misses them.
-    fn deliver_piece(&mut self, plan: &Plan, number: usize, outputs: &[i32]) -> Result<(), Memory>
+    fn deliver_piece(
+        &mut self,
+        plan: &Plan,
+        number: usize,
+        root: Option<u32>,
+        outputs: &[i32],
+    ) -> Result<(), Memory>
         requires sound { IsSound plan.now }
         requires exists { number < length plan.now.pieces }
         requires fits { (p : _) → slice_get plan.now.pieces number ≡ Some p
-            → p.first + p.count ≤ length outputs.now }
+            → HasOutputs (p.first + p.count) root outputs.now }
         requires counted { IsCounted plan.now self.old.cells.items self.old.waits }
         requires empty { AreEmpty plan.now number (number + 1) self.old.cells.items }
         ensures counted { OnOk result (IsCounted plan.now self.new.cells.items self.new.waits) }
         ensures carried { OnOk result
-            (Carries plan.now number (number + 1) outputs.now self.old.cells.items self.new.cells.items) }
+            (Carries plan.now number (number + 1) root outputs.now self.old.cells.items self.new.cells.items) }
         ensures opens { OnOk result (OpensMore self.old.waits self.new.waits) }
         ensures ends { self.new.ends.items ≡ self.old.ends.items }
     {
         let piece = plan.pieces.as_slice()[number];
-        let first = piece.first as usize;
-        let elements = &outputs[first..first + piece.count as usize];
-        fill(&mut self.cells, piece.at as usize, elements);
+        fill(&mut self.cells, piece, root, outputs);
         if (piece.to as usize) < plan.frames.len() {
             self.waits.lower(piece.to, piece.count)?;
         }

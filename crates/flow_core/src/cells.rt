@@ -1,34 +1,71 @@
-ghost use Rattle.std.specs.Prelude.{◌≡◌, ◌+◌, ◌<◌, ◌≤◌, ℕ, IsSome, OnOk, length, slice_get};
-ghost use Rattle.flow_core_laws.specs.Plans.{value_at};
+ghost use Rattle.std.specs.Prelude.{◌≡◌, ◌+◌, ◌<◌, ◌≤◌, ℕ, List, Option, Some, None, IsSome, IfOk, OnOk, length, slice_get, min};
+ghost use Rattle.std.specs.Option.{option_map_or};
 ghost use Rattle.flow_core_laws.specs.Round.{gathered};
+ghost use Rattle.flow_core_laws.specs.declared.elem.Elem.{Elem};
+ghost use Rattle.flow_core_laws.specs.Element.{output_element};
+ghost use Rattle.flow_core_laws.specs.Plans.{held_at};
+ghost use Rattle.flow_core_laws.specs.Poisoning.{values_of, least_root};
+ghost use Rattle.flow_core.specs.Counted.{HasOutputs};
 
+use flow_core_laws::{Elem, Piece};
 use os_io::Memory;
 
-/// Puts values into the cells from `at` on.
-pub(crate) fn fill(cells: &mut Vec<Option<i32>>, at: usize, values: &[i32])
-    requires { at + length values.now ≤ length cells.old.items }
-    ensures length { length cells.new.items ≡ length cells.old.items }
-    ensures filled { (k : ℕ) → k < length values.now
-        → value_at cells.new.items (at + k) ≡ slice_get values.now k }
-    ensures before { (c : ℕ) → c < at → value_at cells.new.items c ≡ value_at cells.old.items c }
-    ensures behind { (c : ℕ) → at + length values.now ≤ c
-        → value_at cells.new.items c ≡ value_at cells.old.items c }
+/// The output element at a place: poison with a root, where there is one; else the value that was written.
+fn output(root: Option<u32>, outputs: &[i32], place: usize) -> Elem
+    requires { root ≡ None → place < length outputs.now }
+    ensures { output_element root outputs.now place ≡ Some result }
 {
-    for (k, value) in values.iter().enumerate() {
-        cells[at + k] = Some(*value);
+    match root {
+        Some(root) => Elem::Poison(root),
+        None => Elem::Value(outputs[place]),
     }
 }
 
-/// Puts the values of cells, which are all there, into a buffer in place of what it holds.
-pub fn gather(cells: &[Option<i32>], into: &mut Vec<i32>) -> Result<(), Memory>
+/// Puts the elements of a piece into its cells.
+pub(crate) fn fill(cells: &mut Vec<Option<Elem>>, piece: Piece, root: Option<u32>, outputs: &[i32])
+    requires fits { piece.at + piece.count ≤ length cells.old.items }
+    requires given { HasOutputs (piece.first + piece.count) root outputs.now }
+    ensures length { length cells.new.items ≡ length cells.old.items }
+    ensures filled { (k : ℕ) → k < piece.count
+        → held_at cells.new.items (piece.at + k) ≡ output_element root outputs.now (piece.first + k) }
+    ensures before { (c : ℕ) → c < piece.at → held_at cells.new.items c ≡ held_at cells.old.items c }
+    ensures behind { (c : ℕ) → piece.at + piece.count ≤ c
+        → held_at cells.new.items c ≡ held_at cells.old.items c }
+{
+    let first = piece.first as usize;
+    let at = piece.at as usize;
+    for k in 0..piece.count as usize {
+        cells[at + k] = Some(output(root, outputs, first + k));
+    }
+}
+
+/// The lesser of a root and those before it, of which there may be none.
+fn lesser(least: Option<u32>, root: u32) -> u32
+    ensures { result ≡ option_map_or (λ before. min before root) least root }
+{
+    match least {
+        Some(least) => least.min(root),
+        None => root,
+    }
+}
+
+/// Puts the values of cells, which all hold an element, into a buffer in place of what it holds. The answer is
+/// the least root among those that are poison.
+pub fn gather(cells: &[Option<Elem>], into: &mut Vec<i32>) -> Result<Option<u32>, Memory>
     requires { IsSome (gathered cells.now) }
-    ensures { OnOk result (gathered cells.now ≡ Some into.new.items) }
+    ensures root { (elements : List Elem) → gathered cells.now ≡ Some elements
+        → IfOk result (λ root. root ≡ least_root elements) }
+    ensures values { (elements : List Elem) → gathered cells.now ≡ Some elements
+        → OnOk result (into.new.items ≡ values_of elements) }
 {
     into.clear();
+    let mut least = None;
     for cell in cells {
-        if let Some(value) = cell {
-            into.push(*value)?;
+        match cell {
+            Some(Elem::Value(value)) => into.push(*value)?,
+            Some(Elem::Poison(root)) => least = Some(lesser(least, *root)),
+            None => {}
         }
     }
-    Ok(())
+    Ok(least)
 }

@@ -2,10 +2,12 @@
 //!
 //! What activations, plans and bodies are and what they mean stands in `flow_core_laws`, whose types
 //! and laws this crate gives out. `execute_one` runs a plan on one thread. Its promise is the plan's
-//! meaning, exactly: the end of each frame and the element of each sink cell, and none where the
-//! meaning has none. Other runtimes build on the laws in `laws`, and on `Board`, which has the cells
+//! meaning, exactly: the end of each frame and the element of each sink cell, a value or poison, and
+//! none where the meaning has none. Other runtimes build on the laws in `laws`, and on `Board`, which has the cells
 //! of a run and what each frame misses; those whose workers run a plan side by side on
-//! `flow_core_concurrent`.
+//! `flow_core_concurrent`. A frame that ends carries something into every cell that it feeds, so a
+//! frame waits no longer than for the ends of those that write what it reads; a frame with poison among its cells
+//! runs no body.
 #![tactic(auto)]
 
 mod board;
@@ -16,7 +18,7 @@ mod waits;
 pub use board::Board;
 pub use cells::gather;
 pub use flow_core_laws::{
-    Activation, Bodies, Claim, Control, ControlEnd, Ends, FramePlan, Outcome, Piece, Plan, TaskEnd,
+    Activation, Bodies, Claim, Control, ControlEnd, Elem, Ends, FramePlan, Outcome, Piece, Plan, TaskEnd,
     laws,
 };
 pub use one_thread::execute_one;

@@ -1,9 +1,11 @@
-ghost use Rattle.std.specs.Prelude.{◌≡◌, ◌+◌, ◌<◌, ◌≤◌, ℕ, Some, None, IsSome, OnOk, IfOk, length, slice_index, slice_set};
-ghost use Rattle.flow_core_laws.specs.Outcome.{ends_of};
+ghost use Rattle.std.specs.Prelude.{◌≡◌, ◌+◌, ◌<◌, ◌≤◌, ℕ, List, Some, None, IsSome, OnOk, IfOk, length, slice_index, slice_set};
 ghost use Rattle.flow_core_laws.specs.Round.{gathered};
+ghost use Rattle.flow_core_laws.specs.declared.elem.Elem.{Elem};
+ghost use Rattle.flow_core_laws.specs.declared.task_end.TaskEnd.{TaskEnd};
+ghost use Rattle.flow_core_laws.specs.Outcome.{ends_of};
+ghost use Rattle.flow_core_laws.specs.Poisoning.{poisoning};
 ghost use Rattle.flow_core_laws.specs.Plans.{plan_meaning, sink_elements};
 ghost use Rattle.flow_core_laws.specs.IsSound.{IsSound};
-ghost use Rattle.flow_core_laws.specs.declared.task_end.TaskEnd.{TaskEnd};
 ghost use Rattle.flow_core_laws.specs.Serves.{Serves};
 ghost use Rattle.flow_core.specs.Waits.{OpensMore};
 ghost use Rattle.flow_core.specs.Counted.{IsCounted};
@@ -12,7 +14,7 @@ ghost use Rattle.flow_core.specs.Board.{IsRun};
 
 use crate::board::Board;
 use crate::cells::gather;
-use flow_core_laws::{Bodies, Ends, FramePlan, Plan, TaskEnd};
+use flow_core_laws::{Bodies, Elem, Ends, FramePlan, Plan, TaskEnd};
 use os_io::Memory;
 use std::alloc::Global;
 
@@ -23,26 +25,30 @@ struct Buffers {
     outputs: Vec<i32>,
 }
 
-/// Runs a frame's body on its cells, which all have a value.
-fn run_body<B: Bodies>(
+/// The end of a frame by its cells, which all hold an element: poisoned where one of them is poison, and else that
+/// of its body, which runs on their values.
+fn frame_end<B: Bodies>(
     bodies: &B,
     frame: u32,
     place: FramePlan,
-    cells: &[Option<i32>],
+    cells: &[Option<Elem>],
     buffers: &mut Buffers,
     scratch: &mut B::Scratch,
 ) -> Result<TaskEnd, Memory>
     requires taken { B.takes bodies.now frame (length cells.now) place.outputs }
     requires fitting { B.fits bodies.now scratch.old }
     requires there { IsSome (gathered cells.now) }
-    ensures inputs { OnOk result (gathered cells.now ≡ Some buffers.new.inputs.items) }
-    ensures end { IfOk result (λ end. end
-        ≡ (B.outcome bodies.now frame buffers.new.inputs.items).end) }
-    ensures outputs { IfOk result (λ end. end ≡ TaskEnd.Done
-        → buffers.new.outputs.items ≡ (B.outcome bodies.now frame buffers.new.inputs.items).outputs) }
+    ensures end { (elements : List Elem) → gathered cells.now ≡ Some elements
+        → IfOk result (λ end. end ≡ (poisoning (B.outcome bodies.now) frame elements).end) }
+    ensures outputs { (elements : List Elem) → gathered cells.now ≡ Some elements
+        → IfOk result (λ end. end ≡ TaskEnd.Done
+        → buffers.new.outputs.items ≡ (poisoning (B.outcome bodies.now) frame elements).outputs) }
     ensures fits_again { OnOk result (B.fits bodies.now scratch.new) }
 {
-    gather(cells, &mut buffers.inputs)?;
+    let root = gather(cells, &mut buffers.inputs)?;
+    if let Some(root) = root {
+        return Ok(TaskEnd::Poisoned { root });
+    }
     buffers.outputs.resize(place.outputs as usize, 0)?;
     Ok(bodies.run(
         frame,
@@ -52,7 +58,7 @@ fn run_body<B: Bodies>(
     ))
 }
 
-/// Runs a frame whose cells all have a value, and takes its end.
+/// Takes the end of a frame whose cells all hold an element.
 fn run_frame<B: Bodies>(
     board: &mut Board,
     plan: &Plan,
@@ -81,7 +87,7 @@ fn run_frame<B: Bodies>(
     let place = plan.frame(frame);
     let first = place.cell as usize;
     let cells = &board.cells[first..first + place.inputs as usize];
-    let end = run_body(bodies, frame, place, cells, buffers, scratch)?;
+    let end = frame_end(bodies, frame, place, cells, buffers, scratch)?;
     board.take(plan, frame, end, buffers.outputs.as_slice())?;
     Ok(())
 }

@@ -1,25 +1,25 @@
 -- The cells of frames that miss nothing, and those that a seat stores into.
-use Rattle.std.proofs.Common.{◌≡◌, ℕ, zero, suc, ◌+◌, ◌-◌, ◌<◌, ◌≤◌, ◌≢◌, ℤ, Bool, true, false, Option, Some, None, length, set, refl, sym, ap, ◌∙◌, ◌⊎◌, inl, inr, arith, count_by}
+use Rattle.std.proofs.Common.{◌≡◌, ℕ, zero, suc, ◌+◌, ◌-◌, ◌<◌, ◌≤◌, ◌≢◌, Bool, true, false, Option, Some, None, length, set, refl, sym, ap, ◌∙◌, ◌⊎◌, inl, inr, arith, count_by}
 use Rattle.std.specs.Prelude.{slice_get, is_none, is_some, ◌&&◌, ◌==◌, nat_lt}
 use Rattle.std.specs.List.{range_with_len}
 use Rattle.std.proofs.lemmas.Bool.{cases_eq, and_parts, and_right, lt-ltb, le-ltb}
 use Rattle.std.proofs.lemmas.List.Sums.{sum_by-cons}
 use Rattle.flow_core_laws.specs.declared.plan.Piece.{Piece}
-use Rattle.flow_core_laws.specs.Element.{element}
-use Rattle.flow_core_laws.specs.Plans.{frame_at, value_at, cell_source}
-use Rattle.flow_core_laws.specs.IsSound.{IsSound, HasCell}
-use Rattle.flow_core_concurrent.specs.declared.known.Known.{Known}
 use Rattle.flow_core_concurrent.specs.declared.view.Run.{Run}
+use Rattle.flow_core_concurrent.specs.Counted.{one, is_run_of, is_past, has_stored, counted, counted_at, underway_at, lacks_cell, lacking}
+use Rattle.flow_core_concurrent.proofs.Sums.{count_by-sole, count_by-written}
+use Rattle.flow_core_concurrent.proofs.Runs.{is_past-earlier, same_frame, run_there, running_is_taken, runs_alone}
+use Rattle.flow_core_laws.specs.Plans.{plan_element, frame_at, held_at, cell_source}
+use Rattle.flow_core_laws.specs.IsSound.{IsSound, HasCell}
+use Rattle.flow_core_laws.proofs.Sources.{piece_at-covered}
+use Rattle.flow_core_laws.specs.declared.elem.Elem.{Elem}
+use Rattle.flow_core_concurrent.specs.declared.known.Known.{Known}
 use Rattle.flow_core_concurrent.specs.declared.view.View.{View}
-use Rattle.flow_core_concurrent.specs.Words.{word_at, amount, has_delivered}
+use Rattle.flow_core_concurrent.specs.Words.{word_at, amount, has_ended}
 use Rattle.flow_core_concurrent.specs.States.{CoreState, runs_of}
-use Rattle.flow_core_concurrent.specs.Counted.{one, is_run_of, is_past, has_stored, counted, counted_at, held_at, lacks_cell, lacking}
 use Rattle.flow_core_concurrent.specs.Steps.{StandsAt, CanRead}
 use Rattle.flow_core_concurrent.specs.IsGood.{IsGood}
-use Rattle.flow_core_concurrent.proofs.Sums.{count_by-sole, count_by-written}
-use Rattle.flow_core_concurrent.proofs.Counts.{counted-is, counted_at-is, held_at-is, held-is}
-use Rattle.flow_core_concurrent.proofs.Runs.{run_there, running_is_taken, runs_alone, is_past-earlier, same_frame}
-use Rattle.flow_core_laws.proofs.Sources.{piece_at-covered}
+use Rattle.flow_core_concurrent.proofs.Counts.{counted-is, counted_at-is, underway_at-is, underway-is}
 
 -- where no number of a stretch passes, each fails
 none_passes : (p : ℕ → Bool) (from n : ℕ) → count_by p (range_with_len from n) ≡ 0 → (c : ℕ) → from ≤ c → c < from + n → p c ≡ false
@@ -38,35 +38,35 @@ none_passes p from (suc n) none c low high = by (cases_eq c from) (λ h. none_pa
     by (inr n') later = later n'
 
 -- a cell that isn't missed was filled at opening, or its piece counts
-not_missed : (o : Option ℤ) (n : ℕ) → (is_none o && n == 0) ≡ false → 1 ≤ one (is_some o) + n
+not_missed : (o : Option Elem) (n : ℕ) → (is_none o && n == 0) ≡ false → 1 ≤ one (is_some o) + n
 not_missed None zero h = absurd (cc)
 not_missed None (suc n) h = omega arith
 not_missed (Some v) n h = omega arith
 
 -- where a frame misses nothing, each of its cells was filled at opening or its piece counts
-pub full_cell : (known : Known) (s : CoreState) (f c : ℕ) → IsGood known s → f ≤ length known.plan.frames → amount (word_at s.words f) ≡ 0 → HasCell known.plan f c → 1 ≤ one (is_some (value_at known.plan.filled c)) + counted_at known.plan s.words (runs_of s) c
+pub full_cell : (known : Known) (s : CoreState) (f c : ℕ) → IsGood known s → f ≤ length known.plan.frames → amount (word_at s.words f) ≡ 0 → HasCell known.plan f c → 1 ≤ one (is_some (held_at known.plan.filled c)) + counted_at known.plan s.words (runs_of s) c
 full_cell known s f c g le none has =
     let l : lacking known.plan s.words (runs_of s) f ≡ 0 = sym (g.words_count f le) ∙ none in
-    not_missed (value_at known.plan.filled c) (counted_at known.plan s.words (runs_of s) c) (none_passes (lacks_cell known.plan s.words (runs_of s)) (frame_at known.plan f).cell (frame_at known.plan f).inputs l c has.0 has.1)
+    not_missed (held_at known.plan.filled c) (counted_at known.plan s.words (runs_of s) c) (none_passes (lacks_cell known.plan s.words (runs_of s)) (frame_at known.plan f).cell (frame_at known.plan f).inputs l c has.0 has.1)
 
 -- so it holds the meaning's element
-pub full_value : (known : Known) (s : CoreState) (f c : ℕ) → IsGood known s → f ≤ length known.plan.frames → amount (word_at s.words f) ≡ 0 → HasCell known.plan f c → (value : ℤ) × (value_at s.cells c ≡ Some value) × (element known.meaning (cell_source known.plan c) ≡ Some value)
-full_value known s f c g le none has = by (value_at s.cells c) refl
+pub full_value : (known : Known) (s : CoreState) (f c : ℕ) → IsGood known s → f ≤ length known.plan.frames → amount (word_at s.words f) ≡ 0 → HasCell known.plan f c → (value : Elem) × (held_at s.cells c ≡ Some value) × (plan_element known.plan known.meaning (cell_source known.plan c) ≡ Some value)
+full_value known s f c g le none has = by (held_at s.cells c) refl
   where
-    by : (o : Option ℤ) → value_at s.cells c ≡ o → (value : ℤ) × (value_at s.cells c ≡ Some value) × (element known.meaning (cell_source known.plan c) ≡ Some value)
+    by : (o : Option Elem) → held_at s.cells c ≡ o → (value : Elem) × (held_at s.cells c ≡ Some value) × (plan_element known.plan known.meaning (cell_source known.plan c) ≡ Some value)
     by (Some value) e = (value, e, g.cells_hold_the_meaning c value e)
     by None e =
         let a = full_cell known s f c g le none has in
         let b = g.cells_are_filled_once c in
-        let z : one (is_some (value_at s.cells c)) ≡ 0 = ap (λ o. one (is_some o)) e in
+        let z : one (is_some (held_at s.cells c)) ≡ 0 = ap (λ o. one (is_some o)) e in
         absurd (omega (arith, a, b, z))
 
 -- and just one of the two holds
-pub full_once : (known : Known) (s : CoreState) (f c : ℕ) → IsGood known s → f ≤ length known.plan.frames → amount (word_at s.words f) ≡ 0 → HasCell known.plan f c → one (is_some (value_at known.plan.filled c)) + counted_at known.plan s.words (runs_of s) c ≡ 1
+pub full_once : (known : Known) (s : CoreState) (f c : ℕ) → IsGood known s → f ≤ length known.plan.frames → amount (word_at s.words f) ≡ 0 → HasCell known.plan f c → one (is_some (held_at known.plan.filled c)) + counted_at known.plan s.words (runs_of s) c ≡ 1
 full_once known s f c g le none has =
     let a = full_cell known s f c g le none has in
     let b = g.cells_are_filled_once c in
-    let m = at_most (is_some (value_at s.cells c)) in
+    let m = at_most (is_some (held_at s.cells c)) in
     omega (arith, a, b, m)
   where
     at_most : (b : Bool) → one b ≤ 1
@@ -74,7 +74,7 @@ full_once known s f c g le none has =
     at_most false = omega arith
 
 -- what a READ gives
-pub reads : (known : Known) (s : CoreState) (i : ℕ) (v : View) (r : Run) (c : ℕ) → IsGood known s → CanRead known s i v r c → (value : ℤ) × (value_at s.cells c ≡ Some value) × (element known.meaning (cell_source known.plan c) ≡ Some value)
+pub reads : (known : Known) (s : CoreState) (i : ℕ) (v : View) (r : Run) (c : ℕ) → IsGood known s → CanRead known s i v r c → (value : Elem) × (held_at s.cells c ≡ Some value) × (plan_element known.plan known.meaning (cell_source known.plan c) ≡ Some value)
 reads known s i v r c g can =
     let sees = can.is_seat.sees in
     let place = (g.views_are_sound i v sees).runs_at_a_place r can.runs in
@@ -102,7 +102,7 @@ module _ (known : Known) (s : CoreState) (i : ℕ) (v : View) (r : Run) (p : Pie
   pub not_counted : counted known.plan s.words (runs_of s) r.piece ≡ 0
   not_counted =
       let a = counted-is known.plan s.words (runs_of s) r.piece p stands.has_number in
-      let b : one (has_delivered (word_at s.words p.from)) ≡ 0 = ap (λ f. one (has_delivered (word_at s.words f))) stands.is_its_own ∙ ap (λ w. one (has_delivered w)) (running_is_taken known s i v r g sees runs) in
+      let b : one (has_ended (word_at s.words p.from)) ≡ 0 = ap (λ f. one (has_ended (word_at s.words f))) stands.is_its_own ∙ ap (λ w. one (has_ended w)) (running_is_taken known s i v r g sees runs) in
       let c = count_by-sole (is_past p.from r.piece) (is_run_of p.from) (runs_of s) i (Some r) (past_runs r.piece) there runs_it alone in
       let d : one (is_past p.from r.piece (Some r)) ≡ 0 = ap one (is_past-earlier r p.from r.piece (omega arith)) in
       omega (arith, a, b, c, d)
@@ -123,26 +123,26 @@ module _ (known : Known) (s : CoreState) (i : ℕ) (v : View) (r : Run) (p : Pie
       omega (arith, a, b, d, e)
 
   -- the cells of that piece
-  pub filled_at : (sound : IsSound known.plan) (k : ℕ) → k < p.count → one (is_some (value_at s.cells (p.at + k))) ≡ one (nat_lt k r.stored)
+  pub filled_at : (sound : IsSound known.plan) (k : ℕ) → k < p.count → one (is_some (held_at s.cells (p.at + k))) ≡ one (nat_lt k r.stored)
   filled_at sound k lt =
       let q = r.piece in
       let c : ℕ = p.at + k in
       let here = piece_at-covered known.plan q c p sound stands.has_number (omega arith) (omega (arith, lt)) in
-      let empty : one (is_some (value_at known.plan.filled c)) ≡ 0 = ap (λ o. one (is_some o)) (sound.pieces_spare_the_filled q c (p, stands.has_number, omega arith, omega (arith, lt))) in
+      let empty : one (is_some (held_at known.plan.filled c)) ≡ 0 = ap (λ o. one (is_some o)) (sound.pieces_spare_the_filled q c (p, stands.has_number, omega arith, omega (arith, lt))) in
       let a = g.cells_are_filled_once c in
       let b : counted_at known.plan s.words (runs_of s) c ≡ 0 = counted_at-is known.plan s.words (runs_of s) c q here ∙ not_counted in
-      let e : held_at known.plan (runs_of s) c ≡ count_by (has_stored p.from q k) (runs_of s) = held_at-is known.plan (runs_of s) c q here ∙ held-is known.plan (runs_of s) c q p stands.has_number ∙ ap (λ n. count_by (has_stored p.from q n) (runs_of s)) (let z : p.at + k - p.at ≡ k = omega arith in z) in
+      let e : underway_at known.plan (runs_of s) c ≡ count_by (has_stored p.from q k) (runs_of s) = underway_at-is known.plan (runs_of s) c q here ∙ underway-is known.plan (runs_of s) c q p stands.has_number ∙ ap (λ n. count_by (has_stored p.from q n) (runs_of s)) (let z : p.at + k - p.at ≡ k = omega arith in z) in
       let d = stored_alone k in
       omega (arith, empty, a, b, e, d)
 
   -- a STORE finds its cell empty
-  pub next_is_empty : (sound : IsSound known.plan) → r.stored < p.count → value_at s.cells (p.at + r.stored) ≡ None
-  next_is_empty sound lt = by (value_at s.cells (p.at + r.stored)) refl
+  pub next_is_empty : (sound : IsSound known.plan) → r.stored < p.count → held_at s.cells (p.at + r.stored) ≡ None
+  next_is_empty sound lt = by (held_at s.cells (p.at + r.stored)) refl
     where
-      by : (o : Option ℤ) → value_at s.cells (p.at + r.stored) ≡ o → value_at s.cells (p.at + r.stored) ≡ None
+      by : (o : Option Elem) → held_at s.cells (p.at + r.stored) ≡ o → held_at s.cells (p.at + r.stored) ≡ None
       by None e = e
       by (Some x) e =
           let a = filled_at sound r.stored lt in
-          let b : one (is_some (value_at s.cells (p.at + r.stored))) ≡ 1 = ap (λ o. one (is_some o)) e in
+          let b : one (is_some (held_at s.cells (p.at + r.stored))) ≡ 1 = ap (λ o. one (is_some o)) e in
           let c : one (nat_lt r.stored r.stored) ≡ 0 = ap one (le-ltb r.stored r.stored (omega arith)) in
           absurd (omega (arith, a, b, c))

@@ -2,22 +2,19 @@
 use Rattle.std.proofs.Common.{◌≡◌, ℕ, ◌+◌, ◌≤◌, Bool, true, false, List, [], ◌∷◌, Option, Some, None, length, refl, sym, ap, ◌∙◌, subst, eq-eqb}
 use Rattle.std.specs.Prelude.{◌==◌, ◌&&◌, not, nat_lt, nat_le, is_none, if◌then◌else◌, option_and_then, slice_get}
 use Rattle.std.specs.List.{fold}
-use Rattle.std.specs.Option.{option_map_or}
 use Rattle.std.proofs.lemmas.Bool.{eqb-true, ne_eqb, and_parts, and_from, le-leb, leb-true, lt-ltb, ltb-true}
 use Rattle.std.proofs.lemmas.Option.{cond_some, same_Some}
 use Rattle.flow_core_laws.specs.declared.plan.Piece.{Piece}
+use Rattle.flow_core_concurrent.specs.declared.view.Run.{Run}
+use Rattle.flow_core_concurrent.specs.Choices.{Choice, to_split, to_join, to_claim, to_read, to_store, to_sub, to_finish, to_look, seat_in, own_piece, is_first_place, is_behind_last, is_cell_of, after_choice, choice_of, reached_by}
 use Rattle.flow_core_laws.specs.declared.plan.Plan.{Plan}
 use Rattle.flow_core_laws.specs.declared.task_end.TaskEnd.{TaskEnd}
-use Rattle.flow_core_laws.specs.declared.task_end.TaskEnd.TheVariants.{Done, Trapped, OverBudget}
-use Rattle.flow_core_laws.specs.Outcome.{is_done}
 use Rattle.flow_core_laws.specs.Plans.{frame_at}
 use Rattle.flow_core_concurrent.specs.declared.known.Known.{Known}
-use Rattle.flow_core_concurrent.specs.declared.view.Run.{Run}
 use Rattle.flow_core_concurrent.specs.declared.view.View.{View}
 use Rattle.flow_core_concurrent.specs.States.{CoreState, IsSeat, opening}
-use Rattle.flow_core_concurrent.specs.Steps.{end_of, first_place, StandsAt, CanFinish, after_split, after_join, after_claim, after_store, after_sub, after_finish, after_look, Step, split, join, claim, read, store, sub, finish, look}
+use Rattle.flow_core_concurrent.specs.Steps.{end_of, first_place, StandsAt, after_split, after_join, after_claim, after_store, after_sub, after_finish, after_look, Step, split, join, claim, read, store, sub, finish, look}
 use Rattle.flow_core_concurrent.specs.Ways.{Way, opens, goes}
-use Rattle.flow_core_concurrent.specs.Choices.{Choice, to_split, to_join, to_claim, to_read, to_store, to_sub, to_finish, to_look, seat_in, own_piece, is_first_place, is_behind_last, is_cell_of, is_meant_done, after_choice, choice_of, reached_by}
 
 -- what a bind that gives something was given
 bound : {X Y : Type 0} (f : X → Option Y) (o : Option X) (y : Y) → option_and_then f o ≡ Some y → (x : X) × (o ≡ Some x) × (f x ≡ Some y)
@@ -63,31 +60,9 @@ is_none_is : {X : Type 0} (o : Option X) → is_none o ≡ true → o ≡ None
 is_none_is None h = refl
 is_none_is (Some x) h = absurd (cc)
 
-done_is : (e : TaskEnd) → is_done e ≡ true → e ≡ Done
-done_is Done h = refl
-done_is (Trapped code line) h = absurd (cc)
-done_is OverBudget h = absurd (cc)
-
-meant_done : (known : Known) (f : ℕ) → is_meant_done known f ≡ true → end_of known f ≡ Some Done
-meant_done known f h = by (end_of known f) refl h
-  where
-    by : (o : Option TaskEnd) → end_of known f ≡ o → option_map_or is_done o false ≡ true → end_of known f ≡ Some Done
-    by None e h = absurd (cc)
-    by (Some end) e h = e ∙ ap Some (done_is end h)
-
 not_same : (b : Bool) → not b ≡ true → b ≡ false
 not_same true h = absurd (cc)
 not_same false h = refl
-
-ends_so : (known : Known) (s : CoreState) (i : ℕ) (v : View) (r : Run) (e : TaskEnd) → IsSeat s i v → v.run ≡ Some r → end_of known r.frame ≡ Some e → (if is_done e then is_behind_last known.plan r else is_first_place known.plan r) ≡ true → CanFinish known s i v r e
-ends_so known s i v r Done seat runs meant h = record { is_seat = seat; runs = runs; is_meant = meant; gave_all = λ e. eqb-true r.piece ((frame_at known.plan r.frame).piece + (frame_at known.plan r.frame).pieces) h; gave_nothing = λ n. absurd (n refl) }
-ends_so known s i v r (Trapped code line) seat runs meant h = record { is_seat = seat; runs = runs; is_meant = meant; gave_all = λ e. let z : false ≡ true = ap is_done e in absurd (cc); gave_nothing = λ n. is_first known.plan r h }
-ends_so known s i v r OverBudget seat runs meant h = record { is_seat = seat; runs = runs; is_meant = meant; gave_all = λ e. let z : false ≡ true = ap is_done e in absurd (cc); gave_nothing = λ n. is_first known.plan r h }
-
-may_end : (known : Known) (s : CoreState) (i : ℕ) (v : View) (r : Run) (e : TaskEnd) → CanFinish known s i v r e → (if is_done e then is_behind_last known.plan r else is_first_place known.plan r) ≡ true
-may_end known s i v r Done can = eq-eqb r.piece ((frame_at known.plan r.frame).piece + (frame_at known.plan r.frame).pieces) (can.gave_all refl)
-may_end known s i v r (Trapped code line) can = first_is known.plan r (can.gave_nothing (λ e. let z : false ≡ true = ap is_done e in cc))
-may_end known s i v r OverBudget can = first_is known.plan r (can.gave_nothing (λ e. let z : false ≡ true = ap is_done e in cc))
 
 pub choices_are_steps : (known : Known) (s t : CoreState) (c : Choice) → after_choice known s c ≡ Some t → (step : Step known s t) × (choice_of known s t step ≡ c)
 choices_are_steps known s t (to_split i) h =
@@ -113,12 +88,11 @@ choices_are_steps known s t (to_read i c) h =
     let (low, high) = and_parts (nat_le (frame_at known.plan r.frame).cell c) (nat_lt c ((frame_at known.plan r.frame).cell + (frame_at known.plan r.frame).inputs)) cell in
     subst (λ (u : CoreState). (step : Step known s u) × (choice_of known s u step ≡ to_read i c)) same (read i v r c (record { is_seat = is_seat s i v seat; runs = runs; gave_nothing = is_first known.plan r nothing; is_its_cell = (leb-true (frame_at known.plan r.frame).cell c low, ltb-true c ((frame_at known.plan r.frame).cell + (frame_at known.plan r.frame).inputs) high) }), refl)
 choices_are_steps known s t (to_store i) h =
-    let (v, seat, e) = bound (λ (v : View). option_and_then (λ (r : Run). option_and_then (λ (p : Piece). if is_meant_done known r.frame && nat_lt r.stored p.count then Some (after_store known s i v r p) else None) (own_piece known.plan r)) v.run) (seat_in s i) t h in
-    let (r, runs, e') = bound (λ (r : Run). option_and_then (λ (p : Piece). if is_meant_done known r.frame && nat_lt r.stored p.count then Some (after_store known s i v r p) else None) (own_piece known.plan r)) v.run t e in
-    let (p, piece, e'') = bound (λ (p : Piece). if is_meant_done known r.frame && nat_lt r.stored p.count then Some (after_store known s i v r p) else None) (own_piece known.plan r) t e' in
-    let (may, same) = chosen (is_meant_done known r.frame && nat_lt r.stored p.count) (after_store known s i v r p) t e'' in
-    let (done, more) = and_parts (is_meant_done known r.frame) (nat_lt r.stored p.count) may in
-    subst (λ (u : CoreState). (step : Step known s u) × (choice_of known s u step ≡ to_store i)) same (store i v r p (record { is_seat = is_seat s i v seat; runs = runs; is_done = meant_done known r.frame done; stands = stands_at known.plan r p piece; has_more = ltb-true r.stored p.count more }), refl)
+    let (v, seat, e) = bound (λ (v : View). option_and_then (λ (r : Run). option_and_then (λ (p : Piece). if nat_lt r.stored p.count then Some (after_store known s i v r p) else None) (own_piece known.plan r)) v.run) (seat_in s i) t h in
+    let (r, runs, e') = bound (λ (r : Run). option_and_then (λ (p : Piece). if nat_lt r.stored p.count then Some (after_store known s i v r p) else None) (own_piece known.plan r)) v.run t e in
+    let (p, piece, e'') = bound (λ (p : Piece). if nat_lt r.stored p.count then Some (after_store known s i v r p) else None) (own_piece known.plan r) t e' in
+    let (more, same) = chosen (nat_lt r.stored p.count) (after_store known s i v r p) t e'' in
+    subst (λ (u : CoreState). (step : Step known s u) × (choice_of known s u step ≡ to_store i)) same (store i v r p (record { is_seat = is_seat s i v seat; runs = runs; stands = stands_at known.plan r p piece; has_more = ltb-true r.stored p.count more }), refl)
 choices_are_steps known s t (to_sub i) h =
     let (v, seat, e) = bound (λ (v : View). option_and_then (λ (r : Run). option_and_then (λ (p : Piece). if r.stored == p.count then Some (after_sub s i v r p) else None) (own_piece known.plan r)) v.run) (seat_in s i) t h in
     let (r, runs, e') = bound (λ (r : Run). option_and_then (λ (p : Piece). if r.stored == p.count then Some (after_sub s i v r p) else None) (own_piece known.plan r)) v.run t e in
@@ -126,11 +100,11 @@ choices_are_steps known s t (to_sub i) h =
     let (all, same) = chosen (r.stored == p.count) (after_sub s i v r p) t e'' in
     subst (λ (u : CoreState). (step : Step known s u) × (choice_of known s u step ≡ to_sub i)) same (sub i v r p (record { is_seat = is_seat s i v seat; runs = runs; stands = stands_at known.plan r p piece; has_stored_all = eqb-true r.stored p.count all }), refl)
 choices_are_steps known s t (to_finish i) h =
-    let (v, seat, e) = bound (λ (v : View). option_and_then (λ (r : Run). option_and_then (λ (e : TaskEnd). if (if is_done e then is_behind_last known.plan r else is_first_place known.plan r) then Some (after_finish s i v r e) else None) (end_of known r.frame)) v.run) (seat_in s i) t h in
-    let (r, runs, e') = bound (λ (r : Run). option_and_then (λ (e : TaskEnd). if (if is_done e then is_behind_last known.plan r else is_first_place known.plan r) then Some (after_finish s i v r e) else None) (end_of known r.frame)) v.run t e in
-    let (end, meant, e'') = bound (λ (e : TaskEnd). if (if is_done e then is_behind_last known.plan r else is_first_place known.plan r) then Some (after_finish s i v r e) else None) (end_of known r.frame) t e' in
-    let (may, same) = chosen (if is_done end then is_behind_last known.plan r else is_first_place known.plan r) (after_finish s i v r end) t e'' in
-    subst (λ (u : CoreState). (step : Step known s u) × (choice_of known s u step ≡ to_finish i)) same (finish i v r end (ends_so known s i v r end (is_seat s i v seat) runs meant may), refl)
+    let (v, seat, e) = bound (λ (v : View). option_and_then (λ (r : Run). option_and_then (λ (e : TaskEnd). if is_behind_last known.plan r then Some (after_finish s i v r e) else None) (end_of known r.frame)) v.run) (seat_in s i) t h in
+    let (r, runs, e') = bound (λ (r : Run). option_and_then (λ (e : TaskEnd). if is_behind_last known.plan r then Some (after_finish s i v r e) else None) (end_of known r.frame)) v.run t e in
+    let (end, meant, e'') = bound (λ (e : TaskEnd). if is_behind_last known.plan r then Some (after_finish s i v r e) else None) (end_of known r.frame) t e' in
+    let (all, same) = chosen (is_behind_last known.plan r) (after_finish s i v r end) t e'' in
+    subst (λ (u : CoreState). (step : Step known s u) × (choice_of known s u step ≡ to_finish i)) same (finish i v r end (record { is_seat = is_seat s i v seat; runs = runs; is_meant = meant; gave_all = eqb-true r.piece ((frame_at known.plan r.frame).piece + (frame_at known.plan r.frame).pieces) all }), refl)
 choices_are_steps known s t (to_look i) h =
     let (v, seat, e) = bound (λ (v : View). if is_none v.run && nat_le 1 (length known.plan.frames) then Some (after_look known s i v) else None) (seat_in s i) t h in
     let (may, same) = chosen (is_none v.run && nat_le 1 (length known.plan.frames)) (after_look known s i v) t e in
@@ -153,20 +127,20 @@ steps_are_choices known s t (read i v r c can) =
     ∙ ap (option_and_then (λ (r : Run). if is_first_place known.plan r && is_cell_of known.plan r.frame c then Some s else None)) can.runs
     ∙ passed (is_first_place known.plan r && is_cell_of known.plan r.frame c) s (and_from (is_first_place known.plan r) (is_cell_of known.plan r.frame c) (first_is known.plan r can.gave_nothing) (and_from (nat_le (frame_at known.plan r.frame).cell c) (nat_lt c ((frame_at known.plan r.frame).cell + (frame_at known.plan r.frame).inputs)) (le-leb (frame_at known.plan r.frame).cell c can.is_its_cell.0) (lt-ltb c ((frame_at known.plan r.frame).cell + (frame_at known.plan r.frame).inputs) can.is_its_cell.1)))
 steps_are_choices known s t (store i v r p can) =
-    ap (option_and_then (λ (v : View). option_and_then (λ (r : Run). option_and_then (λ (p : Piece). if is_meant_done known r.frame && nat_lt r.stored p.count then Some (after_store known s i v r p) else None) (own_piece known.plan r)) v.run)) (seat_is s i v can.is_seat)
-    ∙ ap (option_and_then (λ (r : Run). option_and_then (λ (p : Piece). if is_meant_done known r.frame && nat_lt r.stored p.count then Some (after_store known s i v r p) else None) (own_piece known.plan r))) can.runs
-    ∙ ap (option_and_then (λ (p : Piece). if is_meant_done known r.frame && nat_lt r.stored p.count then Some (after_store known s i v r p) else None)) (piece_is known.plan r p can.stands)
-    ∙ passed (is_meant_done known r.frame && nat_lt r.stored p.count) (after_store known s i v r p) (and_from (is_meant_done known r.frame) (nat_lt r.stored p.count) (ap (λ o. option_map_or is_done o false) can.is_done) (lt-ltb r.stored p.count can.has_more))
+    ap (option_and_then (λ (v : View). option_and_then (λ (r : Run). option_and_then (λ (p : Piece). if nat_lt r.stored p.count then Some (after_store known s i v r p) else None) (own_piece known.plan r)) v.run)) (seat_is s i v can.is_seat)
+    ∙ ap (option_and_then (λ (r : Run). option_and_then (λ (p : Piece). if nat_lt r.stored p.count then Some (after_store known s i v r p) else None) (own_piece known.plan r))) can.runs
+    ∙ ap (option_and_then (λ (p : Piece). if nat_lt r.stored p.count then Some (after_store known s i v r p) else None)) (piece_is known.plan r p can.stands)
+    ∙ passed (nat_lt r.stored p.count) (after_store known s i v r p) (lt-ltb r.stored p.count can.has_more)
 steps_are_choices known s t (sub i v r p can) =
     ap (option_and_then (λ (v : View). option_and_then (λ (r : Run). option_and_then (λ (p : Piece). if r.stored == p.count then Some (after_sub s i v r p) else None) (own_piece known.plan r)) v.run)) (seat_is s i v can.is_seat)
     ∙ ap (option_and_then (λ (r : Run). option_and_then (λ (p : Piece). if r.stored == p.count then Some (after_sub s i v r p) else None) (own_piece known.plan r))) can.runs
     ∙ ap (option_and_then (λ (p : Piece). if r.stored == p.count then Some (after_sub s i v r p) else None)) (piece_is known.plan r p can.stands)
     ∙ passed (r.stored == p.count) (after_sub s i v r p) (eq-eqb r.stored p.count can.has_stored_all)
 steps_are_choices known s t (finish i v r e can) =
-    ap (option_and_then (λ (v : View). option_and_then (λ (r : Run). option_and_then (λ (e : TaskEnd). if (if is_done e then is_behind_last known.plan r else is_first_place known.plan r) then Some (after_finish s i v r e) else None) (end_of known r.frame)) v.run)) (seat_is s i v can.is_seat)
-    ∙ ap (option_and_then (λ (r : Run). option_and_then (λ (e : TaskEnd). if (if is_done e then is_behind_last known.plan r else is_first_place known.plan r) then Some (after_finish s i v r e) else None) (end_of known r.frame))) can.runs
-    ∙ ap (option_and_then (λ (e : TaskEnd). if (if is_done e then is_behind_last known.plan r else is_first_place known.plan r) then Some (after_finish s i v r e) else None)) can.is_meant
-    ∙ passed (if is_done e then is_behind_last known.plan r else is_first_place known.plan r) (after_finish s i v r e) (may_end known s i v r e can)
+    ap (option_and_then (λ (v : View). option_and_then (λ (r : Run). option_and_then (λ (e : TaskEnd). if is_behind_last known.plan r then Some (after_finish s i v r e) else None) (end_of known r.frame)) v.run)) (seat_is s i v can.is_seat)
+    ∙ ap (option_and_then (λ (r : Run). option_and_then (λ (e : TaskEnd). if is_behind_last known.plan r then Some (after_finish s i v r e) else None) (end_of known r.frame))) can.runs
+    ∙ ap (option_and_then (λ (e : TaskEnd). if is_behind_last known.plan r then Some (after_finish s i v r e) else None)) can.is_meant
+    ∙ passed (is_behind_last known.plan r) (after_finish s i v r e) (eq-eqb r.piece ((frame_at known.plan r.frame).piece + (frame_at known.plan r.frame).pieces) can.gave_all)
 steps_are_choices known s t (look i v can) =
     ap (option_and_then (λ (v : View). if is_none v.run && nat_le 1 (length known.plan.frames) then Some (after_look known s i v) else None)) (seat_is s i v can.is_seat)
     ∙ passed (is_none v.run && nat_le 1 (length known.plan.frames)) (after_look known s i v) (and_from (is_none v.run) (nat_le 1 (length known.plan.frames)) (ap is_none can.runs_nothing) (le-leb 1 (length known.plan.frames) can.has_frames))

@@ -1,52 +1,38 @@
 -- A FINISH keeps a state good.
-use Rattle.std.proofs.Common.{◌≡◌, ℕ, ◌+◌, ◌<◌, ◌≢◌, true, false, List, Some, None, length, set, refl, sym, ap, ◌∙◌, subst, ◌⊎◌, inl, inr, arith, count_by}
+use Rattle.std.proofs.Common.{◌≡◌, ℕ, ◌+◌, ◌<◌, ◌≢◌, true, List, Some, None, length, set, refl, sym, ap, ◌∙◌, subst, ◌⊎◌, inl, inr, arith, count_by}
 use Rattle.std.specs.Prelude.{slice_get}
 use Rattle.std.proofs.lemmas.Bool.{ne_eqb}
 use Rattle.flow_core_laws.specs.declared.plan.Piece.{Piece}
+use Rattle.flow_core_concurrent.specs.declared.view.Run.{Run}
+use Rattle.flow_core_concurrent.specs.Counted.{one, is_run_of, is_past, has_stored}
+use Rattle.flow_core_concurrent.proofs.Sums.{count_by-written, count_by-kept}
+use Rattle.flow_core_concurrent.proofs.Runs.{same_frame, is_past-later, is_past-other, has_stored-none, run_there, running_is_taken, runs_alone}
 use Rattle.flow_core_laws.specs.declared.task_end.TaskEnd.{TaskEnd}
-use Rattle.flow_core_laws.specs.declared.task_end.TaskEnd.TheVariants.{Done, Trapped, OverBudget}
-use Rattle.flow_core_laws.specs.Outcome.{is_done}
 use Rattle.flow_core_laws.specs.Plans.{frame_at}
 use Rattle.flow_core_laws.specs.IsSound.{IsSound}
 use Rattle.flow_core_concurrent.specs.declared.known.Known.{Known}
-use Rattle.flow_core_concurrent.specs.declared.view.Run.{Run}
 use Rattle.flow_core_concurrent.specs.declared.view.View.{View}
 use Rattle.flow_core_concurrent.specs.declared.word.Word.{Word}
 use Rattle.flow_core_concurrent.specs.declared.word.Word.TheVariants.{Taken, Ended}
-use Rattle.flow_core_concurrent.specs.Words.{word_at, amount, waits, is_taken, is_started, has_delivered, end_in}
+use Rattle.flow_core_concurrent.specs.Words.{word_at, amount, waits, is_taken, is_started, has_ended, end_in}
 use Rattle.flow_core_concurrent.specs.States.{CoreState, runs_of}
-use Rattle.flow_core_concurrent.specs.Counted.{one, is_run_of, is_past, has_stored}
-use Rattle.flow_core_concurrent.specs.Steps.{first_place, CanFinish, after_finish}
+use Rattle.flow_core_concurrent.specs.Steps.{CanFinish, after_finish}
 use Rattle.flow_core_concurrent.specs.IsGood.{IsGood, IsPlace}
-use Rattle.flow_core_concurrent.proofs.Sums.{count_by-written, count_by-kept}
 use Rattle.flow_core_concurrent.proofs.Words.{word_at-set, word_at-kept}
 use Rattle.flow_core_concurrent.proofs.Counts.{CountsAlike, StoresAlike, piece_of_frame}
 use Rattle.flow_core_concurrent.proofs.Parts.{Sits, sits_of}
-use Rattle.flow_core_concurrent.proofs.Runs.{same_frame, run_there, running_is_taken, runs_alone, is_past-later, is_past-other, is_past-first, has_stored-none}
 use Rattle.flow_core_concurrent.proofs.Starts.{Starts, still_sits, started_keeps}
 
 -- what a run gave when it ends
-record Gave (known : Known) (r : Run) (end : TaskEnd) : Type 0 where
+record Gave (known : Known) (r : Run) : Type 0 where
   stored_none : r.stored ≡ 0
-  past_each : (q : ℕ) (p : Piece) → slice_get known.plan.pieces q ≡ Some p → p.from ≡ r.frame → is_past p.from q (Some r) ≡ is_done end
+  past_each : (q : ℕ) (p : Piece) → slice_get known.plan.pieces q ≡ Some p → p.from ≡ r.frame → is_past p.from q (Some r) ≡ true
 
-gave : (known : Known) (s : CoreState) (i : ℕ) (v : View) (r : Run) (end : TaskEnd) → IsSound known.plan → IsPlace known.plan r → CanFinish known s i v r end → Gave known r end
-gave known s i v r Done sound place can = record {
-  stored_none = place.has_none_behind (can.gave_all refl);
-  past_each = λ q p h e. is_past-later r p.from q (sym e) (let a = subst (λ f. q < (frame_at known.plan f).piece + (frame_at known.plan f).pieces) e (piece_of_frame known.plan q p sound h).1 in let b = can.gave_all refl in omega (arith, a, b));
+gave : (known : Known) (s : CoreState) (i : ℕ) (v : View) (r : Run) (end : TaskEnd) → IsSound known.plan → IsPlace known.plan r → CanFinish known s i v r end → Gave known r
+gave known s i v r end sound place can = record {
+  stored_none = place.has_none_behind can.gave_all;
+  past_each = λ q p h e. is_past-later r p.from q (sym e) (let a = subst (λ f. q < (frame_at known.plan f).piece + (frame_at known.plan f).pieces) e (piece_of_frame known.plan q p sound h).1 in let b = can.gave_all in omega (arith, a, b));
 }
-gave known s i v r (Trapped code line) sound place can =
-    let first : r ≡ first_place known.plan r.frame = can.gave_nothing (λ e. let z : is_done (Trapped code line) ≡ true = ap is_done e in cc) in
-    record {
-      stored_none = ap (λ (r : Run). r.stored) first;
-      past_each = λ q p h e. subst (λ (r : Run). is_past p.from q (Some r) ≡ false) (sym first) (is_past-first known.plan r.frame q p sound h);
-    }
-gave known s i v r OverBudget sound place can =
-    let first : r ≡ first_place known.plan r.frame = can.gave_nothing (λ e. let z : is_done OverBudget ≡ true = ap is_done e in cc) in
-    record {
-      stored_none = ap (λ (r : Run). r.stored) first;
-      past_each = λ q p h e. subst (λ (r : Run). is_past p.from q (Some r) ≡ false) (sym first) (is_past-first known.plan r.frame q p sound h);
-    }
 
 pub finish_keeps : (known : Known) (s : CoreState) (i : ℕ) (v : View) (r : Run) (end : TaskEnd) → IsSound known.plan → IsGood known s → CanFinish known s i v r end → IsGood known (after_finish s i v r end)
 finish_keeps known s i v r end sound g can = started_keeps known s i v w f (Ended end) g sees starts counts stores taken refl (λ h. let a = word_at-kept (λ w. one (is_started w)) s.words f (Ended end) lt (ap (λ w. one (is_started w)) (sym is)) h in omega (arith, a)) refl sits
@@ -75,7 +61,7 @@ finish_keeps known s i v r end sound g can = started_keeps known s i v w f (Ende
     lt : f < length s.words
     lt = let a = g.words_of_plan in let b = place.of_a_frame in omega (arith, a, b)
 
-    ends : Gave known r end
+    ends : Gave known r
     ends = gave known s i v r end sound place can
 
     starts : Starts known s.words f (Ended end)
@@ -94,17 +80,17 @@ finish_keeps known s i v r end sound g can = started_keeps known s i v w f (Ende
     counts : CountsAlike known.plan s.words (runs_of s) words' (set (runs_of s) i None)
     counts = record { each = λ q p h. by q p h (word_at-set s.words f (Ended end) p.from lt) }
       where
-        by : (q : ℕ) (p : Piece) → slice_get known.plan.pieces q ≡ Some p → ((p.from ≡ f) × (word_at words' p.from ≡ Ended end)) ⊎ ((p.from ≢ f) × (word_at words' p.from ≡ word_at s.words p.from)) → one (has_delivered (word_at words' p.from)) + count_by (is_past p.from q) (set (runs_of s) i None) ≡ one (has_delivered (word_at s.words p.from)) + count_by (is_past p.from q) (runs_of s)
+        by : (q : ℕ) (p : Piece) → slice_get known.plan.pieces q ≡ Some p → ((p.from ≡ f) × (word_at words' p.from ≡ Ended end)) ⊎ ((p.from ≢ f) × (word_at words' p.from ≡ word_at s.words p.from)) → one (has_ended (word_at words' p.from)) + count_by (is_past p.from q) (set (runs_of s) i None) ≡ one (has_ended (word_at s.words p.from)) + count_by (is_past p.from q) (runs_of s)
         by q p h (inl (e, now)) =
             let a = count_by-written (is_past p.from q) (runs_of s) i (Some r) None there in
             let z : one (is_past p.from q None) ≡ 0 = refl in
-            let b : one (is_past p.from q (Some r)) ≡ one (is_done end) = ap one (ends.past_each q p h e) in
-            let c : one (has_delivered (word_at words' p.from)) ≡ one (is_done end) = ap (λ w. one (has_delivered w)) now in
-            let d : one (has_delivered (word_at s.words p.from)) ≡ 0 = ap (λ k. one (has_delivered (word_at s.words k))) e ∙ ap (λ w. one (has_delivered w)) is in
+            let b : one (is_past p.from q (Some r)) ≡ 1 = ap one (ends.past_each q p h e) in
+            let c : one (has_ended (word_at words' p.from)) ≡ 1 = ap (λ w. one (has_ended w)) now in
+            let d : one (has_ended (word_at s.words p.from)) ≡ 0 = ap (λ k. one (has_ended (word_at s.words k))) e ∙ ap (λ w. one (has_ended w)) is in
             omega (arith, a, z, b, c, d)
         by q p h (inr (n, now)) =
             let a = count_by-kept (is_past p.from q) (runs_of s) i (Some r) None there (sym (is_past-other r p.from q (λ e. n (sym e)))) in
-            let c : one (has_delivered (word_at words' p.from)) ≡ one (has_delivered (word_at s.words p.from)) = ap (λ w. one (has_delivered w)) now in
+            let c : one (has_ended (word_at words' p.from)) ≡ one (has_ended (word_at s.words p.from)) = ap (λ w. one (has_ended w)) now in
             omega (arith, a, c)
 
     stores : StoresAlike known.plan (runs_of s) (set (runs_of s) i None)
@@ -138,7 +124,7 @@ finish_keeps known s i v r end sound g can = started_keeps known s i v w f (Ende
             spent_is_empty = λ e. absurd (omega (arith, positive, e));
             runs_at_a_place = λ r h. absurd (cc);
           };
-          stores = λ r h not_first. absurd (cc);
+          has_end = λ r h. absurd (cc);
           looked = old.looked;
           found = old.found;
           lost = old.lost;

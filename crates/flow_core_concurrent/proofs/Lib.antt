@@ -13,6 +13,7 @@ pub mod Claims
 pub mod Finishes
 pub mod Opens
 pub mod Cells
+pub mod Deciding
 pub mod Fits
 pub mod Stores
 pub mod Lowered

@@ -1,20 +1,20 @@
 -- A CLAIM that misses and a LOOK keep a state good.
-use Rattle.std.proofs.Common.{◌≡◌, ℕ, zero, suc, ◌+◌, ◌-◌, ◌%◌, ◌<◌, ◌≤◌, Bool, true, false, List, [], ◌∷◌, ◌++◌, length, refl, sym, ap, ◌∙◌, subst, ◌⊎◌, inl, inr, arith}
+use Rattle.std.proofs.Common.{[], ◌≡◌, ℕ, zero, suc, ◌+◌, ◌-◌, ◌%◌, ◌≤◌, Bool, true, false, List, ◌∷◌, ◌++◌, length, refl, sym, ap, ◌∙◌, subst, arith, ◌<◌, ◌⊎◌, inl, inr}
 use Rattle.std.specs.Prelude.{◌==◌, if◌then◌else◌}
 use Rattle.std.proofs.lemmas.Bool.{eqb-true, cases_lt}
-use Rattle.std.proofs.lemmas.List.Sums.{sum_by_push}
+use Rattle.flow_core_concurrent.specs.States.{times, CoreState, IsSeat, knows}
 use Rattle.flow_core_laws.specs.IsSound.{IsSound}
 use Rattle.flow_core_concurrent.specs.declared.known.Known.{Known}
 use Rattle.flow_core_concurrent.specs.declared.view.View.{View}
 use Rattle.flow_core_concurrent.specs.declared.word.Word.{Word}
 use Rattle.flow_core_concurrent.specs.Words.{waits, is_open, is_started, word_at}
-use Rattle.flow_core_concurrent.specs.States.{CoreState, IsSeat, times, knows}
-use Rattle.flow_core_concurrent.specs.Counted.{one}
 use Rattle.flow_core_concurrent.specs.Steps.{CanClaim, with_miss, lost_with, CanLook, next_look, after_look, with_view}
 use Rattle.flow_core_concurrent.specs.IsGood.{IsGood, IsLast}
 use Rattle.flow_core_concurrent.proofs.Words.{started_from, open_is}
 use Rattle.flow_core_concurrent.proofs.Opening.{known_waits_no_more}
 use Rattle.flow_core_concurrent.proofs.Parts.{Sits, sits_of, good_with_view}
+use Rattle.std.proofs.lemmas.List.Sums.{sum_by_push}
+use Rattle.flow_core_concurrent.specs.Counted.{one}
 
 pub times_push : (f : ℕ) (xs : List ℕ) (x : ℕ) → times f (xs ++ x ∷ []) ≡ times f xs + one (x == f)
 times_push f xs x = sum_by_push (λ y. one (y == f)) xs x
@@ -64,7 +64,7 @@ miss_keeps known s i v f sound g can closed = good_with_view known s i v (with_m
     sits : Sits known s.words (with_miss known v f)
     sits = record {
       sound = record { knows_the_run = old.sound.knows_the_run; spent_is_empty = λ e. absurd (omega (arith, positive, e)); runs_at_a_place = old.sound.runs_at_a_place };
-      stores = old.stores;
+      has_end = old.has_end;
       looked = looked (f == v.looks % length known.plan.frames) refl;
       found = old.found;
       lost = lost_more known s i v f sound g can.is_seat closed;
@@ -85,14 +85,14 @@ look_keeps known s i v sound g can = by (is_open (word_at s.words f)) refl
     by : (b : Bool) → is_open (word_at s.words f) ≡ b → IsGood known (with_view s i (if b then record v { found = v.found ++ f ∷ [] } else record v { lost = lost_with v f; looks = v.looks + 1 }))
     by true e = good_with_view known s i v (record v { found = v.found ++ f ∷ [] }) g can.is_seat.sees refl refl refl refl (record {
       sound = record { knows_the_run = old.sound.knows_the_run; spent_is_empty = λ z. absurd (omega (arith, positive, z)); runs_at_a_place = old.sound.runs_at_a_place };
-      stores = old.stores;
+      has_end = old.has_end;
       looked = old.looked;
       found = λ h. in_push v.found f h (λ k. waits (word_at s.words k) ≡ false) (old.found h) (ap waits (open_is (word_at s.words f) e));
       lost = old.lost;
     })
     by false e = good_with_view known s i v (record v { lost = lost_with v f; looks = v.looks + 1 }) g can.is_seat.sees refl refl refl refl (record {
       sound = record { knows_the_run = old.sound.knows_the_run; spent_is_empty = λ z. absurd (omega (arith, positive, z)); runs_at_a_place = old.sound.runs_at_a_place };
-      stores = old.stores;
+      has_end = old.has_end;
       looked = λ j last low high below. looked_more known s.words v.looks e (λ j l h b. old.looked j last l h b) j low high below;
       found = old.found;
       lost = lost_more known s i v f sound g can.is_seat e;

@@ -4,7 +4,7 @@ use Rattle.std.specs.Prelude.{not, ◌==◌, if◌then◌else◌}
 use Rattle.std.proofs.lemmas.Bool.{eqb-true}
 use Rattle.flow_core_concurrent.specs.declared.word.Word.{Word}
 use Rattle.flow_core_concurrent.specs.declared.word.Word.TheVariants.{Wait, Open, Taken, Ended}
-use Rattle.flow_core_concurrent.specs.Words.{amount, waits, is_open, is_taken, is_started, has_delivered, lowered}
+use Rattle.flow_core_concurrent.specs.Words.{amount, waits, is_open, is_taken, is_started, has_ended, lowered}
 
 pub amount-lowered : (count n : ℕ) → amount (lowered count (Wait n)) ≡ n - count
 amount-lowered count n = by (n == count) refl
@@ -41,15 +41,15 @@ is_taken-lowered count n = by (n == count)
     by true = refl
     by false = refl
 
-pub has_delivered-lowered : (count : ℕ) (w : Word) → has_delivered (lowered count w) ≡ has_delivered w
-has_delivered-lowered count (Wait n) = by (n == count)
+pub has_ended-lowered : (count : ℕ) (w : Word) → has_ended (lowered count w) ≡ has_ended w
+has_ended-lowered count (Wait n) = by (n == count)
   where
-    by : (b : Bool) → has_delivered (if b then Open else Wait (n - count)) ≡ false
+    by : (b : Bool) → has_ended (if b then Open else Wait (n - count)) ≡ false
     by true = refl
     by false = refl
-has_delivered-lowered count Open = refl
-has_delivered-lowered count Taken = refl
-has_delivered-lowered count (Ended e) = refl
+has_ended-lowered count Open = refl
+has_ended-lowered count Taken = refl
+has_ended-lowered count (Ended e) = refl
 
 pub lowered_waits_for_some : (count n : ℕ) → count ≤ n → lowered count (Wait n) ≢ Wait 0
 lowered_waits_for_some count n le = by (n == count) refl

@@ -1,14 +1,14 @@
 -- What a seat's lists say of a frame that is Open, or that waits.
 use Rattle.std.proofs.Common.{◌≡◌, ℕ, Bool, true, false, Some, refl, ap, arith}
 use Rattle.std.specs.Prelude.{slice_get, not, ◌&&◌}
+use Rattle.flow_core_concurrent.specs.States.{times, CoreState}
+use Rattle.flow_core_concurrent.specs.Counted.{one}
+use Rattle.flow_core_concurrent.proofs.Sums.{sum_by-has}
 use Rattle.flow_core_concurrent.specs.declared.known.Known.{Known}
 use Rattle.flow_core_concurrent.specs.declared.view.View.{View}
 use Rattle.flow_core_concurrent.specs.declared.word.Word.{Word}
 use Rattle.flow_core_concurrent.specs.Words.{word_at, opening_words, is_open, is_started, waits}
-use Rattle.flow_core_concurrent.specs.States.{CoreState, times}
-use Rattle.flow_core_concurrent.specs.Counted.{one}
 use Rattle.flow_core_concurrent.specs.IsGood.{IsGood}
-use Rattle.flow_core_concurrent.proofs.Sums.{sum_by-has}
 use Rattle.flow_core_concurrent.proofs.Words.{open_is}
 
 not_started : (w : Word) → is_open w ≡ true → one (is_started w) ≡ 0

@@ -1,24 +1,46 @@
 -- What opening says of a frame later on.
-use Rattle.std.proofs.Common.{◌≡◌, ℕ, zero, suc, ◌+◌, ◌<◌, ◌≤◌, ◌≢◌, Bool, true, false, List, [], ◌∷◌, ◌++◌, Option, Some, length, get_or, refl, sym, ap, ◌∙◌, ◌⊎◌, inl, inr, arith, count_by, eq-eqb}
+use Rattle.std.proofs.Common.{[], ◌≡◌, ℕ, ◌+◌, ◌<◌, ◌≤◌, ◌≢◌, Bool, true, false, List, ◌∷◌, ◌++◌, Option, Some, length, get_or, refl, sym, ap, ◌∙◌, ◌⊎◌, inl, inr, arith, eq-eqb, zero, suc, count_by}
 use Rattle.std.specs.Prelude.{slice_get, is_none, not, ◌&&◌, ◌||◌, ◌==◌, if◌then◌else◌}
 use Rattle.std.proofs.lemmas.Bool.{eqb-true, cases_lt, or_cases, and_parts}
 use Rattle.std.proofs.lemmas.List.{get_or-map, get_or_append_left, get_or_push, get_or_past, length_push, length-map}
-use Rattle.std.proofs.lemmas.List.Sums.{sum_by-cons}
 use Rattle.flow_core_laws.specs.declared.plan.FramePlan.{FramePlan}
+use Rattle.flow_core_concurrent.specs.declared.view.Run.{Run}
+use Rattle.flow_core_concurrent.specs.States.{times, has, CoreState, IsSeat, runs_of, knows}
+use Rattle.flow_core_concurrent.proofs.Sums.{sum_by-has}
+use Rattle.flow_core_concurrent.proofs.Words.{one_is_true, full_waits}
 use Rattle.flow_core_laws.specs.declared.plan.Plan.{Plan}
 use Rattle.flow_core_laws.specs.IsSound.{IsSound}
-use Rattle.flow_core_laws.specs.Plans.{frame_at, value_at, cells_of, missing_of}
+use Rattle.flow_core_laws.specs.Plans.{frame_at, held_at, cells_of, missing_of}
 use Rattle.flow_core_concurrent.specs.declared.known.Known.{Known}
-use Rattle.flow_core_concurrent.specs.declared.view.Run.{Run}
 use Rattle.flow_core_concurrent.specs.declared.view.View.{View}
 use Rattle.flow_core_concurrent.specs.declared.word.Word.{Word}
 use Rattle.flow_core_concurrent.specs.declared.word.Word.TheVariants.{Wait, Open, Taken, Ended}
 use Rattle.flow_core_concurrent.specs.Words.{word_at, opening_word, opening_words, amount, waits, is_open}
-use Rattle.flow_core_concurrent.specs.States.{CoreState, IsSeat, runs_of, times, has, knows}
-use Rattle.flow_core_concurrent.specs.Counted.{one, counted_at, lacks_cell, lacking}
+use Rattle.flow_core_concurrent.specs.Counted.{counted_at, lacks_cell, lacking, one}
 use Rattle.flow_core_concurrent.specs.IsGood.{IsGood}
-use Rattle.flow_core_concurrent.proofs.Sums.{sum_by-has}
-use Rattle.flow_core_concurrent.proofs.Words.{full_waits, one_is_true}
+use Rattle.std.proofs.lemmas.List.Sums.{sum_by-cons}
+
+-- counts by a test that implies another
+pub count_by-fewer : {X : Type 0} (p q : X → Bool) (xs : List X) → ((x : X) → p x ≡ true → q x ≡ true) → count_by p xs ≤ count_by q xs
+count_by-fewer p q [] implies = omega arith
+count_by-fewer p q (x ∷ xs) implies =
+    let a = sum_by-cons (λ y. one (p y)) x xs in
+    let b = sum_by-cons (λ y. one (q y)) x xs in
+    let r : count_by p xs ≤ count_by q xs = count_by-fewer p q xs implies in
+    let h : one (p x) ≤ one (q x) = at_most (p x) (q x) (implies x) in
+    omega (arith, a, b, r, h)
+  where
+    at_most : (a b : Bool) → (a ≡ true → b ≡ true) → one a ≤ one b
+    at_most false b f = omega arith
+    at_most true true f = omega arith
+    at_most true false f = let n : false ≡ true = f refl in absurd (cc)
+
+pub has_times : (xs : List ℕ) (f : ℕ) → has xs f ≡ true → 1 ≤ times f xs
+has_times xs f h = by (times f xs) h
+  where
+    by : (n : ℕ) → not (n == 0) ≡ true → 1 ≤ n
+    by zero h = absurd (cc)
+    by (suc n) h = omega arith
 
 -- the word of a frame at opening
 pub opening_at : (plan : Plan) (f : ℕ) → f ≤ length plan.frames → word_at (opening_words plan) f ≡ opening_word (frame_at plan f)
@@ -47,26 +69,11 @@ opening_is_some frame = by (frame.wait == 0) refl
     by true e = λ h. cc
     by false e = λ h. let z : frame.wait ≡ 0 = ap amount h in let t : (frame.wait == 0) ≡ true = eq-eqb frame.wait 0 z in cc
 
--- counts by a test that implies another
-pub count_by-fewer : {X : Type 0} (p q : X → Bool) (xs : List X) → ((x : X) → p x ≡ true → q x ≡ true) → count_by p xs ≤ count_by q xs
-count_by-fewer p q [] implies = omega arith
-count_by-fewer p q (x ∷ xs) implies =
-    let a = sum_by-cons (λ y. one (p y)) x xs in
-    let b = sum_by-cons (λ y. one (q y)) x xs in
-    let r : count_by p xs ≤ count_by q xs = count_by-fewer p q xs implies in
-    let h : one (p x) ≤ one (q x) = at_most (p x) (q x) (implies x) in
-    omega (arith, a, b, r, h)
-  where
-    at_most : (a b : Bool) → (a ≡ true → b ≡ true) → one a ≤ one b
-    at_most false b f = omega arith
-    at_most true true f = omega arith
-    at_most true false f = let n : false ≡ true = f refl in absurd (cc)
-
 -- a frame misses at most what it missed at opening
 pub lacking_at_most : (plan : Plan) (words : List Word) (runs : List (Option Run)) (f : ℕ) → IsSound plan → f ≤ length plan.frames → lacking plan words runs f ≤ (frame_at plan f).wait
 lacking_at_most plan words runs f sound le =
     let w : (frame_at plan f).wait ≡ missing_of plan plan.filled f = sound.wait_counts f le in
-    let c : lacking plan words runs f ≤ missing_of plan plan.filled f = count_by-fewer (lacks_cell plan words runs) (λ c. is_none (value_at plan.filled c)) (cells_of plan f) (λ c h. (and_parts (is_none (value_at plan.filled c)) (counted_at plan words runs c == 0) h).0) in
+    let c : lacking plan words runs f ≤ missing_of plan plan.filled f = count_by-fewer (lacks_cell plan words runs) (λ c. is_none (held_at plan.filled c)) (cells_of plan f) (λ c h. (and_parts (is_none (held_at plan.filled c)) (counted_at plan words runs c == 0) h).0) in
     omega (arith, w, c)
 
 -- a frame that was Open at opening doesn't wait
@@ -86,13 +93,6 @@ opened_waits_no_more known s f sound g open_then = by (cases_lt (length known.pl
         let b = lacking_at_most known.plan s.words (runs_of s) f sound le in
         let c : (frame_at known.plan f).wait ≡ 0 = sym (opening_amount (frame_at known.plan f)) ∙ ap amount (sym (opening_at known.plan f le)) ∙ nothing (word_at (opening_words known.plan) f) open_then in
         full_waits (word_at s.words f) (g.waits_for_some f) (omega (arith, a, b, c))
-
-pub has_times : (xs : List ℕ) (f : ℕ) → has xs f ≡ true → 1 ≤ times f xs
-has_times xs f h = by (times f xs) h
-  where
-    by : (n : ℕ) → not (n == 0) ≡ true → 1 ≤ n
-    by zero h = absurd (cc)
-    by (suc n) h = omega arith
 
 -- a frame that was made doesn't wait
 pub made_waits_no_more : (known : Known) (s : CoreState) (i : ℕ) (v : View) (f : ℕ) → IsGood known s → slice_get s.seats i ≡ Some v → 1 ≤ times f v.made → waits (word_at s.words f) ≡ false

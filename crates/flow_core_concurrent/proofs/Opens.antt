@@ -1,25 +1,26 @@
 -- The state at opening is good.
-use Rattle.std.proofs.Common.{◌≡◌, ℕ, ◌+◌, ◌-◌, ◌<◌, ◌≤◌, ◌≢◌, ℤ, Bool, true, false, [], ◌∷◌, Option, Some, None, length, refl, sym, ap, ◌∙◌, ◌⊎◌, inl, inr, arith, count_by}
+use Rattle.std.proofs.Common.{◌≡◌, ℕ, ◌+◌, ◌-◌, ◌<◌, ◌≤◌, ◌≢◌, Bool, true, false, [], ◌∷◌, Option, Some, None, length, refl, sym, ap, ◌∙◌, ◌⊎◌, inl, inr, arith, count_by}
 use Rattle.std.specs.Prelude.{slice_get, is_none, not, ◌&&◌, ◌==◌, if◌then◌else◌}
 use Rattle.std.specs.Option.{option_map_or}
 use Rattle.std.proofs.lemmas.Bool.{cases_lt}
 use Rattle.std.proofs.lemmas.List.{get_or_past}
 use Rattle.flow_core_laws.specs.declared.plan.FramePlan.{FramePlan}
 use Rattle.flow_core_laws.specs.declared.plan.Piece.{Piece}
+use Rattle.flow_core_concurrent.specs.Counted.{one, is_past, has_stored, counted, underway, counted_at, underway_at, lacks_cell, lacking}
+use Rattle.flow_core_concurrent.proofs.Sums.{count_by-same, each_push}
 use Rattle.flow_core_laws.specs.declared.plan.Plan.{Plan}
 use Rattle.flow_core_laws.specs.declared.task_end.TaskEnd.{TaskEnd}
-use Rattle.flow_core_laws.specs.Element.{element, given}
-use Rattle.flow_core_laws.specs.Plans.{frame_at, value_at, cells_of, missing_of, piece_at, piece_source, cell_source}
+use Rattle.flow_core_laws.specs.Plans.{plan_element, frame_at, held_at, cells_of, missing_of, piece_at, piece_source, cell_source}
+use Rattle.flow_core_laws.specs.Element.{given}
 use Rattle.flow_core_laws.specs.IsSound.{IsSound}
+use Rattle.flow_core_laws.specs.declared.elem.Elem.{Elem}
 use Rattle.flow_core_concurrent.specs.declared.known.Known.{Known}
 use Rattle.flow_core_concurrent.specs.declared.word.Word.{Word}
 use Rattle.flow_core_concurrent.specs.declared.word.Word.TheVariants.{Wait, Open, Taken, Ended}
-use Rattle.flow_core_concurrent.specs.Words.{word_at, opening_word, opening_words, amount, waits, is_taken, is_started, has_delivered}
+use Rattle.flow_core_concurrent.specs.Words.{word_at, opening_word, opening_words, amount, waits, is_taken, is_started, has_ended}
 use Rattle.flow_core_concurrent.specs.States.{fresh, opening}
-use Rattle.flow_core_concurrent.specs.Counted.{one, is_past, has_stored, counted, held, counted_at, held_at, lacks_cell, lacking}
 use Rattle.flow_core_concurrent.specs.Steps.{end_of}
 use Rattle.flow_core_concurrent.specs.IsGood.{IsGood}
-use Rattle.flow_core_concurrent.proofs.Sums.{count_by-same, each_push}
 use Rattle.flow_core_concurrent.proofs.Parts.{Flows, Sits, Books, good_from}
 use Rattle.flow_core_concurrent.proofs.Opening.{opening_at, opening_length, opening_amount, opening_is_some}
 use Rattle.flow_core_concurrent.proofs.Splits.{fresh_sits}
@@ -46,7 +47,7 @@ unstarted_taken Open h = refl
 unstarted_taken Taken h = absurd (cc)
 unstarted_taken (Ended e) h = refl
 
-unstarted_delivered : (w : Word) → is_started w ≡ false → has_delivered w ≡ false
+unstarted_delivered : (w : Word) → is_started w ≡ false → has_ended w ≡ false
 unstarted_delivered (Wait n) h = refl
 unstarted_delivered Open h = refl
 unstarted_delivered Taken h = refl
@@ -61,15 +62,15 @@ map_or-zero f (Some x) each = each x
 
 -- nothing counts or is stored at opening
 none_counted : (plan : Plan) (c : ℕ) → counted_at plan (opening_words plan) (None ∷ []) c ≡ 0
-none_counted plan c = map_or-zero (counted plan (opening_words plan) (None ∷ [])) (piece_at plan c) (λ q. map_or-zero (λ (p : Piece). one (has_delivered (word_at (opening_words plan) p.from)) + count_by (is_past p.from q) (None ∷ [])) (slice_get plan.pieces q) (λ p. let a : one (has_delivered (word_at (opening_words plan) p.from)) ≡ 0 = ap one (unstarted_delivered (word_at (opening_words plan) p.from) (opening_not_started plan p.from)) in let b : count_by (is_past p.from q) (None ∷ []) ≡ 0 = refl in omega (arith, a, b)))
+none_counted plan c = map_or-zero (counted plan (opening_words plan) (None ∷ [])) (piece_at plan c) (λ q. map_or-zero (λ (p : Piece). one (has_ended (word_at (opening_words plan) p.from)) + count_by (is_past p.from q) (None ∷ [])) (slice_get plan.pieces q) (λ p. let a : one (has_ended (word_at (opening_words plan) p.from)) ≡ 0 = ap one (unstarted_delivered (word_at (opening_words plan) p.from) (opening_not_started plan p.from)) in let b : count_by (is_past p.from q) (None ∷ []) ≡ 0 = refl in omega (arith, a, b)))
 
-none_stored : (plan : Plan) (c : ℕ) → held_at plan (None ∷ []) c ≡ 0
-none_stored plan c = map_or-zero (held plan (None ∷ []) c) (piece_at plan c) (λ q. map_or-zero (λ (p : Piece). count_by (has_stored p.from q (c - p.at)) (None ∷ [])) (slice_get plan.pieces q) (λ p. refl))
+none_stored : (plan : Plan) (c : ℕ) → underway_at plan (None ∷ []) c ≡ 0
+none_stored plan c = map_or-zero (underway plan (None ∷ []) c) (piece_at plan c) (λ q. map_or-zero (λ (p : Piece). count_by (has_stored p.from q (c - p.at)) (None ∷ [])) (slice_get plan.pieces q) (λ p. refl))
 
 -- what is filled holds what it was given
-given_holds : (known : Known) (c : ℕ) (value : ℤ) → value_at known.plan.filled c ≡ Some value → element known.meaning (cell_source known.plan c) ≡ Some value
+given_holds : (known : Known) (c : ℕ) (value : Elem) → held_at known.plan.filled c ≡ Some value → plan_element known.plan known.meaning (cell_source known.plan c) ≡ Some value
 unfolding cell_source
-given_holds known c value h = ap (λ (o : Option ℤ). element known.meaning (option_map_or given o (piece_source known.plan c))) h
+given_holds known c value h = ap (λ (o : Option Elem). plan_element known.plan known.meaning (option_map_or given o (piece_source known.plan c))) h
 
 pub opens_good : (known : Known) → IsSound known.plan → IsGood known (opening known)
 opens_good known sound = good_from known (opening known) flows (each_push (Sits known (opening_words known.plan)) [] (fresh known known.seats) (fresh_sits known (opening_words known.plan) known.seats) (λ j u h. absurd (cc))) books
@@ -90,7 +91,7 @@ opens_good known sound = good_from known (opening known) flows (each_push (Sits 
       count = λ f le.
           let a : amount (word_at (opening_words plan) f) ≡ (frame_at plan f).wait = ap amount (opening_at plan f le) ∙ opening_amount (frame_at plan f) in
           let b : (frame_at plan f).wait ≡ missing_of plan plan.filled f = sound.wait_counts f le in
-          let d : lacking plan (opening_words plan) (None ∷ []) f ≡ missing_of plan plan.filled f = count_by-same (lacks_cell plan (opening_words plan) (None ∷ [])) (λ c. is_none (value_at plan.filled c)) (cells_of plan f) (λ c. and_true (is_none (value_at plan.filled c)) (counted_at plan (opening_words plan) (None ∷ []) c) (none_counted plan c)) in
+          let d : lacking plan (opening_words plan) (None ∷ []) f ≡ missing_of plan plan.filled f = count_by-same (lacks_cell plan (opening_words plan) (None ∷ [])) (λ c. is_none (held_at plan.filled c)) (cells_of plan f) (λ c. and_true (is_none (held_at plan.filled c)) (counted_at plan (opening_words plan) (None ∷ []) c) (none_counted plan c)) in
           omega (arith, a, b, d);
       wait_for_some = λ f. some f (cases_lt (length plan.frames) f);
       taken = λ f. sym (ap one (unstarted_taken (word_at (opening_words plan) f) (opening_not_started plan f)));

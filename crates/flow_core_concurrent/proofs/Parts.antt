@@ -1,33 +1,30 @@
 -- A good state in three parts: what flows, what each seat's view says, and what all lists and shares come to.
-use Rattle.std.proofs.Common.{◌≡◌, ℕ, ◌+◌, ◌-◌, ◌%◌, ◌≤◌, ◌≢◌, ℤ, true, false, List, [], Option, Some, None, map, length, set, refl, sym, ap, ◌∙◌, subst, count_by}
-use Rattle.std.specs.Prelude.{slice_get, sum_by, is_some, not, ◌&&◌, option_and_then}
+use Rattle.std.proofs.Common.{◌≡◌, ℕ, ◌+◌, ◌-◌, ◌%◌, ◌≤◌, ◌≢◌, true, false, List, Option, Some, map, length, set, sym, ap, ◌∙◌, subst, count_by}
+use Rattle.std.specs.Prelude.{slice_get, sum_by, is_some, not, ◌&&◌, IsSome}
 use Rattle.std.specs.Option.{option_map}
-use Rattle.std.proofs.lemmas.Option.{slice_get-map, same_Some}
+use Rattle.std.proofs.lemmas.Option.{slice_get-map}
 use Rattle.std.proofs.lemmas.List.{map-set}
-use Rattle.flow_core_laws.specs.declared.outcome.Outcome.{Outcome}
-use Rattle.flow_core_laws.specs.declared.task_end.TaskEnd.{TaskEnd}
-use Rattle.flow_core_laws.specs.declared.task_end.TaskEnd.TheVariants.{Done}
-use Rattle.flow_core_laws.specs.Outcome.{outcome_at}
-use Rattle.flow_core_laws.specs.Element.{element, fed, output_at}
-use Rattle.flow_core_laws.specs.Plans.{value_at, cell_source}
-use Rattle.flow_core_concurrent.specs.declared.known.Known.{Known}
 use Rattle.flow_core_concurrent.specs.declared.view.Run.{Run}
+use Rattle.flow_core_concurrent.specs.States.{times, CoreState, runs_of}
+use Rattle.flow_core_concurrent.specs.Counted.{one, is_run_of, counted_at, underway_at, lacking}
+use Rattle.flow_core_concurrent.proofs.Sums.{each_set, set_again, sum_by-kept}
+use Rattle.flow_core_laws.specs.declared.task_end.TaskEnd.{TaskEnd}
+use Rattle.flow_core_laws.specs.Plans.{plan_element, held_at, cell_source}
+use Rattle.flow_core_laws.specs.declared.elem.Elem.{Elem}
+use Rattle.flow_core_concurrent.specs.declared.known.Known.{Known}
 use Rattle.flow_core_concurrent.specs.declared.view.View.{View}
 use Rattle.flow_core_concurrent.specs.declared.word.Word.{Word}
 use Rattle.flow_core_concurrent.specs.declared.word.Word.TheVariants.{Wait, Ended}
 use Rattle.flow_core_concurrent.specs.Words.{word_at, opening_words, amount, waits, is_open, is_taken, is_started}
-use Rattle.flow_core_concurrent.specs.States.{CoreState, runs_of, times}
-use Rattle.flow_core_concurrent.specs.Counted.{one, is_run_of, counted_at, held_at, lacking}
-use Rattle.flow_core_concurrent.specs.Steps.{end_of, first_place, with_view}
+use Rattle.flow_core_concurrent.specs.Steps.{end_of, with_view}
 use Rattle.flow_core_concurrent.specs.IsGood.{IsGood, IsView, IsLast}
-use Rattle.flow_core_concurrent.proofs.Sums.{each_set, set_again, sum_by-kept}
 
 -- words, cells and runs
-pub record Flows (known : Known) (words : List Word) (cells : List (Option ℤ)) (runs : List (Option Run)) : Type 0 where
+pub record Flows (known : Known) (words : List Word) (cells : List (Option Elem)) (runs : List (Option Run)) : Type 0 where
   pub words_of_plan : length words ≡ length known.plan.frames + 1
   pub cells_of_plan : length cells ≡ length known.plan.filled
-  pub hold : (c : ℕ) (value : ℤ) → value_at cells c ≡ Some value → element known.meaning (cell_source known.plan c) ≡ Some value
-  pub filled : (c : ℕ) → one (is_some (value_at cells c)) ≡ one (is_some (value_at known.plan.filled c)) + counted_at known.plan words runs c + held_at known.plan runs c
+  pub hold : (c : ℕ) (value : Elem) → held_at cells c ≡ Some value → plan_element known.plan known.meaning (cell_source known.plan c) ≡ Some value
+  pub filled : (c : ℕ) → one (is_some (held_at cells c)) ≡ one (is_some (held_at known.plan.filled c)) + counted_at known.plan words runs c + underway_at known.plan runs c
   pub count : (f : ℕ) → f ≤ length known.plan.frames → amount (word_at words f) ≡ lacking known.plan words runs f
   pub wait_for_some : (f : ℕ) → word_at words f ≢ Wait 0
   pub taken : (f : ℕ) → count_by (is_run_of f) runs ≡ one (is_taken (word_at words f))
@@ -37,7 +34,7 @@ pub record Flows (known : Known) (words : List Word) (cells : List (Option ℤ))
 -- the view of a seat, beside the words
 pub record Sits (known : Known) (words : List Word) (v : View) : Type 0 where
   pub sound : IsView known v
-  pub stores : (r : Run) → v.run ≡ Some r → r ≢ first_place known.plan r.frame → end_of known r.frame ≡ Some Done
+  pub has_end : (r : Run) → v.run ≡ Some r → IsSome (end_of known r.frame)
   pub looked : (j : ℕ) → IsLast known v → 1 ≤ j → j ≤ v.looks → j ≤ length known.plan.frames → is_open (word_at words ((v.looks - j) % length known.plan.frames)) ≡ false
   pub found : (f : ℕ) → 1 ≤ times f v.found → waits (word_at words f) ≡ false
   pub lost : (f : ℕ) → 1 ≤ times f v.lost → is_started (word_at words f) ≡ true
@@ -64,7 +61,7 @@ flows_of known s g = record {
 pub sits_of : (known : Known) (s : CoreState) → IsGood known s → (i : ℕ) (v : View) → slice_get s.seats i ≡ Some v → Sits known s.words v
 sits_of known s g i v h = record {
   sound = g.views_are_sound i v h;
-  stores = λ r. g.only_done_stores i v r h;
+  has_end = λ r. g.runs_have_ends i v r h;
   looked = λ j. g.looks_found_none_open i j v h;
   found = λ f. g.found_waits_no_more i f v h;
   lost = λ f. g.lost_is_started i f v h;
@@ -72,20 +69,6 @@ sits_of known s g i v h = record {
 
 pub books_of : (known : Known) (s : CoreState) → IsGood known s → Books known s.words s.seats
 books_of known s g = record { made = g.made_once; ran = g.ran_once; shares = g.shares_are_all }
-
--- a frame whose end isn't Done has no elements
-no_element : (known : Known) (f k : ℕ) (end : TaskEnd) (value : ℤ) → end_of known f ≡ Some end → end ≢ Done → output_at known.meaning f k ≡ Some value → ⊥
-no_element known f k end value is not_done there = by (outcome_at known.meaning f) refl
-  where
-    by : (o : Option Outcome) → outcome_at known.meaning f ≡ o → ⊥
-    by None e = absurd (cc)
-    by (Some o) e =
-        let at_f : end_of known f ≡ Some o.end = ap (option_map (λ (o : Outcome). o.end)) e in
-        let ends : o.end ≡ end = same_Some o.end end (sym at_f ∙ is) in
-        let none : o.outputs ≡ [] = o.only_done (λ d. not_done (sym ends ∙ d)) in
-        let here : slice_get o.outputs k ≡ Some value = sym (ap (λ (p : Option Outcome). option_and_then (λ (o : Outcome). slice_get o.outputs k) p) e) ∙ there in
-        let nil : slice_get o.outputs k ≡ None = ap (λ (l : List ℤ). slice_get l k) none in
-        absurd (cc)
 
 pub good_from : (known : Known) (s : CoreState) → Flows known s.words s.cells (runs_of s) → ((i : ℕ) (v : View) → slice_get s.seats i ≡ Some v → Sits known s.words v) → Books known s.words s.seats → IsGood known s
 good_from known s flows sits books = record {
@@ -98,8 +81,7 @@ good_from known s flows sits books = record {
   waits_for_some = flows.wait_for_some;
   taken_is_run_by_one = flows.taken;
   ends_are_meant = flows.meant;
-  only_done_delivers = λ f c k end is not_done source. empty f c k end is not_done source (value_at s.cells c) refl;
-  only_done_stores = λ i v r h. (sits i v h).stores r;
+  runs_have_ends = λ i v r h. (sits i v h).has_end r;
   made_once = books.made;
   ran_once = books.ran;
   looks_found_none_open = λ i j v h. (sits i v h).looked j;
@@ -108,12 +90,6 @@ good_from known s flows sits books = record {
   found_waits_no_more = λ i f v h. (sits i v h).found f;
   lost_is_started = λ i f v h. (sits i v h).lost f;
 }
-  where
-    empty : (f c k : ℕ) (end : TaskEnd) → word_at s.words f ≡ Ended end → end ≢ Done → cell_source known.plan c ≡ fed f k → (o : Option ℤ) → value_at s.cells c ≡ o → value_at s.cells c ≡ None
-    empty f c k end is not_done source None e = e
-    empty f c k end is not_done source (Some value) e =
-        let there : element known.meaning (fed f k) ≡ Some value = sym (ap (element known.meaning) source) ∙ flows.hold c value e in
-        absurd (no_element known f k end value (flows.meant f end is) not_done there)
 
 -- what a seat runs, among all runs
 pub run_at : (seats : List View) (i : ℕ) (v : View) → slice_get seats i ≡ Some v → slice_get (map (λ (v : View). v.run) seats) i ≡ Some v.run

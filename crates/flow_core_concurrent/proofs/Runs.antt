@@ -1,28 +1,42 @@
 -- The runs of seats, and what they say of the words.
-use Rattle.std.proofs.Common.{◌≡◌, ℕ, ◌<◌, ◌≤◌, ◌≢◌, true, false, Some, length, refl, sym, ap, ◌∙◌, subst, ◌⊎◌, inl, inr, arith, count_by, eq-eqb}
+use Rattle.std.proofs.Common.{◌≡◌, ℕ, ◌<◌, ◌≤◌, ◌≢◌, false, Some, length, refl, sym, ap, ◌∙◌, subst, ◌⊎◌, inl, inr, arith, count_by, true, eq-eqb}
 use Rattle.std.specs.Prelude.{slice_get, ◌==◌, ◌&&◌, nat_lt}
-use Rattle.std.proofs.lemmas.Bool.{ne_eqb, cases_eq, lt-ltb, le-ltb, and_left, and_right}
+use Rattle.std.proofs.lemmas.Bool.{cases_eq, ne_eqb, lt-ltb, le-ltb, and_left, and_right}
 use Rattle.flow_core_laws.specs.declared.plan.Piece.{Piece}
+use Rattle.flow_core_concurrent.specs.declared.view.Run.{Run}
+use Rattle.flow_core_concurrent.specs.Counted.{one, is_run_of, is_past, has_stored}
+use Rattle.flow_core_concurrent.proofs.Sums.{count_by-has}
+use Rattle.flow_core_concurrent.proofs.Words.{one_is_true, taken_is}
 use Rattle.flow_core_laws.specs.declared.plan.Plan.{Plan}
 use Rattle.flow_core_laws.specs.IsSound.{IsSound}
 use Rattle.flow_core_laws.specs.Plans.{frame_at}
 use Rattle.flow_core_concurrent.specs.declared.known.Known.{Known}
-use Rattle.flow_core_concurrent.specs.declared.view.Run.{Run}
 use Rattle.flow_core_concurrent.specs.declared.view.View.{View}
 use Rattle.flow_core_concurrent.specs.declared.word.Word.{Word}
 use Rattle.flow_core_concurrent.specs.declared.word.Word.TheVariants.{Taken}
 use Rattle.flow_core_concurrent.specs.Words.{is_taken, word_at}
 use Rattle.flow_core_concurrent.specs.States.{CoreState, runs_of}
-use Rattle.flow_core_concurrent.specs.Counted.{one, is_run_of, is_past, has_stored}
 use Rattle.flow_core_concurrent.specs.Steps.{first_place}
 use Rattle.flow_core_concurrent.specs.IsGood.{IsGood, IsPlace}
-use Rattle.flow_core_concurrent.proofs.Sums.{count_by-has}
-use Rattle.flow_core_concurrent.proofs.Words.{taken_is, one_is_true}
 use Rattle.flow_core_concurrent.proofs.Counts.{piece_of_frame}
 use Rattle.flow_core_concurrent.proofs.Parts.{run_at}
 
 pub same_frame : (f : ℕ) → (f == f) ≡ true
 same_frame f = eq-eqb f f refl
+
+-- a run is past a piece of its frame exactly where its number is greater, and past none of another frame
+pub is_past-later : (r : Run) (from q : ℕ) → r.frame ≡ from → q < r.piece → is_past from q (Some r) ≡ true
+is_past-later r from q e lt = ap (λ b. b && nat_lt q r.piece) (eq-eqb r.frame from e) ∙ lt-ltb q r.piece lt
+
+pub is_past-earlier : (r : Run) (from q : ℕ) → r.piece ≤ q → is_past from q (Some r) ≡ false
+is_past-earlier r from q le = and_right (r.frame == from) (nat_lt q r.piece) (le-ltb q r.piece le)
+
+pub is_past-other : (r : Run) (from q : ℕ) → r.frame ≢ from → is_past from q (Some r) ≡ false
+is_past-other r from q n = and_left (r.frame == from) (nat_lt q r.piece) (ne_eqb r.frame from n)
+
+-- where nothing of a piece is stored
+pub has_stored-none : (r : Run) (from q k : ℕ) → r.stored ≡ 0 → has_stored from q k (Some r) ≡ false
+has_stored-none r from q k e = and_right (r.frame == from && r.piece == q) (nat_lt k r.stored) (le-ltb k r.stored (omega (arith, e)))
 
 -- the run of a seat, among all runs
 pub run_there : (s : CoreState) (i : ℕ) (v : View) (r : Run) → slice_get s.seats i ≡ Some v → v.run ≡ Some r → slice_get (runs_of s) i ≡ Some (Some r)
@@ -49,16 +63,6 @@ first_is_place plan f lt = record {
   has_none_behind = λ h. refl;
 }
 
--- a run is past a piece of its frame exactly where its number is greater, and past none of another frame
-pub is_past-later : (r : Run) (from q : ℕ) → r.frame ≡ from → q < r.piece → is_past from q (Some r) ≡ true
-is_past-later r from q e lt = ap (λ b. b && nat_lt q r.piece) (eq-eqb r.frame from e) ∙ lt-ltb q r.piece lt
-
-pub is_past-earlier : (r : Run) (from q : ℕ) → r.piece ≤ q → is_past from q (Some r) ≡ false
-is_past-earlier r from q le = and_right (r.frame == from) (nat_lt q r.piece) (le-ltb q r.piece le)
-
-pub is_past-other : (r : Run) (from q : ℕ) → r.frame ≢ from → is_past from q (Some r) ≡ false
-is_past-other r from q n = and_left (r.frame == from) (nat_lt q r.piece) (ne_eqb r.frame from n)
-
 -- a run of which nothing was given is past no piece
 pub is_past-first : (plan : Plan) (f q : ℕ) (p : Piece) → IsSound plan → slice_get plan.pieces q ≡ Some p → is_past p.from q (Some (first_place plan f)) ≡ false
 is_past-first plan f q p sound h = by (cases_eq f p.from)
@@ -66,7 +70,3 @@ is_past-first plan f q p sound h = by (cases_eq f p.from)
     by : (f ≡ p.from) ⊎ (f ≢ p.from) → is_past p.from q (Some (first_place plan f)) ≡ false
     by (inl e) = is_past-earlier (first_place plan f) p.from q (subst (λ g. (frame_at plan g).piece ≤ q) (sym e) (piece_of_frame plan q p sound h).0)
     by (inr n) = is_past-other (first_place plan f) p.from q n
-
--- where nothing of a piece is stored
-pub has_stored-none : (r : Run) (from q k : ℕ) → r.stored ≡ 0 → has_stored from q k (Some r) ≡ false
-has_stored-none r from q k e = and_right (r.frame == from && r.piece == q) (nat_lt k r.stored) (le-ltb k r.stored (omega (arith, e)))

@@ -4,15 +4,15 @@ use Rattle.std.specs.Prelude.{slice_get, sum_by}
 use Rattle.std.proofs.lemmas.Bool.{cases_lt}
 use Rattle.std.proofs.lemmas.List.{map_push}
 use Rattle.std.proofs.lemmas.List.Sums.{sum_by_push, sum_by-append}
-use Rattle.flow_core_concurrent.specs.declared.known.Known.{Known}
 use Rattle.flow_core_concurrent.specs.declared.view.Run.{Run}
+use Rattle.flow_core_concurrent.specs.States.{times, CoreState, fresh, runs_of}
+use Rattle.flow_core_concurrent.proofs.Sums.{each_set, each_push, set_again, sum_by-written, at_other}
+use Rattle.flow_core_concurrent.specs.declared.known.Known.{Known}
 use Rattle.flow_core_concurrent.specs.declared.view.View.{View}
 use Rattle.flow_core_concurrent.specs.declared.word.Word.{Word}
 use Rattle.flow_core_concurrent.specs.Words.{waits, is_started, word_at}
-use Rattle.flow_core_concurrent.specs.States.{CoreState, fresh, runs_of, times}
 use Rattle.flow_core_concurrent.specs.Steps.{CanSplit, after_split, CanJoin, with_joined, after_join}
 use Rattle.flow_core_concurrent.specs.IsGood.{IsGood}
-use Rattle.flow_core_concurrent.proofs.Sums.{each_set, each_push, set_again, sum_by-written, at_other}
 use Rattle.flow_core_concurrent.proofs.Parts.{Flows, Sits, Books, flows_of, sits_of, books_of, good_from, run_at, runs-set}
 use Rattle.flow_core_concurrent.proofs.Moves.{flows_pushed}
 
@@ -20,7 +20,7 @@ use Rattle.flow_core_concurrent.proofs.Moves.{flows_pushed}
 pub fresh_sits : (known : Known) (words : List Word) (shares : ℕ) → Sits known words (fresh known shares)
 fresh_sits known words shares = record {
   sound = record { knows_the_run = λ h. refl; spent_is_empty = λ e. ap (fresh known) e; runs_at_a_place = λ r h. absurd (cc) };
-  stores = λ r h n. absurd (cc);
+  has_end = λ r h. absurd (cc);
   looked = λ j last low high below. absurd (omega arith);
   found = λ f h. absurd (omega arith);
   lost = λ f h. absurd (omega arith);
@@ -30,7 +30,7 @@ fresh_sits known words shares = record {
 pub spent_sits : (known other : Known) (words : List Word) → Sits known words (fresh other 0)
 spent_sits known other words = record {
   sound = record { knows_the_run = λ h. absurd (omega arith); spent_is_empty = λ e. refl; runs_at_a_place = λ r h. absurd (cc) };
-  stores = λ r h n. absurd (cc);
+  has_end = λ r h. absurd (cc);
   looked = λ j last low high below. absurd (omega arith);
   found = λ f h. absurd (omega arith);
   lost = λ f h. absurd (omega arith);
@@ -56,7 +56,7 @@ split_keeps known s i v g can = good_from known (after_split s i v) flows
     left_sits : Sits known s.words left
     left_sits = record {
       sound = record { knows_the_run = λ h. old.sound.knows_the_run (omega (arith, two)); spent_is_empty = λ e. absurd (omega (arith, two, e)); runs_at_a_place = old.sound.runs_at_a_place };
-      stores = old.stores;
+      has_end = old.has_end;
       looked = λ j last low high below. absurd (omega (arith, low, high));
       found = old.found;
       lost = old.lost;
@@ -124,7 +124,7 @@ join_keeps known s i v j w g can = good_from known (after_join s i v j w) flows
     both_sits : Sits known s.words both
     both_sits = record {
       sound = record { knows_the_run = λ h. mine.sound.knows_the_run positive; spent_is_empty = λ e. absurd (omega (arith, positive, e)); runs_at_a_place = mine.sound.runs_at_a_place };
-      stores = mine.stores;
+      has_end = mine.has_end;
       looked = λ k last low high below. absurd (omega (arith, low, high));
       found = λ f. in_either v.found w.found (waits (word_at s.words f) ≡ false) f (mine.found f) (theirs.found f);
       lost = λ f. in_either v.lost w.lost (is_started (word_at s.words f) ≡ true) f (mine.lost f) (theirs.lost f);

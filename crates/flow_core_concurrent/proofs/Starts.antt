@@ -2,17 +2,17 @@
 use Rattle.std.proofs.Common.{◌≡◌, ℕ, ◌+◌, ◌-◌, ◌%◌, ◌<◌, ◌≢◌, true, false, List, Some, length, set, sym, ap, ◌∙◌, subst, ◌⊎◌, inl, inr, arith, count_by}
 use Rattle.std.specs.Prelude.{slice_get, not, ◌&&◌}
 use Rattle.std.proofs.lemmas.List.{length-set}
+use Rattle.flow_core_concurrent.specs.States.{times, CoreState, runs_of}
+use Rattle.flow_core_concurrent.specs.Counted.{one, is_run_of}
+use Rattle.flow_core_concurrent.proofs.Sums.{each_set, sum_by-written, sum_by-kept}
 use Rattle.flow_core_laws.specs.declared.task_end.TaskEnd.{TaskEnd}
 use Rattle.flow_core_concurrent.specs.declared.known.Known.{Known}
 use Rattle.flow_core_concurrent.specs.declared.view.View.{View}
 use Rattle.flow_core_concurrent.specs.declared.word.Word.{Word}
 use Rattle.flow_core_concurrent.specs.declared.word.Word.TheVariants.{Wait, Ended}
 use Rattle.flow_core_concurrent.specs.Words.{word_at, opening_words, amount, waits, is_open, is_taken, is_started}
-use Rattle.flow_core_concurrent.specs.States.{CoreState, runs_of, times}
-use Rattle.flow_core_concurrent.specs.Counted.{one, is_run_of}
 use Rattle.flow_core_concurrent.specs.Steps.{end_of}
 use Rattle.flow_core_concurrent.specs.IsGood.{IsGood}
-use Rattle.flow_core_concurrent.proofs.Sums.{each_set, sum_by-written, sum_by-kept}
 use Rattle.flow_core_concurrent.proofs.Words.{word_at-set, word_at-set_other, word_at-kept}
 use Rattle.flow_core_concurrent.proofs.Counts.{CountsAlike, StoresAlike}
 use Rattle.flow_core_concurrent.proofs.Parts.{Flows, Sits, Books, flows_of, sits_of, books_of, good_from, runs-set}
@@ -34,7 +34,7 @@ pub record Starts (known : Known) (words : List Word) (f : ℕ) (word : Word) : 
 pub still_sits : (known : Known) (words : List Word) (f : ℕ) (word : Word) (v : View) → Starts known words f word → Sits known words v → Sits known (set words f word) v
 still_sits known words f word v starts old = record {
   sound = old.sound;
-  stores = old.stores;
+  has_end = old.has_end;
   looked = λ j last low high below. closed ((v.looks - j) % length known.plan.frames) (old.looked j last low high below) (word_at-set words f word ((v.looks - j) % length known.plan.frames) starts.exists);
   found = λ h m. word_at-kept waits words f word starts.exists (starts.waits_not ∙ sym starts.waited_not) h ∙ old.found h m;
   lost = λ h m. started h (old.lost h m) (word_at-set words f word h starts.exists);

@@ -25,7 +25,7 @@ use Rattle.flow_core_concurrent.proofs.Opens.{opens_good}
 pub step_keeps : (known : Known) (old new : CoreState) → IsFit known → IsGood known old → Step known old new → IsGood known new
 step_keeps known old new fit g (split seat view can) = split_keeps known old seat view g can
 step_keeps known old new fit g (join seat view other taken can) = join_keeps known old seat view other taken g can
-step_keeps known old new fit g (claim seat view frame can) = claim_keeps known old seat view frame fit.plan_is_sound g can
+step_keeps known old new fit g (claim seat view frame can) = claim_keeps known old seat view frame fit g can
 step_keeps known old new fit g (read seat view run cell can) = g
 step_keeps known old new fit g (store seat view run piece can) = store_keeps known old seat view run piece fit g can
 step_keeps known old new fit g (sub seat view run piece can) = sub_keeps known old seat view run piece fit.plan_is_sound g can

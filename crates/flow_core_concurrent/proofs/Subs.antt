@@ -1,35 +1,35 @@
 -- A SUB finds at least its count, and keeps a state good.
 use Rattle.std.proofs.Common.{◌≡◌, ℕ, ◌+◌, ◌-◌, ◌%◌, ◌<◌, ◌≤◌, ◌≢◌, Bool, true, false, List, [], ◌∷◌, ◌++◌, Option, Some, None, length, set, refl, sym, ap, ◌∙◌, subst, ◌⊎◌, inl, inr, arith, count_by, eq-eqb}
-use Rattle.std.specs.Prelude.{slice_get, is_none, not, ◌==◌, ◌&&◌, nat_lt, if◌then◌else◌}
+use Rattle.std.specs.Prelude.{slice_get, is_none, not, ◌==◌, ◌&&◌, nat_lt, if◌then◌else◌, IsSome}
 use Rattle.std.proofs.lemmas.Bool.{cases_eq, cases_lt, lt-ltb, le-ltb, ne_eqb, and_left, and_right}
 use Rattle.std.proofs.lemmas.List.{length-set}
 use Rattle.std.proofs.lemmas.Option.{same_Some}
 use Rattle.flow_core_laws.specs.declared.plan.Piece.{Piece}
-use Rattle.flow_core_laws.specs.declared.task_end.TaskEnd.{TaskEnd}
-use Rattle.flow_core_laws.specs.Plans.{frame_at, value_at, piece_at}
-use Rattle.flow_core_laws.specs.IsSound.{IsSound, IsSoundPiece}
 use Rattle.flow_core_laws.proofs.Counting.{passing-same, passing-lowered}
+use Rattle.flow_core_concurrent.specs.declared.view.Run.{Run}
+use Rattle.flow_core_concurrent.specs.States.{times, CoreState, fresh, runs_of}
+use Rattle.flow_core_concurrent.specs.Counted.{one, is_run_of, is_past, has_stored, counted, underway, counted_at, underway_at, lacks_cell, lacking}
+use Rattle.flow_core_concurrent.proofs.Sums.{each_set, sum_by-written, sum_by-kept, sum_by-has, count_by-written, count_by-kept, at_other, option_map_or-same}
+use Rattle.flow_core_concurrent.proofs.Looks.{times_push}
+use Rattle.flow_core_concurrent.proofs.Runs.{same_frame, is_past-later, is_past-earlier, has_stored-none, run_there}
+use Rattle.flow_core_laws.specs.declared.task_end.TaskEnd.{TaskEnd}
+use Rattle.flow_core_laws.specs.Plans.{frame_at, held_at, piece_at}
+use Rattle.flow_core_laws.specs.IsSound.{IsSound, IsSoundPiece}
 use Rattle.flow_core_laws.proofs.Sources.{piece_at-covered}
 use Rattle.flow_core_concurrent.specs.declared.known.Known.{Known}
-use Rattle.flow_core_concurrent.specs.declared.view.Run.{Run}
 use Rattle.flow_core_concurrent.specs.declared.view.View.{View}
 use Rattle.flow_core_concurrent.specs.declared.word.Word.{Word}
 use Rattle.flow_core_concurrent.specs.declared.word.Word.TheVariants.{Wait, Ended}
-use Rattle.flow_core_concurrent.specs.Words.{word_at, opening_words, amount, waits, is_open, is_taken, is_started, has_delivered, waits_for, lowered}
-use Rattle.flow_core_concurrent.specs.States.{CoreState, fresh, runs_of, times}
-use Rattle.flow_core_concurrent.specs.Counted.{one, is_run_of, is_past, has_stored, counted, held, counted_at, held_at, lacks_cell, lacking}
+use Rattle.flow_core_concurrent.specs.Words.{word_at, opening_words, amount, waits, is_open, is_taken, is_started, has_ended, waits_for, lowered}
 use Rattle.flow_core_concurrent.specs.Steps.{end_of, CanSub, with_sub, after_sub}
 use Rattle.flow_core_concurrent.specs.IsGood.{IsGood, IsPlace, IsLast}
-use Rattle.flow_core_concurrent.proofs.Sums.{each_set, sum_by-written, sum_by-kept, sum_by-has, count_by-written, count_by-kept, at_other, option_map_or-same}
 use Rattle.flow_core_concurrent.proofs.Words.{word_at-set, word_at-kept, wait_is}
-use Rattle.flow_core_concurrent.proofs.Counts.{counted-is, counted_at-is, held_at-is, held-is, piece_is, piece_of_frame, piece_cells}
+use Rattle.flow_core_concurrent.proofs.Counts.{counted-is, counted_at-is, underway_at-is, underway-is, piece_is, piece_of_frame, piece_cells}
 use Rattle.flow_core_concurrent.proofs.Parts.{Flows, Sits, Books, sits_of, books_of, good_from, runs-set}
 use Rattle.flow_core_concurrent.proofs.Moves.{set_waits_for_some}
 use Rattle.flow_core_concurrent.proofs.Opening.{opening_at, opening_amount, lacking_at_most}
-use Rattle.flow_core_concurrent.proofs.Looks.{times_push}
-use Rattle.flow_core_concurrent.proofs.Runs.{same_frame, run_there, is_past-later, is_past-earlier, has_stored-none}
 use Rattle.flow_core_concurrent.proofs.Cells.{not_counted, stored_alone}
-use Rattle.flow_core_concurrent.proofs.Lowered.{amount-lowered, waits-lowered, is_open-lowered, is_started-lowered, is_taken-lowered, has_delivered-lowered, lowered_waits_for_some}
+use Rattle.flow_core_concurrent.proofs.Lowered.{amount-lowered, waits-lowered, is_open-lowered, is_started-lowered, is_taken-lowered, has_ended-lowered, lowered_waits_for_some}
 
 -- where a seat has all shares no other one has any
 pub last_is_only : (known : Known) (s : CoreState) (i j : ℕ) (v u : View) → IsGood known s → slice_get s.seats i ≡ Some v → 1 ≤ v.shares → j ≢ i → slice_get s.seats j ≡ Some u → IsLast known u → ⊥
@@ -93,8 +93,8 @@ module _ (known : Known) (s : CoreState) (i : ℕ) (v : View) (r : Run) (p : Pie
       let b : p'.count ≡ p.count = ap (λ (p : Piece). p.count) z in
       (omega (arith, a, low), omega (arith, a, b, high))
 
-  delivered : (f : ℕ) → one (has_delivered (word_at words' f)) ≡ one (has_delivered (word_at s.words f))
-  delivered = word_at-kept (λ w. one (has_delivered w)) s.words p.to (lowered p.count word) exists (ap one (has_delivered-lowered p.count word))
+  delivered : (f : ℕ) → one (has_ended (word_at words' f)) ≡ one (has_ended (word_at s.words f))
+  delivered = word_at-kept (λ w. one (has_ended w)) s.words p.to (lowered p.count word) exists (ap one (has_ended-lowered p.count word))
 
   -- the piece counts once now, and no other one counts otherwise than before
   counted_before : counted known.plan s.words (runs_of s) r.piece ≡ 0
@@ -112,7 +112,7 @@ module _ (known : Known) (s : CoreState) (i : ℕ) (v : View) (r : Run) (p : Pie
       omega (arith, a, b, c, d, e, f, z)
 
   counted_else : (q : ℕ) → q ≢ r.piece → counted known.plan words' runs' q ≡ counted known.plan s.words (runs_of s) q
-  counted_else q n = option_map_or-same (λ (p : Piece). one (has_delivered (word_at words' p.from)) + count_by (is_past p.from q) runs') (λ (p : Piece). one (has_delivered (word_at s.words p.from)) + count_by (is_past p.from q) (runs_of s)) (slice_get known.plan.pieces q) 0
+  counted_else q n = option_map_or-same (λ (p : Piece). one (has_ended (word_at words' p.from)) + count_by (is_past p.from q) runs') (λ (p : Piece). one (has_ended (word_at s.words p.from)) + count_by (is_past p.from q) (runs_of s)) (slice_get known.plan.pieces q) 0
       (λ p' h. let a = delivered p'.from in let b = count_by-kept (is_past p'.from q) (runs_of s) i (Some r) (Some next) there (past_next r p'.from q n) in omega (arith, a, b))
 
   counted_at_else : (c : ℕ) → piece_at known.plan c ≢ Some r.piece → counted_at known.plan words' runs' c ≡ counted_at known.plan s.words (runs_of s) c
@@ -127,34 +127,34 @@ module _ (known : Known) (s : CoreState) (i : ℕ) (v : View) (r : Run) (p : Pie
       let d : one (has_stored p.from r.piece k (Some next)) ≡ 0 = ap one (has_stored-none next p.from r.piece k refl) in
       omega (arith, a, b, c, d)
 
-  stored_at_else : (c : ℕ) → piece_at known.plan c ≢ Some r.piece → held_at known.plan runs' c ≡ held_at known.plan (runs_of s) c
-  stored_at_else c n = option_map_or-same (held known.plan runs' c) (held known.plan (runs_of s) c) (piece_at known.plan c) 0
+  stored_at_else : (c : ℕ) → piece_at known.plan c ≢ Some r.piece → underway_at known.plan runs' c ≡ underway_at known.plan (runs_of s) c
+  stored_at_else c n = option_map_or-same (underway known.plan runs' c) (underway known.plan (runs_of s) c) (piece_at known.plan c) 0
       (λ q h. option_map_or-same (λ (p : Piece). count_by (has_stored p.from q (c - p.at)) runs') (λ (p : Piece). count_by (has_stored p.from q (c - p.at)) (runs_of s)) (slice_get known.plan.pieces q) 0
       (λ p' at. count_by-kept (has_stored p'.from q (c - p'.at)) (runs_of s) i (Some r) (Some next) there (has_stored-none next p'.from q (c - p'.at) refl ∙ sym (stored_other r p'.from q (c - p'.at) (λ e. n (h ∙ ap Some (sym e)))))))
 
   -- so a cell is filled as before
-  carried : (c : ℕ) → counted_at known.plan words' runs' c + held_at known.plan runs' c ≡ counted_at known.plan s.words (runs_of s) c + held_at known.plan (runs_of s) c
+  carried : (c : ℕ) → counted_at known.plan words' runs' c + underway_at known.plan runs' c ≡ counted_at known.plan s.words (runs_of s) c + underway_at known.plan (runs_of s) c
   carried c = by (piece_at known.plan c) refl
     where
-      at_piece : piece_at known.plan c ≡ Some r.piece → counted_at known.plan words' runs' c + held_at known.plan runs' c ≡ counted_at known.plan s.words (runs_of s) c + held_at known.plan (runs_of s) c
+      at_piece : piece_at known.plan c ≡ Some r.piece → counted_at known.plan words' runs' c + underway_at known.plan runs' c ≡ counted_at known.plan s.words (runs_of s) c + underway_at known.plan (runs_of s) c
       at_piece e =
           let w = inside c e in
           let low = w.0 in
           let high = w.1 in
           let a = counted_at-is known.plan words' runs' c r.piece e in
           let b = counted_at-is known.plan s.words (runs_of s) c r.piece e in
-          let x : held_at known.plan runs' c ≡ 0 = held_at-is known.plan runs' c r.piece e ∙ held-is known.plan runs' c r.piece p number ∙ stored_now (c - p.at) in
+          let x : underway_at known.plan runs' c ≡ 0 = underway_at-is known.plan runs' c r.piece e ∙ underway-is known.plan runs' c r.piece p number ∙ stored_now (c - p.at) in
           let all = can.has_stored_all in
-          let y : held_at known.plan (runs_of s) c ≡ 1 = held_at-is known.plan (runs_of s) c r.piece e ∙ held-is known.plan (runs_of s) c r.piece p number ∙ stored_alone known s i v r p g sees can.runs can.stands (c - p.at) ∙ ap one (lt-ltb (c - p.at) r.stored (omega (arith, low, high, all))) in
+          let y : underway_at known.plan (runs_of s) c ≡ 1 = underway_at-is known.plan (runs_of s) c r.piece e ∙ underway-is known.plan (runs_of s) c r.piece p number ∙ stored_alone known s i v r p g sees can.runs can.stands (c - p.at) ∙ ap one (lt-ltb (c - p.at) r.stored (omega (arith, low, high, all))) in
           let z = counted_now in
           let z' = counted_before in
           omega (arith, a, b, x, y, z, z')
 
-      by : (o : Option ℕ) → piece_at known.plan c ≡ o → counted_at known.plan words' runs' c + held_at known.plan runs' c ≡ counted_at known.plan s.words (runs_of s) c + held_at known.plan (runs_of s) c
+      by : (o : Option ℕ) → piece_at known.plan c ≡ o → counted_at known.plan words' runs' c + underway_at known.plan runs' c ≡ counted_at known.plan s.words (runs_of s) c + underway_at known.plan (runs_of s) c
       by None e = let n : piece_at known.plan c ≢ Some r.piece = (λ h. let z : None ≡ Some r.piece = sym e ∙ h in cc) in let a = counted_at_else c n in let b = stored_at_else c n in omega (arith, a, b)
       by (Some q) e = decide (cases_eq q r.piece)
         where
-          decide : (q ≡ r.piece) ⊎ (q ≢ r.piece) → counted_at known.plan words' runs' c + held_at known.plan runs' c ≡ counted_at known.plan s.words (runs_of s) c + held_at known.plan (runs_of s) c
+          decide : (q ≡ r.piece) ⊎ (q ≢ r.piece) → counted_at known.plan words' runs' c + underway_at known.plan runs' c ≡ counted_at known.plan s.words (runs_of s) c + underway_at known.plan (runs_of s) c
           decide (inl same) = at_piece (e ∙ ap Some same)
           decide (inr n') = let n : piece_at known.plan c ≢ Some r.piece = (λ h. n' (same_Some q r.piece (sym e ∙ h))) in let a = counted_at_else c n in let b = stored_at_else c n in omega (arith, a, b)
 
@@ -167,10 +167,10 @@ module _ (known : Known) (s : CoreState) (i : ℕ) (v : View) (r : Run) (p : Pie
   missed_now : (c : ℕ) → p.at ≤ c → c < p.at + p.count → lacks_cell known.plan words' runs' c ≡ false
   missed_now c low high =
       let a : counted_at known.plan words' runs' c ≡ 1 = counted_at-is known.plan words' runs' c r.piece (here c low high) ∙ counted_now in
-      and_right (is_none (value_at known.plan.filled c)) (counted_at known.plan words' runs' c == 0) (ap (λ n. n == 0) a)
+      and_right (is_none (held_at known.plan.filled c)) (counted_at known.plan words' runs' c == 0) (ap (λ n. n == 0) a)
 
   missed_else : (c : ℕ) → piece_at known.plan c ≢ Some r.piece → lacks_cell known.plan words' runs' c ≡ lacks_cell known.plan s.words (runs_of s) c
-  missed_else c n = ap (λ (k : ℕ). is_none (value_at known.plan.filled c) && k == 0) (counted_at_else c n)
+  missed_else c n = ap (λ (k : ℕ). is_none (held_at known.plan.filled c) && k == 0) (counted_at_else c n)
 
   lacks_fewer : lacking known.plan words' runs' p.to + p.count ≡ lacking known.plan s.words (runs_of s) p.to
   lacks_fewer = passing-lowered (lacks_cell known.plan s.words (runs_of s)) (lacks_cell known.plan words' runs') (frame_at known.plan p.to).cell (frame_at known.plan p.to).inputs p.at p.count fits.fills_from_its_cells fits.fills_to_its_cells missed_before missed_now
@@ -265,7 +265,7 @@ module _ (known : Known) (s : CoreState) (i : ℕ) (v : View) (r : Run) (p : Pie
       let o : Sits known s.words u = sits_of known s g j u at_j in
       record {
         sound = o.sound;
-        stores = o.stores;
+        has_end = o.has_end;
         looked = λ k last low high below. absurd (last_is_only known s i j v u g sees positive n at_j last);
         found = λ f h. still_full f (o.found f h);
         lost = λ f h. started_same f ∙ o.lost f h;
@@ -286,7 +286,7 @@ module _ (known : Known) (s : CoreState) (i : ℕ) (v : View) (r : Run) (p : Pie
             has_none_behind = λ last. refl;
           });
         };
-        stores = λ r' h n. ap (λ (r : Run). end_of known r.frame) (sym (same_Some next r' h)) ∙ g.only_done_stores i v r sees can.runs (λ first. let a : r.stored ≡ 0 = ap (λ (r : Run). r.stored) first in let b = can.has_stored_all in let c = fits.has_elements in omega (arith, a, b, c));
+        has_end = λ r' h. subst (λ (r : Run). IsSome (end_of known r.frame)) (same_Some next r' h) (o.has_end r can.runs);
         looked = looked opens refl;
         found = λ f h. still_full f (o.found f h);
         lost = λ f h. started_same f ∙ o.lost f h;

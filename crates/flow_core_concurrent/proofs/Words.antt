@@ -1,11 +1,19 @@
 -- What a word says, and the words after one was written.
-use Rattle.std.proofs.Common.{◌≡◌, ℕ, ◌<◌, ◌≤◌, ◌≢◌, Bool, true, false, List, length, set, refl, sym, ap, ◌∙◌, ◌⊎◌, inl, inr, arith}
+use Rattle.std.proofs.Common.{◌≡◌, ℕ, ◌<◌, ◌≤◌, ◌≢◌, true, false, List, length, set, refl, sym, ap, ◌∙◌, ◌⊎◌, inl, inr, arith, Bool}
 use Rattle.std.proofs.lemmas.Bool.{cases_eq}
 use Rattle.std.proofs.lemmas.List.{get_or-set_same, get_or-set_other}
 use Rattle.flow_core_concurrent.specs.declared.word.Word.{Word}
 use Rattle.flow_core_concurrent.specs.declared.word.Word.TheVariants.{Wait, Open, Taken, Ended}
 use Rattle.flow_core_concurrent.specs.Words.{word_at, amount, waits, is_open, is_taken, is_started}
 use Rattle.flow_core_concurrent.specs.Counted.{one}
+
+pub one_is_true : (b : Bool) → 1 ≤ one b → b ≡ true
+one_is_true true h = refl
+one_is_true false h = absurd (omega arith)
+
+pub one_is_false : (b : Bool) → one b ≡ 0 → b ≡ false
+one_is_false true h = absurd (omega arith)
+one_is_false false h = refl
 
 -- the words after one was written
 pub word_at-set : (words : List Word) (f : ℕ) (w : Word) (g : ℕ) → f < length words → ((g ≡ f) × (word_at (set words f w) g ≡ w)) ⊎ ((g ≢ f) × (word_at (set words f w) g ≡ word_at words g))
@@ -62,14 +70,6 @@ full_waits (Wait n) some none = absurd (some (ap (λ k. Wait k) none))
 full_waits Open some none = refl
 full_waits Taken some none = refl
 full_waits (Ended e) some none = refl
-
-pub one_is_true : (b : Bool) → 1 ≤ one b → b ≡ true
-one_is_true true h = refl
-one_is_true false h = absurd (omega arith)
-
-pub one_is_false : (b : Bool) → one b ≡ 0 → b ≡ false
-one_is_false true h = absurd (omega arith)
-one_is_false false h = refl
 
 pub taken_started : (w : Word) → is_taken w ≡ true → is_started w ≡ true
 taken_started (Wait n) h = absurd (cc)

@@ -1,15 +1,13 @@
 -- Steps by choice, for tables of states: what a state becomes where a seat makes a step of a kind, or none
--- where it can't. Laws say that this is so exactly for the steps of that kind.
-use Rattle.std.specs.Prelude.{ℕ, ◌+◌, ◌==◌, Bool, false, not, ◌&&◌, nat_lt, nat_le, if◌then◌else◌, List, [], ◌∷◌, ◌++◌, Option, Some, None, is_none, is_some, map, length, take, count_by, slice_get, option_and_then}
+-- where it can't. The choices are those of `flow_core_concurrent`. Laws say that this is so exactly for the steps of that kind.
+use Rattle.std.specs.Prelude.{[], ℕ, ◌+◌, ◌==◌, Bool, not, ◌&&◌, nat_lt, nat_le, if◌then◌else◌, List, ◌∷◌, ◌++◌, Option, Some, None, is_none, is_some, map, length, take, count_by, slice_get, option_and_then}
 use Rattle.std.specs.List.{fold, range_with_len}
-use Rattle.std.specs.Option.{option_map_or}
 use Rattle.flow_core_laws.specs.declared.plan.Piece.{Piece}
+use Rattle.flow_core_concurrent.specs.declared.view.Run.{Run}
 use Rattle.flow_core_laws.specs.declared.plan.Plan.{Plan}
 use Rattle.flow_core_laws.specs.declared.task_end.TaskEnd.{TaskEnd}
-use Rattle.flow_core_laws.specs.Outcome.{is_done}
 use Rattle.flow_core_laws.specs.Plans.{frame_at}
 use Rattle.flow_core_concurrent.specs.declared.known.Known.{Known}
-use Rattle.flow_core_concurrent.specs.declared.view.Run.{Run}
 use Rattle.flow_core_concurrent.specs.declared.view.View.{View}
 use Rattle.flow_core_concurrent.specs.States.{CoreState, opening}
 use Rattle.flow_core_concurrent.specs.Steps.{end_of, after_split, after_join, after_claim, after_store, after_sub, after_finish, after_look, Step, split, join, claim, read, store, sub, finish, look}
@@ -44,10 +42,6 @@ is_behind_last plan run = run.piece == (frame_at plan run.frame).piece + (frame_
 abbrev pub is_cell_of : Plan → ℕ → ℕ → Bool
 is_cell_of plan frame cell = nat_le (frame_at plan frame).cell cell && nat_lt cell ((frame_at plan frame).cell + (frame_at plan frame).inputs)
 
--- whether a frame is Done in the meaning
-abbrev pub is_meant_done : Known → ℕ → Bool
-is_meant_done known frame = option_map_or is_done (end_of known frame) false
-
 -- What becomes of a state by a choice.
 abbrev pub after_choice : Known → CoreState → Choice → Option CoreState
 after_choice known s (to_split i) = option_and_then (λ (v : View). if nat_le 2 v.shares then Some (after_split s i v) else None) (seat_in s i)
@@ -62,15 +56,13 @@ after_choice known s (to_read i c) =
     (seat_in s i)
 after_choice known s (to_store i) =
     option_and_then (λ (v : View). option_and_then (λ (r : Run). option_and_then
-    (λ (p : Piece). if is_meant_done known r.frame && nat_lt r.stored p.count then Some (after_store known s i v r p) else None)
-    (own_piece known.plan r)) v.run) (seat_in s i)
+    (λ (p : Piece). if nat_lt r.stored p.count then Some (after_store known s i v r p) else None) (own_piece known.plan r)) v.run) (seat_in s i)
 after_choice known s (to_sub i) =
     option_and_then (λ (v : View). option_and_then (λ (r : Run). option_and_then
     (λ (p : Piece). if r.stored == p.count then Some (after_sub s i v r p) else None) (own_piece known.plan r)) v.run) (seat_in s i)
 after_choice known s (to_finish i) =
     option_and_then (λ (v : View). option_and_then (λ (r : Run). option_and_then
-    (λ (e : TaskEnd). if (if is_done e then is_behind_last known.plan r else is_first_place known.plan r) then Some (after_finish s i v r e) else None)
-    (end_of known r.frame)) v.run) (seat_in s i)
+    (λ (e : TaskEnd). if is_behind_last known.plan r then Some (after_finish s i v r e) else None) (end_of known r.frame)) v.run) (seat_in s i)
 after_choice known s (to_look i) =
     option_and_then (λ (v : View). if is_none v.run && nat_le 1 (length known.plan.frames) then Some (after_look known s i v) else None) (seat_in s i)
 

@@ -1,12 +1,12 @@
 -- Which pieces of a plan count, and what a frame misses.
-use Rattle.std.specs.Prelude.{ℕ, ◌+◌, ◌-◌, ◌==◌, Bool, false, ◌&&◌, if◌then◌else◌, nat_lt, List, Option, is_none, count_by, slice_get}
+use Rattle.std.specs.Prelude.{ℕ, ◌+◌, ◌-◌, ◌==◌, Bool, ◌&&◌, List, Option, is_none, count_by, slice_get, false, if◌then◌else◌, nat_lt}
 use Rattle.std.specs.Option.{option_map_or}
 use Rattle.flow_core_laws.specs.declared.plan.Piece.{Piece}
-use Rattle.flow_core_laws.specs.declared.plan.Plan.{Plan}
-use Rattle.flow_core_laws.specs.Plans.{value_at, cells_of, piece_at}
 use Rattle.flow_core_concurrent.specs.declared.view.Run.{Run}
+use Rattle.flow_core_laws.specs.declared.plan.Plan.{Plan}
+use Rattle.flow_core_laws.specs.Plans.{held_at, cells_of, piece_at}
 use Rattle.flow_core_concurrent.specs.declared.word.Word.{Word}
-use Rattle.flow_core_concurrent.specs.Words.{word_at, has_delivered}
+use Rattle.flow_core_concurrent.specs.Words.{word_at, has_ended}
 
 -- a test as a number
 abbrev pub one : Bool → ℕ
@@ -25,26 +25,26 @@ abbrev pub has_stored : ℕ → ℕ → ℕ → Option Run → Bool
 has_stored frame number k run = option_map_or (λ (r : Run). r.frame == frame && r.piece == number && nat_lt k r.stored) run false
 
 -- How often the piece of a number counts, by the words and by what the seats run: once where its frame
--- is Done, and once for each run of its frame that stands past it.
+-- ended, whether with values or with poison, and once for each run of its frame that stands past it.
 abbrev pub counted : Plan → List Word → List (Option Run) → ℕ → ℕ
 counted plan words runs number =
-    option_map_or (λ (p : Piece). one (has_delivered (word_at words p.from)) + count_by (is_past p.from number) runs) (slice_get plan.pieces number) 0
+    option_map_or (λ (p : Piece). one (has_ended (word_at words p.from)) + count_by (is_past p.from number) runs) (slice_get plan.pieces number) 0
 
 -- How often element k of the piece of a number lies among the stored ones of the piece at which a seat stands.
-abbrev pub held : Plan → List (Option Run) → ℕ → ℕ → ℕ
-held plan runs cell number = option_map_or (λ (p : Piece). count_by (has_stored p.from number (cell - p.at)) runs) (slice_get plan.pieces number) 0
+abbrev pub underway : Plan → List (Option Run) → ℕ → ℕ → ℕ
+underway plan runs cell number = option_map_or (λ (p : Piece). count_by (has_stored p.from number (cell - p.at)) runs) (slice_get plan.pieces number) 0
 
 -- How often the piece counts that covers a cell, if any does.
 abbrev pub counted_at : Plan → List Word → List (Option Run) → ℕ → ℕ
 counted_at plan words runs cell = option_map_or (counted plan words runs) (piece_at plan cell) 0
 
 -- How often a cell lies among the stored ones of the piece at which a seat stands.
-abbrev pub held_at : Plan → List (Option Run) → ℕ → ℕ
-held_at plan runs cell = option_map_or (held plan runs cell) (piece_at plan cell) 0
+abbrev pub underway_at : Plan → List (Option Run) → ℕ → ℕ
+underway_at plan runs cell = option_map_or (underway plan runs cell) (piece_at plan cell) 0
 
--- whether a frame misses a cell: it had no value at opening, and its piece, if any, doesn't count
+-- whether a frame misses a cell: it held nothing at opening, and its piece, if any, doesn't count
 abbrev pub lacks_cell : Plan → List Word → List (Option Run) → ℕ → Bool
-lacks_cell plan words runs cell = is_none (value_at plan.filled cell) && counted_at plan words runs cell == 0
+lacks_cell plan words runs cell = is_none (held_at plan.filled cell) && counted_at plan words runs cell == 0
 
 -- How many of its cells a frame misses.
 abbrev pub lacking : Plan → List Word → List (Option Run) → ℕ → ℕ

@@ -1,19 +1,18 @@
--- Good states.
-use Rattle.std.specs.Prelude.{◌≡◌, ◌≢◌, ℕ, ℤ, ◌+◌, ◌-◌, ◌%◌, ◌<◌, ◌≤◌, true, false, not, ◌&&◌, Some, None, is_some, length, count_by, sum_by, slice_get}
+-- Good states of the concurrent core with poison.
+use Rattle.std.specs.Prelude.{◌≡◌, ◌≢◌, ℕ, ◌+◌, ◌-◌, ◌%◌, ◌<◌, ◌≤◌, true, false, not, ◌&&◌, Some, IsSome, is_some, length, count_by, sum_by, slice_get}
 use Rattle.flow_core_laws.specs.declared.plan.Piece.{Piece}
+use Rattle.flow_core_concurrent.specs.declared.view.Run.{Run}
+use Rattle.flow_core_concurrent.specs.States.{times, CoreState, fresh, runs_of, times_in_all}
+use Rattle.flow_core_concurrent.specs.Counted.{one, is_run_of, counted_at, underway_at, lacking}
 use Rattle.flow_core_laws.specs.declared.plan.Plan.{Plan}
 use Rattle.flow_core_laws.specs.declared.task_end.TaskEnd.{TaskEnd}
-use Rattle.flow_core_laws.specs.declared.task_end.TaskEnd.TheVariants.{Done}
-use Rattle.flow_core_laws.specs.Element.{element, fed}
-use Rattle.flow_core_laws.specs.Plans.{frame_at, value_at, cell_source}
+use Rattle.flow_core_laws.specs.Plans.{frame_at, held_at}
+use Rattle.flow_core_laws.specs.declared.elem.Elem.{Elem}
 use Rattle.flow_core_concurrent.specs.declared.known.Known.{Known}
-use Rattle.flow_core_concurrent.specs.declared.view.Run.{Run}
 use Rattle.flow_core_concurrent.specs.declared.view.View.{View}
 use Rattle.flow_core_concurrent.specs.declared.word.Word.TheVariants.{Wait, Ended}
 use Rattle.flow_core_concurrent.specs.Words.{word_at, opening_words, amount, waits, is_open, is_taken, is_started}
-use Rattle.flow_core_concurrent.specs.States.{CoreState, fresh, runs_of, times, times_in_all}
-use Rattle.flow_core_concurrent.specs.Counted.{one, is_run_of, counted_at, held_at, lacking}
-use Rattle.flow_core_concurrent.specs.Steps.{end_of, first_place, StandsAt, IsPastLast}
+use Rattle.flow_core_concurrent.specs.Steps.{end_of, meant_at, StandsAt, IsPastLast}
 
 -- A run is of a frame, and its place is one of that frame's: at a piece with at most all of its elements
 -- stored, or behind the last piece with none stored.
@@ -41,25 +40,20 @@ pub record IsGood (known : Known) (state : CoreState) : Type 0 where
   pub cells_of_plan : length state.cells ≡ length known.plan.filled
   pub views_are_sound : (seat : ℕ) (v : View) → slice_get state.seats seat ≡ Some v → IsView known v
   -- a cell is empty or holds the meaning's element, which is there
-  pub cells_hold_the_meaning : (c : ℕ) (value : ℤ) → value_at state.cells c ≡ Some value
-      → element known.meaning (cell_source known.plan c) ≡ Some value
+  pub cells_hold_the_meaning : (c : ℕ) (elem : Elem) → held_at state.cells c ≡ Some elem → meant_at known c ≡ Some elem
   -- a cell is filled exactly where it was at opening, or its piece is counted, or it lies among the stored
   -- elements of the piece at which a seat stands; and there only one of these holds
-  pub cells_are_filled_once : (c : ℕ) → one (is_some (value_at state.cells c))
-      ≡ one (is_some (value_at known.plan.filled c)) + counted_at known.plan state.words (runs_of state) c + held_at known.plan (runs_of state) c
+  pub cells_are_filled_once : (c : ℕ) → one (is_some (held_at state.cells c))
+      ≡ one (is_some (held_at known.plan.filled c)) + counted_at known.plan state.words (runs_of state) c + underway_at known.plan (runs_of state) c
   -- a frame that waits does so for the cells that it misses, at least one; every other one misses none
   pub words_count : (f : ℕ) → f ≤ length known.plan.frames → amount (word_at state.words f) ≡ lacking known.plan state.words (runs_of state) f
   pub waits_for_some : (f : ℕ) → word_at state.words f ≢ Wait 0
   -- a frame is Taken exactly where one seat runs it, and no frame is run by two
   pub taken_is_run_by_one : (f : ℕ) → count_by (is_run_of f) (runs_of state) ≡ one (is_taken (word_at state.words f))
-  -- an end is the meaning's, and where it isn't Done, no cell holds an element of that frame
+  -- an end is the meaning's
   pub ends_are_meant : (f : ℕ) (end : TaskEnd) → word_at state.words f ≡ Ended end → end_of known f ≡ Some end
-  pub only_done_delivers : (f c k : ℕ) (end : TaskEnd) → word_at state.words f ≡ Ended end → end ≢ Done → cell_source known.plan c ≡ fed f k
-      → value_at state.cells c ≡ None
-  -- a seat that gave something runs a frame whose meaning is Done
-  pub only_done_stores : (seat : ℕ) (v : View) (r : Run) → slice_get state.seats seat ≡ Some v → v.run ≡ Some r
-      → r ≢ first_place known.plan r.frame
-      → end_of known r.frame ≡ Some Done
+  -- a frame that a seat runs has an end in the meaning
+  pub runs_have_ends : (seat : ℕ) (v : View) (r : Run) → slice_get state.seats seat ≡ Some v → v.run ≡ Some r → IsSome (end_of known r.frame)
   -- the seats together made each frame once that waited at opening and doesn't wait now, and no other
   pub made_once : (f : ℕ) → times_in_all (λ v. v.made) state f
       ≡ one (waits (word_at (opening_words known.plan) f) && not (waits (word_at state.words f)))

@@ -1,33 +1,37 @@
--- The laws of the core, as statements.
-use Rattle.std.specs.Prelude.{◌≡◌, ℕ, ℤ, ◌+◌, ◌<◌, ◌≤◌, true, false, List, Some, None, is_some, length, slice_get, ⊤}
+-- The laws of the core with poison, as statements.
+use Rattle.std.specs.Prelude.{◌≡◌, ℕ, ℤ, ◌+◌, ◌<◌, ◌≤◌, true, false, List, Some, None, IsSome, is_some, length, map, slice_get, ⊤}
 use Rattle.std.specs.Option.{option_map}
-use Rattle.flow_core_laws.specs.declared.outcome.Outcome.{Outcome}
 use Rattle.flow_core_laws.specs.declared.plan.Piece.{Piece}
+use Rattle.flow_core_laws.specs.Outcome.{outcome_at, State}
+use Rattle.flow_core_laws.specs.Round.{IsEnabled, gathered, inputs_in}
+use Rattle.flow_core_laws.specs.Laws.{Reached}
+use Rattle.flow_core_concurrent.specs.declared.view.Run.{Run}
+use Rattle.flow_core_concurrent.specs.States.{times, CoreState, IsSeat, opening, runs_of, times_in_all, knows}
+use Rattle.flow_core_concurrent.specs.Counted.{one, counted_at}
+use Rattle.flow_core_concurrent.specs.Choices.{Choice, after_choice, choice_of, reached_by}
+use Rattle.flow_core_laws.specs.declared.outcome.Outcome.{Outcome}
 use Rattle.flow_core_laws.specs.declared.task_end.TaskEnd.{TaskEnd}
 use Rattle.flow_core_laws.specs.declared.task_end.TaskEnd.TheVariants.{Done, Trapped}
-use Rattle.flow_core_laws.specs.Outcome.{State, outcome_at}
-use Rattle.flow_core_laws.specs.Element.{element, output_at}
-use Rattle.flow_core_laws.specs.Round.{IsEnabled}
-use Rattle.flow_core_laws.specs.Plans.{frame_at, value_at, cell_source, plan_reads, plan_meaning}
+use Rattle.flow_core_laws.specs.Plans.{plan_element, frame_at, held_at, cells_of, cell_source, plan_reads, plan_meaning}
 use Rattle.flow_core_laws.specs.IsSound.{IsSound, HasCell}
 use Rattle.flow_core_laws.specs.Serves.{Serves}
-use Rattle.flow_core_laws.specs.Laws.{Reached}
+use Rattle.flow_core_laws.specs.declared.elem.Elem.{Elem}
+use Rattle.flow_core_laws.specs.Poisoning.{poisoning}
 use Rattle.flow_core_concurrent.specs.declared.known.Known.{Known}
-use Rattle.flow_core_concurrent.specs.declared.view.Run.{Run}
 use Rattle.flow_core_concurrent.specs.declared.view.View.{View}
 use Rattle.flow_core_concurrent.specs.declared.word.Word.TheVariants.{Wait, Ended}
 use Rattle.flow_core_concurrent.specs.Words.{word_at, opening_words, waits, is_open, is_started, end_in}
-use Rattle.flow_core_concurrent.specs.States.{CoreState, IsSeat, opening, runs_of, times, times_in_all, knows}
-use Rattle.flow_core_concurrent.specs.Steps.{end_of, CanSplit, after_split, CanJoin, after_join, CanClaim, after_claim, CanRead, CanStore, after_store, CanSub, after_sub, CanFinish, after_finish, CanLook, after_look, Step}
-use Rattle.flow_core_concurrent.specs.Counted.{one, counted_at}
+use Rattle.flow_core_concurrent.specs.Steps.{end_of, meant_at, output_of, CanSplit, after_split, CanJoin, after_join, CanClaim, after_claim, CanRead, CanStore, after_store, CanSub, after_sub, CanFinish, after_finish, CanLook, after_look, Step}
 use Rattle.flow_core_concurrent.specs.IsGood.{IsGood, IsLast}
 use Rattle.flow_core_concurrent.specs.Ways.{Way, stores}
-use Rattle.flow_core_concurrent.specs.Choices.{Choice, after_choice, choice_of, reached_by}
 
--- What is known of a run is fit: the plan is sound, a frame that is Done has all its outputs, and traps have
--- codes 1 to 8.
+-- What is known of a run is fit: the plan is sound, a frame whose inputs are all there has an outcome, one that is Done
+-- has all its outputs, and traps have codes 1 to 8.
 pub record IsFit (known : Known) : Type 0 where
   pub plan_is_sound : IsSound known.plan
+  pub full_has_outcome : (f : ℕ) (inputs : List Elem) → f < length known.plan.frames
+      → inputs_in (plan_element known.plan) (plan_reads known.plan) known.meaning f ≡ Some inputs
+      → IsSome (outcome_at known.meaning f)
   pub done_has_outputs : (f : ℕ) (o : Outcome) → f < length known.plan.frames → outcome_at known.meaning f ≡ Some o → o.end ≡ Done
       → length o.outputs ≡ (frame_at known.plan f).outputs
   pub traps_have_codes : (f : ℕ) (o : Outcome) (code line : ℕ) → f < length known.plan.frames → outcome_at known.meaning f ≡ Some o
@@ -92,19 +96,27 @@ StepsKeepGood = (known : Known) (old new : CoreState) → IsFit known → IsGood
 abbrev pub ReachedIsGood : Type 0
 ReachedIsGood = (known : Known) (state : CoreState) → IsFit known → Way known state → IsGood known state
 
--- what a READ gives is there, and is the meaning's element
+-- what a READ gives is there, and is the meaning's element, a value or poison
 abbrev pub ReadsTheMeaning : Type 0
 ReadsTheMeaning =
     (known : Known) (state : CoreState) (seat : ℕ) (view : View) (run : Run) (cell : ℕ) → IsFit known → IsGood known state
-    → CanRead known state seat view run cell → (value : ℤ) × (value_at state.cells cell ≡ Some value)
-    × (element known.meaning (cell_source known.plan cell) ≡ Some value)
+    → CanRead known state seat view run cell → (elem : Elem) × (held_at state.cells cell ≡ Some elem) × (meant_at known cell ≡ Some elem)
 
--- a STORE finds its cell empty, and has a value for it
+-- What a frame that a seat runs reads is all there, and decides its end: its outcome in the meaning is that of what it reads,
+-- poisoned by the least root among these elements, or else what its body makes of their values.
+abbrev pub ReadsDecideTheEnd : Type 0
+ReadsDecideTheEnd =
+    (known : Known) (outcome : ℕ → List ℤ → Outcome) (state : CoreState) (seat : ℕ) (view : View) (run : Run) → IsFit known → IsMeant known outcome
+    → IsGood known state → slice_get state.seats seat ≡ Some view → view.run ≡ Some run
+    → (inputs : List Elem) × (gathered (map (held_at state.cells) (cells_of known.plan run.frame)) ≡ Some inputs)
+    × (outcome_at known.meaning run.frame ≡ Some (poisoning outcome run.frame inputs))
+
+-- a STORE finds its cell empty, and has an element for it
 abbrev pub StoresIntoEmpty : Type 0
 StoresIntoEmpty =
     (known : Known) (state : CoreState) (seat : ℕ) (view : View) (run : Run) (piece : Piece) → IsFit known → IsGood known state
-    → CanStore known state seat view run piece → (value_at state.cells (piece.at + run.stored) ≡ None)
-    × ((value : ℤ) × (output_at known.meaning run.frame (piece.first + run.stored) ≡ Some value))
+    → CanStore known state seat view run piece → (held_at state.cells (piece.at + run.stored) ≡ None)
+    × ((elem : Elem) × (output_of known run.frame (piece.first + run.stored) ≡ Some elem))
 
 -- a SUB finds a frame that waits for at least as many elements as come
 abbrev pub SubFindsItsCount : Type 0
@@ -139,13 +151,13 @@ abbrev pub ClaimFindsItsCells : Type 0
 ClaimFindsItsCells =
     (known : Known) (state : CoreState) (f c : ℕ) → IsFit known → IsGood known state → is_open (word_at state.words f) ≡ true
     → f < length known.plan.frames
-    → HasCell known.plan f c → one (is_some (value_at known.plan.filled c)) + counted_at known.plan state.words (runs_of state) c ≡ 1
+    → HasCell known.plan f c → one (is_some (held_at known.plan.filled c)) + counted_at known.plan state.words (runs_of state) c ≡ 1
 
 -- on every way from opening a cell that is filled was filled at opening or stored into exactly once
 abbrev pub IsStoredOnce : Type 0
 IsStoredOnce =
     (known : Known) (state : CoreState) (way : Way known state) (c : ℕ) → IsFit known
-    → one (is_some (value_at state.cells c)) ≡ one (is_some (value_at known.plan.filled c)) + stores known state c way
+    → one (is_some (held_at state.cells c)) ≡ one (is_some (held_at known.plan.filled c)) + stores known state c way
 
 -- a frame that was claimed stays so: it is never Open again
 abbrev pub StartedStays : Type 0
@@ -170,13 +182,14 @@ KnownWaitsNoMore =
 -- it, it is the meaning.
 pub record IsInOrder (known : Known) (state : CoreState) (outcome : ℕ → List ℤ → Outcome) : Type 0 where
   pub outcomes : State
-  pub ran_in_order : Reached element (plan_reads known.plan) outcome (length known.plan.frames) outcomes
+  pub ran_in_order : Reached (plan_element known.plan) (plan_reads known.plan) (poisoning outcome) (length known.plan.frames) outcomes
   pub of_the_claimed : (f : ℕ) → f < length known.plan.frames → is_some (outcome_at outcomes f) ≡ is_started (word_at state.words f)
   pub has_the_ends : (f : ℕ) (end : TaskEnd) → f < length known.plan.frames → word_at state.words f ≡ Ended end
       → option_map (λ (o : Outcome). o.end) (outcome_at outcomes f) ≡ Some end
-  pub has_the_elements : (c : ℕ) (value : ℤ) → value_at state.cells c ≡ Some value → element outcomes (cell_source known.plan c) ≡ Some value
+  pub has_the_elements : (c : ℕ) (elem : Elem) → held_at state.cells c ≡ Some elem
+      → plan_element known.plan outcomes (cell_source known.plan c) ≡ Some elem
   pub agrees : (f : ℕ) (o : Outcome) → outcome_at outcomes f ≡ Some o → outcome_at (plan_meaning known.plan outcome) f ≡ Some o
-  pub ends_there : ((f : ℕ) → f < length known.plan.frames → ¬ (IsEnabled element (plan_reads known.plan) outcomes f))
+  pub ends_there : ((f : ℕ) → f < length known.plan.frames → ¬ (IsEnabled (plan_element known.plan) (plan_reads known.plan) outcomes f))
       → outcomes ≡ plan_meaning known.plan outcome
 
 abbrev pub RunsAreConfluent : Type 0
@@ -188,7 +201,7 @@ RunsAreConfluent =
 -- or none.
 pub record IsComplete (known : Known) (state : CoreState) : Type 0 where
   pub ends : (f : ℕ) → f < length known.plan.frames → end_in (word_at state.words f) ≡ end_of known f
-  pub cells : (c : ℕ) → value_at state.cells c ≡ element known.meaning (cell_source known.plan c)
+  pub cells : (c : ℕ) → held_at state.cells c ≡ meant_at known c
 
 abbrev pub LeavesNothing : Type 0
 LeavesNothing =

@@ -1,16 +1,25 @@
--- States of the concurrent core.
-use Rattle.std.specs.Prelude.{◌≡◌, ℕ, ℤ, ◌==◌, ◌≤◌, Bool, not, ◌||◌, List, [], ◌∷◌, Option, Some, None, map, count_by, sum_by, slice_get}
-use Rattle.flow_core_concurrent.specs.declared.known.Known.{Known}
+-- States of the concurrent core with poison.
+use Rattle.std.specs.Prelude.{[], ◌≡◌, ℕ, ◌≤◌, Bool, ◌||◌, List, ◌∷◌, Option, Some, None, map, sum_by, slice_get, ◌==◌, not, count_by}
 use Rattle.flow_core_concurrent.specs.declared.view.Run.{Run}
+use Rattle.flow_core_laws.specs.declared.elem.Elem.{Elem}
+use Rattle.flow_core_concurrent.specs.declared.known.Known.{Known}
 use Rattle.flow_core_concurrent.specs.declared.view.View.{View}
 use Rattle.flow_core_concurrent.specs.declared.word.Word.{Word}
 use Rattle.flow_core_concurrent.specs.Words.{word_at, is_open, opening_words}
 
--- A state has a word for each frame and for the sink, a value or none for each cell, and the view of
+-- how often a frame stands in a list
+abbrev pub times : ℕ → List ℕ → ℕ
+times frame frames = count_by (λ f. f == frame) frames
+
+-- whether a frame stands in a list
+abbrev pub has : List ℕ → ℕ → Bool
+has frames frame = not (times frame frames == 0)
+
+-- A state has a word for each frame and for the sink, an element or none for each cell, which is a value or poison, and the view of
 -- each seat. A seat without shares is spent.
 pub record CoreState : Type 0 where
   pub words : List Word
-  pub cells : List (Option ℤ)
+  pub cells : List (Option Elem)
   pub seats : List View
 
 -- A seat that isn't spent, with its view.
@@ -30,17 +39,9 @@ opening known = record { words = opening_words known.plan; cells = known.plan.fi
 abbrev pub runs_of : CoreState → List (Option Run)
 runs_of state = map (λ (v : View). v.run) state.seats
 
--- how often a frame stands in a list
-abbrev pub times : ℕ → List ℕ → ℕ
-times frame frames = count_by (λ f. f == frame) frames
-
 -- how often a frame stands in the lists of this kind of all seats
 abbrev pub times_in_all : (View → List ℕ) → CoreState → ℕ → ℕ
 times_in_all list state frame = sum_by (λ (v : View). times frame (list v)) state.seats
-
--- whether a frame stands in a list
-abbrev pub has : List ℕ → ℕ → Bool
-has frames frame = not (times frame frames == 0)
 
 -- A seat knows a frame that was Open at opening, and one that it made or found.
 abbrev pub knows : View → ℕ → Bool

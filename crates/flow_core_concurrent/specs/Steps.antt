@@ -3,16 +3,16 @@
 use Rattle.std.specs.Prelude.{◌≡◌, ◌≢◌, ℕ, ◌+◌, ◌-◌, ◌%◌, ◌==◌, ◌<◌, ◌≤◌, Bool, if◌then◌else◌, List, [], ◌∷◌, ◌++◌, Option, Some, None, length, slice_get, slice_set}
 use Rattle.std.specs.Option.{option_map}
 use Rattle.flow_core_laws.specs.declared.plan.Piece.{Piece}
+use Rattle.flow_core_laws.specs.Outcome.{outcome_at}
+use Rattle.flow_core_concurrent.specs.declared.view.Run.{Run}
 use Rattle.flow_core_laws.specs.declared.plan.Plan.{Plan}
 use Rattle.flow_core_laws.specs.declared.task_end.TaskEnd.{TaskEnd}
-use Rattle.flow_core_laws.specs.declared.task_end.TaskEnd.TheVariants.{Done}
+use Rattle.flow_core_laws.specs.declared.elem.Elem.{Elem}
 use Rattle.flow_core_laws.specs.declared.outcome.Outcome.{Outcome}
-use Rattle.flow_core_laws.specs.Outcome.{outcome_at}
 use Rattle.flow_core_laws.specs.Element.{output_at}
-use Rattle.flow_core_laws.specs.Plans.{frame_at}
+use Rattle.flow_core_laws.specs.Plans.{frame_at, number_at, cell_source, plan_element}
 use Rattle.flow_core_laws.specs.IsSound.{HasCell}
 use Rattle.flow_core_concurrent.specs.declared.known.Known.{Known}
-use Rattle.flow_core_concurrent.specs.declared.view.Run.{Run}
 use Rattle.flow_core_concurrent.specs.declared.view.View.{View}
 use Rattle.flow_core_concurrent.specs.declared.word.Word.TheVariants.{Taken, Ended}
 use Rattle.flow_core_concurrent.specs.Words.{word_at, is_open, waits_for, lowered}
@@ -21,6 +21,14 @@ use Rattle.flow_core_concurrent.specs.States.{CoreState, IsSeat, fresh, knows}
 -- The end of a frame in the meaning, if it has one.
 abbrev pub end_of : Known → ℕ → Option TaskEnd
 end_of known frame = option_map (λ (o : Outcome). o.end) (outcome_at known.meaning frame)
+
+-- The element that the meaning has for a cell, a value or poison, if it is there.
+abbrev pub meant_at : Known → ℕ → Option Elem
+meant_at known cell = plan_element known.plan known.meaning (cell_source known.plan cell)
+
+-- The output element that a frame has at a place in the meaning: its value where it is Done, and else poison.
+abbrev pub output_of : Known → ℕ → ℕ → Option Elem
+output_of known frame place = output_at (number_at known.plan) known.meaning frame place
 
 -- The place of a run of which nothing was given: the first piece of the frame with none stored.
 abbrev pub first_place : Plan → ℕ → Run
@@ -115,12 +123,11 @@ pub record CanRead (known : Known) (state : CoreState) (seat : ℕ) (view : View
   pub gave_nothing : run ≡ first_place known.plan run.frame
   pub is_its_cell : HasCell known.plan run.frame cell
 
--- STORE: where the meaning of the running frame is Done, the next cell of the piece at which the seat
--- stands gets the meaning's element.
+-- STORE: the next cell of the piece at which the seat stands gets the meaning's element: a value where the running
+-- frame is Done, and else poison.
 pub record CanStore (known : Known) (state : CoreState) (seat : ℕ) (view : View) (run : Run) (piece : Piece) : Type 0 where
   pub is_seat : IsSeat state seat view
   pub runs : view.run ≡ Some run
-  pub is_done : end_of known run.frame ≡ Some Done
   pub stands : StandsAt known.plan run piece
   pub has_more : run.stored < piece.count
 
@@ -130,7 +137,7 @@ stored view run = record view { run = Some (record run { stored = run.stored + 1
 abbrev pub after_store : Known → CoreState → ℕ → View → Run → Piece → CoreState
 after_store known state seat view run piece = record {
   words = state.words;
-  cells = slice_set state.cells (piece.at + run.stored) (output_at known.meaning run.frame (piece.first + run.stored));
+  cells = slice_set state.cells (piece.at + run.stored) (output_of known run.frame (piece.first + run.stored));
   seats = slice_set state.seats seat (stored view run);
 }
 
@@ -156,14 +163,12 @@ after_sub state seat view run piece = record {
   seats = slice_set state.seats seat (with_sub view run piece.to (waits_for piece.count (word_at state.words piece.to)));
 }
 
--- FINISH with the meaning's end of the running frame: where that is Done all pieces are given, and else
--- nothing is.
+-- FINISH with the meaning's end of the running frame, whatever it is, where all its pieces are given.
 pub record CanFinish (known : Known) (state : CoreState) (seat : ℕ) (view : View) (run : Run) (end : TaskEnd) : Type 0 where
   pub is_seat : IsSeat state seat view
   pub runs : view.run ≡ Some run
   pub is_meant : end_of known run.frame ≡ Some end
-  pub gave_all : end ≡ Done → IsPastLast known.plan run
-  pub gave_nothing : end ≢ Done → run ≡ first_place known.plan run.frame
+  pub gave_all : IsPastLast known.plan run
 
 abbrev pub finished : View → View
 finished view = record view { run = None }

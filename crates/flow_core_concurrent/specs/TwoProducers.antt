@@ -1,6 +1,7 @@
 -- Two producers and a consumer that two seats run, in two orders that meet. Frame 0 gives 5, frame 1 gives
 -- 7, frame 2 reads both and gives the first, and the sink has that element.
 use Rattle.std.specs.Prelude.{ℕ, ℤ, pos, ◌==◌, if◌then◌else◌, List, [], ◌∷◌, Some, None, take}
+use Rattle.flow_core_concurrent.specs.Choices.{Choice, to_split, to_join, to_claim, to_read, to_store, to_sub, to_finish, to_look}
 use Rattle.flow_core_laws.specs.declared.outcome.Outcome.{Outcome}
 use Rattle.flow_core_laws.specs.declared.plan.Plan.{Plan}
 use Rattle.flow_core_laws.specs.declared.task_end.TaskEnd.TheVariants.{Done}
@@ -8,8 +9,7 @@ use Rattle.flow_core_laws.specs.Outcome.{outcome_of}
 use Rattle.flow_core_concurrent.specs.declared.known.Known.{Known}
 use Rattle.flow_core_concurrent.specs.declared.word.Word.TheVariants.{Wait, Open, Taken, Ended}
 use Rattle.flow_core_concurrent.specs.States.{CoreState, fresh}
-use Rattle.flow_core_concurrent.specs.Choices.{Choice, to_split, to_join, to_claim, to_read, to_store, to_sub, to_finish, to_look}
-use Rattle.flow_core_concurrent.specs.Tables.{at, seat, state}
+use Rattle.flow_core_concurrent.specs.Tables.{value, at, seat, state}
 
 abbrev pub plan : Plan
 plan = record {
@@ -22,6 +22,7 @@ plan = record {
       (record { from = 0; to = 2; first = 0; count = 1; at = 0 }) ∷ (record { from = 1; to = 2; first = 0; count = 1; at = 1 })
       ∷ (record { from = 2; to = 3; first = 0; count = 1; at = 2 }) ∷ [];
   filled = None ∷ None ∷ None ∷ [];
+  numbers = 0 ∷ 1 ∷ 2 ∷ [];
 }
 
 abbrev pub outcome : ℕ → List ℤ → Outcome
@@ -58,37 +59,37 @@ states =
     (seat known (at 0 0 0) [] (0 ∷ []) [] [] [] 0 1 ∷ seat known None [] [] [] [] [] 0 1 ∷ [])
     ∷ state (Taken ∷ Taken ∷ Wait 2 ∷ Wait 1 ∷ []) (None ∷ None ∷ None ∷ [])
     (seat known (at 0 0 0) [] (0 ∷ []) [] [] [] 0 1 ∷ seat known (at 1 1 0) [] (1 ∷ []) [] [] [] 0 1 ∷ [])
-    ∷ state (Taken ∷ Taken ∷ Wait 2 ∷ Wait 1 ∷ []) (Some (pos 5) ∷ None ∷ None ∷ [])
+    ∷ state (Taken ∷ Taken ∷ Wait 2 ∷ Wait 1 ∷ []) (value 5 ∷ None ∷ None ∷ [])
     (seat known (at 0 0 1) [] (0 ∷ []) [] [] [] 0 1 ∷ seat known (at 1 1 0) [] (1 ∷ []) [] [] [] 0 1 ∷ [])
-    ∷ state (Taken ∷ Taken ∷ Wait 1 ∷ Wait 1 ∷ []) (Some (pos 5) ∷ None ∷ None ∷ [])
+    ∷ state (Taken ∷ Taken ∷ Wait 1 ∷ Wait 1 ∷ []) (value 5 ∷ None ∷ None ∷ [])
     (seat known (at 0 1 0) [] (0 ∷ []) [] [] [] 0 1 ∷ seat known (at 1 1 0) [] (1 ∷ []) [] [] [] 0 1 ∷ [])
-    ∷ state (Ended Done ∷ Taken ∷ Wait 1 ∷ Wait 1 ∷ []) (Some (pos 5) ∷ None ∷ None ∷ [])
+    ∷ state (Ended Done ∷ Taken ∷ Wait 1 ∷ Wait 1 ∷ []) (value 5 ∷ None ∷ None ∷ [])
     (seat known None [] (0 ∷ []) [] [] [] 0 1 ∷ seat known (at 1 1 0) [] (1 ∷ []) [] [] [] 0 1 ∷ [])
-    ∷ state (Ended Done ∷ Taken ∷ Wait 1 ∷ Wait 1 ∷ []) (Some (pos 5) ∷ Some (pos 7) ∷ None ∷ [])
+    ∷ state (Ended Done ∷ Taken ∷ Wait 1 ∷ Wait 1 ∷ []) (value 5 ∷ value 7 ∷ None ∷ [])
     (seat known None [] (0 ∷ []) [] [] [] 0 1 ∷ seat known (at 1 1 1) [] (1 ∷ []) [] [] [] 0 1 ∷ [])
-    ∷ state (Ended Done ∷ Taken ∷ Open ∷ Wait 1 ∷ []) (Some (pos 5) ∷ Some (pos 7) ∷ None ∷ [])
+    ∷ state (Ended Done ∷ Taken ∷ Open ∷ Wait 1 ∷ []) (value 5 ∷ value 7 ∷ None ∷ [])
     (seat known None [] (0 ∷ []) [] [] [] 0 1 ∷ seat known (at 1 2 0) (2 ∷ []) (1 ∷ []) [] [] [] 0 1 ∷ [])
-    ∷ state (Ended Done ∷ Ended Done ∷ Open ∷ Wait 1 ∷ []) (Some (pos 5) ∷ Some (pos 7) ∷ None ∷ [])
+    ∷ state (Ended Done ∷ Ended Done ∷ Open ∷ Wait 1 ∷ []) (value 5 ∷ value 7 ∷ None ∷ [])
     (seat known None [] (0 ∷ []) [] [] [] 0 1 ∷ seat known None (2 ∷ []) (1 ∷ []) [] [] [] 0 1 ∷ [])
-    ∷ state (Ended Done ∷ Ended Done ∷ Open ∷ Wait 1 ∷ []) (Some (pos 5) ∷ Some (pos 7) ∷ None ∷ [])
+    ∷ state (Ended Done ∷ Ended Done ∷ Open ∷ Wait 1 ∷ []) (value 5 ∷ value 7 ∷ None ∷ [])
     (seat known None (2 ∷ []) (0 ∷ 1 ∷ []) [] [] [] 0 2 ∷ fresh known 0 ∷ [])
-    ∷ state (Ended Done ∷ Ended Done ∷ Taken ∷ Wait 1 ∷ []) (Some (pos 5) ∷ Some (pos 7) ∷ None ∷ [])
+    ∷ state (Ended Done ∷ Ended Done ∷ Taken ∷ Wait 1 ∷ []) (value 5 ∷ value 7 ∷ None ∷ [])
     (seat known (at 2 2 0) (2 ∷ []) (0 ∷ 1 ∷ 2 ∷ []) [] [] [] 0 2 ∷ fresh known 0 ∷ [])
-    ∷ state (Ended Done ∷ Ended Done ∷ Taken ∷ Wait 1 ∷ []) (Some (pos 5) ∷ Some (pos 7) ∷ None ∷ [])
+    ∷ state (Ended Done ∷ Ended Done ∷ Taken ∷ Wait 1 ∷ []) (value 5 ∷ value 7 ∷ None ∷ [])
     (seat known (at 2 2 0) (2 ∷ []) (0 ∷ 1 ∷ 2 ∷ []) [] [] [] 0 2 ∷ fresh known 0 ∷ [])
-    ∷ state (Ended Done ∷ Ended Done ∷ Taken ∷ Wait 1 ∷ []) (Some (pos 5) ∷ Some (pos 7) ∷ None ∷ [])
+    ∷ state (Ended Done ∷ Ended Done ∷ Taken ∷ Wait 1 ∷ []) (value 5 ∷ value 7 ∷ None ∷ [])
     (seat known (at 2 2 0) (2 ∷ []) (0 ∷ 1 ∷ 2 ∷ []) [] [] [] 0 2 ∷ fresh known 0 ∷ [])
-    ∷ state (Ended Done ∷ Ended Done ∷ Taken ∷ Wait 1 ∷ []) (Some (pos 5) ∷ Some (pos 7) ∷ Some (pos 5) ∷ [])
+    ∷ state (Ended Done ∷ Ended Done ∷ Taken ∷ Wait 1 ∷ []) (value 5 ∷ value 7 ∷ value 5 ∷ [])
     (seat known (at 2 2 1) (2 ∷ []) (0 ∷ 1 ∷ 2 ∷ []) [] [] [] 0 2 ∷ fresh known 0 ∷ [])
-    ∷ state (Ended Done ∷ Ended Done ∷ Taken ∷ Open ∷ []) (Some (pos 5) ∷ Some (pos 7) ∷ Some (pos 5) ∷ [])
+    ∷ state (Ended Done ∷ Ended Done ∷ Taken ∷ Open ∷ []) (value 5 ∷ value 7 ∷ value 5 ∷ [])
     (seat known (at 2 3 0) (2 ∷ 3 ∷ []) (0 ∷ 1 ∷ 2 ∷ []) [] [] [] 0 2 ∷ fresh known 0 ∷ [])
-    ∷ state (Ended Done ∷ Ended Done ∷ Ended Done ∷ Open ∷ []) (Some (pos 5) ∷ Some (pos 7) ∷ Some (pos 5) ∷ [])
+    ∷ state (Ended Done ∷ Ended Done ∷ Ended Done ∷ Open ∷ []) (value 5 ∷ value 7 ∷ value 5 ∷ [])
     (seat known None (2 ∷ 3 ∷ []) (0 ∷ 1 ∷ 2 ∷ []) [] [] [] 0 2 ∷ fresh known 0 ∷ [])
-    ∷ state (Ended Done ∷ Ended Done ∷ Ended Done ∷ Open ∷ []) (Some (pos 5) ∷ Some (pos 7) ∷ Some (pos 5) ∷ [])
+    ∷ state (Ended Done ∷ Ended Done ∷ Ended Done ∷ Open ∷ []) (value 5 ∷ value 7 ∷ value 5 ∷ [])
     (seat known None (2 ∷ 3 ∷ []) (0 ∷ 1 ∷ 2 ∷ []) [] [] (0 ∷ []) 1 2 ∷ fresh known 0 ∷ [])
-    ∷ state (Ended Done ∷ Ended Done ∷ Ended Done ∷ Open ∷ []) (Some (pos 5) ∷ Some (pos 7) ∷ Some (pos 5) ∷ [])
+    ∷ state (Ended Done ∷ Ended Done ∷ Ended Done ∷ Open ∷ []) (value 5 ∷ value 7 ∷ value 5 ∷ [])
     (seat known None (2 ∷ 3 ∷ []) (0 ∷ 1 ∷ 2 ∷ []) [] [] (0 ∷ 1 ∷ []) 2 2 ∷ fresh known 0 ∷ [])
-    ∷ state (Ended Done ∷ Ended Done ∷ Ended Done ∷ Open ∷ []) (Some (pos 5) ∷ Some (pos 7) ∷ Some (pos 5) ∷ [])
+    ∷ state (Ended Done ∷ Ended Done ∷ Ended Done ∷ Open ∷ []) (value 5 ∷ value 7 ∷ value 5 ∷ [])
     (seat known None (2 ∷ 3 ∷ []) (0 ∷ 1 ∷ 2 ∷ []) [] [] (0 ∷ 1 ∷ 2 ∷ []) 3 2 ∷ fresh known 0 ∷ [])
     ∷ []
 
@@ -99,18 +100,18 @@ other_states =
     (seat known None [] [] [] [] [] 0 1 ∷ seat known (at 1 1 0) [] (1 ∷ []) [] [] [] 0 1 ∷ [])
     ∷ state (Taken ∷ Taken ∷ Wait 2 ∷ Wait 1 ∷ []) (None ∷ None ∷ None ∷ [])
     (seat known (at 0 0 0) [] (0 ∷ []) [] [] [] 0 1 ∷ seat known (at 1 1 0) [] (1 ∷ []) [] [] [] 0 1 ∷ [])
-    ∷ state (Taken ∷ Taken ∷ Wait 2 ∷ Wait 1 ∷ []) (None ∷ Some (pos 7) ∷ None ∷ [])
+    ∷ state (Taken ∷ Taken ∷ Wait 2 ∷ Wait 1 ∷ []) (None ∷ value 7 ∷ None ∷ [])
     (seat known (at 0 0 0) [] (0 ∷ []) [] [] [] 0 1 ∷ seat known (at 1 1 1) [] (1 ∷ []) [] [] [] 0 1 ∷ [])
-    ∷ state (Taken ∷ Taken ∷ Wait 2 ∷ Wait 1 ∷ []) (Some (pos 5) ∷ Some (pos 7) ∷ None ∷ [])
+    ∷ state (Taken ∷ Taken ∷ Wait 2 ∷ Wait 1 ∷ []) (value 5 ∷ value 7 ∷ None ∷ [])
     (seat known (at 0 0 1) [] (0 ∷ []) [] [] [] 0 1 ∷ seat known (at 1 1 1) [] (1 ∷ []) [] [] [] 0 1 ∷ [])
-    ∷ state (Taken ∷ Taken ∷ Wait 1 ∷ Wait 1 ∷ []) (Some (pos 5) ∷ Some (pos 7) ∷ None ∷ [])
+    ∷ state (Taken ∷ Taken ∷ Wait 1 ∷ Wait 1 ∷ []) (value 5 ∷ value 7 ∷ None ∷ [])
     (seat known (at 0 0 1) [] (0 ∷ []) [] [] [] 0 1 ∷ seat known (at 1 2 0) [] (1 ∷ []) [] [] [] 0 1 ∷ [])
-    ∷ state (Taken ∷ Taken ∷ Open ∷ Wait 1 ∷ []) (Some (pos 5) ∷ Some (pos 7) ∷ None ∷ [])
+    ∷ state (Taken ∷ Taken ∷ Open ∷ Wait 1 ∷ []) (value 5 ∷ value 7 ∷ None ∷ [])
     (seat known (at 0 1 0) (2 ∷ []) (0 ∷ []) [] [] [] 0 1 ∷ seat known (at 1 2 0) [] (1 ∷ []) [] [] [] 0 1 ∷ [])
-    ∷ state (Ended Done ∷ Taken ∷ Open ∷ Wait 1 ∷ []) (Some (pos 5) ∷ Some (pos 7) ∷ None ∷ [])
+    ∷ state (Ended Done ∷ Taken ∷ Open ∷ Wait 1 ∷ []) (value 5 ∷ value 7 ∷ None ∷ [])
     (seat known None (2 ∷ []) (0 ∷ []) [] [] [] 0 1 ∷ seat known (at 1 2 0) [] (1 ∷ []) [] [] [] 0 1 ∷ [])
-    ∷ state (Ended Done ∷ Ended Done ∷ Open ∷ Wait 1 ∷ []) (Some (pos 5) ∷ Some (pos 7) ∷ None ∷ [])
+    ∷ state (Ended Done ∷ Ended Done ∷ Open ∷ Wait 1 ∷ []) (value 5 ∷ value 7 ∷ None ∷ [])
     (seat known None (2 ∷ []) (0 ∷ []) [] [] [] 0 1 ∷ seat known None [] (1 ∷ []) [] [] [] 0 1 ∷ [])
-    ∷ state (Ended Done ∷ Ended Done ∷ Open ∷ Wait 1 ∷ []) (Some (pos 5) ∷ Some (pos 7) ∷ None ∷ [])
+    ∷ state (Ended Done ∷ Ended Done ∷ Open ∷ Wait 1 ∷ []) (value 5 ∷ value 7 ∷ None ∷ [])
     (seat known None (2 ∷ []) (0 ∷ 1 ∷ []) [] [] [] 0 2 ∷ fresh known 0 ∷ [])
     ∷ []

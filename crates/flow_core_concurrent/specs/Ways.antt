@@ -1,9 +1,9 @@
 -- The states that steps reach from opening, and what of the meaning they show.
 use Rattle.std.specs.Prelude.{ℕ, ◌+◌, ◌==◌, Bool, false}
+use Rattle.flow_core_concurrent.specs.Counted.{one}
 use Rattle.flow_core_concurrent.specs.declared.known.Known.{Known}
 use Rattle.flow_core_concurrent.specs.States.{CoreState, opening}
 use Rattle.flow_core_concurrent.specs.Steps.{Step, split, join, claim, read, store, sub, finish, look}
-use Rattle.flow_core_concurrent.specs.Counted.{one}
 
 -- A way from opening to a state, by steps of any seats in any order.
 pub data Way (known : Known) : CoreState → Type 0 where

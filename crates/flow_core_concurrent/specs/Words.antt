@@ -3,7 +3,6 @@ use Rattle.std.specs.Prelude.{ℕ, ◌-◌, ◌==◌, Bool, true, false, if◌th
 use Rattle.flow_core_laws.specs.declared.plan.FramePlan.{FramePlan}
 use Rattle.flow_core_laws.specs.declared.plan.Plan.{Plan}
 use Rattle.flow_core_laws.specs.declared.task_end.TaskEnd.{TaskEnd}
-use Rattle.flow_core_laws.specs.Outcome.{is_done}
 use Rattle.flow_core_concurrent.specs.declared.word.Word.{Word}
 use Rattle.flow_core_concurrent.specs.declared.word.Word.TheVariants.{Wait, Open, Taken, Ended}
 
@@ -55,12 +54,12 @@ is_started Open = false
 is_started Taken = true
 is_started (Ended end) = true
 
--- whether a frame ended and is Done
-abbrev pub has_delivered : Word → Bool
-has_delivered (Wait n) = false
-has_delivered Open = false
-has_delivered Taken = false
-has_delivered (Ended end) = is_done end
+-- whether a frame ended
+abbrev pub has_ended : Word → Bool
+has_ended (Wait n) = false
+has_ended Open = false
+has_ended Taken = false
+has_ended (Ended end) = true
 
 -- the end of a frame, if it ended
 abbrev pub end_in : Word → Option TaskEnd

@@ -2,13 +2,13 @@
 -- that isn't good.
 use Rattle.std.specs.Prelude.{ℕ, ℤ, pos, ◌+◌, ◌==◌, ◌&&◌, true, if◌then◌else◌, List, [], ◌∷◌, Some, None, map, length, count_by, slice_set}
 use Rattle.std.specs.List.{range_with_len, list_any}
-use Rattle.flow_core_laws.specs.declared.outcome.Outcome.{Outcome}
 use Rattle.flow_core_laws.specs.declared.plan.Piece.{Piece}
+use Rattle.flow_core_concurrent.specs.declared.view.Run.{Run}
+use Rattle.flow_core_laws.specs.declared.outcome.Outcome.{Outcome}
 use Rattle.flow_core_laws.specs.declared.plan.Plan.{Plan}
-use Rattle.flow_core_laws.specs.declared.task_end.TaskEnd.TheVariants.{Done, Trapped}
+use Rattle.flow_core_laws.specs.declared.task_end.TaskEnd.TheVariants.{Done, Trapped, Poisoned}
 use Rattle.flow_core_laws.specs.Outcome.{outcome_of}
 use Rattle.flow_core_concurrent.specs.declared.known.Known.{Known}
-use Rattle.flow_core_concurrent.specs.declared.view.Run.{Run}
 use Rattle.flow_core_concurrent.specs.declared.view.View.{View}
 use Rattle.flow_core_concurrent.specs.declared.word.Word.{Word}
 use Rattle.flow_core_concurrent.specs.declared.word.Word.TheVariants.{Wait, Open, Taken}
@@ -17,7 +17,7 @@ use Rattle.flow_core_concurrent.specs.Steps.{with_view, with_claim, with_sub, af
 use Rattle.flow_core_concurrent.specs.IsGood.{IsGood}
 use Rattle.flow_core_concurrent.specs.Laws.{IsFit}
 use Rattle.flow_core_concurrent.specs.Ways.{Way}
-use Rattle.flow_core_concurrent.specs.Tables.{at, seat, state}
+use Rattle.flow_core_concurrent.specs.Tables.{value, at, seat, state}
 use Rattle.flow_core_concurrent.specs.ReaderFirst as reader
 use Rattle.flow_core_concurrent.specs.TwoProducers as two
 
@@ -70,6 +70,7 @@ pairs = record {
     sink = record { cell = 2; inputs = 0; outputs = 0; wait = 0; piece = 2; pieces = 0 };
     pieces = (record { from = 0; to = 1; first = 0; count = 1; at = 0 }) ∷ (record { from = 0; to = 1; first = 1; count = 1; at = 1 }) ∷ [];
     filled = None ∷ None ∷ [];
+    numbers = 0 ∷ 1 ∷ [];
   };
   meaning = Some (outcome_of Done (pos 5 ∷ pos 7 ∷ [])) ∷ Some (outcome_of Done []) ∷ [];
   seats = 1;
@@ -103,17 +104,21 @@ abbrev pub first_view : View
 first_view = seat pairs (Some first_run) [] (0 ∷ []) [] [] [] 0 1
 
 abbrev pub first_stored : CoreState
-first_stored = state (Taken ∷ Wait 2 ∷ Open ∷ []) (Some (pos 5) ∷ None ∷ []) (first_view ∷ [])
+first_stored = state (Taken ∷ Wait 2 ∷ Open ∷ []) (value 5 ∷ None ∷ []) (first_view ∷ [])
 
 abbrev pub OpensAtTheFirstPiece : Type 0
 OpensAtTheFirstPiece = Breaks pairs first_stored (λ s. opens_at_once s 0 first_view first_run (record { from = 0; to = 1; first = 0; count = 1; at = 0 }))
 
--- The giver traps: its outcome has no elements, whatever its body wrote before.
+-- The giver traps: it has no values, whatever its body wrote before, and poisons the reader.
 abbrev pub trapped_outcome : ℕ → List ℤ → Outcome
 trapped_outcome frame inputs = if frame == 0 then outcome_of Done inputs else outcome_of (Trapped 2 5) (pos 41 ∷ [])
 
 abbrev pub trapped : Known
-trapped = record { plan = reader.plan; meaning = None ∷ Some (outcome_of (Trapped 2 5) (pos 41 ∷ [])) ∷ []; seats = 1 }
+trapped = record {
+  plan = reader.plan;
+  meaning = Some (outcome_of (Poisoned 1) []) ∷ Some (outcome_of (Trapped 2 5) (pos 41 ∷ [])) ∷ [];
+  seats = 1;
+}
 
 abbrev pub trapped_view : View
 trapped_view = seat trapped (Some giver_run) [] (1 ∷ []) [] [] [] 0 1
@@ -122,16 +127,20 @@ abbrev pub trapped_runs : CoreState
 trapped_runs = state (Wait 1 ∷ Taken ∷ Wait 1 ∷ []) (None ∷ None ∷ []) (trapped_view ∷ [])
 
 -- A STORE of a value that the body wrote, whether the meaning is Done or not.
-abbrev pub store_anyway : ℤ → CoreState → ℕ → View → Run → Piece → CoreState
-store_anyway value s i view run piece =
+abbrev pub store_anyway : ℕ → CoreState → ℕ → View → Run → Piece → CoreState
+store_anyway number s i view run piece =
     record {
       words = s.words;
-      cells = slice_set s.cells (piece.at + run.stored) (Some value);
+      cells = slice_set s.cells (piece.at + run.stored) (value number);
       seats = slice_set s.seats i (record view { run = Some (record run { stored = run.stored + 1 }) });
     }
 
 abbrev pub StoresOfTrapped : Type 0
-StoresOfTrapped = Breaks trapped trapped_runs (λ s. store_anyway (pos 41) s 0 trapped_view giver_run giver_piece)
+StoresOfTrapped = Breaks trapped trapped_runs (λ s. store_anyway 41 s 0 trapped_view giver_run giver_piece)
+
+-- a FINISH of a trapped frame that gave nothing yet
+abbrev pub FinishesWithoutPoison : Type 0
+FinishesWithoutPoison = Breaks trapped trapped_runs (λ s. after_finish s 0 trapped_view giver_run (Trapped 2 5))
 
 -- A LOOK that counts whether its frame is Open or not.
 abbrev pub look_anyway : CoreState → ℕ → View → CoreState

@@ -35,15 +35,15 @@ pub fn two_producers()
     ensures no_join_while_one_runs { allowed_after two.known (take 8 two.first_before_second) (to_join 0 1 ∷ to_join 1 1 ∷ []) ≡ 0 }
 {}
 
-/// Frames that are Done, over budget, trapped and starved, with two seats: a piece of two elements, claims
-/// that miss in turn and out of turn, a frame that a claim loses, and seats that are cut and joined with
-/// looks and lists. At the end nothing is left out.
+/// Frames that are Done, over budget, trapped, poisoned and starved, with two seats: a piece of two elements, claims
+/// that miss in turn and out of turn, a frame that a claim loses, seats that are cut and joined with looks and lists,
+/// and poison that is handed on under the number of its root. At the end nothing is left out.
 pub fn mixed_ends()
     ensures fit { IsFit mixed.known }
     ensures meaning { IsMeant mixed.known mixed.outcome }
     ensures states { states_along mixed.known mixed.choices ≡ map Some mixed.states }
     ensures counts_only_a_whole_piece { allowed_after mixed.known (take 4 mixed.choices) (to_sub 0 ∷ to_finish 0 ∷ []) ≡ 0 }
-    ensures gives_nothing_over_budget { allowed_after mixed.known (take 17 mixed.choices) (to_store 1 ∷ to_sub 1 ∷ to_join 0 1 ∷ []) ≡ 0 }
-    ensures gives_nothing_of_a_trap { allowed_after mixed.known (take 22 mixed.choices) (to_store 0 ∷ to_sub 0 ∷ to_look 0 ∷ []) ≡ 0 }
-    ensures leaves_nothing { IsComplete mixed.known (slice_index_or mixed.states 27 (opening mixed.known)) }
+    ensures gives_poison_over_budget { allowed_after mixed.known (take 17 mixed.choices) (to_sub 1 ∷ to_finish 1 ∷ to_join 0 1 ∷ []) ≡ 0 }
+    ensures gives_poison_of_a_trap { allowed_after mixed.known (take 23 mixed.choices) (to_sub 0 ∷ to_finish 0 ∷ to_look 0 ∷ []) ≡ 0 }
+    ensures leaves_nothing { IsComplete mixed.known (slice_index_or mixed.states 37 (opening mixed.known)) }
 {}

@@ -14,6 +14,7 @@ ghost use Rattle.flow_core_concurrent.specs.Laws.{
   StepsKeepGood,
   ReachedIsGood,
   ReadsTheMeaning,
+  ReadsDecideTheEnd,
   StoresIntoEmpty,
   SubFindsItsCount,
   ClaimFindsItsCells,
@@ -32,7 +33,7 @@ ghost use Rattle.flow_core_concurrent.specs.Laws.{
   LeavesNothing,
 };
 
-/// A sound plan with its meaning under bodies that fill their outputs is fit for all the laws.
+/// A sound plan with its meaning under bodies that serve it is fit for all the laws.
 pub fn meanings_are_fit()
     ensures { MeaningsAreFit }
 {}
@@ -75,12 +76,13 @@ pub fn steps_keep_good()
     ensures reached { ReachedIsGood }
 {}
 
-/// A READ gives the meaning's element.
+/// A READ gives the meaning's element, a value or poison, and what a frame reads decides the end that it finishes with.
 pub fn read_gives_the_meaning()
-    ensures { ReadsTheMeaning }
+    ensures element { ReadsTheMeaning }
+    ensures end { ReadsDecideTheEnd }
 {}
 
-/// A STORE finds its cell empty.
+/// A STORE finds its cell empty, and has an element for it, whatever the end of its frame is.
 pub fn store_finds_empty()
     ensures { StoresIntoEmpty }
 {}

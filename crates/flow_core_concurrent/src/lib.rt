@@ -1,8 +1,11 @@
 //! The concurrent core: how seats run a plan side by side, as plain data.
 //!
-//! A state has a word for each frame, a value or none for each cell, and a view for each seat, which
+//! A state has a word for each frame, an element or none for each cell, and a view for each seat, which
 //! is what one worker did and knows. There are eight kinds of step, each of one seat; whatever the
-//! order of the steps of all seats, they keep a state good (`specs/`). This crate says what states,
+//! order of the steps of all seats, they keep a state good (`specs/`). A frame gives all its pieces at every
+//! end: a STORE gives a cell the meaning's element, which is a value where the frame is Done and else poison, and a
+//! FINISH stands behind the last piece. So a frame waits for good only where an element that it reads has no source,
+//! or comes from a frame that waits for good too. This crate says what states,
 //! steps and good states are, with no thread and no atomic word. The types that a view is made of are
 //! Rust types, so that a table of atomic words can keep such views for its seats and can have "the
 //! state that words and views show is good" as its rule.

@@ -9,6 +9,6 @@ pub enum Word {
     Open,
     /// A seat runs it.
     Taken,
-    /// It ended.
+    /// It ended, with values or with poison.
     Ended(TaskEnd),
 }

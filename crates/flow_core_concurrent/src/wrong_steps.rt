@@ -2,7 +2,20 @@
 //! and ensures that what the wrong step leaves isn't good.
 
 ghost use Rattle.flow_core_concurrent.specs.Laws.{IsMeant};
-ghost use Rattle.flow_core_concurrent.specs.WrongSteps.{SubsBeforeItStores, FinishesBeforeItGives, ClaimsWithoutLooking, CountsProducers, OpensAtTheFirstPiece, StoresOfTrapped, CountsAnOpenFrame, pairs, pairs_outcome, trapped, trapped_outcome};
+ghost use Rattle.flow_core_concurrent.specs.WrongSteps.{
+  SubsBeforeItStores,
+  FinishesBeforeItGives,
+  ClaimsWithoutLooking,
+  CountsProducers,
+  OpensAtTheFirstPiece,
+  StoresOfTrapped,
+  FinishesWithoutPoison,
+  CountsAnOpenFrame,
+  pairs,
+  pairs_outcome,
+  trapped,
+  trapped_outcome,
+};
 
 /// A SUB before the elements of its piece are stored: a cell counts that is empty.
 pub fn sub_before_store()
@@ -27,10 +40,15 @@ pub fn counter_of_producers()
     ensures opens { OpensAtTheFirstPiece }
 {}
 
-/// Elements of a trapped frame: a cell holds what the meaning hasn't.
+/// A value of a trapped frame: a cell holds it where the meaning has poison.
 pub fn outputs_of_a_trapped_frame()
     ensures meaning { IsMeant trapped trapped_outcome }
     ensures stores { StoresOfTrapped }
+{}
+
+/// A FINISH of a trapped frame before it gave its poison: a cell counts that is empty.
+pub fn finish_before_poison()
+    ensures { FinishesWithoutPoison }
 {}
 
 /// A look that counts where the frame is Open: the last seat would leave it behind.

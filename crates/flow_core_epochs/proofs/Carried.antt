@@ -1,32 +1,36 @@
 -- That what an epoch carries over serves every next one.
-use Rattle.std.proofs.Common.{◌≡◌, ◌≢◌, ℕ, zero, suc, ◌+◌, ◌-◌, ◌<◌, ◌≤◌, ℤ, List, [], ◌∷◌, ◌++◌, Option, Some, None, Bool, true, false, cond, map, length, get_or, take, refl, sym, ap, ◌∙◌, subst, ◌⊎◌, inl, inr, arith}
-use Rattle.std.specs.Prelude.{slice_get, filter, find, is_some, is_none, IsSome, All, Contains, not, ◌==◌, ◌&&◌, ◌||◌, nat_le, option_and_then}
+use Rattle.std.proofs.Common.{[], ◌≡◌, ◌≢◌, ℕ, zero, suc, ◌+◌, ◌-◌, ◌<◌, ◌≤◌, ℤ, List, ◌∷◌, ◌++◌, Option, Some, None, Bool, true, false, cond, map, length, refl, sym, ap, ◌∙◌, subst, ◌⊎◌, inl, inr, arith, get_or, take}
+use Rattle.std.specs.Prelude.{slice_get, find, is_some, is_none, IsSome, All, Contains, not, ◌==◌, ◌&&◌, ◌||◌, nat_le, option_and_then, filter}
 use Rattle.std.specs.Option.{option_map, option_map_or}
 use Rattle.std.specs.List.{range_with_len, flat_map}
 use Rattle.std.proofs.lemmas.Bool.{cases_lt, cases_eq, eq-eqb, eqb-true, and_parts}
 use Rattle.std.proofs.lemmas.Bool.Decides.{nat_tests}
-use Rattle.std.proofs.lemmas.Option.{same_Some, slice_get_within, slice_get-get_or, get_or_from_slice_get}
+use Rattle.std.proofs.lemmas.Option.{same_Some, slice_get_within, get_or_from_slice_get, slice_get-get_or}
+use Rattle.flow_core_laws.specs.declared.elem.Elem.{Elem}
 use Rattle.flow_core_laws.specs.declared.claim.Claim.{Claim}
 use Rattle.flow_core_laws.specs.declared.activation.Activation.{Activation}
 use Rattle.flow_core_laws.specs.declared.plan.Plan.{Plan}
 use Rattle.flow_core_laws.specs.declared.outcome.Outcome.{Outcome}
-use Rattle.flow_core_laws.specs.Outcome.{State, outcome_at}
-use Rattle.flow_core_laws.specs.Element.{fed, nobody, element, output_at}
+use Rattle.flow_core_laws.specs.Outcome.{outcome_at, State}
+use Rattle.flow_core_laws.specs.Element.{fed, nobody, written, output_at}
+use Rattle.flow_core_laws.specs.Poisoning.{poisoning}
 use Rattle.flow_core_laws.specs.FirstPosition.{is_read_of}
-use Rattle.flow_core_laws.specs.Window.{Window, window_of, windows_of, windows, claims_of, claims_at, is_written_by, producer}
-use Rattle.flow_core_laws.specs.Place.{Place, places_of, input_places}
+use Rattle.flow_core_laws.specs.Window.{Window, windows_of, claims_of, producer, window_of, windows, claims_at, is_written_by}
+use Rattle.flow_core_laws.specs.Place.{Place, input_places, places_of}
 use Rattle.flow_core_laws.specs.Plans.{sink_elements}
-use Rattle.flow_core_laws.specs.Streams.{input_source, produced_source, stream_source, stream_reads, stream_meaning}
+use Rattle.flow_core_laws.specs.Streams.{input_source, produced_source, stream_source, stream_reads, stream_meaning, stream_element, own_number}
 use Rattle.flow_core_laws.proofs.Sources.{find_passes}
-use Rattle.flow_core_laws.proofs.Rounds.{element-extends, outcome_at_past, length-meaning}
-use Rattle.flow_core_laws.proofs.Windows.{is_window, window_at, producer_of, written}
-use Rattle.flow_core_epochs.specs.Epoch.{Kept, is_at, value_kept, number_in, open_in, written_places, read_from, elements_at, is_readable, carried_over, IsKeptFor, IsCarried, IsOutside, PlacesDiffer, ReadNoOutput, epoch_meaning}
-use Rattle.flow_core_epochs.proofs.Members.{Has, in_map, of_append, in_left, in_right, of_filter, in_filter, of_flat_map, in_flat_map, of_range, in_range, has_tail}
-use Rattle.flow_core_epochs.proofs.Prefixes.{element_more, producer_more, prefix_extends}
+use Rattle.flow_core_laws.proofs.Rounds.{outcome_at_past, length-meaning}
+use Rattle.flow_core_laws.proofs.Elements.{element_kept}
+use Rattle.flow_core_laws.proofs.Windows.{producer_of, is_window, window_at}
+use Rattle.flow_core_epochs.specs.Epoch.{number_in, open_in, written_places, read_from, is_readable, ReadNoOutput, Kept, is_at, value_kept, elements_at, carried_over, IsKeptFor, IsCarried, IsOutside, PlacesDiffer, epoch_meaning}
+use Rattle.flow_core_epochs.proofs.Members.{Has, of_append, in_left, in_right, of_filter, in_filter, of_flat_map, in_flat_map, of_range, in_range, has_tail, in_map}
+use Rattle.flow_core_epochs.proofs.Prefixes.{producer_more, element_more, prefix_extends}
 use Rattle.flow_core_epochs.proofs.Frames.{numbers_back}
 use Rattle.flow_core_epochs.proofs.Epochs.{HasEpoch, over_other, over_is_whole, output_outcome}
 use Rattle.flow_core_epochs.proofs.Written.{has_window, window_activation, written_in, is_written_test}
-use Rattle.flow_core_epochs.proofs.Apart.{Apart, SamePlace, apart_filter, apart_append, apart_elements, leaving_apart}
+use Rattle.flow_core_epochs.proofs.Apart.{Apart, apart_filter, apart_append, leaving_apart}
+use Rattle.flow_core_epochs.proofs.Kept.{SamePlace, apart_elements}
 use Rattle.flow_core_epochs.proofs.Leaving.{sink_leaves}
 use Rattle.flow_core_epochs.proofs.Reading.{read_from_cursor, read_from_frame, read_from_least, cursor_grows, later_reads, windows_of_more, read_in, reads_behind}
 
@@ -36,42 +40,6 @@ all_has P xs x all (i, at) = subst P (get_or_from_slice_get xs i x x at) (all i 
 
 pub has_all : {A : Type 0} (P : A → Type 0) (xs : List A) → ((x : A) → Has xs x → P x) → All P xs
 has_all P xs each = λ i d lt. each (get_or xs i d) (i, slice_get-get_or xs i d lt)
-
--- what stands in a list and passes is found
-find_there : {A : Type 0} (test : A → Bool) (xs : List A) (x : A) → Has xs x → test x ≡ true → is_some (find test xs) ≡ true
-find_there test [] x (i, at) passes = absurd (cc)
-find_there {A = A} test (y ∷ ys) x h passes = by_test (test y) refl h (λ t. find_there test ys x t passes)
-  where
-    by_test : (b : Bool) → test y ≡ b → Has (y ∷ ys) x → (Has ys x → is_some (find test ys) ≡ true) → is_some (cond b (Some y) (find test ys)) ≡ true
-    by_test true e h rest = refl
-    by_test false e (zero, at) rest = absurd (let t : test y ≡ true = ap test (same_Some y x at) ∙ passes in cc)
-    by_test false e (suc i, at) rest = rest (i, at)
-
-some_mapped : {A B : Type 0} (f : A → B) (o : Option A) → is_some o ≡ true → is_some (option_map f o) ≡ true
-some_mapped f None h = absurd (cc)
-some_mapped f (Some x) h = refl
-
-unmapped_some : {A B : Type 0} (f : A → B) (o : Option A) → is_some (option_map f o) ≡ true → (x : A) × (o ≡ Some x)
-unmapped_some f None h = absurd (cc)
-unmapped_some f (Some x) h = (x, refl)
-
-there_value : {A : Type 0} (o : Option A) → is_some o ≡ true → (x : A) × (o ≡ Some x)
-there_value None h = absurd (cc)
-there_value (Some x) h = (x, refl)
-
--- what is kept for a place
-pub kept_there : (kept : List Kept) (k : Kept) (p : Place) → Has kept k → k.place ≡ p → IsSome (value_kept kept p)
-kept_there kept k p h same =
-    let s : (k.place.stream == p.stream) ≡ true = eq-eqb k.place.stream p.stream (ap (λ (q : Place). q.stream) same) in
-    let n : (k.place.position == p.position) ≡ true = eq-eqb k.place.position p.position (ap (λ (q : Place). q.position) same) in
-    some_mapped (λ (k : Kept). k.value) (find (is_at p) kept) (find_there (is_at p) kept k h (ap (λ (b : Bool). b && (k.place.position == p.position)) s ∙ ap (λ (b : Bool). true && b) n))
-
-pub there_kept : (kept : List Kept) (p : Place) → IsSome (value_kept kept p) → (k : Kept) × (Has kept k) × (k.place ≡ p)
-there_kept kept p h =
-    let (k, e) = unmapped_some (λ (k : Kept). k.value) (find (is_at p) kept) h in
-    let (i, at, passes) = find_passes (is_at p) kept k e in
-    let parts = and_parts (k.place.stream == p.stream) (k.place.position == p.position) passes in
-    (k, (i, at), ap (λ (n : ℕ). record { stream = n; position = k.place.position }) (eqb-true k.place.stream p.stream parts.0) ∙ ap (λ (n : ℕ). record { stream = p.stream; position = n }) (eqb-true k.place.position p.position parts.1))
 
 -- The producer of an element is a window of its activation.
 pub record IsProducer (activations : List Activation) (stream position : ℕ) (w : Window) : Type 0 where
@@ -109,6 +77,46 @@ wrote activations p w h =
     let same : record { stream = w.claim.stream; position = p.position } ≡ p = ap (λ n. record { stream = n; position = p.position }) (eqb-true w.claim.stream p.stream parts.1) in
     in_flat_map places_of (filter (λ (w : Window). w.claim.write) (windows_of activations w.activation)) w p (in_filter (λ (w : Window). w.claim.write) (windows_of activations w.activation) w q.stands parts.0) (subst (Has (places_of w)) same place)
 
+-- a claim of an activation is one of all claims
+pub has_claim : (activations : List Activation) (a : ℕ) (w : Window) → a < length activations → Has (windows_of activations a) w → Has (claims_of activations) w.claim
+has_claim activations a w lt h = let (i, at) = has_window activations a w lt h in (i, (window_at activations i w at).is_claim)
+
+-- what stands in a list and passes is found
+find_there : {A : Type 0} (test : A → Bool) (xs : List A) (x : A) → Has xs x → test x ≡ true → is_some (find test xs) ≡ true
+find_there test [] x (i, at) passes = absurd (cc)
+find_there {A = A} test (y ∷ ys) x h passes = by_test (test y) refl h (λ t. find_there test ys x t passes)
+  where
+    by_test : (b : Bool) → test y ≡ b → Has (y ∷ ys) x → (Has ys x → is_some (find test ys) ≡ true) → is_some (cond b (Some y) (find test ys)) ≡ true
+    by_test true e h rest = refl
+    by_test false e (zero, at) rest = absurd (let t : test y ≡ true = ap test (same_Some y x at) ∙ passes in cc)
+    by_test false e (suc i, at) rest = rest (i, at)
+
+some_mapped : {A B : Type 0} (f : A → B) (o : Option A) → is_some o ≡ true → is_some (option_map f o) ≡ true
+some_mapped f None h = absurd (cc)
+some_mapped f (Some x) h = refl
+
+unmapped_some : {A B : Type 0} (f : A → B) (o : Option A) → is_some (option_map f o) ≡ true → (x : A) × (o ≡ Some x)
+unmapped_some f None h = absurd (cc)
+unmapped_some f (Some x) h = (x, refl)
+
+there_value : {A : Type 0} (o : Option A) → is_some o ≡ true → (x : A) × (o ≡ Some x)
+there_value None h = absurd (cc)
+there_value (Some x) h = (x, refl)
+
+-- what is kept for a place
+pub kept_there : (kept : List Kept) (k : Kept) (p : Place) → Has kept k → k.place ≡ p → IsSome (value_kept kept p)
+kept_there kept k p h same =
+    let s : (k.place.stream == p.stream) ≡ true = eq-eqb k.place.stream p.stream (ap (λ (q : Place). q.stream) same) in
+    let n : (k.place.position == p.position) ≡ true = eq-eqb k.place.position p.position (ap (λ (q : Place). q.position) same) in
+    some_mapped (λ (k : Kept). k.value) (find (is_at p) kept) (find_there (is_at p) kept k h (ap (λ (b : Bool). b && (k.place.position == p.position)) s ∙ ap (λ (b : Bool). true && b) n))
+
+pub there_kept : (kept : List Kept) (p : Place) → IsSome (value_kept kept p) → (k : Kept) × (Has kept k) × (k.place ≡ p)
+there_kept kept p h =
+    let (k, e) = unmapped_some (λ (k : Kept). k.value) (find (is_at p) kept) h in
+    let (i, at, passes) = find_passes (is_at p) kept k e in
+    let parts = and_parts (k.place.stream == p.stream) (k.place.position == p.position) passes in
+    (k, (i, at), ap (λ (n : ℕ). record { stream = n; position = k.place.position }) (eqb-true k.place.stream p.stream parts.0) ∙ ap (λ (n : ℕ). record { stream = p.stream; position = n }) (eqb-true k.place.position p.position parts.1))
+
 pub produced : (activations : List Activation) (input : List ℕ) (p : Place) → p.stream ≢ 0 → stream_source activations input p ≡ produced_source activations p.stream p.position
 produced activations input p other = by_test (p.stream == 0) refl
   where
@@ -123,12 +131,12 @@ pub produced_by_nobody : (activations : List Activation) (input : List ℕ) (p :
 produced_by_nobody activations input p other h = produced activations input p other ∙ ap (λ (o : Option Window). option_map_or (λ (w : Window). fed w.activation (w.offset + (p.position - w.first))) o nobody) h
 
 -- an element that is there, of no input, has a producer
-pub there_produced : (activations : List Activation) (input : List ℕ) (state : State) (p : Place) (v : ℤ) → p.stream ≢ 0 → element state (stream_source activations input p) ≡ Some v → (w : Window) × (producer activations p.stream p.position ≡ Some w) × (output_at state w.activation (w.offset + (p.position - w.first)) ≡ Some v)
+pub there_produced : (activations : List Activation) (input : List ℕ) (state : State) (p : Place) (v : Elem) → p.stream ≢ 0 → stream_element state (stream_source activations input p) ≡ Some v → (w : Window) × (producer activations p.stream p.position ≡ Some w) × (output_at own_number state w.activation (w.offset + (p.position - w.first)) ≡ Some v)
 there_produced activations input state p v other h = by_producer (producer activations p.stream p.position) refl
   where
-    by_producer : (o : Option Window) → producer activations p.stream p.position ≡ o → (w : Window) × (producer activations p.stream p.position ≡ Some w) × (output_at state w.activation (w.offset + (p.position - w.first)) ≡ Some v)
-    by_producer None e = let z : element state (stream_source activations input p) ≡ None = ap (element state) (produced_by_nobody activations input p other e) in absurd (cc)
-    by_producer (Some w) e = (w, e, sym (ap (element state) (produced_by activations input p w other e)) ∙ h)
+    by_producer : (o : Option Window) → producer activations p.stream p.position ≡ o → (w : Window) × (producer activations p.stream p.position ≡ Some w) × (output_at own_number state w.activation (w.offset + (p.position - w.first)) ≡ Some v)
+    by_producer None e = let z : stream_element state (stream_source activations input p) ≡ None = ap (stream_element state) (produced_by_nobody activations input p other e) in absurd (cc)
+    by_producer (Some w) e = (w, e, sym (ap (stream_element state) (produced_by activations input p w other e)) ∙ h)
 
 -- an activation that has an outcome is there
 pub outcome_exists : (activations : List Activation) (input : List ℕ) (body : ℕ → List ℤ → Outcome) (a : ℕ) (o : Outcome) → outcome_at (stream_meaning activations input body) a ≡ Some o → a < length activations
@@ -136,37 +144,37 @@ outcome_exists activations input body a o h = by_order (cases_lt a (length activ
   where
     by_order : (a < length activations) ⊎ (length activations ≤ a) → a < length activations
     by_order (inl lt) = lt
-    by_order (inr ge) = let l = length-meaning element (stream_reads activations input) body (length activations) in let n = outcome_at_past (stream_meaning activations input body) a (omega (arith, l)) in absurd (cc)
+    by_order (inr ge) = let l = length-meaning stream_element (stream_reads activations input) (poisoning body) (length activations) in let n = outcome_at_past (stream_meaning activations input body) a (omega (arith, l)) in absurd (cc)
 
 -- an element that is there was there with fewer activations, if they gave it
-pub element_less : (activations more : List Activation) (input : List ℕ) (body : ℕ → List ℤ → Outcome) (p : Place) (v : ℤ) → p.stream ≢ 0 → element (stream_meaning activations input body) (stream_source (activations ++ more) input p) ≡ Some v → element (stream_meaning activations input body) (stream_source activations input p) ≡ Some v
+pub element_less : (activations more : List Activation) (input : List ℕ) (body : ℕ → List ℤ → Outcome) (p : Place) (v : Elem) → p.stream ≢ 0 → stream_element (stream_meaning activations input body) (stream_source (activations ++ more) input p) ≡ Some v → stream_element (stream_meaning activations input body) (stream_source activations input p) ≡ Some v
 element_less activations more input body p v other h =
     let (w, is, out) = there_produced (activations ++ more) input (stream_meaning activations input body) p v other h in
-    let (o, ended) = output_outcome (stream_meaning activations input body) w.activation (w.offset + (p.position - w.first)) v out in
-    ap (element (stream_meaning activations input body)) (produced_by activations input p w other (producer_less activations more p.stream p.position w is (outcome_exists activations input body w.activation o ended))) ∙ out
+    let (o, ended) = output_outcome own_number (stream_meaning activations input body) w.activation (w.offset + (p.position - w.first)) v out in
+    ap (stream_element (stream_meaning activations input body)) (produced_by activations input p w other (producer_less activations more p.stream p.position w is (outcome_exists activations input body w.activation o ended))) ∙ out
 
 -- the elements at places
-in_elements : (g : Place → Option ℤ) (places : List Place) (p : Place) (v : ℤ) → Has places p → g p ≡ Some v → Has (elements_at places (map g places)) (record { place = p; value = v })
+in_elements : (g : Place → Option Elem) (places : List Place) (p : Place) (v : Elem) → Has places p → g p ≡ Some v → Has (elements_at places (map g places)) (record { place = p; value = v })
 in_elements g [] p v (i, at) e = absurd (cc)
 in_elements g (q ∷ places) p v h e = by_value (g q) refl h (λ t. in_elements g places p v t e)
   where
-    by_value : (o : Option ℤ) → g q ≡ o → Has (q ∷ places) p → (Has places p → Has (elements_at places (map g places)) (record { place = p; value = v })) → Has (elements_at (q ∷ places) (o ∷ map g places)) (record { place = p; value = v })
+    by_value : (o : Option Elem) → g q ≡ o → Has (q ∷ places) p → (Has places p → Has (elements_at places (map g places)) (record { place = p; value = v })) → Has (elements_at (q ∷ places) (o ∷ map g places)) (record { place = p; value = v })
     by_value None q_is (zero, at) rest = absurd (let z : g q ≡ Some v = ap g (same_Some q p at) ∙ e in cc)
     by_value None q_is (suc i, at) rest = rest (i, at)
     by_value (Some u) q_is (zero, at) rest =
         let same = same_Some q p at in
         let value : u ≡ v = same_Some u v (sym q_is ∙ ap g same ∙ e) in
-        (0, ap Some (ap (λ (r : Place). record { place = r; value = u }) same ∙ ap (λ (n : ℤ). record { place = p; value = n }) value))
+        (0, ap Some (ap (λ (r : Place). record { place = r; value = u }) same ∙ ap (λ (n : Elem). record { place = p; value = n }) value))
     by_value (Some u) q_is (suc i, at) rest = has_tail _ _ _ (rest (i, at))
 
-of_elements : (g : Place → Option ℤ) (places : List Place) (k : Kept) → Has (elements_at places (map g places)) k → (Has places k.place) × (g k.place ≡ Some k.value)
+of_elements : (g : Place → Option Elem) (places : List Place) (k : Kept) → Has (elements_at places (map g places)) k → (Has places k.place) × (g k.place ≡ Some k.value)
 of_elements g [] k (i, at) = absurd (cc)
 of_elements g (q ∷ places) k h = by_value (g q) refl h (of_elements g places k)
   where
     tail : (Has places k.place) × (g k.place ≡ Some k.value) → (Has (q ∷ places) k.place) × (g k.place ≡ Some k.value)
     tail r = (has_tail q places k.place r.0, r.1)
 
-    by_value : (o : Option ℤ) → g q ≡ o → Has (elements_at (q ∷ places) (o ∷ map g places)) k → (Has (elements_at places (map g places)) k → (Has places k.place) × (g k.place ≡ Some k.value)) → (Has (q ∷ places) k.place) × (g k.place ≡ Some k.value)
+    by_value : (o : Option Elem) → g q ≡ o → Has (elements_at (q ∷ places) (o ∷ map g places)) k → (Has (elements_at places (map g places)) k → (Has places k.place) × (g k.place ≡ Some k.value)) → (Has (q ∷ places) k.place) × (g k.place ≡ Some k.value)
     by_value None q_is h rest = tail (rest h)
     by_value (Some u) q_is (zero, at) rest =
         let same = same_Some (record { place = q; value = u }) k at in
@@ -189,15 +197,11 @@ of_open state count a h =
 pub in_open : (state : State) (count a : ℕ) → a < count → outcome_at state a ≡ None → Has (open_in state count) a
 in_open state count a lt e = in_filter (λ b. is_none (outcome_at state b)) (range_with_len 0 count) a (in_range 0 count a (omega arith) (omega arith)) (ap is_none e)
 
--- a claim of an activation is one of all claims
-pub has_claim : (activations : List Activation) (a : ℕ) (w : Window) → a < length activations → Has (windows_of activations a) w → Has (claims_of activations) w.claim
-has_claim activations a w lt h = let (i, at) = has_window activations a w lt h in (i, (window_at activations i w at).is_claim)
-
 -- before the first epoch
 pub nothing_at_first : (input : List ℕ) (body : ℕ → List ℤ → Outcome) → IsCarried [] input (stream_meaning [] input body) []
-nothing_at_first input body = record { were_written = λ i d lt. absurd (omega arith); places_differ = λ i j k l at. absurd (cc); none_is_lost = λ p declared behind there. lost p declared (there_value (element (stream_meaning [] input body) (stream_source [] input p)) there) }
+nothing_at_first input body = record { are_there = λ i d lt. absurd (omega arith); places_differ = λ i j k l at. absurd (cc); none_is_lost = λ p declared behind there. lost p declared (there_value (stream_element (stream_meaning [] input body) (stream_source [] input p)) there) }
   where
-    lost : (p : Place) → 2 ≤ p.stream → (v : ℤ) × (element (stream_meaning [] input body) (stream_source [] input p) ≡ Some v) → IsSome (value_kept [] p)
+    lost : (p : Place) → 2 ≤ p.stream → (v : Elem) × (stream_element (stream_meaning [] input body) (stream_source [] input p) ≡ Some v) → IsSome (value_kept [] p)
     lost p declared (v, is) =
         let (w, made, out) = there_produced [] input (stream_meaning [] input body) p v (λ z. omega arith) is in
         let e = (is_producer [] p.stream p.position w made).exists in
@@ -206,8 +210,8 @@ nothing_at_first input body = record { were_written = λ i d lt. absurd (omega a
 -- what is carried serves the next epoch
 pub serves_next : (activations new : List Activation) (input : List ℕ) (body : ℕ → List ℤ → Outcome) (kept : List Kept) → ReadNoOutput (activations ++ new) → IsCarried activations input (stream_meaning activations input body) kept → IsKeptFor (activations ++ new) input (stream_meaning activations input body) (open_in (stream_meaning activations input body) (length (activations ++ new))) kept
 serves_next activations new input body kept no_output carried = record {
-  were_written = has_all (λ (k : Kept). (k.place.stream ≢ 0) × (element state (stream_source (activations ++ new) input k.place) ≡ Some k.value)) kept (λ k h. let w = all_has (λ (k : Kept). (2 ≤ k.place.stream) × (element state (stream_source activations input k.place) ≡ Some k.value)) kept k carried.were_written h in let low = w.0 in ((λ z. omega arith), element_more activations new input state k.place k.value w.1));
-  none_is_missing = has_all (λ a. All (λ (p : Place). p.stream ≢ 0 → IsSome (element state (stream_source (activations ++ new) input p)) → IsSome (value_kept kept p)) (input_places (activations ++ new) a)) frames (λ a frame. has_all (λ (p : Place). p.stream ≢ 0 → IsSome (element state (stream_source (activations ++ new) input p)) → IsSome (value_kept kept p)) (input_places (activations ++ new) a) (λ p at other there. kept_of a frame p at other (there_value (element state (stream_source (activations ++ new) input p)) there)));
+  are_there = has_all (λ (k : Kept). (k.place.stream ≢ 0) × (stream_element state (stream_source (activations ++ new) input k.place) ≡ Some k.value)) kept (λ k h. let w = all_has (λ (k : Kept). (2 ≤ k.place.stream) × (stream_element state (stream_source activations input k.place) ≡ Some k.value)) kept k carried.are_there h in let low = w.0 in ((λ z. omega arith), element_more activations new input state k.place k.value w.1));
+  none_is_missing = has_all (λ a. All (λ (p : Place). p.stream ≢ 0 → IsSome (stream_element state (stream_source (activations ++ new) input p)) → IsSome (value_kept kept p)) (input_places (activations ++ new) a)) frames (λ a frame. has_all (λ (p : Place). p.stream ≢ 0 → IsSome (stream_element state (stream_source (activations ++ new) input p)) → IsSome (value_kept kept p)) (input_places (activations ++ new) a) (λ p at other there. kept_of a frame p at other (there_value (stream_element state (stream_source (activations ++ new) input p)) there)));
 }
   where
     state : State
@@ -240,7 +244,7 @@ serves_next activations new input body kept no_output carried = record {
                 positive zero e = absurd (e refl)
                 positive (suc m) e = omega arith
 
-    kept_of : (a : ℕ) → Has frames a → (p : Place) → Has (input_places (activations ++ new) a) p → p.stream ≢ 0 → (v : ℤ) × (element state (stream_source (activations ++ new) input p) ≡ Some v) → IsSome (value_kept kept p)
+    kept_of : (a : ℕ) → Has frames a → (p : Place) → Has (input_places (activations ++ new) a) p → p.stream ≢ 0 → (v : Elem) × (stream_element state (stream_source (activations ++ new) input p) ≡ Some v) → IsSome (value_kept kept p)
     kept_of a frame p at other (v, is) =
         let o = of_open state (length (activations ++ new)) a frame in
         carried.none_is_lost p (declared a p o.0 at other) (reads_behind activations new (open_in state (length activations)) a p (who o.1 (cases_lt a (length activations))) at) (ap is_some (element_less activations new input body p v other is))
@@ -260,8 +264,8 @@ is_outside activations new input body kept frames waits carried = record {
     state : State
     state = stream_meaning activations input body
 
-    written_at : (k : Kept) → Has kept k → (2 ≤ k.place.stream) × (element state (stream_source activations input k.place) ≡ Some k.value)
-    written_at k h = all_has (λ (k : Kept). (2 ≤ k.place.stream) × (element state (stream_source activations input k.place) ≡ Some k.value)) kept k carried.were_written h
+    written_at : (k : Kept) → Has kept k → (2 ≤ k.place.stream) × (stream_element state (stream_source activations input k.place) ≡ Some k.value)
+    written_at k h = all_has (λ (k : Kept). (2 ≤ k.place.stream) × (stream_element state (stream_source activations input k.place) ≡ Some k.value)) kept k carried.are_there h
 
     no_frame : (a : ℕ) (o : Outcome) → outcome_at state a ≡ Some o → (n : Option ℕ) → number_in frames a ≡ n → number_in frames a ≡ None
     no_frame a o ended None e = e
@@ -272,7 +276,7 @@ is_outside activations new input body kept frames waits carried = record {
         let w = written_at k h in
         let low = w.0 in
         let (v, is, out) = there_produced activations input state k.place k.value (λ z. omega arith) w.1 in
-        let (o, ended) = output_outcome state v.activation (v.offset + (k.place.position - v.first)) k.value out in
+        let (o, ended) = output_outcome own_number state v.activation (v.offset + (k.place.position - v.first)) k.value out in
         (v, producer_more activations new k.place.stream k.place.position v is, no_frame v.activation o ended (number_in frames v.activation) refl)
 
 module _ (before new : List Activation) (input : List ℕ) (body : ℕ → List ℤ → Outcome) (readers frames : List ℕ) (kept : List Kept) (plan : Plan) (places : List Place) (epoch : HasEpoch before new input body readers frames kept plan places) where
@@ -325,11 +329,11 @@ module _ (before new : List Activation) (input : List ℕ) (body : ℕ → List 
   frame_leaves p w f is n test =
       subst (λ (ps : List Place). Has ps p) (sym epoch.stands.places_leave) (in_filter (λ (p : Place). p.stream == 1 || nat_le (read_from acts readers p.stream) p.position) (flat_map (written_places acts) frames) p (in_flat_map (written_places acts) frames w.activation p (f, numbers_back frames w.activation f n) (wrote acts p w is)) test)
 
-  abbrev values : List (Option ℤ)
+  abbrev values : List (Option Elem)
   values = sink_elements plan (epoch_meaning plan frames body)
 
-  abbrev element_now : Place → Option ℤ
-  element_now p = element whole (stream_source acts input p)
+  abbrev element_now : Place → Option Elem
+  element_now p = stream_element whole (stream_source acts input p)
 
   values_are : values ≡ map element_now places
   values_are = sink_leaves before new input body readers frames kept plan places epoch
@@ -345,26 +349,26 @@ module _ (before new : List Activation) (input : List ℕ) (body : ℕ → List 
       let test : is_readable acts left p ≡ true = ap (λ (t : Bool). t && nat_le (read_from acts left p.stream) p.position) a ∙ ap (λ (t : Bool). true && t) b in
       kept_there (carried_over acts left kept places values) k p (in_filter (λ (k : Kept). is_readable acts left k.place) over_all k h (ap (is_readable acts left) same ∙ test)) same
 
-  none_lost : IsCarried before input earlier kept → (p : Place) → 2 ≤ p.stream → read_from acts left p.stream ≤ p.position → (v : ℤ) × (element_now p ≡ Some v) → IsSome (value_kept (carried_over acts left kept places values) p)
+  none_lost : IsCarried before input earlier kept → (p : Place) → 2 ≤ p.stream → read_from acts left p.stream ≤ p.position → (v : Elem) × (element_now p ≡ Some v) → IsSome (value_kept (carried_over acts left kept places values) p)
   none_lost carried p declared behind (v, now) =
       let (w, is, out) = there_produced acts input whole p v (λ z. omega arith) now in
       by_number w is out (number_in frames w.activation) refl
     where
-      by_number : (w : Window) → producer acts p.stream p.position ≡ Some w → output_at whole w.activation (w.offset + (p.position - w.first)) ≡ Some v → (n : Option ℕ) → number_in frames w.activation ≡ n → IsSome (value_kept (carried_over acts left kept places values) p)
+      by_number : (w : Window) → producer acts p.stream p.position ≡ Some w → output_at own_number whole w.activation (w.offset + (p.position - w.first)) ≡ Some v → (n : Option ℕ) → number_in frames w.activation ≡ n → IsSome (value_kept (carried_over acts left kept places values) p)
       by_number w is out (Some f) n =
           let l = read_from_left p.stream in
           let b : nat_le (read_from acts readers p.stream) p.position ≡ true = grind (arith, nat_tests) in
           let leaves = frame_leaves p w f is n (or_true (p.stream == 1) (nat_le (read_from acts readers p.stream) p.position) b) in
-          carried_there (record { place = p; value = v }) p (in_right kept (elements_at places values) _ (subst (λ (vs : List (Option ℤ)). Has (elements_at places vs) (record { place = p; value = v })) (sym values_are) (in_elements element_now places p v leaves now))) refl declared behind
+          carried_there (record { place = p; value = v }) p (in_right kept (elements_at places values) _ (subst (λ (vs : List (Option Elem)). Has (elements_at places vs) (record { place = p; value = v })) (sym values_are) (in_elements element_now places p v leaves now))) refl declared behind
         where
           or_true : (x y : Bool) → y ≡ true → (x || y) ≡ true
           or_true true y e = refl
           or_true false y e = e
       by_number w is out None n =
-          let out_before : output_at earlier w.activation (w.offset + (p.position - w.first)) ≡ Some v = ap (option_and_then (λ (q : Outcome). slice_get q.outputs (w.offset + (p.position - w.first)))) (sym (outcome_before w.activation n)) ∙ out in
-          let (o, ended) = output_outcome earlier w.activation (w.offset + (p.position - w.first)) v out_before in
+          let out_before : output_at own_number earlier w.activation (w.offset + (p.position - w.first)) ≡ Some v = ap (option_and_then (λ (q : Outcome). written w.activation q (w.offset + (p.position - w.first)))) (sym (outcome_before w.activation n)) ∙ out in
+          let (o, ended) = output_outcome own_number earlier w.activation (w.offset + (p.position - w.first)) v out_before in
           let lt = outcome_exists before input body w.activation o ended in
-          let was : element earlier (stream_source before input p) ≡ Some v = ap (element earlier) (produced_by before input p w (λ z. omega arith) (producer_less before new p.stream p.position w is lt)) ∙ out_before in
+          let was : stream_element earlier (stream_source before input p) ≡ Some v = ap (stream_element earlier) (produced_by before input p w (λ z. omega arith) (producer_less before new p.stream p.position w is lt)) ∙ out_before in
           let rises = read_from_rises p.stream in
           let (k, h, same) = there_kept kept p (carried.none_is_lost p declared (omega arith) (ap is_some was)) in
           carried_there k p (in_left kept (elements_at places values) k h) same declared behind
@@ -382,16 +386,16 @@ module _ (before new : List Activation) (input : List ℕ) (body : ℕ → List 
   carried_apart carried = apart_filter SamePlace (λ (k : Kept). is_readable acts left k.place) over_all (apart_append SamePlace kept (elements_at places values) carried.places_differ elements_apart (λ k l h g same. apart_from k l h g same) (λ k l h g same. apart_from k l h g (sym same)))
     where
       elements_apart : Apart SamePlace (elements_at places values)
-      elements_apart = subst (λ (vs : List (Option ℤ)). Apart SamePlace (elements_at places vs)) (sym values_are) (apart_elements element_now places (subst (Apart (λ p q. p ≡ q)) (sym epoch.stands.places_leave) (leaving_apart acts readers frames (λ f a at. epoch.are_open.exists f a at) (λ f g a at at'. same_Some f g (sym (epoch.are_open.numbered f a at) ∙ epoch.are_open.numbered g a at')))))
+      elements_apart = subst (λ (vs : List (Option Elem)). Apart SamePlace (elements_at places vs)) (sym values_are) (apart_elements element_now places (subst (Apart (λ p q. p ≡ q)) (sym epoch.stands.places_leave) (leaving_apart acts readers frames (λ f a at. epoch.are_open.exists f a at) (λ f g a at at'. same_Some f g (sym (epoch.are_open.numbered f a at) ∙ epoch.are_open.numbered g a at')))))
 
       apart_from : (k l : Kept) → Has kept k → Has (elements_at places values) l → k.place ≡ l.place → ⊥
       apart_from k l h g same =
-          let e = of_elements element_now places l (subst (λ (vs : List (Option ℤ)). Has (elements_at places vs) l) values_are g) in
+          let e = of_elements element_now places l (subst (λ (vs : List (Option Elem)). Has (elements_at places vs) l) values_are g) in
           let (w, is, none) = leaves_frame l.place e.0 in
-          let c = all_has (λ (k : Kept). (2 ≤ k.place.stream) × (element earlier (stream_source before input k.place) ≡ Some k.value)) kept k carried.were_written h in
+          let c = all_has (λ (k : Kept). (2 ≤ k.place.stream) × (stream_element earlier (stream_source before input k.place) ≡ Some k.value)) kept k carried.are_there h in
           let low = c.0 in
           let (v, v_is, out) = there_produced before input earlier k.place k.value (λ z. omega arith) c.1 in
-          let (o, ended) = output_outcome earlier v.activation (v.offset + (k.place.position - v.first)) k.value out in
+          let (o, ended) = output_outcome own_number earlier v.activation (v.offset + (k.place.position - v.first)) k.value out in
           let v_is' : producer acts l.place.stream l.place.position ≡ Some v = ap (λ (p : Place). producer acts p.stream p.position) (sym same) ∙ producer_more before new k.place.stream k.place.position v v_is in
           let one : v ≡ w = same_Some v w (sym v_is' ∙ is) in
           let z : outcome_at earlier v.activation ≡ None = ap (λ (u : Window). outcome_at earlier u.activation) one ∙ none in
@@ -399,24 +403,24 @@ module _ (before new : List Activation) (input : List ℕ) (body : ℕ → List 
 
   pub carries_over : IsCarried before input earlier kept → IsCarried acts input whole (carried_over acts left kept places values)
   carries_over carried = record {
-    were_written = has_all (λ (k : Kept). (2 ≤ k.place.stream) × (element whole (stream_source acts input k.place) ≡ Some k.value)) (carried_over acts left kept places values) (λ k h. let f = of_filter (λ (k : Kept). is_readable acts left k.place) over_all k h in was_written k f.1 (of_append kept (elements_at places values) k f.0));
+    are_there = has_all (λ (k : Kept). (2 ≤ k.place.stream) × (stream_element whole (stream_source acts input k.place) ≡ Some k.value)) (carried_over acts left kept places values) (λ k h. let f = of_filter (λ (k : Kept). is_readable acts left k.place) over_all k h in was_written k f.1 (of_append kept (elements_at places values) k f.0));
     places_differ = carried_apart carried;
     none_is_lost = λ p declared behind there. none_lost carried p declared behind (there_value (element_now p) there);
   }
     where
-      was_written : (k : Kept) → is_readable acts left k.place ≡ true → (Has kept k) ⊎ (Has (elements_at places values) k) → (2 ≤ k.place.stream) × (element whole (stream_source acts input k.place) ≡ Some k.value)
+      was_written : (k : Kept) → is_readable acts left k.place ≡ true → (Has kept k) ⊎ (Has (elements_at places values) k) → (2 ≤ k.place.stream) × (stream_element whole (stream_source acts input k.place) ≡ Some k.value)
       was_written k test (inl h) =
-          let w = all_has (λ (k : Kept). (2 ≤ k.place.stream) × (element earlier (stream_source before input k.place) ≡ Some k.value)) kept k carried.were_written h in
-          (w.0, element-extends earlier whole (prefix_extends before new input body).kept (stream_source acts input k.place) k.value (element_more before new input earlier k.place k.value w.1))
+          let w = all_has (λ (k : Kept). (2 ≤ k.place.stream) × (stream_element earlier (stream_source before input k.place) ≡ Some k.value)) kept k carried.are_there h in
+          (w.0, element_kept own_number earlier whole (prefix_extends before new input body).kept (stream_source acts input k.place) k.value (element_more before new input earlier k.place k.value w.1))
       was_written k test (inr h) =
-          let e = of_elements element_now places k (subst (λ (vs : List (Option ℤ)). Has (elements_at places vs) k) values_are h) in
+          let e = of_elements element_now places k (subst (λ (vs : List (Option Elem)). Has (elements_at places vs) k) values_are h) in
           let parts = and_parts (nat_le 2 k.place.stream) (nat_le (read_from acts left k.place.stream) k.place.position) test in
           let declared = parts.0 in
           let low : 2 ≤ k.place.stream = grind (arith, nat_tests) in
           (low, e.1)
 
   -- an element of the output that doesn't leave is what it was
-  pub output_stays : (p : Place) → p.stream ≡ 1 → ¬ (Contains places p) → element whole (stream_source acts input p) ≡ element earlier (stream_source before input p)
+  pub output_stays : (p : Place) → p.stream ≡ 1 → ¬ (Contains places p) → stream_element whole (stream_source acts input p) ≡ stream_element earlier (stream_source before input p)
   output_stays p one stays = by_producer (producer acts p.stream p.position) refl
     where
       other : p.stream ≢ 0
@@ -426,28 +430,28 @@ module _ (before new : List Activation) (input : List ℕ) (body : ℕ → List 
       was_none e None h = h
       was_none e (Some w) h = let z = producer_more before new p.stream p.position w h in absurd (cc)
 
-      was_not : (w : Window) → producer acts p.stream p.position ≡ Some w → outcome_at earlier w.activation ≡ None → (o : Option Window) → producer before p.stream p.position ≡ o → element earlier (stream_source before input p) ≡ None
-      was_not w is e None h = ap (element earlier) (produced_by_nobody before input p other h)
+      was_not : (w : Window) → producer acts p.stream p.position ≡ Some w → outcome_at earlier w.activation ≡ None → (o : Option Window) → producer before p.stream p.position ≡ o → stream_element earlier (stream_source before input p) ≡ None
+      was_not w is e None h = ap (stream_element earlier) (produced_by_nobody before input p other h)
       was_not w is e (Some v) h =
           let one : v ≡ w = same_Some v w (sym (producer_more before new p.stream p.position v h) ∙ is) in
-          ap (element earlier) (produced_by before input p w other (h ∙ ap Some one)) ∙ ap (option_and_then (λ (q : Outcome). slice_get q.outputs (w.offset + (p.position - w.first)))) e
+          ap (stream_element earlier) (produced_by before input p w other (h ∙ ap Some one)) ∙ ap (option_and_then (λ (q : Outcome). written w.activation q (w.offset + (p.position - w.first)))) e
 
-      by_outcome : (w : Window) → producer acts p.stream p.position ≡ Some w → number_in frames w.activation ≡ None → (o : Option Outcome) → outcome_at earlier w.activation ≡ o → element whole (stream_source acts input p) ≡ element earlier (stream_source before input p)
+      by_outcome : (w : Window) → producer acts p.stream p.position ≡ Some w → number_in frames w.activation ≡ None → (o : Option Outcome) → outcome_at earlier w.activation ≡ o → stream_element whole (stream_source acts input p) ≡ stream_element earlier (stream_source before input p)
       by_outcome w is n None e =
-          ap (element whole) (produced_by acts input p w other is)
-          ∙ ap (option_and_then (λ (q : Outcome). slice_get q.outputs (w.offset + (p.position - w.first)))) (outcome_before w.activation n ∙ e)
+          ap (stream_element whole) (produced_by acts input p w other is)
+          ∙ ap (option_and_then (λ (q : Outcome). written w.activation q (w.offset + (p.position - w.first)))) (outcome_before w.activation n ∙ e)
           ∙ sym (was_not w is e (producer before p.stream p.position) refl)
       by_outcome w is n (Some o) e =
-          ap (element whole) (produced_by acts input p w other is)
-          ∙ ap (option_and_then (λ (q : Outcome). slice_get q.outputs (w.offset + (p.position - w.first)))) (outcome_before w.activation n)
-          ∙ sym (ap (element earlier) (produced_by before input p w other (producer_less before new p.stream p.position w is (outcome_exists before input body w.activation o e))))
+          ap (stream_element whole) (produced_by acts input p w other is)
+          ∙ ap (option_and_then (λ (q : Outcome). written w.activation q (w.offset + (p.position - w.first)))) (outcome_before w.activation n)
+          ∙ sym (ap (stream_element earlier) (produced_by before input p w other (producer_less before new p.stream p.position w is (outcome_exists before input body w.activation o e))))
 
-      by_number : (w : Window) → producer acts p.stream p.position ≡ Some w → (n : Option ℕ) → number_in frames w.activation ≡ n → element whole (stream_source acts input p) ≡ element earlier (stream_source before input p)
+      by_number : (w : Window) → producer acts p.stream p.position ≡ Some w → (n : Option ℕ) → number_in frames w.activation ≡ n → stream_element whole (stream_source acts input p) ≡ stream_element earlier (stream_source before input p)
       by_number w is (Some f) n =
           let (i, at) = frame_leaves p w f is n (ap (λ (b : Bool). b || nat_le (read_from acts readers p.stream) p.position) (eq-eqb p.stream 1 one)) in
           absurd (stays (i, slice_get_within places i p at, get_or_from_slice_get places i p p at))
       by_number w is None n = by_outcome w is n (outcome_at earlier w.activation) refl
 
-      by_producer : (o : Option Window) → producer acts p.stream p.position ≡ o → element whole (stream_source acts input p) ≡ element earlier (stream_source before input p)
-      by_producer None e = ap (element whole) (produced_by_nobody acts input p other e) ∙ sym (ap (element earlier) (produced_by_nobody before input p other (was_none e (producer before p.stream p.position) refl)))
+      by_producer : (o : Option Window) → producer acts p.stream p.position ≡ o → stream_element whole (stream_source acts input p) ≡ stream_element earlier (stream_source before input p)
+      by_producer None e = ap (stream_element whole) (produced_by_nobody acts input p other e) ∙ sym (ap (stream_element earlier) (produced_by_nobody before input p other (was_none e (producer before p.stream p.position) refl)))
       by_producer (Some w) e = by_number w e (number_in frames w.activation) refl

@@ -1,26 +1,27 @@
 -- What waits for an element that can't come gets no outcome.
-use Rattle.std.proofs.Common.{◌≡◌, ℕ, ◌<◌, ℤ, List, [], ◌∷◌, ◌++◌, Option, Some, None, true, map, length, refl, sym, ap, ◌∙◌, subst, zero, suc, inl, inr, arith}
-use Rattle.std.specs.Prelude.{is_none, slice_get, option_and_then}
+use Rattle.std.proofs.Common.{◌≡◌, ℕ, ◌<◌, ℤ, List, [], ◌∷◌, ◌++◌, Option, Some, None, map, length, refl, sym, ap, ◌∙◌, subst, zero, suc, inl, inr, arith}
+use Rattle.std.specs.Prelude.{is_none}
 use Rattle.std.specs.Option.{option_map}
 use Rattle.std.specs.List.{range_with_len}
 use Rattle.std.proofs.lemmas.Bool.{cases_lt}
 use Rattle.std.proofs.lemmas.List.{get_or-map, get_or_past, length-map}
 use Rattle.std.proofs.lemmas.List.Elements.{filter_agree}
 use Rattle.std.proofs.lemmas.Option.{same_Some}
+use Rattle.flow_core_laws.specs.declared.elem.Elem.{Elem}
 use Rattle.flow_core_laws.specs.declared.activation.Activation.{Activation}
 use Rattle.flow_core_laws.specs.declared.task_end.TaskEnd.{TaskEnd}
 use Rattle.flow_core_laws.specs.declared.outcome.Outcome.{Outcome}
-use Rattle.flow_core_laws.specs.Outcome.{State, outcome_at, ends_of, is_done}
-use Rattle.flow_core_laws.specs.Element.{Source, element}
+use Rattle.flow_core_laws.specs.Outcome.{outcome_at, State, ends_of}
+use Rattle.flow_core_laws.specs.Element.{Source}
 use Rattle.flow_core_laws.specs.Place.{input_places}
 use Rattle.flow_core_laws.specs.Round.{gathered, inputs_in}
-use Rattle.flow_core_laws.specs.Streams.{stream_source, stream_reads, stream_meaning}
+use Rattle.flow_core_laws.specs.Poisoning.{poisoning}
+use Rattle.flow_core_laws.specs.Streams.{stream_source, stream_reads, stream_meaning, stream_element, own_number}
 use Rattle.flow_core_laws.proofs.Gathering.{gathered-cons}
 use Rattle.flow_core_laws.proofs.Rounds.{Extends}
-use Rattle.flow_core_epochs.specs.Epoch.{number_in, open_in, AreChosen, LeaveOutWaiting, CannotCome, unwritten, undelivered, left_out}
+use Rattle.flow_core_epochs.specs.Epoch.{number_in, open_in, AreChosen, LeaveOutWaiting, CannotCome, unwritten, left_out}
 use Rattle.flow_core_epochs.proofs.Holding.{holds_in_meaning}
 use Rattle.flow_core_epochs.proofs.Members.{Has, in_map}
-use Rattle.flow_core_epochs.proofs.Prefixes.{prefix_extends}
 use Rattle.flow_core_epochs.proofs.Frames.{ascending_numbered, open_each, open_ascend, open_all}
 use Rattle.flow_core_epochs.proofs.Epochs.{output_outcome}
 use Rattle.flow_core_epochs.proofs.Reading.{has_contained}
@@ -46,10 +47,6 @@ no_end : (o : Option Outcome) → option_map (λ (o : Outcome). o.end) o ≡ Non
 no_end None h = refl
 no_end (Some o) h = absurd (cc)
 
-an_end : (o : Option Outcome) (end : TaskEnd) → option_map (λ (o : Outcome). o.end) o ≡ Some end → (q : Outcome) × (o ≡ Some q) × (q.end ≡ end)
-an_end None end h = absurd (cc)
-an_end (Some q) end h = (q, refl, same_Some q.end end h)
-
 module _ (before new : List Activation) (input : List ℕ) (body : ℕ → List ℤ → Outcome) (frames : List ℕ) where
   abbrev acts : List Activation
   acts = before ++ new
@@ -65,28 +62,19 @@ module _ (before new : List Activation) (input : List ℕ) (body : ℕ → List 
   IsLeft a = (outcome_at earlier a ≡ None) × (number_in frames a ≡ None)
 
   -- an element that can't come isn't there
-  comes_not : (s : State) → Extends s whole → ((a : ℕ) (o : Outcome) → outcome_at s a ≡ Some o → IsLeft a → ⊥) → (source : Source) → CannotCome (ends_of earlier) frames source → (v : ℤ) → element s source ≡ Some v → ⊥
+  comes_not : (s : State) → Extends s whole → ((a : ℕ) (o : Outcome) → outcome_at s a ≡ Some o → IsLeft a → ⊥) → (source : Source) → CannotCome (ends_of earlier) frames source → (v : Elem) → stream_element s source ≡ Some v → ⊥
   comes_not s extends carries source unwritten v h = absurd (cc)
   comes_not s extends carries source (left_out b place none out) v h =
-      let (o, at) = output_outcome s b place v h in
+      let (o, at) = output_outcome own_number s b place v h in
       carries b o at (no_end (outcome_at earlier b) (sym (end_in earlier b) ∙ none), out)
-  comes_not s extends carries source (undelivered b place end is not_done) v h =
-      let (o, at) = output_outcome s b place v h in
-      let (q, q_at, q_end) = an_end (outcome_at earlier b) end (sym (end_in earlier b) ∙ is) in
-      let same : o ≡ q = same_Some o q (sym (extends.kept b o at) ∙ (prefix_extends before new input body).kept b q q_at) in
-      let o_end : o.end ≡ end = ap (λ (r : Outcome). r.end) same ∙ q_end in
-      let none : o.outputs ≡ [] = o.only_done (λ z. let t : is_done end ≡ true = ap is_done (sym o_end ∙ z) in absurd (cc)) in
-      let there : slice_get o.outputs place ≡ Some v = sym (ap (option_and_then (λ (r : Outcome). slice_get r.outputs place)) at) ∙ h in
-      let gone : slice_get o.outputs place ≡ None = ap (λ (vs : List ℤ). slice_get vs place) none in
-      absurd (cc)
 
   left_gets_none : LeaveOutWaiting (before ++ new) input (ends_of (stream_meaning before input body)) frames → (a : ℕ) (o : Outcome) → outcome_at whole a ≡ Some o → IsLeft a → ⊥
-  left_gets_none leave = holds_in_meaning element (stream_reads acts input) body (length acts) (λ a o. IsLeft a → ⊥) (record { fires = fire })
+  left_gets_none leave = holds_in_meaning stream_element (stream_reads acts input) (poisoning body) (length acts) (λ a o. IsLeft a → ⊥) (record { fires = fire })
     where
-      fire : (s : State) → Extends s whole → ((a : ℕ) (o : Outcome) → outcome_at s a ≡ Some o → IsLeft a → ⊥) → (a : ℕ) (vs : List ℤ) → a < length acts → inputs_in element (stream_reads acts input) s a ≡ Some vs → IsLeft a → ⊥
+      fire : (s : State) → Extends s whole → ((a : ℕ) (o : Outcome) → outcome_at s a ≡ Some o → IsLeft a → ⊥) → (a : ℕ) (vs : List Elem) → a < length acts → inputs_in stream_element (stream_reads acts input) s a ≡ Some vs → IsLeft a → ⊥
       fire s extends carries a vs lt inputs (none, out) =
           let (p, reads, cannot) = leave.others_wait a lt (end_in earlier a ∙ ap (option_map (λ (o : Outcome). o.end)) none) out in
-          let (v, there) = gathered_each (element s) (stream_reads acts input a) vs inputs (stream_source acts input p) (in_map (stream_source acts input) (input_places acts a) p (has_contained (input_places acts a) p reads)) in
+          let (v, there) = gathered_each (stream_element s) (stream_reads acts input a) vs inputs (stream_source acts input p) (in_map (stream_source acts input) (input_places acts a) p (has_contained (input_places acts a) p reads)) in
           comes_not s extends carries (stream_source acts input p) cannot v there
 
   pub chosen_by : LeaveOutWaiting (before ++ new) input (ends_of (stream_meaning before input body)) frames → AreChosen before new input body frames

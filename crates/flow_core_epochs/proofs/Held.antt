@@ -1,38 +1,39 @@
 -- That what is held between epochs is what all activations so far mean.
-use Rattle.std.proofs.Common.{◌≡◌, ℕ, ◌+◌, ◌<◌, ◌≤◌, ℤ, List, [], ◌∷◌, ◌++◌, Option, Some, None, Bool, true, false, cond, map, length, get_or, take, drop, refl, sym, ap, ◌∙◌, subst, ◌⊎◌, inl, inr, arith}
-use Rattle.std.specs.Prelude.{filter, Contains, ◌==◌, sum_by}
+use Rattle.std.proofs.Common.{[], ◌≡◌, ℕ, ◌<◌, ◌≤◌, ℤ, List, ◌∷◌, ◌++◌, Option, Some, None, Bool, true, false, cond, map, length, get_or, refl, sym, ap, ◌∙◌, subst, ◌⊎◌, inl, inr, arith, ◌+◌, take, drop}
+use Rattle.std.specs.Prelude.{Contains, ◌==◌, filter, sum_by}
 use Rattle.std.specs.Option.{option_map, option_map_or}
 use Rattle.std.specs.List.{range_with_len, position, position_or_len}
 use Rattle.std.proofs.lemmas.Bool.{cases_lt, eq-eqb, eqb-true, and_parts, lt-ltb}
 use Rattle.std.proofs.lemmas.List.{same_lists, get_or-map, get_or_past, get_or_default, length-map, take-append-drop, take_more}
-use Rattle.std.proofs.lemmas.List.Elements.{filter-append}
-use Rattle.std.proofs.lemmas.List.Sums.{sum_by-append, fails_before_first}
+use Rattle.std.proofs.lemmas.List.Sums.{fails_before_first, sum_by-append}
 use Rattle.std.proofs.lemmas.List.FromFn.{get_or-map-range_with_len, length-map-range_with_len}
 use Rattle.std.proofs.lemmas.List.Quantifiers.{position-Some}
 use Rattle.std.proofs.lemmas.Option.{slice_get_within, slice_get-get_or, get_or_from_slice_get}
-use Rattle.flow_core_laws.specs.declared.claim.Claim.{Claim}
+use Rattle.flow_core_laws.specs.declared.elem.Elem.{Elem}
 use Rattle.flow_core_laws.specs.declared.activation.Activation.{Activation}
 use Rattle.flow_core_laws.specs.declared.task_end.TaskEnd.{TaskEnd}
 use Rattle.flow_core_laws.specs.declared.outcome.Outcome.{Outcome}
 use Rattle.flow_core_laws.specs.declared.ends.Ends.{Ends}
 use Rattle.flow_core_laws.specs.declared.plan.Plan.{Plan}
-use Rattle.flow_core_laws.specs.Outcome.{State, outcome_at, ends_of}
-use Rattle.flow_core_laws.specs.Element.{element}
+use Rattle.flow_core_laws.specs.Outcome.{outcome_at, State, ends_of}
 use Rattle.flow_core_laws.specs.Round.{meaning, rounds}
-use Rattle.flow_core_laws.specs.FirstPosition.{is_write_to, write_cursor}
-use Rattle.flow_core_laws.specs.Window.{Window, windows, claims_of, is_written_by, producer}
+use Rattle.flow_core_laws.specs.Window.{Window, producer, windows, claims_of, is_written_by}
 use Rattle.flow_core_laws.specs.Place.{Place, written_count}
 use Rattle.flow_core_laws.specs.Plans.{sink_elements}
-use Rattle.flow_core_laws.specs.Streams.{stream_source, stream_reads, stream_meaning, output_elements}
-use Rattle.flow_core_laws.proofs.Sources.{find_passes}
+use Rattle.flow_core_laws.specs.Poisoning.{poisoning}
+use Rattle.flow_core_laws.specs.Streams.{stream_source, stream_reads, stream_meaning, output_elements, stream_element}
 use Rattle.flow_core_laws.proofs.Rounds.{length-meaning}
-use Rattle.flow_core_laws.proofs.Windows.{window_at, written, first_of_write}
-use Rattle.flow_core_epochs.specs.Epoch.{Kept, open_in, number_in, put_over, carried_over, is_output_at, output_over, IsKeptFor, IsCarried, IsOutside, ReadNoOutput, StandsForEpoch, LeaveOutWaiting, IsEpoch, IsHeld, IsHeldAfter, epoch_meaning}
+use Rattle.flow_core_epochs.specs.Epoch.{open_in, number_in, put_over, is_output_at, ReadNoOutput, Kept, carried_over, output_over, IsKeptFor, IsCarried, IsOutside, StandsForEpoch, LeaveOutWaiting, IsEpoch, IsHeld, IsHeldAfter, epoch_meaning}
 use Rattle.flow_core_epochs.proofs.Members.{Has}
 use Rattle.flow_core_epochs.proofs.Epochs.{HasEpoch, over_frame, over_other, over_is_whole}
 use Rattle.flow_core_epochs.proofs.Choosing.{end_in, chosen_by, open_by_ends}
 use Rattle.flow_core_epochs.proofs.Leaving.{sink_leaves}
 use Rattle.flow_core_epochs.proofs.Carried.{nothing_at_first, serves_next, is_outside, carries_over, output_stays, produced_by_nobody}
+use Rattle.std.proofs.lemmas.List.Elements.{filter-append}
+use Rattle.flow_core_laws.specs.declared.claim.Claim.{Claim}
+use Rattle.flow_core_laws.specs.FirstPosition.{is_write_to, write_cursor}
+use Rattle.flow_core_laws.proofs.Sources.{find_passes}
+use Rattle.flow_core_laws.proofs.Windows.{window_at, written, first_of_write}
 
 -- a write claim ends within what is written
 write_cursor-append : (s : ℕ) (xs ys : List Claim) → write_cursor s (xs ++ ys) ≡ write_cursor s xs + write_cursor s ys
@@ -41,51 +42,34 @@ write_cursor-append s xs ys = ap (sum_by (λ (c : Claim). c.horizon)) (filter-ap
 write_cursor-one : (s : ℕ) (c : Claim) → is_write_to s c ≡ true → write_cursor s (c ∷ []) ≡ c.horizon
 write_cursor-one s c h = ap (λ (b : Bool). sum_by (λ (d : Claim). d.horizon) (cond b (c ∷ []) [])) h ∙ (let e : 0 + c.horizon ≡ c.horizon = omega arith in e)
 
-pub written_within : (activations : List Activation) (s p : ℕ) (w : Window) → producer activations s p ≡ Some w → p < written_count activations s
-written_within activations s p w h =
-    let (i, at, passes) = find_passes (is_written_by s p) (windows activations) w h in
-    let x = written s p w passes in
-    let on = x.on_stream in
-    let high = x.to in
-    let cs = claims_of activations in
-    let q = window_at activations i w at in
-    let within : i < length cs = slice_get_within cs i w.claim q.is_claim in
-    let is : get_or cs i w.claim ≡ w.claim = get_or_from_slice_get cs i w.claim w.claim q.is_claim in
-    let begin : w.first ≡ write_cursor s (take i cs) = q.begins ∙ first_of_write s (take i cs) w.claim on in
-    let next : take (i + 1) cs ≡ take i cs ++ w.claim ∷ [] = take_more cs i w.claim within ∙ ap (λ (c : Claim). take i cs ++ c ∷ []) is in
-    let whole : write_cursor s cs ≡ write_cursor s (take (i + 1) cs) + write_cursor s (drop (i + 1) cs) = ap (write_cursor s) (sym (take-append-drop (i + 1) cs)) ∙ write_cursor-append s (take (i + 1) cs) (drop (i + 1) cs) in
-    let one : write_cursor s (take (i + 1) cs) ≡ write_cursor s (take i cs) + write_cursor s (w.claim ∷ []) = ap (write_cursor s) next ∙ write_cursor-append s (take i cs) (w.claim ∷ []) in
-    let horizon : write_cursor s (w.claim ∷ []) ≡ w.claim.horizon = write_cursor-one s w.claim on in
-    omega (arith, begin, whole, one, horizon)
-
 -- the place of an output position
 abbrev pub at_output : ℕ → Place
 at_output at = record { stream = 1; position = at }
 
 -- the elements of the output by position
-pub output_elements-at : (activations : List Activation) (input : List ℕ) (state : State) → output_elements activations input state ≡ map (λ at. element state (stream_source activations input (at_output at))) (range_with_len 0 (written_count activations 1))
+pub output_elements-at : (activations : List Activation) (input : List ℕ) (state : State) → output_elements activations input state ≡ map (λ at. stream_element state (stream_source activations input (at_output at))) (range_with_len 0 (written_count activations 1))
 output_elements-at activations input state = maps (range_with_len 0 (written_count activations 1))
   where
-    maps : (xs : List ℕ) → map (element state) (map (stream_source activations input) (map at_output xs)) ≡ map (λ at. element state (stream_source activations input (at_output at))) xs
+    maps : (xs : List ℕ) → map (stream_element state) (map (stream_source activations input) (map at_output xs)) ≡ map (λ at. stream_element state (stream_source activations input (at_output at))) xs
     maps [] = refl
-    maps (x ∷ xs) = ap (λ ys. element state (stream_source activations input (at_output x)) ∷ ys) (maps xs)
+    maps (x ∷ xs) = ap (λ ys. stream_element state (stream_source activations input (at_output x)) ∷ ys) (maps xs)
 
 -- an element of the output at a position, also past the last one
-pub output_element : (activations : List Activation) (input : List ℕ) (state : State) (at : ℕ) → get_or (output_elements activations input state) at None ≡ element state (stream_source activations input (at_output at))
-output_element activations input state at = ap (λ (os : List (Option ℤ)). get_or os at None) (output_elements-at activations input state) ∙ by_order (cases_lt at (written_count activations 1))
+pub output_element : (activations : List Activation) (input : List ℕ) (state : State) (at : ℕ) → get_or (output_elements activations input state) at None ≡ stream_element state (stream_source activations input (at_output at))
+output_element activations input state at = ap (λ (os : List (Option Elem)). get_or os at None) (output_elements-at activations input state) ∙ by_order (cases_lt at (written_count activations 1))
   where
-    f : ℕ → Option ℤ
-    f n = element state (stream_source activations input (at_output n))
+    f : ℕ → Option Elem
+    f n = stream_element state (stream_source activations input (at_output n))
 
     past : written_count activations 1 ≤ at → (o : Option Window) → producer activations 1 at ≡ o → producer activations 1 at ≡ None
     past ge None e = e
     past ge (Some w) e = let lt = written_within activations 1 at w e in absurd (omega arith)
 
-    by_order : (at < written_count activations 1) ⊎ (written_count activations 1 ≤ at) → get_or (map (λ n. element state (stream_source activations input (at_output n))) (range_with_len 0 (written_count activations 1))) at None ≡ element state (stream_source activations input (at_output at))
+    by_order : (at < written_count activations 1) ⊎ (written_count activations 1 ≤ at) → get_or (map (λ n. stream_element state (stream_source activations input (at_output n))) (range_with_len 0 (written_count activations 1))) at None ≡ stream_element state (stream_source activations input (at_output at))
     by_order (inl lt) = get_or-map-range_with_len f 0 (written_count activations 1) at at None lt (omega arith)
     by_order (inr ge) =
         get_or_past (map f (range_with_len 0 (written_count activations 1))) at None (omega (arith, length-map-range_with_len f 0 (written_count activations 1)))
-        ∙ sym (ap (element state) (produced_by_nobody activations input (at_output at) (λ z. omega arith) (past ge (producer activations 1 at) refl)))
+        ∙ sym (ap (stream_element state) (produced_by_nobody activations input (at_output at) (λ z. omega arith) (past ge (producer activations 1 at) refl)))
 
 -- what passes stands at a number
 none_passes : {A : Type 0} (test : A → Bool) (xs : List A) (x : A) → position test xs ≡ None → Has xs x → test x ≡ true → ⊥
@@ -100,20 +84,7 @@ none_passes test xs x e (i, at) passes =
         let t : test (get_or xs i x) ≡ true = ap test (get_or_from_slice_get xs i x x at) ∙ passes in
         absurd (cc)
 
-pub held_at_first : (input : List ℕ) (body : ℕ → List ℤ → Outcome) → IsHeld [] input body [] [] []
-unfolding meaning rounds
-held_at_first input body = record { ends_are_meant = refl; kept_is_carried = nothing_at_first input body; output_is_meant = refl }
-
-pub begins_epoch : (before new : List Activation) (input : List ℕ) (body : ℕ → List ℤ → Outcome) (ends : List (Option TaskEnd)) (kept : List Kept) (output : List (Option ℤ)) (readers frames : List ℕ) → ReadNoOutput (before ++ new) → IsHeld before input body ends kept output → readers ≡ open_in ends (length (before ++ new)) → LeaveOutWaiting (before ++ new) input ends frames
-    → IsOutside (before ++ new) frames kept × ((plan : Plan) (places : List Place) → StandsForEpoch plan (before ++ new) input readers frames kept places → IsEpoch before new input body readers frames kept plan places)
-begins_epoch before new input body ends kept output readers frames no_output held is leave =
-    let state = stream_meaning before input body in
-    let n = length (before ++ new) in
-    let e : readers ≡ open_in state n = is ∙ ap (λ (es : List (Option TaskEnd)). open_in es n) held.ends_are_meant ∙ open_by_ends state n in
-    let chosen = chosen_by before new input body frames (subst (λ (es : List (Option TaskEnd)). LeaveOutWaiting (before ++ new) input es frames) held.ends_are_meant leave) in
-    (is_outside before new input body kept frames (λ f a h. (chosen.are_open f a h).1) held.kept_is_carried, λ plan places stands. record { readers_are_open = e; frames_are_chosen = chosen; has_kept = subst (λ (fs : List ℕ). IsKeptFor (before ++ new) input state fs kept) (sym e) (serves_next before new input body kept no_output held.kept_is_carried); plan_stands = stands })
-
-module _ (before new : List Activation) (input : List ℕ) (body : ℕ → List ℤ → Outcome) (readers frames : List ℕ) (kept : List Kept) (plan : Plan) (places : List Place) (epoch : HasEpoch before new input body readers frames kept plan places) (ends : List (Option TaskEnd)) (output : List (Option ℤ)) (run : Ends) (held : IsHeld before input body ends kept output) (run_ends : run.ends ≡ ends_of (epoch_meaning plan frames body)) (run_output : run.output ≡ sink_elements plan (epoch_meaning plan frames body)) where
+module _ (before new : List Activation) (input : List ℕ) (body : ℕ → List ℤ → Outcome) (readers frames : List ℕ) (kept : List Kept) (plan : Plan) (places : List Place) (epoch : HasEpoch before new input body readers frames kept plan places) (ends : List (Option TaskEnd)) (output : List (Option Elem)) (run : Ends) (held : IsHeld before input body ends kept output) (run_ends : run.ends ≡ ends_of (epoch_meaning plan frames body)) (run_output : run.output ≡ sink_elements plan (epoch_meaning plan frames body)) where
   abbrev acts : List Activation
   acts = before ++ new
 
@@ -149,16 +120,16 @@ module _ (before new : List Activation) (input : List ℕ) (body : ℕ → List 
   ends_are_whole = same_lists (map end_after (range_with_len 0 (length acts))) (ends_of whole) (length-map-range_with_len end_after 0 (length acts) ∙ sym l) (λ k d lt. at k d (omega (arith, length-map-range_with_len end_after 0 (length acts))))
     where
       l : length (ends_of whole) ≡ length acts
-      l = length-map whole (option_map (λ (o : Outcome). o.end)) ∙ length-meaning element (stream_reads acts input) body (length acts)
+      l = length-map whole (option_map (λ (o : Outcome). o.end)) ∙ length-meaning stream_element (stream_reads acts input) (poisoning body) (length acts)
 
       at : (k : ℕ) (d : Option TaskEnd) → k < length acts → get_or (map end_after (range_with_len 0 (length acts))) k d ≡ get_or (ends_of whole) k d
       at k d lt = get_or-map-range_with_len end_after 0 (length acts) k k d lt (omega arith) ∙ end_is_whole k ∙ get_or_default (ends_of whole) k None d (omega (arith, l))
 
-  abbrev element_after : ℕ → Option ℤ
+  abbrev element_after : ℕ → Option Elem
   element_after at = option_map_or (λ i. get_or run.output i None) (position (is_output_at at) places) (get_or output at None)
 
-  abbrev element_now : Place → Option ℤ
-  element_now p = element whole (stream_source acts input p)
+  abbrev element_now : Place → Option Elem
+  element_now p = stream_element whole (stream_source acts input p)
 
   -- each element of the output is that of the run
   element_is_whole : (at : ℕ) → element_after at ≡ element_now (at_output at)
@@ -178,12 +149,12 @@ module _ (before new : List Activation) (input : List ℕ) (body : ℕ → List 
           let lt = p.0 in
           let is : get_or places i (at_output at) ≡ at_output at = same_place (get_or places i (at_output at)) p.1 in
           ap (λ (o : Option ℕ). option_map_or (λ i. get_or run.output i None) o (get_or output at None)) e
-          ∙ ap (λ (os : List (Option ℤ)). get_or os i None) (run_output ∙ sink_leaves before new input body readers frames kept plan places epoch)
+          ∙ ap (λ (os : List (Option Elem)). get_or os i None) (run_output ∙ sink_leaves before new input body readers frames kept plan places epoch)
           ∙ get_or-map element_now places i (at_output at) None lt
           ∙ ap element_now is
       by_number None e =
           ap (λ (o : Option ℕ). option_map_or (λ i. get_or run.output i None) o (get_or output at None)) e
-          ∙ ap (λ (os : List (Option ℤ)). get_or os at None) held.output_is_meant
+          ∙ ap (λ (os : List (Option Elem)). get_or os at None) held.output_is_meant
           ∙ output_element before input earlier at
           ∙ sym (output_stays before new input body readers frames kept plan places epoch (at_output at) refl (not_there e))
 
@@ -198,6 +169,36 @@ module _ (before new : List Activation) (input : List ℕ) (body : ℕ → List 
   held_after = record {
     ends_are_meant = ends_are_whole;
     kept_is_carried = subst (λ (fs : List ℕ). IsCarried acts input whole (carried_over acts fs kept places run.output)) (sym (ap (λ (es : List (Option TaskEnd)). open_in es (length acts)) ends_are_whole ∙ open_by_ends whole (length acts)))
-        (subst (λ (vs : List (Option ℤ)). IsCarried acts input whole (carried_over acts (open_in whole (length acts)) kept places vs)) (sym run_output) (carries_over before new input body readers frames kept plan places epoch held.kept_is_carried));
+        (subst (λ (vs : List (Option Elem)). IsCarried acts input whole (carried_over acts (open_in whole (length acts)) kept places vs)) (sym run_output) (carries_over before new input body readers frames kept plan places epoch held.kept_is_carried));
     output_is_meant = output_is_whole;
   }
+
+pub written_within : (activations : List Activation) (s p : ℕ) (w : Window) → producer activations s p ≡ Some w → p < written_count activations s
+written_within activations s p w h =
+    let (i, at, passes) = find_passes (is_written_by s p) (windows activations) w h in
+    let x = written s p w passes in
+    let on = x.on_stream in
+    let high = x.to in
+    let cs = claims_of activations in
+    let q = window_at activations i w at in
+    let within : i < length cs = slice_get_within cs i w.claim q.is_claim in
+    let is : get_or cs i w.claim ≡ w.claim = get_or_from_slice_get cs i w.claim w.claim q.is_claim in
+    let begin : w.first ≡ write_cursor s (take i cs) = q.begins ∙ first_of_write s (take i cs) w.claim on in
+    let next : take (i + 1) cs ≡ take i cs ++ w.claim ∷ [] = take_more cs i w.claim within ∙ ap (λ (c : Claim). take i cs ++ c ∷ []) is in
+    let whole : write_cursor s cs ≡ write_cursor s (take (i + 1) cs) + write_cursor s (drop (i + 1) cs) = ap (write_cursor s) (sym (take-append-drop (i + 1) cs)) ∙ write_cursor-append s (take (i + 1) cs) (drop (i + 1) cs) in
+    let one : write_cursor s (take (i + 1) cs) ≡ write_cursor s (take i cs) + write_cursor s (w.claim ∷ []) = ap (write_cursor s) next ∙ write_cursor-append s (take i cs) (w.claim ∷ []) in
+    let horizon : write_cursor s (w.claim ∷ []) ≡ w.claim.horizon = write_cursor-one s w.claim on in
+    omega (arith, begin, whole, one, horizon)
+
+pub held_at_first : (input : List ℕ) (body : ℕ → List ℤ → Outcome) → IsHeld [] input body [] [] []
+unfolding meaning rounds
+held_at_first input body = record { ends_are_meant = refl; kept_is_carried = nothing_at_first input body; output_is_meant = refl }
+
+pub begins_epoch : (before new : List Activation) (input : List ℕ) (body : ℕ → List ℤ → Outcome) (ends : List (Option TaskEnd)) (kept : List Kept) (output : List (Option Elem)) (readers frames : List ℕ) → ReadNoOutput (before ++ new) → IsHeld before input body ends kept output → readers ≡ open_in ends (length (before ++ new)) → LeaveOutWaiting (before ++ new) input ends frames
+    → IsOutside (before ++ new) frames kept × ((plan : Plan) (places : List Place) → StandsForEpoch plan (before ++ new) input readers frames kept places → IsEpoch before new input body readers frames kept plan places)
+begins_epoch before new input body ends kept output readers frames no_output held is leave =
+    let state = stream_meaning before input body in
+    let n = length (before ++ new) in
+    let e : readers ≡ open_in state n = is ∙ ap (λ (es : List (Option TaskEnd)). open_in es n) held.ends_are_meant ∙ open_by_ends state n in
+    let chosen = chosen_by before new input body frames (subst (λ (es : List (Option TaskEnd)). LeaveOutWaiting (before ++ new) input es frames) held.ends_are_meant leave) in
+    (is_outside before new input body kept frames (λ f a h. (chosen.are_open f a h).1) held.kept_is_carried, λ plan places stands. record { readers_are_open = e; frames_are_chosen = chosen; has_kept = subst (λ (fs : List ℕ). IsKeptFor (before ++ new) input state fs kept) (sym e) (serves_next before new input body kept no_output held.kept_is_carried); plan_stands = stands })

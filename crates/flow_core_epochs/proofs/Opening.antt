@@ -4,17 +4,17 @@ use Rattle.std.specs.Prelude.{All, IsSome}
 use Rattle.flow_core_laws.specs.declared.activation.Activation.{Activation}
 use Rattle.flow_core_laws.specs.declared.plan.Plan.{Plan}
 use Rattle.flow_core_laws.specs.declared.outcome.Outcome.{Outcome}
-use Rattle.flow_core_laws.specs.Element.{element}
 use Rattle.flow_core_laws.specs.Place.{Place, input_places}
-use Rattle.flow_core_laws.specs.Streams.{stream_meaning, stream_source}
+use Rattle.flow_core_laws.specs.Streams.{stream_meaning, stream_source, stream_element}
 use Rattle.flow_core_epochs.specs.Epoch.{Kept, IsEpoch, AreChosen, value_kept}
-use Rattle.flow_core_epochs.proofs.Frames.{AreTaken, ascending_numbered}
+use Rattle.flow_core_epochs.proofs.Frames.{ascending_numbered}
+use Rattle.flow_core_epochs.proofs.Taken.{AreTaken}
 use Rattle.flow_core_epochs.proofs.Epochs.{HasEpoch}
 use Rattle.flow_core_epochs.proofs.Members.{Has}
 use Rattle.flow_core_epochs.proofs.Carried.{all_has, has_all, in_open}
 
 pub has_epoch : (before new : List Activation) (input : List ℕ) (body : ℕ → List ℤ → Outcome) (readers frames : List ℕ) (kept : List Kept) (plan : Plan) (places : List Place) → IsEpoch before new input body readers frames kept plan places → HasEpoch before new input body readers frames kept plan places
-has_epoch before new input body readers frames kept plan places e = record { readers_are = e.readers_are_open; are_open = taken; kept_well = record { were_written = e.has_kept.were_written; none_is_missing = frames_keep }; stands = e.plan_stands }
+has_epoch before new input body readers frames kept plan places e = record { readers_are = e.readers_are_open; are_open = taken; kept_well = record { are_there = e.has_kept.are_there; none_is_missing = frames_keep }; stands = e.plan_stands }
   where
     chosen : AreChosen before new input body frames
     chosen = e.frames_are_chosen
@@ -28,7 +28,7 @@ has_epoch before new input body readers frames kept plan places e = record { rea
     }
 
     Keeps : ℕ → Type 0
-    Keeps a = All (λ (p : Place). p.stream ≢ 0 → IsSome (element (stream_meaning before input body) (stream_source (before ++ new) input p)) → IsSome (value_kept kept p)) (input_places (before ++ new) a)
+    Keeps a = All (λ (p : Place). p.stream ≢ 0 → IsSome (stream_element (stream_meaning before input body) (stream_source (before ++ new) input p)) → IsSome (value_kept kept p)) (input_places (before ++ new) a)
 
-    frames_keep : All (λ a. All (λ (p : Place). p.stream ≢ 0 → IsSome (element (stream_meaning before input body) (stream_source (before ++ new) input p)) → IsSome (value_kept kept p)) (input_places (before ++ new) a)) frames
+    frames_keep : All (λ a. All (λ (p : Place). p.stream ≢ 0 → IsSome (stream_element (stream_meaning before input body) (stream_source (before ++ new) input p)) → IsSome (value_kept kept p)) (input_places (before ++ new) a)) frames
     frames_keep = has_all Keeps frames (λ a h. let (f, at) = h in all_has Keeps readers a e.has_kept.none_is_missing (subst (λ (xs : List ℕ). Has xs a) (sym e.readers_are_open) (in_open (stream_meaning before input body) (length (before ++ new)) a (chosen.are_open f a at).0 (chosen.are_open f a at).1)))

@@ -21,6 +21,7 @@ serves_frames plan activations input readers frames kept places body takes stand
   takes_each = λ f lt. (below f lt, subst (λ n. takes (at f) n (frame_at plan f).outputs) (sym (inputs_fit f lt)) (subst (takes (at f) (length (input_places activations (at f)))) (sym (outputs_fit f lt)) (serves.takes_each (at f) (activation f) (activation_is f lt))));
   fills_outputs = λ f inputs lt n done. serves.fills_outputs (at f) (activation f) inputs (activation_is f lt) (n ∙ inputs_fit f lt) done ∙ sym (outputs_fit f lt);
   traps_have_codes = λ f inputs code line lt n trapped. serves.traps_have_codes (at f) inputs code line (exist f 0 (below f lt)) (n ∙ inputs_fit f lt) trapped;
+  are_never_poisoned = λ f inputs root lt n. serves.are_never_poisoned (at f) inputs root (exist f 0 (below f lt)) (n ∙ inputs_fit f lt);
 }
   where
     at : ℕ → ℕ

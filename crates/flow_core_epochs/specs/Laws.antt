@@ -1,17 +1,23 @@
--- The laws of runs in parts, as statements.
-use Rattle.std.specs.Prelude.{◌≡◌, ℕ, ℤ, ◌≤◌, ◌<◌, ◌⊎◌, List, [], ◌++◌, Option, Some, All, Contains, slice_get, slice_index, map, length}
+-- The laws of runs in parts, as statements. Where activations read is said in `flow_core_epochs`.
+use Rattle.std.specs.Prelude.{[], ◌≡◌, ℕ, ℤ, ◌<◌, List, ◌++◌, Option, Some, All, Contains, slice_get, slice_index, map, length, ◌≤◌, ◌⊎◌}
 use Rattle.flow_core_laws.specs.declared.activation.Activation.{Activation}
+use Rattle.flow_core_laws.specs.Outcome.{outcome_at, ends_of}
+use Rattle.flow_core_laws.specs.Place.{Place, input_places}
+use Rattle.flow_core_epochs.specs.Epoch.{open_in, put_over, ReadNoOutput, Kept, IsKeptFor, StandsForEpoch, AreChosen, LeaveOutWaiting, IsEpoch, epoch_meaning, carried_over, IsCarried, IsOutside, IsHeld, IsHeldAfter, ServesAll, read_from}
+use Rattle.flow_core_laws.specs.declared.elem.Elem.{Elem}
 use Rattle.flow_core_laws.specs.declared.plan.Plan.{Plan}
 use Rattle.flow_core_laws.specs.declared.outcome.Outcome.{Outcome}
 use Rattle.flow_core_laws.specs.declared.task_end.TaskEnd.{TaskEnd}
 use Rattle.flow_core_laws.specs.declared.ends.Ends.{Ends}
-use Rattle.flow_core_laws.specs.Outcome.{outcome_at, ends_of}
-use Rattle.flow_core_laws.specs.Element.{element}
-use Rattle.flow_core_laws.specs.Place.{Place, input_places}
-use Rattle.flow_core_laws.specs.Streams.{stream_source, stream_meaning}
+use Rattle.flow_core_laws.specs.Streams.{stream_source, stream_element, stream_meaning}
 use Rattle.flow_core_laws.specs.Plans.{sink_elements}
 use Rattle.flow_core_laws.specs.Serves.{Serves}
-use Rattle.flow_core_epochs.specs.Epoch.{Kept, open_in, put_over, IsKeptFor, StandsForEpoch, AreChosen, LeaveOutWaiting, IsEpoch, epoch_meaning, read_from, carried_over, IsCarried, IsOutside, ReadNoOutput, IsHeld, IsHeldAfter, ServesAll}
+
+-- what a frame or a later activation reads lies where `read_from` says, or behind it
+abbrev pub ReadsLieBehind : Type 0
+ReadsLieBehind =
+    (activations more : List Activation) (frames : List ℕ) (a : ℕ) (p : Place) → (Contains frames a) ⊎ (length activations ≤ a)
+    → Contains (input_places (activations ++ more) a) p → read_from activations frames p.stream ≤ p.position
 
 -- an activation with an outcome has the same one with more activations behind
 abbrev pub KeepsPrefixes : Type 0
@@ -44,13 +50,7 @@ FramesEnd =
 abbrev pub SinkIsWhatLeaves : Type 0
 SinkIsWhatLeaves =
     OfEpochs (λ before new input body readers frames kept plan places. sink_elements plan (epoch_meaning plan frames body)
-    ≡ map (λ (p : Place). element (stream_meaning (before ++ new) input body) (stream_source (before ++ new) input p)) places)
-
--- what a frame or a later activation reads lies where `read_from` says, or behind it
-abbrev pub ReadsLieBehind : Type 0
-ReadsLieBehind =
-    (activations more : List Activation) (frames : List ℕ) (a : ℕ) (p : Place) → (Contains frames a) ⊎ (length activations ≤ a)
-    → Contains (input_places (activations ++ more) a) p → read_from activations frames p.stream ≤ p.position
+    ≡ map (λ (p : Place). stream_element (stream_meaning (before ++ new) input body) (stream_source (before ++ new) input p)) places)
 
 -- before the first epoch there is nothing to carry
 abbrev pub NothingAtFirst : Type 0
@@ -76,8 +76,8 @@ CarriesOver =
 abbrev pub OutputStays : Type 0
 OutputStays =
     OfEpochs (λ before new input body readers frames kept plan places. (p : Place) → p.stream ≡ 1 → ¬ (Contains places p)
-    → element (stream_meaning (before ++ new) input body) (stream_source (before ++ new) input p)
-    ≡ element (stream_meaning before input body) (stream_source before input p))
+    → stream_element (stream_meaning (before ++ new) input body) (stream_source (before ++ new) input p)
+    ≡ stream_element (stream_meaning before input body) (stream_source before input p))
 
 -- Before the first epoch nothing is held.
 abbrev pub HeldAtFirst : Type 0
@@ -87,7 +87,7 @@ HeldAtFirst = (input : List ℕ) (body : ℕ → List ℤ → Outcome) → IsHel
 abbrev pub BeginsEpoch : Type 0
 BeginsEpoch =
     (before new : List Activation) (input : List ℕ) (body : ℕ → List ℤ → Outcome) (ends : List (Option TaskEnd)) (kept : List Kept)
-    (output : List (Option ℤ))
+    (output : List (Option Elem))
     (readers frames : List ℕ)
     → ReadNoOutput (before ++ new) → IsHeld before input body ends kept output → readers ≡ open_in ends (length (before ++ new))
     → LeaveOutWaiting (before ++ new) input ends frames
@@ -109,7 +109,7 @@ AllLeaveOutNothing =
 -- And what an epoch comes to is held after it.
 abbrev pub EndsEpoch : Type 0
 EndsEpoch =
-    OfEpochs (λ before new input body readers frames kept plan places. (ends : List (Option TaskEnd)) (output : List (Option ℤ)) (run : Ends)
+    OfEpochs (λ before new input body readers frames kept plan places. (ends : List (Option TaskEnd)) (output : List (Option Elem)) (run : Ends)
     → IsHeld before input body ends kept output → run.ends ≡ ends_of (epoch_meaning plan frames body)
     → run.output ≡ sink_elements plan (epoch_meaning plan frames body)
     → IsHeldAfter (before ++ new) input body (put_over ends frames run.ends (length (before ++ new))) kept output places run.output)

@@ -1,11 +1,12 @@
 //! The laws. Each is a call that does nothing and ensures its law.
 
 ghost use Rattle.std.specs.Prelude.{◌≡◌, [], ◌∷◌, Some, pos};
-ghost use Rattle.flow_core_laws.specs.declared.task_end.TaskEnd.TheVariants.{Done};
+ghost use Rattle.flow_core_epochs.specs.Epoch.{put_over, IsEpoch, epoch_meaning};
+ghost use Rattle.flow_core_laws.specs.declared.elem.Elem.TheVariants.{Value, Poison};
+ghost use Rattle.flow_core_laws.specs.declared.task_end.TaskEnd.TheVariants.{Done, Trapped, OverBudget, Poisoned};
 ghost use Rattle.flow_core_laws.specs.Outcome.{outcome_of};
 ghost use Rattle.flow_core_laws.specs.Streams.{stream_meaning};
 ghost use Rattle.flow_core_laws.specs.IsSound.{IsSound};
-ghost use Rattle.flow_core_epochs.specs.Epoch.{IsEpoch, put_over, epoch_meaning};
 ghost use Rattle.flow_core_epochs.specs.Example as example;
 ghost use Rattle.flow_core_epochs.specs.Laws.{KeepsPrefixes, AddsUp, FramesEnd, SinkIsWhatLeaves, ReadsLieBehind, NothingAtFirst, ServesNext, CarriesOver, OutputStays, HeldAtFirst, BeginsEpoch, EndsEpoch, ServesFrames, WaitingGetsNone, AllLeaveOutNothing};
 
@@ -55,11 +56,17 @@ pub fn serving<B: Bodies>(bodies: &B)
     ensures { ServesFrames (B.outcome bodies.now) (B.takes bodies.now) }
 {}
 
-/// An epoch that is written out: its plan is sound and stands for it, and its outcomes put over those
-/// before are all.
+/// Two runs in two epochs that are written out. In one the first writer traps: its plan is sound and stands for the second
+/// epoch, into which its poison is kept, and the reader there is poisoned by it. In the other one the second writer uses up
+/// its turns, and the reader is poisoned by its number, which is 2, and not by that of its frame, which is 1.
 pub fn example()
-    ensures is_epoch { IsEpoch example.before example.new [] example.body (1 ∷ 2 ∷ []) (1 ∷ 2 ∷ []) example.kept example.plan example.places }
-    ensures sound { IsSound example.plan }
-    ensures put_over { put_over (stream_meaning example.before [] example.body) (1 ∷ 2 ∷ []) (epoch_meaning example.plan (1 ∷ 2 ∷ []) example.body) 3
-        ≡ Some (outcome_of Done (pos 7 ∷ pos 8 ∷ [])) ∷ Some (outcome_of Done (pos 17 ∷ [])) ∷ Some (outcome_of Done (pos 9 ∷ [])) ∷ [] }
+    ensures is_epoch { IsEpoch example.before example.new [] (example.body (Trapped 2 5) Done) (1 ∷ 2 ∷ []) (1 ∷ 2 ∷ [])
+        (example.kept (Poison 0)) (example.plan (Poison 0)) example.places }
+    ensures sound { IsSound (example.plan (Poison 0)) }
+    ensures kept_poison { put_over (stream_meaning example.before [] (example.body (Trapped 2 5) Done)) (1 ∷ 2 ∷ [])
+        (epoch_meaning (example.plan (Poison 0)) (1 ∷ 2 ∷ []) (example.body (Trapped 2 5) Done)) 3
+        ≡ Some (outcome_of (Trapped 2 5) []) ∷ Some (outcome_of (Poisoned 0) []) ∷ Some (outcome_of Done (pos 9 ∷ [])) ∷ [] }
+    ensures new_poison { put_over (stream_meaning example.before [] (example.body Done OverBudget)) (1 ∷ 2 ∷ [])
+        (epoch_meaning (example.plan (Value (pos 8))) (1 ∷ 2 ∷ []) (example.body Done OverBudget)) 3
+        ≡ Some (outcome_of Done (pos 7 ∷ pos 8 ∷ [])) ∷ Some (outcome_of (Poisoned 2) []) ∷ Some (outcome_of OverBudget []) ∷ [] }
 {}

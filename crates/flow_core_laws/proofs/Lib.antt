@@ -2,6 +2,9 @@ pub mod Counting
 pub mod Sources
 pub mod Gathering
 pub mod Rounds
+pub mod Elements
+pub mod Roots
+pub mod Failed
 pub mod Examples
 pub mod Stretches
 pub mod Filtered

@@ -4,9 +4,7 @@ use Rattle.std.specs.Option.{option_map, option_or}
 use Rattle.std.proofs.lemmas.List.{length-replicate, get_or-replicate, get_or_past, get_or_default, same_lists}
 use Rattle.std.proofs.lemmas.List.FromFn.{get_or-map-range_with_len, length-map-range_with_len}
 use Rattle.std.proofs.lemmas.Bool.{cases_lt}
-use Rattle.flow_core_laws.specs.declared.outcome.Outcome.{Outcome}
 use Rattle.flow_core_laws.specs.Outcome.{outcome_at}
-use Rattle.flow_core_laws.specs.Element.{given, fed, nobody, element, output_at}
 use Rattle.flow_core_laws.specs.Laws.{IsKept}
 use Rattle.flow_core_laws.proofs.Gathering.{gathered-weaker}
 use Rattle.flow_core_laws.specs.Round.{gathered, inputs_in, after_round, round, rounds, meaning}
@@ -244,13 +242,3 @@ module _ {S V O : Type 0} (element : List (Option O) → S → Option V) where
   pub meaning_of_same_reads : (reads reads' : ℕ → List S) (body : ℕ → List V → O) (count : ℕ) → ((a : ℕ) → a < count → reads a ≡ reads' a) → meaning element reads body count ≡ meaning element reads' body count
   unfolding meaning
   meaning_of_same_reads reads reads' body count same = after_of_same_reads reads reads' body count count same
-
--- the elements of streams and plans are kept
-pub element-extends : IsKept element
-element-extends s t e (given w) v h = h
-element-extends s t e (fed a k) v h = output_more (outcome_at s a) refl
-  where
-    output_more : (o : Option Outcome) → outcome_at s a ≡ o → output_at t a k ≡ Some v
-    output_more None q = cc
-    output_more (Some o) q = let r = e a o q in cc
-element-extends s t e nobody v h = cc

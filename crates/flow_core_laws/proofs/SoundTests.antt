@@ -1,5 +1,5 @@
 -- Tests that show a written-out plan to be sound.
-use Rattle.std.proofs.Common.{◌≡◌, ℕ, zero, suc, ◌+◌, ◌-◌, ◌<◌, ◌≤◌, ℤ, List, [], ◌∷◌, Option, Some, None, Bool, true, false, length, set, refl, sym, ap, ◌∙◌, subst, ◌⊎◌, inl, inr, arith}
+use Rattle.std.proofs.Common.{◌≡◌, ◌≢◌, ℕ, zero, suc, ◌+◌, ◌-◌, ◌<◌, ◌≤◌, ℤ, List, [], ◌∷◌, Option, Some, None, Bool, true, false, length, set, refl, sym, ap, ◌∙◌, subst, ◌⊎◌, inl, inr, arith}
 use Rattle.std.specs.Prelude.{slice_get, is_none, ◌&&◌, ◌||◌, ◌==◌, if◌then◌else◌, IsTrue, nat_le, nat_lt, ◌↔◌, sum_by}
 use Rattle.std.specs.Option.{option_map_or}
 use Rattle.std.proofs.lemmas.Bool.{and_parts, eq-eqb, eqb-true, le-leb, leb-true, lt-ltb, ltb-true, cases_lt}
@@ -8,9 +8,10 @@ use Rattle.std.proofs.lemmas.Option.{slice_get_within}
 use Rattle.flow_core_laws.specs.declared.plan.FramePlan.{FramePlan}
 use Rattle.flow_core_laws.specs.declared.plan.Piece.{Piece}
 use Rattle.flow_core_laws.specs.declared.plan.Plan.{Plan}
-use Rattle.flow_core_laws.specs.Plans.{frame_at, value_at, missing_of}
+use Rattle.flow_core_laws.specs.declared.elem.Elem.{Elem}
+use Rattle.flow_core_laws.specs.Plans.{frame_at, number_at, held_at, missing_of}
 use Rattle.flow_core_laws.specs.declared.task_end.TaskEnd.{TaskEnd}
-use Rattle.flow_core_laws.specs.declared.task_end.TaskEnd.TheVariants.{Done, Trapped, OverBudget}
+use Rattle.flow_core_laws.specs.declared.task_end.TaskEnd.TheVariants.{Done, Trapped, OverBudget, Poisoned}
 use Rattle.flow_core_laws.specs.declared.outcome.Outcome.{Outcome}
 use Rattle.flow_core_laws.specs.Outcome.{outcome_of}
 use Rattle.flow_core_laws.specs.Serves.{Serves}
@@ -116,28 +117,34 @@ together plan f number p h = (there, back)
         let t : is_own plan f number ≡ true = ap (λ (b : Bool). b && nat_lt number ((frame_at plan f).piece + (frame_at plan f).pieces)) l ∙ u in
         eqb-true p.from f (same ∙ t)
 
--- the tests on pairs of pieces, and on the values at opening
+-- the tests on pairs of pieces, and on what cells hold at opening
 abbrev pub pairs_test : Plan → Bool
 pairs_test plan = all_pieces plan (λ i p. all_pieces plan (λ j q. i == j || is_apart p.at p.count q.at q.count))
 
 abbrev pub spares_test : Plan → Bool
-spares_test plan = all_pieces plan (λ i p. all_below (λ k. is_none (value_at plan.filled (p.at + k))) p.count)
+spares_test plan = all_pieces plan (λ i p. all_below (λ k. is_none (held_at plan.filled (p.at + k))) p.count)
+
+-- the test on the numbers of two frames
+abbrev pub ascend_test : Plan → ℕ → Bool
+ascend_test plan g = all_below (λ f. nat_lt (number_at plan f) (number_at plan g)) g
 
 -- either of two tests
 either : (a b : Bool) → (a || b) ≡ true → (a ≡ true) ⊎ (b ≡ true)
 either true b h = inl refl
 either false b h = inr h
 
-is_none-true : (o : Option ℤ) → is_none o ≡ true → o ≡ None
+is_none-true : (o : Option Elem) → is_none o ≡ true → o ≡ None
 is_none-true None h = refl
 is_none-true (Some v) h = absurd (cc)
 
-pub IsSound-from_tests : (plan : Plan) → nat_le (length plan.frames) 65536 ≡ true → nat_le (length plan.filled) 4194304 ≡ true → all_below (outputs_test plan) (suc (length plan.frames)) ≡ true → nat_le (sum_by (λ (p : FramePlan). p.outputs) plan.frames) 4194304 ≡ true → all_below (exist_test plan) (suc (length plan.frames)) ≡ true → all_below (apart_test plan) (suc (length plan.frames)) ≡ true → all_below (wait_test plan) (suc (length plan.frames)) ≡ true → all_pieces plan (piece_test plan) ≡ true → all_below (pieces_test plan) (suc (length plan.frames)) ≡ true → all_below (together_test plan) (suc (length plan.frames)) ≡ true → pairs_test plan ≡ true → spares_test plan ≡ true → IsSound plan
-IsSound-from_tests plan few cells outputs together_few exist apart wait sound pieces stand pairs spares = record {
+pub IsSound-from_tests : (plan : Plan) → nat_le (length plan.frames) 65536 ≡ true → nat_le (length plan.filled) 4194304 ≡ true → all_below (outputs_test plan) (suc (length plan.frames)) ≡ true → nat_le (sum_by (λ (p : FramePlan). p.outputs) plan.frames) 4194304 ≡ true → (length plan.numbers == length plan.frames) ≡ true → all_below (ascend_test plan) (length plan.frames) ≡ true → all_below (exist_test plan) (suc (length plan.frames)) ≡ true → all_below (apart_test plan) (suc (length plan.frames)) ≡ true → all_below (wait_test plan) (suc (length plan.frames)) ≡ true → all_pieces plan (piece_test plan) ≡ true → all_below (pieces_test plan) (suc (length plan.frames)) ≡ true → all_below (together_test plan) (suc (length plan.frames)) ≡ true → pairs_test plan ≡ true → spares_test plan ≡ true → IsSound plan
+IsSound-from_tests plan few cells outputs together_few numbers ascend exist apart wait sound pieces stand pairs spares = record {
   frames_are_few = leb-true _ _ few;
   cells_are_few = leb-true _ _ cells;
   outputs_are_few = λ f le. leb-true _ _ (below (outputs_test plan) (suc (length plan.frames)) f outputs (omega arith));
   all_outputs_are_few = leb-true _ _ together_few;
+  numbers_are_of_frames = eqb-true _ _ numbers;
+  numbers_ascend = λ f g less lt. ltb-true _ _ (below (λ h. nat_lt (number_at plan h) (number_at plan g)) g f (below (ascend_test plan) (length plan.frames) g ascend lt) less);
   cells_exist = λ f le. leb-true _ _ (below (exist_test plan) (suc (length plan.frames)) f exist (omega arith));
   cells_are_apart = λ f g c f_le g_le f_has g_has. one_frame f g c f_has g_has (either (f == g) _ (below (λ h. f == h || is_apart (frame_at plan f).cell (frame_at plan f).inputs (frame_at plan h).cell (frame_at plan h).inputs) (suc (length plan.frames)) g (below (apart_test plan) (suc (length plan.frames)) f apart (omega arith)) (omega arith)));
   wait_counts = λ f le. eqb-true _ _ (below (wait_test plan) (suc (length plan.frames)) f wait (omega arith));
@@ -159,17 +166,18 @@ IsSound-from_tests plan few cells outputs together_few exist apart wait sound pi
         decide (inl same) = eqb-true i j same
         decide (inr different) = absurd (apart_stretches p.at p.count q.at q.count c different low high from to)
 
-    spared : (number c : ℕ) → Covers plan number c → value_at plan.filled c ≡ None
+    spared : (number c : ℕ) → Covers plan number c → held_at plan.filled c ≡ None
     spared number c (p, p_is, low, high) =
-        let t : is_none (value_at plan.filled (p.at + (c - p.at))) ≡ true = below (λ k. is_none (value_at plan.filled (p.at + k))) p.count (c - p.at) (piece_passes plan (λ i r. all_below (λ k. is_none (value_at plan.filled (r.at + k))) r.count) number p spares p_is) (omega arith) in
+        let t : is_none (held_at plan.filled (p.at + (c - p.at))) ≡ true = below (λ k. is_none (held_at plan.filled (p.at + k))) p.count (c - p.at) (piece_passes plan (λ i r. all_below (λ k. is_none (held_at plan.filled (r.at + k))) r.count) number p spares p_is) (omega arith) in
         let e : p.at + (c - p.at) ≡ c = omega arith in
-        is_none-true (value_at plan.filled c) (ap (λ (k : ℕ). is_none (value_at plan.filled k)) (sym e) ∙ t)
+        is_none-true (held_at plan.filled c) (ap (λ (k : ℕ). is_none (held_at plan.filled k)) (sym e) ∙ t)
 
--- whether an end is no trap of another code than 1 to 8
+-- whether an end is one of a body: no trap of another code than 1 to 8, and no poison
 abbrev pub end_test : TaskEnd → Bool
 end_test Done = true
 end_test (Trapped code line) = nat_le 1 code && nat_le code 8
 end_test OverBudget = true
+end_test (Poisoned root) = false
 
 code_between : (e : TaskEnd) (code line : ℕ) → end_test e ≡ true → e ≡ Trapped code line → (1 ≤ code) × (code ≤ 8)
 code_between Done code line h is = absurd (cc)
@@ -178,17 +186,23 @@ code_between (Trapped c l) code line h is =
     let e : c ≡ code = cc in
     subst (λ (k : ℕ). (1 ≤ k) × (k ≤ 8)) e (leb-true _ _ parts.0, leb-true _ _ parts.1)
 code_between OverBudget code line h is = absurd (cc)
+code_between (Poisoned root) code line h is = absurd (cc)
+
+no_poison : (e : TaskEnd) (root : ℕ) → end_test e ≡ true → e ≢ Poisoned root
+no_poison e root h is = let z : true ≡ false = sym h ∙ ap end_test is in absurd (cc)
 
 -- the parts of an outcome
 pub outcome_of-end : (e : TaskEnd) (outputs : List ℤ) → (outcome_of e outputs).end ≡ e
 outcome_of-end Done outputs = refl
 outcome_of-end (Trapped code line) outputs = refl
 outcome_of-end OverBudget outputs = refl
+outcome_of-end (Poisoned root) outputs = refl
 
 pub outcome_of-outputs : (e : TaskEnd) (outputs : List ℤ) → e ≡ Done → (outcome_of e outputs).outputs ≡ outputs
 outcome_of-outputs Done outputs h = refl
 outcome_of-outputs (Trapped code line) outputs h = absurd (cc)
 outcome_of-outputs OverBudget outputs h = absurd (cc)
+outcome_of-outputs (Poisoned root) outputs h = absurd (cc)
 
 -- bodies that copy their inputs or give one value, by a rule for each frame
 abbrev pub counts_test : Plan → (ℕ → Bool) → ℕ → Bool
@@ -203,6 +217,7 @@ Serves-from_rules plan count ends copies v few counts codes = record {
   takes_each = λ f lt. (let l = leb-true (length plan.frames) count few in omega arith, below (counts_test plan copies) (length plan.frames) f counts lt);
   fills_outputs = λ f inputs lt len done. ap length (outcome_of-outputs (ends f) (if copies f then inputs else v ∷ []) (sym (outcome_of-end (ends f) (if copies f then inputs else v ∷ [])) ∙ done)) ∙ outputs_fit (copies f) (frame_at plan f).inputs (frame_at plan f).outputs inputs v (below (counts_test plan copies) (length plan.frames) f counts lt) len;
   traps_have_codes = λ f inputs code line lt len is. code_between (ends f) code line (below (λ g. end_test (ends g)) (length plan.frames) f codes lt) (sym (outcome_of-end (ends f) (if copies f then inputs else v ∷ [])) ∙ is);
+  are_never_poisoned = λ f inputs root lt len is. no_poison (ends f) root (below (λ g. end_test (ends g)) (length plan.frames) f codes lt) (sym (outcome_of-end (ends f) (if copies f then inputs else v ∷ [])) ∙ is);
 }
 
 pub Serves-at : {outcome : ℕ → List ℤ → Outcome} {takes : ℕ → ℕ → ℕ → Type 0} (p q : Plan) → p ≡ q → Serves q outcome takes → Serves p outcome takes

@@ -1,18 +1,19 @@
 -- The source of a cell of a sound plan, and the pieces.
-use Rattle.std.proofs.Common.{map, ◌≡◌, ℕ, zero, suc, ◌+◌, ◌-◌, ◌<◌, ◌≤◌, ℤ, List, [], ◌∷◌, Option, Some, None, Bool, true, false, cond, length, get_or, refl, sym, ap, ◌∙◌, subst, arith}
-use Rattle.std.specs.Prelude.{slice_get, find, option_and_then, nat_lt}
+use Rattle.std.proofs.Common.{[], map, ◌≡◌, ℕ, ◌+◌, ◌-◌, ◌<◌, ◌≤◌, List, ◌∷◌, Option, Some, None, refl, sym, ap, ◌∙◌, zero, suc, Bool, true, false, cond, length, get_or, subst, arith}
+use Rattle.std.specs.Prelude.{slice_get, option_and_then, find, nat_lt}
 use Rattle.std.specs.Option.{option_map_or}
-use Rattle.std.specs.List.{position, position_or_len}
 use Rattle.std.proofs.lemmas.List.Quantifiers.{position-Some}
-use Rattle.std.proofs.lemmas.List.Sums.{position_or_len_is}
-use Rattle.std.proofs.lemmas.Option.{same_Some, slice_get_within, slice_get-get_or, get_or_from_slice_get}
-use Rattle.std.proofs.lemmas.Bool.{lt-ltb}
-use Rattle.std.proofs.lemmas.Bool.Decides.{nat_tests}
+use Rattle.std.proofs.lemmas.Option.{get_or_from_slice_get, same_Some, slice_get_within, slice_get-get_or}
 use Rattle.flow_core_laws.specs.declared.plan.Piece.{Piece}
+use Rattle.flow_core_laws.specs.Plans.{is_covered_by, held_at, piece_at, piece_source, cell_source}
+use Rattle.flow_core_laws.specs.declared.elem.Elem.{Elem}
 use Rattle.flow_core_laws.specs.declared.plan.Plan.{Plan}
 use Rattle.flow_core_laws.specs.Element.{Source, given, fed, nobody}
-use Rattle.flow_core_laws.specs.Plans.{value_at, is_covered_by, piece_at, piece_source, cell_source}
 use Rattle.flow_core_laws.specs.IsSound.{IsSound}
+use Rattle.std.specs.List.{position, position_or_len}
+use Rattle.std.proofs.lemmas.List.Sums.{position_or_len_is}
+use Rattle.std.proofs.lemmas.Bool.{lt-ltb}
+use Rattle.std.proofs.lemmas.Bool.Decides.{nat_tests}
 
 -- what a search finds stands somewhere and passes
 pub find_passes : {A : Type 0} (test : A → Bool) (xs : List A) (x : A) → find test xs ≡ Some x → (i : ℕ) × (slice_get xs i ≡ Some x) × (test x ≡ true)
@@ -60,14 +61,14 @@ piece_at-covered plan number c p sound is low high =
 pub cell_source-covered : (plan : Plan) (number c : ℕ) (p : Piece) → IsSound plan → slice_get plan.pieces number ≡ Some p → p.at ≤ c → c < p.at + p.count → cell_source plan c ≡ fed p.from (p.first + (c - p.at))
 unfolding cell_source
 cell_source-covered plan number c p sound is low high =
-    let empty : value_at plan.filled c ≡ None = sound.pieces_spare_the_filled number c (p, is, low, high) in
+    let empty : held_at plan.filled c ≡ None = sound.pieces_spare_the_filled number c (p, is, low, high) in
     let found = ap (option_and_then (λ n. slice_get plan.pieces n)) (piece_at-covered plan number c p sound is low high) ∙ is in
-    ap (λ (o : Option ℤ). option_map_or given o (piece_source plan c)) empty ∙ ap (λ (o : Option Piece). option_map_or (λ (r : Piece). fed r.from (r.first + (c - r.at))) o nobody) found
+    ap (λ (o : Option Elem). option_map_or given o (piece_source plan c)) empty ∙ ap (λ (o : Option Piece). option_map_or (λ (r : Piece). fed r.from (r.first + (c - r.at))) o nobody) found
 
 -- a cell that a frame feeds is covered by a piece of that frame
 pub fed-covered : (plan : Plan) (c frame place : ℕ) → cell_source plan c ≡ fed frame place → (number : ℕ) × (p : Piece) × (slice_get plan.pieces number ≡ Some p) × (p.at ≤ c) × (c < p.at + p.count) × (p.from ≡ frame) × (p.first + (c - p.at) ≡ place)
 unfolding cell_source
-fed-covered plan c frame place h = by_number (value_at plan.filled c) (piece_at plan c) refl h
+fed-covered plan c frame place h = by_number (held_at plan.filled c) (piece_at plan c) refl h
   where
     by_piece : (number : ℕ) (f : Option Piece) → slice_get plan.pieces number ≡ f → piece_at plan c ≡ Some number → option_map_or (λ (r : Piece). fed r.from (r.first + (c - r.at))) f nobody ≡ fed frame place → (number : ℕ) × (p : Piece) × (slice_get plan.pieces number ≡ Some p) × (p.at ≤ c) × (c < p.at + p.count) × (p.from ≡ frame) × (p.first + (c - p.at) ≡ place)
     by_piece number None is e h = absurd (cc)
@@ -76,12 +77,12 @@ fed-covered plan c frame place h = by_number (value_at plan.filled c) (piece_at 
         let w = test_covers c p (ap (is_covered_by c) (sym (get_or_from_slice_get plan.pieces number p p is)) ∙ passes) in
         (number, p, is, w.0, w.1, cc, cc)
 
-    by_number : (o : Option ℤ) (n : Option ℕ) → piece_at plan c ≡ n → option_map_or given o (option_map_or (λ (r : Piece). fed r.from (r.first + (c - r.at))) (option_and_then (λ number. slice_get plan.pieces number) n) nobody) ≡ fed frame place → (number : ℕ) × (p : Piece) × (slice_get plan.pieces number ≡ Some p) × (p.at ≤ c) × (c < p.at + p.count) × (p.from ≡ frame) × (p.first + (c - p.at) ≡ place)
+    by_number : (o : Option Elem) (n : Option ℕ) → piece_at plan c ≡ n → option_map_or given o (option_map_or (λ (r : Piece). fed r.from (r.first + (c - r.at))) (option_and_then (λ number. slice_get plan.pieces number) n) nobody) ≡ fed frame place → (number : ℕ) × (p : Piece) × (slice_get plan.pieces number ≡ Some p) × (p.at ≤ c) × (c < p.at + p.count) × (p.from ≡ frame) × (p.first + (c - p.at) ≡ place)
     by_number (Some v) n e h = absurd (cc)
     by_number None None e h = absurd (cc)
     by_number None (Some number) e h = by_piece number (slice_get plan.pieces number) refl e h
 
 -- the sources of cells, one by one
-pub map_map : (f : ℕ → Source) (g : Source → Option ℤ) (xs : List ℕ) → map g (map f xs) ≡ map (λ x. g (f x)) xs
+pub map_map : (f : ℕ → Source) (g : Source → Option Elem) (xs : List ℕ) → map g (map f xs) ≡ map (λ x. g (f x)) xs
 map_map f g [] = refl
-map_map f g (x ∷ xs) = ap (λ (ys : List (Option ℤ)). g (f x) ∷ ys) (map_map f g xs)
+map_map f g (x ∷ xs) = ap (λ (ys : List (Option Elem)). g (f x) ∷ ys) (map_map f g xs)

@@ -1,32 +1,31 @@
 -- That the ends and the length of the input say which elements are there.
-use Rattle.std.proofs.Common.{◌≡◌, ℕ, ◌+◌, ◌-◌, ◌<◌, ◌≤◌, ℤ, pos, List, [], ◌∷◌, ◌++◌, Option, Some, None, Bool, true, false, cond, length, get_or, take, drop, refl, sym, ap, ◌∙◌, inl, inr, arith}
-use Rattle.std.proofs.Math.Path.{fun_ext}
+use Rattle.std.proofs.Common.{[], ◌≡◌, ℕ, ◌+◌, ◌-◌, ◌<◌, ℤ, pos, List, Option, Some, None, Bool, true, false, cond, length, get_or, take, refl, sym, ap, ◌∙◌, inl, inr, arith, ◌≤◌, ◌∷◌, ◌++◌, drop}
 use Rattle.std.specs.Prelude.{slice_get, filter, sum_by, is_some, ◌==◌, nat_lt, option_and_then}
-use Rattle.std.specs.Bool.{beq}
 use Rattle.std.specs.Option.{option_map, option_map_or}
 use Rattle.std.proofs.lemmas.Bool.{cases_lt, and_parts, lt-ltb}
 use Rattle.std.proofs.lemmas.Bool.Decides.{nat_tests}
-use Rattle.std.proofs.lemmas.List.{take-append-drop, take_more, get_or-map, get_or_past, length-map}
-use Rattle.std.proofs.lemmas.List.Elements.{filter-append}
-use Rattle.std.proofs.lemmas.List.Sums.{sum_by-append}
+use Rattle.std.proofs.lemmas.List.{get_or-map, get_or_past, length-map, take-append-drop, take_more}
 use Rattle.std.proofs.lemmas.Option.{slice_get-get_or, slice_get_past}
 use Rattle.flow_core_laws.specs.declared.claim.Claim.{Claim}
 use Rattle.flow_core_laws.specs.declared.activation.Activation.{Activation}
-use Rattle.flow_core_laws.specs.declared.task_end.TaskEnd.{TaskEnd}
-use Rattle.flow_core_laws.specs.declared.task_end.TaskEnd.TheVariants.{Done, Trapped, OverBudget}
-use Rattle.flow_core_laws.specs.declared.outcome.Outcome.{Outcome}
-use Rattle.flow_core_laws.specs.Outcome.{State, outcome_at, ends_of, is_done, is_done_at}
-use Rattle.flow_core_laws.specs.Element.{given, fed, nobody, element, output_at}
-use Rattle.flow_core_laws.specs.Window.{Window, windows, claims_at, claim_at, no_claim, offset_after, is_written_by, producer}
+use Rattle.flow_core_laws.specs.Outcome.{outcome_at, State, ends_of, root_of, has_end_at}
+use Rattle.flow_core_laws.specs.Window.{Window, windows, claims_at, claim_at, offset_after, is_written_by, producer, no_claim}
 use Rattle.flow_core_laws.specs.Place.{Place}
-use Rattle.flow_core_laws.specs.Streams.{input_source, produced_source, stream_source, output_count}
-use Rattle.flow_core_laws.specs.There.{is_there}
-use Rattle.flow_core_laws.specs.Laws.{IsFilled}
+use Rattle.flow_core_laws.specs.Streams.{output_count, input_source, produced_source, stream_source, own_number, stream_element}
 use Rattle.flow_core_laws.proofs.Sources.{find_passes}
 use Rattle.flow_core_laws.proofs.Windows.{is_window, written, claims_at-slice_get}
-
-no_activation : Activation
-no_activation = record { site = 0; captured = []; claims = [] }
+use Rattle.flow_core_laws.specs.declared.elem.Elem.TheVariants.{Value}
+use Rattle.flow_core_laws.specs.declared.task_end.TaskEnd.{TaskEnd}
+use Rattle.flow_core_laws.specs.declared.task_end.TaskEnd.TheVariants.{Done, Trapped, OverBudget, Poisoned}
+use Rattle.flow_core_laws.specs.declared.outcome.Outcome.{Outcome}
+use Rattle.flow_core_laws.specs.Element as elements
+use Rattle.flow_core_laws.specs.Element.{given, fed, nobody, output_element, output_at}
+use Rattle.flow_core_laws.specs.There.{is_there}
+use Rattle.flow_core_laws.specs.Laws.{IsFilled}
+use Rattle.std.proofs.Math.Path.{fun_ext}
+use Rattle.std.specs.Bool.{beq}
+use Rattle.std.proofs.lemmas.List.Elements.{filter-append}
+use Rattle.std.proofs.lemmas.List.Sums.{sum_by-append}
 
 -- the horizons of the write claims
 abbrev all_written : List Claim → ℕ
@@ -49,8 +48,11 @@ offset_within cs k lt writes =
     let before : offset_after (take k cs) c ≡ all_written (take k cs) = ap (λ (b : Bool). sum_by (λ (d : Claim). d.horizon) (filter (λ (d : Claim). beq b d.write) (take k cs))) writes ∙ ap (λ (test : Claim → Bool). sum_by (λ (d : Claim). d.horizon) (filter test (take k cs))) (fun_ext (λ (d : Claim). beq-true d.write)) in
     omega (arith, whole, front, one, before)
 
+no_activation : Activation
+no_activation = record { site = 0; captured = []; claims = [] }
+
 -- the element of a producer lies within its activation's outputs
-element_within : (activations : List Activation) (stream position : ℕ) (w : Window) → producer activations stream position ≡ Some w → (x : Activation) × (slice_get activations w.activation ≡ Some x) × (w.offset + (position - w.first) < output_count x)
+pub element_within : (activations : List Activation) (stream position : ℕ) (w : Window) → producer activations stream position ≡ Some w → (x : Activation) × (slice_get activations w.activation ≡ Some x) × (w.offset + (position - w.first) < output_count x)
 element_within activations stream position w h =
     let (i, at, passes) = find_passes (is_written_by stream position) (windows activations) w h in
     let writes = written stream position w passes in
@@ -71,41 +73,44 @@ element_within activations stream position w h =
     activation_there a lt = (get_or activations a no_activation, slice_get-get_or activations a no_activation lt)
 
 -- the ends of a state
-end_of : (state : State) (a : ℕ) → get_or (ends_of state) a None ≡ option_map (λ (o : Outcome). o.end) (outcome_at state a)
+pub end_of : (state : State) (a : ℕ) → get_or (ends_of state) a None ≡ option_map (λ (o : Outcome). o.end) (outcome_at state a)
 end_of state a = elim (cases_lt a (length state)) [
   | inl lt ↦ get_or-map (option_map (λ (o : Outcome). o.end)) state a None None lt
   | inr ge ↦ get_or_past (ends_of state) a None (omega (arith, length-map state (option_map (λ (o : Outcome). o.end)))) ∙ ap (option_map (λ (o : Outcome). o.end)) (sym (get_or_past state a None ge))
 ]
 
--- an output element of an activation is there where the activation is Done
-output_there : (activations : List Activation) (state : State) (a place : ℕ) (x : Activation) → IsFilled activations state → slice_get activations a ≡ Some x → place < output_count x → is_some (output_at state a place) ≡ is_done_at (ends_of state) a
-output_there activations state a place x filled x_is lt = by_outcome (outcome_at state a) refl ∙ ap (λ (e : Option TaskEnd). option_map_or is_done e false) (sym (end_of state a))
+-- an output element of an activation is there where the activation has an end
+output_there : (activations : List Activation) (state : State) (a place : ℕ) (x : Activation) → IsFilled activations state → slice_get activations a ≡ Some x → place < output_count x → is_some (output_at own_number state a place) ≡ has_end_at (ends_of state) a
+output_there activations state a place x filled x_is lt = by_outcome (outcome_at state a) refl ∙ ap (λ (e : Option TaskEnd). is_some e) (sym (end_of state a))
   where
-    by_end : (o : Outcome) (e : TaskEnd) → outcome_at state a ≡ Some o → o.end ≡ e → is_some (slice_get o.outputs place) ≡ is_done e
-    by_end o Done is e = let l = filled a x o x_is is e in ap is_some (slice_get-get_or o.outputs place (pos 0) (omega arith))
-    by_end o (Trapped code line) is e = ap (λ (vs : List ℤ). is_some (slice_get vs place)) (o.only_done (λ d. let z : Trapped code line ≡ Done = sym e ∙ d in absurd (cc)))
-    by_end o OverBudget is e = ap (λ (vs : List ℤ). is_some (slice_get vs place)) (o.only_done (λ d. let z : OverBudget ≡ Done = sym e ∙ d in absurd (cc)))
+    by_end : (o : Outcome) (e : TaskEnd) → outcome_at state a ≡ Some o → o.end ≡ e → is_some (output_element (root_of a o.end) o.outputs place) ≡ true
+    by_end o Done is e =
+        let l = filled a x o x_is is e in
+        ap (λ (end : TaskEnd). is_some (output_element (root_of a end) o.outputs place)) e ∙ ap (λ (v : Option ℤ). is_some (option_map Value v)) (slice_get-get_or o.outputs place (pos 0) (omega arith))
+    by_end o (Trapped code line) is e = ap (λ (end : TaskEnd). is_some (output_element (root_of a end) o.outputs place)) e
+    by_end o OverBudget is e = ap (λ (end : TaskEnd). is_some (output_element (root_of a end) o.outputs place)) e
+    by_end o (Poisoned root) is e = ap (λ (end : TaskEnd). is_some (output_element (root_of a end) o.outputs place)) e
 
-    by_outcome : (o : Option Outcome) → outcome_at state a ≡ o → is_some (output_at state a place) ≡ option_map_or is_done (option_map (λ (q : Outcome). q.end) (outcome_at state a)) false
-    by_outcome None is = ap (λ (p : Option Outcome). is_some (option_and_then (λ (q : Outcome). slice_get q.outputs place) p)) is ∙ sym (ap (λ (p : Option Outcome). option_map_or is_done (option_map (λ (q : Outcome). q.end) p) false) is)
-    by_outcome (Some o) is = ap (λ (p : Option Outcome). is_some (option_and_then (λ (q : Outcome). slice_get q.outputs place) p)) is ∙ by_end o o.end is refl ∙ sym (ap (λ (p : Option Outcome). option_map_or is_done (option_map (λ (q : Outcome). q.end) p) false) is)
+    by_outcome : (o : Option Outcome) → outcome_at state a ≡ o → is_some (output_at own_number state a place) ≡ is_some (option_map (λ (q : Outcome). q.end) (outcome_at state a))
+    by_outcome None is = ap (λ (p : Option Outcome). is_some (option_and_then (λ (q : Outcome). elements.written a q place) p)) is ∙ sym (ap (λ (p : Option Outcome). is_some (option_map (λ (q : Outcome). q.end) p)) is)
+    by_outcome (Some o) is = ap (λ (p : Option Outcome). is_some (option_and_then (λ (q : Outcome). elements.written a q place) p)) is ∙ by_end o o.end is refl ∙ sym (ap (λ (p : Option Outcome). is_some (option_map (λ (q : Outcome). q.end) p)) is)
 
 -- an element of the input is there below the length
-input_there : (input : List ℕ) (state : State) (position : ℕ) → is_some (element state (input_source input position)) ≡ nat_lt position (length input)
+input_there : (input : List ℕ) (state : State) (position : ℕ) → is_some (stream_element state (input_source input position)) ≡ nat_lt position (length input)
 input_there input state position = elim (cases_lt position (length input)) [
-  | inl lt ↦ ap (λ (o : Option ℕ). is_some (element state (option_map_or (λ byte. given (pos byte)) o nobody))) (slice_get-get_or input position 0 lt) ∙ sym (lt-ltb position (length input) lt)
-  | inr ge ↦ ap (λ (o : Option ℕ). is_some (element state (option_map_or (λ byte. given (pos byte)) o nobody))) (slice_get_past input position ge) ∙ (grind (arith, nat_tests))
+  | inl lt ↦ ap (λ (o : Option ℕ). is_some (stream_element state (option_map_or (λ byte. given (Value (pos byte))) o nobody))) (slice_get-get_or input position 0 lt) ∙ sym (lt-ltb position (length input) lt)
+  | inr ge ↦ ap (λ (o : Option ℕ). is_some (stream_element state (option_map_or (λ byte. given (Value (pos byte))) o nobody))) (slice_get_past input position ge) ∙ (grind (arith, nat_tests))
 ]
 
-pub there_by_ends : (activations : List Activation) (input : List ℕ) (state : State) (place : Place) → IsFilled activations state → is_some (element state (stream_source activations input place)) ≡ is_there activations (length input) (ends_of state) place
+pub there_by_ends : (activations : List Activation) (input : List ℕ) (state : State) (place : Place) → IsFilled activations state → is_some (stream_element state (stream_source activations input place)) ≡ is_there activations (length input) (ends_of state) place
 there_by_ends activations input state place filled = by_stream (place.stream == 0)
   where
-    by_producer : (o : Option Window) → producer activations place.stream place.position ≡ o → is_some (element state (option_map_or (λ (w : Window). fed w.activation (w.offset + (place.position - w.first))) o nobody)) ≡ option_map_or (λ (w : Window). is_done_at (ends_of state) w.activation) o false
+    by_producer : (o : Option Window) → producer activations place.stream place.position ≡ o → is_some (stream_element state (option_map_or (λ (w : Window). fed w.activation (w.offset + (place.position - w.first))) o nobody)) ≡ option_map_or (λ (w : Window). has_end_at (ends_of state) w.activation) o false
     by_producer None h = refl
     by_producer (Some w) h =
         let (x, x_is, lt) = element_within activations place.stream place.position w h in
         output_there activations state w.activation (w.offset + (place.position - w.first)) x filled x_is lt
 
-    by_stream : (b : Bool) → is_some (element state (cond b (input_source input place.position) (produced_source activations place.stream place.position))) ≡ cond b (nat_lt place.position (length input)) (option_map_or (λ (w : Window). is_done_at (ends_of state) w.activation) (producer activations place.stream place.position) false)
+    by_stream : (b : Bool) → is_some (stream_element state (cond b (input_source input place.position) (produced_source activations place.stream place.position))) ≡ cond b (nat_lt place.position (length input)) (option_map_or (λ (w : Window). has_end_at (ends_of state) w.activation) (producer activations place.stream place.position) false)
     by_stream true = input_there input state place.position
     by_stream false = by_producer (producer activations place.stream place.position) refl

@@ -1,21 +1,35 @@
--- Where an element comes from, and whether it is there in a state.
-use Rattle.std.specs.Prelude.{ℕ, ℤ, Option, Some, None, slice_get, option_and_then}
+-- Where an element comes from, and whether it is there in a state, as a value or as poison.
+use Rattle.std.specs.Prelude.{ℕ, ℤ, List, Option, Some, None, slice_get, option_and_then}
+use Rattle.std.specs.Option.{option_map}
+use Rattle.flow_core_laws.specs.Outcome.{outcome_at, State, root_of}
+use Rattle.flow_core_laws.specs.declared.elem.Elem.{Elem}
+use Rattle.flow_core_laws.specs.declared.elem.Elem.TheVariants.{Value, Poison}
 use Rattle.flow_core_laws.specs.declared.outcome.Outcome.{Outcome}
-use Rattle.flow_core_laws.specs.Outcome.{State, outcome_at}
 
 -- An element is given from the start, is fed by an output element of an activation, or comes from nobody.
 pub data Source : Type 0 where
-  given : ℤ → Source
+  given : Elem → Source
   fed : ℕ → ℕ → Source
   nobody : Source
 
--- An output element of an activation in a state: there where the activation is Done, since no other
--- end has outputs.
-abbrev pub output_at : State → ℕ → ℕ → Option ℤ
-output_at state activation place = option_and_then (λ (o : Outcome). slice_get o.outputs place) (outcome_at state activation)
+-- The output element at a place, by the root of an end and by the outputs: poison where there is a root, and else
+-- the value that was written there.
+abbrev pub output_element : Option ℕ → List ℤ → ℕ → Option Elem
+output_element (Some root) outputs place = Some (Poison root)
+output_element None outputs place = option_map Value (slice_get outputs place)
+
+-- What an activation with a number and an outcome wrote at a place of its outputs: its value where it is Done, and
+-- else poison with the root of its end.
+abbrev pub written : ℕ → Outcome → ℕ → Option Elem
+written number outcome place = output_element (root_of number outcome.end) outcome.outputs place
+
+-- An output element of an activation in a state: it is there where the activation has an end. The numbers by
+-- which poison names its roots are given for each activation.
+abbrev pub output_at : (ℕ → ℕ) → State → ℕ → ℕ → Option Elem
+output_at number_of state activation place = option_and_then (λ (o : Outcome). written (number_of activation) o place) (outcome_at state activation)
 
 -- The element of a source in a state, if it is there.
-abbrev pub element : State → Source → Option ℤ
-element state (given value) = Some value
-element state (fed activation place) = output_at state activation place
-element state nobody = None
+abbrev pub element : (ℕ → ℕ) → State → Source → Option Elem
+element number_of state (given elem) = Some elem
+element number_of state (fed activation place) = output_at number_of state activation place
+element number_of state nobody = None

@@ -3,7 +3,7 @@ use Rattle.std.specs.Prelude.{◌≡◌, ℕ, ◌+◌, ◌≤◌, ◌<◌, ◌�
 use Rattle.flow_core_laws.specs.declared.plan.FramePlan.{FramePlan}
 use Rattle.flow_core_laws.specs.declared.plan.Piece.{Piece}
 use Rattle.flow_core_laws.specs.declared.plan.Plan.{Plan}
-use Rattle.flow_core_laws.specs.Plans.{frame_at, value_at, missing_of}
+use Rattle.flow_core_laws.specs.Plans.{frame_at, number_at, held_at, missing_of}
 
 -- A cell is one of a frame's.
 abbrev pub HasCell : Plan → ℕ → ℕ → Type 0
@@ -30,10 +30,13 @@ pub record IsSound (plan : Plan) : Type 0 where
   pub cells_are_few : length plan.filled ≤ 4194304
   pub outputs_are_few : (f : ℕ) → f ≤ length plan.frames → (frame_at plan f).outputs ≤ 4194304
   pub all_outputs_are_few : sum_by (λ (p : FramePlan). p.outputs) plan.frames ≤ 4194304
+  -- each frame has the number of its activation, in order
+  pub numbers_are_of_frames : length plan.numbers ≡ length plan.frames
+  pub numbers_ascend : (f g : ℕ) → f < g → g < length plan.frames → number_at plan f < number_at plan g
   -- each frame's cells exist, and no two frames share one
   pub cells_exist : (f : ℕ) → f ≤ length plan.frames → (frame_at plan f).cell + (frame_at plan f).inputs ≤ length plan.filled
   pub cells_are_apart : (f g cell : ℕ) → f ≤ length plan.frames → g ≤ length plan.frames → HasCell plan f cell → HasCell plan g cell → f ≡ g
-  -- `wait` counts the frame's cells that have no value at opening
+  -- `wait` counts the frame's cells that hold nothing at opening
   pub wait_counts : (f : ℕ) → f ≤ length plan.frames → (frame_at plan f).wait ≡ missing_of plan plan.filled f
   -- each piece is sound by itself
   pub pieces_are_sound : (number : ℕ) (p : Piece) → slice_get plan.pieces number ≡ Some p → IsSoundPiece plan p
@@ -41,6 +44,6 @@ pub record IsSound (plan : Plan) : Type 0 where
   pub pieces_exist : (f : ℕ) → f ≤ length plan.frames → (frame_at plan f).piece + (frame_at plan f).pieces ≤ length plan.pieces
   pub pieces_stand_together : (f number : ℕ) (p : Piece) → f ≤ length plan.frames → slice_get plan.pieces number ≡ Some p
       → (p.from ≡ f) ↔ (((frame_at plan f).piece ≤ number) × (number < (frame_at plan f).piece + (frame_at plan f).pieces))
-  -- no two pieces share a cell, and none covers a cell that has a value at opening
+  -- no two pieces share a cell, and none covers a cell that holds something at opening
   pub pieces_are_apart : (i j cell : ℕ) → Covers plan i cell → Covers plan j cell → i ≡ j
-  pub pieces_spare_the_filled : (number cell : ℕ) → Covers plan number cell → value_at plan.filled cell ≡ None
+  pub pieces_spare_the_filled : (number cell : ℕ) → Covers plan number cell → held_at plan.filled cell ≡ None

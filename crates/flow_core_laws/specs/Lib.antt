@@ -1,7 +1,9 @@
--- What a reader believes: how an activation ends, and the states of a run,
+-- What a reader believes: how an activation ends, what is there of an element, what an activation makes of poison,
+-- the states of a run,
 pub mod Outcome
 pub mod Byte
 pub mod Element
+pub mod Poisoning
 pub mod Round
 -- what a list of activations means,
 pub mod FirstPosition

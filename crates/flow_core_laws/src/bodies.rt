@@ -23,7 +23,8 @@ pub trait Bodies: Sync {
     fn scratch(&self, alloc: Global) -> Result<Self::Scratch, Memory>
         ensures { IfOk result (fits self.now) };
 
-    /// Runs a frame's body. At entry the outputs hold anything, and after an end that isn't `Done` too.
+    /// Runs a frame's body on the values of its inputs, of which none is poison. At entry the outputs hold
+    /// anything, and after an end that isn't `Done` too.
     fn run(
         &self,
         frame: u32,

@@ -1,3 +1,4 @@
+use crate::elem::Elem;
 use crate::task_end::TaskEnd;
 use os_io::List;
 
@@ -6,6 +7,6 @@ use os_io::List;
 pub struct Ends {
     /// The end of each activation; none where it is starved.
     pub ends: List<Option<TaskEnd>>,
-    /// The element of each sink cell; none where it has no value.
-    pub output: List<Option<i32>>,
+    /// The element of each sink cell, a value or poison; none where it isn't there.
+    pub output: List<Option<Elem>>,
 }

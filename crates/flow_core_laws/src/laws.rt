@@ -3,37 +3,37 @@
 
 ghost use Rattle.std.specs.Prelude.{List, Option};
 ghost use Rattle.flow_core_laws.specs.declared.activation.Activation.{Activation};
-ghost use Rattle.flow_core_laws.specs.Element.{element};
-ghost use Rattle.flow_core_laws.specs.Laws.{IsSettled, KeepsOutcomes, IsFixed, OfStreams, OfPlans, MeansTheStreams, SinkIsTheOutput, HasOneWriter, WritersAreInOrder, WritersAreProducers, ProducersHaveNumbers, EndsSayWhatIsThere, WindowsAreInOrder, RoundsFire, IsConfluent, IsKept, OfAll, HasFewPieces};
+ghost use Rattle.flow_core_laws.specs.Laws.{IsSettled, KeepsOutcomes, IsFixed, OfStreams, OfPlans, LeastRootsAreLeast, OthersAreValues, RootsFailed, MeansTheStreams, SinkIsTheOutput, HasOneWriter, WritersAreInOrder, WritersAreProducers, ProducersHaveNumbers, EndsSayWhatIsThere, WindowsAreInOrder, RoundsFire, IsConfluent, IsKept, OfAll, HasFewPieces};
 
 /// A round runs what is enabled, and nothing else.
 pub fn one_round()
-    ensures streams { OfStreams (RoundsFire element) }
-    ensures plans { OfPlans (RoundsFire element) }
+    ensures streams { OfStreams (λ element. RoundsFire element) }
+    ensures plans { OfPlans (λ element. RoundsFire element) }
 {}
 
 /// One more round changes nothing in a meaning.
 pub fn settled()
-    ensures streams { OfStreams (IsSettled element) }
-    ensures plans { OfPlans (IsSettled element) }
+    ensures streams { OfStreams (λ element. IsSettled element) }
+    ensures plans { OfPlans (λ element. IsSettled element) }
 {}
 
 /// An outcome never changes from the round on in which it came.
 pub fn outcomes_stay()
-    ensures streams { OfStreams (KeepsOutcomes element) }
-    ensures plans { OfPlans (KeepsOutcomes element) }
+    ensures streams { OfStreams (λ element. KeepsOutcomes element) }
+    ensures plans { OfPlans (λ element. KeepsOutcomes element) }
 {}
 
-/// In a meaning an activation has the outcome of its body exactly where all its inputs are there.
+/// In a meaning an activation has an outcome exactly where all its inputs are there: poisoned, where one of
+/// them is poison, and else that of its body.
 pub fn fixed_point()
-    ensures streams { OfStreams (IsFixed element) }
-    ensures plans { OfPlans (IsFixed element) }
+    ensures streams { OfStreams (λ element. IsFixed element) }
+    ensures plans { OfPlans (λ element. IsFixed element) }
 {}
 
 /// The order in which enabled activations run doesn't matter.
 pub fn confluence()
-    ensures streams { OfStreams (IsConfluent element) }
-    ensures plans { OfPlans (IsConfluent element) }
+    ensures streams { OfStreams (λ element. IsConfluent element) }
+    ensures plans { OfPlans (λ element. IsConfluent element) }
 {}
 
 /// The laws of rounds hold of every kind of elements and outcomes. `S` has the sources of elements, `V`
@@ -46,6 +46,17 @@ pub fn any_elements<S, V, O>()
         → OfAll element (IsFixed element) }
     ensures confluence { (element : List (Option O) → S → Option V) → IsKept element
         → OfAll element (IsConfluent element) }
+{}
+
+/// By which root an activation is poisoned, and when it runs its body.
+pub fn least_roots()
+    ensures least { LeastRootsAreLeast }
+    ensures values { OthersAreValues }
+{}
+
+/// Each root of poison is an activation that trapped or used up its turns, where no body says of itself that it is poisoned.
+pub fn roots_failed()
+    ensures { RootsFailed }
 {}
 
 /// A plan means what the activations mean for which it stands, and its sink holds their output.

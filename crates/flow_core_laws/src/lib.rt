@@ -1,21 +1,27 @@
 //! Control-driven data flow, with no word of the language that it serves: what it means.
 //!
 //! A control program makes a list of activations. Each activation takes stream positions by its
-//! claims when it is created, and may run once every element of its input windows is there. This
-//! crate says what such a list means (`specs/`): where each claim begins, who produces an element,
+//! claims when it is created, and gets its end once every element of its input windows is there. An
+//! activation that traps or uses up its turns writes no value: each element that it should have written is
+//! there as poison, with the activation as its root. An activation that reads poison runs no body. It ends
+//! poisoned by the least root among its inputs, and hands that root on. Only an activation that waits for what
+//! nobody writes, or for itself through others, has no end.
+//!
+//! This crate says what such a list means (`specs/`): where each claim begins, who produces an element,
 //! what one round does, and the meaning, which is reached after as many rounds as there are
 //! activations. A plan is the same with the positions worked out: frames with cells, and pieces that
 //! carry output elements into them.
 //!
 //! There are the types that activations, plans and ends are made of, the trait by which a runtime asks
 //! for the bodies of frames, and `laws`: what holds of every meaning, for the proofs of whatever runs one.
-//! Nothing runs here but `Plan::frame`, which looks a frame up.
+//! Nothing runs here but what looks up a frame, its number and the root of an end.
 #![tactic(auto)]
 
 mod activation;
 mod bodies;
 mod claim;
 mod control;
+mod elem;
 mod ends;
 pub mod laws;
 mod outcome;
@@ -26,6 +32,7 @@ pub use activation::Activation;
 pub use bodies::Bodies;
 pub use claim::Claim;
 pub use control::{Control, ControlEnd};
+pub use elem::Elem;
 pub use ends::Ends;
 pub use outcome::Outcome;
 pub use plan::{FramePlan, Piece, Plan};

@@ -1,6 +1,7 @@
 ghost use Rattle.std.specs.Prelude.{◌≡◌};
-ghost use Rattle.flow_core_laws.specs.Plans.{frame_at};
+ghost use Rattle.flow_core_laws.specs.Plans.{frame_at, number_at};
 
+use crate::elem::Elem;
 use os_io::List;
 
 /// An activation in a plan. Its cells are `cell` to `cell + inputs - 1`, one for each element of its
@@ -13,7 +14,7 @@ pub struct FramePlan {
     pub inputs: u32,
     /// How many elements it writes.
     pub outputs: u32,
-    /// How many of its cells have no value at opening.
+    /// How many of its cells hold nothing at opening.
     pub wait: u32,
     /// The first of the pieces that carry its output elements.
     pub piece: u32,
@@ -43,8 +44,10 @@ pub struct Plan {
     pub frames: List<FramePlan>,
     pub sink: FramePlan,
     pub pieces: List<Piece>,
-    /// The value that each cell has at opening, or none.
-    pub filled: List<Option<i32>>,
+    /// The element that each cell has at opening, a value or poison, or none.
+    pub filled: List<Option<Elem>>,
+    /// The number of each frame's activation, ascending. Poison names its root by this number.
+    pub numbers: List<u32>,
 }
 
 impl Plan {
@@ -55,6 +58,15 @@ impl Plan {
         match self.frames.as_slice().get(number as usize) {
             Some(frame) => *frame,
             None => self.sink,
+        }
+    }
+    /// The number of a frame's activation; a frame for which the plan has none counts by its own.
+    pub fn number(&self, frame: u32) -> u32
+        ensures { result ≡ number_at self.now frame }
+    {
+        match self.numbers.as_slice().get(frame as usize) {
+            Some(number) => *number,
+            None => frame,
         }
     }
 }

@@ -2,6 +2,7 @@
 use Rattle.std.proofs.Common.{◌≡◌, ℕ, ℤ, ◌+◌, ◌-◌, ◌^◌, ◌<◌, ◌≤◌, List, ◌++◌, Option, is_none, count_by, length, take, drop, map, sym, ap, ◌∙◌, subst, arith}
 use Rattle.std.specs.Prelude.{All}
 use Rattle.std.specs.List.{flat_map, range_with_len}
+use Rattle.flow_core_laws.specs.declared.elem.Elem.{Elem}
 use Rattle.flow_core_laws.specs.declared.plan.FramePlan.{FramePlan}
 use Rattle.flow_core_laws.specs.declared.plan.Piece.{Piece}
 use Rattle.stream_match.specs.declared.kept.Kept.{Kept}
@@ -54,19 +55,19 @@ module _ (layout : Layout) (is : IsLayout layout) (frames : List ℕ) (are : Are
         ∙ ap (λ xs. flat_map (pieces_for layout frames) (flat_map (read_part layout frames) (range_with_len 0 (length frames))) ++ flat_map (pieces_for layout frames) xs) rows.leaves_are
         ∙ all_pieces_are layout input frames kept sink next rows.next_is
 
-    pub cells_made : (cells : List (Option ℤ)) → cells ≡ flat_map (filled_cells input kept) reads ++ flat_map (filled_cells input kept) leaves → cells ≡ cells_of_first (weave_over layout input frames (map kept_of kept) sink) (length frames + 1)
+    pub cells_made : (cells : List (Option Elem)) → cells ≡ flat_map (filled_cells input kept) reads ++ flat_map (filled_cells input kept) leaves → cells ≡ cells_of_first (weave_over layout input frames (map kept_of kept) sink) (length frames + 1)
     cells_made cells made =
         made ∙ ap (λ xs. flat_map (filled_cells input kept) xs ++ flat_map (filled_cells input kept) leaves) rows.reads_are
         ∙ ap (λ xs. flat_map (filled_cells input kept) (flat_map (read_part layout frames) (range_with_len 0 (length frames))) ++ flat_map (filled_cells input kept) xs) rows.leaves_are
         ∙ all_cells_are layout input frames kept sink next
 
-    pub cells_end : (cells : List (Option ℤ)) → cells ≡ flat_map (filled_cells input kept) reads ++ flat_map (filled_cells input kept) leaves → length cells ≡ end
+    pub cells_end : (cells : List (Option Elem)) → cells ≡ flat_map (filled_cells input kept) reads ++ flat_map (filled_cells input kept) leaves → length cells ≡ end
     cells_end cells made = let n = rows.next_is in let e = rows.end_is in omega (arith, ap length (cells_made cells made), cells_length layout is frames are input kept sink)
 
     pub pieces_from_frames : (pieces : List Piece) → pieces ≡ flat_map (pieces_for layout frames) reads ++ flat_map (pieces_for layout frames) leaves → All (λ (p : Piece). p.from < length frames) pieces
     pieces_from_frames pieces made = subst (All (λ (p : Piece). p.from < length frames)) (sym (pieces_made pieces made)) (from_frames layout input frames kept sink)
 
-    pub plan_made : (cells : List (Option ℤ)) (pieces : List Piece) (plans : List FramePlan) (placed : List Piece) (inputs wait piece : ℕ)
+    pub plan_made : (cells : List (Option Elem)) (pieces : List Piece) (plans : List FramePlan) (placed : List Piece) (inputs wait piece : ℕ)
         → cells ≡ flat_map (filled_cells input kept) reads ++ flat_map (filled_cells input kept) leaves
         → pieces ≡ flat_map (pieces_for layout frames) reads ++ flat_map (pieces_for layout frames) leaves
         → plans ≡ map (epoch_frame layout frames pieces cells) (range_with_len 0 (length frames))

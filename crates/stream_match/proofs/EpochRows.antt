@@ -9,6 +9,7 @@ use Rattle.std.proofs.lemmas.List.Elements.{All-head, All-tail}
 use Rattle.std.proofs.lemmas.List.FromFn.{length-map-range_with_len}
 use Rattle.std.proofs.lemmas.List.Sums.{sum_by-cons}
 use Rattle.std.proofs.lemmas.Option.{slice_get-get_or, slice_get_within, get_or_from_slice_get}
+use Rattle.flow_core_laws.specs.declared.elem.Elem.{Elem}
 use Rattle.flow_core_laws.specs.declared.plan.FramePlan.{FramePlan}
 use Rattle.flow_core_laws.specs.declared.plan.Piece.{Piece}
 use Rattle.flow_core_epochs.specs.Epoch.{number_in}
@@ -178,7 +179,7 @@ from_frames layout input frames kept sink = has_all (λ (p : Piece). p.from < le
     let lt = slice_get_within frames o.writer _ (numbers_back frames _ o.writer o.numbered) in
     omega arith)
 
-pub has_place : (layout : Layout) (frames : List ℕ) (pieces : List Piece) (cells : List (Option ℤ)) (plans : List FramePlan) → plans ≡ map (epoch_frame layout frames pieces cells) (range_with_len 0 (length frames)) → HasPlace plans pieces (length frames)
+pub has_place : (layout : Layout) (frames : List ℕ) (pieces : List Piece) (cells : List (Option Elem)) (plans : List FramePlan) → plans ≡ map (epoch_frame layout frames pieces cells) (range_with_len 0 (length frames)) → HasPlace plans pieces (length frames)
 has_place layout frames pieces cells plans are = record {
   one_each = ap length are ∙ length-map-range_with_len (epoch_frame layout frames pieces cells) 0 (length frames);
   places = ap (map (λ (f : FramePlan). f.piece)) are ∙ map_map (epoch_frame layout frames pieces cells) (λ (f : FramePlan). f.piece) (range_with_len 0 (length frames));
@@ -188,7 +189,7 @@ map-range-same : {X : Type 0} (f g : ℕ → X) (a n : ℕ) → ((k : ℕ) → a
 map-range-same f g a zero h = refl
 map-range-same f g a (suc n) h = ap (λ x. x ∷ map f (range_with_len (a + 1) n)) (h a (omega arith) (omega arith)) ∙ ap (λ xs. g a ∷ xs) (map-range-same f g (a + 1) n (λ k l u. h k (omega arith) (omega arith)))
 
-pub frames_are_woven : (layout : Layout) (input frames : List ℕ) (kept : List Kept) (sink : List Reach) (pieces : List Piece) (cells : List (Option ℤ)) → pieces ≡ woven_pieces layout (weave_over layout input frames (map kept_of kept) sink) → cells ≡ cells_of_first (weave_over layout input frames (map kept_of kept) sink) (length frames + 1)
+pub frames_are_woven : (layout : Layout) (input frames : List ℕ) (kept : List Kept) (sink : List Reach) (pieces : List Piece) (cells : List (Option Elem)) → pieces ≡ woven_pieces layout (weave_over layout input frames (map kept_of kept) sink) → cells ≡ cells_of_first (weave_over layout input frames (map kept_of kept) sink) (length frames + 1)
     → map (epoch_frame layout frames pieces cells) (range_with_len 0 (length frames)) ≡ map (woven_frame layout (weave_over layout input frames (map kept_of kept) sink)) (range_with_len 0 (length frames))
 frames_are_woven layout input frames kept sink pieces cells pieces_are cells_are =
     ap (λ ps. map (epoch_frame layout frames ps cells) (range_with_len 0 (length frames))) pieces_are

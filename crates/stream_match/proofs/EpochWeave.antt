@@ -1,49 +1,44 @@
 -- The plan of an epoch can be woven.
-use Rattle.std.proofs.Common.{◌≡◌, ℕ, pos, zero, suc, ◌+◌, ◌-◌, ◌<◌, ◌≤◌, Bool, true, false, cond, List, [], ◌∷◌, Option, Some, None, length, take, map, get_or, refl, sym, ap, ◌∙◌, subst, ◌⊎◌, inl, inr, arith, zero-add}
+use Rattle.std.proofs.Common.{◌≡◌, ℕ, pos, zero, suc, ◌+◌, ◌-◌, ◌<◌, ◌≤◌, cond, List, Option, Some, None, length, take, map, get_or, refl, sym, ap, ◌∙◌, subst, ◌⊎◌, inl, inr, arith, Bool, true, false, [], ◌∷◌, zero-add}
 use Rattle.std.specs.Prelude.{All, slice_get, sum_by, find, option_and_then, ◌==◌}
 use Rattle.std.specs.Option.{option_map, option_map_or}
 use Rattle.std.specs.List.{range_with_len}
 use Rattle.std.proofs.lemmas.Bool.{cases_lt, and_parts, eqb-true, lt-ltb, le-ltb}
-use Rattle.std.proofs.lemmas.List.{take-take, take_all}
+use Rattle.std.proofs.lemmas.List.{take_all, take-take}
 use Rattle.std.proofs.lemmas.List.FromFn.{fill_by_all}
-use Rattle.std.proofs.lemmas.List.Sums.{sum_by-append, sum_by-cons, sum_by_more, sum_by-take-le}
+use Rattle.std.proofs.lemmas.List.Sums.{sum_by_more, sum_by-append, sum_by-cons, sum_by-take-le}
 use Rattle.std.proofs.lemmas.Option.{slice_get-get_or, slice_get_within, get_or_from_slice_get, same_Some}
 use Rattle.flow_core_laws.specs.declared.activation.Activation.{Activation}
-use Rattle.flow_core_laws.specs.Window.{Window, windows, windows_of, producer}
+use Rattle.flow_core_laws.specs.Window.{Window, windows, producer, windows_of}
 use Rattle.flow_core_laws.specs.Place.{Place}
 use Rattle.flow_core_laws.proofs.Sources.{find_passes}
 use Rattle.flow_core_laws.proofs.Windows.{producer_by_number}
-use Rattle.flow_core_epochs.specs.Epoch.{Kept, number_in, is_at, value_kept}
+use Rattle.flow_core_laws.specs.declared.elem.Elem.TheVariants.{Value}
+use Rattle.flow_core_epochs.specs.Epoch.{number_in, Kept, is_at, value_kept}
 use Rattle.flow_core_epochs.proofs.Members.{Has, of_map, of_flat_map}
 use Rattle.flow_core_epochs.proofs.Carried.{all_has, has_all}
 use Rattle.flow_core_epochs.proofs.Frames.{numbers_back}
-use Rattle.flow_core_epochs.proofs.Written.{has_window}
 use Rattle.stream_match_layouts.specs.declared.span.Span.{Span}
 use Rattle.stream_match_layouts.specs.declared.layout.Layout.{Layout}
-use Rattle.stream_match_layouts.specs.Lawful.{IsLawfulClaim}
-use Rattle.stream_match_layouts.specs.Layout.{span_of, IsLayout, IsLayoutOf}
+use Rattle.stream_match_layouts.specs.Layout.{IsLayout, IsLayoutOf, span_of}
 use Rattle.stream_match_layouts.specs.Writers.{writers_on, writer_at, end_of}
-use Rattle.stream_match_layouts.specs.Spans.{frame_count, start_of, spans_of, read_count, write_count}
-use Rattle.stream_match.specs.Stretch.{opening_value}
-use Rattle.stream_match.specs.Weave.{Reach, no_reach, Weave, total, cells_of_first, reach_at, WritesAt, CanWeave}
-use Rattle.stream_match.specs.EpochPlan.{weave_over, reaches_over, AreFrames, WrittenOutside, read_reach, staying, leaving_reach, leaving_reaches, epoch_weave}
-use Rattle.stream_match_layouts.proofs.Windows.{no_window}
-use Rattle.stream_match_layouts.proofs.Writers.{window_number, there, lawful_window, has_writers, number_at, number_exists, writer_is, found}
-use Rattle.stream_match_layouts.proofs.Sums.{frames_are, frames_bound}
-use Rattle.stream_match_layouts.proofs.Tallies.{sums-next, spans-few, sum-le}
+use Rattle.stream_match_layouts.specs.Spans.{frame_count, spans_of, read_count, write_count, start_of}
+use Rattle.stream_match_layouts.proofs.Writers.{window_number, there, has_writers, number_at, number_exists, writer_is, found, lawful_window}
+use Rattle.stream_match_layouts.proofs.Sums.{frames_bound, frames_are}
+use Rattle.stream_match_layouts.proofs.Tallies.{spans-few, sums-next, sum-le}
+use Rattle.stream_match_layouts.proofs.FrameSpans.{output_within, no_input_writer, spans_of-windows, start-le}
+use Rattle.stream_match.specs.Weave.{Reach, no_reach, total, Weave, cells_of_first, reach_at, WritesAt, CanWeave}
+use Rattle.stream_match.specs.EpochPlan.{reaches_over, AreFrames, read_reach, leaving_reaches, opening_element, weave_over, WrittenOutside, epoch_weave, staying, leaving_reach}
 use Rattle.stream_match.proofs.Counting.{other_test}
-use Rattle.stream_match_layouts.proofs.FrameSpans.{spans_of-windows, start-le, output_within, no_input_writer}
-use Rattle.stream_match.proofs.Weaving.{first-more}
 use Rattle.stream_match.proofs.WovenSound.{sum_by-map}
-
--- ---- sums over frames
+use Rattle.stream_match.proofs.Weaving.{first-more}
+use Rattle.flow_core_epochs.proofs.Written.{has_window}
+use Rattle.stream_match_layouts.specs.Lawful.{IsLawfulClaim}
+use Rattle.stream_match_layouts.proofs.Windows.{no_window}
 
 -- a sum over the spans of a frame
 abbrev pub over_frame : (Span → ℕ) → Layout → ℕ → ℕ
 over_frame h layout a = sum_by h (spans_of layout a)
-
-all_counts : Span → ℕ
-all_counts s = s.count
 
 read_and_write : (b : Bool) (n : ℕ) → cond {A = ℕ} b 0 n + cond {A = ℕ} b n 0 ≡ n
 read_and_write true n = zero-add n
@@ -68,38 +63,6 @@ all_leaving-le layout cursors (x ∷ xs) =
 
 sum_take-le : (h : Span → ℕ) (xs : List Span) (i j : ℕ) → i ≤ j → sum_by h (take i xs) ≤ sum_by h (take j xs)
 sum_take-le h xs i j le = let e = ap (sum_by h) (take-take i j xs le) in let l = sum_by-take-le h (take j xs) i in omega arith
-
-module _ (layout : Layout) (is : IsLayout layout) where
-  before : (Span → ℕ) → ℕ → ℕ
-  before h f = sum_by h (take (start_of layout f) layout.spans)
-
-  -- a sum over frames that ascend is part of the whole
-  pub frames_within : (h : Span → ℕ) (xs : List ℕ) (low : ℕ) → ((i : ℕ) → i < length xs → low ≤ get_or xs i 0) → ((i : ℕ) → i < length xs → get_or xs i 0 < frame_count layout) → ((i j : ℕ) → i < j → j < length xs → get_or xs i 0 < get_or xs j 0)
-      → sum_by (over_frame h layout) xs + sum_by h (take (start_of layout low) layout.spans) ≤ sum_by h layout.spans
-  frames_within h [] low above below ascend = omega (arith, sum_by-take-le h layout.spans (start_of layout low))
-  frames_within h (x ∷ xs) low above below ascend =
-      let x_low : low ≤ x = above 0 (omega arith) in
-      let x_high : x < frame_count layout = below 0 (omega arith) in
-      let n = frames_are layout is in
-      let rest = frames_within h xs (x + 1) (λ i lt. let a : x < get_or xs i 0 = ascend 0 (suc i) (omega arith) (omega arith) in omega arith) (λ i lt. below (suc i) (omega arith)) (λ i j ij lt. ascend (suc i) (suc j) (omega arith) (omega arith)) in
-      let next = sums-next layout is.activations is.is_of h x (omega (arith, n)) in
-      let e = ap (start_of layout) (let z : low + (x - low) ≡ x = omega arith in z) in
-      let start : start_of layout low ≤ start_of layout x = omega (arith, e, start-le layout is.activations is.is_of low (x - low) (omega (arith, n))) in
-      let up = sum_take-le h layout.spans (start_of layout low) (start_of layout x) start in
-      omega (arith, sum_by-cons (over_frame h layout) x xs, rest, next, up)
-
-  -- ---- streams
-
-  pub span_stream : (a : ℕ) (s : Span) → a < frame_count layout → Has (spans_of layout a) s → s.stream < length layout.writers
-  span_stream a s lt has =
-      let n = frames_are layout is in
-      let a_lt : a < length is.activations = omega (arith, n) in
-      let (w, w_in, w_is) = of_map span_of (windows_of is.activations a) s (subst (λ xs. Has xs s) (spans_of-windows layout is.activations is.is_of a a_lt) has) in
-      let (number, at) = has_window is.activations a w a_lt w_in in
-      let within = slice_get_within (windows is.activations) number w at in
-      let same : window_number is.activations number ≡ w = get_or_from_slice_get (windows is.activations) number w no_window at in
-      let lawful = subst (λ (v : Window). IsLawfulClaim (length layout.writers) v.claim) same (lawful_window (length layout.writers) is.activations is.lawful number within) in
-      subst (λ (t : Span). t.stream < length layout.writers) w_is lawful.stream_exists
 
 module _ (layout : Layout) (is : IsLayout layout) (activations : List Activation) (of : IsLayoutOf layout activations) (input : List ℕ) (frames : List ℕ) (kept : List Kept) (sink : List Reach) (exist : All (λ (r : Reach). r.stream < length layout.writers) sink) (fits : sum_by (over_frame read_count layout) frames + total sink ≤ 4194304) (are : AreFrames layout frames) (outside : WrittenOutside activations frames kept) where
   abbrev weave : Weave
@@ -204,6 +167,8 @@ module _ (layout : Layout) (is : IsLayout layout) (activations : List Activation
     frames_are_few = few;
     cells_are_few = cells_few;
     outputs_are_few = outputs_few;
+    activations_are_of_frames = refl;
+    activations_ascend = are.ascend;
     numbers_exist = λ a f h. slice_get_within frames f a (numbers_back frames a f h);
     have_writers = λ f i le lt. has_writers layout is.activations is.is_of (reach_at (weave_over layout input frames kept sink) f i).stream (stream_exists f i lt) is.lawful;
     outputs_fit = λ f i place g le lt place_lt h.
@@ -214,11 +179,41 @@ module _ (layout : Layout) (is : IsLayout layout) (activations : List Activation
     spares = λ f i position place g le lt w.
         let stream = (reach_at (weave_over layout input frames kept sink) f i).stream in
         let exists = stream_exists f i lt in
-        ap (λ o. option_map_or (λ v. Some v) o (opening_value input stream position)) (none_kept stream position place g exists w)
-        ∙ ap (λ b. cond b (option_map pos (slice_get input position)) None) (other_test stream 0 (no_input_writer layout is stream exists place w.within));
+        ap (λ o. option_map_or (λ v. Some v) o (opening_element input stream position)) (none_kept stream position place g exists w)
+        ∙ ap (λ b. cond b (option_map (λ byte. Value (pos byte)) (slice_get input position)) None) (other_test stream 0 (no_input_writer layout is stream exists place w.within));
   }
 
--- ---- what leaves
+module _ (layout : Layout) (is : IsLayout layout) where
+  before : (Span → ℕ) → ℕ → ℕ
+  before h f = sum_by h (take (start_of layout f) layout.spans)
+
+  -- a sum over frames that ascend is part of the whole
+  pub frames_within : (h : Span → ℕ) (xs : List ℕ) (low : ℕ) → ((i : ℕ) → i < length xs → low ≤ get_or xs i 0) → ((i : ℕ) → i < length xs → get_or xs i 0 < frame_count layout) → ((i j : ℕ) → i < j → j < length xs → get_or xs i 0 < get_or xs j 0)
+      → sum_by (over_frame h layout) xs + sum_by h (take (start_of layout low) layout.spans) ≤ sum_by h layout.spans
+  frames_within h [] low above below ascend = omega (arith, sum_by-take-le h layout.spans (start_of layout low))
+  frames_within h (x ∷ xs) low above below ascend =
+      let x_low : low ≤ x = above 0 (omega arith) in
+      let x_high : x < frame_count layout = below 0 (omega arith) in
+      let n = frames_are layout is in
+      let rest = frames_within h xs (x + 1) (λ i lt. let a : x < get_or xs i 0 = ascend 0 (suc i) (omega arith) (omega arith) in omega arith) (λ i lt. below (suc i) (omega arith)) (λ i j ij lt. ascend (suc i) (suc j) (omega arith) (omega arith)) in
+      let next = sums-next layout is.activations is.is_of h x (omega (arith, n)) in
+      let e = ap (start_of layout) (let z : low + (x - low) ≡ x = omega arith in z) in
+      let start : start_of layout low ≤ start_of layout x = omega (arith, e, start-le layout is.activations is.is_of low (x - low) (omega (arith, n))) in
+      let up = sum_take-le h layout.spans (start_of layout low) (start_of layout x) start in
+      omega (arith, sum_by-cons (over_frame h layout) x xs, rest, next, up)
+
+  -- ---- streams
+
+  pub span_stream : (a : ℕ) (s : Span) → a < frame_count layout → Has (spans_of layout a) s → s.stream < length layout.writers
+  span_stream a s lt has =
+      let n = frames_are layout is in
+      let a_lt : a < length is.activations = omega (arith, n) in
+      let (w, w_in, w_is) = of_map span_of (windows_of is.activations a) s (subst (λ xs. Has xs s) (spans_of-windows layout is.activations is.is_of a a_lt) has) in
+      let (number, at) = has_window is.activations a w a_lt w_in in
+      let within = slice_get_within (windows is.activations) number w at in
+      let same : window_number is.activations number ≡ w = get_or_from_slice_get (windows is.activations) number w no_window at in
+      let lawful = subst (λ (v : Window). IsLawfulClaim (length layout.writers) v.claim) same (lawful_window (length layout.writers) is.activations is.lawful number within) in
+      subst (λ (t : Span). t.stream < length layout.writers) w_is lawful.stream_exists
 
 module _ (layout : Layout) (is : IsLayout layout) (frames : List ℕ) (cursors : List ℕ) (are : AreFrames layout frames) where
   pub leaving_exist : All (λ (r : Reach). r.stream < length layout.writers) (leaving_reaches layout frames cursors)

@@ -7,8 +7,9 @@ use Rattle.std.proofs.lemmas.Bool.{lt-ltb, le-ltb}
 use Rattle.std.proofs.lemmas.Grind.{flat_map-append}
 use Rattle.std.proofs.lemmas.List.FromFn.{fill_by_all}
 use Rattle.std.proofs.lemmas.List.Sums.{sum_by-cons, sum_by_more}
+use Rattle.flow_core_laws.specs.declared.elem.Elem.{Elem}
 use Rattle.flow_core_laws.specs.declared.plan.Piece.{Piece}
-use Rattle.flow_core_laws.proofs.Stretches.{flat_map-range_more}
+use Rattle.flow_core_laws.proofs.Stretches.{flat_map-range_more, flat_map-range-add, flat_map-range-same}
 use Rattle.flow_core_epochs.specs.Epoch.{number_in}
 use Rattle.stream_match.specs.declared.kept.Kept.{Kept}
 use Rattle.stream_match_layouts.specs.declared.span.Span.{Span}
@@ -21,7 +22,6 @@ use Rattle.stream_match.specs.Weave.{Reach, no_reach, Weave, total, reach_places
 use Rattle.stream_match.specs.EpochPlan.{read_reach, reaches_over, weave_over}
 use Rattle.stream_match.specs.Kept.{kept_of}
 use Rattle.stream_match.specs.EpochCode.{renumbered, pieces_for, filled_cells, stretch_places, stretches_from, reads_before, read_part, epoch_frame}
-use Rattle.flow_core_laws.proofs.Stretches.{flat_map-range-add, flat_map-range-same}
 use Rattle.stream_match.proofs.Weaving.{length-reaches, first-more}
 use Rattle.stream_match.proofs.Behind.{read_total}
 
@@ -151,7 +151,7 @@ module _ (layout : Layout) (input frames : List ℕ) (kept : List Kept) (sink : 
       ∙ sym (flat_map-range_more g 0 n ∙ ap (λ k. flat_map g (range_with_len 0 n) ++ g k) (zero-add n))
 
   -- the cells of a frame stand together
-  cells_split : (f : ℕ) → f ≤ length frames → (rest : List (Option ℤ)) × (cells_of_first (weave_over layout input frames (map kept_of kept) sink) (length frames + 1) ≡ cells_of_first (weave_over layout input frames (map kept_of kept) sink) f ++ (frame_cells (weave_over layout input frames (map kept_of kept) sink) f ++ rest))
+  cells_split : (f : ℕ) → f ≤ length frames → (rest : List (Option Elem)) × (cells_of_first (weave_over layout input frames (map kept_of kept) sink) (length frames + 1) ≡ cells_of_first (weave_over layout input frames (map kept_of kept) sink) f ++ (frame_cells (weave_over layout input frames (map kept_of kept) sink) f ++ rest))
   cells_split f le =
       let g = frame_cells (weave_over layout input frames (map kept_of kept) sink) in
       let m = length frames - f in (
@@ -172,13 +172,13 @@ module _ (layout : Layout) (input frames : List ℕ) (kept : List Kept) (sink : 
       take_front [] ys = refl
       take_front (x ∷ xs) ys = ap (λ zs. x ∷ zs) (take_front xs ys)
 
-  pub frame_part : (f a n : ℕ) (cells : List (Option ℤ)) → f ≤ length frames → cells ≡ cells_of_first (weave_over layout input frames (map kept_of kept) sink) (length frames + 1) → a ≡ reads_before layout frames f → n ≡ total (reaches_over layout frames sink f) → take n (drop a cells) ≡ frame_cells (weave_over layout input frames (map kept_of kept) sink) f
+  pub frame_part : (f a n : ℕ) (cells : List (Option Elem)) → f ≤ length frames → cells ≡ cells_of_first (weave_over layout input frames (map kept_of kept) sink) (length frames + 1) → a ≡ reads_before layout frames f → n ≡ total (reaches_over layout frames sink f) → take n (drop a cells) ≡ frame_cells (weave_over layout input frames (map kept_of kept) sink) f
   frame_part f a n cells le cells_are a_is n_is =
       let s = cells_split f le in
       ap (λ xs. take n (drop a xs)) (cells_are ∙ s.1)
       ∙ part (cells_of_first (weave_over layout input frames (map kept_of kept) sink) f) (frame_cells (weave_over layout input frames (map kept_of kept) sink) f) s.0 a n (a_is ∙ sym (first-reads f le)) (n_is ∙ sym (length-reaches (weave_over layout input frames (map kept_of kept) sink) (reaches_over layout frames sink f)))
 
-  pub frame_is_woven : (f : ℕ) (cells : List (Option ℤ)) → f < length frames → cells ≡ cells_of_first (weave_over layout input frames (map kept_of kept) sink) (length frames + 1)
+  pub frame_is_woven : (f : ℕ) (cells : List (Option Elem)) → f < length frames → cells ≡ cells_of_first (weave_over layout input frames (map kept_of kept) sink) (length frames + 1)
       → epoch_frame layout frames (woven_pieces layout (weave_over layout input frames (map kept_of kept) sink)) cells f ≡ woven_frame layout (weave_over layout input frames (map kept_of kept) sink) f
   frame_is_woven f cells lt cells_are =
       let wv = weave_over layout input frames (map kept_of kept) sink in

@@ -7,35 +7,36 @@ use Rattle.std.proofs.lemmas.List.{append-nil, take_all}
 use Rattle.std.proofs.lemmas.List.FromFn.{length-range_with_len, get_or-map-range_with_len}
 use Rattle.std.proofs.lemmas.Option.{slice_get-get_or, slice_get_within}
 use Rattle.flow_core_laws.specs.declared.activation.Activation.{Activation}
+use Rattle.flow_core_laws.specs.FirstPosition.{write_cursor}
+use Rattle.flow_core_laws.specs.Window.{Window, windows, is_written_by, producer}
+use Rattle.flow_core_laws.specs.Place.{Place, places_from, input_places, written_count, output_places}
+use Rattle.flow_core_laws.proofs.Sources.{find_passes}
+use Rattle.flow_core_laws.proofs.Windows.{is_window}
+use Rattle.flow_core_epochs.specs.Epoch.{number_in, among, epoch_source}
 use Rattle.flow_core_laws.specs.declared.plan.Plan.{Plan}
 use Rattle.flow_core_laws.specs.IsSound.{IsSound}
 use Rattle.flow_core_laws.specs.StandsFor.{StandsFor}
 use Rattle.flow_core_laws.specs.Element.{given, fed, nobody}
-use Rattle.flow_core_laws.specs.FirstPosition.{write_cursor}
-use Rattle.flow_core_laws.specs.Window.{Window, windows, is_written_by, producer}
-use Rattle.flow_core_laws.specs.Place.{Place, places_from, input_places, written_count, output_places}
 use Rattle.flow_core_laws.specs.Streams.{input_source, produced_source, stream_source}
 use Rattle.flow_core_laws.specs.Plans.{plan_reads}
-use Rattle.flow_core_laws.proofs.Sources.{find_passes}
-use Rattle.flow_core_laws.proofs.Windows.{is_window}
-use Rattle.flow_core_epochs.specs.Epoch.{number_in, among, epoch_source}
+use Rattle.flow_core_laws.specs.declared.elem.Elem.TheVariants.{Value}
 use Rattle.stream_match_layouts.specs.declared.layout.Layout.{Layout}
 use Rattle.stream_match_layouts.specs.Layout.{claims_in, IsLayout, IsLayoutOf}
 use Rattle.stream_match_layouts.specs.Spans.{frame_count, read_count}
+use Rattle.stream_match_layouts.proofs.Windows.{claims_in-windows}
+use Rattle.stream_match_layouts.proofs.Sums.{cells_few, cells_before-all}
+use Rattle.stream_match_layouts.proofs.Tallies.{frame_count-is}
 use Rattle.stream_match.specs.Weave.{Reach, total, reach_places, IsWoven, CanWeave}
 use Rattle.stream_match.specs.EpochPlan.{AreFrames, WrittenOutside}
 use Rattle.stream_match.specs.Whole.{all_frames, output_reach, whole_weave}
 use Rattle.stream_match.specs.EpochCode.{CanLeave}
-use Rattle.stream_match_layouts.proofs.Windows.{claims_in-windows}
-use Rattle.stream_match_layouts.proofs.Sums.{cells_few, cells_before-all}
-use Rattle.stream_match_layouts.proofs.Tallies.{frame_count-is}
-use Rattle.stream_match.proofs.Weaving.{length-frames}
-use Rattle.stream_match.proofs.WovenSound.{woven_sound}
 use Rattle.stream_match.proofs.EpochWeave.{over_frame, frames_within, reaches-sink, can_weave_over}
-use Rattle.stream_match.proofs.EpochStands.{reads_over, reads_frame, outputs_written}
 use Rattle.stream_match.proofs.LookUp.{found_number}
 use Rattle.stream_match.proofs.Behind.{total_one}
 use Rattle.stream_match.proofs.EpochTop.{map-same}
+use Rattle.stream_match.proofs.Weaving.{length-frames}
+use Rattle.stream_match.proofs.WovenSound.{woven_sound}
+use Rattle.stream_match.proofs.EpochStands.{reads_over, reads_frame, outputs_written}
 
 range_at : (a n i d : ℕ) → i < n → get_or (range_with_len a n) i d ≡ a + i
 range_at a zero i d lt = absurd (omega arith)
@@ -96,7 +97,7 @@ module _ (layout : Layout) (is : IsLayout layout) where
         let lt : w.activation < length activations = let x = v.exists in omega arith in
         ap (λ o. option_map_or (λ f. fed f (w.offset + (position - w.first))) o nobody) (number w.activation lt)
 
-    given_source : (position : ℕ) (o : Option ℕ) → among (all_frames layout) (option_map_or (λ byte. given (pos byte)) o nobody) ≡ option_map_or (λ byte. given (pos byte)) o nobody
+    given_source : (position : ℕ) (o : Option ℕ) → among (all_frames layout) (option_map_or (λ byte. given (Value (pos byte))) o nobody) ≡ option_map_or (λ byte. given (Value (pos byte))) o nobody
     given_source position None = refl
     given_source position (Some byte) = refl
 
@@ -123,6 +124,7 @@ module _ (layout : Layout) (is : IsLayout layout) where
 
       pub whole_stands : StandsFor plan activations input
       whole_stands = record {
+        numbers_are_their_own = laid.numbers ∙ ap (range_with_len 0) (frame_count-is layout activations of);
         frames_are_activations = length-frames layout (whole_weave layout input) plan laid ∙ count_is ∙ frame_count-is layout activations of;
         outputs_are_written = λ a x h. outputs_written layout is activations of input (all_frames layout) [] (output_reach layout ∷ []) exist fits are outside plan laid a a x (stands_at a (slice_get_within activations a x h)) h;
         cells_are_window_elements = λ a lt. reads_frame layout is activations of input (all_frames layout) [] (output_reach layout ∷ []) exist fits are outside plan laid a a (stands_at a lt) ∙ map-same (epoch_source activations input (all_frames layout) []) (stream_source activations input) (input_places activations a) same_source;

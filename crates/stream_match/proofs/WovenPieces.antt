@@ -8,10 +8,10 @@ use Rattle.flow_core_laws.specs.declared.plan.Piece.{Piece}
 use Rattle.flow_core_laws.proofs.Stretches.{stands_in, stands_at, parts_before}
 use Rattle.stream_match_layouts.specs.declared.span.Span.{Span}
 use Rattle.stream_match_layouts.specs.declared.layout.Layout.{Layout}
-use Rattle.stream_match.specs.declared.stretch.Stretch.{Stretch}
 use Rattle.stream_match_layouts.specs.Writers.{writers_on, writer_at, end_of, HasWriters}
+use Rattle.stream_match.specs.declared.stretch.Stretch.{Stretch}
 use Rattle.stream_match.specs.Stretch.{overlap_first, overlap_end, piece_between, overlap}
-use Rattle.stream_match.specs.Weave.{Weave, total, cells_of_first, reach_at, stretch_in, with_frame, overlap_among, pieces_among, frame_pieces, woven_pieces, WritesAt, CanWeave}
+use Rattle.stream_match.specs.Weave.{total, with_frame, Weave, cells_of_first, reach_at, stretch_in, overlap_among, pieces_among, frame_pieces, woven_pieces, WritesAt, CanWeave}
 use Rattle.stream_match.proofs.Weaving.{total-more, total-le, total-take-le, first-next}
 
 -- the pieces from a place into a stretch, and those into a reach of a frame

@@ -1,22 +1,23 @@
 -- A plan over reaches is sound.
-use Rattle.std.proofs.Common.{◌≡◌, ℕ, ◌+◌, ◌<◌, ◌≤◌, List, [], ◌∷◌, Some, None, length, take, map, refl, sym, ap, ◌∙◌, subst, ◌⊎◌, inl, inr, arith}
+use Rattle.std.proofs.Common.{◌≡◌, ℕ, ◌+◌, ◌<◌, ◌≤◌, List, Some, None, length, take, sym, ap, ◌∙◌, subst, ◌⊎◌, inl, inr, arith, get_or, [], ◌∷◌, map, refl}
 use Rattle.std.specs.Prelude.{slice_get, sum_by, ◌↔◌}
 use Rattle.std.specs.List.{range_with_len}
 use Rattle.std.proofs.lemmas.Bool.{cases_lt, cases_order}
-use Rattle.std.proofs.lemmas.List.Sums.{sum_by-cons, sum_by_more_le}
+use Rattle.std.proofs.lemmas.List.Sums.{sum_by_more_le, sum_by-cons}
 use Rattle.std.proofs.lemmas.Option.{same_Some}
 use Rattle.flow_core_laws.specs.declared.plan.FramePlan.{FramePlan}
 use Rattle.flow_core_laws.specs.declared.plan.Piece.{Piece}
+use Rattle.std.proofs.lemmas.List.{get_or_default}
 use Rattle.flow_core_laws.specs.declared.plan.Plan.{Plan}
-use Rattle.flow_core_laws.specs.Plans.{frame_at, value_at}
+use Rattle.flow_core_laws.specs.Plans.{frame_at, held_at, number_at}
 use Rattle.flow_core_laws.specs.IsSound.{HasCell, Covers, IsSoundPiece, IsSound}
 use Rattle.stream_match_layouts.specs.declared.layout.Layout.{Layout}
 use Rattle.stream_match_layouts.specs.Writers.{writer_at}
 use Rattle.stream_match.specs.Stretch.{pieces_from, by_frame}
-use Rattle.stream_match.specs.Weave.{Weave, reach_at, woven_frame, woven_pieces, IsWoven, WritesAt, CanWeave}
 use Rattle.stream_match.proofs.Placed.{length-by_frame-le}
 use Rattle.stream_match.proofs.Origins.{Ordered, ordered}
-use Rattle.stream_match.proofs.Weaving.{first-next, length-frames, frame_at-frame, frame_at-sink, cell-is, inputs-is, length-filled, value, waits}
+use Rattle.stream_match.specs.Weave.{Weave, reach_at, woven_frame, woven_pieces, IsWoven, WritesAt, CanWeave}
+use Rattle.stream_match.proofs.Weaving.{first-next, length-frames, frame_at-frame, frame_at-sink, cell-is, inputs-is, length-filled, opening, waits}
 use Rattle.stream_match.proofs.WovenPieces.{woven_from, woven_place, covers_at, reach_within, same_reach, one_writer}
 
 pub sum_by-map : {A B : Type 0} (h : B → ℕ) (g : A → B) (xs : List A) → sum_by h (map g xs) ≡ sum_by (λ x. h (g x)) xs
@@ -63,6 +64,19 @@ module _ (layout : Layout) (weave : Weave) (can : CanWeave layout weave) (plan :
     | inl lt ↦ omega (arith, sum_by_more_le (λ (x : FramePlan). x.outputs) plan.frames f plan.sink lt, all_outputs_are_few)
     | inr ge ↦ omega (arith, ap (λ (x : FramePlan). x.outputs) (frame_at-sink layout weave plan laid f (omega (arith, frames-are))))
   ]
+
+  -- ---- numbers
+
+  number-is : (f : ℕ) → f < weave.frames → number_at plan f ≡ get_or weave.activations f 0
+  number-is f lt = ap (λ (numbers : List ℕ). get_or numbers f f) laid.numbers ∙ get_or_default weave.activations f f 0 (let n = can.activations_are_of_frames in omega (arith, n))
+
+  numbers_ascend : (f g : ℕ) → f < g → g < length plan.frames → number_at plan f < number_at plan g
+  numbers_ascend f g less lt =
+      let n = frames-are in
+      let a = number-is f (omega (arith, n)) in
+      let b = number-is g (omega (arith, n)) in
+      let c = can.activations_ascend f g less (omega (arith, n)) in
+      omega (arith, a, b, c)
 
   -- ---- pieces
 
@@ -152,13 +166,13 @@ module _ (layout : Layout) (weave : Weave) (can : CanWeave layout weave) (plan :
       a.at ∙ ap (λ n. length (by_frame (woven_pieces layout weave) p.from) + length (pieces_from (take n (woven_pieces layout weave)) p.from)) index
       ∙ ap (λ (r : Piece). length (by_frame (woven_pieces layout weave) r.from) + length (pieces_from (take b.j (woven_pieces layout weave)) r.from)) same ∙ sym b.at
 
-  spares : (number c : ℕ) → Covers plan number c → value_at plan.filled c ≡ None
+  spares : (number c : ℕ) → Covers plan number c → held_at plan.filled c ≡ None
   spares number c (p, p_is, low, high) =
       let r = in_order number p p_is in
       let o = woven_from layout weave r.j p r.stands in
       let a = covers_at layout weave can r.j p o c low high in
-      ap (value_at plan.filled) a.is
-      ∙ value layout weave plan laid o.frame o.i a.k o.exists o.within a.below
+      ap (held_at plan.filled) a.is
+      ∙ opening layout weave plan laid o.frame o.i a.k o.exists o.within a.below
       ∙ can.spares o.frame o.i ((reach_at weave o.frame o.i).first + a.k) o.place o.writer o.exists o.within a.writes
 
   pub woven_sound : IsSound plan
@@ -167,6 +181,8 @@ module _ (layout : Layout) (weave : Weave) (can : CanWeave layout weave) (plan :
     cells_are_few = let few = can.cells_are_few in omega (arith, length-filled layout weave plan laid);
     outputs_are_few = outputs_are_few;
     all_outputs_are_few = all_outputs_are_few;
+    numbers_are_of_frames = ap length laid.numbers ∙ can.activations_are_of_frames ∙ sym frames-are;
+    numbers_ascend = numbers_ascend;
     cells_exist = cells_exist;
     cells_are_apart = cells_are_apart;
     wait_counts = λ f le. waits layout weave plan laid f (omega (arith, frames-are));

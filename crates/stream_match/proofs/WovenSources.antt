@@ -1,26 +1,27 @@
 -- The sources of the cells of a plan over reaches.
-use Rattle.std.proofs.Common.{◌≡◌, ℕ, ℤ, suc, ◌+◌, ◌-◌, ◌<◌, ◌≤◌, List, [], ◌∷◌, ◌++◌, Option, Some, None, length, take, map, get_or, refl, sym, ap, ◌∙◌, subst, arith}
+use Rattle.std.proofs.Common.{◌≡◌, ℕ, suc, ◌+◌, ◌-◌, ◌<◌, ◌≤◌, List, [], ◌∷◌, ◌++◌, Option, Some, None, length, take, map, get_or, refl, sym, ap, ◌∙◌, subst, arith}
 use Rattle.std.specs.Prelude.{slice_get, option_and_then}
 use Rattle.std.specs.Option.{option_map_or}
 use Rattle.std.specs.List.{flat_map, range_with_len}
 use Rattle.std.proofs.lemmas.List.{map-append}
 use Rattle.std.proofs.lemmas.List.Sums.{sum_by-cons}
 use Rattle.flow_core_laws.specs.declared.plan.Piece.{Piece}
+use Rattle.flow_core_laws.specs.Place.{Place}
+use Rattle.flow_core_laws.proofs.Stretches.{map-range-add, map-range-shift}
 use Rattle.flow_core_laws.specs.declared.plan.Plan.{Plan}
 use Rattle.flow_core_laws.specs.Element.{Source, given, fed, nobody}
-use Rattle.flow_core_laws.specs.Place.{Place}
-use Rattle.flow_core_laws.specs.Plans.{frame_at, value_at, piece_at, piece_source, cell_source, plan_reads}
+use Rattle.flow_core_laws.specs.Plans.{frame_at, held_at, piece_at, piece_source, cell_source, plan_reads}
 use Rattle.flow_core_laws.proofs.Sources.{cell_source-covered, fed-covered}
-use Rattle.flow_core_laws.proofs.Stretches.{map-range-add, map-range-shift}
+use Rattle.flow_core_laws.specs.declared.elem.Elem.{Elem}
 use Rattle.stream_match_layouts.specs.declared.layout.Layout.{Layout}
 use Rattle.stream_match_layouts.specs.Writers.{writer_at}
-use Rattle.stream_match.specs.Stretch.{piece_between, overlap_first, overlap_end}
-use Rattle.stream_match.specs.Weave.{Reach, no_reach, Weave, reach_places, total, cells_of_first, reach_at, stretch_in, with_frame, woven_pieces, IsWoven, WritesAt, CanWeave}
 use Rattle.stream_match_layouts.proofs.Windows.{map_map}
+use Rattle.stream_match.specs.Weave.{Reach, no_reach, reach_places, total, with_frame, Weave, cells_of_first, reach_at, stretch_in, woven_pieces, IsWoven, WritesAt, CanWeave}
 use Rattle.stream_match.proofs.Origins.{ordered_stands}
-use Rattle.stream_match.proofs.Weaving.{cell-is, inputs-is, value}
+use Rattle.stream_match.proofs.Weaving.{cell-is, inputs-is, opening}
 use Rattle.stream_match.proofs.WovenPieces.{woven_from, woven_stands, woven_place, covers_at, same_reach}
 use Rattle.stream_match.proofs.WovenSound.{in_order, woven_sound}
+use Rattle.stream_match.specs.Stretch.{piece_between, overlap_first, overlap_end}
 
 -- the source of each cell, by the reaches in order
 reads_reaches : (cell : ℕ → Source) (src : Place → Source) (rs : List Reach) (a : ℕ)
@@ -42,10 +43,10 @@ module _ (layout : Layout) (weave : Weave) (can : CanWeave layout weave) (plan :
   abbrev pub cell_of : ℕ → ℕ → ℕ → ℕ
   cell_of f i k = length (cells_of_first weave f) + (total (take i (weave.reaches f)) + k)
 
-  -- a cell with a value has it
-  pub given_by : (f i k : ℕ) (v : ℤ) → f ≤ weave.frames → i < length (weave.reaches f) → k < (reach_at weave f i).count → weave.value (reach_at weave f i).stream ((reach_at weave f i).first + k) ≡ Some v → cell_source plan (cell_of f i k) ≡ given v
+  -- a cell that holds something at opening is given it
+  pub given_by : (f i k : ℕ) (v : Elem) → f ≤ weave.frames → i < length (weave.reaches f) → k < (reach_at weave f i).count → weave.opening (reach_at weave f i).stream ((reach_at weave f i).first + k) ≡ Some v → cell_source plan (cell_of f i k) ≡ given v
   unfolding cell_source
-  given_by f i k v le lt kl e = ap (λ o. option_map_or given o (piece_source plan (cell_of f i k))) (value layout weave plan laid f i k le lt kl ∙ e)
+  given_by f i k v le lt kl e = ap (λ o. option_map_or given o (piece_source plan (cell_of f i k))) (opening layout weave plan laid f i k le lt kl ∙ e)
 
   -- a position that the write span of a frame covers is fed by it
   pub fed_by : (f i k place g : ℕ) → f ≤ weave.frames → i < length (weave.reaches f) → k < (reach_at weave f i).count → WritesAt layout weave (reach_at weave f i).stream ((reach_at weave f i).first + k) place g
@@ -63,8 +64,8 @@ module _ (layout : Layout) (weave : Weave) (can : CanWeave layout weave) (plan :
       cell_source-covered plan r.0 (cell_of f i k) q (woven_sound layout weave can plan laid) at (omega arith) (omega arith)
       ∙ ap (fed g) (let e : q.first + (cell_of f i k - q.at) ≡ span.offset + ((reach_at weave f i).first + k - span.first) = omega arith in e)
 
-  -- a cell without a value that no piece covers comes from nobody
-  from_nobody : (c : ℕ) → value_at plan.filled c ≡ None → ((number : ℕ) (p : Piece) → slice_get plan.pieces number ≡ Some p → p.at ≤ c → c < p.at + p.count → ⊥) → cell_source plan c ≡ nobody
+  -- a cell that holds nothing at opening and that no piece covers comes from nobody
+  from_nobody : (c : ℕ) → held_at plan.filled c ≡ None → ((number : ℕ) (p : Piece) → slice_get plan.pieces number ≡ Some p → p.at ≤ c → c < p.at + p.count → ⊥) → cell_source plan c ≡ nobody
   unfolding cell_source
   from_nobody c none free = by_piece (option_and_then (λ number. slice_get plan.pieces number) (piece_at plan c)) refl
     where
@@ -76,9 +77,9 @@ module _ (layout : Layout) (weave : Weave) (can : CanWeave layout weave) (plan :
       by_piece (Some p) e = let (number, q, q_is, low, high, from, place) = fed-covered plan c p.from (p.first + (c - p.at)) (source_is (Some p) e) in absurd (free number q q_is low high)
 
   -- and one whose position no write span of a frame covers
-  pub nobody_by : (f i k : ℕ) → f ≤ weave.frames → i < length (weave.reaches f) → k < (reach_at weave f i).count → weave.value (reach_at weave f i).stream ((reach_at weave f i).first + k) ≡ None
+  pub nobody_by : (f i k : ℕ) → f ≤ weave.frames → i < length (weave.reaches f) → k < (reach_at weave f i).count → weave.opening (reach_at weave f i).stream ((reach_at weave f i).first + k) ≡ None
       → ((place g : ℕ) → WritesAt layout weave (reach_at weave f i).stream ((reach_at weave f i).first + k) place g → ⊥) → cell_source plan (cell_of f i k) ≡ nobody
-  nobody_by f i k le lt kl e free = from_nobody (cell_of f i k) (value layout weave plan laid f i k le lt kl ∙ e) (λ number p p_is low high.
+  nobody_by f i k le lt kl e free = from_nobody (cell_of f i k) (opening layout weave plan laid f i k le lt kl ∙ e) (λ number p p_is low high.
       let r = in_order layout weave can plan laid number p p_is in
       let o = woven_from layout weave r.j p r.stands in
       let a = covers_at layout weave can r.j p o (cell_of f i k) low high in

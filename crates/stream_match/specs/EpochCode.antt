@@ -2,6 +2,7 @@
 use Rattle.std.specs.Prelude.{◌≡◌, ℕ, ℤ, ◌+◌, ◌<◌, ◌≤◌, ◌⊎◌, List, [], ◌∷◌, Option, Some, slice_get, slice_index, length, map, sum_by, take, drop, count_by, is_none, ◌^◌, All}
 use Rattle.std.specs.Option.{option_map_or}
 use Rattle.std.specs.List.{flat_map, range_with_len}
+use Rattle.flow_core_laws.specs.declared.elem.Elem.{Elem}
 use Rattle.flow_core_laws.specs.declared.plan.FramePlan.{FramePlan}
 use Rattle.flow_core_laws.specs.declared.plan.Piece.{Piece}
 use Rattle.flow_core_laws.specs.Place as streams
@@ -15,7 +16,7 @@ use Rattle.stream_match.specs.declared.reaching.Reaching.{Reaching}
 use Rattle.stream_match_layouts.specs.Spans.{read_count, write_count, spans_of}
 use Rattle.stream_match.specs.Stretch.{pieces_into, pieces_from, by_frame}
 use Rattle.stream_match.specs.Weave.{Reach, total}
-use Rattle.stream_match.specs.EpochPlan.{read_reach, epoch_value}
+use Rattle.stream_match.specs.EpochPlan.{read_reach, epoch_opening}
 
 -- the numbers ascend
 abbrev pub Ascend : List ℕ → Type 0
@@ -40,8 +41,8 @@ abbrev pub pieces_for : Layout → List ℕ → Stretch → List Piece
 pieces_for layout frames stretch = flat_map (renumbered frames) (pieces_into layout stretch)
 
 -- the cells of a stretch
-abbrev pub filled_cells : List ℕ → List Kept → Stretch → List (Option ℤ)
-filled_cells input kept stretch = map (epoch_value input (map kept_of kept) stretch.stream) (range_with_len stretch.first stretch.count)
+abbrev pub filled_cells : List ℕ → List Kept → Stretch → List (Option Elem)
+filled_cells input kept stretch = map (epoch_opening input (map kept_of kept) stretch.stream) (range_with_len stretch.first stretch.count)
 
 -- the places of a stretch
 abbrev pub stretch_places : Stretch → List streams.Place
@@ -61,7 +62,7 @@ abbrev pub read_part : Layout → List ℕ → ℕ → List Stretch
 read_part layout frames f = stretches_from f (reads_before layout frames f) (map read_reach (spans_of layout (slice_index frames f)))
 
 -- the frame of a number, by all pieces and cells
-abbrev pub epoch_frame : Layout → List ℕ → List Piece → List (Option ℤ) → ℕ → FramePlan
+abbrev pub epoch_frame : Layout → List ℕ → List Piece → List (Option Elem) → ℕ → FramePlan
 epoch_frame layout frames pieces cells f = record {
   cell = reads_before layout frames f;
   inputs = sum_by read_count (spans_of layout (slice_index frames f));

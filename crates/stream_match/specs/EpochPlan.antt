@@ -1,31 +1,27 @@
 -- The plan of an epoch, by the layout of all activations so far.
-use Rattle.std.specs.Prelude.{◌≡◌, ℕ, ℤ, ◌+◌, ◌-◌, ◌<◌, ◌==◌, nat_lt, if◌then◌else◌, List, ◌++◌, Option, Some, None, All, slice_index, length, map, sum_by}
-use Rattle.std.specs.Option.{option_map_or}
+use Rattle.std.specs.Prelude.{◌≡◌, ℕ, ℤ, ◌==◌, pos, if◌then◌else◌, List, ◌++◌, Option, Some, None, All, slice_get, slice_index, length, map, sum_by, ◌+◌, ◌-◌, ◌<◌, nat_lt}
+use Rattle.std.specs.Option.{option_map, option_map_or}
 use Rattle.std.specs.List.{flat_map, range_with_len}
 use Rattle.flow_core_laws.specs.declared.activation.Activation.{Activation}
+use Rattle.flow_core_laws.specs.Window.{Window, producer}
+use Rattle.flow_core_laws.specs.Place.{Place}
+use Rattle.flow_core_epochs.specs.Epoch.{number_in, read_from, open_in, put_over, Kept, value_kept, epoch_meaning, AreChosen, IsKeptFor, StandsForEpoch, IsOutside}
 use Rattle.flow_core_laws.specs.declared.plan.Plan.{Plan}
 use Rattle.flow_core_laws.specs.declared.outcome.Outcome.{Outcome}
 use Rattle.flow_core_laws.specs.IsSound.{IsSound}
-use Rattle.flow_core_laws.specs.Window.{Window, producer}
-use Rattle.flow_core_laws.specs.Place.{Place}
 use Rattle.flow_core_laws.specs.Streams.{stream_meaning}
-use Rattle.flow_core_epochs.specs.Epoch.{Kept, number_in, value_kept, read_from, open_in, put_over, epoch_meaning, AreChosen, IsKeptFor, IsOutside, StandsForEpoch}
-use Rattle.stream_match_layouts.specs.declared.span.Span.{Span}
+use Rattle.flow_core_laws.specs.declared.elem.Elem.{Elem}
+use Rattle.flow_core_laws.specs.declared.elem.Elem.TheVariants.{Value}
 use Rattle.stream_match_layouts.specs.declared.layout.Layout.{Layout}
 use Rattle.stream_match_layouts.specs.Layout.{IsLayout, IsLayoutOf}
-use Rattle.stream_match_layouts.specs.Spans.{frame_count, read_count, write_count, spans_of}
-use Rattle.stream_match.specs.Stretch.{opening_value}
-use Rattle.stream_match.specs.Weave.{Reach, Weave, IsWoven, reach_places}
+use Rattle.stream_match_layouts.specs.Spans.{write_count, spans_of, frame_count, read_count}
+use Rattle.stream_match.specs.Weave.{Reach, reach_places, Weave, IsWoven}
+use Rattle.stream_match_layouts.specs.declared.span.Span.{Span}
 
 -- Activations of a layout, ascending.
 pub record AreFrames (layout : Layout) (frames : List ℕ) : Type 0 where
   pub exist : (i : ℕ) → i < length frames → slice_index frames i < frame_count layout
   pub ascend : (i j : ℕ) → i < j → j < length frames → slice_index frames i < slice_index frames j
-
--- each kept element was written by an activation that is no frame
-abbrev pub WrittenOutside : List Activation → List ℕ → List Kept → Type 0
-WrittenOutside activations frames kept =
-    All (λ (k : Kept). (w : Window) × (producer activations k.place.stream k.place.position ≡ Some w) × (number_in frames w.activation ≡ None)) kept
 
 -- what a span reads
 abbrev pub read_reach : Span → Reach
@@ -51,21 +47,28 @@ leaving_reaches layout frames cursors = flat_map (λ a. map (leaving_reach curso
 abbrev pub reaches_over : Layout → List ℕ → List Reach → ℕ → List Reach
 reaches_over layout frames sink f = if nat_lt f (length frames) then map read_reach (spans_of layout (slice_index frames f)) else sink
 
-abbrev pub epoch_reaches : Layout → List ℕ → List ℕ → ℕ → List Reach
-epoch_reaches layout frames cursors = reaches_over layout frames (leaving_reaches layout frames cursors)
+-- what the element at a position of a stream is at opening, but for what is kept: the input's byte, where it is there
+abbrev pub opening_element : List ℕ → ℕ → ℕ → Option Elem
+opening_element input stream position = if stream == 0 then option_map (λ byte. Value (pos byte)) (slice_get input position) else None
 
--- the value at opening: what is kept, or else the input's byte
-abbrev pub epoch_value : List ℕ → List Kept → ℕ → ℕ → Option ℤ
-epoch_value input kept stream position =
-    option_map_or (λ v. Some v) (value_kept kept (record { stream = stream; position = position })) (opening_value input stream position)
+-- each kept element was written by an activation that is no frame
+abbrev pub WrittenOutside : List Activation → List ℕ → List Kept → Type 0
+WrittenOutside activations frames kept =
+    All (λ (k : Kept). (w : Window) × (producer activations k.place.stream k.place.position ≡ Some w) × (number_in frames w.activation ≡ None)) kept
+
+-- what is there at opening: what is kept, a value or poison, or else the input's byte
+abbrev pub epoch_opening : List ℕ → List Kept → ℕ → ℕ → Option Elem
+epoch_opening input kept stream position =
+    option_map_or (λ e. Some e) (value_kept kept (record { stream = stream; position = position })) (opening_element input stream position)
 
 -- frames of a layout that read what they read, and a sink
 abbrev pub weave_over : Layout → List ℕ → List ℕ → List Kept → List Reach → Weave
 weave_over layout input frames kept sink = record {
   frames = length frames;
+  activations = frames;
   number = number_in frames;
   reaches = reaches_over layout frames sink;
-  value = epoch_value input kept;
+  opening = epoch_opening input kept;
   outputs = λ f. sum_by write_count (spans_of layout (slice_index frames f));
 }
 
@@ -98,7 +101,7 @@ EpochPlansStand =
 
 -- A plan goes on where the activations before it stopped: for all activations of the layout, the first of which
 -- were run and left just these frames open, and whatever their bodies, the plan's meaning put over the meaning
--- of those that were run is the meaning of all, where each kept element has the value that was written.
+-- of those that were run is the meaning of all, where each kept element is what was written, a value or poison.
 abbrev pub GoesOn : Layout → List ℕ → List ℕ → List Kept → Plan → Type 0
 GoesOn layout input frames kept plan =
     (before new : List Activation) (body : ℕ → List ℤ → Outcome)
@@ -114,5 +117,20 @@ GoesOnFor layout input readers frames kept plan =
     → IsLayoutOf layout (before ++ new) → readers ≡ open_in (stream_meaning before input body) (length (before ++ new))
     → AreChosen before new input body frames
     → IsKeptFor (before ++ new) input (stream_meaning before input body) readers kept → IsOutside (before ++ new) frames kept
+    → put_over (stream_meaning before input body) frames (epoch_meaning plan frames body) (length (before ++ new))
+    ≡ stream_meaning (before ++ new) input body
+
+-- So it goes on where the activations before it stopped: where all activations of the layout are those that were run and
+-- new ones, the readers are all that have no outcome yet, and what is left out of them gets none, the plan's meaning, put
+-- over the meaning of those that were run, is the meaning of all, poison included.
+abbrev pub EpochPlansGoOn : Type 0
+EpochPlansGoOn =
+    (layout : Layout) (input : List ℕ) (readers frames : List ℕ) (kept : List Kept) (cursors : List ℕ) (plan : Plan) (places : List Place)
+    (before new : List Activation) (body : ℕ → List ℤ → Outcome)
+    → IsLayout layout → IsLayoutOf layout (before ++ new) → AreFrames layout frames → WrittenOutside (before ++ new) frames kept
+    → cursors ≡ map (read_from (before ++ new) readers) (range_with_len 0 (length layout.writers))
+    → readers ≡ open_in (stream_meaning before input body) (length (before ++ new)) → AreChosen before new input body frames
+    → IsKeptFor (before ++ new) input (stream_meaning before input body) readers kept
+    → IsEpochPlanOf layout input frames kept cursors plan places
     → put_over (stream_meaning before input body) frames (epoch_meaning plan frames body) (length (before ++ new))
     ≡ stream_meaning (before ++ new) input body

@@ -1,16 +1,11 @@
 -- The positions that go into cells, and the pieces that carry output elements there.
-use Rattle.std.specs.Prelude.{ℕ, ℤ, pos, ◌+◌, ◌-◌, ◌==◌, Bool, nat_lt, min, max, if◌then◌else◌, List, [], ◌∷◌, Option, None, slice_get, length, filter}
-use Rattle.std.specs.Option.{option_map}
+use Rattle.std.specs.Prelude.{ℕ, ◌+◌, ◌-◌, ◌==◌, Bool, nat_lt, min, max, if◌then◌else◌, List, [], ◌∷◌, length, filter}
 use Rattle.std.specs.List.{flat_map, range_with_len}
 use Rattle.flow_core_laws.specs.declared.plan.Piece.{Piece}
 use Rattle.stream_match_layouts.specs.declared.span.Span.{Span}
 use Rattle.stream_match_layouts.specs.declared.layout.Layout.{Layout}
 use Rattle.stream_match.specs.declared.stretch.Stretch.{Stretch}
 use Rattle.stream_match_layouts.specs.Writers.{writers_on, writer_at, end_of}
-
--- the value at opening of the element at a position of a stream: the input's byte, where it is there
-abbrev pub opening_value : List ℕ → ℕ → ℕ → Option ℤ
-opening_value input stream position = if stream == 0 then option_map pos (slice_get input position) else None
 
 -- where a stretch and a write span begin to overlap, and where they cease to
 abbrev pub overlap_first : Stretch → Span → ℕ

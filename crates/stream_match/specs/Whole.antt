@@ -1,16 +1,16 @@
 -- The plan of a whole run, as a plan over reaches: all activations are frames, nothing is kept, and the sink
 -- takes the output from its beginning.
 use Rattle.std.specs.Prelude.{ℕ, List, [], ◌∷◌, slice_index}
-use Rattle.std.specs.List.{range_with_len}
 use Rattle.flow_core_laws.specs.declared.activation.Activation.{Activation}
 use Rattle.flow_core_laws.specs.declared.plan.Plan.{Plan}
 use Rattle.flow_core_laws.specs.IsSound.{IsSound}
 use Rattle.flow_core_laws.specs.StandsFor.{StandsFor}
 use Rattle.stream_match_layouts.specs.declared.layout.Layout.{Layout}
 use Rattle.stream_match_layouts.specs.Layout.{IsLayout, IsLayoutOf}
-use Rattle.stream_match_layouts.specs.Spans.{frame_count}
-use Rattle.stream_match.specs.Weave.{Reach, Weave, IsWoven}
+use Rattle.stream_match.specs.Weave.{Weave, IsWoven, Reach}
 use Rattle.stream_match.specs.EpochPlan.{weave_over}
+use Rattle.std.specs.List.{range_with_len}
+use Rattle.stream_match_layouts.specs.Spans.{frame_count}
 
 abbrev pub all_frames : Layout → List ℕ
 all_frames layout = range_with_len 0 (frame_count layout)

@@ -34,7 +34,7 @@ pub struct EpochPlan {
 
 /// The plan of an epoch over an input. Its frames are these activations, in order. The cells are those
 /// of their input windows, frame by frame, and behind them those of the sink: what the frames write to
-/// the output, or where it may still be read. What is kept has its value there from the start.
+/// the output, or where it may still be read. What is kept is there from the start.
 pub fn build_epoch(
     alloc: Global,
     layout: &Layout,

@@ -8,7 +8,7 @@ ghost use Rattle.stream_match.specs.EpochCode.{epoch_frame, reads_before};
 use crate::filling::empty;
 use crate::frames::frame_tally;
 use crate::gather::count_by_frame;
-use flow_core_laws::{FramePlan, Piece};
+use flow_core_laws::{Elem, FramePlan, Piece};
 use os_io::{List, Memory};
 use std::alloc::Global;
 use stream_match_layouts::Layout;
@@ -19,7 +19,7 @@ pub(crate) fn epoch_frames(
     layout: &Layout,
     frames: &[u32],
     pieces: &[Piece],
-    cells: &[Option<i32>],
+    cells: &[Option<Elem>],
 ) -> Result<List<FramePlan>, Memory>
     requires layout { IsLayout layout.now }
     requires frames { AreFrames layout.now frames.now }
@@ -54,7 +54,7 @@ pub(crate) fn epoch_frames(
 }
 
 /// The cells from one number to another.
-pub(crate) fn between(cells: &[Option<i32>], first: usize, end: usize) -> &[Option<i32>]
+pub(crate) fn between(cells: &[Option<Elem>], first: usize, end: usize) -> &[Option<Elem>]
     requires ordered { first ≤ end }
     requires within { end ≤ length cells.now }
     ensures { result.now ≡ take (end - first) (drop first cells.now) }

@@ -5,14 +5,15 @@ ghost use Rattle.stream_match.specs.Kept.{place_of};
 ghost use Rattle.stream_match.specs.EpochCode.{AreSorted, filled_cells, stretch_places};
 
 use crate::kept::Kept;
-use crate::look_up::epoch_value;
+use crate::look_up::epoch_opening;
 use crate::place::Place;
 use crate::stretch::Stretch;
+use flow_core_laws::Elem;
 use os_io::{List, Memory};
 
-/// Adds the cells of stretches, with their values at opening.
+/// Adds the cells of stretches, with their elements at opening.
 pub(crate) fn fill(
-    cells: &mut List<Option<i32>>,
+    cells: &mut List<Option<Elem>>,
     kept: &[Kept],
     input: &[u8],
     stretches: &[Stretch],
@@ -29,7 +30,7 @@ pub(crate) fn fill(
 
 /// Adds the cells of a stretch.
 fn fill_one(
-    cells: &mut List<Option<i32>>,
+    cells: &mut List<Option<Elem>>,
     kept: &[Kept],
     input: &[u8],
     stretch: Stretch,
@@ -40,7 +41,7 @@ fn fill_one(
 {
     for offset in 0..stretch.count {
         let position = stretch.first + u64::from(offset);
-        cells.push(epoch_value(kept, input, stretch.stream, position))?;
+        cells.push(epoch_opening(kept, input, stretch.stream, position))?;
     }
     Ok(())
 }
@@ -71,7 +72,7 @@ fn add_places_of(places: &mut List<Place>, stretch: Stretch) -> Result<(), Memor
 }
 
 /// How many cells have no value.
-pub(crate) fn empty(cells: &[Option<i32>]) -> u32
+pub(crate) fn empty(cells: &[Option<Elem>]) -> u32
     requires { length cells.now < 2 ^ 32 }
     ensures { result ≡ count_by is_none cells.now }
 {

@@ -14,7 +14,7 @@ use crate::gather::{gather, place_by_frame};
 use crate::kept::Kept;
 use crate::reaching::Reaching;
 use crate::stretch::Stretch;
-use flow_core_laws::{FramePlan, Piece, Plan};
+use flow_core_laws::{Elem, FramePlan, Piece, Plan};
 use os_io::{List, Memory};
 use std::alloc::Global;
 use stream_match_layouts::Layout;
@@ -43,6 +43,7 @@ pub(crate) fn weave_rows(
     let pieces = gathered(alloc, layout, frames, reads, leaves)?;
     let plans = epoch_frames(alloc, layout, frames, pieces.as_slice(), filled.as_slice())?;
     let placed = place_by_frame(alloc, pieces.as_slice(), plans.as_slice())?;
+    let numbers = List::from_slice(alloc, frames)?;
     let sink = FramePlan {
         cell: read.next,
         inputs: left.next - read.next,
@@ -56,6 +57,7 @@ pub(crate) fn weave_rows(
         sink,
         pieces: placed,
         filled,
+        numbers,
     })
 }
 
@@ -66,7 +68,7 @@ fn filled(
     input: &[u8],
     reads: &[Stretch],
     leaves: &[Stretch],
-) -> Result<List<Option<i32>>, Memory>
+) -> Result<List<Option<Elem>>, Memory>
     requires kept { AreSorted kept.now }
     requires reads { All (λ (s : Stretch). s.first + s.count < 2 ^ 64) reads.now }
     requires leaves { All (λ (s : Stretch). s.first + s.count < 2 ^ 64) leaves.now }

@@ -1,15 +1,12 @@
 use Rattle.std.proofs.Common.{refl}
-use Rattle.flow_core_laws.specs.Plans.{cell_source}
-use Rattle.flow_core_laws.specs.Round.{round, rounds, meaning}
-use Rattle.flow_core_concurrent.proofs.Fitting.{reader_fit}
+use Rattle.flow_core_concurrent.proofs.Fitting.{reader_meant, reader_fit}
 use Rattle.flow_core_concurrent.proofs.examples.reader_first.Goals as goal
 
 pub returns-clause-fit : goal.returns-clause-fit
 returns-clause-fit c = reader_fit
 
 pub returns-clause-meaning : goal.returns-clause-meaning
-unfolding meaning rounds round cell_source
-returns-clause-meaning c = refl
+returns-clause-meaning c = reader_meant
 
 pub returns-clause-states : goal.returns-clause-states
 returns-clause-states c = refl

@@ -1,15 +1,12 @@
 use Rattle.std.proofs.Common.{refl}
-use Rattle.flow_core_laws.specs.Plans.{cell_source}
-use Rattle.flow_core_laws.specs.Round.{round, rounds, meaning}
-use Rattle.flow_core_concurrent.proofs.Fitting.{two_fit}
+use Rattle.flow_core_concurrent.proofs.Fitting.{two_meant, two_fit}
 use Rattle.flow_core_concurrent.proofs.examples.two_producers.Goals as goal
 
 pub returns-clause-fit : goal.returns-clause-fit
 returns-clause-fit c = two_fit
 
 pub returns-clause-meaning : goal.returns-clause-meaning
-unfolding meaning rounds round cell_source
-returns-clause-meaning c = refl
+returns-clause-meaning c = two_meant
 
 pub returns-clause-first_order : goal.returns-clause-first_order
 returns-clause-first_order c = refl

@@ -1,7 +1,7 @@
 use Rattle.std.proofs.Common.{◌≡◌, Bool, true, false, refl, ◌∙◌}
 use Rattle.std.specs.Prelude.{not, ◌&&◌}
-use Rattle.flow_core_concurrent.specs.Words.{word_at, opening_words, waits}
 use Rattle.flow_core_concurrent.specs.Counted.{one}
+use Rattle.flow_core_concurrent.specs.Words.{word_at, opening_words, waits}
 use Rattle.flow_core_concurrent.proofs.Opening.{known_waits_no_more}
 use Rattle.flow_core_concurrent.proofs.Once.{waiting_is_new}
 use Rattle.flow_core_concurrent.proofs.Steps.{waits_no_more}

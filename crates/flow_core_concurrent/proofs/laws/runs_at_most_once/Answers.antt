@@ -1,6 +1,6 @@
 use Rattle.std.proofs.Common.{◌≡◌, ℕ, ◌≤◌, Bool, true, false, arith}
-use Rattle.flow_core_concurrent.specs.Words.{word_at, is_started}
 use Rattle.flow_core_concurrent.specs.Counted.{one}
+use Rattle.flow_core_concurrent.specs.Words.{word_at, is_started}
 use Rattle.flow_core_concurrent.proofs.Once.{open_is_new}
 use Rattle.flow_core_concurrent.proofs.Steps.{started_stays}
 use Rattle.flow_core_concurrent.proofs.laws.runs_at_most_once.Goals as goal

@@ -1,15 +1,12 @@
 use Rattle.std.proofs.Common.{◌≡◌, ℕ, [], ◌∷◌, refl, arith}
 use Rattle.flow_core_concurrent.specs.Choices.{to_claim, to_store}
 use Rattle.flow_core_concurrent.proofs.Choices.{choices_are_ways}
-use Rattle.flow_core_concurrent.proofs.Fitting.{pairs_fit}
-use Rattle.flow_core_laws.specs.Plans.{cell_source}
-use Rattle.flow_core_laws.specs.Round.{round, rounds, meaning}
+use Rattle.flow_core_concurrent.proofs.Fitting.{pairs_meant, pairs_fit}
 use Rattle.flow_core_concurrent.specs.Ways.{opens}
 use Rattle.flow_core_concurrent.proofs.wrong_steps.counter_of_producers.Goals as goal
 
 pub returns-clause-meaning : goal.returns-clause-meaning
-unfolding meaning rounds round cell_source
-returns-clause-meaning c = refl
+returns-clause-meaning c = pairs_meant
 
 pub returns-clause-counts : goal.returns-clause-counts
 returns-clause-counts c = record {

@@ -1,6 +1,6 @@
 use Rattle.std.proofs.Common.{ℕ, List, ◌++◌, length, subst, sym}
 use Rattle.flow_core_laws.specs.Streams.{stream_meaning}
-use Rattle.flow_core_epochs.specs.Epoch.{IsKeptFor, IsOutside, open_in}
+use Rattle.flow_core_epochs.specs.Epoch.{open_in, IsKeptFor, IsOutside}
 use Rattle.flow_core_epochs.proofs.Frames.{open_each}
 use Rattle.flow_core_epochs.proofs.Opening.{has_epoch}
 use Rattle.flow_core_epochs.proofs.Carried.{nothing_at_first, serves_next, is_outside, carries_over, output_stays}

@@ -1,12 +1,12 @@
-use Rattle.flow_core_laws.specs.Element.{element}
-use Rattle.flow_core_laws.specs.Streams.{stream_reads}
-use Rattle.flow_core_laws.specs.Plans.{plan_reads}
 use Rattle.std.proofs.Common.{length}
+use Rattle.flow_core_laws.specs.Poisoning.{poisoning}
+use Rattle.flow_core_laws.specs.Streams.{stream_reads, stream_element}
+use Rattle.flow_core_laws.specs.Plans.{plan_reads, plan_element}
 use Rattle.flow_core_laws.proofs.Rounds.{outcome_stays}
 use Rattle.flow_core_laws.proofs.laws.outcomes_stay.Goals as goal
 
 pub returns-clause-streams : goal.returns-clause-streams
-returns-clause-streams c = λ activations input body. outcome_stays element (stream_reads activations input) body (length activations)
+returns-clause-streams c = λ activations input body. outcome_stays stream_element (stream_reads activations input) (poisoning body) (length activations)
 
 pub returns-clause-plans : goal.returns-clause-plans
-returns-clause-plans c = λ plan outcome. outcome_stays element (plan_reads plan) outcome (length plan.frames)
+returns-clause-plans c = λ plan outcome. outcome_stays (plan_element plan) (plan_reads plan) (poisoning outcome) (length plan.frames)

@@ -2,6 +2,7 @@ use Rattle.std.proofs.Common.{◌≡◌, ◌∙◌, ◌-◌, ◌<◌, ℕ, ℤ, 
 use Rattle.std.specs.Prelude.{All}
 use Rattle.std.specs.List.{range_with_len}
 use Rattle.std.proofs.lemmas.List.FromFn.{length-map-range_with_len}
+use Rattle.flow_core_laws.specs.declared.elem.Elem.{Elem}
 use Rattle.flow_core_laws.specs.declared.plan.FramePlan.{FramePlan}
 use Rattle.flow_core_laws.specs.declared.plan.Piece.{Piece}
 use Rattle.stream_match_layouts.specs.declared.layout.Layout.{Layout}
@@ -13,7 +14,7 @@ use Rattle.stream_match.proofs.EpochRows.{has_place}
 use Rattle.stream_match.proofs.EpochMade.{rows_of, reads_stretches, leaves_stretches, reads_end, leaves_end, pieces_from_frames, pieces_are_few, cells_end, end_few, plan_made}
 use Rattle.stream_match.proofs.woven.weave_rows.Goals as goal
 
-plans_count : (plans : List FramePlan) (layout : Layout) (frames : List ℕ) (pieces : List Piece) (cells : List (Option ℤ)) → plans ≡ map (epoch_frame layout frames pieces cells) (range_with_len 0 (length frames)) → length plans ≡ length frames
+plans_count : (plans : List FramePlan) (layout : Layout) (frames : List ℕ) (pieces : List Piece) (cells : List (Option Elem)) → plans ≡ map (epoch_frame layout frames pieces cells) (range_with_len 0 (length frames)) → length plans ≡ length frames
 plans_count plans layout frames pieces cells are = ap length are ∙ length-map-range_with_len (epoch_frame layout frames pieces cells) 0 (length frames)
 
 pub filled-requires-clause-reads : goal.filled-requires-clause-reads

@@ -1,0 +1,49 @@
+-- Three small runs that fail, written out. Each activation that doesn't fail gives 7.
+use Rattle.std.specs.Prelude.{ℕ, ℤ, true, false, List, [], ◌∷◌, Option, None, pos, slice_index_or}
+use Rattle.std.specs.Option.{option_map_or}
+use Rattle.flow_core_laws.specs.declared.claim.Claim.{Claim}
+use Rattle.flow_core_laws.specs.declared.activation.Activation.{Activation}
+use Rattle.flow_core_laws.specs.declared.control.ControlEnd.TheVariants as control_end
+use Rattle.flow_core_laws.specs.declared.ends.Ends.{Ends}
+use Rattle.flow_core_laws.specs.declared.outcome.Outcome.{Outcome}
+use Rattle.flow_core_laws.specs.declared.task_end.TaskEnd.{TaskEnd}
+use Rattle.flow_core_laws.specs.declared.task_end.TaskEnd.TheVariants.{Done}
+use Rattle.flow_core_laws.specs.Outcome.{outcome_of}
+use Rattle.flow_core_laws.specs.Streams.{stream_ends, stream_meaning}
+use Rattle.collector.specs.Report.{report}
+
+-- a claim that reads so many elements of a stream, and one that writes so many
+abbrev pub reads : ℕ → ℕ → Claim
+reads stream horizon = record { stream = stream; write = false; horizon = horizon; burst = horizon; skip = 0 }
+
+abbrev pub writes : ℕ → ℕ → Claim
+writes stream horizon = record { stream = stream; write = true; horizon = horizon; burst = horizon; skip = 0 }
+
+abbrev pub task : List Claim → Activation
+task claims = record { site = 0; captured = []; claims = claims }
+
+-- the body of an activation, by the ends of those that fail
+abbrev pub body : List (Option TaskEnd) → ℕ → List ℤ → Outcome
+body failing activation inputs =
+    option_map_or (λ (e : TaskEnd). outcome_of e []) (slice_index_or failing activation None) (outcome_of Done (pos 7 ∷ []))
+
+-- what a run comes to, and its report
+abbrev pub run : List Activation → List (Option TaskEnd) → Ends
+run activations failing = stream_ends activations [] (stream_meaning activations [] (body failing))
+
+abbrev pub told : List Activation → List (Option TaskEnd) → List ℕ
+told activations failing = report activations 0 (run activations failing) control_end.Done
+
+-- The first activation traps. The second one reads what it should have written, and the third one what the second should
+-- have written, and an element that nobody writes.
+abbrev pub handed_on : List Activation
+handed_on = task (writes 2 1 ∷ []) ∷ task (reads 2 1 ∷ writes 2 1 ∷ []) ∷ task (reads 2 2 ∷ writes 1 1 ∷ []) ∷ []
+
+-- Two activations trap. The third one reads first what the second should have written, and then what the first should
+-- have written.
+abbrev pub two_roots : List Activation
+two_roots = task (writes 2 1 ∷ []) ∷ task (writes 3 1 ∷ []) ∷ task (reads 3 1 ∷ reads 2 1 ∷ writes 1 1 ∷ []) ∷ []
+
+-- Three activations write to the output, one position each, and the second one uses up its turns.
+abbrev pub stops_at_poison : List Activation
+stops_at_poison = task (writes 1 1 ∷ []) ∷ task (writes 1 1 ∷ []) ∷ task (writes 1 1 ∷ []) ∷ []

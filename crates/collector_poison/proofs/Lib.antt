@@ -1,4 +1,0 @@
-pub mod Prefixes
-pub mod Firsts
-pub mod Covering
-pub mod Starving

@@ -1,6 +1,0 @@
-use Rattle.std.proofs.Common.{take}
-use Rattle.flow_core_poison_board.proofs.Gathering.{AreGathered}
-use Rattle.flow_core_poison_board.proofs.cells.gather.Given as goal
-
-abbrev pub invariant-loop-cell : goal.invariant-loop-cell
-invariant-loop-cell l = AreGathered (take l.cell-index l.cells) l.least l.into.items

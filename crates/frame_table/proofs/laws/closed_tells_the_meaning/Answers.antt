@@ -1,0 +1,5 @@
+use Rattle.frame_table.proofs.Keeping.{closed_tells}
+use Rattle.frame_table.proofs.laws.closed_tells_the_meaning.Goals as goal
+
+pub returns : goal.returns
+returns c = closed_tells

@@ -1,4 +1,0 @@
-pub mod Spells
-pub mod Showing
-pub mod Steps
-pub mod Keeping

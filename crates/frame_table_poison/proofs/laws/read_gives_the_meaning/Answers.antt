@@ -1,5 +1,0 @@
-use Rattle.frame_table_poison.proofs.Keeping.{reads_the_meaning}
-use Rattle.frame_table_poison.proofs.laws.read_gives_the_meaning.Goals as goal
-
-pub returns : goal.returns
-returns c = reads_the_meaning
