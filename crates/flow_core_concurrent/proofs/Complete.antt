@@ -81,6 +81,21 @@ output_has_outcome plan t f k x h = by (outcome_at t f) refl
     by None e = let z : ◌≡◌ {A = Option Elem} None (Some x) = sym (ap (option_and_then (λ (o : Outcome). written (number_at plan f) o k)) e) ∙ h in absurd (cc)
     by (Some o) e = (o, e)
 
+-- Where the frames with an outcome in a state have ended, the elements that are there in it were given at
+-- opening or came with a piece that counts.
+pub there_counts : (known : Known) (s : CoreState) (t : State) (c : ℕ) (x : Elem) → IsSound known.plan → IsGood known s → ((f : ℕ) (o : Outcome) → outcome_at t f ≡ Some o → has_ended (word_at s.words f) ≡ true) → plan_element known.plan t (cell_source known.plan c) ≡ Some x → 1 ≤ one (is_some (held_at known.plan.filled c)) + counted_at known.plan s.words (runs_of s) c
+there_counts known s t c x sound g ended h = by (cell_source known.plan c) refl h
+  where
+    by : (source : Source) → cell_source known.plan c ≡ source → plan_element known.plan t source ≡ Some x → 1 ≤ one (is_some (held_at known.plan.filled c)) + counted_at known.plan s.words (runs_of s) c
+    by (given y) e h = let a : one (is_some (held_at known.plan.filled c)) ≡ 1 = ap (λ o. one (is_some o)) (source_given known.plan c y e) in omega (arith, a)
+    by nobody e h = absurd (cc)
+    by (fed f k) e h =
+        let (o, there) = output_has_outcome known.plan t f k x h in
+        let (q, p, number, low, high, from, _) = fed-covered known.plan c f k e in
+        let a : counted_at known.plan s.words (runs_of s) c ≡ one (has_ended (word_at s.words p.from)) + count_by (is_past p.from q) (runs_of s) = counted_at-is known.plan s.words (runs_of s) c q (piece_at-covered known.plan q c p sound number low high) ∙ counted-is known.plan s.words (runs_of s) q p number in
+        let b : one (has_ended (word_at s.words p.from)) ≡ 1 = ap (λ k. one (has_ended (word_at s.words k))) from ∙ ap one (ended f o there) in
+        omega (arith, a, b)
+
 -- each element of a stretch that is gathered is there
 pub gathered_each : (t : Source → Option Elem) (source : ℕ → Source) (from n : ℕ) (vs : List Elem) → gathered (map t (map source (range_with_len from n))) ≡ Some vs → (c : ℕ) → from ≤ c → c < from + n → (x : Elem) × (t (source c) ≡ Some x)
 gathered_each t source from zero vs h c low high = absurd (omega arith)
@@ -182,18 +197,3 @@ module _ (known : Known) (outcome : ℕ → List ℤ → Outcome) (s : CoreState
       cells : (c : ℕ) (o : Option Elem) → held_at s.cells c ≡ o → held_at s.cells c ≡ plan_element known.plan known.meaning (cell_source known.plan c)
       cells c (Some x) e = e ∙ sym (g.cells_hold_the_meaning c x e)
       cells c None e = e ∙ empty c e (plan_element known.plan known.meaning (cell_source known.plan c)) refl
-
--- Where the frames with an outcome in a state have ended, the elements that are there in it were given at
--- opening or came with a piece that counts.
-pub there_counts : (known : Known) (s : CoreState) (t : State) (c : ℕ) (x : Elem) → IsSound known.plan → IsGood known s → ((f : ℕ) (o : Outcome) → outcome_at t f ≡ Some o → has_ended (word_at s.words f) ≡ true) → plan_element known.plan t (cell_source known.plan c) ≡ Some x → 1 ≤ one (is_some (held_at known.plan.filled c)) + counted_at known.plan s.words (runs_of s) c
-there_counts known s t c x sound g ended h = by (cell_source known.plan c) refl h
-  where
-    by : (source : Source) → cell_source known.plan c ≡ source → plan_element known.plan t source ≡ Some x → 1 ≤ one (is_some (held_at known.plan.filled c)) + counted_at known.plan s.words (runs_of s) c
-    by (given y) e h = let a : one (is_some (held_at known.plan.filled c)) ≡ 1 = ap (λ o. one (is_some o)) (source_given known.plan c y e) in omega (arith, a)
-    by nobody e h = absurd (cc)
-    by (fed f k) e h =
-        let (o, there) = output_has_outcome known.plan t f k x h in
-        let (q, p, number, low, high, from, _) = fed-covered known.plan c f k e in
-        let a : counted_at known.plan s.words (runs_of s) c ≡ one (has_ended (word_at s.words p.from)) + count_by (is_past p.from q) (runs_of s) = counted_at-is known.plan s.words (runs_of s) c q (piece_at-covered known.plan q c p sound number low high) ∙ counted-is known.plan s.words (runs_of s) q p number in
-        let b : one (has_ended (word_at s.words p.from)) ≡ 1 = ap (λ k. one (has_ended (word_at s.words k))) from ∙ ap one (ended f o there) in
-        omega (arith, a, b)

@@ -42,6 +42,23 @@ write_cursor-append s xs ys = ap (sum_by (λ (c : Claim). c.horizon)) (filter-ap
 write_cursor-one : (s : ℕ) (c : Claim) → is_write_to s c ≡ true → write_cursor s (c ∷ []) ≡ c.horizon
 write_cursor-one s c h = ap (λ (b : Bool). sum_by (λ (d : Claim). d.horizon) (cond b (c ∷ []) [])) h ∙ (let e : 0 + c.horizon ≡ c.horizon = omega arith in e)
 
+pub written_within : (activations : List Activation) (s p : ℕ) (w : Window) → producer activations s p ≡ Some w → p < written_count activations s
+written_within activations s p w h =
+    let (i, at, passes) = find_passes (is_written_by s p) (windows activations) w h in
+    let x = written s p w passes in
+    let on = x.on_stream in
+    let high = x.to in
+    let cs = claims_of activations in
+    let q = window_at activations i w at in
+    let within : i < length cs = slice_get_within cs i w.claim q.is_claim in
+    let is : get_or cs i w.claim ≡ w.claim = get_or_from_slice_get cs i w.claim w.claim q.is_claim in
+    let begin : w.first ≡ write_cursor s (take i cs) = q.begins ∙ first_of_write s (take i cs) w.claim on in
+    let next : take (i + 1) cs ≡ take i cs ++ w.claim ∷ [] = take_more cs i w.claim within ∙ ap (λ (c : Claim). take i cs ++ c ∷ []) is in
+    let whole : write_cursor s cs ≡ write_cursor s (take (i + 1) cs) + write_cursor s (drop (i + 1) cs) = ap (write_cursor s) (sym (take-append-drop (i + 1) cs)) ∙ write_cursor-append s (take (i + 1) cs) (drop (i + 1) cs) in
+    let one : write_cursor s (take (i + 1) cs) ≡ write_cursor s (take i cs) + write_cursor s (w.claim ∷ []) = ap (write_cursor s) next ∙ write_cursor-append s (take i cs) (w.claim ∷ []) in
+    let horizon : write_cursor s (w.claim ∷ []) ≡ w.claim.horizon = write_cursor-one s w.claim on in
+    omega (arith, begin, whole, one, horizon)
+
 -- the place of an output position
 abbrev pub at_output : ℕ → Place
 at_output at = record { stream = 1; position = at }
@@ -83,6 +100,19 @@ none_passes test xs x e (i, at) passes =
         let f : test (get_or xs i x) ≡ false = fails_before_first test xs i x (omega arith) in
         let t : test (get_or xs i x) ≡ true = ap test (get_or_from_slice_get xs i x x at) ∙ passes in
         absurd (cc)
+
+pub held_at_first : (input : List ℕ) (body : ℕ → List ℤ → Outcome) → IsHeld [] input body [] [] []
+unfolding meaning rounds
+held_at_first input body = record { ends_are_meant = refl; kept_is_carried = nothing_at_first input body; output_is_meant = refl }
+
+pub begins_epoch : (before new : List Activation) (input : List ℕ) (body : ℕ → List ℤ → Outcome) (ends : List (Option TaskEnd)) (kept : List Kept) (output : List (Option Elem)) (readers frames : List ℕ) → ReadNoOutput (before ++ new) → IsHeld before input body ends kept output → readers ≡ open_in ends (length (before ++ new)) → LeaveOutWaiting (before ++ new) input ends frames
+    → IsOutside (before ++ new) frames kept × ((plan : Plan) (places : List Place) → StandsForEpoch plan (before ++ new) input readers frames kept places → IsEpoch before new input body readers frames kept plan places)
+begins_epoch before new input body ends kept output readers frames no_output held is leave =
+    let state = stream_meaning before input body in
+    let n = length (before ++ new) in
+    let e : readers ≡ open_in state n = is ∙ ap (λ (es : List (Option TaskEnd)). open_in es n) held.ends_are_meant ∙ open_by_ends state n in
+    let chosen = chosen_by before new input body frames (subst (λ (es : List (Option TaskEnd)). LeaveOutWaiting (before ++ new) input es frames) held.ends_are_meant leave) in
+    (is_outside before new input body kept frames (λ f a h. (chosen.are_open f a h).1) held.kept_is_carried, λ plan places stands. record { readers_are_open = e; frames_are_chosen = chosen; has_kept = subst (λ (fs : List ℕ). IsKeptFor (before ++ new) input state fs kept) (sym e) (serves_next before new input body kept no_output held.kept_is_carried); plan_stands = stands })
 
 module _ (before new : List Activation) (input : List ℕ) (body : ℕ → List ℤ → Outcome) (readers frames : List ℕ) (kept : List Kept) (plan : Plan) (places : List Place) (epoch : HasEpoch before new input body readers frames kept plan places) (ends : List (Option TaskEnd)) (output : List (Option Elem)) (run : Ends) (held : IsHeld before input body ends kept output) (run_ends : run.ends ≡ ends_of (epoch_meaning plan frames body)) (run_output : run.output ≡ sink_elements plan (epoch_meaning plan frames body)) where
   abbrev acts : List Activation
@@ -172,33 +202,3 @@ module _ (before new : List Activation) (input : List ℕ) (body : ℕ → List 
         (subst (λ (vs : List (Option Elem)). IsCarried acts input whole (carried_over acts (open_in whole (length acts)) kept places vs)) (sym run_output) (carries_over before new input body readers frames kept plan places epoch held.kept_is_carried));
     output_is_meant = output_is_whole;
   }
-
-pub written_within : (activations : List Activation) (s p : ℕ) (w : Window) → producer activations s p ≡ Some w → p < written_count activations s
-written_within activations s p w h =
-    let (i, at, passes) = find_passes (is_written_by s p) (windows activations) w h in
-    let x = written s p w passes in
-    let on = x.on_stream in
-    let high = x.to in
-    let cs = claims_of activations in
-    let q = window_at activations i w at in
-    let within : i < length cs = slice_get_within cs i w.claim q.is_claim in
-    let is : get_or cs i w.claim ≡ w.claim = get_or_from_slice_get cs i w.claim w.claim q.is_claim in
-    let begin : w.first ≡ write_cursor s (take i cs) = q.begins ∙ first_of_write s (take i cs) w.claim on in
-    let next : take (i + 1) cs ≡ take i cs ++ w.claim ∷ [] = take_more cs i w.claim within ∙ ap (λ (c : Claim). take i cs ++ c ∷ []) is in
-    let whole : write_cursor s cs ≡ write_cursor s (take (i + 1) cs) + write_cursor s (drop (i + 1) cs) = ap (write_cursor s) (sym (take-append-drop (i + 1) cs)) ∙ write_cursor-append s (take (i + 1) cs) (drop (i + 1) cs) in
-    let one : write_cursor s (take (i + 1) cs) ≡ write_cursor s (take i cs) + write_cursor s (w.claim ∷ []) = ap (write_cursor s) next ∙ write_cursor-append s (take i cs) (w.claim ∷ []) in
-    let horizon : write_cursor s (w.claim ∷ []) ≡ w.claim.horizon = write_cursor-one s w.claim on in
-    omega (arith, begin, whole, one, horizon)
-
-pub held_at_first : (input : List ℕ) (body : ℕ → List ℤ → Outcome) → IsHeld [] input body [] [] []
-unfolding meaning rounds
-held_at_first input body = record { ends_are_meant = refl; kept_is_carried = nothing_at_first input body; output_is_meant = refl }
-
-pub begins_epoch : (before new : List Activation) (input : List ℕ) (body : ℕ → List ℤ → Outcome) (ends : List (Option TaskEnd)) (kept : List Kept) (output : List (Option Elem)) (readers frames : List ℕ) → ReadNoOutput (before ++ new) → IsHeld before input body ends kept output → readers ≡ open_in ends (length (before ++ new)) → LeaveOutWaiting (before ++ new) input ends frames
-    → IsOutside (before ++ new) frames kept × ((plan : Plan) (places : List Place) → StandsForEpoch plan (before ++ new) input readers frames kept places → IsEpoch before new input body readers frames kept plan places)
-begins_epoch before new input body ends kept output readers frames no_output held is leave =
-    let state = stream_meaning before input body in
-    let n = length (before ++ new) in
-    let e : readers ≡ open_in state n = is ∙ ap (λ (es : List (Option TaskEnd)). open_in es n) held.ends_are_meant ∙ open_by_ends state n in
-    let chosen = chosen_by before new input body frames (subst (λ (es : List (Option TaskEnd)). LeaveOutWaiting (before ++ new) input es frames) held.ends_are_meant leave) in
-    (is_outside before new input body kept frames (λ f a h. (chosen.are_open f a h).1) held.kept_is_carried, λ plan places stands. record { readers_are_open = e; frames_are_chosen = chosen; has_kept = subst (λ (fs : List ℕ). IsKeptFor (before ++ new) input state fs kept) (sym e) (serves_next before new input body kept no_output held.kept_is_carried); plan_stands = stands })

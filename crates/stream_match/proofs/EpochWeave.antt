@@ -64,6 +64,49 @@ all_leaving-le layout cursors (x ∷ xs) =
 sum_take-le : (h : Span → ℕ) (xs : List Span) (i j : ℕ) → i ≤ j → sum_by h (take i xs) ≤ sum_by h (take j xs)
 sum_take-le h xs i j le = let e = ap (sum_by h) (take-take i j xs le) in let l = sum_by-take-le h (take j xs) i in omega arith
 
+module _ (layout : Layout) (is : IsLayout layout) where
+  before : (Span → ℕ) → ℕ → ℕ
+  before h f = sum_by h (take (start_of layout f) layout.spans)
+
+  -- a sum over frames that ascend is part of the whole
+  pub frames_within : (h : Span → ℕ) (xs : List ℕ) (low : ℕ) → ((i : ℕ) → i < length xs → low ≤ get_or xs i 0) → ((i : ℕ) → i < length xs → get_or xs i 0 < frame_count layout) → ((i j : ℕ) → i < j → j < length xs → get_or xs i 0 < get_or xs j 0)
+      → sum_by (over_frame h layout) xs + sum_by h (take (start_of layout low) layout.spans) ≤ sum_by h layout.spans
+  frames_within h [] low above below ascend = omega (arith, sum_by-take-le h layout.spans (start_of layout low))
+  frames_within h (x ∷ xs) low above below ascend =
+      let x_low : low ≤ x = above 0 (omega arith) in
+      let x_high : x < frame_count layout = below 0 (omega arith) in
+      let n = frames_are layout is in
+      let rest = frames_within h xs (x + 1) (λ i lt. let a : x < get_or xs i 0 = ascend 0 (suc i) (omega arith) (omega arith) in omega arith) (λ i lt. below (suc i) (omega arith)) (λ i j ij lt. ascend (suc i) (suc j) (omega arith) (omega arith)) in
+      let next = sums-next layout is.activations is.is_of h x (omega (arith, n)) in
+      let e = ap (start_of layout) (let z : low + (x - low) ≡ x = omega arith in z) in
+      let start : start_of layout low ≤ start_of layout x = omega (arith, e, start-le layout is.activations is.is_of low (x - low) (omega (arith, n))) in
+      let up = sum_take-le h layout.spans (start_of layout low) (start_of layout x) start in
+      omega (arith, sum_by-cons (over_frame h layout) x xs, rest, next, up)
+
+  -- ---- streams
+
+  pub span_stream : (a : ℕ) (s : Span) → a < frame_count layout → Has (spans_of layout a) s → s.stream < length layout.writers
+  span_stream a s lt has =
+      let n = frames_are layout is in
+      let a_lt : a < length is.activations = omega (arith, n) in
+      let (w, w_in, w_is) = of_map span_of (windows_of is.activations a) s (subst (λ xs. Has xs s) (spans_of-windows layout is.activations is.is_of a a_lt) has) in
+      let (number, at) = has_window is.activations a w a_lt w_in in
+      let within = slice_get_within (windows is.activations) number w at in
+      let same : window_number is.activations number ≡ w = get_or_from_slice_get (windows is.activations) number w no_window at in
+      let lawful = subst (λ (v : Window). IsLawfulClaim (length layout.writers) v.claim) same (lawful_window (length layout.writers) is.activations is.lawful number within) in
+      subst (λ (t : Span). t.stream < length layout.writers) w_is lawful.stream_exists
+
+module _ (layout : Layout) (is : IsLayout layout) (frames : List ℕ) (cursors : List ℕ) (are : AreFrames layout frames) where
+  pub leaving_exist : All (λ (r : Reach). r.stream < length layout.writers) (leaving_reaches layout frames cursors)
+  leaving_exist = has_all (λ (r : Reach). r.stream < length layout.writers) (leaving_reaches layout frames cursors) (λ r h.
+      let p = of_flat_map (λ a. map (leaving_reach cursors) (spans_of layout a)) frames r h in
+      let q = of_map (leaving_reach cursors) (spans_of layout p.0) r p.2 in
+      let lt : p.0 < frame_count layout = subst (λ b. b < frame_count layout) (get_or_from_slice_get frames p.1.0 p.0 0 p.1.1) (are.exist p.1.0 (slice_get_within frames p.1.0 p.0 p.1.1)) in
+      subst (λ (t : Reach). t.stream < length layout.writers) q.2 (span_stream layout is p.0 q.0 lt q.1))
+
+  pub leaving_fits : sum_by (over_frame read_count layout) frames + total (leaving_reaches layout frames cursors) ≤ 4194304
+  leaving_fits = omega (arith, all_leaving-le layout cursors frames, both_frames layout frames, frames_within layout is (λ (s : Span). s.count) frames 0 (λ i lt. omega arith) are.exist are.ascend, spans-few layout is.activations is.is_of is.lawful.positions_are_few)
+
 module _ (layout : Layout) (is : IsLayout layout) (activations : List Activation) (of : IsLayoutOf layout activations) (input : List ℕ) (frames : List ℕ) (kept : List Kept) (sink : List Reach) (exist : All (λ (r : Reach). r.stream < length layout.writers) sink) (fits : sum_by (over_frame read_count layout) frames + total sink ≤ 4194304) (are : AreFrames layout frames) (outside : WrittenOutside activations frames kept) where
   abbrev weave : Weave
   weave = weave_over layout input frames kept sink
@@ -182,49 +225,6 @@ module _ (layout : Layout) (is : IsLayout layout) (activations : List Activation
         ap (λ o. option_map_or (λ v. Some v) o (opening_element input stream position)) (none_kept stream position place g exists w)
         ∙ ap (λ b. cond b (option_map (λ byte. Value (pos byte)) (slice_get input position)) None) (other_test stream 0 (no_input_writer layout is stream exists place w.within));
   }
-
-module _ (layout : Layout) (is : IsLayout layout) where
-  before : (Span → ℕ) → ℕ → ℕ
-  before h f = sum_by h (take (start_of layout f) layout.spans)
-
-  -- a sum over frames that ascend is part of the whole
-  pub frames_within : (h : Span → ℕ) (xs : List ℕ) (low : ℕ) → ((i : ℕ) → i < length xs → low ≤ get_or xs i 0) → ((i : ℕ) → i < length xs → get_or xs i 0 < frame_count layout) → ((i j : ℕ) → i < j → j < length xs → get_or xs i 0 < get_or xs j 0)
-      → sum_by (over_frame h layout) xs + sum_by h (take (start_of layout low) layout.spans) ≤ sum_by h layout.spans
-  frames_within h [] low above below ascend = omega (arith, sum_by-take-le h layout.spans (start_of layout low))
-  frames_within h (x ∷ xs) low above below ascend =
-      let x_low : low ≤ x = above 0 (omega arith) in
-      let x_high : x < frame_count layout = below 0 (omega arith) in
-      let n = frames_are layout is in
-      let rest = frames_within h xs (x + 1) (λ i lt. let a : x < get_or xs i 0 = ascend 0 (suc i) (omega arith) (omega arith) in omega arith) (λ i lt. below (suc i) (omega arith)) (λ i j ij lt. ascend (suc i) (suc j) (omega arith) (omega arith)) in
-      let next = sums-next layout is.activations is.is_of h x (omega (arith, n)) in
-      let e = ap (start_of layout) (let z : low + (x - low) ≡ x = omega arith in z) in
-      let start : start_of layout low ≤ start_of layout x = omega (arith, e, start-le layout is.activations is.is_of low (x - low) (omega (arith, n))) in
-      let up = sum_take-le h layout.spans (start_of layout low) (start_of layout x) start in
-      omega (arith, sum_by-cons (over_frame h layout) x xs, rest, next, up)
-
-  -- ---- streams
-
-  pub span_stream : (a : ℕ) (s : Span) → a < frame_count layout → Has (spans_of layout a) s → s.stream < length layout.writers
-  span_stream a s lt has =
-      let n = frames_are layout is in
-      let a_lt : a < length is.activations = omega (arith, n) in
-      let (w, w_in, w_is) = of_map span_of (windows_of is.activations a) s (subst (λ xs. Has xs s) (spans_of-windows layout is.activations is.is_of a a_lt) has) in
-      let (number, at) = has_window is.activations a w a_lt w_in in
-      let within = slice_get_within (windows is.activations) number w at in
-      let same : window_number is.activations number ≡ w = get_or_from_slice_get (windows is.activations) number w no_window at in
-      let lawful = subst (λ (v : Window). IsLawfulClaim (length layout.writers) v.claim) same (lawful_window (length layout.writers) is.activations is.lawful number within) in
-      subst (λ (t : Span). t.stream < length layout.writers) w_is lawful.stream_exists
-
-module _ (layout : Layout) (is : IsLayout layout) (frames : List ℕ) (cursors : List ℕ) (are : AreFrames layout frames) where
-  pub leaving_exist : All (λ (r : Reach). r.stream < length layout.writers) (leaving_reaches layout frames cursors)
-  leaving_exist = has_all (λ (r : Reach). r.stream < length layout.writers) (leaving_reaches layout frames cursors) (λ r h.
-      let p = of_flat_map (λ a. map (leaving_reach cursors) (spans_of layout a)) frames r h in
-      let q = of_map (leaving_reach cursors) (spans_of layout p.0) r p.2 in
-      let lt : p.0 < frame_count layout = subst (λ b. b < frame_count layout) (get_or_from_slice_get frames p.1.0 p.0 0 p.1.1) (are.exist p.1.0 (slice_get_within frames p.1.0 p.0 p.1.1)) in
-      subst (λ (t : Reach). t.stream < length layout.writers) q.2 (span_stream layout is p.0 q.0 lt q.1))
-
-  pub leaving_fits : sum_by (over_frame read_count layout) frames + total (leaving_reaches layout frames cursors) ≤ 4194304
-  leaving_fits = omega (arith, all_leaving-le layout cursors frames, both_frames layout frames, frames_within layout is (λ (s : Span). s.count) frames 0 (λ i lt. omega arith) are.exist are.ascend, spans-few layout is.activations is.is_of is.lawful.positions_are_few)
 
 pub can_weave : (layout : Layout) (is : IsLayout layout) (activations : List Activation) (of : IsLayoutOf layout activations) (input : List ℕ) (frames : List ℕ) (kept : List Kept) (cursors : List ℕ) (are : AreFrames layout frames) (outside : WrittenOutside activations frames kept) → CanWeave layout (epoch_weave layout input frames kept cursors)
 can_weave layout is activations of input frames kept cursors are outside = can_weave_over layout is activations of input frames kept (leaving_reaches layout frames cursors) (leaving_exist layout is frames cursors are) (leaving_fits layout is frames cursors are) are outside

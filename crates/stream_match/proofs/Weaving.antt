@@ -25,6 +25,44 @@ total-le rs i j le = let e = ap total (take-take i j rs le) in let l = sum_by-ta
 pub total-take-le : (rs : List Reach) (i : ℕ) → total (take i rs) ≤ total rs
 total-take-le rs i = sum_by-take-le (λ (r : Reach). r.count) rs i
 
+module _ (weave : Weave) where
+  pub length-reach_cells : (r : Reach) → length (reach_cells weave r) ≡ r.count
+  length-reach_cells r = length-map-range_with_len (weave.opening r.stream) r.first r.count
+
+  pub length-reaches : (rs : List Reach) → length (flat_map (reach_cells weave) rs) ≡ total rs
+  length-reaches [] = refl
+  length-reaches (r ∷ rs) =
+      let a : length (flat_map (reach_cells weave) (r ∷ rs)) ≡ length (reach_cells weave r) + length (flat_map (reach_cells weave) rs) = length-append (reach_cells weave r) (flat_map (reach_cells weave) rs) in
+      omega (arith, a, length-reach_cells r, length-reaches rs, sum_by-cons (λ (x : Reach). x.count) r rs)
+
+  pub first-more : (f : ℕ) → length (cells_of_first weave (f + 1)) ≡ length (cells_of_first weave f) + total (weave.reaches f)
+  first-more f =
+      ap length (flat_map-range_more (frame_cells weave) 0 f) ∙ length-append (cells_of_first weave f) (frame_cells weave (0 + f))
+      ∙ ap (λ k. length (cells_of_first weave f) + length (frame_cells weave k)) (zero-add f)
+      ∙ ap (λ k. length (cells_of_first weave f) + k) (length-reaches (weave.reaches f))
+
+  pub first-le : (f g : ℕ) → f ≤ g → length (cells_of_first weave f) ≤ length (cells_of_first weave g)
+  first-le f g le =
+      let e : g ≡ f + (g - f) = omega arith in
+      let w = ap (λ k. length (cells_of_first weave k)) e ∙ ap length (flat_map-range-add (frame_cells weave) 0 f (g - f)) ∙ length-append (cells_of_first weave f) (flat_map (frame_cells weave) (range_with_len (0 + f) (g - f))) in
+      omega (arith, w)
+
+  -- the cells of a frame end before those of a later one begin
+  pub first-next : (f g : ℕ) → f < g → length (cells_of_first weave f) + total (weave.reaches f) ≤ length (cells_of_first weave g)
+  first-next f g lt = omega (arith, first-more f, first-le (f + 1) g (omega arith))
+
+  in_reach : (rs : List Reach) (i k : ℕ) → i < length rs → k < (get_or rs i no_reach).count → slice_get (flat_map (reach_cells weave) rs) (total (take i rs) + k) ≡ Some (weave.opening (get_or rs i no_reach).stream ((get_or rs i no_reach).first + k))
+  in_reach [] i k lt kl = absurd (omega arith)
+  in_reach (r ∷ rs) zero k lt kl =
+      let here : slice_get (reach_cells weave r) k ≡ Some (weave.opening r.stream (r.first + k)) = slice_get-get_or (reach_cells weave r) k None (omega (arith, length-reach_cells r)) ∙ ap Some (get_or-map-range_with_len (weave.opening r.stream) r.first r.count k (r.first + k) None kl refl) in
+      ap (slice_get (flat_map (reach_cells weave) (r ∷ rs))) (zero-add k)
+      ∙ slice_get-append_left (reach_cells weave r) (flat_map (reach_cells weave) rs) k (omega (arith, length-reach_cells r)) ∙ here
+  in_reach (r ∷ rs) (suc i) k lt kl =
+      let s : total (take (suc i) (r ∷ rs)) ≡ r.count + total (take i rs) = sum_by-cons (λ (x : Reach). x.count) r (take i rs) in
+      ap (slice_get (flat_map (reach_cells weave) (r ∷ rs))) (let e : total (take (suc i) (r ∷ rs)) + k ≡ length (reach_cells weave r) + (total (take i rs) + k) = omega (arith, s, length-reach_cells r) in e)
+      ∙ slice_get-append_right (reach_cells weave r) (flat_map (reach_cells weave) rs) (total (take i rs) + k)
+      ∙ in_reach rs i k (omega arith) kl
+
 -- a count over the numbers of a list's elements is one over the list
 passing-list : (xs : List (Option Elem)) (test : ℕ → Bool) (a : ℕ) → ((k : ℕ) → k < length xs → test (a + k) ≡ is_none (get_or xs k None)) → passing test a (length xs) ≡ count_by is_none xs
 passing-list [] test a same = refl
@@ -87,41 +125,3 @@ module _ (layout : Layout) (weave : Weave) (plan : Plan) (laid : IsWoven layout 
       ∙ sym (ap (λ k. passing (λ c. is_none (held_at plan.filled c)) k (frame_at plan f).inputs) (cell-is f le)
       ∙ ap (λ k. passing (λ c. is_none (held_at plan.filled c)) (length (cells_of_first weave f)) k) n
       ∙ passing-list (frame_cells weave f) (λ c. is_none (held_at plan.filled c)) (length (cells_of_first weave f)) (λ k l. ap is_none (cell f k (get_or (frame_cells weave f) k None) le (slice_get-get_or (frame_cells weave f) k None l))))
-
-module _ (weave : Weave) where
-  pub length-reach_cells : (r : Reach) → length (reach_cells weave r) ≡ r.count
-  length-reach_cells r = length-map-range_with_len (weave.opening r.stream) r.first r.count
-
-  pub length-reaches : (rs : List Reach) → length (flat_map (reach_cells weave) rs) ≡ total rs
-  length-reaches [] = refl
-  length-reaches (r ∷ rs) =
-      let a : length (flat_map (reach_cells weave) (r ∷ rs)) ≡ length (reach_cells weave r) + length (flat_map (reach_cells weave) rs) = length-append (reach_cells weave r) (flat_map (reach_cells weave) rs) in
-      omega (arith, a, length-reach_cells r, length-reaches rs, sum_by-cons (λ (x : Reach). x.count) r rs)
-
-  pub first-more : (f : ℕ) → length (cells_of_first weave (f + 1)) ≡ length (cells_of_first weave f) + total (weave.reaches f)
-  first-more f =
-      ap length (flat_map-range_more (frame_cells weave) 0 f) ∙ length-append (cells_of_first weave f) (frame_cells weave (0 + f))
-      ∙ ap (λ k. length (cells_of_first weave f) + length (frame_cells weave k)) (zero-add f)
-      ∙ ap (λ k. length (cells_of_first weave f) + k) (length-reaches (weave.reaches f))
-
-  pub first-le : (f g : ℕ) → f ≤ g → length (cells_of_first weave f) ≤ length (cells_of_first weave g)
-  first-le f g le =
-      let e : g ≡ f + (g - f) = omega arith in
-      let w = ap (λ k. length (cells_of_first weave k)) e ∙ ap length (flat_map-range-add (frame_cells weave) 0 f (g - f)) ∙ length-append (cells_of_first weave f) (flat_map (frame_cells weave) (range_with_len (0 + f) (g - f))) in
-      omega (arith, w)
-
-  -- the cells of a frame end before those of a later one begin
-  pub first-next : (f g : ℕ) → f < g → length (cells_of_first weave f) + total (weave.reaches f) ≤ length (cells_of_first weave g)
-  first-next f g lt = omega (arith, first-more f, first-le (f + 1) g (omega arith))
-
-  in_reach : (rs : List Reach) (i k : ℕ) → i < length rs → k < (get_or rs i no_reach).count → slice_get (flat_map (reach_cells weave) rs) (total (take i rs) + k) ≡ Some (weave.opening (get_or rs i no_reach).stream ((get_or rs i no_reach).first + k))
-  in_reach [] i k lt kl = absurd (omega arith)
-  in_reach (r ∷ rs) zero k lt kl =
-      let here : slice_get (reach_cells weave r) k ≡ Some (weave.opening r.stream (r.first + k)) = slice_get-get_or (reach_cells weave r) k None (omega (arith, length-reach_cells r)) ∙ ap Some (get_or-map-range_with_len (weave.opening r.stream) r.first r.count k (r.first + k) None kl refl) in
-      ap (slice_get (flat_map (reach_cells weave) (r ∷ rs))) (zero-add k)
-      ∙ slice_get-append_left (reach_cells weave r) (flat_map (reach_cells weave) rs) k (omega (arith, length-reach_cells r)) ∙ here
-  in_reach (r ∷ rs) (suc i) k lt kl =
-      let s : total (take (suc i) (r ∷ rs)) ≡ r.count + total (take i rs) = sum_by-cons (λ (x : Reach). x.count) r (take i rs) in
-      ap (slice_get (flat_map (reach_cells weave) (r ∷ rs))) (let e : total (take (suc i) (r ∷ rs)) + k ≡ length (reach_cells weave r) + (total (take i rs) + k) = omega (arith, s, length-reach_cells r) in e)
-      ∙ slice_get-append_right (reach_cells weave r) (flat_map (reach_cells weave) rs) (total (take i rs) + k)
-      ∙ in_reach rs i k (omega arith) kl
