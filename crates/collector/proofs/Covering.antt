@@ -1,93 +1,101 @@
 -- That each position that is claimed for writing has a producer, and what follows where all are Done.
-use Rattle.std.proofs.Common.{◌≡◌, ℕ, zero, suc, ◌<◌, ◌≤◌, ◌⊎◌, inl, inr, ◌&&◌, Bool, true, false, cond, not, ℤ, pos, List, [], ◌∷◌, Option, Some, None, map, length, replicate, get_or, refl, sym, ap, ◌∙◌, arith}
-use Rattle.std.specs.Prelude.{slice_get, is_some}
+use Rattle.std.proofs.Common.{◌≡◌, ℕ, zero, suc, ◌+◌, ◌<◌, ◌≤◌, inl, inr, ◌&&◌, Bool, true, false, cond, List, [], ◌∷◌, Some, None, length, take, get_or, refl, sym, ap, ◌∙◌, subst, arith, ◌⊎◌, not, Option}
+use Rattle.std.specs.Prelude.{slice_get, sum_by, filter, nat_le, nat_lt, is_some}
 use Rattle.std.specs.List.{list_all}
 use Rattle.std.specs.Option.{option_map_or}
-use Rattle.std.proofs.lemmas.Bool.{cases_lt, and_parts}
-use Rattle.std.proofs.lemmas.List.{length-replicate, get_or_past}
-use Rattle.std.proofs.lemmas.Option.{slice_get_within}
+use Rattle.std.proofs.lemmas.Bool.{cases_lt, and_parts, le-leb, lt-ltb}
+use Rattle.std.proofs.lemmas.List.{take_all, take_more}
+use Rattle.std.proofs.lemmas.List.Elements.{filter-append}
+use Rattle.std.proofs.lemmas.List.Sums.{sum_by-append}
+use Rattle.std.proofs.lemmas.Option.{slice_get-get_or, get_or_from_slice_get, slice_get_within}
+use Rattle.flow_core_laws.specs.declared.claim.Claim.{Claim}
 use Rattle.flow_core_laws.specs.declared.activation.Activation.{Activation}
 use Rattle.flow_core_laws.specs.declared.control.ControlEnd.{ControlEnd}
+use Rattle.flow_core_laws.specs.declared.ends.Ends.{Ends}
+use Rattle.flow_core_laws.specs.FirstPosition.{is_write_to, write_cursor, first_position}
+use Rattle.flow_core_laws.specs.Place.{written_count}
+use Rattle.flow_core_laws.specs.There.{is_there}
+use Rattle.flow_core_laws.specs.Window.{Window, windows, claims_of, no_claim, is_written_by, producer}
+use Rattle.flow_core_laws.proofs.Windows.{length-windows, window_at, is_window, first_of_write, producer_of}
+use Rattle.collector.specs.Reported.{AreOfState, is_poisoned, is_undone_at}
+use Rattle.collector.specs.Status.{has_done, is_done_control, status}
+use Rattle.collector.specs.Written.{written}
+use Rattle.collector.proofs.Firsts.{output_there, count_is, output_poisoned}
+use Rattle.collector.proofs.Prefixes.{longest_prefix}
 use Rattle.flow_core_laws.specs.declared.control.ControlEnd.TheVariants as control_end
-use Rattle.flow_core_laws.specs.declared.ends.Ends as value_ends
-use Rattle.flow_core_laws.specs.declared.task_end.TaskEnd as value_end
-use Rattle.flow_core_laws.specs.declared.task_end.TaskEnd.TheVariants as value_end_is
-use Rattle.flow_core_laws.specs.Outcome as value_outcome
-use Rattle.flow_core_laws.specs.Outcome.{is_done_at}
-use Rattle.flow_core_laws.specs.Place.{Place, output_places, written_count}
-use Rattle.flow_core_laws.specs.There as value_there
-use Rattle.flow_core_laws.specs.Window.{Window, producer}
 use Rattle.flow_core_laws.specs.declared.elem.Elem.{Elem}
 use Rattle.flow_core_laws.specs.declared.elem.Elem.TheVariants.{Poison}
-use Rattle.flow_core_laws.specs.declared.ends.Ends.{Ends}
 use Rattle.flow_core_laws.specs.declared.task_end.TaskEnd.{TaskEnd}
 use Rattle.flow_core_laws.specs.Outcome.{is_done, has_end_at}
-use Rattle.flow_core_laws.specs.There.{is_there}
-use Rattle.collector.specs.Reported as value_state
-use Rattle.collector.specs.Status as value_status
-use Rattle.collector.specs.Written as value_written
-use Rattle.collector.proofs.Covering as values
-use Rattle.collector.proofs.Firsts as value_firsts
-use Rattle.collector.specs.Status.{is_done_control}
 use Rattle.collector.specs.Laws.{AllIsWritten}
-use Rattle.collector.specs.Reported.{AreOfState, is_poisoned, is_undone_at}
-use Rattle.collector.specs.Status.{has_done, status}
-use Rattle.collector.specs.Written.{written}
-use Rattle.collector.proofs.Firsts.{output_there, output_poisoned, count_is}
-use Rattle.collector.proofs.Prefixes.{longest_prefix}
 
--- ---- the run of values in which each activation is Done
 
-all_done : (n : ℕ) → list_all value_status.has_done (replicate n (Some value_end_is.Done)) ≡ true
-all_done zero = refl
-all_done (suc n) = all_done n
+-- a window that writes the element at a position
+record Covered (activations : List Activation) (stream position : ℕ) : Type 0 where
+  pub number : ℕ
+  pub window : Window
+  pub stands : slice_get (windows activations) number ≡ Some window
+  pub writes : is_written_by stream position window ≡ true
 
-module _ (activations : List Activation) where
-  there : Place → Bool
-  there = value_there.is_there activations 0 (replicate (length activations) (Some value_end_is.Done))
+-- how far one more claim moves the write cursor
+one_more : (stream : ℕ) (cs : List Claim) (n : ℕ) → n < length cs → write_cursor stream (take (n + 1) cs) ≡ write_cursor stream (take n cs) + write_cursor stream (get_or cs n no_claim ∷ [])
+one_more stream cs n lt =
+    ap (write_cursor stream) (take_more cs n no_claim lt)
+    ∙ ap (sum_by (λ (c : Claim). c.horizon)) (filter-append (is_write_to stream) (take n cs) (get_or cs n no_claim ∷ []))
+    ∙ sum_by-append (λ (c : Claim). c.horizon) (filter (is_write_to stream) (take n cs)) (filter (is_write_to stream) (get_or cs n no_claim ∷ []))
 
-  all : value_ends.Ends
-  all = record {
-    ends = replicate (length activations) (Some value_end_is.Done);
-    output = map (λ (p : Place). cond {A = Option ℤ} (there p) (Some (pos 0)) None) (output_places activations);
-  }
+-- the claim that takes the cursor past a position covers it
+here : (activations : List Activation) (stream position n : ℕ) (w : Window) (b : Bool) → slice_get (windows activations) n ≡ Some w → is_write_to stream w.claim ≡ b
+    → write_cursor stream (take n (claims_of activations)) ≤ position → position < write_cursor stream (take (n + 1) (claims_of activations)) → Covered activations stream position
+here activations stream position n w b at writes low high =
+    let cs = claims_of activations in
+    let s = window_at activations n w at in
+    let claim : get_or cs n no_claim ≡ w.claim = get_or_from_slice_get cs n w.claim no_claim s.is_claim in
+    let more : write_cursor stream (take (n + 1) cs) ≡ write_cursor stream (take n cs) + write_cursor stream (w.claim ∷ []) = one_more stream cs n (slice_get_within cs n w.claim s.is_claim) ∙ ap (λ c. write_cursor stream (take n cs) + write_cursor stream (c ∷ [])) claim in
+    by b writes (write_cursor stream (take n cs)) (first_of_write stream (take n cs) w.claim) s.begins low (omega (arith, more, high))
+  where
+    moved : (t : Bool) → is_write_to stream w.claim ≡ t → write_cursor stream (w.claim ∷ []) ≡ sum_by (λ (c : Claim). c.horizon) (cond t (w.claim ∷ []) [])
+    moved t e = ap (λ (u : Bool). sum_by (λ (c : Claim). c.horizon) (cond u (w.claim ∷ []) [])) e
 
-  each_there : (ps : List Place) → map is_some (map (λ (p : Place). cond {A = Option ℤ} (there p) (Some (pos 0)) None) ps) ≡ map there ps
-  each_there [] = refl
-  each_there (p ∷ ps) = ap (λ b. b ∷ map is_some (map (λ (q : Place). cond {A = Option ℤ} (there q) (Some (pos 0)) None) ps)) (by (there p)) ∙ ap (λ bs. there p ∷ bs) (each_there ps)
-    where
-      by : (b : Bool) → is_some (cond {A = Option ℤ} b (Some (pos 0)) None) ≡ b
-      by true = refl
-      by false = refl
+    by : (t : Bool) → is_write_to stream w.claim ≡ t → (cursor : ℕ) → (is_write_to stream w.claim ≡ true → first_position (take n (claims_of activations)) w.claim ≡ cursor) → w.first ≡ first_position (take n (claims_of activations)) w.claim
+        → cursor ≤ position → position < cursor + write_cursor stream (w.claim ∷ []) → Covered activations stream position
+    by true e cursor first begins low high =
+        let start : w.first ≡ cursor = begins ∙ first e in
+        let width : write_cursor stream (w.claim ∷ []) ≡ 0 + w.claim.horizon = ap (λ (u : Bool). sum_by (λ (c : Claim). c.horizon) (cond u (w.claim ∷ []) [])) e in
+        let from : w.first ≤ position = omega arith in
+        let to : position < w.first + w.claim.horizon = omega arith in
+        record {
+          number = n;
+          window = w;
+          stands = at;
+          writes = ap (λ u. u && nat_le w.first position && nat_lt position (w.first + w.claim.horizon)) e ∙ ap (λ u. u && nat_lt position (w.first + w.claim.horizon)) (le-leb w.first position from) ∙ lt-ltb position (w.first + w.claim.horizon) to;
+        }
+    by false e cursor first begins low high =
+        let width : write_cursor stream (w.claim ∷ []) ≡ 0 = ap (λ (u : Bool). sum_by (λ (c : Claim). c.horizon) (cond u (w.claim ∷ []) [])) e in
+        absurd (omega arith)
 
-  state_of_all : value_state.AreOfState activations 0 all
-  unfolding all there
-  state_of_all = record { one_each = length-replicate (length activations) (Some value_end_is.Done); output = each_there (output_places activations) }
+covered : (activations : List Activation) (stream position n : ℕ) → n ≤ length (claims_of activations) → position < write_cursor stream (take n (claims_of activations)) → Covered activations stream position
+covered activations stream position zero le lt = absurd (omega arith)
+covered activations stream position (suc n) le lt = elim (cases_lt position (write_cursor stream (take n (claims_of activations)))) [
+  | inl before ↦ covered activations stream position n (omega arith) before
+  | inr behind ↦ here activations stream position n (get_or (windows activations) n none) (is_write_to stream (get_or (windows activations) n none).claim)
+      (slice_get-get_or (windows activations) n none (omega (arith, length-windows activations))) refl behind
+      (subst (λ m. position < write_cursor stream (take m (claims_of activations))) (let e : suc n ≡ n + 1 = omega arith in e) lt)
+]
+  where
+    none : Window
+    none = record { activation = 0; claim = no_claim; first = 0; offset = 0 }
 
-  -- the activation of a producer exists, and there is one for each position that is claimed
-  is_covered : (k : ℕ) → k < written_count activations 1 → (w : Window) × (producer activations 1 k ≡ Some w) × (w.activation < length activations)
-  unfolding all there
-  is_covered k lt = by (producer activations 1 k) refl
-    where
-      whole : length (value_written.written all.output) ≡ written_count activations 1
-      whole = values.all_written activations 0 all control_end.Done state_of_all (ap (λ b. cond {A = ℕ} (b && true) 0 1) (all_done (length activations)))
-
-      at_k : there (record { stream = 1; position = k }) ≡ true
-      at_k = (value_firsts.written_there activations 0 all state_of_all).there k (omega (arith, whole, lt))
-
-      exists : (w : Window) → is_done_at (replicate (length activations) (Some value_end_is.Done)) w.activation ≡ true → w.activation < length activations
-      exists w h = decide (cases_lt w.activation (length activations))
-        where
-          decide : (w.activation < length activations) ⊎ (length activations ≤ w.activation) → w.activation < length activations
-          decide (inl lt) = lt
-          decide (inr ge) =
-              let past : get_or (replicate (length activations) (Some value_end_is.Done)) w.activation None ≡ None = get_or_past (replicate (length activations) (Some value_end_is.Done)) w.activation None (let n : length (replicate (length activations) (Some value_end_is.Done)) ≡ length activations = length-replicate (length activations) (Some value_end_is.Done) in omega (arith, n, ge)) in
-              let z : false ≡ true = sym (ap (λ (o : Option value_end.TaskEnd). option_map_or value_outcome.is_done o false) past) ∙ h in
-              absurd (cc)
-
-      by : (o : Option Window) → producer activations 1 k ≡ o → (w : Window) × (producer activations 1 k ≡ Some w) × (w.activation < length activations)
-      by None e = let z : false ≡ true = sym (ap (λ (o : Option Window). option_map_or (λ (w : Window). is_done_at (replicate (length activations) (Some value_end_is.Done)) w.activation) o false) e) ∙ at_k in absurd (cc)
-      by (Some w) e = (w, e, exists w (sym (ap (λ (o : Option Window). option_map_or (λ (w : Window). is_done_at (replicate (length activations) (Some value_end_is.Done)) w.activation) o false) e) ∙ at_k))
+-- the activation of a producer exists, and there is one for each position that is claimed
+is_covered : (activations : List Activation) (k : ℕ) → k < written_count activations 1 → (w : Window) × (producer activations 1 k ≡ Some w) × (w.activation < length activations)
+is_covered activations k lt =
+    let cs = claims_of activations in
+    let whole : write_cursor 1 (take (length cs) cs) ≡ written_count activations 1 = ap (write_cursor 1) (take_all (length cs) cs (omega arith)) in
+    let c = covered activations 1 k (length cs) (omega arith) (omega (arith, whole, lt)) in
+    let s = is_window activations c.number c.window c.stands in
+    let activation : c.window.activation ≡ s.a = ap (λ (w : Window). w.activation) s.is in
+    let exists = s.exists in
+    (c.window, producer_of activations 1 k c.number c.window c.stands c.writes, omega arith)
 
 -- ---- a run in which everything is Done
 

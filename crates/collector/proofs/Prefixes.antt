@@ -2,9 +2,8 @@
 use Rattle.std.proofs.Common.{◌≡◌, ℕ, ℤ, zero, suc, ◌<◌, ◌⊎◌, inl, inr, List, [], ◌∷◌, Option, Some, None, map, length, slice_get, refl, ap, arith}
 use Rattle.flow_core_laws.specs.declared.elem.Elem.{Elem}
 use Rattle.flow_core_laws.specs.declared.elem.Elem.TheVariants.{Value, Poison}
-use Rattle.collector.specs.Written.{byte_of}
+use Rattle.collector.specs.Written.{byte_of, complete_prefix}
 use Rattle.collector.specs.Laws.{IsLongestPrefix}
-use Rattle.collector.specs.Written.{complete_prefix}
 
 -- one more element in front, which is a value
 prefix_behind : (value : ℤ) (rest : List (Option Elem)) (bytes : List ℕ) → IsLongestPrefix rest bytes → IsLongestPrefix (Some (Value value) ∷ rest) (byte_of value ∷ bytes)

@@ -4,7 +4,7 @@ use Rattle.std.specs.Prelude.{slice_get, option_and_then, nat_lt, nat_le, â—Œ==â
 use Rattle.std.specs.Option.{option_map, option_map_or}
 use Rattle.std.proofs.lemmas.Bool.{le-leb, lt-ltb}
 use Rattle.std.proofs.lemmas.Bool.Decides.{nat_tests}
-use Rattle.std.proofs.lemmas.Option.{same_Some, slice_get-map, slice_get_within}
+use Rattle.std.proofs.lemmas.Option.{same_Some, slice_get-map, slice_get_within, get_or_from_slice_get}
 use Rattle.flow_core_laws.specs.declared.activation.Activation.{Activation}
 use Rattle.flow_core_laws.specs.declared.task_end.TaskEnd.{TaskEnd}
 use Rattle.flow_core_laws.specs.FirstPosition.{is_write_to}
@@ -16,7 +16,6 @@ use Rattle.stream_match_layouts.specs.declared.layout.Layout.{Layout}
 use Rattle.stream_match_layouts.specs.declared.span.Span.{Span}
 use Rattle.stream_match_layouts.specs.Layout.{IsLayout, IsLayoutOf, span_of}
 use Rattle.stream_match_layouts.proofs.Writers.{end_small, window_number}
-use Rattle.std.proofs.lemmas.Option.{get_or_from_slice_get}
 use Rattle.stream_match_layouts.proofs.Windows.{no_window}
 use Rattle.collector.specs.Walking.{is_gap, Reaches}
 

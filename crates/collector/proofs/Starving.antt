@@ -15,8 +15,7 @@ use Rattle.flow_core_laws.specs.Element as elements
 use Rattle.flow_core_laws.specs.Element.{given, fed, nobody, output_element, output_at}
 use Rattle.flow_core_laws.specs.Poisoning.{poisoning}
 use Rattle.flow_core_laws.specs.Laws.{IsFilled}
-use Rattle.flow_core_laws.specs.Outcome.{outcome_at}
-use Rattle.flow_core_laws.specs.Outcome.{State, ends_of, is_done, has_end_at, root_of}
+use Rattle.flow_core_laws.specs.Outcome.{outcome_at, State, ends_of, is_done, has_end_at, root_of}
 use Rattle.collector.specs.Status.{has_done}
 use Rattle.flow_core_laws.specs.Place.{Place, input_places, output_places}
 use Rattle.flow_core_laws.specs.Round.{gathered}

@@ -19,11 +19,6 @@ use Rattle.collector.specs.Report.{activation_line}
 use Rattle.collector.specs.Reported.{AreOfState, is_poisoned}
 use Rattle.collector.specs.Status.{has_done, status}
 
--- The producer of a missing element isn't Done, unless the element is one of the input, which no lawful claim writes.
-abbrev pub ProducersAreNotDone : Type 0
-ProducersAreNotDone = (activations : List Activation) (input_len : ℕ) (ends : List (Option TaskEnd)) (a : ℕ) (m : Missing) (producer : ℕ)
-    → missing activations input_len ends a ≡ Some m → m.stream ≢ 0 → m.producer ≡ Some producer → is_done_at ends producer ≡ false
-
 -- The bytes are the longest prefix of the elements that has values alone: all of it are values, and behind it nothing is
 -- there, or poison, or it goes to the end.
 pub record IsLongestPrefix (elements : List (Option Elem)) (bytes : List ℕ) : Type 0 where

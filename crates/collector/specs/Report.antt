@@ -15,23 +15,6 @@ use Rattle.collector.specs.Missing.{missing}
 use Rattle.collector.specs.Written.{written}
 use Rattle.flow_core_laws.specs.declared.control.ControlEnd.TheVariants as control_end
 
--- How an activation ended. One that is Done gives its elements, so it is no producer of a missing one.
-abbrev pub ending : TaskEnd → List ℕ
-ending task_end.Done = codes "done"
-ending (task_end.Trapped code line_number) = codes "trapped"
-ending task_end.OverBudget = codes "over-budget"
-
--- The line of the control program.
-abbrev pub control_line : ControlEnd → List ℕ
-control_line control_end.Done = line (codes "control done")
-control_line (control_end.Trapped code line_number) = line (codes "control trapped code " ++ decimal code ++ codes " line " ++ decimal line_number)
-control_line control_end.OverBudget = line (codes "control over-budget")
-control_line (control_end.Limit limit) = line (codes "control limit " ++ decimal limit)
-
--- The line of the output: how many bytes were written, of how many positions that are claimed for writing.
-abbrev pub output_line : ℕ → ℕ → List ℕ
-output_line count claimed = line (codes "output " ++ decimal count ++ codes " of " ++ decimal claimed)
-
 -- The producer of a missing element: its activation, which is starved too, or none.
 abbrev pub producer_text : Option ℕ → List ℕ
 producer_text producer = option_map_or (λ b. decimal b ++ codes " starved") producer (codes "none")
@@ -52,6 +35,17 @@ end_line a (task_end.Poisoned root) = line (codes "poisoned " ++ decimal a ++ co
 abbrev pub activation_line : List Activation → ℕ → List (Option TaskEnd) → ℕ → List ℕ
 activation_line activations input_len ends a = option_map_or (end_line a) (slice_index_or ends a None)
     (option_map_or (starved_line a) (missing activations input_len ends a) [])
+
+-- The line of the control program.
+abbrev pub control_line : ControlEnd → List ℕ
+control_line control_end.Done = line (codes "control done")
+control_line (control_end.Trapped code line_number) = line (codes "control trapped code " ++ decimal code ++ codes " line " ++ decimal line_number)
+control_line control_end.OverBudget = line (codes "control over-budget")
+control_line (control_end.Limit limit) = line (codes "control limit " ++ decimal limit)
+
+-- The line of the output: how many bytes were written, of how many positions that are claimed for writing.
+abbrev pub output_line : ℕ → ℕ → List ℕ
+output_line count claimed = line (codes "output " ++ decimal count ++ codes " of " ++ decimal claimed)
 
 -- The lines of the first activations that aren't Done, in control order.
 abbrev pub activation_lines : List Activation → ℕ → List (Option TaskEnd) → ℕ → List ℕ

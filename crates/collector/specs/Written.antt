@@ -4,16 +4,6 @@ use Rattle.flow_core_laws.specs.declared.elem.Elem.{Elem}
 use Rattle.flow_core_laws.specs.declared.elem.Elem.TheVariants.{Value, Poison}
 use Rattle.flow_core_laws.specs.Byte.{IsByte}
 
--- An element of the output as a byte: it is 0 to 255.
-abbrev pub byte_of : ℤ → ℕ
-byte_of (pos n) = n
-byte_of (negsuc n) = 0
-
--- an element that is a byte where it is there
-abbrev pub IsByteIfThere : Option ℤ → Type 0
-IsByteIfThere None = Unit {0}
-IsByteIfThere (Some value) = IsByte value
-
 -- The values before the first element that isn't there or is poison.
 abbrev pub complete_prefix : List (Option Elem) → List ℤ
 complete_prefix [] = []
@@ -21,7 +11,18 @@ complete_prefix (None ∷ rest) = []
 complete_prefix (Some (Value value) ∷ rest) = value ∷ complete_prefix rest
 complete_prefix (Some (Poison root) ∷ rest) = []
 
+-- A value of the output as a byte: it is 0 to 255.
+abbrev pub byte_of : ℤ → ℕ
+byte_of (pos n) = n
+byte_of (negsuc n) = 0
+
 -- The bytes that are written, by the elements of the output: one for each position that is claimed for
 -- writing, each where it is there.
 abbrev pub written : List (Option Elem) → List ℕ
 written output = map byte_of (complete_prefix output)
+
+-- an element that is a byte where it is a value
+abbrev pub IsByteIfThere : Option Elem → Type 0
+IsByteIfThere None = Unit {0}
+IsByteIfThere (Some (Value value)) = IsByte value
+IsByteIfThere (Some (Poison root)) = Unit {0}

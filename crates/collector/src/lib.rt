@@ -1,9 +1,9 @@
 //! What a run came to, told: the bytes of its output, and its report.
 //!
 //! A run ends with an end, or none, for each activation, and an element, or none, for each position of the
-//! output that is claimed for writing. `output_bytes` gives the elements before the first gap as bytes.
+//! output that is claimed for writing. `output_bytes` gives the values before the first gap, or the first poison, as bytes.
 //! `first_missing` says for which element a starved activation waits, and who should give it. `report_lines`
-//! writes a line for each activation that isn't Done, one for the control program and one for the output; it
+//! writes a line for each activation that isn't Done, where one that was poisoned tells the root, one for the control program and one for the output; it
 //! takes no memory, and goes through one fixed buffer, so that a report of many lines is few writes.
 //!
 //! `specs/` says what is written, missing and reported, over any list of activations; the calls promise

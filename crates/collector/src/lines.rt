@@ -3,11 +3,11 @@ ghost use Rattle.std.specs.Fmt.{decimal};
 ghost use Rattle.std.specs.Option.{option_map_or};
 ghost use Rattle.collector.specs.Buffering.{GoesOn};
 ghost use Rattle.collector.specs.Line.{line};
-ghost use Rattle.collector.specs.Report.{control_line, end_line, ending, output_line, producer_text, starved_line};
+ghost use Rattle.collector.specs.Report.{control_line, end_line, output_line, producer_text, starved_line};
 
 use crate::line_buffer::LineBuffer;
-use crate::missing::{Missing, end_of};
-use flow_core_laws::{ControlEnd, Ends, TaskEnd};
+use crate::missing::Missing;
+use flow_core_laws::{ControlEnd, TaskEnd};
 use os_io::{Sink, WriteError};
 
 impl LineBuffer {
@@ -15,33 +15,31 @@ impl LineBuffer {
     pub(crate) fn starved<S: Sink>(
         &mut self,
         sink: &mut S,
-        ends: &Ends,
         frame: u32,
         missing: Missing,
     ) -> Result<(), WriteError>
-        ensures { GoesOn S.Sink sink.old sink.new self.old self.new (starved_line ends.now.ends frame missing) result }
+        ensures { GoesOn S.Sink sink.old sink.new self.old self.new (starved_line frame missing) result }
     {
         self.field(sink, b"starved ", frame as u64)?;
         self.field(sink, b" stream ", missing.stream as u64)?;
         self.field(sink, b" position ", missing.position)?;
         self.text(sink, b" producer ")?;
-        self.producer(sink, ends, missing.producer)?;
+        self.producer(sink, missing.producer)?;
         self.text(sink, b"\n")
     }
 
-    /// Adds the producer of a missing element, with its end.
+    /// Adds the producer of a missing element, which is starved too.
     fn producer<S: Sink>(
         &mut self,
         sink: &mut S,
-        ends: &Ends,
         producer: Option<u32>,
     ) -> Result<(), WriteError>
-        ensures { GoesOn S.Sink sink.old sink.new self.old self.new (producer_text ends.now.ends producer) result }
+        ensures { GoesOn S.Sink sink.old sink.new self.old self.new (producer_text producer) result }
     {
         match producer {
             Some(frame) => {
                 self.number(sink, frame as u64)?;
-                self.text(sink, ending(end_of(ends, frame)))
+                self.text(sink, b" starved")
             }
             None => self.text(sink, b"none"),
         }
@@ -64,6 +62,11 @@ impl LineBuffer {
             }
             TaskEnd::OverBudget => {
                 self.field(sink, b"over-budget ", frame as u64)?;
+                self.text(sink, b"\n")
+            }
+            TaskEnd::Poisoned { root } => {
+                self.field(sink, b"poisoned ", frame as u64)?;
+                self.field(sink, b" by ", root as u64)?;
                 self.text(sink, b"\n")
             }
         }
@@ -112,17 +115,5 @@ impl LineBuffer {
         self.field(sink, b"output ", count)?;
         self.field(sink, b" of ", claimed)?;
         self.text(sink, b"\n")
-    }
-}
-
-/// How the producer of a missing element ended, behind a space.
-fn ending(end: Option<TaskEnd>) -> &'static [u8]
-    ensures { result.now ≡ codes " " ++ option_map_or ending end (codes "starved") }
-{
-    match end {
-        Some(TaskEnd::Done) => b" done",
-        Some(TaskEnd::Trapped { .. }) => b" trapped",
-        Some(TaskEnd::OverBudget) => b" over-budget",
-        None => b" starved",
     }
 }

@@ -2,7 +2,7 @@ ghost use Rattle.std.specs.Prelude.{◌≡◌, ◌<◌, ◌≤◌, ◌-◌, None
 ghost use Rattle.std.specs.List.{flat_map, range_with_len};
 ghost use Rattle.std.specs.Option.{option_map};
 ghost use Rattle.flow_core_laws.specs.declared.activation.Activation.{Activation};
-ghost use Rattle.flow_core_laws.specs.Outcome.{is_done_at};
+ghost use Rattle.flow_core_laws.specs.Outcome.{has_end_at};
 ghost use Rattle.flow_core_laws.specs.Window.{producer};
 ghost use Rattle.stream_match_layouts.specs.Layout.{IsLayout, IsLayoutOf, span_of};
 ghost use Rattle.stream_match_layouts.specs.Spans.{frame_count};
@@ -17,7 +17,7 @@ use stream_match_layouts::{Layout, Span};
 pub struct Missing {
     pub stream: u32,
     pub position: u64,
-    /// The activation whose write claim covers the position, if there is one. It isn't Done.
+    /// The activation whose write claim covers the position, if there is one. It is starved too.
     pub producer: Option<u32>,
 }
 
@@ -101,7 +101,7 @@ fn missing_between(layout: &Layout, ends: &Ends, stream: u32, first: u64, end: u
     None
 }
 
-/// Where the producer of an element ends, if it is Done.
+/// Where the window of an element's producer ends, if that activation has an end.
 fn covered_to(layout: &Layout, ends: &Ends, stream: u32, position: u64) -> Option<u64>
     requires layout { IsLayout layout.now }
     requires exists { stream < length layout.now.writers }
@@ -110,7 +110,7 @@ fn covered_to(layout: &Layout, ends: &Ends, stream: u32, position: u64) -> Optio
         → Reaches activations layout.now.input_len ends.now.ends stream position result }
 {
     let span = producer(layout, stream, position)?;
-    if is_done(ends, span.frame) {
+    if has_end(ends, span.frame) {
         Some(span.first + u64::from(span.count))
     } else {
         None
@@ -146,11 +146,11 @@ fn span(layout: &Layout, number: u32) -> Option<Span>
     layout.spans.as_slice().get(number as usize).copied()
 }
 
-/// Whether an activation is Done.
-fn is_done(ends: &Ends, frame: u32) -> bool
-    ensures { result ≡ is_done_at ends.now.ends frame }
+/// Whether an activation has an end.
+fn has_end(ends: &Ends, frame: u32) -> bool
+    ensures { result ≡ has_end_at ends.now.ends frame }
 {
-    matches!(end_of(ends, frame), Some(TaskEnd::Done))
+    end_of(ends, frame).is_some()
 }
 
 /// The end of an activation, if it has one.

@@ -2,18 +2,18 @@ ghost use Rattle.std.specs.Prelude.{◌≡◌, All, IfOk};
 ghost use Rattle.flow_core_laws.specs.Byte.{IsByte};
 ghost use Rattle.collector.specs.Written.{IsByteIfThere, byte_of, written};
 
-use flow_core_laws::Ends;
+use flow_core_laws::{Elem, Ends};
 use os_io::Memory;
 use std::alloc::Global;
 
-/// The bytes that a run writes: the elements of the output before the first one that isn't there.
+/// The bytes that a run writes: the values of the output before the first element that isn't there or is poison.
 pub fn output_bytes(alloc: Global, ends: &Ends) -> Result<Vec<u8>, Memory>
     requires bytes { All IsByteIfThere ends.now.output }
     ensures written { IfOk result (λ bytes. bytes.items ≡ written ends.now.output) }
 {
     let mut bytes = Vec::new(alloc);
     for element in ends.output.as_slice() {
-        let Some(value) = element else {
+        let Some(Elem::Value(value)) = element else {
             return Ok(bytes);
         };
         bytes.push(byte_of(*value))?;
@@ -21,7 +21,7 @@ pub fn output_bytes(alloc: Global, ends: &Ends) -> Result<Vec<u8>, Memory>
     Ok(bytes)
 }
 
-/// An element as a byte.
+/// A value as a byte.
 fn byte_of(value: i32) -> u8
     requires { IsByte value }
     ensures { result ≡ byte_of value }

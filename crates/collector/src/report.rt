@@ -11,7 +11,7 @@ ghost use Rattle.collector.specs.Written.{written};
 
 use crate::line_buffer::LineBuffer;
 use crate::missing::{end_of, first_missing};
-use flow_core_laws::{ControlEnd, Ends};
+use flow_core_laws::{ControlEnd, Elem, Ends};
 use os_io::{Sink, WriteError};
 use stream_match_layouts::Layout;
 
@@ -85,19 +85,19 @@ fn activation_line<S: Sink>(
         return buffer.ended(sink, frame, end);
     }
     match first_missing(layout, ends, frame) {
-        Some(missing) => buffer.starved(sink, ends, frame, missing),
+        Some(missing) => buffer.starved(sink, frame, missing),
         None => Ok(()),
     }
 }
 
-/// How many elements stand before the first one that isn't there.
-fn written_length(elements: &[Option<i32>]) -> usize
+/// How many values stand before the first element that isn't there or is poison.
+fn written_length(elements: &[Option<Elem>]) -> usize
     ensures { result ≡ length (written elements.now) }
 {
     for (count, element) in elements.iter().enumerate() {
-        if element.is_none() {
+        let Some(Elem::Value(_)) = element else {
             return count;
-        }
+        };
     }
     elements.len()
 }

@@ -10,7 +10,7 @@ use Rattle.flow_core_laws.specs.Outcome.{outcome_of}
 use Rattle.flow_core_laws.specs.Poisoning.{values_of, least_root, poisoning}
 use Rattle.flow_core_laws.specs.Plans.{frame_at}
 use Rattle.flow_core_laws.specs.Serves.{Serves}
-use Rattle.flow_core.proofs.Gathering.{length-values}
+use Rattle.flow_core_laws.proofs.OneMore.{length-values}
 
 -- what an activation comes to by its least root
 abbrev pub by_root : (ℕ → List ℤ → Outcome) → ℕ → List Elem → Option ℕ → Outcome

@@ -2,14 +2,12 @@
 use Rattle.std.proofs.Common.{◌≡◌, ℕ, ◌+◌, ◌<◌, ℤ, List, [], ◌∷◌, ◌++◌, Option, Some, None, length, get_or, take, refl, sym, ap, ◌∙◌, subst}
 use Rattle.std.specs.Prelude.{min}
 use Rattle.std.specs.Option.{option_map_or}
-use Rattle.std.specs.List.{filter_map, fold, reduce}
-use Rattle.std.proofs.lemmas.List.{length-map}
 use Rattle.flow_core_laws.specs.Round.{gathered}
 use Rattle.flow_core_laws.proofs.Gathering.{gathered-take_more}
 use Rattle.flow_core_laws.specs.declared.elem.Elem.{Elem}
 use Rattle.flow_core_laws.specs.declared.elem.Elem.TheVariants.{Value, Poison}
-use Rattle.flow_core_laws.specs.Poisoning.{poison_root, values_of, least_root}
-use Rattle.flow_core_laws.proofs.Roots.{others_are_values}
+use Rattle.flow_core_laws.specs.Poisoning.{values_of, least_root}
+use Rattle.flow_core_laws.proofs.OneMore.{values-value, values-poison, least_root-value, least_root-poison}
 
 -- the elements of a list of cells were gathered: their values, and the least root
 pub record AreGathered (cells : List (Option Elem)) (least : Option ℕ) (values : List ℤ) : Type 0 where
@@ -18,35 +16,6 @@ pub record AreGathered (cells : List (Option Elem)) (least : Option ℕ) (values
   pub least_is : least ≡ least_root elements
   pub values_are : values ≡ values_of elements
 
--- one more element
-roots-value : (es : List Elem) (v : ℤ) → filter_map poison_root (es ++ Value v ∷ []) ≡ filter_map poison_root es
-roots-value [] v = refl
-roots-value (Value w ∷ es) v = roots-value es v
-roots-value (Poison r ∷ es) v = ap (λ (l : List ℕ). r ∷ l) (roots-value es v)
-
-roots-poison : (es : List Elem) (root : ℕ) → filter_map poison_root (es ++ Poison root ∷ []) ≡ filter_map poison_root es ++ root ∷ []
-roots-poison [] root = refl
-roots-poison (Value w ∷ es) root = roots-poison es root
-roots-poison (Poison r ∷ es) root = ap (λ (l : List ℕ). r ∷ l) (roots-poison es root)
-
-values-value : (es : List Elem) (v : ℤ) → values_of (es ++ Value v ∷ []) ≡ values_of es ++ v ∷ []
-values-value [] v = refl
-values-value (Value w ∷ es) v = ap (λ (l : List ℤ). w ∷ l) (values-value es v)
-values-value (Poison r ∷ es) v = values-value es v
-
-values-poison : (es : List Elem) (root : ℕ) → values_of (es ++ Poison root ∷ []) ≡ values_of es
-values-poison [] root = refl
-values-poison (Value w ∷ es) root = ap (λ (l : List ℤ). w ∷ l) (values-poison es root)
-values-poison (Poison r ∷ es) root = values-poison es root
-
-fold-push : (a : ℕ) (rs : List ℕ) (root : ℕ) → fold min a (rs ++ root ∷ []) ≡ min (fold min a rs) root
-fold-push a [] root = refl
-fold-push a (r ∷ rs) root = fold-push (min a r) rs root
-
-reduce-push : (rs : List ℕ) (root : ℕ) → reduce min (rs ++ root ∷ []) ≡ Some (option_map_or (λ (before : ℕ). min before root) (reduce min rs) root)
-reduce-push [] root = refl
-reduce-push (r ∷ rs) root = ap (λ (n : ℕ). Some n) (fold-push r rs root)
-
 pub AreGathered-none : AreGathered [] None []
 AreGathered-none = record { elements = []; are_there = refl; least_is = refl; values_are = refl }
 
@@ -54,7 +23,7 @@ pub AreGathered-value : (cells : List (Option Elem)) (i : ℕ) (least : Option �
 AreGathered-value cells i least values v lt at g = record {
   elements = g.elements ++ Value v ∷ [];
   are_there = gathered-take_more cells i g.elements (Value v) lt at g.are_there;
-  least_is = g.least_is ∙ sym (ap (reduce min) (roots-value g.elements v));
+  least_is = g.least_is ∙ sym (least_root-value g.elements v);
   values_are = ap (λ (l : List ℤ). l ++ v ∷ []) g.values_are ∙ sym (values-value g.elements v);
 }
 
@@ -62,7 +31,7 @@ pub AreGathered-poison : (cells : List (Option Elem)) (i : ℕ) (least : Option 
 AreGathered-poison cells i least values root lesser lt at is g = record {
   elements = g.elements ++ Poison root ∷ [];
   are_there = gathered-take_more cells i g.elements (Poison root) lt at g.are_there;
-  least_is = ap (λ (n : ℕ). Some n) (is ∙ ap (λ (o : Option ℕ). option_map_or (λ (before : ℕ). min before root) o root) g.least_is) ∙ sym (ap (reduce min) (roots-poison g.elements root) ∙ reduce-push (filter_map poison_root g.elements) root);
+  least_is = ap (λ (n : ℕ). Some n) (is ∙ ap (λ (o : Option ℕ). option_map_or (λ (before : ℕ). min before root) o root) g.least_is) ∙ sym (least_root-poison g.elements root);
   values_are = g.values_are ∙ sym (values-poison g.elements root);
 }
 
@@ -74,7 +43,3 @@ AreGathered-as_value cells i least now values after v e lt at is now_is after_is
 pub AreGathered-as_poison : (cells : List (Option Elem)) (i : ℕ) (least now : Option ℕ) (values after : List ℤ) (root lesser : ℕ) (e : Elem) → i < length cells → get_or cells i None ≡ Some e → e ≡ Poison root → lesser ≡ option_map_or (λ (before : ℕ). min before root) least root → now ≡ Some lesser → after ≡ values → AreGathered (take i cells) least values → AreGathered (take (i + 1) cells) now after
 AreGathered-as_poison cells i least now values after root lesser e lt at is lesser_is now_is after_is g =
     subst (λ (o : Option ℕ). AreGathered (take (i + 1) cells) o after) (sym now_is) (subst (AreGathered (take (i + 1) cells) (Some lesser)) (sym after_is) (AreGathered-poison cells i least values root lesser lt (at ∙ ap (λ (x : Elem). Some x) is) lesser_is g))
-
--- where no element is poison there are as many values
-pub length-values : (es : List Elem) → least_root es ≡ None → length (values_of es) ≡ length es
-length-values es none = sym (ap length (others_are_values es none) ∙ length-map (values_of es) Value)

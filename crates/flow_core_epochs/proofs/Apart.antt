@@ -3,6 +3,7 @@ use Rattle.std.proofs.Common.{◌≡◌, ℕ, zero, suc, ◌+◌, ◌<◌, ℤ, 
 use Rattle.std.specs.Prelude.{slice_get, filter, ◌==◌, ◌||◌, nat_le}
 use Rattle.std.specs.List.{range_with_len, flat_map}
 use Rattle.std.proofs.lemmas.Option.{same_Some}
+use Rattle.flow_core_laws.specs.declared.elem.Elem.{Elem}
 use Rattle.flow_core_laws.specs.declared.activation.Activation.{Activation}
 use Rattle.flow_core_laws.specs.Window.{Window, windows_of, windows, is_written_by}
 use Rattle.flow_core_laws.specs.Place.{Place, places_of}
@@ -119,7 +120,7 @@ leaving_apart activations readers frames exists once =
     (apart_flat_map (λ a b. a ≡ b) (written_places activations) frames (λ f g a b a_at b_at same. once f g a a_at (b_at ∙ ap Some (sym same))) (λ a h. let (f, at) = h in written_apart activations a (exists f a at)) (λ a b p a_in b_in p_in p_in'. let (f, at) = a_in in let (g, at') = b_in in one_activation activations a b p (exists f a at) (exists g b at') p_in p_in'))
 
 -- the elements at places that differ
-pub apart_elements : (g : Place → Option ℤ) (places : List Place) → Apart (λ p q. p ≡ q) places → Apart SamePlace (elements_at places (map g places))
+pub apart_elements : (g : Place → Option Elem) (places : List Place) → Apart (λ p q. p ≡ q) places → Apart SamePlace (elements_at places (map g places))
 apart_elements g [] h = λ i j x y at. absurd (cc)
 apart_elements g (p ∷ places) h = by_value (g p) (apart_elements g places (apart_tail (λ p q. p ≡ q) p places h))
   where
@@ -127,11 +128,11 @@ apart_elements g (p ∷ places) h = by_value (g p) (apart_elements g places (apa
     there [] k (i, at) = absurd (cc)
     there (q ∷ qs) k at = by (g q) at (there qs k)
       where
-        by : (o : Option ℤ) → Has (elements_at (q ∷ qs) (o ∷ map g qs)) k → (Has (elements_at qs (map g qs)) k → Has qs k.place) → Has (q ∷ qs) k.place
+        by : (o : Option Elem) → Has (elements_at (q ∷ qs) (o ∷ map g qs)) k → (Has (elements_at qs (map g qs)) k → Has qs k.place) → Has (q ∷ qs) k.place
         by None at rest = has_tail q qs k.place (rest at)
         by (Some v) (zero, at) rest = (0, ap (λ (l : Kept). Some l.place) (same_Some (record { place = q; value = v }) k at))
         by (Some v) (suc i, at) rest = has_tail q qs k.place (rest (i, at))
 
-    by_value : (o : Option ℤ) → Apart SamePlace (elements_at places (map g places)) → Apart SamePlace (elements_at (p ∷ places) (o ∷ map g places))
+    by_value : (o : Option Elem) → Apart SamePlace (elements_at places (map g places)) → Apart SamePlace (elements_at (p ∷ places) (o ∷ map g places))
     by_value None rest = rest
     by_value (Some v) rest = apart_cons SamePlace (record { place = p; value = v }) (elements_at places (map g places)) rest (λ k at same. apart_head (λ p q. p ≡ q) p places h k.place (there places k at) same) (λ k at same. apart_head (λ p q. p ≡ q) p places h k.place (there places k at) (sym same))

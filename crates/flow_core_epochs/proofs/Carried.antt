@@ -22,15 +22,14 @@ use Rattle.flow_core_laws.specs.Streams.{input_source, produced_source, stream_s
 use Rattle.flow_core_laws.proofs.Sources.{find_passes}
 use Rattle.flow_core_laws.proofs.Rounds.{outcome_at_past, length-meaning}
 use Rattle.flow_core_laws.proofs.Elements.{element_kept}
-use Rattle.flow_core_laws.proofs.Windows.{producer_of, is_window, window_at}
+use Rattle.flow_core_laws.proofs.Windows.{producer_of, is_window, window_at, written as window_writes}
 use Rattle.flow_core_epochs.specs.Epoch.{number_in, open_in, written_places, read_from, is_readable, ReadNoOutput, Kept, is_at, value_kept, elements_at, carried_over, IsKeptFor, IsCarried, IsOutside, PlacesDiffer, epoch_meaning}
 use Rattle.flow_core_epochs.proofs.Members.{Has, of_append, in_left, in_right, of_filter, in_filter, of_flat_map, in_flat_map, of_range, in_range, has_tail, in_map}
 use Rattle.flow_core_epochs.proofs.Prefixes.{producer_more, element_more, prefix_extends}
 use Rattle.flow_core_epochs.proofs.Frames.{numbers_back}
 use Rattle.flow_core_epochs.proofs.Epochs.{HasEpoch, over_other, over_is_whole, output_outcome}
 use Rattle.flow_core_epochs.proofs.Written.{has_window, window_activation, written_in, is_written_test}
-use Rattle.flow_core_epochs.proofs.Apart.{Apart, apart_filter, apart_append, leaving_apart}
-use Rattle.flow_core_epochs.proofs.Kept.{SamePlace, apart_elements}
+use Rattle.flow_core_epochs.proofs.Apart.{Apart, apart_filter, apart_append, leaving_apart, SamePlace, apart_elements}
 use Rattle.flow_core_epochs.proofs.Leaving.{sink_leaves}
 use Rattle.flow_core_epochs.proofs.Reading.{read_from_cursor, read_from_frame, read_from_least, cursor_grows, later_reads, windows_of_more, read_in, reads_behind}
 
@@ -69,7 +68,7 @@ producer_less activations more stream position w h lt =
 pub wrote : (activations : List Activation) (p : Place) (w : Window) → producer activations p.stream p.position ≡ Some w → Has (written_places activations w.activation) p
 wrote activations p w h =
     let q = is_producer activations p.stream p.position w h in
-    let x = written p.stream p.position w q.writes in
+    let x = window_writes p.stream p.position w q.writes in
     let parts = and_parts w.claim.write (w.claim.stream == p.stream) x.on_stream in
     let low = x.from in
     let high = x.to in

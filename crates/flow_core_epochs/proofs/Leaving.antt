@@ -16,7 +16,7 @@ use Rattle.flow_core_laws.specs.Streams.{input_source, produced_source, stream_s
 use Rattle.flow_core_laws.specs.Plans.{plan_reads, plan_element, sink_elements}
 use Rattle.flow_core_epochs.specs.Epoch.{written_places, leaving_places, read_from, Kept, value_kept, among, epoch_source}
 use Rattle.flow_core_epochs.proofs.Members.{Has, of_filter, of_flat_map, has_tail}
-use Rattle.flow_core_epochs.proofs.Kept.{written_source}
+use Rattle.flow_core_epochs.proofs.Written.{written_source}
 use Rattle.flow_core_epochs.proofs.Epochs.{HasEpoch, number_is, earlier, whole, partial, over_frame, over_is_whole, kept_value, output_outcome}
 
 -- the same elements over a whole list

@@ -4,6 +4,7 @@ pub mod Gathering
 pub mod Rounds
 pub mod Elements
 pub mod Roots
+pub mod OneMore
 pub mod Failed
 pub mod Examples
 pub mod Stretches

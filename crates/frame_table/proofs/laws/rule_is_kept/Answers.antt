@@ -1,4 +1,4 @@
-use Rattle.frame_table.proofs.Keeping.{opens_by_the_rule, split_rule, join_rule, claim_rule, store_rule, sub_rule, finish_rule, look_rule}
+use Rattle.frame_table.proofs.Rules.{opens_by_the_rule, split_rule, join_rule, claim_rule, store_rule, sub_rule, finish_rule, look_rule}
 use Rattle.frame_table.proofs.laws.rule_is_kept.Goals as goal
 
 pub returns-clause-opened : goal.returns-clause-opened

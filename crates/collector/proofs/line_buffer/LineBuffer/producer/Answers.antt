@@ -1,9 +1,8 @@
 use Rattle.std.specs.Prelude.{slice_index_or, None}
 use Rattle.std.specs.Option.{option_map_or}
-use Rattle.collector.specs.Report.{ending}
+use Rattle.collector.specs.Report.{ending, producer_text}
 use Rattle.std.proofs.Common.{◌≡◌, ◌++◌, ap, ◌∙◌, sym, append_assoc, codes}
 use Rattle.std.specs.Fmt.{decimal}
-use Rattle.collector.specs.Report.{producer_text}
 use Rattle.collector.proofs.Buffered.{on}
 use Rattle.collector.proofs.line_buffer.LineBuffer.producer.Goals as goal
 
