@@ -8,7 +8,7 @@ use Rattle.std.proofs.lemmas.Option.{same_Some, slice_get-map, slice_get_within,
 use Rattle.flow_core_laws.specs.declared.activation.Activation.{Activation}
 use Rattle.flow_core_laws.specs.declared.task_end.TaskEnd.{TaskEnd}
 use Rattle.flow_core_laws.specs.FirstPosition.{is_write_to}
-use Rattle.flow_core_laws.specs.Outcome.{is_done_at}
+use Rattle.flow_core_laws.specs.Outcome.{has_end_at}
 use Rattle.flow_core_laws.specs.Window.{Window, windows, is_written_by, producer, producer_number}
 use Rattle.flow_core_laws.proofs.Sources.{find_passes}
 use Rattle.flow_core_laws.proofs.Windows.{written, producer_of, producer_by_number}
@@ -61,11 +61,11 @@ producer_small layout is stream position span h =
 
 -- an element of a stream that isn't the input isn't there where its producer isn't Done
 gap_by : (activations : List Activation) (input_len : ℕ) (ends : List (Option TaskEnd)) (stream position : ℕ) (o : Option Window) → 0 < stream → producer activations stream position ≡ o
-    → is_gap activations input_len ends stream position ≡ not (option_map_or (λ (w : Window). is_done_at ends w.activation) o false)
+    → is_gap activations input_len ends stream position ≡ not (option_map_or (λ (w : Window). has_end_at ends w.activation) o false)
 gap_by activations input_len ends stream position o positive is =
     let other : (stream == 0) ≡ false = grind (arith, nat_tests) in
-    ap (λ b. not (cond b (nat_lt position input_len) (option_map_or (λ (w : Window). is_done_at ends w.activation) (producer activations stream position) false))) other
-    ∙ ap (λ p. not (option_map_or (λ (w : Window). is_done_at ends w.activation) p false)) is
+    ap (λ b. not (cond b (nat_lt position input_len) (option_map_or (λ (w : Window). has_end_at ends w.activation) (producer activations stream position) false))) other
+    ∙ ap (λ p. not (option_map_or (λ (w : Window). has_end_at ends w.activation) p false)) is
 
 -- an element without producer isn't there
 pub gap_by_nobody : (activations : List Activation) (input_len : ℕ) (ends : List (Option TaskEnd)) (stream position : ℕ) → 0 < stream → None ≡ option_map span_of (producer activations stream position) → is_gap activations input_len ends stream position ≡ true
@@ -76,14 +76,14 @@ gap_by_nobody activations input_len ends stream position positive h = by (produc
     by (Some w) is h = absurd cc
 
 -- nor is one whose producer isn't Done
-pub gap_by_producer : (activations : List Activation) (input_len : ℕ) (ends : List (Option TaskEnd)) (stream position : ℕ) (span : Span) → 0 < stream → Some span ≡ option_map span_of (producer activations stream position) → is_done_at ends span.frame ≡ false
+pub gap_by_producer : (activations : List Activation) (input_len : ℕ) (ends : List (Option TaskEnd)) (stream position : ℕ) (span : Span) → 0 < stream → Some span ≡ option_map span_of (producer activations stream position) → has_end_at ends span.frame ≡ false
     → is_gap activations input_len ends stream position ≡ true
 gap_by_producer activations input_len ends stream position span positive h open_end =
     let p = produces_of activations stream position span h in
-    gap_by activations input_len ends stream position (Some p.window) positive p.produces ∙ ap (λ (s : Span). not (is_done_at ends s.frame)) (sym p.is) ∙ ap not open_end
+    gap_by activations input_len ends stream position (Some p.window) positive p.produces ∙ ap (λ (s : Span). not (has_end_at ends s.frame)) (sym p.is) ∙ ap not open_end
 
 -- up to the end of a producer that is Done all elements are there
-pub reaches : (activations : List Activation) (input_len : ℕ) (ends : List (Option TaskEnd)) (stream position : ℕ) (span : Span) → 0 < stream → Some span ≡ option_map span_of (producer activations stream position) → is_done_at ends span.frame ≡ true
+pub reaches : (activations : List Activation) (input_len : ℕ) (ends : List (Option TaskEnd)) (stream position : ℕ) (span : Span) → 0 < stream → Some span ≡ option_map span_of (producer activations stream position) → has_end_at ends span.frame ≡ true
     → Reaches activations input_len ends stream position (Some (span.first + span.count))
 reaches activations input_len ends stream position span positive h done =
     let p = produces_of activations stream position span h in
@@ -97,5 +97,5 @@ reaches activations input_len ends stream position span positive h done =
           let low_in : w.first ≤ q = omega arith in
           let passes : is_written_by stream q w ≡ true =
           ap (λ b. b && nat_le w.first q && nat_lt q (w.first + w.claim.horizon)) p.on_stream ∙ ap (λ b. b && nat_lt q (w.first + w.claim.horizon)) (le-leb w.first q low_in) ∙ lt-ltb q (w.first + w.claim.horizon) high_in in
-          gap_by activations input_len ends stream q (Some w) positive (producer_of activations stream q p.number w p.stands passes) ∙ ap (λ (s : Span). not (is_done_at ends s.frame)) (sym p.is) ∙ ap not done,
+          gap_by activations input_len ends stream q (Some w) positive (producer_of activations stream q p.number w p.stands passes) ∙ ap (λ (s : Span). not (has_end_at ends s.frame)) (sym p.is) ∙ ap not done,
     )

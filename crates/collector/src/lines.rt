@@ -64,12 +64,17 @@ impl LineBuffer {
                 self.field(sink, b"over-budget ", frame as u64)?;
                 self.text(sink, b"\n")
             }
-            TaskEnd::Poisoned { root } => {
-                self.field(sink, b"poisoned ", frame as u64)?;
-                self.field(sink, b" by ", root as u64)?;
-                self.text(sink, b"\n")
-            }
+            TaskEnd::Poisoned { root } => self.poisoned(sink, frame, root),
         }
+    }
+
+    /// Adds the line of an activation that was poisoned.
+    fn poisoned<S: Sink>(&mut self, sink: &mut S, frame: u32, root: u32) -> Result<(), WriteError>
+        ensures { GoesOn S.Sink sink.old sink.new self.old self.new (end_line frame (TaskEnd.Poisoned root)) result }
+    {
+        self.field(sink, b"poisoned ", frame as u64)?;
+        self.field(sink, b" by ", root as u64)?;
+        self.text(sink, b"\n")
     }
 
     /// Adds where a trap was hit, and ends the line.

@@ -8,6 +8,7 @@ use Rattle.control_run.specs.Stretches.{RunSoFar, end_told, given_by, not_begun,
 use Rattle.epoch_run_bodies.specs.Frames.{frame_outcome}
 use Rattle.flow_core_epochs.specs.Epoch.{IsHeld}
 use Rattle.flow_core_epochs.specs.Laws.{HeldAtFirst}
+use Rattle.flow_core_laws.specs.declared.elem.Elem.{Elem}
 use Rattle.flow_core_laws.specs.declared.activation.Activation.{Activation}
 use Rattle.flow_core_laws.specs.declared.control.Control.{Control}
 use Rattle.flow_core_laws.specs.declared.control.ControlEnd.{ControlEnd}
@@ -57,7 +58,7 @@ module _ (code : Code) (input : List ℕ) (budgets : Budgets) where
       nothing =
           subst (λ (es : List (Option TaskEnd)). IsHeld [] input (frame_outcome (parts_of code) [] budgets.task) es (map kept_of held.kept.items) held.ends.output) (sym ends)
           (subst (λ (ks : List Kept). IsHeld [] input (frame_outcome (parts_of code) [] budgets.task) [] (map kept_of ks) held.ends.output) (sym kept)
-          (subst (λ (os : List (Option ℤ)). IsHeld [] input (frame_outcome (parts_of code) [] budgets.task) [] [] os) (sym output)
+          (subst (λ (os : List (Option Elem)). IsHeld [] input (frame_outcome (parts_of code) [] budgets.task) [] [] os) (sym output)
           (first input (frame_outcome (parts_of code) [] budgets.task))))
 
   module _ (run : Standing) (small : AreBudgets budgets) (stands : StandsAt code input budgets run) where

@@ -8,6 +8,7 @@ use Rattle.std.proofs.lemmas.List.{drop_all, get_or-set_other, get_or-set_same, 
 use Rattle.std.proofs.lemmas.List.Recursion.{is_position_or_len}
 use Rattle.std.proofs.lemmas.List.FromFn.{get_or-map-range_with_len, length-map-range_with_len}
 use Rattle.flow_core_epochs.specs.Epoch.{is_output_at, number_in, output_over, put_over}
+use Rattle.flow_core_laws.specs.declared.elem.Elem.{Elem}
 use Rattle.flow_core_laws.specs.Outcome.{outcome_at}
 use Rattle.flow_core_laws.specs.Place.{Place}
 use Rattle.stream_match.specs.Kept.{place_of}
@@ -34,7 +35,7 @@ put_over_same old mid frames run n same =
     (λ a. option_map_or (outcome_at run) (number_in frames a) (outcome_at old a)) 0 n
     (λ k low high. ap (option_map_or (outcome_at run) (number_in frames k)) (same k))
 
-pub output_over_same : (old mid : List (Option ℤ)) (places : List Place) (values : List (Option ℤ)) (n : ℕ) → ((at : ℕ) → outcome_at mid at ≡ outcome_at old at)
+pub output_over_same : (old mid : List (Option Elem)) (places : List Place) (values : List (Option Elem)) (n : ℕ) → ((at : ℕ) → outcome_at mid at ≡ outcome_at old at)
     → output_over mid places values n ≡ output_over old places values n
 output_over_same old mid places values n same =
     same_range (λ at. option_map_or (outcome_at values) (position (is_output_at at) places) (outcome_at mid at))
@@ -76,22 +77,22 @@ position-cons test x xs = first_is test (x ∷ xs) ∙ by (test x) ∙ ap (λ o.
     by false = below_more (first test xs) (length xs)
 
 -- what an output position comes to
-abbrev pub over_at : List (Option ℤ) → List Place → List (Option ℤ) → ℕ → Option ℤ
+abbrev pub over_at : List (Option Elem) → List Place → List (Option Elem) → ℕ → Option Elem
 over_at output places values at = option_map_or (outcome_at values) (position (is_output_at at) places) (outcome_at output at)
 
 -- with no place the output stays
-pub over_none : (output : List (Option ℤ)) → output_over output [] [] (length output) ≡ output
+pub over_none : (output : List (Option Elem)) → output_over output [] [] (length output) ≡ output
 over_none output =
     same_lists (output_over output [] [] (length output)) output (length-map-range_with_len (over_at output [] []) 0 (length output))
     (λ k d lt. get_or-map-range_with_len (over_at output [] []) 0 (length output) k k d
     (omega (arith, length-map-range_with_len (over_at output [] []) 0 (length output))) (omega arith) ∙ get_or_default output k None d (omega (arith, length-map-range_with_len (over_at output [] []) 0 (length output))))
 
 -- one more place in front
-pub over_one : (output : List (Option ℤ)) (p : Place) (ps : List Place) (v : Option ℤ) (vs : List (Option ℤ)) (n : ℕ)
+pub over_one : (output : List (Option Elem)) (p : Place) (ps : List Place) (v : Option Elem) (vs : List (Option Elem)) (n : ℕ)
     → output_over (output_over output ps vs n) (p ∷ []) (v ∷ []) n ≡ output_over output (p ∷ ps) (v ∷ vs) n
 over_one output p ps v vs n = same_range (over_at (output_over output ps vs n) (p ∷ []) (v ∷ [])) (over_at output (p ∷ ps) (v ∷ vs)) 0 n (λ at low high. each at high)
   where
-    later : (o : Option ℕ) (d : Option ℤ) → option_map_or (outcome_at (v ∷ vs)) (option_map suc o) d ≡ option_map_or (outcome_at vs) o d
+    later : (o : Option ℕ) (d : Option Elem) → option_map_or (outcome_at (v ∷ vs)) (option_map suc o) d ≡ option_map_or (outcome_at vs) o d
     later None d = refl
     later (Some i) d = refl
 
@@ -109,7 +110,7 @@ over_one output p ps v vs n = same_range (over_at (output_over output ps vs n) (
         ∙ ap (λ o. option_map_or (outcome_at (v ∷ vs)) o (outcome_at output at)) (sym (position-cons (is_output_at at) p ps))
 
 -- an element that is put
-pub over_put : (output : List (Option ℤ)) (p : Place) (v : Option ℤ) → p.stream ≡ 1 → p.position < length output
+pub over_put : (output : List (Option Elem)) (p : Place) (v : Option Elem) → p.stream ≡ 1 → p.position < length output
     → set output p.position v ≡ output_over output (p ∷ []) (v ∷ []) (length output)
 over_put output p v of_output lt =
     same_lists (set output p.position v) (output_over output (p ∷ []) (v ∷ []) (length output))
@@ -126,17 +127,17 @@ over_put output p v of_output lt =
     there : (k : ℕ) (b : Bool) → is_output_at k p ≡ b → over_at output (p ∷ []) (v ∷ []) k ≡ option_map_or (outcome_at (v ∷ [])) (cond b (Some 0) (option_map suc (position (is_output_at k) []))) (outcome_at output k)
     there k b e = ap (λ o. option_map_or (outcome_at (v ∷ [])) o (outcome_at output k)) (position-cons (is_output_at k) p [] ∙ ap (λ b. cond b (Some 0) (option_map suc (position (is_output_at k) []))) e)
 
-    by : (k : ℕ) (d : Option ℤ) → k < length output → (k ≡ p.position) ⊎ (k ≢ p.position) → get_or (set output p.position v) k d ≡ over_at output (p ∷ []) (v ∷ []) k
+    by : (k : ℕ) (d : Option Elem) → k < length output → (k ≡ p.position) ⊎ (k ≢ p.position) → get_or (set output p.position v) k d ≡ over_at output (p ∷ []) (v ∷ []) k
     by k d within (inl same) =
         ap (λ i. get_or (set output p.position v) i d) same ∙ get_or-set_same output p.position v d lt
         ∙ sym (there k true (ap (λ i. is_output_at i p) same ∙ passes))
     by k d within (inr other) =
         get_or-set_other output p.position k v d other ∙ get_or_default output k d None within ∙ sym (there k false (fails k other (is_output_at k p) refl))
 
-    at : (k : ℕ) (d : Option ℤ) → k < length output → get_or (set output p.position v) k d ≡ get_or (output_over output (p ∷ []) (v ∷ []) (length output)) k d
+    at : (k : ℕ) (d : Option Elem) → k < length output → get_or (set output p.position v) k d ≡ get_or (output_over output (p ∷ []) (v ∷ []) (length output)) k d
     at k d within = by k d within (cases_eq k p.position) ∙ sym (get_or-map-range_with_len (over_at output (p ∷ []) (v ∷ [])) 0 (length output) k k d within (omega arith))
 
-pub over_stays : (output : List (Option ℤ)) (p : Place) (v : Option ℤ) → ((at : ℕ) → at < length output → is_output_at at p ≡ false)
+pub over_stays : (output : List (Option Elem)) (p : Place) (v : Option Elem) → ((at : ℕ) → at < length output → is_output_at at p ≡ false)
     → output ≡ output_over output (p ∷ []) (v ∷ []) (length output)
 over_stays output p v other =
     sym (same_range (over_at output (p ∷ []) (v ∷ [])) (over_at output [] []) 0 (length output)
@@ -144,7 +145,7 @@ over_stays output p v other =
     ∙ over_none output)
 
 -- an element that goes elsewhere
-pub over_elsewhere : (output : List (Option ℤ)) (p : Place) (v : Option ℤ) → (p.stream ≢ 1) ⊎ (length output ≤ p.position)
+pub over_elsewhere : (output : List (Option Elem)) (p : Place) (v : Option Elem) → (p.stream ≢ 1) ⊎ (length output ≤ p.position)
     → output ≡ output_over output (p ∷ []) (v ∷ []) (length output)
 over_elsewhere output p v where_to = over_stays output p v (λ at lt. fails at lt (is_output_at at p) refl)
   where
@@ -161,7 +162,7 @@ over_elsewhere output p v where_to = over_stays output p v (λ at lt. fails at l
     fails at lt false e = e
 
 -- the last places are put
-pub over_begin : (output : List (Option ℤ)) (places : List code.Place) (values : List (Option ℤ)) → length values ≡ length places
+pub over_begin : (output : List (Option Elem)) (places : List code.Place) (values : List (Option Elem)) → length values ≡ length places
     → output ≡ output_over output (map place_of (drop (length places) places)) (drop (length places) values) (length output)
 over_begin output places values as_many =
     sym (over_none output)
@@ -169,7 +170,7 @@ over_begin output places values as_many =
     ∙ ap (λ vs. output_over output (map place_of (drop (length places) places)) vs (length output)) (sym (drop_all (length places) values (omega arith)))
 
 -- and one more in front of them
-pub over_more : (output mid new : List (Option ℤ)) (places : List code.Place) (values : List (Option ℤ)) (left : ℕ) (d : code.Place) → 0 < left → left ≤ length places
+pub over_more : (output mid new : List (Option Elem)) (places : List code.Place) (values : List (Option Elem)) (left : ℕ) (d : code.Place) → 0 < left → left ≤ length places
     → length values ≡ length places
     → mid ≡ output_over output (map place_of (drop left places)) (drop left values) (length output)
     → new ≡ output_over mid (place_of (get_or places (left - 1) d) ∷ []) (get_or values (left - 1) None ∷ []) (length mid)

@@ -14,15 +14,16 @@ use Rattle.epoch_run_bodies.specs.Laws.{LaterActivationsChangeNothing}
 use Rattle.flow_core_epochs.specs.Epoch as epoch
 use Rattle.flow_core_epochs.specs.Epoch.{IsCarried, IsEpoch, IsHeld, IsOutside, LeaveOutWaiting, ReadNoOutput, ServesAll, StandsForEpoch, carried_over, epoch_meaning, open_in, output_over, put_over}
 use Rattle.flow_core_epochs.specs.Laws.{BeginsEpoch, EndsEpoch, ServesFrames}
+use Rattle.flow_core_laws.specs.declared.elem.Elem.{Elem}
 use Rattle.flow_core_laws.proofs.Rounds.{length-meaning}
-use Rattle.flow_core_laws.specs.Element.{element}
+use Rattle.flow_core_laws.specs.Poisoning.{poisoning}
 use Rattle.flow_core_laws.specs.FirstPosition.{is_write_to, write_cursor}
 use Rattle.flow_core_laws.specs.Outcome.{State, ends_of}
 use Rattle.flow_core_laws.specs.Place as streams
 use Rattle.flow_core_laws.specs.Place.{written_count}
-use Rattle.flow_core_laws.specs.Plans.{plan_reads, sink_elements}
+use Rattle.flow_core_laws.specs.Plans.{plan_element, plan_reads, sink_elements}
 use Rattle.flow_core_laws.specs.Serves.{Serves}
-use Rattle.flow_core_laws.specs.Streams.{output_elements, stream_meaning, stream_reads, stream_source}
+use Rattle.flow_core_laws.specs.Streams.{output_elements, stream_element, stream_meaning, stream_reads, stream_source}
 use Rattle.flow_core_laws.specs.Window.{claims_of}
 use Rattle.flow_core_laws.specs.declared.activation.Activation.{Activation}
 use Rattle.flow_core_laws.specs.declared.claim.Claim.{Claim}
@@ -46,7 +47,7 @@ use Rattle.epoch_run.specs.Held.{IsHeldBefore, IsHeldOf}
 use Rattle.epoch_run.specs.declared.held.Held.{Held}
 
 -- what is held depends on what activations mean alone
-pub same_held : (activations : List Activation) (input : List ℕ) (body other : ℕ → List ℤ → Outcome) (ends : List (Option TaskEnd)) (kept : List epoch.Kept) (output : List (Option ℤ))
+pub same_held : (activations : List Activation) (input : List ℕ) (body other : ℕ → List ℤ → Outcome) (ends : List (Option TaskEnd)) (kept : List epoch.Kept) (output : List (Option Elem))
     → stream_meaning activations input body ≡ stream_meaning activations input other → IsHeld activations input body ends kept output
     → IsHeld activations input other ends kept output
 same_held activations input body other ends kept output same held = record {
@@ -59,11 +60,11 @@ same_held activations input body other ends kept output same held = record {
 length-ends : (activations : List Activation) (input : List ℕ) (body : ℕ → List ℤ → Outcome) → length (ends_of (stream_meaning activations input body)) ≡ length activations
 length-ends activations input body =
     length-map (stream_meaning activations input body) (option_map (λ (o : Outcome). o.end))
-    ∙ length-meaning element (stream_reads activations input) body (length activations)
+    ∙ length-meaning stream_element (stream_reads activations input) (poisoning body) (length activations)
 
 length-output : (activations : List Activation) (input : List ℕ) (state : State) → length (output_elements activations input state) ≡ written_count activations 1
 length-output activations input state =
-    length-map (map (stream_source activations input) (streams.output_places activations)) (element state)
+    length-map (map (stream_source activations input) (streams.output_places activations)) (stream_element state)
     ∙ length-map (streams.output_places activations) (stream_source activations input)
     ∙ length-map-range_with_len (λ position. record { stream = 1; position = position }) 0 (written_count activations 1)
 
@@ -182,13 +183,13 @@ module _ (layout : Layout) (whole : IsLayout layout) (code : Parts) (activations
         ends_fit =
             ap length ends_are
             ∙ length-map (epoch_meaning plan frames (frame_outcome code activations budget)) (option_map (λ (o : Outcome). o.end))
-            ∙ length-meaning element (plan_reads plan) (λ f. frame_outcome code activations budget (slice_index frames f)) (length plan.frames)
+            ∙ length-meaning (plan_element plan) (plan_reads plan) (poisoning (λ f. frame_outcome code activations budget (slice_index frames f))) (length plan.frames)
             ∙ stands.frames_are_these
 
         pub values_fit : length run.output ≡ length places
         values_fit =
             ap length output_is
-            ∙ length-map (plan_reads plan (length plan.frames)) (element (epoch_meaning plan frames (frame_outcome code activations budget)))
+            ∙ length-map (plan_reads plan (length plan.frames)) (plan_element plan (epoch_meaning plan frames (frame_outcome code activations budget)))
             ∙ ap (λ n. length (plan_reads plan n)) stands.frames_are_these
             ∙ ap length stands.sink_is_places
             ∙ length-map (map place_of places) (epoch.epoch_source activations input frames kept)
@@ -227,6 +228,6 @@ module _ (layout : Layout) (whole : IsLayout layout) (code : Parts) (activations
 
             over : IsHeld all input body after.ends.ends (map kept_of after.kept.items) after.ends.output
             over =
-                subst (λ (os : List (Option ℤ)). IsHeld all input body after.ends.ends (map kept_of after.kept.items) os) o
+                subst (λ (os : List (Option Elem)). IsHeld all input body after.ends.ends (map kept_of after.kept.items) os) o
                 (subst (λ (ks : List epoch.Kept). IsHeld all input body after.ends.ends ks (output_over held.ends.output (map place_of places) run.output (written_count all 1))) k
                 (subst (λ (es : List (Option TaskEnd)). IsHeld all input body es (carried_over all (open_in put (length all)) kept (map place_of places) run.output) (output_over held.ends.output (map place_of places) run.output (written_count all 1))) e ended))

@@ -70,7 +70,7 @@ fn run_open<R: Threads + Sync, G: Gate>(
     ensures { OnOk result (IsHeldOf (parts_of bodies.now.code.now) bodies.now.activations.now input.now bodies.now.budget held.new) }
 {
     let readers = open_activations(alloc, layout, held)?;
-    let frames = ready_frames(alloc, layout, held.ends.ends.as_slice(), readers.as_slice())?;
+    let frames = ready_frames(alloc, layout, readers.as_slice())?;
     run_these(
         rt,
         alloc,

@@ -6,7 +6,7 @@ ghost use Rattle.flow_core_epochs.specs.Epoch.{output_over, put_over};
 ghost use Rattle.stream_match.specs.Kept.{place_of};
 
 use flow_core_epochs::put_over;
-use flow_core_laws::TaskEnd;
+use flow_core_laws::{Elem, TaskEnd};
 use os_io::{List, Memory};
 use stream_match::Place;
 
@@ -30,10 +30,10 @@ pub(crate) fn take_ends(
 
 /// Puts the elements that left an epoch at their positions of the output, of which there are so many.
 pub(crate) fn take_output(
-    output: &mut List<Option<i32>>,
+    output: &mut List<Option<Elem>>,
     count: usize,
     places: &[Place],
-    values: &[Option<i32>],
+    values: &[Option<Elem>],
 ) -> Result<(), Memory>
     requires longer { length output.old ≤ count }
     requires fit { length values.now ≡ length places.now }
@@ -58,7 +58,7 @@ fn grow<T: Drop>(list: &mut List<Option<T>>, count: usize) -> Result<(), Memory>
 }
 
 /// Puts the elements that left an epoch at their positions of the output, the last one first.
-fn put_output(output: &mut [Option<i32>], places: &[Place], values: &[Option<i32>])
+fn put_output(output: &mut [Option<Elem>], places: &[Place], values: &[Option<Elem>])
     requires { length values.now ≡ length places.now }
     ensures { output.new ≡ output_over output.old (map place_of places.now) values.now (length output.old) }
 {
@@ -70,7 +70,7 @@ fn put_output(output: &mut [Option<i32>], places: &[Place], values: &[Option<i32
 }
 
 /// Puts the element at a place at its position of the output, if it is of the output.
-fn put_one(output: &mut [Option<i32>], place: Place, value: Option<i32>)
+fn put_one(output: &mut [Option<Elem>], place: Place, value: Option<Elem>)
     ensures { output.new ≡ output_over output.old (place_of place ∷ []) (value ∷ []) (length output.old) }
 {
     if place.stream == 1 && place.position < output.len() as u64 {

@@ -64,6 +64,7 @@ module _ (ends : TasksEnd) (proper : TaskEndsAreProper) (code : Parts) (activati
     takes_each = λ f lt. let a = at f lt in record { small = small; activation = a.activation; is_there = a.is_there; fits = a.fits; as_many_inputs = inputs_fit f a lt; as_many_outputs = outputs_fit f a };
     fills_outputs = λ f inputs lt n done. let a = at f lt in (is_proper f a inputs).outputs done ∙ sym (outputs_fit f a);
     traps_have_codes = λ f inputs number line lt n trapped. let c = (is_proper f (at f lt) inputs).codes number line trapped in (c.0, omega (arith, c.1));
+    are_never_poisoned = λ f inputs root lt n. (is_proper f (at f lt) inputs).is_not_poisoned root;
   }
 
 -- the same for all activations of a run in parts
@@ -82,6 +83,8 @@ serves_all ends proper code activations budget valid all_fit small = record {
   traps_have_codes = λ a inputs number line lt n trapped.
       let at : slice_get activations a ≡ Some (get_or activations a no_activation) = slice_get-get_or activations a no_activation lt in
       let c = (is_proper a (get_or activations a no_activation) at inputs).codes number line trapped in (c.0, omega (arith, c.1));
+  are_never_poisoned = λ a inputs root lt n.
+      (is_proper a (get_or activations a no_activation) (slice_get-get_or activations a no_activation lt) inputs).is_not_poisoned root;
 }
   where
     fits : (a : ℕ) (x : Activation) → slice_get activations a ≡ Some x → Fits code x

@@ -4,6 +4,7 @@ use Rattle.std.specs.Prelude.{filter, All, nat_le, ◌&&◌}
 use Rattle.std.specs.List.{range_with_len}
 use Rattle.std.proofs.lemmas.List.FromFn.{get_or-map-range_with_len}
 use Rattle.std.proofs.lemmas.Option.{same_Some}
+use Rattle.flow_core_laws.specs.declared.elem.Elem.{Elem}
 use Rattle.flow_core_laws.specs.declared.activation.Activation.{Activation}
 use Rattle.std.proofs.lemmas.List.{take_more, take_all, append_assoc, map-append}
 use Rattle.std.proofs.lemmas.List.Elements.{filter-append}
@@ -18,7 +19,7 @@ use Rattle.stream_match.specs.Kept.{kept_of, place_of}
 use Rattle.epoch_run_carrying.specs.Carrying.{is_behind, carried_by}
 
 -- elements at joined places
-elements_at-append : (ps qs : List streams.Place) (vs ws : List (Option ℤ)) → length vs ≡ length ps → elements_at (ps ++ qs) (vs ++ ws) ≡ elements_at ps vs ++ elements_at qs ws
+elements_at-append : (ps qs : List streams.Place) (vs ws : List (Option Elem)) → length vs ≡ length ps → elements_at (ps ++ qs) (vs ++ ws) ≡ elements_at ps vs ++ elements_at qs ws
 elements_at-append [] qs [] ws l = refl
 elements_at-append [] qs (v ∷ vs) ws l = absurd (cc)
 elements_at-append (p ∷ ps) qs [] ws l = absurd (cc)
@@ -37,7 +38,7 @@ length-placed [] = refl
 length-placed (p ∷ ps) = ap suc (length-placed ps)
 
 -- one more place
-pub left_more : (cursors : List ℕ) (places : List Place) (values : List (Option ℤ)) (n : ℕ) (d : Place) (old mid new : List epoch.Kept) → length values ≡ length places → n < length places
+pub left_more : (cursors : List ℕ) (places : List Place) (values : List (Option Elem)) (n : ℕ) (d : Place) (old mid new : List epoch.Kept) → length values ≡ length places → n < length places
     → mid ≡ old ++ filter (is_behind cursors) (elements_at (map place_of (take n places)) (take n values))
     → new ≡ mid ++ filter (is_behind cursors) (elements_at (place_of (get_or places n d) ∷ []) (get_or values n None ∷ []))
     → new ≡ old ++ filter (is_behind cursors) (elements_at (map place_of (take (n + 1) places)) (take (n + 1) values))
@@ -64,7 +65,7 @@ kept_more cursors kept n d mid new lt before step =
     ∙ sym (ap (λ ks. filter (is_behind cursors) (map kept_of ks)) (take_more kept n d lt) ∙ ap (filter (is_behind cursors)) (map-append kept_of (take n kept) (get_or kept n d ∷ [])) ∙ filter-append (is_behind cursors) (map kept_of (take n kept)) (kept_of (get_or kept n d) ∷ []))
 
 -- both together
-pub carried_is : (cursors : List ℕ) (kept : List Kept) (n : ℕ) (places : List streams.Place) (values : List (Option ℤ)) (mid new : List epoch.Kept) → length kept ≤ n → mid ≡ filter (is_behind cursors) (map kept_of (take n kept)) → new ≡ mid ++ filter (is_behind cursors) (elements_at places values) → new ≡ carried_by cursors (map kept_of kept) places values
+pub carried_is : (cursors : List ℕ) (kept : List Kept) (n : ℕ) (places : List streams.Place) (values : List (Option Elem)) (mid new : List epoch.Kept) → length kept ≤ n → mid ≡ filter (is_behind cursors) (map kept_of (take n kept)) → new ≡ mid ++ filter (is_behind cursors) (elements_at places values) → new ≡ carried_by cursors (map kept_of kept) places values
 carried_is cursors kept n places values mid new all before step =
     step
     ∙ ap (λ ks. ks ++ filter (is_behind cursors) (elements_at places values)) (before ∙ ap (λ ks. filter (is_behind cursors) (map kept_of ks)) (take_all n kept all))
@@ -76,7 +77,7 @@ filter_same p q [] same = refl
 filter_same p q (x ∷ xs) same = ap (λ b. cond b (x ∷ filter p xs) (filter p xs)) (same x (0, refl)) ∙ ap (λ ys. cond (q x) (x ∷ ys) ys) (filter_same p q xs (λ y h. same y (has_tail x xs y h)))
 
 -- an element at places is at one of them
-at_place : (ps : List streams.Place) (vs : List (Option ℤ)) (k : epoch.Kept) → Has (elements_at ps vs) k → Has ps k.place
+at_place : (ps : List streams.Place) (vs : List (Option Elem)) (k : epoch.Kept) → Has (elements_at ps vs) k → Has ps k.place
 at_place [] vs k (i, at) = absurd (cc)
 at_place (p ∷ ps) [] k (i, at) = absurd (cc)
 at_place (p ∷ ps) (None ∷ vs) k h = has_tail p ps k.place (at_place ps vs k h)
@@ -84,7 +85,7 @@ at_place (p ∷ ps) (Some v ∷ vs) k (zero, at) = (0, ap (λ (l : epoch.Kept). 
 at_place (p ∷ ps) (Some v ∷ vs) k (suc i, at) = has_tail p ps k.place (at_place ps vs k (i, at))
 
 -- the cursors of all streams carry over what may still be read
-pub carried_by_cursors : (activations : List Activation) (open_frames cursors : List ℕ) (n : ℕ) (kept : List Kept) (places : List Place) (values : List (Option ℤ)) → cursors ≡ map (read_from activations open_frames) (range_with_len 0 n) → All (λ (k : Kept). k.stream < n) kept → All (λ (p : Place). p.stream < n) places → carried_by cursors (map kept_of kept) (map place_of places) values ≡ epoch.carried_over activations open_frames (map kept_of kept) (map place_of places) values
+pub carried_by_cursors : (activations : List Activation) (open_frames cursors : List ℕ) (n : ℕ) (kept : List Kept) (places : List Place) (values : List (Option Elem)) → cursors ≡ map (read_from activations open_frames) (range_with_len 0 n) → All (λ (k : Kept). k.stream < n) kept → All (λ (p : Place). p.stream < n) places → carried_by cursors (map kept_of kept) (map place_of places) values ≡ epoch.carried_over activations open_frames (map kept_of kept) (map place_of places) values
 carried_by_cursors activations open_frames cursors n kept places values is kept_exist places_exist = filter_same (is_behind cursors) (λ (k : epoch.Kept). epoch.is_readable activations open_frames k.place) (map kept_of kept ++ elements_at (map place_of places) values) (λ k h. same k (exists k (of_append (map kept_of kept) (elements_at (map place_of places) values) k h)))
   where
     exists : (k : epoch.Kept) → (Has (map kept_of kept) k) ⊎ (Has (elements_at (map place_of places) values) k) → k.place.stream < n

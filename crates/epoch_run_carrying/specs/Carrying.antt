@@ -1,5 +1,6 @@
 -- What is carried over by the cursors of the streams.
 use Rattle.std.specs.Prelude.{ℕ, ℤ, Bool, ◌&&◌, nat_le, List, ◌++◌, Option, filter, slice_index}
+use Rattle.flow_core_laws.specs.declared.elem.Elem.{Elem}
 use Rattle.flow_core_laws.specs.Place as streams
 use Rattle.flow_core_epochs.specs.Epoch as epoch
 
@@ -8,5 +9,5 @@ abbrev pub is_behind : List ℕ → epoch.Kept → Bool
 is_behind cursors k = nat_le 2 k.place.stream && nat_le (slice_index cursors k.place.stream) k.place.position
 
 -- what is carried over by cursors
-abbrev pub carried_by : List ℕ → List epoch.Kept → List streams.Place → List (Option ℤ) → List epoch.Kept
+abbrev pub carried_by : List ℕ → List epoch.Kept → List streams.Place → List (Option Elem) → List epoch.Kept
 carried_by cursors kept places values = filter (is_behind cursors) (kept ++ epoch.elements_at places values)

@@ -6,6 +6,7 @@ ghost use Rattle.flow_core_epochs.specs.Epoch.{elements_at, carried_over};
 ghost use Rattle.stream_match.specs.Kept.{kept_of, place_of};
 ghost use Rattle.epoch_run_carrying.specs.Carrying.{is_behind, carried_by};
 
+use flow_core::Elem;
 use os_io::Memory;
 use std::alloc::Global;
 use stream_match::{Kept, Layout, Place, read_cursors};
@@ -17,7 +18,7 @@ pub fn carry_over(
     open_frames: &[u32],
     kept: &[Kept],
     places: &[Place],
-    values: &[Option<i32>],
+    values: &[Option<Elem>],
 ) -> Result<Vec<Kept>, Memory>
     requires layout { IsLayout layout.now }
     requires exist { All (λ f. f < frame_count layout.now) open_frames.now }
@@ -39,7 +40,7 @@ pub fn carry(
     cursors: &[u64],
     kept: &[Kept],
     places: &[Place],
-    values: &[Option<i32>],
+    values: &[Option<Elem>],
 ) -> Result<Vec<Kept>, Memory>
     requires kept_exist { All (λ k. k.stream < length cursors.now) kept.now }
     requires places_exist { All (λ p. p.stream < length cursors.now) places.now }
@@ -60,7 +61,7 @@ fn carry_left(
     carried: &mut Vec<Kept>,
     cursors: &[u64],
     places: &[Place],
-    values: &[Option<i32>],
+    values: &[Option<Elem>],
 ) -> Result<(), Memory>
     requires places_exist { All (λ p. p.stream < length cursors.now) places.now }
     requires as_many { length values.now ≡ length places.now }
@@ -78,7 +79,7 @@ fn carry_at(
     carried: &mut Vec<Kept>,
     cursors: &[u64],
     place: Place,
-    value: Option<i32>,
+    value: Option<Elem>,
 ) -> Result<(), Memory>
     requires { place.stream < length cursors.now }
     ensures { OnOk result (map kept_of carried.new.items ≡ map kept_of carried.old.items

@@ -13,11 +13,12 @@ use Rattle.flow_core_epochs.proofs.Members.{Has, in_filter, in_flat_map, in_map,
 use Rattle.flow_core_epochs.proofs.Reading.{has_contained}
 use Rattle.flow_core_epochs.proofs.Written.{is_written_test, LiesIn}
 use Rattle.flow_core_epochs.specs.Epoch as epoch
-use Rattle.flow_core_epochs.specs.Epoch.{LeaveOutWaiting, number_in, open_in, left_out, undelivered, unwritten}
+use Rattle.flow_core_epochs.specs.Epoch.{LeaveOutWaiting, number_in, open_in, left_out, unwritten}
 use Rattle.flow_core_laws.proofs.Windows.{producer_of}
+use Rattle.flow_core_laws.specs.declared.elem.Elem.TheVariants.{Value}
 use Rattle.flow_core_laws.specs.Element.{fed, given, nobody}
 use Rattle.flow_core_laws.specs.FirstPosition.{write_cursor}
-use Rattle.flow_core_laws.specs.Outcome.{outcome_at, is_done}
+use Rattle.flow_core_laws.specs.Outcome.{outcome_at}
 use Rattle.flow_core_laws.specs.Place.{Place, input_places, places_of}
 use Rattle.flow_core_laws.specs.Streams.{input_source, produced_source, stream_source}
 use Rattle.flow_core_laws.specs.Window.{Window, claims_of, producer, windows, windows_of}
@@ -60,9 +61,9 @@ contained : {A : Type 0} (xs : List A) (x : A) → Has xs x → Contains xs x
 contained xs x (i, at) = (i, slice_get_within xs i x at, get_or_from_slice_get xs i x x at)
 
 -- what the write span at a place gives to a span that reads
-pub writer_waits : (layout : Layout) (ends : List (Option TaskEnd)) (waits : List Bool) (span writer : Span) (place number : ℕ) → HasWriters layout span.stream → span.write ≡ false → span.stream ≢ 0 → slice_get (writers_on layout span.stream) place ≡ Some number → writer ≡ span_at layout number
-    → (max span.first writer.first < span.first + span.count) × (max span.first writer.first < writer.first + writer.count) → is_stuck ends waits writer.frame ≡ true → SpanWaits layout ends waits span
-writer_waits layout ends waits span writer place number has reads other at is meet s =
+pub writer_waits : (layout : Layout) (waits : List Bool) (span writer : Span) (place number : ℕ) → HasWriters layout span.stream → span.write ≡ false → span.stream ≢ 0 → slice_get (writers_on layout span.stream) place ≡ Some number → writer ≡ span_at layout number
+    → (max span.first writer.first < span.first + span.count) × (max span.first writer.first < writer.first + writer.count) → is_stuck waits writer.frame ≡ true → SpanWaits layout waits span
+writer_waits layout waits span writer place number has reads other at is meet s =
     let (lt, same) = number_place (writers_on layout span.stream) place number at in
     let at_place : writer_at layout span.stream place ≡ span_at layout number = ap (span_at layout) same in
     record {
@@ -71,10 +72,10 @@ writer_waits layout ends waits span writer place number has reads other at is me
       from = omega arith;
       to = omega (arith, meet.0);
       cannot_come = stuck number other (subst (λ n. n < length layout.spans) same (has.exist place lt)) (sym (ap (λ (t : Span). t.write) at_place) ∙ has.write place lt) (sym (ap (λ (t : Span). t.stream) at_place) ∙ has.on_stream place lt)
-          (omega (arith, ap (λ (t : Span). t.first) is)) (omega (arith, meet.1, ap (λ (t : Span). t.first) is, ap (λ (t : Span). t.count) is)) (ap (is_stuck ends waits) (sym (ap (λ (t : Span). t.frame) is)) ∙ s);
+          (omega (arith, ap (λ (t : Span). t.first) is)) (omega (arith, meet.1, ap (λ (t : Span). t.first) is, ap (λ (t : Span). t.count) is)) (ap (is_stuck waits) (sym (ap (λ (t : Span). t.frame) is)) ∙ s);
     }
 
-module _ (layout : Layout) (activations : List Activation) (of : IsLayoutOf layout activations) (input : List ℕ) (over : length input ≡ layout.input_len) (ends : List (Option TaskEnd)) (waits : List Bool) (are : AreWaiting layout ends waits) where
+module _ (layout : Layout) (activations : List Activation) (of : IsLayoutOf layout activations) (input : List ℕ) (over : length input ≡ layout.input_len) (ends : List (Option TaskEnd)) (readers : List ℕ) (open_are : readers ≡ open_in ends (frame_count layout)) (waits : List Bool) (are : AreWaiting layout readers waits) where
   abbrev test : ℕ → Bool
   test a = not (get_or waits a false)
 
@@ -92,16 +93,10 @@ module _ (layout : Layout) (activations : List Activation) (of : IsLayoutOf layo
           let fails : test a ≡ false = ap not m in
           absurd (cc)
 
-  stuck_fed : (a place : ℕ) → is_stuck ends waits a ≡ true → epoch.CannotCome ends frames (fed a place)
-  stuck_fed a place h = by_end (outcome_at ends a) refl h
-    where
-      is_false : (b : Bool) → not b ≡ true → b ≡ false
-      is_false true e = absurd (cc)
-      is_false false e = refl
-
-      by_end : (o : Option TaskEnd) → outcome_at ends a ≡ o → option_map_or (λ end. not (is_done end)) o (get_or waits a false) ≡ true → epoch.CannotCome ends frames (fed a place)
-      by_end (Some end) e t = undelivered a place end e (is_false (is_done end) t)
-      by_end None e t = left_out a place e (not_frame a t)
+  stuck_fed : (a place : ℕ) → is_stuck waits a ≡ true → epoch.CannotCome ends frames (fed a place)
+  stuck_fed a place m =
+      let (f, at) = are.are_readers a m in
+      left_out a place (open_each ends (frame_count layout) f a (subst (λ (xs : List ℕ). slice_get xs f ≡ Some a) open_are at)).1 (not_frame a m)
 
   -- nobody writes behind all that is written
   written_is : (stream : ℕ) → stream < length layout.writers → stream ≢ 0 → written_until layout stream ≡ write_cursor stream (claims_of activations)
@@ -121,11 +116,11 @@ module _ (layout : Layout) (activations : List Activation) (of : IsLayoutOf layo
   of_input : (position : ℕ) → layout.input_len ≤ position → input_source input position ≡ nobody
   of_input position le = by_byte (slice_get input position) refl
     where
-      by_byte : (o : Option ℕ) → slice_get input position ≡ o → option_map_or (λ byte. given (pos byte)) o nobody ≡ nobody
+      by_byte : (o : Option ℕ) → slice_get input position ≡ o → option_map_or (λ byte. given (Value (pos byte))) o nobody ≡ nobody
       by_byte None e = refl
       by_byte (Some byte) e = absurd (omega (arith, over, slice_get_within input position byte e))
 
-  cannot_come : (p : Place) → p.stream < length layout.writers → CannotCome layout ends waits p.stream p.position → epoch.CannotCome ends frames (stream_source activations input p)
+  cannot_come : (p : Place) → p.stream < length layout.writers → CannotCome layout waits p.stream p.position → epoch.CannotCome ends frames (stream_source activations input p)
   cannot_come p exists (behind le) = by_stream (p.stream == 0) refl
     where
       by_stream : (b : Bool) → (p.stream == 0) ≡ b → epoch.CannotCome ends frames (stream_source activations input p)
@@ -143,10 +138,10 @@ module _ (layout : Layout) (activations : List Activation) (of : IsLayoutOf layo
       let stream : w.claim.stream ≡ p.stream = sym (ap (λ (t : Span). t.stream) is) ∙ on in
       let lies : LiesIn w p = record { stream = sym stream; from = omega (arith, ap (λ (t : Span). t.first) is); to = omega (arith, ap (λ (t : Span). t.first) is, ap (λ (t : Span). t.count) is) } in
       let made = producer_of activations p.stream p.position number w (there activations number n) (is_written_test w p write lies) in
-      subst (epoch.CannotCome ends frames) (sym (produced_by activations input p w other made)) (stuck_fed w.activation (w.offset + (p.position - w.first)) (ap (is_stuck ends waits) (sym (ap (λ (t : Span). t.frame) is)) ∙ s))
+      subst (epoch.CannotCome ends frames) (sym (produced_by activations input p w other made)) (stuck_fed w.activation (w.offset + (p.position - w.first)) (ap (is_stuck waits) (sym (ap (λ (t : Span). t.frame) is)) ∙ s))
 
   -- what has a mark reads such an element
-  reads_it : (a : ℕ) → a < length activations → ((s : Span) → Has (spans_of layout a) s → s.stream < length layout.writers) → HasWaitingSpan layout ends waits (spans_of layout a)
+  reads_it : (a : ℕ) → a < length activations → ((s : Span) → Has (spans_of layout a) s → s.stream < length layout.writers) → HasWaitingSpan layout waits (spans_of layout a)
       → (p : Place) × (Contains (input_places activations a) p) × epoch.CannotCome ends frames (stream_source activations input p)
   unfolding input_places
   reads_it a lt exist h =
@@ -160,29 +155,29 @@ module _ (layout : Layout) (activations : List Activation) (of : IsLayoutOf layo
       let stream : s.stream ≡ w.claim.stream = sym (ap (λ (t : Span). t.stream) w_is) in
       let at : Has (places_of w) p = in_map (λ position. record { stream = w.claim.stream; position = position }) (range_with_len w.first w.claim.horizon) h.waits_for.position (in_range w.first w.claim.horizon h.waits_for.position low high) in
       let read = in_flat_map places_of (filter (λ (w : Window). not w.claim.write) (windows_of activations a)) w p (in_filter (λ (w : Window). not w.claim.write) (windows_of activations a) w w_in reads) at in
-      (p, contained (input_places activations a) p read, cannot_come p (subst (λ n. n < length layout.writers) stream (exist s has)) (subst (λ n. CannotCome layout ends waits n h.waits_for.position) stream h.waits_for.cannot_come))
+      (p, contained (input_places activations a) p read, cannot_come p (subst (λ n. n < length layout.writers) stream (exist s has)) (subst (λ n. CannotCome layout waits n h.waits_for.position) stream h.waits_for.cannot_come))
 
   pub leave_out : ((a : ℕ) (s : Span) → a < frame_count layout → Has (spans_of layout a) s → s.stream < length layout.writers) → LeaveOutWaiting activations input ends frames
   leave_out exist = record {
-    are_open = λ f a h. let (g, at) = (of_filter test readers a (f, h)).0 in let e = open_each ends (frame_count layout) g a at in (omega (arith, count, e.0), e.1);
+    are_open = λ f a h. let (g, at) = (of_filter test all_open a (f, h)).0 in let e = open_each ends (frame_count layout) g a at in (omega (arith, count, e.0), e.1);
     ascend = ascend;
     others_wait = λ a lt none out. by_mark a lt none out (get_or waits a false) refl;
   }
     where
-      readers : List ℕ
-      readers = open_in ends (frame_count layout)
+      all_open : List ℕ
+      all_open = open_in ends (frame_count layout)
 
       count : frame_count layout ≡ length activations
       count = frame_count-is layout activations of
 
       ascend : Ascends (filter (λ a. not (get_or waits a false)) (open_in ends (frame_count layout)))
-      ascend = ascends_filter test readers (open_ascend ends (frame_count layout))
+      ascend = ascends_filter test all_open (open_ascend ends (frame_count layout))
 
       by_mark : (a : ℕ) → a < length activations → outcome_at ends a ≡ None → number_in frames a ≡ None → (b : Bool) → get_or waits a false ≡ b
           → (p : Place) × (Contains (input_places activations a) p) × epoch.CannotCome ends frames (stream_source activations input p)
       by_mark a lt none out true m = reads_it a lt (λ s h. exist a s (omega (arith, count)) h) (are.wait a m)
       by_mark a lt none out false m =
           let (f, at) = open_all ends (frame_count layout) a (omega (arith, count)) none in
-          let (g, g_at) = in_filter test readers a (f, at) (ap not m) in
+          let (g, g_at) = in_filter test all_open a (f, at) (ap not m) in
           let numbered = ascending_numbered frames ascend g a g_at in
           absurd (cc)

@@ -1,44 +1,41 @@
 -- Activations that wait for an element that can't come, by marks.
-use Rattle.std.specs.Prelude.{◌≡◌, ◌≢◌, ℕ, ◌<◌, ◌≤◌, ◌==◌, if◌then◌else◌, Bool, true, false, List, Option, None, Contains, not, length, slice_index, slice_index_or}
-use Rattle.std.specs.Option.{option_map_or}
-use Rattle.flow_core_laws.specs.Outcome.{outcome_at, is_done}
-use Rattle.flow_core_laws.specs.declared.task_end.TaskEnd.{TaskEnd}
+use Rattle.std.specs.Prelude.{◌≡◌, ◌≢◌, ℕ, ◌<◌, ◌≤◌, ◌==◌, if◌then◌else◌, Bool, true, false, List, Some, Contains, length, slice_get, slice_index, slice_index_or}
 use Rattle.stream_match_layouts.specs.Spans.{frame_count, spans_of}
 use Rattle.stream_match_layouts.specs.Writers.{end_of, span_at}
 use Rattle.stream_match_layouts.specs.declared.layout.Layout.{Layout}
 use Rattle.stream_match_layouts.specs.declared.span.Span.{Span}
 
--- whether an activation is stuck: it ended otherwise than Done, or has no end and a mark
-abbrev pub is_stuck : List (Option TaskEnd) → List Bool → ℕ → Bool
-is_stuck ends waits activation = option_map_or (λ end. not (is_done end)) (outcome_at ends activation) (slice_index_or waits activation false)
+-- whether an activation is stuck: it has a mark
+abbrev pub is_stuck : List Bool → ℕ → Bool
+is_stuck waits activation = slice_index_or waits activation false
 
 -- how many positions of a stream are written, or are the input's
 abbrev pub written_until : Layout → ℕ → ℕ
 written_until layout stream = if stream == 0 then layout.input_len else slice_index layout.writes stream
 
 -- the element at a position can't come: it lies behind all that is written, or a stuck activation writes it
-pub data CannotCome (layout : Layout) (ends : List (Option TaskEnd)) (waits : List Bool) (stream position : ℕ) : Type 0 where
-  behind : written_until layout stream ≤ position → CannotCome layout ends waits stream position
+pub data CannotCome (layout : Layout) (waits : List Bool) (stream position : ℕ) : Type 0 where
+  behind : written_until layout stream ≤ position → CannotCome layout waits stream position
   stuck : (number : ℕ) → stream ≢ 0 → number < length layout.spans → (span_at layout number).write ≡ true → (span_at layout number).stream ≡ stream
-      → (span_at layout number).first ≤ position → position < end_of (span_at layout number) → is_stuck ends waits (span_at layout number).frame ≡ true
-      → CannotCome layout ends waits stream position
+      → (span_at layout number).first ≤ position → position < end_of (span_at layout number) → is_stuck waits (span_at layout number).frame ≡ true
+      → CannotCome layout waits stream position
 
 -- a span reads such an element
-pub record SpanWaits (layout : Layout) (ends : List (Option TaskEnd)) (waits : List Bool) (span : Span) : Type 0 where
+pub record SpanWaits (layout : Layout) (waits : List Bool) (span : Span) : Type 0 where
   pub reads : span.write ≡ false
   pub position : ℕ
   pub from : span.first ≤ position
   pub to : position < end_of span
-  pub cannot_come : CannotCome layout ends waits span.stream position
+  pub cannot_come : CannotCome layout waits span.stream position
 
 -- one of some spans does
-pub record HasWaitingSpan (layout : Layout) (ends : List (Option TaskEnd)) (waits : List Bool) (spans : List Span) : Type 0 where
+pub record HasWaitingSpan (layout : Layout) (waits : List Bool) (spans : List Span) : Type 0 where
   pub span : Span
   pub is_one : Contains spans span
-  pub waits_for : SpanWaits layout ends waits span
+  pub waits_for : SpanWaits layout waits span
 
--- Each activation that has a mark has no end, and waits.
-pub record AreWaiting (layout : Layout) (ends : List (Option TaskEnd)) (waits : List Bool) : Type 0 where
+-- Each activation that has a mark is a reader, and waits.
+pub record AreWaiting (layout : Layout) (readers : List ℕ) (waits : List Bool) : Type 0 where
   pub one_each : length waits ≡ frame_count layout
-  pub have_no_end : (a : ℕ) → slice_index_or waits a false ≡ true → outcome_at ends a ≡ None
-  pub wait : (a : ℕ) → slice_index_or waits a false ≡ true → HasWaitingSpan layout ends waits (spans_of layout a)
+  pub are_readers : (a : ℕ) → slice_index_or waits a false ≡ true → (f : ℕ) × (slice_get readers f ≡ Some a)
+  pub wait : (a : ℕ) → slice_index_or waits a false ≡ true → HasWaitingSpan layout waits (spans_of layout a)

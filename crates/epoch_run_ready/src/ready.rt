@@ -1,5 +1,5 @@
-ghost use Rattle.std.specs.Prelude.{◌≡◌, ◌<◌, ℕ, List, None, Some, IfOk, filter, length, not, slice_get, slice_index_or, false};
-ghost use Rattle.flow_core_laws.specs.Outcome.{outcome_at};
+ghost use Rattle.std.specs.Prelude.{◌≡◌, ◌<◌, ℕ, All, List, Option, IfOk, filter, length, not, slice_index_or, false};
+ghost use Rattle.flow_core_laws.specs.declared.task_end.TaskEnd.{TaskEnd};
 ghost use Rattle.flow_core_laws.specs.declared.activation.Activation.{Activation};
 ghost use Rattle.flow_core_epochs.specs.Epoch.{LeaveOutWaiting, open_in};
 ghost use Rattle.stream_match_layouts.specs.Layout.{IsLayout, IsLayoutOf};
@@ -7,48 +7,45 @@ ghost use Rattle.stream_match_layouts.specs.Spans.{frame_count};
 ghost use Rattle.epoch_run_ready.specs.Waiting.{AreWaiting};
 
 use crate::marking::{is_marked, mark_ahead, mark_back};
-use flow_core_laws::TaskEnd;
 use os_io::{List, Memory};
 use std::alloc::Global;
 use stream_match_layouts::Layout;
 
-/// The activations that an epoch runs: of these, which are all that have no end yet, those that don't wait for an element
+/// The activations that an epoch runs: of the readers, which are all that have no end yet, those that don't wait for an element
 /// that can't come in it. What waits for a later one or for an earlier one is found, and not each of those that wait for one
 /// another in turn: what isn't found is left in.
 pub fn ready_frames(
     alloc: Global,
     layout: &Layout,
-    ends: &[Option<TaskEnd>],
     readers: &[u32],
 ) -> Result<List<u32>, Memory>
     requires layout { IsLayout layout.now }
-    requires readers { readers.now ≡ open_in ends.now (frame_count layout.now) }
-    ensures { IfOk result (λ frames. (activations : List Activation) (input : List ℕ) → IsLayoutOf layout.now activations
-        → length input ≡ layout.now.input_len → LeaveOutWaiting activations input ends.now frames) }
+    requires readers { All (λ a. a < frame_count layout.now) readers.now }
+    ensures { IfOk result (λ frames. (activations : List Activation) (input : List ℕ) (ends : List (Option TaskEnd)) → IsLayoutOf layout.now activations
+        → length input ≡ layout.now.input_len → readers.now ≡ open_in ends (frame_count layout.now) → LeaveOutWaiting activations input ends frames) }
 {
-    let waits = waiting(alloc, layout, ends, readers)?;
+    let waits = waiting(alloc, layout, readers)?;
     let frames = others(alloc, readers, waits.as_slice())?;
     Ok(frames)
 }
 
-/// A mark for each activation: which of these wait.
+/// A mark for each activation: which of the readers wait.
 fn waiting(
     alloc: Global,
     layout: &Layout,
-    ends: &[Option<TaskEnd>],
     readers: &[u32],
 ) -> Result<Vec<bool>, Memory>
     requires layout { IsLayout layout.now }
-    requires readers { (f a : ℕ) → slice_get readers.now f ≡ Some a → (a < frame_count layout.now) × (outcome_at ends.now a ≡ None) }
-    ensures { IfOk result (λ waits. AreWaiting layout.now ends.now waits.items) }
+    requires readers { All (λ a. a < frame_count layout.now) readers.now }
+    ensures { IfOk result (λ waits. AreWaiting layout.now readers.now waits.items) }
 {
     let mut waits = Vec::new(alloc);
     waits.resize(layout.frames(), false)?;
-    let look = mark_back(layout, ends, waits.as_mut_slice(), readers);
+    let look = mark_back(layout, waits.as_mut_slice(), readers);
     if !look.asks_writers() {
         return Ok(waits);
     }
-    mark_ahead(layout, ends, waits.as_mut_slice(), readers);
+    mark_ahead(layout, waits.as_mut_slice(), readers);
     Ok(waits)
 }
 

@@ -1,19 +1,16 @@
-ghost use Rattle.std.specs.Prelude.{◌≡◌, ◌≢◌, ◌+◌, ◌^◌, ◌<◌, ◌≤◌, All, IfSome, false, length, max, not, true};
-ghost use Rattle.flow_core_laws.specs.Outcome.{is_done, outcome_at};
+ghost use Rattle.std.specs.Prelude.{◌≡◌, ◌≢◌, ◌+◌, ◌^◌, ◌<◌, ◌≤◌, All, IfSome, false, length, max, true};
 ghost use Rattle.stream_match_layouts.specs.Layout.{IsLayout};
 ghost use Rattle.stream_match_layouts.specs.Writers.{HasWriters, writers_on};
 ghost use Rattle.stream_match_layouts.specs.declared.span.Span.{Span};
-ghost use Rattle.epoch_run_ready.specs.Waiting.{HasWaitingSpan, SpanWaits, is_stuck, written_until};
+ghost use Rattle.epoch_run_ready.specs.Waiting.{HasWaitingSpan, SpanWaits, written_until};
 
 use crate::look::Look;
 use crate::marking::is_marked;
-use flow_core_laws::TaskEnd;
 use stream_match_layouts::{Layout, Span};
 
 /// Whether one of the spans of an activation reads an element that can't come.
 pub(crate) fn spans_wait(
     layout: &Layout,
-    ends: &[Option<TaskEnd>],
     waits: &[bool],
     spans: &[Span],
     look: Look,
@@ -21,10 +18,10 @@ pub(crate) fn spans_wait(
     requires layout { IsLayout layout.now }
     requires exist { All (λ (s : Span). s.stream < length layout.now.writers) spans.now }
     requires small { All (λ (s : Span). s.first < 2 ^ 62) spans.now }
-    ensures { result ≡ true → HasWaitingSpan layout.now ends.now waits.now spans.now }
+    ensures { result ≡ true → HasWaitingSpan layout.now waits.now spans.now }
 {
     for span in spans {
-        if span_waits(layout, ends, waits, *span, look) {
+        if span_waits(layout, waits, *span, look) {
             return true;
         }
     }
@@ -35,7 +32,6 @@ pub(crate) fn spans_wait(
 /// which is stuck.
 fn span_waits(
     layout: &Layout,
-    ends: &[Option<TaskEnd>],
     waits: &[bool],
     span: Span,
     look: Look,
@@ -43,7 +39,7 @@ fn span_waits(
     requires layout { IsLayout layout.now }
     requires exists { span.stream < length layout.now.writers }
     requires small { span.first < 2 ^ 62 }
-    ensures { result ≡ true → SpanWaits layout.now ends.now waits.now span }
+    ensures { result ≡ true → SpanWaits layout.now waits.now span }
 {
     if span.write || span.count == 0 {
         return false;
@@ -54,7 +50,7 @@ fn span_waits(
     if span.stream == 0 || !look.asks_writers() {
         return false;
     }
-    waits_for_writer(layout, ends, waits, span)
+    waits_for_writer(layout, waits, span)
 }
 
 /// How many positions of a stream are written, or are the input's.
@@ -71,16 +67,16 @@ fn written_until(layout: &Layout, stream: u32) -> u64
 }
 
 /// Whether a span reads an element from an activation which is stuck.
-fn waits_for_writer(layout: &Layout, ends: &[Option<TaskEnd>], waits: &[bool], span: Span) -> bool
+fn waits_for_writer(layout: &Layout, waits: &[bool], span: Span) -> bool
     requires writers { HasWriters layout.now span.stream }
     requires exists { span.stream < length layout.now.writers }
     requires small { span.first < 2 ^ 62 }
     requires reads { span.write ≡ false }
     requires no_input { span.stream ≢ 0 }
-    ensures { result ≡ true → SpanWaits layout.now ends.now waits.now span }
+    ensures { result ≡ true → SpanWaits layout.now waits.now span }
 {
     let mut place = first_place(layout, span);
-    'writers: while let Some(stuck) = is_writer_stuck(layout, ends, waits, span, place) {
+    'writers: while let Some(stuck) = is_writer_stuck(layout, waits, span, place) {
         if stuck {
             return true;
         }
@@ -142,7 +138,6 @@ fn covers(span: Span, position: u64) -> bool {
 /// with a span that reads, or there is none at the place.
 fn is_writer_stuck(
     layout: &Layout,
-    ends: &[Option<TaskEnd>],
     waits: &[bool],
     span: Span,
     place: usize,
@@ -153,12 +148,12 @@ fn is_writer_stuck(
     requires reads { span.write ≡ false }
     requires no_input { span.stream ≢ 0 }
     ensures within { IfSome result (λ _. place < length (writers_on layout.now span.stream)) }
-    ensures stuck { IfSome result (λ stuck. stuck ≡ true → SpanWaits layout.now ends.now waits.now span) }
+    ensures stuck { IfSome result (λ stuck. stuck ≡ true → SpanWaits layout.now waits.now span) }
 {
     let number = layout.writer(span.stream, place)?;
     let writer = layout.span(number as usize);
     if meet(span, writer) {
-        Some(is_stuck(ends, waits, writer.frame))
+        Some(is_marked(waits, writer.frame))
     } else {
         None
     }
@@ -172,35 +167,4 @@ fn meet(one: Span, other: Span) -> bool
 {
     let first = one.first.max(other.first);
     first < one.first + u64::from(one.count) && first < other.first + u64::from(other.count)
-}
-
-/// Whether an activation is stuck.
-fn is_stuck(ends: &[Option<TaskEnd>], waits: &[bool], activation: u32) -> bool
-    ensures { result ≡ is_stuck ends.now waits.now activation }
-{
-    match end_of(ends, activation) {
-        Some(end) => is_other(end),
-        None => is_marked(waits, activation),
-    }
-}
-
-/// The end of an activation, if it has one.
-fn end_of(ends: &[Option<TaskEnd>], activation: u32) -> Option<TaskEnd>
-    ensures { result ≡ outcome_at ends.now activation }
-{
-    match ends.get(activation as usize) {
-        Some(end) => *end,
-        None => None,
-    }
-}
-
-/// Whether an end is another one than Done.
-pub(crate) fn is_other(end: TaskEnd) -> bool
-    ensures { result ≡ not (is_done end) }
-{
-    match end {
-        TaskEnd::Done => false,
-        TaskEnd::Trapped { .. } => true,
-        TaskEnd::OverBudget => true,
-    }
 }

@@ -88,15 +88,9 @@ run_of_code one code p is task_budget control_budget input output layout ends en
 
 -- ---- the output has only bytes
 
-there : (e : Option ℤ) → ForSome e IsByte → IsByteIfThere e
-there None h = tt
-there (Some value) h = h value refl
-
 -- of a program
 pub bytes_are : RunsKeep → OutputsAreBytes → (p : ProgramTree) (activations : List Activation) (input : List ℕ) (budget : ℕ) → All IsByteIfThere (ends_over p activations input budget).output
-bytes_are keep bytes p activations input budget =
-    let all = bytes activations input (body_at p activations budget) gives in
-    λ k d lt. there (get_or (ends_over p activations input budget).output k d) (all k d lt)
+bytes_are keep bytes p activations input budget = bytes activations input (body_at p activations budget) gives
   where
     gives : (a : ℕ) (x : Activation) (inputs : List ℤ) → slice_get activations a ≡ Some x → length inputs ≡ input_count x → GivesBytes x (body_at p activations budget a inputs)
     gives a x inputs at long = subst (GivesBytes x) (sym (ap (λ o. option_map_or (λ (y : Activation). body p y inputs budget) o over_budget) at)) (body_gives keep p x inputs budget long)
@@ -104,9 +98,7 @@ bytes_are keep bytes p activations input budget =
 -- and of a valid code
 pub code_bytes_are : CodesGiveBytes → OutputsAreBytes → (code : Parts) → IsValid code → (activations : List Activation) → All (Fits code) activations
     → (input : List ℕ) (budget : ℕ) → All IsByteIfThere (code_ends code activations input budget).output
-code_bytes_are codes bytes code valid activations fit input budget =
-    let all = bytes activations input (frame_outcome code activations budget) gives in
-    λ k d lt. there (get_or (code_ends code activations input budget).output k d) (all k d lt)
+code_bytes_are codes bytes code valid activations fit input budget = bytes activations input (frame_outcome code activations budget) gives
   where
     gives : (a : ℕ) (x : Activation) (inputs : List ℤ) → slice_get activations a ≡ Some x → length inputs ≡ input_count x → GivesBytes x (frame_outcome code activations budget a inputs)
     gives a x inputs at long =

@@ -1,6 +1,6 @@
 -- The laws of bodies, as statements.
 use Rattle.std.specs.Prelude.{◌≡◌, ℕ, ℤ, ◌+◌, ◌<◌, true, All, List, Some, length, slice_get, take}
-use Rattle.std.specs.Option.{ForSome}
+use Rattle.collector.specs.Written.{IsByteIfThere}
 use Rattle.flow_core_laws.specs.Byte.{IsByte}
 use Rattle.flow_core_laws.specs.Laws.{IsFilled}
 use Rattle.flow_core_laws.specs.Streams.{output_count, output_elements, stream_meaning}
@@ -24,12 +24,12 @@ abbrev pub CodesGiveBytes : Type 0
 CodesGiveBytes = (code : Parts) (x : Activation) (inputs : List ℤ) (budget : ℕ) → IsValid code → Fits code x → length inputs ≡ input_count x
     → GivesBytes x (task_outcome code x inputs budget)
 
--- where all bodies give bytes, the elements of the output that are there are bytes
+-- where all bodies give bytes, the elements of the output that are values are bytes
 abbrev pub OutputsAreBytes : Type 0
 OutputsAreBytes = (activations : List Activation) (input : List ℕ) (body : ℕ → List ℤ → Outcome)
     → ((a : ℕ) (x : Activation) (inputs : List ℤ) → slice_get activations a ≡ Some x → length inputs ≡ input_count x
     → GivesBytes x (body a inputs))
-    → All (λ element. ForSome element IsByte) (output_elements activations input (stream_meaning activations input body))
+    → All IsByteIfThere (output_elements activations input (stream_meaning activations input body))
 
 -- where all bodies that are done fill their output windows, the outputs of the meaning are filled
 abbrev pub FilledBodiesFill : Type 0

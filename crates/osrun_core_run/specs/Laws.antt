@@ -34,7 +34,7 @@ OfRuns fact = (holds : List ℕ → Option (List ℕ)) (job : Job) (run : Progra
 abbrev pub IsOfAState : ProgramRun → Type 0
 IsOfAState run = AreOfState run.control.activations (length run.input) run.ends
 
--- the elements of the output that are there are bytes
+-- the elements of the output that are values are bytes
 abbrev pub GivesOnlyBytes : ProgramRun → Type 0
 GivesOnlyBytes run = All IsByteIfThere run.ends.output
 

@@ -13,36 +13,30 @@ use Rattle.osview_sentences.specs.declared.fact.Sentence.{Sentence}
 use Rattle.osview_sentences.specs.declared.fact.Supply.{Supply}
 use Rattle.osview_sentences.specs.declared.fact.Supply.TheVariants as supply
 
--- An activation that should give an element and doesn't, by how it ended. One that is Done gives its elements, so it is none.
-abbrev pub given_by : ℕ → Option TaskEnd → Supply
-given_by giver None = supply.Waiting giver
-given_by giver (Some task_end.Done) = supply.Waiting giver
-given_by giver (Some (task_end.Trapped code line)) = supply.Trapped giver
-given_by giver (Some task_end.OverBudget) = supply.OutOfTurns giver
-
 -- an element that no activation writes: of the input, which is stream 0, it stands past the end
 abbrev pub given_by_none : ℕ → Supply
 given_by_none stream = if stream == 0 then supply.Ended else supply.Nobody
 
--- who should give the element that an activation misses
-abbrev pub supply_of : List (Option TaskEnd) → ℕ → Missing → Supply
-supply_of ends a m = option_map_or
-    (λ giver. if giver == a then supply.Itself else given_by giver (slice_index_or ends giver None)) m.producer (given_by_none m.stream)
+-- Who should give the element that an activation misses. Another activation has no end either: with one the element would be
+-- there, if only as poison.
+abbrev pub supply_of : ℕ → Missing → Supply
+supply_of a m = option_map_or (λ giver. if giver == a then supply.Itself else supply.Waiting giver) m.producer (given_by_none m.stream)
 
 -- an activation waits for its first missing element
-abbrev pub waiting_for : List (Option TaskEnd) → ℕ → Missing → Fact
-waiting_for ends a m = fact.Waits m.stream m.position (supply_of ends a m)
+abbrev pub waiting_for : ℕ → Missing → Fact
+waiting_for a m = fact.Waits m.stream m.position (supply_of a m)
 
 -- an activation ended; of one that is Done nothing is told
 abbrev pub ended_by : TaskEnd → Option Fact
 ended_by task_end.Done = None
 ended_by (task_end.Trapped code line) = Some (fact.Trapped code line)
 ended_by task_end.OverBudget = Some fact.OverBudget
+ended_by (task_end.Poisoned root) = Some (fact.Poisoned root)
 
 -- What became of an activation: its end, or else the first missing element that it waits for.
 abbrev pub fact_of : List Activation → (input_len : ℕ) → List (Option TaskEnd) → ℕ → Option Fact
 fact_of activations input_len ends a = option_map_or ended_by (slice_index_or ends a None)
-    (option_map (waiting_for ends a) (missing activations input_len ends a))
+    (option_map (waiting_for a) (missing activations input_len ends a))
 
 -- what became of an activation whose task stands in a line
 abbrev pub sentence_of : ℕ → ℕ → Option Fact → List Sentence

@@ -34,14 +34,13 @@ abbrev pub supply_text : Supply → List ℕ
 supply_text supply.Ended = codes ", which stands past the end of the input"
 supply_text supply.Nobody = codes ", which no task writes"
 supply_text supply.Itself = codes ", which it writes itself"
-supply_text (supply.Trapped giver) = from_text giver (codes "trapped")
-supply_text (supply.OutOfTurns giver) = from_text giver (codes "used up its turns")
 supply_text (supply.Waiting giver) = from_text giver (codes "waits too")
 
 -- what became of an activation, where the streams have these names in a text
 abbrev pub fact_text : List ℕ → List StreamName → Fact → List ℕ
 fact_text text names (fact.Trapped code line) = codes "trapped in line " ++ decimal line ++ codes ": " ++ trap_text code
 fact_text text names fact.OverBudget = codes "used up its turns"
+fact_text text names (fact.Poisoned root) = codes "never ran, since activation " ++ decimal root ++ codes " failed"
 fact_text text names (fact.Waits stream position by) =
     codes "waits for " ++ element_text (stream_text text names stream) position ++ supply_text by
 
@@ -56,30 +55,38 @@ abbrev pub is_supplied_so : Supply → Supply → Bool
 is_supplied_so supply.Ended supply.Ended = true
 is_supplied_so supply.Nobody supply.Nobody = true
 is_supplied_so supply.Itself supply.Itself = true
-is_supplied_so (supply.Trapped giver) (supply.Trapped other) = true
-is_supplied_so (supply.OutOfTurns giver) (supply.OutOfTurns other) = true
 is_supplied_so (supply.Waiting giver) (supply.Waiting other) = true
 is_supplied_so _ _ = false
 
 abbrev pub is_trap : (code line : ℕ) → Fact → Bool
 is_trap code line (fact.Trapped other at) = (other == code) && (at == line)
 is_trap code line fact.OverBudget = false
+is_trap code line (fact.Poisoned root) = false
 is_trap code line (fact.Waits stream position by) = false
 
 abbrev pub is_over_budget : Fact → Bool
 is_over_budget (fact.Trapped code line) = false
 is_over_budget fact.OverBudget = true
+is_over_budget (fact.Poisoned root) = false
 is_over_budget (fact.Waits stream position by) = false
+
+abbrev pub is_poisoned_by : (root : ℕ) → Fact → Bool
+is_poisoned_by root (fact.Trapped code line) = false
+is_poisoned_by root fact.OverBudget = false
+is_poisoned_by root (fact.Poisoned other) = other == root
+is_poisoned_by root (fact.Waits stream position by) = false
 
 abbrev pub is_wait : (stream : ℕ) → Supply → Fact → Bool
 is_wait stream by (fact.Trapped code line) = false
 is_wait stream by fact.OverBudget = false
+is_wait stream by (fact.Poisoned root) = false
 is_wait stream by (fact.Waits other position other_by) = (other == stream) && is_supplied_so by other_by
 
 -- whether the same became of two activations, but for their numbers and for positions
 abbrev pub is_same : Fact → Fact → Bool
 is_same (fact.Trapped code line) other = is_trap code line other
 is_same fact.OverBudget other = is_over_budget other
+is_same (fact.Poisoned root) other = is_poisoned_by root other
 is_same (fact.Waits stream position by) other = is_wait stream by other
 
 -- Whether two sentences are alike: of activations of one task, to which the same happened.

@@ -1,5 +1,5 @@
 ghost use Rattle.std.specs.Prelude.{◌≡◌};
-ghost use Rattle.osview_sentences.specs.Sentences.{is_alike, is_over_budget, is_same, is_supplied_so, is_trap, is_wait};
+ghost use Rattle.osview_sentences.specs.Sentences.{is_alike, is_over_budget, is_poisoned_by, is_same, is_supplied_so, is_trap, is_wait};
 
 use crate::fact::{Fact, Sentence, Supply};
 
@@ -12,8 +12,6 @@ impl Supply {
             Supply::Ended => matches!(other, Supply::Ended),
             Supply::Nobody => matches!(other, Supply::Nobody),
             Supply::Itself => matches!(other, Supply::Itself),
-            Supply::Trapped { .. } => matches!(other, Supply::Trapped { .. }),
-            Supply::OutOfTurns { .. } => matches!(other, Supply::OutOfTurns { .. }),
             Supply::Waiting { .. } => matches!(other, Supply::Waiting { .. }),
         }
     }
@@ -29,7 +27,7 @@ impl Fact {
                 code: other,
                 line: at,
             } => other == code && at == line,
-            Fact::OverBudget | Fact::Waits { .. } => false,
+            Fact::OverBudget | Fact::Poisoned { .. } | Fact::Waits { .. } => false,
         }
     }
 
@@ -38,6 +36,16 @@ impl Fact {
         ensures { result ≡ is_over_budget self }
     {
         matches!(self, Fact::OverBudget)
+    }
+
+    /// Whether it was poisoned by an activation.
+    fn is_poisoned_by(self, root: u32) -> bool
+        ensures { result ≡ is_poisoned_by root self }
+    {
+        match self {
+            Fact::Poisoned { root: other } => other == root,
+            Fact::Trapped { .. } | Fact::OverBudget | Fact::Waits { .. } => false,
+        }
     }
 
     /// Whether it waits on a stream, for an element that is to be given so.
@@ -50,7 +58,7 @@ impl Fact {
                 supply: by,
                 ..
             } => other == stream && supply.is_so(by),
-            Fact::Trapped { .. } | Fact::OverBudget => false,
+            Fact::Trapped { .. } | Fact::OverBudget | Fact::Poisoned { .. } => false,
         }
     }
 
@@ -61,6 +69,7 @@ impl Fact {
         match self {
             Fact::Trapped { code, line } => other.is_trap(code, line),
             Fact::OverBudget => other.is_over_budget(),
+            Fact::Poisoned { root } => other.is_poisoned_by(root),
             Fact::Waits { stream, supply, .. } => other.is_wait(stream, supply),
         }
     }

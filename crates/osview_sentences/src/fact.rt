@@ -7,10 +7,6 @@ pub enum Supply {
     Nobody,
     /// The activation that waits for it.
     Itself,
-    /// Another activation, which trapped.
-    Trapped { giver: u32 },
-    /// Another activation, which used up its turns.
-    OutOfTurns { giver: u32 },
     /// Another activation, which waits too.
     Waiting { giver: u32 },
 }
@@ -25,6 +21,9 @@ pub enum Fact {
     },
     /// It used up its turns.
     OverBudget,
+    /// It never ran: what it reads should have come, if only through others, from an activation that trapped or used up
+    /// its turns, and that has this number.
+    Poisoned { root: u32 },
     /// It waits for the element at a position of a stream.
     Waits {
         stream: u32,

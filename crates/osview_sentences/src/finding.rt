@@ -1,6 +1,6 @@
 ghost use Rattle.std.specs.Prelude.{◌≡◌, ◌<◌, ◌++◌, List, None, IfOk, OnOk, length, slice_index_or};
 ghost use Rattle.flow_core_laws.specs.declared.activation.Activation.{Activation};
-ghost use Rattle.osview_sentences.specs.Facts.{ended_by, fact_of, given_by, given_by_none, sentence_at, sentence_of, sentences, supply_of, waiting_for};
+ghost use Rattle.osview_sentences.specs.Facts.{ended_by, fact_of, given_by_none, sentence_at, sentence_of, sentences, supply_of, waiting_for};
 ghost use Rattle.stream_match_layouts.specs.Layout.{IsLayout, IsLayoutOf};
 ghost use Rattle.stream_match_layouts.specs.Spans.{frame_count};
 
@@ -21,18 +21,6 @@ fn end_of(ends: &Ends, frame: u32) -> Option<TaskEnd>
     }
 }
 
-/// An activation that should give an element and doesn't, by how it ended.
-fn given_by(giver: u32, end: Option<TaskEnd>) -> Supply
-    ensures { result ≡ given_by giver end }
-{
-    match end {
-        None => Supply::Waiting { giver },
-        Some(TaskEnd::Done) => Supply::Waiting { giver },
-        Some(TaskEnd::Trapped { .. }) => Supply::Trapped { giver },
-        Some(TaskEnd::OverBudget) => Supply::OutOfTurns { giver },
-    }
-}
-
 /// An element that no activation writes.
 fn given_by_none(stream: u32) -> Supply
     ensures { result ≡ given_by_none stream }
@@ -45,28 +33,28 @@ fn given_by_none(stream: u32) -> Supply
 }
 
 /// Who should give the element that an activation misses.
-fn supply_of(ends: &Ends, frame: u32, missing: Missing) -> Supply
-    ensures { result ≡ supply_of ends.now.ends frame missing }
+fn supply_of(frame: u32, missing: Missing) -> Supply
+    ensures { result ≡ supply_of frame missing }
 {
     match missing.producer {
         Some(giver) => {
             if giver == frame {
                 return Supply::Itself;
             }
-            given_by(giver, end_of(ends, giver))
+            Supply::Waiting { giver }
         }
         None => given_by_none(missing.stream),
     }
 }
 
 /// An activation waits for its first missing element.
-fn waiting_for(ends: &Ends, frame: u32, missing: Missing) -> Fact
-    ensures { result ≡ waiting_for ends.now.ends frame missing }
+fn waiting_for(frame: u32, missing: Missing) -> Fact
+    ensures { result ≡ waiting_for frame missing }
 {
     Fact::Waits {
         stream: missing.stream,
         position: missing.position,
-        supply: supply_of(ends, frame, missing),
+        supply: supply_of(frame, missing),
     }
 }
 
@@ -78,6 +66,7 @@ fn ended_by(end: TaskEnd) -> Option<Fact>
         TaskEnd::Done => None,
         TaskEnd::Trapped { code, line } => Some(Fact::Trapped { code, line }),
         TaskEnd::OverBudget => Some(Fact::OverBudget),
+        TaskEnd::Poisoned { root } => Some(Fact::Poisoned { root }),
     }
 }
 
@@ -92,7 +81,7 @@ fn fact_of(layout: &Layout, ends: &Ends, frame: u32) -> Option<Fact>
         return ended_by(end);
     }
     match first_missing(layout, ends, frame) {
-        Some(missing) => Some(waiting_for(ends, frame, missing)),
+        Some(missing) => Some(waiting_for(frame, missing)),
         None => None,
     }
 }

@@ -14,7 +14,7 @@ use crate::finding::sentences;
 use crate::stream_name::StreamName;
 use crate::text::Text;
 use crate::wording::trap_text;
-use flow_core_laws::{ControlEnd, Ends, TaskEnd};
+use flow_core_laws::{ControlEnd, Elem, Ends, TaskEnd};
 use os_io::Memory;
 use std::alloc::Global;
 use stream_match_layouts::Layout;
@@ -69,14 +69,14 @@ fn count_done(ends: &[Option<TaskEnd>]) -> u64
     count
 }
 
-/// How many elements stand before the first one that isn't there.
-fn written_length(elements: &[Option<i32>]) -> usize
+/// How many values stand before the first element that isn't there or is poison.
+fn written_length(elements: &[Option<Elem>]) -> usize
     ensures { result ≡ length (written elements.now) }
 {
     for (count, element) in elements.iter().enumerate() {
-        if element.is_none() {
+        let Some(Elem::Value(_)) = element else {
             return count;
-        }
+        };
     }
     elements.len()
 }

@@ -66,8 +66,6 @@ impl Text {
             Supply::Ended => self.add(b", which stands past the end of the input"),
             Supply::Nobody => self.add(b", which no task writes"),
             Supply::Itself => self.add(b", which it writes itself"),
-            Supply::Trapped { giver } => self.giver(giver, b"trapped"),
-            Supply::OutOfTurns { giver } => self.giver(giver, b"used up its turns"),
             Supply::Waiting { giver } => self.giver(giver, b"waits too"),
         }
     }
@@ -79,6 +77,14 @@ impl Text {
         self.field(b"trapped in line ", line as u64)?;
         self.add(b": ")?;
         self.add(trap_text(code))
+    }
+
+    /// Adds that it never ran, and by which activation.
+    fn poisoned(&mut self, root: u32) -> Result<(), Memory>
+        ensures { OnOk result (self.new ≡ self.old ++ fact_text [] [] (Fact.Poisoned root)) }
+    {
+        self.field(b"never ran, since activation ", root as u64)?;
+        self.add(b" failed")
     }
 
     /// Adds for which element it waits, but for who should give it.
@@ -104,6 +110,7 @@ impl Text {
         match fact {
             Fact::Trapped { code, line } => self.trap(code, line),
             Fact::OverBudget => self.add(b"used up its turns"),
+            Fact::Poisoned { root } => self.poisoned(root),
             Fact::Waits {
                 stream,
                 position,

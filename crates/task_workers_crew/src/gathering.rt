@@ -7,7 +7,7 @@ ghost use Rattle.frame_table.specs.Seats.{IsWhole};
 ghost use Rattle.frame_table.specs.Left.{numbers_of};
 ghost use Rattle.frame_table.specs.Opened.{known_for};
 
-use flow_core_laws::{Bodies, Plan, TaskEnd};
+use flow_core_laws::{Bodies, Elem, Plan, TaskEnd};
 use frame_table::Closed;
 use os_io::{List, Room};
 
@@ -38,8 +38,8 @@ pub fn gather_output<B: Bodies>(
     plan: &Plan,
     bodies: &B,
     seats: u32,
-    mut output: Room<Option<i32>>,
-) -> List<Option<i32>>
+    mut output: Room<Option<Elem>>,
+) -> List<Option<Elem>>
     requires sound { IsSound plan.now }
     requires frames { closed.now.frames ≡ length plan.now.frames }
     requires long { length (numbers_of closed.now) ≡ length plan.now.frames + 1 + length plan.now.filled }

@@ -1,4 +1,7 @@
-ghost use Rattle.std.specs.Prelude.{◌≡◌, ◌<◌, ◌≤◌, ◌+◌, IfOk, OnOk, All, length, slice_index};
+ghost use Rattle.std.specs.Prelude.{◌≡◌, ◌<◌, ◌≤◌, ◌+◌, List, Some, IsSome, IfOk, OnOk, All, length, slice_index};
+ghost use Rattle.flow_core_laws.specs.declared.elem.Elem.{Elem};
+ghost use Rattle.flow_core_laws.specs.Round.{gathered};
+ghost use Rattle.flow_core_laws.specs.Poisoning.{poisoning};
 ghost use Rattle.flow_core_laws.specs.Plans.{plan_meaning};
 ghost use Rattle.flow_core_laws.specs.IsSound.{IsSound};
 ghost use Rattle.flow_core_laws.specs.Serves.{Serves};
@@ -7,7 +10,7 @@ ghost use Rattle.flow_core.specs.Shows.{Shows, Gives};
 ghost use Rattle.task_workers_round.specs.Results.{AreResults, MayRun, outputs_of, room_of};
 
 use crate::gate::Gate;
-use flow_core::{Board, Bodies, Plan, TaskEnd, gather};
+use flow_core::{Board, Bodies, Elem, Plan, TaskEnd, gather};
 use os_io::Memory;
 use std::alloc::Global;
 
@@ -20,7 +23,38 @@ pub struct Worker<S> {
     pub(crate) inputs: Vec<i32>,
 }
 
-/// Runs a frame whose cells all have a value.
+/// The end of a frame by its cells, which all hold an element: poisoned where one of them is poison, and else that
+/// of its body, which runs on their values.
+fn frame_end<B: Bodies>(
+    bodies: &B,
+    frame: u32,
+    cells: &[Option<Elem>],
+    outputs: &mut [i32],
+    worker: &mut Worker<B::Scratch>,
+) -> Result<TaskEnd, Memory>
+    requires taken { B.takes bodies.now frame (length cells.now) (length outputs.old) }
+    requires fitting { B.fits bodies.now worker.old.scratch }
+    requires there { IsSome (gathered cells.now) }
+    ensures end { (elements : List Elem) → gathered cells.now ≡ Some elements
+        → IfOk result (λ end. end ≡ (poisoning (B.outcome bodies.now) frame elements).end) }
+    ensures outputs { (elements : List Elem) → gathered cells.now ≡ Some elements
+        → IfOk result (λ end. end ≡ TaskEnd.Done
+        → outputs.new ≡ (poisoning (B.outcome bodies.now) frame elements).outputs) }
+    ensures fitting { B.fits bodies.now worker.new.scratch }
+{
+    let root = gather(cells, &mut worker.inputs)?;
+    if let Some(root) = root {
+        return Ok(TaskEnd::Poisoned { root });
+    }
+    Ok(bodies.run(
+        frame,
+        worker.inputs.as_slice(),
+        outputs,
+        &mut worker.scratch,
+    ))
+}
+
+/// Takes the end of a frame whose cells all hold an element.
 fn run_frame<B: Bodies, G: Gate>(
     plan: &Plan,
     bodies: &B,
@@ -46,13 +80,8 @@ fn run_frame<B: Bodies, G: Gate>(
     let place = plan.frame(frame);
     let first = place.cell as usize;
     let cells = &board.cells[first..first + place.inputs as usize];
-    gather(cells, &mut worker.inputs)?;
-    Ok(bodies.run(
-        frame,
-        worker.inputs.as_slice(),
-        outputs,
-        &mut worker.scratch,
-    ))
+    let end = frame_end(bodies, frame, cells, outputs, worker)?;
+    Ok(end)
 }
 
 /// Runs frames in turn, and puts their ends and their outputs one behind the other.

@@ -8,7 +8,8 @@ use Rattle.std.proofs.lemmas.List.FromFn.{get_or-range_with_len, length-range_wi
 use Rattle.flow_core_laws.specs.declared.plan.Piece.{Piece}
 use Rattle.flow_core_laws.specs.declared.plan.Plan.{Plan}
 use Rattle.flow_core_laws.specs.IsSound.{IsSound}
-use Rattle.flow_core_laws.specs.Plans.{frame_at, value_at}
+use Rattle.flow_core_laws.specs.declared.elem.Elem.{Elem}
+use Rattle.flow_core_laws.specs.Plans.{frame_at, held_at}
 use Rattle.flow_core_concurrent.specs.States.{times}
 use Rattle.flow_core_concurrent.specs.Counted.{one}
 use Rattle.flow_core_concurrent.proofs.Looks.{times_push}
@@ -75,9 +76,9 @@ waited plan number p sound is =
     let k : ℕ = p.at - f.cell in
     let lt : k < f.inputs = omega (arith, low, high, some) in
     let at : get_or (range_with_len f.cell f.inputs) k 0 ≡ p.at = get_or-range_with_len f.cell f.inputs k 0 lt ∙ omega (arith, low) in
-    let free : value_at plan.filled p.at ≡ None = sound.pieces_spare_the_filled number p.at (p, is, omega arith, omega (arith, some)) in
-    let test : ℕ → ℕ = λ c. cond (is_none (value_at plan.filled c)) 1 0 in
-    let one_here : test (get_or (range_with_len f.cell f.inputs) k 0) ≡ 1 = ap test at ∙ ap (λ (o : Option ℤ). cond (is_none o) 1 0) free in
+    let free : held_at plan.filled p.at ≡ None = sound.pieces_spare_the_filled number p.at (p, is, omega arith, omega (arith, some)) in
+    let test : ℕ → ℕ = λ c. cond (is_none (held_at plan.filled c)) 1 0 in
+    let one_here : test (get_or (range_with_len f.cell f.inputs) k 0) ≡ 1 = ap test at ∙ ap (λ (o : Option Elem). cond (is_none o) 1 0) free in
     let le = get_or-le-sum_by test (range_with_len f.cell f.inputs) k 0 (let l = length-range_with_len f.cell f.inputs in omega (arith, lt, l)) in
     let count = sound.wait_counts p.to s.goes_to_a_frame in
     omega (arith, one_here, le, count)

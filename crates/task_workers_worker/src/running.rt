@@ -1,9 +1,11 @@
 //! How a worker runs a frame that it claimed.
-ghost use Rattle.std.specs.Prelude.{◌≡◌, ◌+◌, ◌<◌, ◌≤◌, ℕ, None, Some, length, slice_get, [], ◌∷◌, ◌++◌};
+ghost use Rattle.std.specs.Prelude.{◌≡◌, ◌+◌, ◌<◌, ◌≤◌, ℕ, List, None, Some, length, slice_get, [], ◌∷◌, ◌++◌};
 ghost use Rattle.flow_core_laws.specs.declared.outcome.Outcome.{Outcome};
 ghost use Rattle.flow_core_laws.specs.declared.plan.Piece.{Piece};
 ghost use Rattle.flow_core_laws.specs.declared.task_end.TaskEnd.TheVariants.{Done};
+ghost use Rattle.flow_core_laws.specs.declared.elem.Elem.{Elem};
 ghost use Rattle.flow_core_laws.specs.Outcome.{outcome_at};
+ghost use Rattle.flow_core_laws.specs.Poisoning.{least_root, poisoning, values_of};
 ghost use Rattle.flow_core_laws.specs.Plans.{frame_at, plan_meaning};
 ghost use Rattle.flow_core_laws.specs.Serves.{Serves};
 ghost use Rattle.flow_core_concurrent.specs.Steps.{first_place};
@@ -26,13 +28,15 @@ use task_workers_round::Gate;
 fn give_one(
     table: &FrameTable,
     seat: &mut FrameSeat,
+    end: TaskEnd,
     outputs: &[i32],
     piece: u32,
     frame: u32,
     hand: &mut Hand,
 )
     requires of_this_table { IsSeatOf table.now seat.old }
-    requires may_deliver { (p : Piece) × (o : Outcome) × MayDeliver (known_of table.now) (view_of seat.old) piece p o × (o.outputs ≡ outputs.now) }
+    requires may_deliver { (p : Piece) × (o : Outcome) × MayDeliver (known_of table.now) (view_of seat.old) piece p o × (o.end ≡ end)
+        × (end ≡ Done → o.outputs ≡ outputs.now) }
     requires runs { (view_of seat.old).run ≡ Some (at frame piece 0) }
     requires serves { HandServes table.now seat.old hand.old }
     ensures of_this_table { IsSeatOf table.now seat.new }
@@ -43,7 +47,7 @@ fn give_one(
     ensures deques { KeepsDeques hand.old hand.new }
 {
     let to = table.plan().pieces.as_slice()[piece as usize].to;
-    if !table.deliver(seat, outputs, piece) {
+    if !table.deliver(seat, end, outputs, piece) {
         return;
     }
     if to as usize >= table.plan().frames.len() {
@@ -52,12 +56,20 @@ fn give_one(
     hand.push(to);
 }
 
-// Delivers all pieces of the running frame.
+// Delivers all pieces of the running frame, which has this end.
 #[tactic(auto, using(crate::proofs::Deques::keeps_same))]
-fn give(table: &FrameTable, seat: &mut FrameSeat, outputs: &[i32], frame: u32, hand: &mut Hand)
+fn give(
+    table: &FrameTable,
+    seat: &mut FrameSeat,
+    end: TaskEnd,
+    outputs: &[i32],
+    frame: u32,
+    hand: &mut Hand,
+)
     requires of_this_table { IsSeatOf table.now seat.old }
     requires exists { frame < length table.now.plan.now.frames }
-    requires done { (o : Outcome) × (outcome_at (known_of table.now).meaning frame ≡ Some o) × (o.end ≡ Done) × (o.outputs ≡ outputs.now) }
+    requires meant { (o : Outcome) × (outcome_at (known_of table.now).meaning frame ≡ Some o) × (o.end ≡ end)
+        × (end ≡ Done → o.outputs ≡ outputs.now) }
     requires runs { (view_of seat.old).run ≡ Some (first_place (known_of table.now).plan frame) }
     requires serves { HandServes table.now seat.old hand.old }
     ensures of_this_table { IsSeatOf table.now seat.new }
@@ -70,11 +82,11 @@ fn give(table: &FrameTable, seat: &mut FrameSeat, outputs: &[i32], frame: u32, h
 {
     let place = table.plan().frame(frame);
     for piece in place.piece..place.piece + place.pieces {
-        give_one(table, seat, outputs, piece, frame, hand);
+        give_one(table, seat, end, outputs, piece, frame, hand);
     }
 }
 
-// Ends the running frame, with all its pieces where it is Done.
+// Ends the running frame behind all its pieces.
 #[tactic(auto, using(crate::proofs::Deques::keeps_same))]
 fn settle(
     table: &FrameTable,
@@ -97,16 +109,34 @@ fn settle(
     ensures asks { asks_of hand.new ≡ asks_of hand.old }
     ensures deques { KeepsDeques hand.old hand.new }
 {
-    match end {
-        TaskEnd::Done => {
-            give(table, seat, outputs, frame, hand);
-            table.finish(seat, end);
-        }
-        TaskEnd::Trapped { .. } | TaskEnd::OverBudget => table.finish(seat, end),
-    }
+    give(table, seat, end, outputs, frame, hand);
+    table.finish(seat, end);
 }
 
-// Runs the frame that was claimed.
+// The end of a frame by what was read of it: poisoned where there is a root, and else that of its body.
+fn end_of<B: Bodies>(
+    bodies: &B,
+    frame: u32,
+    root: Option<u32>,
+    inputs: &[i32],
+    outputs: &mut [i32],
+    scratch: &mut B::Scratch,
+) -> TaskEnd
+    requires taken { B.takes bodies.now frame (length inputs.now) (length outputs.old) }
+    requires fits { B.fits bodies.now scratch.old }
+    ensures end { (elements : List Elem) → root ≡ least_root elements → (root ≡ None → inputs.now ≡ values_of elements)
+        → result ≡ (poisoning (B.outcome bodies.now) frame elements).end }
+    ensures outputs { (elements : List Elem) → root ≡ least_root elements → (root ≡ None → inputs.now ≡ values_of elements)
+        → result ≡ Done → outputs.new ≡ (poisoning (B.outcome bodies.now) frame elements).outputs }
+    ensures fits { B.fits bodies.now scratch.new }
+{
+    if let Some(root) = root {
+        return TaskEnd::Poisoned { root };
+    }
+    bodies.run(frame, inputs, outputs, scratch)
+}
+
+// Runs the frame that was claimed: its body, unless something that it reads is poison.
 fn run_one<B: Bodies>(
     table: &FrameTable,
     seat: &mut FrameSeat,
@@ -134,8 +164,8 @@ fn run_one<B: Bodies>(
     ensures deques { KeepsDeques hand.old hand.new }
     ensures fits { B.fits bodies.now scratch.new }
 {
-    table.read_windows(seat, inputs);
-    let end = bodies.run(frame, inputs, outputs, scratch);
+    let root = table.read_windows(seat, inputs);
+    let end = end_of(bodies, frame, root, inputs, outputs, scratch);
     settle(table, seat, outputs, frame, end, hand);
 }
 

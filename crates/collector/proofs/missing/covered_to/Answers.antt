@@ -9,16 +9,16 @@ overflow_add-result c =
     let small = producer_small c.args.layout.now l c.args.stream c.args.position c.in_ok-span.span (c.in_ok-span.ensures l.activations l.is_of) in
     omega (arith, small, c.from.ensures)
 
-pub returns-then-is_done : goal.returns-then-is_done
-returns-then-is_done c = λ activations of.
+pub returns-then-has_end : goal.returns-then-has_end
+returns-then-has_end c = λ activations of.
     subst (λ n. Reaches activations c.args.layout.now.input_len c.args.ends.now.ends c.args.stream c.args.position (Some (c.in_ok-span.span.first + n))) (sym c.from.ensures)
-    (reaches activations c.args.layout.now.input_len c.args.ends.now.ends c.args.stream c.args.position c.in_ok-span.span c.requires.produced (c.in_ok-span.ensures activations of) (sym c.is_done.ensures ∙ c.if-is_done.true))
+    (reaches activations c.args.layout.now.input_len c.args.ends.now.ends c.args.stream c.args.position c.in_ok-span.span c.requires.produced (c.in_ok-span.ensures activations of) (sym c.has_end.ensures ∙ c.if-has_end.true))
 
 pub returns-in_err-span : goal.returns-in_err-span
 returns-in_err-span c = λ activations of.
     subst (Reaches activations c.args.layout.now.input_len c.args.ends.now.ends c.args.stream c.args.position) (sym c.from_residual.ensures)
     (gap_by_nobody activations c.args.layout.now.input_len c.args.ends.now.ends c.args.stream c.args.position c.requires.produced (c.in_err-span.ensures activations of))
 
-pub returns-else-is_done : goal.returns-else-is_done
-returns-else-is_done c = λ activations of.
-    gap_by_producer activations c.args.layout.now.input_len c.args.ends.now.ends c.args.stream c.args.position c.in_ok-span.span c.requires.produced (c.in_ok-span.ensures activations of) (sym c.is_done.ensures ∙ c.if-is_done.false)
+pub returns-else-has_end : goal.returns-else-has_end
+returns-else-has_end c = λ activations of.
+    gap_by_producer activations c.args.layout.now.input_len c.args.ends.now.ends c.args.stream c.args.position c.in_ok-span.span c.requires.produced (c.in_ok-span.ensures activations of) (sym c.has_end.ensures ∙ c.if-has_end.false)

@@ -1,20 +1,24 @@
-use Rattle.std.proofs.Common.{◌∙◌, List, Option, ap, subst, sym}
+use Rattle.std.proofs.Common.{◌<◌, ◌∙◌, ℕ, List, All, subst, sym}
+use Rattle.flow_core_epochs.proofs.Carried.{has_all}
+use Rattle.flow_core_epochs.proofs.Frames.{open_each}
 use Rattle.flow_core_epochs.specs.Epoch.{LeaveOutWaiting, open_in}
-use Rattle.flow_core_laws.specs.declared.task_end.TaskEnd.{TaskEnd}
 use Rattle.stream_match_layouts.specs.Spans.{frame_count}
 use Rattle.epoch_run.proofs.epoch.run_open.Goals as goal
 
 pub ready_frames-requires-clause-readers : goal.ready_frames-requires-clause-readers
 ready_frames-requires-clause-readers g c =
-    c.as_slice-2.ensures ∙ c.in_ok-readers.ensures ∙ ap (λ (es : List (Option TaskEnd)). open_in es (frame_count c.args.layout.now)) (sym c.as_slice.ensures)
+    let es = c.args.held.now.ends.ends in
+    let n : ℕ = frame_count c.args.layout.now in
+    subst (λ (xs : List ℕ). All (λ a. a < n) xs) (sym (c.as_slice.ensures ∙ c.in_ok-readers.ensures))
+    (has_all (λ a. a < n) (open_in es n) (λ a h. let (f, at) = h in (open_each es n f a at).0))
 
 pub run_these-requires-clause-readers : goal.run_these-requires-clause-readers
-run_these-requires-clause-readers g c κs within = c.as_slice-3.ensures ∙ c.in_ok-readers.ensures
+run_these-requires-clause-readers g c κs within = c.as_slice-2.ensures ∙ c.in_ok-readers.ensures
 
 pub run_these-requires-clause-frames : goal.run_these-requires-clause-frames
 run_these-requires-clause-frames g c κs within =
     let o = c.requires.open in
     let activations = c.args.bodies.now.activations.now in
     let input = c.args.input.now in
-    subst (LeaveOutWaiting activations input c.args.held.now.ends.ends) (sym c.as_slice-4.ensures)
-    (subst (λ (es : List (Option TaskEnd)). LeaveOutWaiting activations input es c.in_ok-frames.frames) c.as_slice.ensures (c.in_ok-frames.ensures activations input o.laid (sym o.over)))
+    subst (LeaveOutWaiting activations input c.args.held.now.ends.ends) (sym c.as_slice-3.ensures)
+    (c.in_ok-frames.ensures activations input c.args.held.now.ends.ends o.laid (sym o.over) (c.as_slice.ensures ∙ c.in_ok-readers.ensures))

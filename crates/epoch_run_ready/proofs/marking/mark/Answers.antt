@@ -1,8 +1,10 @@
-use Rattle.std.proofs.Common.{◌<◌, ◌^◌, All, List, arith, length, subst, sym}
+use Rattle.std.proofs.Common.{◌<◌, ◌^◌, All, List, Some, ℕ, arith, get_or, length, subst, sym}
+use Rattle.std.proofs.lemmas.List.Elements.{All-get_or}
+use Rattle.std.proofs.lemmas.Option.{slice_get-get_or}
 use Rattle.flow_core_epochs.proofs.Carried.{has_all}
 use Rattle.stream_match.proofs.Behind.{span_small}
 use Rattle.stream_match.proofs.Lowering.{streams_exist}
-use Rattle.stream_match_layouts.specs.Spans.{spans_of}
+use Rattle.stream_match_layouts.specs.Spans.{frame_count, spans_of}
 use Rattle.stream_match_layouts.specs.declared.span.Span.{Span}
 use Rattle.epoch_run_ready.specs.Waiting.{HasWaitingSpan}
 use Rattle.epoch_run_ready.proofs.Marks.{mark_more}
@@ -11,17 +13,23 @@ use Rattle.epoch_run_ready.proofs.marking.mark.Goals as goal
 pub spans_wait-requires-clause-exist : goal.spans_wait-requires-clause-exist
 spans_wait-requires-clause-exist c =
     let layout = c.args.layout.now in
+    let a : ℕ = get_or c.args.readers.now c.args.number 0 in
+    let lt : a < frame_count layout = All-get_or (λ b. b < frame_count layout) c.args.readers.now c.args.number 0 c.requires.exists c.requires.readers in
     subst (λ (spans : List Span). All (λ (s : Span). s.stream < length layout.writers) spans) (sym c.spans_of-spans.ensures)
-    (streams_exist layout c.requires.layout c.args.activation c.requires.exists)
+    (streams_exist layout c.requires.layout a lt)
 
 pub spans_wait-requires-clause-small : goal.spans_wait-requires-clause-small
 spans_wait-requires-clause-small c =
     let layout = c.args.layout.now in
+    let a : ℕ = get_or c.args.readers.now c.args.number 0 in
+    let lt : a < frame_count layout = All-get_or (λ b. b < frame_count layout) c.args.readers.now c.args.number 0 c.requires.exists c.requires.readers in
     subst (λ (spans : List Span). All (λ (s : Span). s.first < 2 ^ 62) spans) (sym c.spans_of-spans.ensures)
-    (has_all (λ (s : Span). s.first < 2 ^ 62) (spans_of layout c.args.activation) (λ s h. span_small layout c.requires.layout c.args.activation s c.requires.exists h))
+    (has_all (λ (s : Span). s.first < 2 ^ 62) (spans_of layout a) (λ s h. span_small layout c.requires.layout a s lt h))
 
 pub returns-then-spans_wait : goal.returns-then-spans_wait
 returns-then-spans_wait c =
     let layout = c.args.layout.now in
-    mark_more layout c.args.ends.now c.args.waits.now c.args.activation (omega (arith, c.requires.waiting.one_each, c.requires.exists)) c.requires.has_none
-    (subst (HasWaitingSpan layout c.args.ends.now c.args.waits.now) c.spans_of-spans.ensures (c.spans_wait.ensures c.if-spans_wait.true)) c.requires.waiting
+    let a : ℕ = get_or c.args.readers.now c.args.number 0 in
+    let lt : a < frame_count layout = All-get_or (λ b. b < frame_count layout) c.args.readers.now c.args.number 0 c.requires.exists c.requires.readers in
+    mark_more layout c.args.readers.now c.args.waits.now c.args.number a (omega (arith, c.requires.waiting.one_each, lt)) (slice_get-get_or c.args.readers.now c.args.number 0 c.requires.exists)
+    (subst (HasWaitingSpan layout c.args.waits.now) c.spans_of-spans.ensures (c.spans_wait.ensures c.if-spans_wait.true)) c.requires.waiting

@@ -5,7 +5,7 @@ use Rattle.epoch_run_ready.proofs.marking.mark_back.Given as goal
 abbrev pub invariant-marking : goal.invariant-marking
 invariant-marking l = record {
   within : l.left ≤ length l.readers;
-  waiting : AreWaiting l.layout l.ends l.waits;
+  waiting : AreWaiting l.layout l.readers l.waits;
 }
 
 abbrev pub decreases-marking : goal.decreases-marking

@@ -1,6 +1,6 @@
 use Rattle.std.proofs.Common.{length, ◌∙◌, arith}
-use Rattle.flow_core_laws.specs.Element.{element}
-use Rattle.flow_core_laws.specs.Plans.{plan_reads, plan_meaning}
+use Rattle.flow_core_laws.specs.Poisoning.{poisoning}
+use Rattle.flow_core_laws.specs.Plans.{plan_reads, plan_element, plan_meaning}
 use Rattle.flow_core_laws.proofs.Rounds.{length-meaning}
 use Rattle.flow_core.proofs.Running.{IsRun-opening, all_ended, ends_meant, sink_meant, sink_fits}
 use Rattle.task_workers.proofs.by_rounds.execute_rounds.Goals as goal
@@ -17,7 +17,7 @@ returns-clause-ends g c =
     let outcome = g.B.Bodies.outcome c.args.bodies.now in
     let run = c.in_ok-run_rounds.ensures in
     let all = all_ended plan outcome c.run_rounds.new.board _ c.requires.sound run (omega arith) in
-    c.in_ok-ends.ensures.ends ∙ ends_meant plan (plan_meaning plan outcome) _ _ (length-meaning element (plan_reads plan) outcome (length plan.frames)) run.shows all
+    c.in_ok-ends.ensures.ends ∙ ends_meant plan (plan_meaning plan outcome) _ _ (length-meaning (plan_element plan) (plan_reads plan) (poisoning outcome) (length plan.frames)) run.shows all
 
 pub returns-clause-output : goal.returns-clause-output
 returns-clause-output g c =

@@ -21,14 +21,14 @@ overflow_add-piece-end c =
 pub give_one-requires-clause-may_deliver : goal.give_one-requires-clause-may_deliver
 give_one-requires-clause-may_deliver c =
     let t = c.args.table.now in
-    let done = c.requires.done in
+    let meant = c.requires.meant in
     let l = c.loop-piece.invariant in
     let e = place_of (known_of t).plan t.plan.now c.args.frame c.frame-place.result t.plan_is (c.frame-place.ensures ∙ ap (λ (p : Plan). frame_at p c.args.frame) c.plan.ensures) in
     let f : (frame_at (known_of t).plan c.args.frame).piece + (frame_at (known_of t).plan c.args.frame).pieces ≡ c.frame-place.result.piece + c.frame-place.result.pieces = ap (λ (f : FramePlan). f.piece + f.pieces) e in
     let n : length (known_of t).plan.frames ≡ length t.plan.now.frames = ap (λ (p : Plan). length p.frames) t.plan_is in
     let high = c.loop-piece-test.true in
-    let r = next_piece (known_of t) (view_of c.loop-piece.seat) c.args.frame c.loop-piece.piece done.0 t.fit (omega (arith, n, c.requires.exists)) l.5 (omega (arith, f, high)) done.1 done.2 l.1 in
-    (r.0, done.0, r.2, done.3)
+    let r = next_piece (known_of t) (view_of c.loop-piece.seat) c.args.frame c.loop-piece.piece meant.0 t.fit (omega (arith, n, c.requires.exists)) l.5 (omega (arith, f, high)) meant.1 l.1 in
+    (r.0, meant.0, r.2, meant.2, meant.3)
 
 pub loop-piece-preserved : goal.loop-piece-preserved
 loop-piece-preserved c =
