@@ -943,7 +943,7 @@ shows "tasks that wait" 1 "$(printf '%s / ' \
     "main trapped in line 21 after 10 activations: division by zero" "2 of 10 activations are done" "1 of 5 bytes of the output are there" \
     "activation 0, of the task in line 6, waits for element 0 of stream st, which it writes itself; likewise 2 more of this task" \
     "activation 4, of the task in line 11, waits for element 1 of stream s[1], which no task writes; likewise 2 more of this task" \
-    "activation 8, of the task in line 16, waits for element 0 of stream s[0] from activation 9, which used up its turns" \
+    "activation 8, of the task in line 16, never ran, since activation 9 failed" \
     "activation 9, of the task in line 18, used up its turns" | sed 's| / $||')" report waits.c in.bin
 shows "a program that is refused, and not run" 3 "refused 23 line 1" report empty.c in.bin
 shows "an input that is too long to be shown" 4 "too long input" report first.c long.bin

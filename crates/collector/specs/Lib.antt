@@ -7,6 +7,8 @@ pub mod Status
 -- The states whose output is written, and the laws.
 pub mod Reported
 pub mod Laws
+-- Three small runs that fail, written out.
+pub mod Runs
 -- What restates private functions: the search for what is missing, how a text goes through the line buffer.
 pub mod Walking
 pub mod Buffering

@@ -33,6 +33,13 @@ kept_poison es root lesser least now into after is now_is kept = record {
   values_are = λ none. let z : Some lesser ≡ None = sym now_is ∙ none in absurd (cc);
 }
 
+-- the same, by what was read
+pub kept_as_value : (es : List Elem) (e : Elem) (v : ℤ) (least now : Option ℕ) (into after : List ℤ) (place : ℕ) → e ≡ Value v → place < length into → now ≡ least → after ≡ set into place v → length es ≡ place → AreKept es least into → AreKept (es ++ e ∷ []) now after
+kept_as_value es e v least now into after place is lt now_is after_is long kept = subst (λ (x : Elem). AreKept (es ++ x ∷ []) now after) (sym is) (kept_value es v least now into after place lt now_is after_is long kept)
+
+pub kept_as_poison : (es : List Elem) (e : Elem) (root lesser : ℕ) (least now : Option ℕ) (into after : List ℤ) → e ≡ Poison root → lesser ≡ option_map_or (λ (before : ℕ). min before root) least root → now ≡ Some lesser → after ≡ into → AreKept es least into → AreKept (es ++ e ∷ []) now after
+kept_as_poison es e root lesser least now into after is lesser_is now_is after_is kept = subst (λ (x : Elem). AreKept (es ++ x ∷ []) now after) (sym is) (subst (λ (xs : List ℤ). AreKept (es ++ Poison root ∷ []) now xs) (sym after_is) (kept_poison es root lesser least now into into lesser_is now_is kept))
+
 -- the first cells were read
 pub record ReadSoFar (known : Known) (first k : ℕ) (least : Option ℕ) (into : List ℤ) : Type 0 where
   pub elements : List Elem

@@ -67,14 +67,14 @@ module _ (layout : Layout) (is : IsLayout layout) (frames : List ℕ) (are : Are
     pub pieces_from_frames : (pieces : List Piece) → pieces ≡ flat_map (pieces_for layout frames) reads ++ flat_map (pieces_for layout frames) leaves → All (λ (p : Piece). p.from < length frames) pieces
     pieces_from_frames pieces made = subst (All (λ (p : Piece). p.from < length frames)) (sym (pieces_made pieces made)) (from_frames layout input frames kept sink)
 
-    pub plan_made : (cells : List (Option Elem)) (pieces : List Piece) (plans : List FramePlan) (placed : List Piece) (inputs wait piece : ℕ)
+    pub plan_made : (cells : List (Option Elem)) (pieces : List Piece) (plans : List FramePlan) (placed : List Piece) (numbers : List ℕ) (inputs wait piece : ℕ)
         → cells ≡ flat_map (filled_cells input kept) reads ++ flat_map (filled_cells input kept) leaves
         → pieces ≡ flat_map (pieces_for layout frames) reads ++ flat_map (pieces_for layout frames) leaves
         → plans ≡ map (epoch_frame layout frames pieces cells) (range_with_len 0 (length frames))
-        → placed ≡ by_frame pieces (length frames)
+        → placed ≡ by_frame pieces (length frames) → numbers ≡ frames
         → inputs ≡ end - next → wait ≡ count_by is_none (take (end - next) (drop next cells)) → piece ≡ length pieces
-        → IsWoven layout (weave_over layout input frames (map kept_of kept) sink) (record { frames = plans; sink = record { cell = next; inputs = inputs; outputs = 0; wait = wait; piece = piece; pieces = 0 }; pieces = placed; filled = cells })
-    plan_made cells pieces plans placed inputs wait piece cells_raw pieces_raw plans_are placed_are inputs_is wait_is piece_is =
+        → IsWoven layout (weave_over layout input frames (map kept_of kept) sink) (record { frames = plans; sink = record { cell = next; inputs = inputs; outputs = 0; wait = wait; piece = piece; pieces = 0 }; pieces = placed; filled = cells; numbers = numbers })
+    plan_made cells pieces plans placed numbers inputs wait piece cells_raw pieces_raw plans_are placed_are numbers_are inputs_is wait_is piece_is =
         let w : Weave = weave_over layout input frames (map kept_of kept) sink in
         let n = length frames in
         let all = pieces_made pieces pieces_raw in
@@ -92,6 +92,7 @@ module _ (layout : Layout) (is : IsLayout layout) (frames : List ℕ) (are : Are
               ∙ ap (λ k. record { cell = length (cells_of_first w n); inputs = total (reaches_over layout frames sink n); outputs = 0; wait = count_by is_none (frame_cells w n); piece = k; pieces = 0 }) placed_all;
           pieces = placed_are ∙ ap (λ xs. by_frame xs n) all;
           filled = filled;
+          numbers = numbers_are;
         }
 
   pub pieces_are_few : (pieces : List Piece) → pieces ≡ flat_map (pieces_for layout frames) reads ++ flat_map (pieces_for layout frames) leaves → length pieces ≤ 4194304

@@ -1,9 +1,9 @@
 -- The plan of an epoch stands for it.
-use Rattle.std.proofs.Common.{◌≡◌, ℕ, pos, ◌+◌, ◌-◌, ◌<◌, ◌≤◌, Bool, true, false, cond, List, [], ◌∷◌, ◌++◌, Option, Some, None, length, take, map, get_or, refl, sym, ap, ◌∙◌, subst, arith}
-use Rattle.std.specs.Prelude.{All, slice_get, sum_by, filter, not, option_and_then, ◌==◌}
+use Rattle.std.proofs.Common.{◌≡◌, ℕ, pos, ◌+◌, ◌-◌, ◌<◌, ◌≤◌, Bool, true, false, cond, List, [], ◌∷◌, ◌++◌, Option, Some, None, length, take, map, get_or, refl, sym, ap, ◌∙◌, subst, arith, zero, suc, ◌||◌, inl, inr, zero-add}
+use Rattle.std.specs.Prelude.{All, slice_get, sum_by, filter, not, option_and_then, ◌==◌, nat_le}
 use Rattle.std.specs.Option.{option_map, option_map_or}
 use Rattle.std.specs.List.{flat_map, range_with_len}
-use Rattle.std.proofs.lemmas.Bool.{eqb-true}
+use Rattle.std.proofs.lemmas.Bool.{eqb-true, cases_lt, le-leb}
 use Rattle.std.proofs.lemmas.List.Quantifiers.{position-Some}
 use Rattle.std.proofs.lemmas.Option.{slice_get_within, get_or_from_slice_get, same_Some}
 use Rattle.flow_core_laws.specs.declared.claim.Claim.{Claim}
@@ -13,7 +13,7 @@ use Rattle.flow_core_laws.specs.Window.{Window, windows, windows_of, is_written_
 use Rattle.flow_core_laws.specs.Place.{Place, places_from, places_of, input_places}
 use Rattle.flow_core_laws.specs.Streams.{output_count, input_source, produced_source, stream_source}
 use Rattle.flow_core_laws.proofs.Windows.{written, producer_by_number, claims_at-slice_get}
-use Rattle.flow_core_epochs.specs.Epoch.{number_in, read_from, leaving_places, Kept, value_kept, among, epoch_source, StandsForEpoch}
+use Rattle.flow_core_epochs.specs.Epoch.{number_in, read_from, Kept, value_kept, among, epoch_source, StandsForEpoch, written_places}
 use Rattle.flow_core_laws.specs.declared.plan.Plan.{Plan}
 use Rattle.flow_core_laws.specs.Element.{given, fed, nobody}
 use Rattle.flow_core_laws.specs.Plans.{frame_at, cell_source, plan_reads}
@@ -23,21 +23,22 @@ use Rattle.stream_match_layouts.specs.declared.span.Span.{Span}
 use Rattle.stream_match_layouts.specs.declared.layout.Layout.{Layout}
 use Rattle.stream_match_layouts.specs.Layout.{span_of, IsLayout, IsLayoutOf}
 use Rattle.stream_match_layouts.specs.Writers.{writer_at, end_of}
-use Rattle.stream_match_layouts.specs.Spans.{spans_of, read_count, write_count}
+use Rattle.stream_match_layouts.specs.Spans.{spans_of, read_count, write_count, frame_count}
 use Rattle.stream_match_layouts.proofs.Windows.{no_window}
 use Rattle.stream_match_layouts.proofs.Writers.{window_number, there, stands, writer_is, found, number_at}
 use Rattle.stream_match_layouts.proofs.Tallies.{frame_count-is}
 use Rattle.stream_match_layouts.proofs.FrameSpans.{spans_of-windows, outputs-are, no_input_writer}
 use Rattle.stream_match.specs.Weave.{Reach, reach_places, total, Weave, cells_of_first, reach_at, IsWoven, WritesAt, CanWeave}
 use Rattle.stream_match.specs.EpochPlan.{reaches_over, AreFrames, read_reach, leaves_from, staying, leaving_reach, leaving_reaches, opening_element, weave_over, WrittenOutside, epoch_opening, epoch_weave, IsEpochPlanOf}
-use Rattle.stream_match.proofs.EpochWeave.{over_frame, leaving_exist, leaving_fits, in_frames, reaches-frame, reaches-sink, stream_exists, produces, can_weave_over}
+use Rattle.stream_match.proofs.EpochWeave.{over_frame, leaving_exist, leaving_fits, in_frames, reaches-frame, reaches-sink, stream_exists, produces, can_weave_over, span_stream}
 use Rattle.stream_match.proofs.Weaving.{length-frames, frame_at-frame}
 use Rattle.stream_match.proofs.WovenSources.{given_by, fed_by, nobody_by, woven_reads}
-use Rattle.stream_match.specs.Weave as value_weave
-use Rattle.stream_match.specs.EpochPlan as value_plan
-use Rattle.stream_match.proofs.EpochStands as values
-use Rattle.flow_core_laws.specs.declared.plan.Plan as value_types
-use Rattle.stream_match.specs.Stretch.{by_frame}
+use Rattle.std.proofs.lemmas.Bool.Decides.{nat_tests}
+use Rattle.std.proofs.lemmas.Grind.{flat_map-append}
+use Rattle.std.proofs.lemmas.List.Elements.{filter-append}
+use Rattle.std.proofs.lemmas.List.FromFn.{get_or-map-range_with_len}
+use Rattle.flow_core_epochs.proofs.Members.{Has, has_head, has_tail, in_map}
+
 
 -- ---- the sources of cells
 
@@ -140,18 +141,88 @@ read_places (w ∷ ws) = by_kind w.claim.write (read_places ws)
     by_kind true rest = rest
     by_kind false rest = ap (λ xs. places_of w ++ xs) rest
 
--- what leaves the frames, as the plan says in which nothing is kept and no input is there
-left_places : (layout : Layout) (is : IsLayout layout) (activations : List Activation) (of : IsLayoutOf layout activations) (readers frames cursors : List ℕ) (are : AreFrames layout frames) → cursors ≡ map (read_from activations readers) (range_with_len 0 (length layout.writers)) → flat_map reach_places (leaving_reaches layout frames cursors) ≡ leaving_places activations readers frames
-left_places layout is activations of readers frames cursors are cursors_are =
-    (values.epoch_stands layout is activations of [] readers frames [] cursors are (λ k d lt. absurd (omega arith)) cursors_are plan (flat_map reach_places (leaving_reaches layout frames cursors)) (record { woven = record { frames = refl; sink = refl; pieces = refl; filled = refl }; places_are = refl })).places_leave
+-- the positions of a stretch from one on
+from_on : (low first n : ℕ) → filter (λ p. nat_le low p) (range_with_len first n) ≡ range_with_len (first + (low - first)) (n - (low - first))
+from_on low first zero = ap (range_with_len (first + (low - first))) (let e : 0 ≡ 0 - (low - first) = omega arith in e)
+from_on low first (suc n) = elim (cases_lt first low) [
+  | inl less ↦ ap (λ b. cond b (first ∷ filter (λ p. nat_le low p) (range_with_len (first + 1) n)) (filter (λ p. nat_le low p) (range_with_len (first + 1) n))) (no_le less)
+      ∙ from_on low (first + 1) n
+      ∙ ap (λ k. range_with_len k (n - (low - (first + 1)))) (let e : first + 1 + (low - (first + 1)) ≡ first + (low - first) = omega arith in e)
+      ∙ ap (range_with_len (first + (low - first))) (let e : n - (low - (first + 1)) ≡ suc n - (low - first) = omega arith in e)
+  | inr more ↦ ap (λ b. cond b (first ∷ filter (λ p. nat_le low p) (range_with_len (first + 1) n)) (filter (λ p. nat_le low p) (range_with_len (first + 1) n))) (le-leb low first more)
+      ∙ ap (λ xs. first ∷ xs) (from_on low (first + 1) n
+      ∙ ap (λ k. range_with_len k (n - (low - (first + 1)))) (let e : first + 1 + (low - (first + 1)) ≡ first + 1 = omega arith in e)
+      ∙ ap (range_with_len (first + 1)) (let e : n - (low - (first + 1)) ≡ n = omega arith in e))
+      ∙ ap (λ k. range_with_len k (suc n)) (let e : first ≡ first + (low - first) = omega arith in e)
+      ∙ ap (range_with_len (first + (low - first))) (let e : suc n ≡ suc n - (low - first) = omega arith in e)
+]
   where
-    plan : value_types.Plan
-    plan = record {
-      frames = map (value_weave.woven_frame layout (value_plan.epoch_weave layout [] frames [] cursors)) (range_with_len 0 (length frames));
-      sink = value_weave.woven_sink layout (value_plan.epoch_weave layout [] frames [] cursors);
-      pieces = by_frame (value_weave.woven_pieces layout (value_plan.epoch_weave layout [] frames [] cursors)) (length frames);
-      filled = value_weave.cells_of_first (value_plan.epoch_weave layout [] frames [] cursors) (length frames + 1);
-    }
+    no_le : first < low → nat_le low first ≡ false
+    no_le less = grind (arith, nat_tests)
+
+-- ---- what leaves
+
+filter-map : {A B : Type 0} (test : B → Bool) (f : A → B) (xs : List A) → filter test (map f xs) ≡ map f (filter (λ x. test (f x)) xs)
+filter-map test f [] = refl
+filter-map test f (x ∷ xs) = at (test (f x)) (filter-map test f xs)
+  where
+    at : (b : Bool) → filter test (map f xs) ≡ map f (filter (λ y. test (f y)) xs) → cond b (f x ∷ filter test (map f xs)) (filter test (map f xs)) ≡ map f (cond b (x ∷ filter (λ y. test (f y)) xs) (filter (λ y. test (f y)) xs))
+    at true rest = ap (λ ys. f x ∷ ys) rest
+    at false rest = rest
+
+filter-same : {A : Type 0} (p q : A → Bool) (xs : List A) → ((x : A) → p x ≡ q x) → filter p xs ≡ filter q xs
+filter-same p q [] same = refl
+filter-same p q (x ∷ xs) same = ap (λ b. cond b (x ∷ filter p xs) (filter p xs)) (same x) ∙ ap (λ ys. cond (q x) (x ∷ ys) ys) (filter-same p q xs same)
+
+module _ (layout : Layout) (is : IsLayout layout) (activations : List Activation) (of : IsLayoutOf layout activations) (frames : List ℕ) (cursors : List ℕ) (cursors_are : cursors ≡ map (read_from activations frames) (range_with_len 0 (length layout.writers))) where
+  -- whether a place leaves
+  abbrev leaves : Place → Bool
+  leaves p = p.stream == 1 || nat_le (read_from activations frames p.stream) p.position
+
+  test_is : (stream position : ℕ) → stream < length layout.writers → nat_le (leaves_from cursors stream) position ≡ (stream == 1 || nat_le (read_from activations frames stream) position)
+  test_is stream position lt = by_output (stream == 1)
+    where
+      cursor : get_or cursors stream 0 ≡ read_from activations frames stream
+      cursor = ap (λ xs. get_or xs stream 0) cursors_are ∙ get_or-map-range_with_len (read_from activations frames) 0 (length layout.writers) stream stream 0 lt (zero-add stream)
+
+      by_output : (b : Bool) → nat_le (cond {A = ℕ} b 0 (get_or cursors stream 0)) position ≡ (b || nat_le (read_from activations frames stream) position)
+      by_output true = le-leb 0 position (omega arith)
+      by_output false = ap (λ n. nat_le n position) cursor
+
+  window_leaves : (w : Window) → w.claim.stream < length layout.writers → places_from w.claim.stream (w.first + staying cursors (span_of w)) (w.claim.horizon - staying cursors (span_of w)) ≡ filter (λ (p : Place). p.stream == 1 || nat_le (read_from activations frames p.stream) p.position) (places_of w)
+  window_leaves w lt =
+      let stream = w.claim.stream in
+      let g : ℕ → Place = λ position. record { stream = w.claim.stream; position = position } in
+      ap (map g) (sym (from_on (leaves_from cursors stream) w.first w.claim.horizon) ∙ filter-same (λ p. nat_le (leaves_from cursors stream) p) (λ p. stream == 1 || nat_le (read_from activations frames stream) p) (range_with_len w.first w.claim.horizon) (λ p. test_is stream p lt))
+      ∙ sym (filter-map (λ (p : Place). p.stream == 1 || nat_le (read_from activations frames p.stream) p.position) g (range_with_len w.first w.claim.horizon))
+
+  windows_leave : (ws : List Window) → ((w : Window) → Has ws w → w.claim.stream < length layout.writers)
+      → flat_map reach_places (map (leaving_reach cursors) (map span_of ws)) ≡ filter (λ (p : Place). p.stream == 1 || nat_le (read_from activations frames p.stream) p.position) (flat_map places_of (filter (λ (w : Window). w.claim.write) ws))
+  windows_leave [] exist = refl
+  windows_leave (w ∷ ws) exist = by_kind w.claim.write (windows_leave ws (λ v h. exist v (has_tail w ws v h)))
+    where
+      by_kind : (b : Bool) → flat_map reach_places (map (leaving_reach cursors) (map span_of ws)) ≡ filter (λ (p : Place). p.stream == 1 || nat_le (read_from activations frames p.stream) p.position) (flat_map places_of (filter (λ (v : Window). v.claim.write) ws))
+          → places_from w.claim.stream (w.first + staying cursors (span_of w)) (cond {A = ℕ} b w.claim.horizon 0 - staying cursors (span_of w)) ++ flat_map reach_places (map (leaving_reach cursors) (map span_of ws))
+          ≡ filter (λ (p : Place). p.stream == 1 || nat_le (read_from activations frames p.stream) p.position) (flat_map places_of (cond b (w ∷ filter (λ (v : Window). v.claim.write) ws) (filter (λ (v : Window). v.claim.write) ws)))
+      by_kind true rest =
+          ap (λ xs. xs ++ flat_map reach_places (map (leaving_reach cursors) (map span_of ws))) (window_leaves w (exist w (has_head w ws)))
+          ∙ ap (λ xs. filter (λ (p : Place). p.stream == 1 || nat_le (read_from activations frames p.stream) p.position) (places_of w) ++ xs) rest
+          ∙ sym (filter-append (λ (p : Place). p.stream == 1 || nat_le (read_from activations frames p.stream) p.position) (places_of w) (flat_map places_of (filter (λ (v : Window). v.claim.write) ws)))
+      by_kind false rest =
+          ap (λ n. places_from w.claim.stream (w.first + staying cursors (span_of w)) n ++ flat_map reach_places (map (leaving_reach cursors) (map span_of ws))) (let e : 0 - staying cursors (span_of w) ≡ 0 = omega arith in e)
+          ∙ rest
+
+  frames_leave : (xs : List ℕ) → ((a : ℕ) → Has xs a → a < frame_count layout) → flat_map reach_places (leaving_reaches layout xs cursors) ≡ filter (λ (p : Place). p.stream == 1 || nat_le (read_from activations frames p.stream) p.position) (flat_map (written_places activations) xs)
+  frames_leave [] exist = refl
+  frames_leave (x ∷ xs) exist =
+      let lt = exist x (has_head x xs) in
+      let in_acts : x < length activations = omega (arith, frame_count-is layout activations of) in
+      let spans = spans_of-windows layout activations of x in_acts in
+      flat_map-append reach_places (map (leaving_reach cursors) (spans_of layout x)) (leaving_reaches layout xs cursors)
+      ∙ ap (λ ys. flat_map reach_places (map (leaving_reach cursors) ys) ++ flat_map reach_places (leaving_reaches layout xs cursors)) spans
+      ∙ ap (λ ys. ys ++ flat_map reach_places (leaving_reaches layout xs cursors)) (windows_leave (windows_of activations x) (λ w h. span_stream layout is x (span_of w) lt (subst (λ ys. Has ys (span_of w)) (sym spans) (in_map span_of (windows_of activations x) w h))))
+      ∙ ap (λ ys. filter (λ (p : Place). p.stream == 1 || nat_le (read_from activations frames p.stream) p.position) (written_places activations x) ++ ys) (frames_leave xs (λ a h. exist a (has_tail x xs a h)))
+      ∙ sym (filter-append (λ (p : Place). p.stream == 1 || nat_le (read_from activations frames p.stream) p.position) (written_places activations x) (flat_map (written_places activations) xs))
 
 -- ---- the whole
 
@@ -188,7 +259,7 @@ module _ (layout : Layout) (is : IsLayout layout) (activations : List Activation
     numbers_are_theirs = laid.woven.numbers;
     outputs_are_written = outputs_written layout is activations of input frames kept (leaving_reaches layout frames cursors) (leaving_exist layout is frames cursors are) (leaving_fits layout is frames cursors are) are outside plan laid.woven;
     cells_are_window_elements = reads_frame layout is activations of input frames kept (leaving_reaches layout frames cursors) (leaving_exist layout is frames cursors are) (leaving_fits layout is frames cursors are) are outside plan laid.woven;
-    places_leave = laid.places_are ∙ left_places layout is activations of readers frames cursors are cursors_are;
+    places_leave = laid.places_are ∙ frames_leave layout is activations of readers cursors cursors_are frames (λ a h. in_frames layout is activations of input frames kept (leaving_reaches layout frames cursors) (leaving_exist layout is frames cursors are) (leaving_fits layout is frames cursors are) are outside a h);
     sink_is_places =
         reads_over layout is activations of input frames kept (leaving_reaches layout frames cursors) (leaving_exist layout is frames cursors are) (leaving_fits layout is frames cursors are) are outside plan laid.woven (length frames) (omega arith)
         ∙ ap (λ rs. map (epoch_source activations input frames kept) (flat_map reach_places rs)) (reaches-sink layout is activations of input frames kept (leaving_reaches layout frames cursors) (leaving_exist layout is frames cursors are) (leaving_fits layout is frames cursors are) are outside)

@@ -31,6 +31,7 @@ stands_same plan activations input readers frames one other places same s =
     let source : (p : Place) → epoch_source activations input frames one p ≡ epoch_source activations input frames other p = λ p. ap (λ o. option_map_or given o (among frames (stream_source activations input p))) (same p) in
     record {
       frames_are_these = s.frames_are_these;
+      numbers_are_theirs = s.numbers_are_theirs;
       outputs_are_written = s.outputs_are_written;
       cells_are_window_elements = λ f a h. s.cells_are_window_elements f a h ∙ map-same (epoch_source activations input frames one) (epoch_source activations input frames other) (input_places activations a) source;
       places_leave = s.places_leave;

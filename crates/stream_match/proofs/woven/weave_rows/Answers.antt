@@ -149,10 +149,11 @@ returns c = λ sink can is_left.
     let is = c.requires.layout in
     let frames = c.args.frames.now in
     let rows = rows_of layout frames sink c.args.read.now c.args.left.now c.as_slice-reads.result.now c.as_slice-leaves.result.now c.requires.read is_left c.as_slice-reads.ensures c.as_slice-leaves.ensures in
-    plan_made layout is frames c.requires.frames sink can c.as_slice-reads.result.now c.as_slice-leaves.result.now c.args.read.now.next c.args.left.now.next rows c.args.input.now c.args.kept.now c.in_ok-filled.filled c.in_ok-pieces.pieces c.in_ok-plans.plans c.in_ok-placed.placed (c.args.left.now.next - c.args.read.now.next) c.empty.result c.len.result
+    plan_made layout is frames c.requires.frames sink can c.as_slice-reads.result.now c.as_slice-leaves.result.now c.args.read.now.next c.args.left.now.next rows c.args.input.now c.args.kept.now c.in_ok-filled.filled c.in_ok-pieces.pieces c.in_ok-plans.plans c.in_ok-placed.placed c.in_ok-numbers.numbers (c.args.left.now.next - c.args.read.now.next) c.empty.result c.len.result
     c.in_ok-filled.ensures c.in_ok-pieces.ensures
     (c.in_ok-plans.ensures ∙ ap (λ ps. map (epoch_frame layout frames ps c.as_slice-2.result.now) (range_with_len 0 (length frames))) c.as_slice.ensures ∙ ap (λ cs. map (epoch_frame layout frames c.in_ok-pieces.pieces cs) (range_with_len 0 (length frames))) c.as_slice-2.ensures)
     (c.in_ok-placed.ensures ∙ ap (λ n. by_frame c.as_slice-3.result.now n) (plans_count c.as_slice-4.result.now layout frames c.as_slice.result.now c.as_slice-2.result.now (c.as_slice-4.ensures ∙ c.in_ok-plans.ensures)) ∙ ap (λ ps. by_frame ps (length frames)) c.as_slice-3.ensures)
+    c.in_ok-numbers.ensures
     refl
     (c.empty.ensures ∙ ap (count_by is_none) c.between.ensures ∙ ap (λ cs. count_by is_none (take (c.args.left.now.next - c.args.read.now.next) (drop c.args.read.now.next cs))) c.as_slice-5.ensures)
     c.len.ensures
