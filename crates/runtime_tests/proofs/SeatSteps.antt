@@ -59,6 +59,7 @@ serves = record {
   takes_each = λ f few. tt;
   fills_outputs = λ f inputs few same done. gives_all f inputs few same;
   traps_have_codes = λ f inputs code line few same traps. let done = is_done f inputs few in absurd (cc (done, traps));
+  are_never_poisoned = λ f inputs root few same poisoned. let done = is_done f inputs few in absurd (cc (done, poisoned));
 }
 
 -- what is known of a table that was opened for this plan with one seat

@@ -3,8 +3,10 @@
 ghost use Rattle.std.specs.Prelude.{◌≡◌, All, true};
 ghost use Rattle.collector.specs.Written.{IsByteIfThere};
 
-/// Whether the elements that are there are bytes.
-pub(crate) fn are_bytes(elements: &[Option<i32>]) -> bool
+use flow_core::Elem;
+
+/// Whether the elements that are values are bytes.
+pub(crate) fn are_bytes(elements: &[Option<Elem>]) -> bool
     ensures { result ≡ true → All IsByteIfThere elements.now }
 {
     for element in elements {
@@ -15,12 +17,12 @@ pub(crate) fn are_bytes(elements: &[Option<i32>]) -> bool
     true
 }
 
-/// Whether an element is a byte where it is there.
-fn is_byte(element: Option<i32>) -> bool
+/// Whether an element is a byte where it is a value.
+fn is_byte(element: Option<Elem>) -> bool
     ensures { result ≡ true → IsByteIfThere element }
 {
     match element {
-        Some(value) => 0 <= value && value <= 255,
-        None => true,
+        Some(Elem::Value(value)) => 0 <= value && value <= 255,
+        Some(Elem::Poison(_)) | None => true,
     }
 }

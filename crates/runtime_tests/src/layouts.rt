@@ -6,6 +6,7 @@ mod worked;
 mod writers;
 
 use crate::activations::activations_of;
+use crate::elements::are_values;
 use crate::lawful::lawful_layout;
 use flow_core::{Claim, FramePlan, Piece, Plan};
 use std::process::Abort;
@@ -72,11 +73,15 @@ impl<'a> Case<'a> {
         assert!(rt; plan.frames.as_slice() == self.frames);
         assert!(rt; plan.sink == self.sink);
         assert!(rt; plan.pieces.as_slice() == self.pieces);
+        assert!(rt; plan.numbers.len() == self.frames.len());
+        for (frame, number) in plan.numbers.as_slice().iter().enumerate() {
+            assert!(rt; *number as usize == frame);
+        }
         assert!(rt; self.empty <= 4_194_304);
         let count = plan.filled.len();
         assert!(rt; count.checked_sub(self.empty) == Some(self.filled.len()));
         let (front, behind) = plan.filled.as_slice().split_at(count - self.empty);
-        assert!(rt; front == self.filled);
+        assert!(rt; are_values(front, self.filled));
         assert!(rt; behind.iter().all(|cell| cell.is_none()));
         Ok(())
     }

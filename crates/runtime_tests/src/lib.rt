@@ -10,6 +10,8 @@ mod activations;
 #[cfg(test)]
 mod bytes;
 #[cfg(test)]
+mod elements;
+#[cfg(test)]
 mod hands;
 #[cfg(test)]
 mod lawful;

@@ -6,7 +6,7 @@ ghost use Rattle.runtime_tests.specs.OneSeat.{IsAfter};
 
 use crate::literals::{frame, piece};
 use crate::plans::plan_of;
-use flow_core::{Bodies, TaskEnd};
+use flow_core::{Bodies, Elem, TaskEnd};
 use frame_table::{FrameSeat, FrameTable};
 use os_io::Memory;
 use std::alloc::Global;
@@ -83,7 +83,7 @@ fn gives_to_the_reader(rt: &impl Abort, table: &FrameTable, seat: &mut FrameSeat
     requires { IsAfter table.now seat.old 3 }
     ensures { IsAfter table.now seat.new 6 }
 {
-    assert!(rt; table.deliver(seat, &[41], 1));
+    assert!(rt; table.deliver(seat, TaskEnd::Done, &[41], 1));
     table.finish(seat, TaskEnd::Done);
 }
 
@@ -94,7 +94,7 @@ fn reads_what_was_given(rt: &impl Abort, table: &FrameTable, seat: &mut FrameSea
 {
     assert!(rt; table.claim(seat, 0));
     let mut read = [0];
-    table.read_windows(seat, &mut read);
+    assert!(rt; table.read_windows(seat, &mut read) == None);
     assert!(rt; read == [41]);
 }
 
@@ -103,7 +103,7 @@ fn gives_to_the_sink(rt: &impl Abort, table: &FrameTable, seat: &mut FrameSeat)
     requires { IsAfter table.now seat.old 8 }
     ensures { IsAfter table.now seat.new 11 }
 {
-    assert!(rt; table.deliver(seat, &[42], 0));
+    assert!(rt; table.deliver(seat, TaskEnd::Done, &[42], 0));
     table.finish(seat, TaskEnd::Done);
 }
 
@@ -125,6 +125,6 @@ fn leaves_ends_and_elements(rt: &impl Abort, table: FrameTable<'_>, seat: FrameS
     assert!(rt; closed.end(0) == Some(TaskEnd::Done));
     assert!(rt; closed.end(1) == Some(TaskEnd::Done));
     assert!(rt; closed.end(2) == None);
-    assert!(rt; closed.cell(0) == Some(41));
-    assert!(rt; closed.cell(1) == Some(42));
+    assert!(rt; closed.cell(0) == Some(Elem::Value(41)));
+    assert!(rt; closed.cell(1) == Some(Elem::Value(42)));
 }

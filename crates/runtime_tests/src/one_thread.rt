@@ -5,9 +5,10 @@ ghost use Rattle.std.specs.Prelude.{if◌then◌else◌, length, slice_index_or}
 ghost use Rattle.flow_core_laws.specs.declared.task_end.TaskEnd.TheVariants.{Done};
 ghost use Rattle.flow_core_laws.specs.Outcome.{outcome_of};
 
+use crate::elements::are_values;
 use crate::literals::{frame, piece};
 use crate::plans::plan_of;
-use flow_core::{Bodies, TaskEnd, execute_one};
+use flow_core::{Bodies, Elem, TaskEnd, execute_one};
 use os_io::Memory;
 use std::alloc::Global;
 use std::test::Fail;
@@ -80,7 +81,7 @@ fn copies_overlapping_windows(rt: HostRuntime) -> Result<(), Fail> {
         },
     )?;
     assert!(rt; ends.ends.as_slice() == [Some(TaskEnd::Done), Some(TaskEnd::Done)].as_slice());
-    assert!(rt; ends.output.as_slice() == [Some(3), Some(6), Some(6), Some(9)].as_slice());
+    assert!(rt; are_values(ends.output.as_slice(), &[Some(3), Some(6), Some(6), Some(9)]));
     Ok(())
 }
 
@@ -118,7 +119,7 @@ fn runs_readers_created_before_their_writers(rt: HostRuntime) -> Result<(), Fail
             ]
             .as_slice()
     );
-    assert!(rt; ends.output.as_slice() == [Some(41)].as_slice());
+    assert!(rt; are_values(ends.output.as_slice(), &[Some(41)]));
     Ok(())
 }
 
@@ -148,13 +149,13 @@ fn starves_cycles(rt: HostRuntime) -> Result<(), Fail> {
         },
     )?;
     assert!(rt; ends.ends.as_slice() == [None, None, None].as_slice());
-    assert!(rt; ends.output.as_slice() == [None].as_slice());
+    assert!(rt; are_values(ends.output.as_slice(), &[None]));
     Ok(())
 }
 
-/// A trapped frame and one over budget write nothing, and a reader of theirs is starved.
+/// A trapped frame and one over budget poison what they should have written, and a reader of theirs hands the poison on.
 #[test]
-fn leaves_holes_where_frames_trap_or_run_over_budget(rt: HostRuntime) -> Result<(), Fail> {
+fn leaves_poison_where_frames_trap_or_run_over_budget(rt: HostRuntime) -> Result<(), Fail> {
     let plan = plan_of(
         rt.alloc(),
         &[
@@ -206,11 +207,21 @@ fn leaves_holes_where_frames_trap_or_run_over_budget(rt: HostRuntime) -> Result<
                 Some(TaskEnd::Done),
                 Some(TaskEnd::Trapped { code: 2, line: 6 }),
                 Some(TaskEnd::OverBudget),
-                None,
+                Some(TaskEnd::Poisoned { root: 2 }),
                 Some(TaskEnd::Done)
             ]
             .as_slice()
     );
-    assert!(rt; ends.output.as_slice() == [Some(50), None, None, None, Some(41)].as_slice());
+    assert!(rt;
+        ends.output.as_slice()
+            == [
+                Some(Elem::Value(50)),
+                Some(Elem::Poison(1)),
+                Some(Elem::Poison(2)),
+                Some(Elem::Poison(2)),
+                Some(Elem::Value(41))
+            ]
+            .as_slice()
+    );
     Ok(())
 }

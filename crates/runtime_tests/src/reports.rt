@@ -12,7 +12,7 @@ use crate::bytes::are_bytes;
 use crate::lawful::lawful_layout;
 use crate::lists::list_of;
 use collector::{output_bytes, report_lines};
-use flow_core::{Claim, ControlEnd, Ends, TaskEnd};
+use flow_core::{Claim, ControlEnd, Elem, Ends, TaskEnd};
 use os_io::{MemSink, Memory, WriteError};
 use std::alloc::Global;
 use std::process::Abort;
@@ -27,7 +27,7 @@ struct Case<'a> {
     /// The claims of each activation.
     tasks: &'a [&'a [Claim]],
     ends: &'a [Option<TaskEnd>],
-    output: &'a [Option<i32>],
+    output: &'a [Option<Elem>],
     control: ControlEnd,
 }
 

@@ -9,7 +9,7 @@ mod stealing;
 
 use crate::lawful::lawful_layout;
 use crate::rounds::lasts::Lasts;
-use flow_core::{Activation, Claim, Ends, Plan, TaskEnd, execute_one};
+use flow_core::{Activation, Claim, Elem, Ends, Plan, TaskEnd, execute_one};
 use os_io::{List, Memory};
 use std::alloc::Global;
 use std::process::Abort;
@@ -47,8 +47,9 @@ struct Case<'a> {
     done: u32,
     trapped: u32,
     over_budget: u32,
+    poisoned: u32,
     output: usize,
-    elements: &'a [(usize, Option<i32>)],
+    elements: &'a [(usize, Option<Elem>)],
 }
 
 const CASES: [Case<'static>; 8] = [
@@ -60,8 +61,9 @@ const CASES: [Case<'static>; 8] = [
         done: 3998,
         trapped: 0,
         over_budget: 0,
+        poisoned: 0,
         output: 3998,
-        elements: &[(0, Some(2)), (249, Some(0)), (3997, Some(234))],
+        elements: &[(0, Some(Elem::Value(2))), (249, Some(Elem::Value(0))), (3997, Some(Elem::Value(234)))],
     },
     Case {
         shape: Shape::Chain,
@@ -71,8 +73,9 @@ const CASES: [Case<'static>; 8] = [
         done: 1000,
         trapped: 0,
         over_budget: 0,
+        poisoned: 0,
         output: 1,
-        elements: &[(0, Some(3))],
+        elements: &[(0, Some(Elem::Value(3)))],
     },
     Case {
         shape: Shape::Fan,
@@ -82,8 +85,9 @@ const CASES: [Case<'static>; 8] = [
         done: 1002,
         trapped: 0,
         over_budget: 0,
+        poisoned: 0,
         output: 1,
-        elements: &[(0, Some(3))],
+        elements: &[(0, Some(Elem::Value(3)))],
     },
     Case {
         shape: Shape::Cycle,
@@ -93,11 +97,12 @@ const CASES: [Case<'static>; 8] = [
         done: 1,
         trapped: 0,
         over_budget: 0,
+        poisoned: 0,
         output: 1,
-        elements: &[(0, Some(0))],
+        elements: &[(0, Some(Elem::Value(0)))],
     },
     // The first 1,001 end in turn Done, trapped, over budget, Done, Done. The other thousand go on from
-    // there, one place further: of each five the first traps, two read what isn't there, two are Done.
+    // there, one place further: of each five the first traps, two read poison, two are Done.
     Case {
         shape: Shape::Layers,
         activations: 2001,
@@ -106,14 +111,15 @@ const CASES: [Case<'static>; 8] = [
         done: 1001,
         trapped: 400,
         over_budget: 200,
+        poisoned: 400,
         output: 1000,
         elements: &[
-            (0, None),
-            (1, None),
-            (2, None),
-            (3, Some(3)),
-            (4, Some(4)),
-            (999, Some(246)),
+            (0, Some(Elem::Poison(1001))),
+            (1, Some(Elem::Poison(1))),
+            (2, Some(Elem::Poison(2))),
+            (3, Some(Elem::Value(3))),
+            (4, Some(Elem::Value(4))),
+            (999, Some(Elem::Value(246))),
         ],
     },
     Case {
@@ -124,6 +130,7 @@ const CASES: [Case<'static>; 8] = [
         done: 0,
         trapped: 0,
         over_budget: 0,
+        poisoned: 0,
         output: 0,
         elements: &[],
     },
@@ -136,8 +143,9 @@ const CASES: [Case<'static>; 8] = [
         done: 3,
         trapped: 0,
         over_budget: 0,
+        poisoned: 0,
         output: 3,
-        elements: &[(0, Some(0)), (1, Some(1)), (2, Some(2))],
+        elements: &[(0, Some(Elem::Value(0))), (1, Some(Elem::Value(1))), (2, Some(Elem::Value(2)))],
     },
     // The input ends before the last twenty.
     Case {
@@ -148,8 +156,9 @@ const CASES: [Case<'static>; 8] = [
         done: 4100,
         trapped: 0,
         over_budget: 0,
+        poisoned: 0,
         output: 4120,
-        elements: &[(4099, Some(83)), (4100, None), (4119, None)],
+        elements: &[(4099, Some(Elem::Value(83))), (4100, None), (4119, None)],
     },
 ];
 
@@ -280,6 +289,7 @@ const MEETINGS: [Case<'static>; 2] = [
         done: 2,
         trapped: 0,
         over_budget: 0,
+        poisoned: 0,
         output: 8,
         elements: &[],
     },
@@ -291,6 +301,7 @@ const MEETINGS: [Case<'static>; 2] = [
         done: 8,
         trapped: 0,
         over_budget: 0,
+        poisoned: 0,
         output: 32,
         elements: &[],
     },
@@ -350,17 +361,20 @@ fn meets<R: Threads + Abort + Sync>(
 
 /// Whether a run came to what was counted by hand.
 fn is_counted(rt: &impl Abort, case: &Case<'_>, ends: &Ends) {
-    let (mut done, mut trapped, mut over_budget) = (0u32, 0u32, 0u32);
+    let (mut done, mut trapped) = (0u32, 0u32);
+    let (mut over_budget, mut poisoned) = (0u32, 0u32);
     for end in ends.ends.as_slice() {
         match end {
             Some(TaskEnd::Done) => done = done.saturating_add(1),
             Some(TaskEnd::Trapped { .. }) => trapped = trapped.saturating_add(1),
             Some(TaskEnd::OverBudget) => over_budget = over_budget.saturating_add(1),
+            Some(TaskEnd::Poisoned { .. }) => poisoned = poisoned.saturating_add(1),
             None => {}
         }
     }
     assert!(rt; ends.ends.len() == case.activations as usize);
-    assert!(rt; done == case.done && trapped == case.trapped && over_budget == case.over_budget);
+    assert!(rt; done == case.done && trapped == case.trapped);
+    assert!(rt; over_budget == case.over_budget && poisoned == case.poisoned);
     assert!(rt; ends.output.len() == case.output);
     for (place, element) in case.elements {
         assert!(rt;

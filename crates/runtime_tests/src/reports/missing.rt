@@ -3,7 +3,7 @@
 use super::Case;
 use crate::literals::{reads, writes};
 use collector::{Missing, first_missing};
-use flow_core::{ControlEnd, TaskEnd};
+use flow_core::{ControlEnd, Elem, TaskEnd};
 use std::test::Fail;
 
 const DONE: Option<TaskEnd> = Some(TaskEnd::Done);
@@ -28,7 +28,7 @@ const CASE: Case<'static> = Case {
         &[writes!(2, 2)],
         // Nothing is missing: a peek at the input, and what two producers gave.
         &[reads!(0, 2, 0, 0), reads!(2, 5, 0, 0)],
-        // The window goes over three producers, of which the last isn't Done.
+        // The window goes over three producers, of which the last has no end.
         &[reads!(2, 7, 0, 0)],
         // The item that comes first counts, though a later one misses an earlier position.
         &[reads!(2, 6, 6, 0), reads!(0, 3, 3, 0)],
@@ -37,7 +37,7 @@ const CASE: Case<'static> = Case {
         &[writes!(1, 1)],
     ],
     ends: &[DONE, DONE, None, DONE, None, None, None, None, DONE],
-    output: &[Some(0)],
+    output: &[Some(Elem::Value(0))],
     control: ControlEnd::Done,
 };
 

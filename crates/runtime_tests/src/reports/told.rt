@@ -1,8 +1,8 @@
-//! The lines of a report, and the bytes before the first gap of an output.
+//! The lines of a report, and the bytes before the first gap of an output, or the first poison.
 
 use super::{Case, Told, all_tell};
 use crate::literals::{reads, writes};
-use flow_core::{ControlEnd, TaskEnd};
+use flow_core::{ControlEnd, Elem, TaskEnd};
 use std::test::Fail;
 
 const DONE: Option<TaskEnd> = Some(TaskEnd::Done);
@@ -16,6 +16,27 @@ macro_rules! trapped {
             code: $code,
             line: $line,
         })
+    };
+}
+
+/// An end by the root of poison.
+macro_rules! poisoned {
+    ($root:expr) => {
+        Some(TaskEnd::Poisoned { root: $root })
+    };
+}
+
+/// An element that is a value.
+macro_rules! value {
+    ($value:expr) => {
+        Some(Elem::Value($value))
+    };
+}
+
+/// An element that is poison.
+macro_rules! poison {
+    ($root:expr) => {
+        Some(Elem::Poison($root))
     };
 }
 
@@ -53,7 +74,7 @@ const STARVED: [Told; 3] = [
         b"",
         "starved 0 stream 0 position 2 producer none\nstarved 1 stream 2 position 0 producer 0 starved\ncontrol done\noutput 0 of 1\n",
     ),
-    // Producers that trapped or ran over budget.
+    // Activations that read from one that trapped, and from one that ran over budget.
     (
         Case {
             streams: 3,
@@ -64,12 +85,17 @@ const STARVED: [Told; 3] = [
                 &[reads!(2, 1, 1, 0)],
                 &[reads!(2, 1, 1, 0)],
             ],
-            ends: &[trapped!(8, 4_294_967_295), OVER, None, None],
+            ends: &[
+                trapped!(8, 4_294_967_295),
+                OVER,
+                poisoned!(0),
+                poisoned!(1),
+            ],
             output: &[],
             control: ControlEnd::Trapped { code: 6, line: 3 },
         },
         b"",
-        "trapped 0 code 8 line 4294967295\nover-budget 1\nstarved 2 stream 2 position 0 producer 0 trapped\nstarved 3 stream 2 position 1 producer 1 over-budget\ncontrol trapped code 6 line 3\noutput 0 of 0\n",
+        "trapped 0 code 8 line 4294967295\nover-budget 1\npoisoned 2 by 0\npoisoned 3 by 1\ncontrol trapped code 6 line 3\noutput 0 of 0\n",
     ),
 ];
 
@@ -79,7 +105,7 @@ fn starved_activations_are_told(rt: HostRuntime) -> Result<(), Fail> {
 }
 
 const GAPS: [Told; 4] = [
-    // A trap in the middle: the element behind the gap isn't written.
+    // A trap in the middle: the value behind the poison isn't written.
     (
         Case {
             streams: 2,
@@ -90,7 +116,7 @@ const GAPS: [Told; 4] = [
                 &[reads!(0, 1, 1, 0), writes!(1, 1)],
             ],
             ends: &[DONE, trapped!(2, 6), DONE],
-            output: &[Some(50), None, Some(20)],
+            output: &[value!(50), poison!(1), value!(20)],
             control: ControlEnd::Done,
         },
         b"\x32",
@@ -103,7 +129,7 @@ const GAPS: [Told; 4] = [
             input_len: 0,
             tasks: &[&[writes!(1, 1)], &[writes!(1, 1)], &[writes!(1, 1)]],
             ends: &[DONE, trapped!(1, 6), trapped!(1, 8)],
-            output: &[Some(0), None, None],
+            output: &[value!(0), poison!(1), poison!(2)],
             control: ControlEnd::Done,
         },
         b"\0",
@@ -116,7 +142,7 @@ const GAPS: [Told; 4] = [
             input_len: 0,
             tasks: &[&[writes!(1, 1)]],
             ends: &[OVER],
-            output: &[None],
+            output: &[poison!(0)],
             control: ControlEnd::Done,
         },
         b"",
@@ -129,7 +155,7 @@ const GAPS: [Told; 4] = [
             input_len: 0,
             tasks: &[&[writes!(1, 1)]],
             ends: &[DONE],
-            output: &[Some(4)],
+            output: &[value!(4)],
             control: ControlEnd::Done,
         },
         b"\x04",
@@ -150,7 +176,7 @@ const CONTROLS: [Told; 3] = [
             input_len: 0,
             tasks: &[&[writes!(1, 1)], &[writes!(1, 1)], &[writes!(1, 1)]],
             ends: &[DONE, DONE, DONE],
-            output: &[Some(0), Some(1), Some(2)],
+            output: &[value!(0), value!(1), value!(2)],
             control: ControlEnd::OverBudget,
         },
         b"\x00\x01\x02",

@@ -13,8 +13,9 @@ deliver-requires-clause-may_deliver g c = (
   record { from = 1; to = 0; first = 0; count = 1; at = 0 },
   outcome_of Done (pos 41 ∷ []),
   may_deliver _ _ 3 1 _ _ c.requires.knows_the_plan c.requires.has_this_view
-      (record { runs = refl; stands = record { has_number = refl; is_its_own = refl }; is_meant = refl; is_done = refl }),
+      (record { runs = refl; stands = record { has_number = refl; is_its_own = refl }; is_meant = refl }),
   refl,
+  λ done. refl,
 )
 
 pub finish-requires-clause-may_finish : goal.finish-requires-clause-may_finish
@@ -22,7 +23,7 @@ finish-requires-clause-may_finish g c =
     let seen : view_of c.deliver.new.seat ≡ view_after 5 = delivered c.args.table.now _ _ 3 1 (record { from = 1; to = 0; first = 0; count = 1; at = 0 }) _ c.requires.knows_the_plan c.requires.has_this_view refl c.deliver.ensures.step (search rules) in (
       record { frame = 1; piece = 2; stored = 0 },
       may_finish _ _ 5 _ _ c.requires.knows_the_plan seen
-          (record { runs = refl; is_meant = refl; gave_all = λ _. refl; gave_nothing = λ not_done. absurd (not_done refl) }),
+          (record { runs = refl; is_meant = refl; gave_all = refl }),
     )
 
 pub returns : goal.returns

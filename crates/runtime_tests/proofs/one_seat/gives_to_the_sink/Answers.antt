@@ -13,8 +13,9 @@ deliver-requires-clause-may_deliver g c = (
   record { from = 0; to = 2; first = 0; count = 1; at = 1 },
   outcome_of Done (pos 42 ∷ []),
   may_deliver _ _ 8 0 _ _ c.requires.knows_the_plan c.requires.has_this_view
-      (record { runs = refl; stands = record { has_number = refl; is_its_own = refl }; is_meant = refl; is_done = refl }),
+      (record { runs = refl; stands = record { has_number = refl; is_its_own = refl }; is_meant = refl }),
   refl,
+  λ done. refl,
 )
 
 pub finish-requires-clause-may_finish : goal.finish-requires-clause-may_finish
@@ -22,7 +23,7 @@ finish-requires-clause-may_finish g c =
     let seen : view_of c.deliver.new.seat ≡ view_after 10 = delivered c.args.table.now _ _ 8 0 (record { from = 0; to = 2; first = 0; count = 1; at = 1 }) _ c.requires.knows_the_plan c.requires.has_this_view refl c.deliver.ensures.step (search rules) in (
       record { frame = 0; piece = 1; stored = 0 },
       may_finish _ _ 10 _ _ c.requires.knows_the_plan seen
-          (record { runs = refl; is_meant = refl; gave_all = λ _. refl; gave_nothing = λ not_done. absurd (not_done refl) }),
+          (record { runs = refl; is_meant = refl; gave_all = refl }),
     )
 
 pub returns : goal.returns

@@ -11,7 +11,7 @@ abbrev at : ℕ → Rule
 at f = slice_index_or (record { end = Done; copies = true } ∷ record { end = Done; copies = true } ∷ record { end = Done; copies = false } ∷ []) f record { end = Done; copies = false }
 
 pub execute_one-requires-clause-sound : goal.execute_one-requires-clause-sound
-execute_one-requires-clause-sound g c = λ _. subst (λ (p : Plan). IsSound p) (sym c.in_ok-plan.ensures) (IsSound-from_tests _ refl refl refl refl refl refl refl refl refl refl refl refl)
+execute_one-requires-clause-sound g c = λ _. subst (λ (p : Plan). IsSound p) (sym c.in_ok-plan.ensures) (IsSound-from_tests _ refl refl refl refl refl refl refl refl refl refl refl refl refl refl)
 
 pub execute_one-requires-clause-served : goal.execute_one-requires-clause-served
 execute_one-requires-clause-served g c = λ _. Serves-at _ _ c.in_ok-plan.ensures (Serves-from_rules _ 3 (λ f. (at f).end) (λ f. (at f).copies) (pos 41) refl refl refl)
