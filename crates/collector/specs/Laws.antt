@@ -9,7 +9,7 @@ use Rattle.flow_core_laws.specs.declared.ends.Ends.{Ends}
 use Rattle.flow_core_laws.specs.declared.outcome.Outcome.{Outcome}
 use Rattle.flow_core_laws.specs.declared.task_end.TaskEnd.{TaskEnd}
 use Rattle.flow_core_laws.specs.Laws.{IsFilled}
-use Rattle.flow_core_laws.specs.Outcome.{has_end_at, is_done_at}
+use Rattle.flow_core_laws.specs.Outcome.{has_end_at}
 use Rattle.flow_core_laws.specs.Streams.{stream_ends, stream_meaning}
 use Rattle.flow_core_laws.specs.There.{is_there}
 use Rattle.collector.specs.declared.missing.Missing.{Missing}

@@ -45,8 +45,8 @@ fn who_waits_for_a_trapped_activation_is_starved(rt: HostRuntime) -> Result<(), 
             input: &[],
             out: &[],
             report: "trapped 0 code 3 line 5\nover-budget 1\n\
-                starved 2 stream 3 position 0 producer 1 over-budget\n\
-                starved 3 stream 2 position 0 producer 0 trapped\n\
+                poisoned 2 by 1\n\
+                poisoned 3 by 0\n\
                 control done\noutput 0 of 2\n",
             status: 1,
         },
