@@ -14,11 +14,7 @@ use stream_match_layouts::Layout;
 /// The activations that an epoch runs: of the readers, which are all that have no end yet, those that don't wait for an element
 /// that can't come in it. What waits for a later one or for an earlier one is found, and not each of those that wait for one
 /// another in turn: what isn't found is left in.
-pub fn ready_frames(
-    alloc: Global,
-    layout: &Layout,
-    readers: &[u32],
-) -> Result<List<u32>, Memory>
+pub fn ready_frames(alloc: Global, layout: &Layout, readers: &[u32]) -> Result<List<u32>, Memory>
     requires layout { IsLayout layout.now }
     requires readers { All (λ a. a < frame_count layout.now) readers.now }
     ensures { IfOk result (λ frames. (activations : List Activation) (input : List ℕ) (ends : List (Option TaskEnd)) → IsLayoutOf layout.now activations
@@ -30,11 +26,7 @@ pub fn ready_frames(
 }
 
 /// A mark for each activation: which of the readers wait.
-fn waiting(
-    alloc: Global,
-    layout: &Layout,
-    readers: &[u32],
-) -> Result<Vec<bool>, Memory>
+fn waiting(alloc: Global, layout: &Layout, readers: &[u32]) -> Result<Vec<bool>, Memory>
     requires layout { IsLayout layout.now }
     requires readers { All (λ a. a < frame_count layout.now) readers.now }
     ensures { IfOk result (λ waits. AreWaiting layout.now readers.now waits.items) }

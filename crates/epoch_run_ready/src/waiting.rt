@@ -9,12 +9,7 @@ use crate::marking::is_marked;
 use stream_match_layouts::{Layout, Span};
 
 /// Whether one of the spans of an activation reads an element that can't come.
-pub(crate) fn spans_wait(
-    layout: &Layout,
-    waits: &[bool],
-    spans: &[Span],
-    look: Look,
-) -> bool
+pub(crate) fn spans_wait(layout: &Layout, waits: &[bool], spans: &[Span], look: Look) -> bool
     requires layout { IsLayout layout.now }
     requires exist { All (λ (s : Span). s.stream < length layout.now.writers) spans.now }
     requires small { All (λ (s : Span). s.first < 2 ^ 62) spans.now }
@@ -30,12 +25,7 @@ pub(crate) fn spans_wait(
 
 /// Whether a span reads an element that can't come: one behind all that is written, or one that comes from an activation
 /// which is stuck.
-fn span_waits(
-    layout: &Layout,
-    waits: &[bool],
-    span: Span,
-    look: Look,
-) -> bool
+fn span_waits(layout: &Layout, waits: &[bool], span: Span, look: Look) -> bool
     requires layout { IsLayout layout.now }
     requires exists { span.stream < length layout.now.writers }
     requires small { span.first < 2 ^ 62 }
@@ -136,12 +126,7 @@ fn covers(span: Span, position: u64) -> bool {
 
 /// Whether the write span at a place comes from an activation which is stuck; nothing where it has no position in common
 /// with a span that reads, or there is none at the place.
-fn is_writer_stuck(
-    layout: &Layout,
-    waits: &[bool],
-    span: Span,
-    place: usize,
-) -> Option<bool>
+fn is_writer_stuck(layout: &Layout, waits: &[bool], span: Span, place: usize) -> Option<bool>
     requires writers { HasWriters layout.now span.stream }
     requires exists { span.stream < length layout.now.writers }
     requires small { span.first < 2 ^ 62 }

@@ -23,7 +23,9 @@ pub enum Fact {
     OverBudget,
     /// It never ran: what it reads should have come, if only through others, from an activation that trapped or used up
     /// its turns, and that has this number.
-    Poisoned { root: u32 },
+    Poisoned {
+        root: u32,
+    },
     /// It waits for the element at a position of a stream.
     Waits {
         stream: u32,

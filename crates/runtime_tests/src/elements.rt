@@ -19,7 +19,10 @@ pub(crate) fn element_of(value: Option<i32>) -> Option<Elem>
 }
 
 /// The elements of values.
-pub(crate) fn elements_of(alloc: Global, values: &[Option<i32>]) -> Result<List<Option<Elem>>, Memory>
+pub(crate) fn elements_of(
+    alloc: Global,
+    values: &[Option<i32>],
+) -> Result<List<Option<Elem>>, Memory>
     ensures { IfOk result (λ list. list ≡ map (option_map Value) values.now) }
 {
     let mut list = List::new(alloc);

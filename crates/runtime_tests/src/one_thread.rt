@@ -81,7 +81,12 @@ fn copies_overlapping_windows(rt: HostRuntime) -> Result<(), Fail> {
         },
     )?;
     assert!(rt; ends.ends.as_slice() == [Some(TaskEnd::Done), Some(TaskEnd::Done)].as_slice());
-    assert!(rt; are_values(ends.output.as_slice(), &[Some(3), Some(6), Some(6), Some(9)]));
+    assert!(rt;
+        are_values(
+            ends.output.as_slice(),
+            &[Some(3), Some(6), Some(6), Some(9)]
+        )
+    );
     Ok(())
 }
 

@@ -20,8 +20,13 @@ pub(crate) fn plan_of(
 ) -> Result<Plan, Memory>
     requires { length frames.now < 2 ^ 32 }
     ensures { IfOk result (λ p. p
-        ≡ record { frames = frames.now; sink = sink; pieces = pieces.now; filled = map (option_map Value) filled.now;
-          numbers = range_with_len 0 (length frames.now) }) }
+        ≡ record {
+          frames = frames.now;
+          sink = sink;
+          pieces = pieces.now;
+          filled = map (option_map Value) filled.now;
+          numbers = range_with_len 0 (length frames.now);
+        }) }
 {
     Ok(Plan {
         frames: list_of(alloc, frames)?,

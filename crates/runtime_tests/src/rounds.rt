@@ -63,7 +63,11 @@ const CASES: [Case<'static>; 8] = [
         over_budget: 0,
         poisoned: 0,
         output: 3998,
-        elements: &[(0, Some(Elem::Value(2))), (249, Some(Elem::Value(0))), (3997, Some(Elem::Value(234)))],
+        elements: &[
+            (0, Some(Elem::Value(2))),
+            (249, Some(Elem::Value(0))),
+            (3997, Some(Elem::Value(234))),
+        ],
     },
     Case {
         shape: Shape::Chain,
@@ -145,7 +149,11 @@ const CASES: [Case<'static>; 8] = [
         over_budget: 0,
         poisoned: 0,
         output: 3,
-        elements: &[(0, Some(Elem::Value(0))), (1, Some(Elem::Value(1))), (2, Some(Elem::Value(2)))],
+        elements: &[
+            (0, Some(Elem::Value(0))),
+            (1, Some(Elem::Value(1))),
+            (2, Some(Elem::Value(2))),
+        ],
     },
     // The input ends before the last twenty.
     Case {

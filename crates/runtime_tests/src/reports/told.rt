@@ -85,12 +85,7 @@ const STARVED: [Told; 3] = [
                 &[reads!(2, 1, 1, 0)],
                 &[reads!(2, 1, 1, 0)],
             ],
-            ends: &[
-                trapped!(8, 4_294_967_295),
-                OVER,
-                poisoned!(0),
-                poisoned!(1),
-            ],
+            ends: &[trapped!(8, 4_294_967_295), OVER, poisoned!(0), poisoned!(1)],
             output: &[],
             control: ControlEnd::Trapped { code: 6, line: 3 },
         },
