@@ -52,6 +52,16 @@ struct Case<'a> {
     elements: &'a [(usize, Option<Elem>)],
 }
 
+impl Case<'_> {
+    /// How many activations have an end: the gate is told of each, also of those that turn out poisoned.
+    fn ended(&self) -> u64 {
+        u64::from(self.done)
+            + u64::from(self.trapped)
+            + u64::from(self.over_budget)
+            + u64::from(self.poisoned)
+    }
+}
+
 const CASES: [Case<'static>; 8] = [
     Case {
         shape: Shape::Windows,
@@ -229,7 +239,7 @@ fn runs_by_hand<R: Threads + Abort + Sync>(
         assert!(rt; many.ends.as_slice() == one.ends.as_slice());
         assert!(rt; many.output.as_slice() == one.output.as_slice());
         assert!(rt; calls.worker.load(Ordering::SeqCst) < workers);
-        let ran = u64::from(case.done) + u64::from(case.trapped) + u64::from(case.over_budget);
+        let ran = case.ended();
         assert!(rt; u64::from(calls.count.load(Ordering::SeqCst)) == ran);
     }
     runs_at_once(rt, alloc, case, plan, &one)
@@ -249,7 +259,7 @@ fn runs_at_once<R: Threads + Abort + Sync>(
         plan,
         some_fail: case.some_fail,
     };
-    let ran = u64::from(case.done) + u64::from(case.trapped) + u64::from(case.over_budget);
+    let ran = case.ended();
     for workers in [1, 2, 7, 64] {
         let calls = Calls {
             count: AtomicU32::new(0),
