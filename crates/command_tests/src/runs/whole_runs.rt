@@ -24,7 +24,7 @@ fn a_window_is_reversed(rt: HostRuntime) -> Result<(), Fail> {
 }
 
 #[test]
-fn who_waits_for_a_trapped_activation_is_starved(rt: HostRuntime) -> Result<(), Fail> {
+fn who_reads_from_a_failed_activation_is_poisoned(rt: HostRuntime) -> Result<(), Fail> {
     shows(
         &rt,
         &Run {
