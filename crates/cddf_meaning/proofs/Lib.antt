@@ -12,4 +12,3 @@ pub mod Sums
 pub mod TypedResults
 pub mod TypedValues
 pub mod Written
-pub mod LeveledNumbers
