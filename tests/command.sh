@@ -904,7 +904,7 @@ shows() {
     check "$1" "$2" "" "$3"
 }
 shows "a run where all is done" 0 \
-    "main ended after 1 activations / 1 of 1 activations are done / 4 of 4 bytes of the output are there" report first.c in.bin
+    "main ended after 1 activation / 1 of 1 activations are done / 4 of 4 bytes of the output are there" report first.c in.bin
 shows "a byte that traps, in a sentence" 1 \
     "main ended after 3 activations / 2 of 3 activations are done / 1 of 3 bytes of the output are there / activation 1, of the task in line 7, trapped in line 8: division by zero" \
     report "$top/examples/divide.c" zero.bin
@@ -913,12 +913,12 @@ shows "many that trap, in one line" 1 \
     "main ended after 300 activations / 0 of 300 activations are done / 0 of 300 bytes of the output are there / activation 0, of the task in line 7, trapped in line 8: division by zero; likewise 299 more of this task" \
     report "$top/examples/divide.c" zeros.bin
 shows "an input that ends before a window" 1 \
-    "main ended after 1 activations / 0 of 1 activations are done / 0 of 4 bytes of the output are there / activation 0, of the task in line 3, waits for element 2 of stream osin, which stands past the end of the input" \
+    "main ended after 1 activation / 0 of 1 activations are done / 0 of 4 bytes of the output are there / activation 0, of the task in line 3, waits for element 2 of stream osin, which stands past the end of the input" \
     report first.c short.bin
 cat >waits.c <<'END'
 int main(void) {
     int st __attribute__((stream)), s[2] __attribute__((stream));
-    int k;
+    int k, j;
     for (k = 0; k < 3; k++) {
         int x, y;
         #pragma omp task input(st >> x) output(st << y)
@@ -929,10 +929,14 @@ int main(void) {
         #pragma omp task input(s[1] >> x) output(osout << y)
         y = x;
     }
+    #pragma omp task input(s[1] >> k)
+    {
+        int z = k;
+    }
     #pragma omp task output(s[1] << k)
     k = 300 / osin_len;
-    #pragma omp task input(s[0] >> k) output(osout << k)
-    k = k + 1;
+    #pragma omp task input(s[0] >> j) output(osout << k)
+    k = j + 1;
     #pragma omp task output(s[0] << k)
     while (1) {
     }
@@ -940,11 +944,12 @@ int main(void) {
 }
 END
 shows "tasks that wait" 1 "$(printf '%s / ' \
-    "main trapped in line 21 after 10 activations: division by zero" "2 of 10 activations are done" "1 of 5 bytes of the output are there" \
-    "activation 0, of the task in line 6, waits for element 0 of stream st, which it writes itself; likewise 2 more of this task" \
-    "activation 4, of the task in line 11, waits for element 1 of stream s[1], which no task writes; likewise 2 more of this task" \
-    "activation 8, of the task in line 16, waits for element 0 of stream s[0] from activation 9, which used up its turns" \
-    "activation 9, of the task in line 18, used up its turns" | sed 's| / $||')" report waits.c in.bin
+    "main trapped in line 25 after 11 activations: division by zero" "2 of 11 activations are done" "1 of 5 bytes of the output are there" \
+    "activation 0, of the task in line 6, waits for itself: stream st has no first element; likewise 2 more of this task" \
+    "activation 4, of the task in line 11, waits for element 1 of stream s[1], which no task writes; the task in line 14 reads this stream too; likewise 2 more of this task" \
+    "activation 7, of the task in line 14, waits for element 4 of stream s[1], which no task writes; the task in line 11 reads this stream too" \
+    "activation 9, of the task in line 20, waits for element 0 of stream s[0] from activation 10, which used up its turns" \
+    "activation 10, of the task in line 22, used up its turns" | sed 's| / $||')" report waits.c in.bin
 shows "a program that is refused, and not run" 3 "refused 23 line 1" report empty.c in.bin
 shows "an input that is too long to be shown" 4 "too long input" report first.c long.bin
 shows "a folder for a program that is shown" 5 "read fault program" report folder in.bin
