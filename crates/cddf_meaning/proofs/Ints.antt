@@ -36,7 +36,7 @@ use Rattle.os_ast.specs.declared.stmt.Assign.TheVariants as assign_of
 use Rattle.cddf_meaning.proofs.TypedResults.{IntAnswer, binary-int}
 use Rattle.cddf_meaning.proofs.TypedValues.{Fits, both, elements-fit, find-fits, get-fits, in-file, ints, item-fits, scalar-int, value-agrees}
 
-joined : (a b : Bool) → a ≡ true → b ≡ true → (a && b) ≡ true
+pub joined : (a b : Bool) → a ≡ true → b ≡ true → (a && b) ≡ true
 joined true b h k = k
 joined false b h k = absurd (cc)
 

@@ -12,3 +12,4 @@ pub mod Sums
 pub mod TypedResults
 pub mod TypedValues
 pub mod Written
+pub mod LeveledNumbers

@@ -22,6 +22,7 @@ ghost use Rattle.cddf_meaning.specs.TypedValue.{typed_value, with_type};
 ghost use Rattle.cddf_meaning.specs.Value.{checked, value};
 ghost use Rattle.flow_core_laws.specs.declared.activation.Activation.{Activation};
 ghost use Rattle.flow_core_laws.specs.declared.task_end.TaskEnd.TheVariants as ends;
+ghost use Rattle.os_ast.specs.Leveled.{IsLeveled};
 ghost use Rattle.os_ast.specs.Trees as tree;
 
 /// Turns never grow: not in an expression, and not in a statement, which also keeps the length of each item's list.
@@ -85,8 +86,9 @@ pub fn judged_by_bits()
 {}
 
 /// Numbers that stand for 32 bits are `int`s behind each statement, and what functions return is too, where the numbers of the text
-/// are those of tokens. So the law on values speaks of every expression that a program comes to.
+/// are those of tokens, as they are in each leveled program. So the law on values speaks of every expression that a program comes to.
 pub fn numbers_stay_ints()
+    ensures programs { (p : tree.ProgramTree) → IsLeveled p → items_fit p ≡ true }
     ensures files { (items : List tree.ItemTree) → items_fit items ≡ true → FileFits (file_of items) }
     ensures statements { (u : Around) (a : tree.StmtTree) (s : State) (turns : ℕ) →
         FileFits u.file → stmt_fits a ≡ true → StateFits s → RanFits (run u a s turns) }
