@@ -34,6 +34,7 @@ checked-judged size line l = judged (checked size line) far
   where
     past : (n : ℕ) → 2 ^ 31 ≤ n → ltb n size ≡ false
     past n g = grind (arith, nat_tests, l)
+
     far : (n k : ℕ) → 2 ^ 31 ≤ n → checked size line (pos n) ≡ checked size line (negsuc k)
     far n k g = rw (past n g) refl
 
@@ -58,5 +59,6 @@ burst-judged line horizon l = judged (output_burst line horizon) far
   where
     apart : (n : ℕ) → 2 ^ 31 ≤ n → (n == horizon) ≡ false
     apart n g = grind (arith, nat_tests, l)
+
     far : (n k : ℕ) → 2 ^ 31 ≤ n → output_burst line horizon (pos n) ≡ output_burst line horizon (negsuc k)
     far n k g = rw (apart n g) refl

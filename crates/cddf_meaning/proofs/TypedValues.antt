@@ -228,6 +228,7 @@ one-passed u t b more more' a f =
     rest : (v : ℤ) (c : Answer (Left (List ℤ))) → is_int v ≡ true → GivesInts c → GivesInts (and_then c (λ ns. Ok (left (v ∷ ns.value) ns.turns)))
     rest v (Ok ns) h i = rw (h, i) refl
     rest v (Err ending) h i = tt
+
     here : (b : Answer (Left ℤ)) → GivesInt b →
         Passes (and_then (and_then b (with_type u)) (λ n. and_then (more n.turns) (λ ns. Ok (left (bits n.value ∷ ns.value) ns.turns))))
         (and_then b (λ n. and_then (more' n.turns) (λ ns. Ok (left (n.value ∷ ns.value) ns.turns))))
@@ -235,8 +236,8 @@ one-passed u t b more more' a f =
         let p = f n.turns in
         record {
           same =
-            ap (λ x. and_then x (λ ns. Ok (left (bits (of_type u n.value) ∷ ns.value) ns.turns))) p.same
-            ∙ ap (λ v. and_then (more' n.turns) (λ ns. Ok (left (v ∷ ns.value) ns.turns))) (bits_stay u n.value h);
+              ap (λ x. and_then x (λ ns. Ok (left (bits (of_type u n.value) ∷ ns.value) ns.turns))) p.same
+              ∙ ap (λ v. and_then (more' n.turns) (λ ns. Ok (left (v ∷ ns.value) ns.turns))) (bits_stay u n.value h);
           ints = rest n.value (more' n.turns) h p.ints;
         }
     here (Err ending) h = record { same = refl; ints = tt }

@@ -75,7 +75,7 @@ target_type file s t = flags file s (target_name t)
 -- 6.5.2.4 and 6.5.3.1.
 abbrev pub run_change : File → tree.ChangeTree → Runs
 run_change file (tree.Set t a m e) =
-    changed file t (λ old s turns. and_then (value file e s turns) 
+    changed file t (λ old s turns. and_then (value file e s turns)
     (λ n. with_turns n.turns (assigned a m.line (target_type file s t) (type_in file s e) old n.value)))
 run_change file (tree.After t p m) =
     changed file t (λ old s turns. with_turns turns (binary_value (step_operator p) m.line (target_type file s t) false old (pos 1)))
