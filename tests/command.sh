@@ -807,8 +807,8 @@ stops() {
     head -n 1 told >report
     check "$1" 1 "" "stop.c:$3"
 }
-stops "a text that ends early" 'int main(void) {\n' "1:17: error 4: expected a statement, '}' or 'int', found the end of the text"
-stops "a text with a bracket too many" 'int main(void) {\n}}' "2:2: error 4: expected 'int', 'const' or the end of the text, found '}'"
+stops "a text that ends early" 'int main(void) {\n' "1:17: error 4: expected a statement, '}', 'int' or 'unsigned', found the end of the text"
+stops "a text with a bracket too many" 'int main(void) {\n}}' "2:2: error 4: expected 'int', 'unsigned', 'const' or the end of the text, found '}'"
 stops "an expression without its end" 'int main(void) {\n    return 1\n}\n' "3:1: error 4: expected an operator, ';' or '?', found '}'"
 stops "an operator without an operand" 'int main(void) {\n    return 1 +;\n}\n' "2:15: error 4: expected an expression, found ';'"
 stops "two names side by side" 'int main(void) {\n\tif (a b) ;\n}\n' "2:8: error 4: expected an operator, ')', '(', '[' or '?', found 'b'"
@@ -830,7 +830,7 @@ shows() {
     status=$?
     check "$1" 1 "" "stop.c:$3"
 }
-shows "a mark behind the text" 'int main(void) {\n' "1:17: error 4: expected a statement, '}' or 'int', found the end of the text /     1 | int main(void) { /       |                 ^"
+shows "a mark behind the text" 'int main(void) {\n' "1:17: error 4: expected a statement, '}', 'int' or 'unsigned', found the end of the text /     1 | int main(void) { /       |                 ^"
 shows "a line with bytes that are no text" 'int main(void) { /* \377\001 */ x = 1; }\n' \
     "1:27: error 10: 'x' isn't declared here: declare it before, in a scope that is still open /     1 | int main(void) { /* ?  */ x = 1; } /       |                           ^"
 shows "a byte behind others that are harmless" "int main(void) { /* ' */ int x = 1; // '\n    x = 2 @ 3; }\n" \
@@ -839,6 +839,10 @@ shows "an open comment behind a closed one" 'int main(void) { /* a */ /* b\n' \
     "1:26: error 2: a comment that is never closed: end it by */ /     1 | int main(void) { /* a */ /* b /       |                          ^~"
 shows "a large number behind another" 'int main(void) { int x = 1 + 99999999999; }\n' \
     "1:30: error 3: a number above 2147483647: use a smaller one /     1 | int main(void) { int x = 1 + 99999999999; } /       |                              ^~~~~~~~~~~"
+shows "a large number of the type unsigned" 'int main(void) { unsigned x = 1u + 4294967296u; }\n' \
+    "1:36: error 3: a number above 4294967295: use a smaller one /     1 | int main(void) { unsigned x = 1u + 4294967296u; } /       |                                    ^~~~~~~~~~~"
+shows "a large hexadecimal number" 'int main(void) { int x = 0xffffffff0; }\n' \
+    "1:26: error 3: a number above 4294967295: use a smaller one /     1 | int main(void) { int x = 0xffffffff0; } /       |                          ^~~~~~~~~~~"
 blanks=$(printf '%200s' '')
 shows "a long line" "int main(void) {$blanks x = 1;$blanks }\n" \
     "1:218: error 10: 'x' isn't declared here: declare it before, in a scope that is still open /     1 | ${blanks:0:119} x = 1;${blanks:0:34} /       | ${blanks:0:120}^"
