@@ -114,12 +114,37 @@ fn expressions_have_the_values_of_their_meaning(rt: HostRuntime) -> Result<(), F
     values_beside(&rt, rt.alloc(), values::FUNCTIONS, &values::TABLE)
 }
 
+/// The rows of a table with the type `unsigned` end as they mean.
+fn unsigned_beside(rt: &impl Abort, alloc: Global, rows: &[(&str, i32)]) -> Result<(), Fail> {
+    values_beside(rt, alloc, unsigned_values::FUNCTIONS, rows)
+}
+
 #[test]
-fn unsigned_expressions_have_the_values_of_their_meaning(rt: HostRuntime) -> Result<(), Fail> {
-    values_beside(
-        &rt,
-        rt.alloc(),
-        unsigned_values::FUNCTIONS,
-        &unsigned_values::TABLE,
-    )
+fn unsigned_operators_have_the_values_of_their_meaning(rt: HostRuntime) -> Result<(), Fail> {
+    unsigned_beside(&rt, rt.alloc(), &unsigned_values::ARITHMETIC)
+}
+
+#[test]
+fn unsigned_shifts_and_bits_have_the_values_of_their_meaning(rt: HostRuntime) -> Result<(), Fail> {
+    unsigned_beside(&rt, rt.alloc(), &unsigned_values::BITS)
+}
+
+#[test]
+fn unsigned_comparisons_have_the_values_of_their_meaning(rt: HostRuntime) -> Result<(), Fail> {
+    unsigned_beside(&rt, rt.alloc(), &unsigned_values::COMPARISONS)
+}
+
+#[test]
+fn operators_of_both_types_have_the_values_of_their_meaning(rt: HostRuntime) -> Result<(), Fail> {
+    unsigned_beside(&rt, rt.alloc(), &unsigned_values::MIXED)
+}
+
+#[test]
+fn unsigned_operators_group_as_they_mean(rt: HostRuntime) -> Result<(), Fail> {
+    unsigned_beside(&rt, rt.alloc(), &unsigned_values::GROUPED)
+}
+
+#[test]
+fn unsigned_bodies_have_the_values_of_their_meaning(rt: HostRuntime) -> Result<(), Fail> {
+    unsigned_beside(&rt, rt.alloc(), &unsigned_values::BODIES)
 }

@@ -184,12 +184,37 @@ fn expressions_and_bodies_have_the_values_of_c(rt: HostRuntime) -> Result<(), Fa
     have_values(&rt, rt.alloc(), values::FUNCTIONS, &values::TABLE)
 }
 
+/// The rows of a table with the type `unsigned` have their values.
+fn have_unsigned_values(rt: &impl Abort, alloc: Global, table: &[(&str, i32)]) -> Result<(), Fail> {
+    have_values(rt, alloc, unsigned_values::FUNCTIONS, table)
+}
+
 #[test]
-fn unsigned_expressions_and_bodies_have_the_values_of_c(rt: HostRuntime) -> Result<(), Fail> {
-    have_values(
-        &rt,
-        rt.alloc(),
-        unsigned_values::FUNCTIONS,
-        &unsigned_values::TABLE,
-    )
+fn unsigned_operators_have_the_values_of_c(rt: HostRuntime) -> Result<(), Fail> {
+    have_unsigned_values(&rt, rt.alloc(), &unsigned_values::ARITHMETIC)
+}
+
+#[test]
+fn unsigned_shifts_and_bits_have_the_values_of_c(rt: HostRuntime) -> Result<(), Fail> {
+    have_unsigned_values(&rt, rt.alloc(), &unsigned_values::BITS)
+}
+
+#[test]
+fn unsigned_comparisons_have_the_values_of_c(rt: HostRuntime) -> Result<(), Fail> {
+    have_unsigned_values(&rt, rt.alloc(), &unsigned_values::COMPARISONS)
+}
+
+#[test]
+fn operators_of_both_types_have_the_values_of_c(rt: HostRuntime) -> Result<(), Fail> {
+    have_unsigned_values(&rt, rt.alloc(), &unsigned_values::MIXED)
+}
+
+#[test]
+fn unsigned_operators_group_as_in_c(rt: HostRuntime) -> Result<(), Fail> {
+    have_unsigned_values(&rt, rt.alloc(), &unsigned_values::GROUPED)
+}
+
+#[test]
+fn unsigned_bodies_have_the_values_of_c(rt: HostRuntime) -> Result<(), Fail> {
+    have_unsigned_values(&rt, rt.alloc(), &unsigned_values::BODIES)
 }
