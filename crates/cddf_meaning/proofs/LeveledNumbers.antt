@@ -1,5 +1,5 @@
 -- The numbers of a leveled program are those of the tokens.
-use Rattle.std.proofs.Common.{◌≡◌, ◌^◌, Bool, true, ◌&&◌, List, Option, refl, lt-ltb}
+use Rattle.std.proofs.Common.{◌≡◌, ◌^◌, true, ◌&&◌, List, Option, refl, lt-ltb}
 use Rattle.cddf_meaning.specs.Fitting.{args_fit, change_fits, declarators_fit, index_fits, items_fit, links_fit, numbers_fit, start_fits, step_fits, stmt_fits, stmts_fit, target_fits, value_fits}
 use Rattle.os_ast.specs.Leveled.{IsExpr, AreLinks, IsTarget, AreArgs, AreAll, AreListed, IsOptional, IsIndex, IsDeclarator, IsHeadDeclarator, IsChange, IsStart, IsStmt, AreStmts, IsItem, IsLeveled}
 use Rattle.os_ast.specs.Leveled as leveled
