@@ -1,0 +1,3 @@
+pub mod Reading
+pub mod Giving
+pub mod Chains
