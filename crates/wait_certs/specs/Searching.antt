@@ -1,5 +1,5 @@
 -- Which elements an activation awaits, as tests, and the ends by which they are searched for.
-use Rattle.std.specs.Prelude.{◌≡◌, ℕ, ◌<◌, ◌⊎◌, ◌==◌, Bool, true, false, not, if◌then◌else◌, List, Option, None, Some, Contains, map, option_and_then, slice_index_or}
+use Rattle.std.specs.Prelude.{◌≡◌, ◌≢◌, ℕ, ◌+◌, ◌<◌, ◌⊎◌, ◌==◌, Bool, true, false, not, if◌then◌else◌, List, Option, None, Some, Contains, length, map, option_and_then, slice_get, slice_index, slice_index_or}
 use Rattle.std.specs.List.{list_any}
 use Rattle.std.specs.Option.{option_map, option_map_or}
 use Rattle.flow_core_laws.specs.declared.activation.Activation.{Activation}
@@ -46,3 +46,10 @@ waited_for activations input_len done a = option_and_then (λ (m : Missing). m.p
 -- the same, as long as it isn't marked
 abbrev pub unmarked : List Bool → ℕ → Option ℕ
 unmarked marks a = if slice_index_or marks a false then None else Some a
+
+-- A walk by what follows each number: it begins with one, goes on as long as another one follows, and has each once.
+pub record WalksBy (next : ℕ → Option ℕ) (first : ℕ) (members : List ℕ) : Type 0 where
+  pub begins : slice_get members 0 ≡ Some first
+  pub goes_on : (k : ℕ) → k + 1 < length members → next (slice_index members k) ≡ Some (slice_index members (k + 1))
+  pub has_each_once : (j k : ℕ) → j < k → k < length members → slice_index members j ≢ slice_index members k
+  pub goes_as_far : (b : ℕ) → next (last_of members) ≡ Some b → Contains members b

@@ -11,5 +11,7 @@
 mod awaiting;
 mod check;
 mod vain;
+mod walking;
 
 pub use check::check_chain;
+pub use walking::walk;

@@ -145,7 +145,7 @@ module _ (streams : ℕ) (activations : List Activation) (input : List ℕ) (bod
       ends = refl;
       distinct = IsDistinct-from_apart (λ x y. x == y) members (λ i j d less within.
           apart (get_or members i d) (get_or members j d) (λ same.
-              walk.has_each_once i j less within (other_default members i d (omega arith) ∙ same ∙ sym (other_default members j d within))));
+          walk.has_each_once i j less within (other_default members i d (omega arith) ∙ same ∙ sym (other_default members j d within))));
       follows = walk.goes_on;
     }
       where
