@@ -1,5 +1,5 @@
 -- Givers of elements over a layout, where nobody writes the input.
-use Rattle.std.proofs.Common.{◌≡◌, ℕ, zero, suc, ◌+◌, ◌-◌, ◌<◌, ◌≤◌, ◌&&◌, ◌||◌, Bool, true, false, cond, not, List, [], ◌∷◌, Option, Some, None, length, get_or, find, map, refl, sym, ap, ◌∙◌, subst, ◌⊎◌, inl, inr, arith}
+use Rattle.std.proofs.Common.{◌≡◌, ℕ, zero, suc, ◌<◌, ◌&&◌, ◌||◌, Bool, true, false, cond, not, List, [], ◌∷◌, Option, Some, None, length, get_or, refl, sym, ap, ◌∙◌, subst, ◌⊎◌, inl, inr, arith}
 use Rattle.std.specs.Prelude.{◌==◌, nat_lt, slice_get, All, Contains, is_some}
 use Rattle.std.specs.List.{list_any}
 use Rattle.std.specs.Option.{option_map, option_map_or}
@@ -25,7 +25,7 @@ use Rattle.stream_match_layouts.proofs.Windows.{no_window}
 use Rattle.stream_match_layouts.proofs.Writers.{lawful_window, window_number}
 use Rattle.collector.specs.Missing.{missing, missing_at, producing}
 use Rattle.collector.proofs.Firsts.{none_found, one_found}
-use Rattle.wait_certs_laws.specs.Chain.{Giver, the_input, activation, nobody, giver, Awaits, last_of}
+use Rattle.wait_certs_laws.specs.Chain.{the_input, activation, nobody, giver, Awaits, last_of}
 use Rattle.wait_certs.specs.Searching.{AllDoneBut, EndsInVain, is_produced_by, reads_from, has_member}
 
 -- what a list that has a number by the test contains

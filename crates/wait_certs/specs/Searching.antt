@@ -1,5 +1,5 @@
 -- Which elements an activation awaits, as tests, and the ends by which they are searched for.
-use Rattle.std.specs.Prelude.{◌≡◌, ◌≢◌, ℕ, ◌+◌, ◌<◌, ◌⊎◌, ◌==◌, Bool, true, false, not, if◌then◌else◌, List, Option, None, Some, Contains, length, map, option_and_then, slice_get, slice_index, slice_index_or}
+use Rattle.std.specs.Prelude.{◌≡◌, ◌≢◌, ℕ, ◌+◌, ◌<◌, ◌⊎◌, ◌==◌, Bool, false, not, if◌then◌else◌, List, Option, None, Some, Contains, length, map, option_and_then, slice_get, slice_index, slice_index_or}
 use Rattle.std.specs.List.{list_any}
 use Rattle.std.specs.Option.{option_map, option_map_or}
 use Rattle.flow_core_laws.specs.declared.activation.Activation.{Activation}

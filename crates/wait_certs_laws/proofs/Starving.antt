@@ -1,6 +1,6 @@
 -- That the members of a chain have no end, round after round.
-use Rattle.std.proofs.Common.{◌≡◌, ℕ, zero, suc, ◌+◌, ◌-◌, ◌<◌, ◌≤◌, ℤ, pos, Bool, true, false, cond, ◌&&◌, List, [], ◌∷◌, Option, Some, None, length, map, get_or, replicate, refl, sym, ap, ◌∙◌, subst, ◌⊎◌, inl, inr, arith}
-use Rattle.std.specs.Prelude.{◌==◌, nat_lt, slice_get, slice_index, option_and_then, Contains, All, is_some}
+use Rattle.std.proofs.Common.{◌≡◌, ℕ, zero, suc, ◌+◌, ◌-◌, ◌<◌, ◌≤◌, ℤ, pos, Bool, true, false, cond, ◌&&◌, List, [], ◌∷◌, Option, Some, None, length, map, get_or, refl, sym, ap, ◌∙◌, subst, ◌⊎◌, inl, inr, arith}
+use Rattle.std.specs.Prelude.{◌==◌, nat_lt, slice_index, option_and_then, Contains, is_some}
 use Rattle.std.specs.Option.{option_map, option_map_or, option_or}
 use Rattle.std.proofs.lemmas.Bool.{cases_lt}
 use Rattle.std.proofs.lemmas.Bool.Decides.{nat_tests}
@@ -11,10 +11,8 @@ use Rattle.flow_core_laws.specs.Place.{Place, input_places}
 use Rattle.flow_core_laws.specs.Round.{gathered, inputs_in, meaning, round}
 use Rattle.flow_core_laws.specs.Window.{Window, producer}
 use Rattle.flow_core_laws.proofs.Rounds.{after, after-suc, outcome_at-start, outcome_at-round, outcome_at_past, length-round}
-use Rattle.flow_core_poison.specs.declared.elem.Elem.{Elem}
 use Rattle.flow_core_poison.specs.declared.elem.Elem.TheVariants.{Value}
 use Rattle.flow_core_poison.specs.declared.outcome.Outcome.{Outcome}
-use Rattle.flow_core_poison.specs.declared.task_end.TaskEnd.{TaskEnd}
 use Rattle.flow_core_poison.specs.Element as elements
 use Rattle.flow_core_poison.specs.Element.{Source, given, fed}
 use Rattle.flow_core_poison.specs.Outcome.{State, ends_of, has_end_at}

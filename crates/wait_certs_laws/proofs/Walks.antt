@@ -1,7 +1,6 @@
 -- That walks are chains, and that each starved activation has one.
-use Rattle.std.proofs.Common.{◌≡◌, ◌≢◌, ℕ, zero, suc, ◌+◌, ◌-◌, ◌<◌, ◌≤◌, ℤ, Bool, true, false, cond, not, ◌&&◌, List, [], ◌∷◌, ◌++◌, Option, Some, None, length, find, get_or, refl, sym, ap, ◌∙◌, subst, ◌⊎◌, inl, inr, arith}
-use Rattle.std.specs.Prelude.{◌==◌, nat_lt, slice_get, slice_index, option_and_then, Contains, All, is_some, IsSome}
-use Rattle.std.specs.List.{list_any, IsDistinct}
+use Rattle.std.proofs.Common.{◌≡◌, ◌≢◌, ℕ, zero, suc, ◌+◌, ◌-◌, ◌<◌, ℤ, Bool, true, false, cond, ◌&&◌, List, [], ◌∷◌, Option, Some, None, length, get_or, refl, sym, ap, ◌∙◌, subst, ◌⊎◌, inl, inr, arith}
+use Rattle.std.specs.Prelude.{◌==◌, nat_lt, slice_get, slice_index, option_and_then, Contains, is_some, IsSome}
 use Rattle.std.specs.Option.{option_map, option_map_or}
 use Rattle.std.proofs.lemmas.Bool.{and_parts, eqb-true}
 use Rattle.std.proofs.lemmas.Bool.Decides.{nat_tests}
@@ -26,7 +25,7 @@ use Rattle.collector_poison.proofs.Starving.{has_lines, producers_wait}
 use Rattle.stream_match_layouts.specs.Lawful.{AreLawful, IsLawfulClaim}
 use Rattle.stream_match_layouts.proofs.Windows.{no_window}
 use Rattle.stream_match_layouts.proofs.Writers.{lawful_window, window_number}
-use Rattle.wait_certs_laws.specs.Chain.{Giver, the_input, activation, nobody, giver, Awaits, last_of, IsChain}
+use Rattle.wait_certs_laws.specs.Chain.{the_input, activation, nobody, giver, Awaits, last_of, IsChain}
 use Rattle.wait_certs_laws.specs.Walk.{waited_for, IsWalk}
 use Rattle.wait_certs_laws.specs.Laws.{IsStarved, ends_in, OfStarved, IsShortChain, WalksAreChains, HasChain}
 use Rattle.wait_certs_laws.proofs.Growing.{IsGrown, IsWhole, each_member, few_members, whole, contained}

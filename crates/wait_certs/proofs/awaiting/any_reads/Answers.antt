@@ -2,7 +2,7 @@ use Rattle.std.proofs.Common.{◌∙◌, ◌||◌, ◌+◌, drop, ap, sym}
 use Rattle.std.specs.List.{flat_map, list_any}
 use Rattle.collector.specs.Walking.{read_places}
 use Rattle.wait_certs.specs.Searching.{is_produced_by}
-use Rattle.wait_certs.proofs.Reading.{span_less, none_left}
+use Rattle.wait_certs.proofs.Reading.{span_less}
 use Rattle.wait_certs.proofs.awaiting.any_reads.Goals as goal
 
 pub returns-then-reads : goal.returns-then-reads

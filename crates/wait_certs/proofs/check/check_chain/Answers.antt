@@ -1,4 +1,4 @@
-use Rattle.std.proofs.Common.{◌≡◌, ◌∙◌, ◌≤◌, true, false, length, arith, sym}
+use Rattle.std.proofs.Common.{◌∙◌, ◌≤◌, length, arith, sym}
 use Rattle.wait_certs.proofs.Chains.{chain_of, exist_of, linked_of}
 use Rattle.wait_certs.proofs.check.check_chain.Goals as goal
 
