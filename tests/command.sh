@@ -807,8 +807,8 @@ stops() {
     head -n 1 told >report
     check "$1" 1 "" "stop.c:$3"
 }
-stops "a text that ends early" 'int main(void) {\n' "1:17: error 4: expected a statement, '}' or 'int', found the end of the text"
-stops "a text with a bracket too many" 'int main(void) {\n}}' "2:2: error 4: expected 'int', 'const' or the end of the text, found '}'"
+stops "a text that ends early" 'int main(void) {\n' "1:17: error 4: expected a statement, '}', 'int' or 'unsigned', found the end of the text"
+stops "a text with a bracket too many" 'int main(void) {\n}}' "2:2: error 4: expected 'int', 'unsigned', 'const' or the end of the text, found '}'"
 stops "an expression without its end" 'int main(void) {\n    return 1\n}\n' "3:1: error 4: expected an operator, ';' or '?', found '}'"
 stops "an operator without an operand" 'int main(void) {\n    return 1 +;\n}\n' "2:15: error 4: expected an expression, found ';'"
 stops "two names side by side" 'int main(void) {\n\tif (a b) ;\n}\n' "2:8: error 4: expected an operator, ')', '(', '[' or '?', found 'b'"
@@ -830,7 +830,7 @@ shows() {
     status=$?
     check "$1" 1 "" "stop.c:$3"
 }
-shows "a mark behind the text" 'int main(void) {\n' "1:17: error 4: expected a statement, '}' or 'int', found the end of the text /     1 | int main(void) { /       |                 ^"
+shows "a mark behind the text" 'int main(void) {\n' "1:17: error 4: expected a statement, '}', 'int' or 'unsigned', found the end of the text /     1 | int main(void) { /       |                 ^"
 shows "a line with bytes that are no text" 'int main(void) { /* \377\001 */ x = 1; }\n' \
     "1:27: error 10: 'x' isn't declared here: declare it before, in a scope that is still open /     1 | int main(void) { /* ?  */ x = 1; } /       |                           ^"
 shows "a byte behind others that are harmless" "int main(void) { /* ' */ int x = 1; // '\n    x = 2 @ 3; }\n" \
@@ -839,6 +839,10 @@ shows "an open comment behind a closed one" 'int main(void) { /* a */ /* b\n' \
     "1:26: error 2: a comment that is never closed: end it by */ /     1 | int main(void) { /* a */ /* b /       |                          ^~"
 shows "a large number behind another" 'int main(void) { int x = 1 + 99999999999; }\n' \
     "1:30: error 3: a number above 2147483647: use a smaller one /     1 | int main(void) { int x = 1 + 99999999999; } /       |                              ^~~~~~~~~~~"
+shows "a large number of the type unsigned" 'int main(void) { unsigned x = 1u + 4294967296u; }\n' \
+    "1:36: error 3: a number above 4294967295: use a smaller one /     1 | int main(void) { unsigned x = 1u + 4294967296u; } /       |                                    ^~~~~~~~~~~"
+shows "a large hexadecimal number" 'int main(void) { int x = 0xffffffff0; }\n' \
+    "1:26: error 3: a number above 4294967295: use a smaller one /     1 | int main(void) { int x = 0xffffffff0; } /       |                          ^~~~~~~~~~~"
 blanks=$(printf '%200s' '')
 shows "a long line" "int main(void) {$blanks x = 1;$blanks }\n" \
     "1:218: error 10: 'x' isn't declared here: declare it before, in a scope that is still open /     1 | ${blanks:0:119} x = 1;${blanks:0:34} /       | ${blanks:0:120}^"
@@ -904,7 +908,7 @@ shows() {
     check "$1" "$2" "" "$3"
 }
 shows "a run where all is done" 0 \
-    "main ended after 1 activations / 1 of 1 activations are done / 4 of 4 bytes of the output are there" report first.c in.bin
+    "main ended after 1 activation / 1 of 1 activations are done / 4 of 4 bytes of the output are there" report first.c in.bin
 shows "a byte that traps, in a sentence" 1 \
     "main ended after 3 activations / 2 of 3 activations are done / 1 of 3 bytes of the output are there / activation 1, of the task in line 7, trapped in line 8: division by zero" \
     report "$top/examples/divide.c" zero.bin
@@ -913,12 +917,12 @@ shows "many that trap, in one line" 1 \
     "main ended after 300 activations / 0 of 300 activations are done / 0 of 300 bytes of the output are there / activation 0, of the task in line 7, trapped in line 8: division by zero; likewise 299 more of this task" \
     report "$top/examples/divide.c" zeros.bin
 shows "an input that ends before a window" 1 \
-    "main ended after 1 activations / 0 of 1 activations are done / 0 of 4 bytes of the output are there / activation 0, of the task in line 3, waits for element 2 of stream osin, which stands past the end of the input" \
+    "main ended after 1 activation / 0 of 1 activations are done / 0 of 4 bytes of the output are there / activation 0, of the task in line 3, waits for element 2 of stream osin, which stands past the end of the input" \
     report first.c short.bin
 cat >waits.c <<'END'
 int main(void) {
     int st __attribute__((stream)), s[2] __attribute__((stream));
-    int k;
+    int k, j;
     for (k = 0; k < 3; k++) {
         int x, y;
         #pragma omp task input(st >> x) output(st << y)
@@ -929,10 +933,14 @@ int main(void) {
         #pragma omp task input(s[1] >> x) output(osout << y)
         y = x;
     }
+    #pragma omp task input(s[1] >> k)
+    {
+        int z = k;
+    }
     #pragma omp task output(s[1] << k)
     k = 300 / osin_len;
-    #pragma omp task input(s[0] >> k) output(osout << k)
-    k = k + 1;
+    #pragma omp task input(s[0] >> j) output(osout << k)
+    k = j + 1;
     #pragma omp task output(s[0] << k)
     while (1) {
     }
@@ -940,11 +948,12 @@ int main(void) {
 }
 END
 shows "tasks that wait" 1 "$(printf '%s / ' \
-    "main trapped in line 21 after 10 activations: division by zero" "2 of 10 activations are done" "1 of 5 bytes of the output are there" \
-    "activation 0, of the task in line 6, waits for element 0 of stream st, which it writes itself; likewise 2 more of this task" \
-    "activation 4, of the task in line 11, waits for element 1 of stream s[1], which no task writes; likewise 2 more of this task" \
-    "activation 8, of the task in line 16, never ran, since activation 9 failed" \
-    "activation 9, of the task in line 18, used up its turns" | sed 's| / $||')" report waits.c in.bin
+    "main trapped in line 25 after 11 activations: division by zero" "2 of 11 activations are done" "1 of 5 bytes of the output are there" \
+    "activation 0, of the task in line 6, waits for itself: stream st has no first element; likewise 2 more of this task" \
+    "activation 4, of the task in line 11, waits for element 1 of stream s[1], which no task writes; the task in line 14 reads this stream too; likewise 2 more of this task" \
+    "activation 7, of the task in line 14, waits for element 4 of stream s[1], which no task writes; the task in line 11 reads this stream too" \
+    "activation 9, of the task in line 20, never ran, since activation 10 failed" \
+    "activation 10, of the task in line 22, used up its turns" | sed 's| / $||')" report waits.c in.bin
 shows "a program that is refused, and not run" 3 "refused 23 line 1" report empty.c in.bin
 shows "an input that is too long to be shown" 4 "too long input" report first.c long.bin
 shows "a folder for a program that is shown" 5 "read fault program" report folder in.bin

@@ -33,7 +33,7 @@ TOKEN = re.compile(
 # Tokens that stand in programs, each behind a space. A pragma stands in a line of its own.
 WORDS = (
     "; { } ( ) [ ] , = += <<= ++ -- 0 7 x y main s osin osout omp task tick taskwait input output firstprivate stream if else "
-    "while for break continue return int const void __attribute__ + - * / % << >> < <= == && || & ^ | ! ~ ? :"
+    "while for break continue return int unsigned const void __attribute__ 1u + - * / % << >> < <= == && || & ^ | ! ~ ? :"
 ).split() + ["\n#pragma omp taskwait\n", "\n#pragma omp task input(osin >> x)\n", "\n#pragma omp tick(s >> 1)\n", "\n"]
 ENDS = ["", "}", "; }", "0 ; }", ") ; }", "0 ) ; }", "x ) { } }", "\n ; }", ": 0 ; }", "] = 0 ; }", "( ) { }", "int main(void) { }"]
 

@@ -1,5 +1,5 @@
 -- The numbers of a leveled program are those of the tokens.
-use Rattle.std.proofs.Common.{◌≡◌, ◌^◌, Bool, true, ◌&&◌, List, Option, refl, lt-ltb}
+use Rattle.std.proofs.Common.{◌≡◌, ◌^◌, true, ◌&&◌, List, Option, refl, lt-ltb}
 use Rattle.cddf_meaning.specs.Fitting.{args_fit, change_fits, declarators_fit, index_fits, items_fit, links_fit, numbers_fit, start_fits, step_fits, stmt_fits, stmts_fit, target_fits, value_fits}
 use Rattle.os_ast.specs.Leveled.{IsExpr, AreLinks, IsTarget, AreArgs, AreAll, AreListed, IsOptional, IsIndex, IsDeclarator, IsHeadDeclarator, IsChange, IsStart, IsStmt, AreStmts, IsItem, IsLeveled}
 use Rattle.os_ast.specs.Leveled as leveled
@@ -11,7 +11,7 @@ mutual
   expr-fits : {e : tree.ExprTree} → IsExpr e → numbers_fit e ≡ true
   expr-fits (leveled.choice {c = c} {a = a} {b = b} ic above ia ib) =
       joined (numbers_fit c) (numbers_fit a && numbers_fit b) (expr-fits ic) (joined (numbers_fit a) (numbers_fit b) (expr-fits ia) (expr-fits ib))
-  expr-fits (leveled.chain {first = first} {op = op} {m = m} {e = e} {rest = rest} ifirst above il) =
+  expr-fits (leveled.chain {first = first} {e = e} {op = op} {m = m} {rest = rest} ifirst above il) =
       joined (numbers_fit first) (links_fit (tree.link op m e rest)) (expr-fits ifirst) (links-fit il)
   expr-fits (leveled.unary ie above) = expr-fits ie
   expr-fits (leveled.number {n = n} small) = lt-ltb n (2 ^ 31) small
@@ -40,24 +40,28 @@ index-fits : {o : Option tree.IndexTree} → IsOptional IsIndex o → index_fits
 index-fits leveled.absent = refl
 index-fits (leveled.present (leveled.index ie)) = expr-fits ie
 
-declarator-fits : {d : tree.DeclaratorTree} → IsDeclarator d → (index_fits d.size && value_fits d.first) ≡ true
-declarator-fits (leveled.scalar io) = value-fits io
-declarator-fits (leveled.sized (leveled.index {e = e} ie)) = joined (numbers_fit e) true (expr-fits ie) refl
-declarator-fits (leveled.stream {size = size} io) = joined (index_fits size) true (index-fits io) refl
+-- the numbers of a declarator
+abbrev DeclaratorFits : tree.DeclaratorTree → Type 0
+DeclaratorFits d = (index_fits d.size && value_fits d.first) ≡ true
 
-head-fits : {d : tree.DeclaratorTree} → IsHeadDeclarator d → (index_fits d.size && value_fits d.first) ≡ true
-head-fits (leveled.head io) = value-fits io
+declarator-fits : (d : tree.DeclaratorTree) → IsDeclarator d → DeclaratorFits d
+declarator-fits _ (leveled.scalar io) = value-fits io
+declarator-fits _ (leveled.sized (leveled.index {e = e} ie)) = joined (numbers_fit e) true (expr-fits ie) refl
+declarator-fits _ (leveled.stream {size = size} io) = joined (index_fits size) true (index-fits io) refl
 
-all-fit : {P : tree.DeclaratorTree → Type 0} (fits : {d : tree.DeclaratorTree} → P d → (index_fits d.size && value_fits d.first) ≡ true)
-    {ds : List tree.DeclaratorTree} → AreAll P ds → declarators_fit ds ≡ true
+head-fits : (d : tree.DeclaratorTree) → IsHeadDeclarator d → DeclaratorFits d
+head-fits _ (leveled.head io) = value-fits io
+
+all-fit : {P : tree.DeclaratorTree → Type 0} {ds : List tree.DeclaratorTree} → ((d : tree.DeclaratorTree) → P d → DeclaratorFits d) →
+    AreAll P ds → declarators_fit ds ≡ true
 all-fit fits leveled.nil = refl
 all-fit fits (leveled.cons {x = d} {xs = ds} is rest) =
-    joined (index_fits d.size && value_fits d.first) (declarators_fit ds) (fits is) (all-fit fits rest)
+    joined (index_fits d.size && value_fits d.first) (declarators_fit ds) (fits d is) (all-fit fits rest)
 
-listed-fit : {P : tree.DeclaratorTree → Type 0} (fits : {d : tree.DeclaratorTree} → P d → (index_fits d.size && value_fits d.first) ≡ true)
-    {ds : List tree.DeclaratorTree} → AreListed P ds → declarators_fit ds ≡ true
+listed-fit : {P : tree.DeclaratorTree → Type 0} {ds : List tree.DeclaratorTree} → ((d : tree.DeclaratorTree) → P d → DeclaratorFits d) →
+    AreListed P ds → declarators_fit ds ≡ true
 listed-fit fits (leveled.listed {x = d} {xs = ds} is rest) =
-    joined (index_fits d.size && value_fits d.first) (declarators_fit ds) (fits is) (all-fit fits rest)
+    joined (index_fits d.size && value_fits d.first) (declarators_fit ds) (fits d is) (all-fit fits rest)
 
 change-fits : {c : tree.ChangeTree} → IsChange c → change_fits c ≡ true
 change-fits (leveled.set {t = t} {e = e} it assigns ie) = joined (target_fits t) (numbers_fit e) (target-fits it) (expr-fits ie)
@@ -80,7 +84,7 @@ mutual
   stmt-fits (leveled.IsStmt.change ic) = change-fits ic
   stmt-fits (leveled.IsStmt.call is) = args-fit is
   stmt-fits (leveled.if_alone {c = c} {a = a} ic ia) = joined (numbers_fit c) (stmt_fits a) (expr-fits ic) (stmt-fits ia)
-  stmt-fits (leveled.if_else {c = c} {a = a} {b = b} ic ia open ib) =
+  stmt-fits (leveled.if_else {c = c} {a = a} {b = b} ic ia closed ib) =
       joined (numbers_fit c) (stmt_fits a && stmt_fits b) (expr-fits ic) (joined (stmt_fits a) (stmt_fits b) (stmt-fits ia) (stmt-fits ib))
   stmt-fits (leveled.while {c = c} {s = s} ic is) = joined (numbers_fit c) (stmt_fits s) (expr-fits ic) (stmt-fits is)
   stmt-fits (leveled.for {start = start} {test = test} {step = step} {s = s} ib it ip is) =

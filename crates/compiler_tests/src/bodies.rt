@@ -6,7 +6,7 @@ use crate::statements::{
     SHADOWING, SINGLE, TRAPS, VIEWS,
 };
 use meaning_tests::bodies::{BEFORE, BODIES};
-use meaning_tests::values::{FUNCTIONS, TABLE};
+use meaning_tests::{unsigned_values, values};
 use std::alloc::Global;
 use std::process::Abort;
 use std::test::Fail;
@@ -88,17 +88,22 @@ fn bodies_worked_out_by_hand_end_as_they_mean(rt: HostRuntime) -> Result<(), Fai
 }
 
 /// The program of a row: a row whose first part has a `;` is the body of its task, and any other an expression.
-fn row_text(alloc: Global, part: &str) -> Result<String, Fail> {
+fn row_text(alloc: Global, functions: &str, part: &str) -> Result<String, Fail> {
     if part.find(";").is_some() {
-        return Ok(format!(in alloc; "{FUNCTIONS}{TASK}{{ {part} }}\n}}\n")?);
+        return Ok(format!(in alloc; "{functions}{TASK}{{ {part} }}\n}}\n")?);
     }
-    Ok(format!(in alloc; "{FUNCTIONS}{TASK}{{ y = {part}; }}\n}}\n")?)
+    Ok(format!(in alloc; "{functions}{TASK}{{ y = {part}; }}\n}}\n")?)
 }
 
 /// The expressions and bodies of a table end as they mean; it has their values too.
-fn values_beside(rt: &impl Abort, alloc: Global, rows: &[(&str, i32)]) -> Result<(), Fail> {
+fn values_beside(
+    rt: &impl Abort,
+    alloc: Global,
+    functions: &str,
+    rows: &[(&str, i32)],
+) -> Result<(), Fail> {
     for (part, _) in rows {
-        let text = row_text(alloc, *part)?;
+        let text = row_text(alloc, functions, *part)?;
         whole_beside(rt, alloc, text.as_str(), 0)?;
     }
     Ok(())
@@ -106,5 +111,40 @@ fn values_beside(rt: &impl Abort, alloc: Global, rows: &[(&str, i32)]) -> Result
 
 #[test]
 fn expressions_have_the_values_of_their_meaning(rt: HostRuntime) -> Result<(), Fail> {
-    values_beside(&rt, rt.alloc(), &TABLE)
+    values_beside(&rt, rt.alloc(), values::FUNCTIONS, &values::TABLE)
+}
+
+/// The rows of a table with the type `unsigned` end as they mean.
+fn unsigned_beside(rt: &impl Abort, alloc: Global, rows: &[(&str, i32)]) -> Result<(), Fail> {
+    values_beside(rt, alloc, unsigned_values::FUNCTIONS, rows)
+}
+
+#[test]
+fn unsigned_operators_have_the_values_of_their_meaning(rt: HostRuntime) -> Result<(), Fail> {
+    unsigned_beside(&rt, rt.alloc(), &unsigned_values::ARITHMETIC)
+}
+
+#[test]
+fn unsigned_shifts_and_bits_have_the_values_of_their_meaning(rt: HostRuntime) -> Result<(), Fail> {
+    unsigned_beside(&rt, rt.alloc(), &unsigned_values::BITS)
+}
+
+#[test]
+fn unsigned_comparisons_have_the_values_of_their_meaning(rt: HostRuntime) -> Result<(), Fail> {
+    unsigned_beside(&rt, rt.alloc(), &unsigned_values::COMPARISONS)
+}
+
+#[test]
+fn operators_of_both_types_have_the_values_of_their_meaning(rt: HostRuntime) -> Result<(), Fail> {
+    unsigned_beside(&rt, rt.alloc(), &unsigned_values::MIXED)
+}
+
+#[test]
+fn unsigned_operators_group_as_they_mean(rt: HostRuntime) -> Result<(), Fail> {
+    unsigned_beside(&rt, rt.alloc(), &unsigned_values::GROUPED)
+}
+
+#[test]
+fn unsigned_bodies_have_the_values_of_their_meaning(rt: HostRuntime) -> Result<(), Fail> {
+    unsigned_beside(&rt, rt.alloc(), &unsigned_values::BODIES)
 }

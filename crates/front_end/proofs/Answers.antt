@@ -4,8 +4,6 @@ use Rattle.std.proofs.lemmas.List.Elements.{All-cons, All-contains, All-nil}
 use Rattle.front_end.proofs.Lines.{KindsAreSpelled, MarksAreOfTokens, least_is_one}
 use Rattle.front_end.specs.Texts.{AcceptedOrRefused, IsProgramOf, IsAccepted, IsNoProgram, IsRefused, has_fault, is_no_program, has_violation, IsTrueOf, NeverBoth, OneProgram, OneRefusal}
 use Rattle.front_end.specs.Told.{told_fault, told_syntax, told_violation}
-use Rattle.front_end.specs.declared.text_error.TextError.{TextError}
-use Rattle.front_end.specs.declared.text_error.TextError.TheVariants as errors
 use Rattle.os_ast.specs.Fronts.{HasPlace, IsPlace, IsRefusedAt, OnePlace, line_at}
 use Rattle.os_ast.specs.Means.{Means, OneReading, placed_from}
 use Rattle.os_ast.specs.Trees.{ProgramTree}

@@ -690,3 +690,75 @@ const PLACED: [Meant; 5] = [
 fn declarations_have_slots_of_their_own(rt: HostRuntime) -> Result<(), Fail> {
     all_mean(&rt, rt.alloc(), &PLACED)
 }
+
+/// Each name has the type of its declaration, an element or a view that of its scalar or window, or of the stream alone.
+const TYPED: &str = "const unsigned N = -1;
+const int M = 1u;
+int f(unsigned a, int b) { unsigned c[2]; c[a] = b; return c[M] + N; }
+unsigned g(void) { return f(1, 2); }
+int main(void) {
+unsigned s __attribute__((stream)), r[2] __attribute__((stream)), x, w[2]; int t __attribute__((stream)), y, i;
+#pragma omp task input(s >> x, t >> w[1]) output(r[i] << y, t)
+{ y = x + w[0] + t + i + g(); }
+#pragma omp task input(s, osin >> x) output(osout << y)
+y = s + x + osin_len;
+}";
+
+/// Whether the names are `unsigned`, by their places.
+const TYPES: [(u32, bool); 40] = [
+    (17, true),
+    (20, false),
+    (24, true),
+    (29, true),
+    (31, true),
+    (34, false),
+    (37, true),
+    (39, false),
+    (42, true),
+    (52, false),
+    (67, true),
+    (75, true),
+    (86, true),
+    (88, true),
+    (94, false),
+    (102, false),
+    (104, false),
+    (111, true),
+    (113, true),
+    (115, false),
+    (117, true),
+    (124, true),
+    (126, false),
+    (129, false),
+    (131, false),
+    (135, false),
+    (137, true),
+    (139, true),
+    (144, false),
+    (146, false),
+    (148, true),
+    (158, true),
+    (160, false),
+    (162, true),
+    (166, false),
+    (168, false),
+    (171, false),
+    (173, true),
+    (175, true),
+    (177, false),
+];
+
+#[test]
+fn each_name_has_the_type_of_its_declaration(rt: HostRuntime) -> Result<(), Fail> {
+    let Judged::Accepted(checked) = judge(rt.alloc(), TYPED)? else {
+        return Err(Fail::from("a program without violations"));
+    };
+    assert!(rt; checked.names.len() == TYPES.len());
+    for (resolved, (place, unsigned)) in checked.names.as_slice().iter().zip(&TYPES) {
+        assert!(rt;
+            resolved.place == *place && resolved.unsigned == *unsigned,
+            "{place}"
+        );
+    }
+    Ok(())
+}

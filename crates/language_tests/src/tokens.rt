@@ -47,7 +47,7 @@ static FAULTS_HAVE_THEIR_LINE: [Case; 13] = [
     (b"int main(void) { return \"a\"; }", "BadByte { line: 1 }"),
     (b"\n\n  @", "BadByte { line: 3 }"),
     (b"a\n/* b\n*/ /* c", "OpenComment { line: 3 }"),
-    (b"1\n\n0x80000000", "BigNumber { line: 3 }"),
+    (b"1\n\n0x100000000", "BigNumber { line: 3 }"),
     (b"\\", "BadByte { line: 1 }"),
     (b"a \\ b", "BadByte { line: 1 }"),
     (b"\x00", "BadByte { line: 1 }"),

@@ -15,4 +15,5 @@ pub mod flows;
 #[cfg(test)]
 mod meaning;
 pub mod programs;
+pub mod unsigned_values;
 pub mod values;

@@ -6,7 +6,7 @@ use crate::bodies::{BEFORE, BODIES};
 use crate::case::Case;
 use crate::flows::FLOWS;
 use crate::programs::PROGRAMS;
-use crate::values::{FUNCTIONS, TABLE};
+use crate::{unsigned_values, values};
 use cddf_meaning_plain::{plain_body, plain_control};
 use flow_core_laws::{Activation, Claim, Control, ControlEnd, TaskEnd};
 use front_end::read_program;
@@ -155,21 +155,66 @@ fn bodies_end_as_was_worked_out_by_hand(rt: HostRuntime) -> Result<(), Fail> {
     Ok(())
 }
 
-/// A row whose first part has a `;` is a body; any other is an expression.
-#[test]
-fn expressions_and_bodies_have_the_values_of_c(rt: HostRuntime) -> Result<(), Fail> {
+/// The rows of a table of expressions and bodies, which call its functions, have their values. A row whose first part has a `;` is
+/// a body; any other is an expression.
+fn have_values(
+    rt: &impl Abort,
+    alloc: Global,
+    functions: &str,
+    table: &[(&str, i32)],
+) -> Result<(), Fail> {
     let before =
         "int main(void) {\nint s __attribute__((stream)); int y;\n#pragma omp task output(s << y)\n";
-    for (part, value) in &TABLE {
+    for (part, value) in table {
         let body = if part.find(";").is_some() {
-            format!(in rt.alloc(); "{part}")?
+            format!(in alloc; "{part}")?
         } else {
-            format!(in rt.alloc(); "y = {part};")?
+            format!(in alloc; "y = {part};")?
         };
-        let text = format!(in rt.alloc(); "{FUNCTIONS}{before}{{ {body} }}\n}}\n")?;
-        let found = outcome_of(rt.alloc(), text.as_str(), 5_000)?;
-        let shown = format!(in rt.alloc(); "Done {value}")?;
+        let text = format!(in alloc; "{functions}{before}{{ {body} }}\n}}\n")?;
+        let found = outcome_of(alloc, text.as_str(), 5_000)?;
+        let shown = format!(in alloc; "Done {value}")?;
         assert_eq!(rt; found.as_str(), shown.as_str(), "{part}");
     }
     Ok(())
+}
+
+#[test]
+fn expressions_and_bodies_have_the_values_of_c(rt: HostRuntime) -> Result<(), Fail> {
+    have_values(&rt, rt.alloc(), values::FUNCTIONS, &values::TABLE)
+}
+
+/// The rows of a table with the type `unsigned` have their values.
+fn have_unsigned_values(rt: &impl Abort, alloc: Global, table: &[(&str, i32)]) -> Result<(), Fail> {
+    have_values(rt, alloc, unsigned_values::FUNCTIONS, table)
+}
+
+#[test]
+fn unsigned_operators_have_the_values_of_c(rt: HostRuntime) -> Result<(), Fail> {
+    have_unsigned_values(&rt, rt.alloc(), &unsigned_values::ARITHMETIC)
+}
+
+#[test]
+fn unsigned_shifts_and_bits_have_the_values_of_c(rt: HostRuntime) -> Result<(), Fail> {
+    have_unsigned_values(&rt, rt.alloc(), &unsigned_values::BITS)
+}
+
+#[test]
+fn unsigned_comparisons_have_the_values_of_c(rt: HostRuntime) -> Result<(), Fail> {
+    have_unsigned_values(&rt, rt.alloc(), &unsigned_values::COMPARISONS)
+}
+
+#[test]
+fn operators_of_both_types_have_the_values_of_c(rt: HostRuntime) -> Result<(), Fail> {
+    have_unsigned_values(&rt, rt.alloc(), &unsigned_values::MIXED)
+}
+
+#[test]
+fn unsigned_operators_group_as_in_c(rt: HostRuntime) -> Result<(), Fail> {
+    have_unsigned_values(&rt, rt.alloc(), &unsigned_values::GROUPED)
+}
+
+#[test]
+fn unsigned_bodies_have_the_values_of_c(rt: HostRuntime) -> Result<(), Fail> {
+    have_unsigned_values(&rt, rt.alloc(), &unsigned_values::BODIES)
 }

@@ -7,11 +7,13 @@
 
 ghost use Rattle.std.specs.Prelude.{◌≤◌, ◌^◌, IsTrue};
 
+mod input;
 mod request;
 mod status;
 mod telling;
 
-use os_io::{Files, HostFiles, HostSink, Sink};
+use input::Input;
+use os_io::{Files, HostSink, Sink};
 use ospack_slots::{PackError, pack, unpack};
 use request::{Request, Way, request_of};
 use status::Status;
@@ -21,8 +23,8 @@ use std::rt::Env;
 use std::{env, io};
 use telling::{tell, tell_no_memory, tell_usage};
 
-/// The name of standard input as a file.
-const INPUT: &str = "/dev/stdin";
+/// What standard input is called, which is read under any name.
+const INPUT: &str = "standard input";
 
 /// The words behind the program's name. An error where one of them isn't text, or where memory is wanting.
 fn arguments(rt: &(impl Env + AllocGlobal)) -> io::Result<Vec<String>> {
@@ -55,7 +57,7 @@ fn answer_words(rt: &HostRuntime, words: &[String]) -> Status {
     match request_of(words) {
         None => tell_usage(&mut told),
         Some(request) => {
-            let mut files = HostFiles::new(rt);
+            let mut files = Input::new(rt.stdin());
             let mut out = HostSink::new(rt.stdout());
             match answer(rt.alloc(), &mut files, &mut out, &request) {
                 Ok(()) => Status::AllDone,

@@ -2,4 +2,5 @@
 pub mod Facts
 pub mod Names
 pub mod Sentences
+pub mod Readers
 pub mod Report

@@ -12,9 +12,11 @@ use Rattle.flow_core_laws.specs.declared.control.ControlEnd.{ControlEnd}
 use Rattle.flow_core_laws.specs.declared.control.ControlEnd.TheVariants as control_end
 use Rattle.flow_core_laws.specs.declared.ends.Ends.{Ends}
 use Rattle.osview_sentences.specs.Facts.{sentences}
+use Rattle.osview_sentences.specs.Readers.{also_text, spans_of}
 use Rattle.osview_sentences.specs.Sentences.{is_alike, sentence_text, trap_text}
 use Rattle.osview_sentences.specs.declared.fact.Sentence.{Sentence}
 use Rattle.osview_sentences.specs.declared.stream_name.StreamName.{StreamName}
+use Rattle.stream_match_layouts.specs.declared.span.Span.{Span}
 
 -- how many more sentences are like the one that is told
 abbrev pub likewise_text : ℕ → List ℕ
@@ -24,21 +26,25 @@ abbrev pub more_text : ℕ → List ℕ
 more_text more = if more == 0 then [] else likewise_text more
 
 -- a sentence of some: it is told where none before it is like it, with the number of those behind it that are
-abbrev pub told_at : List ℕ → List StreamName → List Sentence → (place : ℕ) → Sentence → List ℕ
-told_at text names all place s =
+abbrev pub told_at : List ℕ → List StreamName → List Span → (lines : List ℕ) → List Sentence → (place : ℕ) → Sentence → List ℕ
+told_at text names spans lines all place s =
     if list_any (is_alike s) (take place all) then []
-    else line (sentence_text text names s ++ more_text (count_by (is_alike s) (drop (place + 1) all)))
+    else line (sentence_text text names s ++ also_text spans lines s.task_line s.fact ++ more_text (count_by (is_alike s) (drop (place + 1) all)))
 
-abbrev pub line_at : List ℕ → List StreamName → List Sentence → (place : ℕ) → List ℕ
-line_at text names all place = option_map_or (told_at text names all place) (slice_get all place) []
+abbrev pub line_at : List ℕ → List StreamName → List Span → (lines : List ℕ) → List Sentence → (place : ℕ) → List ℕ
+line_at text names spans lines all place = option_map_or (told_at text names spans lines all place) (slice_get all place) []
 
 -- The lines of sentences: one for those that are alike, where the first of them stands.
-abbrev pub sentence_lines : List ℕ → List StreamName → List Sentence → List ℕ
-sentence_lines text names all = flat_map (line_at text names all) (range_with_len 0 (length all))
+abbrev pub sentence_lines : List ℕ → List StreamName → List Span → (lines : List ℕ) → List Sentence → List ℕ
+sentence_lines text names spans lines all = flat_map (line_at text names spans lines all) (range_with_len 0 (length all))
 
--- `main`, and how many activations it created
+-- one activation, or several
+abbrev pub activation_word : ℕ → List ℕ
+activation_word count = if count == 1 then codes " activation" else codes " activations"
+
+-- how many activations `main` created
 abbrev pub created_text : ℕ → List ℕ
-created_text count = codes " after " ++ decimal count ++ codes " activations"
+created_text count = codes " after " ++ decimal count ++ activation_word count
 
 -- what stopped `main` at a limit
 abbrev pub limit_text : ℕ → List ℕ
@@ -70,4 +76,4 @@ heading control activations done there claimed =
 abbrev pub report : List ℕ → List StreamName → (lines : List ℕ) → List Activation → (input_len : ℕ) → Ends → ControlEnd → List ℕ
 report text names lines activations input_len ends control =
     heading control (length activations) (count_by has_done ends.ends) (length (written ends.output)) (written_count activations 1)
-    ++ sentence_lines text names (sentences activations input_len ends.ends lines)
+    ++ sentence_lines text names (spans_of activations) lines (sentences activations input_len ends.ends lines)

@@ -33,16 +33,28 @@ from_text giver fares = codes " from activation " ++ decimal giver ++ codes ", w
 abbrev pub supply_text : Supply → List ℕ
 supply_text supply.Ended = codes ", which stands past the end of the input"
 supply_text supply.Nobody = codes ", which no task writes"
-supply_text supply.Itself = codes ", which it writes itself"
+supply_text supply.Itself = []
 supply_text (supply.Waiting giver) = from_text giver (codes "waits too")
+
+-- an element that another one should give
+abbrev pub given_text : (name : List ℕ) → (position : ℕ) → Supply → List ℕ
+given_text name position by = codes "waits for " ++ element_text name position ++ supply_text by
+
+-- an element that an activation waits for, and who should give it; one that waits for itself may miss the first element
+abbrev pub waits_text : (name : List ℕ) → (position : ℕ) → Supply → List ℕ
+waits_text name position supply.Itself =
+    if position == 0 then codes "waits for itself: stream " ++ name ++ codes " has no first element"
+    else codes "waits for itself: it writes " ++ element_text name position
+waits_text name position supply.Ended = given_text name position supply.Ended
+waits_text name position supply.Nobody = given_text name position supply.Nobody
+waits_text name position (supply.Waiting giver) = given_text name position (supply.Waiting giver)
 
 -- what became of an activation, where the streams have these names in a text
 abbrev pub fact_text : List ℕ → List StreamName → Fact → List ℕ
 fact_text text names (fact.Trapped code line) = codes "trapped in line " ++ decimal line ++ codes ": " ++ trap_text code
 fact_text text names fact.OverBudget = codes "used up its turns"
 fact_text text names (fact.Poisoned root) = codes "never ran, since activation " ++ decimal root ++ codes " failed"
-fact_text text names (fact.Waits stream position by) =
-    codes "waits for " ++ element_text (stream_text text names stream) position ++ supply_text by
+fact_text text names (fact.Waits stream position by) = waits_text (stream_text text names stream) position by
 
 -- What is said of an activation.
 abbrev pub sentence_text : List ℕ → List StreamName → Sentence → List ℕ

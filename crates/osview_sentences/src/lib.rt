@@ -12,6 +12,7 @@
 mod alike;
 mod fact;
 mod finding;
+mod readers;
 mod report;
 mod stream_name;
 mod text;

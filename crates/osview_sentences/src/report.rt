@@ -5,7 +5,8 @@ ghost use Rattle.collector.specs.Written.{written};
 ghost use Rattle.collector.specs.Line.{line};
 ghost use Rattle.flow_core_laws.specs.declared.activation.Activation.{Activation};
 ghost use Rattle.flow_core_laws.specs.Place.{written_count};
-ghost use Rattle.osview_sentences.specs.Report.{control_text, created_text, heading, likewise_text, limit_text, line_at, more_text, report, sentence_lines, share_text, told_at};
+ghost use Rattle.osview_sentences.specs.Report.{activation_word, control_text, created_text, heading, likewise_text, limit_text, line_at, more_text, report, sentence_lines, share_text, told_at};
+ghost use Rattle.osview_sentences.specs.Readers.{also_text};
 ghost use Rattle.osview_sentences.specs.Sentences.{is_alike, sentence_text};
 ghost use Rattle.stream_match_layouts.specs.Layout.{IsLayout, IsLayoutOf};
 
@@ -17,7 +18,20 @@ use crate::wording::trap_text;
 use flow_core_laws::{ControlEnd, Elem, Ends, TaskEnd};
 use os_io::Memory;
 use std::alloc::Global;
-use stream_match_layouts::Layout;
+use stream_match_layouts::{Layout, Span};
+
+/// What sentences are told over.
+#[derive(Clone, Copy)]
+struct Context<'a> {
+    /// The text of the program.
+    text: &'a [u8],
+    /// Where the names of the streams stand in it.
+    names: &'a [StreamName],
+    /// The claims of all activations.
+    spans: &'a [Span],
+    /// The line of each activation's task.
+    lines: &'a [u32],
+}
 
 /// What is counted in a run.
 #[derive(Clone, Copy)]
@@ -107,7 +121,7 @@ impl Text {
         ensures { OnOk result (self.new ≡ self.old ++ created_text count) }
     {
         self.field(b" after ", count)?;
-        self.add(b" activations")?;
+        self.add(activation_word(count))?;
         Ok(())
     }
 
@@ -170,17 +184,18 @@ impl Text {
         self.add(b"\n")
     }
 
-    /// Adds a sentence with the number of those that are like it, as a line.
+    /// Adds a sentence with what else is to be said and the number of those that are like it, as a line.
     fn sentence_line(
         &mut self,
-        text: &[u8],
-        names: &[StreamName],
+        over: &Context<'_>,
         sentence: Sentence,
         more: u64,
     ) -> Result<(), Memory>
-        ensures { OnOk result (self.new ≡ self.old ++ line (sentence_text text.now names.now sentence ++ more_text more)) }
+        ensures { OnOk result (self.new ≡ self.old ++ line (sentence_text over.now.text.now over.now.names.now sentence
+            ++ also_text over.now.spans.now over.now.lines.now sentence.task_line sentence.fact ++ more_text more)) }
     {
-        self.sentence(text, names, sentence)?;
+        self.sentence(over.text, over.names, sentence)?;
+        self.also(over.spans, over.lines, sentence.task_line, sentence.fact)?;
         self.more(more)?;
         self.add(b"\n")?;
         Ok(())
@@ -189,46 +204,40 @@ impl Text {
     /// Adds the line of a sentence of some, where none before it is like it.
     fn told_at(
         &mut self,
-        text: &[u8],
-        names: &[StreamName],
+        over: &Context<'_>,
         all: &[Sentence],
         place: usize,
         sentence: Sentence,
     ) -> Result<(), Memory>
         requires { place < length all.now }
-        ensures { OnOk result (self.new ≡ self.old ++ told_at text.now names.now all.now place sentence) }
+        ensures { OnOk result (self.new ≡ self.old
+            ++ told_at over.now.text.now over.now.names.now over.now.spans.now over.now.lines.now all.now place sentence) }
     {
         if is_among(sentence, &all[..place]) {
             Ok(())
         } else {
             let more = count_like(sentence, &all[place + 1..]);
-            self.sentence_line(text, names, sentence, more)
+            self.sentence_line(over, sentence, more)
         }
     }
 
     /// Adds the line of the sentence at a place.
-    fn line_at(
-        &mut self,
-        text: &[u8],
-        names: &[StreamName],
-        all: &[Sentence],
-        place: usize,
-    ) -> Result<(), Memory>
+    fn line_at(&mut self, over: &Context<'_>, all: &[Sentence], place: usize) -> Result<(), Memory>
         requires { place < length all.now }
-        ensures { OnOk result (self.new ≡ self.old ++ line_at text.now names.now all.now place) }
+        ensures { OnOk result (self.new ≡ self.old ++ line_at over.now.text.now over.now.names.now over.now.spans.now over.now.lines.now all.now place) }
     {
         match all.get(place) {
-            Some(sentence) => self.told_at(text, names, all, place, *sentence),
+            Some(sentence) => self.told_at(over, all, place, *sentence),
             None => Ok(()),
         }
     }
 
     /// Adds the lines of sentences.
-    fn lines(&mut self, text: &[u8], names: &[StreamName], all: &[Sentence]) -> Result<(), Memory>
-        ensures { OnOk result (self.new ≡ self.old ++ sentence_lines text.now names.now all.now) }
+    fn lines(&mut self, over: &Context<'_>, all: &[Sentence]) -> Result<(), Memory>
+        ensures { OnOk result (self.new ≡ self.old ++ sentence_lines over.now.text.now over.now.names.now over.now.spans.now over.now.lines.now all.now) }
     {
         for place in 0..all.len() {
-            self.line_at(text, names, all, place)?;
+            self.line_at(over, all, place)?;
         }
         Ok(())
     }
@@ -245,6 +254,17 @@ impl Text {
             b" bytes of the output are there",
         )?;
         Ok(())
+    }
+}
+
+/// The word for so many activations.
+fn activation_word(count: u64) -> &'static [u8]
+    ensures { result.now ≡ activation_word count }
+{
+    if count == 1 {
+        b" activation"
+    } else {
+        b" activations"
     }
 }
 
@@ -295,6 +315,12 @@ pub fn report_text(
     let all = sentences(alloc, layout, ends, lines)?;
     let mut told = Text::new(alloc);
     told.heading(control, count_all(layout, ends))?;
-    told.lines(text, names, &all)?;
+    let over = Context {
+        text,
+        names,
+        spans: layout.spans.as_slice(),
+        lines,
+    };
+    told.lines(&over, &all)?;
     Ok(told.into_bytes())
 }

@@ -1,7 +1,7 @@
 ghost use Rattle.std.specs.Prelude.{◌≡◌, ◌++◌, [], OnOk, codes};
 ghost use Rattle.std.specs.Fmt.{decimal};
 ghost use Rattle.osview_sentences.specs.Names.{called, stream_text};
-ghost use Rattle.osview_sentences.specs.Sentences.{element_text, fact_text, from_text, sentence_text, supply_text, trap_text};
+ghost use Rattle.osview_sentences.specs.Sentences.{element_text, fact_text, from_text, given_text, sentence_text, supply_text, trap_text, waits_text};
 
 use crate::fact::{Fact, Sentence, Supply};
 use crate::stream_name::{StreamName, name_of};
@@ -65,7 +65,7 @@ impl Text {
         match supply {
             Supply::Ended => self.add(b", which stands past the end of the input"),
             Supply::Nobody => self.add(b", which no task writes"),
-            Supply::Itself => self.add(b", which it writes itself"),
+            Supply::Itself => Ok(()),
             Supply::Waiting { giver } => self.giver(giver, b"waits too"),
         }
     }
@@ -103,6 +103,85 @@ impl Text {
         Ok(())
     }
 
+    /// Adds for which element of others it waits, and who should give it.
+    fn given(
+        &mut self,
+        text: &[u8],
+        names: &[StreamName],
+        stream: u32,
+        position: u64,
+        supply: Supply,
+    ) -> Result<(), Memory>
+        ensures { OnOk result (self.new ≡ self.old ++ given_text (stream_text text.now names.now stream) position supply) }
+    {
+        self.add(b"waits for ")?;
+        self.element(text, names, stream, position)?;
+        self.supply(supply)?;
+        Ok(())
+    }
+
+    /// Adds that a stream has no first element.
+    fn no_first(&mut self, text: &[u8], names: &[StreamName], stream: u32) -> Result<(), Memory>
+        ensures { OnOk result (self.new ≡ self.old ++ (codes "waits for itself: stream " ++ stream_text text.now names.now stream
+            ++ codes " has no first element")) }
+    {
+        self.add(b"waits for itself: stream ")?;
+        self.stream(text, names, stream)?;
+        self.add(b" has no first element")?;
+        Ok(())
+    }
+
+    /// Adds for which element it waits that it should write.
+    fn own(
+        &mut self,
+        text: &[u8],
+        names: &[StreamName],
+        stream: u32,
+        position: u64,
+    ) -> Result<(), Memory>
+        ensures { OnOk result (self.new ≡ self.old ++ (codes "waits for itself: it writes " ++ element_text (stream_text text.now names.now stream) position)) }
+    {
+        self.add(b"waits for itself: it writes ")?;
+        self.element(text, names, stream, position)?;
+        Ok(())
+    }
+
+    /// Adds that it waits for itself.
+    fn itself(
+        &mut self,
+        text: &[u8],
+        names: &[StreamName],
+        stream: u32,
+        position: u64,
+    ) -> Result<(), Memory>
+        ensures { OnOk result (self.new ≡ self.old ++ waits_text (stream_text text.now names.now stream) position Supply.Itself) }
+    {
+        if position == 0 {
+            self.no_first(text, names, stream)
+        } else {
+            self.own(text, names, stream, position)
+        }
+    }
+
+    /// Adds for which element it waits, and who should give it.
+    fn waits(
+        &mut self,
+        text: &[u8],
+        names: &[StreamName],
+        stream: u32,
+        position: u64,
+        supply: Supply,
+    ) -> Result<(), Memory>
+        ensures { OnOk result (self.new ≡ self.old ++ waits_text (stream_text text.now names.now stream) position supply) }
+    {
+        match supply {
+            Supply::Itself => self.itself(text, names, stream, position),
+            Supply::Ended
+            | Supply::Nobody
+            | Supply::Waiting { .. } => self.given(text, names, stream, position, supply),
+        }
+    }
+
     /// Adds what became of an activation.
     fn fact(&mut self, text: &[u8], names: &[StreamName], fact: Fact) -> Result<(), Memory>
         ensures { OnOk result (self.new ≡ self.old ++ fact_text text.now names.now fact) }
@@ -115,12 +194,7 @@ impl Text {
                 stream,
                 position,
                 supply,
-            } => {
-                self.add(b"waits for ")?;
-                self.element(text, names, stream, position)?;
-                self.supply(supply)?;
-                Ok(())
-            }
+            } => self.waits(text, names, stream, position, supply),
         }
     }
 

@@ -1,4 +1,4 @@
-use Rattle.std.proofs.Common.{◌≡◌, ◌<◌, ◌∙◌, ap, arith, get_or, length}
+use Rattle.std.proofs.Common.{◌<◌, ◌∙◌, ap, arith, get_or, length}
 use Rattle.stream_match_layouts.proofs.Tallies.{frame_count-is}
 use Rattle.collector.proofs.ReadPlaces.{claimed_by}
 use Rattle.osview_sentences.proofs.report.count_all.Goals as goal

@@ -6,7 +6,7 @@ use Rattle.osview_sentences.proofs.text.Text.lines.Goals as goal
 
 pub loop-place-preserved : goal.loop-place-preserved
 loop-place-preserved c =
-    let f = line_at c.args.text.now c.args.names.now c.args.all.now in
+    let f = line_at c.args.over.now.text.now c.args.over.now.names.now c.args.over.now.spans.now c.args.over.now.lines.now c.args.all.now in
     let k = c.loop-place.place in
     let old = c.args.self.now in
     c.in_ok-line_at.ensures ∙ ap (λ x. x ++ f k) c.loop-place.invariant ∙ append_assoc old (flat_map f (range_with_len 0 k)) (f k) ∙ ap (λ x. old ++ x) (sym (one_more f k))

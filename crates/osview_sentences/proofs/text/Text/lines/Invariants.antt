@@ -5,4 +5,4 @@ use Rattle.osview_sentences.proofs.text.Text.lines.Given as goal
 
 -- the lines so far were added
 abbrev pub invariant-loop-place : goal.invariant-loop-place
-invariant-loop-place l = l.self ≡ l.initial.self ++ flat_map (line_at l.text l.names l.all) (range_with_len 0 l.place)
+invariant-loop-place l = l.self ≡ l.initial.self ++ flat_map (line_at l.over.text.now l.over.names.now l.over.spans.now l.over.lines.now l.all) (range_with_len 0 l.place)

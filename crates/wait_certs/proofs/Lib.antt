@@ -1,0 +1,4 @@
+pub mod Reading
+pub mod Giving
+pub mod Chains
+pub mod Growth

@@ -1,0 +1,150 @@
+ghost use Rattle.std.specs.Prelude.{◌≡◌, ◌<◌, ◌↔◌, None, true, false, IfOk, IfSome, List, length, option_and_then, replicate, slice_set};
+ghost use Rattle.std.specs.Option.{option_map};
+ghost use Rattle.flow_core_laws.specs.declared.activation.Activation.{Activation};
+ghost use Rattle.flow_core_laws.specs.declared.task_end.TaskEnd.TheVariants.{Done};
+ghost use Rattle.flow_core_laws.specs.Outcome.{has_end_at};
+ghost use Rattle.stream_match_layouts.specs.Layout.{IsLayout, IsLayoutOf};
+ghost use Rattle.stream_match_layouts.specs.Spans.{frame_count};
+ghost use Rattle.wait_certs_laws.specs.Walk.{IsWalk};
+ghost use Rattle.wait_certs.specs.Searching.{WalksBy, done_of, unmarked, waited_for};
+
+use collector::first_missing;
+use flow_core_laws::{Ends, TaskEnd};
+use os_io::{List, Memory};
+use std::alloc::Global;
+use stream_match_layouts::Layout;
+
+/// The walk of an activation that has no end: from it to the producer of its first missing element, and on, as long as one
+/// comes that isn't in the walk yet. There is none for an activation that has an end. Where the ends are those of the meaning,
+/// the walk is a chain, by which `check_chain` sees that its members starve.
+pub fn walk(
+    alloc: Global,
+    layout: &Layout,
+    ends: &Ends,
+    frame: u32,
+) -> Result<Option<List<u32>>, Memory>
+    requires layout { IsLayout layout.now }
+    requires exists { frame < frame_count layout.now }
+    ensures none { IfOk result (λ answer. (answer ≡ None) ↔ (has_end_at ends.now.ends frame ≡ true)) }
+    ensures walk { IfOk result (λ answer. IfSome answer (λ members. (activations : List Activation) → IsLayoutOf layout.now activations
+        → IsWalk activations layout.now.input_len ends.now.ends frame members)) }
+{
+    if has_end(ends, frame) {
+        return Ok(None);
+    }
+    let done = ended_done(alloc, ends)?;
+    let members = walk_from(alloc, layout, &done, frame)?;
+    Ok(Some(members))
+}
+
+/// Whether an activation has an end.
+fn has_end(ends: &Ends, frame: u32) -> bool
+    ensures { result ≡ has_end_at ends.now.ends frame }
+{
+    match ends.ends.as_slice().get(frame as usize) {
+        Some(end) => end.is_some(),
+        None => false,
+    }
+}
+
+/// Ends by which whoever has an end is done: what it should have written is there, if only as poison.
+fn ended_done(alloc: Global, ends: &Ends) -> Result<flow_core_laws::Ends, Memory>
+    ensures { IfOk result (λ done. done.ends ≡ done_of ends.now.ends) }
+{
+    let mut done = List::with_capacity(alloc, ends.ends.len())?;
+    for end in ends.ends.as_slice() {
+        done.push(as_done(*end))?;
+    }
+    Ok(flow_core_laws::Ends {
+        ends: done,
+        output: List::new(alloc),
+    })
+}
+
+/// The same end as one that is done.
+fn as_done(end: Option<TaskEnd>) -> Option<flow_core_laws::TaskEnd>
+    ensures { result ≡ option_map (λ e. Done) end }
+{
+    match end {
+        Some(_) => Some(flow_core_laws::TaskEnd::Done),
+        None => None,
+    }
+}
+
+/// The walk from an activation on, by ends of a run without poison.
+fn walk_from(
+    alloc: Global,
+    layout: &Layout,
+    done: &flow_core_laws::Ends,
+    frame: u32,
+) -> Result<List<u32>, Memory>
+    requires layout { IsLayout layout.now }
+    requires exists { frame < frame_count layout.now }
+    ensures { IfOk result (λ members. (activations : List Activation) → IsLayoutOf layout.now activations
+        → WalksBy (waited_for activations layout.now.input_len done.now.ends) frame members) }
+{
+    let mut marks = no_marks(alloc, layout.frames())?;
+    let mut members = List::new(alloc);
+    members.push(frame)?;
+    mark(&mut marks, frame);
+    let mut last = frame;
+    'walking: while let Some(next) = next_unmarked(layout, done, marks.as_slice(), last) {
+        members.push(next)?;
+        mark(&mut marks, next);
+        last = next;
+    }
+    Ok(members)
+}
+
+/// So many marks, none of which is set.
+fn no_marks(alloc: Global, count: usize) -> Result<List<bool>, Memory>
+    ensures { IfOk result (λ marks. marks ≡ replicate count false) }
+{
+    let mut marks = List::with_capacity(alloc, count)?;
+    for _ in 0..count {
+        marks.push(false)?;
+    }
+    Ok(marks)
+}
+
+/// Sets a mark.
+fn mark(marks: &mut List<bool>, member: u32)
+    requires { member < length marks.old }
+    ensures { marks.new ≡ slice_set marks.old member true }
+{
+    marks.as_mut_slice()[member as usize] = true;
+}
+
+/// The activation that an activation waits for, where it has no mark.
+fn next_unmarked(
+    layout: &Layout,
+    done: &flow_core_laws::Ends,
+    marks: &[bool],
+    frame: u32,
+) -> Option<u32>
+    requires layout { IsLayout layout.now }
+    requires exists { frame < frame_count layout.now }
+    requires marks { length marks.now ≡ frame_count layout.now }
+    ensures exists { IfSome result (λ next. next < frame_count layout.now) }
+    ensures next { (activations : List Activation) → IsLayoutOf layout.now activations
+        → result ≡ option_and_then (unmarked marks.now) (waited_for activations layout.now.input_len done.now.ends frame) }
+{
+    let next = producer_missed(layout, done, frame)?;
+    if marks[next as usize] {
+        None
+    } else {
+        Some(next)
+    }
+}
+
+/// The producer of the first missing element of an activation.
+fn producer_missed(layout: &Layout, done: &flow_core_laws::Ends, frame: u32) -> Option<u32>
+    requires layout { IsLayout layout.now }
+    requires exists { frame < frame_count layout.now }
+    ensures exists { IfSome result (λ next. next < frame_count layout.now) }
+    ensures next { (activations : List Activation) → IsLayoutOf layout.now activations
+        → result ≡ waited_for activations layout.now.input_len done.now.ends frame }
+{
+    let missing = first_missing(layout, done, frame)?;
+    missing.producer
+}

@@ -1,0 +1,3 @@
+pub mod Starving
+pub mod Growing
+pub mod Walks

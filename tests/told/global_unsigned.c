@@ -1,0 +1,3 @@
+unsigned count;
+int main(void) {
+}
