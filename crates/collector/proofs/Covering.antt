@@ -29,7 +29,6 @@ use Rattle.flow_core_laws.specs.declared.task_end.TaskEnd.{TaskEnd}
 use Rattle.flow_core_laws.specs.Outcome.{is_done, has_end_at}
 use Rattle.collector.specs.Laws.{AllIsWritten}
 
-
 -- a window that writes the element at a position
 record Covered (activations : List Activation) (stream position : ℕ) : Type 0 where
   pub number : ℕ

@@ -29,11 +29,7 @@ impl LineBuffer {
     }
 
     /// Adds the producer of a missing element, which is starved too.
-    fn producer<S: Sink>(
-        &mut self,
-        sink: &mut S,
-        producer: Option<u32>,
-    ) -> Result<(), WriteError>
+    fn producer<S: Sink>(&mut self, sink: &mut S, producer: Option<u32>) -> Result<(), WriteError>
         ensures { GoesOn S.Sink sink.old sink.new self.old self.new (producer_text producer) result }
     {
         match producer {

@@ -18,8 +18,8 @@ mod waits;
 pub use board::Board;
 pub use cells::gather;
 pub use flow_core_laws::{
-    Activation, Bodies, Claim, Control, ControlEnd, Elem, Ends, FramePlan, Outcome, Piece, Plan, TaskEnd,
-    laws,
+    Activation, Bodies, Claim, Control, ControlEnd, Elem, Ends, FramePlan, Outcome, Piece, Plan,
+    TaskEnd, laws,
 };
 pub use one_thread::execute_one;
 pub use waits::Waits;

@@ -176,9 +176,9 @@ impl Text {
     {
         match supply {
             Supply::Itself => self.itself(text, names, stream, position),
-            Supply::Ended
-            | Supply::Nobody
-            | Supply::Waiting { .. } => self.given(text, names, stream, position, supply),
+            Supply::Ended | Supply::Nobody | Supply::Waiting { .. } => self.given(
+                text, names, stream, position, supply,
+            ),
         }
     }
 

@@ -39,7 +39,6 @@ use Rattle.std.proofs.lemmas.List.Elements.{filter-append}
 use Rattle.std.proofs.lemmas.List.FromFn.{get_or-map-range_with_len}
 use Rattle.flow_core_epochs.proofs.Members.{Has, has_head, has_tail, in_map}
 
-
 -- ---- the sources of cells
 
 module _ (layout : Layout) (is : IsLayout layout) (activations : List Activation) (of : IsLayoutOf layout activations) (input : List ℕ) (frames : List ℕ) (kept : List Kept) (sink : List Reach) (exist : All (λ (r : Reach). r.stream < length layout.writers) sink) (fits : sum_by (over_frame read_count layout) frames + total sink ≤ 4194304) (are : AreFrames layout frames) (outside : WrittenOutside activations frames kept) (plan : Plan) (laid : IsWoven layout (weave_over layout input frames kept sink) plan) where
