@@ -79,6 +79,7 @@ fn body_text(alloc: Global, end: TaskEnd, outputs: &[i32]) -> Result<String, Fai
         TaskEnd::Done => write!(&mut text, "Done")?,
         TaskEnd::Trapped { code, line } => write!(&mut text, "trapped {code} line {line}")?,
         TaskEnd::OverBudget => write!(&mut text, "over budget")?,
+        TaskEnd::Poisoned { root } => write!(&mut text, "poisoned by {root}")?,
     }
     for number in outputs {
         write!(&mut text, " {number}")?;
