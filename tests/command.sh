@@ -385,6 +385,48 @@ agree "65,536 tasks that never end" 1 nothing.bin "as wanted"
 run run windows.c in.bin
 agree "65,536 windows of 64" 0 nothing.bin "control done / output 0 of 0"
 
+# Chains of as many activations as there may be, in both directions, that are all poisoned by the one that traps.
+cat >poisoned.c <<'END'
+int main(void) {
+    int s __attribute__((stream));
+    int i, x, y;
+    #pragma omp task output(s << y)
+    y = 1 / 0;
+    for (i = 1; i < 65536; i++) {
+        #pragma omp task input(s >> x) output(s << y)
+        y = x;
+    }
+}
+END
+cat >backwards.c <<'END'
+int main(void) {
+    int s[65536] __attribute__((stream));
+    int i, x, y;
+    for (i = 1; i < 65536; i++) {
+        #pragma omp task input(s[i] >> x) output(s[i - 1] << y)
+        y = x;
+    }
+    #pragma omp task output(s[65535] << y)
+    y = 1 / 0;
+}
+END
+{
+    echo 'trapped 0 code 2 line 5'
+    seq 65535 | sed 's/.*/poisoned & by 0/'
+    printf 'control done\noutput 0 of 0\n'
+} >poisoned.wanted
+{
+    seq 0 65534 | sed 's/.*/poisoned & by 65535/'
+    printf 'trapped 65535 code 2 line 9\ncontrol done\noutput 0 of 0\n'
+} >backwards.wanted
+for chain in poisoned backwards; do
+    for workers in 1 4; do
+        run run "$chain.c" nothing.bin --workers "$workers"
+        cmp -s report "$chain.wanted" && echo "as wanted" >report
+        agree "65,536 activations of the chain $chain.c by $workers" 1 nothing.bin "as wanted"
+    done
+done
+
 # The largest run: as many activations, cells and pieces as there may be, in less than 400 MB of address space.
 cat >largest.c <<'END'
 int main(void) {
