@@ -92,8 +92,35 @@ const STARVED: &str = r"int main(void) {
 }
 ";
 
-const PROGRAMS: [&str; 9] = [
-    INVERT, SMOOTH, LIFT, PIPELINE, BROADCAST, WAITING, BACKWARD, KEPT, STARVED,
+/// Two trap and one never ends, and others read what these should have written, before and behind the borders of short epochs: by
+/// overlapping windows, at second hand, and by two roots of which the greater comes first. Some starve beside poison.
+const POISONED: &str = r"int main(void) {
+    int s __attribute__((stream)), t __attribute__((stream)), u __attribute__((stream));
+    int i, x, y, p[1], q[1];
+    #pragma omp task input(u >> p[0]) output(t << y)
+    y = p[0];
+    for (i = 0; i < 6; i++) {
+        int w[3];
+        #pragma omp task output(s << y)
+        y = 20 + i + 0 / (i - 3);
+        #pragma omp task input(s >> w[1]) output(osout << y)
+        y = w[0] + w[2];
+    }
+    #pragma omp task input(t >> q[0]) output(osout << y)
+    y = q[0];
+    #pragma omp task output(u << y)
+    while (1) ;
+    for (i = 0; i < 3; i++) {
+        #pragma omp task input(s >> x, u >> p[0]) output(osout << y)
+        y = x + p[0];
+    }
+    #pragma omp task output(s << y)
+    y = 1 / 0;
+}
+";
+
+const PROGRAMS: [&str; 10] = [
+    INVERT, SMOOTH, LIFT, PIPELINE, BROADCAST, WAITING, BACKWARD, KEPT, STARVED, POISONED,
 ];
 
 /// A run in epochs of at most so many activations, by so many workers.
