@@ -5,7 +5,7 @@ use Rattle.std.proofs.lemmas.Bool.{cases_lt, lt-ltb}
 use Rattle.std.proofs.lemmas.List.{length-append, length-take}
 use Rattle.std.proofs.lemmas.List.Elements.{All-nil}
 use Rattle.control_run.specs.Stretches.{RunSoFar, end_told, given_by, not_begun, remaining, whole}
-use Rattle.epoch_run_bodies.specs.Frames.{frame_outcome}
+use Rattle.epoch_run_bodies.specs.Frames.{code_ends, frame_outcome}
 use Rattle.flow_core_epochs.specs.Epoch.{IsHeld}
 use Rattle.flow_core_epochs.specs.Laws.{HeldAtFirst}
 use Rattle.flow_core_laws.specs.declared.elem.Elem.{Elem}
@@ -24,7 +24,7 @@ use Rattle.stream_match_layouts.specs.Lawful.{AreLawful}
 use Rattle.stream_match_layouts.specs.Layout.{IsLayout, IsLayoutOf}
 use Rattle.stream_match_layouts.specs.declared.layout.Layout.{Layout}
 use Rattle.epoch_run.specs.Held.{IsHeldOf, IsOpenEpoch}
-use Rattle.epoch_run.specs.Run.{AreBudgets, created, ends_on_machine}
+use Rattle.epoch_run.specs.Run.{AreBudgets, created}
 use Rattle.epoch_run.specs.Standing.{HasAdvanced, StandsAt}
 use Rattle.epoch_run.specs.declared.held.Held.{Held}
 use Rattle.epoch_run.specs.declared.result.Budgets.{Budgets}
@@ -82,11 +82,11 @@ module _ (code : Code) (input : List ℕ) (budgets : Budgets) where
 
     -- what is held when all were run is what they come to
     pub comes_to : (held : Held) (slice : List Activation) → slice ≡ run.activations → IsHeldOf (parts_of code) slice input budgets.task held
-        → held.ends ≡ ends_on_machine (parts_of code) run.activations input budgets.task
+        → held.ends ≡ code_ends (parts_of code) run.activations input budgets.task
     comes_to held slice is meant =
         let m = subst (λ (xs : List Activation). IsHeldOf (parts_of code) xs input budgets.task held) is meant in
         ap (λ es. record { ends = es; output = held.ends.output }) m.ends_are_meant
-        ∙ ap (λ os. record { ends = (ends_on_machine (parts_of code) run.activations input budgets.task).ends; output = os }) m.output_is_meant
+        ∙ ap (λ os. record { ends = (code_ends (parts_of code) run.activations input budgets.task).ends; output = os }) m.output_is_meant
 
     module _ (at_most : ℕ) (after : RunSoFar) (empty next : List Activation) (is_empty : empty ≡ []) (advance : HasAdvanced at_most run.control after empty next) where
       next_is : next ≡ take at_most (remaining run.control)

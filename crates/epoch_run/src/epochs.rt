@@ -4,7 +4,8 @@ ghost use Rattle.os_code.specs.Outcomes.{control};
 ghost use Rattle.os_code.specs.Tasks.{Fits};
 ghost use Rattle.stream_match_layouts.specs.Lawful.{AreLawful};
 ghost use Rattle.stream_match_layouts.specs.Layout.{IsLayout, IsLayoutOf};
-ghost use Rattle.epoch_run.specs.Run.{AreBudgets, created, ends_on_machine};
+ghost use Rattle.epoch_run_bodies.specs.Frames.{code_ends};
+ghost use Rattle.epoch_run.specs.Run.{AreBudgets, created};
 
 use crate::held::Held;
 use crate::result::{Budgets, RunResult};
@@ -42,7 +43,7 @@ pub fn run_epochs<R: Threads + Sync, G: Gate>(
     ensures control { IfOk result (λ run. run.control ≡ (control (parts_of code.now) (length input.now) budgets.control).end) }
     // how they end, and the elements of the output
     ensures ends { IfOk result (λ run. run.ends
-        ≡ ends_on_machine (parts_of code.now) (created (parts_of code.now) input.now budgets) input.now budgets.task) }
+        ≡ code_ends (parts_of code.now) (created (parts_of code.now) input.now budgets) input.now budgets.task) }
     // each of them fits the code, and they are what a layout takes
     ensures fit { IfOk result (λ run. All (Fits (parts_of code.now)) (created (parts_of code.now) input.now budgets)) }
     ensures lawful { IfOk result (λ run. AreLawful code.now.streams (created (parts_of code.now) input.now budgets)) }
@@ -72,7 +73,7 @@ pub fn run_epochs_of<R: Threads + Sync, G: Gate>(
     ensures control { IfOk result (λ run. run.control ≡ (control (parts_of code.now) (length input.now) budgets.control).end) }
     // how they end, and the elements of the output
     ensures ends { IfOk result (λ run. run.ends
-        ≡ ends_on_machine (parts_of code.now) (created (parts_of code.now) input.now budgets) input.now budgets.task) }
+        ≡ code_ends (parts_of code.now) (created (parts_of code.now) input.now budgets) input.now budgets.task) }
     // each of them fits the code, and they are what a layout takes
     ensures fit { IfOk result (λ run. All (Fits (parts_of code.now)) (created (parts_of code.now) input.now budgets)) }
     ensures lawful { IfOk result (λ run. AreLawful code.now.streams (created (parts_of code.now) input.now budgets)) }

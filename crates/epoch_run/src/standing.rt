@@ -2,7 +2,8 @@ ghost use Rattle.std.specs.Prelude.{◌≡◌, ◌<◌, ◌≤◌, None, IfOk, I
 ghost use Rattle.os_code.specs.Codes.{parts_of};
 ghost use Rattle.os_code.specs.Outcomes.{control};
 ghost use Rattle.stream_match_layouts.specs.Layout.{IsLayout, IsLayoutOf};
-ghost use Rattle.epoch_run.specs.Run.{AreBudgets, created, ends_on_machine};
+ghost use Rattle.epoch_run_bodies.specs.Frames.{code_ends};
+ghost use Rattle.epoch_run.specs.Run.{AreBudgets, created};
 ghost use Rattle.epoch_run.specs.Standing.{StandsAt};
 
 use crate::adding::add;
@@ -119,7 +120,7 @@ impl<'c> Standing<'c> {
         ensures layout { OnOk result (IsLayoutOf self.new.layout self.old.activations) }
         ensures whole { OnOk result (IsLayout self.new.layout) }
         ensures input { OnOk result (self.new.layout.input_len ≡ length input.now) }
-        ensures ends { OnOk result (self.new.held.ends ≡ ends_on_machine (parts_of code.now) self.old.activations input.now budgets.task) }
+        ensures ends { OnOk result (self.new.held.ends ≡ code_ends (parts_of code.now) self.old.activations input.now budgets.task) }
     {
         let bodies = TaskBodies {
             code,

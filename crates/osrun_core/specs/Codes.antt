@@ -5,10 +5,11 @@ use Rattle.os_ast.specs.Trees.{ProgramTree}
 use Rattle.os_code.specs.Outcomes as machine
 use Rattle.os_code.specs.declared.parts.Parts.{Parts}
 use Rattle.os_object.specs.Object.{Spells}
+use Rattle.epoch_run_bodies.specs.Frames.{code_ends}
 use Rattle.osrun_core_jobs.specs.Files.{AreBytesOf}
 use Rattle.osrun_core_jobs.specs.Jobs.{CompileJob, ExecJob}
 use Rattle.osrun_core_jobs.specs.declared.subject.Subject.TheVariants.{Input, Object, Program}
-use Rattle.osrun_core_run.specs.Code.{IsCodeOf, IsObjectOf, code_ends}
+use Rattle.osrun_core_run.specs.Code.{IsCodeOf, IsObjectOf}
 use Rattle.osrun_core_run.specs.Run.{ProgramRun}
 
 -- The bytes are the object of a code of the program that the file holds.

@@ -7,6 +7,7 @@ use Rattle.cddf_meaning.specs.Control.{control}
 use Rattle.collector.specs.Report.{report}
 use Rattle.collector.specs.Status.{status}
 use Rattle.collector.specs.Written.{written}
+use Rattle.epoch_run_bodies.specs.Frames.{code_ends}
 use Rattle.flow_core_laws.specs.declared.control.Control.{Control}
 use Rattle.flow_core_laws.specs.declared.ends.Ends.{Ends}
 use Rattle.front_end.specs.Texts.{IsAccepted, OneProgram}
@@ -25,7 +26,7 @@ use Rattle.osrun_core_answer.specs.Outcome.{IsOutcome, IsOutcomeOfExec, IsOutcom
 use Rattle.osrun_core_jobs.specs.Files.{JobFile, files_of}
 use Rattle.osrun_core_jobs.specs.Jobs.{Compile, Exec, ExecJob, Gen, GenJob, Job, Request, Run as RunRequest}
 use Rattle.osrun_core_jobs.specs.Reading.{WereRead}
-use Rattle.osrun_core_run.specs.Code.{IsCodeOf, code_ends}
+use Rattle.osrun_core_run.specs.Code.{IsCodeOf}
 use Rattle.osrun_core_run.specs.Refusal.{IsUsable}
 use Rattle.osrun_core_run.proofs.TasksRun.{same_ends}
 use Rattle.osrun_core_run.specs.Run.{ProgramRun, ends_over}

@@ -10,9 +10,10 @@ use Rattle.os_code.specs.Outcomes as machine
 use Rattle.os_code.specs.Tasks.{Fits}
 use Rattle.os_code.specs.declared.parts.Parts.{Parts}
 use Rattle.os_object.specs.Object.{Spells}
+use Rattle.epoch_run_bodies.specs.Frames.{code_ends}
 use Rattle.osrun_core_answer.specs.Gen.{IsRunOfGen, gen_lines}
 use Rattle.osrun_core_jobs.specs.Jobs.{Compile, CompileJob, Exec, ExecJob, Gen, GenJob, Job, Request, Run}
-use Rattle.osrun_core_run.specs.Code.{IsCodeOf, IsObjectOf, code_ends}
+use Rattle.osrun_core_run.specs.Code.{IsCodeOf, IsObjectOf}
 use Rattle.osrun_core_run.specs.Run.{ProgramRun, ends_over}
 
 -- what is written on the output, what is told on the report, and the status

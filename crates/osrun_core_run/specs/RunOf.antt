@@ -2,14 +2,15 @@
 use Rattle.std.specs.Prelude.{◌≡◌, ◌≤◌, ℕ, All, List, length}
 use Rattle.cddf_meaning.specs.Control.{control}
 use Rattle.collector.specs.Written.{written}
+use Rattle.epoch_run_bodies.specs.Frames.{code_ends}
 use Rattle.flow_core_laws.specs.declared.control.Control.{Control}
 use Rattle.flow_core_laws.specs.declared.control.ControlEnd.{ControlEnd}
 use Rattle.flow_core_laws.specs.declared.ends.Ends.{Ends}
+use Rattle.epoch_run.specs.declared.result.Budgets.{Budgets}
 use Rattle.os_ast.specs.Trees.{ProgramTree}
 use Rattle.os_code.specs.Outcomes as machine
 use Rattle.os_code.specs.Tasks.{Fits}
 use Rattle.os_code.specs.declared.parts.Parts.{Parts}
-use Rattle.osrun_core_run.specs.Code.{code_ends}
 use Rattle.osrun_core_run.specs.Run.{ends_over}
 use Rattle.osrun_core_jobs.specs.declared.job.Terms.{Terms}
 use Rattle.stream_match_layouts.specs.Layout.{IsLayout, IsLayoutOf}
@@ -21,6 +22,10 @@ pub record AreTerms (terms : Terms) : Type 0 where
   pub few_workers : terms.workers ≤ 64
   pub task_turns : terms.task_budget ≤ 1000000000
   pub control_turns : terms.control_budget ≤ 1000000000
+
+-- the budgets among the terms of a run
+abbrev pub budgets_of : Terms → Budgets
+budgets_of terms = record { task = terms.task_budget; control = terms.control_budget }
 
 -- The output, the layout and the ends are those of the activations that the control program creates, with
 -- these budgets.

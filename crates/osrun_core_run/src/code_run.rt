@@ -2,21 +2,19 @@ ghost use Rattle.std.specs.Prelude.{◌≤◌, length, IfOk};
 ghost use Rattle.os_code.specs.Codes.{parts_of};
 ghost use Rattle.osrun_core_run.specs.RunOf.{AreTerms, IsRunOfCode};
 
-use crate::lay_out::lay_out;
+use crate::in_epochs::run_in_epochs;
 use crate::made::Run;
-use crate::run_tasks::run_tasks;
 use collector::output_bytes;
-use control_run::run_control;
+use epoch_run::RunResult;
 use os_code::Code;
 use os_io::Memory;
 use osrun_core_jobs::Terms;
 use std::alloc::Global;
 use std::thread::Threads;
-use stream_match::build;
 use task_workers::Gate;
 
-/// Runs a code over an input: its `main` is run, the activations get their positions and a plan, workers carry it out, and the
-/// output's bytes are collected.
+/// Runs a code over an input: its `main` creates the activations, and workers run them, epoch by epoch; then the output's bytes are
+/// collected.
 pub fn run_code<R: Threads + Sync, G: Gate>(
     rt: &R,
     alloc: Global,
@@ -30,15 +28,16 @@ pub fn run_code<R: Threads + Sync, G: Gate>(
     ensures run { IfOk result (λ run. IsRunOfCode terms.task_budget terms.control_budget
         (parts_of code.now) input.now run.output.items run.layout run.ends run.control) }
 {
-    let control = run_control(alloc, code, input.len() as u32, terms.control_budget)?;
-    let layout = lay_out(alloc, code, &control, input)?;
-    let plan = build(alloc, &layout, input)?;
-    let ends = run_tasks(rt, alloc, terms, code, &control, &plan, gate)?;
+    let RunResult {
+        layout,
+        ends,
+        control,
+    } = run_in_epochs(rt, alloc, terms, code, input, gate)?;
     let output = output_bytes(alloc, &ends)?;
     Ok(Run {
         output,
         layout,
         ends,
-        control: control.end,
+        control,
     })
 }

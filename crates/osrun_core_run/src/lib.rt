@@ -2,11 +2,10 @@
 //!
 //! `accept` is the program that a text stands for, or says why it is refused, and `accept_object` is the code of an object.
 //! `compile` is a code of a program. `run_code` is the way from a code and an input to the bytes that are written and to what the
-//! report tells, stop by stop: the code's `main` is run, the activations get their positions and a plan, workers carry it out, and
-//! the output's bytes are collected. What comes of it is the data-flow meaning of the activations, where the machine runs the task
-//! of each. `run_program` compiles a program and runs its code. What comes of it is the control-driven data-flow meaning of the
-//! program over the input, for every program, input and number of workers. A frame of the plan runs the task of its activation on the machine (`TaskBodies` of
-//! `epoch_run_bodies`). No file is read here and nothing is written. `laws` has what holds of every program and of every run of a
+//! report tells: the code is run in epochs (`epoch_run`), and the output's bytes are collected. What comes of it is the data-flow
+//! meaning of the activations, where the machine runs the task of each. `run_program` compiles a program and runs its code. What
+//! comes of it is the control-driven data-flow meaning of the program over the input, for every program, input and number of
+//! workers. No file is read here and nothing is written. `laws` has what holds of every program and of every run of a
 //! job, and `body_laws` what holds of every list of activations and their bodies.
 #![tactic(auto)]
 
@@ -15,12 +14,11 @@ mod accepting_object;
 pub mod body_laws;
 mod code_run;
 mod compiling;
+mod in_epochs;
 pub mod laws;
-mod lay_out;
 mod made;
 mod refused;
 mod reporting;
-mod run_tasks;
 mod running;
 
 pub use accepting::accept;

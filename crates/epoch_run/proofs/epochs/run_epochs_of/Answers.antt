@@ -2,7 +2,8 @@ use Rattle.std.proofs.Common.{◌≡◌, List, Option, Some, ◌∙◌, ap, subs
 use Rattle.std.specs.Prelude.{IfSome}
 use Rattle.flow_core_laws.specs.declared.activation.Activation.{Activation}
 use Rattle.os_code.specs.Codes.{parts_of}
-use Rattle.epoch_run.specs.Run.{created, ends_on_machine}
+use Rattle.epoch_run_bodies.specs.Frames.{code_ends}
+use Rattle.epoch_run.specs.Run.{created}
 use Rattle.epoch_run.proofs.epochs.run_epochs_of.Goals as goal
 
 -- what holds if there is a value holds where there is one
@@ -14,4 +15,4 @@ returns-clause-ends g c =
     let all : c.go_on.new.self.activations ≡ created (parts_of c.args.code.now) c.args.input.now c.args.budgets =
     of_some (c.go_on.new.self.activations ≡ created (parts_of c.args.code.now) c.args.input.now c.args.budgets) c.in_ok-end.end c.in-Some.end c.in-Some.is c.in_ok-end.ensures.all in
     c.in_ok-run_last.ensures.ends
-    ∙ ap (λ (xs : List Activation). ends_on_machine (parts_of c.args.code.now) xs c.args.input.now c.args.budgets.task) all
+    ∙ ap (λ (xs : List Activation). code_ends (parts_of c.args.code.now) xs c.args.input.now c.args.budgets.task) all
