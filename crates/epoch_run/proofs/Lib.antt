@@ -1,3 +1,4 @@
+pub mod AtOnce
 pub mod Frames
 pub mod Going
 pub mod Moving

@@ -1,4 +1,4 @@
-ghost use Rattle.std.specs.Prelude.{◌≡◌, ◌<◌, ◌≤◌, IfOk, OnOk, length, map, max, nat_lt, slice_index};
+ghost use Rattle.std.specs.Prelude.{◌≡◌, ◌<◌, ◌≤◌, IfOk, OnOk, length, map, nat_lt, slice_index};
 ghost use Rattle.flow_core_laws.specs.IsSound.{IsSound};
 ghost use Rattle.flow_core_laws.specs.Outcome.{ends_of};
 ghost use Rattle.flow_core_laws.specs.Plans.{sink_elements};
@@ -11,6 +11,7 @@ ghost use Rattle.stream_match_layouts.specs.Spans.{frame_count};
 ghost use Rattle.epoch_run.specs.Held.{IsHeldOf, IsOpenEpoch};
 
 use crate::held::Held;
+use crate::plan::run_plan;
 use epoch_run_bodies::TaskBodies;
 use epoch_run_bodies::laws::{bodies_serve, later_activations_change_nothing};
 use epoch_run_ready::ready_frames;
@@ -21,7 +22,7 @@ use os_io::{List, Memory};
 use std::alloc::Global;
 use std::thread::Threads;
 use stream_match::{EpochPlan, Layout, build_ready};
-use task_workers::{Gate, execute, execute_rounds};
+use task_workers::Gate;
 
 /// Runs an epoch by so many workers: the activations of a layout that have no end yet, over what was kept for
 /// them. Where none is new, nothing is run. After `Memory` what is held may be anything, and the caller gives the run
@@ -146,22 +147,7 @@ fn plan_these(
     Ok(epoch)
 }
 
-/// How many workers an epoch is worth: as many as were asked for, but no more than it has frames.
-fn workers_for(asked: u32, frames: usize) -> u32
-    requires { 1 ≤ asked }
-    ensures some { 1 ≤ result }
-    ensures within { result ≤ asked }
-    ensures worth { result ≤ max 1 frames }
-    ensures all { asked ≤ frames → result ≡ asked }
-{
-    if frames < asked as usize {
-        return (frames as u32).max(1);
-    }
-    asked
-}
-
-/// Runs the plan of an epoch with these frames, by no more workers than it has frames. One worker runs it round by round, which
-/// needs no table of atomic words and no looks for frames.
+/// Runs the plan of an epoch with these frames.
 fn run_frames<R: Threads + Sync, B: Bodies, G: Gate>(
     rt: &R,
     alloc: Global,
@@ -178,11 +164,12 @@ fn run_frames<R: Threads + Sync, B: Bodies, G: Gate>(
     ensures ends { IfOk result (λ e. e.ends ≡ ends_of (epoch_meaning plan.now frames.now (B.outcome bodies.now))) }
     ensures output { IfOk result (λ e. e.output ≡ sink_elements plan.now (epoch_meaning plan.now frames.now (B.outcome bodies.now))) }
 {
-    let bodies = FrameBodies { bodies, frames };
-    let workers = workers_for(workers, frames.len());
-    if workers == 1 {
-        execute_rounds(rt, alloc, plan, &bodies, 1, gate)
-    } else {
-        execute(rt, alloc, plan, &bodies, workers, gate)
-    }
+    run_plan(
+        rt,
+        alloc,
+        plan,
+        &FrameBodies { bodies, frames },
+        workers,
+        gate,
+    )
 }

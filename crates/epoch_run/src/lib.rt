@@ -8,14 +8,17 @@
 //! Between two epochs stand the ends and the output of the activations so far, as these alone mean them, and the elements
 //! that later ones may read. The frames of an epoch are activations that have no end yet: the new ones, and those of
 //! earlier epochs that can run by now; what still waits is left out (`epoch_run_ready`), and costs a look in each epoch. So the
-//! plan and the cells of one epoch alone are held at once.
+//! plan and the cells of one epoch alone are held at once. Where all activations come in the first epoch, they are run by the plan
+//! of the whole run, and nothing is carried over.
 #![tactic(auto)]
 
 mod adding;
+mod at_once;
 mod beside;
 mod epoch;
 mod epochs;
 mod held;
+mod plan;
 mod putting;
 mod result;
 mod standing;

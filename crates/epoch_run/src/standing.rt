@@ -7,6 +7,7 @@ ghost use Rattle.epoch_run.specs.Run.{AreBudgets, created};
 ghost use Rattle.epoch_run.specs.Standing.{StandsAt};
 
 use crate::adding::add;
+use crate::at_once::run_at_once;
 use crate::beside::run_and_advance;
 use crate::epoch::run_epoch;
 use crate::held::Held;
@@ -103,8 +104,62 @@ impl<'c> Standing<'c> {
         Ok(self.control.end())
     }
 
-    /// Runs the last epoch.
+    /// Runs the last epoch. Where it is the first one too, its plan is that of the whole run.
     pub(crate) fn run_last<R: Threads + Sync, G: Gate>(
+        &mut self,
+        rt: &R,
+        alloc: Global,
+        code: &Code,
+        input: &[u8],
+        budgets: Budgets,
+        workers: u32,
+        gate: &G,
+    ) -> Result<(), Memory>
+        requires workers { (1 ≤ workers) × (workers ≤ 64) }
+        requires budgets { AreBudgets budgets }
+        requires stands { StandsAt code.now input.now budgets self.old }
+        ensures layout { OnOk result (IsLayoutOf self.new.layout self.old.activations) }
+        ensures whole { OnOk result (IsLayout self.new.layout) }
+        ensures input { OnOk result (self.new.layout.input_len ≡ length input.now) }
+        ensures ends { OnOk result (self.new.held.ends ≡ code_ends (parts_of code.now) self.old.activations input.now budgets.task) }
+    {
+        if self.held.ends.ends.len() == 0 {
+            self.run_at_once(rt, alloc, code, input, budgets, workers, gate)
+        } else {
+            self.run_rest(rt, alloc, code, input, budgets, workers, gate)
+        }
+    }
+
+    /// Runs all activations by one plan.
+    fn run_at_once<R: Threads + Sync, G: Gate>(
+        &mut self,
+        rt: &R,
+        alloc: Global,
+        code: &Code,
+        input: &[u8],
+        budgets: Budgets,
+        workers: u32,
+        gate: &G,
+    ) -> Result<(), Memory>
+        requires workers { (1 ≤ workers) × (workers ≤ 64) }
+        requires budgets { AreBudgets budgets }
+        requires stands { StandsAt code.now input.now budgets self.old }
+        ensures layout { OnOk result (IsLayoutOf self.new.layout self.old.activations) }
+        ensures whole { OnOk result (IsLayout self.new.layout) }
+        ensures input { OnOk result (self.new.layout.input_len ≡ length input.now) }
+        ensures ends { OnOk result (self.new.held.ends ≡ code_ends (parts_of code.now) self.old.activations input.now budgets.task) }
+    {
+        let bodies = TaskBodies {
+            code,
+            activations: self.activations.as_slice(),
+            budget: budgets.task,
+        };
+        self.held.ends = run_at_once(rt, alloc, &bodies, &self.layout, input, workers, gate)?;
+        Ok(())
+    }
+
+    /// Runs those that have no end yet.
+    fn run_rest<R: Threads + Sync, G: Gate>(
         &mut self,
         rt: &R,
         alloc: Global,

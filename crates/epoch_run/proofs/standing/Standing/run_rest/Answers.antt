@@ -1,5 +1,5 @@
 use Rattle.epoch_run.proofs.Going.{comes_to, whole_layout}
-use Rattle.epoch_run.proofs.standing.Standing.run_last.Goals as goal
+use Rattle.epoch_run.proofs.standing.Standing.run_rest.Goals as goal
 
 pub returns-clause-whole : goal.returns-clause-whole
 returns-clause-whole g c = whole_layout c.args.code.now c.args.input.now c.args.budgets c.args.self.now c.requires.budgets c.requires.stands

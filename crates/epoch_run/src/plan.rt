@@ -1,0 +1,49 @@
+ghost use Rattle.std.specs.Prelude.{◌≡◌, ◌≤◌, IfOk, max};
+ghost use Rattle.flow_core_laws.specs.IsSound.{IsSound};
+ghost use Rattle.flow_core_laws.specs.Outcome.{ends_of};
+ghost use Rattle.flow_core_laws.specs.Plans.{plan_meaning, sink_elements};
+ghost use Rattle.flow_core_laws.specs.Serves.{Serves};
+
+use flow_core_laws::{Bodies, Ends, Plan};
+use os_io::Memory;
+use std::alloc::Global;
+use std::thread::Threads;
+use task_workers::{Gate, execute, execute_rounds};
+
+/// How many workers a plan is worth: as many as were asked for, but no more than it has frames.
+fn workers_for(asked: u32, frames: usize) -> u32
+    requires { 1 ≤ asked }
+    ensures some { 1 ≤ result }
+    ensures within { result ≤ asked }
+    ensures worth { result ≤ max 1 frames }
+    ensures all { asked ≤ frames → result ≡ asked }
+{
+    if frames < asked as usize {
+        return (frames as u32).max(1);
+    }
+    asked
+}
+
+/// Runs a plan by so many workers, of which there are no more than frames. One worker runs it round by round, which needs no
+/// table of atomic words and no looks for frames.
+pub(crate) fn run_plan<R: Threads + Sync, B: Bodies, G: Gate>(
+    rt: &R,
+    alloc: Global,
+    plan: &Plan,
+    bodies: &B,
+    workers: u32,
+    gate: &G,
+) -> Result<Ends, Memory>
+    requires workers { (1 ≤ workers) × (workers ≤ 64) }
+    requires sound { IsSound plan.now }
+    requires served { Serves plan.now (B.outcome bodies.now) (B.takes bodies.now) }
+    ensures ends { IfOk result (λ e. e.ends ≡ ends_of (plan_meaning plan.now (B.outcome bodies.now))) }
+    ensures output { IfOk result (λ e. e.output ≡ sink_elements plan.now (plan_meaning plan.now (B.outcome bodies.now))) }
+{
+    let workers = workers_for(workers, plan.frames.len());
+    if workers == 1 {
+        execute_rounds(rt, alloc, plan, bodies, 1, gate)
+    } else {
+        execute(rt, alloc, plan, bodies, workers, gate)
+    }
+}
