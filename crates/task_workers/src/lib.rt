@@ -6,14 +6,17 @@
 //! halves of their list, and what they came to is delivered to the board of the run before the next round begins.
 //!
 //! What both promise is the plan's meaning, whatever the number of workers. A `Gate` is where a test may hold a worker
-//! before it runs a frame; a `WorkLog` is what a worker did.
+//! before it runs a frame; a `WorkLog` is what a worker did. `execute_logged` tells beside the meaning which frames each
+//! worker ran, in its order.
 #![tactic(auto)]
 
 mod by_rounds;
+mod logged;
 mod over_table;
 mod rounds;
 
 pub use by_rounds::execute_rounds;
-pub use over_table::execute;
+pub use logged::Logged;
+pub use over_table::{execute, execute_logged};
 pub use task_workers_round::{Gate, NoGate};
 pub use task_workers_worker::{WorkLog, work};

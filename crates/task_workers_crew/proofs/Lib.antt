@@ -4,3 +4,4 @@ pub mod Lent
 pub mod Spreading
 pub mod Dealing
 pub mod Hired
+pub mod Logged

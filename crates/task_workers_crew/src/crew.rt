@@ -1,10 +1,11 @@
 //! Workers in threads of their own.
-ghost use Rattle.std.specs.Prelude.{◌≡◌, ◌≤◌, ◌<◌, ℕ, All, length, slice_index_or};
+ghost use Rattle.std.specs.Prelude.{◌≡◌, ◌*◌, ◌≤◌, ◌<◌, ◌++◌, ℕ, List, All, length, max, slice_index_or};
 ghost use Rattle.flow_core_laws.specs.Plans.{plan_meaning};
 ghost use Rattle.flow_core_laws.specs.Serves.{Serves};
-ghost use Rattle.frame_table.specs.Tokens.{known_of};
+ghost use Rattle.frame_table.specs.Tokens.{known_of, view_of};
 ghost use Rattle.steal_pool.specs.Hands.{KeepsDeques};
-ghost use Rattle.task_workers_crew.specs.Crew.{IsSeated, HasLooked};
+ghost use Rattle.task_workers_worker.specs.Ready.{MayWork, frames_of};
+ghost use Rattle.task_workers_crew.specs.Crew.{IsSeated, HasLooked, HasLogged, ran_of};
 
 use flow_core_laws::Bodies;
 use frame_table::{FrameSeat, FrameTable};
@@ -24,8 +25,57 @@ pub struct Worker<S> {
     pub log: WorkLog,
 }
 
-// A worker works on its seat.
+// Takes a worker's seat.
 #[tactic(auto, using(crate::proofs::Joining::has_seat))]
+pub(crate) fn take_back<S>(table: &FrameTable, worker: &mut Worker<S>) -> FrameSeat
+    requires seated { IsSeated table.now 1 worker.old.seat worker.old.hand worker.old.log }
+    ensures may_work { MayWork table.now result worker.new.hand worker.new.log }
+    ensures one_share { (view_of result).shares ≡ 1 }
+    ensures ran { (view_of result).ran ≡ ran_of worker.old.seat }
+    ensures scratch { worker.new.scratch ≡ worker.old.scratch }
+    ensures hand { worker.new.hand ≡ worker.old.hand }
+    ensures log { worker.new.log ≡ worker.old.log }
+{
+    let Some(seat) = worker.seat.take() else {
+        unreachable!()
+    };
+    seat
+}
+
+// A worker works on a seat.
+pub(crate) fn work_on<S: Send + Drop, B: Bodies<Scratch = S>, G: Gate>(
+    table: &FrameTable,
+    seat: FrameSeat,
+    bodies: &B,
+    gate: &G,
+    worker: &mut Worker<S>,
+) -> FrameSeat
+    requires meant { (known_of table.now).meaning
+        ≡ plan_meaning (known_of table.now).plan (B.outcome bodies.now) }
+    requires serves { Serves (known_of table.now).plan (B.outcome bodies.now) (B.takes bodies.now) }
+    requires may_work { MayWork table.now seat worker.old.hand worker.old.log }
+    requires fits { B.fits bodies.now worker.old.scratch }
+    ensures may_work { MayWork table.now result worker.new.hand worker.new.log }
+    ensures shares { (view_of result).shares ≡ (view_of seat).shares }
+    ensures logged { (newly : List ℕ) × ((view_of result).ran ≡ (view_of seat).ran ++ newly)
+        × (worker.new.log.frames.items ≡ worker.old.log.frames.items ++ newly) }
+    ensures fits { B.fits bodies.now worker.new.scratch }
+    ensures looks { 1 ≤ frames_of table.now → max (4 * frames_of table.now) 65536 ≤ (view_of result).looks }
+    ensures deques { KeepsDeques worker.old.hand worker.new.hand }
+    ensures number { worker.new.log.worker ≡ worker.old.log.worker }
+{
+    work(
+        table,
+        seat,
+        &mut worker.hand,
+        bodies,
+        &mut worker.scratch,
+        &mut worker.log,
+        gate,
+    )
+}
+
+// A worker works on its seat.
 fn work_one<S: Send + Drop, B: Bodies<Scratch = S>, G: Gate>(
     table: &FrameTable,
     bodies: &B,
@@ -38,23 +88,15 @@ fn work_one<S: Send + Drop, B: Bodies<Scratch = S>, G: Gate>(
     requires seated { IsSeated table.now 1 worker.old.seat worker.old.hand worker.old.log }
     requires fits { B.fits bodies.now worker.old.scratch }
     ensures seated { IsSeated table.now 1 worker.new.seat worker.new.hand worker.new.log }
+    ensures logged { HasLogged worker.old.seat worker.old.log → HasLogged worker.new.seat worker.new.log }
     ensures fits { B.fits bodies.now worker.new.scratch }
     ensures looked { HasLooked table.now worker.new.seat }
     ensures deques { KeepsDeques worker.old.hand worker.new.hand }
     ensures number { worker.new.log.worker ≡ worker.old.log.worker }
 {
-    let Some(seat) = worker.seat.take() else {
-        unreachable!()
-    };
-    worker.seat = Some(work(
-        table,
-        seat,
-        &mut worker.hand,
-        bodies,
-        &mut worker.scratch,
-        &mut worker.log,
-        gate,
-    ));
+    let seat = take_back(table, worker);
+    let seat = work_on(table, seat, bodies, gate, worker);
+    worker.seat = Some(seat);
 }
 
 /// Each worker works on its seat in a thread of its own. One worker works in the caller's.
@@ -74,6 +116,9 @@ pub(crate) fn work_all<S: Send + Drop, B: Bodies<Scratch = S>, G: Gate, R: Threa
     ensures same { length crew.new ≡ length crew.old }
     ensures seated { (i : ℕ) (d : Worker S) → i < length crew.old → IsSeated table.now 1
         (slice_index_or crew.new i d).seat (slice_index_or crew.new i d).hand (slice_index_or crew.new i d).log }
+    ensures logged { (i : ℕ) (d : Worker S) → i < length crew.old →
+        HasLogged (slice_index_or crew.old i d).seat (slice_index_or crew.old i d).log
+        → HasLogged (slice_index_or crew.new i d).seat (slice_index_or crew.new i d).log }
     ensures fits { (i : ℕ) (d : Worker S) → i < length crew.old →
         B.fits bodies.now (slice_index_or crew.new i d).scratch }
     ensures looked { (i : ℕ) (d : Worker S) → i < length crew.old → HasLooked table.now (slice_index_or crew.new i d).seat }
@@ -93,6 +138,7 @@ pub(crate) fn work_all<S: Send + Drop, B: Bodies<Scratch = S>, G: Gate, R: Threa
                 × IsSeated table.now 1 worker.old.seat worker.old.hand worker.old.log
                 × B.fits bodies.now worker.old.scratch }
             ensures { IsSeated table.entry.now 1 worker.new.seat worker.new.hand worker.new.log
+                × (HasLogged worker.old.seat worker.old.log → HasLogged worker.new.seat worker.new.log)
                 × B.fits bodies.entry.now worker.new.scratch
                 × HasLooked table.entry.now worker.new.seat
                 × KeepsDeques worker.old.hand worker.new.hand

@@ -1,5 +1,5 @@
 //! How a crew gets what it works with.
-ghost use Rattle.std.specs.Prelude.{◌≡◌, ◌+◌, ◌≤◌, ◌<◌, All, IfOk, length};
+ghost use Rattle.std.specs.Prelude.{◌≡◌, ◌+◌, ◌≤◌, ◌<◌, [], All, IfOk, length};
 ghost use Rattle.flow_core_laws.specs.IsSound.{IsSound};
 ghost use Rattle.steal_pool.specs.Hands.{AreInRing};
 ghost use Rattle.task_workers_crew.specs.Crew.{TakesFrom, IsEquipped};
@@ -79,6 +79,7 @@ fn equip<B: Bodies>(
     ensures equipped { IfOk result (λ w. IsEquipped plan.now w.hand w.log) }
     ensures hand { IfOk result (λ w. w.hand ≡ hand) }
     ensures number { IfOk result (λ w. w.log.worker ≡ number) }
+    ensures unlogged { IfOk result (λ w. w.log.frames.items ≡ []) }
     ensures fits { IfOk result (λ w. B.fits bodies.now w.scratch) }
 {
     let scratch = bodies.scratch(alloc)?;
@@ -104,6 +105,7 @@ pub fn hire<B: Bodies>(
     ensures all { IfOk result (λ crew. length crew.items ≡ workers) }
     ensures equipped { IfOk result (λ crew. All (λ w. IsEquipped plan.now w.hand w.log) crew.items) }
     ensures fits { IfOk result (λ crew. All (λ w. B.fits bodies.now w.scratch) crew.items) }
+    ensures unlogged { IfOk result (λ crew. All (λ w. w.log.frames.items ≡ []) crew.items) }
     ensures numbered { IfOk result (λ crew. AreNumbered crew.items) }
     ensures dealt { IfOk result (λ crew. AreDealt plan.now (hands_of crew.items)) }
     ensures in_ring { IfOk result (λ crew. AreInRing (hands_of crew.items)) }

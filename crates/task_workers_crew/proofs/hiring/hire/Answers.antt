@@ -29,6 +29,7 @@ loop-number-preserved g c =
       All-same (λ (v : Worker _). g.B.Bodies.fits c.args.bodies.now v.scratch) c.push.new.self.items (c.loop-number.crew.items ++ w ∷ []) e (All-push (λ (v : Worker _). g.B.Bodies.fits c.args.bodies.now v.scratch) c.loop-number.crew.items w l.4 c.in_ok-worker.ensures.fits),
       (λ i. hands_of (e i) ++ rest i) ∙ next_hired c.loop-number.crew.items w c.loop-number.hands.items _ c.remove-hand.result l.5 (omega (arith, fewer, o, o')) (c.in_ok-worker.ensures.hand ∙ c.remove-hand.ensures.value),
       subst (λ crew. AreNumbered crew) (sym e) (next_number c.loop-number.crew.items w c.loop-number.number l.6 so_far c.in_ok-worker.ensures.number),
+      All-same (λ (v : Worker _). v.log.frames.items ≡ []) c.push.new.self.items (c.loop-number.crew.items ++ w ∷ []) e (All-push (λ (v : Worker _). v.log.frames.items ≡ []) c.loop-number.crew.items w l.7 c.in_ok-worker.ensures.unlogged),
     )
 
 pub returns-clause-dealt : goal.returns-clause-dealt

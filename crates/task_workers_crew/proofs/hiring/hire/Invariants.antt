@@ -1,4 +1,4 @@
-use Rattle.std.proofs.Common.{◌≡◌, ◌+◌, ◌++◌, All, length}
+use Rattle.std.proofs.Common.{◌≡◌, ◌+◌, ◌++◌, [], All, length}
 use Rattle.task_workers_crew.specs.declared.crew.Worker.{Worker}
 use Rattle.task_workers_crew.specs.Crew.{TakesFrom, IsEquipped}
 use Rattle.task_workers_crew.specs.Dealt.{hands_of, AreNumbered}
@@ -11,3 +11,4 @@ invariant-loop-number g l = (length l.hands.items + l.number ≡ l.workers) × (
     × All (λ (w : Worker _). g.B.Bodies.fits l.bodies w.scratch) l.crew.items
     × (hands_of l.crew.items ++ l.hands.items ≡ l.initial.hands.items)
     × AreNumbered l.crew.items
+    × All (λ (w : Worker _). w.log.frames.items ≡ []) l.crew.items

@@ -1,11 +1,11 @@
-use Rattle.std.proofs.Common.{rules, arith, sym, ap, subst, ◌∙◌, ◌≡◌, ◌<◌, ◌++◌, Some, IfSome, Option, option_to_list, length, length-append}
+use Rattle.std.proofs.Common.{rules, arith, sym, ap, subst, ◌∙◌, ◌≡◌, ◌<◌, ◌++◌, [], Some, IfSome, Option, option_to_list, length, length-append}
 use Rattle.std.proofs.Math.Seq.{map-set_same}
 use Rattle.std.proofs.lemmas.List.{length-set}
 use Rattle.std.proofs.lemmas.List.Elements.{All-pop, All-set}
 use Rattle.frame_table.specs.declared.seat.FrameSeat.{FrameSeat}
 use Rattle.frame_table.specs.Tokens.{IsFresh, known_of}
 use Rattle.task_workers_crew.specs.declared.crew.Worker.{Worker}
-use Rattle.task_workers_crew.specs.Crew.{IsEquipped, IsSeated}
+use Rattle.task_workers_crew.specs.Crew.{IsEquipped, IsSeated, ran_of}
 use Rattle.task_workers_crew.proofs.Joining.{set_more}
 use Rattle.task_workers_crew.proofs.running.take_seats.Goals as goal
 
@@ -41,8 +41,12 @@ loop-k-preserved g c =
       All-set (λ (w : Worker _). g.B.Bodies.fits c.args.bodies.now w.scratch) crew k worker (subst (λ s. g.B.Bodies.fits c.args.bodies.now s) (sym c.take_seat.ensures.scratch) fits) l.4,
       set_more (λ (w : Worker _). IsSeated table 1 w.seat w.hand w.log) crew k worker there l.5 c.take_seat.ensures.seated,
       map-set_same (λ (w : Worker _). w.hand) crew k worker c.index-crew-k.result c.take_seat.ensures.hand ∙ l.6,
-      map-set_same (λ (w : Worker _). w.log.worker) crew k worker c.index-crew-k.result c.take_seat.ensures.number ∙ l.7,
+      map-set_same (λ (w : Worker _). w.log) crew k worker c.index-crew-k.result c.take_seat.ensures.log ∙ l.7,
+      set_more (λ (w : Worker _). ran_of w.seat ≡ []) crew k worker there l.8 c.take_seat.ensures.ran,
     )
 
 pub returns-clause-seated : goal.returns-clause-seated
 returns-clause-seated g c = λ i d lt. c.loop-k.invariant.5 i d (let same = c.loop-k.invariant.1 in let done = c.loop-k-test.false in omega (arith, lt, same, done))
+
+pub returns-clause-ran : goal.returns-clause-ran
+returns-clause-ran g c = λ i d lt. c.loop-k.invariant.8 i d (let same = c.loop-k.invariant.1 in let done = c.loop-k-test.false in omega (arith, lt, same, done))

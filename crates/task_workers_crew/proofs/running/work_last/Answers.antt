@@ -1,32 +1,23 @@
-use Rattle.std.proofs.Common.{rules, arith, ap, sym, subst, ◌≡◌, ◌++◌, Some, Option, IfSome, option_to_list, length, length-append}
-use Rattle.std.proofs.lemmas.List.Elements.{All-pop}
+use Rattle.std.proofs.Common.{arith, sym, ap, subst, ◌∙◌, ◌≡◌, ◌+◌, ◌<◌, ◌++◌, length}
+use Rattle.flow_core_concurrent.specs.States.{times}
+use Rattle.frame_table.specs.Tokens.{view_of}
 use Rattle.task_workers_crew.specs.declared.crew.Worker.{Worker}
-use Rattle.task_workers_crew.specs.Crew.{IsSeated}
+use Rattle.task_workers_crew.proofs.Logged.{at_mapped, times-append, times_went_on}
 use Rattle.task_workers_crew.proofs.running.work_last.Goals as goal
 
-pub apart-seat-requires : goal.apart-seat-requires
-apart-seat-requires g c =
-    let popped = All-pop (λ (w : Worker _). IsSeated c.args.table.now 1 w.seat w.hand w.log) c.args.crew.items c.pop.new.self.items c.pop.result c.pop.ensures.items c.requires.seated in
-    let e : c.pop.result ≡ Some c.in-Some.last = search rules in
-    record { seated = subst (λ (o : Option (Worker _)). IfSome o (λ w. IsSeated c.args.table.now 1 w.seat w.hand w.log)) e popped.1 }
+pub work_on-requires-clause-fits : goal.work_on-requires-clause-fits
+work_on-requires-clause-fits g c κs within =
+    let some = c.requires.some in
+    let same = c.join_seats-seat.ensures.same in
+    let v = c.index-crew-0.result in
+    subst (λ s. g.B.Bodies.fits c.args.bodies.now s) (sym (at_mapped (λ (w : Worker _). w.scratch) c.join_seats-seat.new.crew c.args.crew.now 0 v v c.join_seats-seat.ensures.scratches (omega (arith, some, same)) some)) (c.requires.fits 0 v some)
 
-pub join_seats-seat-requires-clause-seated : goal.join_seats-seat-requires-clause-seated
-join_seats-seat-requires-clause-seated g c = (All-pop (λ (w : Worker _). IsSeated c.args.table.now 1 w.seat w.hand w.log) c.args.crew.items c.pop.new.self.items c.pop.result c.pop.ensures.items c.requires.seated).0
-
-pub work-requires-clause-fits : goal.work-requires-clause-fits
-work-requires-clause-fits g c κs within =
-    let popped = All-pop (λ (w : Worker _). g.B.Bodies.fits c.args.bodies.now w.scratch) c.args.crew.items c.pop.new.self.items c.pop.result c.pop.ensures.items c.requires.fits in
-    let e : c.pop.result ≡ Some c.in-Some.last = search rules in
-    let old = subst (λ (o : Option (Worker _)). IfSome o (λ w. g.B.Bodies.fits c.args.bodies.now w.scratch)) e popped.1 in
-    subst (λ s. g.B.Bodies.fits c.args.bodies.now s) (sym c.apart-seat.ensures.scratch) old
-
-pub returns-clause-shares : goal.returns-clause-shares
-returns-clause-shares g c =
-    let e : c.pop.result ≡ Some c.in-Some.last = search rules in
-    let one : length (option_to_list c.pop.result) ≡ 1 = ap (λ (o : Option (Worker _)). length (option_to_list o)) e in
-    let split : length c.args.crew.items ≡ length (c.pop.new.self.items ++ option_to_list c.pop.result) = ap length c.pop.ensures.items in
-    let sum = length-append c.pop.new.self.items (option_to_list c.pop.result) in
-    let mine = c.apart-seat.ensures.one_share in
-    let joined = c.join_seats-seat.ensures.shares in
-    let kept = c.work.ensures.worked.shares in
-    omega (arith, one, split, sum, mine, joined, kept)
+pub returns-clause-ran : goal.returns-clause-ran
+returns-clause-ran g c = λ f.
+    let some = c.requires.some in
+    let same = c.join_seats-seat.ensures.same in
+    let (newly, ran, logged) = c.work_on.ensures.logged in
+    let before = c.join_seats-seat.ensures.ran f in
+    let after : times f (view_of c.work_on.result).ran ≡ times f (view_of c.join_seats-seat.result).ran + times f newly = ap (times f) ran ∙ times-append f (view_of c.join_seats-seat.result).ran newly in
+    let lists = times_went_on c.join_seats-seat.new.crew _ c.work_on.new.worker newly f (omega (arith, some, same)) c.index-crew-0.is (logged ∙ ap (λ (w : Worker _). w.log.frames.items ++ newly) (sym c.index-crew-0.is)) in
+    omega (arith, before, after, lists)

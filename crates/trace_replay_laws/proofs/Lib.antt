@@ -1,0 +1,4 @@
+pub mod Lawful
+pub mod Taking
+pub mod Heads
+pub mod Answering
