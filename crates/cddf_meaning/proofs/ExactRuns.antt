@@ -32,7 +32,7 @@ use Rattle.cddf_meaning.proofs.Enough.{given-same, if-same, flows-same, loops-sa
 use Rattle.cddf_meaning.proofs.Falls.{value-falls}
 use Rattle.cddf_meaning.proofs.Keeps.{keeps-on, test-falls, step-keeps, run-keeps}
 use Rattle.cddf_meaning.proofs.Exact.{CallsExact, exact-here, exact-with, exact-then, value-exact, values-exact, call-exact}
-use Rattle.os_ast.specs.Types.{is_unsigned}
+use Rattle.os_ast.specs.Unsigned.{is_unsigned}
 
 -- what a statement comes to where it is over budget
 abbrev IsOver : Ran → Type 0

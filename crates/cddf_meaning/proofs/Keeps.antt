@@ -25,7 +25,7 @@ use Rattle.os_ast.specs.Trees as tree
 use Rattle.os_ast.specs.declared.expr.Mark.{Mark}
 use Rattle.os_ast.specs.declared.names.Direction.{Direction}
 use Rattle.cddf_meaning.proofs.Falls.{falls-then, falls-with, value-falls, values-falls, call-falls}
-use Rattle.os_ast.specs.Types.{is_unsigned}
+use Rattle.os_ast.specs.Unsigned.{is_unsigned}
 
 keeps-less : (s : State) (turns less : ℕ) (r : Ran) → less ≤ turns → Keeps s less r → Keeps s turns r
 keeps-less s turns less (Ended ending acts) h k = tt

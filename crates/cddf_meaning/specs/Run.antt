@@ -16,7 +16,7 @@ use Rattle.cddf_meaning.specs.declared.ending.Ending.TheVariants.{OverBudget}
 use Rattle.cddf_meaning.specs.declared.flow.Flow.TheVariants.{Breaks, Continues, Returns}
 use Rattle.cddf_meaning.specs.declared.variable.Variable.TheVariants.{Scalar, Array, Window, Stream}
 use Rattle.os_ast.specs.Parts.{parts, target_name}
-use Rattle.os_ast.specs.Types.{is_unsigned}
+use Rattle.os_ast.specs.Unsigned.{is_unsigned}
 use Rattle.os_ast.specs.Notes.Declarators.{within_limit}
 use Rattle.os_ast.specs.Trees as tree
 use Rattle.os_ast.specs.declared.stmt.Assign.TheVariants as assign_of

@@ -26,7 +26,7 @@ use Rattle.cddf_meaning.specs.declared.variable.Variable.TheVariants.{Constant, 
 use Rattle.flow_core_laws.specs.declared.activation.Activation.{Activation}
 use Rattle.os_ast.specs.Parts.{Part, parts}
 use Rattle.os_ast.specs.Trees as tree
-use Rattle.os_ast.specs.Types.{is_unsigned}
+use Rattle.os_ast.specs.Unsigned.{is_unsigned}
 use Rattle.os_ast.specs.declared.expr.Mark.{Mark}
 
 -- what was created by the end of a run

@@ -21,7 +21,7 @@ use Rattle.os_ast.specs.Notes.Statements.{stmts_notes}
 use Rattle.os_ast.specs.Stacked.{main_extent}
 use Rattle.os_ast.specs.Stacked as text
 use Rattle.os_ast.specs.Trees as tree
-use Rattle.os_ast.specs.Types.{is_unsigned}
+use Rattle.os_ast.specs.Unsigned.{is_unsigned}
 use Rattle.os_ast.specs.Violations.{names, captures, captured_by_tasks}
 use Rattle.os_ast.specs.declared.names.Entity.{Entity}
 use Rattle.os_ast.specs.declared.names.Entity.TheVariants as entity
