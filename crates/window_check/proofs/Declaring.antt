@@ -1,5 +1,5 @@
 -- What is found of a declarator, step by step.
-use Rattle.std.proofs.Common.{◌≡◌, ℕ, ◌&&◌, not, List, ◌++◌, Option, ap, sym, ◌∙◌, Bool}
+use Rattle.std.proofs.Common.{◌≡◌, ◌&&◌, not, List, ◌++◌, Option, ap, sym, ◌∙◌, Bool}
 use Rattle.os_ast.specs.Meanings.{meaning}
 use Rattle.os_ast.specs.Names.{Scope, declare, is_declared}
 use Rattle.os_ast.specs.Notes.Declarators.{form, form_entity, taken, after_declarator, sized_notes, declarator_notes}

@@ -85,10 +85,7 @@ fn declarator_rules(scopes: &Scopes, declarator: &Declarator, size: Option<Rule>
     ensures { all_rules result ≡ rule_list (least_rule (when (is_declared scopes.now declarator.now.name.id) DeclaredTwice))
         ++ (rule_list size ++ rule_list (least_rule (when (declarator.now.stream && not (is_outermost scopes.now.owner scopes.now.depth)) Misplaced))) }
 {
-    let twice = when(
-        scopes.is_declared(declarator.name.id),
-        Rule::DeclaredTwice,
-    );
+    let twice = when(scopes.is_declared(declarator.name.id), Rule::DeclaredTwice);
     let misplaced = when(declarator.stream && !is_outermost(scopes), Rule::Misplaced);
     BrokenRules::three(twice, size, misplaced)
 }

@@ -7,7 +7,6 @@ use Rattle.os_ast.specs.Violations.{violated, violations_at}
 use Rattle.os_ast.specs.declared.expr.Mark.{Mark}
 use Rattle.os_ast.specs.declared.violation.Violation.{Violation}
 use Rattle.window_check_names.specs.BrokenRules.{all_rules, rule_list, least_rule, lesser_rule}
-use Rattle.os_ast.specs.Codes.{code}
 use Rattle.os_ast.specs.declared.rule.Rule.{Rule}
 use Rattle.window_check_names.specs.declared.broken_rules.BrokenRules.{BrokenRules}
 use Rattle.window_check_names.specs.Findings.{note, noted, pushed}

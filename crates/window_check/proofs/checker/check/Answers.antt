@@ -5,6 +5,7 @@ use Rattle.os_ast.specs.Spelling.{spell}
 use Rattle.os_ast.specs.Trees.{ProgramTree}
 use Rattle.os_ast.specs.Views.{program_tree}
 use Rattle.os_ast.specs.Violations.{violated}
+use Rattle.os_ast.specs.declared.violation.Violation.{Violation}
 use Rattle.os_ast.specs.declared.rule.Rule.TheVariants as rule
 use Rattle.window_check_laws.specs.Room.{items_weight, room_end}
 use Rattle.window_check_names.specs.declared.found.Judged.{Judged}
