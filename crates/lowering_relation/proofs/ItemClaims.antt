@@ -118,7 +118,7 @@ module _ (code : Parts) (callers : List Frame) where
   burst_out slot line p horizon v stack m turns is holds = by_sign v (acts code (at callers p (v ∷ stack) m turns) (instr.BurstOut slot line) is ∙ ap (λ x. tested v (is_equal v x)) holds)
     where
       tested : ℤ → Bool → machine.Progress
-      tested x b = if b then Going (at callers (p + 1) (x ∷ stack) m turns) else machine.trap (at callers p (x ∷ stack) m turns) 8 line
+      tested x b = if b then Going (at callers (p + 1) (x ∷ stack) m turns) else machine.trap (at callers p (x ∷ stack) m turns) trap_of.OutputBurst line
 
       by_case : (n : ℕ) (t : Bool) → (n == horizon) ≡ t → machine.step code (at callers p (pos n ∷ stack) m turns) ≡ tested (pos n) t →
           Meets code (at callers p (pos n ∷ stack) m turns) (exact (pos n) horizon (p + 1) stack m turns) (if t then Ok n else traps trap_of.OutputBurst line)
