@@ -6,7 +6,7 @@ use Rattle.std.proofs.Math.Nat.{mod-le}
 use Rattle.std.proofs.Math.Dec.{le→leb, leb→le}
 use Rattle.c_int.specs.Laws.{HasSignOf, DivisionFits}
 use Rattle.c_int.specs.Operators.{is_int, is_zero, quotient, remainder}
-use Rattle.c_int.specs.declared.trap.Trap.TheVariants.{Overflow, DivisorZero}
+use Rattle.c_int.specs.declared.trap.OperatorTrap.TheVariants.{Overflow, DivisorZero}
 
 given : (zero' whole : Bool) {k m q r : ℤ} → (if zero' then Err DivisorZero else if whole then Ok k else Err Overflow) ≡ Ok q →
     (if zero' then Err DivisorZero else if whole then Ok m else Err Overflow) ≡ Ok r → (zero' ≡ false) × (k ≡ q) × (m ≡ r)

@@ -5,7 +5,7 @@ use Rattle.std.specs.Int.Signed.{mag, mag_rem}
 use Rattle.std.proofs.lemmas.Int.{quot-rem}
 use Rattle.std.proofs.lemmas.Bool.{lt-ltb}
 use Rattle.c_int.specs.Operators.{fitting, is_int, is_zero, quotient, remainder}
-use Rattle.c_int.specs.declared.trap.Trap.TheVariants.{Overflow, DivisorZero}
+use Rattle.c_int.specs.declared.trap.OperatorTrap.TheVariants.{Overflow, DivisorZero}
 
 pub small : (z : ℤ) → mag z < 2 ^ 31 → is_int z ≡ true
 small (pos a) h = lt-ltb _ _ h

@@ -23,8 +23,8 @@ use Rattle.c_int.specs.declared.operators.Binary.{Binary}
 use Rattle.c_int.specs.declared.operators.Binary.TheVariants as binary
 use Rattle.c_int.specs.declared.operators.Unary.{Unary}
 use Rattle.c_int.specs.declared.operators.Unary.TheVariants as unary
-use Rattle.c_int.specs.declared.trap.Trap.{Trap}
-use Rattle.c_int.specs.declared.trap.Trap.TheVariants.{Overflow, DivisorZero, Shift}
+use Rattle.c_int.specs.declared.trap.OperatorTrap.{OperatorTrap}
+use Rattle.c_int.specs.declared.trap.OperatorTrap.TheVariants.{Overflow, DivisorZero, Shift}
 use Rattle.c_int.proofs.Remainders.{small as small_int}
 use Rattle.c_int.proofs.Conversions.{fits, same_int, reduced, again, word_of, same_unsigned, bits_of, is_int_bits, word_below, is_int_signed}
 
@@ -44,14 +44,14 @@ in_both op work i w false false x y h k = i (converted false x) (converted false
 in_both op work i w false true x y h k = w (converted false x) (converted false y) (is_int_bits x) (is_int_bits y) ∙ words (work true) (word_of false x h) (word_of true y k)
 in_both op work i w true v x y h k = w (converted false x) (converted false y) (is_int_bits x) (is_int_bits y) ∙ words (work true) (word_of true x h) (word_of v y k)
 
-fitted_int : (t : Trap) (z : ℤ) → fitting t z ≡ given_bits (fitted t false z)
+fitted_int : (t : OperatorTrap) (z : ℤ) → fitting t z ≡ given_bits (fitted t false z)
 fitted_int t z = by (is_int z) refl
   where
     by : (b : Bool) → is_int z ≡ b → fitting t z ≡ given_bits (fitted t false z)
     by true e = rw e (ap Ok (sym (same_int z e)))
     by false e = rw e refl
 
-fitted_unsigned : (t : Trap) (z : ℤ) → Ok (converted false z) ≡ given_bits (fitted t true z)
+fitted_unsigned : (t : OperatorTrap) (z : ℤ) → Ok (converted false z) ≡ given_bits (fitted t true z)
 fitted_unsigned t z = ap Ok (sym (again z))
 
 take : (a b : ℕ) → b < 2 ^ 32 → signed ((a + (2 ^ 32 - b)) % 2 ^ 32) ≡ converted false (pos a -ℤ pos b)

@@ -7,9 +7,9 @@ use Rattle.c_int.specs.declared.operators.Binary.TheVariants as binary
 use Rattle.c_int.specs.declared.operators.Unary.{Unary}
 use Rattle.c_int.specs.declared.operators.Unary.TheVariants as unary
 use Rattle.c_int.specs.Unsigned as unsigned
-use Rattle.c_int.specs.declared.trap.Trap.{Trap}
-pub use Rattle.c_int.specs.Trapping.{Operated, trap_code, truth, by_amount}
-use Rattle.c_int.specs.declared.trap.Trap.TheVariants.{Overflow, DivisorZero, Shift}
+use Rattle.c_int.specs.declared.trap.OperatorTrap.{OperatorTrap}
+pub use Rattle.c_int.specs.Trapping.{Operated, truth, by_amount}
+use Rattle.c_int.specs.declared.trap.OperatorTrap.TheVariants.{Overflow, DivisorZero, Shift}
 
 -- An `int` is a number from -2^31 to 2^31 - 1.
 abbrev pub is_int : ℤ → Bool
@@ -22,7 +22,7 @@ is_zero (pos n) = ltb n 1
 is_zero (negsuc n) = false
 
 -- an exact result where it is an `int`, and else the trap
-abbrev pub fitting : Trap → ℤ → Operated
+abbrev pub fitting : OperatorTrap → ℤ → Operated
 fitting trap number = if is_int number then Ok number else Err trap
 
 -- `+` `-` `*` and unary `-`: the exact result, or trap 1

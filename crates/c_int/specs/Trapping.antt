@@ -1,17 +1,11 @@
 -- What an operator gives: a number or a trap.
 use Rattle.std.specs.Prelude.{ℕ, Bool, true, false, if◌then◌else◌, ltb, ℤ, pos, negsuc, Result, Err}
-use Rattle.c_int.specs.declared.trap.Trap.{Trap}
-use Rattle.c_int.specs.declared.trap.Trap.TheVariants.{Overflow, DivisorZero, Shift}
+use Rattle.c_int.specs.declared.trap.OperatorTrap.{OperatorTrap}
+use Rattle.c_int.specs.declared.trap.OperatorTrap.TheVariants.{Shift}
 
 -- a number, or a trap
 abbrev pub Operated : Type 0
-Operated = Result ℤ Trap
-
--- the codes of the traps
-abbrev pub trap_code : Trap → ℕ
-trap_code Overflow = 1
-trap_code DivisorZero = 2
-trap_code Shift = 3
+Operated = Result ℤ OperatorTrap
 
 -- 1 where something holds, and else 0
 abbrev pub truth : Bool → ℤ

@@ -9,8 +9,8 @@ use Rattle.c_int.specs.declared.operators.Binary.{Binary}
 use Rattle.c_int.specs.declared.operators.Binary.TheVariants as binary
 use Rattle.c_int.specs.declared.operators.Unary.{Unary}
 use Rattle.c_int.specs.declared.operators.Unary.TheVariants as unary
-use Rattle.c_int.specs.declared.trap.Trap.{Trap}
-use Rattle.c_int.specs.declared.trap.Trap.TheVariants.{Overflow, DivisorZero, Shift}
+use Rattle.c_int.specs.declared.trap.OperatorTrap.{OperatorTrap}
+use Rattle.c_int.specs.declared.trap.OperatorTrap.TheVariants.{Overflow, DivisorZero, Shift}
 
 -- A value is a number of the type `unsigned`, or else of `int`.
 pub record Typed : Type 0 where
@@ -51,7 +51,7 @@ truth_value holds = record { number = truth holds; unsigned = false }
 
 -- a value, or a trap
 abbrev pub Valued : Type 0
-Valued = Result Typed Trap
+Valued = Result Typed OperatorTrap
 
 -- Where one operand is `unsigned`, the other one is converted, and the work is `unsigned`.
 abbrev pub common : Typed → Typed → Bool
@@ -62,7 +62,7 @@ abbrev pub in_common : {R : Type 0} → (Bool → ℤ → ℤ → R) → Typed �
 in_common work a b = work (common a b) (converted (common a b) a.number) (converted (common a b) b.number)
 
 -- an exact result modulo 2^32 with `unsigned`; with `int` where it is one, and else the trap
-abbrev pub fitted : Trap → Bool → ℤ → Valued
+abbrev pub fitted : OperatorTrap → Bool → ℤ → Valued
 fitted trap true exact = Ok (of_type true exact)
 fitted trap false exact = if is_int exact then Ok (record { number = exact; unsigned = false }) else Err trap
 

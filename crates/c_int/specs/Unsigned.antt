@@ -3,7 +3,7 @@
 use Rattle.std.specs.Prelude.{ℕ, ◌+◌, ◌-◌, ◌*◌, ◌/◌, ◌%◌, ◌^◌, ◌==◌, ltb, leb, if◌then◌else◌, ℤ, Ok, Err}
 use Rattle.std.specs.Int.{w32, cast_unsigned, cast_signed}
 use Rattle.c_int.specs.Trapping.{Operated, by_amount, truth}
-use Rattle.c_int.specs.declared.trap.Trap.TheVariants.{DivisorZero}
+use Rattle.c_int.specs.declared.trap.OperatorTrap.TheVariants.{DivisorZero}
 
 -- the `unsigned` with the bits of an `int`: its value modulo 2^32
 abbrev pub word : ℤ → ℕ

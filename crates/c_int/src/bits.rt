@@ -4,7 +4,7 @@ ghost use Rattle.std.specs.Prelude.{◌≡◌};
 ghost use Rattle.c_int.specs.Operators as operator;
 
 use crate::arithmetic::fitting;
-use crate::trap::Trap;
+use crate::trap::OperatorTrap;
 
 /// `a & b`
 pub fn bit_and(a: i32, b: i32) -> i32
@@ -35,21 +35,21 @@ pub fn invert(a: i32) -> i32
 }
 
 /// `a << amount`: `a` times a power of two, exactly.
-pub fn shift_left(a: i32, amount: i32) -> Result<i32, Trap>
+pub fn shift_left(a: i32, amount: i32) -> Result<i32, OperatorTrap>
     ensures { result ≡ operator.shift_left a amount }
 {
     if a < 0 || amount < 0 || amount > 31 {
-        return Err(Trap::Shift);
+        return Err(OperatorTrap::Shift);
     }
-    fitting(i64::from(a) << amount, Trap::Shift)
+    fitting(i64::from(a) << amount, OperatorTrap::Shift)
 }
 
 /// `a >> amount`: the floor of `a` divided by a power of two.
-pub fn shift_right(a: i32, amount: i32) -> Result<i32, Trap>
+pub fn shift_right(a: i32, amount: i32) -> Result<i32, OperatorTrap>
     ensures { result ≡ operator.shift_right a amount }
 {
     if amount < 0 || amount > 31 {
-        return Err(Trap::Shift);
+        return Err(OperatorTrap::Shift);
     }
     Ok(a >> amount)
 }

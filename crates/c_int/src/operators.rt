@@ -6,7 +6,7 @@ ghost use Rattle.c_int.specs.Operators.{binary_value, unary_value};
 use crate::arithmetic::{add, divide, multiply, negate, remainder, subtract};
 use crate::bits::{bit_and, bit_or, bit_xor, invert, shift_left, shift_right};
 use crate::comparison::{equal, greater, greater_equal, less, less_equal, not, unequal};
-use crate::trap::Trap;
+use crate::trap::OperatorTrap;
 use crate::unsigned::{
     add_unsigned, divide_unsigned, less_equal_unsigned, less_unsigned, multiply_unsigned,
     negate_unsigned, remainder_unsigned, shift_left_unsigned, shift_right_unsigned,
@@ -60,7 +60,7 @@ pub enum Binary {
 /// What an operator gives of one operand.
 // In each loop of the machine, like `apply_binary`.
 #[inline(always)]
-pub fn apply_unary(operator: Unary, a: i32) -> Result<i32, Trap>
+pub fn apply_unary(operator: Unary, a: i32) -> Result<i32, OperatorTrap>
     ensures { result ≡ unary_value operator a }
 {
     match operator {
@@ -75,7 +75,7 @@ pub fn apply_unary(operator: Unary, a: i32) -> Result<i32, Trap>
 /// What an operator gives of its left and its right operand.
 // In each loop of the machine, of which a program has two: calls take a fifth of a body of arithmetic.
 #[inline(always)]
-pub fn apply_binary(operator: Binary, a: i32, b: i32) -> Result<i32, Trap>
+pub fn apply_binary(operator: Binary, a: i32, b: i32) -> Result<i32, OperatorTrap>
     ensures { result ≡ binary_value operator a b }
 {
     match operator {

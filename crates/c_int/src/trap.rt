@@ -1,9 +1,9 @@
 ghost use Rattle.std.specs.Prelude.{◌≡◌};
-ghost use Rattle.c_int.specs.Operators.{trap_code};
+ghost use Rattle.c_int.specs.Traps.{trap_code};
 
 /// Why an operator has no result.
 #[derive(Clone, Copy, Debug, PartialEq, Eq)]
-pub enum Trap {
+pub enum OperatorTrap {
     /// The result is no `int`; for `%`, the quotient isn't.
     Overflow,
     /// The divisor is 0.
@@ -12,15 +12,37 @@ pub enum Trap {
     Shift,
 }
 
+/// Why a run of a program traps.
+#[derive(Clone, Copy, Debug, PartialEq, Eq)]
+pub enum Trap {
+    /// An operator has no result.
+    Operator(OperatorTrap),
+    /// An index is out of range, that of a stream too.
+    Index,
+    /// An activation that ended normally gives `osout` an element that is no byte.
+    NoByte,
+    /// The size of a window isn't 1 to 65,536.
+    WindowSize,
+    /// The burst of an input item, or the amount of a tick, isn't 0 to 65,536.
+    Move,
+    /// The burst of an output window isn't its horizon.
+    OutputBurst,
+}
+
 impl Trap {
-    /// The code that a report shows: 1, 2 or 3, in the order of the variants.
+    /// The code that a report shows: 1 to 8.
     pub fn code(self) -> u8
         ensures { result ≡ trap_code self }
     {
         match self {
-            Trap::Overflow => 1,
-            Trap::DivisorZero => 2,
-            Trap::Shift => 3,
+            Trap::Operator(OperatorTrap::Overflow) => 1,
+            Trap::Operator(OperatorTrap::DivisorZero) => 2,
+            Trap::Operator(OperatorTrap::Shift) => 3,
+            Trap::Index => 4,
+            Trap::NoByte => 5,
+            Trap::WindowSize => 6,
+            Trap::Move => 7,
+            Trap::OutputBurst => 8,
         }
     }
 }

@@ -4,7 +4,7 @@
 ghost use Rattle.std.specs.Prelude.{◌≡◌};
 ghost use Rattle.c_int.specs.Unsigned as operator;
 
-use crate::trap::Trap;
+use crate::trap::OperatorTrap;
 
 /// `a + b`, modulo 2^32
 pub fn add_unsigned(a: i32, b: i32) -> i32
@@ -35,43 +35,43 @@ pub fn negate_unsigned(a: i32) -> i32
 }
 
 /// `a / b`, rounded down.
-pub fn divide_unsigned(a: i32, b: i32) -> Result<i32, Trap>
+pub fn divide_unsigned(a: i32, b: i32) -> Result<i32, OperatorTrap>
     ensures { result ≡ operator.quotient a b }
 {
     let divisor = b.cast_unsigned();
     if divisor == 0 {
-        return Err(Trap::DivisorZero);
+        return Err(OperatorTrap::DivisorZero);
     }
     Ok((a.cast_unsigned() / divisor).cast_signed())
 }
 
 /// `a % b`: what `a / b` leaves. It traps where `a / b` does.
-pub fn remainder_unsigned(a: i32, b: i32) -> Result<i32, Trap>
+pub fn remainder_unsigned(a: i32, b: i32) -> Result<i32, OperatorTrap>
     ensures { result ≡ operator.remainder a b }
 {
     let divisor = b.cast_unsigned();
     if divisor == 0 {
-        return Err(Trap::DivisorZero);
+        return Err(OperatorTrap::DivisorZero);
     }
     Ok((a.cast_unsigned() % divisor).cast_signed())
 }
 
 /// `a << amount`: `a` times a power of two, modulo 2^32.
-pub fn shift_left_unsigned(a: i32, amount: i32) -> Result<i32, Trap>
+pub fn shift_left_unsigned(a: i32, amount: i32) -> Result<i32, OperatorTrap>
     ensures { result ≡ operator.shift_left a amount }
 {
     if amount < 0 || amount > 31 {
-        return Err(Trap::Shift);
+        return Err(OperatorTrap::Shift);
     }
     Ok(a << amount)
 }
 
 /// `a >> amount`: the floor of `a` divided by a power of two.
-pub fn shift_right_unsigned(a: i32, amount: i32) -> Result<i32, Trap>
+pub fn shift_right_unsigned(a: i32, amount: i32) -> Result<i32, OperatorTrap>
     ensures { result ≡ operator.shift_right a amount }
 {
     if amount < 0 || amount > 31 {
-        return Err(Trap::Shift);
+        return Err(OperatorTrap::Shift);
     }
     Ok((a.cast_unsigned() >> amount).cast_signed())
 }

@@ -1,16 +1,18 @@
 -- An expression spends its turns exactly.
-use Rattle.std.proofs.Common.{◌≡◌, ℕ, ◌+◌, ◌-◌, ◌≤◌, ◌<◌, ◌⊎◌, inl, inr, Bool, true, false, not, if◌then◌else◌, List, ◌∷◌, [], Option, Some, None, Ok, Err, ℤ, pos, arith, ap, ◌∙◌}
+use Rattle.std.proofs.Common.{◌≡◌, ℕ, ◌+◌, ◌-◌, ◌≤◌, ◌<◌, ◌⊎◌, inl, inr, Bool, true, false, not, if◌then◌else◌, List, ◌∷◌, [], Option, Some, None, Ok, Err, ℤ, pos, arith, refl, ap, ◌∙◌}
 use Rattle.std.specs.Int.{w32, cast_signed}
 use Rattle.std.proofs.lemmas.Bool.{cases_lt}
 use Rattle.c_int.specs.Operators.{is_zero, truth}
 use Rattle.cddf_meaning.specs.Answers.{Answer, Left, and_then, left, with_turns, over}
-use Rattle.cddf_meaning.specs.Exact.{Spends, IsExact}
+use Rattle.cddf_meaning.specs.Exact.{Spends, Stays, IsExact}
 use Rattle.cddf_meaning.specs.File.{File, variable, type_in}
 use Rattle.cddf_meaning.specs.Operators.{binary_value, unary_value}
 use Rattle.cddf_meaning.specs.State.{State}
 use Rattle.cddf_meaning.specs.Value.{value, place_value, values, chained, linked, call_value, as_truth, element_at, elements, scalar_value}
-use Rattle.cddf_meaning.specs.Types.{type_of_two}
+use Rattle.cddf_meaning.specs.ExpressionTypes.{type_of_two}
 use Rattle.cddf_meaning.specs.Variables.{find}
+use Rattle.cddf_meaning.specs.declared.ending.Ending.{Ending}
+use Rattle.cddf_meaning.specs.declared.ending.Ending.TheVariants.{Trapped, OverBudget, Limited}
 use Rattle.cddf_meaning.specs.declared.variable.Variable.{Variable}
 use Rattle.cddf_meaning.specs.declared.variable.Variable.TheVariants.{Constant, Function, Scalar, Array, Window, Stream, Item}
 use Rattle.os_ast.specs.Trees as tree
@@ -20,6 +22,28 @@ use Rattle.os_ast.specs.declared.expr.Binary.TheVariants as binary
 -- what is called spends its turns exactly too
 abbrev pub CallsExact : File → Type 0
 CallsExact file = (n : ℕ) (args : List ℤ) (turns : ℕ) → IsExact ℤ (file.calls n args) turns (file.calls n args turns)
+
+-- an end that comes whatever the turns
+pub stays-always : {R : Type 0} (f : ℕ → R) (turns : ℕ) (ending : Ending) (came : R) → ((k : ℕ) → f k ≡ came) → Stays f turns ending came
+stays-always f turns OverBudget came is = tt
+stays-always f turns (Trapped why line) came is = λ more. is (turns + more)
+stays-always f turns (Limited limit) came is = λ more. is (turns + more)
+
+-- what is made of an end
+pub stays-made : {Q R : Type 0} (make : Q → R) (f : ℕ → Q) (turns : ℕ) (ending : Ending) (came : Q) (last : R) → make came ≡ last →
+    Stays f turns ending came → Stays (λ t. make (f t)) turns ending last
+stays-made make f turns OverBudget came last is s = tt
+stays-made make f turns (Trapped why line) came last is s = λ more. ap make (s more) ∙ is
+stays-made make f turns (Limited limit) came last is s = λ more. ap make (s more) ∙ is
+
+-- an end behind what spends some turns
+pub stays-behind : {R : Type 0} (f next : ℕ → R) (turns spent rest : ℕ) (ending : Ending) (came : R) → turns ≡ spent + rest →
+    ((k : ℕ) → f (spent + k) ≡ next k) → Stays next rest ending came → Stays f turns ending came
+stays-behind f next turns spent rest OverBudget came all goes s = tt
+stays-behind f next turns spent rest (Trapped why line) came all goes s =
+    λ more. let sums : turns + more ≡ spent + (rest + more) = omega (arith, all) in ap f sums ∙ (goes (rest + more) ∙ s more)
+stays-behind f next turns spent rest (Limited limit) came all goes s =
+    λ more. let sums : turns + more ≡ spent + (rest + more) = omega (arith, all) in ap f sums ∙ (goes (rest + more) ∙ s more)
 
 -- nothing is spent where something is given at once
 pub exact-here : {A : Type 0} (v : A) (turns : ℕ) → IsExact A (λ t. Ok (left v t)) turns (Ok (left v turns))
@@ -31,7 +55,7 @@ exact-here v turns = record {
 }
 
 pub exact-with : {A : Type 0} (a : Answer A) (turns : ℕ) → IsExact A (λ t. with_turns t a) turns (with_turns turns a)
-exact-with (Err ending) turns = tt
+exact-with (Err ending) turns = stays-always _ turns ending (Err ending) (λ k. refl)
 exact-with (Ok v) turns = exact-here v turns
 
 pub exact-if : {A : Type 0} (t : Bool) (f g : ℕ → Answer (Left A)) (turns : ℕ) → IsExact A f turns (f turns) → IsExact A g turns (g turns) →
@@ -57,7 +81,9 @@ then-fewer f next a b less v enough fewer behind h (inr ge) =
 then-behind : {A B : Type 0} (f : ℕ → Answer (Left A)) (next : Left A → Answer (Left B)) (turns : ℕ) (n : Left A) →
     Spends A f turns n → (b : Answer (Left B)) → IsExact B (λ t. next (left n.value t)) n.turns b →
     IsExact B (λ t. and_then (f t) next) turns b
-then-behind f next turns n s (Err ending) e = tt
+then-behind f next turns n s (Err ending) e =
+    stays-behind (λ t. and_then (f t) next) (λ t. next (left n.value t)) turns s.spent n.turns ending (Err ending) s.all
+    (λ k. ap (λ x. and_then x next) (s.enough k)) e
 then-behind f next turns n s (Ok w) e = record {
   spent = s.spent + e.spent;
   all = omega (arith, s.all, e.all);
@@ -69,7 +95,7 @@ then-behind f next turns n s (Ok w) e = record {
 pub exact-then : {A B : Type 0} (f : ℕ → Answer (Left A)) (next : Left A → Answer (Left B)) (turns : ℕ) (a : Answer (Left A)) →
     IsExact A f turns a → ((n : Left A) → IsExact B (λ t. next (left n.value t)) n.turns (next n)) →
     IsExact B (λ t. and_then (f t) next) turns (and_then a next)
-exact-then f next turns (Err ending) e rest = tt
+exact-then f next turns (Err ending) e rest = stays-made (λ x. and_then x next) f turns ending (Err ending) (Err ending) refl e
 exact-then f next turns (Ok n) e rest = then-behind f next turns n e (next n) (rest n)
 
 pub call-exact : (file : File) → CallsExact file → (v : Option Variable) (args : List ℤ) (turns : ℕ) →

@@ -1,5 +1,5 @@
 -- A call of what the items of a file declare spends its turns exactly.
-use Rattle.std.proofs.Common.{◌≡◌, ℕ, zero, suc, ◌+◌, ◌<◌, ◌==◌, List, [], ◌∷◌, ℤ, arith, refl, ap, ◌∙◌}
+use Rattle.std.proofs.Common.{◌≡◌, ℕ, zero, suc, ◌+◌, ◌<◌, ◌==◌, List, [], ◌∷◌, Err, ℤ, arith, refl, ap, ◌∙◌}
 use Rattle.cddf_meaning.specs.Answers.{Answer, Left, over}
 use Rattle.cddf_meaning.specs.Exact.{IsExact, RunsExactly}
 use Rattle.cddf_meaning.specs.File.{File}
@@ -10,14 +10,17 @@ use Rattle.cddf_meaning.specs.Run.{run_all}
 use Rattle.cddf_meaning.specs.State.{state_of}
 use Rattle.os_ast.specs.Notes.Programs.{param_list}
 use Rattle.os_ast.specs.Trees as tree
-use Rattle.cddf_meaning.proofs.Exact.{CallsExact, exact-if}
+use Rattle.cddf_meaning.proofs.Exact.{CallsExact, exact-if, stays-behind, stays-made}
 use Rattle.cddf_meaning.proofs.ExactRuns.{all-exact}
 use Rattle.cddf_meaning.proofs.Files.{item-falls}
 
 -- a body behind the unit of its call
 returned-exact : (f : ℕ → Answer (Left ℤ)) (g : ℕ → Ran) (turns : ℕ) (r : Ran) → f zero ≡ over → ((k : ℕ) → f (suc k) ≡ returned (g k)) →
     RunsExactly g turns r → IsExact ℤ f (suc turns) (returned r)
-returned-exact f g turns (Ended ending made) first more e = tt
+returned-exact f g turns (Ended ending made) first more e =
+    stays-behind f (λ k. returned (g k)) (suc turns) 1 turns ending (Err ending) (omega arith)
+    (λ k. let is : 1 + k ≡ suc k = omega arith in ap f is ∙ more k)
+    (stays-made returned g turns ending (Ended ending made) (Err ending) refl e)
 returned-exact f g turns (Went flow s left) first more e = record {
   spent = suc e.spent;
   all = omega (arith, e.all);

@@ -2,6 +2,7 @@
 use Rattle.std.proofs.Common.{◌≡◌, ℕ, zero, suc, ◌+◌, ◌-◌, ◌≤◌, ◌<◌, ◌⊎◌, inl, inr, Bool, true, false, if◌then◌else◌, List, [], ◌∷◌, length, replicate, Option, Some, None, Ok, Err, ℤ, pos, arith, refl, ap, sym, subst, ◌∙◌}
 use Rattle.std.proofs.lemmas.Bool.{cases_lt}
 use Rattle.c_int.specs.Operators.{is_zero}
+use Rattle.c_int.specs.declared.control_limit.ControlLimit.{ControlLimit}
 use Rattle.cddf_meaning.specs.Answers.{Answer, Left, and_then, left, with_turns, over}
 use Rattle.cddf_meaning.specs.Claims.{limit}
 use Rattle.cddf_meaning.specs.Exact.{Spends, IsExact, SpendsIn, RunsExactly}
@@ -31,8 +32,8 @@ use Rattle.os_ast.specs.declared.names.Direction.{Direction}
 use Rattle.cddf_meaning.proofs.Enough.{given-same, if-same, flows-same, loops-same, loop-enough}
 use Rattle.cddf_meaning.proofs.Falls.{value-falls}
 use Rattle.cddf_meaning.proofs.Keeps.{keeps-on, test-falls, step-keeps, run-keeps}
-use Rattle.cddf_meaning.proofs.Exact.{CallsExact, exact-here, exact-with, exact-then, value-exact, values-exact, call-exact}
-use Rattle.os_ast.specs.Types.{is_unsigned}
+use Rattle.cddf_meaning.proofs.Exact.{CallsExact, stays-always, stays-made, stays-behind, exact-here, exact-with, exact-then, value-exact, values-exact, call-exact}
+use Rattle.os_ast.specs.Unsigned.{is_unsigned}
 
 -- what a statement comes to where it is over budget
 abbrev IsOver : Ran → Type 0
@@ -71,7 +72,9 @@ given-fewer f s next a b less v enough fewer behind h (inr ge) =
 
 given-behind : {A : Type 0} (f : ℕ → Answer (Left A)) (s : State) (next : Left A → Ran) (turns : ℕ) (n : Left A) →
     Spends A f turns n → (b : Ran) → RunsExactly (λ t. next (left n.value t)) n.turns b → RunsExactly (λ t. given (f t) s next) turns b
-given-behind f s next turns n e (Ended ending made) r = tt
+given-behind f s next turns n e (Ended ending made) r =
+    stays-behind (λ t. given (f t) s next) (λ t. next (left n.value t)) turns e.spent n.turns ending (Ended ending made) e.all
+    (λ k. ap (λ x. given x s next) (e.enough k)) r
 given-behind f s next turns n e (Went flow t rest) r = record {
   spent = e.spent + r.spent;
   all = omega (arith, e.all, r.all);
@@ -81,12 +84,12 @@ given-behind f s next turns n e (Went flow t rest) r = record {
 
 given-exact : {A : Type 0} (f : ℕ → Answer (Left A)) (s : State) (next : Left A → Ran) (turns : ℕ) (a : Answer (Left A)) → IsExact A f turns a →
     ((n : Left A) → n.turns ≤ turns → RunsExactly (λ t. next (left n.value t)) n.turns (next n)) → RunsExactly (λ t. given (f t) s next) turns (given a s next)
-given-exact f s next turns (Err ending) e rest = tt
+given-exact f s next turns (Err ending) e rest = stays-made (λ x. given x s next) f turns ending (Err ending) (Ended ending s.activations) refl e
 given-exact f s next turns (Ok n) e rest = given-behind f s next turns n e (next n) (rest n (omega (arith, e.all)))
 
 given-plain : {A : Type 0} (a : Answer A) (s : State) (next : A → ℕ → Ran) (turns : ℕ) → ((v : A) → RunsExactly (next v) turns (next v turns)) →
     RunsExactly (λ t. given a s (λ v. next v t)) turns (given a s (λ v. next v turns))
-given-plain (Err ending) s next turns rest = tt
+given-plain (Err ending) s next turns rest = stays-always _ turns ending (Ended ending s.activations) (λ k. refl)
 given-plain (Ok v) s next turns rest = rest v
 
 -- a statement, and what follows it: `join` is `flows` or `loops`, where it goes on in a way
@@ -112,7 +115,8 @@ joined-fewer join f next a b less first s goes ends enough fewer behind h (inr g
 joined-behind : (join : Ran → Ran) (f : ℕ → Ran) (next : ℕ → Ran) (turns rest : ℕ) (first : Flow) (s : State) →
     ((k : ℕ) → join (Went first s k) ≡ next k) → ((made : List Activation) → join (Ended OverBudget made) ≡ Ended OverBudget made) →
     SpendsIn f turns first s rest → (b : Ran) → RunsExactly next rest b → RunsExactly (λ t. join (f t)) turns b
-joined-behind join f next turns rest first s goes ends e (Ended ending made) r = tt
+joined-behind join f next turns rest first s goes ends e (Ended ending made) r =
+    stays-behind (λ t. join (f t)) next turns e.spent rest ending (Ended ending made) e.all (λ k. ap join (e.enough k) ∙ goes k) r
 joined-behind join f next turns rest first s goes ends e (Went last t left) r = record {
   spent = e.spent + r.spent;
   all = omega (arith, e.all, r.all);
@@ -129,7 +133,7 @@ ended-exact join f turns rest first last s t goes ends e =
 
 flows-exact : (next : Runs) (f : ℕ → Ran) (turns : ℕ) (r : Ran) → RunsExactly f turns r →
     ((s : State) (left : ℕ) → left ≤ turns → RunsExactly (next s) left (next s left)) → RunsExactly (λ t. flows next (f t)) turns (flows next r)
-flows-exact next f turns (Ended ending made) e rest = tt
+flows-exact next f turns (Ended ending made) e rest = stays-made (flows next) f turns ending (Ended ending made) (Ended ending made) refl e
 flows-exact next f turns (Went GoesOn s left) e rest =
     joined-behind (flows next) f (next s) turns left GoesOn s (λ k. refl) (λ made. refl) e (next s left) (rest s left (omega (arith, e.all)))
 flows-exact next f turns (Went Breaks s left) e rest = ended-exact (flows next) f turns left Breaks Breaks s s (λ k. refl) (λ made. refl) e
@@ -138,7 +142,7 @@ flows-exact next f turns (Went (Returns v) s left) e rest = ended-exact (flows n
 
 loops-exact : (next : Runs) (f : ℕ → Ran) (turns : ℕ) (r : Ran) → RunsExactly f turns r →
     ((s : State) (left : ℕ) → left ≤ turns → RunsExactly (next s) left (next s left)) → RunsExactly (λ t. loops next (f t)) turns (loops next r)
-loops-exact next f turns (Ended ending made) e rest = tt
+loops-exact next f turns (Ended ending made) e rest = stays-made (loops next) f turns ending (Ended ending made) (Ended ending made) refl e
 loops-exact next f turns (Went GoesOn s left) e rest =
     joined-behind (loops next) f (next s) turns left GoesOn s (λ k. refl) (λ made. refl) e (next s left) (rest s left (omega (arith, e.all)))
 loops-exact next f turns (Went Breaks s left) e rest = ended-exact (loops next) f turns left Breaks GoesOn s s (λ k. refl) (λ made. refl) e
@@ -147,14 +151,15 @@ loops-exact next f turns (Went Continues s left) e rest =
 loops-exact next f turns (Went (Returns v) s left) e rest = ended-exact (loops next) f turns left (Returns v) (Returns v) s s (λ k. refl) (λ made. refl) e
 
 left-exact : (outer : State) (f : ℕ → Ran) (turns : ℕ) (r : Ran) → RunsExactly f turns r → RunsExactly (λ t. left_from outer (f t)) turns (left_from outer r)
-left-exact outer f turns (Ended ending made) e = tt
+left-exact outer f turns (Ended ending made) e = stays-made (left_from outer) f turns ending (Ended ending made) (Ended ending made) refl e
 left-exact outer f turns (Went flow s left) e =
     ended-exact (left_from outer) f turns left flow flow s (left_state outer s) (λ k. refl) (λ made. refl) e
 
 -- what spends one turn more
 one-more : (f g : ℕ → Ran) (turns : ℕ) (r : Ran) → ((made : List Activation) × (f zero ≡ Ended OverBudget made)) → ((k : ℕ) → f (suc k) ≡ g k) →
     RunsExactly g turns r → RunsExactly f (suc turns) r
-one-more f g turns (Ended ending made) first more e = tt
+one-more f g turns (Ended ending made) first more e =
+    stays-behind f g (suc turns) 1 turns ending (Ended ending made) (omega arith) (λ k. let is : 1 + k ≡ suc k = omega arith in ap f is ∙ more k) e
 one-more f g turns (Went flow s left) first more e = record {
   spent = suc e.spent;
   all = omega (arith, e.all);
@@ -213,7 +218,7 @@ loop-exact test body step ft kb ks et eb es (suc bound) s (suc turns) h =
 -- an answer that needs no turn, and what is made of it
 mapped-exact : {A B : Type 0} (a : Answer A) (f : A → B) (turns : ℕ) →
     IsExact B (λ t. and_then a (λ v. Ok (left (f v) t))) turns (and_then a (λ v. Ok (left (f v) turns)))
-mapped-exact (Err ending) f turns = tt
+mapped-exact (Err ending) f turns = stays-always _ turns ending (Err ending) (λ k. refl)
 mapped-exact (Ok v) f turns = exact-here (f v) turns
 
 aim-exact : (file : File) → CallsExact file → (t : tree.TargetTree) (s : State) (turns : ℕ) → IsExact Aim (aim_at file t s) turns (aim_at file t s turns)
@@ -367,9 +372,9 @@ items-exact file calls (clause.Item d i ∷ ps) s turns =
     (λ c. exact-then (items_claims file ps s) (λ cs. Ok (left (c.value ∷ cs.value) cs.turns)) c.turns (items_claims file ps s c.turns)
     (items-exact file calls ps s c.turns) (λ cs. exact-here (c.value ∷ cs.value) cs.turns))
 
-limited-exact : (l : Option ℕ) (s next : State) (turns : ℕ) → RunsExactly (λ t. unless_limited l s t next) turns (unless_limited l s turns next)
+limited-exact : (l : Option ControlLimit) (s next : State) (turns : ℕ) → RunsExactly (λ t. unless_limited l s t next) turns (unless_limited l s turns next)
 limited-exact None s next turns = went-exact GoesOn next turns
-limited-exact (Some n) s next turns = tt
+limited-exact (Some limit) s next turns = λ more. refl
 
 task-exact : (file : File) → CallsExact file → (sites : List Site) (number : Option ℕ) (ps : List clause.Part) (s : State) (turns : ℕ) →
     RunsExactly (run_task file sites number ps s) turns (run_task file sites number ps s turns)

@@ -6,6 +6,7 @@ use Rattle.std.proofs.lemmas.Bool.Decides.{nat_tests}
 use Rattle.std.proofs.lemmas.List.{length-set, length-replicate}
 use Rattle.c_int.specs.Operators.{is_int, is_zero}
 use Rattle.c_int.proofs.Conversions.{is_int_bits}
+use Rattle.c_int.specs.declared.control_limit.ControlLimit.{ControlLimit}
 use Rattle.cddf_meaning.specs.Answers.{Answer, Left, and_then, with_turns}
 use Rattle.cddf_meaning.specs.Claims.{limit}
 use Rattle.cddf_meaning.specs.File.{File, type_in, variable}
@@ -28,7 +29,7 @@ use Rattle.cddf_meaning.specs.declared.variable.Variable.{Variable}
 use Rattle.os_ast.specs.Notes.Programs.{param_list}
 use Rattle.os_ast.specs.Parts.{Part, parts}
 use Rattle.os_ast.specs.Trees as tree
-use Rattle.os_ast.specs.Types.{is_unsigned}
+use Rattle.os_ast.specs.Unsigned.{is_unsigned}
 use Rattle.os_ast.specs.declared.expr.Mark.{Mark}
 use Rattle.os_ast.specs.declared.program.Param.{Param}
 use Rattle.os_ast.specs.declared.stmt.Assign.{Assign}
@@ -293,7 +294,7 @@ step-run file g None h s turns f = went s turns f
 step-run file g (Some c) h s turns f = change-fits file g c h s turns f
 
 -- streams
-limited-fits : (l : Option ℕ) (s next : State) (turns : ℕ) → StateFits next → RanFits (unless_limited l s turns next)
+limited-fits : (l : Option ControlLimit) (s next : State) (turns : ℕ) → StateFits next → RanFits (unless_limited l s turns next)
 limited-fits None s next turns f = went next turns f
 limited-fits (Some n) s next turns f = tt
 

@@ -2,6 +2,7 @@
 use Rattle.std.proofs.Common.{◌≡◌, ℕ, zero, suc, ◌+◌, ◌≤◌, Bool, true, false, if◌then◌else◌, List, [], ◌∷◌, length, map, get_or, set, replicate, Option, Some, None, Ok, Err, ℤ, pos, arith, refl, ap, ◌∙◌}
 use Rattle.std.proofs.lemmas.List.{length-set}
 use Rattle.c_int.specs.Operators.{is_zero}
+use Rattle.c_int.specs.declared.control_limit.ControlLimit.{ControlLimit}
 use Rattle.cddf_meaning.specs.Answers.{Answer, Left, and_then, left, with_turns}
 use Rattle.cddf_meaning.specs.Claims.{limit}
 use Rattle.cddf_meaning.specs.File.{File, variable, type_in}
@@ -25,7 +26,7 @@ use Rattle.os_ast.specs.Trees as tree
 use Rattle.os_ast.specs.declared.expr.Mark.{Mark}
 use Rattle.os_ast.specs.declared.names.Direction.{Direction}
 use Rattle.cddf_meaning.proofs.Falls.{falls-then, falls-with, value-falls, values-falls, call-falls}
-use Rattle.os_ast.specs.Types.{is_unsigned}
+use Rattle.os_ast.specs.Unsigned.{is_unsigned}
 
 keeps-less : (s : State) (turns less : ℕ) (r : Ran) → less ≤ turns → Keeps s less r → Keeps s turns r
 keeps-less s turns less (Ended ending acts) h k = tt
@@ -266,7 +267,7 @@ items-falls file calls (clause.Item d i ∷ ps) s turns =
     (λ c. falls-then c.turns (items_claims file ps s c.turns) (λ cs. Ok (left (c.value ∷ cs.value) cs.turns))
     (items-falls file calls ps s c.turns) (λ cs. omega arith))
 
-limited-keeps : (l : Option ℕ) (s next : State) (turns : ℕ) → item_lengths next ≡ item_lengths s → Keeps s turns (unless_limited l s turns next)
+limited-keeps : (l : Option ControlLimit) (s next : State) (turns : ℕ) → item_lengths next ≡ item_lengths s → Keeps s turns (unless_limited l s turns next)
 limited-keeps None s next turns e = keeps-on s next turns e
 limited-keeps (Some n) s next turns e = tt
 

@@ -16,15 +16,15 @@ use Rattle.c_int.specs.Typed.{Typed, Valued, is_typed, is_of, is_unsigned, conve
 use Rattle.c_int.specs.Unsigned.{word}
 use Rattle.c_int.specs.declared.operators.Binary as int_binary
 use Rattle.c_int.specs.declared.operators.Unary as int_unary
-use Rattle.c_int.specs.declared.trap.Trap.{Trap}
-use Rattle.c_int.specs.declared.trap.Trap.TheVariants.{Overflow, DivisorZero, Shift}
+use Rattle.c_int.specs.declared.trap.OperatorTrap.{OperatorTrap}
+use Rattle.c_int.specs.declared.trap.OperatorTrap.TheVariants.{Overflow, DivisorZero, Shift}
 use Rattle.c_int.proofs.Conversions.{fits, same_int, reduced, again, word_of, modulo, same_unsigned, is_int_bits}
 use Rattle.c_int.proofs.Remainders.{small}
 use Rattle.c_int.proofs.TypedOperators.{one_operand, two_operands}
 use Rattle.cddf_meaning.specs.Answers.{Answer, and_then, at_line}
 use Rattle.cddf_meaning.specs.Operators.{operator_of_one, operator_of_two, unary_value, given_by, binary_value}
 use Rattle.cddf_meaning.specs.TypedValue.{element_with_type, typed_unary, typed_by, typed_binary}
-use Rattle.cddf_meaning.specs.Types.{type_of_one, type_of_two}
+use Rattle.cddf_meaning.specs.ExpressionTypes.{type_of_one, type_of_two}
 use Rattle.os_ast.specs.declared.expr.Binary.TheVariants as binary
 use Rattle.os_ast.specs.declared.expr.Binary.{Binary}
 use Rattle.os_ast.specs.declared.expr.Unary.TheVariants as unary
@@ -63,7 +63,7 @@ OfType u (Err trap) = ⊤
 of_type-is : (u : Bool) (x : ℤ) → OfType u (Ok (of_type u x))
 of_type-is u x = (refl, converted_is u x)
 
-fitted-is : (t : Trap) (u : Bool) (x : ℤ) → OfType u (fitted t u x)
+fitted-is : (t : OperatorTrap) (u : Bool) (x : ℤ) → OfType u (fitted t u x)
 fitted-is t true x = of_type-is true x
 fitted-is t false x = by (is_int x) refl
   where

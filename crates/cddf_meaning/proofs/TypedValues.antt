@@ -16,7 +16,7 @@ use Rattle.cddf_meaning.specs.Fitting.{FileFits, GivesInt, StateFits, args_fit, 
 use Rattle.cddf_meaning.specs.Operators.{binary_value, unary_value}
 use Rattle.cddf_meaning.specs.State.{State, item_elements}
 use Rattle.cddf_meaning.specs.TypedValue.{as_type, element_with_type, passed, typed_binary, typed_chained, typed_linked, typed_place, typed_truth, typed_unary, typed_value, with_type}
-use Rattle.cddf_meaning.specs.Types.{type_behind, type_of_one, type_of_two}
+use Rattle.cddf_meaning.specs.ExpressionTypes.{type_behind, type_of_one, type_of_two}
 use Rattle.cddf_meaning.specs.Value.{as_truth, call_value, chained, checked, element_at, elements, linked, place_value, scalar_value, value, values}
 use Rattle.cddf_meaning.specs.Variables.{find}
 use Rattle.cddf_meaning.specs.declared.variable.Binding.{Binding}

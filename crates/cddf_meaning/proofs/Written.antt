@@ -1,6 +1,8 @@
 -- A body that is done writes as many elements as its write claims have horizons.
 use Rattle.std.proofs.Common.{◌≡◌, ℕ, ◌+◌, ◌≤◌, Bool, true, false, if◌then◌else◌, List, [], ◌∷◌, ◌++◌, length, map, take, drop, replicate, ℤ, pos, arith, refl, ap, ◌∙◌, length-append}
 use Rattle.std.proofs.lemmas.List.{length-take, length-drop, length-replicate}
+use Rattle.c_int.specs.Traps.{trap_code}
+use Rattle.c_int.specs.declared.trap.Trap.TheVariants.{NoByte}
 use Rattle.cddf_meaning.specs.Body.{item_lists, outputs_of, outcome, task_outcome, bound_round, gives_bytes, done, trapped}
 use Rattle.cddf_meaning.specs.Flow.{Ran, Went, Ended}
 use Rattle.cddf_meaning.specs.Functions.{file_of, in_function}
@@ -50,8 +52,8 @@ outputs_of-has (c ∷ cs) (vs ∷ items) h =
     write-has c.write c.horizon (written_horizons cs) vs (outputs_of cs items) (first-of h) (outputs_of-has cs items (others-of h))
 
 ended-has : (bytes : Bool) (line : ℕ) (claims : List Claim) (items : List (List ℤ)) → map length items ≡ map (λ (c : Claim). c.horizon) claims →
-    (if bytes then done (outputs_of claims items) else trapped 5 line).end ≡ end.Done →
-    length (if bytes then done (outputs_of claims items) else trapped 5 line).outputs ≡ written_horizons claims
+    (if bytes then done (outputs_of claims items) else trapped (trap_code NoByte) line).end ≡ end.Done →
+    length (if bytes then done (outputs_of claims items) else trapped (trap_code NoByte) line).outputs ≡ written_horizons claims
 ended-has true line claims items h e = outputs_of-has claims items h
 ended-has false line claims items h e = cc
 
@@ -59,9 +61,9 @@ outcome-has : (line : ℕ) (claims : List Claim) (s : State) (turns : ℕ) (r : 
     item_lengths s ≡ map (λ (c : Claim). c.horizon) claims → (outcome line claims r).end ≡ end.Done →
     length (outcome line claims r).outputs ≡ written_horizons claims
 outcome-has line claims s turns (Went flow t left) (a, b) h e = ended-has (gives_bytes claims t.items) line claims t.items (b ∙ h) e
-outcome-has line claims s turns (Ended (Trapped code at) acts) k h e = cc
+outcome-has line claims s turns (Ended (Trapped why at) acts) k h e = cc
 outcome-has line claims s turns (Ended OverBudget acts) k h e = cc
-outcome-has line claims s turns (Ended (Limited n) acts) k h e = cc
+outcome-has line claims s turns (Ended (Limited limit) acts) k h e = cc
 
 pub outputs-have : (items : List tree.ItemTree) (t : Task) (a : Activation) (inputs : List ℤ) (budget : ℕ) →
     read_horizons a.claims ≤ length inputs → (task_outcome (file_of items) t a inputs budget).end ≡ end.Done →

@@ -1,16 +1,17 @@
 -- What an evaluation comes to.
 use Rattle.std.specs.Prelude.{ℕ, Result, Ok, Err}
-use Rattle.c_int.specs.Operators.{trap_code}
+use Rattle.c_int.specs.declared.trap.OperatorTrap.{OperatorTrap}
 use Rattle.c_int.specs.declared.trap.Trap.{Trap}
+use Rattle.c_int.specs.declared.trap.Trap.TheVariants.{Operator}
 use Rattle.cddf_meaning.specs.declared.ending.Ending.{Ending}
 use Rattle.cddf_meaning.specs.declared.ending.Ending.TheVariants.{Trapped, OverBudget}
 
--- It gives something; or the body ends in it: by a trap, with its code and line, or because the turns are used up.
+-- It gives something; or the body ends in it: by a trap, with its line, or because the turns are used up.
 abbrev pub Answer : Type 0 → Type 0
 Answer A = Result A Ending
 
-abbrev pub traps : {A : Type 0} → (code line : ℕ) → Answer A
-traps code line = Err (Trapped code line)
+abbrev pub traps : {A : Type 0} → (why : Trap) (line : ℕ) → Answer A
+traps why line = Err (Trapped why line)
 
 abbrev pub over : {A : Type 0} → Answer A
 over = Err OverBudget
@@ -21,9 +22,9 @@ and_then (Ok a) next = next a
 and_then (Err ending) next = Err ending
 
 -- what an operator gives, or its trap with the line of the operator
-abbrev pub at_line : {A : Type 0} → ℕ → Result A Trap → Answer A
+abbrev pub at_line : {A : Type 0} → ℕ → Result A OperatorTrap → Answer A
 at_line line (Ok v) = Ok v
-at_line line (Err trap) = traps (trap_code trap) line
+at_line line (Err why) = traps (Operator why) line
 
 -- Something, and the turns that are left behind it. A turn is a unit of the budget.
 pub record Left (A : Type 0) : Type 0 where

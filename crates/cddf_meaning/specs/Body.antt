@@ -1,6 +1,8 @@
 -- What a task's body makes of its captured scalars and its input windows.
 use Rattle.std.specs.Prelude.{ℕ, suc, ◌==◌, Bool, true, not, ◌&&◌, ◌||◌, if◌then◌else◌, List, [], ◌∷◌, ◌++◌, take, drop, replicate, slice_get, Option, Some, None, ℤ, pos}
 use Rattle.std.specs.List.{list_all}
+use Rattle.c_int.specs.Traps.{trap_code}
+use Rattle.c_int.specs.declared.trap.Trap.TheVariants.{NoByte}
 use Rattle.cddf_meaning.specs.File.{File}
 use Rattle.cddf_meaning.specs.Flow.{Ran, Went, Ended}
 use Rattle.cddf_meaning.specs.Functions.{in_function}
@@ -73,10 +75,10 @@ over_budget = outcome_of end.OverBudget []
 -- A body that ended normally is done where each element that goes to `osout` is a byte; else it is trap 5, with the line
 -- of the pragma. `return` stands in no task, `break` and `continue` in its loops alone, and a task meets no limit.
 abbrev pub outcome : (line : ℕ) → List Claim → Ran → Outcome
-outcome line claims (Went flow s turns) = if gives_bytes claims s.items then done (outputs_of claims s.items) else trapped 5 line
-outcome line claims (Ended (Trapped code at) activations) = trapped code at
+outcome line claims (Went flow s turns) = if gives_bytes claims s.items then done (outputs_of claims s.items) else trapped (trap_code NoByte) line
+outcome line claims (Ended (Trapped why at) activations) = trapped (trap_code why) at
 outcome line claims (Ended OverBudget activations) = over_budget
-outcome line claims (Ended (Limited n) activations) = over_budget
+outcome line claims (Ended (Limited limit) activations) = over_budget
 
 -- the body of a task, behind these items of the file
 abbrev pub task_outcome : File → Task → Activation → List ℤ → ℕ → Outcome

@@ -1,6 +1,8 @@
 -- The claims of an activation on streams, and the limits of the control program.
 use Rattle.std.specs.Prelude.{ℕ, ◌+◌, true, false, if◌then◌else◌, ltb, leb, List, [], ◌∷◌, length, get_or, set, Option, Some, None}
 use Rattle.std.specs.List.{sum_by}
+use Rattle.c_int.specs.declared.control_limit.ControlLimit.{ControlLimit}
+use Rattle.c_int.specs.declared.control_limit.ControlLimit.TheVariants.{Activations, Elements}
 use Rattle.flow_core_laws.specs.declared.activation.Activation.{Activation}
 use Rattle.flow_core_laws.specs.declared.claim.Claim.{Claim}
 
@@ -47,10 +49,10 @@ activations_limit = 65536
 abbrev pub horizons_limit : ℕ
 horizons_limit = 4194304
 
--- The limit that a further activation with these claims would pass: 1 on the number of activations, 2 on the sum of
--- their horizons. Limit 1 is looked at first.
-abbrev pub limit : List Activation → List Claim → Option ℕ
+-- The limit that a further activation with these claims would pass: that on the number of activations, or that on the sum of their
+-- horizons. The first one is looked at first.
+abbrev pub limit : List Activation → List Claim → Option ControlLimit
 limit activations claims =
-    if leb activations_limit (length activations) then Some 1
-    else if ltb horizons_limit (all_horizons activations + horizons claims) then Some 2
+    if leb activations_limit (length activations) then Some Activations
+    else if ltb horizons_limit (all_horizons activations + horizons claims) then Some Elements
     else None

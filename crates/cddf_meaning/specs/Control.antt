@@ -1,5 +1,7 @@
 -- What the control program creates, and how it ends.
 use Rattle.std.specs.Prelude.{ℕ, true, false, List, [], ◌∷◌, Option, Some, None, pos}
+use Rattle.c_int.specs.ControlLimits.{limit_code}
+use Rattle.c_int.specs.Traps.{trap_code}
 use Rattle.cddf_meaning.specs.Flow.{Ran, Went, Ended}
 use Rattle.cddf_meaning.specs.Program.{Main, main_of}
 use Rattle.cddf_meaning.specs.Run.{Around, run_all}
@@ -17,9 +19,9 @@ use Rattle.os_ast.specs.Names.{osin_id, osout_id, osin_len_id}
 use Rattle.os_ast.specs.Trees as tree
 
 abbrev pub control_end : Ending → ControlEnd
-control_end (Trapped code line) = end.Trapped code line
+control_end (Trapped why line) = end.Trapped (trap_code why) line
 control_end OverBudget = end.OverBudget
-control_end (Limited n) = end.Limit n
+control_end (Limited limit) = end.Limit (limit_code limit)
 
 -- `return` ends the control program too.
 abbrev pub control_of : Ran → Control

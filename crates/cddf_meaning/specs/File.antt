@@ -2,7 +2,7 @@
 use Rattle.std.specs.Prelude.{ℕ, Bool, false, List, Option, Some, None, ℤ}
 use Rattle.cddf_meaning.specs.Answers.{Answer, Left}
 use Rattle.cddf_meaning.specs.State.{State}
-use Rattle.cddf_meaning.specs.Types.{Flags, type_of}
+use Rattle.cddf_meaning.specs.ExpressionTypes.{Flags, type_of}
 use Rattle.cddf_meaning.specs.Variables.{find, flag_or}
 use Rattle.cddf_meaning.specs.declared.variable.Binding.{Binding}
 use Rattle.cddf_meaning.specs.declared.variable.Variable.{Variable}

@@ -14,7 +14,7 @@ use Rattle.cddf_meaning.specs.declared.variable.Variable.TheVariants.{Constant, 
 use Rattle.os_ast.specs.Names.{constant_value}
 use Rattle.os_ast.specs.Notes.Programs.{param_list}
 use Rattle.os_ast.specs.Trees as tree
-use Rattle.os_ast.specs.Types.{is_unsigned}
+use Rattle.os_ast.specs.Unsigned.{is_unsigned}
 use Rattle.os_ast.specs.declared.program.Param.{Param}
 
 -- A body that ends without a `return` gives 0. `break` and `continue` stand in loops alone.

@@ -2,7 +2,7 @@
 pub mod Answers
 pub mod Operators
 pub mod Variables
-pub mod Types
+pub mod ExpressionTypes
 pub mod State
 pub mod File
 pub mod Value

@@ -1,6 +1,7 @@
 -- What a statement does. C11, 6.8; the declarations and pragmas of the control program by the rules of streams.
 use Rattle.std.specs.Prelude.{ℕ, zero, suc, Bool, false, if◌then◌else◌, leb, ◌&&◌, List, [], ◌∷◌, ◌++◌, length, get_or, replicate, Option, Some, None, ℤ, pos, negsuc, unwrap_or, Ok}
 use Rattle.c_int.specs.Operators.{is_zero}
+use Rattle.c_int.specs.declared.trap.Trap.TheVariants.{WindowSize}
 use Rattle.cddf_meaning.specs.Answers.{Answer, traps, and_then, Left, left, with_turns}
 use Rattle.cddf_meaning.specs.File.{File, variable, flags, type_in}
 use Rattle.cddf_meaning.specs.Flow.{Went, Ended, Runs, given, goes_on, flows, loops, left_from}
@@ -16,7 +17,7 @@ use Rattle.cddf_meaning.specs.declared.ending.Ending.TheVariants.{OverBudget}
 use Rattle.cddf_meaning.specs.declared.flow.Flow.TheVariants.{Breaks, Continues, Returns}
 use Rattle.cddf_meaning.specs.declared.variable.Variable.TheVariants.{Scalar, Array, Window, Stream}
 use Rattle.os_ast.specs.Parts.{parts, target_name}
-use Rattle.os_ast.specs.Types.{is_unsigned}
+use Rattle.os_ast.specs.Unsigned.{is_unsigned}
 use Rattle.os_ast.specs.Notes.Declarators.{within_limit}
 use Rattle.os_ast.specs.Trees as tree
 use Rattle.os_ast.specs.declared.stmt.Assign.TheVariants as assign_of
@@ -101,8 +102,8 @@ run_array file unsigned id size s turns =
 
 -- The size of a window is 1 to 65,536; else it is trap 6, with the line of its `[`.
 abbrev pub window_size : ℕ → ℤ → Answer ℕ
-window_size line (pos n) = if leb 1 n && leb n 65536 then Ok n else traps 6 line
-window_size line (negsuc n) = traps 6 line
+window_size line (pos n) = if leb 1 n && leb n 65536 then Ok n else traps WindowSize line
+window_size line (negsuc n) = traps WindowSize line
 
 abbrev pub run_window : File → Bool → ℕ → tree.IndexTree → Runs
 run_window file unsigned id i s turns =

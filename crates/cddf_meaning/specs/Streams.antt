@@ -1,5 +1,7 @@
 -- What the control program does with streams: clause items, tasks and ticks.
 use Rattle.std.specs.Prelude.{ℕ, zero, suc, ◌+◌, ◌==◌, if◌then◌else◌, leb, List, [], ◌∷◌, ◌++◌, map, get_or, position, Option, Some, None, ℤ, pos, negsuc, Ok}
+use Rattle.c_int.specs.declared.control_limit.ControlLimit.{ControlLimit}
+use Rattle.c_int.specs.declared.trap.Trap.TheVariants.{Move, OutputBurst}
 use Rattle.cddf_meaning.specs.Answers.{Answer, Left, traps, and_then, left, with_turns}
 use Rattle.cddf_meaning.specs.Claims.{read_claim, write_claim, ticked, with_skips, skips_behind_all, limit}
 use Rattle.cddf_meaning.specs.File.{File, variable}
@@ -37,13 +39,13 @@ stream_number file (tree.Element n m e) s turns =
 
 -- The burst of an input item, or the amount of a tick, is 0 to 65,536; else it is trap 7.
 abbrev pub cursor_move : ℕ → ℤ → Answer ℕ
-cursor_move line (pos n) = if leb n 65536 then Ok n else traps 7 line
-cursor_move line (negsuc n) = traps 7 line
+cursor_move line (pos n) = if leb n 65536 then Ok n else traps Move line
+cursor_move line (negsuc n) = traps Move line
 
 -- The burst of an output window is its horizon; else it is trap 8.
 abbrev pub output_burst : (line horizon : ℕ) → ℤ → Answer ℕ
-output_burst line horizon (pos n) = if n == horizon then Ok n else traps 8 line
-output_burst line horizon (negsuc n) = traps 8 line
+output_burst line horizon (pos n) = if n == horizon then Ok n else traps OutputBurst line
+output_burst line horizon (negsuc n) = traps OutputBurst line
 
 -- the burst of an item with a window
 abbrev pub burst_of : Direction → (line horizon : ℕ) → ℤ → Answer ℕ
@@ -101,8 +103,8 @@ with_activation file site ids claims s = record s {
 }
 
 -- the control program ends at a limit; else there is one more activation
-abbrev pub unless_limited : Option ℕ → State → ℕ → State → Ran
-unless_limited (Some n) s turns next = Ended (Limited n) s.activations
+abbrev pub unless_limited : Option ControlLimit → State → ℕ → State → Ran
+unless_limited (Some limit) s turns next = Ended (Limited limit) s.activations
 unless_limited None s turns next = goes_on next turns
 
 -- The number of the task with this PragmaStart, in the order of the text. In a program that tokens mean each mark has a

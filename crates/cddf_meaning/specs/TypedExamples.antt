@@ -1,6 +1,8 @@
 -- Expressions and statements with `unsigned` operands, and what they come to, worked out by hand.
 use Rattle.std.specs.Prelude.{ℕ, Bool, true, false, [], ◌∷◌, ℤ, pos, Ok, Err}
 use Rattle.c_int.specs.Typed.{Typed}
+use Rattle.c_int.specs.declared.trap.OperatorTrap.{OperatorTrap}
+use Rattle.c_int.specs.declared.trap.Trap.TheVariants.{Operator}
 use Rattle.cddf_meaning.specs.Answers.{Answer, Left, left, traps}
 use Rattle.cddf_meaning.specs.Flow.{Ran, Went, Ended}
 use Rattle.cddf_meaning.specs.File.{type_in}
@@ -51,8 +53,8 @@ int n = record { typed = Ok (left (record { number = n; unsigned = false }) 0); 
 abbrev pub unsigned : (number bits : ℤ) → Both
 unsigned number bits = record { typed = Ok (left (record { number = number; unsigned = true }) 0); bits = Ok (left bits 0); type = true }
 
-abbrev pub trapped : ℕ → Bool → Both
-trapped code type = record { typed = traps code 1; bits = traps code 1; type = type }
+abbrev pub trapped : OperatorTrap → Bool → Both
+trapped why type = record { typed = traps (Operator why) 1; bits = traps (Operator why) 1; type = type }
 
 -- `-1 < 1u` compares 4,294,967,295 with 1.
 abbrev pub mixed_less : tree.ExprTree

@@ -3,11 +3,12 @@
 use Rattle.std.specs.Prelude.{ℕ, Bool, not, if◌then◌else◌, ltb, List, [], ◌∷◌, length, get_or, Option, Some, ℤ, pos, negsuc, Ok}
 use Rattle.std.specs.Int.{w32, cast_signed}
 use Rattle.c_int.specs.Operators.{is_zero, truth}
+use Rattle.c_int.specs.declared.trap.Trap.TheVariants.{Index}
 use Rattle.cddf_meaning.specs.Answers.{Answer, Left, traps, and_then, left, with_turns}
 use Rattle.cddf_meaning.specs.File.{Calls, File, variable, type_in}
 use Rattle.cddf_meaning.specs.Operators.{binary_value, unary_value}
 use Rattle.cddf_meaning.specs.State.{State, item_elements}
-use Rattle.cddf_meaning.specs.Types.{type_of_two}
+use Rattle.cddf_meaning.specs.ExpressionTypes.{type_of_two}
 use Rattle.cddf_meaning.specs.Variables.{find}
 use Rattle.cddf_meaning.specs.declared.variable.Variable.TheVariants.{Constant, Function, Scalar, Array, Item}
 use Rattle.cddf_meaning.specs.declared.variable.Variable.{Variable}
@@ -30,8 +31,8 @@ elements s _ = []
 
 -- An index outside 0 to size - 1 is trap 4, with the line of the `[`.
 abbrev pub checked : ℕ → ℕ → ℤ → Answer ℕ
-checked size line (pos i) = if ltb i size then Ok i else traps 4 line
-checked size line (negsuc i) = traps 4 line
+checked size line (pos i) = if ltb i size then Ok i else traps Index line
+checked size line (negsuc i) = traps Index line
 
 -- the element at an index
 abbrev pub element_at : List ℤ → ℕ → ℤ → Answer ℤ

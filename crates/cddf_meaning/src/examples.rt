@@ -5,6 +5,7 @@ ghost use Rattle.cddf_meaning.specs.Answers.{left};
 ghost use Rattle.cddf_meaning.specs.Body.{body, done, over_budget};
 ghost use Rattle.cddf_meaning.specs.Control.{control};
 ghost use Rattle.cddf_meaning.specs.Examples as examples;
+ghost use Rattle.c_int.specs.declared.trap.OperatorTrap.TheVariants.{DivisorZero, Overflow};
 ghost use Rattle.cddf_meaning.specs.TypedExamples as typed;
 ghost use Rattle.cddf_meaning.specs.TypedExamples.{both_of, int, trapped, unsigned, y_after};
 ghost use Rattle.os_ast.specs.Examples.Invert as invert;
@@ -27,10 +28,10 @@ pub fn mixed_operands()
     ensures equal { both_of typed.greatest_equal ≡ int (pos 1) }
     ensures halved { both_of typed.greatest_halved ≡ unsigned (pos 1) (pos 1) }
     ensures negative_halved { both_of typed.negative_halved ≡ int (negsuc 0) }
-    ensures past_int { both_of typed.past_int ≡ trapped 1 false }
+    ensures past_int { both_of typed.past_int ≡ trapped Overflow false }
     ensures sum { both_of typed.mixed_sum ≡ unsigned (pos 2147483648) (negsuc 2147483647) }
     ensures rest { both_of typed.mixed_rest ≡ unsigned (pos 255) (pos 255) }
-    ensures by_zero { both_of typed.by_zero ≡ trapped 2 true }
+    ensures by_zero { both_of typed.by_zero ≡ trapped DivisorZero true }
     ensures both_hold { both_of typed.both_hold ≡ int (pos 0) }
     ensures complement { both_of typed.complement ≡ int (pos 1) }
 {}

@@ -59,7 +59,8 @@ pub fn outputs_have_their_horizons()
 {}
 
 /// Budgets are exact: an evaluation that gives a value spends some of its turns. With as many, and any more, it gives the same
-/// value and leaves the rest, and with fewer it is over budget.
+/// value and leaves the rest, and with fewer it is over budget. Where it traps, or the control program meets a limit, it does so with
+/// any more turns too. The same holds of statements.
 pub fn budgets_are_exact()
     ensures expressions { (items : List tree.ItemTree) (e : tree.ExprTree) (s : State) (turns : ℕ) →
         IsExact ℤ (value (file_of items) e s) turns (value (file_of items) e s turns) }

@@ -7,10 +7,10 @@ ghost use Rattle.os_ast.specs.Views.{change_tree, item_tree, target_tree};
 ghost use Rattle.cddf_meaning_plain_state.specs.Stops.{Gives, GoesOn};
 
 use crate::value::value;
+use c_int::Types;
 use cddf_meaning::Aim;
 use cddf_meaning_plain_state::changes::{assign, take_step};
-use cddf_meaning_plain_state::operators::Types;
-use cddf_meaning_plain_state::types::{target_type, type_of};
+use cddf_meaning_plain_state::typing::{target_type, type_of};
 use cddf_meaning_plain_state::{State, Stop};
 use os_ast::{Change, Item, Target};
 use std::alloc::Global;

@@ -5,7 +5,7 @@ ghost use Rattle.std.specs.Prelude.{◌≤◌, map, option_map};
 ghost use Rattle.cddf_meaning.specs.Functions.{file_of};
 ghost use Rattle.cddf_meaning.specs.Run.{run, run_all, run_declarator, run_declarators, run_scalar, run_start, run_step, run_test};
 ghost use Rattle.os_ast.specs.Trees as tree;
-ghost use Rattle.os_ast.specs.Types.{is_unsigned};
+ghost use Rattle.os_ast.specs.Unsigned.{is_unsigned};
 ghost use Rattle.os_ast.specs.Views.{change_tree, declarator_tree, expr_tree, item_tree, start_tree, stmt_tree, stmts_tree};
 ghost use Rattle.cddf_meaning_plain.specs.Loops.{repeated};
 ghost use Rattle.cddf_meaning_plain_state.specs.Stops.{GoesOn, Leaves, Tests};

@@ -1,5 +1,7 @@
 -- The ends of a body and of the control program, as the functions of the program give them.
 use Rattle.std.specs.Prelude.{◌≡◌, ℕ, List, if◌then◌else◌, ℤ}
+use Rattle.c_int.specs.Traps.{trap_code}
+use Rattle.c_int.specs.declared.trap.Trap.TheVariants.{NoByte}
 use Rattle.cddf_meaning.specs.Body.{done, gives_bytes, trapped, outputs_of}
 use Rattle.cddf_meaning.specs.declared.ending.Ending.TheVariants.{Trapped, OverBudget, Limited}
 use Rattle.cddf_meaning.specs.declared.ending.Ending.{Ending}
@@ -14,10 +16,10 @@ IsOutcome end outputs o = (end ≡ o.end) × (outputs ≡ o.outputs)
 
 -- a body that ended normally
 abbrev pub finished : ℕ → List Claim → List (List ℤ) → Outcome
-finished line claims items = if gives_bytes claims items then done (outputs_of claims items) else trapped 5 line
+finished line claims items = if gives_bytes claims items then done (outputs_of claims items) else trapped (trap_code NoByte) line
 
 -- a body that ended before its last statement
 abbrev pub task_end : Ending → TaskEnd
-task_end (Trapped code line) = end.Trapped code line
+task_end (Trapped why line) = end.Trapped (trap_code why) line
 task_end OverBudget = end.OverBudget
-task_end (Limited n) = end.OverBudget
+task_end (Limited limit) = end.OverBudget

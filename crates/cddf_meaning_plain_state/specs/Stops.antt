@@ -1,6 +1,7 @@
 -- What the functions of the program answer, as the definitions have it. Want of memory says nothing.
 use Rattle.std.specs.Prelude.{◌≡◌, ⊤, ℕ, Bool, not, List, Option, Some, None, Result, Ok, Err, ℤ}
 use Rattle.c_int.specs.Operators.{is_zero}
+use Rattle.c_int.specs.declared.control_limit.ControlLimit.{ControlLimit}
 use Rattle.cddf_meaning.specs.Answers.{Answer, Left, left}
 use Rattle.cddf_meaning.specs.Flow.{Ran, Went, Ended, goes_on}
 use Rattle.cddf_meaning.specs.State.{State}
@@ -63,7 +64,7 @@ Adds (Ok done) old new turns answer = behind old answer ≡ Ok (left new turns)
 Adds (Err stop) old new turns answer = Stops stop answer
 
 -- no limit is passed, or this one
-abbrev pub Limits : {A : Type 0} → Result A Stop → Option ℕ → Type 0
+abbrev pub Limits : {A : Type 0} → Result A Stop → Option ControlLimit → Type 0
 Limits (Ok done) passed = passed ≡ None
-Limits (Err (stop.Ended ending)) passed = (n : ℕ) × (passed ≡ Some n) × (ending ≡ Limited n)
+Limits (Err (stop.Ended ending)) passed = (limit : ControlLimit) × (passed ≡ Some limit) × (ending ≡ Limited limit)
 Limits (Err stop.Memory) passed = ⊤

@@ -10,9 +10,10 @@ ghost use Rattle.os_ast.specs.Views.{item_tree};
 ghost use Rattle.cddf_meaning_plain_state.specs.Stops.{Comes, Now};
 
 use crate::names::scalar;
-use crate::operators::{Types, binary, step_operator};
+use crate::operators::{binary, step_operator};
 use crate::state::State;
 use crate::stop::Stop;
+use c_int::Types;
 use cddf_meaning::Aim;
 use os_ast::{Assign, Item, Mark, Step};
 

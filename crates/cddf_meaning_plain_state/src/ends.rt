@@ -10,6 +10,7 @@ ghost use Rattle.cddf_meaning_plain_state.specs.Ends.{IsOutcome, finished, task_
 ghost use Rattle.cddf_meaning_plain_state.specs.Stops.{Leaves};
 
 use crate::stop::Stop;
+use c_int::Trap;
 use cddf_meaning::{Ending, Flow};
 use flow_core_laws::{Claim, TaskEnd};
 use os_io::{List, Memory};
@@ -17,8 +18,6 @@ use std::alloc::Global;
 
 /// The number of the stream `osout`, which takes bytes alone.
 const OUTPUT: u32 = 1;
-/// The code of an element for `osout` that is no byte.
-const NO_BYTE: u8 = 5;
 
 fn is_byte(number: i32) -> bool
     ensures { result ≡ is_byte number }
@@ -83,7 +82,7 @@ fn finished(
         Ok((TaskEnd::Done, outputs))
     } else {
         let end = TaskEnd::Trapped {
-            code: NO_BYTE,
+            code: Trap::NoByte.code(),
             line,
         };
         Ok((end, Vec::new(alloc)))
@@ -95,7 +94,10 @@ fn task_end(ending: Ending) -> TaskEnd
     ensures { result ≡ task_end ending }
 {
     match ending {
-        Ending::Trapped { code, line } => TaskEnd::Trapped { code, line },
+        Ending::Trapped { trap, line } => TaskEnd::Trapped {
+            code: trap.code(),
+            line,
+        },
         Ending::OverBudget | Ending::Limited(_) => TaskEnd::OverBudget,
     }
 }

@@ -21,7 +21,7 @@ pub mod sizes;
 mod state;
 mod stop;
 pub mod streams;
-pub mod types;
+pub mod typing;
 
 pub use state::{State, Streams, zeros};
 pub use stop::Stop;

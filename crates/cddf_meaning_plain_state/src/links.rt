@@ -5,8 +5,9 @@ ghost use Rattle.cddf_meaning.specs.Answers.{Answer, Left, and_then, left as pai
 ghost use Rattle.cddf_meaning.specs.Value.{linked};
 ghost use Rattle.cddf_meaning_plain_state.specs.Stops.{Gives};
 
-use crate::operators::{Types, binary, holds};
+use crate::operators::{binary, holds};
 use crate::stop::Stop;
+use c_int::Types;
 use os_ast::{Binary, Link};
 
 /// Whether the right side is evaluated: that of `&&` and of `||` only where it decides.

@@ -17,17 +17,13 @@ ghost use Rattle.cddf_meaning_plain_state.specs.Stops.{Comes, Limits, Made, Now}
 
 use crate::names::Seen;
 use crate::stop::Stop;
+use c_int::{ControlLimit, Trap};
 use cddf_meaning::{Aim, Binding, Ending, Variable};
 use flow_core_laws::{Activation, Claim};
 use os_io::{List, Memory};
 use std::alloc::Global;
 use std::marker::Model;
 
-/// The code of an index that is out of range.
-const INDEX: u8 = 4;
-
-/// The code of a window's size that is out of range.
-const WINDOW: u8 = 6;
 /// A window has no larger horizon.
 const WINDOW_LIMIT: u32 = 65_536;
 /// So many activations may be created.
@@ -51,7 +47,7 @@ impl Streams {
     {
         match u32::try_from(index) {
             Ok(place) if place < self.count => self.first.checked_add(place).ok_or(Stop::Memory),
-            _ => Err(Stop::trap(INDEX, line)),
+            _ => Err(Stop::trap(Trap::Index, line)),
         }
     }
 }
@@ -238,7 +234,7 @@ impl State {
     {
         match usize::try_from(index) {
             Ok(place) if place < self.elements(id).len() => Ok(place),
-            _ => Err(Stop::trap(INDEX, line)),
+            _ => Err(Stop::trap(Trap::Index, line)),
         }
     }
 
@@ -373,7 +369,7 @@ impl State {
                 self.declare(id, unsigned, Variable::Window(horizon))?;
                 Ok(())
             }
-            _ => Err(Stop::trap(WINDOW, line)),
+            _ => Err(Stop::trap(Trap::WindowSize, line)),
         }
     }
 
@@ -428,10 +424,10 @@ impl State {
         ensures { Limits result (limit self.now.activations claims.now) }
     {
         if self.activations.len() >= ACTIVATIONS_LIMIT {
-            return Err(Stop::Ended(Ending::Limited(1)));
+            return Err(Stop::Ended(Ending::Limited(ControlLimit::Activations)));
         }
         if self.horizons.saturating_add(horizons(claims)) > HORIZONS_LIMIT {
-            return Err(Stop::Ended(Ending::Limited(2)));
+            return Err(Stop::Ended(Ending::Limited(ControlLimit::Elements)));
         }
         Ok(())
     }

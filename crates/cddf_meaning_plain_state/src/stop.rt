@@ -2,6 +2,7 @@ ghost use Rattle.std.specs.Prelude.{◌≡◌};
 ghost use Rattle.cddf_meaning.specs.declared.ending.Ending.TheVariants as endings;
 ghost use Rattle.cddf_meaning_plain_state.specs.declared.stop.Stop.TheVariants as stops;
 
+use c_int::Trap;
 use cddf_meaning::Ending;
 use os_io::Memory;
 use std::alloc::{AllocError, AllocFailed};
@@ -17,11 +18,11 @@ pub enum Stop {
 }
 
 impl Stop {
-    /// A trap, with its code and line.
-    pub(crate) fn trap(code: u8, line: u32) -> Stop
-        ensures { result ≡ stops.Ended (endings.Trapped code line) }
+    /// A trap, with its line.
+    pub(crate) fn trap(trap: Trap, line: u32) -> Stop
+        ensures { result ≡ stops.Ended (endings.Trapped trap line) }
     {
-        Stop::Ended(Ending::Trapped { code, line })
+        Stop::Ended(Ending::Trapped { trap, line })
     }
 
     /// A unit was needed, and no turn was left.

@@ -9,15 +9,12 @@ ghost use Rattle.cddf_meaning_plain_state.specs.Stops.{Comes};
 use crate::names::scalar;
 use crate::state::State;
 use crate::stop::Stop;
+use c_int::Trap;
 use flow_core_laws::Claim;
 use os_ast::{Direction, Item};
 use os_io::List;
 use std::alloc::Global;
 
-/// The code of an input item's burst, or a tick's amount, that is out of range.
-const MOVE: u8 = 7;
-/// The code of an output window's burst that isn't its horizon.
-const OUTPUT_BURST: u8 = 8;
 /// A cursor moves by no more.
 const MOVE_LIMIT: u32 = 65_536;
 
@@ -27,7 +24,7 @@ pub fn cursor_move(line: u32, number: i32) -> Result<u32, Stop>
 {
     match u32::try_from(number) {
         Ok(amount) if amount <= MOVE_LIMIT => Ok(amount),
-        _ => Err(Stop::trap(MOVE, line)),
+        _ => Err(Stop::trap(Trap::Move, line)),
     }
 }
 
@@ -38,7 +35,7 @@ pub fn burst_of(direction: Direction, line: u32, horizon: u32, number: i32) -> R
     match direction {
         Direction::Reads => cursor_move(line, number),
         Direction::Writes if i64::from(number) == i64::from(horizon) => Ok(horizon),
-        Direction::Writes => Err(Stop::trap(OUTPUT_BURST, line)),
+        Direction::Writes => Err(Stop::trap(Trap::OutputBurst, line)),
     }
 }
 

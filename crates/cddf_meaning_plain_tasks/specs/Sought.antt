@@ -18,7 +18,7 @@ use Rattle.os_ast.specs.declared.names.Entity.TheVariants as entity
 use Rattle.os_ast.specs.declared.names.Entry.{Entry}
 use Rattle.os_ast.specs.declared.program.Param.{Param}
 use Rattle.cddf_meaning.specs.Functions.{item_id, item_unsigned}
-use Rattle.os_ast.specs.Types.{is_unsigned}
+use Rattle.os_ast.specs.Unsigned.{is_unsigned}
 
 -- the numbers of names
 abbrev pub ids_of : List Name → List ℕ

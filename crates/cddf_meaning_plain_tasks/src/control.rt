@@ -29,8 +29,11 @@ pub fn control_end(ending: Ending) -> ControlEnd
     ensures { result ≡ control_end ending }
 {
     match ending {
-        Ending::Trapped { code, line } => ControlEnd::Trapped { code, line },
+        Ending::Trapped { trap, line } => ControlEnd::Trapped {
+            code: trap.code(),
+            line,
+        },
         Ending::OverBudget => ControlEnd::OverBudget,
-        Ending::Limited(limit) => ControlEnd::Limit(limit),
+        Ending::Limited(limit) => ControlEnd::Limit(limit.code()),
     }
 }

@@ -11,7 +11,7 @@ ghost use Rattle.os_ast.specs.Notes.Programs as notes;
 ghost use Rattle.os_ast.specs.Notes.Programs.{after_item, after_items, in_body};
 ghost use Rattle.os_ast.specs.Parts.{is_in, parts};
 ghost use Rattle.os_ast.specs.Trees as tree;
-ghost use Rattle.os_ast.specs.Types.{is_unsigned};
+ghost use Rattle.os_ast.specs.Unsigned.{is_unsigned};
 ghost use Rattle.os_ast.specs.Views.{clause_tree, declarator_tree, item_tree, start_tree, stmt_tree, stmts_tree};
 ghost use Rattle.cddf_meaning_plain_state.specs.FunctionTrees.{function_tree};
 ghost use Rattle.cddf_meaning_plain_tasks.specs.Sought.{among, found_at, found_in, found_in_all, known_behind, known_declarator, known_flag, known_in_main, known_item, known_start, others, task_of, typed_known, with_all_known, with_known};

@@ -1,18 +1,20 @@
 //! The claims that a `Spawn` makes.
 
-ghost use Rattle.std.specs.Prelude.{◌≡◌, ℕ, ◌*◌, ◌<◌, ◌≤◌, All, length, map, Some, pos, slice_index_or, IfOk};
+ghost use Rattle.std.specs.Prelude.{◌≡◌, ℕ, ◌*◌, ◌<◌, ◌≤◌, All, if◌then◌else◌, length, map, Some, pos, slice_index_or, IfOk};
+ghost use Rattle.c_int.specs.declared.trap.Trap.TheVariants as traps;
 ghost use Rattle.flow_core_laws.specs.declared.claim.Claim.{Claim as TheClaim};
 ghost use Rattle.os_code.specs.Machine as machine;
 ghost use Rattle.control_run.specs.Spawning.{HasWindow};
 
 use crate::numbers::{amount_of, size_of, stream_of};
+use c_int::Trap;
 use flow_core_laws::Claim;
 use os_code::SiteItem;
 use os_io::{List, Memory};
 use std::alloc::Global;
 use task_vm::registers::number_at;
 
-/// The claims of the items, in order, or the code of the first trap. The operands are an index and a burst for each
+/// The claims of the items, in order, or the first trap. The operands are an index and a burst for each
 /// item; the slots are those of `main`.
 pub(crate) fn claims_of(
     alloc: Global,
@@ -20,7 +22,7 @@ pub(crate) fn claims_of(
     slots: &[i32],
     items: &[SiteItem],
     operands: &[i32],
-) -> Result<Result<List<Claim>, u8>, Memory>
+) -> Result<Result<List<Claim>, Trap>, Memory>
     requires windows { All (HasWindow (length slots.now)) items.now }
     requires pairs { length operands.now ≡ 2 * length items.now }
     requires few { length items.now ≤ 8 }
@@ -32,29 +34,29 @@ pub(crate) fn claims_of(
         let burst = number_at(operands, 2 * k + 1);
         match claim_of(streams, slots, *item, index, burst) {
             Ok(claim) => claims.push(claim)?,
-            Err(code) => return Ok(Err(code)),
+            Err(trap) => return Ok(Err(trap)),
         }
     }
     Ok(Ok(claims))
 }
 
-/// The claim of an item, or the code of its trap: the stream is looked at first, then the horizon, then the burst.
+/// The claim of an item, or its trap: the stream is looked at first, then the horizon, then the burst.
 fn claim_of(
     streams: u32,
     slots: &[i32],
     item: SiteItem,
     index: i32,
     burst: i32,
-) -> Result<Claim, u8>
+) -> Result<Claim, Trap>
     requires { HasWindow (length slots.now) item }
     ensures { result ≡ machine.claim_of streams slots.now item index burst }
 {
     match stream_of(streams, forbidden_to(item), item.stream, index) {
-        None => Err(4),
+        None => Err(Trap::Index),
         Some(stream) => match horizon_of(slots, item.window) {
-            None => Err(6),
+            None => Err(Trap::WindowSize),
             Some(horizon) => match burst_of(item, horizon, burst) {
-                None => Err(if item.write { 8 } else { 7 }),
+                None => Err(burst_trap(item)),
                 Some(burst) => Ok(Claim {
                     stream,
                     write: item.write,
@@ -64,6 +66,17 @@ fn claim_of(
                 }),
             },
         },
+    }
+}
+
+/// The trap of a burst: that of an output item isn't its horizon, and that of an input item is out of range.
+fn burst_trap(item: SiteItem) -> Trap
+    ensures { result ≡ (if item.write then traps.OutputBurst else traps.Move) }
+{
+    if item.write {
+        Trap::OutputBurst
+    } else {
+        Trap::Move
     }
 }
 

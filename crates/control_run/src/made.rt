@@ -3,6 +3,7 @@ ghost use Rattle.flow_core_laws.specs.declared.claim.Claim.{Claim as TheClaim};
 ghost use Rattle.os_code.specs.Machine.{skip_at, claims_with_skips, skips_after_all};
 ghost use Rattle.control_run.specs.Spawning.{limit_of};
 
+use c_int::ControlLimit;
 use flow_core_laws::Claim;
 use os_io::{List, Memory};
 use std::alloc::Global;
@@ -36,14 +37,14 @@ impl Made {
     }
 
     /// The limit that an activation would pass whose windows cover so many positions.
-    pub fn limit(&self, horizons: u32) -> Option<u8>
+    pub fn limit(&self, horizons: u32) -> Option<ControlLimit>
         requires { self.now.horizons + horizons < 2 ^ 32 }
         ensures { result ≡ limit_of self.now.created (self.now.horizons + horizons) }
     {
         if self.created >= 65536 {
-            Some(1)
+            Some(ControlLimit::Activations)
         } else if self.horizons + horizons > 4194304 {
-            Some(2)
+            Some(ControlLimit::Elements)
         } else {
             None
         }

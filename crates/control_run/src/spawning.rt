@@ -38,16 +38,16 @@ pub(crate) fn spawn(
 {
     let mut claims = match claims_of(alloc, streams, slots, site.items.as_slice(), operands)? {
         Ok(claims) => claims,
-        Err(code) => {
+        Err(trap) => {
             return Ok(Some(ControlEnd::Trapped {
-                code,
+                code: trap.code(),
                 line: site.line,
             }));
         }
     };
     let positions = horizons(claims.as_slice());
     if let Some(limit) = made.limit(positions) {
-        return Ok(Some(ControlEnd::Limit(limit)));
+        return Ok(Some(ControlEnd::Limit(limit.code())));
     }
     let captured = captured_of(alloc, slots, site.captured.as_slice())?;
     take_skips(claims.as_mut_slice(), made.skips.as_mut_slice());

@@ -4,10 +4,11 @@ use Rattle.std.proofs.lemmas.List.Elements.{All-cons, All-contains, All-nil}
 use Rattle.front_end.proofs.Lines.{KindsAreSpelled, MarksAreOfTokens, least_is_one}
 use Rattle.front_end.specs.Texts.{AcceptedOrRefused, IsProgramOf, IsAccepted, IsNoProgram, IsRefused, has_fault, is_no_program, has_violation, IsTrueOf, NeverBoth, OneProgram, OneRefusal}
 use Rattle.front_end.specs.Told.{told_fault, told_syntax, told_violation}
+use Rattle.os_ast.specs.Codes.{code as code_of}
 use Rattle.os_ast.specs.Fronts.{HasPlace, IsPlace, IsRefusedAt, OnePlace, line_at}
 use Rattle.os_ast.specs.Means.{Means, OneReading, placed_from}
 use Rattle.os_ast.specs.Trees.{ProgramTree}
-use Rattle.os_ast.specs.Violations.{violations, violated, IsBefore, IsRefusal}
+use Rattle.os_ast.specs.Violations.{violations, IsBefore, IsRefusal}
 use Rattle.os_ast.specs.declared.violation.Violation.{Violation}
 use Rattle.os_ast.specs.declared.program.Program.{Program}
 use Rattle.os_lexer.specs.Answer.{IsFaultOf}
@@ -65,8 +66,9 @@ one_refusal marks kinds one fault never reading place text code line other there
 one_refusal marks kinds one fault never reading place text code line other there (has_violation v) (is_no_program n) =
     absurd (n.3.none v.0 (moved one text n.0 v.2.0 v.0 n.2 v.2.1 v.2.2))
 one_refusal marks kinds one fault never reading place text code line other there (has_violation v) (has_violation w) =
-    least_is_one marks kinds v.2.0 v.0 v.2.2 (violated v.1 code line) (violated w.1 other there) v.3
-    (subst (λ (p : ProgramTree). IsRefusal p (violated w.1 other there)) (same one reading text w.0 v.0 w.2 v.2) w.3)
+    let both = least_is_one marks kinds v.2.0 v.0 v.2.2 v.1 w.1 v.3
+        (subst (λ (p : ProgramTree). IsRefusal p w.1) (same one reading text w.0 v.0 w.2 v.2) w.3) in
+    (sym v.4 ∙ both.0 ∙ w.4, sym v.5 ∙ both.1 ∙ w.5)
 
 -- tokens mean a program or none
 abbrev IsDecided : List Token → Type 0
@@ -111,7 +113,7 @@ accepted_or_refused some place text = by_cover (some text)
   where
     by_program : (tokens : List Token) (p : ProgramTree) → IsTokenCover text tokens → Means tokens p → IsJudged p → IsAnswered text
     by_program tokens p cover means (inl none) = inl (p, ((tokens, cover, means), none))
-    by_program tokens p cover means (inr (v, least)) = inr (v.code, v.line, has_violation (p, v.place, (tokens, cover, means), least))
+    by_program tokens p cover means (inr (v, least)) = inr (code_of v.rule, v.line, has_violation (p, v, (tokens, cover, means), least, refl, refl))
 
     by_tokens : (tokens : List Token) → IsTokenCover text tokens → IsDecided tokens → IsAnswered text
     by_tokens tokens cover (inl (p, means)) = by_program tokens p cover means (judged p)
@@ -136,5 +138,5 @@ true_syntax text tokens r (parse.Syntax place line) cover is refused = is_no_pro
 true_syntax text tokens r parse.Memory cover is refused = tt
 
 pub true_violation : (text : List ℕ) (p : ProgramTree) (e : CheckError) → IsProgramOf text p → IsAnswer p e → IsTrueOf text (told_violation e)
-true_violation text p (check.Fault code line) means h = has_violation (p, h.0, means, h.1)
+true_violation text p (check.Fault code line) means h = has_violation (p, h.0, means, h.1, h.2, h.3)
 true_violation text p check.Memory means h = tt

@@ -4,11 +4,12 @@ use Rattle.std.specs.Prelude.{slice_get, get_or}
 use Rattle.std.proofs.lemmas.List.{length-map}
 use Rattle.std.proofs.lemmas.List.Elements.{All-append, All-cons, All-contains, All-nil}
 use Rattle.std.proofs.lemmas.Option.{slice_get-get_or}
+use Rattle.os_ast.specs.Codes.{code}
 use Rattle.os_ast.specs.Marks.{HasMark, IsMarkOf}
 use Rattle.os_ast.specs.Means.{Means}
 use Rattle.os_ast.specs.Notes.Kinds.{Note, mark_of}
 use Rattle.os_ast.specs.Notes.Programs.{file, program_notes}
-use Rattle.os_ast.specs.Rules.{codes}
+use Rattle.os_ast.specs.Rules.{broken}
 use Rattle.os_ast.specs.Spelling.{Symbol, bare, kind_of, marked, symbols, spell}
 use Rattle.os_ast.specs.Trees.{ProgramTree}
 use Rattle.os_ast.specs.Violations.{IsBefore, IsRefusal, earlier, violations_of, violations_at, has_main, no_main, same_place, violated, violations}
@@ -17,6 +18,8 @@ use Rattle.os_ast.specs.declared.violation.Violation.{Violation}
 use Rattle.os_lexer.specs.declared.token.Kind.TheVariants as kind
 use Rattle.os_lexer.specs.declared.token.Token.{Token}
 use Rattle.window_check_laws.proofs.Placed.{AreOf, HasKept, of-program}
+use Rattle.os_ast.specs.declared.rule.Rule.{Rule}
+use Rattle.os_ast.specs.declared.rule.Rule.TheVariants as rule
 
 one_on : (from i : ℕ) → from + suc i ≡ suc from + i
 one_on from i = omega arith
@@ -47,13 +50,13 @@ module _ (tokens : List Token) where
       own : IsMarkOf tokens (from + 0) m
       own = f 0 m (k, refl)
 
-  lined_at : (m : Mark) (cs : List ℕ) → Stands m → All IsLined (violations_at m cs)
+  lined_at : (m : Mark) (rs : List Rule) → Stands m → All IsLined (violations_at m rs)
   lined_at m [] h = All-nil IsLined
-  lined_at m (c ∷ cs) h = All-cons IsLined (violated m.place c m.line) (violations_at m cs) (inl h) (lined_at m cs h)
+  lined_at m (r ∷ rs) h = All-cons IsLined (violated m.place r m.line) (violations_at m rs) (inl h) (lined_at m rs h)
 
   all_lined : (ns : List Note) → AreOf Stands ns → All IsLined (violations_of ns)
   all_lined [] h = All-nil IsLined
-  all_lined (n ∷ ns) h = All-append IsLined (violations_at (mark_of n) (codes n)) (violations_of ns) (lined_at (mark_of n) (codes n) h.0) (all_lined ns h.1)
+  all_lined (n ∷ ns) h = All-append IsLined (violations_at (mark_of n) (broken n)) (violations_of ns) (lined_at (mark_of n) (broken n) h.0) (all_lined ns h.1)
 
   -- two violations at one place have one line
   one_line : (v w : Violation) → IsLined v → IsLined w → v.place ≡ w.place → v.line ≡ w.line
@@ -88,16 +91,16 @@ module _ (marks : MarksAreOfTokens) (kinds : KindsAreSpelled) (tokens : List Tok
     where
       end_lined : (b : Bool) → has_main p ≡ b → All (IsLined tokens) (no_main p)
       end_lined true e = rw e (All-nil (IsLined tokens))
-      end_lined false e = rw e (All-cons (IsLined tokens) (violated (length (spell p)) 23 1) [] (inr (as_long, refl)) (All-nil (IsLined tokens)))
+      end_lined false e = rw e (All-cons (IsLined tokens) (violated (length (spell p)) rule.NoMain 1) [] (inr (as_long, refl)) (All-nil (IsLined tokens)))
 
-  same_both : {v w : Violation} → IsBefore v w → IsBefore w v → (v.place ≡ w.place) × (v.code ≡ w.code)
+  same_both : {v w : Violation} → IsBefore v w → IsBefore w v → (v.place ≡ w.place) × (code v.rule ≡ code w.rule)
   same_both (earlier a) (earlier b) = absurd (omega (arith, a, b))
   same_both (earlier a) (same_place b c) = absurd (omega (arith, a, b))
   same_both (same_place a c) (earlier b) = absurd (omega (arith, a, b))
   same_both (same_place a c) (same_place b d) = (a, omega (arith, c, d))
 
   -- two least violations are one but for nothing that is told
-  pub least_is_one : (v w : Violation) → IsRefusal p v → IsRefusal p w → (v.code ≡ w.code) × (v.line ≡ w.line)
+  pub least_is_one : (v w : Violation) → IsRefusal p v → IsRefusal p w → (code v.rule ≡ code w.rule) × (v.line ≡ w.line)
   least_is_one v w a b =
       let both = same_both
       (All-contains (IsBefore v) (violations p) w a.least b.among)

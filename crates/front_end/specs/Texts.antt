@@ -2,10 +2,12 @@
 use Rattle.std.specs.Prelude.{◌≡◌, ◌⊎◌, ⊤, ℕ, List, []}
 use Rattle.front_end.specs.declared.text_error.TextError.{TextError}
 use Rattle.front_end.specs.declared.text_error.TextError.TheVariants as errors
+use Rattle.os_ast.specs.Codes.{code}
 use Rattle.os_ast.specs.Fronts.{IsRefusedAt}
 use Rattle.os_ast.specs.Means.{Means}
 use Rattle.os_ast.specs.Trees.{ProgramTree}
-use Rattle.os_ast.specs.Violations.{violations, violated, IsRefusal}
+use Rattle.os_ast.specs.Violations.{violations, IsRefusal}
+use Rattle.os_ast.specs.declared.violation.Violation.{Violation}
 use Rattle.os_lexer.specs.Cover.{IsTokenCover, IsFirstFault}
 use Rattle.os_lexer.specs.declared.token.Token.{Token}
 
@@ -23,7 +25,7 @@ IsNoProgram text line = (tokens : List Token) × (place : ℕ) × IsTokenCover t
 
 -- The least violation of the program that it means has this code and line.
 abbrev pub HasLeastViolation : List ℕ → ℕ → ℕ → Type 0
-HasLeastViolation text code line = (p : ProgramTree) × (place : ℕ) × IsProgramOf text p × IsRefusal p (violated place code line)
+HasLeastViolation text c line = (p : ProgramTree) × (v : Violation) × IsProgramOf text p × IsRefusal p v × (code v.rule ≡ c) × (v.line ≡ line)
 
 -- What is wrong with a text, by its code and its line: the first of its first fault, that it is no program, its least
 -- violation. The later ones need a cover, and the last one a program.

@@ -8,10 +8,10 @@ use Rattle.std.specs.Result.{result_ok}
 use Rattle.c_int.specs.Machine.{unary_for}
 use Rattle.c_int.specs.Operators as c_int
 use Rattle.c_int.specs.declared.operators.Unary.TheVariants as int_unary
-use Rattle.c_int.specs.declared.trap.Trap.{Trap}
+use Rattle.c_int.specs.declared.trap.OperatorTrap.{OperatorTrap}
 use Rattle.cddf_meaning.specs.Answers.{Answer, at_line, over}
 use Rattle.cddf_meaning.specs.Operators.{operator_of_one, unary_value}
-use Rattle.cddf_meaning.specs.Types.{type_of_two}
+use Rattle.cddf_meaning.specs.ExpressionTypes.{type_of_two}
 use Rattle.lowering_draft.proofs.Becoming.{back, before_place, instr_stands, placed_here, slice_get-last}
 use Rattle.lowering_draft.proofs.Keeping.{Keeps, KeepsLabels, kept, keeps_instr, keeps_instrs, then_kept}
 use Rattle.lowering_draft.proofs.KeptExpressions.{args_kept, expr_kept, links_kept}
@@ -109,7 +109,7 @@ abbrev ok_of : Option ℤ → Answer ℤ
 ok_of (Some v) = Ok v
 ok_of None = over
 
-given : (line : ℕ) (r : Result ℤ Trap) (v : ℤ) → result_ok r ≡ Some v → at_line line r ≡ Ok v
+given : (line : ℕ) (r : Result ℤ OperatorTrap) (v : ℤ) → result_ok r ≡ Some v → at_line line r ≡ Ok v
 given line (Ok w) v is = ap ok_of is
 given line (Err trap) v is = absurd (none-some v is)
 

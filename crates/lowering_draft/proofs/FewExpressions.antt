@@ -5,7 +5,7 @@ use Rattle.std.specs.Prelude.{ℤ, pos}
 use Rattle.c_int.specs.Machine.{unary_for}
 use Rattle.c_int.specs.declared.operators.Unary.TheVariants as int_unary
 use Rattle.cddf_meaning.specs.Operators.{operator_of_one}
-use Rattle.cddf_meaning.specs.Types.{type_of_two}
+use Rattle.cddf_meaning.specs.ExpressionTypes.{type_of_two}
 use Rattle.lowering_draft.proofs.ExpressionsStand.{length-instr}
 use Rattle.lowering_draft.proofs.Keeping.{KeepsLabels}
 use Rattle.lowering_draft.proofs.KeptExpressions.{expr_kept}

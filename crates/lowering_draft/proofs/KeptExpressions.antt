@@ -20,7 +20,7 @@ use Rattle.std.specs.Prelude.{ℤ, pos}
 use Rattle.c_int.specs.Machine.{unary_for}
 use Rattle.c_int.specs.declared.operators.Unary.TheVariants as int_unary
 use Rattle.cddf_meaning.specs.Operators.{operator_of_one, step_operator}
-use Rattle.cddf_meaning.specs.Types.{type_of_two}
+use Rattle.cddf_meaning.specs.ExpressionTypes.{type_of_two}
 use Rattle.lowering_draft.specs.Emission.Expressions.{literal}
 use Rattle.os_code.specs.declared.instr.Instr.TheVariants as instr
 use Rattle.os_code.specs.declared.instr.Instr.TheVariants.{Jump, JumpZero, Push, Turn}

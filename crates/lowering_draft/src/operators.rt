@@ -1,14 +1,13 @@
 //! The operators of the trees as those of the machine.
 
 ghost use Rattle.std.specs.Prelude.{◌≡◌, OnOk, pos, min};
-ghost use Rattle.c_int.specs.Machine.{binary_for, unary_for, unsigned_binary, works_unsigned};
 ghost use Rattle.cddf_meaning.specs.Operators.{operator_of_one, operator_of_two, step_operator};
 ghost use Rattle.lowering_draft.specs.Draft.{with_instrs};
 ghost use Rattle.lowering_draft.specs.Emission.Expressions.{literal};
 ghost use Rattle.lowering_relation.specs.Expressions.{operation};
 
 use crate::draft::Draft;
-use crate::types::Types;
+use c_int::{Types, binary_for};
 use os_ast::{Binary, Step, Unary};
 use os_code::Instr;
 use os_io::Memory;
@@ -54,57 +53,6 @@ fn operator_of_two(operator: Binary) -> Option<c_int::Binary>
         Binary::Multiply => Some(c_int::Binary::Multiply),
         Binary::Divide => Some(c_int::Binary::Divide),
         Binary::Remainder => Some(c_int::Binary::Remainder),
-    }
-}
-
-/// The operator of the machine that has an operand of this type.
-pub fn unary_for(unsigned: bool, operator: c_int::Unary) -> c_int::Unary
-    ensures { result ≡ unary_for unsigned operator }
-{
-    match operator {
-        c_int::Unary::Minus if unsigned => c_int::Unary::MinusUnsigned,
-        _ => operator,
-    }
-}
-
-/// The form for `unsigned` of an operator; one that has no such form is the same for both types.
-fn unsigned_binary(operator: c_int::Binary) -> c_int::Binary
-    ensures { result ≡ unsigned_binary operator }
-{
-    match operator {
-        c_int::Binary::Less => c_int::Binary::LessUnsigned,
-        c_int::Binary::LessEqual => c_int::Binary::LessEqualUnsigned,
-        c_int::Binary::Greater => c_int::Binary::GreaterUnsigned,
-        c_int::Binary::GreaterEqual => c_int::Binary::GreaterEqualUnsigned,
-        c_int::Binary::ShiftLeft => c_int::Binary::ShiftLeftUnsigned,
-        c_int::Binary::ShiftRight => c_int::Binary::ShiftRightUnsigned,
-        c_int::Binary::Add => c_int::Binary::AddUnsigned,
-        c_int::Binary::Subtract => c_int::Binary::SubtractUnsigned,
-        c_int::Binary::Multiply => c_int::Binary::MultiplyUnsigned,
-        c_int::Binary::Divide => c_int::Binary::DivideUnsigned,
-        c_int::Binary::Remainder => c_int::Binary::RemainderUnsigned,
-        _ => operator,
-    }
-}
-
-/// Whether an operator works in `unsigned`: a shift in the type of its left operand, every other where one operand is.
-fn works_unsigned(operator: c_int::Binary, types: Types) -> bool
-    ensures { result ≡ works_unsigned operator types.left types.right }
-{
-    match operator {
-        c_int::Binary::ShiftLeft | c_int::Binary::ShiftRight => types.left,
-        _ => types.left || types.right,
-    }
-}
-
-/// The operator of the machine that has operands of these types.
-fn binary_for(types: Types, operator: c_int::Binary) -> c_int::Binary
-    ensures { result ≡ binary_for types.left types.right operator }
-{
-    if works_unsigned(operator, types) {
-        unsigned_binary(operator)
-    } else {
-        operator
     }
 }
 

@@ -9,8 +9,9 @@ ghost use Rattle.lowering_relation.specs.Names.{told_at};
 
 use crate::expressions::emit_expr;
 use crate::quiet::is_quiet;
+use c_int::Types;
 use lowering_draft::{
-    Draft, Told, Types, checking_at, emit_aiming, emit_element, emit_operation, emit_reading,
+    Draft, Told, checking_at, emit_aiming, emit_element, emit_operation, emit_reading,
     step_operator, storing, storing_at,
 };
 use os_ast::{Assign, Binary, Change, Expr, Mark, Step, Target};

@@ -1,7 +1,7 @@
 //! Expressions: their code pushes their value, and each walk tells the type of what it went over.
 
 ghost use Rattle.std.specs.Prelude.{◌≡◌, IfOk, OnOk, [], ◌∷◌, false};
-ghost use Rattle.cddf_meaning.specs.Types.{type_behind, type_of_one, type_of_two};
+ghost use Rattle.cddf_meaning.specs.ExpressionTypes.{type_behind, type_of_one, type_of_two};
 ghost use Rattle.lowering_draft.specs.Draft.{with_instrs};
 ghost use Rattle.lowering_draft.specs.Emission.Expressions.{args_code, expr_code, links_code, with_link, with_unary, worked_out};
 ghost use Rattle.c_int.specs.declared.operators.Unary.TheVariants as int_unary;
@@ -10,10 +10,10 @@ ghost use Rattle.os_ast.specs.Views.{args_tree, expr_tree, links_tree, target_tr
 ghost use Rattle.lowering_relation.specs.Expressions.{type_by};
 ghost use Rattle.lowering_relation.specs.Names.{flags_by, told_at};
 
-use c_int::apply_unary;
+use c_int::{Types, apply_unary, unary_for};
 use lowering_draft::{
-    Draft, Told, Types, calling, emit_operation, emit_reading, literal, operator_of_one,
-    reading_at, type_of_one, type_of_two, unary_for,
+    Draft, Told, calling, emit_operation, emit_reading, literal, operator_of_one, reading_at,
+    type_of_one, type_of_two,
 };
 use os_ast::{Binary, Call, Expr, Link, Mark, Target, Unary};
 use os_code::Instr;

@@ -37,7 +37,7 @@ use Rattle.lowering_relation.proofs.Exprs.{Ready, ends_at, operates, expr_runs}
 use Rattle.lowering_relation.proofs.Flows.{Does, does_from, given_does, settled}
 use Rattle.lowering_relation.proofs.Names.{reads, fetches_at}
 use Rattle.lowering_relation.proofs.Quiet.{quiet_gives}
-use Rattle.lowering_relation.proofs.Types.{type_told, target_told}
+use Rattle.lowering_relation.proofs.TypesTold.{type_told, target_told}
 use Rattle.lowering_relation.proofs.Steps.{Store, at, pushed, checked_index, Leads, stays, leads_on, Meets, gives, meets_from, meets_then, copy_top, push}
 use Rattle.lowering_relation.proofs.Stores.{aimed, below_in, stores_name, stores_at}
 

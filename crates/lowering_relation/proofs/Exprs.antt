@@ -9,7 +9,7 @@ use Rattle.cddf_meaning.specs.Answers.{Answer, and_then, Left, left, with_turns}
 use Rattle.cddf_meaning.specs.File.{variable, or_in_file, type_in}
 use Rattle.cddf_meaning.specs.Operators.{operator_of_one, operator_of_two, given_by, binary_value, unary_value}
 use Rattle.cddf_meaning.specs.State.{State}
-use Rattle.cddf_meaning.specs.Types.{type_of_two}
+use Rattle.cddf_meaning.specs.ExpressionTypes.{type_of_two}
 use Rattle.cddf_meaning.specs.Value.{call_value, scalar_value, elements, element_at, as_truth, linked, value, place_value, values, chained}
 use Rattle.cddf_meaning.specs.Variables.{find}
 use Rattle.cddf_meaning.specs.declared.variable.Variable.{Variable}
@@ -41,7 +41,7 @@ use Rattle.lowering_relation.specs.Expressions.{Stands, operation_of, operation,
 use Rattle.lowering_relation.specs.Names.{reading, reading_at, calling}
 use Rattle.lowering_relation.proofs.Context.{resources, Kept, Context, means, tells, Agree, agree_first, agree_rest, In, used, Named, name, IsCallable, in_typed}
 use Rattle.lowering_relation.proofs.Names.{means_function, reads, reads_at}
-use Rattle.lowering_relation.proofs.Types.{type_told}
+use Rattle.lowering_relation.proofs.TypesTold.{type_told}
 use Rattle.lowering_relation.proofs.Steps.{Store, at, pushed, onto, pushed_all, Leads, stays, leads_on, Meets, gives, halts, meets_then, push, drop_top, jump, jump_zero, unary_step, binary_step}
 
 -- a state of the machine beside one of the meaning, in a scope of the body

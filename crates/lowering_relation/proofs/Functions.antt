@@ -22,7 +22,7 @@ use Rattle.os_ast.specs.Notes.Declarators.{scalar_entity}
 use Rattle.os_ast.specs.Notes.Programs.{param_list, after_param, after_params}
 use Rattle.os_ast.specs.Notes.Statements.{after_stmts, stmts_notes}
 use Rattle.os_ast.specs.Trees as tree
-use Rattle.os_ast.specs.Types.{is_unsigned}
+use Rattle.os_ast.specs.Unsigned.{is_unsigned}
 use Rattle.os_ast.specs.declared.names.Entity.{Entity}
 use Rattle.os_ast.specs.declared.names.Entity.TheVariants as entity
 use Rattle.os_ast.specs.declared.names.Entry.{Entry}

@@ -3,6 +3,7 @@ use Rattle.std.proofs.Common.{◌≡◌, ℕ, ◌+◌, ◌*◌, ◌<◌, ◌≤�
 use Rattle.std.proofs.lemmas.Bool.{lt-leb, cases_order}
 use Rattle.std.specs.Prelude.{⊤}
 use Rattle.c_int.specs.Operators.{is_equal}
+use Rattle.c_int.specs.declared.trap.Trap.TheVariants as trap_of
 use Rattle.cddf_meaning.specs.Answers.{traps, and_then, Left, left, with_turns}
 use Rattle.cddf_meaning.specs.File.{File}
 use Rattle.cddf_meaning.specs.Moves.{CallsFall}
@@ -30,7 +31,7 @@ use Rattle.os_code.specs.declared.instr.Instr.TheVariants as instr
 use Rattle.os_code.specs.declared.parts.Parts.{Parts}
 use Rattle.os_code.specs.declared.site.SiteItem.{SiteItem}
 use Rattle.os_code.specs.Machine as machine
-use Rattle.os_code.specs.Machine.{Frame, Going, stream_of, amount_of, size_of, forbidden_to, or_code, with_claim, spawned_claims, act}
+use Rattle.os_code.specs.Machine.{Frame, Going, stream_of, amount_of, size_of, forbidden_to, or_why, with_claim, spawned_claims, act}
 use Rattle.os_code.specs.Parts.{instr_at}
 use Rattle.lowering_relation.specs.Alignment.{slot_at}
 use Rattle.lowering_relation.specs.Tasks.{HasStream, bursting, HasBurst, HasJoin, HasItems, is_write, slot_of, window_of, site_item, site_items}
@@ -94,9 +95,9 @@ one_fits direction.Writes = refl
 claim_is : (all : ℕ) (slots : List ℤ) (item : SiteItem) (k : ℕ) (v : ℤ) (stream horizon amount : ℕ) → stream_of all (forbidden_to item) item.stream (pos k) ≡ Some stream → machine.horizon_of slots item.window ≡ Some horizon →
     burst_by item.write horizon v ≡ Some amount → machine.claim_of all slots item (pos k) v ≡ Ok (claimed item.write stream horizon amount)
 claim_is all slots item k v stream horizon amount a b e =
-    ap (λ o. or_code 4 o (λ x. or_code 6 (machine.horizon_of slots item.window) (λ y. or_code (if item.write then 8 else 7) (burst_by item.write y v) (λ z. Ok (claimed item.write x y z))))) a
-    ∙ ap (λ o. or_code 6 o (λ y. or_code (if item.write then 8 else 7) (burst_by item.write y v) (λ z. Ok (claimed item.write stream y z)))) b
-    ∙ ap (λ o. or_code (if item.write then 8 else 7) o (λ z. Ok (claimed item.write stream horizon z))) e
+    ap (λ o. or_why trap_of.Index o (λ x. or_why trap_of.WindowSize (machine.horizon_of slots item.window) (λ y. or_why (if item.write then trap_of.OutputBurst else trap_of.Move) (burst_by item.write y v) (λ z. Ok (claimed item.write x y z))))) a
+    ∙ ap (λ o. or_why trap_of.WindowSize o (λ y. or_why (if item.write then trap_of.OutputBurst else trap_of.Move) (burst_by item.write y v) (λ z. Ok (claimed item.write stream y z)))) b
+    ∙ ap (λ o. or_why (if item.write then trap_of.OutputBurst else trap_of.Move) o (λ z. Ok (claimed item.write stream horizon z))) e
 
 size_is : (horizon : ℕ) → 1 ≤ horizon → horizon ≤ 65536 → size_of (pos horizon) ≡ Some horizon
 size_is horizon lo hi = ap (λ b. if b && leb horizon 65536 then Some horizon else None) (le-leb 1 horizon lo) ∙ ap (λ b. if b then Some horizon else None) (le-leb horizon 65536 hi)
@@ -117,16 +118,16 @@ module _ (code : Parts) (callers : List Frame) where
   burst_out slot line p horizon v stack m turns is holds = by_sign v (acts code (at callers p (v ∷ stack) m turns) (instr.BurstOut slot line) is ∙ ap (λ x. tested v (is_equal v x)) holds)
     where
       tested : ℤ → Bool → machine.Progress
-      tested x b = if b then Going (at callers (p + 1) (x ∷ stack) m turns) else machine.trap (at callers p (x ∷ stack) m turns) 8 line
+      tested x b = if b then Going (at callers (p + 1) (x ∷ stack) m turns) else machine.trap (at callers p (x ∷ stack) m turns) trap_of.OutputBurst line
 
       by_case : (n : ℕ) (t : Bool) → (n == horizon) ≡ t → machine.step code (at callers p (pos n ∷ stack) m turns) ≡ tested (pos n) t →
-          Meets code (at callers p (pos n ∷ stack) m turns) (exact (pos n) horizon (p + 1) stack m turns) (if t then Ok n else traps 8 line)
+          Meets code (at callers p (pos n ∷ stack) m turns) (exact (pos n) horizon (p + 1) stack m turns) (if t then Ok n else traps trap_of.OutputBurst line)
       by_case n true e h = gives n (refl, eqb-true n horizon e) (one code h)
-      by_case n false e h = halts (stops_at code (ending.Trapped 8 line) h)
+      by_case n false e h = halts (stops_at code (ending.Trapped trap_of.OutputBurst line) h)
 
       by_sign : (x : ℤ) → machine.step code (at callers p (x ∷ stack) m turns) ≡ tested x (is_equal x (pos horizon)) → Meets code (at callers p (x ∷ stack) m turns) (exact x horizon (p + 1) stack m turns) (output_burst line horizon x)
       by_sign (pos n) h = by_case n (n == horizon) refl (h ∙ ap (tested (pos n)) (sym (equal_pos n horizon)))
-      by_sign (negsuc n) h = halts (stops_at code (ending.Trapped 8 line) h)
+      by_sign (negsuc n) h = halts (stops_at code (ending.Trapped trap_of.OutputBurst line) h)
 
 module _ (code : Parts) (file : File) (falls : CallsFall file) (names : List Resolved) (ordered : InOrder names) (file_es : List Entry) (fits : FileFits code file file_es) (streams later : ℕ) (all : streams ≤ code.streams) (callers : List Frame)
     (s : Scope) (es : List Entry) (st : State) (m : Store) (ready : Ready (main_context code file falls names ordered file_es fits streams later) s es st m) where

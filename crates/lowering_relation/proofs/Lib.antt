@@ -3,7 +3,7 @@ pub mod Steps
 pub mod Alignment
 pub mod Context
 pub mod Names
-pub mod Types
+pub mod TypesTold
 pub mod Exprs
 pub mod Flows
 pub mod Stores

@@ -11,6 +11,7 @@ use Rattle.cddf_meaning.specs.Tasks.{tasks_in_all, sites_of}
 use Rattle.cddf_meaning.specs.declared.site.Site.{Site}
 use Rattle.flow_core_laws.specs.declared.control.Control.{Control}
 use Rattle.flow_core_laws.proofs.Stretches.{slice_get-append_left}
+use Rattle.os_ast.specs.declared.rule.Rule.TheVariants as rule
 use Rattle.os_ast.specs.Names.{Scope, main_id, osin_id, osout_id, osin_len_id}
 use Rattle.os_ast.specs.Notes.Programs.{owner_of, param_list, round_body, after_params, after_item, in_body, items_notes}
 use Rattle.os_ast.specs.Notes.Programs as programs
@@ -60,7 +61,7 @@ main_there p h = by_case (has_main p) refl (none_behind (violations_of (program_
   where
     by_case : (t : Bool) → has_main p ≡ t → no_main p ≡ [] → t ≡ true
     by_case true e k = refl
-    by_case false e k = let z : violated (length (spell p)) 23 1 ∷ [] ≡ [] = sym (ap (λ t. if t then [] else violated (length (spell p)) 23 1 ∷ []) e) ∙ k in absurd (cc)
+    by_case false e k = let z : violated (length (spell p)) rule.NoMain 1 ∷ [] ≡ [] = sym (ap (λ t. if t then [] else violated (length (spell p)) rule.NoMain 1 ∷ []) e) ∙ k in absurd (cc)
 
 finds : (is : List tree.ItemTree) (file : File) (s : Scope) → has_main is ≡ true → main_behind file s is ≡ None → ⊥
 finds [] file s h none = absurd (cc)

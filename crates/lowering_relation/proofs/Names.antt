@@ -3,6 +3,7 @@ use Rattle.std.proofs.Common.{◌≡◌, ℕ, zero, suc, ◌+◌, ◌<◌, ◌�
 use Rattle.std.proofs.lemmas.Bool.{lt-ltb}
 use Rattle.std.proofs.lemmas.List.{length-map}
 use Rattle.std.specs.Prelude.{slice_get, slice_index_or}
+use Rattle.c_int.specs.declared.trap.Trap.TheVariants as trap_of
 use Rattle.cddf_meaning.specs.Answers.{Answer, left, with_turns}
 use Rattle.cddf_meaning.specs.File.{variable, or_in_file}
 use Rattle.cddf_meaning.specs.State.{State, item_elements}
@@ -109,19 +110,19 @@ module _ (code : Parts) (callers : List Frame) where
 
   item_step : (item line p : ℕ) (v : ℤ) (stack : List ℤ) (m : Store) (turns : ℕ) (w : TaskWindow) → slice_get m.windows item ≡ Some w →
       instr_at code p ≡ Some (instr.ItemLoad item line) →
-      step code (at callers p (v ∷ stack) m turns) ≡ or_trap (at callers p (v ∷ stack) m turns) 4 line (below w.claim.horizon v) (λ k. Going (at callers (p + 1) (slice_index_or w.elements k (pos 0) ∷ stack) m turns))
+      step code (at callers p (v ∷ stack) m turns) ≡ or_trap (at callers p (v ∷ stack) m turns) trap_of.Index line (below w.claim.horizon v) (λ k. Going (at callers (p + 1) (slice_index_or w.elements k (pos 0) ∷ stack) m turns))
   unfolding act
   item_step item line p v stack m turns w there is =
       let s = at callers p (v ∷ stack) m turns in
       acts code s (instr.ItemLoad item line) is
-      ∙ ap (λ o. or_stuck o (λ (window : TaskWindow). or_trap s 4 line (below window.claim.horizon v) (λ k. Going (at callers (p + 1) (slice_index_or window.elements k (pos 0) ∷ stack) m turns)))) there
+      ∙ ap (λ o. or_stuck o (λ (window : TaskWindow). or_trap s trap_of.Index line (below window.claim.horizon v) (λ k. Going (at callers (p + 1) (slice_index_or window.elements k (pos 0) ∷ stack) m turns)))) there
 
   pub item_load : (vs : List ℤ) (item line p : ℕ) (v : ℤ) (stack : List ℤ) (m : Store) (turns : ℕ) → HasWindow m.windows vs item →
       instr_at code p ≡ Some (instr.ItemLoad item line) → Indexes p v stack m turns (length vs) line (λ k. slot_at vs k ∷ stack)
   item_load vs item line p v stack m turns has is =
       let s = at callers p (v ∷ stack) m turns in
       instead (checks code s v (length vs) line (λ k. at callers (p + 1) (slice_index_or has.window.elements k (pos 0) ∷ stack) m turns)
-      (subst (λ n. step code s ≡ or_trap s 4 line (below n v) (λ k. Going (at callers (p + 1) (slice_index_or has.window.elements k (pos 0) ∷ stack) m turns))) has.horizon
+      (subst (λ n. step code s ≡ or_trap s trap_of.Index line (below n v) (λ k. Going (at callers (p + 1) (slice_index_or has.window.elements k (pos 0) ∷ stack) m turns))) has.horizon
       (item_step item line p v stack m turns has.window has.is is)))
       (λ k lt. ap (λ (xs : List ℤ). at callers (p + 1) (get_or xs k (pos 0) ∷ stack) m turns) has.elements)
 
@@ -131,9 +132,9 @@ module _ (code : Parts) (callers : List Frame) where
   item_check vs item line p v stack m turns has is =
       let s = at callers p (v ∷ stack) m turns in
       checks code s v (length vs) line (λ k. at callers (p + 1) (v ∷ stack) m turns)
-      (subst (λ n. step code s ≡ or_trap s 4 line (below n v) (λ k. Going (at callers (p + 1) (v ∷ stack) m turns))) has.horizon
+      (subst (λ n. step code s ≡ or_trap s trap_of.Index line (below n v) (λ k. Going (at callers (p + 1) (v ∷ stack) m turns))) has.horizon
       (acts code s (instr.ItemCheck item line) is
-      ∙ ap (λ o. or_stuck o (λ (window : TaskWindow). or_trap s 4 line (below window.claim.horizon v) (λ k. Going (at callers (p + 1) (v ∷ stack) m turns)))) has.is))
+      ∙ ap (λ o. or_stuck o (λ (window : TaskWindow). or_trap s trap_of.Index line (below window.claim.horizon v) (λ k. Going (at callers (p + 1) (v ∷ stack) m turns)))) has.is))
 
   -- the one element of an item
   pub item_first : (vs : List ℤ) (item line from to : ℕ) (stack : List ℤ) (m : Store) (turns : ℕ) → HasWindow m.windows vs item →
@@ -146,11 +147,11 @@ module _ (code : Parts) (callers : List Frame) where
       ∙ by_size has.window.claim.horizon (omega (arith, has.some, has.horizon))
       ∙ ap (λ (xs : List ℤ). Going (at callers (from + 1 + 1) (get_or xs 0 (pos 0) ∷ stack) m turns)) has.elements)))
     where
-      by_size : (n : ℕ) → 1 ≤ n → or_trap (at callers (from + 1) (pos 0 ∷ stack) m turns) 4 line (below n (pos 0)) (λ k. Going (at callers (from + 1 + 1) (slice_index_or has.window.elements k (pos 0) ∷ stack) m turns))
+      by_size : (n : ℕ) → 1 ≤ n → or_trap (at callers (from + 1) (pos 0 ∷ stack) m turns) trap_of.Index line (below n (pos 0)) (λ k. Going (at callers (from + 1 + 1) (slice_index_or has.window.elements k (pos 0) ∷ stack) m turns))
           ≡ Going (at callers (from + 1 + 1) (slice_index_or has.window.elements 0 (pos 0) ∷ stack) m turns)
       by_size n le =
           let lt : ltb 0 n ≡ true = lt-ltb 0 n (omega (arith, le)) in
-          ap (λ b. or_trap (at callers (from + 1) (pos 0 ∷ stack) m turns) 4 line (if b then Some 0 else None) (λ k. Going (at callers (from + 1 + 1) (slice_index_or has.window.elements k (pos 0) ∷ stack) m turns))) lt
+          ap (λ b. or_trap (at callers (from + 1) (pos 0 ∷ stack) m turns) trap_of.Index line (if b then Some 0 else None) (λ k. Going (at callers (from + 1 + 1) (slice_index_or has.window.elements k (pos 0) ∷ stack) m turns))) lt
 
 module _ (c : Context) (callers : List Frame) (es : List Entry) (st : State) (m : Store) where
   by_variable : (v : Variable) (w : What) (line from to : ℕ) (stack : List ℤ) (turns : ℕ) → Holds (resources c.side) m.slots v w → Kept c.side st m →

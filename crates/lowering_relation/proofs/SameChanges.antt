@@ -23,7 +23,7 @@ use Rattle.os_ast.specs.Notes.Expressions.{expr_notes, place_notes, value_notes,
 use Rattle.os_ast.specs.Parts.{is_in, target_name}
 use Rattle.os_ast.specs.Rules.{has_no_size, has_too_many}
 use Rattle.os_ast.specs.Trees as tree
-use Rattle.os_ast.specs.Types.{is_unsigned}
+use Rattle.os_ast.specs.Unsigned.{is_unsigned}
 use Rattle.os_ast.specs.declared.expr.Name.{Name as NameToken}
 use Rattle.os_ast.specs.declared.names.Entry.{Entry}
 use Rattle.os_ast.specs.declared.names.Form.TheVariants as form_of

@@ -24,7 +24,7 @@ use Rattle.os_ast.specs.Notes.Programs as programs
 use Rattle.os_ast.specs.Notes.Statements.{stmts_notes}
 use Rattle.os_ast.specs.Parts.{Part, Item as ItemPart, Private, parts, item_name, item_ids}
 use Rattle.os_ast.specs.Trees as tree
-use Rattle.os_ast.specs.Types.{is_unsigned}
+use Rattle.os_ast.specs.Unsigned.{is_unsigned}
 use Rattle.os_ast.specs.Violations.{names}
 use Rattle.os_ast.specs.Violations as text
 use Rattle.os_ast.specs.declared.names.Entry.{Entry}

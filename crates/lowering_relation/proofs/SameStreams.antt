@@ -1,5 +1,6 @@
 -- The pragmas of `main` do the same where more is in scope.
 use Rattle.std.proofs.Common.{◌≡◌, ℕ, zero, suc, ◌+◌, List, [], ◌∷◌, ◌++◌, map, Option, Some, None, Ok, refl, sym, ap, ◌∙◌, subst}
+use Rattle.c_int.specs.declared.control_limit.ControlLimit.{ControlLimit}
 use Rattle.cddf_meaning.specs.Answers.{left, and_then, with_turns}
 use Rattle.cddf_meaning.specs.Claims.{with_skips, skips_behind_all, limit}
 use Rattle.cddf_meaning.specs.File.{or_in_file}
@@ -117,7 +118,7 @@ module _ (c : Context) (more : List Binding) (apart : AreElse c.file more) (sees
       values =
           ap (captured_values c.file st) captures ∙ captured_more (captured s.entries (parts cs) a) (captured_scalars s.entries _) ∙ ap (captured_values c.file st2) (sym captures)
 
-      created : (claims : List Claim) (left_turns : ℕ) (o : Option ℕ) →
+      created : (claims : List Claim) (left_turns : ℕ) (o : Option ControlLimit) →
           SameRan c more (exactly es) es (unless_limited o st left_turns (with_activation c.file number names claims st)) (unless_limited o st2 left_turns (with_activation c.file number names claims st2))
       created claims left_turns (Some n) = ended (Limited n) st.activations
       created claims left_turns None =

@@ -4,6 +4,7 @@ use Rattle.std.specs.Prelude.{⊤, ◌==◌, nat_lt}
 use Rattle.std.specs.List.{position_or_len}
 use Rattle.std.proofs.lemmas.Bool.{ltb-true}
 use Rattle.c_int.specs.Operators.{is_zero}
+use Rattle.c_int.specs.declared.control_limit.ControlLimit.{ControlLimit}
 use Rattle.cddf_meaning.specs.Answers.{Answer, and_then, Left, with_turns}
 use Rattle.cddf_meaning.specs.Claims.{limit}
 use Rattle.cddf_meaning.specs.Control.{control, control_in, control_of, control_state, round_main}
@@ -26,7 +27,7 @@ use Rattle.cddf_meaning.specs.declared.variable.Variable.TheVariants.{Constant, 
 use Rattle.flow_core_laws.specs.declared.activation.Activation.{Activation}
 use Rattle.os_ast.specs.Parts.{Part, parts}
 use Rattle.os_ast.specs.Trees as tree
-use Rattle.os_ast.specs.Types.{is_unsigned}
+use Rattle.os_ast.specs.Unsigned.{is_unsigned}
 use Rattle.os_ast.specs.declared.expr.Mark.{Mark}
 
 -- what was created by the end of a run
@@ -183,7 +184,7 @@ module _ (n : ℕ) where
       (loops_sited again (body s n.turns) (f s n.turns h)
       (λ t left k. flows_sited (loop most test body step) (step t left) (g t left k) (loop_sited most test body step f g))))
 
-  limited_sited : (l : Option ℕ) (s next : State) (turns : ℕ) → AreSited n s.activations → AreSited n next.activations → Sited (unless_limited l s turns next)
+  limited_sited : (l : Option ControlLimit) (s next : State) (turns : ℕ) → AreSited n s.activations → AreSited n next.activations → Sited (unless_limited l s turns next)
   limited_sited None s next turns h k = k
   limited_sited (Some limit) s next turns h k = h
 

@@ -1,5 +1,7 @@
 -- The code of a task pragma creates the activation that it says.
 use Rattle.std.proofs.Common.{◌≡◌, ℕ, ◌+◌, ◌*◌, ◌≤◌, Bool, true, false, if◌then◌else◌, leb, ltb, List, [], ◌∷◌, ◌++◌, length, map, replicate, Option, Some, None, Ok, ℤ, refl, sym, ap, ◌∙◌, subst, arith}
+use Rattle.c_int.specs.declared.control_limit.ControlLimit.TheVariants as limits
+use Rattle.c_int.specs.declared.control_limit.ControlLimit.{ControlLimit}
 use Rattle.cddf_meaning.specs.Claims.{with_skips, horizons, all_horizons, limit}
 use Rattle.cddf_meaning.specs.File.{File, variable, or_in_file}
 use Rattle.cddf_meaning.specs.Moves.{CallsFall}
@@ -113,10 +115,10 @@ module _ (code : Parts) (file : File) (falls : CallsFall file) (names : List Res
       after = at callers (p + 1) stack created_store turns
 
       abbrev unless_passed : Bool → Bool → Progress
-      unless_passed t u = if t then Halted (Limited 1) before else if u then Halted (Limited 2) before else Going after
+      unless_passed t u = if t then Halted (Limited limits.Activations) before else if u then Halted (Limited limits.Elements) before else Going after
 
-      abbrev passed : Bool → Bool → Option ℕ
-      passed t u = if t then Some 1 else if u then Some 2 else None
+      abbrev passed : Bool → Bool → Option ControlLimit
+      passed t u = if t then Some limits.Activations else if u then Some limits.Elements else None
 
       abbrev Spawned : Bool → Bool → Type 0
       Spawned t u = Does code before (settled c callers leaves total next broke continued stack (exactly es) es) (unless_limited (passed t u) st turns (with_activation file number ids claims st))
@@ -141,8 +143,8 @@ module _ (code : Parts) (file : File) (falls : CallsFall file) (names : List Res
           )
 
       by_limits : (t u : Bool) → step code before ≡ unless_passed t u → Spawned t u
-      by_limits true u h = ended m.created (stops_at code (ending.Limited 1) h) (sym ready.kept.0)
-      by_limits false true h = ended m.created (stops_at code (ending.Limited 2) h) (sym ready.kept.0)
+      by_limits true u h = ended m.created (stops_at code (ending.Limited limits.Activations) h) (sym ready.kept.0)
+      by_limits false true h = ended m.created (stops_at code (ending.Limited limits.Elements) h) (sym ready.kept.0)
       by_limits false false h =
           went_on c callers leaves total es (with_activation file number ids claims st) created_store turns len (same ready.kept) ready.aligned
           (subst (λ q. Leads code before (at callers q stack created_store turns)) there (one code h))

@@ -1,11 +1,12 @@
 -- Runs of the machine that follow an answer of the meaning.
 use Rattle.std.proofs.Common.{◌≡◌, ℕ, suc, ◌+◌, ◌<◌, arith, Bool, true, false, if◌then◌else◌, List, [], ◌∷◌, length, Some, None, Ok, Err, Result, ltb, ℤ, pos, negsuc, refl, sym, ap, ◌∙◌, subst}
 use Rattle.std.specs.Prelude.{slice_set, slice_index_or}
-use Rattle.c_int.specs.Operators.{is_zero, trap_code}
+use Rattle.c_int.specs.Operators.{is_zero}
 use Rattle.c_int.specs.Operators as c_int
 use Rattle.c_int.specs.declared.operators.Binary as int_binary
 use Rattle.c_int.specs.declared.operators.Unary as int_unary
-use Rattle.c_int.specs.declared.trap.Trap.{Trap}
+use Rattle.c_int.specs.declared.trap.Trap.TheVariants as trap_of
+use Rattle.c_int.specs.declared.trap.OperatorTrap.{OperatorTrap}
 use Rattle.cddf_meaning.specs.Answers.{Answer, traps, and_then, at_line, Left, left, with_turns}
 use Rattle.cddf_meaning.specs.Value.{checked}
 use Rattle.cddf_meaning.specs.declared.ending.Ending.{Ending}
@@ -111,15 +112,15 @@ module _ (code : Parts) where
   meets_then {s = s} f same (halts {e = e} h) next = halts (subst (Stops s e) (sym same) h)
 
   -- an index that is checked
-  pub checks : (s : State) (v : ℤ) (size line : ℕ) (t : ℕ → State) → step code s ≡ or_trap s 4 line (below size v) (λ k. Going (t k)) →
+  pub checks : (s : State) (v : ℤ) (size line : ℕ) (t : ℕ → State) → step code s ≡ or_trap s trap_of.Index line (below size v) (λ k. Going (t k)) →
       Meets s (checked_index v size t s.created) (checked size line v)
   checks s (pos i) size line t is = by_case (ltb i size) refl is
     where
-      by_case : (b : Bool) → ltb i size ≡ b → step code s ≡ or_trap s 4 line (if b then Some i else None) (λ k. Going (t k)) →
-          Meets s (checked_index (pos i) size t s.created) (if b then Ok i else traps 4 line)
+      by_case : (b : Bool) → ltb i size ≡ b → step code s ≡ or_trap s trap_of.Index line (if b then Some i else None) (λ k. Going (t k)) →
+          Meets s (checked_index (pos i) size t s.created) (if b then Ok i else traps trap_of.Index line)
       by_case true e h = gives i (refl, grind arith) (one h)
-      by_case false e h = halts (stops_at (ending.Trapped 4 line) h)
-  checks s (negsuc i) size line t is = halts (stops_at (ending.Trapped 4 line) is)
+      by_case false e h = halts (stops_at (ending.Trapped trap_of.Index line) h)
+  checks s (negsuc i) size line t is = halts (stops_at (ending.Trapped trap_of.Index line) is)
 
   then_assoc : {A B C : Type 0} (a : Answer A) (f : A → Answer B) (g : B → Answer C) → and_then a (λ x. and_then (f x) g) ≡ and_then (and_then a f) g
   then_assoc (Ok x) f g = refl
@@ -194,27 +195,27 @@ module _ (code : Parts) where
         by_case false z = meets_from (branch p to v stack m turns false z is) b
 
     -- an operator
-    unary_gives : (r : Result ℤ Trap) (op : int_unary.Unary) (line p : ℕ) (v : ℤ) (stack : List ℤ) (m : Store) (turns : ℕ) → c_int.unary_value op v ≡ r →
+    unary_gives : (r : Result ℤ OperatorTrap) (op : int_unary.Unary) (line p : ℕ) (v : ℤ) (stack : List ℤ) (m : Store) (turns : ℕ) → c_int.unary_value op v ≡ r →
         instr_at code p ≡ Some (instr.Unary op line) →
         Meets (at callers p (v ∷ stack) m turns) (pushed callers (p + 1) stack m) (with_turns turns (at_line line r))
     unfolding act
     unary_gives (Ok w) op line p v stack m turns r is =
         gives (left w turns) tt (one (acts (at callers p (v ∷ stack) m turns) (instr.Unary op line) is ∙ ap (λ x. or_its_trap (at callers p (v ∷ stack) m turns) line x (λ value. Going (at callers (p + 1) (value ∷ stack) m turns))) r))
     unary_gives (Err trap) op line p v stack m turns r is =
-        halts (stops_at (ending.Trapped (trap_code trap) line) (acts (at callers p (v ∷ stack) m turns) (instr.Unary op line) is ∙ ap (λ x. or_its_trap (at callers p (v ∷ stack) m turns) line x (λ value. Going (at callers (p + 1) (value ∷ stack) m turns))) r))
+        halts (stops_at (ending.Trapped (trap_of.Operator trap) line) (acts (at callers p (v ∷ stack) m turns) (instr.Unary op line) is ∙ ap (λ x. or_its_trap (at callers p (v ∷ stack) m turns) line x (λ value. Going (at callers (p + 1) (value ∷ stack) m turns))) r))
 
     pub unary_step : (op : int_unary.Unary) (line p : ℕ) (v : ℤ) (stack : List ℤ) (m : Store) (turns : ℕ) → instr_at code p ≡ Some (instr.Unary op line) →
         Meets (at callers p (v ∷ stack) m turns) (pushed callers (p + 1) stack m) (with_turns turns (at_line line (c_int.unary_value op v)))
     unary_step op line p v stack m turns is = unary_gives (c_int.unary_value op v) op line p v stack m turns refl is
 
-    binary_gives : (r : Result ℤ Trap) (op : int_binary.Binary) (line p : ℕ) (a b : ℤ) (stack : List ℤ) (m : Store) (turns : ℕ) → c_int.binary_value op a b ≡ r →
+    binary_gives : (r : Result ℤ OperatorTrap) (op : int_binary.Binary) (line p : ℕ) (a b : ℤ) (stack : List ℤ) (m : Store) (turns : ℕ) → c_int.binary_value op a b ≡ r →
         instr_at code p ≡ Some (instr.Binary op line) →
         Meets (at callers p (b ∷ a ∷ stack) m turns) (pushed callers (p + 1) stack m) (with_turns turns (at_line line r))
     unfolding act
     binary_gives (Ok w) op line p a b stack m turns r is =
         gives (left w turns) tt (one (acts (at callers p (b ∷ a ∷ stack) m turns) (instr.Binary op line) is ∙ ap (λ x. or_its_trap (at callers p (b ∷ a ∷ stack) m turns) line x (λ value. Going (at callers (p + 1) (value ∷ stack) m turns))) r))
     binary_gives (Err trap) op line p a b stack m turns r is =
-        halts (stops_at (ending.Trapped (trap_code trap) line) (acts (at callers p (b ∷ a ∷ stack) m turns) (instr.Binary op line) is ∙ ap (λ x. or_its_trap (at callers p (b ∷ a ∷ stack) m turns) line x (λ value. Going (at callers (p + 1) (value ∷ stack) m turns))) r))
+        halts (stops_at (ending.Trapped (trap_of.Operator trap) line) (acts (at callers p (b ∷ a ∷ stack) m turns) (instr.Binary op line) is ∙ ap (λ x. or_its_trap (at callers p (b ∷ a ∷ stack) m turns) line x (λ value. Going (at callers (p + 1) (value ∷ stack) m turns))) r))
 
     pub binary_step : (op : int_binary.Binary) (line p : ℕ) (a b : ℤ) (stack : List ℤ) (m : Store) (turns : ℕ) → instr_at code p ≡ Some (instr.Binary op line) →
         Meets (at callers p (b ∷ a ∷ stack) m turns) (pushed callers (p + 1) stack m) (with_turns turns (at_line line (c_int.binary_value op a b)))

@@ -2,6 +2,7 @@
 use Rattle.std.proofs.Common.{◌≡◌, ℕ, zero, suc, ◌+◌, ◌<◌, ◌≤◌, if◌then◌else◌, List, [], ◌∷◌, ◌++◌, length, map, get_or, set, Option, Some, None, Ok, ℤ, pos, refl, sym, ap, ◌∙◌, subst, inl, inr, arith, length-set}
 use Rattle.std.proofs.lemmas.Bool.{lt-ltb}
 use Rattle.std.specs.Prelude.{slice_get, slice_set}
+use Rattle.c_int.specs.declared.trap.Trap.TheVariants as trap_of
 use Rattle.cddf_meaning.specs.Answers.{traps}
 use Rattle.cddf_meaning.specs.Flow.{given, goes_on}
 use Rattle.cddf_meaning.specs.State.{State, item_elements, with_element, stored_in, stored, stored_in_at, stored_at}
@@ -71,7 +72,7 @@ kept_item (InTask claims) st m k i x w has h is =
     (claims_same m.windows k i x w is ∙ h.0, windows_set m.windows st.items k i x w h.1 is)
 
 pub below_in : (size k line : ℕ) → k < size → checked size line (pos k) ≡ Ok k
-below_in size k line lt = ap (λ b. if b then Ok k else traps 4 line) (lt-ltb k size lt)
+below_in size k line lt = ap (λ b. if b then Ok k else traps trap_of.Index line) (lt-ltb k size lt)
 
 module _ (c : Context) (callers : List Frame) (leaves : Instr) (total next broke continued : ℕ) (within : List Entry → Type 0) (es : List Entry) where
   -- an element of an item
@@ -85,9 +86,9 @@ module _ (c : Context) (callers : List Frame) (leaves : Instr) (total next broke
       let s = at callers p (x ∷ v ∷ stack) m turns in
       given_does st m (λ i. goes_on (with_element st k i x) turns) refl kept
       (checks c.code s v (length (item_elements st k)) line (λ i. at callers (p + 1) stack (with_window m k w.window i x) turns)
-      (subst (λ n. step c.code s ≡ or_trap s 4 line (below n v) (λ i. Going (at callers (p + 1) stack (with_window m k w.window i x) turns))) w.horizon
+      (subst (λ n. step c.code s ≡ or_trap s trap_of.Index line (below n v) (λ i. Going (at callers (p + 1) stack (with_window m k w.window i x) turns))) w.horizon
       (acts c.code s (instr.ItemStore k line) is
-      ∙ ap (λ o. or_stuck o (λ (window : TaskWindow). or_trap s 4 line (below window.claim.horizon v) (λ i. Going (at callers (p + 1) stack (with_window m k window i x) turns)))) w.is)))
+      ∙ ap (λ o. or_stuck o (λ (window : TaskWindow). or_trap s trap_of.Index line (below window.claim.horizon v) (λ i. Going (at callers (p + 1) stack (with_window m k window i x) turns)))) w.is)))
       (λ i u e. went_on c callers leaves total es (with_element st k i x) (with_window m k w.window i x) turns len (kept_item c.side st m k i x w.window has kept w.is) al
       (subst (λ q. Leads c.code (at callers (p + 1) stack (with_window m k w.window i x) turns) (at callers q stack (with_window m k w.window i x) turns)) there stays))
 

@@ -1,5 +1,6 @@
 -- The code of a stream's index, and of what a cursor is moved by, gives what an item or a tick names.
 use Rattle.std.proofs.Common.{◌≡◌, ℕ, ◌+◌, ◌<◌, ◌≤◌, ◌==◌, Bool, true, false, if◌then◌else◌, List, [], ◌∷◌, Some, None, Ok, ℤ, pos, negsuc, refl, sym, ap, ◌∙◌, subst, arith, leb, leb-true, leb-false, lt-ltb, le-ltb}
+use Rattle.c_int.specs.declared.trap.Trap.TheVariants as trap_of
 use Rattle.cddf_meaning.specs.Answers.{traps, and_then, Left, left}
 use Rattle.cddf_meaning.specs.File.{File}
 use Rattle.cddf_meaning.specs.Moves.{CallsFall}
@@ -49,19 +50,19 @@ module _ (code : Parts) (callers : List Frame) where
   pub burst_in : (line p : ℕ) (v : ℤ) (stack : List ℤ) (m : Store) (turns : ℕ) → instr_at code p ≡ Some (instr.BurstIn line) →
       Meets code (at callers p (v ∷ stack) m turns) (amounted callers v (p + 1) stack m turns) (cursor_move line v)
   unfolding act
-  burst_in line p (negsuc n) stack m turns is = halts (stops_at code (ending.Trapped 7 line) (acts code (at callers p (negsuc n ∷ stack) m turns) (instr.BurstIn line) is))
+  burst_in line p (negsuc n) stack m turns is = halts (stops_at code (ending.Trapped trap_of.Move line) (acts code (at callers p (negsuc n ∷ stack) m turns) (instr.BurstIn line) is))
   burst_in line p (pos n) stack m turns is = by_case (leb n 65536) refl (acts code (at callers p (pos n ∷ stack) m turns) (instr.BurstIn line) is)
     where
       s : machine.State
       s = at callers p (pos n ∷ stack) m turns
 
       moved : Bool → machine.Progress
-      moved b = or_trap s 7 line (if b then Some n else None) (λ amount. Going (at callers (p + 1) (pos n ∷ stack) m turns))
+      moved b = or_trap s trap_of.Move line (if b then Some n else None) (λ amount. Going (at callers (p + 1) (pos n ∷ stack) m turns))
 
-      by_case : (t : Bool) → leb n 65536 ≡ t → machine.step code s ≡ or_trap s 7 line (amount_of (pos n)) (λ amount. Going (at callers (p + 1) (pos n ∷ stack) m turns)) →
-          Meets code s (amounted callers (pos n) (p + 1) stack m turns) (if t then Ok n else traps 7 line)
+      by_case : (t : Bool) → leb n 65536 ≡ t → machine.step code s ≡ or_trap s trap_of.Move line (amount_of (pos n)) (λ amount. Going (at callers (p + 1) (pos n ∷ stack) m turns)) →
+          Meets code s (amounted callers (pos n) (p + 1) stack m turns) (if t then Ok n else traps trap_of.Move line)
       by_case true e h = gives n (refl, leb-true n 65536 e) (one code (h ∙ ap moved (lt-ltb n 65537 (let x = leb-true n 65536 e in omega (arith, x)))))
-      by_case false e h = halts (stops_at code (ending.Trapped 7 line) (h ∙ ap moved (le-ltb n 65537 (let x = leb-false n 65536 e in omega (arith, x)))))
+      by_case false e h = halts (stops_at code (ending.Trapped trap_of.Move line) (h ∙ ap moved (le-ltb n 65537 (let x = leb-false n 65536 e in omega (arith, x)))))
 
 module _ (code : Parts) (file : File) (falls : CallsFall file) (names : List Resolved) (ordered : InOrder names) (file_es : List Entry) (fits : FileFits code file file_es) (streams later : ℕ) (callers : List Frame)
     (s : Scope) (es : List Entry) (st : State) (m : Store) (ready : Ready (main_context code file falls names ordered file_es fits streams later) s es st m) where

@@ -3,6 +3,7 @@ use Rattle.std.proofs.Common.{◌≡◌, ℕ, zero, suc, ◌+◌, ◌<◌, ◌�
 use Rattle.std.proofs.lemmas.List.{length-map}
 use Rattle.std.proofs.lemmas.Option.{slice_get-map}
 use Rattle.std.specs.Option.{option_map}
+use Rattle.c_int.specs.declared.control_limit.ControlLimit.{ControlLimit}
 use Rattle.cddf_meaning.specs.Body.{task_outcome, chosen_outcome, outcome_in, body}
 use Rattle.cddf_meaning.specs.File.{File}
 use Rattle.cddf_meaning.specs.Functions.{empty_file, with_item}
@@ -21,7 +22,7 @@ use Rattle.os_ast.specs.Notes.Statements.{stmts_notes}
 use Rattle.os_ast.specs.Stacked.{main_extent}
 use Rattle.os_ast.specs.Stacked as text
 use Rattle.os_ast.specs.Trees as tree
-use Rattle.os_ast.specs.Types.{is_unsigned}
+use Rattle.os_ast.specs.Unsigned.{is_unsigned}
 use Rattle.os_ast.specs.Violations.{names, captures, captured_by_tasks}
 use Rattle.os_ast.specs.declared.names.Entity.{Entity}
 use Rattle.os_ast.specs.declared.names.Entity.TheVariants as entity
@@ -118,7 +119,7 @@ module _ (p : tree.ProgramTree) (code : Parts) (a : Activation) (inputs : List �
   Ends out = (steps : ℕ) × TaskEnds code a inputs budget out steps
 
   -- nothing in a task meets a limit
-  limits : (site : Site) (unit : CodeUnit) → site_at code a.site ≡ Some site → unit_at code site.unit ≡ Some unit → (e : Ending) (made : List Activation) (n : ℕ) → Stops code (task_start unit a inputs budget) e made → e ≡ ending.Limited n → ⊥
+  limits : (site : Site) (unit : CodeUnit) → site_at code a.site ≡ Some site → unit_at code site.unit ≡ Some unit → (e : Ending) (made : List Activation) (n : ControlLimit) → Stops code (task_start unit a inputs budget) e made → e ≡ ending.Limited n → ⊥
   limits site unit is_site is_unit e made n h is =
       let t = tasks_end code a inputs budget stands.valid fits in
       let same_site : t.ends.site ≡ site = let x : Some t.ends.site ≡ Some site = sym t.ends.is_site ∙ is_site in cc in

@@ -2,6 +2,9 @@
 use Rattle.std.proofs.Common.{◌≡◌, ℕ, suc, ◌+◌, ◌-◌, ◌≤◌, Bool, true, false, if◌then◌else◌, List, [], ◌∷◌, ◌++◌, map, length, replicate, Some, ℤ, pos, refl, sym, ap, ◌∙◌, subst, arith, length-append}
 use Rattle.std.proofs.lemmas.List.{length-replicate, length-map, get_or_append_left}
 use Rattle.std.specs.List.{list_all, AllZip}
+use Rattle.c_int.specs.Traps.{trap_code}
+use Rattle.c_int.specs.declared.trap.Trap.TheVariants as trap_of
+use Rattle.c_int.specs.declared.control_limit.ControlLimit.{ControlLimit}
 use Rattle.cddf_meaning.specs.Body as meaning
 use Rattle.cddf_meaning.specs.Body.{bound_round, item_lists, outcome, task_outcome, chosen_outcome, outcome_in, body}
 use Rattle.cddf_meaning.specs.File.{File}
@@ -82,7 +85,7 @@ to_end code s last (steps {t = t} a l) is = let r = to_end code t last l is in (
 
 at_end : (code : Parts) (line : ℕ) (claims : List Claim) (m : Store) (items : List (List ℤ)) (s : machine.State) (q turns : ℕ) (stack : List ℤ) → Leads code s (at [] q stack m turns) → instr_at code q ≡ Some instr.End →
     map (λ (w : machine.TaskWindow). w.claim) m.windows ≡ claims → Windows m.windows items →
-    EndsIn code line s (if meaning.gives_bytes claims items then meaning.done (meaning.outputs_of claims items) else meaning.trapped 5 line)
+    EndsIn code line s (if meaning.gives_bytes claims items then meaning.done (meaning.outputs_of claims items) else meaning.trapped (trap_code trap_of.NoByte) line)
 at_end code line claims m items s q turns stack l is same windows = by_case (meaning.gives_bytes claims items) refl
   where
     last : machine.State
@@ -97,7 +100,7 @@ at_end code line claims m items s q turns stack l is same windows = by_case (mea
     out : meaning.outputs_of claims items ≡ tasks.written m.windows
     out = subst (λ cs. meaning.outputs_of cs items ≡ tasks.written m.windows) same (same_written m.windows items windows)
 
-    by_case : (t : Bool) → meaning.gives_bytes claims items ≡ t → EndsIn code line s (if t then meaning.done (meaning.outputs_of claims items) else meaning.trapped 5 line)
+    by_case : (t : Bool) → meaning.gives_bytes claims items ≡ t → EndsIn code line s (if t then meaning.done (meaning.outputs_of claims items) else meaning.trapped (trap_code trap_of.NoByte) line)
     by_case true e = record {
       halt = machine.Ended;
       last = at [] q stack m turns;
@@ -107,14 +110,14 @@ at_end code line claims m items s q turns stack l is same windows = by_case (mea
     }
     by_case false e = record { halt = machine.Ended; last = at [] q stack m turns; count = run_there.0; runs = run_there.1; ends = SendsNoByte {last = at [] q stack m turns} (sym bytes ∙ e) }
 
-pub no_limit : (line n : ℕ) (h : Halt) (last : machine.State) (out : Outcome) → TaskOutcome line h last out → h ≡ Limited n → ⊥
+pub no_limit : (line : ℕ) (n : ControlLimit) (h : Halt) (last : machine.State) (out : Outcome) → TaskOutcome line h last out → h ≡ Limited n → ⊥
 no_limit line n h last out (IsDone e) is = absurd (cc)
 no_limit line n h last out (SendsNoByte e) is = absurd (cc)
 no_limit line n h last out IsTrapped is = absurd (cc)
 no_limit line n h last out IsOver is = absurd (cc)
 
 -- where the body ended
-at_halt : (code : Parts) (line : ℕ) (claims : List Claim) (e : Ending) (activations : List Activation) (s : machine.State) (made : List Activation) → Stops code s e made → ((n : ℕ) → e ≡ ending.Limited n → ⊥) →
+at_halt : (code : Parts) (line : ℕ) (claims : List Claim) (e : Ending) (activations : List Activation) (s : machine.State) (made : List Activation) → Stops code s e made → ((n : ControlLimit) → e ≡ ending.Limited n → ⊥) →
     EndsIn code line s (outcome line claims (Ended e activations))
 at_halt code line claims (ending.Trapped x at_line) activations s made h apart = record { halt = Trapped x at_line; last = h.last; count = h.steps; runs = h.runs; ends = IsTrapped }
 at_halt code line claims ending.OverBudget activations s made h apart = record { halt = OverBudget; last = h.last; count = h.steps; runs = h.runs; ends = IsOver }
@@ -122,7 +125,7 @@ at_halt code line claims (ending.Limited n) activations s made h apart = absurd 
 
 -- the end of a task, from what its body does
 task_end : (c : Context) (total end : ℕ) (es after : List Entry) (claims : List Claim) (line : ℕ) (s : machine.State) (r : Ran) → c.side ≡ InTask claims → instr_at c.code end ≡ Some instr.End →
-    ((e : Ending) (made : List Activation) (n : ℕ) → Stops c.code s e made → e ≡ ending.Limited n → ⊥) →
+    ((e : Ending) (made : List Activation) (n : ControlLimit) → Stops c.code s e made → e ≡ ending.Limited n → ⊥) →
     Does c.code s (settled c [] instr.End total end end end [] (exactly es) after) r → EndsIn c.code line s (outcome line claims r)
 task_end c total end es after claims line s _ side is limits (went GoesOn st turns (m, len, kept, al) l) =
     let k : Kept (InTask claims) st m = subst (λ x. Kept x st m) side kept in at_end c.code line claims m st.items s end turns [] l is k.0 k.1
@@ -199,7 +202,7 @@ module _ (code : Parts) (file : File) (falls : CallsFall file) (rs : List Resolv
       let n = ap length same_slots in
       omega (arith, sum, own, f, n, has.slots)
 
-  pub task_does : ((e : Ending) (made : List Activation) (n : ℕ) → Stops code (task_start has.unit a inputs budget) e made → e ≡ ending.Limited n → ⊥) →
+  pub task_does : ((e : Ending) (made : List Activation) (n : ControlLimit) → Stops code (task_start has.unit a inputs budget) e made → e ≡ ending.Limited n → ⊥) →
       EndsIn code there.mark.line (task_start has.unit a inputs budget) (task_outcome file these a inputs budget)
   task_does limits =
       task_end c has.unit.slots has.end [] [] a.claims there.mark.line (task_start has.unit a inputs budget) (run (in_function file) there.body begun budget) refl has.falls_off.0 limits

@@ -2,6 +2,7 @@
 use Rattle.std.proofs.Common.{◌≡◌, ℕ, zero, suc, ◌+◌, ◌<◌, ◌≤◌, ◌==◌, false, List, ◌∷◌, ◌++◌, length, get_or, set, replicate, Some, ℤ, pos, refl, sym, ap, ◌∙◌, subst, arith, length-set}
 use Rattle.std.proofs.lemmas.List.{set-append_left, get_or_append_left}
 use Rattle.std.specs.Prelude.{slice_set}
+use Rattle.c_int.specs.declared.trap.Trap.TheVariants as trap_of
 use Rattle.cddf_meaning.specs.File.{File}
 use Rattle.cddf_meaning.specs.Flow.{given}
 use Rattle.cddf_meaning.specs.Moves.{CallsFall}
@@ -59,8 +60,8 @@ module _ (code : Parts) (file : File) (falls : CallsFall file) (names : List Res
   tick_step first k amount p stack m turns lt apart few is =
       let s = at callers p (pos amount ∷ pos k ∷ stack) m turns in
       one code (acts code s (instr.Tick first) is
-      ∙ ap (λ o. or_trap s 4 0 o (λ stream. or_trap s 7 0 (amount_of (pos amount)) (λ taken. Going (at callers (p + 1) stack (ticked_store m stream taken) turns)))) (stream_of_is code.streams 1 first k lt apart)
-      ∙ ap (λ o. or_trap s 7 0 o (λ taken. Going (at callers (p + 1) stack (ticked_store m (first + k) taken) turns))) (amount_is amount few))
+      ∙ ap (λ o. or_trap s trap_of.Index 0 o (λ stream. or_trap s trap_of.Move 0 (amount_of (pos amount)) (λ taken. Going (at callers (p + 1) stack (ticked_store m stream taken) turns)))) (stream_of_is code.streams 1 first k lt apart)
+      ∙ ap (λ o. or_trap s trap_of.Move 0 o (λ taken. Going (at callers (p + 1) stack (ticked_store m (first + k) taken) turns))) (amount_is amount few))
 
   turn_does : (es : List Entry) (st : State) (m : Store) (first k stream amount broke continued next p : ℕ) (stack : List ℤ) (turns : ℕ) → stream ≡ first + k → first + k < streams → (first + k == 1) ≡ false → amount ≤ 65536 →
       length m.slots ≡ total → Kept (InMain streams later) st m → AlignedIn c callers leaves total m st.bound es → instr_at code p ≡ Some instr.Turn → instr_at code (p + 1) ≡ Some (instr.Tick first) → p + 1 + 1 ≡ next →

@@ -1,6 +1,7 @@
 -- The code of a window's declarator keeps its size in its slot.
 use Rattle.std.proofs.Common.{◌≡◌, ℕ, ◌+◌, ◌<◌, ◌≤◌, ◌&&◌, ◌==◌, Bool, true, false, not, if◌then◌else◌, leb, List, [], ◌∷◌, ◌++◌, length, set, Option, Some, None, Ok, ℤ, pos, negsuc, refl, sym, ap, ◌∙◌, subst, arith, length-set, get_or-set_same, get_or-set_other, eqb-true, leb-true}
 use Rattle.std.proofs.lemmas.Bool.{and_parts}
+use Rattle.c_int.specs.declared.trap.Trap.TheVariants as trap_of
 use Rattle.cddf_meaning.specs.Answers.{traps}
 use Rattle.cddf_meaning.specs.File.{File}
 use Rattle.cddf_meaning.specs.Flow.{given, goes_on}
@@ -71,18 +72,18 @@ module _ (code : Parts) (callers : List Frame) where
   size_kept : (slot line p : ℕ) (v : ℤ) (stack : List ℤ) (m : Store) (turns : ℕ) → instr_at code p ≡ Some (instr.Window slot line) →
       Meets code (at callers p (v ∷ stack) m turns) (keeps_size v slot (p + 1) stack m turns) (window_size line v)
   unfolding act
-  size_kept slot line p (negsuc n) stack m turns is = halts (stops_at code (ending.Trapped 6 line) (acts code (at callers p (negsuc n ∷ stack) m turns) (instr.Window slot line) is))
+  size_kept slot line p (negsuc n) stack m turns is = halts (stops_at code (ending.Trapped trap_of.WindowSize line) (acts code (at callers p (negsuc n ∷ stack) m turns) (instr.Window slot line) is))
   size_kept slot line p (pos n) stack m turns is = by_case (leb 1 n && leb n 65536) refl (acts code (at callers p (pos n ∷ stack) m turns) (instr.Window slot line) is)
     where
       s : machine.State
       s = at callers p (pos n ∷ stack) m turns
 
       moved : Bool → machine.Progress
-      moved b = or_trap s 6 line (if b then Some n else None) (λ size. Going (at callers (p + 1) stack (with_slots m (set m.slots slot (pos n))) turns))
+      moved b = or_trap s trap_of.WindowSize line (if b then Some n else None) (λ size. Going (at callers (p + 1) stack (with_slots m (set m.slots slot (pos n))) turns))
 
-      by_case : (t : Bool) → (leb 1 n && leb n 65536) ≡ t → machine.step code s ≡ moved (leb 1 n && leb n 65536) → Meets code s (keeps_size (pos n) slot (p + 1) stack m turns) (if t then Ok n else traps 6 line)
+      by_case : (t : Bool) → (leb 1 n && leb n 65536) ≡ t → machine.step code s ≡ moved (leb 1 n && leb n 65536) → Meets code s (keeps_size (pos n) slot (p + 1) stack m turns) (if t then Ok n else traps trap_of.WindowSize line)
       by_case true e h = let both = and_parts (leb 1 n) (leb n 65536) e in gives n (refl, leb-true 1 n both.0, leb-true n 65536 both.1) (one code (h ∙ ap moved e))
-      by_case false e h = halts (stops_at code (ending.Trapped 6 line) (h ∙ ap moved e))
+      by_case false e h = halts (stops_at code (ending.Trapped trap_of.WindowSize line) (h ∙ ap moved e))
 
 module _ (code : Parts) (file : File) (falls : CallsFall file) (names : List Resolved) (ordered : InOrder names) (file_es : List Entry) (fits : FileFits code file file_es) (streams later : ℕ)
     (callers : List Frame) (leaves : Instr) (total : ℕ) (sites : List Site) where

@@ -6,7 +6,7 @@ use Rattle.c_int.specs.Machine.{unary_for, binary_for}
 use Rattle.c_int.specs.declared.operators.Binary as int_binary
 use Rattle.c_int.specs.declared.operators.Unary.TheVariants as int_unary
 use Rattle.cddf_meaning.specs.Operators.{operator_of_one, operator_of_two, unary_value}
-use Rattle.cddf_meaning.specs.Types.{type_of, type_of_two}
+use Rattle.cddf_meaning.specs.ExpressionTypes.{type_of, type_of_two}
 use Rattle.os_ast.specs.Trees as tree
 use Rattle.os_ast.specs.declared.expr.Binary.{Binary}
 use Rattle.os_ast.specs.declared.expr.Binary.TheVariants as binary

@@ -1,7 +1,7 @@
 -- Which instructions read and set what a name means. A name of a lawful program means only what may stand where it
 -- does; for the rest something is said.
 use Rattle.std.specs.Prelude.{ℕ, ◌==◌, Bool, true, false, if◌then◌else◌, List, [], ◌∷◌, pos}
-use Rattle.cddf_meaning.specs.Types.{Flags}
+use Rattle.cddf_meaning.specs.ExpressionTypes.{Flags}
 use Rattle.os_ast.specs.declared.names.Resolved.{Resolved}
 use Rattle.os_ast.specs.declared.names.What.{What}
 use Rattle.os_ast.specs.declared.names.What.TheVariants as what

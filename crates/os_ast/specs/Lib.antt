@@ -17,7 +17,7 @@ pub mod Parts
 pub mod Rules
 pub mod Spelling
 pub mod Trees
-pub mod Types
+pub mod Unsigned
 pub mod Views
 pub mod Violations
 -- What laws and examples say of these. No definition restates a private function.

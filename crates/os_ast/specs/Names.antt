@@ -3,7 +3,7 @@ use Rattle.std.specs.Prelude.{ℕ, ◌+◌, ◌==◌, Bool, true, false, if◌th
 use Rattle.std.specs.Int.{w32, cast_signed, int_rem_euclid}
 -- the numbers that the lexer gives the names which a program doesn't declare, or that mean more than others
 pub use Rattle.os_lexer.specs.Names.{main_id, osin_id, osout_id, osin_len_id}
-use Rattle.os_ast.specs.Types.{is_unsigned}
+use Rattle.os_ast.specs.Unsigned.{is_unsigned}
 use Rattle.os_ast.specs.declared.names.Entity.{Entity}
 use Rattle.os_ast.specs.declared.names.Entry.{Entry}
 use Rattle.os_ast.specs.declared.names.Owner.{Owner}

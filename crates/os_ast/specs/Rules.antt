@@ -1,7 +1,6 @@
 -- The rules, one after another by their codes, over what stands at a token. A token violates a rule where its test is
 -- true. 23 is a rule for the whole program, and stands with the violations.
 use Rattle.std.specs.Prelude.{ℕ, ◌==◌, ◌&&◌, ◌||◌, Bool, true, false, not, ltb, List, [], ◌∷◌, ◌++◌, length, Option, Some, None, is_none, ℤ}
-use Rattle.os_ast.specs.Codes.{unknown_code, kind_code, declared_twice_code, arguments_code, changed_code, size_code, no_loop_code, misplaced_code, return_in_task_code, stream_code, wrong_end_code, listed_twice_code, task_limit_code, window_code}
 use Rattle.os_ast.specs.Limits.{is_size, elements_limit, arrays_limit, streams_limit, items_limit, captured_limit}
 use Rattle.os_ast.specs.Names.{Scope, lookup, entity_of, is_declared, main_id}
 use Rattle.os_ast.specs.Notes.Declarators.{form, size_told, after_declarator}
@@ -19,6 +18,8 @@ use Rattle.os_ast.specs.declared.names.Shape.{Shape}
 use Rattle.os_ast.specs.declared.names.Shape.TheVariants as shape
 use Rattle.os_ast.specs.declared.names.Use.{Use}
 use Rattle.os_ast.specs.declared.names.Use.TheVariants as usage
+use Rattle.os_ast.specs.declared.rule.Rule.{Rule}
+use Rattle.os_ast.specs.declared.rule.Rule.TheVariants as rule
 
 -- a rule for the used names that are declared, by the name's number, how it is used, and what it is declared as
 abbrev pub UseRule : Type 0
@@ -218,42 +219,42 @@ is_misplaced_window id (usage.Called args) e = is_a_window e
 is_misplaced_window id (usage.Joined s) e = false
 is_misplaced_window id usage.Private e = is_a_window e
 
--- the code, where the rule is violated
-abbrev pub when : Bool → ℕ → List ℕ
-when true code = code ∷ []
-when false code = []
+-- the rule, where it is violated
+abbrev pub when : Bool → Rule → List Rule
+when true r = r ∷ []
+when false r = []
 
--- a rule by its code
-pub record Rule : Type 0 where
-  pub code : ℕ
+-- a rule with its test
+pub record RuleTest : Type 0 where
+  pub rule : Rule
   pub is_violated : Note → Bool
 
-abbrev rule : ℕ → (Note → Bool) → Rule
-rule code test = record { code = code; is_violated = test }
+abbrev test : Rule → (Note → Bool) → RuleTest
+test r is_violated = record { rule = r; is_violated = is_violated }
 
 -- all rules for what stands at a token
-abbrev pub rules : List Rule
+abbrev pub rules : List RuleTest
 rules =
-    rule unknown_code is_unknown
-    ∷ rule kind_code (violates is_wrong_kind)
-    ∷ rule declared_twice_code is_declared_twice
-    ∷ rule arguments_code (violates has_other_count)
-    ∷ rule changed_code (violates is_changed)
-    ∷ rule size_code has_wrong_size
-    ∷ rule no_loop_code is_outside_a_loop
-    ∷ rule misplaced_code is_misplaced
-    ∷ rule return_in_task_code returns_from_a_task
-    ∷ rule stream_code (violates is_misplaced_stream)
-    ∷ rule wrong_end_code (violates is_wrong_end)
-    ∷ rule listed_twice_code is_listed_twice
-    ∷ rule task_limit_code takes_too_much
-    ∷ rule window_code (violates is_misplaced_window)
+    test rule.Unknown is_unknown
+    ∷ test rule.WrongKind (violates is_wrong_kind)
+    ∷ test rule.DeclaredTwice is_declared_twice
+    ∷ test rule.ArgumentCount (violates has_other_count)
+    ∷ test rule.FixedChanged (violates is_changed)
+    ∷ test rule.WrongSize has_wrong_size
+    ∷ test rule.OutsideLoop is_outside_a_loop
+    ∷ test rule.Misplaced is_misplaced
+    ∷ test rule.ReturnInTask returns_from_a_task
+    ∷ test rule.MisplacedStream (violates is_misplaced_stream)
+    ∷ test rule.WrongEnd (violates is_wrong_end)
+    ∷ test rule.ListedTwice is_listed_twice
+    ∷ test rule.TaskLimit takes_too_much
+    ∷ test rule.MisplacedWindow (violates is_misplaced_window)
     ∷ []
 
-abbrev pub codes_among : List Rule → Note → List ℕ
-codes_among [] n = []
-codes_among (r ∷ rs) n = when (r.is_violated n) r.code ++ codes_among rs n
+abbrev pub broken_among : List RuleTest → Note → List Rule
+broken_among [] n = []
+broken_among (t ∷ ts) n = when (t.is_violated n) t.rule ++ broken_among ts n
 
--- the codes of the rules that what stands at a token violates
-abbrev pub codes : Note → List ℕ
-codes n = codes_among rules n
+-- the rules that what stands at a token violates
+abbrev pub broken : Note → List Rule
+broken n = broken_among rules n

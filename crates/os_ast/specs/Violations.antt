@@ -1,38 +1,40 @@
 -- The violations of a program, its refusal, and what its names mean where there is none.
 use Rattle.std.specs.Prelude.{◌≡◌, ℕ, ◌+◌, ◌<◌, ◌≤◌, ◌==◌, ◌&&◌, ◌||◌, Bool, true, false, not, List, [], ◌∷◌, ◌++◌, length, All, Contains, if◌then◌else◌, Option, Some, None, ℤ}
 use Rattle.os_ast.specs.Captured.{slots_of}
-use Rattle.os_ast.specs.Codes.{no_main_code}
+use Rattle.os_ast.specs.Codes.{code}
 use Rattle.os_ast.specs.Meanings.{meaning, meaning_in, resolved}
 use Rattle.os_ast.specs.Names.{lookup, entity_of, flag_of, main_id}
 use Rattle.os_ast.specs.Notes.Declarators.{constant_of, declared_entity, scalar_entity}
 use Rattle.os_ast.specs.Notes.Kinds.{Note, Used, Sized, Declared, Given, Task, mark_of}
 use Rattle.os_ast.specs.Notes.Programs.{program_notes, after_items, file, param_list}
-use Rattle.os_ast.specs.Rules.{codes}
+use Rattle.os_ast.specs.Rules.{broken}
 use Rattle.os_ast.specs.Spelling.{spell}
 use Rattle.os_ast.specs.Trees as tree
-use Rattle.os_ast.specs.Types.{is_unsigned}
+use Rattle.os_ast.specs.Unsigned.{is_unsigned}
 use Rattle.os_ast.specs.declared.expr.Mark.{Mark}
 use Rattle.os_ast.specs.declared.names.Entity.{Entity}
 use Rattle.os_ast.specs.declared.names.Owner.{Owner}
 use Rattle.os_ast.specs.declared.names.Owner.TheVariants as owner
 use Rattle.os_ast.specs.declared.names.Resolved.{Resolved}
 use Rattle.os_ast.specs.declared.names.What.TheVariants as what
+use Rattle.os_ast.specs.declared.rule.Rule.{Rule}
+use Rattle.os_ast.specs.declared.rule.Rule.TheVariants as rule
 use Rattle.os_ast.specs.declared.ty.Ty.{Ty}
 use Rattle.os_ast.specs.declared.violation.Violation.{Violation}
 
 -- a violation by its parts
-abbrev pub violated : ℕ → ℕ → ℕ → Violation
-violated place code line = record { place = place; code = code; line = line }
+abbrev pub violated : ℕ → Rule → ℕ → Violation
+violated place r line = record { place = place; rule = r; line = line }
 
 -- the violations of one token
-abbrev pub violations_at : Mark → List ℕ → List Violation
+abbrev pub violations_at : Mark → List Rule → List Violation
 violations_at m [] = []
-violations_at m (code ∷ rest) = violated m.place code m.line ∷ violations_at m rest
+violations_at m (r ∷ rest) = violated m.place r m.line ∷ violations_at m rest
 
 -- the violations of what stands in a program, or in a part of it
 abbrev pub violations_of : List Note → List Violation
 violations_of [] = []
-violations_of (n ∷ rest) = violations_at (mark_of n) (codes n) ++ violations_of rest
+violations_of (n ∷ rest) = violations_at (mark_of n) (broken n) ++ violations_of rest
 
 abbrev pub declared_meaning : Mark → Bool → Owner → List ℕ → Option Entity → List Resolved
 declared_meaning m unsigned o captured None = []
@@ -86,7 +88,7 @@ has_main (i ∷ is) = is_main i || has_main is
 
 -- 23: there is none; the place is the number of tokens, and the line 1
 abbrev pub no_main : tree.ProgramTree → List Violation
-no_main p = if has_main p then [] else violated (length (spell p)) no_main_code 1 ∷ []
+no_main p = if has_main p then [] else violated (length (spell p)) rule.NoMain 1 ∷ []
 
 -- The violations of a program. The list stands for the set of its members.
 abbrev pub violations : tree.ProgramTree → List Violation
@@ -95,7 +97,7 @@ violations p = violations_of (program_notes p) ++ no_main p
 -- by place, and then by code
 pub data IsBefore (v w : Violation) : Type 0 where
   earlier : v.place < w.place → IsBefore v w
-  same_place : v.place ≡ w.place → v.code ≤ w.code → IsBefore v w
+  same_place : v.place ≡ w.place → code v.rule ≤ code w.rule → IsBefore v w
 
 -- the refusal is the least violation
 pub record IsRefusal (p : tree.ProgramTree) (v : Violation) : Type 0 where

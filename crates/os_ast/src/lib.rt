@@ -10,7 +10,6 @@
 //! refused. What names mean, and which rules they have to keep, stand in `Names`, `Notes`, `Rules` and `Violations`. `laws` and `examples` show that these definitions are the ones that were meant.
 #![tactic(auto)]
 
-pub mod codes;
 pub mod examples;
 mod expr;
 pub mod laws;
@@ -19,6 +18,7 @@ mod nesting;
 mod pragma;
 mod program;
 pub mod refusals;
+mod rule;
 mod stmt;
 mod ty;
 mod violation;
@@ -28,6 +28,7 @@ pub use names::{Direction, Entity, Entry, Form, Owner, Resolved, Role, Shape, Us
 pub use nesting::depth;
 pub use pragma::{Clause, ClauseItem, ClauseKind, Join, TaskSite, TickSite};
 pub use program::{Constant, Function, Item, Param, Params, Program};
+pub use rule::Rule;
 pub use stmt::{Assign, Change, Declarator, Head, Start, Step, Stmt};
 pub use ty::Ty;
 pub use violation::Violation;

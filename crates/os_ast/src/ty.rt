@@ -1,5 +1,5 @@
 ghost use Rattle.std.specs.Prelude.{◌≡◌};
-ghost use Rattle.os_ast.specs.Types.{is_unsigned};
+ghost use Rattle.os_ast.specs.Unsigned.{is_unsigned};
 
 /// The type of what is declared, by its words: `int`, `unsigned`, or `unsigned int`, which is the same as `unsigned`.
 #[derive(Clone, Copy, Debug, PartialEq, Eq)]

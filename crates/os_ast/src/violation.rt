@@ -1,7 +1,10 @@
-/// A rule that a token violates: the token's place, the rule's code from 10 to 24, and the token's line.
-#[derive(Clone, Copy, Debug, PartialEq, Eq)]
+use crate::rule::Rule;
+
+/// A rule that a token violates: the token's place, the rule, and the token's line. Violations are ordered by these three, rules
+/// by their codes.
+#[derive(Clone, Copy, Debug, PartialEq, Eq, PartialOrd, Ord)]
 pub struct Violation {
     pub place: u32,
-    pub code: u8,
+    pub rule: Rule,
     pub line: u32,
 }

@@ -11,7 +11,7 @@ use crate::stop::Stop;
 use crate::telling::{Named, show, tell_more, tell_no_memory, tell_place};
 use crate::warning::tell_accepted;
 use front_end::{TEXT_LIMIT, TextError, read_program};
-use os_ast::Violation;
+use os_ast::{Rule, Violation};
 use os_io::Memory;
 use os_lexer::{Kind, Token, lex};
 use oscheck_places::{Spot, fault_spot};
@@ -165,8 +165,8 @@ fn tell_violation(
     violation: Violation,
 ) -> io::Result<Judged> {
     match token_of(tokens, violation) {
-        Some(token) => tell_token(out, alloc, named, violation.code, token),
-        None => tell_line(out, alloc, named, violation.code, violation.line),
+        Some(token) => tell_token(out, alloc, named, violation.rule, token),
+        None => tell_line(out, alloc, named, violation.rule, violation.line),
     }
 }
 
@@ -175,13 +175,13 @@ fn tell_token(
     out: &mut impl io::Write,
     alloc: Global,
     named: Named<'_>,
-    code: u8,
+    rule: Rule,
     token: Token,
 ) -> io::Result<Judged> {
     let spot = Spot::of_token(token);
     let word = word_of(named.text, token);
-    tell_place(out, named, spot, code)?;
-    of_rule(code, word, token.kind).write(out, word)?;
+    tell_place(out, named, spot, rule.code())?;
+    of_rule(rule, word, token.kind).write(out, word)?;
     show(out, alloc, named, spot)
 }
 
@@ -190,13 +190,13 @@ fn tell_line(
     out: &mut impl io::Write,
     alloc: Global,
     named: Named<'_>,
-    code: u8,
+    rule: Rule,
     line: u32,
 ) -> io::Result<Judged> {
     let spot = nowhere(line);
     let word = Word::Plain("the program");
-    tell_place(out, named, spot, code)?;
-    of_rule(code, word, Kind::PragmaEnd).write(out, word)?;
+    tell_place(out, named, spot, rule.code())?;
+    of_rule(rule, word, Kind::PragmaEnd).write(out, word)?;
     show(out, alloc, named, spot)
 }
 

@@ -1,6 +1,7 @@
-//! What each code says to who wrote the text: what is wrong, and what to do.
+//! What each rule and each fault says to who wrote the text: what is wrong, and what to do.
 
 use crate::word::Word;
+use os_ast::Rule;
 use os_lexer::Kind;
 use std::io;
 
@@ -86,41 +87,46 @@ fn misplaced(kind: Kind) -> Sentence {
     }
 }
 
-/// The sentence for a code, 10 to 24, and the word and the kind of the token that violates the rule.
-pub fn of_rule(code: u8, word: Word<'_>, kind: Kind) -> Sentence {
-    match code {
-        10 => unknown(word),
-        11 => of(
+/// The sentence for a rule, and the word and the kind of the token that violates it.
+pub fn of_rule(rule: Rule, word: Word<'_>, kind: Kind) -> Sentence {
+    match rule {
+        Rule::Unknown => unknown(word),
+        Rule::WrongKind => of(
             " is of the wrong kind for this place: an array needs an index, a scalar none, a call a function, an item or tick a stream",
         ),
-        12 => of(" is declared already in this scope: give it another name, or a block of its own"),
-        13 => of(
+        Rule::DeclaredTwice => of(
+            " is declared already in this scope: give it another name, or a block of its own",
+        ),
+        Rule::ArgumentCount => of(
             " is called with another number of arguments than it has parameters: pass as many",
         ),
-        14 => of(
+        Rule::FixedChanged => of(
             " can't be changed, being an input item, a constant, osin_len or a stream: change a variable or an output item",
         ),
-        15 => of(
+        Rule::WrongSize => of(
             " has a size that isn't a number or constant from 1 to 65536, or passes the limit of arrays or streams: use a smaller constant",
         ),
-        16 => of(
+        Rule::OutsideLoop => of(
             " stands outside a loop of the same function or task: put it into a loop of its own body",
         ),
-        17 => misplaced(kind),
-        18 => plain("return in a task: assign to an output item"),
-        19 => of(" is a stream, which has no value: read it by a task with an input item"),
-        20 => of(
+        Rule::Misplaced => misplaced(kind),
+        Rule::ReturnInTask => plain("return in a task: assign to an output item"),
+        Rule::MisplacedStream => of(
+            " is a stream, which has no value: read it by a task with an input item",
+        ),
+        Rule::WrongEnd => of(
             " stands at the wrong end, since osin is read and osout is written: turn the item round, or use another stream",
         ),
-        21 => of(" stands twice in the clauses of a task: use a window or scalar for each item"),
-        22 => plain(
+        Rule::ListedTwice => of(
+            " stands twice in the clauses of a task: use a window or scalar for each item",
+        ),
+        Rule::TaskLimit => plain(
             "a task with more than 8 items or more than 64 captured scalars: use a window for several elements",
         ),
-        23 => plain("no function main without parameters: write int main(void)"),
-        24 => of(
+        Rule::NoMain => plain("no function main without parameters: write int main(void)"),
+        Rule::MisplacedWindow => of(
             " is a window outside the items of a task: name it in a task whose clauses have it",
         ),
-        _ => plain("a rule is broken"),
     }
 }
 

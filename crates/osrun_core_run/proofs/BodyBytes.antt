@@ -65,9 +65,9 @@ ended x line items long false gives = nothing x (trapped 5 line) refl
 
 ran : (x : Activation) (line : ℕ) (s : State) (turns : ℕ) (r : Ran) → Keeps s turns r → item_lengths s ≡ map (λ (c : Claim). c.horizon) x.claims → GivesBytes x (outcome line x.claims r)
 ran x line s turns (Went flow t left) kept long = ended x line t.items (kept.1 ∙ long) (gives_bytes x.claims t.items) refl
-ran x line s turns (Ended (Trapped code at) activations) kept long = nothing x (trapped code at) refl
+ran x line s turns (Ended (Trapped why at) activations) kept long = nothing x _ refl
 ran x line s turns (Ended OverBudget activations) kept long = nothing x over_budget refl
-ran x line s turns (Ended (Limited n) activations) kept long = nothing x over_budget refl
+ran x line s turns (Ended (Limited limit) activations) kept long = nothing x over_budget refl
 
 task_gives : RunsKeep → (items : List tree.ItemTree) (t : Task) (x : Activation) (inputs : List ℤ) (budget : ℕ) → length inputs ≡ input_count x
     → GivesBytes x (task_outcome (file_of items) t x inputs budget)

@@ -142,7 +142,7 @@ done_gives x windows sends shape k j c value at write stream lt is =
 gives_at : (x : Activation) (line : ℕ) (halt : Halt) (last : State) (o : Outcome) → TaskOutcome line halt last o → shape_of last.windows ≡ shape_for x.claims → GivesBytes x o
 gives_at x line halt last _ (IsDone sends) shape = done_gives x last.windows sends shape
 gives_at x line halt last _ (SendsNoByte fails) shape = nothing x (outcome_of (task.Trapped 5 line) []) refl
-gives_at x line halt last _ (IsTrapped {code = code} {at_line = at_line}) shape = nothing x (outcome_of (task.Trapped code at_line) []) refl
+gives_at x line halt last _ IsTrapped shape = nothing x _ refl
 gives_at x line halt last _ IsOver shape = nothing x (outcome_of task.OverBudget []) refl
 
 pub code_gives : TasksEnd → CodesGiveBytes

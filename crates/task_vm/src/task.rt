@@ -17,6 +17,7 @@ ghost use Rattle.task_vm.specs.Space.{IsMadeFor};
 use crate::registers::{fill_frame, unit_at};
 use crate::running::{Stop, run};
 use crate::scratch::{Scratch, reach};
+use c_int::Trap;
 use flow_core_laws::{Activation, Claim, TaskEnd};
 use os_code::{Code, Unit};
 
@@ -109,10 +110,16 @@ fn end_at(stop: Stop, claims: &[Claim], outputs: &[i32], line: u32) -> TaskEnd
             if all_bytes(claims, outputs) {
                 TaskEnd::Done
             } else {
-                TaskEnd::Trapped { code: 5, line }
+                TaskEnd::Trapped {
+                    code: Trap::NoByte.code(),
+                    line,
+                }
             }
         }
-        Stop::Trapped { code, line } => TaskEnd::Trapped { code, line },
+        Stop::Trapped { trap, line } => TaskEnd::Trapped {
+            code: trap.code(),
+            line,
+        },
         Stop::OverBudget => TaskEnd::OverBudget,
     }
 }

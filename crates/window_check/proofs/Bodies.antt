@@ -1,6 +1,6 @@
 -- A function step by step, and the items of a program one after another.
 use Rattle.std.proofs.Common.{◌≡◌, ◌+◌, ◌≤◌, List, ◌∷◌, length, refl, ap, sym, ◌∙◌, arith}
-use Rattle.os_ast.specs.Types.{is_unsigned}
+use Rattle.os_ast.specs.Unsigned.{is_unsigned}
 use Rattle.os_ast.specs.declared.program.Param.{Param}
 use Rattle.os_ast.specs.Leveled.{AreAll, cons, IsItem}
 use Rattle.os_ast.specs.Names.{Scope, is_declared}
@@ -15,11 +15,12 @@ use Rattle.window_check.proofs.Loops.{noted-loop}
 use Rattle.window_check_names.proofs.AddedViolations.{with_violation-global}
 use Rattle.window_check_names.proofs.Noted.{noted-append}
 use Rattle.window_check.proofs.Restored.{ended_function}
-use Rattle.window_check_names.specs.Codes.{least_code}
+use Rattle.window_check_names.specs.BrokenRules.{least_rule}
 use Rattle.window_check_names.specs.Findings.{note, noted, with_violation}
 use Rattle.window_check_names.specs.declared.found.Found.{Found}
 use Rattle.window_check_laws.specs.Room.{HasRoom, stmts_weight, item_weight, items_weight, room_end}
 use Rattle.window_check_names.specs.Scopes.{around_of, ended, with_function}
+use Rattle.os_ast.specs.declared.rule.Rule.TheVariants as rule
 
 pub body-scope : (s begun inside : Scope) (names : List Param) (f : tree.FunctionTree) → names ≡ param_list f.params → begun ≡ in_function s f.name.id → inside ≡ after_params begun names → inside ≡ in_body s f
 body-scope s begun inside names f params begin given = rw (given, begin, params)
@@ -41,7 +42,7 @@ function-scope s inside after end names f params body stmts ending =
 
 pub function-found : (f named given found : Found) (s begun inside : Scope) (names : List Param) (t : tree.FunctionTree) →
     names ≡ param_list t.params → begun ≡ in_function s t.name.id → inside ≡ in_body s t →
-    named ≡ with_violation f t.name.mark (least_code (when (is_declared s t.name.id) 12)) → given ≡ noted named (params_notes begun names) →
+    named ≡ with_violation f t.name.mark (least_rule (when (is_declared s t.name.id) rule.DeclaredTwice)) → given ≡ noted named (params_notes begun names) →
     found ≡ noted given (stmts_notes inside t.body) → found ≡ noted f (item_notes s (tree.Function t))
 function-found f named given found s begun inside names t params begin body adding giving finding =
     let ps = params_notes (in_function s t.name.id) (param_list t.params) in

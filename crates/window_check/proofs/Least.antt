@@ -1,36 +1,39 @@
 -- The least violation of those that were noted is the refusal.
-use Rattle.std.proofs.Common.{◌≡◌, ℕ, suc, List, [], ◌∷◌, ◌++◌, min, All, Contains, Option, Some, None, refl, ap, sym, ◌∙◌, Bool, true, false, ltb, arith, ◌⊎◌, inl, inr, subst}
+use Rattle.std.proofs.Common.{◌≡◌, ℕ, suc, List, [], ◌∷◌, ◌++◌, if◌then◌else◌, All, Contains, Option, Some, None, refl, ap, sym, ◌∙◌, Bool, true, false, ltb, arith, ◌⊎◌, inl, inr, subst}
 use Rattle.std.proofs.lemmas.Bool.{ltb-true}
 use Rattle.std.proofs.lemmas.Bool.Decides.{nat_tests}
 use Rattle.std.proofs.lemmas.List.Elements.{All-cons, All-nil}
+use Rattle.os_ast.specs.Codes.{code}
 use Rattle.os_ast.specs.Notes.Kinds.{Note, mark_of}
-use Rattle.os_ast.specs.Rules.{codes}
+use Rattle.os_ast.specs.Rules.{broken}
 use Rattle.os_ast.specs.Violations.{violated, violations_at, violations_of, IsBefore, earlier, same_place}
 use Rattle.os_ast.specs.declared.expr.Mark.{Mark}
 use Rattle.os_ast.specs.declared.violation.Violation.{Violation}
-use Rattle.window_check_names.specs.Codes.{least_code, lesser_code}
+use Rattle.window_check_names.specs.BrokenRules.{least_rule, lesser_rule}
 use Rattle.window_check_names.specs.Findings.{before, lesser, least_with, judged, noted}
 use Rattle.window_check_names.specs.declared.found.Found.TheVariants.{Judging}
 use Rattle.window_check_names.specs.declared.found.Judged.{Judged}
+use Rattle.os_ast.specs.declared.rule.Rule.{Rule}
 
 abbrev pub least_of : Option Violation → List Violation → Option Violation
 least_of o [] = o
 least_of o (v ∷ vs) = least_of (Some (lesser o v)) vs
 
 -- one token that violates two rules
-lesser-codes : (least : Option Violation) (p c d l : ℕ) → lesser (Some (lesser least (violated p c l))) (violated p d l) ≡ lesser least (violated p (min c d) l)
-lesser-codes None p c d l = grind (arith, nat_tests)
-lesser-codes (Some u) p c d l = grind (arith, nat_tests)
+lesser-rules : (least : Option Violation) (p l : ℕ) (c d : Rule) →
+    lesser (Some (lesser least (violated p c l))) (violated p d l) ≡ lesser least (violated p (if ltb (code d) (code c) then d else c) l)
+lesser-rules None p l c d = grind (arith, nat_tests)
+lesser-rules (Some u) p l c d = grind (arith, nat_tests)
 
-judged_with_violation-again : (least : Option Violation) (m : Mark) (c : ℕ) (d : Option ℕ) →
-    least_with (Some (lesser least (violated m.place c m.line))) m d ≡ least_with least m (lesser_code (Some c) d)
+judged_with_violation-again : (least : Option Violation) (m : Mark) (c : Rule) (d : Option Rule) →
+    least_with (Some (lesser least (violated m.place c m.line))) m d ≡ least_with least m (lesser_rule (Some c) d)
 judged_with_violation-again least m c None = refl
-judged_with_violation-again least m c (Some d) = ap Some (lesser-codes least m.place c d m.line)
+judged_with_violation-again least m c (Some d) = ap Some (lesser-rules least m.place m.line c d)
 
 -- one token that violates several
-least_at : (least : Option Violation) (m : Mark) (cs : List ℕ) → least_of least (violations_at m cs) ≡ least_with least m (least_code cs)
+least_at : (least : Option Violation) (m : Mark) (cs : List Rule) → least_of least (violations_at m cs) ≡ least_with least m (least_rule cs)
 least_at least m [] = refl
-least_at least m (c ∷ cs) = least_at (Some (lesser least (violated m.place c m.line))) m cs ∙ judged_with_violation-again least m c (least_code cs)
+least_at least m (c ∷ cs) = least_at (Some (lesser least (violated m.place c m.line))) m cs ∙ judged_with_violation-again least m c (least_rule cs)
 
 least_of-append : (least : Option Violation) (vs ws : List Violation) → least_of least (vs ++ ws) ≡ least_of (least_of least vs) ws
 least_of-append least [] ws = refl
@@ -50,8 +53,8 @@ pub noted-least : (j : Judged) (ns : List Note) → (judged_all j ns).least ≡ 
 noted-least j [] = refl
 noted-least j (n ∷ ns) =
     noted-least (judged j n) ns
-    ∙ ap (λ o. least_of o (violations_of ns)) (sym (least_at j.least (mark_of n) (codes n)))
-    ∙ sym (least_of-append j.least (violations_at (mark_of n) (codes n)) (violations_of ns))
+    ∙ ap (λ o. least_of o (violations_of ns)) (sym (least_at j.least (mark_of n) (broken n)))
+    ∙ sym (least_of-append j.least (violations_at (mark_of n) (broken n)) (violations_of ns))
 
 -- the least of one violation and others
 abbrev pub least_among : Violation → List Violation → Violation

@@ -6,7 +6,7 @@ use Rattle.std.specs.Prelude.{unwrap_or}
 use Rattle.os_ast.specs.Marks.{HasMark, HasPlaces}
 use Rattle.os_ast.specs.Notes.Kinds.{Note, mark_of}
 use Rattle.os_ast.specs.Notes.Programs.{program_notes, file}
-use Rattle.os_ast.specs.Rules.{codes}
+use Rattle.os_ast.specs.Rules.{broken}
 use Rattle.os_ast.specs.Spelling.{Symbol, bare, marked, kind_of, symbols, spell}
 use Rattle.os_ast.specs.Trees as tree
 use Rattle.os_ast.specs.Violations.{violated, violations_at, violations_of, resolutions_of, resolutions, captures_of, captures, captured_by_tasks, has_main, no_main, violations, names, IsBefore, earlier, same_place, IsRefusal}
@@ -17,6 +17,8 @@ use Rattle.window_check_names.specs.declared.found.Found.TheVariants.{Judging}
 use Rattle.window_check_names.specs.declared.found.Judged.{Judged}
 use Rattle.window_check.proofs.Least.{least_of, least_among, least_of-some, judged_all, noted-judging, noted-least, least-first, least-others, least-among, contains-tail}
 use Rattle.window_check_laws.proofs.Placed.{HasKept, AreOf, of-program}
+use Rattle.os_ast.specs.declared.rule.Rule.{Rule}
+use Rattle.os_ast.specs.declared.rule.Rule.TheVariants as rule
 
 -- each mark is below the number of tokens
 below-length : (ps : List Symbol) (from n : ℕ) → from + length ps ≤ n → ((i : ℕ) (m : Mark) → HasMark ps i m → m.place ≡ from + i) → HasKept (λ m. m.place < n) ps
@@ -24,14 +26,14 @@ below-length [] from n h f = tt
 below-length (bare k ∷ ps) from n h f = below-length ps (suc from) n (omega (arith, h)) (λ i m is. omega (arith, f (suc i) m is))
 below-length (marked k m ∷ ps) from n h f = (omega (arith, h, f 0 m (k, refl)), below-length ps (suc from) n (omega (arith, h)) (λ i q is. omega (arith, f (suc i) q is)))
 
-violations_at-below : (n : ℕ) (m : Mark) (cs : List ℕ) → m.place < n → All (λ v. v.place < n) (violations_at m cs)
+violations_at-below : (n : ℕ) (m : Mark) (rs : List Rule) → m.place < n → All (λ v. v.place < n) (violations_at m rs)
 violations_at-below n m [] h = All-nil (λ v. v.place < n)
-violations_at-below n m (c ∷ cs) h = All-cons (λ v. v.place < n) (violated m.place c m.line) (violations_at m cs) h (violations_at-below n m cs h)
+violations_at-below n m (r ∷ rs) h = All-cons (λ v. v.place < n) (violated m.place r m.line) (violations_at m rs) h (violations_at-below n m rs h)
 
 violations_of-below : (n : ℕ) (ns : List Note) → AreOf (λ m. m.place < n) ns → All (λ v. v.place < n) (violations_of ns)
 violations_of-below n [] h = All-nil (λ v. v.place < n)
 violations_of-below n (x ∷ ns) h =
-    All-append (λ v. v.place < n) (violations_at (mark_of x) (codes x)) (violations_of ns) (violations_at-below n (mark_of x) (codes x) h.0) (violations_of-below n ns h.1)
+    All-append (λ v. v.place < n) (violations_at (mark_of x) (broken x)) (violations_of ns) (violations_at-below n (mark_of x) (broken x) h.0) (violations_of-below n ns h.1)
 
 all-below : (p : tree.ProgramTree) → HasPlaces p → All (λ v. v.place < length (spell p)) (violations_of (program_notes p))
 all-below p h =
@@ -64,7 +66,7 @@ least-some (u ∷ us) v h =
 -- the least comes before the violation that stands behind all tokens
 before-end : (p : tree.ProgramTree) (v : Violation) (b : Bool) → has_main p ≡ b → v.place < length (spell p) → All (IsBefore v) (no_main p)
 before-end p v true e h = rw e (All-nil (IsBefore v))
-before-end p v false e h = rw e (All-cons (IsBefore v) (violated (length (spell p)) 23 1) [] (earlier h) (All-nil (IsBefore v)))
+before-end p v false e h = rw e (All-cons (IsBefore v) (violated (length (spell p)) rule.NoMain 1) [] (earlier h) (All-nil (IsBefore v)))
 
 among-below : (n : ℕ) (vs : List Violation) (v : Violation) → All (λ v. v.place < n) vs → Contains vs v → v.place < n
 among-below n vs v a (k, h, e) = subst (λ (v : Violation). v.place < n) e (a k v h)
@@ -93,9 +95,9 @@ no_violations : (p : tree.ProgramTree) → (all_judged p).least ≡ None → vio
 no_violations p is = least-none (violations_of (program_notes p)) (all-least p ∙ is)
 
 -- nothing was found, and there is no `main`
-pub refused-end : (p : tree.ProgramTree) → (all_judged p).least ≡ None → has_main p ≡ false → IsRefusal p (violated (length (spell p)) 23 1)
+pub refused-end : (p : tree.ProgramTree) → (all_judged p).least ≡ None → has_main p ≡ false → IsRefusal p (violated (length (spell p)) rule.NoMain 1)
 refused-end p is e =
-    let v = violated (length (spell p)) 23 1 in
+    let v = violated (length (spell p)) rule.NoMain 1 in
     let all : violations p ≡ v ∷ [] = rw (no_violations p is, e) refl in
     record {
       among = rw all (0, omega arith, refl);

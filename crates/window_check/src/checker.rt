@@ -13,10 +13,10 @@ ghost use Rattle.window_check_names.specs.declared.found.Found.TheVariants as fi
 use crate::check_error::CheckError;
 use crate::checked::Checked;
 use crate::functions::{has_main, items};
-use os_ast::Program;
+use os_ast::{Program, Rule};
 use os_io::Memory;
 use std::alloc::Global;
-use window_check_names::{Found, Judged, Scopes, codes};
+use window_check_names::{Found, Judged, Scopes};
 
 /// What a walk over a program finds, where nothing is in scope yet.
 fn judge(alloc: Global, scopes: &mut Scopes, program: &Program) -> Result<Judged, Memory>
@@ -51,13 +51,13 @@ pub fn check(alloc: Global, program: Program) -> Result<Checked, CheckError>
     let (least, names, captured) = judged.into_parts();
     if let Some(violation) = least {
         return Err(CheckError::Fault {
-            code: violation.code,
+            code: violation.rule.code(),
             line: violation.line,
         });
     }
     if !has_main(&program.items) {
         return Err(CheckError::Fault {
-            code: codes::NO_MAIN,
+            code: Rule::NoMain.code(),
             line: 1,
         });
     }

@@ -5,13 +5,14 @@ ghost use Rattle.os_ast.specs.Notes.Declarators.{form, sized_form, is_window, si
 ghost use Rattle.os_ast.specs.Names.{is_declared, typed};
 ghost use Rattle.os_ast.specs.Rules.{is_outermost, when};
 ghost use Rattle.os_ast.specs.Views.{declarator_tree, index_tree, start_tree};
-ghost use Rattle.window_check_names.specs.Codes.{all_codes, code_list, least_code};
+ghost use Rattle.window_check_names.specs.BrokenRules.{all_rules, rule_list, least_rule};
+ghost use Rattle.os_ast.specs.declared.rule.Rule.TheVariants.{DeclaredTwice, Misplaced};
 ghost use Rattle.window_check_names.specs.Findings.{noted};
 ghost use Rattle.window_check_laws.specs.Room.{HasRoom, declarator_weight, declarators_weight, start_weight};
 
-use os_ast::{Declarator, Form, Index, Owner, Start, Ty};
+use os_ast::{Declarator, Form, Index, Owner, Rule, Start, Ty};
 use os_io::{List, Memory};
-use window_check_names::codes::{self, Codes, when};
+use window_check_names::broken_rules::{BrokenRules, when};
 use window_check_names::expressions::{change, expr, value};
 use window_check_names::{Found, Scopes, meaning, size_name, size_of};
 
@@ -79,17 +80,14 @@ fn sized(
     }
 }
 
-/// The codes of a declarator's name, where that for the size is handed in.
-fn declarator_codes(scopes: &Scopes, declarator: &Declarator, size: Option<u8>) -> Codes
-    ensures { all_codes result ≡ code_list (least_code (when (is_declared scopes.now declarator.now.name.id) 12))
-        ++ (code_list size ++ code_list (least_code (when (declarator.now.stream && not (is_outermost scopes.now.owner scopes.now.depth)) 17))) }
+/// The rules that a declarator's name violates, where that for the size is handed in.
+fn declarator_rules(scopes: &Scopes, declarator: &Declarator, size: Option<Rule>) -> BrokenRules
+    ensures { all_rules result ≡ rule_list (least_rule (when (is_declared scopes.now declarator.now.name.id) DeclaredTwice))
+        ++ (rule_list size ++ rule_list (least_rule (when (declarator.now.stream && not (is_outermost scopes.now.owner scopes.now.depth)) Misplaced))) }
 {
-    let twice = when(
-        scopes.is_declared(declarator.name.id),
-        codes::DECLARED_TWICE,
-    );
-    let misplaced = when(declarator.stream && !is_outermost(scopes), codes::MISPLACED);
-    Codes::three(twice, size, misplaced)
+    let twice = when(scopes.is_declared(declarator.name.id), Rule::DeclaredTwice);
+    let misplaced = when(declarator.stream && !is_outermost(scopes), Rule::Misplaced);
+    BrokenRules::three(twice, size, misplaced)
 }
 
 /// One declarator.
@@ -100,10 +98,10 @@ fn declarator(scopes: &mut Scopes, found: &mut Found, declarator: &Declarator) -
 {
     let form = form(scopes, declarator);
     let entity = scopes.form_entity(form);
-    let codes = declarator_codes(scopes, declarator, scopes.code_with(form));
+    let rules = declarator_rules(scopes, declarator, scopes.rule_with(form));
     found.declare(
         declarator.name.mark,
-        codes,
+        rules,
         meaning(entity),
         scopes.unsigned(),
     )?;

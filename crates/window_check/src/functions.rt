@@ -4,7 +4,8 @@ ghost use Rattle.std.specs.Prelude.{◌≡◌, ◌≤◌, ◌<◌, ◌+◌, ◌^
 ghost use Rattle.os_ast.specs.Leveled.{IsItem, AreAll};
 ghost use Rattle.os_ast.specs.Names.{constant_value, is_declared};
 ghost use Rattle.os_ast.specs.Rules.{when};
-ghost use Rattle.window_check_names.specs.Codes.{least_code};
+ghost use Rattle.window_check_names.specs.BrokenRules.{least_rule};
+ghost use Rattle.os_ast.specs.declared.rule.Rule.TheVariants.{DeclaredTwice};
 ghost use Rattle.os_ast.specs.Notes.Kinds.{Given};
 ghost use Rattle.os_ast.specs.Notes.Programs.{owner_of, param_list, after_param, after_params, params_notes, after_item, item_notes, after_items, items_notes, in_function};
 ghost use Rattle.os_ast.specs.Trees as tree;
@@ -17,11 +18,11 @@ ghost use Rattle.window_check_laws.specs.Room.{HasRoom, item_weight, items_weigh
 ghost use Rattle.window_check_names.specs.Scopes.{around_of};
 
 use crate::statements::stmts;
-use os_ast::{Constant, Entity, Form, Function, Item, Name, Owner, Param, Params};
+use os_ast::{Constant, Entity, Form, Function, Item, Name, Owner, Param, Params, Rule};
 use os_io::{List, Memory};
 use os_lexer::names::MAIN;
 use std::alloc::Global;
-use window_check_names::codes::{self, Codes, when};
+use window_check_names::broken_rules::{BrokenRules, when};
 use window_check_names::{Around, Found, Scopes, meaning};
 
 /// Whose body that of a function with this name is: the control program is the function `main`.
@@ -59,10 +60,10 @@ fn param_list(params: &Params) -> &[Param]
 }
 
 /// A name is declared a second time in one scope.
-fn twice(scopes: &Scopes, name: Name) -> Option<u8>
-    ensures { result ≡ least_code (when (is_declared scopes.now name.id) 12) }
+fn twice(scopes: &Scopes, name: Name) -> Option<Rule>
+    ensures { result ≡ least_rule (when (is_declared scopes.now name.id) DeclaredTwice) }
 {
-    when(scopes.is_declared(name.id), codes::DECLARED_TWICE)
+    when(scopes.is_declared(name.id), Rule::DeclaredTwice)
 }
 
 /// A parameter.
@@ -76,7 +77,7 @@ fn param(scopes: &mut Scopes, found: &mut Found, param: Param) -> Result<(), Mem
     let entity = scopes.scalar();
     found.declare(
         name.mark,
-        Codes::one(twice(scopes, name)),
+        BrokenRules::one(twice(scopes, name)),
         meaning(entity),
         ty.is_unsigned(),
     )?;

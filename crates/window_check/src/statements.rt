@@ -8,7 +8,8 @@ ghost use Rattle.os_ast.specs.Rules.{is_main_body, is_task_body, when};
 ghost use Rattle.os_ast.specs.Trees as tree;
 ghost use Rattle.os_ast.specs.Views.{expr_tree, target_tree, change_tree, clause_tree, start_tree, stmt_tree, stmts_tree};
 ghost use Rattle.std.specs.Prelude.{not};
-ghost use Rattle.window_check_names.specs.Codes.{least_code};
+ghost use Rattle.window_check_names.specs.BrokenRules.{least_rule};
+ghost use Rattle.os_ast.specs.declared.rule.Rule.TheVariants.{Misplaced, ReturnInTask};
 ghost use Rattle.window_check_names.specs.Findings.{noted};
 ghost use Rattle.window_check_laws.specs.Room.{HasRoom, stmt_weight, stmts_weight, start_weight, room_end};
 ghost use Rattle.window_check.specs.Statements.{else_tree, in_named_task, listed_for, listed_in};
@@ -16,31 +17,31 @@ ghost use Rattle.os_ast.specs.Notes.Clauses.{captured_in};
 ghost use Rattle.os_ast.specs.declared.names.Owner.TheVariants as owners;
 
 use crate::declarators::{declaration, start};
-use os_ast::{Direction, Head, Owner, Role, Stmt, TaskSite, TickSite};
+use os_ast::{Direction, Head, Owner, Role, Rule, Stmt, TaskSite, TickSite};
 use os_io::{List, Memory};
 use std::alloc::Global;
+use window_check_names::broken_rules::when;
 use window_check_names::clauses::clauses;
-use window_check_names::codes::{self, when};
 use window_check_names::expressions::{called, change, expr, place, step, value};
 use window_check_names::parts::{ItemName, declare_items};
 use window_check_names::{Captured, Found, Scopes, Slots};
 
 /// A pragma stands outside `main` or inside a task.
-fn pragma_code(owner: Owner) -> Option<u8>
-    ensures { result ≡ least_code (when (not (is_main_body owner)) 17) }
+fn pragma_rule(owner: Owner) -> Option<Rule>
+    ensures { result ≡ least_rule (when (not (is_main_body owner)) Misplaced) }
 {
     match owner {
         Owner::OfMain => None,
-        Owner::OfFunction | Owner::OfTask => Some(codes::MISPLACED),
+        Owner::OfFunction | Owner::OfTask => Some(Rule::Misplaced),
     }
 }
 
 /// `return` stands in a task.
-fn return_code(owner: Owner) -> Option<u8>
-    ensures { result ≡ least_code (when (is_task_body owner) 18) }
+fn return_rule(owner: Owner) -> Option<Rule>
+    ensures { result ≡ least_rule (when (is_task_body owner) ReturnInTask) }
 {
     match owner {
-        Owner::OfTask => Some(codes::RETURN_IN_TASK),
+        Owner::OfTask => Some(Rule::ReturnInTask),
         Owner::OfMain | Owner::OfFunction => None,
     }
 }
@@ -69,15 +70,15 @@ fn stmt(alloc: Global, scopes: &mut Scopes, found: &mut Found, stmt: &Stmt) -> R
         }
         Stmt::For(head, body) => for_loop(alloc, scopes, found, head, body),
         Stmt::Break(mark) | Stmt::Continue(mark) => {
-            found.add_violation(*mark, when(!scopes.in_loop(), codes::NO_LOOP))
+            found.add_violation(*mark, when(!scopes.in_loop(), Rule::OutsideLoop))
         }
         Stmt::Return(mark, value) => {
-            found.add_violation(*mark, return_code(scopes.owner()))?;
+            found.add_violation(*mark, return_rule(scopes.owner()))?;
             expr(scopes, found, value)
         }
         Stmt::Task(site) => task(alloc, scopes, found, site),
         Stmt::Tick(site) => tick(scopes, found, site),
-        Stmt::Taskwait(mark) => { found.add_violation(*mark, pragma_code(scopes.owner())) }
+        Stmt::Taskwait(mark) => { found.add_violation(*mark, pragma_rule(scopes.owner())) }
     }
 }
 
@@ -184,7 +185,7 @@ fn tick(scopes: &Scopes, found: &mut Found, site: &TickSite) -> Result<(), Memor
     ensures { OnOk result (found.new ≡ noted found.old (stmt_notes scopes.now
         (tree.Tick site.now.mark (target_tree site.now.stream) site.now.arrow (expr_tree site.now.amount)))) }
 {
-    found.add_violation(site.mark, pragma_code(scopes.owner()))?;
+    found.add_violation(site.mark, pragma_rule(scopes.owner()))?;
     place(scopes, found, Role::Flow(Direction::Reads), &site.stream)?;
     expr(scopes, found, &site.amount)
 }

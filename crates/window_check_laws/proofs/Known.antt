@@ -1,7 +1,7 @@
 -- What stands in a lawful program stands where all that is in scope is known.
 use Rattle.std.proofs.Common.{◌≡◌, ◌≤◌, ℕ, zero, suc, ◌+◌, ◌==◌, ◌&&◌, ◌||◌, Bool, true, false, not, if◌then◌else◌, List, [], ◌∷◌, ◌++◌, length, Option, Some, None, ℤ, refl, sym, ap, subst, ◌∙◌, arith, eq-eqb, Contains}
 use Rattle.std.specs.Prelude.{⊤, unwrap_or}
-use Rattle.os_ast.specs.Types.{is_unsigned}
+use Rattle.os_ast.specs.Unsigned.{is_unsigned}
 use Rattle.os_ast.specs.declared.program.Param.{Param}
 use Rattle.os_ast.specs.Captured.{captured, slots_of}
 use Rattle.os_ast.specs.Leveled.{AreAll, cons, IsItem, IsStmt, AreStmts, IsLeveled}

@@ -5,7 +5,7 @@ use Rattle.os_ast.specs.Meanings.{meaning_in, resolved}
 use Rattle.os_ast.specs.Names.{Scope, lookup, entity_of, flag_of}
 use Rattle.os_ast.specs.Notes.Kinds.{Note, Used, mark_of}
 use Rattle.os_ast.specs.Notes.Programs.{program_notes}
-use Rattle.os_ast.specs.Rules.{Rule, rules, codes, codes_among, when}
+use Rattle.os_ast.specs.Rules.{RuleTest, rules, broken, broken_among, when}
 use Rattle.os_ast.specs.Trees.{ProgramTree}
 use Rattle.os_ast.specs.Violations.{violations, no_main, violations_at, violations_of, names, resolutions_of, resolutions, declared_meaning}
 use Rattle.os_ast.specs.declared.expr.Mark.{Mark}
@@ -16,6 +16,7 @@ use Rattle.os_ast.specs.declared.names.Use.{Use}
 use Rattle.os_ast.specs.declared.names.What.{What}
 use Rattle.window_check_laws.specs.Order.{InOrder, IsBelowNext}
 use Rattle.window_check_laws.specs.Told.{AreIn, Tells, KeepsAll, AreLawful}
+use Rattle.os_ast.specs.declared.rule.Rule.{Rule}
 
 contains-head : (r : Resolved) (rs : List Resolved) → Contains (r ∷ rs) r
 contains-head r rs = (0, omega arith, refl)
@@ -80,23 +81,23 @@ rest-none : {A : Type 0} (xs ys : List A) → xs ++ ys ≡ [] → ys ≡ []
 rest-none [] ys h = h
 rest-none (x ∷ xs) ys h = absurd (cc)
 
-not-when : (b : Bool) (c : ℕ) → when b c ≡ [] → b ≡ false
-not-when true c h = absurd (cc)
-not-when false c h = refl
+not-when : (b : Bool) (r : Rule) → when b r ≡ [] → b ≡ false
+not-when true r h = absurd (cc)
+not-when false r h = refl
 
-keeps-among : (rs : List Rule) (n : Note) → codes_among rs n ≡ [] → KeepsAll rs n
+keeps-among : (ts : List RuleTest) (n : Note) → broken_among ts n ≡ [] → KeepsAll ts n
 keeps-among [] n h = tt
-keeps-among (r ∷ rs) n h =
-    (not-when (r.is_violated n) r.code (first-none (when (r.is_violated n) r.code) (codes_among rs n) h), keeps-among rs n (rest-none (when (r.is_violated n) r.code) (codes_among rs n) h))
+keeps-among (t ∷ ts) n h =
+    (not-when (t.is_violated n) t.rule (first-none (when (t.is_violated n) t.rule) (broken_among ts n) h), keeps-among ts n (rest-none (when (t.is_violated n) t.rule) (broken_among ts n) h))
 
-no-violations_at : (m : Mark) (cs : List ℕ) → violations_at m cs ≡ [] → cs ≡ []
+no-violations_at : (m : Mark) (rs : List Rule) → violations_at m rs ≡ [] → rs ≡ []
 no-violations_at m [] h = refl
-no-violations_at m (c ∷ cs) h = absurd (cc)
+no-violations_at m (r ∷ rs) h = absurd (cc)
 
 keeps-notes : (ns : List Note) → violations_of ns ≡ [] → AreLawful ns
 keeps-notes [] h = tt
 keeps-notes (n ∷ ns) h =
-    (keeps-among rules n (no-violations_at (mark_of n) (codes n) (first-none (violations_at (mark_of n) (codes n)) (violations_of ns) h)), keeps-notes ns (rest-none (violations_at (mark_of n) (codes n)) (violations_of ns) h))
+    (keeps-among rules n (no-violations_at (mark_of n) (broken n) (first-none (violations_at (mark_of n) (broken n)) (violations_of ns) h)), keeps-notes ns (rest-none (violations_at (mark_of n) (broken n)) (violations_of ns) h))
 
 pub lawful-program : (p : ProgramTree) → violations p ≡ [] → AreLawful (program_notes p)
 lawful-program p h = keeps-notes (program_notes p) (first-none (violations_of (program_notes p)) (no_main p) h)
@@ -109,7 +110,7 @@ declared-by (Some e) h = (e, refl)
 pub declared-use : (s : Scope) (n : Name) (u : Use) → AreLawful (Used s n u ∷ []) → (e : Entity) × (entity_of (lookup s.entries n.id) ≡ Some e)
 declared-use s n u h = declared-by (entity_of (lookup s.entries n.id)) h.0.0
 
--- a place has one meaning
+-- a place has one entry
 below-all : (lo : ℕ) (rs : List Resolved) (q : ℕ) (w : What) (b : Bool) → IsBelowNext lo rs → Contains rs (resolved q w b) → lo < q
 below-all lo [] q w b h (k, lt, e) = absurd (omega (arith, lt))
 below-all lo (r ∷ rs) q w b h (zero, lt, e) =
@@ -123,16 +124,24 @@ in-order-tail : (lo : ℕ) (rs : List Resolved) → IsBelowNext lo rs → InOrde
 in-order-tail lo [] h = tt
 in-order-tail lo (r ∷ rs) h = h.1
 
-pub one-meaning : (rs : List Resolved) (p : ℕ) (v w : What) (a b : Bool) → InOrder rs → Contains rs (resolved p v a) → Contains rs (resolved p w b) → v ≡ w
-one-meaning [] p v w a b o (k, lt, e) c = absurd (omega (arith, lt))
-one-meaning (r ∷ rs) p v w a b o (zero, _, e) (zero, _, f) = ap (λ (x : Resolved). x.what) (sym e ∙ f)
-one-meaning (r ∷ rs) p v w a b o (zero, _, e) (suc k, lt, f) =
+one-entry : (rs : List Resolved) (p : ℕ) (v w : What) (a b : Bool) → InOrder rs → Contains rs (resolved p v a) → Contains rs (resolved p w b) →
+    resolved p v a ≡ resolved p w b
+one-entry [] p v w a b o (k, lt, e) c = absurd (omega (arith, lt))
+one-entry (r ∷ rs) p v w a b o (zero, _, e) (zero, _, f) = sym e ∙ f
+one-entry (r ∷ rs) p v w a b o (zero, _, e) (suc k, lt, f) =
     let same : r.place ≡ p = ap (λ (x : Resolved). x.place) e in
     let far : r.place < p = below-all r.place rs p w b o (k, omega (arith, lt), f) in
     absurd (omega (arith, same, far))
-one-meaning (r ∷ rs) p v w a b o (suc k, lt, e) (zero, _, f) =
+one-entry (r ∷ rs) p v w a b o (suc k, lt, e) (zero, _, f) =
     let same : r.place ≡ p = ap (λ (x : Resolved). x.place) f in
     let far : r.place < p = below-all r.place rs p v a o (k, omega (arith, lt), e) in
     absurd (omega (arith, same, far))
-one-meaning (r ∷ rs) p v w a b o (suc k, lt, e) (suc j, lk, f) =
-    one-meaning rs p v w a b (in-order-tail r.place rs o) (k, omega (arith, lt), e) (j, omega (arith, lk), f)
+one-entry (r ∷ rs) p v w a b o (suc k, lt, e) (suc j, lk, f) =
+    one-entry rs p v w a b (in-order-tail r.place rs o) (k, omega (arith, lt), e) (j, omega (arith, lk), f)
+
+-- so it has one meaning, of one type
+pub one-meaning : (rs : List Resolved) (p : ℕ) (v w : What) (a b : Bool) → InOrder rs → Contains rs (resolved p v a) → Contains rs (resolved p w b) → v ≡ w
+one-meaning rs p v w a b o h k = ap (λ (x : Resolved). x.what) (one-entry rs p v w a b o h k)
+
+pub one-type : (rs : List Resolved) (p : ℕ) (v w : What) (a b : Bool) → InOrder rs → Contains rs (resolved p v a) → Contains rs (resolved p w b) → a ≡ b
+one-type rs p v w a b o h k = ap (λ (x : Resolved). x.unsigned) (one-entry rs p v w a b o h k)

@@ -1,7 +1,7 @@
 -- What a list of names says of a part of a program, and what a lawful part is.
 use Rattle.std.specs.Prelude.{⊤, ◌≡◌, false, List, [], ◌∷◌, Contains}
 use Rattle.os_ast.specs.Notes.Kinds.{Note}
-use Rattle.os_ast.specs.Rules.{Rule, rules}
+use Rattle.os_ast.specs.Rules.{RuleTest, rules}
 use Rattle.os_ast.specs.Violations.{resolutions_of}
 use Rattle.os_ast.specs.declared.names.Resolved.{Resolved}
 
@@ -16,9 +16,9 @@ Tells all [] = ⊤
 Tells all (n ∷ ns) = AreIn all (resolutions_of n) × Tells all ns
 
 -- what stands at a token keeps these rules
-abbrev pub KeepsAll : List Rule → Note → Type 0
+abbrev pub KeepsAll : List RuleTest → Note → Type 0
 KeepsAll [] n = ⊤
-KeepsAll (r ∷ rs) n = (r.is_violated n ≡ false) × KeepsAll rs n
+KeepsAll (t ∷ ts) n = (t.is_violated n ≡ false) × KeepsAll ts n
 
 -- each of these notes keeps all rules
 abbrev pub AreLawful : List Note → Type 0

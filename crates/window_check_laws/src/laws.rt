@@ -70,13 +70,15 @@ pub fn names_tell()
 {}
 
 /// A used name of a lawful program is declared in scope, the list says at its place what its declaration means there and
-/// whether it is of the type `unsigned`, and it says no other meaning.
+/// whether it is of the type `unsigned`, and it says no other meaning and no other type.
 pub fn used_names_are_told()
     ensures declared { (s : Scope) (n : Name) (u : Use) → AreLawful (Used s n u ∷ []) → (e : Entity) × (entity_of (lookup s.entries n.id) ≡ Some e) }
     ensures told { (rs : List Resolved) (s : Scope) (n : Name) (u : Use) (e : Entity) → entity_of (lookup s.entries n.id) ≡ Some e →
         Tells rs (Used s n u ∷ []) → Contains rs (resolved n.mark.place (meaning_in s.owner s.captured e) (flag_of (lookup s.entries n.id))) }
     ensures one { (rs : List Resolved) (p : ℕ) (v w : What) (a b : Bool) → InOrder rs →
         Contains rs (resolved p v a) → Contains rs (resolved p w b) → v ≡ w }
+    ensures one_type { (rs : List Resolved) (p : ℕ) (v w : What) (a b : Bool) → InOrder rs →
+        Contains rs (resolved p v a) → Contains rs (resolved p w b) → a ≡ b }
 {}
 
 /// A statement that is no declaration leaves in scope what was there, and the slots of what is in scope lie above one

@@ -15,7 +15,7 @@ use Rattle.os_ast.specs.Violations.{constant_meaning, main_task}
 use Rattle.os_ast.specs.declared.expr.Mark.{Mark}
 use Rattle.os_ast.specs.declared.expr.Name.{Name}
 use Rattle.os_ast.specs.declared.program.Param.{Param}
-use Rattle.os_ast.specs.Types.{is_unsigned}
+use Rattle.os_ast.specs.Unsigned.{is_unsigned}
 use Rattle.os_ast.specs.Parts.{is_in}
 use Rattle.os_ast.specs.declared.names.Form.{Form}
 use Rattle.os_ast.specs.declared.names.Form.TheVariants as form_of
@@ -23,67 +23,69 @@ use Rattle.os_ast.specs.declared.names.Owner.{Owner}
 use Rattle.os_ast.specs.declared.names.Owner.TheVariants as owner
 use Rattle.os_ast.specs.Violations.{violations_at}
 use Rattle.os_ast.specs.declared.violation.Violation.{Violation}
-use Rattle.window_check_names.specs.Codes.{code_list, least_code}
-use Rattle.window_check_names.specs.Findings.{note, with_violation, with_violations, means, constant_found, started, started_in, captured_for, all_task_codes, least_with, pushed}
+use Rattle.window_check_names.specs.BrokenRules.{rule_list, least_rule}
+use Rattle.window_check_names.specs.Findings.{note, with_violation, with_violations, means, constant_found, started, started_in, captured_for, all_task_rules, least_with, pushed}
 use Rattle.window_check_names.specs.Sizes.{passes_limit}
 use Rattle.window_check_names.specs.declared.found.Found.{Found}
 use Rattle.window_check_names.specs.declared.found.Found.TheVariants.{Listing, Judging, Collecting}
 use Rattle.window_check_names.specs.declared.found.Judged.{Judged}
+use Rattle.os_ast.specs.declared.rule.Rule.{Rule}
+use Rattle.os_ast.specs.declared.rule.Rule.TheVariants as rule
 
 -- one rule alone
-alone : (b : Bool) (c : ℕ) → least_code (when b c) ≡ least_code (when b c ++ [])
-alone true c = refl
-alone false c = refl
+alone : (b : Bool) (r : Rule) → least_rule (when b r) ≡ least_rule (when b r ++ [])
+alone true r = refl
+alone false r = refl
 
--- another code of the same token
-recoded : (j : Judged) (m : Mark) {c d : Option ℕ} → c ≡ d → with_violation (Judging j) m c ≡ with_violation (Judging j) m d
+-- another rule of the same token
+recoded : (j : Judged) (m : Mark) {c d : Option Rule} → c ≡ d → with_violation (Judging j) m c ≡ with_violation (Judging j) m d
 recoded j m h = ap (with_violation (Judging j) m) h
 
 -- the same of the violations of a token
-listed_alone : (b : Bool) (c : ℕ) → code_list (least_code (when b c)) ≡ when b c ++ []
-listed_alone true c = refl
-listed_alone false c = refl
+listed_alone : (b : Bool) (r : Rule) → rule_list (least_rule (when b r)) ≡ when b r ++ []
+listed_alone true r = refl
+listed_alone false r = refl
 
-recollected : (vs : List Violation) (m : Mark) {cs ds : List ℕ} → cs ≡ ds → Collecting (pushed vs (violations_at m cs)) ≡ Collecting (pushed vs (violations_at m ds))
+recollected : (vs : List Violation) (m : Mark) {cs ds : List Rule} → cs ≡ ds → Collecting (pushed vs (violations_at m cs)) ≡ Collecting (pushed vs (violations_at m ds))
 recollected vs m h = ap (λ cs. Collecting (pushed vs (violations_at m cs))) h
 
 -- `break` and `continue`
-pub with_violation-left : (f : Found) (s : Scope) (m : Mark) → with_violation f m (least_code (when (not s.loop) 16)) ≡ note f (Left s m)
+pub with_violation-left : (f : Found) (s : Scope) (m : Mark) → with_violation f m (least_rule (when (not s.loop) rule.OutsideLoop)) ≡ note f (Left s m)
 with_violation-left (Listing slots) s m = refl
-with_violation-left (Judging j) s m = recoded j m (alone (not s.loop) 16)
-with_violation-left (Collecting vs) s m = recollected vs m (listed_alone (not s.loop) 16)
+with_violation-left (Judging j) s m = recoded j m (alone (not s.loop) rule.OutsideLoop)
+with_violation-left (Collecting vs) s m = recollected vs m (listed_alone (not s.loop) rule.OutsideLoop)
 
-pub with_violation-returned : (f : Found) (s : Scope) (m : Mark) → with_violation f m (least_code (when (is_task_body s.owner) 18)) ≡ note f (Returned s m)
+pub with_violation-returned : (f : Found) (s : Scope) (m : Mark) → with_violation f m (least_rule (when (is_task_body s.owner) rule.ReturnInTask)) ≡ note f (Returned s m)
 with_violation-returned (Listing slots) s m = refl
-with_violation-returned (Judging j) s m = recoded j m (alone (is_task_body s.owner) 18)
-with_violation-returned (Collecting vs) s m = recollected vs m (listed_alone (is_task_body s.owner) 18)
+with_violation-returned (Judging j) s m = recoded j m (alone (is_task_body s.owner) rule.ReturnInTask)
+with_violation-returned (Collecting vs) s m = recollected vs m (listed_alone (is_task_body s.owner) rule.ReturnInTask)
 
-pub with_violation-pragma : (f : Found) (s : Scope) (m : Mark) → with_violation f m (least_code (when (not (is_main_body s.owner)) 17)) ≡ note f (Pragma s m)
+pub with_violation-pragma : (f : Found) (s : Scope) (m : Mark) → with_violation f m (least_rule (when (not (is_main_body s.owner)) rule.Misplaced)) ≡ note f (Pragma s m)
 with_violation-pragma (Listing slots) s m = refl
-with_violation-pragma (Judging j) s m = recoded j m (alone (not (is_main_body s.owner)) 17)
-with_violation-pragma (Collecting vs) s m = recollected vs m (listed_alone (not (is_main_body s.owner)) 17)
+with_violation-pragma (Judging j) s m = recoded j m (alone (not (is_main_body s.owner)) rule.Misplaced)
+with_violation-pragma (Collecting vs) s m = recollected vs m (listed_alone (not (is_main_body s.owner)) rule.Misplaced)
 
-pub with_violation-global : (f : Found) (s : Scope) (n : Name) → with_violation f n.mark (least_code (when (is_declared s n.id) 12)) ≡ note f (Global s n)
+pub with_violation-global : (f : Found) (s : Scope) (n : Name) → with_violation f n.mark (least_rule (when (is_declared s n.id) rule.DeclaredTwice)) ≡ note f (Global s n)
 with_violation-global (Listing slots) s n = refl
-with_violation-global (Judging j) s n = recoded j n.mark (alone (is_declared s n.id) 12)
-with_violation-global (Collecting vs) s n = recollected vs n.mark (listed_alone (is_declared s n.id) 12)
+with_violation-global (Judging j) s n = recoded j n.mark (alone (is_declared s n.id) rule.DeclaredTwice)
+with_violation-global (Collecting vs) s n = recollected vs n.mark (listed_alone (is_declared s n.id) rule.DeclaredTwice)
 
-pub with_violation-listed : (f : Found) (before : List ℕ) (n : Name) → with_violation f n.mark (least_code (when (is_in n.id before) 21)) ≡ note f (Listed before n)
+pub with_violation-listed : (f : Found) (before : List ℕ) (n : Name) → with_violation f n.mark (least_rule (when (is_in n.id before) rule.ListedTwice)) ≡ note f (Listed before n)
 with_violation-listed (Listing slots) before n = refl
-with_violation-listed (Judging j) before n = recoded j n.mark (alone (is_in n.id before) 21)
-with_violation-listed (Collecting vs) before n = recollected vs n.mark (listed_alone (is_in n.id before) 21)
+with_violation-listed (Judging j) before n = recoded j n.mark (alone (is_in n.id before) rule.ListedTwice)
+with_violation-listed (Collecting vs) before n = recollected vs n.mark (listed_alone (is_in n.id before) rule.ListedTwice)
 
 -- a parameter
 pub means-given : (f : Found) (s : Scope) (p : Param) →
-    means (with_violations f p.name.mark (code_list (least_code (when (is_declared s p.name.id) 12)))) p.name.mark (meaning (scalar_entity s.owner s.slots)) (is_unsigned p.ty)
+    means (with_violations f p.name.mark (rule_list (least_rule (when (is_declared s p.name.id) rule.DeclaredTwice)))) p.name.mark (meaning (scalar_entity s.owner s.slots)) (is_unsigned p.ty)
     ≡ note f (Given s p)
 means-given (Listing slots) s p = refl
 means-given (Judging j) s p =
-    ap (λ f. means f p.name.mark (meaning (scalar_entity s.owner s.slots)) (is_unsigned p.ty)) (recoded j p.name.mark (ap least_code (listed_alone (is_declared s p.name.id) 12)))
-means-given (Collecting vs) s p = recollected vs p.name.mark (listed_alone (is_declared s p.name.id) 12)
+    ap (λ f. means f p.name.mark (meaning (scalar_entity s.owner s.slots)) (is_unsigned p.ty)) (recoded j p.name.mark (ap least_rule (listed_alone (is_declared s p.name.id) rule.DeclaredTwice)))
+means-given (Collecting vs) s p = recollected vs p.name.mark (listed_alone (is_declared s p.name.id) rule.DeclaredTwice)
 
 -- a declarator
-three : (a b c : Bool) → code_list (least_code (when a 12)) ++ (code_list (least_code (when b 15)) ++ code_list (least_code (when c 17))) ≡ when a 12 ++ (when b 15 ++ (when c 17 ++ []))
+three : (a b c : Bool) → rule_list (least_rule (when a rule.DeclaredTwice)) ++ (rule_list (least_rule (when b rule.WrongSize)) ++ rule_list (least_rule (when c rule.Misplaced))) ≡ when a rule.DeclaredTwice ++ (when b rule.WrongSize ++ (when c rule.Misplaced ++ []))
 three true true true = refl
 three true true false = refl
 three true false true = refl
@@ -126,35 +128,35 @@ passes-same s d = same (form s d)
     same form_of.Stream = refl
     same (form_of.Streams n) = refl
 
-declared-codes : (s : Scope) (d : DeclaratorTree) →
-    code_list (least_code (when (is_declared s d.name.id) 12))
-    ++ (code_list (least_code (when (passes_limit (taken s (form s d)) (form s d)) 15))
-    ++ code_list (least_code (when (d.stream && not (is_outermost s.owner s.depth)) 17)))
-    ≡ when (is_declared s d.name.id) 12
-    ++ (when (has_no_size (form s d) (size_told s d.size) || has_too_many (after_declarator s d) (form s d)) 15
-    ++ (when (d.stream && not (is_outermost s.owner s.depth)) 17 ++ []))
-declared-codes s d =
+declared-rules : (s : Scope) (d : DeclaratorTree) →
+    rule_list (least_rule (when (is_declared s d.name.id) rule.DeclaredTwice))
+    ++ (rule_list (least_rule (when (passes_limit (taken s (form s d)) (form s d)) rule.WrongSize))
+    ++ rule_list (least_rule (when (d.stream && not (is_outermost s.owner s.depth)) rule.Misplaced)))
+    ≡ when (is_declared s d.name.id) rule.DeclaredTwice
+    ++ (when (has_no_size (form s d) (size_told s d.size) || has_too_many (after_declarator s d) (form s d)) rule.WrongSize
+    ++ (when (d.stream && not (is_outermost s.owner s.depth)) rule.Misplaced ++ []))
+declared-rules s d =
     let twice = is_declared s d.name.id in
     let apart = d.stream && not (is_outermost s.owner s.depth) in
     three twice (passes_limit (taken s (form s d)) (form s d)) apart
     ∙ ap
-    (λ b. when twice 12 ++ (when b 15 ++ (when apart 17 ++ [])))
+    (λ b. when twice rule.DeclaredTwice ++ (when b rule.WrongSize ++ (when apart rule.Misplaced ++ [])))
     (sym (wrong-size s (after_declarator s d) d.stream d.size ∙ passes-same s d))
 
 pub means-declared : (f : Found) (s : Scope) (d : DeclaratorTree) →
     means
     (with_violations f d.name.mark
-    (code_list (least_code (when (is_declared s d.name.id) 12))
-    ++ (code_list (least_code (when (passes_limit (taken s (form s d)) (form s d)) 15))
-    ++ code_list (least_code (when (d.stream && not (is_outermost s.owner s.depth)) 17)))))
+    (rule_list (least_rule (when (is_declared s d.name.id) rule.DeclaredTwice))
+    ++ (rule_list (least_rule (when (passes_limit (taken s (form s d)) (form s d)) rule.WrongSize))
+    ++ rule_list (least_rule (when (d.stream && not (is_outermost s.owner s.depth)) rule.Misplaced)))))
     d.name.mark (meaning (declared_entity s d)) s.unsigned
     ≡ note f (Declared s d)
 means-declared (Listing slots) s d = refl
 means-declared (Judging j) s d =
     ap
     (λ f. means f d.name.mark (meaning (declared_entity s d)) s.unsigned)
-    (recoded j d.name.mark (ap least_code (declared-codes s d)))
-means-declared (Collecting vs) s d = recollected vs d.name.mark (declared-codes s d)
+    (recoded j d.name.mark (ap least_rule (declared-rules s d)))
+means-declared (Collecting vs) s d = recollected vs d.name.mark (declared-rules s d)
 
 -- the name of a size
 constant-sized-in : (j : Judged) (m : Mark) (u : Bool) (v : Option ℤ) → constant_found (Judging j) m v u ≡ Judging (record j { names = pushed j.names (constant_meaning m u v) })
@@ -175,38 +177,38 @@ constant-sized (Collecting vs) s n = collecting (constant_of (entity_of (lookup 
 constant-sized (Judging j) s n = constant-sized-in j n.mark (flag_of (lookup s.entries n.id)) (constant_of (entity_of (lookup s.entries n.id)))
 
 -- the start of a task: where it stands elsewhere than in `main`, that is the least violation
-behind : (b : Bool) → least_code (17 ∷ []) ≡ least_code (when true 17 ++ (when b 22 ++ []))
+behind : (b : Bool) → least_rule (rule.Misplaced ∷ []) ≡ least_rule (when true rule.Misplaced ++ (when b rule.TaskLimit ++ []))
 behind true = refl
 behind false = refl
 
-with_task : (j : Judged) (m : Mark) (xs : List (List ℕ)) {c d : Option ℕ} → c ≡ d →
+with_task : (j : Judged) (m : Mark) (xs : List (List ℕ)) {c d : Option Rule} → c ≡ d →
     Judging (record j { least = least_with j.least m c; captured = xs }) ≡ Judging (record j { least = least_with j.least m d; captured = xs })
 with_task j m xs h = ap (λ c. Judging (record j { least = least_with j.least m c; captured = xs })) h
 
 starts-in : (j : Judged) (o : Owner) (m : Mark) (items : ℕ) (slots : List ℕ) →
     Judging (started_in j o m items (captured_in o slots))
-    ≡ Judging (record j { least = least_with j.least m (least_code (when (not (is_main_body o)) 17 ++ (when (takes_more items (length slots)) 22 ++ []))); captured = pushed j.captured (main_task o slots) })
-starts-in j owner.OfMain m items slots = with_task j m _ (alone (takes_more items (length slots)) 22)
+    ≡ Judging (record j { least = least_with j.least m (least_rule (when (not (is_main_body o)) rule.Misplaced ++ (when (takes_more items (length slots)) rule.TaskLimit ++ []))); captured = pushed j.captured (main_task o slots) })
+starts-in j owner.OfMain m items slots = with_task j m _ (alone (takes_more items (length slots)) rule.TaskLimit)
 starts-in j owner.OfFunction m items slots = with_task j m _ (behind (takes_more items (length slots)))
 starts-in j owner.OfTask m items slots = with_task j m _ (behind (takes_more items (length slots)))
 
-task_rules : (a b : Bool) → when a 17 ++ when b 22 ≡ when a 17 ++ (when b 22 ++ [])
-task_rules true true = refl
-task_rules true false = refl
-task_rules false true = refl
-task_rules false false = refl
+task_tests : (a b : Bool) → when a rule.Misplaced ++ when b rule.TaskLimit ≡ when a rule.Misplaced ++ (when b rule.TaskLimit ++ [])
+task_tests true true = refl
+task_tests true false = refl
+task_tests false true = refl
+task_tests false false = refl
 
 pub started-task : (f : Found) (s : Scope) (m : Mark) (items : ℕ) (cs : List Scalar) →
     started f s.owner m items (captured_for f s.owner (slots_of cs)) ≡ note f (Task s m items cs)
 started-task (Listing listed) s m items cs = refl
 started-task (Collecting vs) s m items cs =
     recollected vs m
-    (ap (λ (n : ℕ). all_task_codes s.owner items n) (length-map cs (λ (c : Scalar). c.slot))
-    ∙ task_rules (not (is_main_body s.owner)) (takes_more items (length cs)))
+    (ap (λ (n : ℕ). all_task_rules s.owner items n) (length-map cs (λ (c : Scalar). c.slot))
+    ∙ task_tests (not (is_main_body s.owner)) (takes_more items (length cs)))
 started-task (Judging j) s m items cs =
     starts-in j s.owner m items (slots_of cs)
     ∙ ap
-    (λ (n : ℕ). Judging (record j { least = least_with j.least m (least_code (when (not (is_main_body s.owner)) 17 ++ (when (takes_more items n) 22 ++ []))); captured = pushed j.captured (main_task s.owner (slots_of cs)) }))
+    (λ (n : ℕ). Judging (record j { least = least_with j.least m (least_rule (when (not (is_main_body s.owner)) rule.Misplaced ++ (when (takes_more items n) rule.TaskLimit ++ []))); captured = pushed j.captured (main_task s.owner (slots_of cs)) }))
     (length-map cs (λ (c : Scalar). c.slot))
 
 pub ruleset added_notes = (with_violation-left, with_violation-returned, with_violation-pragma, with_violation-global, with_violation-listed, means-given)

@@ -1,5 +1,5 @@
 pub mod AddedViolations
-pub mod ByCode
+pub mod ByRule
 pub mod Listing
 pub mod Lists
 pub mod Noted

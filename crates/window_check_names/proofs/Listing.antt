@@ -20,7 +20,7 @@ use Rattle.os_ast.specs.declared.names.Use.TheVariants as usage
 use Rattle.os_ast.specs.Rules.{when}
 use Rattle.window_check_laws.proofs.Ascending.{is_in-insert_key}
 use Rattle.window_check_names.proofs.Noted.{noted-append}
-use Rattle.window_check_names.specs.Codes.{least_code}
+use Rattle.window_check_names.specs.BrokenRules.{least_rule}
 use Rattle.os_ast.specs.Violations.{violations_at}
 use Rattle.window_check_names.specs.Findings.{note, noted, least_with, pushed}
 use Rattle.window_check_names.specs.declared.found.Found.{Found}
@@ -29,6 +29,7 @@ use Rattle.window_check_laws.specs.CapturedByUse.{slots_named}
 use Rattle.window_check_laws.specs.Slots.{with_slot, with_slots, control_slots}
 use Rattle.window_check_names.specs.declared.parts.ItemName.{ItemName}
 use Rattle.window_check_names.specs.Parts.{ListedParts, none_listed, inside, after_part, after_parts, listed_notes, after_names}
+use Rattle.os_ast.specs.declared.rule.Rule.TheVariants as rule
 
 abbrev SameNames : List ℕ → List ℕ → Type 0
 SameNames xs ys = (id : ℕ) → is_in id xs ≡ is_in id ys
@@ -51,9 +52,9 @@ list_any-is_in id (x ∷ xs) = rw (equal-is id x, list_any-is_in id xs)
 listed-same : (f : Found) (names before : List ℕ) → SameNames names before → (n : Name) → note f (Listed names n) ≡ note f (Listed before n)
 listed-same (Listing slots) names before same n = refl
 listed-same (Judging j) names before same n =
-    ap (λ (b : Bool). Judging (record j { least = least_with j.least n.mark (least_code (when b 21 ++ [])) })) (same n.id)
+    ap (λ (b : Bool). Judging (record j { least = least_with j.least n.mark (least_rule (when b rule.ListedTwice ++ [])) })) (same n.id)
 listed-same (Collecting vs) names before same n =
-    ap (λ (b : Bool). Collecting (pushed vs (violations_at n.mark (when b 21 ++ [])))) (same n.id)
+    ap (λ (b : Bool). Collecting (pushed vs (violations_at n.mark (when b rule.ListedTwice ++ [])))) (same n.id)
 
 window-same : (f : Found) (s : Scope) (names before : List ℕ) → SameNames names before → (t : tree.TargetTree) (j : Option tree.JoinTree) →
     noted f (window_notes s names t j) ≡ noted f (window_notes s before t j)

@@ -1,8 +1,9 @@
 -- What a walk over a program has found so far, token by token.
 use Rattle.std.specs.Prelude.{ℕ, ◌==◌, ◌||◌, ◌&&◌, ltb, Bool, not, if◌then◌else◌, List, [], ◌∷◌, ◌++◌, length, Option, Some, None, ℤ}
+use Rattle.os_ast.specs.Codes.{code}
 use Rattle.os_ast.specs.Meanings.{resolved}
 use Rattle.os_ast.specs.Notes.Kinds.{Note, mark_of}
-use Rattle.os_ast.specs.Rules.{codes, when, takes_more, is_main_body}
+use Rattle.os_ast.specs.Rules.{broken, when, takes_more, is_main_body}
 use Rattle.os_ast.specs.Notes.Clauses.{captured_in}
 use Rattle.os_ast.specs.Violations.{violated, violations_at, resolutions_of, captures_of, main_task}
 use Rattle.os_ast.specs.declared.expr.Mark.{Mark}
@@ -11,27 +12,29 @@ use Rattle.os_ast.specs.declared.names.Owner.TheVariants as owner
 use Rattle.os_ast.specs.declared.names.What.{What}
 use Rattle.os_ast.specs.declared.names.What.TheVariants as what
 use Rattle.os_ast.specs.declared.violation.Violation.{Violation}
-use Rattle.window_check_names.specs.Codes.{code_list, least_code}
+use Rattle.window_check_names.specs.BrokenRules.{rule_list, least_rule}
 use Rattle.window_check_laws.specs.Slots.{with_slots, named_slots}
 use Rattle.window_check_names.specs.declared.found.Found.{Found}
 use Rattle.window_check_names.specs.declared.found.Found.TheVariants.{Listing, Judging, Collecting}
 use Rattle.window_check_names.specs.declared.found.Judged.{Judged}
+use Rattle.os_ast.specs.declared.rule.Rule.{Rule}
+use Rattle.os_ast.specs.declared.rule.Rule.TheVariants as rule
 
 abbrev pub nothing_found : Judged
 nothing_found = record { least = None; names = []; captured = [] }
 
 -- by place, then by code, then by line
 abbrev pub before : Violation → Violation → Bool
-before v w = ltb v.place w.place || ((v.place == w.place) && (ltb v.code w.code || ((v.code == w.code) && ltb v.line w.line)))
+before v w = ltb v.place w.place || ((v.place == w.place) && (ltb (code v.rule) (code w.rule) || ((code v.rule == code w.rule) && ltb v.line w.line)))
 
 abbrev pub lesser : Option Violation → Violation → Violation
 lesser None v = v
 lesser (Some least) v = if before v least then v else least
 
--- with a violation of a token, where there is a code
-abbrev pub least_with : Option Violation → Mark → Option ℕ → Option Violation
+-- with a violation of a token, where there is a rule
+abbrev pub least_with : Option Violation → Mark → Option Rule → Option Violation
 least_with least m None = least
-least_with least m (Some code) = Some (lesser least (violated m.place code m.line))
+least_with least m (Some r) = Some (lesser least (violated m.place r m.line))
 
 -- items at the end of a list
 abbrev pub pushed : {A : Type 0} → List A → List A → List A
@@ -41,14 +44,14 @@ pushed xs (y ∷ ys) = pushed (xs ++ y ∷ []) ys
 -- what stands at one more token is judged
 abbrev pub judged : Judged → Note → Judged
 judged j n = record {
-  least = least_with j.least (mark_of n) (least_code (codes n));
+  least = least_with j.least (mark_of n) (least_rule (broken n));
   names = pushed j.names (resolutions_of n);
   captured = pushed j.captured (captures_of n);
 }
 
 -- or its violations are collected
 abbrev pub collected : List Violation → Note → List Violation
-collected vs n = pushed vs (violations_at (mark_of n) (codes n))
+collected vs n = pushed vs (violations_at (mark_of n) (broken n))
 
 -- or what it names is listed
 abbrev pub note : Found → Note → Found
@@ -60,20 +63,20 @@ abbrev pub noted : Found → List Note → Found
 noted f [] = f
 noted f (n ∷ ns) = noted (note f n) ns
 
--- the steps of this: a violation, where there is a code
-abbrev pub judged_with_violation : Judged → Mark → Option ℕ → Judged
-judged_with_violation j m code = record j { least = least_with j.least m code }
+-- the steps of this: a violation, where there is a rule
+abbrev pub judged_with_violation : Judged → Mark → Option Rule → Judged
+judged_with_violation j m r = record j { least = least_with j.least m r }
 
-abbrev pub with_violation : Found → Mark → Option ℕ → Found
-with_violation (Listing slots) m code = Listing slots
-with_violation (Judging j) m code = Judging (judged_with_violation j m code)
-with_violation (Collecting vs) m code = Collecting (pushed vs (violations_at m (code_list code)))
+abbrev pub with_violation : Found → Mark → Option Rule → Found
+with_violation (Listing slots) m r = Listing slots
+with_violation (Judging j) m r = Judging (judged_with_violation j m r)
+with_violation (Collecting vs) m r = Collecting (pushed vs (violations_at m (rule_list r)))
 
--- a violation for each of some codes
-abbrev pub with_violations : Found → Mark → List ℕ → Found
-with_violations (Listing slots) m cs = Listing slots
-with_violations (Judging j) m cs = Judging (judged_with_violation j m (least_code cs))
-with_violations (Collecting vs) m cs = Collecting (pushed vs (violations_at m cs))
+-- a violation for each of some rules
+abbrev pub with_violations : Found → Mark → List Rule → Found
+with_violations (Listing slots) m rs = Listing slots
+with_violations (Judging j) m rs = Judging (judged_with_violation j m (least_rule rs))
+with_violations (Collecting vs) m rs = Collecting (pushed vs (violations_at m rs))
 
 -- what a name means, and whether that is of the type `unsigned`
 abbrev pub named : Judged → Mark → What → Bool → Judged
@@ -90,22 +93,22 @@ constant_found f m None unsigned = f
 constant_found f m (Some v) unsigned = means f m (what.Constant v) unsigned
 
 -- the start of a task: elsewhere than in `main` none may stand
-abbrev pub task_codes : Owner → ℕ → List ℕ → List ℕ
-task_codes owner.OfMain items slots = when (takes_more items (length slots)) 22
-task_codes owner.OfFunction items slots = 17 ∷ []
-task_codes owner.OfTask items slots = 17 ∷ []
+abbrev pub task_rules : Owner → ℕ → List ℕ → List Rule
+task_rules owner.OfMain items slots = when (takes_more items (length slots)) rule.TaskLimit
+task_rules owner.OfFunction items slots = rule.Misplaced ∷ []
+task_rules owner.OfTask items slots = rule.Misplaced ∷ []
 
 abbrev pub started_in : Judged → Owner → Mark → ℕ → List ℕ → Judged
-started_in j o m items slots = record (judged_with_violation j m (least_code (task_codes o items slots))) { captured = pushed j.captured (main_task o slots) }
+started_in j o m items slots = record (judged_with_violation j m (least_rule (task_rules o items slots))) { captured = pushed j.captured (main_task o slots) }
 
--- all codes of the start of a task
-abbrev pub all_task_codes : Owner → ℕ → ℕ → List ℕ
-all_task_codes o items scalars = when (not (is_main_body o)) 17 ++ when (takes_more items scalars) 22
+-- all rules that the start of a task violates
+abbrev pub all_task_rules : Owner → ℕ → ℕ → List Rule
+all_task_rules o items scalars = when (not (is_main_body o)) rule.Misplaced ++ when (takes_more items scalars) rule.TaskLimit
 
 abbrev pub started : Found → Owner → Mark → ℕ → List ℕ → Found
 started (Listing listed) o m items slots = Listing listed
 started (Judging j) o m items slots = Judging (started_in j o m items slots)
-started (Collecting vs) o m items slots = Collecting (pushed vs (violations_at m (all_task_codes o items (length slots))))
+started (Collecting vs) o m items slots = Collecting (pushed vs (violations_at m (all_task_rules o items (length slots))))
 
 -- Which scalars a walk has to know of a task that captures these: a task that stands elsewhere than in `main` is judged without them,
 -- but for the collecting of all violations.

@@ -1,5 +1,5 @@
 -- What a reader believes: the contracts of what is public here cite these.
-pub mod Codes
+pub mod BrokenRules
 pub mod Findings
 pub mod Parts
 pub mod Scopes

@@ -1,12 +1,13 @@
 ghost use Rattle.std.specs.Prelude.{◌≡◌, OnOk};
-ghost use Rattle.window_check_names.specs.Findings.{nothing_found, before, lesser, pushed, all_task_codes, with_violation, with_violations, judged_with_violation, means, named, constant_found, started, started_in, slots_found, judged_in, violations_in};
+ghost use Rattle.window_check_names.specs.Findings.{nothing_found, before, lesser, pushed, all_task_rules, with_violation, with_violations, judged_with_violation, means, named, constant_found, started, started_in, slots_found, judged_in, violations_in};
 ghost use Rattle.os_ast.specs.Rules.{when, takes_more};
 ghost use Rattle.os_ast.specs.Violations.{violated, violations_at};
-ghost use Rattle.window_check_names.specs.Codes.{all_codes, code_list, least_code};
+ghost use Rattle.window_check_names.specs.BrokenRules.{all_rules, rule_list, least_rule};
+ghost use Rattle.os_ast.specs.declared.rule.Rule.TheVariants.{TaskLimit};
 
+use crate::broken_rules::{BrokenRules, when};
 use crate::captures::Captured;
-use crate::codes::{self, Codes, when};
-use os_ast::{Mark, Owner, Resolved, Violation, What};
+use os_ast::{Mark, Owner, Resolved, Rule, Violation, What};
 use os_io::{List, Memory};
 use std::alloc::Global;
 
@@ -26,36 +27,40 @@ pub enum Found {
     Collecting(List<Violation>),
 }
 
-/// The violation of a token by a code.
-fn violation(mark: Mark, code: u8) -> Violation
-    ensures { result ≡ violated mark.place code mark.line }
+/// A rule that a token violates.
+fn violation(mark: Mark, rule: Rule) -> Violation
+    ensures { result ≡ violated mark.place rule mark.line }
 {
     Violation {
         place: mark.place,
-        code,
+        rule,
         line: mark.line,
     }
 }
 
-/// Adds a violation, where there is a code.
-fn add_code(all: &mut List<Violation>, mark: Mark, code: Option<u8>) -> Result<(), Memory>
-    ensures { OnOk result (all.new ≡ pushed all.old (violations_at mark (code_list code))) }
+/// Adds a violation, where there is a rule.
+fn add_rule(all: &mut List<Violation>, mark: Mark, rule: Option<Rule>) -> Result<(), Memory>
+    ensures { OnOk result (all.new ≡ pushed all.old (violations_at mark (rule_list rule))) }
 {
-    match code {
-        Some(code) => all.push(violation(mark, code)),
+    match rule {
+        Some(rule) => all.push(violation(mark, rule)),
         None => Ok(()),
     }
 }
 
-/// Adds a violation for each code.
+/// Adds a violation for each rule.
 #[tactic(auto, using(crate::proofs::Noted::collecting))]
-pub(crate) fn add_codes(all: &mut List<Violation>, mark: Mark, codes: Codes) -> Result<(), Memory>
-    ensures { OnOk result (all.new ≡ pushed all.old (violations_at mark (all_codes codes))) }
+pub(crate) fn add_rules(
+    all: &mut List<Violation>,
+    mark: Mark,
+    rules: BrokenRules,
+) -> Result<(), Memory>
+    ensures { OnOk result (all.new ≡ pushed all.old (violations_at mark (all_rules rules))) }
 {
-    let (first, second, third) = codes.parts();
-    add_code(all, mark, first)?;
-    add_code(all, mark, second)?;
-    add_code(all, mark, third)
+    let (first, second, third) = rules.parts();
+    add_rule(all, mark, first)?;
+    add_rule(all, mark, second)?;
+    add_rule(all, mark, third)
 }
 
 /// The least violation so far, what each name means, and what each task captures.
@@ -72,8 +77,8 @@ fn is_before(violation: Violation, other: Violation) -> bool
 {
     violation.place < other.place
         || (violation.place == other.place
-            && (violation.code < other.code
-                || (violation.code == other.code && violation.line < other.line)))
+            && (violation.rule.code() < other.rule.code()
+                || (violation.rule.code() == other.rule.code() && violation.line < other.line)))
 }
 
 /// The lesser of a violation and the least one so far.
@@ -113,12 +118,12 @@ impl Judged {
         (least, names, captured)
     }
 
-    /// A token violates a rule, where there is a code.
-    pub fn add_violation(&mut self, mark: Mark, code: Option<u8>)
-        ensures { self.new ≡ judged_with_violation self.old mark code }
+    /// A token violates a rule, where there is one.
+    pub fn add_violation(&mut self, mark: Mark, rule: Option<Rule>)
+        ensures { self.new ≡ judged_with_violation self.old mark rule }
     {
-        if let Some(code) = code {
-            self.least = Some(lesser(self.least, violation(mark, code)));
+        if let Some(rule) = rule {
+            self.least = Some(lesser(self.least, violation(mark, rule)));
         }
     }
 
@@ -146,12 +151,12 @@ impl Judged {
     {
         match owner {
             Owner::OfMain => {
-                self.add_violation(mark, task_code(items, captured.len()));
+                self.add_violation(mark, task_rule(items, captured.len()));
                 let slots = captured.in_order(alloc)?;
                 self.captured.push(slots)
             }
             Owner::OfFunction | Owner::OfTask => {
-                self.add_violation(mark, Some(codes::MISPLACED));
+                self.add_violation(mark, Some(Rule::Misplaced));
                 Ok(())
             }
         }
@@ -159,31 +164,31 @@ impl Judged {
 }
 
 impl Found {
-    /// A token violates a rule, where there is a code.
-    pub fn add_violation(&mut self, mark: Mark, code: Option<u8>) -> Result<(), Memory>
-        ensures { OnOk result (self.new ≡ with_violation self.old mark code) }
+    /// A token violates a rule, where there is one.
+    pub fn add_violation(&mut self, mark: Mark, rule: Option<Rule>) -> Result<(), Memory>
+        ensures { OnOk result (self.new ≡ with_violation self.old mark rule) }
     {
         match self {
             Found::Listing(_) => Ok(()),
             Found::Judging(judged) => {
-                judged.add_violation(mark, code);
+                judged.add_violation(mark, rule);
                 Ok(())
             }
-            Found::Collecting(all) => add_code(all, mark, code),
+            Found::Collecting(all) => add_rule(all, mark, rule),
         }
     }
 
-    /// A token violates as many rules as there are codes.
-    fn add_violations(&mut self, mark: Mark, codes: Codes) -> Result<(), Memory>
-        ensures { OnOk result (self.new ≡ with_violations self.old mark (all_codes codes)) }
+    /// A token violates some rules.
+    fn add_violations(&mut self, mark: Mark, rules: BrokenRules) -> Result<(), Memory>
+        ensures { OnOk result (self.new ≡ with_violations self.old mark (all_rules rules)) }
     {
         match self {
             Found::Listing(_) => Ok(()),
             Found::Judging(judged) => {
-                judged.add_violation(mark, codes.least());
+                judged.add_violation(mark, rules.least());
                 Ok(())
             }
-            Found::Collecting(all) => add_codes(all, mark, codes),
+            Found::Collecting(all) => add_rules(all, mark, rules),
         }
     }
 
@@ -196,17 +201,17 @@ impl Found {
         }
     }
 
-    /// A name is declared, which violates as many rules as there are codes, and means this, of the type `unsigned` or not.
+    /// A name is declared, which violates these rules, and means this, of the type `unsigned` or not.
     pub fn declare(
         &mut self,
         mark: Mark,
-        codes: Codes,
+        rules: BrokenRules,
         what: What,
         unsigned: bool,
     ) -> Result<(), Memory>
-        ensures { OnOk result (self.new ≡ means (with_violations self.old mark (all_codes codes)) mark what unsigned) }
+        ensures { OnOk result (self.new ≡ means (with_violations self.old mark (all_rules rules)) mark what unsigned) }
     {
-        self.add_violations(mark, codes)?;
+        self.add_violations(mark, rules)?;
         self.name(mark, what, unsigned)
     }
 
@@ -239,10 +244,10 @@ impl Found {
         match self {
             Found::Listing(_) => Ok(()),
             Found::Judging(judged) => judged.task(alloc, owner, mark, items, captured),
-            Found::Collecting(all) => add_codes(
+            Found::Collecting(all) => add_rules(
                 all,
                 mark,
-                task_codes(owner, items, captured.len()),
+                task_rules(owner, items, captured.len()),
             ),
         }
     }
@@ -279,24 +284,24 @@ impl Found {
 }
 
 /// A task has more items than it may have, or captures more scalars.
-fn task_code(items: usize, scalars: usize) -> Option<u8>
-    ensures { result ≡ least_code (when (takes_more items scalars) 22) }
+fn task_rule(items: usize, scalars: usize) -> Option<Rule>
+    ensures { result ≡ least_rule (when (takes_more items scalars) TaskLimit) }
 {
     when(
         ITEMS_LIMIT < items || CAPTURED_LIMIT < scalars,
-        codes::TASK_LIMIT,
+        Rule::TaskLimit,
     )
 }
 
-/// All codes of the start of a task in a body of this owner.
+/// All rules that the start of a task in a body of this owner violates.
 #[tactic(auto, using(crate::proofs::Noted::collecting))]
-fn task_codes(owner: Owner, items: usize, scalars: usize) -> Codes
-    ensures { all_codes result ≡ all_task_codes owner items scalars }
+fn task_rules(owner: Owner, items: usize, scalars: usize) -> BrokenRules
+    ensures { all_rules result ≡ all_task_rules owner items scalars }
 {
     match owner {
-        Owner::OfMain => Codes::one(task_code(items, scalars)),
+        Owner::OfMain => BrokenRules::one(task_rule(items, scalars)),
         Owner::OfFunction | Owner::OfTask => {
-            Codes::two(Some(codes::MISPLACED), task_code(items, scalars))
+            BrokenRules::two(Some(Rule::Misplaced), task_rule(items, scalars))
         }
     }
 }

@@ -10,9 +10,9 @@
 //! task, which leave in scope what there was; `parts` has what the clauses list.
 #![tactic(auto)]
 
+pub mod broken_rules;
 mod captures;
 pub mod clauses;
-pub mod codes;
 mod declared;
 pub mod expressions;
 mod found;

@@ -2,14 +2,15 @@ ghost use Rattle.std.specs.Prelude.{◌≡◌, ◌≤◌, OnOk, length, option_m
 ghost use Rattle.os_ast.specs.Parts.{Item, Private, item_name, is_in};
 ghost use Rattle.os_ast.specs.Rules.{when};
 ghost use Rattle.os_ast.specs.Views.{clause_item_tree, join_tree, target_tree};
-ghost use Rattle.window_check_names.specs.Codes.{least_code};
+ghost use Rattle.window_check_names.specs.BrokenRules.{least_rule};
+ghost use Rattle.os_ast.specs.declared.rule.Rule.TheVariants.{ListedTwice};
 ghost use Rattle.window_check_names.specs.Parts.{none_listed, after_names, after_part};
 ghost use Rattle.window_check_laws.specs.Room.{room_end};
 
+use crate::broken_rules::when;
 use crate::captures::Captured;
-use crate::codes::{self, when};
 use crate::scopes::Scopes;
-use os_ast::{ClauseItem, Direction, Entity, Name};
+use os_ast::{ClauseItem, Direction, Entity, Name, Rule};
 use os_io::{List, Memory};
 use std::alloc::Global;
 use std::collections::BTreeSet;
@@ -61,11 +62,11 @@ impl Listed {
         }
     }
 
-    /// The code of a name that is listed already.
-    pub(crate) fn again(&self, name: Name) -> Option<u8>
-        ensures { result ≡ least_code (when (is_in name.id self.now.names) 21) }
+    /// The rule that a name violates which is listed already.
+    pub(crate) fn again(&self, name: Name) -> Option<Rule>
+        ensures { result ≡ least_rule (when (is_in name.id self.now.names) ListedTwice) }
     {
-        when(self.names.contains(&name.id), codes::LISTED_TWICE)
+        when(self.names.contains(&name.id), Rule::ListedTwice)
     }
 
     /// One more item, by the name that it has in the task's body.

@@ -7,16 +7,17 @@ ghost use Rattle.os_ast.specs.Notes.Programs.{file, round_body};
 ghost use Rattle.os_ast.specs.Rules.{when};
 ghost use Rattle.os_ast.specs.declared.names.Form.TheVariants as form_of;
 ghost use Rattle.os_ast.specs.declared.names.Owner.TheVariants as owners;
-ghost use Rattle.window_check_names.specs.Codes.{least_code};
+ghost use Rattle.window_check_names.specs.BrokenRules.{least_rule};
+ghost use Rattle.os_ast.specs.declared.rule.Rule.TheVariants.{WrongSize};
 ghost use Rattle.window_check_laws.specs.Room.{HasRoom, form_weight, room_end};
 ghost use Rattle.window_check_names.specs.Sizes.{passes_limit};
 ghost use Rattle.window_check_names.specs.Scopes.{outer_of, around_of, returned, ended, with_function, with_totals};
 
+use crate::broken_rules::when;
 use crate::captures::Slots;
-use crate::codes::{self, when};
 use crate::declared::Declared;
 use crate::meanings::meaning;
-use os_ast::{Entity, Entry, Form, Owner, What};
+use os_ast::{Entity, Entry, Form, Owner, Rule, What};
 use os_io::Memory;
 use os_lexer::names::{OSIN, OSIN_LEN, OSOUT};
 use std::alloc::Global;
@@ -380,12 +381,12 @@ impl Scopes {
         self.arrays += size;
     }
 
-    /// The code of a declarator of this form, whose size is none, or passes a limit with what was taken before it.
-    pub fn code_with(&self, form: Form) -> Option<u8>
+    /// The rule that a declarator of this form violates, whose size is none, or passes a limit with what was taken before it.
+    pub fn rule_with(&self, form: Form) -> Option<Rule>
         requires { HasRoom self.now (form_weight form) }
-        ensures { result ≡ least_code (when (passes_limit (taken self.now form) form) 15) }
+        ensures { result ≡ least_rule (when (passes_limit (taken self.now form) form) WrongSize) }
     {
-        when(self.passes_limit(form), codes::SIZE)
+        when(self.passes_limit(form), Rule::WrongSize)
     }
 
     fn passes_limit(&self, form: Form) -> bool

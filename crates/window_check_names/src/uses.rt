@@ -3,174 +3,174 @@
 ghost use Rattle.std.specs.Prelude.{◌≡◌, OnOk};
 ghost use Rattle.os_ast.specs.Names.{lookup, entity_of};
 ghost use Rattle.os_ast.specs.Notes.Kinds.{Used};
-ghost use Rattle.window_check_names.specs.Codes.{all_codes, code_list, least_code};
+ghost use Rattle.window_check_names.specs.BrokenRules.{all_rules, rule_list, least_rule};
 ghost use Rattle.window_check_names.specs.Findings.{note, judged, collected};
-ghost use Rattle.window_check_names.specs.Uses.{no_index, one_index, only_read, misplaced, value_codes, target_codes, call_codes, end_codes, stream_codes, item_codes, private_codes, role_codes, use_codes};
+ghost use Rattle.window_check_names.specs.Uses.{no_index, one_index, only_read, misplaced, value_rules, target_rules, call_rules, end_rules, stream_rules, item_rules, private_rules, role_rules, use_rules};
 
-use crate::codes::{self, Codes, when};
-use crate::found::{Found, Judged, add_codes};
+use crate::broken_rules::{BrokenRules, when};
+use crate::found::{Found, Judged, add_rules};
 use crate::scopes::Scopes;
-use os_ast::{Direction, Entity, Name, Role, Shape, Use, Violation};
+use os_ast::{Direction, Entity, Name, Role, Rule, Shape, Use, Violation};
 use os_io::{List, Memory};
 use os_lexer::names::MAIN;
 
 /// Something that isn't an array stands with an index.
-fn no_index(shape: Shape) -> Option<u8>
-    ensures { code_list result ≡ no_index shape }
+fn no_index(shape: Shape) -> Option<Rule>
+    ensures { rule_list result ≡ no_index shape }
 {
     match shape {
         Shape::Bare => None,
-        Shape::Indexed => Some(codes::KIND),
+        Shape::Indexed => Some(Rule::WrongKind),
     }
 }
 
 /// Something that is an array stands without one.
-fn one_index(shape: Shape) -> Option<u8>
-    ensures { code_list result ≡ one_index shape }
+fn one_index(shape: Shape) -> Option<Rule>
+    ensures { rule_list result ≡ one_index shape }
 {
     match shape {
-        Shape::Bare => Some(codes::KIND),
+        Shape::Bare => Some(Rule::WrongKind),
         Shape::Indexed => None,
     }
 }
 
 /// An element of an input item may not be changed.
-fn only_read(direction: Direction) -> Option<u8>
-    ensures { code_list result ≡ only_read direction }
+fn only_read(direction: Direction) -> Option<Rule>
+    ensures { rule_list result ≡ only_read direction }
 {
     match direction {
-        Direction::Reads => Some(codes::CHANGED),
+        Direction::Reads => Some(Rule::FixedChanged),
         Direction::Writes => None,
     }
 }
 
-/// The codes of a name as a value.
-fn value_codes(shape: Shape, entity: Entity) -> Codes
-    ensures { all_codes result ≡ value_codes shape entity }
+/// The rules that a name violates as a value.
+fn value_rules(shape: Shape, entity: Entity) -> BrokenRules
+    ensures { all_rules result ≡ value_rules shape entity }
 {
     match entity {
         Entity::Constant(_)
         | Entity::Scalar(_)
         | Entity::Control(_)
         | Entity::InputLength
-        | Entity::Element(_, _) => Codes::one(no_index(shape)),
-        Entity::Function(_, _) => Codes::one(Some(codes::KIND)),
-        Entity::Array(_, _) | Entity::View(_, _) => Codes::one(one_index(shape)),
-        Entity::Window(_) => Codes::one(Some(codes::WINDOW)),
-        Entity::Stream(_) => Codes::two(no_index(shape), Some(codes::STREAM)),
-        Entity::Streams(_, _) => Codes::two(one_index(shape), Some(codes::STREAM)),
+        | Entity::Element(_, _) => BrokenRules::one(no_index(shape)),
+        Entity::Function(_, _) => BrokenRules::one(Some(Rule::WrongKind)),
+        Entity::Array(_, _) | Entity::View(_, _) => BrokenRules::one(one_index(shape)),
+        Entity::Window(_) => BrokenRules::one(Some(Rule::MisplacedWindow)),
+        Entity::Stream(_) => BrokenRules::two(no_index(shape), Some(Rule::MisplacedStream)),
+        Entity::Streams(_, _) => BrokenRules::two(one_index(shape), Some(Rule::MisplacedStream)),
     }
 }
 
-/// The codes of a name as the target of a change.
-fn target_codes(shape: Shape, entity: Entity) -> Codes
-    ensures { all_codes result ≡ target_codes shape entity }
+/// Those that it violates as the target of a change.
+fn target_rules(shape: Shape, entity: Entity) -> BrokenRules
+    ensures { all_rules result ≡ target_rules shape entity }
 {
     match entity {
-        Entity::Scalar(_) | Entity::Control(_) => Codes::one(no_index(shape)),
+        Entity::Scalar(_) | Entity::Control(_) => BrokenRules::one(no_index(shape)),
         Entity::Constant(_) | Entity::InputLength | Entity::Stream(_) => {
-            Codes::two(no_index(shape), Some(codes::CHANGED))
+            BrokenRules::two(no_index(shape), Some(Rule::FixedChanged))
         }
-        Entity::Function(_, _) => Codes::one(Some(codes::KIND)),
-        Entity::Array(_, _) => Codes::one(one_index(shape)),
-        Entity::Window(_) => Codes::one(Some(codes::WINDOW)),
-        Entity::Streams(_, _) => Codes::two(one_index(shape), Some(codes::CHANGED)),
-        Entity::Element(_, direction) => Codes::two(no_index(shape), only_read(direction)),
-        Entity::View(_, direction) => Codes::two(one_index(shape), only_read(direction)),
+        Entity::Function(_, _) => BrokenRules::one(Some(Rule::WrongKind)),
+        Entity::Array(_, _) => BrokenRules::one(one_index(shape)),
+        Entity::Window(_) => BrokenRules::one(Some(Rule::MisplacedWindow)),
+        Entity::Streams(_, _) => BrokenRules::two(one_index(shape), Some(Rule::FixedChanged)),
+        Entity::Element(_, direction) => BrokenRules::two(no_index(shape), only_read(direction)),
+        Entity::View(_, direction) => BrokenRules::two(one_index(shape), only_read(direction)),
     }
 }
 
-/// The codes of a name where neither a stream nor a window may stand, nor anything else of its kind.
-fn misplaced(entity: Entity) -> Codes
-    ensures { all_codes result ≡ misplaced entity }
+/// Those that it violates where neither a stream nor a window may stand, nor anything else of its kind.
+fn misplaced(entity: Entity) -> BrokenRules
+    ensures { all_rules result ≡ misplaced entity }
 {
     match entity {
         Entity::Stream(_) | Entity::Streams(_, _) => {
-            Codes::two(Some(codes::KIND), Some(codes::STREAM))
+            BrokenRules::two(Some(Rule::WrongKind), Some(Rule::MisplacedStream))
         }
-        Entity::Window(_) => Codes::two(Some(codes::KIND), Some(codes::WINDOW)),
-        _ => Codes::one(Some(codes::KIND)),
+        Entity::Window(_) => BrokenRules::two(Some(Rule::WrongKind), Some(Rule::MisplacedWindow)),
+        _ => BrokenRules::one(Some(Rule::WrongKind)),
     }
 }
 
-/// The codes of a called name, by its number and how many arguments there are.
+/// Those that a called name violates, by its number and how many arguments there are.
 #[tactic(auto, using(crate::proofs::Noted::collecting))]
-fn call_codes(id: u32, args: usize, entity: Entity) -> Codes
-    ensures { all_codes result ≡ call_codes id args entity }
+fn call_rules(id: u32, args: usize, entity: Entity) -> BrokenRules
+    ensures { all_rules result ≡ call_rules id args entity }
 {
     match entity {
-        Entity::Function(_, params) => Codes::two(
-            when(id == MAIN, codes::KIND),
-            when(args != params as usize, codes::ARGUMENTS),
+        Entity::Function(_, params) => BrokenRules::two(
+            when(id == MAIN, Rule::WrongKind),
+            when(args != params as usize, Rule::ArgumentCount),
         ),
         other => misplaced(other),
     }
 }
 
-/// The code of what stands at the wrong end of an item or a tick: `osin` is stream 0 and `osout` stream 1.
+/// The rule that what stands at the wrong end violates of an item or a tick: `osin` is stream 0 and `osout` stream 1.
 #[tactic(auto, using(crate::proofs::Noted::collecting))]
-fn end_code(direction: Direction, number: u32) -> Option<u8>
-    ensures { code_list result ≡ end_codes direction number }
+fn end_rule(direction: Direction, number: u32) -> Option<Rule>
+    ensures { rule_list result ≡ end_rules direction number }
 {
     match direction {
-        Direction::Reads => when(number == 1, codes::WRONG_END),
-        Direction::Writes => when(number == 0, codes::WRONG_END),
+        Direction::Reads => when(number == 1, Rule::WrongEnd),
+        Direction::Writes => when(number == 0, Rule::WrongEnd),
     }
 }
 
-/// The codes of a name as the stream of an item or a tick.
-fn stream_codes(direction: Direction, shape: Shape, entity: Entity) -> Codes
-    ensures { all_codes result ≡ stream_codes direction shape entity }
+/// The rules that a name violates as the stream of an item or a tick.
+fn stream_rules(direction: Direction, shape: Shape, entity: Entity) -> BrokenRules
+    ensures { all_rules result ≡ stream_rules direction shape entity }
 {
     match entity {
-        Entity::Stream(number) => Codes::two(no_index(shape), end_code(direction, number)),
-        Entity::Streams(_, _) => Codes::one(one_index(shape)),
-        Entity::Window(_) => Codes::two(Some(codes::KIND), Some(codes::WINDOW)),
-        _ => Codes::one(Some(codes::KIND)),
+        Entity::Stream(number) => BrokenRules::two(no_index(shape), end_rule(direction, number)),
+        Entity::Streams(_, _) => BrokenRules::one(one_index(shape)),
+        Entity::Window(_) => BrokenRules::two(Some(Rule::WrongKind), Some(Rule::MisplacedWindow)),
+        _ => BrokenRules::one(Some(Rule::WrongKind)),
     }
 }
 
-/// The codes of a name behind the `>>` or `<<` of an item.
-fn item_codes(shape: Shape, entity: Entity) -> Codes
-    ensures { all_codes result ≡ item_codes shape entity }
+/// Those that it violates behind the `>>` or `<<` of an item.
+fn item_rules(shape: Shape, entity: Entity) -> BrokenRules
+    ensures { all_rules result ≡ item_rules shape entity }
 {
     match entity {
-        Entity::Control(_) => Codes::one(no_index(shape)),
-        Entity::Window(_) => Codes::one(one_index(shape)),
+        Entity::Control(_) => BrokenRules::one(no_index(shape)),
+        Entity::Window(_) => BrokenRules::one(one_index(shape)),
         other => misplaced(other),
     }
 }
 
-/// The codes of a `firstprivate` name.
-fn private_codes(entity: Entity) -> Codes
-    ensures { all_codes result ≡ private_codes entity }
+/// Those that a `firstprivate` name violates.
+fn private_rules(entity: Entity) -> BrokenRules
+    ensures { all_rules result ≡ private_rules entity }
 {
     match entity {
-        Entity::Control(_) | Entity::InputLength => Codes::one(None),
+        Entity::Control(_) | Entity::InputLength => BrokenRules::one(None),
         other => misplaced(other),
     }
 }
 
-/// The codes of a name with an index or without, by where it stands.
-fn role_codes(role: Role, shape: Shape, entity: Entity) -> Codes
-    ensures { all_codes result ≡ role_codes role shape entity }
+/// Those that a name with an index or without violates, by where it stands.
+fn role_rules(role: Role, shape: Shape, entity: Entity) -> BrokenRules
+    ensures { all_rules result ≡ role_rules role shape entity }
 {
     match role {
-        Role::Value => value_codes(shape, entity),
-        Role::Changed => target_codes(shape, entity),
-        Role::Flow(direction) => stream_codes(direction, shape, entity),
+        Role::Value => value_rules(shape, entity),
+        Role::Changed => target_rules(shape, entity),
+        Role::Flow(direction) => stream_rules(direction, shape, entity),
     }
 }
 
-/// The codes of a used name, by its number.
-fn use_codes(id: u32, usage: Use, entity: Entity) -> Codes
-    ensures { all_codes result ≡ use_codes id usage entity }
+/// Those that a used name violates, by its number.
+fn use_rules(id: u32, usage: Use, entity: Entity) -> BrokenRules
+    ensures { all_rules result ≡ use_rules id usage entity }
 {
     match usage {
-        Use::Place(role, shape) => role_codes(role, shape, entity),
-        Use::Called(args) => call_codes(id, args, entity),
-        Use::Joined(shape) => item_codes(shape, entity),
-        Use::Private => private_codes(entity),
+        Use::Place(role, shape) => role_rules(role, shape, entity),
+        Use::Called(args) => call_rules(id, args, entity),
+        Use::Joined(shape) => item_rules(shape, entity),
+        Use::Private => private_rules(entity),
     }
 }
 
@@ -193,11 +193,11 @@ fn judge(scopes: &Scopes, all: &mut Judged, name: Name, usage: Use) -> Result<()
 {
     match scopes.entry(name.id) {
         None => {
-            all.add_violation(name.mark, Some(codes::UNKNOWN));
+            all.add_violation(name.mark, Some(Rule::Unknown));
             Ok(())
         }
         Some(entry) => {
-            all.add_violation(name.mark, use_codes(name.id, usage, entry.entity).least());
+            all.add_violation(name.mark, use_rules(name.id, usage, entry.entity).least());
             all.name(name.mark, scopes.meaning(entry.entity), entry.unsigned)
         }
     }
@@ -209,7 +209,7 @@ fn collect(scopes: &Scopes, all: &mut List<Violation>, name: Name, usage: Use) -
     ensures { OnOk result (all.new ≡ collected all.old (Used scopes.now name usage)) }
 {
     match scopes.entry(name.id) {
-        None => add_codes(all, name.mark, Codes::one(Some(codes::UNKNOWN))),
-        Some(entry) => add_codes(all, name.mark, use_codes(name.id, usage, entry.entity)),
+        None => add_rules(all, name.mark, BrokenRules::one(Some(Rule::Unknown))),
+        Some(entry) => add_rules(all, name.mark, use_rules(name.id, usage, entry.entity)),
     }
 }

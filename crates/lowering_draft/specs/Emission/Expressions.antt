@@ -6,7 +6,7 @@ use Rattle.c_int.specs.Machine.{unary_for}
 use Rattle.c_int.specs.Operators.{unary_value}
 use Rattle.c_int.specs.declared.operators.Unary.TheVariants as int_unary
 use Rattle.cddf_meaning.specs.Operators.{operator_of_one}
-use Rattle.cddf_meaning.specs.Types.{type_of_two}
+use Rattle.cddf_meaning.specs.ExpressionTypes.{type_of_two}
 use Rattle.lowering_draft.specs.Draft.{next_label, with_instr, with_instrs, with_label, with_place}
 use Rattle.lowering_draft.specs.declared.draft.Draft.{Draft}
 use Rattle.lowering_draft.specs.declared.draft.Label.{Label}

@@ -2,7 +2,7 @@ use Rattle.std.proofs.Common.{sym, ◌∙◌, ap, w32, w64, to_z, of_z}
 use Rattle.std.specs.Prelude.{int_rem}
 use Rattle.std.proofs.lemmas.Int.{rem_is, to_z-of_z}
 use Rattle.c_int.specs.Operators as operator
-use Rattle.c_int.specs.declared.trap.Trap.TheVariants.{Overflow}
+use Rattle.c_int.specs.declared.trap.OperatorTrap.TheVariants.{Overflow}
 use Rattle.c_int.proofs.arithmetic.remainder.Goals as goal
 use Rattle.c_int.proofs.Remainders.{remainder_behind}
 

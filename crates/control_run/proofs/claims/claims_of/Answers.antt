@@ -11,7 +11,7 @@ returns-in-Err c =
     let pairs = c.requires.pairs in
     sym (joined-stops c.args.streams c.args.slots.now c.args.items.now c.args.operands.now c.loop-k.k _ _ _ low (omega (arith, low, pairs))
     (to_z-of_z w32 c.number_at-index.result (search rules) ∙ c.number_at-index.ensures) (to_z-of_z w32 c.number_at-burst.result (search rules) ∙ c.number_at-burst.ensures)
-    c.loop-k.claims c.in-Err.code (sym c.in-Err.ensures))
+    c.loop-k.claims c.in-Err.trap (sym c.in-Err.ensures))
     ∙ c.loop-k.invariant
 
 pub loop-k-preserved : goal.loop-k-preserved

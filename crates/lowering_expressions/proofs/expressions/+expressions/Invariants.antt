@@ -1,5 +1,5 @@
 use Rattle.std.proofs.Common.{◌≡◌, drop}
-use Rattle.cddf_meaning.specs.Types.{type_behind}
+use Rattle.cddf_meaning.specs.ExpressionTypes.{type_behind}
 use Rattle.lowering_draft.specs.Emission.Expressions.{args_code, links_code}
 use Rattle.os_ast.specs.Views.{args_tree, links_tree}
 use Rattle.lowering_relation.specs.Names.{flags_by, told_at}

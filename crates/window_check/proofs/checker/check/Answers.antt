@@ -4,7 +4,9 @@ use Rattle.os_ast.specs.Notes.Programs.{file, after_items}
 use Rattle.os_ast.specs.Spelling.{spell}
 use Rattle.os_ast.specs.Trees.{ProgramTree}
 use Rattle.os_ast.specs.Views.{program_tree}
+use Rattle.os_ast.specs.Violations.{violated}
 use Rattle.os_ast.specs.declared.violation.Violation.{Violation}
+use Rattle.os_ast.specs.declared.rule.Rule.TheVariants as rule
 use Rattle.window_check_laws.specs.Room.{items_weight, room_end}
 use Rattle.window_check_names.specs.declared.found.Judged.{Judged}
 use Rattle.window_check_laws.proofs.HasRoom.{room_less, room_items_of_file}
@@ -27,18 +29,22 @@ found_least p j least is same = sym (same ∙ ap (λ (j : Judged). j.least) is)
 pub returns-in-Some-clause-refused : goal.returns-in-Some-clause-refused
 returns-in-Some-clause-refused c =
     let p = program_tree c.args.program in (
-      c.in-Some.violation.place,
+      c.in-Some.violation,
       refused p c.in-Some.violation c.requires.placed
           (found_least p c.in_ok-judged.judged c.into_parts-least.result.0 c.in_ok-judged.ensures.judged c.into_parts-least.ensures.least ∙ c.in-Some.is),
+      sym c.code.ensures,
+      refl,
     )
 
 pub returns-then-not-has_main-clause-refused : goal.returns-then-not-has_main-clause-refused
 returns-then-not-has_main-clause-refused c =
     let p = program_tree c.args.program in (
-      length (spell p),
+      violated (length (spell p)) rule.NoMain 1,
       refused-end p
           (found_least p c.in_ok-judged.judged c.into_parts-least.result.0 c.in_ok-judged.ensures.judged c.into_parts-least.ensures.least ∙ c.in_default.is)
           (sym c.has_main.ensures ∙ c.if-not-has_main.true),
+      sym c.code-then-not-has_main.ensures,
+      refl,
     )
 
 pub overflow_add-result : goal.overflow_add-result

@@ -17,7 +17,7 @@ returns c =
     let f = c.args.found.now in
     let first = place_notes s (role.Flow direction.Reads) (target_tree c.args.site.now.stream) in
     let last = expr_notes s (expr_tree c.args.site.now.amount) in
-    let added = c.in_ok-add_violation.ensures ∙ rw (c.pragma_code.ensures, c.owner.ensures) (with_violation-pragma f s c.args.site.now.mark) in
+    let added = c.in_ok-add_violation.ensures ∙ rw (c.pragma_rule.ensures, c.owner.ensures) (with_violation-pragma f s c.args.site.now.mark) in
     IfOk-equal c.expr.result _ _ _ c.expr.ensures
     (ap (λ (g : Found). noted g last) (c.in_ok-place.ensures ∙ ap (λ (g : Found). noted g first) added)
     ∙ sym (noted-append (note f (Pragma s c.args.site.now.mark)) first last))

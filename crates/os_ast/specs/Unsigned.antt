@@ -1,4 +1,4 @@
--- The types of what is declared.
+-- Whether what is declared is of the type `unsigned`.
 use Rattle.std.specs.Prelude.{Bool, true, false}
 use Rattle.os_ast.specs.declared.ty.Ty.{Ty}
 use Rattle.os_ast.specs.declared.ty.Ty.TheVariants as ty

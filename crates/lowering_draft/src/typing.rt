@@ -1,16 +1,10 @@
 //! The types of expressions, told by whether they are `unsigned`, and else `int`.
 
 ghost use Rattle.std.specs.Prelude.{◌≡◌};
-ghost use Rattle.cddf_meaning.specs.Types.{type_of_one, type_of_two};
+ghost use Rattle.cddf_meaning.specs.ExpressionTypes.{type_of_one, type_of_two};
 
+use c_int::Types;
 use os_ast::{Binary, Unary};
-
-/// The types of two operands: whether each is `unsigned`.
-#[derive(Clone, Copy, Debug, PartialEq, Eq)]
-pub struct Types {
-    pub left: bool,
-    pub right: bool,
-}
 
 /// The type that an operator with one operand gives.
 pub fn type_of_one(operator: Unary, operand: bool) -> bool

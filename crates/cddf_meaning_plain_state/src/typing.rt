@@ -4,12 +4,12 @@ ghost use Rattle.std.specs.Prelude.{◌≡◌, map};
 ghost use Rattle.cddf_meaning.specs.File.{flags, type_in};
 ghost use Rattle.cddf_meaning.specs.Functions.{file_of};
 ghost use Rattle.cddf_meaning.specs.Run.{target_type};
-ghost use Rattle.cddf_meaning.specs.Types.{type_behind, type_of_one, type_of_two};
+ghost use Rattle.cddf_meaning.specs.ExpressionTypes.{type_behind, type_of_one, type_of_two};
 ghost use Rattle.os_ast.specs.Views.{expr_tree, item_tree, links_tree, target_tree};
 
 use crate::names::is_unsigned;
-use crate::operators::Types;
 use crate::state::State;
+use c_int::Types;
 use os_ast::{Binary, Expr, Item, Link, Target, Unary};
 use os_io::List;
 
@@ -59,7 +59,7 @@ pub fn target_type(file: &[Item], state: &State, target: &Target) -> bool
 }
 
 /// Whether an expression is of the type `unsigned`.
-#[cycle(types)]
+#[cycle(typing)]
 #[tactic(auto, using(os_ast::proofs::Rows::rows))]
 pub fn type_of(file: &[Item], state: &State, expr: &Expr) -> bool
     ensures { result ≡ type_in (file_of (map item_tree file.now)) state.now (expr_tree expr.now) }
@@ -82,7 +82,7 @@ pub fn type_of(file: &[Item], state: &State, expr: &Expr) -> bool
 }
 
 /// The type behind the links of a chain.
-#[cycle(types)]
+#[cycle(typing)]
 fn type_behind(file: &[Item], state: &State, links: &List<Link>, first: bool) -> bool
     ensures { result ≡ type_behind (flags (file_of (map item_tree file.now)) state.now) (links_tree links.now) first }
 {

@@ -3,7 +3,7 @@ use Rattle.std.proofs.Common.{◌≡◌, Bool, ◌||◌, List, [], ◌++◌, ℤ
 use Rattle.cddf_meaning.specs.File.{flags, type_in}
 use Rattle.cddf_meaning.specs.Run.{target_type}
 use Rattle.cddf_meaning.specs.State.{State}
-use Rattle.cddf_meaning.specs.Types.{type_of_one, type_of_two, type_behind}
+use Rattle.cddf_meaning.specs.ExpressionTypes.{type_of_one, type_of_two, type_behind}
 use Rattle.os_ast.specs.Names.{Scope}
 use Rattle.os_ast.specs.Notes.Expressions.{count_args, args_notes, expr_notes, place_notes, links_notes}
 use Rattle.os_ast.specs.Trees as tree

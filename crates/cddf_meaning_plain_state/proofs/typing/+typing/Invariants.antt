@@ -1,9 +1,9 @@
 use Rattle.std.proofs.Common.{◌≡◌, drop, map}
 use Rattle.cddf_meaning.specs.File.{flags}
 use Rattle.cddf_meaning.specs.Functions.{file_of}
-use Rattle.cddf_meaning.specs.Types.{type_behind}
+use Rattle.cddf_meaning.specs.ExpressionTypes.{type_behind}
 use Rattle.os_ast.specs.Views.{item_tree, links_tree}
-use Rattle.cddf_meaning_plain_state.proofs.types.+types.Given as goal
+use Rattle.cddf_meaning_plain_state.proofs.typing.+typing.Given as goal
 
 abbrev pub invariant-type_behind-loop-link : goal.invariant-type_behind-loop-link
 invariant-type_behind-loop-link l =

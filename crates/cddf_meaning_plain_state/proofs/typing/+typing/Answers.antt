@@ -1,10 +1,10 @@
 use Rattle.std.proofs.Common.{rules, ◌≡◌, map, ap, sym, ◌∙◌}
 use Rattle.cddf_meaning.specs.File.{flags, type_in}
 use Rattle.cddf_meaning.specs.Functions.{file_of}
-use Rattle.cddf_meaning.specs.Types.{type_behind, type_of}
+use Rattle.cddf_meaning.specs.ExpressionTypes.{type_behind, type_of}
 use Rattle.os_ast.proofs.Rows.{expr_tree-chain}
 use Rattle.os_ast.specs.Views.{expr_tree, item_tree, links_tree}
-use Rattle.cddf_meaning_plain_state.proofs.types.+types.Goals as goal
+use Rattle.cddf_meaning_plain_state.proofs.typing.+typing.Goals as goal
 
 pub type_of-returns-in-Chain : goal.type_of-returns-in-Chain
 type_of-returns-in-Chain t c =
