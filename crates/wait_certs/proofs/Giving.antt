@@ -9,7 +9,7 @@ use Rattle.std.proofs.lemmas.List.Folds.{list_any_at}
 use Rattle.std.proofs.lemmas.Option.{same_Some, slice_get_within, slice_get-map, get_or_from_slice_get}
 use Rattle.flow_core_laws.specs.declared.activation.Activation.{Activation}
 use Rattle.flow_core_laws.specs.declared.task_end.TaskEnd.{TaskEnd}
-use Rattle.flow_core_laws.specs.Outcome.{is_done_at}
+use Rattle.flow_core_laws.specs.Outcome.{has_end_at}
 use Rattle.flow_core_laws.specs.Place.{Place, input_places}
 use Rattle.flow_core_laws.specs.There.{is_there, missing_place}
 use Rattle.flow_core_laws.specs.Window.{Window, windows, producer, is_written_by}
@@ -26,7 +26,7 @@ use Rattle.stream_match_layouts.proofs.Writers.{lawful_window, window_number}
 use Rattle.collector.specs.Missing.{missing, missing_at, producing}
 use Rattle.collector.proofs.Firsts.{none_found, one_found}
 use Rattle.wait_certs_laws.specs.Chain.{the_input, activation, nobody, giver, Awaits, last_of}
-use Rattle.wait_certs.specs.Searching.{AllDoneBut, EndsInVain, is_produced_by, reads_from, has_member}
+use Rattle.wait_certs.specs.Searching.{AllEndedBut, EndsInVain, is_produced_by, reads_from, has_member}
 
 -- what a list that has a number by the test contains
 pub contained : (b : ℕ) (xs : List ℕ) → list_any (λ x. b == x) xs ≡ true → Contains xs b
@@ -130,8 +130,8 @@ module _ (layout : Layout) (is : IsLayout layout) (activations : List Activation
   reads_by input_len a b (place, (k, lt, at), given) =
       list_any_at (is_produced_by activations b) (input_places activations a) k place lt (ap (is_produced_by activations b) at ∙ produced_by input_len b place given)
 
-  -- What an activation misses where all but the members of a list are done.
-  module _ (members : List ℕ) (ends : List (Option TaskEnd)) (done : AllDoneBut layout members ends) where
+  -- What an activation misses where all but the members of a list have an end.
+  module _ (members : List ℕ) (ends : List (Option TaskEnd)) (ended : AllEndedBut layout members ends) where
     abbrev there : ℕ → Place → Bool
     there input_len place = is_there activations input_len ends place
 
@@ -140,7 +140,7 @@ module _ (layout : Layout) (is : IsLayout layout) (activations : List Activation
     from_gap input_len place = by (place.stream == 0) refl (nat_lt place.position input_len) (producer activations place.stream place.position) refl
       where
         by : (t : Bool) → (place.stream == 0) ≡ t → (c : Bool) (o : Option Window) → producer activations place.stream place.position ≡ o
-            → cond t c (option_map_or (λ (w : Window). is_done_at ends w.activation) o false) ≡ false
+            → cond t c (option_map_or (λ (w : Window). has_end_at ends w.activation) o false) ≡ false
             → (cond (t && c) the_input (option_map_or activation (option_map (λ (w : Window). w.activation) o) nobody) ≡ nobody)
             ⊎ ((b : ℕ) × Contains members b × (cond (t && c) the_input (option_map_or activation (option_map (λ (w : Window). w.activation) o) nobody) ≡ activation b))
         by true e true o found h = absurd (cc)
@@ -149,7 +149,7 @@ module _ (layout : Layout) (is : IsLayout layout) (activations : List Activation
         by false e c None found h = inl refl
         by false e c (Some w) found h =
             let exists = (producer_is place.stream place.position w found).exists in
-            inr (w.activation, contained w.activation members (turned (has_member members w.activation) (sym (done w.activation exists) ∙ h)), refl)
+            inr (w.activation, contained w.activation members (turned (has_member members w.activation) (sym (ended w.activation exists) ∙ h)), refl)
           where
             turned : (b : Bool) → not b ≡ false → b ≡ true
             turned true n = refl
@@ -163,7 +163,7 @@ module _ (layout : Layout) (is : IsLayout layout) (activations : List Activation
         by : (t c : Bool) (o : Option Window)
             → (cond (t && c) the_input (option_map_or activation (option_map (λ (w : Window). w.activation) o) nobody) ≡ nobody)
             ⊎ ((b : ℕ) × Contains members b × (cond (t && c) the_input (option_map_or activation (option_map (λ (w : Window). w.activation) o) nobody) ≡ activation b))
-            → cond t c (option_map_or (λ (w : Window). is_done_at ends w.activation) o false) ≡ false
+            → cond t c (option_map_or (λ (w : Window). has_end_at ends w.activation) o false) ≡ false
         by true true o (inl h) = absurd (cc)
         by true true o (inr (b, in_members, h)) = absurd (cc)
         by true false o h = refl
@@ -172,7 +172,7 @@ module _ (layout : Layout) (is : IsLayout layout) (activations : List Activation
         by false c (Some w) (inr (b, (k, lt, at), h)) =
             let same : w.activation ≡ b = cc in
             let within : b < frame_count layout = subst (λ x. x < frame_count layout) at (exist k b lt) in
-            ap (is_done_at ends) same ∙ done b within ∙ ap not (has_contained b members (k, lt, at))
+            ap (has_end_at ends) same ∙ ended b within ∙ ap not (has_contained b members (k, lt, at))
 
     -- so an element is missing exactly where the last member awaits in vain
     pub in_vain : (input_len : ℕ) → is_some (missing activations input_len ends (last_of members)) ≡ true → EndsInVain activations input_len members

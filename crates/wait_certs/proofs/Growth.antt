@@ -1,78 +1,35 @@
 -- Walks that grow, with a mark for each member, and that end.
-use Rattle.std.proofs.Common.{◌≡◌, ◌≢◌, ℕ, zero, suc, ◌<◌, ◌≤◌, ◌||◌, Bool, true, false, cond, not, List, [], ◌∷◌, ◌++◌, Option, Some, None, length, find, get_or, set, replicate, refl, sym, ap, ◌∙◌, subst, arith}
-use Rattle.std.specs.Prelude.{◌==◌, nat_lt, option_and_then, slice_index}
-use Rattle.std.specs.Option.{option_map, option_map_or}
+use Rattle.std.proofs.Common.{◌≡◌, ◌≢◌, ℕ, ◌<◌, ◌≤◌, ◌||◌, Bool, true, false, cond, List, [], ◌∷◌, ◌++◌, Option, Some, None, length, get_or, set, replicate, refl, sym, ap, ◌∙◌, subst, arith}
+use Rattle.std.specs.Prelude.{◌==◌, option_and_then}
+use Rattle.std.specs.Option.{option_map}
 use Rattle.std.proofs.lemmas.Bool.{eqb-true}
 use Rattle.std.proofs.lemmas.Bool.Decides.{nat_tests}
 use Rattle.std.proofs.lemmas.List.{get_or-replicate, get_or-set_same, get_or-set_other, length-replicate}
 use Rattle.std.proofs.lemmas.List.Folds.{list_any-append}
 use Rattle.std.proofs.lemmas.Map.Keys.{apart_from_distinct}
 use Rattle.flow_core_laws.specs.declared.activation.Activation.{Activation}
-use Rattle.flow_core_laws.specs.declared.task_end.TaskEnd as plain
-use Rattle.flow_core_laws.specs.Outcome.{is_done_at, has_end_at}
-use Rattle.flow_core_laws.specs.Place.{Place, input_places}
-use Rattle.flow_core_laws.specs.There as plain_there
+use Rattle.flow_core_laws.specs.Place.{Place}
+use Rattle.flow_core_laws.specs.There.{missing_place}
 use Rattle.flow_core_laws.specs.Window.{Window, producer}
 use Rattle.flow_core_laws.specs.declared.task_end.TaskEnd.{TaskEnd}
-use Rattle.flow_core_laws.specs.There as poison_there
 use Rattle.stream_match_layouts.specs.declared.layout.Layout.{Layout}
 use Rattle.stream_match_layouts.specs.Layout.{IsLayout, IsLayoutOf}
 use Rattle.stream_match_layouts.specs.Spans.{frame_count}
 use Rattle.collector.specs.declared.missing.Missing.{Missing}
 use Rattle.collector.specs.Missing.{missing_at}
-use Rattle.wait_certs_laws.specs.Chain.{last_of}
-use Rattle.wait_certs_laws.specs.Walk as walks
-use Rattle.wait_certs_laws.specs.Walk.{IsWalk}
+use Rattle.wait_certs_laws.specs.Walk.{IsWalk, waited_for}
 use Rattle.wait_certs_laws.proofs.Growing.{IsGrown, few_members}
-use Rattle.wait_certs.specs.Searching.{WalksBy, done_of, has_member, unmarked, waited_for}
+use Rattle.wait_certs.specs.Searching.{has_member, unmarked}
 use Rattle.wait_certs.proofs.Giving.{contained, producer_is}
-
--- ---- ends that count as done
-
-done_at : (ends : List (Option TaskEnd)) (a : ℕ) → is_done_at (done_of ends) a ≡ has_end_at ends a
-done_at [] a = refl
-done_at (None ∷ ends) zero = refl
-done_at (Some end ∷ ends) zero = refl
-done_at (None ∷ ends) (suc a) = done_at ends a
-done_at (Some end ∷ ends) (suc a) = done_at ends a
-
--- the same elements are there
-same_there : (activations : List Activation) (input_len : ℕ) (ends : List (Option TaskEnd)) (place : Place)
-    → plain_there.is_there activations input_len (done_of ends) place ≡ poison_there.is_there activations input_len ends place
-same_there activations input_len ends place = by (place.stream == 0) (producer activations place.stream place.position)
-  where
-    by : (t : Bool) (o : Option Window) → cond t (nat_lt place.position input_len) (option_map_or (λ (w : Window). is_done_at (done_of ends) w.activation) o false)
-        ≡ cond t (nat_lt place.position input_len) (option_map_or (λ (w : Window). has_end_at ends w.activation) o false)
-    by true o = refl
-    by false None = refl
-    by false (Some w) = done_at ends w.activation
-
-same_first : (f g : Place → Bool) → ((p : Place) → f p ≡ g p) → (ps : List Place) → find (λ p. not (f p)) ps ≡ find (λ p. not (g p)) ps
-same_first f g same [] = refl
-same_first f g same (p ∷ ps) = ap (λ b. cond (not b) (Some p) (find (λ q. not (f q)) ps)) (same p) ∙ ap (λ o. cond (not (g p)) (Some p) o) (same_first f g same ps)
-
-pub same_waited : (activations : List Activation) (input_len : ℕ) (ends : List (Option TaskEnd)) (a : ℕ) → waited_for activations input_len (done_of ends) a ≡ walks.waited_for activations input_len ends a
-same_waited activations input_len ends a =
-    ap (λ o. option_and_then (λ (m : Missing). m.producer) (option_map (missing_at activations) o))
-    (same_first (plain_there.is_there activations input_len (done_of ends)) (poison_there.is_there activations input_len ends) (same_there activations input_len ends) (input_places activations a))
-
--- so a walk by the one is a walk by the other
-pub walk_by : (activations : List Activation) (input_len : ℕ) (ends : List (Option TaskEnd)) (a : ℕ) (members : List ℕ) → WalksBy (waited_for activations input_len (done_of ends)) a members → IsWalk activations input_len ends a members
-walk_by activations input_len ends a members walk = record {
-  begins = walk.begins;
-  goes_on = λ k lt. sym (same_waited activations input_len ends (slice_index members k)) ∙ walk.goes_on k lt;
-  has_each_once = walk.has_each_once;
-  goes_as_far = λ b is. walk.goes_as_far b (same_waited activations input_len ends (last_of members) ∙ is);
-}
 
 -- ---- whom an activation waits for
 
-module _ (layout : Layout) (is : IsLayout layout) (activations : List Activation) (of : IsLayoutOf layout activations) (done : List (Option plain.TaskEnd)) where
+module _ (layout : Layout) (is : IsLayout layout) (activations : List Activation) (of : IsLayoutOf layout activations) (ends : List (Option TaskEnd)) where
   abbrev next : ℕ → Option ℕ
-  next a = waited_for activations layout.input_len done a
+  next a = waited_for activations layout.input_len ends a
 
   pub next_exists : (a b : ℕ) → next a ≡ Some b → b < frame_count layout
-  next_exists a b = by_place (plain_there.missing_place activations layout.input_len done a)
+  next_exists a b = by_place (missing_place activations layout.input_len ends a)
     where
       by_producer : (place : Place) (o : Option Window) → producer activations place.stream place.position ≡ o → option_map (λ (w : Window). w.activation) o ≡ Some b → b < frame_count layout
       by_producer place None found h = absurd (cc)
@@ -138,17 +95,18 @@ marked_first count first exists =
 
 -- ---- the whole walk
 
-pub walks_by : (next : ℕ → Option ℕ) (first last count : ℕ) (members : List ℕ) (marks : List Bool) → IsGrown next first members last
+pub walk_by : (activations : List Activation) (input_len : ℕ) (ends : List (Option TaskEnd)) (first last count : ℕ) (members : List ℕ) (marks : List Bool)
+    → IsGrown (waited_for activations input_len ends) first members last
     → ((q : ℕ) → q < count → get_or marks q false ≡ has_member members q)
-    → ((b : ℕ) → next last ≡ Some b → b < count)
-    → None ≡ option_and_then (unmarked marks) (next last) → WalksBy next first members
-walks_by next first last count members marks grown marked exists ends = record {
+    → ((b : ℕ) → waited_for activations input_len ends last ≡ Some b → b < count)
+    → None ≡ option_and_then (unmarked marks) (waited_for activations input_len ends last) → IsWalk activations input_len ends first members
+walk_by activations input_len ends first last count members marks grown marked exists none = record {
   begins = grown.begins;
   goes_on = grown.follows;
   has_each_once = λ j k less within same. differ (get_or members j 0) (get_or members k 0) (apart_from_distinct (λ x y. x == y) members j k 0 grown.distinct less within) same;
   goes_as_far = λ b is.
-      let follows : next last ≡ Some b = ap next (sym grown.ends) ∙ is in
-      contained b members (sym (marked b (exists b follows)) ∙ follows_marked marks (next last) b ends follows);
+      let follows : waited_for activations input_len ends last ≡ Some b = ap (waited_for activations input_len ends) (sym grown.ends) ∙ is in
+      contained b members (sym (marked b (exists b follows)) ∙ follows_marked marks (waited_for activations input_len ends last) b none follows);
 }
   where
     differ : (x y : ℕ) → (x == y) ≡ false → x ≢ y

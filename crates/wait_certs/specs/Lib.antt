@@ -1,3 +1,3 @@
 -- What a reader believes stands in `wait_certs_laws`.
--- What restates private functions: searches for what an activation awaits, and ends that stand for others.
+-- What restates private functions: searches for what an activation awaits, and marks of those that a walk has.
 pub mod Searching

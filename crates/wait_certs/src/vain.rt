@@ -2,7 +2,7 @@ ghost use Rattle.std.specs.Prelude.{◌≡◌, ℕ, ◌<◌, ◌≤◌, ◌↔�
 ghost use Rattle.flow_core_laws.specs.declared.activation.Activation.{Activation};
 ghost use Rattle.stream_match_layouts.specs.Layout.{IsLayout, IsLayoutOf};
 ghost use Rattle.stream_match_layouts.specs.Spans.{frame_count};
-ghost use Rattle.wait_certs.specs.Searching.{AllDoneBut, EndsInVain, has_member};
+ghost use Rattle.wait_certs.specs.Searching.{AllEndedBut, EndsInVain, has_member};
 
 use collector::first_missing;
 use flow_core_laws::{Ends, TaskEnd};
@@ -11,7 +11,7 @@ use std::alloc::Global;
 use stream_match_layouts::Layout;
 
 /// Whether the last member of a list awaits what nobody gives, or what a member should give: it misses an element, if all
-/// but the members are done.
+/// but the members have an end.
 pub(crate) fn ends_in_vain(alloc: Global, layout: &Layout, chain: &[u32]) -> Result<bool, Memory>
     requires layout { IsLayout layout.now }
     requires some { 1 ≤ length chain.now }
@@ -19,17 +19,17 @@ pub(crate) fn ends_in_vain(alloc: Global, layout: &Layout, chain: &[u32]) -> Res
     ensures { IfOk result (λ vain. (activations : List Activation) → IsLayoutOf layout.now activations
         → (vain ≡ true) ↔ EndsInVain activations layout.now.input_len chain.now) }
 {
-    let ends = all_done_but(alloc, layout, chain)?;
+    let ends = all_ended_but(alloc, layout, chain)?;
     let last = chain[chain.len() - 1];
     let missing = first_missing(layout, &ends, last);
     Ok(missing.is_some())
 }
 
-/// Ends by which all activations are done but the members of a list.
-fn all_done_but(alloc: Global, layout: &Layout, members: &[u32]) -> Result<Ends, Memory>
+/// Ends by which all activations are done but the members of a list, which have none.
+fn all_ended_but(alloc: Global, layout: &Layout, members: &[u32]) -> Result<Ends, Memory>
     requires layout { IsLayout layout.now }
     requires exist { All (λ a. a < frame_count layout.now) members.now }
-    ensures { IfOk result (λ ends. AllDoneBut layout.now members.now ends.ends) }
+    ensures { IfOk result (λ ends. AllEndedBut layout.now members.now ends.ends) }
 {
     let mut ends = all_done(alloc, layout.frames())?;
     open_all(&mut ends, members);

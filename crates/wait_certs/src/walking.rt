@@ -1,15 +1,13 @@
 ghost use Rattle.std.specs.Prelude.{◌≡◌, ◌<◌, ◌↔◌, None, true, false, IfOk, IfSome, List, length, option_and_then, replicate, slice_set};
-ghost use Rattle.std.specs.Option.{option_map};
 ghost use Rattle.flow_core_laws.specs.declared.activation.Activation.{Activation};
-ghost use Rattle.flow_core_laws.specs.declared.task_end.TaskEnd.TheVariants.{Done};
 ghost use Rattle.flow_core_laws.specs.Outcome.{has_end_at};
 ghost use Rattle.stream_match_layouts.specs.Layout.{IsLayout, IsLayoutOf};
 ghost use Rattle.stream_match_layouts.specs.Spans.{frame_count};
-ghost use Rattle.wait_certs_laws.specs.Walk.{IsWalk};
-ghost use Rattle.wait_certs.specs.Searching.{WalksBy, done_of, unmarked, waited_for};
+ghost use Rattle.wait_certs_laws.specs.Walk.{IsWalk, waited_for};
+ghost use Rattle.wait_certs.specs.Searching.{unmarked};
 
 use collector::first_missing;
-use flow_core_laws::{Ends, TaskEnd};
+use flow_core_laws::Ends;
 use os_io::{List, Memory};
 use std::alloc::Global;
 use stream_match_layouts::Layout;
@@ -32,8 +30,7 @@ pub fn walk(
     if has_end(ends, frame) {
         return Ok(None);
     }
-    let done = ended_done(alloc, ends)?;
-    let members = walk_from(alloc, layout, &done, frame)?;
+    let members = walk_from(alloc, layout, ends, frame)?;
     Ok(Some(members))
 }
 
@@ -47,48 +44,19 @@ fn has_end(ends: &Ends, frame: u32) -> bool
     }
 }
 
-/// Ends by which whoever has an end is done: what it should have written is there, if only as poison.
-fn ended_done(alloc: Global, ends: &Ends) -> Result<flow_core_laws::Ends, Memory>
-    ensures { IfOk result (λ done. done.ends ≡ done_of ends.now.ends) }
-{
-    let mut done = List::with_capacity(alloc, ends.ends.len())?;
-    for end in ends.ends.as_slice() {
-        done.push(as_done(*end))?;
-    }
-    Ok(flow_core_laws::Ends {
-        ends: done,
-        output: List::new(alloc),
-    })
-}
-
-/// The same end as one that is done.
-fn as_done(end: Option<TaskEnd>) -> Option<flow_core_laws::TaskEnd>
-    ensures { result ≡ option_map (λ e. Done) end }
-{
-    match end {
-        Some(_) => Some(flow_core_laws::TaskEnd::Done),
-        None => None,
-    }
-}
-
-/// The walk from an activation on, by ends of a run without poison.
-fn walk_from(
-    alloc: Global,
-    layout: &Layout,
-    done: &flow_core_laws::Ends,
-    frame: u32,
-) -> Result<List<u32>, Memory>
+/// The walk from an activation on, by the ends so far.
+fn walk_from(alloc: Global, layout: &Layout, ends: &Ends, frame: u32) -> Result<List<u32>, Memory>
     requires layout { IsLayout layout.now }
     requires exists { frame < frame_count layout.now }
     ensures { IfOk result (λ members. (activations : List Activation) → IsLayoutOf layout.now activations
-        → WalksBy (waited_for activations layout.now.input_len done.now.ends) frame members) }
+        → IsWalk activations layout.now.input_len ends.now.ends frame members) }
 {
     let mut marks = no_marks(alloc, layout.frames())?;
     let mut members = List::new(alloc);
     members.push(frame)?;
     mark(&mut marks, frame);
     let mut last = frame;
-    'walking: while let Some(next) = next_unmarked(layout, done, marks.as_slice(), last) {
+    'walking: while let Some(next) = next_unmarked(layout, ends, marks.as_slice(), last) {
         members.push(next)?;
         mark(&mut marks, next);
         last = next;
@@ -116,20 +84,15 @@ fn mark(marks: &mut List<bool>, member: u32)
 }
 
 /// The activation that an activation waits for, where it has no mark.
-fn next_unmarked(
-    layout: &Layout,
-    done: &flow_core_laws::Ends,
-    marks: &[bool],
-    frame: u32,
-) -> Option<u32>
+fn next_unmarked(layout: &Layout, ends: &Ends, marks: &[bool], frame: u32) -> Option<u32>
     requires layout { IsLayout layout.now }
     requires exists { frame < frame_count layout.now }
     requires marks { length marks.now ≡ frame_count layout.now }
     ensures exists { IfSome result (λ next. next < frame_count layout.now) }
     ensures next { (activations : List Activation) → IsLayoutOf layout.now activations
-        → result ≡ option_and_then (unmarked marks.now) (waited_for activations layout.now.input_len done.now.ends frame) }
+        → result ≡ option_and_then (unmarked marks.now) (waited_for activations layout.now.input_len ends.now.ends frame) }
 {
-    let next = producer_missed(layout, done, frame)?;
+    let next = producer_missed(layout, ends, frame)?;
     if marks[next as usize] {
         None
     } else {
@@ -138,13 +101,13 @@ fn next_unmarked(
 }
 
 /// The producer of the first missing element of an activation.
-fn producer_missed(layout: &Layout, done: &flow_core_laws::Ends, frame: u32) -> Option<u32>
+fn producer_missed(layout: &Layout, ends: &Ends, frame: u32) -> Option<u32>
     requires layout { IsLayout layout.now }
     requires exists { frame < frame_count layout.now }
     ensures exists { IfSome result (λ next. next < frame_count layout.now) }
     ensures next { (activations : List Activation) → IsLayoutOf layout.now activations
-        → result ≡ waited_for activations layout.now.input_len done.now.ends frame }
+        → result ≡ waited_for activations layout.now.input_len ends.now.ends frame }
 {
-    let missing = first_missing(layout, done, frame)?;
+    let missing = first_missing(layout, ends, frame)?;
     missing.producer
 }

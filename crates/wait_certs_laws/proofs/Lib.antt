@@ -1,3 +1,4 @@
 pub mod Starving
 pub mod Growing
 pub mod Walks
+pub mod OneWalk

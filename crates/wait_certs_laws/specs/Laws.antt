@@ -44,6 +44,11 @@ pub record IsShortChain (activations : List Activation) (input_len : ℕ) (chain
 abbrev pub WalksAreChains : List Activation → ℕ → List (Option TaskEnd) → ℕ → Type 0
 WalksAreChains activations input_len ends a = (members : List ℕ) → IsWalk activations input_len ends a members → IsShortChain activations input_len members
 
+-- an activation has one walk at most, by any ends
+abbrev pub OneWalk : Type 0
+OneWalk = (activations : List Activation) (input_len : ℕ) (ends : List (Option TaskEnd)) (a : ℕ) (members others : List ℕ)
+    → IsWalk activations input_len ends a members → IsWalk activations input_len ends a others → members ≡ others
+
 -- there is such a chain that begins with an activation, and it is its walk
 abbrev pub HasChain : List Activation → ℕ → List (Option TaskEnd) → ℕ → Type 0
 HasChain activations input_len ends a =

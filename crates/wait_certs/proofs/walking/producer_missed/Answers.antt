@@ -12,5 +12,5 @@ pub returns-clause-exists : goal.returns-clause-exists
 returns-clause-exists c =
     let is = c.requires.layout in
     if_exists c.in_ok-missing.missing.producer _ (λ b e.
-    next_exists c.args.layout.now is is.activations is.is_of c.args.done.now.ends c.args.frame b
+    next_exists c.args.layout.now is is.activations is.is_of c.args.ends.now.ends c.args.frame b
     (ap (option_and_then (λ (m : Missing). m.producer)) (sym (c.in_ok-missing.ensures.missing is.activations is.is_of)) ∙ e))
