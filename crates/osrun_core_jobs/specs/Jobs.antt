@@ -44,6 +44,16 @@ pub record ExplainJob : Type 0 where
   pub task_budget : ℕ
   pub control_budget : ℕ
 
+-- the run of which an activation is explained
+abbrev pub explained_run : ExplainJob → Job
+explained_run job = record {
+  program = job.program;
+  input = job.input;
+  workers = job.workers;
+  task_budget = job.task_budget;
+  control_budget = job.control_budget;
+}
+
 -- what words may ask for
 pub data Request : Type 0 where
   Run : Job → Request
