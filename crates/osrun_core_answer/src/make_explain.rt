@@ -1,13 +1,16 @@
-ghost use Rattle.std.specs.Prelude.{◌≡◌};
-ghost use Rattle.osrun_core_answer.specs.Explained.{finding_status};
+ghost use Rattle.std.specs.Prelude.{◌≡◌, IfOk, List, string_bytes};
+ghost use Rattle.flow_core_laws.specs.declared.activation.Activation.{Activation};
+ghost use Rattle.osrun_core_answer.specs.Explained.{Explains, finding_status};
 ghost use Rattle.osrun_core_answer.specs.Made.{MakesExplanation};
 ghost use Rattle.osrun_core_jobs.specs.Files.{MayOpen, files_of};
 ghost use Rattle.osrun_core_jobs.specs.Jobs.{Explain as ExplainRequest, IsExplainWithin, explain_of};
 ghost use Rattle.osrun_core_jobs.specs.Status.{code_of};
+ghost use Rattle.stream_match_layouts.specs.Layout.{IsLayout, IsLayoutOf};
 
 use crate::make_run::make_run;
-use os_io::Files;
+use os_io::{Files, Memory};
 use osrun_core_jobs::{ExplainJob, Job, Refusal, Status};
+use osrun_core_run::Run;
 use std::alloc::Global;
 use std::thread::Threads;
 use task_workers::Gate;
@@ -33,6 +36,18 @@ fn finding_status(finding: &Finding) -> Status
     }
 }
 
+/// Tells of an activation of a run.
+fn explain(alloc: Global, run: &Run, activation: u32) -> Result<Explanation, Memory>
+    requires { IsLayout run.now.layout }
+    ensures { IfOk result (λ told. (activations : List Activation) → IsLayoutOf run.now.layout activations
+        → Explains activations run.now.layout.input_len run.now.ends.ends activation (string_bytes told.text) (code_of told.status)) }
+{
+    let finding = find(alloc, &run.layout, &run.ends, activation)?;
+    let text = finding_line(alloc, activation, &finding)?;
+    let status = finding_status(&finding);
+    Ok(Explanation { text, status })
+}
+
 /// Makes the run of a program, from its files on, and tells of one of its activations. Nothing is written.
 pub fn make_explanation<R: Threads + Sync, F: Files, G: Gate>(
     rt: &R,
@@ -51,8 +66,6 @@ pub fn make_explanation<R: Threads + Sync, F: Files, G: Gate>(
         terms: job.terms,
     };
     let run = make_run(rt, alloc, &of_program, files, gate)?;
-    let finding = find(alloc, &run.layout, &run.ends, job.activation)?;
-    let text = finding_line(alloc, job.activation, &finding)?;
-    let status = finding_status(&finding);
-    Ok(Explanation { text, status })
+    let told = explain(alloc, &run, job.activation)?;
+    Ok(told)
 }
