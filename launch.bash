@@ -24,6 +24,7 @@ synopsis() {
     echo "osrun gen SEED BLOCKS [--workers N]" >&2
     echo "osrun compile PROGRAM" >&2
     echo "osrun exec OBJECT INPUT [--workers N] [--budget N] [--control N]" >&2
+    echo "osrun explain PROGRAM INPUT ACTIVATION [--workers N] [--budget N] [--control N]" >&2
     echo "osrun serve JOBS" >&2
 }
 

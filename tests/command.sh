@@ -173,7 +173,7 @@ done
 # The programs that tests of crates have as texts stand in the examples, word for word. These are run here alone.
 texts=$(cat "$top/crates/kernels/src/texts.rt" "$top/crates/compiler_tests/src/examples.rt")
 for example in "$top"/examples/*.c; do
-    case ${example##*/} in gain.c | curve.c | squeeze.c | unsqueeze.c) continue ;; esac
+    case ${example##*/} in gain.c | curve.c | squeeze.c | unsqueeze.c | waiting.c) continue ;; esac
     case ${example##*/} in crc.c | adler.c | noise.c | unnoise.c | rice.c | unrice.c) continue ;; esac
     if [[ $texts == *'r"'"$(cat "$example")"$'\n";'* ]]; then
         passed=$((passed + 1))
@@ -342,6 +342,154 @@ check "an object from standard input" 0 fefdfcfb "control done / output 4 of 4"
 status=$?
 : >out
 check "a full standard output for an object" 6 "" ""
+
+# Why an activation is starved. told_of NAME ACTIVATION STATUS LINE WORD..: compares the line that is told of an activation of
+# cycles.c over nothing.bin, or with the words behind the line over what they name.
+told_of() {
+    local files=(cycles.c nothing.bin)
+    [ $# -gt 4 ] && files=("${@:5}")
+    run explain "${files[@]}" "$2"
+    printf '%s\n' "$4" >wanted
+    agree "$1" "$3" wanted ""
+}
+cat >cycles.c <<'END'
+int main(void) {
+    int s __attribute__((stream)), t __attribute__((stream));
+    int x, y;
+    #pragma omp task input(s >> x) output(t << y)
+    y = x;
+    #pragma omp task input(t >> x) output(s << y)
+    y = x;
+    #pragma omp task input(s >> x) output(s << y)
+    y = x;
+}
+END
+told_of "two that wait for one another" 0 0 "chain 0 1 back 0"
+told_of "the other one of them" 1 0 "chain 1 0 back 1"
+told_of "one that waits for itself" 2 0 "chain 2 back 2"
+told_of "the number of an activation behind a plus" +0002 0 "chain 2 back 2"
+told_of "an activation that isn't there" 3 1 "no activation 3"
+told_of "the greatest number of an activation" 65535 1 "no activation 65535"
+for workers in 1 64; do
+    told_of "two that wait for one another, by $workers workers" 0 0 "chain 0 1 back 0" cycles.c nothing.bin --workers "$workers"
+done
+told_of "without turns for the control program there is no activation" 0 1 "no activation 0" cycles.c nothing.bin --control 0
+told_of "an activation that is done" 0 1 "not starved 0" first.c in.bin
+told_of "a number past the activations" 5 1 "no activation 5" first.c in.bin
+cat >short.c <<'END'
+int main(void) {
+    int s __attribute__((stream));
+    int w[4], x, y;
+    #pragma omp task input(osin >> w[4]) output(s << x)
+    x = w[3];
+    #pragma omp task input(s >> x) output(osout << y)
+    y = x;
+}
+END
+told_of "a walk that ends behind the input" 1 0 "chain 1 0 none stream 0 position 2" short.c short.bin
+told_of "a chain of the one that reads past the input" 0 0 "chain 0 none stream 0 position 2" short.c short.bin
+told_of "one that would be starved over a shorter input" 1 1 "not starved 1" short.c in.bin
+cat >round.c <<'END'
+int main(void) {
+    int s __attribute__((stream)), t __attribute__((stream)), u __attribute__((stream));
+    int x, y;
+    #pragma omp task input(s >> x) output(t << y)
+    y = x;
+    #pragma omp task input(t >> x) output(u << y)
+    y = x;
+    #pragma omp task input(u >> x) output(s << y)
+    y = x;
+    #pragma omp task input(t >> x) output(osout << y)
+    y = x;
+}
+END
+told_of "a cycle through three streams" 0 0 "chain 0 2 1 back 0" round.c nothing.bin
+told_of "the same from another place" 2 0 "chain 2 1 0 back 2" round.c nothing.bin
+told_of "one that waits for nobody beside the cycle" 3 0 "chain 3 none stream 3 position 1" round.c nothing.bin
+cat >lasso.c <<'END'
+int main(void) {
+    int s __attribute__((stream)), t __attribute__((stream));
+    int x, y, w[1];
+    #pragma omp task input(s >> w[0]) output(osout << y)
+    y = w[0];
+    #pragma omp task input(s >> x) output(t << y)
+    y = x;
+    #pragma omp task input(t >> x) output(s << y)
+    y = x;
+}
+END
+told_of "a walk into a cycle that it isn't of" 0 0 "chain 0 2 1 back 2" lasso.c nothing.bin
+cat >failing.c <<'END'
+int main(void) {
+    int s __attribute__((stream));
+    int x, y, w[2];
+    #pragma omp task output(s << y)
+    y = 1 / 0;
+    #pragma omp task input(s >> x) output(s << y)
+    y = x;
+    #pragma omp task input(s >> w[3]) output(osout << y)
+    y = w[0];
+    #pragma omp task output(s << y)
+    while (1) ;
+}
+END
+told_of "an activation that trapped" 0 1 "not starved 0" failing.c nothing.bin
+told_of "an activation that was poisoned" 1 1 "not starved 1" failing.c nothing.bin
+told_of "one that reads poison, and on" 2 1 "not starved 2" failing.c nothing.bin
+told_of "an activation that used up its turns" 3 1 "not starved 3" failing.c nothing.bin --budget 3
+sed 's/w\[2\]/w[3]/' failing.c >behind.c
+told_of "one that misses an element behind poison" 2 0 "chain 2 none stream 2 position 3" behind.c nothing.bin
+# 65,536 activations, each of which waits for the next one, and the last one for nobody.
+cat >column.c <<'END'
+int main(void) {
+    int s __attribute__((stream));
+    int i, x, y;
+    #pragma omp tick(s >> 1)
+    for (i = 0; i < 65536; i++) {
+        #pragma omp task input(s >> x) output(s << y)
+        y = x;
+    }
+}
+END
+for workers in 1 4; do
+    run explain column.c nothing.bin 0 --workers "$workers"
+    echo "chain $(seq -s ' ' 0 65535) none stream 2 position 65536" >wanted
+    agree "a chain of 65,536 activations by $workers workers" 0 wanted ""
+done
+told_of "the end of that chain" 65535 0 "chain 65535 none stream 2 position 65536" column.c nothing.bin
+told_of "the example of the guide" 4 0 "chain 4 5 back 4" "$top/examples/waiting.c" in.bin
+run run "$top/examples/waiting.c" in.bin
+check "what it reports" 1 "" "starved 0 stream 2 position 0 producer 1 starved / starved 1 stream 3 position 0 producer 0 starved / \
+starved 2 stream 2 position 1 producer 3 starved / starved 3 stream 3 position 2 producer 2 starved / \
+starved 4 stream 2 position 2 producer 5 starved / starved 5 stream 3 position 4 producer 4 starved / \
+starved 6 stream 2 position 3 producer 7 starved / starved 7 stream 3 position 6 producer 6 starved / control done / output 0 of 4"
+sed 's/^    for (i = 0/    #pragma omp task output(last << rebuilt)\n    rebuilt = 0;\n&/' "$top/examples/waiting.c" >started.c
+told_of "the example with a first element" 4 1 "not starved 4" started.c in.bin
+for words in "" "cycles.c" "cycles.c nothing.bin" "cycles.c nothing.bin 65536" "cycles.c nothing.bin -1" "cycles.c nothing.bin -0" \
+    "cycles.c nothing.bin x" "cycles.c nothing.bin 0 1" "cycles.c nothing.bin 0 --workers 65" "cycles.c nothing.bin 0 --more 1" "--help"; do
+    # shellcheck disable=SC2086
+    run explain $words
+    check "what can't be explained: explain $words" 2 "" usage
+done
+run explain empty.c in.bin 0
+check "a text of which nothing is explained" 3 "" "refused 23 line 1"
+run explain none.c in.bin 0
+check "a text to explain that isn't there" 5 "" "read fault program"
+run explain first.c none.bin 0
+check "an input to explain that isn't there" 5 "" "read fault input"
+run explain long.c in.bin 0
+check "a text to explain that is too long" 4 "" "too long program"
+run explain first.c long.bin 0
+check "an input to explain that is too long" 4 "" "too long input"
+"$osrun" explain cycles.c nothing.bin 0 >/dev/full 2>report
+status=$?
+: >out
+check "a full standard output for a chain" 6 "" ""
+"$osrun" explain cycles.c nothing.bin 0 >out 2>/dev/full
+status=$?
+: >report
+printf 'chain 0 1 back 0\n' >wanted
+agree "a full standard error, of which a chain asks nothing" 0 wanted ""
 
 # A reader that leaves: it is gone before the output comes.
 { sleep 1; "$osrun" run invert.c million.bin 2>report; echo "$?" >left; } | :

@@ -3,6 +3,7 @@
 mod calls;
 mod delivery;
 mod each_call;
+mod explained;
 mod generated;
 mod jobs;
 mod meeting;

@@ -12,12 +12,13 @@ use Rattle.os_io.specs.Counts.{HasRisen, last_count, raised}
 use Rattle.os_io.specs.declared.files.Files.{Ghosts as FilesView}
 use Rattle.os_io.specs.declared.sink.Sink.{Ghosts as SinkView}
 use Rattle.osrun_core.specs.Codes.{IsObjectOfJob, IsRunOfObject}
+use Rattle.osrun_core.specs.Lines.{IsLineOfJob}
 use Rattle.osrun_core.specs.Read.{IsRead}
 use Rattle.osrun_core_answer.specs.Answers.{AnswersRequest, HasCause, IsCut, IsGiven, IsMade, IsRefused, IsUnasked, IsUnmade, asked_files}
 use Rattle.osrun_core_answer.specs.Gen.{IsRunOfGen, gen_lines}
-use Rattle.osrun_core_answer.specs.Outcome.{IsOutcome, IsOutcomeOfCompile, IsOutcomeOfExec, IsOutcomeOfGen, IsOutcomeOfRun, Outcome}
+use Rattle.osrun_core_answer.specs.Outcome.{IsOutcome, IsOutcomeOfCompile, IsOutcomeOfExec, IsOutcomeOfExplain, IsOutcomeOfGen, IsOutcomeOfRun, Outcome}
 use Rattle.osrun_core_jobs.specs.Files.{AreBytesOf, JobFile, files_of, limit_of}
-use Rattle.osrun_core_jobs.specs.Jobs.{Compile, CompileJob, Exec, ExecJob, Gen, GenJob, IsRequestWithin, Job, Request, Run as RunRequest, compile_in, exec_in, gen_in, run_in}
+use Rattle.osrun_core_jobs.specs.Jobs.{Compile, CompileJob, Exec, ExecJob, Explain, ExplainJob, Gen, GenJob, IsRequestWithin, Job, Request, Run as RunRequest, compile_in, exec_in, explain_in, gen_in, run_in}
 use Rattle.osrun_core_jobs.specs.Reading.{EndedAt, IsCauseOf, IsFailed, IsReadable, IsRejected, ReadsInOrder, WasRead, WereRead}
 use Rattle.osrun_core_jobs.specs.Refusal.{refusal_line, refusal_status, usage_line}
 use Rattle.osrun_core_jobs.specs.Status.{code_of}
@@ -39,6 +40,7 @@ on_run (Some (RunRequest job)) P f = f job refl
 on_run (Some (Gen job)) P f = tt
 on_run (Some (Compile job)) P f = tt
 on_run (Some (Exec job)) P f = tt
+on_run (Some (Explain job)) P f = tt
 
 on_gen : (asked : Option Request) (P : GenJob → Type 0) → ((job : GenJob) → asked ≡ Some (Gen job) → P job) → IfSome (option_and_then gen_in asked) P
 on_gen None P f = tt
@@ -46,6 +48,7 @@ on_gen (Some (RunRequest job)) P f = tt
 on_gen (Some (Gen job)) P f = f job refl
 on_gen (Some (Compile job)) P f = tt
 on_gen (Some (Exec job)) P f = tt
+on_gen (Some (Explain job)) P f = tt
 
 on_compile : (asked : Option Request) (P : CompileJob → Type 0) → ((job : CompileJob) → asked ≡ Some (Compile job) → P job) → IfSome (option_and_then compile_in asked) P
 on_compile None P f = tt
@@ -53,6 +56,7 @@ on_compile (Some (RunRequest job)) P f = tt
 on_compile (Some (Gen job)) P f = tt
 on_compile (Some (Compile job)) P f = f job refl
 on_compile (Some (Exec job)) P f = tt
+on_compile (Some (Explain job)) P f = tt
 
 on_exec : (asked : Option Request) (P : ExecJob → Type 0) → ((job : ExecJob) → asked ≡ Some (Exec job) → P job) → IfSome (option_and_then exec_in asked) P
 on_exec None P f = tt
@@ -60,6 +64,15 @@ on_exec (Some (RunRequest job)) P f = tt
 on_exec (Some (Gen job)) P f = tt
 on_exec (Some (Compile job)) P f = tt
 on_exec (Some (Exec job)) P f = f job refl
+on_exec (Some (Explain job)) P f = tt
+
+on_explain : (asked : Option Request) (P : ExplainJob → Type 0) → ((job : ExplainJob) → asked ≡ Some (Explain job) → P job) → IfSome (option_and_then explain_in asked) P
+on_explain None P f = tt
+on_explain (Some (RunRequest job)) P f = tt
+on_explain (Some (Gen job)) P f = tt
+on_explain (Some (Compile job)) P f = tt
+on_explain (Some (Exec job)) P f = tt
+on_explain (Some (Explain job)) P f = f job refl
 
 -- what holds whatever is asked for
 on_request : (asked : Option Request) (P : Request → Type 0) → ((request : Request) → asked ≡ Some request → P request) → IfSome asked P
@@ -188,6 +201,23 @@ module _ {F : Type 0} (view : FilesView F) where
         o.report_is,
         o.status_is,
       )
+
+  -- the line of a run whose files were read, by what they have given
+  the_line : (job : ExplainJob) (old new : F) (contents : List (List ℕ)) (outcome : Outcome) → IsOutcomeOfExplain contents job outcome
+      → WereRead IsUsable view old new (files_of (Explain job)) contents
+      → IsLineOfJob (view.holds old) job (view.given new) outcome.output outcome.own
+  the_line job old new contents outcome o read =
+      let both = subst (WereRead IsUsable view old new (files_of (Explain job))) o.contents_are read in
+      let of_text = both.1 in
+      let of_input = both.2.1 in
+      let end : new ≡ both.2.0 = both.2.2 in
+      let input_read = subst (λ h. AreBytesOf (h job.input) subjects.Input o.run.input) of_text.holds_kept of_input.read in
+      record {
+        run = o.run;
+        is_run = record { text = o.text; text_read = of_text.read; input_read = input_read; program = o.program; is_program = o.is_program; control_is = o.control_is; ends_are = o.ends_are };
+        given_is = ap view.given end ∙ of_input.whole;
+        explains = o.explains;
+      }
 
   -- the program that was read, with the object of its code
   the_object : (job : CompileJob) (old new : F) (contents : List (List ℕ)) (outcome : Outcome) → IsOutcomeOfCompile contents job outcome
@@ -320,6 +350,16 @@ module _ {F O E : Type 0} (of_files : FilesView F) (fo fn : F) (of_out : SinkVie
   made_object made job is =
       the_object of_files job fo fn made.contents made.outcome (made_compile made job is)
       (subst (λ q. WereRead IsUsable of_files fo fn (files_of q) made.contents) (one asked made.request (Compile job) made.is_asked is) made.read)
+
+  made_explanation : (made : IsMade of_files fo fn asked) (job : ExplainJob) → asked ≡ Some (Explain job) → IsOutcomeOfExplain made.contents job made.outcome
+  made_explanation made job is =
+      subst (λ q. IsOutcome made.contents q made.outcome) (one asked made.request (Explain job) made.is_asked is) made.is_outcome
+
+  made_line : (made : IsMade of_files fo fn asked) (job : ExplainJob) → asked ≡ Some (Explain job)
+      → IsLineOfJob (of_files.holds fo) job (of_files.given fn) made.outcome.output made.outcome.own
+  made_line made job is =
+      the_line of_files job fo fn made.contents made.outcome (made_explanation made job is)
+      (subst (λ q. WereRead IsUsable of_files fo fn (files_of q) made.contents) (one asked made.request (Explain job) made.is_asked is) made.read)
 
   -- what is refused is a run
   refused_run : (s : Status) (h : IsRefused of_files fo fn oo on of_report ro rn asked s) (job : Job) → asked ≡ Some (RunRequest job)
@@ -691,6 +731,39 @@ module _ {F O E : Type 0} (of_files : FilesView F) (fo fn : F) (of_out : SinkVie
       → (status ≡ 3) ⊎ ((status ≡ 5) ⊎ (status ≡ 7)))
   exec_refused_always = on_exec asked _ (λ job is rejected.
       let file : JobFile = record { subject = subjects.Object; name = job.object } in
+      answer.rejected file (subst (λ a. slice_get (asked_files a) 0 ≡ Some file) (sym is) refl) rejected)
+
+  -- ---- `explain`
+
+  pub explained : status < 2 → IfSome (option_and_then explain_in asked) (λ job. (line : List ℕ)
+      × IsLineOfJob (of_files.holds fo) job (of_files.given fn) line status
+      × (of_out.taken on ≡ append_known (of_out.taken oo) line) × (rn ≡ ro))
+  explained small = on_explain asked _ (λ job is. cases
+      (λ g _. (
+        g.made.outcome.output,
+        subst (IsLineOfJob (of_files.holds fo) job (of_files.given fn) g.made.outcome.output) (sym g.own) (made_line g.made job is),
+        g.output.0,
+        g.report.nothing (made_explanation g.made job is).report_is,
+      ))
+      (λ _ n. absurd (omega (arith, n, small)))
+      (λ _ _ _ n _. absurd (omega (arith, n, small)))
+      (λ _ n. absurd (omega (arith, n, small)))
+      (λ _ n. absurd (omega (arith, n, small))))
+
+  pub explain_cut_short : status ≡ 6 → IfSome (option_and_then explain_in asked) (λ job. (line : List ℕ) × (own : ℕ)
+      × IsLineOfJob (of_files.holds fo) job (of_files.given fn) line own × IsCutShort of_out oo on line × (rn ≡ ro))
+  explain_cut_short six = on_explain asked _ (λ job is. cases
+      (λ _ n. absurd (omega (arith, n, six)))
+      (λ _ n. absurd (omega (arith, n, six)))
+      (λ _ _ _ _ n. absurd (omega (arith, n, six)))
+      (λ c _. let cut = cut_output c.made (made_explanation c.made job is).report_is c.undelivered in
+      (c.made.outcome.output, c.made.outcome.own, made_line c.made job is, cut.0, cut.1))
+      (λ _ n. absurd (omega (arith, n, six))))
+
+  pub explain_refused_always : IfSome (option_and_then explain_in asked) (λ job. IsRejected IsUnusable (of_files.holds fo) (record { subject = subjects.Program; name = job.program })
+      → (status ≡ 3) ⊎ ((status ≡ 5) ⊎ (status ≡ 7)))
+  explain_refused_always = on_explain asked _ (λ job is rejected.
+      let file : JobFile = record { subject = subjects.Program; name = job.program } in
       answer.rejected file (subst (λ a. slice_get (asked_files a) 0 ≡ Some file) (sym is) refl) rejected)
 
   -- ---- what stays

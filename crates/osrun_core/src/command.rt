@@ -4,7 +4,7 @@ ghost use Rattle.osrun_core_jobs.specs.Files.{MayOpen, files_of};
 ghost use Rattle.osrun_core_words.specs.Command.{command, texts};
 
 use os_io::{Files, Sink};
-use osrun_core_answer::{answer_compile, answer_exec, answer_gen, answer_run};
+use osrun_core_answer::{answer_compile, answer_exec, answer_explain, answer_gen, answer_run};
 use osrun_core_jobs::{Request, Status, tell};
 use osrun_core_run::laws::never_usable_and_refused;
 use osrun_core_words::{WordsError, command};
@@ -38,6 +38,9 @@ pub fn run_words<R: Threads + Sync, F: Files, O: Sink, E: Sink, G: Gate>(
         Ok(Request::Gen(job)) => answer_gen(rt, alloc, &job, out, report, gate).code(),
         Ok(Request::Compile(job)) => answer_compile(alloc, &job, files, out, report).code(),
         Ok(Request::Exec(job)) => answer_exec(rt, alloc, &job, files, out, report, gate).code(),
+        Ok(Request::Explain(job)) => {
+            answer_explain(rt, alloc, &job, files, out, report, gate).code()
+        }
         Err(WordsError::Refused) => {
             tell(report, USAGE);
             Status::BadWords.code()

@@ -7,6 +7,7 @@ ghost use Rattle.collector.specs.Report.{report as report_of};
 ghost use Rattle.collector.specs.Status.{status as status_of};
 ghost use Rattle.collector.specs.Written.{written};
 ghost use Rattle.osrun_core.specs.Codes.{IsObjectOfJob, IsRunOfObject};
+ghost use Rattle.osrun_core.specs.Lines.{IsLineOfJob};
 ghost use Rattle.osrun_core.specs.Read.{IsRead};
 ghost use Rattle.osrun_core_answer.specs.Answers.{AnswersRequest};
 ghost use Rattle.osrun_core_answer.specs.Gen.{IsRunOfGen, gen_lines};
@@ -20,7 +21,7 @@ ghost use Rattle.osrun_core_jobs.specs.declared.refusal.Refusal.{Refusal as Caus
 ghost use Rattle.osrun_core_jobs.specs.declared.subject.Subject.TheVariants.{Object as ObjectFile, Program as ProgramFile};
 ghost use Rattle.osrun_core_run.specs.Refusal.{IsUnusable, IsUsable};
 ghost use Rattle.osrun_core_run.specs.Run.{ProgramRun, IsRunOfJob};
-ghost use Rattle.osrun_core_words.specs.Command.{command, named_compile, named_exec, named_gen, named_run, texts};
+ghost use Rattle.osrun_core_words.specs.Command.{command, named_compile, named_exec, named_explain, named_gen, named_run, texts};
 
 use os_io::{Files, Sink};
 
@@ -167,6 +168,21 @@ pub fn answers_say<F: Files, O: Sink, E: Sink>(
         → (status ≡ 3) ⊎ ((status ≡ 5) ⊎ (status ≡ 7))) }
     ensures exec_refused_always { IfSome (named_exec (texts words.now)) (λ job.
         IsRejected IsUnusable (F.holds files.now) (record { subject = ObjectFile; name = job.object })
+        → (status ≡ 3) ⊎ ((status ≡ 5) ⊎ (status ≡ 7))) }
+
+    // `explain`, 0 and 1: `out` took the line that tells of the activation of a run of the program, and the status is the one with
+    // which it is told. 6: a front of it, for a cause of its own. The report stays as it is.
+    ensures explained { status < 2 → IfSome (named_explain (texts words.now)) (λ job. (line : List ℕ)
+        × IsLineOfJob (F.holds files.now) job (F.given files_after.now) line status
+        × (O.taken out_after.now ≡ append_known (O.taken out.now) line) × (report_after.now ≡ report.now)) }
+    ensures explain_cut_short { status ≡ 6 → IfSome (named_explain (texts words.now)) (λ job. (line : List ℕ) × (own : ℕ)
+        × IsLineOfJob (F.holds files.now) job (F.given files_after.now) line own
+        × IsCutShort O.Sink out.now out_after.now line × (report_after.now ≡ report.now)) }
+
+    // 3 of `explain`: where the program is told and within its limit, and its text is refused, the status is 3, unless a read failed
+    // (5) or memory ran out (7).
+    ensures explain_refused_always { IfSome (named_explain (texts words.now)) (λ job.
+        IsRejected IsUnusable (F.holds files.now) (record { subject = ProgramFile; name = job.program })
         → (status ≡ 3) ⊎ ((status ≡ 5) ⊎ (status ≡ 7))) }
 
     // What stays.

@@ -1,5 +1,6 @@
 -- What the answer to a request says.
 use Rattle.std.proofs.Common.{◌≡◌, ◌∙◌, ◌⊎◌, inl, inr, subst, ℕ, zero, suc, ◌<◌, ◌≤◌, List, [], ◌∷◌, Option, Some, None, All, IfSome, refl, sym, ap, arith, length, slice_get, take, cond, Bool, true, false}
+use Rattle.std.specs.Prelude.{string_bytes}
 use Rattle.std.proofs.lemmas.List.Elements.{All-get_or}
 use Rattle.std.proofs.lemmas.Option.{get_or_from_slice_get, same_Some, slice_get_within}
 use Rattle.collector.specs.Report.{report}
@@ -7,10 +8,12 @@ use Rattle.collector.specs.Status.{status}
 use Rattle.os_io.specs.declared.files.Files.{Ghosts as FilesView}
 use Rattle.os_io.specs.declared.sink.Sink.{Ghosts as SinkView}
 use Rattle.osrun_core_answer.specs.Answers.{AnswersRequest, HasCause, IsGiven, IsMade, asked_files}
-use Rattle.osrun_core_answer.specs.Made.{AnswersGen, IsCompiledOf, IsExecOf, IsMadeOf, IsUnmadeOf}
+use Rattle.osrun_core_answer.specs.Made.{AnswersGen, IsCompiledOf, IsExecOf, IsExplainedOf, IsMadeOf, IsUnmadeOf, told_outcome}
+use Rattle.osrun_core_answer.specs.declared.make_explain.Explanation.{Explanation}
+use Rattle.osrun_core_answer.proofs.Findings.{small_status}
 use Rattle.osrun_core_jobs.specs.Files.{JobFile, files_of, limit_of}
 use Rattle.osrun_core_jobs.specs.HandsOver.{HandsOver}
-use Rattle.osrun_core_jobs.specs.Jobs.{Compile, CompileJob, Exec, ExecJob, Gen, GenJob, IsExecWithin, IsGenWithin, IsRequestWithin, IsWithin, Job, Request, Run as RunRequest}
+use Rattle.osrun_core_jobs.specs.Jobs.{Compile, CompileJob, Exec, ExecJob, Explain, ExplainJob, Gen, GenJob, IsExecWithin, IsExplainWithin, IsGenWithin, IsRequestWithin, IsWithin, Job, Request, Run as RunRequest}
 use Rattle.osrun_core_jobs.specs.Reading.{IsCauseOf, IsFailed, IsReadable, IsRejected, ReadsInOrder, WasRead, WereRead}
 use Rattle.osrun_core_jobs.specs.Refusal.{refusal_status, usage_line}
 use Rattle.osrun_core_jobs.specs.Refuses.{Refuses}
@@ -342,6 +345,18 @@ module _ {F O E : Type 0} (of_files : FilesView F) (files_old files_new : F) (of
         };
       })
       statuses.AllDone s (omega arith) refl hands
+
+-- ---- what is told of an activation
+
+module _ {F O E : Type 0} (of_files : FilesView F) (files_old files_new : F) (of_out : SinkView O) (out_old out_new : O)
+    (of_report : SinkView E) (report_old report_new : E) (both : NeverUsableAndRefused) (job : ExplainJob) (within : IsExplainWithin job) where
+  pub answers_explain : (explanation : Explanation) → IsExplainedOf of_files files_old files_new job explanation → (s : Status)
+      → HandsOver of_out out_old out_new (string_bytes explanation.text) of_report report_old report_new [] explanation.status s
+      → AnswersRequest of_files files_old files_new of_out out_old out_new of_report report_old report_new (Some (Explain job)) (code_of s)
+  answers_explain explanation is s hands =
+      answers_handed of_files files_old files_new of_out out_old out_new of_report report_old report_new (Some (Explain job)) both
+      (record { request = Explain job; is_asked = refl; within = within; contents = is.0; read = is.1; outcome = told_outcome explanation; is_outcome = is.2 })
+      explanation.status s (small_status is.2.explains.finding (code_of explanation.status) is.2.explains.own_is) refl hands
 
 -- ---- the four lines of `gen`
 

@@ -3,3 +3,4 @@ pub mod GenRan
 pub mod Loaded
 pub mod MadeRun
 pub mod Workers
+pub mod Findings

@@ -20,16 +20,21 @@ use Rattle.epoch_run_bodies.specs.Laws.{AgreeingBodiesMeanOne}
 use Rattle.os_object.specs.Object.{OneReading, Spells}
 use Rattle.os_io.specs.declared.files.Files.{Ghosts as FilesView}
 use Rattle.osrun_core_answer.specs.Answers.{IsMade}
+use Rattle.osrun_core_answer.proofs.Findings.{same_finding}
+use Rattle.osrun_core_answer.specs.Explained.{finding_status}
 use Rattle.osrun_core_answer.specs.Gen.{four_lines, gen_budget, gen_lines}
 use Rattle.osrun_core_answer.specs.Laws.{IsTold, ObjectsRunAsTexts, SameButForWorkers, WorkersChangeNothing}
-use Rattle.osrun_core_answer.specs.Outcome.{IsOutcome, IsOutcomeOfExec, IsOutcomeOfGen, IsOutcomeOfRun, Outcome}
+use Rattle.osrun_core_answer.specs.Outcome.{IsOutcome, IsOutcomeOfExec, IsOutcomeOfExplain, IsOutcomeOfGen, IsOutcomeOfRun, Outcome}
 use Rattle.osrun_core_jobs.specs.Files.{JobFile, files_of}
-use Rattle.osrun_core_jobs.specs.Jobs.{Compile, Exec, ExecJob, Gen, GenJob, Job, Request, Run as RunRequest}
+use Rattle.osrun_core_jobs.specs.Jobs.{Compile, Exec, ExecJob, Explain, ExplainJob, Gen, GenJob, Job, Request, Run as RunRequest}
 use Rattle.osrun_core_jobs.specs.Reading.{WereRead}
 use Rattle.osrun_core_run.specs.Code.{IsCodeOf}
 use Rattle.osrun_core_run.specs.Refusal.{IsUsable}
 use Rattle.osrun_core_run.proofs.TasksRun.{same_ends}
 use Rattle.osrun_core_run.specs.Run.{ProgramRun, ends_over}
+use Rattle.wait_certs.specs.Finding.{IsFinding, finding_line}
+use Rattle.wait_certs.specs.declared.finding.Finding.{Finding}
+use Rattle.wait_certs_laws.specs.Laws.{OneWalk}
 
 -- a run by what it is of
 abbrev run_of : ProgramTree → List ℕ → (task_budget control_budget : ℕ) → ProgramRun
@@ -67,6 +72,13 @@ outcome_of run = record {
 abbrev gen_outcome : GenJob → ProgramRun → Outcome
 gen_outcome job run = record { output = gen_lines job run; told = []; own = 0 }
 
+abbrev explain_outcome : ProgramRun → (activation : ℕ) → Finding → Outcome
+explain_outcome run activation finding = record {
+  output = finding_line activation finding;
+  told = [];
+  own = finding_status finding;
+}
+
 -- outcomes with the same parts are the same
 same_outcome : (o q : Outcome) → o.output ≡ q.output → o.told ≡ q.told → o.own ≡ q.own → o ≡ q
 same_outcome o q output told own =
@@ -93,7 +105,7 @@ is_gen_outcome_of contents job outcome o =
     ∙ ap (gen_outcome job) (is_run_of o.is_run.program gen_budget gen_budget o.run o.is_run.control_is o.is_run.ends_are
     ∙ ap (λ input. run_of o.is_run.program input gen_budget gen_budget) o.is_run.input_is)
 
-module _ (one : OneProgram) (reading : OneReading) where
+module _ (one : OneProgram) (reading : OneReading) (walks : OneWalk) where
   of_runs : (contents : List (List ℕ)) (job other : Job) (outcome another : Outcome) → SameButForWorkers (RunRequest job) (RunRequest other)
       → IsOutcomeOfRun contents job outcome → IsOutcomeOfRun contents other another → outcome ≡ another
   of_runs contents job other outcome another same o q =
@@ -122,6 +134,29 @@ module _ (one : OneProgram) (reading : OneReading) where
       ∙ ap (λ n. outcome_of (exec_run q.code q.run.input other.task_budget n)) same.3
       ∙ sym (is_exec_outcome_of contents other another q)
 
+  of_explains : (contents : List (List ℕ)) (job other : ExplainJob) (outcome another : Outcome) → SameButForWorkers (Explain job) (Explain other)
+      → IsOutcomeOfExplain contents job outcome → IsOutcomeOfExplain contents other another → outcome ≡ another
+  of_explains contents job other outcome another same o q =
+      let contents_same = sym o.contents_are ∙ q.contents_are in
+      let texts : o.text ≡ q.text = ap (λ xs. get_or xs 0 []) contents_same in
+      let inputs : o.run.input ≡ q.run.input = ap (λ xs. get_or xs 1 []) contents_same in
+      let programs : o.program ≡ q.program = one q.text o.program q.program (subst (λ t. IsAccepted t o.program) texts o.is_program) q.is_program in
+      let runs : o.run ≡ q.run =
+      is_run_of o.program job.task_budget job.control_budget o.run o.control_is o.ends_are
+      ∙ ap (λ p. run_of p o.run.input job.task_budget job.control_budget) programs
+      ∙ ap (λ input. run_of q.program input job.task_budget job.control_budget) inputs
+      ∙ ap (λ n. run_of q.program q.run.input n job.control_budget) same.3
+      ∙ ap (λ n. run_of q.program q.run.input other.task_budget n) same.4
+      ∙ sym (is_run_of q.program other.task_budget other.control_budget q.run q.control_is q.ends_are) in
+      let of_run = subst (λ (r : ProgramRun). IsFinding r.control.activations (length r.input) r.ends.ends job.activation o.explains.finding) runs o.explains.is_finding in
+      let found = subst (λ a. IsFinding q.run.control.activations (length q.run.input) q.run.ends.ends a o.explains.finding) same.2 of_run in
+      same_outcome outcome (explain_outcome o.run job.activation o.explains.finding) o.explains.text_is o.report_is o.explains.own_is
+      ∙ ap (λ r. explain_outcome r job.activation o.explains.finding) runs
+      ∙ ap (λ a. explain_outcome q.run a o.explains.finding) same.2
+      ∙ ap (explain_outcome q.run other.activation)
+      (same_finding walks q.run.control.activations (length q.run.input) q.run.ends.ends other.activation o.explains.finding q.explains.finding found q.explains.is_finding)
+      ∙ sym (same_outcome another (explain_outcome q.run other.activation q.explains.finding) q.explains.text_is q.report_is q.explains.own_is)
+
   of_gens : (contents : List (List ℕ)) (job other : GenJob) (outcome another : Outcome) → SameButForWorkers (Gen job) (Gen other)
       → IsOutcomeOfGen contents job outcome → IsOutcomeOfGen contents other another → outcome ≡ another
   of_gens contents job other outcome another same o q =
@@ -141,6 +176,7 @@ module _ (one : OneProgram) (reading : OneReading) where
   change_nothing contents (RunRequest job) (RunRequest other) outcome another same o q = of_runs contents job other outcome another same o q
   change_nothing contents (Gen job) (Gen other) outcome another same o q = of_gens contents job other outcome another same o q
   change_nothing contents (Exec job) (Exec other) outcome another same o q = of_execs contents job other outcome another same o q
+  change_nothing contents (Explain job) (Explain other) outcome another same o q = of_explains contents job other outcome another same o q
   change_nothing contents (RunRequest job) (Gen other) outcome another same o q = absurd same
   change_nothing contents (RunRequest job) (Compile other) outcome another same o q = absurd same
   change_nothing contents (RunRequest job) (Exec other) outcome another same o q = absurd same
@@ -154,6 +190,14 @@ module _ (one : OneProgram) (reading : OneReading) where
   change_nothing contents (Exec job) (RunRequest other) outcome another same o q = absurd same
   change_nothing contents (Exec job) (Gen other) outcome another same o q = absurd same
   change_nothing contents (Exec job) (Compile other) outcome another same o q = absurd same
+  change_nothing contents (RunRequest job) (Explain other) outcome another same o q = absurd same
+  change_nothing contents (Gen job) (Explain other) outcome another same o q = absurd same
+  change_nothing contents (Compile job) (Explain other) outcome another same o q = absurd same
+  change_nothing contents (Exec job) (Explain other) outcome another same o q = absurd same
+  change_nothing contents (Explain job) (RunRequest other) outcome another same o q = absurd same
+  change_nothing contents (Explain job) (Gen other) outcome another same o q = absurd same
+  change_nothing contents (Explain job) (Compile other) outcome another same o q = absurd same
+  change_nothing contents (Explain job) (Exec other) outcome another same o q = absurd same
 
 -- the object of a text's code runs as the text
 pub objects_run : OneProgram → OneReading → AgreeingBodiesMeanOne → ObjectsRunAsTexts
@@ -206,6 +250,9 @@ same_files (Gen job) (Gen other) same = refl
 same_files (Exec job) (Exec other) same =
     ap (λ name. files_of (Exec (record job { object = name }))) same.0
     ∙ ap (λ name. files_of (Exec (record job { object = other.object; input = name }))) same.1
+same_files (Explain job) (Explain other) same =
+    ap (λ name. files_of (Explain (record job { program = name }))) same.0
+    ∙ ap (λ name. files_of (Explain (record job { program = other.program; input = name }))) same.1
 same_files (RunRequest job) (Gen other) same = absurd same
 same_files (RunRequest job) (Compile other) same = absurd same
 same_files (RunRequest job) (Exec other) same = absurd same
@@ -219,11 +266,19 @@ same_files (Compile job) (Exec other) same = absurd same
 same_files (Exec job) (RunRequest other) same = absurd same
 same_files (Exec job) (Gen other) same = absurd same
 same_files (Exec job) (Compile other) same = absurd same
+same_files (RunRequest job) (Explain other) same = absurd same
+same_files (Gen job) (Explain other) same = absurd same
+same_files (Compile job) (Explain other) same = absurd same
+same_files (Exec job) (Explain other) same = absurd same
+same_files (Explain job) (RunRequest other) same = absurd same
+same_files (Explain job) (Gen other) same = absurd same
+same_files (Explain job) (Compile other) same = absurd same
+same_files (Explain job) (Exec other) same = absurd same
 
-pub made_same : {F : Type 0} (view : FilesView F) (old new other_old other_new : F) → OneProgram → OneReading → view.holds other_old ≡ view.holds old
+pub made_same : {F : Type 0} (view : FilesView F) (old new other_old other_new : F) → OneProgram → OneReading → OneWalk → view.holds other_old ≡ view.holds old
     → (request other : Request) → SameButForWorkers request other → All (IsTold (view.holds old)) (files_of request)
     → (one : IsMade view old new (Some request)) (two : IsMade view other_old other_new (Some other)) → one.outcome ≡ two.outcome
-made_same view old new other_old other_new unique reading holds request other same told one two =
+made_same view old new other_old other_new unique reading walks holds request other same told one two =
     let asked : one.request ≡ request = same_Some one.request request (sym one.is_asked) in
     let asked_too : two.request ≡ other = same_Some two.request other (sym two.is_asked) in
     let files = same_files request other same in
@@ -233,6 +288,6 @@ made_same view old new other_old other_new unique reading holds request other sa
     let second = contents_told view other_old other_new (files_of other) two.contents (subst (λ q. WereRead IsUsable view other_old other_new (files_of q) two.contents) asked_too two.read) told_too in
     let contents : one.contents ≡ two.contents =
     first ∙ ap (map (held_by (view.holds old))) files ∙ ap (λ h. map (held_by h) (files_of other)) (sym holds) ∙ sym second in
-    change_nothing unique reading two.contents request other one.outcome two.outcome same
+    change_nothing unique reading walks two.contents request other one.outcome two.outcome same
     (subst (λ xs. IsOutcome xs request one.outcome) contents (subst (λ q. IsOutcome one.contents q one.outcome) asked one.is_outcome))
     (subst (λ q. IsOutcome two.contents q two.outcome) asked_too two.is_outcome)

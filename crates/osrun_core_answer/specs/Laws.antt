@@ -2,7 +2,7 @@
 use Rattle.std.specs.Prelude.{◌≡◌, ℕ, List, [], ◌∷◌, Option, Some}
 use Rattle.osrun_core_answer.specs.Outcome.{IsOutcome, IsOutcomeOfCompile, IsOutcomeOfExec, IsOutcomeOfRun, Outcome}
 use Rattle.osrun_core_jobs.specs.Files.{JobFile}
-use Rattle.osrun_core_jobs.specs.Jobs.{CompileJob, Exec, ExecJob, Gen, Job, Request, Run}
+use Rattle.osrun_core_jobs.specs.Jobs.{CompileJob, Exec, ExecJob, Explain, Gen, Job, Request, Run}
 
 -- the requests are the same, but for the number of workers
 abbrev pub SameButForWorkers : Request → Request → Type 0
@@ -10,6 +10,8 @@ SameButForWorkers (Run job) (Run other) = (job.program ≡ other.program) × (jo
     × (job.task_budget ≡ other.task_budget) × (job.control_budget ≡ other.control_budget)
 SameButForWorkers (Gen job) (Gen other) = (job.seed ≡ other.seed) × (job.blocks ≡ other.blocks)
 SameButForWorkers (Exec job) (Exec other) = (job.object ≡ other.object) × (job.input ≡ other.input)
+    × (job.task_budget ≡ other.task_budget) × (job.control_budget ≡ other.control_budget)
+SameButForWorkers (Explain job) (Explain other) = (job.program ≡ other.program) × (job.input ≡ other.input) × (job.activation ≡ other.activation)
     × (job.task_budget ≡ other.task_budget) × (job.control_budget ≡ other.control_budget)
 SameButForWorkers _ _ = ⊥
 

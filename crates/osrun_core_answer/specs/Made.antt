@@ -1,19 +1,21 @@
 -- What calls on the way of a job answer.
-use Rattle.std.specs.Prelude.{◌≡◌, ◌⊎◌, ℕ, List, [], ◌∷◌, MatchResult, Result}
+use Rattle.std.specs.Prelude.{◌≡◌, ◌⊎◌, ℕ, List, [], ◌∷◌, MatchResult, Result, string_bytes}
 use Rattle.front_end.specs.Texts.{IsAccepted}
 use Rattle.os_ast.specs.Trees.{ProgramTree}
 use Rattle.os_ast.specs.Views.{program_tree}
 use Rattle.os_io.specs.declared.files.Files.{Ghosts as FilesView}
 use Rattle.os_io.specs.declared.sink.Sink.{Ghosts as SinkView}
-use Rattle.osrun_core_answer.specs.Outcome.{IsOutcome, Outcome}
+use Rattle.osrun_core_answer.specs.Outcome.{IsOutcome, IsOutcomeOfExplain, Outcome}
+use Rattle.osrun_core_answer.specs.declared.make_explain.Explanation.{Explanation}
 use Rattle.os_code.specs.Codes.{parts_of}
 use Rattle.os_code.specs.declared.code.Code.{Code}
 use Rattle.os_code.specs.declared.parts.Parts.{Parts}
 use Rattle.os_object.specs.Object.{Spells}
 use Rattle.osrun_core_jobs.specs.Files.{JobFile, files_of}
 use Rattle.osrun_core_jobs.specs.HandsOver.{HandsOver}
-use Rattle.osrun_core_jobs.specs.Jobs.{Compile, CompileJob, Exec, ExecJob, Gen, GenJob, Job, Run as RunRequest}
+use Rattle.osrun_core_jobs.specs.Jobs.{Compile, CompileJob, Exec, ExecJob, Explain, ExplainJob, Gen, GenJob, Job, Run as RunRequest}
 use Rattle.osrun_core_jobs.specs.Reading.{IsCauseOf, IsFailed, Opened, ReadsInOrder, WasRead, WereRead}
+use Rattle.osrun_core_jobs.specs.Status.{code_of}
 use Rattle.osrun_core_jobs.specs.declared.refusal.Refusal.{Refusal}
 use Rattle.osrun_core_jobs.specs.declared.refusal.Refusal.TheVariants as refusals
 use Rattle.osrun_core_jobs.specs.declared.status.Status.{Status}
@@ -80,6 +82,18 @@ MakesRun view old new job result = MatchResult result (IsMadeOf view old new job
 
 abbrev pub MakesExec : {F : Type 0} → FilesView F → F → F → ExecJob → Result Run Refusal → Type 0
 MakesExec view old new job result = MatchResult result (IsExecOf view old new job) (IsUnmadeOf view old new (files_of (Exec job)))
+
+-- what is meant to be given where this is told
+abbrev pub told_outcome : Explanation → Outcome
+told_outcome explanation = record { output = string_bytes explanation.text; told = []; own = code_of explanation.status }
+
+-- the files were read, and what is told is what is meant to be given over them
+abbrev pub IsExplainedOf : {F : Type 0} → FilesView F → F → F → ExplainJob → Explanation → Type 0
+IsExplainedOf view old new job explanation =
+    (contents : List (List ℕ)) × WereRead IsUsable view old new (files_of (Explain job)) contents × IsOutcomeOfExplain contents job (told_outcome explanation)
+
+abbrev pub MakesExplanation : {F : Type 0} → FilesView F → F → F → ExplainJob → Result Explanation Refusal → Type 0
+MakesExplanation view old new job result = MatchResult result (IsExplainedOf view old new job) (IsUnmadeOf view old new (files_of (Explain job)))
 
 -- the four lines were handed over, or memory was wanted and nothing was written
 abbrev pub AnswersGen : {O E : Type 0} → SinkView O → O → O → SinkView E → E → E → GenJob → Status → Type 0

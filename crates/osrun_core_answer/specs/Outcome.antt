@@ -11,8 +11,9 @@ use Rattle.os_code.specs.Tasks.{Fits}
 use Rattle.os_code.specs.declared.parts.Parts.{Parts}
 use Rattle.os_object.specs.Object.{Spells}
 use Rattle.epoch_run_bodies.specs.Frames.{code_ends}
+use Rattle.osrun_core_answer.specs.Explained.{Explains}
 use Rattle.osrun_core_answer.specs.Gen.{IsRunOfGen, gen_lines}
-use Rattle.osrun_core_jobs.specs.Jobs.{Compile, CompileJob, Exec, ExecJob, Gen, GenJob, Job, Request, Run}
+use Rattle.osrun_core_jobs.specs.Jobs.{Compile, CompileJob, Exec, ExecJob, Explain, ExplainJob, Gen, GenJob, Job, Request, Run}
 use Rattle.osrun_core_run.specs.Code.{IsCodeOf, IsObjectOf}
 use Rattle.osrun_core_run.specs.Run.{ProgramRun, ends_over}
 
@@ -74,9 +75,23 @@ pub record IsOutcomeOfExec (contents : List (List ℕ)) (job : ExecJob) (outcome
   pub report_is : outcome.told ≡ report run.control.activations (length run.input) run.ends run.control.end
   pub status_is : outcome.own ≡ status run.ends.ends run.control.end
 
+-- Of `explain`: the run is that of `run` with the same files and budgets. The output is the line that tells of the activation, and
+-- the status is that line's. There is no report.
+pub record IsOutcomeOfExplain (contents : List (List ℕ)) (job : ExplainJob) (outcome : Outcome) : Type 0 where
+  pub text : List ℕ
+  pub run : ProgramRun
+  pub contents_are : contents ≡ text ∷ run.input ∷ []
+  pub program : ProgramTree
+  pub is_program : IsAccepted text program
+  pub control_is : run.control ≡ control program (length run.input) job.control_budget
+  pub ends_are : run.ends ≡ ends_over program run.control.activations run.input job.task_budget
+  pub explains : Explains run.control.activations (length run.input) run.ends.ends job.activation outcome.output outcome.own
+  pub report_is : outcome.told ≡ []
+
 -- What a request is meant to give over the bytes of its files, in the order of reading.
 abbrev pub IsOutcome : (contents : List (List ℕ)) → Request → Outcome → Type 0
 IsOutcome contents (Run job) outcome = IsOutcomeOfRun contents job outcome
 IsOutcome contents (Gen job) outcome = IsOutcomeOfGen contents job outcome
 IsOutcome contents (Compile job) outcome = IsOutcomeOfCompile contents job outcome
 IsOutcome contents (Exec job) outcome = IsOutcomeOfExec contents job outcome
+IsOutcome contents (Explain job) outcome = IsOutcomeOfExplain contents job outcome

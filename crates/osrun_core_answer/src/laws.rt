@@ -10,6 +10,7 @@ use epoch_run_bodies::laws::agreeing_bodies_mean_one;
 use front_end::one_answer;
 use os_io::Files;
 use os_object::laws::one_reading;
+use wait_certs_laws::laws::one_walk;
 
 /// What is given doesn't depend on the number of workers: over the same bytes, requests that differ in that number alone are
 /// meant to give the same output, report and status. So do two calls on files that tell the same, each before its call.
@@ -22,6 +23,7 @@ pub fn workers_change_nothing<F: Files>(files: &F, files_after: &F, others: &F, 
 {
     one_answer();
     one_reading();
+    one_walk();
 }
 
 /// What `compile` gives of a text is an object of which `exec` gives what `run` gives of the text, over every input and with the same

@@ -2,7 +2,7 @@
 use Rattle.std.specs.Prelude.{◌≡◌, ◌≤◌, ◌+◌, ℕ, Bool, List, [], ◌∷◌, IfSome, IsTrue, Option, Some, codes, length, slice_get}
 use Rattle.os_io.specs.Counts.{last_count}
 use Rattle.os_lexer.specs.Limits.{text_limit}
-use Rattle.osrun_core_jobs.specs.Jobs.{Request, Run, Gen, Compile, Exec}
+use Rattle.osrun_core_jobs.specs.Jobs.{Request, Run, Gen, Compile, Exec, Explain}
 use Rattle.osrun_core_jobs.specs.declared.subject.Subject.{Subject}
 use Rattle.osrun_core_jobs.specs.declared.subject.Subject.TheVariants.{Program, Input, Object}
 
@@ -31,6 +31,8 @@ files_of (Gen job) = []
 files_of (Compile job) = record { subject = Program; name = job.program } ∷ []
 files_of (Exec job) =
     record { subject = Object; name = job.object } ∷ record { subject = Input; name = job.input } ∷ []
+files_of (Explain job) =
+    record { subject = Program; name = job.program } ∷ record { subject = Input; name = job.input } ∷ []
 
 -- each opening that a job makes is allowed: the first file's at the number of openings so far, and the k-th one's at
 -- that number plus k, as far as that is no more than the last value of the count

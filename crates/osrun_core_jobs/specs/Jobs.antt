@@ -2,6 +2,7 @@
 use Rattle.std.specs.Prelude.{◌≤◌, ℕ, List, Option, Some, None}
 use Rattle.osrun_core_jobs.specs.declared.job.CompileJob.{CompileJob as LentCompile}
 use Rattle.osrun_core_jobs.specs.declared.job.ExecJob.{ExecJob as LentExec}
+use Rattle.osrun_core_jobs.specs.declared.job.ExplainJob.{ExplainJob as LentExplain}
 use Rattle.osrun_core_jobs.specs.declared.job.GenJob.{GenJob as LentGen}
 use Rattle.osrun_core_jobs.specs.declared.job.Job.{Job as Lent}
 use Rattle.osrun_core_jobs.specs.declared.job.Request.{Request as LentRequest}
@@ -33,12 +34,33 @@ pub record ExecJob : Type 0 where
   pub task_budget : ℕ
   pub control_budget : ℕ
 
+-- why an activation of a run never runs: the run of a program over an input, by the names of their files, with as many
+-- workers and turns, and the number of the activation
+pub record ExplainJob : Type 0 where
+  pub program : List ℕ
+  pub input : List ℕ
+  pub activation : ℕ
+  pub workers : ℕ
+  pub task_budget : ℕ
+  pub control_budget : ℕ
+
+-- the run of which an activation is explained
+abbrev pub explained_run : ExplainJob → Job
+explained_run job = record {
+  program = job.program;
+  input = job.input;
+  workers = job.workers;
+  task_budget = job.task_budget;
+  control_budget = job.control_budget;
+}
+
 -- what words may ask for
 pub data Request : Type 0 where
   Run : Job → Request
   Gen : GenJob → Request
   Compile : CompileJob → Request
   Exec : ExecJob → Request
+  Explain : ExplainJob → Request
 
 -- the run, where it is one
 abbrev pub run_in : Request → Option Job
@@ -46,6 +68,7 @@ run_in (Run job) = Some job
 run_in (Gen job) = None
 run_in (Compile job) = None
 run_in (Exec job) = None
+run_in (Explain job) = None
 
 -- the bytes to make, where it is that
 abbrev pub gen_in : Request → Option GenJob
@@ -53,6 +76,7 @@ gen_in (Run job) = None
 gen_in (Gen job) = Some job
 gen_in (Compile job) = None
 gen_in (Exec job) = None
+gen_in (Explain job) = None
 
 -- the program to compile, where it is that
 abbrev pub compile_in : Request → Option CompileJob
@@ -60,6 +84,7 @@ compile_in (Run job) = None
 compile_in (Gen job) = None
 compile_in (Compile job) = Some job
 compile_in (Exec job) = None
+compile_in (Explain job) = None
 
 -- the run of an object, where it is that
 abbrev pub exec_in : Request → Option ExecJob
@@ -67,6 +92,15 @@ exec_in (Run job) = None
 exec_in (Gen job) = None
 exec_in (Compile job) = None
 exec_in (Exec job) = Some job
+exec_in (Explain job) = None
+
+-- the activation to explain, where it is that
+abbrev pub explain_in : Request → Option ExplainJob
+explain_in (Run job) = None
+explain_in (Gen job) = None
+explain_in (Compile job) = None
+explain_in (Exec job) = None
+explain_in (Explain job) = Some job
 
 -- the numbers of a job are within their bounds
 pub record IsWithin (job : Job) : Type 0 where
@@ -88,11 +122,19 @@ pub record IsExecWithin (job : ExecJob) : Type 0 where
   pub task_turns : job.task_budget ≤ 1000000000
   pub control_turns : job.control_budget ≤ 1000000000
 
+pub record IsExplainWithin (job : ExplainJob) : Type 0 where
+  pub few_activations : job.activation ≤ 65535
+  pub some_workers : 1 ≤ job.workers
+  pub few_workers : job.workers ≤ 64
+  pub task_turns : job.task_budget ≤ 1000000000
+  pub control_turns : job.control_budget ≤ 1000000000
+
 abbrev pub IsRequestWithin : Request → Type 0
 IsRequestWithin (Run job) = IsWithin job
 IsRequestWithin (Gen job) = IsGenWithin job
 IsRequestWithin (Compile job) = Unit {0}
 IsRequestWithin (Exec job) = IsExecWithin job
+IsRequestWithin (Explain job) = IsExplainWithin job
 
 -- ---- what the code's values show
 
@@ -121,8 +163,19 @@ exec_of job = record {
   control_budget = job.terms.control_budget;
 }
 
+abbrev pub explain_of : LentExplain → ExplainJob
+explain_of job = record {
+  program = job.program.now;
+  input = job.input.now;
+  activation = job.activation;
+  workers = job.terms.workers;
+  task_budget = job.terms.task_budget;
+  control_budget = job.terms.control_budget;
+}
+
 abbrev pub request_of : LentRequest → Request
 request_of (lent.Run job) = Run (job_of job)
 request_of (lent.Gen job) = Gen (gen_of job)
 request_of (lent.Compile job) = Compile (compile_of job)
 request_of (lent.Exec job) = Exec (exec_of job)
+request_of (lent.Explain job) = Explain (explain_of job)

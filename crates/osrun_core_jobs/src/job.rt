@@ -49,6 +49,20 @@ pub struct ExecJob<'w> {
     pub terms: Terms,
 }
 
+/// Why an activation of a run never runs. The run is that of a program over an input, by the names of their files.
+#[derive(Clone, Copy, Debug)]
+pub struct ExplainJob<'w> {
+    /// The name of the program's file.
+    pub program: &'w str,
+    /// The name of the input's file.
+    pub input: &'w str,
+    /// The number of the activation, in the order in which the control program creates them, from 0 on and up to 65,535. There may
+    /// be no such activation.
+    pub activation: u32,
+    /// With how many workers and turns.
+    pub terms: Terms,
+}
+
 /// What the words ask for.
 #[derive(Clone, Copy, Debug)]
 pub enum Request<'w> {
@@ -60,4 +74,6 @@ pub enum Request<'w> {
     Compile(CompileJob<'w>),
     /// To run the code of an object over an input.
     Exec(ExecJob<'w>),
+    /// To tell why an activation never runs.
+    Explain(ExplainJob<'w>),
 }

@@ -4,9 +4,10 @@ ghost use Rattle.osrun_core_jobs.specs.Status.{code_of};
 /// How a call of the command ended.
 #[derive(Clone, Copy, Debug, PartialEq, Eq)]
 pub enum Status {
-    /// The job was done, and of a run every activation is Done, the control program too.
+    /// The job was done: of a run every activation is Done, the control program too, and an activation that was to be explained
+    /// is starved.
     AllDone = 0,
-    /// The run was made otherwise.
+    /// The run was made otherwise, or the activation that was to be explained isn't starved.
     NotAllDone = 1,
     /// The words name no job.
     BadWords = 2,

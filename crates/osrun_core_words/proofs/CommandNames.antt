@@ -17,9 +17,10 @@ unequal word first other = by (bytes_eq word first) refl
 
 pub none_named : (words : List (String Global)) (first : String Global) → slice_get words 0 ≡ Some first
     → (string_bytes first ≡ codes "run" → ⊥) → (string_bytes first ≡ codes "gen" → ⊥)
-    → (string_bytes first ≡ codes "compile" → ⊥) → (string_bytes first ≡ codes "exec" → ⊥) → command (texts words) ≡ None
-none_named [] first at run gen compile exec = refl
-none_named (word ∷ rest) first at run gen compile exec =
+    → (string_bytes first ≡ codes "compile" → ⊥) → (string_bytes first ≡ codes "exec" → ⊥)
+    → (string_bytes first ≡ codes "explain" → ⊥) → command (texts words) ≡ None
+none_named [] first at run gen compile exec explain = refl
+none_named (word ∷ rest) first at run gen compile exec explain =
     let same : word ≡ first = cc in
     let is : string_bytes word ≡ string_bytes first = ap string_bytes same in
     rw (
@@ -27,4 +28,5 @@ none_named (word ∷ rest) first at run gen compile exec =
       unequal (codes "gen") (string_bytes word) (λ e. gen (sym is ∙ e)),
       unequal (codes "compile") (string_bytes word) (λ e. compile (sym is ∙ e)),
       unequal (codes "exec") (string_bytes word) (λ e. exec (sym is ∙ e)),
+      unequal (codes "explain") (string_bytes word) (λ e. explain (sym is ∙ e)),
     ) refl

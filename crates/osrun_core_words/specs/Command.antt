@@ -5,7 +5,7 @@ use Rattle.std.specs.declared.string.String.{String}
 use Rattle.std.specs.declared.alloc.Global.{Global}
 use Rattle.clap.specs.Words.{App, Kinds, Row, Text, fault_of, matches_of}
 use Rattle.osrun_core_words.specs.Arguments.{Argument, name, number, option, name_in, number_in, simple_command}
-use Rattle.osrun_core_jobs.specs.Jobs.{Compile, CompileJob, Exec, ExecJob, Gen, GenJob, Job, Request, Run, compile_in, exec_in, gen_in, run_in}
+use Rattle.osrun_core_jobs.specs.Jobs.{Compile, CompileJob, Exec, ExecJob, Explain, ExplainJob, Gen, GenJob, Job, Request, Run, compile_in, exec_in, explain_in, gen_in, run_in}
 
 -- ---- the commands
 
@@ -75,8 +75,24 @@ exec_form = record {
   });
 }
 
+-- `explain PROGRAM INPUT ACTIVATION [--workers N] [--budget N] [--control N]`
+abbrev pub explain_form : CommandForm
+explain_form = record {
+  word = codes "explain";
+  arguments =
+      name (codes "PROGRAM") ∷ name (codes "INPUT") ∷ number (codes "ACTIVATION") 0 65535 ∷ workers ∷ task_budget ∷ control_budget ∷ [];
+  request = λ rows. Explain (record {
+    program = name_in rows (codes "PROGRAM");
+    input = name_in rows (codes "INPUT");
+    activation = number_in rows (codes "ACTIVATION");
+    workers = number_in rows (codes "workers");
+    task_budget = number_in rows (codes "budget");
+    control_budget = number_in rows (codes "control");
+  });
+}
+
 abbrev pub commands : List CommandForm
-commands = run_form ∷ gen_form ∷ compile_form ∷ exec_form ∷ []
+commands = run_form ∷ gen_form ∷ compile_form ∷ exec_form ∷ explain_form ∷ []
 
 -- ---- the words
 
@@ -116,6 +132,10 @@ named_compile words = option_and_then compile_in (command words)
 -- the run of an object that the words name
 abbrev pub named_exec : List Text → Option ExecJob
 named_exec words = option_and_then exec_in (command words)
+
+-- the activation that the words ask to be explained
+abbrev pub named_explain : List Text → Option ExplainJob
+named_explain words = option_and_then explain_in (command words)
 
 -- ---- what the code's values show
 

@@ -1,7 +1,7 @@
 //! The words of the command: which job they name.
 //!
-//! `command` answers the request that words name, or that they name none. The first word picks one of four commands, `run`,
-//! `gen`, `compile` and `exec`; a table says which arguments each takes, within which bounds and with which defaults, and clap reads
+//! `command` answers the request that words name, or that they name none. The first word picks one of five commands, `run`,
+//! `gen`, `compile`, `exec` and `explain`; a table says which arguments each takes, within which bounds and with which defaults, and clap reads
 //! all words by it.
 //! What words name is a matter of the words alone: nothing is read or written here. `laws` has two lists of words with what they
 //! name.

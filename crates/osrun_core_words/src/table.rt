@@ -55,6 +55,13 @@ pub const BLOCKS: Argument<'static> = Argument::Number {
     most: 65_536,
 };
 
+/// The number of an activation, in the order in which the control program creates them.
+pub const ACTIVATION: Argument<'static> = Argument::Number {
+    id: "ACTIVATION",
+    least: 0,
+    most: 65_535,
+};
+
 /// Runs a program over an input.
 pub const RUN: CommandForm<'static> = CommandForm {
     word: "run",
@@ -77,4 +84,17 @@ pub const COMPILE: CommandForm<'static> = CommandForm {
 pub const EXEC: CommandForm<'static> = CommandForm {
     word: "exec",
     arguments: &[OBJECT, INPUT, WORKERS, TASK_BUDGET, CONTROL_BUDGET],
+};
+
+/// Tells why an activation of a run never runs.
+pub const EXPLAIN: CommandForm<'static> = CommandForm {
+    word: "explain",
+    arguments: &[
+        PROGRAM,
+        INPUT,
+        ACTIVATION,
+        WORKERS,
+        TASK_BUDGET,
+        CONTROL_BUDGET,
+    ],
 };

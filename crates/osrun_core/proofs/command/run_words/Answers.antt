@@ -44,3 +44,11 @@ answer_exec-requires-clause-may g c lifetimes live =
 pub returns-in-Ok-Exec : goal.returns-in-Ok-Exec
 returns-in-Ok-Exec g c =
     rw (c.in-Ok-Exec.ensures.request, c.in-Ok-Exec.field-0-is, c.code-in-Ok-Exec.ensures) c.answer_exec.ensures
+
+pub answer_explain-requires-clause-may : goal.answer_explain-requires-clause-may
+answer_explain-requires-clause-may g c lifetimes live =
+    c.requires _ (c.in-Ok-Explain.ensures.request ∙ ap (λ r. Some (request_of r)) c.in-Ok-Explain.field-0-is)
+
+pub returns-in-Ok-Explain : goal.returns-in-Ok-Explain
+returns-in-Ok-Explain g c =
+    rw (c.in-Ok-Explain.ensures.request, c.in-Ok-Explain.field-0-is, c.code-in-Ok-Explain.ensures) c.answer_explain.ensures

@@ -1,4 +1,4 @@
-use Rattle.osrun_core.proofs.Says.{all_opened, bad_words, bad_words_always, compile_cut_short, compile_refused_always, compiled, complete, exec_refused_always, exec_undelivered, executed, gen_complete, gen_cut_short, gen_files, gen_report, gen_statuses, gen_written, headline, in_order, keeps, memory, no_read_fault, no_write_fault, nothing_read, nothing_written, opened_last, read_earlier, refused, refused_always, statuses_small, too_long_always, undelivered, usage, within}
+use Rattle.osrun_core.proofs.Says.{all_opened, bad_words, bad_words_always, compile_cut_short, compile_refused_always, compiled, complete, exec_refused_always, exec_undelivered, executed, explain_cut_short, explain_refused_always, explained, gen_complete, gen_cut_short, gen_files, gen_report, gen_statuses, gen_written, headline, in_order, keeps, memory, no_read_fault, no_write_fault, nothing_read, nothing_written, opened_last, read_earlier, refused, refused_always, statuses_small, too_long_always, undelivered, usage, within}
 use Rattle.osrun_core.proofs.laws.answers_say.Goals as goal
 
 pub returns-clause-headline : goal.returns-clause-headline
@@ -105,3 +105,12 @@ returns-clause-exec_undelivered g c = exec_undelivered _ _ _ _ _ _ _ _ _ _ _ c.r
 
 pub returns-clause-exec_refused_always : goal.returns-clause-exec_refused_always
 returns-clause-exec_refused_always g c = exec_refused_always _ _ _ _ _ _ _ _ _ _ _ c.requires
+
+pub returns-clause-explained : goal.returns-clause-explained
+returns-clause-explained g c = explained _ _ _ _ _ _ _ _ _ _ _ c.requires
+
+pub returns-clause-explain_cut_short : goal.returns-clause-explain_cut_short
+returns-clause-explain_cut_short g c = explain_cut_short _ _ _ _ _ _ _ _ _ _ _ c.requires
+
+pub returns-clause-explain_refused_always : goal.returns-clause-explain_refused_always
+returns-clause-explain_refused_always g c = explain_refused_always _ _ _ _ _ _ _ _ _ _ _ c.requires

@@ -9,3 +9,4 @@ returns-in_default-as_str-clause-refused c is =
     (λ e. c.in_default-as_str.not-gen (c.as_str.ensures.value ∙ e))
     (λ e. c.in_default-as_str.not-compile (c.as_str.ensures.value ∙ e))
     (λ e. c.in_default-as_str.not-exec (c.as_str.ensures.value ∙ e))
+    (λ e. c.in_default-as_str.not-explain (c.as_str.ensures.value ∙ e))
