@@ -19,7 +19,7 @@ IsIn xs x = (i : ℕ) × (slice_get xs i ≡ Some x)
 pub in_tail : (y x : ℕ) (xs : List ℕ) → IsIn xs x → IsIn (y ∷ xs) x
 in_tail y x xs (i, h) = (suc i, h)
 
-none_at_start : {O : Type 0} (count a : ℕ) → get_or {A = Option O} (replicate count None) a None ≡ None
+pub none_at_start : {O : Type 0} (count a : ℕ) → get_or {A = Option O} (replicate count None) a None ≡ None
 none_at_start zero a = refl
 none_at_start (suc n) zero = refl
 none_at_start (suc n) (suc a) = none_at_start n a

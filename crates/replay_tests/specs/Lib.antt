@@ -1,0 +1,2 @@
+-- Bodies that tests of replays have.
+pub mod Lasts

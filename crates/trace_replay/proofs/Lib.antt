@@ -1,0 +1,4 @@
+pub mod Owning
+pub mod State
+pub mod Standing
+pub mod Ending
