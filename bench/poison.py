@@ -1,10 +1,12 @@
 #!/usr/bin/env python3
 """What runs take whose activations are poisoned, as a table: of 1,024 to 65,536 activations, by 1 and 4 workers, the milliseconds of the
-quickest of five runs and the microseconds an activation, where the first failed and all others are poisoned by it; beside them the
-milliseconds where it didn't fail and all are done. In a chain each reads what the one created before it wrote, in a chain backwards what
-the one created behind it wrote, and in a fan all read the same element. Each report is compared with the one written here.
-./build has to have built the program."""
+quickest of five runs and, by 1 worker, the machine instructions an activation of the whole program, where valgrind is there. One
+activation fails and all others are poisoned by it; beside that the same where it doesn't fail and all are done. In a chain each reads
+what the one created before it wrote, in a chain backwards what the one created behind it wrote, and in a fan all read the same element.
+Each report is compared with the one written here. ./build has to have built the program."""
 import os
+import re
+import shutil
 import subprocess
 import sys
 import tempfile
@@ -74,23 +76,33 @@ def quickest(words, wanted):
     return best
 
 
+def instructions(words, count):
+    """The machine instructions of a run for each of so many activations, or `-`."""
+    if not shutil.which("valgrind"):
+        return "-"
+    ran = subprocess.run(["valgrind", "--tool=callgrind", "--callgrind-out-file=/dev/null", *words], capture_output=True, text=True)
+    collected = re.search(r"Collected : (\d+)", ran.stderr)
+    return f"{int(collected[1]) / count:.0f}"
+
+
 def main():
     if not os.access(OSRUN, os.X_OK):
         sys.exit("build the program first: ./build")
-    print(f"{'run':<10} {'activations':>11} {'workers':>7} {'poisoned ms':>11} {'us/activ':>9} {'done ms':>9}")
+    print(f"{'run':<10} {'activations':>11} {'workers':>7} {'poisoned ms':>11} {'instrs/activ':>12} {'done ms':>9} {'instrs/activ':>12}")
     with tempfile.TemporaryDirectory() as folder:
         program, nothing = f"{folder}/program.c", f"{folder}/nothing"
         open(nothing, "w", encoding="utf-8").close()
         for name, text in ("chain", CHAIN), ("backwards", BACKWARDS), ("fan", FAN):
             for count in 1024, 4096, 16384, 65536:
                 for workers in 1, 4:
-                    took = []
-                    for fails in True, False:
+                    row = f"{name:<10} {count:>11} {workers:>7}"
+                    for fails, width in (True, 11), (False, 9):
                         with open(program, "w", encoding="utf-8") as file:
                             file.write(text.replace("COUNT", str(count)).replace("DIVISOR", "0" if fails else "1"))
                         words = [OSRUN, "run", program, nothing, "--workers", str(workers)]
-                        took.append(quickest(words, report(text, count, fails)))
-                    print(f"{name:<10} {count:>11} {workers:>7} {took[0]:>11.1f} {took[0] * 1000 / count:>9.2f} {took[1]:>9.1f}", flush=True)
+                        took = quickest(words, report(text, count, fails))
+                        row += f" {took:>{width}.1f} {instructions(words, count) if workers == 1 else '-':>12}"
+                    print(row, flush=True)
 
 
 main()
