@@ -1,9 +1,9 @@
 #!/usr/bin/env bash
 # Runs two programs many times, by several numbers of workers, and compares what each run writes and reports: whatever the
-# schedule, the bytes are the same. The first has forty activations that read what others write, two or five before or behind
-# them, some of them starved and one trapped; its runs are compared with one by one worker. The second, `examples/smooth.c`, has
-# forty activations that can all run at once; it is run over the bytes 0 to 41, whose means by three are the bytes 1 to 40. The
-# last line is `N passed, M failed`.
+# schedule, the bytes are the same. The first has forty activations that read what others write, mostly two before or behind them: some
+# wait for one another and are starved, one traps and poisons four. Its runs are compared with one by one worker. The second,
+# `examples/smooth.c`, has forty activations that can all run at once; it is run over the bytes 0 to 41, whose means by three are the
+# bytes 1 to 40. The last line is `N passed, M failed`.
 #
 #     tests/schedules.sh [RUNS]       10,000 runs of each, where no number is given; ./build has to have built the program
 set -u
@@ -32,7 +32,7 @@ int main(void) {
             #pragma omp task output(osout << y, s[i] << z)
             { y = turns(i * 50); z = y; }
         } else if (i == 17) {
-            #pragma omp task input(s[i - 5] >> x) output(osout << y, s[i] << z)
+            #pragma omp task input(s[i - 10] >> x) output(osout << y, s[i] << z)
             { y = x / (i - 17); z = y; }
         } else if (i % 9 == 0) {
             #pragma omp task input(s[i + 2] >> x) output(osout << y, s[i] << z)

@@ -180,6 +180,36 @@ const CASES: [Case<'static>; 8] = [
     },
 ];
 
+/// One failed activation poisons many, and many poison one.
+const FAILING: [Case<'static>; 2] = [
+    // The second one traps, and poisons all behind it, each by way of the one before.
+    Case {
+        shape: Shape::Chain,
+        activations: 1000,
+        input: 4,
+        some_fail: true,
+        done: 1,
+        trapped: 1,
+        over_budget: 0,
+        poisoned: 998,
+        output: 1,
+        elements: &[(0, Some(Elem::Poison(1)))],
+    },
+    // Of the thousand in the middle 200 trap and 200 are over budget; the last one reads from all of them.
+    Case {
+        shape: Shape::Fan,
+        activations: 1002,
+        input: 4,
+        some_fail: true,
+        done: 601,
+        trapped: 200,
+        over_budget: 200,
+        poisoned: 1,
+        output: 1,
+        elements: &[(0, Some(Elem::Poison(1)))],
+    },
+];
+
 /// How often the gate was called, and the highest worker that it was told.
 #[derive(Drop)]
 struct Calls {
@@ -197,20 +227,33 @@ impl Gate for Calls {
 /// Several workers give what one thread gives, and what was counted by hand.
 #[test]
 fn runs_as_one_thread_does(rt: HostRuntime) -> Result<(), Fail> {
-    for case in &CASES {
-        let alloc = rt.alloc();
+    all_run_by_hand(&rt, rt.alloc(), &CASES)
+}
+
+#[test]
+fn poison_reaches_all_that_read_it(rt: HostRuntime) -> Result<(), Fail> {
+    all_run_by_hand(&rt, rt.alloc(), &FAILING)
+}
+
+/// Whether the plan of each case runs as was counted by hand.
+fn all_run_by_hand<R: Threads + Abort + Sync>(
+    rt: &R,
+    alloc: Global,
+    cases: &[Case<'_>],
+) -> Result<(), Fail> {
+    for case in cases {
         let mut input = Vec::new(alloc);
         for k in 0..case.input {
             input.push((k % 251) as u8)?;
         }
-        assert!(&rt; input.len() < 65_536);
+        assert!(rt; input.len() < 65_536);
         let activations = activations_of(alloc, case)?;
         let Some(layout) = lawful_layout(alloc, 4, input.len() as u32, activations.as_slice())?
         else {
             return Err(Fail::from("the activations aren't lawful"));
         };
         let plan = build(alloc, &layout, input.as_slice())?;
-        runs_by_hand(&rt, alloc, case, &plan)?;
+        runs_by_hand(rt, alloc, case, &plan)?;
     }
     Ok(())
 }
