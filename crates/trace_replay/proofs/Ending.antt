@@ -1,15 +1,14 @@
 -- The end of a replay.
-use Rattle.std.proofs.Common.{◌≡◌, ◌≢◌, ℕ, ℤ, ◌<◌, ◌≤◌, List, Option, Some, None, true, length, get_or, refl, sym, ap, ◌∙◌, subst, arith}
-use Rattle.std.specs.Prelude.{is_some, IsSome, slice_range}
-use Rattle.std.proofs.lemmas.Option.{slice_get_within}
+use Rattle.std.proofs.Common.{◌≡◌, ℕ, ℤ, ◌<◌, List, Option, Some, None, true, length, get_or, sym, ap, ◌∙◌, subst, arith}
+use Rattle.std.specs.Prelude.{is_some, IsSome}
 use Rattle.flow_core_laws.specs.declared.elem.Elem.{Elem}
 use Rattle.flow_core_laws.specs.declared.ends.Ends.{Ends}
 use Rattle.flow_core_laws.specs.declared.plan.Plan.{Plan}
 use Rattle.flow_core_laws.specs.declared.outcome.Outcome.{Outcome}
 use Rattle.flow_core_laws.specs.Outcome.{outcome_at, State}
 use Rattle.flow_core_laws.specs.Poisoning.{poisoning}
-use Rattle.flow_core_laws.specs.Plans.{frame_at, number_at, cell_source, plan_reads, plan_element, plan_meaning}
-use Rattle.flow_core_laws.specs.IsSound.{IsSound, HasCell}
+use Rattle.flow_core_laws.specs.Plans.{number_at, plan_reads, plan_element, plan_meaning}
+use Rattle.flow_core_laws.specs.IsSound.{IsSound}
 use Rattle.flow_core_laws.proofs.Rounds.{length-meaning}
 use Rattle.flow_core_laws.proofs.Orders.{reached_meaning}
 use Rattle.flow_core_laws.proofs.Elements.{element_kept}
@@ -17,14 +16,14 @@ use Rattle.flow_core.specs.declared.board.Board.{Board}
 use Rattle.flow_core.specs.Shows.{end_at}
 use Rattle.flow_core.proofs.Running.{ends_meant, sink_meant}
 use Rattle.flow_core.proofs.Showing.{part_of}
-use Rattle.trace_replay_laws.specs.Lists.{number_in, frames_of, IsOrderOf, head_after, HaveRun}
-use Rattle.trace_replay_laws.specs.Answers.{plan_after, AreFrames, IsLawfulOrder, IsEnabledAfter, AreStuck, AreShort, AreWhole}
+use Rattle.trace_replay_laws.specs.Lists.{number_in, frames_of, head_after, HaveRun}
+use Rattle.trace_replay_laws.specs.Answers.{plan_after, AreFrames, IsLawfulOrder, AreStuck, AreShort, AreWhole}
 use Rattle.trace_replay_laws.proofs.Lawful.{reached_after}
 use Rattle.trace_replay_laws.proofs.Taking.{none_left, order_of_heads}
 use Rattle.trace_replay_laws.proofs.Heads.{finds}
 use Rattle.trace_replay.specs.Standing.{Stands, HeadWaits, IsFirstLeft, IsFirstHole, MayRun, IsLeastFree}
 use Rattle.trace_replay.proofs.Owning.{exists_of}
-use Rattle.trace_replay.proofs.State.{behind, held_behind, cell_exists, free_is_enabled, enabled_is_free}
+use Rattle.trace_replay.proofs.State.{held_behind, cell_exists, free_is_enabled, enabled_is_free}
 
 module _ (plan : Plan) (outcome : ℕ → List ℤ → Outcome) (lists : List (List ℕ)) (sound : IsSound plan) (frames : AreFrames plan outcome lists) (places : List ℕ) (board : Board) (stands : Stands plan outcome lists places board) where
   -- a head by its place

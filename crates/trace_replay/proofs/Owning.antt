@@ -1,10 +1,10 @@
 -- Lists that own their numbers.
-use Rattle.std.proofs.Common.{◌≡◌, ◌≢◌, ℕ, zero, suc, ◌+◌, ◌<◌, ◌≤◌, List, [], ◌∷◌, Option, Some, None, length, get_or, ◌++◌, set, replicate, take, drop, refl, sym, ap, ◌∙◌, subst, ◌⊎◌, inl, inr, arith}
+use Rattle.std.proofs.Common.{◌≡◌, ◌≢◌, ℕ, zero, suc, ◌+◌, ◌<◌, ◌≤◌, List, [], ◌∷◌, Some, length, get_or, ◌++◌, set, replicate, take, drop, refl, sym, ap, ◌∙◌, subst, ◌⊎◌, inl, inr, arith}
 use Rattle.std.specs.Prelude.{slice_get}
 use Rattle.std.proofs.lemmas.Bool.{cases_lt, cases_eq, cases_order}
 use Rattle.std.proofs.lemmas.List.{get_or-set_same, get_or-set_other, length-set, length-replicate, get_or-replicate, take_all}
 use Rattle.std.proofs.lemmas.Option.{same_Some, slice_get_within, slice_get-get_or, get_or_from_slice_get}
-use Rattle.trace_replay_laws.specs.Lists.{number_in, IsBefore, AreBelow, IsFirstStranger, StoodBefore, HaveNoRepeat, IsFirstRepeat}
+use Rattle.trace_replay_laws.specs.Lists.{number_in, IsBefore, IsFirstStranger, StoodBefore, HaveNoRepeat, IsFirstRepeat}
 use Rattle.trace_replay_laws.proofs.Taking.{list_of, number_at}
 use Rattle.trace_replay.specs.Owners.{AreOwners, OwnBefore}
 

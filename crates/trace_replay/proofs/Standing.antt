@@ -1,8 +1,8 @@
 -- Steps of a replay.
-use Rattle.std.proofs.Common.{◌≡◌, ◌≢◌, ℕ, ℤ, zero, suc, ◌+◌, ◌<◌, ◌≤◌, List, [], ◌∷◌, ◌++◌, All, Option, Some, None, Bool, true, false, map, length, get_or, set, replicate, refl, sym, ap, ◌∙◌, subst, ◌⊎◌, inl, inr, arith, length-append, append_assoc, append-nil}
+use Rattle.std.proofs.Common.{◌≡◌, ◌≢◌, ℕ, ℤ, zero, suc, ◌+◌, ◌<◌, ◌≤◌, List, [], ◌∷◌, ◌++◌, Option, Some, None, false, map, length, get_or, set, replicate, refl, sym, ap, ◌∙◌, subst, ◌⊎◌, inl, inr, arith, length-append, append_assoc, append-nil}
 use Rattle.std.specs.Prelude.{is_some, slice_get}
 use Rattle.std.proofs.lemmas.Bool.{cases_lt, cases_eq}
-use Rattle.std.proofs.lemmas.List.{get_or-set_same, get_or-set_other, length-set, length-map}
+use Rattle.std.proofs.lemmas.List.{get_or-set_same, get_or-set_other, length-set}
 use Rattle.std.proofs.lemmas.List.Elements.{All-push}
 use Rattle.std.proofs.lemmas.Option.{same_Some, slice_get_within}
 use Rattle.flow_core_laws.specs.declared.plan.FramePlan.{FramePlan}
@@ -15,8 +15,7 @@ use Rattle.flow_core_laws.specs.Poisoning.{poisoning}
 use Rattle.flow_core_laws.specs.Plans.{plan_reads, plan_element, plan_meaning}
 use Rattle.flow_core_laws.specs.IsSound.{IsSound}
 use Rattle.flow_core.specs.declared.board.Board.{Board}
-use Rattle.flow_core.specs.declared.waits.Waits.{Waits}
-use Rattle.flow_core.specs.Waits.{OpensFull, OpensMore}
+use Rattle.flow_core.specs.Waits.{OpensMore}
 use Rattle.flow_core.specs.Counted.{IsCounted}
 use Rattle.flow_core.specs.Shows.{Shows, end_at}
 use Rattle.flow_core.proofs.Running.{IsRun-opening}
@@ -26,9 +25,8 @@ use Rattle.trace_replay_laws.specs.Answers.{plan_after, AreFrames}
 use Rattle.trace_replay_laws.proofs.Lawful.{IsIn, none_at_start, outcome_after, ran_before, lawful_more, after_all-more}
 use Rattle.trace_replay_laws.proofs.Taking.{behind as stands_behind, taken-more, taken-more_elsewhere, frames-append, frame_taken, taken_stands, list_of}
 use Rattle.trace_replay.specs.Owners.{AreOwners}
-use Rattle.trace_replay.specs.Standing.{Stands, HeadWaits, AreQueued, MayRun}
-use Rattle.trace_replay.proofs.Owning.{exists_of}
-use Rattle.trace_replay.proofs.State.{behind, no_outcome, free_is_enabled}
+use Rattle.trace_replay.specs.Standing.{Stands, HeadWaits, AreQueued}
+use Rattle.trace_replay.proofs.State.{behind, free_is_enabled}
 
 -- nothing has an end at the opening
 no_end_yet : (frames : List FramePlan) (f : ℕ) → end_at (map (λ (p : FramePlan). None) frames) f ≡ None

@@ -1,6 +1,6 @@
 -- What a board shows of the state behind an order.
-use Rattle.std.proofs.Common.{◌≡◌, ◌≢◌, ℕ, zero, suc, ◌+◌, ◌-◌, ◌<◌, ◌≤◌, ℤ, List, [], ◌∷◌, Option, Some, None, Bool, true, false, cond, map, length, get_or, refl, sym, ap, ◌∙◌, subst, ◌⊎◌, inl, inr, arith}
-use Rattle.std.specs.Prelude.{is_some, is_none, IsSome, option_and_then, count_by}
+use Rattle.std.proofs.Common.{◌≡◌, ℕ, zero, suc, ◌+◌, ◌<◌, ◌≤◌, ℤ, List, Option, Some, None, Bool, false, cond, map, length, refl, sym, ap, ◌∙◌, arith}
+use Rattle.std.specs.Prelude.{is_some, option_and_then}
 use Rattle.std.specs.List.{range_with_len}
 use Rattle.flow_core_laws.specs.declared.elem.Elem.{Elem}
 use Rattle.flow_core_laws.specs.declared.plan.Plan.{Plan}
@@ -18,7 +18,7 @@ use Rattle.flow_core_laws.proofs.Orders.{enabled_inputs, enabled_from}
 use Rattle.flow_core_laws.proofs.Elements.{element_kept}
 use Rattle.flow_core_laws.proofs.Sources.{map_map}
 use Rattle.flow_core.specs.declared.board.Board.{Board}
-use Rattle.flow_core.specs.Shows.{end_at, shown, Shows}
+use Rattle.flow_core.specs.Shows.{end_at, shown}
 use Rattle.flow_core.proofs.Showing.{inputs_there, stretch_of}
 use Rattle.trace_replay_laws.specs.Lists.{frames_of}
 use Rattle.trace_replay_laws.specs.Answers.{plan_after}

@@ -6,6 +6,8 @@
 //! that stands twice, a head that can't run, or a frame that could run behind all lists. Which answer comes when is a
 //! definition (`Answers` of `trace_replay_laws`), which speaks of orders in which the frames can have run.
 //!
+//! `print_trace` and `read_trace` write and read such lists as text (`trace_replay_text`).
+//!
 //! Each frame is looked at once when it misses nothing any more, and its list then is gone on with: lists that wait aren't
 //! looked at meanwhile.
 #![tactic(auto)]
@@ -18,3 +20,4 @@ mod running;
 
 pub use replaying::replay;
 pub use trace_replay_laws::Replayed;
+pub use trace_replay_text::{MOST_WORKERS, TraceError, print_trace, read_trace};

@@ -69,7 +69,8 @@ abbrev pub head_after : List (List ℕ) → List Taken → ℕ → Option ℕ
 head_after lists order list = number_in lists list (length (taken_from list order))
 
 -- Heads were run as long as one was enabled: in a lawful order, and no head that is left is enabled.
-pub record HaveRun {S V O : Type 0} (element : List (Option O) → S → Option V) (reads : ℕ → List S) (body : ℕ → List V → O) (count : ℕ) (lists : List (List ℕ)) (order : List Taken) : Type 0 where
+pub record HaveRun {S V O : Type 0} (element : List (Option O) → S → Option V) (reads : ℕ → List S) (body : ℕ → List V → O) (count : ℕ)
+    (lists : List (List ℕ)) (order : List Taken) : Type 0 where
   pub of_heads : IsOrderOfHeads lists order
   pub lawful : IsLawful element reads body count (frames_of order)
   pub none_is_enabled : (k f : ℕ) → head_after lists order k ≡ Some f

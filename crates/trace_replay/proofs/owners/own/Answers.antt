@@ -1,8 +1,5 @@
-use Rattle.std.proofs.Common.{◌≡◌, ◌<◌, List, Some, get_or, length, sym, ap, subst, ◌∙◌, arith}
-use Rattle.std.specs.Prelude.{slice_get}
+use Rattle.std.proofs.Common.{◌∙◌, arith}
 use Rattle.std.proofs.lemmas.List.{length-set}
-use Rattle.std.proofs.lemmas.Option.{slice_get-get_or}
-use Rattle.trace_replay_laws.specs.Lists.{number_in}
 use Rattle.trace_replay.proofs.Owning.{number_read, own_more, own_list, repeat_at, list_read}
 use Rattle.trace_replay.proofs.owners.own.Goals as goal
 

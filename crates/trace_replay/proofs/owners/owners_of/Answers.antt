@@ -1,4 +1,4 @@
-use Rattle.std.proofs.Common.{arith, sym, ap, subst, ◌∙◌, ◌≡◌, ℕ, ◌<◌, ◌+◌, List, length, get_or}
+use Rattle.std.proofs.Common.{arith, sym, ap, subst, ◌∙◌, ◌≡◌, ◌+◌, length}
 use Rattle.trace_replay.specs.Owners.{OwnBefore}
 use Rattle.trace_replay.proofs.Owning.{own_none, owners_own, written, made_of}
 use Rattle.trace_replay.proofs.owners.owners_of.Goals as goal

@@ -1,4 +1,4 @@
-use Rattle.std.proofs.Common.{arith, ap, sym, subst, ◌∙◌, ◌≡◌, ℕ, ◌<◌, List, length, get_or}
+use Rattle.std.proofs.Common.{arith, sym, subst, ℕ, List}
 use Rattle.trace_replay.specs.Standing.{Stands}
 use Rattle.trace_replay.proofs.Owning.{made_of}
 use Rattle.trace_replay.proofs.Standing.{stands_first}

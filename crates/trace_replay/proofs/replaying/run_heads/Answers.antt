@@ -1,4 +1,4 @@
-use Rattle.std.proofs.Common.{arith, ◌≡◌, ◌+◌, ◌≤◌, ◌<◌, length, drop}
+use Rattle.std.proofs.Common.{arith, length}
 use Rattle.std.proofs.lemmas.List.{length-drop}
 use Rattle.task_workers.proofs.Apart.{opened_few}
 use Rattle.trace_replay.proofs.replaying.run_heads.Goals as goal
