@@ -373,7 +373,6 @@ told_of "the greatest number of an activation" 65535 1 "no activation 65535"
 for workers in 1 64; do
     told_of "two that wait for one another, by $workers workers" 0 0 "chain 0 1 back 0" cycles.c nothing.bin --workers "$workers"
 done
-told_of "without turns for the control program there is no activation" 0 1 "no activation 0" cycles.c nothing.bin --control 0
 told_of "an activation that is done" 0 1 "not starved 0" first.c in.bin
 told_of "a number past the activations" 5 1 "no activation 5" first.c in.bin
 cat >short.c <<'END'
@@ -456,6 +455,7 @@ for workers in 1 4; do
     echo "chain $(seq -s ' ' 0 65535) none stream 2 position 65536" >wanted
     agree "a chain of 65,536 activations by $workers workers" 0 wanted ""
 done
+told_of "without turns for the control program there is no activation" 0 1 "no activation 0" column.c nothing.bin --control 0
 told_of "the end of that chain" 65535 0 "chain 65535 none stream 2 position 65536" column.c nothing.bin
 told_of "the example of the guide" 4 0 "chain 4 5 back 4" "$top/examples/waiting.c" in.bin
 run run "$top/examples/waiting.c" in.bin
