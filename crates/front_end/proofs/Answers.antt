@@ -67,7 +67,7 @@ one_refusal marks kinds one fault never reading place text code line other there
     absurd (n.3.none v.0 (moved one text n.0 v.2.0 v.0 n.2 v.2.1 v.2.2))
 one_refusal marks kinds one fault never reading place text code line other there (has_violation v) (has_violation w) =
     let both = least_is_one marks kinds v.2.0 v.0 v.2.2 v.1 w.1 v.3
-        (subst (λ (p : ProgramTree). IsRefusal p w.1) (same one reading text w.0 v.0 w.2 v.2) w.3) in
+    (subst (λ (p : ProgramTree). IsRefusal p w.1) (same one reading text w.0 v.0 w.2 v.2) w.3) in
     (sym v.4 ∙ both.0 ∙ w.4, sym v.5 ∙ both.1 ∙ w.5)
 
 -- tokens mean a program or none
