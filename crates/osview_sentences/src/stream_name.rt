@@ -23,7 +23,7 @@ impl StreamName {
     }
 
     /// The bytes of the name.
-    pub(crate) fn bytes(self, text: &[u8]) -> &[u8]
+    pub fn bytes(self, text: &[u8]) -> &[u8]
         ensures { result.now ≡ slice text.now self.start self.end }
     {
         let start = (self.start as usize).min(text.len());
