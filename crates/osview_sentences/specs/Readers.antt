@@ -32,8 +32,6 @@ abbrev pub shared_text : Supply → Option ℕ → List ℕ
 shared_text supply.Ended other = []
 shared_text supply.Nobody other = option_map_or reads_text other []
 shared_text supply.Itself other = []
-shared_text (supply.Trapped giver) other = []
-shared_text (supply.OutOfTurns giver) other = []
 shared_text (supply.Waiting giver) other = []
 
 -- Where an activation of a task waits for what nobody writes: whether another task reads the stream, since each reader takes
@@ -41,4 +39,5 @@ shared_text (supply.Waiting giver) other = []
 abbrev pub also_text : List Span → (lines : List ℕ) → (at : ℕ) → Fact → List ℕ
 also_text spans lines at (fact.Trapped code line) = []
 also_text spans lines at fact.OverBudget = []
+also_text spans lines at (fact.Poisoned root) = []
 also_text spans lines at (fact.Waits stream position by) = shared_text by (other_reader spans lines stream at)

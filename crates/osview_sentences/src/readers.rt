@@ -68,11 +68,7 @@ impl Text {
     {
         match supply {
             Supply::Nobody => self.reads_if(other_reader(spans, lines, stream, at)),
-            Supply::Ended
-            | Supply::Itself
-            | Supply::Trapped { .. }
-            | Supply::OutOfTurns { .. }
-            | Supply::Waiting { .. } => Ok(()),
+            Supply::Ended | Supply::Itself | Supply::Waiting { .. } => Ok(()),
         }
     }
 
@@ -87,7 +83,7 @@ impl Text {
         ensures { OnOk result (self.new ≡ self.old ++ also_text spans.now lines.now at fact) }
     {
         match fact {
-            Fact::Trapped { .. } | Fact::OverBudget => Ok(()),
+            Fact::Trapped { .. } | Fact::OverBudget | Fact::Poisoned { .. } => Ok(()),
             Fact::Waits { stream, supply, .. } => self.shared(spans, lines, stream, at, supply),
         }
     }

@@ -1,0 +1,96 @@
+#!/usr/bin/env python3
+"""What runs take whose activations are poisoned, as a table: of 1,024 to 65,536 activations, by 1 and 4 workers, the milliseconds of the
+quickest of five runs and the microseconds an activation, where the first failed and all others are poisoned by it; beside them the
+milliseconds where it didn't fail and all are done. In a chain each reads what the one created before it wrote, in a chain backwards what
+the one created behind it wrote, and in a fan all read the same element. Each report is compared with the one written here.
+./build has to have built the program."""
+import os
+import subprocess
+import sys
+import tempfile
+import time
+
+TOP = os.path.dirname(os.path.dirname(os.path.abspath(__file__)))
+OSRUN = f"{TOP}/crates/osrun/out/osrun"
+
+CHAIN = """int main(void) {
+    int s __attribute__((stream));
+    int i, x, y;
+    #pragma omp task output(s << y)
+    y = 1 / DIVISOR;
+    for (i = 1; i < COUNT; i++) {
+        #pragma omp task input(s >> x) output(s << y)
+        y = x;
+    }
+}
+"""
+
+BACKWARDS = """int main(void) {
+    int s[COUNT] __attribute__((stream));
+    int i, x, y;
+    for (i = 1; i < COUNT; i++) {
+        #pragma omp task input(s[i] >> x) output(s[i - 1] << y)
+        y = x;
+    }
+    #pragma omp task output(s[COUNT - 1] << y)
+    y = 1 / DIVISOR;
+}
+"""
+
+FAN = """int main(void) {
+    int s __attribute__((stream));
+    int i, w[1], y;
+    #pragma omp task output(s << y)
+    y = 1 / DIVISOR;
+    for (i = 1; i < COUNT; i++) {
+        #pragma omp task input(s >> w[0])
+        y = w[0];
+    }
+}
+"""
+
+
+def report(text, count, fails):
+    """The report of a run of one of the programs, by hand: the activation that fails is the last one of the chain backwards alone."""
+    if not fails:
+        return "control done\noutput 0 of 0\n"
+    root = count - 1 if text == BACKWARDS else 0
+    line = next(number for number, line in enumerate(text.split("\n"), 1) if "DIVISOR" in line)
+    lines = [f"poisoned {number} by {root}" for number in range(count)]
+    lines[root] = f"trapped {root} code 2 line {line}"
+    return "\n".join([*lines, "control done", "output 0 of 0", ""])
+
+
+def quickest(words, wanted):
+    """The milliseconds of the quickest of five runs, each with the report that is wanted."""
+    best = None
+    for _ in range(5):
+        began = time.perf_counter()
+        ran = subprocess.run(words, capture_output=True, text=True)
+        took = (time.perf_counter() - began) * 1000
+        if ran.stderr != wanted or ran.stdout:
+            sys.exit(f"{' '.join(words)}: another output or report")
+        best = took if best is None else min(best, took)
+    return best
+
+
+def main():
+    if not os.access(OSRUN, os.X_OK):
+        sys.exit("build the program first: ./build")
+    print(f"{'run':<10} {'activations':>11} {'workers':>7} {'poisoned ms':>11} {'us/activ':>9} {'done ms':>9}")
+    with tempfile.TemporaryDirectory() as folder:
+        program, nothing = f"{folder}/program.c", f"{folder}/nothing"
+        open(nothing, "w", encoding="utf-8").close()
+        for name, text in ("chain", CHAIN), ("backwards", BACKWARDS), ("fan", FAN):
+            for count in 1024, 4096, 16384, 65536:
+                for workers in 1, 4:
+                    took = []
+                    for fails in True, False:
+                        with open(program, "w", encoding="utf-8") as file:
+                            file.write(text.replace("COUNT", str(count)).replace("DIVISOR", "0" if fails else "1"))
+                        words = [OSRUN, "run", program, nothing, "--workers", str(workers)]
+                        took.append(quickest(words, report(text, count, fails)))
+                    print(f"{name:<10} {count:>11} {workers:>7} {took[0]:>11.1f} {took[0] * 1000 / count:>9.2f} {took[1]:>9.1f}", flush=True)
+
+
+main()
