@@ -8,6 +8,7 @@ use osview_text::number_of;
 
 /// The number below 2 ^ 32 that a text has in brackets.
 fn index_of(text: &[u8]) -> Option<u32>
+    ensures small { IfSome result (λ index. index < 2 ^ 32) }
     ensures some { IfSome result (λ index. text.now ≡ codes "[" ++ decimal index ++ codes "]") }
     ensures none { IfNone result ((index : ℕ) → index < 2 ^ 32 → text.now ≡ codes "[" ++ decimal index ++ codes "]" → ⊥) }
 {
@@ -31,6 +32,7 @@ fn behind<'w>(word: &'w [u8], name: &[u8]) -> Option<&'w [u8]>
 
 /// The number in brackets that stands in a word behind a name.
 fn index_behind(word: &[u8], name: &[u8]) -> Option<u32>
+    ensures small { IfSome result (λ index. index < 2 ^ 32) }
     ensures some { IfSome result (λ index. word.now ≡ name.now ++ (codes "[" ++ decimal index ++ codes "]")) }
     ensures none { IfNone result ((index : ℕ) → index < 2 ^ 32 → word.now ≡ name.now ++ (codes "[" ++ decimal index ++ codes "]") → ⊥) }
 {
