@@ -6,5 +6,6 @@ use Rattle.osview.specs.declared.request.Request.TheVariants as request
 -- the numbers of a job are within their bounds
 abbrev pub IsLawful : Request → Type 0
 IsLawful (request.Report job) = IsWithin (job_of job)
+IsLawful (request.Stream job) = IsWithin (job_of job.run)
 IsLawful request.Help = Unit {0}
 IsLawful request.Version = Unit {0}

@@ -1,7 +1,7 @@
 //! The program `osview`: shows who wrote a program what a run of it came to, over the files and streams of the host.
 //!
 //! `osview report PROGRAM INPUT` runs the program over the input as `osrun run` does, and writes in sentences what became of its
-//! activations. What it writes is `answer_report`'s answer.
+//! activations: `answer_report`'s answer. `osview stream PROGRAM INPUT NAME` writes the elements of a stream: `answer_stream`'s.
 #![tactic(auto)]
 
 mod request;
@@ -9,7 +9,7 @@ mod telling;
 
 use os_io::{HostFiles, HostSink};
 use osrun_core_jobs::Status;
-use osview_answer::answer_report;
+use osview_answer::{answer_report, answer_stream};
 use request::{Request, request_of};
 use std::os::fd::AsRawFd;
 use std::process::ExitCode;
@@ -52,6 +52,15 @@ fn main(rt: HostRuntime) -> ExitCode {
     let mut told = HostSink::new(rt.stderr());
     let status = match request_of(&words) {
         Some(Request::Report(job)) => answer_report(
+            &rt,
+            rt.alloc(),
+            &job,
+            &mut files,
+            &mut out,
+            &mut told,
+            &NoGate,
+        ),
+        Some(Request::Stream(job)) => answer_stream(
             &rt,
             rt.alloc(),
             &job,

@@ -1,10 +1,11 @@
 //! What the words ask for.
 
-ghost use Rattle.std.specs.Prelude.{IfSome};
+ghost use Rattle.std.specs.Prelude.{◌≤◌, IfSome, length};
 ghost use Rattle.osrun_core_jobs.specs.Jobs.{IsWithin, job_of as told_job};
 ghost use Rattle.osview.specs.Words.{IsLawful};
 
 use osrun_core_jobs::{Job, Terms};
+use osview_answer::StreamJob;
 
 /// On which terms programs are run: those that `osrun run` has where no option is given.
 const TERMS: Terms = Terms {
@@ -18,6 +19,8 @@ const TERMS: Terms = Terms {
 pub(crate) enum Request<'w> {
     /// To tell in sentences what a run came to.
     Report(Job<'w>),
+    /// To show the elements of a stream.
+    Stream(StreamJob<'w>),
     /// To tell how the program is used.
     Help,
     /// To tell its version.
@@ -34,6 +37,7 @@ pub(crate) fn request_of(words: &[String]) -> Option<Request<'_>>
             words[1].as_str(),
             words[2].as_str(),
         ))),
+        4..=6 if words[0].as_str() == "stream" => stream_of(&words[1..]),
         _ => None,
     }
 }
@@ -46,6 +50,29 @@ fn job_of<'w>(program: &'w str, input: &'w str) -> Job<'w>
         program,
         input,
         terms: TERMS,
+    }
+}
+
+/// The stream that words ask for: a program, an input, a name, from which position on, and how many positions at most.
+fn stream_of(words: &[String]) -> Option<Request<'_>>
+    requires { 3 ≤ length words.now }
+    ensures { IfSome result IsLawful }
+{
+    let first = number_at(words, 3, 0)?;
+    let count = number_at(words, 4, u64::MAX)?;
+    Some(Request::Stream(StreamJob {
+        run: job_of(words[0].as_str(), words[1].as_str()),
+        name: words[2].as_str(),
+        first,
+        count,
+    }))
+}
+
+/// The number that the word at a place is; another number where there is no such word.
+fn number_at(words: &[String], place: usize, otherwise: u64) -> Option<u64> {
+    match words.get(place) {
+        Some(word) => word.as_str().parse::<u64>().ok(),
+        None => Some(otherwise),
     }
 }
 

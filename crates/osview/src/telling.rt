@@ -11,10 +11,13 @@ const HELP: &str = "\
 osview shows what a run of an OpenStream program came to.
 
     osview report PROGRAM INPUT   runs the program over the input, and tells in sentences what became of it
+    osview stream PROGRAM INPUT NAME [FROM [COUNT]]
+                                  runs it too, and shows the elements of the stream NAME, from position FROM on, COUNT at most
     osview --help                 tells this
     osview --version              tells the version
 
-The statuses are those of osrun run: 0 where all is done, 1 where not all is, 2 for other words, and 3 to 7 where there is no run.
+The statuses are those of osrun run: 0 where all is done, 1 where not all is, 2 for other words and for a NAME that no stream of
+the program has, and 3 to 7 where there is no run.
 ";
 
 /// How a telling ended.

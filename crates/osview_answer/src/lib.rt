@@ -1,17 +1,23 @@
 //! The answers of `osview`: from the files of a program and of an input to lines for who wrote the program.
 //!
 //! `answer_report` reads both files as `osrun run` does, runs the program over the input, and hands over what the run came to in
-//! sentences: with the lines of tasks and the names of streams as they stand in the program's text. Where a file is refused it
-//! tells the same as `osrun run`.
+//! sentences: with the lines of tasks and the names of streams as they stand in the program's text. `answer_stream` hands over the
+//! elements of one of its streams, a line each. Where a file is refused they tell the same as `osrun run`.
 //!
-//! What is told is a definition over the meaning of the program, `IsReportOf`; what a call leaves is `AnswersReport`. The lines
-//! themselves are put together in `osview_sentences`.
+//! What is told is a definition over the meaning of the program, `IsReportOf` and `AreElementsOf`; what a call leaves is
+//! `AnswersReport` and `AnswersStream`. The lines themselves are put together in `osview_sentences` and `osview_stream`.
 #![tactic(auto)]
 
 mod answer;
 mod lines;
 mod names;
+mod outcomes;
 mod source;
+mod stream_answer;
+mod stream_job;
+mod stream_telling;
 mod telling;
 
 pub use answer::answer_report;
+pub use stream_answer::answer_stream;
+pub use stream_job::StreamJob;

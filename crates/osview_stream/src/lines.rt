@@ -2,6 +2,7 @@ ghost use Rattle.std.specs.Prelude.{◌≡◌, ◌<◌, ◌++◌, ℕ, [], List,
 ghost use Rattle.std.specs.Option.{option_map_or};
 ghost use Rattle.flow_core_laws.specs.declared.activation.Activation.{Activation};
 ghost use Rattle.flow_core_laws.specs.Outcome.{State};
+ghost use Rattle.flow_core_laws.specs.Place.{written_count};
 ghost use Rattle.osview_outcomes.specs.Outcomes.{AreOutcomesOf};
 ghost use Rattle.osview_stream.specs.Elements.{activation_text, element_line, element_text, position_count, stream_lines};
 ghost use Rattle.stream_match_layouts.specs.Layout.{IsLayout, IsLayoutOf};
@@ -109,17 +110,30 @@ fn add_line(told: &mut Text, over: &Shown<'_>, stream: u32, position: u64) -> Re
     }
 }
 
+/// How many positions of a stream are claimed for writing.
+fn written_count(layout: &Layout, stream: u32) -> u64
+    requires layout { IsLayout layout.now }
+    ensures exists { 0 < result → stream < length layout.now.writers }
+    ensures count { (activations : List Activation) → IsLayoutOf layout.now activations
+        → result ≡ written_count activations stream }
+{
+    match layout.writes.as_slice().get(stream as usize) {
+        Some(count) => *count,
+        None => 0,
+    }
+}
+
 /// How many positions of a stream there are to show.
 fn position_count(layout: &Layout, input: &[u8], stream: u32) -> u64
     requires layout { IsLayout layout.now }
-    requires exists { stream < length layout.now.writers }
-    ensures { (activations : List Activation) → IsLayoutOf layout.now activations
+    ensures exists { 0 < result → stream < length layout.now.writers }
+    ensures count { (activations : List Activation) → IsLayoutOf layout.now activations
         → result ≡ position_count activations input.now stream }
 {
     if stream == 0 {
         input.len() as u64
     } else {
-        layout.writes.as_slice()[stream as usize]
+        written_count(layout, stream)
     }
 }
 
@@ -132,8 +146,7 @@ pub fn elements_text(
     first: u64,
     count: u64,
 ) -> Result<Text, Memory>
-    requires layout { IsLayout over.now.layout.now }
-    requires exists { stream < length over.now.layout.now.writers }
+    requires { IsLayout over.now.layout.now }
     ensures { IfOk result (λ told. (activations : List Activation) (state : State) → IsLayoutOf over.now.layout.now activations
         → AreOutcomesOf over.now.outcomes.now state
         → told ≡ stream_lines over.now.lines.now activations over.now.input.now state stream first count) }

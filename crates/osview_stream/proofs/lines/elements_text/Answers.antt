@@ -27,8 +27,15 @@ returns c = λ activations state of are.
     reached : (activations : List Activation) → IsLayoutOf c.args.over.now.layout.now activations
         → c.loop-position.position - c.args.first ≡ min c.args.count (position_count activations c.args.over.now.input.now c.args.stream - c.args.first)
     reached activations of =
-        let all = c.position_count-all.ensures activations of in
+        let all = c.position_count-all.ensures.count activations of in
         let rest = c.saturating_sub.ensures in
         let least = c.min.ensures in
         let end : c.loop-position.position ≡ c.args.first + c.min.result = omega arith in
         omega (arith, all, rest, least, end)
+
+pub add_line-requires-clause-exists : goal.add_line-requires-clause-exists
+add_line-requires-clause-exists c =
+    let rest = c.saturating_sub.ensures in
+    let least = c.min.ensures in
+    let low = c.loop-position.auto.position in
+    c.position_count-all.ensures.exists (omega (arith, rest, least, low))
