@@ -954,7 +954,30 @@ shows "tasks that wait" 1 "$(printf '%s / ' \
     "activation 7, of the task in line 14, waits for element 4 of stream s[1], which no task writes; the task in line 11 reads this stream too" \
     "activation 9, of the task in line 20, never ran, since activation 10 failed" \
     "activation 10, of the task in line 22, used up its turns" | sed 's| / $||')" report waits.c in.bin
+shows "elements of a stream that are values" 1 "0 75 activation 8 line 18" stream waits.c in.bin "s[1]"
+shows "elements that wait" 1 "0 none activation 0 line 6 / 1 none activation 1 line 6 / 2 none activation 2 line 6" stream waits.c in.bin st
+shows "elements that are poison" 1 "0 poison 10 activation 10 line 22" stream waits.c in.bin "s[0]"
+shows "elements of the output, from a position on" 1 "3 none activation 6 line 11 / 4 poison 10 activation 9 line 20" stream waits.c in.bin osout 3
+shows "elements of the input" 0 "1 2 input / 2 3 input" stream first.c in.bin osin 1 2
+shows "elements behind the last one" 0 "" stream first.c in.bin osout 4
+shows "so many elements as there are at most" 0 "" stream first.c in.bin osout 0 0
+cat >negative.c <<'END'
+int main(void) {
+    int s __attribute__((stream));
+    int w[2], v[2], x;
+    #pragma omp task output(s << w[2])
+    { w[0] = -2147483647 - 1; w[1] = 2147483647; }
+    #pragma omp task input(s >> v[2]) output(osout << x)
+    x = 1;
+}
+END
+shows "elements that aren't bytes" 0 "0 -2147483648 activation 0 line 4 / 1 2147483647 activation 0 line 4" \
+    stream negative.c in.bin s
+for name in s "s[2]" "s[01]" "s[+1]" "s[-1]" "s[1" "s[]" "s[1]x" "s [1]" "st[0]" k none "" osi; do
+    shows "a name that is no stream's: $name" 2 "no stream $name" stream waits.c in.bin "$name"
+done
 shows "a program that is refused, and not run" 3 "refused 23 line 1" report empty.c in.bin
+shows "a program that is refused, and none of whose streams is shown" 3 "refused 23 line 1" stream empty.c in.bin none
 shows "an input that is too long to be shown" 4 "too long input" report first.c long.bin
 shows "a folder for a program that is shown" 5 "read fault program" report folder in.bin
 shows "the version of what shows" 0 "osview 1.0" --version
@@ -962,7 +985,8 @@ shows "the version of what shows" 0 "osview 1.0" --version
 status=$?
 : >out
 check "help of what shows" 0 "" ""
-for words in "" report "report first.c" "report first.c in.bin in.bin" "graph first.c in.bin" --versions; do
+for words in "" report "report first.c" "report first.c in.bin in.bin" "stream first.c in.bin" "stream first.c in.bin osin x" \
+    "stream first.c in.bin osin 1 -1" "stream first.c in.bin osin 1 2 3" "stream first.c in.bin osin 18446744073709551616" "show first.c in.bin" --versions; do
     # shellcheck disable=SC2086
     shows "words that ask for nothing to be shown: $words" 2 "$(sed -e ':a' -e '$!{N;ba' -e '}' -e 's|\n| / |g' help)" $words
 done
@@ -970,6 +994,10 @@ done
 status=$?
 : >out
 check "a report in sentences for a full disk" 6 "" ""
+"$top/osview" stream first.c in.bin osout >/dev/full 2>report
+status=$?
+: >out
+check "a stream for a full disk" 6 "" ""
 LD_PRELOAD=$work/failing_allocation.so FAILING_ALLOCATION=1 "$top/crates/osview/out/osview" report first.c in.bin >out 2>report
 status=$?
 check "no memory for the words of what shows" 7 "" ""

@@ -14,7 +14,7 @@ ghost use Rattle.osview_outcomes.specs.Kept.{AreKept};
 ghost use Rattle.osview_outcomes.specs.Outcomes.{AreOutcomesOf};
 
 use crate::kept::Outcomes;
-use flow_core::{Bodies, Board, Elem, FramePlan, Plan, TaskEnd, gather};
+use flow_core::{Board, Bodies, Elem, FramePlan, Plan, TaskEnd, gather};
 use os_io::{List, Memory};
 use std::alloc::Global;
 

@@ -49,9 +49,8 @@ fn member_of(text: &[u8], streams: u32, word: &[u8], name: StreamName) -> Option
     ensures none { IfNone result ((stream : ℕ) → IsOf text.now streams word.now name stream → ⊥) }
 {
     match index_behind(word, name.bytes(text)) {
-        Some(index) if index < name.count && name.first < streams && index < streams - name.first => {
-            Some(name.first + index)
-        }
+        Some(index) if index < name.count && name.first < streams && index < streams - name.first =>
+            { Some(name.first + index) }
         _ => None,
     }
 }
@@ -83,12 +82,7 @@ fn stream_of(text: &[u8], streams: u32, word: &[u8], name: StreamName) -> Option
 
 /// The stream that a word names, of so many streams: by their names where they stand in the text of a program. A member of an array
 /// is named with its index in brackets. Where several streams are called so, it is that whose name stands first.
-pub fn called_stream(
-    text: &[u8],
-    streams: u32,
-    names: &[StreamName],
-    word: &[u8],
-) -> Option<u32>
+pub fn called_stream(text: &[u8], streams: u32, names: &[StreamName], word: &[u8]) -> Option<u32>
     ensures some { IfSome result (IsCalled text.now streams names.now word.now) }
     ensures none { IfNone result (IsNoneOf text.now streams word.now names.now) }
 {

@@ -95,7 +95,11 @@ fn covered_element(outcomes: &Outcomes, span: Span, position: u64) -> Option<Ele
 }
 
 /// The element at a position of a stream other than the input, by the write span that covers it.
-pub(crate) fn produced_element(outcomes: &Outcomes, span: Option<Span>, position: u64) -> Option<Elem>
+pub(crate) fn produced_element(
+    outcomes: &Outcomes,
+    span: Option<Span>,
+    position: u64,
+) -> Option<Elem>
     requires { IfSome span (λ s. position < s.first + s.count) }
     ensures { (activations : List Activation) (state : State) (stream : ℕ) → AreOutcomesOf outcomes.now state
         → span ≡ option_map span_of (producer activations stream position)

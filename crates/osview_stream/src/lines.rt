@@ -79,7 +79,12 @@ fn add_input_line(told: &mut Text, input: &[u8], position: u64) -> Result<(), Me
 }
 
 /// Adds the line of a position of another stream.
-fn add_produced_line(told: &mut Text, over: &Shown<'_>, stream: u32, position: u64) -> Result<(), Memory>
+fn add_produced_line(
+    told: &mut Text,
+    over: &Shown<'_>,
+    stream: u32,
+    position: u64,
+) -> Result<(), Memory>
     requires layout { IsLayout over.now.layout.now }
     requires exists { stream < length over.now.layout.now.writers }
     requires produced { 0 < stream }

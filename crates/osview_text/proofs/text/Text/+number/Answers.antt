@@ -13,5 +13,5 @@ returns t c =
     let old = c.args.self.now in
     let digit = (48 + n % 10) ∷ [] in
     let whole = ap (λ (x : List ℕ). x ++ digit) c.in_ok-number.ensures ∙ append_assoc old (decimal (n / 10)) digit
-        ∙ ap (λ (x : List ℕ). old ++ x) (sym (decimal_step n c.if-number-lt10.false c.ranges.number.fits)) in
+    ∙ ap (λ (x : List ℕ). old ++ x) (sym (decimal_step n c.if-number-lt10.false c.ranges.number.fits)) in
     subst (λ (x : List ℕ). OnOk c.push-2.result (c.push-2.new.self ≡ x)) whole c.push-2.ensures
