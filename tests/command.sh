@@ -976,6 +976,10 @@ shows "elements that aren't bytes" 0 "0 -2147483648 activation 0 line 4 / 1 2147
 for name in s "s[2]" "s[01]" "s[+1]" "s[-1]" "s[1" "s[]" "s[1]x" "s [1]" "st[0]" k none "" osi; do
     shows "a name that is no stream's: $name" 2 "no stream $name" stream waits.c in.bin "$name"
 done
+shows "a run with fewer turns for main" 1 \
+    "main used up its turns after 2 activations / 1 of 2 activations are done / 1 of 2 bytes of the output are there / activation 1, of the task in line 7, trapped in line 8: division by zero" \
+    report "$top/examples/divide.c" --control=2 zero.bin
+shows "a stream of a run with fewer turns" 1 "0 50 activation 0 line 7" stream --workers 1 --control 1 "$top/examples/divide.c" zero.bin osout --budget 1
 shows "a program that is refused, and not run" 3 "refused 23 line 1" report empty.c in.bin
 shows "a program that is refused, and none of whose streams is shown" 3 "refused 23 line 1" stream empty.c in.bin none
 shows "an input that is too long to be shown" 4 "too long input" report first.c long.bin
@@ -986,7 +990,10 @@ status=$?
 : >out
 check "help of what shows" 0 "" ""
 for words in "" report "report first.c" "report first.c in.bin in.bin" "stream first.c in.bin" "stream first.c in.bin osin x" \
-    "stream first.c in.bin osin 1 -1" "stream first.c in.bin osin 1 2 3" "stream first.c in.bin osin 18446744073709551616" "show first.c in.bin" --versions; do
+    "stream first.c in.bin osin 1 -1" "stream first.c in.bin osin 1 2 3" "stream first.c in.bin osin 18446744073709551616" "show first.c in.bin" --versions \
+    "report --budget first.c in.bin" "report --budget 1000000001 first.c in.bin" "report --workers 0 first.c in.bin" \
+    "report --workers=65 first.c in.bin" "report --control 1 --control 1 first.c in.bin" "report first.c in.bin --budget" \
+    "report --turns 1 first.c in.bin" "report --budget= first.c in.bin" "report -w first.c" "--help report"; do
     # shellcheck disable=SC2086
     shows "words that ask for nothing to be shown: $words" 2 "$(sed -e ':a' -e '$!{N;ba' -e '}' -e 's|\n| / |g' help)" $words
 done

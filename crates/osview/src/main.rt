@@ -4,6 +4,7 @@
 //! activations: `answer_report`'s answer. `osview stream PROGRAM INPUT NAME` writes the elements of a stream: `answer_stream`'s.
 #![tactic(auto)]
 
+mod options;
 mod request;
 mod telling;
 

@@ -1,18 +1,12 @@
 //! What the words ask for.
 
-ghost use Rattle.std.specs.Prelude.{◌≤◌, IfSome, length};
+ghost use Rattle.std.specs.Prelude.{◌≡◌, IfSome};
 ghost use Rattle.osrun_core_jobs.specs.Jobs.{IsWithin, job_of as told_job};
-ghost use Rattle.osview.specs.Words.{IsLawful};
+ghost use Rattle.osview.specs.Words.{AreWithin, IsLawful};
 
-use osrun_core_jobs::{Job, Terms};
+use crate::options::{Parts, parts_of};
+use osrun_core_jobs::Job;
 use osview_answer::StreamJob;
-
-/// On which terms programs are run: those that `osrun run` has where no option is given.
-const TERMS: Terms = Terms {
-    workers: 4,
-    task_budget: 1_000_000,
-    control_budget: 1_000_000,
-};
 
 /// What is to be done.
 #[derive(Clone, Copy, Debug)]
@@ -31,49 +25,62 @@ pub(crate) enum Request<'w> {
 pub(crate) fn request_of(words: &[String]) -> Option<Request<'_>>
     ensures { IfSome result IsLawful }
 {
-    match words.len() {
-        1 => option_of(words[0].as_str()),
-        3 if words[0].as_str() == "report" => Some(Request::Report(job_of(
-            words[1].as_str(),
-            words[2].as_str(),
-        ))),
-        4..=6 if words[0].as_str() == "stream" => stream_of(&words[1..]),
+    let (first, rest) = words.split_first()?;
+    match first.as_str() {
+        "report" => report_of(&parts_of(rest)?),
+        "stream" => stream_of(&parts_of(rest)?),
+        word if rest.is_empty() => option_of(word),
         _ => None,
     }
 }
 
-/// The run of a program over an input.
-fn job_of<'w>(program: &'w str, input: &'w str) -> Job<'w>
+/// The run of a program over an input, which stand first.
+fn job_of<'w>(words: &Parts<'w>) -> Job<'w>
+    requires { AreWithin words.now.options }
     ensures { IsWithin (told_job result) }
 {
     Job {
-        program,
-        input,
-        terms: TERMS,
+        program: words.name(0),
+        input: words.name(1),
+        terms: words.options.terms(),
     }
 }
 
-/// The stream that words ask for: a program, an input, a name, from which position on, and how many positions at most.
-fn stream_of(words: &[String]) -> Option<Request<'_>>
-    requires { 3 ≤ length words.now }
+/// The report that words ask for: of a program and an input.
+fn report_of<'w>(words: &Parts<'w>) -> Option<Request<'w>>
+    requires { AreWithin words.now.options }
     ensures { IfSome result IsLawful }
 {
+    if words.count != 2 {
+        return None;
+    }
+    Some(Request::Report(job_of(words)))
+}
+
+/// The stream that words ask for: of a program and an input, its name, from which position on, and how many positions at most.
+fn stream_of<'w>(words: &Parts<'w>) -> Option<Request<'w>>
+    requires { AreWithin words.now.options }
+    ensures { IfSome result IsLawful }
+{
+    if words.count < 3 {
+        return None;
+    }
     let first = number_at(words, 3, 0)?;
     let count = number_at(words, 4, u64::MAX)?;
     Some(Request::Stream(StreamJob {
-        run: job_of(words[0].as_str(), words[1].as_str()),
-        name: words[2].as_str(),
+        run: job_of(words),
+        name: words.name(2),
         first,
         count,
     }))
 }
 
 /// The number that the word at a place is; another number where there is no such word.
-fn number_at(words: &[String], place: usize, otherwise: u64) -> Option<u64> {
-    match words.get(place) {
-        Some(word) => word.as_str().parse::<u64>().ok(),
-        None => Some(otherwise),
+fn number_at(words: &Parts<'_>, place: usize, otherwise: u64) -> Option<u64> {
+    if words.count <= place {
+        return Some(otherwise);
     }
+    words.name(place).parse::<u64>().ok()
 }
 
 /// What a single word asks for.

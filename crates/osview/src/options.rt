@@ -1,0 +1,170 @@
+//! What words have behind the one that says what to do: names and numbers, and options between them.
+
+ghost use Rattle.std.specs.Prelude.{◌≡◌, ◌<◌, ◌≤◌, IfSome, length};
+ghost use Rattle.osrun_core_run.specs.RunOf.{AreTerms};
+ghost use Rattle.osview.specs.Words.{AreWithin};
+
+use osrun_core_jobs::Terms;
+
+/// How many names and numbers there are at most.
+const MOST: usize = 5;
+
+/// The options that were given, each once at most.
+#[derive(Clone, Copy, Debug)]
+pub(crate) struct Options {
+    /// `--workers`, 1 to 64.
+    workers: Option<u32>,
+    /// `--budget`: how many turns each task may take, up to 1,000,000,000.
+    task_budget: Option<u64>,
+    /// `--control`: how many turns the control program may take, up to 1,000,000,000.
+    control_budget: Option<u64>,
+}
+
+/// The number that a word is, from the least to the most.
+fn number_within(word: &str, least: u64, most: u64) -> Option<u64>
+    ensures low { IfSome result (λ number. least ≤ number) }
+    ensures high { IfSome result (λ number. number ≤ most) }
+{
+    match word.parse::<u64>() {
+        Ok(number) if least <= number && number <= most => Some(number),
+        _ => None,
+    }
+}
+
+/// A number of turns.
+fn turns_of(word: &str) -> Option<u64>
+    ensures { IfSome result (λ turns. turns ≤ 1000000000) }
+{
+    number_within(word, 0, 1_000_000_000)
+}
+
+/// A number of workers.
+fn workers_of(word: &str) -> Option<u32>
+    ensures some { IfSome result (λ workers. 1 ≤ workers) }
+    ensures few { IfSome result (λ workers. workers ≤ 64) }
+{
+    match number_within(word, 1, 64) {
+        Some(workers) => Some(workers as u32),
+        None => None,
+    }
+}
+
+impl Options {
+    /// No option.
+    pub(crate) fn none() -> Options
+        ensures { AreWithin result }
+    {
+        Options {
+            workers: None,
+            task_budget: None,
+            control_budget: None,
+        }
+    }
+
+    /// These with one more, where there is such an option and it wasn't given before.
+    fn with(self, name: &str, value: &str) -> Option<Options>
+        requires { AreWithin self }
+        ensures { IfSome result AreWithin }
+    {
+        match name {
+            "workers" if self.workers.is_none() => Some(Options {
+                workers: Some(workers_of(value)?),
+                ..self
+            }),
+            "budget" if self.task_budget.is_none() => Some(Options {
+                task_budget: Some(turns_of(value)?),
+                ..self
+            }),
+            "control" if self.control_budget.is_none() => Some(Options {
+                control_budget: Some(turns_of(value)?),
+                ..self
+            }),
+            _ => None,
+        }
+    }
+
+    /// On which terms a program is run: what `osrun run` has where an option isn't given.
+    pub(crate) fn terms(self) -> Terms
+        requires { AreWithin self }
+        ensures { AreTerms result }
+    {
+        Terms {
+            workers: self.workers.unwrap_or(4),
+            task_budget: self.task_budget.unwrap_or(1_000_000),
+            control_budget: self.control_budget.unwrap_or(1_000_000),
+        }
+    }
+}
+
+/// Words, without their options.
+#[derive(Clone, Copy, Debug)]
+pub(crate) struct Parts<'w> {
+    names: [&'w str; MOST],
+    /// How many names and numbers there are.
+    pub(crate) count: usize,
+    pub(crate) options: Options,
+}
+
+impl<'w> Parts<'w> {
+    /// The name or the number at a place; nothing behind the last one.
+    pub(crate) fn name(&self, place: usize) -> &'w str {
+        match self.names.get(place) {
+            Some(name) => name,
+            None => "",
+        }
+    }
+
+    /// These with one more name or number, where there are not too many.
+    fn with_name(self, name: &'w str) -> Option<Parts<'w>>
+        requires { AreWithin self.options }
+        ensures { IfSome result (λ parts. AreWithin parts.options) }
+    {
+        if self.count >= MOST || name.starts_with('-') {
+            return None;
+        }
+        let mut names = self.names;
+        names[self.count] = name;
+        Some(Parts {
+            names,
+            count: self.count + 1,
+            options: self.options,
+        })
+    }
+
+    /// These with one more option.
+    fn with_option(self, name: &str, value: &str) -> Option<Parts<'w>>
+        requires { AreWithin self.options }
+        ensures { IfSome result (λ parts. AreWithin parts.options) }
+    {
+        let options = self.options.with(name, value)?;
+        Some(Parts { options, ..self })
+    }
+}
+
+/// What words have, where each is a name or a number, or belongs to an option: `--NAME=VALUE`, or `--NAME` and `VALUE` behind it.
+pub(crate) fn parts_of(words: &[String]) -> Option<Parts<'_>>
+    ensures { IfSome result (λ parts. AreWithin parts.options) }
+{
+    let mut parts = Parts {
+        names: [""; MOST],
+        count: 0,
+        options: Options::none(),
+    };
+    let mut place = 0;
+    while place < words.len() {
+        let word = words[place].as_str();
+        place += 1;
+        match word.strip_prefix("--") {
+            None => parts = parts.with_name(word)?,
+            Some(option) => match option.split_once('=') {
+                Some((name, value)) => parts = parts.with_option(name, value)?,
+                None => {
+                    let value = words.get(place)?;
+                    place += 1;
+                    parts = parts.with_option(option, value.as_str())?;
+                }
+            },
+        }
+    }
+    Some(parts)
+}
