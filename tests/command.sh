@@ -954,6 +954,8 @@ shows "tasks that wait" 1 "$(printf '%s / ' \
     "activation 7, of the task in line 14, waits for element 4 of stream s[1], which no task writes; the task in line 11 reads this stream too" \
     "activation 9, of the task in line 20, never ran, since activation 10 failed" \
     "activation 10, of the task in line 22, used up its turns" | sed 's| / $||')" report waits.c in.bin
+shows "a value behind poison" 1 "0 50 activation 0 line 7 / 1 poison 1 activation 1 line 7 / 2 20 activation 2 line 7" \
+    stream "$top/examples/divide.c" zero.bin osout
 shows "elements of a stream that are values" 1 "0 75 activation 8 line 18" stream waits.c in.bin "s[1]"
 shows "elements that wait" 1 "0 none activation 0 line 6 / 1 none activation 1 line 6 / 2 none activation 2 line 6" stream waits.c in.bin st
 shows "elements that are poison" 1 "0 poison 10 activation 10 line 22" stream waits.c in.bin "s[0]"
