@@ -3,6 +3,7 @@ use Rattle.std.proofs.Common.{◌≡◌, ℕ, ℤ, pos, ◌+◌, Bool, true, fal
 use Rattle.std.specs.Prelude.{◌==◌, filter, sum_by}
 use Rattle.std.proofs.lemmas.List.{length-drop, length-replicate, length-take}
 use Rattle.std.proofs.lemmas.List.Sums.{sum_by-cons}
+use Rattle.c_int.specs.Traps.{trap_code}
 use Rattle.cddf_meaning.specs.Body.{body, bound_round, chosen_outcome, done, gives_bytes, item_lists, outcome, outcome_in, over_budget, task_outcome, trapped, outputs_of}
 use Rattle.cddf_meaning.specs.File.{File}
 use Rattle.cddf_meaning.specs.Flow.{Ran, Went, Ended}
@@ -65,7 +66,7 @@ ended x line items long false gives = nothing x (trapped 5 line) refl
 
 ran : (x : Activation) (line : ℕ) (s : State) (turns : ℕ) (r : Ran) → Keeps s turns r → item_lengths s ≡ map (λ (c : Claim). c.horizon) x.claims → GivesBytes x (outcome line x.claims r)
 ran x line s turns (Went flow t left) kept long = ended x line t.items (kept.1 ∙ long) (gives_bytes x.claims t.items) refl
-ran x line s turns (Ended (Trapped why at) activations) kept long = nothing x _ refl
+ran x line s turns (Ended (Trapped why at) activations) kept long = nothing x (trapped (trap_code why) at) refl
 ran x line s turns (Ended OverBudget activations) kept long = nothing x over_budget refl
 ran x line s turns (Ended (Limited limit) activations) kept long = nothing x over_budget refl
 

@@ -4,6 +4,7 @@ use Rattle.std.specs.Prelude.{◌&&◌, ◌||◌}
 use Rattle.std.specs.List.{list_all}
 use Rattle.std.proofs.lemmas.List.{length-drop, length-replicate, length-take}
 use Rattle.cddf_meaning.specs.Body.{gives_bytes, outputs_of, writes_output}
+use Rattle.c_int.specs.Traps.{trap_code}
 use Rattle.flow_core_laws.specs.Byte.{is_byte}
 use Rattle.flow_core_laws.specs.Outcome.{outcome_of}
 use Rattle.flow_core_laws.specs.Window.{offset_after}
@@ -142,7 +143,7 @@ done_gives x windows sends shape k j c value at write stream lt is =
 gives_at : (x : Activation) (line : ℕ) (halt : Halt) (last : State) (o : Outcome) → TaskOutcome line halt last o → shape_of last.windows ≡ shape_for x.claims → GivesBytes x o
 gives_at x line halt last _ (IsDone sends) shape = done_gives x last.windows sends shape
 gives_at x line halt last _ (SendsNoByte fails) shape = nothing x (outcome_of (task.Trapped 5 line) []) refl
-gives_at x line halt last _ IsTrapped shape = nothing x _ refl
+gives_at x line halt last _ (IsTrapped {why = why} {at_line = at_line}) shape = nothing x (outcome_of (task.Trapped (trap_code why) at_line) []) refl
 gives_at x line halt last _ IsOver shape = nothing x (outcome_of task.OverBudget []) refl
 
 pub code_gives : TasksEnd → CodesGiveBytes
