@@ -22,7 +22,6 @@ use Rattle.collector.specs.Status.{has_done, is_done_control, status}
 use Rattle.collector.specs.Written.{written}
 use Rattle.collector.proofs.Firsts.{output_there, count_is, output_poisoned}
 use Rattle.collector.proofs.Prefixes.{longest_prefix}
-use Rattle.flow_core_laws.specs.declared.control.ControlEnd.TheVariants as control_end
 use Rattle.flow_core_laws.specs.declared.elem.Elem.{Elem}
 use Rattle.flow_core_laws.specs.declared.elem.Elem.TheVariants.{Poison}
 use Rattle.flow_core_laws.specs.declared.task_end.TaskEnd.{TaskEnd}

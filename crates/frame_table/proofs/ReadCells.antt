@@ -6,7 +6,7 @@ use Rattle.std.proofs.lemmas.Bool.{cases_lt}
 use Rattle.std.proofs.lemmas.List.{length-append, take_more_set, take_all}
 use Rattle.flow_core_laws.specs.declared.elem.Elem.{Elem}
 use Rattle.flow_core_laws.specs.declared.elem.Elem.TheVariants.{Value, Poison}
-use Rattle.flow_core_laws.specs.Poisoning.{values_of, least_root}
+use Rattle.flow_core_laws.specs.Poisoning.{values_of}
 use Rattle.flow_core_laws.specs.Plans.{frame_at, cell_source, plan_element}
 use Rattle.flow_core_laws.proofs.OneMore.{values-value, least_root-value, least_root-poison}
 use Rattle.flow_core_laws.proofs.Stretches.{slice_get-append_left, slice_get-append_right}

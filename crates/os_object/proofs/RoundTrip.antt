@@ -1,5 +1,5 @@
 -- Codes that are written and read back.
-use Rattle.std.proofs.Common.{◌≡◌, ℕ, List, Ok, Err, sym, ◌∙◌}
+use Rattle.std.proofs.Common.{Ok, Err, sym, ◌∙◌}
 use Rattle.std.specs.Prelude.{Result}
 use Rattle.os_code.proofs.Halting.{tasks_end, main_ends}
 use Rattle.os_code.specs.declared.code.Code.{Code}

@@ -1,5 +1,5 @@
 -- What is made of an epoch's stretches is its plan.
-use Rattle.std.proofs.Common.{◌≡◌, ℕ, ℤ, ◌+◌, ◌-◌, ◌^◌, ◌<◌, ◌≤◌, List, ◌++◌, Option, is_none, count_by, length, take, drop, map, sym, ap, ◌∙◌, subst, arith}
+use Rattle.std.proofs.Common.{◌≡◌, ℕ, ◌+◌, ◌-◌, ◌^◌, ◌<◌, ◌≤◌, List, ◌++◌, Option, is_none, count_by, length, take, drop, map, sym, ap, ◌∙◌, subst, arith}
 use Rattle.std.specs.Prelude.{All}
 use Rattle.std.specs.List.{flat_map, range_with_len}
 use Rattle.flow_core_laws.specs.declared.elem.Elem.{Elem}

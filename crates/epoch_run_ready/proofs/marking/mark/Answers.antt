@@ -1,4 +1,4 @@
-use Rattle.std.proofs.Common.{◌<◌, ◌^◌, All, List, Some, ℕ, arith, get_or, length, subst, sym}
+use Rattle.std.proofs.Common.{◌<◌, ◌^◌, All, List, ℕ, arith, get_or, length, subst, sym}
 use Rattle.std.proofs.lemmas.List.Elements.{All-get_or}
 use Rattle.std.proofs.lemmas.Option.{slice_get-get_or}
 use Rattle.flow_core_epochs.proofs.Carried.{has_all}

@@ -1,4 +1,4 @@
-use Rattle.std.proofs.Common.{◌≡◌, ◌∙◌, sym, ap}
+use Rattle.std.proofs.Common.{◌∙◌, sym}
 use Rattle.osrun_core_words.proofs.CommandNames.{none_named}
 use Rattle.osrun_core_words.proofs.read.command.Goals as goal
 

@@ -14,7 +14,6 @@ pub frame_end-requires-clause-taken : goal.frame_end-requires-clause-taken
 frame_end-requires-clause-taken g c =
     let read = part_read c.args.plan.now c.args.frame c.frame-place.result c.args.board.now.cells.items c.deref.result.now c.frame-place.ensures c.deref.ensures.value in
     let place = frame_at c.args.plan.now c.args.frame in
-    let count : length c.args.board.now.cells.items ≡ length c.args.board.now.cells.items = λ i. length c.args.board.now.cells.items in
     λ _ _. subst (λ (k : ℕ). g.B.Bodies.takes c.args.bodies.now c.args.frame k (length c.args.outputs.now)) (sym (ap length read ∙ length-stretch c.args.plan.now c.args.board.now.cells.items c.args.board.now.waits c.args.frame c.requires.sound c.requires.counted (let lt = c.requires.may_run.0 in omega arith)))
     (subst (λ (k : ℕ). g.B.Bodies.takes c.args.bodies.now c.args.frame place.inputs k) (sym c.requires.room) (c.requires.served.takes_each c.args.frame c.requires.may_run.0))
 

@@ -1,4 +1,4 @@
-use Rattle.std.proofs.Common.{arith, ap, sym, subst, ◌∙◌, ◌≡◌, length, ℕ}
+use Rattle.std.proofs.Common.{arith, ap, sym, subst, ◌≡◌, length, ℕ}
 use Rattle.flow_core_laws.specs.declared.plan.Plan.{Plan}
 use Rattle.frame_table.specs.Seats.{frame_of, HasRead}
 use Rattle.frame_table.specs.Tokens.{known_of}

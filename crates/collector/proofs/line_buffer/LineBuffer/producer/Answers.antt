@@ -1,4 +1,4 @@
-use Rattle.std.proofs.Common.{ap, codes}
+use Rattle.std.proofs.Common.{ap}
 use Rattle.collector.specs.Report.{producer_text}
 use Rattle.collector.proofs.Buffered.{on}
 use Rattle.collector.proofs.line_buffer.LineBuffer.producer.Goals as goal

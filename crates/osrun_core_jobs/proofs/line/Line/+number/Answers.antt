@@ -1,4 +1,4 @@
-use Rattle.std.proofs.Common.{◌≡◌, ◌++◌, ◌+◌, ◌∷◌, ◌/◌, ◌%◌, ◌∙◌, [], ap, sym, arith, append_assoc, length}
+use Rattle.std.proofs.Common.{◌++◌, ◌+◌, ◌∷◌, ◌/◌, ◌%◌, ◌∙◌, [], ap, sym, arith, append_assoc, length}
 use Rattle.std.specs.Fmt.{decimal}
 use Rattle.std.proofs.lemmas.List.{length-append}
 use Rattle.std.proofs.lemmas.Fmt.{decimal_step, decimal_digit}
