@@ -1,2 +1,5 @@
+pub mod Alike
+pub mod Counted
 pub mod Joined
+pub mod LeftOver
 pub mod Stretches

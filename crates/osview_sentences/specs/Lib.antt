@@ -4,3 +4,5 @@ pub mod Names
 pub mod Sentences
 pub mod Readers
 pub mod Report
+-- What restates private functions: how sentences are counted.
+pub mod Tally

@@ -9,12 +9,13 @@
 //! of an activation, and `specs/Sentences.antt` what is said of it.
 #![tactic(auto)]
 
-mod alike;
 mod fact;
 mod finding;
+mod likeness;
 mod readers;
 mod report;
 mod stream_name;
+mod tally;
 mod text;
 mod wording;
 

@@ -1,18 +1,20 @@
-ghost use Rattle.std.specs.Prelude.{◌≡◌, ◌<◌, ◌++◌, List, IfOk, OnOk, count_by, drop, length, take};
-ghost use Rattle.std.specs.List.{list_any};
+ghost use Rattle.std.specs.Prelude.{◌≡◌, ◌++◌, List, IfOk, OnOk, count_by, length};
 ghost use Rattle.collector.specs.Status.{has_done};
 ghost use Rattle.collector.specs.Written.{written};
 ghost use Rattle.collector.specs.Line.{line};
 ghost use Rattle.flow_core_laws.specs.declared.activation.Activation.{Activation};
 ghost use Rattle.flow_core_laws.specs.Place.{written_count};
-ghost use Rattle.osview_sentences.specs.Report.{activation_word, control_text, created_text, heading, likewise_text, limit_text, line_at, more_text, report, sentence_lines, share_text, told_at};
+ghost use Rattle.osview_sentences.specs.Report.{activation_word, control_text, created_text, heading, likewise_text, limit_text};
+ghost use Rattle.osview_sentences.specs.Report.{more_text, report, sentence_lines, share_text};
 ghost use Rattle.osview_sentences.specs.Readers.{also_text};
-ghost use Rattle.osview_sentences.specs.Sentences.{is_alike, sentence_text};
+ghost use Rattle.osview_sentences.specs.Sentences.{sentence_text};
+ghost use Rattle.osview_sentences.specs.Tally.{told_for};
 ghost use Rattle.stream_match_layouts.specs.Layout.{IsLayout, IsLayoutOf};
 
 use crate::fact::Sentence;
 use crate::finding::sentences;
 use crate::stream_name::StreamName;
+use crate::tally::Tally;
 use crate::text::Text;
 use crate::wording::trap_text;
 use flow_core_laws::{ControlEnd, Elem, Ends, TaskEnd};
@@ -43,31 +45,6 @@ struct Counts {
     there: u64,
     /// How many positions of the output are claimed for writing.
     claimed: u64,
-}
-
-/// Whether one of some sentences is like another.
-fn is_among(sentence: Sentence, some: &[Sentence]) -> bool
-    ensures { result ≡ list_any (is_alike sentence) some.now }
-{
-    for other in some {
-        if sentence.is_alike(*other) {
-            return true;
-        }
-    }
-    false
-}
-
-/// How many of some sentences are like another.
-fn count_like(sentence: Sentence, some: &[Sentence]) -> u64
-    ensures { result ≡ count_by (is_alike sentence) some.now }
-{
-    let mut count = 0;
-    for other in some {
-        if sentence.is_alike(*other) {
-            count += 1;
-        }
-    }
-    count
 }
 
 /// How many activations are done.
@@ -201,43 +178,27 @@ impl Text {
         Ok(())
     }
 
-    /// Adds the line of a sentence of some, where none before it is like it.
-    fn told_at(
-        &mut self,
-        over: &Context<'_>,
-        all: &[Sentence],
-        place: usize,
-        sentence: Sentence,
-    ) -> Result<(), Memory>
-        requires { place < length all.now }
+    /// Adds the line of a sentence for so many that are alike, if there are any.
+    fn told_for(&mut self, over: &Context<'_>, sentence: Sentence, count: u64) -> Result<(), Memory>
         ensures { OnOk result (self.new ≡ self.old
-            ++ told_at over.now.text.now over.now.names.now over.now.spans.now over.now.lines.now all.now place sentence) }
+            ++ told_for over.now.text.now over.now.names.now over.now.spans.now over.now.lines.now sentence count) }
     {
-        if is_among(sentence, &all[..place]) {
+        if count == 0 {
             Ok(())
         } else {
-            let more = count_like(sentence, &all[place + 1..]);
-            self.sentence_line(over, sentence, more)
-        }
-    }
-
-    /// Adds the line of the sentence at a place.
-    fn line_at(&mut self, over: &Context<'_>, all: &[Sentence], place: usize) -> Result<(), Memory>
-        requires { place < length all.now }
-        ensures { OnOk result (self.new ≡ self.old ++ line_at over.now.text.now over.now.names.now over.now.spans.now over.now.lines.now all.now place) }
-    {
-        match all.get(place) {
-            Some(sentence) => self.told_at(over, all, place, *sentence),
-            None => Ok(()),
+            self.sentence_line(over, sentence, count - 1)
         }
     }
 
     /// Adds the lines of sentences.
-    fn lines(&mut self, over: &Context<'_>, all: &[Sentence]) -> Result<(), Memory>
-        ensures { OnOk result (self.new ≡ self.old ++ sentence_lines over.now.text.now over.now.names.now over.now.spans.now over.now.lines.now all.now) }
+    fn lines(&mut self, alloc: Global, over: &Context<'_>, all: &[Sentence]) -> Result<(), Memory>
+        ensures { OnOk result (self.new ≡ self.old
+            ++ sentence_lines over.now.text.now over.now.names.now over.now.spans.now over.now.lines.now all.now) }
     {
-        for place in 0..all.len() {
-            self.line_at(over, all, place)?;
+        let mut tally = Tally::of(alloc, all)?;
+        for sentence in all {
+            let count = tally.take(*sentence);
+            self.told_for(over, *sentence, count)?;
         }
         Ok(())
     }
@@ -321,6 +282,6 @@ pub fn report_text(
         spans: layout.spans.as_slice(),
         lines,
     };
-    told.lines(&over, &all)?;
+    told.lines(alloc, &over, &all)?;
     Ok(told.into_bytes())
 }
