@@ -1,17 +1,20 @@
 //! What an accepted program is warned of.
 
-ghost use Rattle.std.specs.Prelude.{◌<◌, ◌≤◌, length};
+ghost use Rattle.std.specs.Prelude.{◌<◌, ◌≤◌, length, IfOk};
 ghost use Rattle.os_lexer.specs.Limits.{text_limit};
+ghost use Rattle.os_lexer.specs.Names.{input_id, output_id};
+ghost use Rattle.oscheck_warnings.specs.Streams.{AreInClauses};
 ghost use Rattle.oscheck_warnings.specs.Warnings.{AreRepeated};
 
 use crate::judged::Judged;
 use crate::manner::{Extent, Manner, Strictness};
 use crate::telling::{Named, show, tell_more, tell_no_memory};
 use os_io::Memory;
+use os_lexer::names::{INPUT, OUTPUT};
 use os_lexer::{LexError, Token, lex};
 use oscheck_places::{Spot, column};
 use oscheck_sentences::{Word, word_of};
-use oscheck_warnings::{is_bare_task, is_lone_name, repeated_names};
+use oscheck_warnings::{is_bare_task, is_left_out, is_lone_name, names_in_clauses, repeated_names};
 use std::alloc::Global;
 use std::io;
 
@@ -22,18 +25,89 @@ enum Warning {
     BareTask,
     /// It is a name that is declared, and nothing uses it.
     LoneName,
+    /// It declares a stream, with which no task does what one does with streams.
+    Stream(Lack),
 }
 
-/// What there is to warn of at a place. The names that are spelled once more are handed in.
-fn warning_at(tokens: &[Token], repeated: &[bool], place: usize) -> Option<Warning>
+/// What tasks don't do with a stream.
+#[derive(Clone, Copy)]
+enum Lack {
+    /// None reads it.
+    Reads,
+    /// None writes it.
+    Writes,
+    /// None reads it or writes it.
+    Both,
+}
+
+impl Lack {
+    /// How a sentence about the stream begins.
+    fn told(self) -> &'static str {
+        match self {
+            Lack::Reads => "no task reads",
+            Lack::Writes => "no task writes",
+            Lack::Both => "no task reads or writes",
+        }
+    }
+}
+
+/// What the names of a program are used for.
+#[derive(Drop)]
+struct Uses {
+    /// The names that are spelled once more, by the places at which they stand first.
+    repeated: Vec<bool>,
+    /// The names of the streams that tasks read, by the numbers of the names.
+    read: Vec<bool>,
+    /// The names of the streams that tasks write, by the numbers of the names.
+    written: Vec<bool>,
+}
+
+/// What the names of a program are used for.
+fn uses_of(alloc: Global, tokens: &[Token]) -> Result<Uses, Memory>
+    requires few { length tokens.now ≤ text_limit }
+    ensures repeated { IfOk result (λ uses. AreRepeated tokens.now uses.repeated.items) }
+    ensures read { IfOk result (λ uses. AreInClauses tokens.now input_id uses.read.items) }
+    ensures written { IfOk result (λ uses. AreInClauses tokens.now output_id uses.written.items) }
+{
+    Ok(Uses {
+        repeated: repeated_names(alloc, tokens)?,
+        read: names_in_clauses(alloc, tokens, INPUT)?,
+        written: names_in_clauses(alloc, tokens, OUTPUT)?,
+    })
+}
+
+/// What tasks don't do with a stream that is declared at a place.
+fn lack_at(tokens: &[Token], uses: &Uses, place: usize) -> Option<Lack>
     requires within { place < length tokens.now }
     requires few { length tokens.now ≤ text_limit }
-    requires repeated { AreRepeated tokens.now repeated.now }
+    requires read { AreInClauses tokens.now input_id uses.now.read.items }
+    requires written { AreInClauses tokens.now output_id uses.now.written.items }
+{
+    match (
+        is_left_out(tokens, INPUT, &uses.read, place),
+        is_left_out(tokens, OUTPUT, &uses.written, place),
+    ) {
+        (true, true) => Some(Lack::Both),
+        (true, false) => Some(Lack::Reads),
+        (false, true) => Some(Lack::Writes),
+        (false, false) => None,
+    }
+}
+
+/// What there is to warn of at a place.
+fn warning_at(tokens: &[Token], uses: &Uses, place: usize) -> Option<Warning>
+    requires within { place < length tokens.now }
+    requires few { length tokens.now ≤ text_limit }
+    requires repeated { AreRepeated tokens.now uses.now.repeated.items }
+    requires read { AreInClauses tokens.now input_id uses.now.read.items }
+    requires written { AreInClauses tokens.now output_id uses.now.written.items }
 {
     if is_bare_task(tokens, place) {
         Some(Warning::BareTask)
-    } else if is_lone_name(tokens, repeated, place) {
+    } else if is_lone_name(tokens, &uses.repeated, place) {
         Some(Warning::LoneName)
+    } else if let Some(lack) = lack_at(tokens, uses, place) {
+        Some(Warning::Stream(lack))
     } else {
         None
     }
@@ -55,6 +129,7 @@ fn tell_warning(
             "a task without clauses reads no stream and writes none: give it an item, or take it out"
         )?,
         Warning::LoneName => tell_lone(out, word_of(named.text, token))?,
+        Warning::Stream(lack) => tell_stream(out, lack, word_of(named.text, token))?,
     }
     show(out, alloc, named, spot)?;
     Ok(())
@@ -65,6 +140,14 @@ fn tell_lone(out: &mut impl io::Write, name: Word<'_>) -> io::Result<()> {
     write!(out, "nothing uses ")?;
     name.write(out)?;
     write!(out, ": take it out")
+}
+
+/// Tells what no task does with a stream.
+fn tell_stream(out: &mut impl io::Write, lack: Lack, stream: Word<'_>) -> io::Result<()> {
+    let told = lack.told();
+    write!(out, "{told} the stream ")?;
+    stream.write(out)?;
+    write!(out, ": give a task an item of it, or take it out")
 }
 
 /// Tells the place of a warning, which its sentence goes on from.
@@ -84,15 +167,17 @@ fn tell_warnings(
     alloc: Global,
     named: Named<'_>,
     tokens: &[Token],
-    repeated: &[bool],
+    uses: &Uses,
     extent: Extent,
 ) -> io::Result<usize>
     requires few { length tokens.now ≤ text_limit }
-    requires repeated { AreRepeated tokens.now repeated.now }
+    requires repeated { AreRepeated tokens.now uses.now.repeated.items }
+    requires read { AreInClauses tokens.now input_id uses.now.read.items }
+    requires written { AreInClauses tokens.now output_id uses.now.written.items }
 {
     let mut count: usize = 0;
     for place in 0..tokens.len() {
-        if let Some(warning) = warning_at(tokens, repeated, place) {
+        if let Some(warning) = warning_at(tokens, uses, place) {
             if count < extent.most() {
                 tell_warning(out, alloc, named, tokens[place], warning)?;
             }
@@ -113,8 +198,8 @@ fn warn_of(
 ) -> io::Result<Result<usize, Memory>>
     requires { length tokens.now ≤ text_limit }
 {
-    match repeated_names(alloc, tokens) {
-        Ok(repeated) => Ok(Ok(tell_warnings(out, alloc, named, tokens, &repeated, extent)?)),
+    match uses_of(alloc, tokens) {
+        Ok(uses) => Ok(Ok(tell_warnings(out, alloc, named, tokens, &uses, extent)?)),
         Err(Memory) => Ok(Err(Memory)),
     }
 }

@@ -7,7 +7,7 @@ use os_lexer::names::{OMP, TASK};
 use os_lexer::{Kind, Token};
 
 /// Whether a token of a kind stands at a place.
-fn stands(tokens: &[Token], place: usize, kind: Kind) -> bool
+pub(crate) fn stands(tokens: &[Token], place: usize, kind: Kind) -> bool
     ensures { IsTrue result ↔ (kind_at tokens.now place ≡ Some kind) }
 {
     kind_at(tokens, place) == Some(kind)
