@@ -26,11 +26,11 @@ fn logs_of_others_have_what_one_worker_opened(rt: HostRuntime) -> Result<(), Fai
     others_log_some(&rt, alloc, &plan)
 }
 
-/// Whether in one of a hundred runs the log of a worker has a frame that another one opened.
+/// Whether in one of two thousand runs the log of a worker has a frame that another one opened.
 fn others_log_some<R: Threads + Sync>(rt: &R, alloc: Global, plan: &Plan) -> Result<(), Fail>
     requires { IsSound plan.now }
 {
-    for _ in 0..100 {
+    for _ in 0..2000 {
         if logged_by_others(rt, alloc, plan)? > 0 {
             return Ok(());
         }

@@ -41,7 +41,7 @@ fn others_run_what_one_worker_opened(rt: HostRuntime) -> Result<(), Fail> {
     others_run_some(&rt, alloc, &plan)
 }
 
-/// Whether in one of a hundred runs a worker ran a frame that another one opened.
+/// Whether in one of two thousand runs a worker ran a frame that another one opened.
 fn others_run_some<R: Threads + Sync>(rt: &R, alloc: Global, plan: &Plan) -> Result<(), Fail>
     requires { IsSound plan.now }
 {
@@ -49,7 +49,7 @@ fn others_run_some<R: Threads + Sync>(rt: &R, alloc: Global, plan: &Plan) -> Res
         plan,
         some_fail: false,
     };
-    for _ in 0..100 {
+    for _ in 0..2000 {
         let gate = Others {
             opener: AtomicU32::new(0),
             ran: AtomicU32::new(0),
