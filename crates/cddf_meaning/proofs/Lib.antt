@@ -13,3 +13,4 @@ pub mod TypedResults
 pub mod TypedValues
 pub mod Written
 pub mod LeveledNumbers
+pub mod Scoping

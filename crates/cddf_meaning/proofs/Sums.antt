@@ -2,8 +2,10 @@
 use Rattle.std.proofs.Common.{◌≡◌, ℕ, ◌+◌, ◌<◌, ◌==◌, Bool, true, false, not, ◌&&◌, if◌then◌else◌, List, [], ◌∷◌, length, get_or, set, arith, refl, ◌∙◌}
 use Rattle.std.proofs.lemmas.List.{get_or-replicate, get_or-set_other, length-replicate, length-set}
 use Rattle.std.proofs.lemmas.Grind.{get_or-set_at}
-use Rattle.cddf_meaning.specs.Claims.{ticked}
-use Rattle.cddf_meaning.specs.Skips.{Move, Tick, Take, skips_of, since_read}
+use Rattle.cddf_meaning.specs.Claims.{since_read}
+use Rattle.cddf_meaning.specs.declared.cursor_move.Move.{Move}
+use Rattle.cddf_meaning.specs.declared.cursor_move.Move.TheVariants.{Take, Tick}
+use Rattle.cddf_meaning.specs.Skips.{ticked, skips_of}
 
 length-taken : (write : Bool) (skips : List ℕ) (s : ℕ) → length (if write then skips else set skips s 0) ≡ length skips
 length-taken true skips s = refl

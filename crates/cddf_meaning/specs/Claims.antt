@@ -1,8 +1,10 @@
 -- The claims of an activation on streams, and the limits of the control program.
-use Rattle.std.specs.Prelude.{ℕ, ◌+◌, true, false, if◌then◌else◌, ltb, leb, List, [], ◌∷◌, length, get_or, set, Option, Some, None}
+use Rattle.std.specs.Prelude.{ℕ, ◌+◌, ◌==◌, ◌&&◌, Bool, not, true, false, if◌then◌else◌, ltb, leb, List, [], ◌∷◌, length, Option, Some, None}
 use Rattle.std.specs.List.{sum_by}
 use Rattle.c_int.specs.declared.control_limit.ControlLimit.{ControlLimit}
 use Rattle.c_int.specs.declared.control_limit.ControlLimit.TheVariants.{Activations, Elements}
+use Rattle.cddf_meaning.specs.declared.cursor_move.Move.{Move}
+use Rattle.cddf_meaning.specs.declared.cursor_move.Move.TheVariants.{Take, Tick}
 use Rattle.flow_core_laws.specs.declared.activation.Activation.{Activation}
 use Rattle.flow_core_laws.specs.declared.claim.Claim.{Claim}
 
@@ -13,27 +15,29 @@ read_claim stream horizon burst = record { stream = stream; write = false; horiz
 abbrev pub write_claim : (stream horizon : ℕ) → Claim
 write_claim stream horizon = record { stream = stream; write = true; horizon = horizon; burst = horizon; skip = 0 }
 
--- A tick moves the read cursor of a stream.
-abbrev pub ticked : List ℕ → ℕ → ℕ → List ℕ
-ticked skips stream amount = set skips stream (get_or skips stream 0 + amount)
+-- whether a claim reads a stream
+abbrev pub reads : ℕ → Claim → Bool
+reads stream c = not c.write && (c.stream == stream)
 
--- A read claim takes what ticks took from its stream since the last read claim on it.
-abbrev pub with_skip : List ℕ → Claim → Claim
-with_skip skips c = if c.write then c else record c { skip = get_or skips c.stream 0 }
+-- The sum of the ticks on a stream since the last claim that reads it, by what was done to read cursors, the last move first.
+abbrev pub since_read : ℕ → List Move → ℕ
+since_read stream [] = 0
+since_read stream (Tick s amount ∷ before) = if s == stream then since_read stream before + amount else since_read stream before
+since_read stream (Take claim ∷ before) = if reads stream claim then 0 else since_read stream before
 
--- behind a read claim no tick is left on its stream
-abbrev pub skips_behind : List ℕ → Claim → List ℕ
-skips_behind skips c = if c.write then skips else set skips c.stream 0
+-- A read claim skips what ticks took from its stream since the last read claim on it.
+abbrev pub with_skip : List Move → Claim → Claim
+with_skip moves c = if c.write then c else record c { skip = since_read c.stream moves }
 
 -- the claims of one activation, in clause order
-abbrev pub with_skips : List ℕ → List Claim → List Claim
-with_skips skips [] = []
-with_skips skips (c ∷ cs) = with_skip skips c ∷ with_skips (skips_behind skips c) cs
+abbrev pub with_skips : List Move → List Claim → List Claim
+with_skips moves [] = []
+with_skips moves (c ∷ cs) = with_skip moves c ∷ with_skips (Take c ∷ moves) cs
 
 -- behind the claims of one activation
-abbrev pub skips_behind_all : List ℕ → List Claim → List ℕ
-skips_behind_all skips [] = skips
-skips_behind_all skips (c ∷ cs) = skips_behind_all (skips_behind skips c) cs
+abbrev pub moves_behind : List Move → List Claim → List Move
+moves_behind moves [] = moves
+moves_behind moves (c ∷ cs) = moves_behind (Take c ∷ moves) cs
 
 -- the sum of the horizons of claims
 abbrev pub horizons : List Claim → ℕ

@@ -1,5 +1,5 @@
 -- What the control program creates, and how it ends.
-use Rattle.std.specs.Prelude.{ℕ, true, false, List, [], ◌∷◌, Option, Some, None, pos}
+use Rattle.std.specs.Prelude.{ℕ, true, false, List, [], Option, Some, None, pos}
 use Rattle.c_int.specs.ControlLimits.{limit_code}
 use Rattle.c_int.specs.Traps.{trap_code}
 use Rattle.cddf_meaning.specs.Flow.{Ran, Went, Ended}
@@ -38,7 +38,7 @@ bound_round_main input_len =
 
 abbrev pub control_state : (input_len : ℕ) → State
 control_state input_len =
-    record { bound = bound_round_main input_len; items = []; activations = []; skips = 0 ∷ 0 ∷ [] }
+    record { bound = bound_round_main input_len; items = []; activations = []; streams = 2; moves = [] }
 
 -- A program has a function `main`.
 abbrev pub control_in : Option Main → (input_len budget : ℕ) → Control

@@ -22,5 +22,6 @@ pub mod Examples
 pub mod Fitting
 pub mod Judged
 pub mod Moves
+pub mod Scoped
 pub mod Skips
 pub mod TypedExamples

@@ -1,5 +1,5 @@
 -- What a statement does. C11, 6.8; the declarations and pragmas of the control program by the rules of streams.
-use Rattle.std.specs.Prelude.{ℕ, zero, suc, Bool, false, if◌then◌else◌, leb, ◌&&◌, List, [], ◌∷◌, ◌++◌, length, get_or, replicate, Option, Some, None, ℤ, pos, negsuc, unwrap_or, Ok}
+use Rattle.std.specs.Prelude.{ℕ, zero, suc, ◌+◌, Bool, false, if◌then◌else◌, leb, ◌&&◌, List, [], ◌∷◌, length, get_or, replicate, Option, Some, None, ℤ, pos, negsuc, unwrap_or, Ok}
 use Rattle.c_int.specs.Operators.{is_zero}
 use Rattle.c_int.specs.declared.trap.Trap.TheVariants.{WindowSize}
 use Rattle.cddf_meaning.specs.Answers.{Answer, traps, and_then, Left, left, with_turns}
@@ -110,10 +110,10 @@ run_window file unsigned id i s turns =
     given (value file i.value s turns) s
     (λ n. given (window_size i.mark.line n.value) s (λ horizon. goes_on (declared id unsigned (Window horizon) s) n.turns))
 
--- Streams are numbered in the order of the text, behind `osin` and `osout`: there is a skip for each stream so far.
+-- Streams are numbered in the order of the text, behind `osin` and `osout`.
 abbrev pub with_streams : ℕ → Bool → ℕ → State → State
 with_streams id unsigned count s =
-    record (declared id unsigned (Stream (length s.skips) count) s) { skips = s.skips ++ replicate count 0 }
+    record (declared id unsigned (Stream s.streams count) s) { streams = s.streams + count }
 
 abbrev pub run_streams : File → Bool → ℕ → Option tree.IndexTree → Runs
 run_streams file unsigned id None s turns = goes_on (with_streams id unsigned 1 s) turns

@@ -1,6 +1,7 @@
 -- What a body works on: its variables, and what it did to streams.
 use Rattle.std.specs.Prelude.{ℕ, Bool, List, [], get_or, set, Option, Some, ℤ}
 use Rattle.cddf_meaning.specs.Variables.{find, assign, bind}
+use Rattle.cddf_meaning.specs.declared.cursor_move.Move.{Move}
 use Rattle.cddf_meaning.specs.declared.variable.Binding.{Binding}
 use Rattle.cddf_meaning.specs.declared.variable.Variable.TheVariants.{Scalar, Array, Item}
 use Rattle.cddf_meaning.specs.declared.variable.Variable.{Variable}
@@ -13,12 +14,14 @@ pub record State : Type 0 where
   pub items : List (List ℤ)
   -- the activations that the control program created, in order
   pub activations : List Activation
-  -- for each stream so far, by its number, what ticks took from its read cursor since the last read claim on it
-  pub skips : List ℕ
+  -- how many streams there are so far
+  pub streams : ℕ
+  -- what the control program did to their read cursors, the last move first
+  pub moves : List Move
 
 -- the state of a function's body or a task's, which does nothing to streams but through its items
 abbrev pub state_of : List Binding → List (List ℤ) → State
-state_of bound items = record { bound = bound; items = items; activations = []; skips = [] }
+state_of bound items = record { bound = bound; items = items; activations = []; streams = 0; moves = [] }
 
 -- a name is in scope from here on
 abbrev pub declared : ℕ → Bool → Variable → State → State

@@ -3,13 +3,14 @@ use Rattle.std.specs.Prelude.{ℕ, zero, suc, ◌+◌, ◌==◌, if◌then◌els
 use Rattle.c_int.specs.declared.control_limit.ControlLimit.{ControlLimit}
 use Rattle.c_int.specs.declared.trap.Trap.TheVariants.{Move, OutputBurst}
 use Rattle.cddf_meaning.specs.Answers.{Answer, Left, traps, and_then, left, with_turns}
-use Rattle.cddf_meaning.specs.Claims.{read_claim, write_claim, ticked, with_skips, skips_behind_all, limit}
+use Rattle.cddf_meaning.specs.Claims.{read_claim, write_claim, with_skips, moves_behind, limit}
 use Rattle.cddf_meaning.specs.File.{File, variable}
 use Rattle.cddf_meaning.specs.Flow.{Ran, Ended, given, goes_on}
 use Rattle.cddf_meaning.specs.State.{State}
 use Rattle.cddf_meaning.specs.declared.site.Site.{Site}
 use Rattle.cddf_meaning.specs.Variables.{find}
 use Rattle.cddf_meaning.specs.Value.{value, checked, scalar_value}
+use Rattle.cddf_meaning.specs.declared.cursor_move.Move.TheVariants.{Tick}
 use Rattle.cddf_meaning.specs.declared.ending.Ending.TheVariants.{OverBudget, Limited}
 use Rattle.cddf_meaning.specs.declared.variable.Variable.TheVariants.{Window, Stream}
 use Rattle.cddf_meaning.specs.declared.variable.Variable.{Variable}
@@ -97,9 +98,9 @@ with_activation file site ids claims s = record s {
   activations = s.activations ++ record {
     site = site;
     captured = captured_values file s ids;
-    claims = with_skips s.skips claims;
+    claims = with_skips s.moves claims;
   } ∷ [];
-  skips = skips_behind_all s.skips claims;
+  moves = moves_behind s.moves claims;
 }
 
 -- the control program ends at a limit; else there is one more activation
@@ -126,7 +127,7 @@ run_task file sites (Some number) ps s turns =
 
 -- a tick moves the read cursor of a stream
 abbrev pub moved : ℕ → ℕ → State → State
-moved stream amount s = record s { skips = ticked s.skips stream amount }
+moved stream amount s = record s { moves = Tick stream amount ∷ s.moves }
 
 -- the unit of a tick, behind its amount
 abbrev pub tick_turn : ℕ → ℕ → State → ℕ → Ran

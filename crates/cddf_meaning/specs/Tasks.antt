@@ -1,19 +1,17 @@
--- The tasks of a program, in the order of the text.
-use Rattle.std.specs.Prelude.{ℕ, List, [], ◌∷◌, ◌++◌, map}
+-- The tasks of a program, in the order of the text, found by names alone.
+use Rattle.std.specs.Prelude.{ℕ, ◌==◌, ◌&&◌, Bool, true, false, not, is_none, if◌then◌else◌, List, [], ◌∷◌, ◌++◌, map}
+use Rattle.cddf_meaning.specs.Functions.{item_id, item_unsigned}
+use Rattle.cddf_meaning.specs.declared.known.Known.{Known}
 use Rattle.cddf_meaning.specs.declared.site.Site.{Site}
 use Rattle.cddf_meaning.specs.declared.typed_name.TypedName.{TypedName}
-use Rattle.os_ast.specs.Captured.{Scalar, captured}
-use Rattle.os_ast.specs.Names.{Scope, enter, flag_of, in_loop, lookup}
-use Rattle.os_ast.specs.Notes.Declarators.{after_start}
-use Rattle.os_ast.specs.Notes.Statements.{after_stmt}
-use Rattle.os_ast.specs.Parts.{Part, item_ids, parts}
+use Rattle.os_ast.specs.FreeNames.{task_names}
+use Rattle.os_ast.specs.Names.{osin_id, osout_id, osin_len_id}
+use Rattle.os_ast.specs.Notes.Programs.{param_list}
+use Rattle.os_ast.specs.Parts.{Part, is_in, item_ids, parts}
 use Rattle.os_ast.specs.Trees as tree
+use Rattle.os_ast.specs.Unsigned.{is_unsigned}
 use Rattle.os_ast.specs.declared.expr.Mark.{Mark}
-use Rattle.os_ast.specs.declared.names.Entry.{Entry}
-
--- a name, with its type as the innermost declaration has it
-abbrev pub typed_name : List Entry → ℕ → TypedName
-typed_name entries id = record { id = id; unsigned = flag_of (lookup entries id) }
+use Rattle.os_ast.specs.declared.program.Param.{Param}
 
 -- A task. What its body sees of the control program has the types that it has there.
 pub record Task : Type 0 where
@@ -27,39 +25,109 @@ pub record Task : Type 0 where
   -- the names of its items, in the order of its clauses
   pub items : List TypedName
 
+abbrev pub known : ℕ → Bool → Bool → Known
+known id scalar unsigned = record { id = id; scalar = scalar; unsigned = unsigned }
+
+-- What is in scope is listed from the oldest declaration on.
+
+-- In the control program a declarator without a size is a scalar or a stream. It is of the type of its declaration.
+abbrev pub known_declarator : Bool → tree.DeclaratorTree → Known
+known_declarator unsigned d = known d.name.id (not d.stream && is_none d.size) unsigned
+
+abbrev pub known_start : tree.StartTree → List Known
+known_start tree.StartTree.Empty = []
+known_start (tree.StartTree.Declare ty ds) = map (known_declarator (is_unsigned ty)) ds
+known_start (tree.StartTree.Change c) = []
+
+-- what a statement of the control program declares in the scope in which it stands
+abbrev pub known_behind : tree.StmtTree → List Known
+known_behind tree.StmtTree.Empty = []
+known_behind (tree.Block ss) = []
+known_behind (tree.StmtTree.Declare ty ds) = map (known_declarator (is_unsigned ty)) ds
+known_behind (tree.StmtTree.Change c) = []
+known_behind (tree.StmtTree.Call f args) = []
+known_behind (tree.If c a) = known_behind a
+known_behind (tree.IfElse c a b) = known_behind a ++ known_behind b
+known_behind (tree.While c a) = known_behind a
+known_behind (tree.For start test step a) = []
+known_behind (tree.Break m) = []
+known_behind (tree.Continue m) = []
+known_behind (tree.Return m e) = []
+known_behind (tree.Task m cs a) = []
+known_behind (tree.Tick m t arrow e) = []
+known_behind (tree.Taskwait m) = []
+
+abbrev pub known_item : tree.ItemTree → Known
+known_item i = known (item_id i) false (item_unsigned i)
+
+abbrev pub known_param : Param → Known
+known_param p = known p.name.id true (is_unsigned p.ty)
+
+-- what is in scope round the body of `main`, behind these items of the file
+abbrev pub known_in_main : List tree.ItemTree → tree.FunctionTree → List Known
+known_in_main items f =
+    map known_item items
+    ++ (known osin_id false false ∷ known osout_id false false ∷ known osin_len_id true false ∷ map known_param (param_list f.params))
+
+-- other names
+abbrev pub others : ℕ → List ℕ → List ℕ
+others id [] = []
+others id (i ∷ is) = if i == id then others id is else i ∷ others id is
+
+-- a scalar is the newest of its name; another declaration hides it
+abbrev pub with_known : List ℕ → Known → List ℕ
+with_known ids k = others k.id ids ++ (if k.scalar then k.id ∷ [] else [])
+
+abbrev pub with_all_known : List ℕ → List Known → List ℕ
+with_all_known ids [] = ids
+with_all_known ids (k ∷ ks) = with_all_known (with_known ids k) ks
+
+-- those of a list that are among these
+abbrev pub among : List ℕ → List ℕ → List ℕ
+among names [] = []
+among names (id ∷ ids) = if is_in id names then id ∷ among names ids else among names ids
+
+-- whether the newest of a name is of the type `unsigned`; where there is none, what is said of it elsewhere
+abbrev pub known_flag : Bool → List Known → ℕ → Bool
+known_flag elsewhere [] id = elsewhere
+known_flag elsewhere (k ∷ ks) id = known_flag (if k.id == id then k.unsigned else elsewhere) ks id
+
+abbrev pub typed_known : List Known → ℕ → TypedName
+typed_known ks id = record { id = id; unsigned = known_flag false ks id }
+
 -- a task where this is in scope
-abbrev pub task_at : Scope → Mark → List tree.ClauseTree → tree.StmtTree → Task
-task_at s m cs body = record {
+abbrev pub task_at : List Known → Mark → List tree.ClauseTree → tree.StmtTree → Task
+task_at ks m cs body = record {
   mark = m;
   parts = parts cs;
   body = body;
-  captured = map (typed_name s.entries) (map (λ (c : Scalar). c.id) (captured s.entries (parts cs) body));
-  items = map (typed_name s.entries) (item_ids (parts cs));
+  captured = map (typed_known ks) (among (task_names (parts cs) body) (with_all_known [] ks));
+  items = map (typed_known ks) (item_ids (parts cs));
 }
 
 -- The tasks in a statement, where this is in scope. No task stands in a task.
 abbrev mutual
-  pub tasks_in : Scope → tree.StmtTree → List Task
-  tasks_in s tree.StmtTree.Empty = []
-  tasks_in s (tree.Block ss) = tasks_in_all (enter s) ss
-  tasks_in s (tree.StmtTree.Declare ty ds) = []
-  tasks_in s (tree.StmtTree.Change c) = []
-  tasks_in s (tree.StmtTree.Call f args) = []
-  tasks_in s (tree.If c a) = tasks_in s a
-  tasks_in s (tree.IfElse c a b) = tasks_in s a ++ tasks_in (after_stmt s a) b
-  tasks_in s (tree.While c a) = tasks_in (in_loop s) a
-  tasks_in s (tree.For start test step a) = tasks_in (in_loop (after_start (enter s) start)) a
-  tasks_in s (tree.Break m) = []
-  tasks_in s (tree.Continue m) = []
-  tasks_in s (tree.Return m e) = []
-  tasks_in s (tree.Task m cs a) = task_at s m cs a ∷ []
-  tasks_in s (tree.Tick m t arrow e) = []
-  tasks_in s (tree.Taskwait m) = []
+  pub tasks_in : List Known → tree.StmtTree → List Task
+  tasks_in ks tree.StmtTree.Empty = []
+  tasks_in ks (tree.Block ss) = tasks_in_all ks ss
+  tasks_in ks (tree.StmtTree.Declare ty ds) = []
+  tasks_in ks (tree.StmtTree.Change c) = []
+  tasks_in ks (tree.StmtTree.Call f args) = []
+  tasks_in ks (tree.If c a) = tasks_in ks a
+  tasks_in ks (tree.IfElse c a b) = tasks_in ks a ++ tasks_in (ks ++ known_behind a) b
+  tasks_in ks (tree.While c a) = tasks_in ks a
+  tasks_in ks (tree.For start test step a) = tasks_in (ks ++ known_start start) a
+  tasks_in ks (tree.Break m) = []
+  tasks_in ks (tree.Continue m) = []
+  tasks_in ks (tree.Return m e) = []
+  tasks_in ks (tree.Task m cs a) = task_at ks m cs a ∷ []
+  tasks_in ks (tree.Tick m t arrow e) = []
+  tasks_in ks (tree.Taskwait m) = []
 
   -- the tasks in the statements of a block
-  pub tasks_in_all : Scope → tree.Stmts → List Task
-  tasks_in_all s tree.no_stmts = []
-  tasks_in_all s (tree.stmt a rest) = tasks_in s a ++ tasks_in_all (after_stmt s a) rest
+  pub tasks_in_all : List Known → tree.Stmts → List Task
+  tasks_in_all ks tree.no_stmts = []
+  tasks_in_all ks (tree.stmt a rest) = tasks_in ks a ++ tasks_in_all (ks ++ known_behind a) rest
 
 abbrev pub ids : List TypedName → List ℕ
 ids names = map (λ (n : TypedName). n.id) names

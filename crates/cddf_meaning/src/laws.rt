@@ -6,6 +6,7 @@
 ghost use Rattle.std.specs.Prelude.{◌≡◌, ◌<◌, ◌≤◌, ◌^◌, ℕ, ℤ, List, get_or, length, true};
 ghost use Rattle.cddf_meaning.specs.Answers.{Answer, Left, and_then};
 ghost use Rattle.cddf_meaning.specs.Body.{task_outcome};
+ghost use Rattle.cddf_meaning.specs.Claims.{since_read};
 ghost use Rattle.cddf_meaning.specs.Exact.{IsExact, RunsExactly};
 ghost use Rattle.cddf_meaning.specs.File.{File, type_in};
 ghost use Rattle.cddf_meaning.specs.Fitting.{FileFits, GivesInt, RanFits, StateFits, items_fit, numbers_fit, stmt_fits};
@@ -13,13 +14,15 @@ ghost use Rattle.cddf_meaning.specs.Flow.{Runs};
 ghost use Rattle.cddf_meaning.specs.Functions.{file_of};
 ghost use Rattle.cddf_meaning.specs.Judged.{JudgedByBits};
 ghost use Rattle.cddf_meaning.specs.Moves.{Falls, Keeps, read_horizons, written_horizons};
+ghost use Rattle.cddf_meaning.specs.Scoped.{FindTheSame};
 ghost use Rattle.cddf_meaning.specs.Run.{Around, array_size, loop, run, window_size};
-ghost use Rattle.cddf_meaning.specs.Skips.{Move, since_read, skips_of};
+ghost use Rattle.cddf_meaning.specs.Skips.{skips_of};
 ghost use Rattle.cddf_meaning.specs.State.{State};
 ghost use Rattle.cddf_meaning.specs.Streams.{cursor_move, output_burst};
 ghost use Rattle.cddf_meaning.specs.Tasks.{Task};
 ghost use Rattle.cddf_meaning.specs.TypedValue.{typed_value, with_type};
 ghost use Rattle.cddf_meaning.specs.Value.{checked, value};
+ghost use Rattle.cddf_meaning.specs.declared.cursor_move.Move.{Move};
 ghost use Rattle.flow_core_laws.specs.declared.activation.Activation.{Activation};
 ghost use Rattle.flow_core_laws.specs.declared.task_end.TaskEnd.TheVariants as ends;
 ghost use Rattle.os_ast.specs.Leveled.{IsLeveled};
@@ -44,7 +47,14 @@ pub fn loops_end_by_turns_alone()
         loop most test body step s turns ≡ loop other test body step s turns }
 {}
 
-/// A skip is the sum of the ticks on its stream since the last read claim on it.
+/// The tasks of a program, which are defined by names alone, are those that a walk over scopes finds: the one which gives a slot to
+/// each scalar of the control program.
+pub fn tasks_are_scoped()
+    ensures { (program : tree.ProgramTree) → FindTheSame program }
+{}
+
+/// The sum of the ticks on a stream since the last read claim on it is what a counter for each stream holds, which a tick raises and
+/// a read claim sets to 0.
 pub fn skips_are_sums()
     ensures { (streams stream : ℕ) (moves : List Move) → stream < streams →
         get_or (skips_of streams moves) stream 0 ≡ since_read stream moves }

@@ -14,17 +14,21 @@
 #![tactic(auto)]
 
 mod aim;
+mod cursor_move;
 mod ending;
 pub mod examples;
 mod flow;
+mod known;
 pub mod laws;
 mod site;
 mod typed_name;
 mod variable;
 
 pub use aim::Aim;
+pub use cursor_move::Move;
 pub use ending::Ending;
 pub use flow::Flow;
+pub use known::Known;
 pub use site::Site;
 pub use typed_name::TypedName;
 pub use variable::{Binding, Variable};

@@ -1,24 +1,26 @@
 -- The sum of the horizons of claims.
-use Rattle.std.proofs.Common.{◌≡◌, ℕ, ◌+◌, ◌≤◌, Bool, true, false, List, [], ◌∷◌, ◌++◌, Option, Some, None, refl, ap, sym, ◌∙◌, arith, if◌then◌else◌, leb, ltb, length, get_or, zero-add}
+use Rattle.std.proofs.Common.{◌≡◌, ℕ, ◌+◌, ◌≤◌, Bool, true, false, List, [], ◌∷◌, ◌++◌, Option, Some, None, refl, ap, sym, ◌∙◌, arith, if◌then◌else◌, leb, ltb, length, zero-add}
 use Rattle.std.proofs.lemmas.List.Sums.{sum_by-cons, sum_by-append}
 use Rattle.c_int.specs.declared.control_limit.ControlLimit.{ControlLimit}
 use Rattle.c_int.specs.declared.control_limit.ControlLimit.TheVariants.{Activations, Elements}
-use Rattle.cddf_meaning.specs.Claims.{horizons, all_horizons, limit, with_skip, with_skips, skips_behind, activations_limit, horizons_limit}
+use Rattle.cddf_meaning.specs.Claims.{horizons, all_horizons, limit, since_read, with_skip, with_skips, activations_limit, horizons_limit}
+use Rattle.cddf_meaning.specs.declared.cursor_move.Move.{Move}
+use Rattle.cddf_meaning.specs.declared.cursor_move.Move.TheVariants.{Take}
 use Rattle.flow_core_laws.specs.declared.activation.Activation.{Activation}
 use Rattle.flow_core_laws.specs.declared.claim.Claim.{Claim}
 
-one : (c : Claim) (skips : List ℕ) → (with_skip skips c).horizon ≡ c.horizon
-one c skips =
-    elim c.write as (λ w. (if w then c else record c { skip = get_or skips c.stream 0 }).horizon ≡ c.horizon) [ true ↦ refl | false ↦ refl ]
+one : (c : Claim) (moves : List Move) → (with_skip moves c).horizon ≡ c.horizon
+one c moves =
+    elim c.write as (λ w. (if w then c else record c { skip = since_read c.stream moves }).horizon ≡ c.horizon) [ true ↦ refl | false ↦ refl ]
 
 -- ticks change no horizon
-pub horizons-with_skips : (skips : List ℕ) (claims : List Claim) → horizons (with_skips skips claims) ≡ horizons claims
-horizons-with_skips skips [] = refl
-horizons-with_skips skips (c ∷ cs) =
-    let rest = with_skips (skips_behind skips c) cs in
-    sum_by-cons (λ (c : Claim). c.horizon) (with_skip skips c) rest
-    ∙ ap (λ n. n + horizons rest) (one c skips)
-    ∙ ap (λ n. c.horizon + n) (horizons-with_skips (skips_behind skips c) cs)
+pub horizons-with_skips : (moves : List Move) (claims : List Claim) → horizons (with_skips moves claims) ≡ horizons claims
+horizons-with_skips moves [] = refl
+horizons-with_skips moves (c ∷ cs) =
+    let rest = with_skips (Take c ∷ moves) cs in
+    sum_by-cons (λ (c : Claim). c.horizon) (with_skip moves c) rest
+    ∙ ap (λ n. n + horizons rest) (one c moves)
+    ∙ ap (λ n. c.horizon + n) (horizons-with_skips (Take c ∷ moves) cs)
     ∙ sym (sum_by-cons (λ (c : Claim). c.horizon) c cs)
 
 -- one activation more

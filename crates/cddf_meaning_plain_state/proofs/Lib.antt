@@ -1,5 +1,6 @@
 pub mod Constants
 pub mod Horizons
+pub mod Moving
 pub mod Outputs
 pub mod Places
 pub mod Reached

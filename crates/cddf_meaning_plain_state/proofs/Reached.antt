@@ -2,6 +2,7 @@
 use Rattle.std.proofs.Common.{◌≡◌, ◌≢◌, Bool, false, ℕ, zero, suc, ◌+◌, ◌<◌, List, [], ◌∷◌, ◌++◌, length, get_or, take, map, Some, refl, ap, sym, ◌∙◌, arith}
 use Rattle.std.proofs.Math.ListN.{get_or-map}
 use Rattle.std.proofs.lemmas.List.{length-map, length-take}
+use Rattle.cddf_meaning.proofs.Scoping.{with_items-last}
 use Rattle.cddf_meaning.specs.File.{File}
 use Rattle.cddf_meaning.specs.Functions.{file_of, with_item, with_items, empty_file, item_id, item_unsigned, item_variable}
 use Rattle.cddf_meaning.specs.Variables.{bind, find, flag_or}
@@ -10,11 +11,6 @@ use Rattle.cddf_meaning.specs.declared.variable.Variable.{Variable}
 use Rattle.os_ast.specs.Trees as tree
 use Rattle.os_ast.specs.Views.{item_tree}
 use Rattle.os_ast.specs.declared.program.Item.{Item}
-
-pub with_items-last : (file : File) (items : List tree.ItemTree) (i : tree.ItemTree) →
-    with_items file (items ++ i ∷ []) ≡ with_item (with_items file items) i
-with_items-last file [] i = refl
-with_items-last file (x ∷ xs) i = with_items-last (with_item file x) xs i
 
 count-with_items : (file : File) (items : List tree.ItemTree) → (with_items file items).count ≡ file.count + length items
 count-with_items file [] = omega arith

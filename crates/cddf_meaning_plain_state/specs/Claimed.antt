@@ -1,7 +1,7 @@
 -- Streams and claims, as the functions of the program have them.
 use Rattle.std.specs.Prelude.{ℕ, ◌+◌, List, [], ◌∷◌, ◌++◌, Option, Ok, ℤ}
 use Rattle.cddf_meaning.specs.Answers.{Answer, Left, and_then, left}
-use Rattle.cddf_meaning.specs.Claims.{with_skips, skips_behind_all}
+use Rattle.cddf_meaning.specs.Claims.{with_skips, moves_behind}
 use Rattle.cddf_meaning.specs.State.{State}
 use Rattle.cddf_meaning.specs.Streams.{first_stream, stream_count}
 use Rattle.cddf_meaning.specs.Value.{checked}
@@ -22,6 +22,6 @@ streams_of v = record { first = first_stream v; count = stream_count v }
 
 abbrev pub with_created : ℕ → List ℤ → List Claim → State → State
 with_created site captured claims s = record s {
-  activations = s.activations ++ record { site = site; captured = captured; claims = with_skips s.skips claims } ∷ [];
-  skips = skips_behind_all s.skips claims;
+  activations = s.activations ++ record { site = site; captured = captured; claims = with_skips s.moves claims } ∷ [];
+  moves = moves_behind s.moves claims;
 }

@@ -5,4 +5,5 @@ pub mod Stops
 -- what restates functions
 pub mod Claimed
 pub mod FunctionTrees
+pub mod Moving
 pub mod Places

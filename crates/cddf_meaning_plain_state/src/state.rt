@@ -1,16 +1,18 @@
 //! What a body works on: its variables, the elements of its items, and what it did to streams.
 
 ghost use Rattle.std.specs.Option.{option_copied};
-ghost use Rattle.std.specs.Prelude.{◌≡◌, ◌-◌, ◌^◌, Bool, [], IfOk, OnErr, OnOk, drop, get_or, length, min, pos, replicate, set, unwrap_or};
+ghost use Rattle.std.specs.Prelude.{◌≡◌, ◌-◌, ◌^◌, Bool, [], ◌∷◌, IfOk, IfSome, OnErr, OnOk, drop, get_or, length, min, pos, replicate, reverse, set, unwrap_or};
 ghost use Rattle.cddf_meaning.specs.Answers.{and_then};
-ghost use Rattle.cddf_meaning.specs.Claims.{horizons, limit, skips_behind, skips_behind_all, with_skip, with_skips};
+ghost use Rattle.cddf_meaning.specs.Claims.{horizons, limit, moves_behind, since_read, with_skip, with_skips};
 ghost use Rattle.cddf_meaning.specs.Run.{window_size, with_streams, after_store};
 ghost use Rattle.cddf_meaning.specs.State as states;
 ghost use Rattle.cddf_meaning.specs.Streams.{horizon_of, moved};
 ghost use Rattle.cddf_meaning.specs.Value.{checked, elements};
 ghost use Rattle.cddf_meaning.specs.Variables.{find, flag_or};
+ghost use Rattle.cddf_meaning.specs.declared.cursor_move.Move.TheVariants.{Take};
 ghost use Rattle.cddf_meaning.specs.declared.variable.Variable.TheVariants as variables;
 ghost use Rattle.cddf_meaning_plain_state.specs.Claimed.{stream_at, streams_of, with_created};
+ghost use Rattle.cddf_meaning_plain_state.specs.Moving.{is_read, skipped};
 ghost use Rattle.cddf_meaning_plain_state.specs.Places.{IsInnermost};
 ghost use Rattle.cddf_meaning_plain_state.specs.Seen.{seen};
 ghost use Rattle.cddf_meaning_plain_state.specs.Stops.{Comes, Limits, Made, Now};
@@ -18,7 +20,7 @@ ghost use Rattle.cddf_meaning_plain_state.specs.Stops.{Comes, Limits, Made, Now}
 use crate::names::Seen;
 use crate::stop::Stop;
 use c_int::{ControlLimit, Trap};
-use cddf_meaning::{Aim, Binding, Ending, Variable};
+use cddf_meaning::{Aim, Binding, Ending, Move, Variable};
 use flow_core_laws::{Activation, Claim};
 use os_io::{List, Memory};
 use std::alloc::Global;
@@ -81,7 +83,10 @@ pub struct State {
     bound: Vec<Binding>,
     items: Vec<List<i32>>,
     activations: List<Activation>,
-    skips: Vec<u64>,
+    /// How many streams there are so far.
+    streams: u32,
+    /// What was done to their read cursors, the last move last.
+    moves: Vec<Move>,
     /// The sum of the horizons of all claims so far.
     horizons: u64,
 }
@@ -98,7 +103,8 @@ impl Model for State {
       bound = reverse s.bound.items;
       items = s.items.items;
       activations = s.activations;
-      skips = s.skips.items;
+      streams = s.streams;
+      moves = reverse s.moves.items;
     } };
 
     ghost invariant = { λ s. s.horizons ≡ all_horizons s.activations };
@@ -138,6 +144,56 @@ fn first(numbers: &[i32]) -> i32
     }
 }
 
+/// Whether a move is a claim that reads a stream.
+fn is_read(stream: u32, next: Move) -> bool
+    ensures { result ≡ is_read stream next }
+{
+    match next {
+        Move::Tick { .. } => false,
+        Move::Take(claim) => !claim.write && claim.stream == stream,
+    }
+}
+
+/// By how much a move, which is no claim that reads it, lets a stream be skipped.
+fn skipped(stream: u32, next: Move) -> u32
+    ensures { result ≡ skipped stream next }
+{
+    match next {
+        Move::Tick {
+            stream: ticked,
+            amount,
+        } if ticked == stream => amount,
+        Move::Tick { .. } | Move::Take(_) => 0,
+    }
+}
+
+/// The sum of the ticks on a stream since the last claim that reads it; none where it is too large a number.
+fn since_read(moves: &[Move], stream: u32) -> Option<u64>
+    ensures { IfSome result (λ sum. sum ≡ since_read stream (reverse moves.now)) }
+{
+    let mut sum: u64 = 0;
+    let mut place = moves.len();
+    while place > 0 {
+        place -= 1;
+        if is_read(stream, moves[place]) {
+            return Some(sum);
+        }
+        sum = sum.checked_add(u64::from(skipped(stream, moves[place])))?;
+    }
+    Some(sum)
+}
+
+/// A read claim skips what ticks took from its stream since the last read claim on it; none where that is too large a number.
+fn with_skip(moves: &[Move], claim: Claim) -> Option<Claim>
+    ensures { IfSome result (λ c. c ≡ with_skip (reverse moves.now) claim) }
+{
+    if claim.write {
+        return Some(claim);
+    }
+    let skip = since_read(moves, claim.stream)?;
+    Some(Claim { skip, ..claim })
+}
+
 impl State {
     /// The state of a function's or a task's body, with these items and no name in scope.
     pub fn new(alloc: Global, items: Vec<List<i32>>) -> State
@@ -147,7 +203,8 @@ impl State {
             bound: Vec::new(alloc),
             items,
             activations: List::new(alloc),
-            skips: Vec::new(alloc),
+            streams: 0,
+            moves: Vec::new(alloc),
             horizons: 0,
         }
     }
@@ -377,8 +434,8 @@ impl State {
     pub fn declare_streams(&mut self, id: u32, unsigned: bool, count: u32) -> Result<(), Stop>
         ensures { Made result self.new (with_streams id unsigned count self.old) }
     {
-        let first = u32::try_from(self.skips.len()).map_err(|_| Stop::Memory)?;
-        self.skips.resize(self.skips.len() + count as usize, 0)?;
+        let first = self.streams;
+        self.streams = first.checked_add(count).ok_or(Stop::Memory)?;
         self.declare(id, unsigned, Variable::Stream { first, count })?;
         Ok(())
     }
@@ -407,15 +464,11 @@ impl State {
     }
 
     /// A tick moves the read cursor of a stream by so many positions.
+    #[tactic(auto, using(crate::proofs::Moving::reverse_last))]
     pub fn tick(&mut self, stream: u32, amount: u32) -> Result<(), Stop>
         ensures { Made result self.new (moved stream amount self.old) }
     {
-        let place = stream as usize;
-        if place < self.skips.len() {
-            self.skips[place] = self.skips[place]
-                .checked_add(u64::from(amount))
-                .ok_or(Stop::Memory)?;
-        }
+        self.moves.push(Move::Tick { stream, amount })?;
         Ok(())
     }
 
@@ -457,30 +510,25 @@ impl State {
 
     /// The claims of one activation, with what ticks took from their streams.
     fn with_skips(&mut self, alloc: Global, claims: &[Claim]) -> Result<List<Claim>, Memory>
-        ensures claims { IfOk result (λ cs. cs ≡ with_skips self.old.skips claims.now) }
-        ensures state { OnOk result (self.new ≡ record self.old { skips = skips_behind_all self.old.skips claims.now }) }
+        ensures claims { IfOk result (λ cs. cs ≡ with_skips self.old.moves claims.now) }
+        ensures state { OnOk result (self.new ≡ record self.old { moves = moves_behind self.old.moves claims.now }) }
     {
         let mut skipping = List::new(alloc);
         for claim in claims {
-            skipping.push(self.with_skip(*claim))?;
+            let taken = self.take(*claim)?;
+            skipping.push(taken)?;
         }
         Ok(skipping)
     }
 
-    /// A read claim takes what ticks took from its stream.
-    fn with_skip(&mut self, claim: Claim) -> Claim
-        ensures claim { result ≡ with_skip self.old.skips claim }
-        ensures state { self.new ≡ record self.old { skips = skips_behind self.old.skips claim } }
+    /// A claim is taken, with what ticks took from its stream.
+    #[tactic(auto, using(crate::proofs::Moving::reverse_last))]
+    fn take(&mut self, claim: Claim) -> Result<Claim, Memory>
+        ensures claim { IfOk result (λ c. c ≡ with_skip self.old.moves claim) }
+        ensures state { OnOk result (self.new ≡ record self.old { moves = Take claim ∷ self.old.moves }) }
     {
-        let stream = claim.stream as usize;
-        if claim.write {
-            return claim;
-        }
-        let mut skip = 0;
-        if stream < self.skips.len() {
-            skip = self.skips[stream];
-            self.skips[stream] = 0;
-        }
-        Claim { skip, ..claim }
+        let taken = with_skip(&self.moves, claim).ok_or(Memory)?;
+        self.moves.push(Move::Take(claim))?;
+        Ok(taken)
     }
 }

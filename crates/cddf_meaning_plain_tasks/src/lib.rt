@@ -10,7 +10,6 @@ pub mod body;
 pub mod control;
 mod found;
 mod items;
-mod known;
 mod naming;
 mod sites;
 pub mod tasks;

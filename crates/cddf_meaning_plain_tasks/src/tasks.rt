@@ -1,26 +1,21 @@
 //! The control program of a program, and its tasks.
 
 ghost use Rattle.std.specs.Prelude.{◌≡◌, ◌++◌, if◌then◌else◌, List, [], ◌∷◌, IfOk, IfSome, OnOk, false, map, None, Some};
-ghost use Rattle.cddf_meaning.specs.File.{File};
-ghost use Rattle.cddf_meaning.specs.Functions.{file_of, with_item};
 ghost use Rattle.cddf_meaning.specs.Program.{main_at, main_behind, main_of};
-ghost use Rattle.cddf_meaning.specs.Tasks.{tasks_in_all};
 ghost use Rattle.os_ast.specs.FreeNames.{task_names};
-ghost use Rattle.os_ast.specs.Names.{Scope, main_id};
-ghost use Rattle.os_ast.specs.Notes.Programs as notes;
-ghost use Rattle.os_ast.specs.Notes.Programs.{after_item, after_items, in_body};
+ghost use Rattle.os_ast.specs.Names.{main_id};
 ghost use Rattle.os_ast.specs.Parts.{is_in, parts};
 ghost use Rattle.os_ast.specs.Trees as tree;
 ghost use Rattle.os_ast.specs.Unsigned.{is_unsigned};
 ghost use Rattle.os_ast.specs.Views.{clause_tree, declarator_tree, item_tree, start_tree, stmt_tree, stmts_tree};
 ghost use Rattle.cddf_meaning_plain_state.specs.FunctionTrees.{function_tree};
-ghost use Rattle.cddf_meaning_plain_tasks.specs.Sought.{among, found_at, found_in, found_in_all, known_behind, known_declarator, known_flag, known_in_main, known_item, known_start, others, task_of, typed_known, with_all_known, with_known};
+ghost use Rattle.cddf_meaning.specs.Tasks.{among, task_at, tasks_in, tasks_in_all, known_behind, known_declarator, known_flag, known_in_main, known_item, known_start, others, typed_known, with_all_known, with_known};
+ghost use Rattle.cddf_meaning_plain_tasks.specs.Sought.{task_of};
 
 use crate::found::Found;
 use crate::items::item_ids;
-use crate::known::Known;
 use crate::naming::in_task;
-use cddf_meaning::TypedName;
+use cddf_meaning::{Known, TypedName};
 use cddf_meaning_plain_state::functions::param_list;
 use cddf_meaning_plain_state::names::{item_id, item_unsigned};
 use os_ast::{Declarator, Function, Head, Item, Start, Stmt, TaskSite, Ty};
@@ -41,8 +36,8 @@ pub struct Main<'p> {
 fn main_in(item: &Item) -> Option<&Function>
     ensures main { IfSome result (λ f. item_tree item.now ≡ tree.Function (function_tree f.now)) }
     ensures named { IfSome result (λ f. f.now.name.id ≡ main_id) }
-    ensures other { result ≡ None → (file : File) (s : Scope) (rest : List tree.ItemTree) →
-        main_behind file s (item_tree item.now ∷ rest) ≡ main_behind (with_item file (item_tree item.now)) (after_item s (item_tree item.now)) rest }
+    ensures other { result ≡ None → (before rest : List tree.ItemTree) →
+        main_behind before (item_tree item.now ∷ rest) ≡ main_behind (before ++ item_tree item.now ∷ []) rest }
 {
     match item {
         Item::Function(function) if function.name.id == MAIN => Some(function),
@@ -52,8 +47,7 @@ fn main_in(item: &Item) -> Option<&Function>
 
 /// The first function `main`.
 pub fn main_of(items: &[Item]) -> Option<Main<'_>>
-    ensures main { IfSome result (λ m. main_of (map item_tree items.now) ≡ Some
-        (main_at (file_of (map item_tree m.file.now)) (after_items notes.file (map item_tree m.file.now)) (function_tree m.function.now))) }
+    ensures main { IfSome result (λ m. main_of (map item_tree items.now) ≡ Some (main_at (map item_tree m.file.now) (function_tree m.function.now))) }
     ensures named { IfSome result (λ m. m.function.now.name.id ≡ main_id) }
     ensures none { result ≡ None → main_of (map item_tree items.now) ≡ None }
 {
@@ -184,7 +178,7 @@ fn declare_start(start: &Start, known: &mut Vec<Known>) -> Result<(), Memory>
 /// A task, where this is in scope round it.
 #[tactic(auto, using(crate::proofs::HasNames::clauses_ids))]
 fn found<'p>(alloc: Global, site: &'p TaskSite, known: &[Known]) -> Result<Found<'p>, Memory>
-    ensures { IfOk result (λ f. task_of f ≡ found_at known.now site.now.mark (map clause_tree site.now.clauses) (stmt_tree site.now.body)) }
+    ensures { IfOk result (λ f. task_of f ≡ task_at known.now site.now.mark (map clause_tree site.now.clauses) (stmt_tree site.now.body)) }
 {
     let captured = captured(alloc, site, known)?;
     let items = item_ids(alloc, &site.clauses)?;
@@ -205,7 +199,7 @@ fn add_task<'p>(
     tasks: &mut Vec<Found<'p>>,
 ) -> Result<(), Memory>
     ensures { OnOk result (map task_of tasks.new.items ≡ map task_of tasks.old.items
-        ++ found_at known.now site.now.mark (map clause_tree site.now.clauses) (stmt_tree site.now.body) ∷ []) }
+        ++ task_at known.now site.now.mark (map clause_tree site.now.clauses) (stmt_tree site.now.body) ∷ []) }
 {
     let task = found(alloc, site, known)?;
     tasks.push(task)?;
@@ -220,7 +214,7 @@ fn tasks_in<'p>(
     known: &mut Vec<Known>,
     tasks: &mut Vec<Found<'p>>,
 ) -> Result<(), Memory>
-    ensures tasks { OnOk result (map task_of tasks.new.items ≡ map task_of tasks.old.items ++ found_in known.old.items (stmt_tree stmt.now)) }
+    ensures tasks { OnOk result (map task_of tasks.new.items ≡ map task_of tasks.old.items ++ tasks_in known.old.items (stmt_tree stmt.now)) }
     ensures known { OnOk result (known.new.items ≡ known.old.items ++ known_behind (stmt_tree stmt.now)) }
 {
     match stmt {
@@ -250,7 +244,7 @@ fn tasks_in_for<'p>(
     tasks: &mut Vec<Found<'p>>,
 ) -> Result<(), Memory>
     ensures tasks { OnOk result (map task_of tasks.new.items ≡ map task_of tasks.old.items
-        ++ found_in (known.old.items ++ known_start (start_tree head.now.start)) (stmt_tree body.now)) }
+        ++ tasks_in (known.old.items ++ known_start (start_tree head.now.start)) (stmt_tree body.now)) }
     ensures known { OnOk result (known.new.items ≡ known.old.items) }
 {
     let outer = known.len();
@@ -268,7 +262,7 @@ fn tasks_in_block<'p>(
     known: &mut Vec<Known>,
     tasks: &mut Vec<Found<'p>>,
 ) -> Result<(), Memory>
-    ensures tasks { OnOk result (map task_of tasks.new.items ≡ map task_of tasks.old.items ++ found_in_all known.old.items (stmts_tree stmts.now)) }
+    ensures tasks { OnOk result (map task_of tasks.new.items ≡ map task_of tasks.old.items ++ tasks_in_all known.old.items (stmts_tree stmts.now)) }
     ensures known { OnOk result (known.new.items ≡ known.old.items) }
 {
     let outer = known.len();
@@ -325,9 +319,8 @@ fn known_in_file(alloc: Global, file: &[Item]) -> Result<Vec<Known>, Memory>
 
 /// The tasks of the control program, in the order of the text. Their numbers are their places.
 pub fn tasks<'p>(alloc: Global, main: &Main<'p>) -> Result<Vec<Found<'p>>, Memory>
-    requires { main.now.function.now.name.id ≡ main_id }
     ensures { IfOk result (λ tasks. map task_of tasks.items ≡ tasks_in_all
-        (in_body (after_items notes.file (map item_tree main.now.file.now)) (function_tree main.now.function.now)) (stmts_tree main.now.function.now.body)) }
+        (known_in_main (map item_tree main.now.file.now) (function_tree main.now.function.now)) (stmts_tree main.now.function.now.body)) }
 {
     let mut known = known_in_main(alloc, main)?;
     let mut tasks = Vec::new(alloc);

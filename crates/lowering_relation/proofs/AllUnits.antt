@@ -5,7 +5,8 @@ use Rattle.std.proofs.lemmas.List.{length-map}
 use Rattle.std.proofs.lemmas.Option.{slice_get_within, slice_get-map}
 use Rattle.std.specs.Option.{option_map}
 use Rattle.std.specs.Prelude.{◌⊎◌}
-use Rattle.cddf_meaning.specs.Tasks.{Task as MeaningTask, task_at, tasks_in_all}
+use Rattle.cddf_meaning.specs.Scoped.{scoped_task_at, scoped_tasks_in_all}
+use Rattle.cddf_meaning.specs.Tasks.{Task as MeaningTask}
 use Rattle.flow_core_laws.proofs.Stretches.{slice_get-append_left}
 use Rattle.os_ast.specs.Leveled.{IsLeveled}
 use Rattle.os_ast.specs.Marks.{HasPlaces}
@@ -121,7 +122,7 @@ module _ (p : tree.ProgramTree) (code : Parts) (st : Standing p code) where
     pub slots : List ℕ
     pub found : slice_get (captures (stmts_notes (in_body main_at.at.scope main_at.function) main_at.function.body)) number ≡ Some slots
     pub there : TaskAt (names p) main_at.at.scope.entries task slots
-    pub has : HasTask code (told_at (names p)) (captured_by_tasks p) number (strip (task_at there.scope there.mark there.clauses there.body))
+    pub has : HasTask code (told_at (names p)) (captured_by_tasks p) number (strip (scoped_task_at there.scope there.mark there.clauses there.body))
     pub same_slots : has.site.captured ≡ slots
 
   pub task_place : (number : ℕ) → number < length (program_tasks p) → TaskPlace number
@@ -133,27 +134,27 @@ module _ (p : tree.ProgramTree) (code : Parts) (st : Standing p code) where
       body : Scope
       body = in_body main_at.at.scope f
 
-      by_tree : program_tasks p ≡ map strip (tasks_in_all body f.body)
+      by_tree : program_tasks p ≡ map strip (scoped_tasks_in_all body f.body)
       by_tree = main_at.own_tasks ∙ sym (all_stripped f.body body)
 
-      below : number < length (tasks_in_all body f.body)
-      below = omega (arith, lt, ap (λ xs. length xs) by_tree, length-map (tasks_in_all body f.body) strip)
+      below : number < length (scoped_tasks_in_all body f.body)
+      below = omega (arith, lt, ap (λ xs. length xs) by_tree, length-map (scoped_tasks_in_all body f.body) strip)
 
-      got : (t : MeaningTask) × (slice_get (tasks_in_all body f.body) number ≡ Some t)
-      got = get_there (tasks_in_all body f.body) number below
+      got : (t : MeaningTask) × (slice_get (scoped_tasks_in_all body f.body) number ≡ Some t)
+      got = get_there (scoped_tasks_in_all body f.body) number below
 
       found : (slots : List ℕ) × (slice_get (captures (stmts_notes body f.body)) number ≡ Some slots) × TaskAt (names p) main_at.at.scope.entries got.0 slots
       found =
-          matched (names p) main_at.at.scope.entries (tasks_in_all body f.body) (captures (stmts_notes body f.body)) number got.0
+          matched (names p) main_at.at.scope.entries (scoped_tasks_in_all body f.body) (captures (stmts_notes body f.body)) number got.0
           (match_stmts (names p) main_at.at.scope.entries main_at.at.leveled body (main_body main_at.at.scope f main_at.named main_at.at.all) main_at.at.lawful main_at.at.tells) got.1
 
       there : TaskAt (names p) main_at.at.scope.entries got.0 found.0
       there = found.2
 
       in_program : slice_get (program_tasks p) number ≡ Some (strip got.0)
-      in_program = ap (λ ts. slice_get ts number) by_tree ∙ slice_get-map strip (tasks_in_all body f.body) number ∙ ap (option_map strip) got.1
+      in_program = ap (λ ts. slice_get ts number) by_tree ∙ slice_get-map strip (scoped_tasks_in_all body f.body) number ∙ ap (option_map strip) got.1
 
-      has : HasTask code (told_at (names p)) (captured_by_tasks p) number (strip (task_at there.scope there.mark there.clauses there.body))
+      has : HasTask code (told_at (names p)) (captured_by_tasks p) number (strip (scoped_task_at there.scope there.mark there.clauses there.body))
       has = subst (λ x. HasTask code (told_at (names p)) (captured_by_tasks p) number (strip x)) there.is (st.has.tasks number (strip got.0) in_program)
 
       same_slots : has.site.captured ≡ found.0

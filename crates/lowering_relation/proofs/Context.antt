@@ -1,8 +1,9 @@
 -- What is known of a body's names, and what it does beside its slots.
-use Rattle.std.proofs.Common.{◌≡◌, ℕ, zero, suc, ◌+◌, ◌<◌, ◌≤◌, ◌==◌, Bool, true, false, if◌then◌else◌, List, [], ◌∷◌, ◌++◌, length, map, replicate, Option, Some, None, ℤ, refl, sym, ap, ◌∙◌, subst, inl, inr, arith, eq-eqb, eqb-true}
+use Rattle.std.proofs.Common.{◌≡◌, ℕ, zero, suc, ◌+◌, ◌<◌, ◌≤◌, ◌==◌, Bool, true, false, if◌then◌else◌, List, [], ◌∷◌, ◌++◌, length, map, Option, Some, None, ℤ, refl, sym, ap, ◌∙◌, subst, inl, inr, arith, eq-eqb, eqb-true}
 use Rattle.std.specs.Prelude.{⊤, ◌⊎◌, Contains}
 use Rattle.cddf_meaning.specs.File.{File, flags}
 use Rattle.cddf_meaning.specs.Moves.{CallsFall}
+use Rattle.cddf_meaning.specs.Skips.{skips_of}
 use Rattle.cddf_meaning.specs.State.{State}
 use Rattle.cddf_meaning.specs.Variables.{find, flag_or}
 use Rattle.cddf_meaning.specs.declared.variable.Variable.{Variable}
@@ -89,7 +90,7 @@ Windows (w ∷ ws) (vs ∷ items) = (w.elements ≡ vs) × (w.claim.horizon ≡ 
 abbrev pub Kept : Side → State → Store → Type 0
 Kept (InFunction windows created skips) s m = (m.windows ≡ windows) × (m.created ≡ created) × (m.skips ≡ skips)
 Kept (InTask claims) s m = (map (λ (w : TaskWindow). w.claim) m.windows ≡ claims) × Windows m.windows s.items
-Kept (InMain streams later) s m = (s.activations ≡ m.created) × (length s.skips ≡ streams) × (m.skips ≡ s.skips ++ replicate later 0)
+Kept (InMain streams later) s m = (s.activations ≡ m.created) × (s.streams ≡ streams) × (m.skips ≡ skips_of (streams + later) s.moves)
 
 -- where a body has ended: what was created
 abbrev pub Made : Side → List Activation → List Activation → Type 0

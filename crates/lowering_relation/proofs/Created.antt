@@ -1,8 +1,11 @@
--- The machine's count of claims and skips is that of the meaning, while some streams come later.
-use Rattle.std.proofs.Common.{◌≡◌, ℕ, ◌+◌, ◌<◌, Bool, true, false, if◌then◌else◌, List, [], ◌∷◌, ◌++◌, length, get_or, set, refl, sym, ap, ◌∙◌, subst, length-set}
-use Rattle.std.proofs.lemmas.List.{set-append_left, get_or_append_left}
+-- The machine's count of claims and skips is that of the meaning.
+use Rattle.std.proofs.Common.{◌≡◌, ℕ, ◌+◌, ◌<◌, ◌≤◌, Bool, true, false, if◌then◌else◌, List, [], ◌∷◌, set, refl, sym, ap, ◌∙◌, arith}
 use Rattle.std.proofs.lemmas.List.Sums.{sum_by-append, sum_by-cons}
-use Rattle.cddf_meaning.specs.Claims.{with_skip, skips_behind, with_skips, skips_behind_all, horizons, all_horizons}
+use Rattle.cddf_meaning.proofs.Sums.{skip-sum}
+use Rattle.cddf_meaning.specs.Claims.{since_read, with_skip, with_skips, moves_behind, horizons, all_horizons}
+use Rattle.cddf_meaning.specs.Skips.{skips_of}
+use Rattle.cddf_meaning.specs.declared.cursor_move.Move.{Move}
+use Rattle.cddf_meaning.specs.declared.cursor_move.Move.TheVariants.{Take}
 use Rattle.flow_core_laws.specs.declared.activation.Activation.{Activation}
 use Rattle.flow_core_laws.specs.declared.claim.Claim.{Claim}
 use Rattle.flow_core_laws.specs.Window.{claims_of}
@@ -35,30 +38,31 @@ skipped_sum (c ∷ claims) skips =
     ∙ ap (λ n. c.horizon + n) (skipped_sum claims (skips_after skips c))
     ∙ sym (sum_by-cons size c claims)
 
--- claims on streams so far
-pub record SameClaims (xs rest : List ℕ) (made : List Claim) : Type 0 where
-  pub claims : claims_with_skips (xs ++ rest) made ≡ with_skips xs made
-  pub skips : skips_after_all (xs ++ rest) made ≡ skips_behind_all xs made ++ rest
-  pub long : length (skips_behind_all xs made) ≡ length xs
+-- The counters of the machine are those behind the moves of the meaning: claims skip the same.
+pub record SameClaims (streams : ℕ) (moves : List Move) (made : List Claim) : Type 0 where
+  pub claims : claims_with_skips (skips_of streams moves) made ≡ with_skips moves made
+  pub skips : skips_after_all (skips_of streams moves) made ≡ skips_of streams (moves_behind moves made)
 
-one_claim : (xs rest : List ℕ) (c : Claim) → c.stream < length xs → (machine.with_skip (xs ++ rest) c ≡ with_skip xs c) × (skips_after (xs ++ rest) c ≡ skips_behind xs c ++ rest) × (length (skips_behind xs c) ≡ length xs)
-one_claim xs rest c lt = by_case c.write
+one_claim : (streams : ℕ) (moves : List Move) (c : Claim) → c.stream < streams →
+    (machine.with_skip (skips_of streams moves) c ≡ with_skip moves c) × (skips_after (skips_of streams moves) c ≡ skips_of streams (Take c ∷ moves))
+one_claim streams moves c lt = by_case c.write
   where
-    by_case : (t : Bool) → ((if t then c else record c { skip = machine.skip_at (xs ++ rest) c.stream }) ≡ (if t then c else record c { skip = get_or xs c.stream 0 }))
-        × ((if t then xs ++ rest else set (xs ++ rest) c.stream 0) ≡ (if t then xs else set xs c.stream 0) ++ rest) × (length (if t then xs else set xs c.stream 0) ≡ length xs)
-    by_case true = (refl, refl, refl)
-    by_case false = (ap (λ n. record c { skip = n }) (get_or_append_left xs rest 0 c.stream lt), set-append_left xs rest c.stream 0 lt, length-set xs c.stream 0)
+    by_case : (t : Bool) → ((if t then c else record c { skip = machine.skip_at (skips_of streams moves) c.stream }) ≡ (if t then c else record c { skip = since_read c.stream moves }))
+        × ((if t then skips_of streams moves else set (skips_of streams moves) c.stream 0) ≡ (if t then skips_of streams moves else set (skips_of streams moves) c.stream 0))
+    by_case true = (refl, refl)
+    by_case false = (ap (λ n. record c { skip = n }) (skip-sum streams c.stream moves lt), refl)
 
-below_same : (a b : ℕ) (claims : List Claim) → a ≡ b → AllBelow a claims → AllBelow b claims
-below_same a b claims e h = subst (λ n. AllBelow n claims) e h
-
-pub same_claims : (claims : List Claim) (xs rest : List ℕ) → AllBelow (length xs) claims → SameClaims xs rest claims
-same_claims [] xs rest h = record { claims = refl; skips = refl; long = refl }
-same_claims (c ∷ claims) xs rest h =
-    let one = one_claim xs rest c h.0 in
-    let more = same_claims claims (skips_behind xs c) rest (below_same (length xs) (length (skips_behind xs c)) claims (sym one.2) h.1) in
+pub same_claims : (streams : ℕ) (claims : List Claim) (moves : List Move) → AllBelow streams claims → SameClaims streams moves claims
+same_claims streams [] moves h = record { claims = refl; skips = refl }
+same_claims streams (c ∷ claims) moves h =
+    let one = one_claim streams moves c h.0 in
+    let more = same_claims streams claims (Take c ∷ moves) h.1 in
     record {
-      claims = ap (λ x. x ∷ claims_with_skips (skips_after (xs ++ rest) c) claims) one.0 ∙ ap (λ ys. with_skip xs c ∷ claims_with_skips ys claims) one.1 ∙ ap (λ ys. with_skip xs c ∷ ys) more.claims;
+      claims = ap (λ x. x ∷ claims_with_skips (skips_after (skips_of streams moves) c) claims) one.0 ∙ ap (λ ys. with_skip moves c ∷ claims_with_skips ys claims) one.1 ∙ ap (λ ys. with_skip moves c ∷ ys) more.claims;
       skips = ap (λ ys. skips_after_all ys claims) one.1 ∙ more.skips;
-      long = more.long ∙ one.2;
     }
+
+-- there are as many streams and more
+pub below_more : (a b : ℕ) (claims : List Claim) → a ≤ b → AllBelow a claims → AllBelow b claims
+below_more a b [] le h = tt
+below_more a b (c ∷ claims) le h = ((let lt = h.0 in omega (arith, lt, le)), below_more a b claims le h.1)

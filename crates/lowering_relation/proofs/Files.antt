@@ -5,9 +5,10 @@ use Rattle.std.specs.Prelude.{⊤}
 use Rattle.cddf_meaning.specs.File.{File}
 use Rattle.cddf_meaning.specs.Functions.{call_function, with_item, empty_file}
 use Rattle.cddf_meaning.specs.Moves.{CallsFall}
-use Rattle.cddf_meaning.specs.Program.{Main, main_at, main_behind}
+use Rattle.cddf_meaning.specs.Program.{Main}
 use Rattle.cddf_meaning.specs.Variables.{bind, find, flag_or}
 use Rattle.cddf_meaning.specs.declared.variable.Variable.{Variable}
+use Rattle.cddf_meaning.specs.Scoped.{scoped_main_at, scoped_main_behind}
 use Rattle.cddf_meaning.specs.declared.variable.Variable.TheVariants as variable
 use Rattle.cddf_meaning.proofs.Files.{item-falls}
 use Rattle.os_ast.specs.Leveled.{AreAll, cons, IsItem, AreStmts}
@@ -103,7 +104,7 @@ pub record AtMain (code : Parts) (rs : List Resolved) (tasks : List TaskTree) (o
   pub function : tree.FunctionTree
   pub number : ℕ
   pub is_named : (function.name.id == main_id) ≡ true
-  pub is : m ≡ main_at m.file scope function
+  pub is : m ≡ scoped_main_at m.file scope function
   pub falls : CallsFall m.file
   pub fits : FileFits code m.file scope.entries
   pub leveled : AreStmts function.body
@@ -236,7 +237,7 @@ module _ (code : Parts) (rs : List Resolved) (ordered : InOrder rs) (tasks : Lis
       by_case false e = refl
 
   pub finds_main : (is : List tree.ItemTree) (file : File) (s : Scope) (number : ℕ) (m : Main) → AreAll IsItem is → CallsFall file → FileFits code file s.entries → AllOfFile s.entries → s.functions ≡ number →
-      AreLawful (items_notes s is) → Tells rs (items_notes s is) → HasFunctions code (told_at rs) tasks number is → main_behind file s is ≡ Some m → AtMain code rs tasks s is m
+      AreLawful (items_notes s is) → Tells rs (items_notes s is) → HasFunctions code (told_at rs) tasks number is → scoped_main_behind file s is ≡ Some m → AtMain code rs tasks s is m
   finds_main [] file s number m leveled falls fits all count lawful tells has is = absurd (cc)
   finds_main (tree.Constant x ∷ is) file s number m (cons _ leveled) falls fits all count lawful tells has found =
       let i = tree.Constant x in
@@ -268,10 +269,10 @@ module _ (code : Parts) (rs : List Resolved) (ordered : InOrder rs) (tasks : Lis
           let y : owner.OfFunction ≡ owner.OfMain = sym x ∙ e in
           absurd (cc)
 
-      by_case : (t : Bool) → (f.name.id == main_id) ≡ t → HasUnit t code (told_at rs) tasks number f → (if t then Some (main_at file s f) else main_behind (with_item file (tree.Function f)) (after_item s (tree.Function f)) is) ≡ Some m →
-          ((f.name.id == main_id) ≡ false → HasFunction code (told_at rs) number f → main_behind (with_item file (tree.Function f)) (after_item s (tree.Function f)) is ≡ Some m → AtMain code rs tasks s (tree.Function f ∷ is) m) → AtMain code rs tasks s (tree.Function f ∷ is) m
+      by_case : (t : Bool) → (f.name.id == main_id) ≡ t → HasUnit t code (told_at rs) tasks number f → (if t then Some (scoped_main_at file s f) else scoped_main_behind (with_item file (tree.Function f)) (after_item s (tree.Function f)) is) ≡ Some m →
+          ((f.name.id == main_id) ≡ false → HasFunction code (told_at rs) number f → scoped_main_behind (with_item file (tree.Function f)) (after_item s (tree.Function f)) is ≡ Some m → AtMain code rs tasks s (tree.Function f ∷ is) m) → AtMain code rs tasks s (tree.Function f ∷ is) m
       by_case true e unit found2 go =
-          let same : main_at file s f ≡ m = cc in
+          let same : scoped_main_at file s f ≡ m = cc in
           subst (AtMain code rs tasks s (tree.Function f ∷ is)) same
           (record {
             scope = s;

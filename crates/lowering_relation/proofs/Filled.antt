@@ -2,6 +2,7 @@
 use Rattle.std.proofs.Common.{◌≡◌, ◌∙◌, ℕ, ◌+◌, Bool, true, false, not, if◌then◌else◌, List, [], ◌∷◌, length, refl, sym, ap, arith}
 use Rattle.std.specs.Prelude.{filter, sum_by}
 use Rattle.std.proofs.lemmas.List.Sums.{sum_by-cons}
+use Rattle.cddf_meaning.proofs.Scoping.{main_is_scoped}
 use Rattle.cddf_meaning.proofs.Written.{outputs-have}
 use Rattle.cddf_meaning.specs.Body.{body, chosen_outcome, outcome_in, task_outcome}
 use Rattle.cddf_meaning.specs.Functions.{empty_file, file_of}
@@ -42,7 +43,7 @@ writes_same (c ∷ claims) = by_case c.write (writes_same claims)
 pub bodies_fill : BodiesFill
 bodies_fill p input_len control_budget k a inputs budget at long done =
     let (m, t, is, there) = has_task p input_len control_budget k a at in
-    let h = main_in p empty_file notes.file m is in
+    let h = main_in p empty_file notes.file m (main_is_scoped p ∙ is) in
     let file : m.file ≡ file_of h.items = ap (λ (n : Main). n.file) h.is in
     let same : body p a inputs budget ≡ task_outcome (file_of h.items) t a inputs budget =
     ap (λ o. outcome_in o a inputs budget) is ∙ ap (λ o. chosen_outcome m.file o a inputs budget) there ∙ ap (λ f. task_outcome f t a inputs budget) file in

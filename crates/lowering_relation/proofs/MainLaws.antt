@@ -1,13 +1,15 @@
 -- `main` creates what the control program creates, and ends as it does.
 use Rattle.std.proofs.Common.{◌≡◌, ℕ, ◌+◌, ◌-◌, ◌≤◌, ◌==◌, ◌&&◌, ◌||◌, Bool, true, false, if◌then◌else◌, List, [], ◌∷◌, ◌++◌, length, map, replicate, Option, Some, None, slice_get, pos, refl, sym, ap, ◌∙◌, subst, arith, length-append}
-use Rattle.std.proofs.lemmas.List.{length-replicate, replicate-append-replicate}
+use Rattle.std.proofs.lemmas.List.{length-replicate}
 use Rattle.std.proofs.lemmas.Option.{slice_get_within}
+use Rattle.cddf_meaning.proofs.Scoping.{main_is_scoped}
 use Rattle.cddf_meaning.specs.Control.{control_state, control_in, control}
 use Rattle.cddf_meaning.specs.File.{File}
 use Rattle.cddf_meaning.specs.Functions.{empty_file, with_item}
-use Rattle.cddf_meaning.specs.Program.{Main, main_at, main_behind, main_of}
+use Rattle.cddf_meaning.specs.Program.{Main}
 use Rattle.cddf_meaning.specs.Run.{run_all}
-use Rattle.cddf_meaning.specs.Tasks.{tasks_in_all, sites_of}
+use Rattle.cddf_meaning.specs.Tasks.{sites_of}
+use Rattle.cddf_meaning.specs.Scoped.{scoped_tasks_in_all, scoped_main_at, scoped_main_behind, scoped_main}
 use Rattle.cddf_meaning.specs.declared.site.Site.{Site}
 use Rattle.flow_core_laws.specs.declared.control.Control.{Control}
 use Rattle.flow_core_laws.proofs.Stretches.{slice_get-append_left}
@@ -63,14 +65,14 @@ main_there p h = by_case (has_main p) refl (none_behind (violations_of (program_
     by_case true e k = refl
     by_case false e k = let z : violated (length (spell p)) rule.NoMain 1 ∷ [] ≡ [] = sym (ap (λ t. if t then [] else violated (length (spell p)) rule.NoMain 1 ∷ []) e) ∙ k in absurd (cc)
 
-finds : (is : List tree.ItemTree) (file : File) (s : Scope) → has_main is ≡ true → main_behind file s is ≡ None → ⊥
+finds : (is : List tree.ItemTree) (file : File) (s : Scope) → has_main is ≡ true → scoped_main_behind file s is ≡ None → ⊥
 finds [] file s h none = absurd (cc)
 finds (tree.Constant c ∷ is) file s h none = finds is (with_item file (tree.Constant c)) (after_item s (tree.Constant c)) h none
 finds (tree.Function f ∷ is) file s h none =
     by_case (f.name.id == main_id) refl none (λ k q. finds is (with_item file (tree.Function f)) (after_item s (tree.Function f)) k q)
   where
-    by_case : (t : Bool) → (f.name.id == main_id) ≡ t → (if t then Some (main_at file s f) else main_behind (with_item file (tree.Function f)) (after_item s (tree.Function f)) is) ≡ None →
-        (has_main is ≡ true → main_behind (with_item file (tree.Function f)) (after_item s (tree.Function f)) is ≡ None → ⊥) → ⊥
+    by_case : (t : Bool) → (f.name.id == main_id) ≡ t → (if t then Some (scoped_main_at file s f) else scoped_main_behind (with_item file (tree.Function f)) (after_item s (tree.Function f)) is) ≡ None →
+        (has_main is ≡ true → scoped_main_behind (with_item file (tree.Function f)) (after_item s (tree.Function f)) is ≡ None → ⊥) → ⊥
     by_case true e k next = absurd (cc)
     by_case false e k next = next (sym (ap (λ t. (t && is_int f.ty && is_empty (param_list f.params)) || has_main is) e) ∙ h) k
 
@@ -86,7 +88,7 @@ module _ (p : tree.ProgramTree) (code : Parts) (input_len budget : ℕ) (stands 
   abbrev Ends : Control → Type 0
   Ends made = (steps : ℕ) × ControlEnds code input_len budget made steps
 
-  by_main : (m : Main) → main_of p ≡ Some m → Ends (control_in (Some m) input_len budget)
+  by_main : (m : Main) → scoped_main p ≡ Some m → Ends (control_in (Some m) input_len budget)
   by_main m found = (
     e.count,
     record {
@@ -126,10 +128,10 @@ module _ (p : tree.ProgramTree) (code : Parts) (input_len budget : ℕ) (stands 
       sites : List Site
       sites = sites_of m.tasks
 
-      of_main : m.tasks ≡ tasks_in_all body f.body
+      of_main : m.tasks ≡ scoped_tasks_in_all body f.body
       of_main = ap (λ (x : Main). x.tasks) at_main.is
 
-      by_tree : program_tasks p ≡ map strip (tasks_in_all body f.body)
+      by_tree : program_tasks p ≡ map strip (scoped_tasks_in_all body f.body)
       by_tree = at_main.own_tasks ∙ sym (all_stripped f.body body)
 
       slots : List (List ℕ)
@@ -138,16 +140,16 @@ module _ (p : tree.ProgramTree) (code : Parts) (input_len budget : ℕ) (stands 
       rising : Rising (program_tasks p)
       rising = tasks_rise p stands.placed
 
-      numbered : OwnsAll (IsNumbered (names p) s.entries (tasks_in_all body f.body) slots) body f.body
+      numbered : OwnsAll (IsNumbered (names p) s.entries (scoped_tasks_in_all body f.body) slots) body f.body
       numbered =
-          owns_stmts (names p) s.entries (tasks_in_all body f.body) slots at_main.leveled body 0 in_main at_main.lawful at_main.tells
-          (λ j x is. let z : 0 + j ≡ j = omega arith in ap (slice_get (tasks_in_all body f.body)) z ∙ is)
+          owns_stmts (names p) s.entries (scoped_tasks_in_all body f.body) slots at_main.leveled body 0 in_main at_main.lawful at_main.tells
+          (λ j x is. let z : 0 + j ≡ j = omega arith in ap (slice_get (scoped_tasks_in_all body f.body)) z ∙ is)
           (λ j x is. let z : 0 + j ≡ j = omega arith in ap (slice_get slots) z ∙ is)
 
-      own : OwnsAll (IsSite code (told_at (names p)) (sites_of (tasks_in_all body f.body)) (program_tasks p)) body f.body
+      own : OwnsAll (IsSite code (told_at (names p)) (sites_of (scoped_tasks_in_all body f.body)) (program_tasks p)) body f.body
       own =
           all_own_more f.body body
-          (λ t mark cs a at. site_of (names p) s.entries (tasks_in_all body f.body) (program_tasks p) slots by_tree rising.0 rising.1 rising.2 t mark cs a at code (captured_by_tasks p)
+          (λ t mark cs a at. site_of (names p) s.entries (scoped_tasks_in_all body f.body) (program_tasks p) slots by_tree rising.0 rising.1 rising.2 t mark cs a at code (captured_by_tasks p)
           (λ k x is. ap (λ cs. slice_get cs k) at_main.own_captures ∙ slice_get-append_left slots at_main.rest k (slice_get_within slots k x is) ∙ is) stands.has.tasks)
           numbered
 
@@ -190,7 +192,7 @@ module _ (p : tree.ProgramTree) (code : Parts) (input_len budget : ℕ) (stands 
             ready = record {
               scope = record { owner = refl; captured = refl; entries = refl; deep = omega arith; arrays = (tt, (tt, (tt, tt))) };
               aligned = (refl, refl, (0, refl, refl), (refl, refl, (refl, omega arith), (refl, refl, (refl, omega arith), tt)));
-              kept = (refl, refl, ap (λ n. replicate n 0) enough ∙ sym (replicate-append-replicate 2 later 0));
+              kept = (refl, refl, ap (λ n. replicate n 0) enough);
             };
             depth = (let d = at_main.depth in omega (arith, d));
             counted = (let n = no_streams in omega (arith, n));
@@ -221,12 +223,12 @@ module _ (p : tree.ProgramTree) (code : Parts) (input_len budget : ℕ) (stands 
           begun room few at_main.lawful at_main.tells
           (subst (λ ts. OwnsAll (IsSite code (told_at (names p)) (sites_of ts) (program_tasks p)) body f.body) (sym of_main) own) has.body)
 
-  by_option : (o : Option Main) → main_of p ≡ o → Ends (control_in o input_len budget)
+  by_option : (o : Option Main) → scoped_main p ≡ o → Ends (control_in o input_len budget)
   by_option None is = absurd (finds p empty_file programs.file (main_there p stands.lawful) is)
   by_option (Some m) is = by_main m is
 
   pub main_ends_so : (steps : ℕ) × ControlEnds code input_len budget (control p input_len budget) steps
-  main_ends_so = by_option (main_of p) refl
+  main_ends_so = subst (λ o. Ends (control_in o input_len budget)) (main_is_scoped p) (by_option (scoped_main p) refl)
 
   pub main_ends_only_so : (made : Control) (steps : ℕ) → ControlEnds code input_len budget made steps → made ≡ control p input_len budget
   main_ends_only_so made steps h = (main_ends_are_one code input_len budget made (control p input_len budget) steps main_ends_so.0 h main_ends_so.1).0

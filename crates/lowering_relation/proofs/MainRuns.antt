@@ -1,12 +1,12 @@
 -- The outermost block of `main`: streams are declared in it alone, in the order of the text, so that the run has at each
 -- place as many as the text before it.
-use Rattle.std.proofs.Common.{◌≡◌, ℕ, ◌+◌, ◌-◌, ◌≤◌, Bool, true, false, List, [], ◌∷◌, ◌++◌, length, replicate, Option, Some, None, ℤ, pos, refl, sym, ap, ◌∙◌, subst, arith, append_assoc, length-append}
-use Rattle.std.proofs.lemmas.List.{length-replicate, replicate-append-replicate}
+use Rattle.std.proofs.Common.{◌≡◌, ℕ, ◌+◌, ◌-◌, ◌≤◌, Bool, true, false, List, [], ◌∷◌, ◌++◌, length, Option, Some, None, ℤ, pos, refl, sym, ap, ◌∙◌, subst, arith}
 use Rattle.std.specs.Prelude.{unwrap_or}
 use Rattle.cddf_meaning.specs.File.{File}
 use Rattle.cddf_meaning.specs.Flow.{Ran, Went, Ended, Runs, given, goes_on, flows}
 use Rattle.cddf_meaning.specs.Moves.{CallsFall}
 use Rattle.cddf_meaning.specs.Run.{Around, array_size, with_streams, run_declarator, run_declarators, run_all}
+use Rattle.cddf_meaning.specs.Skips.{skips_of}
 use Rattle.cddf_meaning.specs.State.{State}
 use Rattle.cddf_meaning.specs.declared.flow.Flow.TheVariants.{GoesOn, Breaks, Continues, Returns}
 use Rattle.cddf_meaning.specs.declared.site.Site.{Site}
@@ -67,11 +67,6 @@ flows_on next first (Went Continues st turns) = refl
 flows_on next first (Went (Returns v) st turns) = refl
 flows_on next first (Ended e activations) = refl
 
--- some of the streams that come later are there
-skips_later : (xs all : List ℕ) (later count less : ℕ) → later ≡ count + less → all ≡ xs ++ replicate later 0 → all ≡ (xs ++ replicate count 0) ++ replicate less 0
-skips_later xs all later count less enough h =
-    h ∙ ap (λ k. xs ++ replicate k 0) enough ∙ ap (λ ys. xs ++ ys) (sym (replicate-append-replicate count less 0)) ∙ sym (append_assoc xs (replicate count 0) (replicate less 0))
-
 -- with more streams what there was is there
 holds_later : (streams later now less : ℕ) (slots : List ℤ) (v : Variable) (w : What) → streams ≤ now → Holds (resources (InMain streams later)) slots v w → Holds (resources (InMain now less)) slots v w
 holds_later streams later now less slots (variable.Constant x) w le h = h
@@ -127,11 +122,9 @@ module _ (code : Parts) (file : File) (falls : CallsFall file) (names : List Res
       let now = o.streams + count in
       let less = o.later - count in
       let room : count ≤ o.later = omega (arith, few, taken_so, o.counted, o.all) in
-      let zeros : List ℕ = replicate count 0 in
-      let n : length zeros ≡ count = length-replicate count 0 in
-      let sum : length (st.skips ++ zeros) ≡ length st.skips + length zeros = length-append st.skips zeros in
-      let first : length st.skips ≡ 2 + s.streams = o.ready.kept.1 ∙ o.counted in
+      let first : st.streams ≡ 2 + s.streams = o.ready.kept.1 ∙ o.counted in
       let enough : o.later ≡ count + less = omega (arith, room) in
+      let as_many : o.streams + o.later ≡ now + less = omega (arith, enough) in
       record {
         streams = now;
         later = less;
@@ -145,8 +138,8 @@ module _ (code : Parts) (file : File) (falls : CallsFall file) (names : List Res
           );
           kept = (
             o.ready.kept.0,
-            (let k = o.ready.kept.1 in omega (arith, sum, n, k)),
-            skips_later st.skips m.skips o.later count less enough o.ready.kept.2,
+            ap (λ n. n + count) o.ready.kept.1,
+            o.ready.kept.2 ∙ ap (λ n. skips_of n st.moves) as_many,
           );
         };
         depth = (declarator_onward s d).depth ∙ o.depth;

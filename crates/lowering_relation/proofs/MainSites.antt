@@ -3,7 +3,8 @@ use Rattle.std.proofs.Common.{◌≡◌, ℕ, suc, ◌+◌, List, [], ◌∷◌,
 use Rattle.std.proofs.lemmas.Option.{slice_get-map, slice_get_within}
 use Rattle.std.specs.Option.{option_map}
 use Rattle.cddf_meaning.specs.Streams.{task_number, captured_by}
-use Rattle.cddf_meaning.specs.Tasks.{Task as MeaningTask, typed_name, task_at, tasks_in, tasks_in_all, ids as ids_of, sites_of}
+use Rattle.cddf_meaning.specs.Tasks.{Task as MeaningTask, ids as ids_of, sites_of}
+use Rattle.cddf_meaning.specs.Scoped.{scoped_name, scoped_task_at, scoped_tasks_in, scoped_tasks_in_all}
 use Rattle.cddf_meaning.specs.declared.site.Site.{Site as MeaningSite}
 use Rattle.flow_core_laws.proofs.Stretches.{slice_get-append_left, slice_get-append_right}
 use Rattle.os_ast.specs.Captured.{Scalar, captured, slots_of}
@@ -55,14 +56,14 @@ module _ (rs : List Resolved) (file : List Entry) (tasks : List MeaningTask) (sl
   -- a task, and the slots of what it captures, have one number
   pub record IsNumbered (s : Scope) (mark : Mark) (cs : List tree.ClauseTree) (a : tree.StmtTree) : Type 0 where
     pub number : ℕ
-    pub is : slice_get tasks number ≡ Some (task_at s mark cs a)
+    pub is : slice_get tasks number ≡ Some (scoped_task_at s mark cs a)
     pub captures : slice_get slots number ≡ Some (slots_of (captured s.entries (parts cs) a))
 
   by_captures : (k : ℕ) (xs ys : List Note) → captures xs ≡ [] → Stretch slots k (captures (xs ++ ys)) → Stretch slots k (captures ys)
   by_captures k xs ys none h = subst (Stretch slots k) (captures_both xs ys ∙ ap (λ cs. cs ++ captures ys) none) h
 
   mutual
-    pub owns_stmt : {a : tree.StmtTree} → IsStmt a → (s : Scope) (k : ℕ) → InMain file s → AreLawful (stmt_notes s a) → Tells rs (stmt_notes s a) → Stretch tasks k (tasks_in s a) → Stretch slots k (captures (stmt_notes s a)) →
+    pub owns_stmt : {a : tree.StmtTree} → IsStmt a → (s : Scope) (k : ℕ) → InMain file s → AreLawful (stmt_notes s a) → Tells rs (stmt_notes s a) → Stretch tasks k (scoped_tasks_in s a) → Stretch slots k (captures (stmt_notes s a)) →
         Owns IsNumbered s a
     owns_stmt IsStmt.empty s k h lawful tells x y = tt
     owns_stmt (IsStmt.block is) s k h lawful tells x y = owns_stmts is (enter s) k (same_main rs file s (enter s) h refl refl refl) lawful tells x y
@@ -77,9 +78,9 @@ module _ (rs : List Resolved) (file : List Entry) (tasks : List MeaningTask) (sl
         let tells1 = tells-rest rs (expr_notes s c) (stmt_notes s a) (tells-first rs front last tells) in
         let z : Stretch slots k (captures (stmt_notes s a) ++ captures last) =
         subst (Stretch slots k) (captures_both front last ∙ ap (λ cs. cs ++ captures last) (captures_both (expr_notes s c) (stmt_notes s a) ∙ ap (λ cs. cs ++ captures (stmt_notes s a)) (none_expr c s))) y in
-        let n = matched_lengths (tasks_in s a) (captures (stmt_notes s a)) (match_stmt rs file is s h lawful1 tells1) in (
-          owns_stmt is s k h lawful1 tells1 (first_stretch tasks k (tasks_in s a) (tasks_in (after_stmt s a) b) x) (first_stretch slots k (captures (stmt_notes s a)) (captures last) z),
-          owns_stmt is2 (after_stmt s a) (k + length (tasks_in s a)) (stmt_main rs file is s h) (lawful-rest front last lawful) (tells-rest rs front last tells) (rest_stretch tasks k (tasks_in s a) (tasks_in (after_stmt s a) b) x)
+        let n = matched_lengths (scoped_tasks_in s a) (captures (stmt_notes s a)) (match_stmt rs file is s h lawful1 tells1) in (
+          owns_stmt is s k h lawful1 tells1 (first_stretch tasks k (scoped_tasks_in s a) (scoped_tasks_in (after_stmt s a) b) x) (first_stretch slots k (captures (stmt_notes s a)) (captures last) z),
+          owns_stmt is2 (after_stmt s a) (k + length (scoped_tasks_in s a)) (stmt_main rs file is s h) (lawful-rest front last lawful) (tells-rest rs front last tells) (rest_stretch tasks k (scoped_tasks_in s a) (scoped_tasks_in (after_stmt s a) b) x)
               (subst (λ j. Stretch slots (k + j) (captures last)) (sym n) (rest_stretch slots k (captures (stmt_notes s a)) (captures last) z)),
         )
     owns_stmt (IsStmt.while {c = c} {s = a} _ is) s k h lawful tells x y =
@@ -108,13 +109,13 @@ module _ (rs : List Resolved) (file : List Entry) (tasks : List MeaningTask) (sl
         let at_k : k + 0 ≡ k = omega arith in
         record {
           number = k;
-          is = sym (ap (slice_get tasks) at_k) ∙ x 0 (task_at s mark cs a) refl;
+          is = sym (ap (slice_get tasks) at_k) ∙ x 0 (scoped_task_at s mark cs a) refl;
           captures = sym (ap (slice_get slots) at_k) ∙ subst (Stretch slots k) e y 0 own_slots refl;
         }
     owns_stmt (IsStmt.tick _ _) s k h lawful tells x y = tt
     owns_stmt IsStmt.taskwait s k h lawful tells x y = tt
 
-    pub owns_stmts : {ss : tree.Stmts} → AreStmts ss → (s : Scope) (k : ℕ) → InMain file s → AreLawful (stmts_notes s ss) → Tells rs (stmts_notes s ss) → Stretch tasks k (tasks_in_all s ss) → Stretch slots k (captures (stmts_notes s ss)) →
+    pub owns_stmts : {ss : tree.Stmts} → AreStmts ss → (s : Scope) (k : ℕ) → InMain file s → AreLawful (stmts_notes s ss) → Tells rs (stmts_notes s ss) → Stretch tasks k (scoped_tasks_in_all s ss) → Stretch slots k (captures (stmts_notes s ss)) →
         OwnsAll IsNumbered s ss
     owns_stmts AreStmts.no_stmts s k h lawful tells x y = tt
     owns_stmts (AreStmts.declare {t = ty} {ds = ds} {ss = ss} _ rest) s0 k known lawful tells x y =
@@ -131,9 +132,9 @@ module _ (rs : List Resolved) (file : List Entry) (tasks : List MeaningTask) (sl
         let lawful1 = lawful-first first last lawful in
         let tells1 = tells-first rs first last tells in
         let z : Stretch slots k (captures first ++ captures last) = subst (Stretch slots k) (captures_both first last) y in
-        let n = matched_lengths (tasks_in s a) (captures first) (match_stmt rs file is s h lawful1 tells1) in (
-          owns_stmt is s k h lawful1 tells1 (first_stretch tasks k (tasks_in s a) (tasks_in_all s1 ss) x) (first_stretch slots k (captures first) (captures last) z),
-          owns_stmts rest s1 (k + length (tasks_in s a)) (stmt_main rs file is s h) (lawful-rest first last lawful) (tells-rest rs first last tells) (rest_stretch tasks k (tasks_in s a) (tasks_in_all s1 ss) x)
+        let n = matched_lengths (scoped_tasks_in s a) (captures first) (match_stmt rs file is s h lawful1 tells1) in (
+          owns_stmt is s k h lawful1 tells1 (first_stretch tasks k (scoped_tasks_in s a) (scoped_tasks_in_all s1 ss) x) (first_stretch slots k (captures first) (captures last) z),
+          owns_stmts rest s1 (k + length (scoped_tasks_in s a)) (stmt_main rs file is s h) (lawful-rest first last lawful) (tells-rest rs first last tells) (rest_stretch tasks k (scoped_tasks_in s a) (scoped_tasks_in_all s1 ss) x)
               (subst (λ j. Stretch slots (k + j) (captures last)) (sym n) (rest_stretch slots k (captures first) (captures last) z)),
         )
 
@@ -161,7 +162,7 @@ mutual
   all_own_more (tree.stmt a rest) s f h = (owns_more a s f h.0, all_own_more rest (after_stmt s a) f h.1)
 
 -- names without their types
-ids_kept : (es : List Entry) (xs : List ℕ) → ids_of (map (typed_name es) xs) ≡ xs
+ids_kept : (es : List Entry) (xs : List ℕ) → ids_of (map (scoped_name es) xs) ≡ xs
 ids_kept es [] = refl
 ids_kept es (x ∷ xs) = ap (λ ys. x ∷ ys) (ids_kept es xs)
 
@@ -169,7 +170,7 @@ ids_kept es (x ∷ xs) = ap (λ ys. x ∷ ys) (ids_kept es xs)
 module _ (rs : List Resolved) (file : List Entry) (tasks : List MeaningTask) (trees : List TaskTree) (slots : List (List ℕ)) (stripped : trees ≡ map strip tasks) (lo hi : ℕ) (rises : Rises (λ (t : TaskTree). t.mark.place) lo trees hi)
     (s : Scope) (m : Mark) (cs : List tree.ClauseTree) (a : tree.StmtTree) (at : IsNumbered rs file tasks slots s m cs a) where
   abbrev t : MeaningTask
-  t = task_at s m cs a
+  t = scoped_task_at s m cs a
 
   abbrev ids : List ℕ
   ids = map (λ (x : Scalar). x.id) (captured s.entries (parts cs) a)

@@ -1,5 +1,6 @@
 -- The runs of a lawful program ask for no name that isn't there.
 use Rattle.std.proofs.Common.{◌≡◌, ℕ, suc, ◌+◌, if◌then◌else◌, List, [], ◌∷◌, ◌++◌, map, slice_get, Some, ℤ, pos, refl, sym, ap, ◌∙◌, subst, inr, arith, append-nil}
+use Rattle.cddf_meaning.proofs.Scoping.{main_is_scoped}
 use Rattle.cddf_meaning.specs.Body.{bind_captured, bind_items, bound_round, item_lists, outcome, chosen_outcome, outcome_in}
 use Rattle.cddf_meaning.specs.Control.{control_of, control_state, control_in, round_main}
 use Rattle.cddf_meaning.specs.File.{File}
@@ -8,9 +9,10 @@ use Rattle.cddf_meaning.specs.Functions.{returned, bind_params, in_function, emp
 use Rattle.cddf_meaning.specs.Program.{Main, main_of}
 use Rattle.cddf_meaning.specs.Run.{run, run_all}
 use Rattle.cddf_meaning.specs.State.{State, state_of}
-use Rattle.cddf_meaning.specs.Tasks.{Task, typed_name, task_at, tasks_in_all, sites_of}
+use Rattle.cddf_meaning.specs.Tasks.{Task, sites_of}
 use Rattle.cddf_meaning.specs.Variables.{bind, find}
 use Rattle.cddf_meaning.specs.declared.variable.Binding.{Binding}
+use Rattle.cddf_meaning.specs.Scoped.{scoped_name, scoped_task_at, scoped_tasks_in_all}
 use Rattle.cddf_meaning.specs.declared.variable.Variable.TheVariants.{Scalar, Item}
 use Rattle.flow_core_laws.specs.declared.activation.Activation.{Activation}
 use Rattle.flow_core_laws.specs.declared.claim.Claim.{Claim}
@@ -85,12 +87,12 @@ params_ids [] vs s bound es h = h
 params_ids (n ∷ ns) [] s bound es h = params_ids ns [] (after_param s n) (bind n.name.id (is_unsigned n.ty) (Scalar (pos 0)) bound) (param_entry s n ∷ es) (ap (λ xs. n.name.id ∷ xs) h)
 params_ids (n ∷ ns) (v ∷ vs) s bound es h = params_ids ns vs (after_param s n) (bind n.name.id (is_unsigned n.ty) (Scalar v) bound) (param_entry s n ∷ es) (ap (λ xs. n.name.id ∷ xs) h)
 
-captured_ids : (es : List Entry) (cs : List captures.Scalar) (vs : List ℤ) (bound : List Binding) (xs : List Entry) → ids bound ≡ entry_ids xs → ids (bind_captured (map (typed_name es) (map (λ (x : captures.Scalar). x.id) cs)) vs bound) ≡ entry_ids (made_captured es cs xs)
+captured_ids : (es : List Entry) (cs : List captures.Scalar) (vs : List ℤ) (bound : List Binding) (xs : List Entry) → ids bound ≡ entry_ids xs → ids (bind_captured (map (scoped_name es) (map (λ (x : captures.Scalar). x.id) cs)) vs bound) ≡ entry_ids (made_captured es cs xs)
 captured_ids es [] vs bound xs h = h
 captured_ids es (x ∷ cs) [] bound xs h = captured_ids es cs [] (bind x.id (flag_of (lookup es x.id)) (Scalar (pos 0)) bound) (captured_entry es x ∷ xs) (ap (λ ys. x.id ∷ ys) h)
 captured_ids es (x ∷ cs) (v ∷ vs) bound xs h = captured_ids es cs vs (bind x.id (flag_of (lookup es x.id)) (Scalar v) bound) (captured_entry es x ∷ xs) (ap (λ ys. x.id ∷ ys) h)
 
-items_ids : (s : Scope) (depth item : ℕ) (ps : List Part) (bound : List Binding) (xs : List Entry) → ids bound ≡ entry_ids xs → ids (bind_items item (map (typed_name s.entries) (item_ids ps)) bound) ≡ entry_ids (made_items s depth item ps xs)
+items_ids : (s : Scope) (depth item : ℕ) (ps : List Part) (bound : List Binding) (xs : List Entry) → ids bound ≡ entry_ids xs → ids (bind_items item (map (scoped_name s.entries) (item_ids ps)) bound) ≡ entry_ids (made_items s depth item ps xs)
 items_ids s depth item [] bound xs h = h
 items_ids s depth item (ItemPart d i ∷ ps) bound xs h = items_ids s depth (suc item) ps (bind (item_name i.stream i.window).id (item_flag s i) (Item item) bound) _ (ap (λ ys. (item_name i.stream i.window).id ∷ ys) h)
 items_ids s depth item (Private n ∷ ps) bound xs h = items_ids s depth item ps bound xs h
@@ -145,7 +147,7 @@ module _ (p : tree.ProgramTree) (program : IsLawful p) (m : Main) (found : main_
   order = names_in_order p program.placed
 
   abbrev there : MainIn p empty_file programs.file m
-  there = main_in p empty_file programs.file m found
+  there = main_in p empty_file programs.file m (main_is_scoped p ∙ found)
 
   abbrev f : tree.FunctionTree
   f = there.function
@@ -170,7 +172,7 @@ module _ (p : tree.ProgramTree) (program : IsLawful p) (m : Main) (found : main_
   in_main = main_body s f there.named at.all
 
   abbrev tasks : List Task
-  tasks = tasks_in_all body_scope f.body
+  tasks = scoped_tasks_in_all body_scope f.body
 
   of_main : m.tasks ≡ tasks
   of_main = ap (λ (x : Main). x.tasks) there.is
@@ -226,7 +228,7 @@ module _ (p : tree.ProgramTree) (program : IsLawful p) (m : Main) (found : main_
     task_there = at_task.2
 
     abbrev these : Task
-    these = task_at task_there.scope task_there.mark task_there.clauses task_there.body
+    these = scoped_task_at task_there.scope task_there.mark task_there.clauses task_there.body
 
     abbrev round : Context
     round = task_context no_code m.file at.falls (names p) order s.entries at.fits t at_task.0 task_there a.claims

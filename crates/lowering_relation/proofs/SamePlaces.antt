@@ -3,7 +3,8 @@ use Rattle.std.proofs.Common.{◌≡◌, ℕ, ◌==◌, ◌&&◌, ◌||◌, Bool
 use Rattle.cddf_meaning.specs.File.{File}
 use Rattle.cddf_meaning.specs.Functions.{with_item, with_items}
 use Rattle.cddf_meaning.specs.Moves.{CallsFall}
-use Rattle.cddf_meaning.specs.Program.{Main, main_at, main_behind}
+use Rattle.cddf_meaning.specs.Program.{Main}
+use Rattle.cddf_meaning.specs.Scoped.{scoped_main_at, scoped_main_behind}
 use Rattle.cddf_meaning.specs.declared.variable.Variable.TheVariants as variable
 use Rattle.cddf_meaning.proofs.Files.{item-falls}
 use Rattle.os_ast.specs.Leveled.{AreAll, cons, IsItem, AreStmts}
@@ -81,7 +82,7 @@ pub record MainIn (listed : List tree.ItemTree) (file : File) (s : Scope) (m : M
   pub function : tree.FunctionTree
   pub divided : listed ≡ items ++ tree.Function function ∷ rest
   pub named : (function.name.id == main_id) ≡ true
-  pub is : m ≡ main_at (with_items file items) (after_items s items) function
+  pub is : m ≡ scoped_main_at (with_items file items) (after_items s items) function
   pub tasks : program_tasks listed ≡ all_tasks_of function.body
   pub depth : (after_items s items).depth ≡ s.depth
   -- it has no parameters
@@ -101,15 +102,15 @@ further i is file s m tasks same deep h = record {
   bare = λ ids apart has. h.bare (global_id i ∷ ids) apart.1 (sym same ∙ has);
 }
 
-pub main_in : (is : List tree.ItemTree) (file : File) (s : Scope) (m : Main) → main_behind file s is ≡ Some m → MainIn is file s m
+pub main_in : (is : List tree.ItemTree) (file : File) (s : Scope) (m : Main) → scoped_main_behind file s is ≡ Some m → MainIn is file s m
 main_in [] file s m found = absurd (cc)
 main_in (tree.Constant x ∷ is) file s m found = further (tree.Constant x) is file s m refl refl refl (main_in is (with_item file (tree.Constant x)) (after_item s (tree.Constant x)) m found)
 main_in (tree.Function f ∷ is) file s m found = by_case (f.name.id == main_id) refl found (λ k. main_in is (with_item file (tree.Function f)) (after_item s (tree.Function f)) m k)
   where
-    by_case : (t : Bool) → (f.name.id == main_id) ≡ t → (if t then Some (main_at file s f) else main_behind (with_item file (tree.Function f)) (after_item s (tree.Function f)) is) ≡ Some m →
-        (main_behind (with_item file (tree.Function f)) (after_item s (tree.Function f)) is ≡ Some m → MainIn is (with_item file (tree.Function f)) (after_item s (tree.Function f)) m) → MainIn (tree.Function f ∷ is) file s m
+    by_case : (t : Bool) → (f.name.id == main_id) ≡ t → (if t then Some (scoped_main_at file s f) else scoped_main_behind (with_item file (tree.Function f)) (after_item s (tree.Function f)) is) ≡ Some m →
+        (scoped_main_behind (with_item file (tree.Function f)) (after_item s (tree.Function f)) is ≡ Some m → MainIn is (with_item file (tree.Function f)) (after_item s (tree.Function f)) m) → MainIn (tree.Function f ∷ is) file s m
     by_case true e k next =
-        let same : main_at file s f ≡ m = cc in
+        let same : scoped_main_at file s f ≡ m = cc in
         record {
           items = [];
           rest = is;

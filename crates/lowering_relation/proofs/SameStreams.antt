@@ -2,7 +2,7 @@
 use Rattle.std.proofs.Common.{◌≡◌, ℕ, zero, suc, ◌+◌, List, [], ◌∷◌, ◌++◌, map, Option, Some, None, Ok, refl, sym, ap, ◌∙◌, subst}
 use Rattle.c_int.specs.declared.control_limit.ControlLimit.{ControlLimit}
 use Rattle.cddf_meaning.specs.Answers.{left, and_then, with_turns}
-use Rattle.cddf_meaning.specs.Claims.{with_skips, skips_behind_all, limit}
+use Rattle.cddf_meaning.specs.Claims.{with_skips, moves_behind, limit}
 use Rattle.cddf_meaning.specs.File.{or_in_file}
 use Rattle.cddf_meaning.specs.Flow.{given}
 use Rattle.cddf_meaning.specs.State.{State}
@@ -124,7 +124,7 @@ module _ (c : Context) (more : List Binding) (apart : AreElse c.file more) (sees
       created claims left_turns None =
           subst (λ vs. SameRan c more (exactly es) es (unless_limited None st left_turns (with_activation c.file number names claims st))
           (unless_limited None st2 left_turns
-          (record st2 { activations = st.activations ++ record { site = number; captured = vs; claims = with_skips st.skips claims } ∷ []; skips = skips_behind_all st.skips claims }))) values
+          (record st2 { activations = st.activations ++ record { site = number; captured = vs; claims = with_skips st.moves claims } ∷ []; moves = moves_behind st.moves claims }))) values
           (went (with_activation c.file number names claims st) left_turns same)
 
   pub tick_same : (t : tree.TargetTree) (arrow : Mark) (e : tree.ExprTree) (turns : ℕ) → Agree c (place_notes s (role.Flow direction.Reads) t ++ expr_notes s e) →

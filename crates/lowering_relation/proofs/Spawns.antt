@@ -1,5 +1,5 @@
 -- The code of a task pragma creates the activation that it says.
-use Rattle.std.proofs.Common.{◌≡◌, ℕ, ◌+◌, ◌*◌, ◌≤◌, Bool, true, false, if◌then◌else◌, leb, ltb, List, [], ◌∷◌, ◌++◌, length, map, replicate, Option, Some, None, Ok, ℤ, refl, sym, ap, ◌∙◌, subst, arith}
+use Rattle.std.proofs.Common.{◌≡◌, ℕ, ◌+◌, ◌*◌, ◌≤◌, Bool, true, false, if◌then◌else◌, leb, ltb, List, [], ◌∷◌, ◌++◌, length, map, Option, Some, None, Ok, ℤ, refl, sym, ap, ◌∙◌, subst, arith}
 use Rattle.c_int.specs.declared.control_limit.ControlLimit.TheVariants as limits
 use Rattle.c_int.specs.declared.control_limit.ControlLimit.{ControlLimit}
 use Rattle.cddf_meaning.specs.Claims.{with_skips, horizons, all_horizons, limit}
@@ -36,7 +36,7 @@ use Rattle.lowering_relation.specs.Alignment.{slot_at}
 use Rattle.lowering_relation.specs.Tasks.{TaskTree, number_of, site_items}
 use Rattle.lowering_relation.proofs.Capturing.{HasSlot, AreScalars, captured_scalars}
 use Rattle.lowering_relation.proofs.Context.{InMain, resources, Kept, Context, tells, agree_first}
-use Rattle.lowering_relation.proofs.Created.{sums_same, skipped_sum, same_claims}
+use Rattle.lowering_relation.proofs.Created.{sums_same, skipped_sum, same_claims, below_more}
 use Rattle.lowering_relation.proofs.Exprs.{Ready}
 use Rattle.lowering_relation.proofs.Flows.{Does, ended, given_does, settled, exactly, went_on}
 use Rattle.lowering_relation.proofs.Functions.{popped, FileFits}
@@ -133,12 +133,11 @@ module _ (code : Parts) (file : File) (falls : CallsFall file) (names : List Res
 
       same : (kept : Kept (InMain streams later) st m) → Kept (InMain streams later) (with_activation file number ids claims st) created_store
       same kept =
-          let rest = replicate later 0 in
-          let x = same_claims claims st.skips rest (subst (λ n. AllBelow n claims) (sym kept.1) below) in (
-            ap (λ xs. xs ++ record { site = number; captured = captured_values file st ids; claims = with_skips st.skips claims } ∷ []) kept.0
-                ∙ ap (λ vs. m.created ++ record { site = number; captured = vs; claims = with_skips st.skips claims } ∷ []) values
+          let x = same_claims (streams + later) claims st.moves (below_more streams (streams + later) claims (omega arith) below) in (
+            ap (λ xs. xs ++ record { site = number; captured = captured_values file st ids; claims = with_skips st.moves claims } ∷ []) kept.0
+                ∙ ap (λ vs. m.created ++ record { site = number; captured = vs; claims = with_skips st.moves claims } ∷ []) values
                 ∙ ap (λ xs. m.created ++ record { site = number; captured = map (slot before) site.captured; claims = xs } ∷ []) (sym (ap (λ ys. claims_with_skips ys claims) kept.2 ∙ x.claims)),
-            x.long ∙ kept.1,
+            kept.1,
             ap (λ ys. skips_after_all ys claims) kept.2 ∙ x.skips,
           )
 

@@ -4,13 +4,15 @@ use Rattle.std.proofs.lemmas.List.{length-map}
 use Rattle.std.proofs.lemmas.Option.{slice_get-map}
 use Rattle.std.specs.Option.{option_map}
 use Rattle.c_int.specs.declared.control_limit.ControlLimit.{ControlLimit}
+use Rattle.cddf_meaning.proofs.Scoping.{main_is_scoped}
 use Rattle.cddf_meaning.specs.Body.{task_outcome, chosen_outcome, outcome_in, body}
 use Rattle.cddf_meaning.specs.File.{File}
 use Rattle.cddf_meaning.specs.Functions.{empty_file, with_item}
 use Rattle.cddf_meaning.specs.Moves.{read_horizons}
-use Rattle.cddf_meaning.specs.Program.{Main, main_at, main_behind, main_of}
-use Rattle.cddf_meaning.specs.Tasks.{Task as MeaningTask, task_at, tasks_in_all}
+use Rattle.cddf_meaning.specs.Program.{Main}
+use Rattle.cddf_meaning.specs.Tasks.{Task as MeaningTask}
 use Rattle.cddf_meaning.specs.declared.ending.Ending.{Ending}
+use Rattle.cddf_meaning.specs.Scoped.{scoped_task_at, scoped_tasks_in_all, scoped_main_at, scoped_main_behind, scoped_main}
 use Rattle.cddf_meaning.specs.declared.ending.Ending.TheVariants as ending
 use Rattle.flow_core_laws.specs.declared.activation.Activation.{Activation}
 use Rattle.flow_core_laws.specs.declared.outcome.Outcome.{Outcome}
@@ -94,13 +96,13 @@ main_body s f is all =
     own = ap (λ t. if t then owner.OfMain else owner.OfFunction) is
 
 -- without `main` there is no task
-no_main : (is : List tree.ItemTree) (file : File) (s : Scope) → main_behind file s is ≡ None → program_tasks is ≡ []
+no_main : (is : List tree.ItemTree) (file : File) (s : Scope) → scoped_main_behind file s is ≡ None → program_tasks is ≡ []
 no_main [] file s h = refl
 no_main (tree.Constant c ∷ is) file s h = no_main is (with_item file (tree.Constant c)) (after_item s (tree.Constant c)) h
 no_main (tree.Function f ∷ is) file s h = by_case (f.name.id == main_id) h (λ k. no_main is (with_item file (tree.Function f)) (after_item s (tree.Function f)) k)
   where
-    by_case : (t : Bool) → (if t then Some (main_at file s f) else main_behind (with_item file (tree.Function f)) (after_item s (tree.Function f)) is) ≡ None →
-        (main_behind (with_item file (tree.Function f)) (after_item s (tree.Function f)) is ≡ None → program_tasks is ≡ []) → (if t then all_tasks_of f.body else program_tasks is) ≡ []
+    by_case : (t : Bool) → (if t then Some (scoped_main_at file s f) else scoped_main_behind (with_item file (tree.Function f)) (after_item s (tree.Function f)) is) ≡ None →
+        (scoped_main_behind (with_item file (tree.Function f)) (after_item s (tree.Function f)) is ≡ None → program_tasks is ≡ []) → (if t then all_tasks_of f.body else program_tasks is) ≡ []
     by_case true k next = absurd (cc)
     by_case false k next = next k
 
@@ -127,7 +129,7 @@ module _ (p : tree.ProgramTree) (code : Parts) (a : Activation) (inputs : List �
       let one = runs_are_one code (task_start unit a inputs budget) h.last t.ends.last (halt_of e) t.ends.halt h.steps t.steps h.runs (subst (λ y. Runs code (task_start y a inputs budget) t.ends.halt t.ends.last t.steps) same_unit t.ends.runs) in
       no_limit t.ends.site.line n t.ends.halt t.ends.last (machine.task_outcome code a inputs budget) t.ends.ends (sym one.0 ∙ ap halt_of is)
 
-  by_main : (m : Main) → main_of p ≡ Some m → Ends (outcome_in (Some m) a inputs budget)
+  by_main : (m : Main) → scoped_main p ≡ Some m → Ends (outcome_in (Some m) a inputs budget)
   by_main m is_main = (
     e.count,
     record {
@@ -147,26 +149,26 @@ module _ (p : tree.ProgramTree) (code : Parts) (a : Activation) (inputs : List �
           finds_main code (names p) (names_in_order p stands.placed) (program_tasks p) p empty_file programs.file 0 m stands.leveled.items (λ n args turns. tt) (nothing_fits code (names p) (names_in_order p stands.placed) (program_tasks p)) tt refl
           (lawful-program p stands.lawful) (tells-program p) stands.has.functions is_main
 
-      of_main : m.tasks ≡ tasks_in_all (in_body at_main.scope at_main.function) at_main.function.body
+      of_main : m.tasks ≡ scoped_tasks_in_all (in_body at_main.scope at_main.function) at_main.function.body
       of_main = ap (λ (x : Main). x.tasks) at_main.is
 
-      by_tree : program_tasks p ≡ map strip (tasks_in_all (in_body at_main.scope at_main.function) at_main.function.body)
+      by_tree : program_tasks p ≡ map strip (scoped_tasks_in_all (in_body at_main.scope at_main.function) at_main.function.body)
       by_tree = at_main.own_tasks ∙ sym (all_stripped at_main.function.body (in_body at_main.scope at_main.function))
 
-      below : a.site < length (tasks_in_all (in_body at_main.scope at_main.function) at_main.function.body)
+      below : a.site < length (scoped_tasks_in_all (in_body at_main.scope at_main.function) at_main.function.body)
       below =
-          let x : length (program_tasks p) ≡ length (map strip (tasks_in_all (in_body at_main.scope at_main.function) at_main.function.body)) = ap length by_tree in
-          let y : length (map strip (tasks_in_all (in_body at_main.scope at_main.function) at_main.function.body)) ≡ length (tasks_in_all (in_body at_main.scope at_main.function) at_main.function.body) = length-map (tasks_in_all (in_body at_main.scope at_main.function) at_main.function.body) strip in
+          let x : length (program_tasks p) ≡ length (map strip (scoped_tasks_in_all (in_body at_main.scope at_main.function) at_main.function.body)) = ap length by_tree in
+          let y : length (map strip (scoped_tasks_in_all (in_body at_main.scope at_main.function) at_main.function.body)) ≡ length (scoped_tasks_in_all (in_body at_main.scope at_main.function) at_main.function.body) = length-map (scoped_tasks_in_all (in_body at_main.scope at_main.function) at_main.function.body) strip in
           let f = fits.site_there in
           let z = stands.has.sites in
           omega (arith, x, y, f, z)
 
-      got : (t : MeaningTask) × (slice_get (tasks_in_all (in_body at_main.scope at_main.function) at_main.function.body) a.site ≡ Some t)
-      got = get_there (tasks_in_all (in_body at_main.scope at_main.function) at_main.function.body) a.site below
+      got : (t : MeaningTask) × (slice_get (scoped_tasks_in_all (in_body at_main.scope at_main.function) at_main.function.body) a.site ≡ Some t)
+      got = get_there (scoped_tasks_in_all (in_body at_main.scope at_main.function) at_main.function.body) a.site below
 
       found : (slots : List ℕ) × (slice_get (captures (stmts_notes (in_body at_main.scope at_main.function) at_main.function.body)) a.site ≡ Some slots) × TaskAt (names p) at_main.scope.entries got.0 slots
       found =
-          matched (names p) at_main.scope.entries (tasks_in_all (in_body at_main.scope at_main.function) at_main.function.body) (captures (stmts_notes (in_body at_main.scope at_main.function) at_main.function.body)) a.site got.0
+          matched (names p) at_main.scope.entries (scoped_tasks_in_all (in_body at_main.scope at_main.function) at_main.function.body) (captures (stmts_notes (in_body at_main.scope at_main.function) at_main.function.body)) a.site got.0
           (match_stmts (names p) at_main.scope.entries at_main.leveled (in_body at_main.scope at_main.function) (main_body at_main.scope at_main.function at_main.is_named at_main.all) at_main.lawful at_main.tells) got.1
 
       there : TaskAt (names p) at_main.scope.entries got.0 found.0
@@ -174,9 +176,9 @@ module _ (p : tree.ProgramTree) (code : Parts) (a : Activation) (inputs : List �
 
       in_program : slice_get (program_tasks p) a.site ≡ Some (strip got.0)
       in_program =
-          ap (λ ts. slice_get ts a.site) by_tree ∙ slice_get-map strip (tasks_in_all (in_body at_main.scope at_main.function) at_main.function.body) a.site ∙ ap (option_map strip) got.1
+          ap (λ ts. slice_get ts a.site) by_tree ∙ slice_get-map strip (scoped_tasks_in_all (in_body at_main.scope at_main.function) at_main.function.body) a.site ∙ ap (option_map strip) got.1
 
-      has : HasTask code (told_at (names p)) (captured_by_tasks p) a.site (strip (task_at there.scope there.mark there.clauses there.body))
+      has : HasTask code (told_at (names p)) (captured_by_tasks p) a.site (strip (scoped_task_at there.scope there.mark there.clauses there.body))
       has = subst (λ x. HasTask code (told_at (names p)) (captured_by_tasks p) a.site (strip x)) there.is (stands.has.tasks a.site (strip got.0) in_program)
 
       same_slots : has.site.captured ≡ found.0
@@ -186,16 +188,16 @@ module _ (p : tree.ProgramTree) (code : Parts) (a : Activation) (inputs : List �
           let y : Some has.site.captured ≡ Some found.0 = sym has.captures ∙ x in
           cc
 
-      e : EndsIn code there.mark.line (task_start has.unit a inputs budget) (task_outcome m.file (task_at there.scope there.mark there.clauses there.body) a inputs budget)
+      e : EndsIn code there.mark.line (task_start has.unit a inputs budget) (task_outcome m.file (scoped_task_at there.scope there.mark there.clauses there.body) a inputs budget)
       e =
           task_does code m.file at_main.falls (names p) (names_in_order p stands.placed) at_main.scope.entries at_main.fits got.0 found.0 there a.site (captured_by_tasks p) has same_slots a inputs budget
           (fits.captured has.site has.is_site) (claims_fit code.streams has.site.items a.claims (fits.claims has.site has.is_site)) enough (limits has.site has.unit has.is_site has.is_unit)
 
-      chosen : outcome_in (Some m) a inputs budget ≡ task_outcome m.file (task_at there.scope there.mark there.clauses there.body) a inputs budget
+      chosen : outcome_in (Some m) a inputs budget ≡ task_outcome m.file (scoped_task_at there.scope there.mark there.clauses there.body) a inputs budget
       chosen =
           ap (λ ts. chosen_outcome m.file (slice_get ts a.site) a inputs budget) of_main ∙ ap (λ o. chosen_outcome m.file o a inputs budget) got.1 ∙ ap (λ t. task_outcome m.file t a inputs budget) there.is
 
-  by_option : (o : Option Main) → main_of p ≡ o → Ends (outcome_in o a inputs budget)
+  by_option : (o : Option Main) → scoped_main p ≡ o → Ends (outcome_in o a inputs budget)
   by_option None is =
       let x : length (program_tasks p) ≡ 0 = ap length (no_main p empty_file programs.file is) in
       let f = fits.site_there in
@@ -204,7 +206,7 @@ module _ (p : tree.ProgramTree) (code : Parts) (a : Activation) (inputs : List �
   by_option (Some m) is = by_main m is
 
   pub ends_so : (steps : ℕ) × TaskEnds code a inputs budget (body p a inputs budget) steps
-  ends_so = by_option (main_of p) refl
+  ends_so = subst (λ o. Ends (outcome_in o a inputs budget)) (main_is_scoped p) (by_option (scoped_main p) refl)
 
   pub ends_only_so : (outcome : Outcome) (steps : ℕ) → TaskEnds code a inputs budget outcome steps → outcome ≡ body p a inputs budget
   ends_only_so outcome steps h = (task_ends_are_one code a inputs budget outcome (body p a inputs budget) steps ends_so.0 h ends_so.1).0

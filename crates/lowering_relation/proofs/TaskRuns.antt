@@ -13,9 +13,10 @@ use Rattle.cddf_meaning.specs.Functions.{in_function}
 use Rattle.cddf_meaning.specs.Moves.{CallsFall, read_horizons}
 use Rattle.cddf_meaning.specs.Run.{run}
 use Rattle.cddf_meaning.specs.State.{State, state_of}
-use Rattle.cddf_meaning.specs.Tasks.{Task as MeaningTask, task_at}
+use Rattle.cddf_meaning.specs.Tasks.{Task as MeaningTask}
 use Rattle.cddf_meaning.specs.declared.ending.Ending.{Ending}
 use Rattle.cddf_meaning.specs.declared.ending.Ending.TheVariants as ending
+use Rattle.cddf_meaning.specs.Scoped.{scoped_task_at}
 use Rattle.cddf_meaning.specs.declared.flow.Flow.TheVariants.{GoesOn, Breaks, Continues, Returns}
 use Rattle.flow_core_laws.specs.declared.activation.Activation.{Activation}
 use Rattle.flow_core_laws.specs.declared.claim.Claim.{Claim}
@@ -139,7 +140,7 @@ task_end c total end es after claims line s _ side is limits (ended {e = e} {act
 
 -- A task's code ends as its body does.
 module _ (code : Parts) (file : File) (falls : CallsFall file) (rs : List Resolved) (ordered : InOrder rs) (file_es : List Entry) (fits : FileFits code file file_es) (t : MeaningTask) (slots : List ℕ) (there : TaskAt rs file_es t slots)
-    (number : ℕ) (site_captured : List (List ℕ)) (has : HasTask code (told_at rs) site_captured number (strip (task_at there.scope there.mark there.clauses there.body))) (same_slots : has.site.captured ≡ slots)
+    (number : ℕ) (site_captured : List (List ℕ)) (has : HasTask code (told_at rs) site_captured number (strip (scoped_task_at there.scope there.mark there.clauses there.body))) (same_slots : has.site.captured ≡ slots)
     (a : Activation) (inputs : List ℤ) (budget : ℕ) (arguments : length a.captured ≡ length has.site.captured) (claims_ok : (length has.site.items ≡ length a.claims) × AllSome a.claims) (enough : read_horizons a.claims ≤ length inputs) where
   abbrev c : Context
   c = task_context code file falls rs ordered file_es fits t slots there a.claims
@@ -148,7 +149,7 @@ module _ (code : Parts) (file : File) (falls : CallsFall file) (rs : List Resolv
   in_body_of = inner code file falls rs ordered file_es fits t slots there a.claims
 
   abbrev these : MeaningTask
-  these = task_at there.scope there.mark there.clauses there.body
+  these = scoped_task_at there.scope there.mark there.clauses there.body
 
   abbrev m0 : Store
   m0 = record { slots = frame_slots has.unit a.captured; windows = windows_of a.claims inputs; created = []; skips = [] }

@@ -6,9 +6,9 @@ use Rattle.std.specs.Prelude.{⊤, ◌⊎◌}
 use Rattle.cddf_meaning.specs.Body as meaning
 use Rattle.cddf_meaning.specs.Body.{bind_captured, bind_items, item_lists}
 use Rattle.cddf_meaning.specs.Moves.{read_horizons}
-use Rattle.cddf_meaning.specs.Tasks.{typed_name}
 use Rattle.cddf_meaning.specs.Variables.{bind}
 use Rattle.cddf_meaning.specs.declared.variable.Binding.{Binding}
+use Rattle.cddf_meaning.specs.Scoped.{scoped_name}
 use Rattle.cddf_meaning.specs.declared.variable.Variable.TheVariants as variable
 use Rattle.flow_core_laws.specs.Byte.{is_byte}
 use Rattle.flow_core_laws.specs.declared.claim.Claim.{Claim}
@@ -86,7 +86,7 @@ module _ (slots : List ℕ) (ascends : Ascends 0 slots) (es : List Entry) where
 
   pub captured_aligned : (has : Resources) (held : List ℤ) (cs : List Scalar) (vs : List ℤ) (k : ℕ) (names : List Binding) (xs : List Entry) → AreScalars es cs → Points slots k cs → length vs ≡ length cs →
       ((i : ℕ) → i < length vs → slot_at held (k + i) ≡ slot_at vs i) → Aligned has (meaning_in owner.OfTask slots) held names xs →
-      Aligned has (meaning_in owner.OfTask slots) held (bind_captured (map (typed_name es) (map (λ (c : Scalar). c.id) cs)) vs names) (made_captured es cs xs)
+      Aligned has (meaning_in owner.OfTask slots) held (bind_captured (map (scoped_name es) (map (λ (c : Scalar). c.id) cs)) vs names) (made_captured es cs xs)
   captured_aligned has held [] vs k names xs all at len same al = al
   captured_aligned has held (c ∷ cs) [] k names xs all at len same al = absurd (omega (arith, len))
   captured_aligned has held (c ∷ cs) (v ∷ vs) k names xs all at len same al =
@@ -125,7 +125,7 @@ module _ (slots : List ℕ) where
   items_stacked s depth item top (Private n ∷ ps) xs st = items_stacked s depth item top ps xs st
 
   pub items_aligned : (claims : List Claim) (held : List ℤ) (s : Scope) (depth item : ℕ) (ps : List Part) (names : List Binding) (xs : List Entry) → item + count_items ps ≤ length claims →
-      Aligned (resources (InTask claims)) (meaning_in owner.OfTask slots) held names xs → Aligned (resources (InTask claims)) (meaning_in owner.OfTask slots) held (bind_items item (map (typed_name s.entries) (item_ids ps)) names) (made_items s depth item ps xs)
+      Aligned (resources (InTask claims)) (meaning_in owner.OfTask slots) held names xs → Aligned (resources (InTask claims)) (meaning_in owner.OfTask slots) held (bind_items item (map (scoped_name s.entries) (item_ids ps)) names) (made_items s depth item ps xs)
   items_aligned claims held s depth item [] names xs le al = al
   items_aligned claims held s depth item (Item d i ∷ ps) names xs le al =
       items_aligned claims held s depth (suc item) ps (bind (item_name i.stream i.window).id (item_flag s i) (variable.Item item) names) _ (omega (arith, le)) (refl, refl, (omega (arith, le), item_means s item d i), al)

@@ -1,7 +1,8 @@
 -- The tasks of `main` in the text: where each stands, and what it captures.
 use Rattle.std.proofs.Common.{◌≡◌, ℕ, zero, suc, Bool, true, false, List, [], ◌∷◌, ◌++◌, map, Option, Some, None, slice_get, refl, sym, ap, ◌∙◌, subst}
 use Rattle.std.specs.Prelude.{⊤}
-use Rattle.cddf_meaning.specs.Tasks.{Task as MeaningTask, task_at, tasks_in, tasks_in_all}
+use Rattle.cddf_meaning.specs.Scoped.{scoped_task_at, scoped_tasks_in, scoped_tasks_in_all}
+use Rattle.cddf_meaning.specs.Tasks.{Task as MeaningTask}
 use Rattle.os_ast.specs.Captured.{captured, slots_of}
 use Rattle.os_ast.specs.Leveled.{IsStmt, AreStmts}
 use Rattle.os_ast.specs.Names.{Scope, enter, in_loop, typed}
@@ -60,7 +61,7 @@ pub record TaskAt (rs : List Resolved) (file : List Entry) (t : MeaningTask) (sl
   pub mark : Mark
   pub clauses : List tree.ClauseTree
   pub body : tree.StmtTree
-  pub is : t ≡ task_at scope mark clauses body
+  pub is : t ≡ scoped_task_at scope mark clauses body
   pub in_main : InMain file scope
   pub leveled : IsStmt body
   pub lawful : AreLawful (stmt_notes (in_task_body scope (parts clauses) body) body)
@@ -76,14 +77,14 @@ map_both (x ∷ xs) ys = ap (λ ts. strip x ∷ ts) (map_both xs ys)
 
 -- the tasks by the tree alone
 mutual
-  pub stripped : (a : tree.StmtTree) (s : Scope) → map strip (tasks_in s a) ≡ tasks_of a
+  pub stripped : (a : tree.StmtTree) (s : Scope) → map strip (scoped_tasks_in s a) ≡ tasks_of a
   stripped tree.StmtTree.Empty s = refl
   stripped (tree.Block ss) s = all_stripped ss (enter s)
   stripped (tree.StmtTree.Declare ty ds) s = refl
   stripped (tree.StmtTree.Change c) s = refl
   stripped (tree.StmtTree.Call f args) s = refl
   stripped (tree.If c a) s = stripped a s
-  stripped (tree.IfElse c a b) s = map_both (tasks_in s a) (tasks_in (after_stmt s a) b) ∙ ap (λ ts. ts ++ map strip (tasks_in (after_stmt s a) b)) (stripped a s) ∙ ap (λ ts. tasks_of a ++ ts) (stripped b (after_stmt s a))
+  stripped (tree.IfElse c a b) s = map_both (scoped_tasks_in s a) (scoped_tasks_in (after_stmt s a) b) ∙ ap (λ ts. ts ++ map strip (scoped_tasks_in (after_stmt s a) b)) (stripped a s) ∙ ap (λ ts. tasks_of a ++ ts) (stripped b (after_stmt s a))
   stripped (tree.While c a) s = stripped a (in_loop s)
   stripped (tree.For start test step a) s = stripped a (in_loop (after_start (enter s) start))
   stripped (tree.Break m) s = refl
@@ -93,10 +94,10 @@ mutual
   stripped (tree.Tick m t arrow e) s = refl
   stripped (tree.Taskwait m) s = refl
 
-  pub all_stripped : (ss : tree.Stmts) (s : Scope) → map strip (tasks_in_all s ss) ≡ all_tasks_of ss
+  pub all_stripped : (ss : tree.Stmts) (s : Scope) → map strip (scoped_tasks_in_all s ss) ≡ all_tasks_of ss
   all_stripped tree.no_stmts s = refl
   all_stripped (tree.stmt a rest) s =
-      map_both (tasks_in s a) (tasks_in_all (after_stmt s a) rest) ∙ ap (λ ts. ts ++ map strip (tasks_in_all (after_stmt s a) rest)) (stripped a s) ∙ ap (λ ts. tasks_of a ++ ts) (all_stripped rest (after_stmt s a))
+      map_both (scoped_tasks_in s a) (scoped_tasks_in_all (after_stmt s a) rest) ∙ ap (λ ts. ts ++ map strip (scoped_tasks_in_all (after_stmt s a) rest)) (stripped a s) ∙ ap (λ ts. tasks_of a ++ ts) (all_stripped rest (after_stmt s a))
 
 module _ (rs : List Resolved) (file : List Entry) where
   abbrev pub Match : List MeaningTask → List (List ℕ) → Type 0
@@ -178,32 +179,32 @@ module _ (rs : List Resolved) (file : List Entry) where
   }
 
   mutual
-    pub match_stmt : {a : tree.StmtTree} → IsStmt a → (s : Scope) → InMain file s → AreLawful (stmt_notes s a) → Tells rs (stmt_notes s a) → Match (tasks_in s a) (captures (stmt_notes s a))
+    pub match_stmt : {a : tree.StmtTree} → IsStmt a → (s : Scope) → InMain file s → AreLawful (stmt_notes s a) → Tells rs (stmt_notes s a) → Match (scoped_tasks_in s a) (captures (stmt_notes s a))
     match_stmt IsStmt.empty s h lawful tells = tt
     match_stmt (IsStmt.block is) s h lawful tells = match_stmts is (enter s) (same_main s (enter s) h refl refl refl) lawful tells
     match_stmt (IsStmt.change {c = c} _) s h lawful tells = subst (Match []) (sym (none_change c s)) tt
     match_stmt (IsStmt.call {args = args} _) s h lawful tells = subst (Match []) (sym (none_args args s)) tt
     match_stmt (IsStmt.if_alone {c = c} {a = a} _ is) s h lawful tells =
-        behind_none (tasks_in s a) (expr_notes s c) (stmt_notes s a) (none_expr c s) (match_stmt is s h (lawful-rest (expr_notes s c) (stmt_notes s a) lawful) (tells-rest rs (expr_notes s c) (stmt_notes s a) tells))
+        behind_none (scoped_tasks_in s a) (expr_notes s c) (stmt_notes s a) (none_expr c s) (match_stmt is s h (lawful-rest (expr_notes s c) (stmt_notes s a) lawful) (tells-rest rs (expr_notes s c) (stmt_notes s a) tells))
     match_stmt (IsStmt.if_else {c = c} {a = a} {b = b} _ is _ is2) s h lawful tells =
         let x = expr_notes s c ++ stmt_notes s a in
         let y = stmt_notes (after_stmt s a) b in
         let lawful1 = lawful-first x y lawful in
         let tells1 = tells-first rs x y tells in
-        subst (Match (tasks_in s a ++ tasks_in (after_stmt s a) b)) (sym (captures_both x y))
-        (match_both (tasks_in s a) (tasks_in (after_stmt s a) b) (captures x) (captures y)
-        (behind_none (tasks_in s a) (expr_notes s c) (stmt_notes s a) (none_expr c s) (match_stmt is s h (lawful-rest (expr_notes s c) (stmt_notes s a) lawful1) (tells-rest rs (expr_notes s c) (stmt_notes s a) tells1)))
+        subst (Match (scoped_tasks_in s a ++ scoped_tasks_in (after_stmt s a) b)) (sym (captures_both x y))
+        (match_both (scoped_tasks_in s a) (scoped_tasks_in (after_stmt s a) b) (captures x) (captures y)
+        (behind_none (scoped_tasks_in s a) (expr_notes s c) (stmt_notes s a) (none_expr c s) (match_stmt is s h (lawful-rest (expr_notes s c) (stmt_notes s a) lawful1) (tells-rest rs (expr_notes s c) (stmt_notes s a) tells1)))
         (match_stmt is2 (after_stmt s a) (stmt_main is s h) (lawful-rest x y lawful) (tells-rest rs x y tells)))
     match_stmt (IsStmt.while {c = c} {s = a} _ is) s h lawful tells =
         let y = stmt_notes (in_loop s) a in
-        behind_none (tasks_in (in_loop s) a) (expr_notes s c) y (none_expr c s) (match_stmt is (in_loop s) (same_main s (in_loop s) h refl refl refl) (lawful-rest (expr_notes s c) y lawful) (tells-rest rs (expr_notes s c) y tells))
+        behind_none (scoped_tasks_in (in_loop s) a) (expr_notes s c) y (none_expr c s) (match_stmt is (in_loop s) (same_main s (in_loop s) h refl refl refl) (lawful-rest (expr_notes s c) y lawful) (tells-rest rs (expr_notes s c) y tells))
     match_stmt (IsStmt.for {start = start} {test = test} {step = step} {s = a} _ _ _ is) s h lawful tells =
         let head = after_start (enter s) start in
         let x = start_notes (enter s) start in
         let z = x ++ value_notes head test ++ step_notes head step in
         let y = stmt_notes (in_loop head) a in
         let m = start_main start (enter s) (same_main s (enter s) h refl refl refl) in
-        behind_none (tasks_in (in_loop head) a) z y
+        behind_none (scoped_tasks_in (in_loop head) a) z y
         (none_both (x ++ value_notes head test) (step_notes head step) (none_both x (value_notes head test) (none_start start (enter s)) (none_value test head)) (none_step step head))
         (match_stmt is (in_loop head) (same_main head (in_loop head) m refl refl refl) (lawful-rest z y lawful) (tells-rest rs z y tells))
     match_stmt IsStmt.break s h lawful tells = tt
@@ -218,23 +219,23 @@ module _ (rs : List Resolved) (file : List Entry) where
         let own : inner.owner ≡ owner.OfTask = items_owner (parts cs) s (in_task s (captured_in s.owner slots)) 0 in
         let e : captures (x ++ y) ≡ slots ∷ [] =
         captures_both x y ∙ ap (λ cs. captures x ++ cs) (none_stmt a inner (λ e. let z : owner.OfTask ≡ owner.OfMain = sym own ∙ e in absurd (cc))) ∙ ap (λ cs. cs ++ []) (captures_both (parts_notes s [] (parts cs)) note ∙ ap (λ cs. cs ++ captures note) (none_parts (parts cs) s []) ∙ ap (λ o. main_task o slots ++ []) h.owner) in
-        subst (Match (task_at s mark cs a ∷ [])) (sym e)
+        subst (Match (scoped_task_at s mark cs a ∷ [])) (sym e)
         (record { scope = s; mark = mark; clauses = cs; body = a; is = refl; in_main = h; leveled = is; lawful = lawful-rest x y lawful; tells = tells-rest rs x y tells; captures = refl }, tt)
     match_stmt (IsStmt.tick {m = mark} {t = t} {e = e} _ _) s h lawful tells =
         subst (Match []) (sym (none_both (place_notes s (role.Flow direction.Reads) t) (expr_notes s e) (none_place t s (role.Flow direction.Reads)) (none_expr e s))) tt
     match_stmt IsStmt.taskwait s h lawful tells = tt
 
-    pub match_stmts : {ss : tree.Stmts} → AreStmts ss → (s : Scope) → InMain file s → AreLawful (stmts_notes s ss) → Tells rs (stmts_notes s ss) → Match (tasks_in_all s ss) (captures (stmts_notes s ss))
+    pub match_stmts : {ss : tree.Stmts} → AreStmts ss → (s : Scope) → InMain file s → AreLawful (stmts_notes s ss) → Tells rs (stmts_notes s ss) → Match (scoped_tasks_in_all s ss) (captures (stmts_notes s ss))
     match_stmts AreStmts.no_stmts s h lawful tells = tt
     match_stmts (AreStmts.declare {t = ty} {ds = ds} {ss = ss} _ rest) s0 known lawful tells =
         let s = typed ty s0 in
         let h = typed_main ty s0 known in
         let x = declarators_notes s ds in
         let y = stmts_notes (after_declarators s ds) ss in
-        behind_none (tasks_in_all (after_declarators s ds) ss) x y (none_declarators ds s) (match_stmts rest (after_declarators s ds) (declarators_main ds s h) (lawful-rest x y lawful) (tells-rest rs x y tells))
+        behind_none (scoped_tasks_in_all (after_declarators s ds) ss) x y (none_declarators ds s) (match_stmts rest (after_declarators s ds) (declarators_main ds s h) (lawful-rest x y lawful) (tells-rest rs x y tells))
     match_stmts (AreStmts.stmt {s = a} {ss = ss} is rest) s h lawful tells =
         let x = stmt_notes s a in
         let y = stmts_notes (after_stmt s a) ss in
-        subst (Match (tasks_in s a ++ tasks_in_all (after_stmt s a) ss)) (sym (captures_both x y))
-        (match_both (tasks_in s a) (tasks_in_all (after_stmt s a) ss) (captures x) (captures y) (match_stmt is s h (lawful-first x y lawful) (tells-first rs x y tells))
+        subst (Match (scoped_tasks_in s a ++ scoped_tasks_in_all (after_stmt s a) ss)) (sym (captures_both x y))
+        (match_both (scoped_tasks_in s a) (scoped_tasks_in_all (after_stmt s a) ss) (captures x) (captures y) (match_stmt is s h (lawful-first x y lawful) (tells-first rs x y tells))
         (match_stmts rest (after_stmt s a) (stmt_main is s h) (lawful-rest x y lawful) (tells-rest rs x y tells)))

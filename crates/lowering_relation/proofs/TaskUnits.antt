@@ -1,7 +1,8 @@
 -- The units of tasks are fine.
 use Rattle.std.proofs.Common.{◌≡◌, ℕ, suc, ◌+◌, ◌≤◌, true, List, [], ◌∷◌, ◌++◌, length, Option, Some, None, slice_get, refl, sym, ap, ◌∙◌, subst, arith}
 use Rattle.std.proofs.lemmas.Option.{slice_get_within}
-use Rattle.cddf_meaning.specs.Tasks.{Task as MeaningTask, task_at}
+use Rattle.cddf_meaning.specs.Scoped.{scoped_task_at}
+use Rattle.cddf_meaning.specs.Tasks.{Task as MeaningTask}
 use Rattle.os_ast.specs.Captured.{Scalar, captured, slots_of}
 use Rattle.os_ast.specs.Names.{Scope, lookup, entity_of}
 use Rattle.os_ast.specs.Notes.Clauses.{named_entity, item_entity, in_task, captured_in, in_task_body, item_flag}
@@ -134,7 +135,7 @@ known_by_slots t is (n ∷ ns) lawful tells h = (
 )
 
 module _ (code : Parts) (rs : List Resolved) (ordered : InOrder rs) (file_es : List Entry) (t : MeaningTask) (slots : List ℕ) (there : TaskAt rs file_es t slots) (all_slots : List (List ℕ)) (number before : ℕ)
-    (may : AllFileMay code before file_es) (has : HasTask code (told_at rs) all_slots number (strip (task_at there.scope there.mark there.clauses there.body))) (behind : before ≤ has.site.unit)
+    (may : AllFileMay code before file_es) (has : HasTask code (told_at rs) all_slots number (strip (scoped_task_at there.scope there.mark there.clauses there.body))) (behind : before ≤ has.site.unit)
     (same_slots : has.site.captured ≡ slots) (kind : kind_at code has.site.unit ≡ code_parts.Task has.site) where
   abbrev ps : List Part
   ps = parts there.clauses

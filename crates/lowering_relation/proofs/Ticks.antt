@@ -1,6 +1,5 @@
 -- The code of a tick moves the read cursor that it names.
-use Rattle.std.proofs.Common.{◌≡◌, ℕ, zero, suc, ◌+◌, ◌<◌, ◌≤◌, ◌==◌, false, List, ◌∷◌, ◌++◌, length, get_or, set, replicate, Some, ℤ, pos, refl, sym, ap, ◌∙◌, subst, arith, length-set}
-use Rattle.std.proofs.lemmas.List.{set-append_left, get_or_append_left}
+use Rattle.std.proofs.Common.{◌≡◌, ℕ, zero, suc, ◌+◌, ◌<◌, ◌≤◌, ◌==◌, false, List, ◌∷◌, length, get_or, set, Some, ℤ, pos, refl, sym, ap, ◌∙◌, subst, arith}
 use Rattle.std.specs.Prelude.{slice_set}
 use Rattle.c_int.specs.declared.trap.Trap.TheVariants as trap_of
 use Rattle.cddf_meaning.specs.File.{File}
@@ -42,17 +41,9 @@ module _ (code : Parts) (file : File) (falls : CallsFall file) (names : List Res
   abbrev ticked_store : Store → (stream amount : ℕ) → Store
   ticked_store m stream amount = record m { skips = slice_set m.skips stream (skip_at m.skips stream + amount) }
 
-  -- ticks of streams so far leave those that come later as they are
-  ticked_kept : (st : State) (m : Store) (stream amount : ℕ) → stream < streams → Kept (InMain streams later) st m → Kept (InMain streams later) (moved stream amount st) (ticked_store m stream amount)
-  ticked_kept st m stream amount lt kept =
-      let here : stream < length st.skips = omega (arith, lt, kept.1) in
-      let rest = replicate later 0 in (
-        kept.0,
-        length-set st.skips stream (get_or st.skips stream 0 + amount) ∙ kept.1,
-        ap (λ xs. set xs stream (get_or xs stream 0 + amount)) kept.2
-            ∙ ap (λ n. set (st.skips ++ rest) stream (n + amount)) (get_or_append_left st.skips rest 0 stream here)
-            ∙ set-append_left st.skips rest stream (get_or st.skips stream 0 + amount) here,
-      )
+  -- a tick is counted, as it is a move
+  ticked_kept : (st : State) (m : Store) (stream amount : ℕ) → Kept (InMain streams later) st m → Kept (InMain streams later) (moved stream amount st) (ticked_store m stream amount)
+  ticked_kept st m stream amount kept = (kept.0, kept.1, ap (λ xs. set xs stream (get_or xs stream 0 + amount)) kept.2)
 
   tick_step : (first k amount p : ℕ) (stack : List ℤ) (m : Store) (turns : ℕ) → first + k < code.streams → (first + k == 1) ≡ false → amount ≤ 65536 → instr_at code p ≡ Some (instr.Tick first) →
       Leads code (at callers p (pos amount ∷ pos k ∷ stack) m turns) (at callers (p + 1) stack (ticked_store m (first + k) amount) turns)
@@ -72,7 +63,7 @@ module _ (code : Parts) (file : File) (falls : CallsFall file) (names : List Res
       let after = ticked_store m (first + k) amount in
       does_from (takes_turn code callers p (pos amount ∷ pos k ∷ stack) m turns at_turn)
       (went_on c callers leaves total es (moved stream amount st) after turns len
-      (subst (λ n. Kept (InMain streams later) (moved n amount st) after) (sym same) (ticked_kept st m (first + k) amount lt kept)) al
+      (subst (λ n. Kept (InMain streams later) (moved n amount st) after) (sym same) (ticked_kept st m (first + k) amount kept)) al
       (subst (λ q. Leads code (at callers (p + 1) (pos amount ∷ pos k ∷ stack) m turns) (at callers q stack after turns)) there
       (tick_step first k amount (p + 1) stack m turns (omega (arith, lt, all)) apart few at_tick)))
 

@@ -5,9 +5,8 @@ use Rattle.std.proofs.lemmas.List.{length-drop, length-replicate, length-take}
 use Rattle.std.proofs.lemmas.List.Sums.{sum_by-cons}
 use Rattle.c_int.specs.Traps.{trap_code}
 use Rattle.cddf_meaning.specs.Body.{body, bound_round, chosen_outcome, done, gives_bytes, item_lists, outcome, outcome_in, over_budget, task_outcome, trapped, outputs_of}
-use Rattle.cddf_meaning.specs.File.{File}
 use Rattle.cddf_meaning.specs.Flow.{Ran, Went, Ended}
-use Rattle.cddf_meaning.specs.Functions.{empty_file, file_of, in_function, with_item, with_items}
+use Rattle.cddf_meaning.specs.Functions.{file_of, in_function}
 use Rattle.cddf_meaning.specs.Moves.{Keeps, item_lengths}
 use Rattle.cddf_meaning.specs.Program.{Main, main_at, main_behind, main_of}
 use Rattle.cddf_meaning.specs.Run.{Around, run}
@@ -18,9 +17,7 @@ use Rattle.flow_core_laws.specs.Window.{offset_after}
 use Rattle.flow_core_laws.specs.declared.activation.Activation.{Activation}
 use Rattle.flow_core_laws.specs.declared.claim.Claim.{Claim}
 use Rattle.flow_core_laws.specs.declared.outcome.Outcome.{Outcome}
-use Rattle.os_ast.specs.Names.{Scope, main_id}
-use Rattle.os_ast.specs.Notes.Programs.{after_item}
-use Rattle.os_ast.specs.Notes.Programs as notes
+use Rattle.os_ast.specs.Names.{main_id}
 use Rattle.os_ast.specs.Trees as tree
 use Rattle.os_code.specs.Tasks.{input_count}
 use Rattle.osrun_core_run.specs.BodyLaws.{GivesBytes}
@@ -77,21 +74,14 @@ task_gives keep items t x inputs budget long =
     ran x t.mark.line s budget (run (in_function (file_of items)) t.body s budget) (keep items (in_function (file_of items)) t.body s budget refl) (lists-have x.claims inputs long)
 
 -- what `main` sees of the file is what some of its items declare
-with_items-last : (file : File) (xs : List tree.ItemTree) (i : tree.ItemTree) → with_item (with_items file xs) i ≡ with_items file (xs ++ i ∷ [])
-with_items-last file [] i = refl
-with_items-last file (x ∷ xs) i = with_items-last (with_item file x) xs i
-
-main-file : (items : List tree.ItemTree) (file : File) (s : Scope) (before : List tree.ItemTree) → file ≡ file_of before → (m : Main) → main_behind file s items ≡ Some m → (seen : List tree.ItemTree) × (m.file ≡ file_of seen)
-main-file [] file s before is m found = absurd (cc)
-main-file (tree.Constant c ∷ rest) file s before is m found =
-    main-file rest (with_item file (tree.Constant c)) (after_item s (tree.Constant c)) (before ++ tree.Constant c ∷ []) (ap (λ f. with_item f (tree.Constant c)) is ∙ with_items-last empty_file before (tree.Constant c)) m found
-main-file (tree.Function f ∷ rest) file s before is m found =
-    by (f.name.id == main_id) found
-    (main-file rest (with_item file (tree.Function f)) (after_item s (tree.Function f)) (before ++ tree.Function f ∷ []) (ap (λ g. with_item g (tree.Function f)) is ∙ with_items-last empty_file before (tree.Function f)) m)
+main-file : (items before : List tree.ItemTree) (m : Main) → main_behind before items ≡ Some m → (seen : List tree.ItemTree) × (m.file ≡ file_of seen)
+main-file [] before m found = absurd (cc)
+main-file (tree.Constant c ∷ rest) before m found = main-file rest (before ++ tree.Constant c ∷ []) m found
+main-file (tree.Function f ∷ rest) before m found = by (f.name.id == main_id) found (main-file rest (before ++ tree.Function f ∷ []) m)
   where
-    by : (b : Bool) → cond b (Some (main_at file s f)) (main_behind (with_item file (tree.Function f)) (after_item s (tree.Function f)) rest) ≡ Some m
-        → (main_behind (with_item file (tree.Function f)) (after_item s (tree.Function f)) rest ≡ Some m → (seen : List tree.ItemTree) × (m.file ≡ file_of seen)) → (seen : List tree.ItemTree) × (m.file ≡ file_of seen)
-    by true here more = let e : main_at file s f ≡ m = cc in (before, ap (λ (n : Main). n.file) (sym e) ∙ is)
+    by : (b : Bool) → cond b (Some (main_at before f)) (main_behind (before ++ tree.Function f ∷ []) rest) ≡ Some m
+        → (main_behind (before ++ tree.Function f ∷ []) rest ≡ Some m → (seen : List tree.ItemTree) × (m.file ≡ file_of seen)) → (seen : List tree.ItemTree) × (m.file ≡ file_of seen)
+    by true here more = let e : main_at before f ≡ m = cc in (before, ap (λ (n : Main). n.file) (sym e))
     by false later more = more later
 
 pub body_gives : RunsKeep → (p : tree.ProgramTree) (x : Activation) (inputs : List ℤ) (budget : ℕ) → length inputs ≡ input_count x → GivesBytes x (body p x inputs budget)
@@ -104,5 +94,5 @@ body_gives keep p x inputs budget long = by_main (main_of p) refl
     by_main : (o : Option Main) → main_of p ≡ o → GivesBytes x (outcome_in o x inputs budget)
     by_main None found = nothing x (done []) refl
     by_main (Some m) found =
-        let (seen, is) = main-file p empty_file notes.file [] refl m found in
+        let (seen, is) = main-file p [] m found in
         by_task m seen is (slice_get m.tasks x.site)

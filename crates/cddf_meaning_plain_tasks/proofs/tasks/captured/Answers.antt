@@ -1,5 +1,5 @@
 use Rattle.std.proofs.Common.{◌<◌, ◌+◌, ◌++◌, length, drop, map, refl, ap, arith, ◌∙◌}
-use Rattle.cddf_meaning_plain_tasks.specs.Sought.{among}
+use Rattle.cddf_meaning.specs.Tasks.{among}
 use Rattle.cddf_meaning_plain_tasks.proofs.Finding.{among-next}
 use Rattle.os_ast.specs.FreeNames.{task_names}
 use Rattle.os_ast.specs.Parts.{parts}

@@ -1,5 +1,5 @@
 use Rattle.std.proofs.Common.{◌≡◌, ◌++◌, drop, map}
-use Rattle.cddf_meaning_plain_tasks.specs.Sought.{among}
+use Rattle.cddf_meaning.specs.Tasks.{among}
 use Rattle.os_ast.specs.FreeNames.{task_names}
 use Rattle.os_ast.specs.Parts.{parts}
 use Rattle.os_ast.specs.Views.{clause_tree, stmt_tree}

@@ -1,5 +1,5 @@
 use Rattle.std.proofs.Common.{◌≡◌, ◌++◌, drop, map}
-use Rattle.cddf_meaning_plain_tasks.specs.Sought.{known_declarator}
+use Rattle.cddf_meaning.specs.Tasks.{known_declarator}
 use Rattle.os_ast.specs.Unsigned.{is_unsigned}
 use Rattle.os_ast.specs.Views.{declarator_tree}
 use Rattle.cddf_meaning_plain_tasks.proofs.tasks.declare.Given as goal

@@ -1,5 +1,5 @@
 use Rattle.std.proofs.Common.{◌≡◌, false, drop}
-use Rattle.cddf_meaning_plain_tasks.specs.Sought.{known_flag}
+use Rattle.cddf_meaning.specs.Tasks.{known_flag}
 use Rattle.cddf_meaning_plain_tasks.proofs.tasks.is_unsigned.Given as goal
 
 abbrev pub invariant-loop-next : goal.invariant-loop-next

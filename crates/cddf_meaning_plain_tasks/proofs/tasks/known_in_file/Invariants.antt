@@ -1,5 +1,5 @@
 use Rattle.std.proofs.Common.{◌≡◌, ◌++◌, drop, map}
-use Rattle.cddf_meaning_plain_tasks.specs.Sought.{known_item}
+use Rattle.cddf_meaning.specs.Tasks.{known_item}
 use Rattle.os_ast.specs.Views.{item_tree}
 use Rattle.cddf_meaning_plain_tasks.proofs.tasks.known_in_file.Given as goal
 

@@ -1,5 +1,5 @@
 use Rattle.std.proofs.Common.{◌≡◌, ◌++◌, drop, map}
-use Rattle.cddf_meaning_plain_tasks.specs.Sought.{known_in_main, known_param}
+use Rattle.cddf_meaning.specs.Tasks.{known_in_main, known_param}
 use Rattle.cddf_meaning_plain_state.specs.FunctionTrees.{function_tree}
 use Rattle.os_ast.specs.Views.{item_tree}
 use Rattle.cddf_meaning_plain_tasks.proofs.tasks.known_in_main.Given as goal

@@ -1,11 +1,8 @@
 use Rattle.std.proofs.Common.{◌<◌, length, map, Some, add-one, ap, sym, ◌∙◌, arith}
-use Rattle.cddf_meaning.specs.Functions.{file_of}
 use Rattle.cddf_meaning.specs.Program.{main_at}
 use Rattle.cddf_meaning_plain_state.specs.FunctionTrees.{function_tree}
 use Rattle.cddf_meaning_plain_tasks.proofs.Mains.{main-from, main_here, main_past}
 use Rattle.cddf_meaning_plain_state.proofs.Reached.{map-take-tree}
-use Rattle.os_ast.specs.Notes.Programs as notes
-use Rattle.os_ast.specs.Notes.Programs.{after_items}
 use Rattle.os_ast.specs.Views.{item_tree}
 use Rattle.cddf_meaning_plain_tasks.proofs.tasks.main_of.Goals as goal
 
@@ -17,7 +14,7 @@ returns-in-Some-clause-main c =
     let inside : place < length items = omega (arith, c.loop-place-test) in
     sym c.loop-place.invariant
     ∙ main_here items place c.index-items-place.result f inside c.index-items-place.is c.in-Some.ensures.main c.in-Some.ensures.named
-    ∙ ap (λ ts. Some (main_at (file_of ts) (after_items notes.file ts) f)) (sym (map-take-tree place items))
+    ∙ ap (λ ts. Some (main_at ts f)) (sym (map-take-tree place items))
 
 pub loop-place-preserved : goal.loop-place-preserved
 loop-place-preserved c =

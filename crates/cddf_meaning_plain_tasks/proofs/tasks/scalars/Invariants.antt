@@ -1,5 +1,5 @@
 use Rattle.std.proofs.Common.{◌≡◌, [], drop}
-use Rattle.cddf_meaning_plain_tasks.specs.Sought.{with_all_known}
+use Rattle.cddf_meaning.specs.Tasks.{with_all_known}
 use Rattle.cddf_meaning_plain_tasks.proofs.tasks.scalars.Given as goal
 
 abbrev pub invariant-loop-next : goal.invariant-loop-next

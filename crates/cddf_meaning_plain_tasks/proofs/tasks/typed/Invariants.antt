@@ -1,5 +1,5 @@
 use Rattle.std.proofs.Common.{◌≡◌, ◌++◌, drop, map}
-use Rattle.cddf_meaning_plain_tasks.specs.Sought.{typed_known}
+use Rattle.cddf_meaning.specs.Tasks.{typed_known}
 use Rattle.cddf_meaning_plain_tasks.proofs.tasks.typed.Given as goal
 
 abbrev pub invariant-loop-id : goal.invariant-loop-id
