@@ -327,7 +327,7 @@ function_same : (before is : List tree.ItemTree) (f : tree.FunctionTree) (b : Bo
     scoped_main_behind (with_item (file_of before) (tree.Function f)) (after_item (after_items notes.file before) (tree.Function f)) is
     ≡ main_behind (before ++ tree.Function f ∷ []) is →
     (if b then Some (scoped_main_at (file_of before) (after_items notes.file before) f)
-        else scoped_main_behind (with_item (file_of before) (tree.Function f)) (after_item (after_items notes.file before) (tree.Function f)) is)
+    else scoped_main_behind (with_item (file_of before) (tree.Function f)) (after_item (after_items notes.file before) (tree.Function f)) is)
     ≡ (if b then Some (main_at before f) else main_behind (before ++ tree.Function f ∷ []) is)
 function_same before is f true h behind =
     ap (λ (ts : List Task). Some (record { file = file_of before; tasks = ts; body = f.body })) (main_found before f (eqb-true f.name.id main_id h))
@@ -342,4 +342,3 @@ behind_same before (tree.Function f ∷ is) =
 
 pub main_is_scoped : (p : tree.ProgramTree) → scoped_main p ≡ main_of p
 main_is_scoped p = behind_same [] p
-

@@ -10,7 +10,8 @@
 //! A definition is total over every tree. Where no program that keeps the rules comes, it says something, and a comment
 //! says so. `laws` shows that the definitions are the ones that were meant, and `examples` works some out by hand.
 //!
-//! There is no code here but laws and the types that the definitions name. `cddf_meaning_plain` computes what they say.
+//! There is no code here but laws, the types that the definitions name, and `operators`, which tells those of the trees as those on
+//! numbers. `cddf_meaning_plain` computes what the definitions say.
 #![tactic(auto)]
 
 mod aim;
@@ -20,6 +21,7 @@ pub mod examples;
 mod flow;
 mod known;
 pub mod laws;
+pub mod operators;
 mod site;
 mod typed_name;
 mod variable;

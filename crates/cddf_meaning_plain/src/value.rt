@@ -10,10 +10,11 @@ ghost use Rattle.cddf_meaning_plain_state.specs.Stops.{Gives};
 
 use crate::functions::call_function;
 use c_int::Types;
+use cddf_meaning::operators::type_of_two;
 use cddf_meaning_plain_state::links::{link_value, needs_right};
 use cddf_meaning_plain_state::names::{Seen, int, scalar, seen_as};
 use cddf_meaning_plain_state::operators::{holds, unary};
-use cddf_meaning_plain_state::typing::{type_of, type_of_two};
+use cddf_meaning_plain_state::typing::type_of;
 use cddf_meaning_plain_state::{State, Stop};
 use os_ast::{Call, Expr, Item, Link, Target};
 use os_io::List;

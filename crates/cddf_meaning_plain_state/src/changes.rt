@@ -10,11 +10,12 @@ ghost use Rattle.os_ast.specs.Views.{item_tree};
 ghost use Rattle.cddf_meaning_plain_state.specs.Stops.{Comes, Now};
 
 use crate::names::scalar;
-use crate::operators::{binary, step_operator};
+use crate::operators::binary;
 use crate::state::State;
 use crate::stop::Stop;
 use c_int::Types;
 use cddf_meaning::Aim;
+use cddf_meaning::operators::step_operator;
 use os_ast::{Assign, Item, Mark, Step};
 
 /// The value of a target before its change.

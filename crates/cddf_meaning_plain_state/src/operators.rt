@@ -3,12 +3,13 @@
 ghost use Rattle.std.specs.Prelude.{◌≡◌, not};
 ghost use Rattle.c_int.specs.Operators.{is_zero};
 ghost use Rattle.cddf_meaning.specs.Answers.{at_line};
-ghost use Rattle.cddf_meaning.specs.Operators.{binary_value, operator_of_one, operator_of_two, step_operator, unary_value};
+ghost use Rattle.cddf_meaning.specs.Operators.{binary_value, unary_value};
 ghost use Rattle.cddf_meaning_plain_state.specs.Stops.{Comes};
 
 use crate::stop::Stop;
 use c_int::{OperatorTrap, Trap, Types, apply_binary, apply_unary, binary_for, unary_for};
-use os_ast::{Binary, Step, Unary};
+use cddf_meaning::operators::{operator_of_one, operator_of_two};
+use os_ast::{Binary, Unary};
 
 /// What an operator gives, or its trap with its line.
 fn at_line(line: u32, given: Result<i32, OperatorTrap>) -> Result<i32, Stop>
@@ -17,42 +18,6 @@ fn at_line(line: u32, given: Result<i32, OperatorTrap>) -> Result<i32, Stop>
     match given {
         Ok(number) => Ok(number),
         Err(trap) => Err(Stop::trap(Trap::Operator(trap), line)),
-    }
-}
-
-fn operator_of_one(operator: Unary) -> c_int::Unary
-    ensures { result ≡ operator_of_one operator }
-{
-    match operator {
-        Unary::Minus => c_int::Unary::Minus,
-        Unary::Plus => c_int::Unary::Plus,
-        Unary::Not => c_int::Unary::Not,
-        Unary::Invert => c_int::Unary::Invert,
-    }
-}
-
-/// The operator with two operands; `&&` and `||` are none.
-fn operator_of_two(operator: Binary) -> Option<c_int::Binary>
-    ensures { result ≡ operator_of_two operator }
-{
-    match operator {
-        Binary::Or | Binary::And => None,
-        Binary::BitOr => Some(c_int::Binary::BitOr),
-        Binary::BitXor => Some(c_int::Binary::BitXor),
-        Binary::BitAnd => Some(c_int::Binary::BitAnd),
-        Binary::Equal => Some(c_int::Binary::Equal),
-        Binary::Unequal => Some(c_int::Binary::Unequal),
-        Binary::Less => Some(c_int::Binary::Less),
-        Binary::LessEqual => Some(c_int::Binary::LessEqual),
-        Binary::Greater => Some(c_int::Binary::Greater),
-        Binary::GreaterEqual => Some(c_int::Binary::GreaterEqual),
-        Binary::ShiftLeft => Some(c_int::Binary::ShiftLeft),
-        Binary::ShiftRight => Some(c_int::Binary::ShiftRight),
-        Binary::Add => Some(c_int::Binary::Add),
-        Binary::Subtract => Some(c_int::Binary::Subtract),
-        Binary::Multiply => Some(c_int::Binary::Multiply),
-        Binary::Divide => Some(c_int::Binary::Divide),
-        Binary::Remainder => Some(c_int::Binary::Remainder),
     }
 }
 
@@ -73,16 +38,6 @@ pub(crate) fn binary(operator: Binary, line: u32, types: Types, a: i32, b: i32) 
     match operator_of_two(operator) {
         None => Ok(0),
         Some(operator) => at_line(line, apply_binary(binary_for(types, operator), a, b)),
-    }
-}
-
-/// `++` adds 1, and `--` takes 1.
-pub(crate) fn step_operator(step: Step) -> Binary
-    ensures { result ≡ step_operator step }
-{
-    match step {
-        Step::Up => Binary::Add,
-        Step::Down => Binary::Subtract,
     }
 }
 

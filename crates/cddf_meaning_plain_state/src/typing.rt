@@ -4,49 +4,15 @@ ghost use Rattle.std.specs.Prelude.{◌≡◌, map};
 ghost use Rattle.cddf_meaning.specs.File.{flags, type_in};
 ghost use Rattle.cddf_meaning.specs.Functions.{file_of};
 ghost use Rattle.cddf_meaning.specs.Run.{target_type};
-ghost use Rattle.cddf_meaning.specs.ExpressionTypes.{type_behind, type_of_one, type_of_two};
+ghost use Rattle.cddf_meaning.specs.ExpressionTypes.{type_behind};
 ghost use Rattle.os_ast.specs.Views.{expr_tree, item_tree, links_tree, target_tree};
 
 use crate::names::is_unsigned;
 use crate::state::State;
 use c_int::Types;
-use os_ast::{Binary, Expr, Item, Link, Target, Unary};
+use cddf_meaning::operators::{type_of_one, type_of_two};
+use os_ast::{Expr, Item, Link, Target};
 use os_io::List;
-
-/// The type that an operator with one operand gives.
-fn type_of_one(operator: Unary, operand: bool) -> bool
-    ensures { result ≡ type_of_one operator operand }
-{
-    match operator {
-        Unary::Not => false,
-        Unary::Minus | Unary::Plus | Unary::Invert => operand,
-    }
-}
-
-/// The type that an operator with two operands gives.
-pub fn type_of_two(operator: Binary, types: Types) -> bool
-    ensures { result ≡ type_of_two operator types.left types.right }
-{
-    match operator {
-        Binary::Or
-        | Binary::And
-        | Binary::Equal
-        | Binary::Unequal
-        | Binary::Less
-        | Binary::LessEqual
-        | Binary::Greater
-        | Binary::GreaterEqual => false,
-        Binary::ShiftLeft | Binary::ShiftRight => types.left,
-        Binary::BitOr
-        | Binary::BitXor
-        | Binary::BitAnd
-        | Binary::Add
-        | Binary::Subtract
-        | Binary::Multiply
-        | Binary::Divide
-        | Binary::Remainder => types.left || types.right,
-    }
-}
 
 /// Whether a target, or what stands as one, is of the type `unsigned`.
 pub fn target_type(file: &[Item], state: &State, target: &Target) -> bool

@@ -20,7 +20,6 @@ mod operators;
 mod sites;
 mod slots;
 mod told;
-mod typing;
 mod units;
 
 pub use draft::{Draft, Label};
@@ -30,9 +29,8 @@ pub use names::{
     bursting, calling, checking_at, count_of, emit_aiming, emit_element, emit_reading, first_of,
     reading_at, storing, storing_at,
 };
-pub use operators::{emit_operation, literal, operator_of_one, step_operator};
+pub use operators::{emit_operation, literal};
 pub use sites::{captured_at, listed, site_items};
 pub use slots::{stmt_slots, stmts_slots};
 pub use told::Told;
-pub use typing::{type_of_one, type_of_two};
 pub use units::Units;

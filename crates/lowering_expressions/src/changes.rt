@@ -10,9 +10,10 @@ ghost use Rattle.lowering_relation.specs.Names.{told_at};
 use crate::expressions::emit_expr;
 use crate::quiet::is_quiet;
 use c_int::Types;
+use cddf_meaning::operators::step_operator;
 use lowering_draft::{
-    Draft, Told, checking_at, emit_aiming, emit_element, emit_operation, emit_reading,
-    step_operator, storing, storing_at,
+    Draft, Told, checking_at, emit_aiming, emit_element, emit_operation, emit_reading, storing,
+    storing_at,
 };
 use os_ast::{Assign, Binary, Change, Expr, Mark, Step, Target};
 use os_code::Instr;

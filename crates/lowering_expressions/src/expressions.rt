@@ -11,10 +11,8 @@ ghost use Rattle.lowering_relation.specs.Expressions.{type_by};
 ghost use Rattle.lowering_relation.specs.Names.{flags_by, told_at};
 
 use c_int::{Types, apply_unary, unary_for};
-use lowering_draft::{
-    Draft, Told, calling, emit_operation, emit_reading, literal, operator_of_one, reading_at,
-    type_of_one, type_of_two,
-};
+use cddf_meaning::operators::{operator_of_one, type_of_one, type_of_two};
+use lowering_draft::{Draft, Told, calling, emit_operation, emit_reading, literal, reading_at};
 use os_ast::{Binary, Call, Expr, Link, Mark, Target, Unary};
 use os_code::Instr;
 use os_io::{List, Memory};
