@@ -11,7 +11,7 @@ use crate::run::stmt;
 use cddf_meaning_plain_state::ends::outcome_of;
 use cddf_meaning_plain_tasks::body::state_round;
 use cddf_meaning_plain_tasks::tasks::{main_of, tasks};
-use cddf_meaning_plain_tasks::{Found, Unit};
+use cddf_meaning_plain_tasks::{Around, FoundTask};
 use flow_core_laws::{Activation, TaskEnd};
 use os_ast::{Item, Program};
 use os_io::Memory;
@@ -21,7 +21,7 @@ use std::alloc::Global;
 fn run_body(
     alloc: Global,
     file: &[Item],
-    task: &Found<'_>,
+    task: &FoundTask<'_>,
     activation: &Activation,
     inputs: &[i32],
     budget: u64,
@@ -30,12 +30,12 @@ fn run_body(
         (task_of task.now) activation.now inputs.now budget)) }
 {
     let mut state = state_round(alloc, task, activation, inputs)?;
-    let unit = Unit {
+    let around = Around {
         file,
         control: None,
     };
     let mut turns = budget;
-    let came = stmt(alloc, &unit, &task.site.body, &mut state, &mut turns);
+    let came = stmt(alloc, &around, &task.site.body, &mut state, &mut turns);
     outcome_of(
         alloc,
         task.site.mark.line,

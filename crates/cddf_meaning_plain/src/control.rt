@@ -4,13 +4,13 @@ ghost use Rattle.std.specs.Prelude.{◌≡◌, IfOk, map};
 ghost use Rattle.cddf_meaning.specs.Control.{control, control_of, control_state};
 ghost use Rattle.cddf_meaning.specs.Run.{run_all};
 ghost use Rattle.os_ast.specs.Views.{item_tree, program_tree, stmts_tree};
-ghost use Rattle.cddf_meaning_plain_tasks.specs.Units.{round_sites};
+ghost use Rattle.cddf_meaning_plain_tasks.specs.Arounds.{round_sites};
 
 use crate::run::stmts;
 use cddf_meaning_plain_state::Stop;
 use cddf_meaning_plain_tasks::control::{control_end, state_round};
 use cddf_meaning_plain_tasks::tasks::{Main, main_of, tasks};
-use cddf_meaning_plain_tasks::{Sites, Unit, sites_of};
+use cddf_meaning_plain_tasks::{Around, Sites, sites_of};
 use flow_core_laws::{Control, ControlEnd};
 use os_ast::Program;
 use os_io::{List, Memory};
@@ -28,12 +28,12 @@ fn run_main(
         (control_state input_len) budget)) }
 {
     let mut state = state_round(alloc, input_len)?;
-    let unit = Unit {
+    let around = Around {
         file: main.file,
         control: Some(sites),
     };
     let mut turns = budget;
-    let end = match stmts(alloc, &unit, &main.function.body, &mut state, &mut turns) {
+    let end = match stmts(alloc, &around, &main.function.body, &mut state, &mut turns) {
         Ok(_) => ControlEnd::Done,
         Err(Stop::Ended(ending)) => control_end(ending),
         Err(Stop::Memory) => return Err(Stop::Memory),

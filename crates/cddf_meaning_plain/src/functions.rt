@@ -11,7 +11,7 @@ use cddf_meaning_plain_state::Stop;
 use cddf_meaning_plain_state::functions::{
     function_at, param_list, result_of, take_unit, with_params,
 };
-use cddf_meaning_plain_tasks::Unit;
+use cddf_meaning_plain_tasks::Around;
 use os_ast::{Function, Item};
 use std::alloc::Global;
 
@@ -47,10 +47,10 @@ fn entered(
 {
     take_unit(turns)?;
     let mut state = with_params(alloc, param_list(&function.params), args)?;
-    let unit = Unit {
+    let around = Around {
         file,
         control: None,
     };
-    let flow = stmts(alloc, &unit, &function.body, &mut state, turns)?;
+    let flow = stmts(alloc, &around, &function.body, &mut state, turns)?;
     Ok(result_of(flow))
 }

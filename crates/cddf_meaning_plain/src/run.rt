@@ -9,7 +9,7 @@ ghost use Rattle.os_ast.specs.Unsigned.{is_unsigned};
 ghost use Rattle.os_ast.specs.Views.{change_tree, declarator_tree, expr_tree, item_tree, start_tree, stmt_tree, stmts_tree};
 ghost use Rattle.cddf_meaning_plain.specs.Loops.{repeated};
 ghost use Rattle.cddf_meaning_plain_state.specs.Stops.{GoesOn, Leaves, Tests};
-ghost use Rattle.cddf_meaning_plain_tasks.specs.Units.{unit_of};
+ghost use Rattle.cddf_meaning_plain_tasks.specs.Arounds.{around_of};
 
 use crate::changes::change;
 use crate::streams::{task, tick};
@@ -20,7 +20,7 @@ use cddf_meaning_plain_state::loops::step_behind;
 use cddf_meaning_plain_state::operators::holds;
 use cddf_meaning_plain_state::sizes::array_size;
 use cddf_meaning_plain_state::{State, Stop};
-use cddf_meaning_plain_tasks::Unit;
+use cddf_meaning_plain_tasks::Around;
 use os_ast::{Change, Declarator, Expr, Head, Item, Start, Stmt, Ty};
 use os_io::List;
 use std::alloc::Global;
@@ -29,56 +29,56 @@ use std::alloc::Global;
 #[cycle(meaning)]
 pub(crate) fn stmt(
     alloc: Global,
-    unit: &Unit<'_>,
+    around: &Around<'_>,
     stmt: &Stmt,
     state: &mut State,
     turns: &mut u64,
 ) -> Result<Flow, Stop>
-    ensures leaves { Leaves result state.new turns.new (run (unit_of unit.now) (stmt_tree stmt.now) state.old turns.old) }
+    ensures leaves { Leaves result state.new turns.new (run (around_of around.now) (stmt_tree stmt.now) state.old turns.old) }
     ensures fewer { turns.new ≤ turns.old }
 {
     match stmt {
         Stmt::Empty | Stmt::Taskwait(_) => Ok(Flow::GoesOn),
-        Stmt::Block(list) => block(alloc, unit, list, state, turns),
+        Stmt::Block(list) => block(alloc, around, list, state, turns),
         Stmt::Declare(ty, list) => {
-            declarators(alloc, unit, *ty, list, state, turns)?;
+            declarators(alloc, around, *ty, list, state, turns)?;
             Ok(Flow::GoesOn)
         }
         Stmt::Change(next) => {
-            change(alloc, unit.file, next, state, turns)?;
+            change(alloc, around.file, next, state, turns)?;
             Ok(Flow::GoesOn)
         }
         Stmt::Call(call) => {
-            called(alloc, unit.file, call, state, turns)?;
+            called(alloc, around.file, call, state, turns)?;
             Ok(Flow::GoesOn)
         }
         Stmt::If(condition, first, second) => {
-            let chosen = value(alloc, unit.file, condition, state, turns)?;
+            let chosen = value(alloc, around.file, condition, state, turns)?;
             if holds(chosen) {
-                self::stmt(alloc, unit, first, state, turns)
+                self::stmt(alloc, around, first, state, turns)
             } else {
                 match second {
                     None => Ok(Flow::GoesOn),
-                    Some(second) => self::stmt(alloc, unit, second, state, turns),
+                    Some(second) => self::stmt(alloc, around, second, state, turns),
                 }
             }
         }
         Stmt::While(condition, body) => {
-            repeat(alloc, unit, Some(condition), body, None, state, turns)
+            repeat(alloc, around, Some(condition), body, None, state, turns)
         }
-        Stmt::For(head, body) => for_loop(alloc, unit, head, body, state, turns),
+        Stmt::For(head, body) => for_loop(alloc, around, head, body, state, turns),
         Stmt::Break(_) => Ok(Flow::Breaks),
         Stmt::Continue(_) => Ok(Flow::Continues),
         Stmt::Return(_, expr) => {
-            let number = value(alloc, unit.file, expr, state, turns)?;
+            let number = value(alloc, around.file, expr, state, turns)?;
             Ok(Flow::Returns(number))
         }
         Stmt::Task(site) => {
-            task(alloc, unit, site, state, turns)?;
+            task(alloc, around, site, state, turns)?;
             Ok(Flow::GoesOn)
         }
         Stmt::Tick(site) => {
-            tick(alloc, unit.file, site, state, turns)?;
+            tick(alloc, around.file, site, state, turns)?;
             Ok(Flow::GoesOn)
         }
     }
@@ -88,16 +88,16 @@ pub(crate) fn stmt(
 #[cycle(meaning)]
 pub(crate) fn stmts(
     alloc: Global,
-    unit: &Unit<'_>,
+    around: &Around<'_>,
     list: &List<Stmt>,
     state: &mut State,
     turns: &mut u64,
 ) -> Result<Flow, Stop>
-    ensures leaves { Leaves result state.new turns.new (run_all (unit_of unit.now) (stmts_tree list.now) state.old turns.old) }
+    ensures leaves { Leaves result state.new turns.new (run_all (around_of around.now) (stmts_tree list.now) state.old turns.old) }
     ensures fewer { turns.new ≤ turns.old }
 {
     for next in list.as_slice() {
-        let flow = stmt(alloc, unit, next, state, turns)?;
+        let flow = stmt(alloc, around, next, state, turns)?;
         if flow != Flow::GoesOn {
             return Ok(flow);
         }
@@ -109,16 +109,16 @@ pub(crate) fn stmts(
 #[cycle(meaning)]
 fn block(
     alloc: Global,
-    unit: &Unit<'_>,
+    around: &Around<'_>,
     list: &List<Stmt>,
     state: &mut State,
     turns: &mut u64,
 ) -> Result<Flow, Stop>
-    ensures leaves { Leaves result state.new turns.new (run (unit_of unit.now) (tree.Block (stmts_tree list.now)) state.old turns.old) }
+    ensures leaves { Leaves result state.new turns.new (run (around_of around.now) (tree.Block (stmts_tree list.now)) state.old turns.old) }
     ensures fewer { turns.new ≤ turns.old }
 {
     let outer = state.declared();
-    let flow = stmts(alloc, unit, list, state, turns)?;
+    let flow = stmts(alloc, around, list, state, turns)?;
     state.leave(outer);
     Ok(flow)
 }
@@ -127,21 +127,21 @@ fn block(
 #[cycle(meaning)]
 fn for_loop(
     alloc: Global,
-    unit: &Unit<'_>,
+    around: &Around<'_>,
     head: &Head,
     body: &Stmt,
     state: &mut State,
     turns: &mut u64,
 ) -> Result<Flow, Stop>
-    ensures leaves { Leaves result state.new turns.new (run (unit_of unit.now) (tree.For (start_tree head.now.start) (option_map expr_tree head.now.test)
+    ensures leaves { Leaves result state.new turns.new (run (around_of around.now) (tree.For (start_tree head.now.start) (option_map expr_tree head.now.test)
         (option_map change_tree head.now.step) (stmt_tree body.now)) state.old turns.old) }
     ensures fewer { turns.new ≤ turns.old }
 {
     let outer = state.declared();
-    start(alloc, unit, &head.start, state, turns)?;
+    start(alloc, around, &head.start, state, turns)?;
     let flow = repeat(
         alloc,
-        unit,
+        around,
         head.test.as_ref(),
         body,
         head.step.as_ref(),
@@ -156,18 +156,18 @@ fn for_loop(
 #[cycle(meaning)]
 fn start(
     alloc: Global,
-    unit: &Unit<'_>,
+    around: &Around<'_>,
     start: &Start,
     state: &mut State,
     turns: &mut u64,
 ) -> Result<(), Stop>
-    ensures goes_on { GoesOn result state.new turns.new (run_start (unit_of unit.now) (start_tree start.now) state.old turns.old) }
+    ensures goes_on { GoesOn result state.new turns.new (run_start (around_of around.now) (start_tree start.now) state.old turns.old) }
     ensures fewer { turns.new ≤ turns.old }
 {
     match start {
         Start::Empty => Ok(()),
-        Start::Declare(ty, list) => declarators(alloc, unit, *ty, list, state, turns),
-        Start::Change(first) => change(alloc, unit.file, first, state, turns),
+        Start::Declare(ty, list) => declarators(alloc, around, *ty, list, state, turns),
+        Start::Change(first) => change(alloc, around.file, first, state, turns),
     }
 }
 
@@ -175,25 +175,25 @@ fn start(
 #[cycle(meaning)]
 fn repeat(
     alloc: Global,
-    unit: &Unit<'_>,
+    around: &Around<'_>,
     test: Option<&Expr>,
     body: &Stmt,
     step: Option<&Change>,
     state: &mut State,
     turns: &mut u64,
 ) -> Result<Flow, Stop>
-    ensures leaves { Leaves result state.new turns.new (repeated (unit_of unit.now) (option_copied test.entry) body.now
+    ensures leaves { Leaves result state.new turns.new (repeated (around_of around.now) (option_copied test.entry) body.now
         (option_copied step.entry) state.old turns.old) }
     ensures fewer { turns.new ≤ turns.old }
 {
     loop {
         take_unit(turns)?;
-        if !tested(alloc, unit.file, test, state, turns)? {
+        if !tested(alloc, around.file, test, state, turns)? {
             return Ok(Flow::GoesOn);
         }
-        let flow = stmt(alloc, unit, body, state, turns)?;
+        let flow = stmt(alloc, around, body, state, turns)?;
         match step_behind(flow, step) {
-            Ok(next) => stepped(alloc, unit.file, next, state, turns)?,
+            Ok(next) => stepped(alloc, around.file, next, state, turns)?,
             Err(left) => return Ok(left),
         }
     }
@@ -243,18 +243,18 @@ fn stepped(
 #[cycle(meaning)]
 fn declarators(
     alloc: Global,
-    unit: &Unit<'_>,
+    around: &Around<'_>,
     ty: Ty,
     list: &List<Declarator>,
     state: &mut State,
     turns: &mut u64,
 ) -> Result<(), Stop>
     ensures goes_on { GoesOn result state.new turns.new
-        (run_declarators (unit_of unit.now) (is_unsigned ty) (map declarator_tree list.now) state.old turns.old) }
+        (run_declarators (around_of around.now) (is_unsigned ty) (map declarator_tree list.now) state.old turns.old) }
     ensures fewer { turns.new ≤ turns.old }
 {
     for next in list.as_slice() {
-        declarator(alloc, unit, ty, next, state, turns)?;
+        declarator(alloc, around, ty, next, state, turns)?;
     }
     Ok(())
 }
@@ -263,26 +263,26 @@ fn declarators(
 #[cycle(meaning)]
 fn declarator(
     alloc: Global,
-    unit: &Unit<'_>,
+    around: &Around<'_>,
     ty: Ty,
     declarator: &Declarator,
     state: &mut State,
     turns: &mut u64,
 ) -> Result<(), Stop>
     ensures goes_on { GoesOn result state.new turns.new
-        (run_declarator (unit_of unit.now) (is_unsigned ty) (declarator_tree declarator.now) state.old turns.old) }
+        (run_declarator (around_of around.now) (is_unsigned ty) (declarator_tree declarator.now) state.old turns.old) }
     ensures fewer { turns.new ≤ turns.old }
 {
     let id = declarator.name.id;
     let unsigned = ty.is_unsigned();
     match &declarator.size {
         None if declarator.stream => state.declare_streams(id, unsigned, 1),
-        None => scalar(alloc, unit.file, ty, declarator, state, turns),
+        None => scalar(alloc, around.file, ty, declarator, state, turns),
         Some(size) => {
-            let number = value(alloc, unit.file, &size.value, state, turns)?;
+            let number = value(alloc, around.file, &size.value, state, turns)?;
             if declarator.stream {
                 state.declare_streams(id, unsigned, array_size(number))
-            } else if unit.is_control() {
+            } else if around.is_control() {
                 state.declare_window(id, unsigned, size.mark.line, number)
             } else {
                 state.declare_array(alloc, id, unsigned, array_size(number))

@@ -8,7 +8,7 @@ ghost use Rattle.os_ast.specs.Parts as clause;
 ghost use Rattle.os_ast.specs.Trees as tree;
 ghost use Rattle.os_ast.specs.Views.{clause_item_tree, clause_kind_tree, clause_tree, expr_tree, item_tree, join_tree, stmt_tree, target_tree};
 ghost use Rattle.cddf_meaning_plain_state.specs.Stops.{Adds, Gives, GoesOn};
-ghost use Rattle.cddf_meaning_plain_tasks.specs.Units.{unit_of};
+ghost use Rattle.cddf_meaning_plain_tasks.specs.Arounds.{around_of};
 
 use crate::value::value;
 use cddf_meaning_plain_state::functions::take_unit;
@@ -16,7 +16,7 @@ use cddf_meaning_plain_state::streams::{
     burst_of, captured_values, claim_of, cursor_move, site_number,
 };
 use cddf_meaning_plain_state::{State, Stop};
-use cddf_meaning_plain_tasks::Unit;
+use cddf_meaning_plain_tasks::Around;
 use flow_core_laws::Claim;
 use os_ast::{Clause, ClauseItem, ClauseKind, Direction, Item, Join, Target, TaskSite, TickSite};
 use os_io::List;
@@ -160,24 +160,24 @@ fn all_claims(
 #[cycle(meaning)]
 pub(crate) fn task(
     alloc: Global,
-    unit: &Unit<'_>,
+    around: &Around<'_>,
     site: &TaskSite,
     state: &mut State,
     turns: &mut u64,
 ) -> Result<(), Stop>
-    ensures goes_on { GoesOn result state.new turns.new (runs.run (unit_of unit.now)
+    ensures goes_on { GoesOn result state.new turns.new (runs.run (around_of around.now)
         (tree.Task site.now.mark (map clause_tree site.now.clauses) (stmt_tree site.now.body)) state.old turns.old) }
     ensures fewer { turns.new ≤ turns.old }
 {
-    let Some(sites) = unit.control else {
+    let Some(sites) = around.control else {
         return Ok(());
     };
     let Some(number) = sites.number(site.mark.place) else {
         return Ok(());
     };
-    let claims = all_claims(alloc, unit.file, &site.clauses, state, turns)?;
+    let claims = all_claims(alloc, around.file, &site.clauses, state, turns)?;
     state.look_at_limits(claims.as_slice())?;
-    let captured = captured_values(alloc, unit.file, sites.captured(number), state)?;
+    let captured = captured_values(alloc, around.file, sites.captured(number), state)?;
     state.create(alloc, site_number(number)?, captured, claims.as_slice())
 }
 

@@ -1,5 +1,5 @@
 -- what a reader believes
-pub mod Units
+pub mod Arounds
 -- what restates functions
 pub mod Has
 pub mod Sought

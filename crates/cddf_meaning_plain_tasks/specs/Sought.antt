@@ -1,7 +1,7 @@
 -- The tasks of the control program, as they are kept, and names of clauses.
 use Rattle.std.specs.Prelude.{ℕ, List, [], ◌∷◌, ◌++◌, map}
 use Rattle.cddf_meaning.specs.Tasks.{Task}
-use Rattle.cddf_meaning_plain_tasks.specs.declared.found.Found.{Found}
+use Rattle.cddf_meaning_plain_tasks.specs.declared.found_task.FoundTask.{FoundTask}
 use Rattle.os_ast.specs.FreeNames.{target_names, join_names}
 use Rattle.os_ast.specs.Parts.{item_name, parts}
 use Rattle.os_ast.specs.Trees as tree
@@ -24,7 +24,7 @@ items_names [] = []
 items_names (i ∷ is) = target_names i.stream ++ join_names i.window ++ items_names is
 
 -- a task of the program, as it is kept
-abbrev pub task_of : Found → Task
+abbrev pub task_of : FoundTask → Task
 task_of f = record {
   mark = f.site.now.mark;
   parts = parts (map clause_tree f.site.now.clauses);

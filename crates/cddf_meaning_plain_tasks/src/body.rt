@@ -5,7 +5,7 @@ ghost use Rattle.cddf_meaning.specs.Body.{bind_captured, bind_items, bound_round
 ghost use Rattle.cddf_meaning.specs.State as states;
 ghost use Rattle.cddf_meaning_plain_tasks.specs.Sought.{task_of};
 
-use crate::found::Found;
+use crate::found_task::FoundTask;
 use cddf_meaning::{TypedName, Variable};
 use cddf_meaning_plain_state::{State, zeros};
 use flow_core_laws::{Activation, Claim};
@@ -67,7 +67,7 @@ fn bind_items(state: &mut State, names: &[TypedName]) -> Result<(), Memory>
 /// The state round the body of a task, for the elements of its input items, one item after another.
 pub fn state_round(
     alloc: Global,
-    task: &Found<'_>,
+    task: &FoundTask<'_>,
     activation: &Activation,
     inputs: &[i32],
 ) -> Result<State, Memory>

@@ -4,7 +4,7 @@ ghost use Rattle.std.specs.Prelude.{◌≡◌, ◌++◌, ◌==◌, [], ◌∷◌
 ghost use Rattle.cddf_meaning.specs.Tasks.{ids, sites_of};
 ghost use Rattle.cddf_meaning_plain_tasks.specs.Sought.{task_of};
 
-use crate::found::Found;
+use crate::found_task::FoundTask;
 use cddf_meaning::{Site, TypedName};
 use os_io::{List, Memory};
 use std::alloc::Global;
@@ -84,7 +84,7 @@ fn ids(alloc: Global, names: &[TypedName]) -> Result<List<u32>, Memory>
 }
 
 /// The tasks of a program as their pragmas find them.
-pub fn sites_of(alloc: Global, tasks: &[Found<'_>]) -> Result<Sites, Memory>
+pub fn sites_of(alloc: Global, tasks: &[FoundTask<'_>]) -> Result<Sites, Memory>
     ensures { IfOk result (λ sites. sites ≡ sites_of (map task_of tasks.now)) }
 {
     let mut sites = Sites::new(alloc);

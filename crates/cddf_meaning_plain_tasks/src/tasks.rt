@@ -12,7 +12,7 @@ ghost use Rattle.cddf_meaning_plain_state.specs.FunctionTrees.{function_tree};
 ghost use Rattle.cddf_meaning.specs.Tasks.{among, task_at, tasks_in, tasks_in_all, known_behind, known_declarator, known_flag, known_in_main, known_item, known_start, others, typed_known, with_all_known, with_known};
 ghost use Rattle.cddf_meaning_plain_tasks.specs.Sought.{task_of};
 
-use crate::found::Found;
+use crate::found_task::FoundTask;
 use crate::items::item_ids;
 use crate::naming::in_task;
 use cddf_meaning::{Known, TypedName};
@@ -177,14 +177,14 @@ fn declare_start(start: &Start, known: &mut Vec<Known>) -> Result<(), Memory>
 
 /// A task, where this is in scope round it.
 #[tactic(auto, using(crate::proofs::HasNames::clauses_ids))]
-fn found<'p>(alloc: Global, site: &'p TaskSite, known: &[Known]) -> Result<Found<'p>, Memory>
+fn found<'p>(alloc: Global, site: &'p TaskSite, known: &[Known]) -> Result<FoundTask<'p>, Memory>
     ensures { IfOk result (λ f. task_of f ≡ task_at known.now site.now.mark (map clause_tree site.now.clauses) (stmt_tree site.now.body)) }
 {
     let captured = captured(alloc, site, known)?;
     let items = item_ids(alloc, &site.clauses)?;
     let captured = typed(alloc, captured.as_slice(), known)?;
     let items = typed(alloc, items.as_slice(), known)?;
-    Ok(Found {
+    Ok(FoundTask {
         site,
         captured,
         items,
@@ -196,7 +196,7 @@ fn add_task<'p>(
     alloc: Global,
     site: &'p TaskSite,
     known: &[Known],
-    tasks: &mut Vec<Found<'p>>,
+    tasks: &mut Vec<FoundTask<'p>>,
 ) -> Result<(), Memory>
     ensures { OnOk result (map task_of tasks.new.items ≡ map task_of tasks.old.items
         ++ task_at known.now site.now.mark (map clause_tree site.now.clauses) (stmt_tree site.now.body) ∷ []) }
@@ -212,7 +212,7 @@ fn tasks_in<'p>(
     alloc: Global,
     stmt: &'p Stmt,
     known: &mut Vec<Known>,
-    tasks: &mut Vec<Found<'p>>,
+    tasks: &mut Vec<FoundTask<'p>>,
 ) -> Result<(), Memory>
     ensures tasks { OnOk result (map task_of tasks.new.items ≡ map task_of tasks.old.items ++ tasks_in known.old.items (stmt_tree stmt.now)) }
     ensures known { OnOk result (known.new.items ≡ known.old.items ++ known_behind (stmt_tree stmt.now)) }
@@ -241,7 +241,7 @@ fn tasks_in_for<'p>(
     head: &Head,
     body: &'p Stmt,
     known: &mut Vec<Known>,
-    tasks: &mut Vec<Found<'p>>,
+    tasks: &mut Vec<FoundTask<'p>>,
 ) -> Result<(), Memory>
     ensures tasks { OnOk result (map task_of tasks.new.items ≡ map task_of tasks.old.items
         ++ tasks_in (known.old.items ++ known_start (start_tree head.now.start)) (stmt_tree body.now)) }
@@ -260,7 +260,7 @@ fn tasks_in_block<'p>(
     alloc: Global,
     stmts: &'p List<Stmt>,
     known: &mut Vec<Known>,
-    tasks: &mut Vec<Found<'p>>,
+    tasks: &mut Vec<FoundTask<'p>>,
 ) -> Result<(), Memory>
     ensures tasks { OnOk result (map task_of tasks.new.items ≡ map task_of tasks.old.items ++ tasks_in_all known.old.items (stmts_tree stmts.now)) }
     ensures known { OnOk result (known.new.items ≡ known.old.items) }
@@ -318,7 +318,7 @@ fn known_in_file(alloc: Global, file: &[Item]) -> Result<Vec<Known>, Memory>
 }
 
 /// The tasks of the control program, in the order of the text. Their numbers are their places.
-pub fn tasks<'p>(alloc: Global, main: &Main<'p>) -> Result<Vec<Found<'p>>, Memory>
+pub fn tasks<'p>(alloc: Global, main: &Main<'p>) -> Result<Vec<FoundTask<'p>>, Memory>
     ensures { IfOk result (λ tasks. map task_of tasks.items ≡ tasks_in_all
         (known_in_main (map item_tree main.now.file.now) (function_tree main.now.function.now)) (stmts_tree main.now.function.now.body)) }
 {

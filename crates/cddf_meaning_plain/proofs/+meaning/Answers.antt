@@ -16,7 +16,7 @@ use Rattle.cddf_meaning.specs.Functions.{bind_params, file_of, result_of, return
 use Rattle.cddf_meaning.specs.State.{state_of}
 use Rattle.cddf_meaning_plain_state.specs.Claimed.{behind}
 use Rattle.cddf_meaning_plain_state.specs.FunctionTrees.{function_tree}
-use Rattle.cddf_meaning_plain_tasks.specs.Units.{unit_of}
+use Rattle.cddf_meaning_plain_tasks.specs.Arounds.{around_of}
 use Rattle.cddf_meaning_plain.specs.Weights.{args_weight, clause_weight, declarator_weight, expr_weight, file_weight, item_weight, links_weight, stmt_weight, stmts_weight, weights}
 use Rattle.os_ast.specs.Views.{args_tree, change_tree, clause_item_tree, clause_kind_tree, clause_tree, declarator_tree, expr_tree, item_tree, links_tree, stmt_tree, stmts_tree}
 use Rattle.cddf_meaning_plain.proofs.Claiming.{clause-goes, clause-stops, privates-claim}
@@ -147,7 +147,7 @@ pub run::stmt-returns-in-Block-clause-leaves : goal.run::stmt-returns-in-Block-c
 run::stmt-returns-in-Block-clause-leaves t c =
     let tree = ap stmt_tree c.in-Block.is ∙ stmt_tree-block c.in-Block.list in
     let P : ast.StmtTree → Type 0 = λ s.
-    Leaves c.block.result c.block.new.state c.block.new.turns (run (unit_of c.args.unit.now) s c.args.state.now c.args.turns.now) in
+    Leaves c.block.result c.block.new.state c.block.new.turns (run (around_of c.args.around.now) s c.args.state.now c.args.turns.now) in
     subst P (sym tree) c.block.ensures.leaves
 
 pub run::declarators-declarator-requires : goal.run::declarators-declarator-requires
@@ -209,7 +209,7 @@ streams::all_claims-loop-clause-preserved t c =
 
 pub run::repeat-loop-alloc-preserved : goal.run::repeat-loop-alloc-preserved
 run::repeat-loop-alloc-preserved t c =
-    let u = unit_of c.args.unit.now in
+    let u = around_of c.args.around.now in
     let test = c.in_ok-tested.ensures.gives in
     let nonzero = not-zero test.0 c.in_ok-tested.field-0 test.2 c.if-not-branch.false in
     let stepped = ap (λ o. run_step u.file (option_map change_tree (option_copied o)) c.stmt.new.state c.stmt.new.turns) (sym c.in-Ok.ensures.step)

@@ -6,7 +6,7 @@ use Rattle.cddf_meaning.specs.Run.{loop, run, run_all, run_declarators, run_step
 use Rattle.cddf_meaning.specs.Streams.{items_claims}
 use Rattle.cddf_meaning_plain_state.specs.Claimed.{behind}
 use Rattle.cddf_meaning_plain.specs.Loops.{repeated}
-use Rattle.cddf_meaning_plain_tasks.specs.Units.{unit_of}
+use Rattle.cddf_meaning_plain_tasks.specs.Arounds.{around_of}
 use Rattle.cddf_meaning.specs.Value.{chained, values}
 use Rattle.cddf_meaning_plain.specs.Weights.{args_weight, change_weight, clause_weight, declarator_weight, expr_weight, file_weight, index_weight, item_weight, kind_weight, links_weight, start_weight, step_weight, stmt_weight, stmts_weight, target_weight, value_weight, weights}
 use Rattle.os_ast.specs.Parts as clause
@@ -50,25 +50,25 @@ abbrev pub decreases-changes::change : goal.decreases-changes::change
 decreases-changes::change l = in_file l.file.now + change_weight (change_tree l.change.now)
 
 abbrev pub decreases-run::stmt : goal.decreases-run::stmt
-decreases-run::stmt l = in_file l.unit.now.file.now + stmt_weight (stmt_tree l.stmt.now)
+decreases-run::stmt l = in_file l.around.now.file.now + stmt_weight (stmt_tree l.stmt.now)
 
 abbrev pub decreases-run::stmts : goal.decreases-run::stmts
-decreases-run::stmts l = in_file l.unit.now.file.now + stmts_weight (stmts_tree l.list.now)
+decreases-run::stmts l = in_file l.around.now.file.now + stmts_weight (stmts_tree l.list.now)
 
 abbrev pub decreases-run::block : goal.decreases-run::block
-decreases-run::block l = in_file l.unit.now.file.now + 1 + stmts_weight (stmts_tree l.list.now)
+decreases-run::block l = in_file l.around.now.file.now + 1 + stmts_weight (stmts_tree l.list.now)
 
 abbrev pub decreases-run::for_loop : goal.decreases-run::for_loop
 decreases-run::for_loop l =
-    in_file l.unit.now.file.now + 3 + start_weight (start_tree l.head.now.start) + value_weight (option_map expr_tree l.head.now.test)
+    in_file l.around.now.file.now + 3 + start_weight (start_tree l.head.now.start) + value_weight (option_map expr_tree l.head.now.test)
     + step_weight (option_map change_tree l.head.now.step) + stmt_weight (stmt_tree l.body.now)
 
 abbrev pub decreases-run::start : goal.decreases-run::start
-decreases-run::start l = in_file l.unit.now.file.now + start_weight (start_tree l.start.now)
+decreases-run::start l = in_file l.around.now.file.now + start_weight (start_tree l.start.now)
 
 abbrev pub decreases-run::repeat : goal.decreases-run::repeat
 decreases-run::repeat l =
-    in_file l.unit.now.file.now + 2 + value_weight (option_map expr_tree (option_copied l.test))
+    in_file l.around.now.file.now + 2 + value_weight (option_map expr_tree (option_copied l.test))
     + step_weight (option_map change_tree (option_copied l.step)) + stmt_weight (stmt_tree l.body.now)
 
 abbrev pub decreases-run::tested : goal.decreases-run::tested
@@ -78,10 +78,10 @@ abbrev pub decreases-run::stepped : goal.decreases-run::stepped
 decreases-run::stepped l = in_file l.file.now + 1 + step_weight (option_map change_tree (option_copied l.step))
 
 abbrev pub decreases-run::declarators : goal.decreases-run::declarators
-decreases-run::declarators l = in_file l.unit.now.file.now + weights declarator_weight (map declarator_tree l.list.now)
+decreases-run::declarators l = in_file l.around.now.file.now + weights declarator_weight (map declarator_tree l.list.now)
 
 abbrev pub decreases-run::declarator : goal.decreases-run::declarator
-decreases-run::declarator l = in_file l.unit.now.file.now + declarator_weight (declarator_tree l.declarator.now)
+decreases-run::declarator l = in_file l.around.now.file.now + declarator_weight (declarator_tree l.declarator.now)
 
 abbrev pub decreases-run::scalar : goal.decreases-run::scalar
 decreases-run::scalar l = in_file l.file.now + 1 + value_weight (option_map expr_tree l.declarator.now.first)
@@ -105,7 +105,7 @@ abbrev pub decreases-streams::all_claims : goal.decreases-streams::all_claims
 decreases-streams::all_claims l = in_file l.file.now + weights clause_weight (map clause_tree l.clauses.now)
 
 abbrev pub decreases-streams::task : goal.decreases-streams::task
-decreases-streams::task l = in_file l.unit.now.file.now + 1 + weights clause_weight (map clause_tree l.site.now.clauses)
+decreases-streams::task l = in_file l.around.now.file.now + 1 + weights clause_weight (map clause_tree l.site.now.clauses)
 
 abbrev pub decreases-streams::tick : goal.decreases-streams::tick
 decreases-streams::tick l =
@@ -127,19 +127,19 @@ invariant-value::arguments-loop-arg l =
 
 abbrev pub invariant-run::stmts-loop-next : goal.invariant-run::stmts-loop-next
 invariant-run::stmts-loop-next l =
-    (run_all (unit_of l.unit) (stmts_tree (drop l.next-index l.list)) l.state l.turns
-    ≡ run_all (unit_of l.unit) (stmts_tree l.list) l.initial.state l.initial.turns)
+    (run_all (around_of l.around) (stmts_tree (drop l.next-index l.list)) l.state l.turns
+    ≡ run_all (around_of l.around) (stmts_tree l.list) l.initial.state l.initial.turns)
     × (l.turns ≤ l.initial.turns)
 
 abbrev pub invariant-run::declarators-loop-next : goal.invariant-run::declarators-loop-next
 invariant-run::declarators-loop-next l =
-    (run_declarators (unit_of l.unit) (is_unsigned l.ty) (map declarator_tree (drop l.next-index l.list)) l.state l.turns
-    ≡ run_declarators (unit_of l.unit) (is_unsigned l.ty) (map declarator_tree l.list) l.initial.state l.initial.turns)
+    (run_declarators (around_of l.around) (is_unsigned l.ty) (map declarator_tree (drop l.next-index l.list)) l.state l.turns
+    ≡ run_declarators (around_of l.around) (is_unsigned l.ty) (map declarator_tree l.list) l.initial.state l.initial.turns)
     × (l.turns ≤ l.initial.turns)
 
 abbrev pub invariant-run::repeat-loop-alloc : goal.invariant-run::repeat-loop-alloc
 invariant-run::repeat-loop-alloc l =
-    let u = unit_of l.unit in
+    let u = around_of l.around in
     (most : ℕ) × (l.turns ≤ most)
     × (loop most (run_test u.file (option_map expr_tree (option_copied l.test))) (run u (stmt_tree l.body))
     (run_step u.file (option_map change_tree (option_copied l.step))) l.state l.turns

@@ -7,17 +7,17 @@ use Rattle.cddf_meaning.specs.declared.site.Site.{Site}
 use Rattle.os_ast.specs.Trees as tree
 use Rattle.os_ast.specs.Views.{item_tree}
 use Rattle.os_ast.specs.declared.program.Item.{Item}
-use Rattle.cddf_meaning_plain_tasks.specs.declared.unit.Unit as unit
+use Rattle.cddf_meaning_plain_tasks.specs.declared.around.Around as around
 
 abbrev pub sites_in : Option (List Site) → List Site
 sites_in None = []
 sites_in (Some sites) = sites
 
-abbrev pub unit_in : List Item → Option (List Site) → Around
-unit_in items control = record { file = file_of (map item_tree items); is_control = is_some control; sites = sites_in control }
+abbrev pub around_in : List Item → Option (List Site) → Around
+around_in items control = record { file = file_of (map item_tree items); is_control = is_some control; sites = sites_in control }
 
-abbrev pub unit_of : unit.Unit → Around
-unit_of u = unit_in u.file.now (option_copied u.control)
+abbrev pub around_of : around.Around → Around
+around_of u = around_in u.file.now (option_copied u.control)
 
 -- round the body of `main`
 abbrev pub round_sites : List tree.ItemTree → List Site → Around

@@ -4,7 +4,7 @@ use os_io::List;
 
 /// A task of the control program, with the names that its body sees of the control program.
 #[derive(Drop)]
-pub struct Found<'p> {
+pub struct FoundTask<'p> {
     /// Its pragma, with its body.
     pub site: &'p TaskSite,
     /// The names of the scalars that it captures, in the order of their declarations.
