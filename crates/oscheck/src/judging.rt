@@ -231,7 +231,7 @@ pub(crate) fn judge_text(
 {
     let name = named.name;
     match read_program(alloc, named.text) {
-        Ok(_) => tell_accepted(out, alloc, named, manner),
+        Ok(checked) => tell_accepted(out, alloc, named, &checked, manner),
         Err(TextError::Refused { code, line }) => tell_error(
             out,
             alloc,

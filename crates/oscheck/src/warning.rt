@@ -1,8 +1,14 @@
 //! What an accepted program is warned of.
 
 ghost use Rattle.std.specs.Prelude.{◌<◌, ◌≤◌, length, IfOk};
+ghost use Rattle.os_ast.specs.Views.{program_tree};
 ghost use Rattle.os_lexer.specs.Limits.{text_limit};
 ghost use Rattle.os_lexer.specs.Names.{input_id, output_id};
+ghost use Rattle.oscheck_warnings.specs.Accesses.{accesses};
+ghost use Rattle.oscheck_warnings.specs.Bursts.{AreWrongBursts};
+ghost use Rattle.oscheck_warnings.specs.DeadStores.{AreDeadStores};
+ghost use Rattle.oscheck_warnings.specs.Extents.{extents};
+ghost use Rattle.oscheck_warnings.specs.Meanings.{meaning_at};
 ghost use Rattle.oscheck_warnings.specs.Streams.{AreInClauses};
 ghost use Rattle.oscheck_warnings.specs.Warnings.{AreRepeated};
 
@@ -14,9 +20,13 @@ use os_lexer::names::{INPUT, OUTPUT};
 use os_lexer::{LexError, Token, lex};
 use oscheck_places::{Spot, column};
 use oscheck_sentences::{Word, word_of};
-use oscheck_warnings::{is_bare_task, is_left_out, is_lone_name, names_in_clauses, repeated_names};
+use oscheck_warnings::{
+    Places, dead_stores, is_bare_task, is_left_out, is_lone_name, names_in_clauses, repeated_names,
+    wrong_bursts,
+};
 use std::alloc::Global;
 use std::io;
+use window_check::Checked;
 
 /// What a token is warned of.
 #[derive(Clone, Copy)]
@@ -27,6 +37,10 @@ enum Warning {
     LoneName,
     /// It declares a stream, with which no task does what one does with streams.
     Stream(Lack),
+    /// It is a scalar that a task changes, and nothing in the task reads it after that.
+    DeadStore,
+    /// It is a window in an output item whose burst is a constant other than its size.
+    WrongBurst,
 }
 
 /// What tasks don't do with a stream.
@@ -60,19 +74,28 @@ struct Uses {
     read: Vec<bool>,
     /// The names of the streams that tasks write, by the numbers of the names.
     written: Vec<bool>,
+    /// The places of the changes of scalars in tasks that nothing reads.
+    dead: Places,
+    /// The places of the windows in output items whose bursts trap.
+    wrong: Places,
 }
 
 /// What the names of a program are used for.
-fn uses_of(alloc: Global, tokens: &[Token]) -> Result<Uses, Memory>
+fn uses_of(alloc: Global, tokens: &[Token], checked: &Checked) -> Result<Uses, Memory>
     requires few { length tokens.now ≤ text_limit }
     ensures repeated { IfOk result (λ uses. AreRepeated tokens.now uses.repeated.items) }
     ensures read { IfOk result (λ uses. AreInClauses tokens.now input_id uses.read.items) }
     ensures written { IfOk result (λ uses. AreInClauses tokens.now output_id uses.written.items) }
+    ensures dead { IfOk result (λ uses. AreDeadStores (accesses (program_tree checked.now.program)) (meaning_at checked.now.names) uses.dead) }
+    ensures wrong { IfOk result (λ uses. AreWrongBursts (extents (meaning_at checked.now.names) (program_tree checked.now.program))
+        (meaning_at checked.now.names) uses.wrong) }
 {
     Ok(Uses {
         repeated: repeated_names(alloc, tokens)?,
         read: names_in_clauses(alloc, tokens, INPUT)?,
         written: names_in_clauses(alloc, tokens, OUTPUT)?,
+        dead: dead_stores(alloc, &checked.program, checked.names.as_slice())?,
+        wrong: wrong_bursts(alloc, &checked.program, checked.names.as_slice())?,
     })
 }
 
@@ -108,6 +131,10 @@ fn warning_at(tokens: &[Token], uses: &Uses, place: usize) -> Option<Warning>
         Some(Warning::LoneName)
     } else if let Some(lack) = lack_at(tokens, uses, place) {
         Some(Warning::Stream(lack))
+    } else if uses.dead.has(place as u32) {
+        Some(Warning::DeadStore)
+    } else if uses.wrong.has(place as u32) {
+        Some(Warning::WrongBurst)
     } else {
         None
     }
@@ -130,6 +157,8 @@ fn tell_warning(
         )?,
         Warning::LoneName => tell_lone(out, word_of(named.text, token))?,
         Warning::Stream(lack) => tell_stream(out, lack, word_of(named.text, token))?,
+        Warning::DeadStore => tell_dead_store(out, word_of(named.text, token))?,
+        Warning::WrongBurst => tell_wrong_burst(out, word_of(named.text, token))?,
     }
     show(out, alloc, named, spot)?;
     Ok(())
@@ -148,6 +177,26 @@ fn tell_stream(out: &mut impl io::Write, lack: Lack, stream: Word<'_>) -> io::Re
     write!(out, "{told} the stream ")?;
     stream.write(out)?;
     write!(out, ": give a task an item of it, or take it out")
+}
+
+/// Tells that nothing reads a change of a scalar.
+fn tell_dead_store(out: &mut impl io::Write, scalar: Word<'_>) -> io::Result<()> {
+    write!(out, "nothing in the task reads ")?;
+    scalar.write(out)?;
+    write!(
+        out,
+        " after this change, which no other task and not 'main' sees: write it to a stream, or take it out"
+    )
+}
+
+/// Tells that the burst of a window traps.
+fn tell_wrong_burst(out: &mut impl io::Write, window: Word<'_>) -> io::Result<()> {
+    write!(out, "the burst of ")?;
+    window.write(out)?;
+    write!(
+        out,
+        " isn't its size, so that the task traps where it is created (code 8): give the size"
+    )
 }
 
 /// Tells the place of a warning, which its sentence goes on from.
@@ -188,17 +237,18 @@ fn tell_warnings(
     Ok(count)
 }
 
-/// Tells what the tokens of an accepted program are warned of, and says how many warnings there are.
+/// Tells what an accepted program is warned of, by its tokens, and says how many warnings there are.
 fn warn_of(
     out: &mut impl io::Write,
     alloc: Global,
     named: Named<'_>,
     tokens: &[Token],
+    checked: &Checked,
     extent: Extent,
 ) -> io::Result<Result<usize, Memory>>
     requires { length tokens.now ≤ text_limit }
 {
-    match uses_of(alloc, tokens) {
+    match uses_of(alloc, tokens, checked) {
         Ok(uses) => Ok(Ok(tell_warnings(out, alloc, named, tokens, &uses, extent)?)),
         Err(Memory) => Ok(Err(Memory)),
     }
@@ -209,12 +259,13 @@ fn warn(
     out: &mut impl io::Write,
     alloc: Global,
     named: Named<'_>,
+    checked: &Checked,
     extent: Extent,
 ) -> io::Result<Result<usize, Memory>>
     requires { length named.text.now ≤ text_limit }
 {
     match lex(alloc, named.text) {
-        Ok(tokens) => warn_of(out, alloc, named, &tokens, extent),
+        Ok(tokens) => warn_of(out, alloc, named, &tokens, checked, extent),
         Err(LexError::Memory) => Ok(Err(Memory)),
         Err(_) => Ok(Ok(0)),
     }
@@ -225,12 +276,13 @@ pub(crate) fn tell_accepted(
     out: &mut impl io::Write,
     alloc: Global,
     named: Named<'_>,
+    checked: &Checked,
     manner: Manner,
 ) -> io::Result<Judged>
     requires { length named.text.now ≤ text_limit }
 {
     let name = named.name;
-    match warn(out, alloc, named, manner.extent)? {
+    match warn(out, alloc, named, checked, manner.extent)? {
         Ok(count) => tell_verdict(out, name, count, manner.strictness),
         Err(Memory) => tell_no_memory(out, name),
     }

@@ -1,5 +1,5 @@
 -- Where there is something to warn of, by the tokens of an accepted program.
-use Rattle.std.specs.Prelude.{◌≡◌, ◌≢◌, ℕ, ◌+◌, ◌<◌, ◌↔◌, Bool, true, false, List, length, slice_index_or, Option, Some, None}
+use Rattle.std.specs.Prelude.{◌≡◌, ◌≢◌, ℕ, ◌+◌, ◌<◌, Bool, true, false, List, length, slice_index_or, Option, Some, None}
 use Rattle.std.specs.List.{slice_get}
 use Rattle.os_lexer.specs.Names.{omp_id, task_id}
 use Rattle.os_lexer.specs.declared.token.Kind.{Kind}

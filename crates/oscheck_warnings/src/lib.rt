@@ -1,20 +1,36 @@
-//! What a program may be warned of that is accepted: that a task has no clauses, that nothing uses a name, or that no task reads a
-//! stream, or none writes it.
+//! What a program may be warned of that is accepted: that a task has no clauses, that nothing uses a name, that no task reads a
+//! stream, or none writes it, that a task changes a scalar and doesn't read it after that, or that the burst of an output item traps.
 //!
-//! Each warning has a definition over the tokens of the program, in `specs/Warnings.antt` and `specs/Streams.antt`, and is given exactly
-//! where that holds: no warning is a guess. An accepted program declares each name that it uses, but for `osin`, `osout` and `osin_len`,
-//! so that a name which stands once is declared and not used. It declares streams in the outermost block of `main` alone, each name once
-//! there, and only such a name may begin an item: so tasks read or write a stream exactly where its name begins an item of theirs.
+//! Each warning has a definition and is given exactly where that holds: no warning is a guess. Three are defined over the tokens of the
+//! program, in `specs/Warnings.antt` and `specs/Streams.antt`. An accepted program declares each name that it uses, but for `osin`, `osout`
+//! and `osin_len`, so that a name which stands once is declared and not used. It declares streams in the outermost block of `main` alone,
+//! each name once there, and only such a name may begin an item: so tasks read or write a stream exactly where its name begins an item of
+//! theirs. Two are defined over the tree and what its names mean: changes that nothing reads in `specs/DeadStores.antt`, and bursts that
+//! trap in `specs/Bursts.antt`.
 #![tactic(auto)]
 
+mod access;
 mod bare;
+mod bursts;
+mod constants;
+mod expressions;
+mod extent;
+mod extents;
 mod kinds;
+mod last_reads;
 mod lone;
+mod meanings;
 mod part;
 mod past;
+mod places;
+mod statements;
+mod stores;
 mod streams;
 
 pub use bare::is_bare_task;
+pub use bursts::wrong_bursts;
 pub use lone::{is_lone_name, repeated_names};
 pub use part::Part;
+pub use places::Places;
+pub use stores::dead_stores;
 pub use streams::{is_left_out, names_in_clauses};

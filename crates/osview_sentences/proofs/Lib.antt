@@ -1,4 +1,5 @@
 pub mod Alike
+pub mod Also
 pub mod Counted
 pub mod Joined
 pub mod LeftOver

@@ -4,5 +4,6 @@ pub mod Names
 pub mod Sentences
 pub mod Readers
 pub mod Report
--- What restates private functions: how sentences are counted.
+-- What restates private functions: how sentences are counted, and which tasks read a stream.
+pub mod FirstReaders
 pub mod Tally

@@ -1,38 +1,127 @@
-ghost use Rattle.std.specs.Prelude.{◌≡◌, ◌++◌, [], OnOk, find};
+ghost use Rattle.std.specs.Prelude.{◌≡◌, ◌++◌, [], ℕ, IfOk, OnOk};
 ghost use Rattle.std.specs.Option.{option_map_or};
-ghost use Rattle.osview_sentences.specs.Readers.{also_text, is_other_reader, other_reader, reads_text, shared_text};
+ghost use Rattle.osview_sentences.specs.FirstReaders.{AreReaders, also_found, found, other_line, second_line, with_line};
+ghost use Rattle.osview_sentences.specs.Readers.{reads_text, shared_text};
 
 use crate::fact::{Fact, Supply};
 use crate::finding::line_of;
 use crate::text::Text;
 use os_io::Memory;
+use std::alloc::Global;
+use std::collections::BTreeMap;
 use stream_match_layouts::Span;
 
-/// Whether a claim reads a stream for an activation whose task doesn't stand in this line.
-fn is_other_reader(lines: &[u32], stream: u32, at: u32, span: Span) -> bool
-    ensures { result ≡ is_other_reader lines.now stream at span }
-{
-    !span.write && span.stream == stream && line_of(lines, span.frame) != at
+/// The lines of the first two tasks that read a stream.
+#[derive(Clone, Copy)]
+struct Two {
+    first: u32,
+    /// The first line that is another one, where there is one.
+    second: Option<u32>,
 }
 
-/// The first claim that reads a stream for another task.
-fn other_claim(spans: &[Span], lines: &[u32], stream: u32, at: u32) -> Option<Span>
-    ensures { result ≡ find (is_other_reader lines.now stream at) spans.now }
+/// The lines of the tasks that read streams, as far as it takes to tell of another one for each line.
+#[derive(Drop)]
+pub(crate) struct Readers {
+    lines: BTreeMap<u32, Two>,
+}
+
+/// The lines behind those of some tasks, where the task of one more claim stands in a line.
+fn with_line(two: Option<Two>, line: u32) -> Two
+    ensures { result ≡ with_line two line }
 {
-    for span in spans {
-        if is_other_reader(lines, stream, at, *span) {
-            return Some(*span);
+    match two {
+        None => Two {
+            first: line,
+            second: None,
+        },
+        Some(two) => Two {
+            first: two.first,
+            second: second_line(two, line),
+        },
+    }
+}
+
+/// The second line, where one more claim has a line.
+fn second_line(two: Two, line: u32) -> Option<u32>
+    ensures { result ≡ second_line two line }
+{
+    if two.second.is_none() && two.first != line {
+        Some(line)
+    } else {
+        two.second
+    }
+}
+
+/// One of two lines that isn't this one.
+fn other_line(two: Option<Two>, at: u32) -> Option<u32>
+    ensures { result ≡ other_line two at }
+{
+    let two = two?;
+    if two.first == at {
+        two.second
+    } else {
+        Some(two.first)
+    }
+}
+
+impl Readers {
+    ghost use Rattle.std.specs.Option.{option_or};
+    ghost use Rattle.std.specs.Prelude.{None};
+    ghost use Rattle.osview_sentences.specs.FirstReaders.{line_if_reads, lines_of, with_line_at};
+
+    /// No claim.
+    fn new(alloc: Global) -> Readers
+        ensures { (stream : ℕ) → lines_of result stream ≡ None }
+    {
+        Readers {
+            lines: BTreeMap::new(alloc),
         }
     }
-    None
-}
 
-/// The line of another task that reads a stream.
-fn other_reader(spans: &[Span], lines: &[u32], stream: u32, at: u32) -> Option<u32>
-    ensures { result ≡ other_reader spans.now lines.now stream at }
-{
-    let span = other_claim(spans, lines, stream, at)?;
-    Some(line_of(lines, span.frame))
+    /// The lines of tasks that read a stream.
+    fn of_stream(&self, stream: u32) -> Option<Two>
+        ensures { result ≡ lines_of self.now stream }
+    {
+        self.lines.get(&stream).copied()
+    }
+
+    /// One more claim, which reads a stream for a task in a line.
+    fn add(&mut self, stream: u32, line: u32) -> Result<(), Memory>
+        ensures { OnOk result ((other : ℕ) → lines_of self.new other ≡ with_line_at stream line other (lines_of self.old other)) }
+    {
+        let two = with_line(self.of_stream(stream), line);
+        self.lines.insert(stream, two)?;
+        Ok(())
+    }
+
+    /// One more claim.
+    fn note(&mut self, lines: &[u32], span: Span) -> Result<(), Memory>
+        ensures { OnOk result ((stream at : ℕ) → found self.new stream at ≡ option_or (found self.old stream at) (line_if_reads lines.now stream at span)) }
+    {
+        if span.write {
+            Ok(())
+        } else {
+            self.add(span.stream, line_of(lines, span.frame))
+        }
+    }
+
+    /// Those of some claims, by the line of each activation's task.
+    pub(crate) fn of(alloc: Global, spans: &[Span], lines: &[u32]) -> Result<Readers, Memory>
+        ensures { IfOk result (AreReaders spans.now lines.now) }
+    {
+        let mut readers = Readers::new(alloc);
+        for span in spans {
+            readers.note(lines, *span)?;
+        }
+        Ok(readers)
+    }
+
+    /// The line of another task that reads a stream, that of the first such claim.
+    fn other(&self, stream: u32, at: u32) -> Option<u32>
+        ensures { result ≡ found self.now stream at }
+    {
+        other_line(self.of_stream(stream), at)
+    }
 }
 
 impl Text {
@@ -58,33 +147,26 @@ impl Text {
     /// Adds whether another task reads the stream on which one waits for what nobody writes.
     fn shared(
         &mut self,
-        spans: &[Span],
-        lines: &[u32],
+        readers: &Readers,
         stream: u32,
         at: u32,
         supply: Supply,
     ) -> Result<(), Memory>
-        ensures { OnOk result (self.new ≡ self.old ++ shared_text supply (other_reader spans.now lines.now stream at)) }
+        ensures { OnOk result (self.new ≡ self.old ++ shared_text supply (found readers.now stream at)) }
     {
         match supply {
-            Supply::Nobody => self.reads_if(other_reader(spans, lines, stream, at)),
+            Supply::Nobody => self.reads_if(readers.other(stream, at)),
             Supply::Ended | Supply::Itself | Supply::Waiting { .. } => Ok(()),
         }
     }
 
     /// Adds what else is to be said of what became of an activation whose task stands in this line.
-    pub(crate) fn also(
-        &mut self,
-        spans: &[Span],
-        lines: &[u32],
-        at: u32,
-        fact: Fact,
-    ) -> Result<(), Memory>
-        ensures { OnOk result (self.new ≡ self.old ++ also_text spans.now lines.now at fact) }
+    pub(crate) fn also(&mut self, readers: &Readers, at: u32, fact: Fact) -> Result<(), Memory>
+        ensures { OnOk result (self.new ≡ self.old ++ also_found readers.now at fact) }
     {
         match fact {
             Fact::Trapped { .. } | Fact::OverBudget | Fact::Poisoned { .. } => Ok(()),
-            Fact::Waits { stream, supply, .. } => self.shared(spans, lines, stream, at, supply),
+            Fact::Waits { stream, supply, .. } => self.shared(readers, stream, at, supply),
         }
     }
 }

@@ -6,13 +6,15 @@ ghost use Rattle.flow_core_laws.specs.declared.activation.Activation.{Activation
 ghost use Rattle.flow_core_laws.specs.Place.{written_count};
 ghost use Rattle.osview_sentences.specs.Report.{activation_word, control_text, created_text, heading, likewise_text, limit_text};
 ghost use Rattle.osview_sentences.specs.Report.{more_text, report, sentence_lines, share_text};
+ghost use Rattle.osview_sentences.specs.FirstReaders.{AreReaders};
 ghost use Rattle.osview_sentences.specs.Readers.{also_text};
 ghost use Rattle.osview_sentences.specs.Sentences.{sentence_text};
 ghost use Rattle.osview_sentences.specs.Tally.{told_for};
 ghost use Rattle.stream_match_layouts.specs.Layout.{IsLayout, IsLayoutOf};
 
-use crate::fact::Sentence;
+use crate::fact::{Fact, Sentence};
 use crate::finding::sentences;
+use crate::readers::Readers;
 use crate::stream_name::StreamName;
 use crate::tally::Tally;
 use crate::text::Text;
@@ -33,6 +35,8 @@ struct Context<'a> {
     spans: &'a [Span],
     /// The line of each activation's task.
     lines: &'a [u32],
+    /// Which tasks read which streams, by these claims and lines.
+    readers: &'a Readers,
 }
 
 /// What is counted in a run.
@@ -161,6 +165,14 @@ impl Text {
         self.add(b"\n")
     }
 
+    /// Adds what else is to be said of what became of an activation whose task stands in this line.
+    fn also_over(&mut self, over: &Context<'_>, at: u32, fact: Fact) -> Result<(), Memory>
+        requires { AreReaders over.now.spans.now over.now.lines.now over.now.readers.now }
+        ensures { OnOk result (self.new ≡ self.old ++ also_text over.now.spans.now over.now.lines.now at fact) }
+    {
+        self.also(over.readers, at, fact)
+    }
+
     /// Adds a sentence with what else is to be said and the number of those that are like it, as a line.
     fn sentence_line(
         &mut self,
@@ -168,11 +180,12 @@ impl Text {
         sentence: Sentence,
         more: u64,
     ) -> Result<(), Memory>
+        requires { AreReaders over.now.spans.now over.now.lines.now over.now.readers.now }
         ensures { OnOk result (self.new ≡ self.old ++ line (sentence_text over.now.text.now over.now.names.now sentence
             ++ also_text over.now.spans.now over.now.lines.now sentence.task_line sentence.fact ++ more_text more)) }
     {
         self.sentence(over.text, over.names, sentence)?;
-        self.also(over.spans, over.lines, sentence.task_line, sentence.fact)?;
+        self.also_over(over, sentence.task_line, sentence.fact)?;
         self.more(more)?;
         self.add(b"\n")?;
         Ok(())
@@ -180,6 +193,7 @@ impl Text {
 
     /// Adds the line of a sentence for so many that are alike, if there are any.
     fn told_for(&mut self, over: &Context<'_>, sentence: Sentence, count: u64) -> Result<(), Memory>
+        requires { AreReaders over.now.spans.now over.now.lines.now over.now.readers.now }
         ensures { OnOk result (self.new ≡ self.old
             ++ told_for over.now.text.now over.now.names.now over.now.spans.now over.now.lines.now sentence count) }
     {
@@ -192,6 +206,7 @@ impl Text {
 
     /// Adds the lines of sentences.
     fn lines(&mut self, alloc: Global, over: &Context<'_>, all: &[Sentence]) -> Result<(), Memory>
+        requires { AreReaders over.now.spans.now over.now.lines.now over.now.readers.now }
         ensures { OnOk result (self.new ≡ self.old
             ++ sentence_lines over.now.text.now over.now.names.now over.now.spans.now over.now.lines.now all.now) }
     {
@@ -276,11 +291,13 @@ pub fn report_text(
     let all = sentences(alloc, layout, ends, lines)?;
     let mut told = Text::new(alloc);
     told.heading(control, count_all(layout, ends))?;
+    let readers = Readers::of(alloc, layout.spans.as_slice(), lines)?;
     let over = Context {
         text,
         names,
         spans: layout.spans.as_slice(),
         lines,
+        readers: &readers,
     };
     told.lines(alloc, &over, &all)?;
     Ok(told.into_bytes())

@@ -11,7 +11,7 @@ returns c = λ activations of.
     let control = c.args.control in
     let ends = c.args.ends.now in
     let told = sentence_lines c.args.text.now c.args.names.now in
-    let lines = told c.as_slice.result.now c.args.lines.now in
+    let lines = told c.as_slice-2.result.now c.args.lines.now in
     let all = c.deref.result.now in
     let n = c.count_all.result in
     let is = c.count_all.ensures in
@@ -24,4 +24,4 @@ returns c = λ activations of.
     ∙ ap (λ found. heading control (length activations) (count_by has_done ends.ends) (length (written ends.output)) (written_count activations 1) ++ lines found)
     (c.deref.ensures.value ∙ c.in_ok-all.ensures activations of)
     ∙ ap (λ spans. heading control (length activations) (count_by has_done ends.ends) (length (written ends.output)) (written_count activations 1)
-    ++ told spans c.args.lines.now (sentences activations c.args.layout.now.input_len ends.ends c.args.lines.now)) (c.as_slice.ensures ∙ of.of_windows.spans)
+    ++ told spans c.args.lines.now (sentences activations c.args.layout.now.input_len ends.ends c.args.lines.now)) (c.as_slice-2.ensures ∙ of.of_windows.spans)

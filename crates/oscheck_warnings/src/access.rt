@@ -1,0 +1,60 @@
+/// Where a statement stands.
+#[derive(Clone, Copy)]
+pub(crate) struct Site {
+    /// The place of the pragma of the task whose body it stands in, or 0 outside tasks: no task stands before `main`.
+    pub(crate) task: u32,
+    /// Whether a loop of that body is round it.
+    pub(crate) looped: bool,
+}
+
+/// What a scalar is named for.
+#[derive(Clone, Copy)]
+pub(crate) enum Effect {
+    /// Its value.
+    Read,
+    /// A change of it. One that adds to the old value, as `x += 1` and `x++`, is no read.
+    Change,
+}
+
+/// A name without an index, by its place among the tokens, in an expression or as the target of a change.
+#[derive(Clone, Copy)]
+pub(crate) struct Access {
+    pub(crate) site: Site,
+    pub(crate) place: u32,
+    pub(crate) effect: Effect,
+}
+
+impl Site {
+    ghost use Rattle.std.specs.Prelude.{◌≡◌};
+    ghost use Rattle.oscheck_warnings.specs.Accesses.{in_task, in_loop, outside};
+
+    /// In no task.
+    pub(crate) fn outside() -> Site
+        ensures { result ≡ outside }
+    {
+        Site {
+            task: 0,
+            looped: false,
+        }
+    }
+
+    /// In the body of a task.
+    pub(crate) fn in_task(place: u32) -> Site
+        ensures { result ≡ in_task place }
+    {
+        Site {
+            task: place,
+            looped: false,
+        }
+    }
+
+    /// In a loop.
+    pub(crate) fn in_loop(self) -> Site
+        ensures { result ≡ in_loop self }
+    {
+        Site {
+            task: self.task,
+            looped: true,
+        }
+    }
+}
