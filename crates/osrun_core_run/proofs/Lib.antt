@@ -8,4 +8,5 @@ pub mod Objects
 pub mod RunLaws
 pub mod TasksRun
 pub mod Telling
+pub mod Traces
 pub mod WrittenBytes

@@ -8,4 +8,5 @@ pub mod BodyLaws
 pub mod Laws
 -- What restates private functions.
 pub mod Accepting
+pub mod Planned
 pub mod Reported

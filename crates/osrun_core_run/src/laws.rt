@@ -8,6 +8,7 @@ use collector::laws::{all_but_done_have_lines, all_is_written, meanings_are_stat
 use front_end::one_answer;
 use lowering_relation::laws::bodies_fill_their_outputs;
 use os_object::laws::one_reading;
+use trace_replay_text::laws::traces_are_told;
 
 /// No bytes are usable as a file of a job and refused as one.
 pub fn never_usable_and_refused()
@@ -15,6 +16,7 @@ pub fn never_usable_and_refused()
 {
     one_answer();
     one_reading();
+    traces_are_told();
 }
 
 /// The body of a task that has its inputs writes nothing but bytes to the output.
