@@ -5,6 +5,7 @@ pub mod FewWritten
 pub mod Filling
 pub mod MachineBytes
 pub mod Objects
+pub mod Replays
 pub mod RunLaws
 pub mod TasksRun
 pub mod Telling

@@ -1,6 +1,7 @@
 -- What a reader believes: what a run of a program or of a code over an input comes to, and why a text or an object is refused.
 pub mod Code
 pub mod Refusal
+pub mod Replay
 pub mod Run
 pub mod RunOf
 -- The laws of bodies, of programs and of their runs.
