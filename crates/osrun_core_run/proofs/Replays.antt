@@ -1,11 +1,10 @@
 -- What lists come to over a plan is the same with bodies that make the same of all inputs that the frames can have.
-use Rattle.std.proofs.Common.{◌≡◌, ◌<◌, ℕ, ℤ, List, [], ◌∷◌, Option, Some, None, map, length, replicate, slice_set, refl, sym, ap, ◌∙◌, subst}
+use Rattle.std.proofs.Common.{◌≡◌, ℕ, ℤ, List, [], ◌∷◌, Option, Some, None, map, length, replicate, slice_set, refl, sym, ap, ◌∙◌, subst}
 use Rattle.std.specs.Option.{option_map, option_map_or, option_or}
 use Rattle.std.proofs.lemmas.List.{length-map}
 use Rattle.flow_core_laws.proofs.Gathering.{length-gathered}
 use Rattle.flow_core_laws.proofs.OneMore.{length-values}
 use Rattle.flow_core_laws.specs.declared.elem.Elem.{Elem}
-use Rattle.flow_core_laws.specs.declared.ends.Ends.{Ends}
 use Rattle.flow_core_laws.specs.declared.outcome.Outcome.{Outcome}
 use Rattle.flow_core_laws.specs.declared.plan.Plan.{Plan}
 use Rattle.flow_core_laws.specs.declared.task_end.TaskEnd.TheVariants.{Poisoned}
@@ -13,7 +12,7 @@ use Rattle.flow_core_laws.specs.Element.{Source}
 use Rattle.flow_core_laws.specs.Outcome.{State, outcome_at, outcome_of}
 use Rattle.flow_core_laws.specs.Plans.{plan_element, plan_reads}
 use Rattle.flow_core_laws.specs.Poisoning.{least_root, poisoning, values_of}
-use Rattle.flow_core_laws.specs.Round.{IsEnabled, after_round, inputs_in}
+use Rattle.flow_core_laws.specs.Round.{IsEnabled, inputs_in}
 use Rattle.std.specs.Prelude.{All, IsSome, slice_get}
 use Rattle.std.proofs.lemmas.Option.{slice_get_within}
 use Rattle.cddf_meaning.specs.Body.{body as task_body, over_budget}
@@ -38,8 +37,8 @@ use Rattle.osrun_core_run.specs.Run.{body_at}
 use Rattle.stream_match_layouts.specs.declared.layout.Layout.{Layout}
 use Rattle.flow_core_laws.specs.Outcome.{ends_of}
 use Rattle.flow_core_laws.specs.Plans.{cell_source, plan_meaning, sink_elements}
-use Rattle.trace_replay_laws.specs.Answers.{AreFrames, AreShort, AreStuck, AreWhole, IsAnswer, IsEnabledAfter, IsFirstEmpty, IsLawfulOrder, plan_after}
-use Rattle.trace_replay_laws.specs.Lists.{HaveRun, Taken, frames_of, head_after}
+use Rattle.trace_replay_laws.specs.Answers.{AreFrames, IsAnswer, IsEnabledAfter, IsFirstEmpty, IsLawfulOrder, plan_after}
+use Rattle.trace_replay_laws.specs.Lists.{HaveRun, Taken, frames_of}
 use Rattle.trace_replay_laws.specs.declared.replayed.Replayed.{Replayed}
 use Rattle.trace_replay_laws.specs.declared.replayed.Replayed.TheVariants.{Whole, Short, Stuck, Repeat, Stranger}
 use Rattle.trace_replay_laws.specs.Orders as orders

@@ -1,7 +1,7 @@
 -- What a run on the machine comes to is what the program's activations come to.
-use Rattle.std.proofs.Common.{◌≡◌, ℕ, ℤ, List, All, Option, Some, None, length, get_or, slice_get, refl, sym, ap, ◌∙◌, subst}
+use Rattle.std.proofs.Common.{◌≡◌, ℕ, ℤ, List, All, Option, Some, length, slice_get, sym, ap, ◌∙◌, subst}
 use Rattle.std.specs.Prelude.{IfOk, Result, Ok, Err}
-use Rattle.std.specs.Option.{ForSome, option_map_or}
+use Rattle.std.specs.Option.{option_map_or}
 use Rattle.std.proofs.lemmas.List.Elements.{All-get_or}
 use Rattle.std.proofs.lemmas.Option.{get_or_from_slice_get, slice_get_within}
 use Rattle.cddf_meaning.specs.Body.{body, over_budget}
@@ -27,7 +27,6 @@ use Rattle.osrun_core_run.specs.Code.{IsCodeOf}
 use Rattle.osrun_core_run.specs.Run.{body_at, ends_over}
 use Rattle.osrun_core_run.specs.RunOf.{IsRunOf, IsRunOfCode}
 use Rattle.epoch_run_bodies.specs.Frames.{code_ends, frame_outcome}
-use Rattle.flow_core_laws.specs.Byte.{IsByte}
 use Rattle.epoch_run_bodies.specs.Laws.{Agree, AgreeingBodiesMeanOne}
 use Rattle.osrun_core_run.specs.BodyLaws.{CodesGiveBytes, GivesBytes, OutputsAreBytes}
 use Rattle.stream_match_layouts.specs.declared.layout.Layout.{Layout}
