@@ -18,9 +18,9 @@ use Rattle.osrun_core_answer.specs.Explained.{Explains}
 use Rattle.osrun_core_answer.specs.Gen.{IsRunOfGen, gen_lines}
 use Rattle.osrun_core_jobs.specs.Jobs.{Compile, CompileJob, Exec, ExecJob, Explain, ExplainJob, Gen, GenJob, Job, Replay, ReplayJob, Request, Run, Trace, TraceJob}
 use Rattle.osrun_core_run.specs.Code.{IsCodeOf, IsObjectOf}
-use Rattle.osrun_core_run.specs.Replay.{IsReplayLine, IsReplayOf}
+use Rattle.osrun_core_run.specs.Replay.{IsReplayOf}
+use Rattle.osrun_core_run.specs.ReplayLine.{IsReplayLine}
 use Rattle.osrun_core_run.specs.Run.{ProgramRun, ends_over}
-use Rattle.stream_match_layouts.specs.declared.layout.Layout.{Layout}
 use Rattle.task_workers.specs.Logged.{HoldTheEnded}
 use Rattle.trace_replay_laws.specs.declared.replayed.Replayed.{Replayed}
 use Rattle.trace_replay_laws.specs.declared.replayed.Replayed.TheVariants.{Whole, Short, Stuck, Repeat, Stranger}
@@ -124,7 +124,7 @@ pub record GivesRun (run : ProgramRun) (outcome : Outcome) : Type 0 where
 -- what is meant to be given where there is no run: nothing on the output, the line of the answer about the lists, and the status 8
 pub record GivesLine (made : Control) (plan : Plan) (answer : Replayed) (outcome : Outcome) : Type 0 where
   pub output_is : outcome.output ≡ []
-  pub is_line : IsReplayLine made plan answer outcome.told
+  pub is_line : IsReplayLine plan made.activations answer outcome.told
   pub status_is : outcome.own ≡ 8
 
 -- What is meant to be given by the answer about the lists of a trace: where they are whole, the run of the program, and else the line.
@@ -153,10 +153,9 @@ pub record IsOutcomeOfReplay (contents : List (List ℕ)) (job : ReplayJob) (out
   pub lists : List (List ℕ)
   pub is_trace : IsTraceOf told lists
   pub made : Control
-  pub layout : Layout
   pub plan : Plan
   pub answer : Replayed
-  pub is_replay : IsReplayOf (replay_budgets job) program input lists made layout plan answer
+  pub is_replay : IsReplayOf (replay_budgets job) program input lists made plan answer
   pub gives : GivesReplay program made input job.task_budget plan answer outcome
 
 -- What a request is meant to give over the bytes of its files, in the order of reading.
