@@ -19,11 +19,11 @@ use trace_replay::{Replayed, replay};
 
 /// Lists of activations, run again over the plan of a whole run.
 #[derive(Debug, Drop)]
-pub struct CodeReplay {
+pub(crate) struct CodeReplay {
     /// The run, before any activation runs.
-    pub planned: Planned,
+    pub(crate) planned: Planned,
     /// What the lists come to.
-    pub replayed: Replayed,
+    pub(crate) replayed: Replayed,
 }
 
 /// Runs the lists of frames again over a plan: each frame runs the task of its activation.
@@ -53,7 +53,7 @@ fn replay_lists(
 }
 
 /// Runs lists of activations again, 1 to 64 of them: the activations are those that the code's `main` creates over an input.
-pub fn replay_code(
+pub(crate) fn replay_code(
     alloc: Global,
     budgets: Budgets,
     code: &Code,

@@ -8,8 +8,8 @@
 //! workers.
 //!
 //! `trace_program` does what `run_program` does over one table, with one plan of all activations, and tells which activations each
-//! worker ran. `accept_trace` has such lists of a trace's bytes, and `replay_program` runs a program by them, or tells what is wrong
-//! with them. `trace_code` and `replay_code` do so for a code.
+//! worker ran; `trace_code` does so for a code. `accept_trace` has such lists of a trace's bytes, and `replay_program` runs a program
+//! by them: it hands back the run that they make, or the line that tells what is wrong with them.
 //!
 //! No file is read here and nothing is written. `laws` has what holds of every program and of every run of a job, and `body_laws`
 //! what holds of every list of activations and their bodies.
@@ -24,11 +24,13 @@ mod code_run;
 mod code_trace;
 mod compiling;
 mod in_epochs;
+mod inputs;
 pub mod laws;
 mod lay_out;
 mod made;
 mod planning;
 mod refused;
+mod replay_lines;
 mod replaying;
 mod reporting;
 mod running;
@@ -37,12 +39,10 @@ mod tracing;
 pub use accepting::accept;
 pub use accepting_object::accept_object;
 pub use accepting_trace::accept_trace;
-pub use code_replay::{CodeReplay, replay_code};
 pub use code_run::run_code;
 pub use code_trace::{Traced, trace_code};
 pub use compiling::compile;
 pub use made::Run;
-pub use planning::Planned;
-pub use replaying::replay_program;
+pub use replaying::{Replay, replay_program};
 pub use running::run_program;
 pub use tracing::trace_program;

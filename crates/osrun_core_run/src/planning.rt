@@ -12,17 +12,17 @@ use stream_match::{Layout, build};
 
 /// A run before any of its activations runs: what the control program created, with the positions of all of it and one plan.
 #[derive(Debug, Drop)]
-pub struct Planned {
+pub(crate) struct Planned {
     /// The activations, and how the control program ended.
-    pub control: Control,
+    pub(crate) control: Control,
     /// The positions of the activations.
-    pub layout: Layout,
+    pub(crate) layout: Layout,
     /// The plan of all activations over the input: frame f is activation f.
-    pub plan: Plan,
+    pub(crate) plan: Plan,
 }
 
 /// Plans the whole run of a code over an input.
-pub fn plan_run(
+pub(crate) fn plan_run(
     alloc: Global,
     code: &Code,
     control_budget: u64,
