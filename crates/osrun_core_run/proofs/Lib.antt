@@ -3,6 +3,8 @@ pub mod BodyBytes
 pub mod Bytes
 pub mod FewWritten
 pub mod Filling
+pub mod HandedBack
+pub mod InputPlaces
 pub mod MachineBytes
 pub mod Objects
 pub mod Replays

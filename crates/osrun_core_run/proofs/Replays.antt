@@ -176,7 +176,7 @@ agree_at code p activations budget runs fit plan input stands a inputs long = by
 pub replay_of_code : MeansTheStreams → AgreeingBodiesMeanOne → (code : Parts) (p : ProgramTree) → IsCodeOf code p → (budgets : Budgets) (input : List ℕ)
     (lists : List (List ℕ)) (made : Control) (layout : Layout) (plan : Plan) (answer : Replayed) → IsPlannedOf budgets.control code input made layout plan
     → IsAnswer plan (frame_outcome code made.activations budgets.task) lists answer
-    → IsReplayOf budgets p input lists made layout plan answer
+    → IsReplayOf budgets p input lists made plan answer
 replay_of_code means one code p is budgets input lists made layout plan answer planned right =
     let by_machine = frame_outcome code made.activations budgets.task in
     let by_program = body_at p made.activations budgets.task in
@@ -186,9 +186,6 @@ replay_of_code means one code p is budgets input lists made layout plan answer p
     ∙ sym (means plan made.activations input by_program planned.stands) in
     record {
       made_is = planned.made_is ∙ is.control (length input) budgets.control;
-      whole = planned.whole;
-      laid = planned.laid;
-      over = planned.over;
       sound = planned.sound;
       stands = planned.stands;
       answer_is = same_answer plan by_machine by_program (agree_at code p made.activations budgets.task is.bodies planned.fit plan input planned.stands)
