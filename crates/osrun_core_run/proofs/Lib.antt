@@ -6,6 +6,7 @@ pub mod Filling
 pub mod HandedBack
 pub mod InputPlaces
 pub mod MachineBytes
+pub mod ManyPlans
 pub mod Objects
 pub mod Replays
 pub mod RunLaws
