@@ -3,7 +3,10 @@ pub mod BodyBytes
 pub mod Bytes
 pub mod FewWritten
 pub mod Filling
+pub mod HandedBack
+pub mod InputPlaces
 pub mod MachineBytes
+pub mod ManyPlans
 pub mod Objects
 pub mod Replays
 pub mod RunLaws

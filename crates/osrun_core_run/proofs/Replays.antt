@@ -29,15 +29,19 @@ use Rattle.os_ast.specs.Trees.{ProgramTree}
 use Rattle.os_code.specs.Outcomes as machine
 use Rattle.os_code.specs.Tasks.{Fits}
 use Rattle.os_code.specs.declared.parts.Parts.{Parts}
+use Rattle.osrun_core_run.proofs.ManyPlans.{one_line, one_whole}
 use Rattle.osrun_core_run.proofs.TasksRun.{agree as bodies_agree}
 use Rattle.osrun_core_run.specs.Code.{IsCodeOf}
+use Rattle.osrun_core_run.specs.Laws.{HasOneReplay}
 use Rattle.osrun_core_run.specs.Planned.{IsPlannedOf}
 use Rattle.osrun_core_run.specs.Replay.{IsReplayOf}
+use Rattle.osrun_core_run.specs.ReplayLine.{IsReplayLine}
 use Rattle.osrun_core_run.specs.Run.{body_at}
 use Rattle.stream_match_layouts.specs.declared.layout.Layout.{Layout}
 use Rattle.flow_core_laws.specs.Outcome.{ends_of}
 use Rattle.flow_core_laws.specs.Plans.{cell_source, plan_meaning, sink_elements}
 use Rattle.trace_replay_laws.specs.Answers.{AreFrames, IsAnswer, IsEnabledAfter, IsFirstEmpty, IsLawfulOrder, plan_after}
+use Rattle.trace_replay_laws.specs.Laws.{HasOneAnswer}
 use Rattle.trace_replay_laws.specs.Lists.{HaveRun, Taken, frames_of}
 use Rattle.trace_replay_laws.specs.declared.replayed.Replayed.{Replayed}
 use Rattle.trace_replay_laws.specs.declared.replayed.Replayed.TheVariants.{Whole, Short, Stuck, Repeat, Stranger}
@@ -176,7 +180,7 @@ agree_at code p activations budget runs fit plan input stands a inputs long = by
 pub replay_of_code : MeansTheStreams → AgreeingBodiesMeanOne → (code : Parts) (p : ProgramTree) → IsCodeOf code p → (budgets : Budgets) (input : List ℕ)
     (lists : List (List ℕ)) (made : Control) (layout : Layout) (plan : Plan) (answer : Replayed) → IsPlannedOf budgets.control code input made layout plan
     → IsAnswer plan (frame_outcome code made.activations budgets.task) lists answer
-    → IsReplayOf budgets p input lists made layout plan answer
+    → IsReplayOf budgets p input lists made plan answer
 replay_of_code means one code p is budgets input lists made layout plan answer planned right =
     let by_machine = frame_outcome code made.activations budgets.task in
     let by_program = body_at p made.activations budgets.task in
@@ -186,11 +190,25 @@ replay_of_code means one code p is budgets input lists made layout plan answer p
     ∙ sym (means plan made.activations input by_program planned.stands) in
     record {
       made_is = planned.made_is ∙ is.control (length input) budgets.control;
-      whole = planned.whole;
-      laid = planned.laid;
-      over = planned.over;
       sound = planned.sound;
       stands = planned.stands;
       answer_is = same_answer plan by_machine by_program (agree_at code p made.activations budgets.task is.bodies planned.fit plan input planned.stands)
           same lists answer right;
     }
+
+-- ---- whatever the plan
+
+pub one_replay : HasOneAnswer → HasOneReplay
+one_replay once budgets p input lists made made_too plan other answer another is also =
+    let same : made ≡ made_too = is.made_is ∙ sym also.made_is in
+    let activations = made.activations in
+    let body = body_at p activations budgets.task in
+    let too = subst (λ (m : Control). StandsFor other m.activations input) (sym same) also.stands in
+    let right = subst (λ (m : Control). IsAnswer other (body_at p m.activations budgets.task) lists another) (sym same) also.answer_is in
+    (
+      same,
+      one_whole activations input body once lists plan other is.stands too answer another is.answer_is right,
+      λ text told line line_too.
+          one_line activations input body once lists plan other is.stands too answer another is.answer_is right text told line
+          (subst (λ (m : Control). IsReplayLine other m.activations another told) (sym same) line_too),
+    )

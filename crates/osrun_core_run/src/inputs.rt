@@ -1,13 +1,17 @@
 //! Where the elements stand that an activation reads.
-ghost use Rattle.std.specs.Prelude.{◌≡◌, ◌+◌, ◌<◌, ◌^◌, All, IsSome, List, Some, slice_get};
+ghost use Rattle.std.specs.Prelude.{◌≡◌, ◌+◌, ◌<◌, ◌^◌, ℕ, All, IsSome, List, Some, length, slice_get};
 ghost use Rattle.std.specs.List.{flat_map};
 ghost use Rattle.collector.specs.Walking.{read_places};
+ghost use Rattle.flow_core_laws.specs.IsSound.{HasCell};
 ghost use Rattle.flow_core_laws.specs.Place.{input_places};
+ghost use Rattle.flow_core_laws.specs.StandsFor.{StandsFor};
 ghost use Rattle.flow_core_laws.specs.declared.activation.Activation.{Activation};
 ghost use Rattle.osrun_core_run.specs.Inputs.{place_of};
+ghost use Rattle.osrun_core_run.specs.ReplayLine.{IsCellOf};
 ghost use Rattle.stream_match_layouts.specs.Layout.{IsLayout, IsLayoutOf};
 ghost use Rattle.stream_match_layouts.specs.Spans.{frame_count, read_count, spans_of};
 
+use crate::planning::Planned;
 use stream_match::{Layout, Place, Span};
 
 /// How many elements a span reads.
@@ -47,7 +51,7 @@ fn read_place(spans: &[Span], number: u32) -> Place
 }
 
 /// The place of an activation's input of a number, from 0 on.
-pub(crate) fn input_place(layout: &Layout, activation: u32, number: u32) -> Place
+fn input_place(layout: &Layout, activation: u32, number: u32) -> Place
     requires layout { IsLayout layout.now }
     requires activation { activation < frame_count layout.now }
     requires exists { IsSome (slice_get (flat_map read_places (spans_of layout.now activation)) number) }
@@ -55,4 +59,17 @@ pub(crate) fn input_place(layout: &Layout, activation: u32, number: u32) -> Plac
         → slice_get (input_places activations activation) number ≡ Some (place_of result) }
 {
     read_place(layout.spans_of(activation as usize), number)
+}
+
+/// The place of the element that belongs into a frame's cell.
+pub(crate) fn cell_place(planned: &Planned, frame: u32, cell: u32) -> Place
+    requires layout { IsLayout planned.now.layout }
+    requires laid { IsLayoutOf planned.now.layout planned.now.control.activations }
+    requires stands { (input : List ℕ) × StandsFor planned.now.plan planned.now.control.activations input }
+    requires frame { frame < length planned.now.plan.frames }
+    requires cell { HasCell planned.now.plan frame cell }
+    ensures { IsCellOf planned.now.plan planned.now.control.activations frame cell (place_of result) }
+{
+    let first = planned.plan.frame(frame).cell;
+    input_place(&planned.layout, frame, cell - first)
 }

@@ -1,6 +1,6 @@
 //! Laws of programs and of their runs. Each is a call that does nothing and ensures its law.
 
-ghost use Rattle.osrun_core_run.specs.Laws.{BodiesGiveBytes, GivesOnlyBytes, IsOfAState, NeverUsableAndRefused, OfRuns, TellsAllButDone, WritesAllAtZero};
+ghost use Rattle.osrun_core_run.specs.Laws.{BodiesGiveBytes, GivesOnlyBytes, HasOneReplay, IsOfAState, NeverUsableAndRefused, OfRuns, TellsAllButDone, WritesAllAtZero};
 
 use crate::body_laws::{filled_bodies_fill, outputs_are_bytes};
 use cddf_meaning::laws::turns_never_grow;
@@ -8,6 +8,7 @@ use collector::laws::{all_but_done_have_lines, all_is_written, meanings_are_stat
 use front_end::one_answer;
 use lowering_relation::laws::bodies_fill_their_outputs;
 use os_object::laws::one_reading;
+use trace_replay_laws::laws as answers;
 use trace_replay_text::laws::traces_are_told;
 
 /// No bytes are usable as a file of a job and refused as one.
@@ -32,6 +33,14 @@ pub fn runs_give_bytes()
 {
     turns_never_grow();
     outputs_are_bytes();
+}
+
+/// Only one thing can come of a program that is run by lists: the same ends or the same line, whatever plan stands for its
+/// activations.
+pub fn one_replay()
+    ensures { HasOneReplay }
+{
+    answers::one_answer();
 }
 
 /// What a run comes to is of one state: the report tells of the elements of which the output is written. So it has a line

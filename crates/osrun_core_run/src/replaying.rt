@@ -9,6 +9,7 @@ ghost use Rattle.stream_match_layouts.specs.Layout.{IsLayout, IsLayoutOf};
 use crate::body_laws::{codes_give_bytes, outputs_are_bytes};
 use crate::code_replay::replay_code;
 use crate::compiling::compile;
+use crate::inputs::cell_place;
 use crate::made::Run;
 use crate::planning::Planned;
 use crate::replay_lines::{repeat_line, short_line, stranger_line, stuck_line};
@@ -70,7 +71,8 @@ fn hand_back(alloc: Global, planned: Planned, answer: Replayed) -> Result<Replay
             Ok(Replay::Told(text))
         }
         Replayed::Stuck { list, frame, cell } => {
-            let text = stuck_line(alloc, &planned, list, frame, cell)?;
+            let place = cell_place(&planned, frame, cell);
+            let text = stuck_line(alloc, list, frame, place)?;
             Ok(Replay::Told(text))
         }
         Replayed::Short { frame } => {
