@@ -1,6 +1,7 @@
 -- What the answer to a request says.
 use Rattle.std.proofs.Common.{◌≡◌, ◌∙◌, ◌⊎◌, inl, inr, subst, ℕ, zero, suc, ◌<◌, ◌≤◌, List, [], ◌∷◌, Option, Some, None, All, IfSome, refl, sym, ap, arith, length, slice_get, take, cond, Bool, true, false}
 use Rattle.std.specs.Prelude.{string_bytes}
+use Rattle.std.specs.declared.alloc.Global.{Global}
 use Rattle.std.specs.declared.string.String.{String}
 use Rattle.std.proofs.lemmas.List.Elements.{All-get_or}
 use Rattle.std.proofs.lemmas.Option.{get_or_from_slice_get, same_Some, slice_get_within}
@@ -436,7 +437,7 @@ module _ {F O E : Type 0} (of_files : FilesView F) (files_old files_new : F) (of
 module _ {F O E : Type 0} (of_files : FilesView F) (files_old files_new : F) (of_out : SinkView O) (out_old out_new : O)
     (of_report : SinkView E) (report_old report_new : E) (both : NeverUsableAndRefused) (job : ReplayJob) (within : IsReplayWithin job) where
   -- what is given of it
-  made_replay : (replay : Replay) (is : IsReplayedOf of_files files_old files_new job replay) (outcome : Outcome)
+  abbrev made_replay : (replay : Replay) (is : IsReplayedOf of_files files_old files_new job replay) (outcome : Outcome)
       → GivesReplay is.program is.comes_to.made is.input job.task_budget is.comes_to.plan is.comes_to.answer outcome
       → IsMade of_files files_old files_new (Some (ReplayRequest job))
   made_replay replay is outcome gives = record {
@@ -508,7 +509,7 @@ module _ {F O E : Type 0} (of_files : FilesView F) (files_old files_new : F) (of
   line_gives program made input budget plan (replayed.Repeat frame) text is = record { output_is = refl; is_line = is; status_is = refl }
   line_gives program made input budget plan (replayed.Stranger list place) text is = record { output_is = refl; is_line = is; status_is = refl }
 
-  pub answers_told : (text : String) → IsReplayedOf of_files files_old files_new job (Told text) → out_new ≡ out_old
+  pub answers_told : (text : String Global) → IsReplayedOf of_files files_old files_new job (Told text) → out_new ≡ out_old
       → Tells of_report report_old report_new (string_bytes text)
       → AnswersRequest of_files files_old files_new of_out out_old out_new of_report report_old report_new (Some (ReplayRequest job)) 8
   answers_told text is kept told =
