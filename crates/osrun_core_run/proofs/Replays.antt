@@ -204,8 +204,7 @@ one_replay once budgets p input lists made made_too plan other answer another is
     let activations = made.activations in
     let body = body_at p activations budgets.task in
     let too = subst (λ (m : Control). StandsFor other m.activations input) (sym same) also.stands in
-    let right = subst (λ (m : Control). IsAnswer other (body_at p m.activations budgets.task) lists another) (sym same) also.answer_is in
-    (
+    let right = subst (λ (m : Control). IsAnswer other (body_at p m.activations budgets.task) lists another) (sym same) also.answer_is in (
       same,
       one_whole activations input body once lists plan other is.stands too answer another is.answer_is right,
       λ text told line line_too.

@@ -1,6 +1,7 @@
 //! Laws of programs and of their runs. Each is a call that does nothing and ensures its law.
 
-ghost use Rattle.osrun_core_run.specs.Laws.{BodiesGiveBytes, GivesOnlyBytes, HasOneReplay, IsOfAState, NeverUsableAndRefused, OfRuns, TellsAllButDone, WritesAllAtZero};
+ghost use Rattle.osrun_core_run.specs.Laws.{BodiesGiveBytes, GivesOnlyBytes, HasOneReplay, IsOfAState, NeverUsableAndRefused};
+ghost use Rattle.osrun_core_run.specs.Laws.{OfRuns, TellsAllButDone, WritesAllAtZero};
 
 use crate::body_laws::{filled_bodies_fill, outputs_are_bytes};
 use cddf_meaning::laws::turns_never_grow;

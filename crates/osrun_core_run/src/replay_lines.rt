@@ -29,7 +29,12 @@ pub(crate) fn short_line(alloc: Global, frame: u32) -> Result<String, Memory>
 }
 
 /// The line of a list whose head waits for the element at a place.
-pub(crate) fn stuck_line(alloc: Global, list: u32, frame: u32, place: Place) -> Result<String, Memory>
+pub(crate) fn stuck_line(
+    alloc: Global,
+    list: u32,
+    frame: u32,
+    place: Place,
+) -> Result<String, Memory>
     ensures { IfOk result (λ text. string_bytes text ≡ stuck_line list frame (place_of place)) }
 {
     let Place { stream, position } = place;

@@ -103,7 +103,7 @@ pub fn replay_program(
     outputs_are_bytes();
     laws::plan_meaning();
     let code = compile(alloc, checked)?;
-    let run = replay_code(alloc, budgets, &code, input, lists)?;
-    let replay = hand_back(alloc, run.planned, run.replayed)?;
+    let answered = replay_code(alloc, budgets, &code, input, lists)?;
+    let replay = hand_back(alloc, answered.planned, answered.replayed)?;
     Ok(replay)
 }
