@@ -1149,6 +1149,7 @@ module _ {F O E : Type 0} (of_files : FilesView F) (fo fn : F) (of_out : SinkVie
           | inr past ↦ inr (inl (omega (arith, past, high)))
         ]
       ]
+
       fit_all : (job : ReplayJob) → IsReadable IsUsable (of_files.holds fo) (record { subject = subjects.Program; name = job.program })
           → IsReadable IsUsable (of_files.holds fo) (record { subject = subjects.Input; name = job.input })
           → IsRejected IsUnusable (of_files.holds fo) (record { subject = subjects.Trace; name = job.trace })

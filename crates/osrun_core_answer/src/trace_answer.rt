@@ -30,13 +30,7 @@ pub fn answer_trace<R: Threads + Sync, F: Files, O: Sink, E: Sink, G: Gate>(
 {
     never_usable_and_refused();
     match make_trace(rt, alloc, job, files, gate) {
-        Ok(traced) => deliver(
-            out,
-            report,
-            &traced.text,
-            &traced.run,
-            traced.run.status(),
-        ),
+        Ok(traced) => deliver(out, report, &traced.text, &traced.run, traced.run.status()),
         Err(refusal) => refuse(report, refusal),
     }
 }

@@ -42,7 +42,12 @@ macro_rules! row {
 
 const ROWS: [Row; 6] = [
     row!("worker 0 0\nworker 1 1\n", &[42], REPORT, 0),
-    row!("worker 0 0 1\n", &[], "stuck 0 frame 0 stream 2 position 0\n", 8),
+    row!(
+        "worker 0 0 1\n",
+        &[],
+        "stuck 0 frame 0 stream 2 position 0\n",
+        8
+    ),
     row!("worker 0 1\n", &[], "short 0\n", 8),
     row!("worker 0 1 1\n", &[], "repeat 1\n", 8),
     row!("worker 0 2\n", &[], "stranger 0 place 0\n", 8),
