@@ -1,6 +1,5 @@
 -- What is handed back of the right answer over a planned run is what the program comes to.
-use Rattle.std.proofs.Common.{◌≡◌, ◌≤◌, ℕ, All, List, length, sym, ap, ◌∙◌, refl, subst}
-use Rattle.std.specs.Prelude.{string_bytes}
+use Rattle.std.proofs.Common.{◌≡◌, ◌≤◌, ℕ, All, List, length, sym, ap, ◌∙◌, subst}
 use Rattle.collector.specs.Written.{IsByteIfThere, written}
 use Rattle.epoch_run.specs.declared.result.Budgets.{Budgets}
 use Rattle.epoch_run_bodies.specs.Frames.{code_ends, frame_outcome}

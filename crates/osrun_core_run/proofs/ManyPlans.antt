@@ -1,18 +1,18 @@
 -- What lists come to, and the line that tells it, are the same over all plans that stand for the activations.
-use Rattle.std.proofs.Common.{◌≡◌, ℕ, ℤ, get_or, ◌+◌, ◌-◌, ◌<◌, ◌≤◌, ◌⊎◌, inl, inr, List, Option, Some, None, length, map, slice_get, refl, sym, ap, ◌∙◌, subst, arith}
+use Rattle.std.proofs.Common.{◌≡◌, ℕ, ℤ, get_or, ◌+◌, ◌-◌, ◌<◌, ◌≤◌, ◌⊎◌, inl, inr, List, Option, None, length, map, slice_get, refl, sym, ap, ◌∙◌, subst, arith}
 use Rattle.std.specs.Prelude.{IsSome}
 use Rattle.std.specs.List.{range_with_len}
 use Rattle.std.proofs.Math.Path.{fun_ext}
 use Rattle.std.proofs.lemmas.Bool.{cases_lt}
 use Rattle.std.proofs.lemmas.List.{get_or_past}
 use Rattle.std.proofs.lemmas.List.FromFn.{get_or-map-range_with_len, length-map-range_with_len}
-use Rattle.std.proofs.lemmas.Option.{same_Some, slice_get-get_or}
+use Rattle.std.proofs.lemmas.Option.{same_Some}
 use Rattle.flow_core_laws.proofs.Elements.{number_at_own}
 use Rattle.flow_core_laws.specs.Element.{Source, element}
 use Rattle.flow_core_laws.specs.IsSound.{HasCell}
 use Rattle.flow_core_laws.specs.Outcome.{State, ends_of}
-use Rattle.flow_core_laws.specs.Place.{Place, input_places}
-use Rattle.flow_core_laws.specs.Plans.{cell_source, cells_of, frame_at, plan_element, plan_reads}
+use Rattle.flow_core_laws.specs.Place.{input_places}
+use Rattle.flow_core_laws.specs.Plans.{cell_source, frame_at, plan_element, plan_reads}
 use Rattle.flow_core_laws.specs.Poisoning.{poisoning}
 use Rattle.flow_core_laws.specs.Round.{IsEnabled, meaning}
 use Rattle.flow_core_laws.specs.StandsFor.{StandsFor}
@@ -22,8 +22,8 @@ use Rattle.flow_core_laws.specs.declared.ends.Ends.{Ends}
 use Rattle.flow_core_laws.specs.declared.outcome.Outcome.{Outcome}
 use Rattle.flow_core_laws.specs.declared.plan.FramePlan.{FramePlan}
 use Rattle.flow_core_laws.specs.declared.plan.Plan.{Plan}
-use Rattle.osrun_core_run.specs.ReplayLine.{IsCellOf, IsReplayLine, stuck_line}
-use Rattle.trace_replay_laws.specs.Answers.{AreFrames, AreShort, AreStuck, AreWhole, IsAnswer, IsEnabledAfter, IsFirstEmpty, IsLawfulOrder}
+use Rattle.osrun_core_run.specs.ReplayLine.{IsReplayLine, stuck_line}
+use Rattle.trace_replay_laws.specs.Answers.{AreFrames, IsAnswer, IsEnabledAfter, IsFirstEmpty, IsLawfulOrder}
 use Rattle.trace_replay_laws.specs.Laws.{HasOneAnswer}
 use Rattle.trace_replay_laws.specs.Lists.{AreBelow, HaveRun, IsFirstStranger, Taken, frames_of}
 use Rattle.trace_replay_laws.specs.Orders.{IsLawful, state_after}

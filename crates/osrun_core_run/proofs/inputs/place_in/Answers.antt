@@ -1,5 +1,4 @@
 use Rattle.std.proofs.Common.{◌∙◌, ◌+◌, ap, Some, sym}
-use Rattle.flow_core_laws.specs.Place.{Place}
 use Rattle.osrun_core_run.proofs.InputPlaces.{read_at}
 use Rattle.osrun_core_run.proofs.inputs.place_in.Goals as goal
 
