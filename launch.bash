@@ -25,6 +25,8 @@ synopsis() {
     echo "osrun compile PROGRAM" >&2
     echo "osrun exec OBJECT INPUT [--workers N] [--budget N] [--control N]" >&2
     echo "osrun explain PROGRAM INPUT ACTIVATION [--workers N] [--budget N] [--control N]" >&2
+    echo "osrun trace PROGRAM INPUT [--workers N] [--budget N] [--control N]" >&2
+    echo "osrun replay PROGRAM INPUT TRACE [--budget N] [--control N]" >&2
     echo "osrun serve JOBS" >&2
 }
 

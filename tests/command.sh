@@ -491,6 +491,159 @@ status=$?
 printf 'chain 0 1 back 0\n' >wanted
 agree "a full standard error, of which a chain asks nothing" 0 wanted ""
 
+# Who ran what, and runs by what a trace says of it. by_trace NAME STATUS OUT REPORT LINE..: compares a replay of pair.c over
+# nothing.bin by a trace of these lines. The consumer is created first: it is activation 0.
+by_trace() {
+    local name=$1 wanted=$2 out=$3 report=$4
+    shift 4
+    printf '%s\n' "$@" >by.trace
+    run replay pair.c nothing.bin by.trace
+    check "$name" "$wanted" "$out" "$report"
+}
+cat >pair.c <<'END'
+int main(void) {
+    int s __attribute__((stream));
+    int x, y;
+    #pragma omp task input(s >> x) output(osout << y)
+    y = x + 1;
+    #pragma omp task output(s << x)
+    x = 41;
+}
+END
+run trace pair.c nothing.bin --workers 1
+echo "worker 0 1 0" >wanted
+agree "the trace of one worker" 0 wanted "control done / output 1 of 1"
+by_trace "the order of one worker" 0 2a "control done / output 1 of 1" "worker 0 1 0"
+by_trace "the orders of two workers" 0 2a "control done / output 1 of 1" "worker 0 0" "worker 1 1"
+by_trace "a worker that ran nothing" 0 2a "control done / output 1 of 1" "worker 0" "worker 1 1 0"
+by_trace "a consumer before its producer" 8 "" "stuck 0 frame 0 stream 2 position 0" "worker 0 0 1"
+by_trace "a consumer whose producer isn't told" 8 "" "stuck 1 frame 0 stream 2 position 0" "worker 0" "worker 1 0"
+by_trace "a consumer that isn't told" 8 "" "short 0" "worker 0 1"
+by_trace "a trace in which nobody ran anything" 8 "" "short 1" "worker 0"
+by_trace "an activation that one worker ran twice" 8 "" "repeat 1" "worker 0 1 1"
+by_trace "an activation that two workers ran" 8 "" "repeat 0" "worker 0 1 0" "worker 1 0"
+by_trace "a number that no activation has" 8 "" "stranger 0 place 0" "worker 0 2"
+by_trace "such a number of a later worker" 8 "" "stranger 1 place 1" "worker 0 1" "worker 1 0 4294967295"
+by_trace "such a number behind one that stands twice" 8 "" "stranger 0 place 2" "worker 0 1 1 2"
+by_trace "a line of no worker" 3 "" "refused 40 line 2" "worker 0 1 0" "work 1"
+by_trace "a line that stands twice" 3 "" "refused 40 line 2" "worker 0 1 0" "worker 0 1 0"
+by_trace "a line that is left out" 3 "" "refused 40 line 2" "worker 0 0" "worker 2 1"
+by_trace "lines that are swapped" 3 "" "refused 40 line 1" "worker 1 1" "worker 0 0"
+by_trace "a number with a zero before it" 3 "" "refused 40 line 1" "worker 0 01 0"
+by_trace "a worker with a zero before it" 3 "" "refused 40 line 1" "worker 00 1 0"
+by_trace "two blanks" 3 "" "refused 40 line 1" "worker 0  1 0"
+by_trace "a blank at the end of a line" 3 "" "refused 40 line 1" "worker 0 1 0 "
+by_trace "a number of 33 bits" 3 "" "refused 40 line 1" "worker 0 4294967296"
+by_trace "an empty line at the end" 3 "" "refused 40 line 2" "worker 0 1 0" ""
+printf 'worker 0 1 0' >by.trace
+run replay pair.c nothing.bin by.trace
+check "a trace without its line feed" 3 "" "refused 40 line 1"
+run replay pair.c nothing.bin nothing.bin
+check "an empty trace" 3 "" "refused 40 line 1"
+{ echo "worker 0 1 0"; seq -f 'worker %g' 1 63; } >by.trace
+run replay pair.c nothing.bin by.trace
+check "a trace of 64 workers" 0 2a "control done / output 1 of 1"
+echo "worker 64" >>by.trace
+run replay pair.c nothing.bin by.trace
+check "a trace of 65 workers" 3 "" "refused 40 line 65"
+{ printf 'worker 0 10'; printf '%2097146s\n' "" | sed 's/ / 7/g'; } >by.trace
+run replay pair.c nothing.bin by.trace
+check "the longest trace" 8 "" "stranger 0 place 0"
+{ printf 'worker 0'; printf '%2097148s\n' "" | sed 's/ / 7/g'; } >by.trace
+run replay pair.c nothing.bin by.trace
+check "a trace that is too long" 4 "" "too long trace"
+run replay pair.c nothing.bin none.trace
+check "a trace that isn't there" 5 "" "read fault trace"
+run replay pair.c nothing.bin folder
+check "a folder in the place of a trace" 5 "" "read fault trace"
+run replay pair.c none.bin none.trace
+check "an input that isn't there, nor its trace" 5 "" "read fault input"
+run replay pair.c long.bin none.trace
+check "an input that is too long, without its trace" 4 "" "too long input"
+run replay empty.c none.bin none.trace
+check "a text that isn't run by a trace" 3 "" "refused 23 line 1"
+echo "worker 0 1 0" >by.trace
+run replay pair.c nothing.bin /dev/stdin <by.trace
+check "a trace from standard input" 0 2a "control done / output 1 of 1"
+for words in "" "pair.c nothing.bin" "pair.c nothing.bin by.trace x" "pair.c nothing.bin by.trace --workers 1" "--help"; do
+    # shellcheck disable=SC2086
+    run replay $words
+    check "what can't be replayed: replay $words" 2 "" usage
+done
+for words in "" "pair.c" "pair.c nothing.bin x" "pair.c nothing.bin --workers 0" "pair.c nothing.bin --workers 65" "--help"; do
+    # shellcheck disable=SC2086
+    run trace $words
+    check "what can't be traced: trace $words" 2 "" usage
+done
+run trace empty.c in.bin
+check "a text that isn't traced" 3 "" "refused 23 line 1"
+run trace pair.c none.bin
+check "an input to trace that isn't there" 5 "" "read fault input"
+run trace pair.c long.bin
+check "an input to trace that is too long" 4 "" "too long input"
+for words in "trace pair.c nothing.bin" "replay pair.c nothing.bin by.trace"; do
+    # shellcheck disable=SC2086
+    "$osrun" $words >/dev/full 2>report
+    status=$?
+    : >out
+    check "a full standard output: $words" 6 "" ""
+done
+"$osrun" replay pair.c nothing.bin nothing.bin >out 2>/dev/full
+status=$?
+: >report
+check "a full standard error for a trace that is none" 3 "" ""
+echo "worker 0 1" >by.trace
+"$osrun" replay pair.c nothing.bin by.trace >out 2>/dev/full
+status=$?
+: >report
+check "a full standard error for a trace that is short" 8 "" ""
+# comes_back_by WORKERS PROGRAM INPUT: traces a run by so many workers, which has to report and to end as the run does, and
+# replays it, which has to write what the run writes besides.
+comes_back_by() {
+    run run "$2" "$3"
+    mv out written
+    local report status_of_run=$status
+    report=$(told)
+    run trace "$2" "$3" --workers "$1"
+    mv out run.trace
+    : >out
+    check "$(basename "$2") traced by $1 workers" "$status_of_run" "" "$report"
+    run replay "$2" "$3" run.trace
+    agree "$(basename "$2") by the trace of $1 workers" "$status_of_run" written "$report"
+}
+awk 'BEGIN { for (k = 0; k < 4000; k++) printf "\\%03o\n", k % 251 }' | tr -d '\n' >codes
+printf "$(cat codes)" >means.bin
+comes_back_by 7 "$top/examples/smooth.c" means.bin
+for text in first.c cycles.c failing.c behind.c lasso.c short.c; do
+    for workers in 1 4; do
+        comes_back_by "$workers" "$text" short.bin
+    done
+done
+# 65,536 activations, each of which but the first waits for the one before.
+cat >chain.c <<'END'
+int main(void) {
+    int s __attribute__((stream));
+    int i, x, y;
+    #pragma omp task output(s << x)
+    x = 1;
+    for (i = 1; i < 65536; i++) {
+        #pragma omp task input(s >> x) output(s << y)
+        y = x;
+    }
+}
+END
+awk 'BEGIN { for (w = 0; w < 64; w++) { printf "worker %d", w; for (f = w; f < 65536; f += 64) printf " %d", f; print "" } }' >chain.trace
+run replay chain.c nothing.bin chain.trace
+check "65,536 activations by 64 workers" 0 "" "control done / output 0 of 0"
+{ printf 'worker 0'; seq -s ' ' 65535 -1 0 | sed 's/^/ /'; } >chain.trace
+run replay chain.c nothing.bin chain.trace
+check "65,536 activations from the last to the first" 8 "" "stuck 0 frame 65535 stream 2 position 65534"
+echo "worker 0 0" >by.trace
+run replay chain.c nothing.bin by.trace --control 0
+check "a replay without turns for the control program" 1 "" "control over-budget / output 0 of 0"
+run replay chain.c nothing.bin by.trace --control 1
+check "a replay with one turn for the control program" 8 "" "short 1"
+
 # A reader that leaves: it is gone before the output comes.
 { sleep 1; "$osrun" run invert.c million.bin 2>report; echo "$?" >left; } | :
 status=$(cat left)

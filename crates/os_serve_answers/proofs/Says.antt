@@ -24,7 +24,8 @@ status_at (suc (suc (suc zero))) = statuses.Refused
 status_at (suc (suc (suc (suc zero)))) = statuses.TooLong
 status_at (suc (suc (suc (suc (suc zero))))) = statuses.ReadFault
 status_at (suc (suc (suc (suc (suc (suc zero)))))) = statuses.WriteFault
-status_at (suc (suc (suc (suc (suc (suc (suc n))))))) = statuses.NoMemory
+status_at (suc (suc (suc (suc (suc (suc (suc zero))))))) = statuses.NoMemory
+status_at (suc (suc (suc (suc (suc (suc (suc (suc n)))))))) = statuses.NotReplayed
 
 of_code : (s : Status) → status_at (code_of s) ≡ s
 of_code statuses.AllDone = refl
@@ -35,6 +36,7 @@ of_code statuses.TooLong = refl
 of_code statuses.ReadFault = refl
 of_code statuses.WriteFault = refl
 of_code statuses.NoMemory = refl
+of_code statuses.NotReplayed = refl
 
 -- a number is that of one status
 same_status : (status : ℕ) (one other : Status) → status ≡ code_of one → status ≡ code_of other → one ≡ other
@@ -149,6 +151,7 @@ module _ {J F O E : Type 0} (of_jobs : FilesView J) (jobs_old jobs : J) (run : R
   statuses_by statuses.NotAllDone at c = absurd c
   statuses_by statuses.BadWords at c = absurd c
   statuses_by statuses.Refused at c = absurd c
+  statuses_by statuses.NotReplayed at c = absurd c
   statuses_by statuses.TooLong at c = inr (omega (arith, at), omega (arith, at))
   statuses_by statuses.ReadFault at c = inr (omega (arith, at), omega (arith, at))
   statuses_by statuses.WriteFault at c = inr (omega (arith, at), omega (arith, at))
@@ -164,6 +167,7 @@ module _ {J F O E : Type 0} (of_jobs : FilesView J) (jobs_old jobs : J) (run : R
   too_long_by statuses.NotAllDone at c past fine = absurd c
   too_long_by statuses.BadWords at c past fine = absurd c
   too_long_by statuses.Refused at c past fine = absurd c
+  too_long_by statuses.NotReplayed at c past fine = absurd c
   too_long_by statuses.TooLong at c past fine = inl at
   too_long_by statuses.ReadFault at c past fine = absurd (let g = c.given.given in let f = c.fits in omega (arith, g, f, past))
   too_long_by statuses.WriteFault at c past fine = absurd (fine c.output.trouble)
@@ -181,6 +185,7 @@ module _ {J F O E : Type 0} (of_jobs : FilesView J) (jobs_old jobs : J) (run : R
   too_long_held_by statuses.NotAllDone at c held told past sound fine = absurd c
   too_long_held_by statuses.BadWords at c held told past sound fine = absurd c
   too_long_held_by statuses.Refused at c held told past sound fine = absurd c
+  too_long_held_by statuses.NotReplayed at c held told past sound fine = absurd c
   too_long_held_by statuses.TooLong at c held told past sound fine = inl at
   too_long_held_by statuses.ReadFault at c held told past sound fine = absurd (sound c.fault)
   too_long_held_by statuses.WriteFault at c held told past sound fine = absurd (fine c.output.trouble)
@@ -198,6 +203,7 @@ module _ {J F O E : Type 0} (of_jobs : FilesView J) (jobs_old jobs : J) (run : R
   complete_by statuses.NotAllDone at c fits sound fine = absurd c
   complete_by statuses.BadWords at c fits sound fine = absurd c
   complete_by statuses.Refused at c fits sound fine = absurd c
+  complete_by statuses.NotReplayed at c fits sound fine = absurd c
   complete_by statuses.TooLong at c fits sound fine = absurd (let g = c.given in let p = c.one_past in omega (arith, g, p, fits))
   complete_by statuses.ReadFault at c fits sound fine = absurd (sound c.fault)
   complete_by statuses.WriteFault at c fits sound fine = absurd (fine c.output.trouble)
@@ -215,6 +221,7 @@ module _ {J F O E : Type 0} (of_jobs : FilesView J) (jobs_old jobs : J) (run : R
   complete_held_by statuses.NotAllDone at c held told fits sound fine = absurd c
   complete_held_by statuses.BadWords at c held told fits sound fine = absurd c
   complete_held_by statuses.Refused at c held told fits sound fine = absurd c
+  complete_held_by statuses.NotReplayed at c held told fits sound fine = absurd c
   complete_held_by statuses.TooLong at c held told fits sound fine =
       absurd (let g = given_within of_jobs jobs_old jobs name c.read held told c.front in let p = c.one_past in omega (arith, g, p, fits))
   complete_held_by statuses.ReadFault at c held told fits sound fine = absurd (sound c.fault)
@@ -237,6 +244,7 @@ module _ {J F O E : Type 0} (of_jobs : FilesView J) (jobs_old jobs : J) (run : R
   answers_by statuses.NotAllDone at c = absurd c
   answers_by statuses.BadWords at c = absurd c
   answers_by statuses.Refused at c = absurd c
+  answers_by statuses.NotReplayed at c = absurd c
   answers_by statuses.TooLong at c = record {
     first = if_told (of_jobs.holds jobs_old name) _ (λ held told. all_jobs held s.lines (all_of_past of_jobs jobs_old jobs name s.lines c.read held told c.front c.one_past c.all));
     all = λ _. if_told (of_jobs.holds jobs_old name) _ (λ held told. all_of_past of_jobs jobs_old jobs name s.lines c.read held told c.front c.one_past c.all);

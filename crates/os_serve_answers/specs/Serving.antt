@@ -97,6 +97,7 @@ ServedCause of_jobs jobs_old jobs_new of_out out_old out_new of_report report_ol
     IsCutIn of_jobs jobs_old jobs_new of_out out_old out_new report_old report_new name lines replies
 ServedCause of_jobs jobs_old jobs_new of_out out_old out_new of_report report_old report_new name lines replies statuses.NoMemory =
     IsStopped of_jobs jobs_old jobs_new of_out out_old out_new report_old report_new name lines replies
+ServedCause of_jobs jobs_old jobs_new of_out out_old out_new of_report report_old report_new name lines replies statuses.NotReplayed = ⊥
 
 -- What a call leaves that serves the jobs of a file: the jobs that were answered, with what each was answered, and the status with
 -- its cause.

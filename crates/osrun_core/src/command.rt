@@ -4,7 +4,10 @@ ghost use Rattle.osrun_core_jobs.specs.Files.{MayOpen, files_of};
 ghost use Rattle.osrun_core_words.specs.Command.{command, texts};
 
 use os_io::{Files, Sink};
-use osrun_core_answer::{answer_compile, answer_exec, answer_explain, answer_gen, answer_run};
+use osrun_core_answer::{
+    answer_compile, answer_exec, answer_explain, answer_gen, answer_replay, answer_run,
+    answer_trace,
+};
 use osrun_core_jobs::{Request, Status, tell};
 use osrun_core_run::laws::never_usable_and_refused;
 use osrun_core_words::{WordsError, command};
@@ -41,6 +44,8 @@ pub fn run_words<R: Threads + Sync, F: Files, O: Sink, E: Sink, G: Gate>(
         Ok(Request::Explain(job)) => {
             answer_explain(rt, alloc, &job, files, out, report, gate).code()
         }
+        Ok(Request::Trace(job)) => answer_trace(rt, alloc, &job, files, out, report, gate).code(),
+        Ok(Request::Replay(job)) => answer_replay(alloc, &job, files, out, report).code(),
         Err(WordsError::Refused) => {
             tell(report, USAGE);
             Status::BadWords.code()

@@ -1,6 +1,6 @@
 //! Laws of what the command leaves. Each is a call that does nothing and ensures its law.
 
-ghost use Rattle.std.specs.Prelude.{◌≡◌, ◌<◌, ◌≤◌, ◌+◌, ◌⊎◌, ◌≢◌, ℕ, List, All, None, Some, IfSome, IsSomeAnd, length, slice_get, take};
+ghost use Rattle.std.specs.Prelude.{◌≡◌, ◌<◌, ◌≤◌, ◌+◌, ◌⊎◌, ◌≢◌, ℕ, List, All, None, Some, IfSome, IsSome, IsSomeAnd, length, slice_get, take};
 ghost use Rattle.std.specs.Io.KnownBytes.{append_known};
 ghost use Rattle.os_io.specs.Counts.{HasRisen, last_count, raised};
 ghost use Rattle.collector.specs.Report.{report as report_of};
@@ -9,21 +9,23 @@ ghost use Rattle.collector.specs.Written.{written};
 ghost use Rattle.osrun_core.specs.Codes.{IsObjectOfJob, IsRunOfObject};
 ghost use Rattle.osrun_core.specs.Lines.{IsLineOfJob};
 ghost use Rattle.osrun_core.specs.Read.{IsRead};
+ghost use Rattle.osrun_core.specs.Traces.{IsLineOfReplay, IsRunByTrace, IsTraceOfJob};
 ghost use Rattle.osrun_core_answer.specs.Answers.{AnswersRequest};
 ghost use Rattle.osrun_core_answer.specs.Gen.{IsRunOfGen, gen_lines};
 ghost use Rattle.osrun_core_jobs.specs.Files.{JobFile, files_of, limit_of};
-ghost use Rattle.osrun_core_jobs.specs.Jobs.{IsRequestWithin, Run as RunRequest};
+ghost use Rattle.osrun_core_jobs.specs.Jobs.{IsRequestWithin, Run as RunRequest, replay_in};
 ghost use Rattle.osrun_core_jobs.specs.Reading.{IsCauseOf, IsFailed, IsReadable, IsRejected, ReadsInOrder};
 ghost use Rattle.osrun_core_jobs.specs.Refusal.{refusal_line, refusal_status, usage_line};
 ghost use Rattle.osrun_core_jobs.specs.Status.{code_of};
 ghost use Rattle.osrun_core_jobs.specs.Telling.{HasTrouble, IsCutShort, IsUndelivered, Tells};
 ghost use Rattle.osrun_core_jobs.specs.declared.refusal.Refusal.{Refusal as Cause};
-ghost use Rattle.osrun_core_jobs.specs.declared.subject.Subject.TheVariants.{Object as ObjectFile, Program as ProgramFile};
+ghost use Rattle.osrun_core_jobs.specs.declared.subject.Subject.TheVariants.{Input as InputFile, Object as ObjectFile, Program as ProgramFile, Trace as TraceFile};
 ghost use Rattle.osrun_core_run.specs.Refusal.{IsUnusable, IsUsable};
 ghost use Rattle.osrun_core_run.specs.Run.{ProgramRun, IsRunOfJob};
-ghost use Rattle.osrun_core_words.specs.Command.{command, named_compile, named_exec, named_explain, named_gen, named_run, texts};
+ghost use Rattle.osrun_core_words.specs.Command.{command, named_compile, named_exec, named_explain, named_gen, named_replay, named_run, named_trace, texts};
 
 use os_io::{Files, Sink};
+use osrun_core_run::laws::never_usable_and_refused;
 
 /// What the record of an answer comes to, status by status: of the files and the two sinks before and after a call of the
 /// command with these words, where the call answered this status.
@@ -103,7 +105,8 @@ pub fn answers_say<F: Files, O: Sink, E: Sink>(
     // 7: want of memory, before anything is written.
     ensures memory { status ≡ 7 → report_after.now ≡ report.now }
     ensures nothing_written { 2 ≤ status → status ≢ 6 → out_after.now ≡ out.now }
-    ensures statuses { status ≤ 7 }
+    ensures statuses { status ≤ 8 }
+    ensures not_replayed_alone { status ≡ 8 → IsSome (named_replay (texts words.now)) }
 
     // With any status: a file is opened only after those before it were read, which the openings and the bytes that were given
     // show, and what the files hold where they tell it.
@@ -113,14 +116,14 @@ pub fn answers_say<F: Files, O: Sink, E: Sink>(
         → All (IsRead (F.holds files.now)) (take k (files_of (RunRequest job)))) }
 
     // Completeness: where all files of what is asked for are told, within their limits, and usable, and nothing fails, it is made
-    // and delivered, unless memory runs out.
+    // and delivered, unless memory runs out; a replay may also have told what the lists of its trace come to (8).
     ensures complete { IfSome (command (texts words.now)) (λ request. All (IsReadable IsUsable (F.holds files.now)) (files_of request)
         → (HasRisen (F.faults files.now) (F.faults files_after.now) → ⊥)
         → (HasTrouble O.Sink out.now out_after.now → ⊥)
         → (HasTrouble E.Sink report.now report_after.now → ⊥)
-        → (status < 2) ⊎ (status ≡ 7)) }
+        → (status < 2) ⊎ ((status ≡ 7) ⊎ ((status ≡ 8) × IsSome (replay_in request)))) }
 
-    // The counts where nothing failed: with 0 to 4 and 6 no read failed, with 0 and 1 no write did.
+    // The counts where nothing failed: with 0 to 4, 6 and 8 no read failed, with 0 and 1 no write did.
     ensures no_read_fault { status ≢ 5 → status ≢ 7 → F.faults files_after.now ≡ F.faults files.now }
     ensures no_write_fault { status < 2 → (O.faults out_after.now ≡ O.faults out.now) × (O.empty_takes out_after.now ≡ O.empty_takes out.now)
         × (E.faults report_after.now ≡ E.faults report.now) × (E.empty_takes report_after.now ≡ E.empty_takes report.now) }
@@ -185,8 +188,51 @@ pub fn answers_say<F: Files, O: Sink, E: Sink>(
         IsRejected IsUnusable (F.holds files.now) (record { subject = ProgramFile; name = job.program })
         → (status ≡ 3) ⊎ ((status ≡ 5) ⊎ (status ≡ 7))) }
 
+    // `trace`, 0 and 1: there is a run of the program, of which `out` took a trace, `report` took the report, and the status is its status.
+    // 6: a sink did not take all of it.
+    ensures traced { status < 2 → IfSome (named_trace (texts words.now)) (λ job. (run : ProgramRun) × (text : List ℕ)
+        × IsTraceOfJob (F.holds files.now) job (F.given files_after.now) run text
+        × (O.taken out_after.now ≡ append_known (O.taken out.now) text)
+        × (E.taken report_after.now ≡ append_known (E.taken report.now) (report_of run.control.activations (length run.input) run.ends run.control.end))
+        × (status ≡ status_of run.ends.ends run.control.end)) }
+    ensures trace_undelivered { status ≡ 6 → IfSome (named_trace (texts words.now)) (λ job. (run : ProgramRun) × (text : List ℕ)
+        × IsTraceOfJob (F.holds files.now) job (F.given files_after.now) run text
+        × IsUndelivered O.Sink out.now out_after.now text
+        E.Sink report.now report_after.now (report_of run.control.activations (length run.input) run.ends run.control.end)) }
+
+    // `replay`, 0 and 1: the lists of the trace are whole, `out` took what the run writes, `report` took the report, and the status is the
+    // run's. 6: a sink did not take all of it. 8: they aren't whole; the line that says how is told, and `out` stays as it is.
+    ensures replayed { status < 2 → IfSome (named_replay (texts words.now)) (λ job. (run : ProgramRun)
+        × IsRunByTrace (F.holds files.now) job (F.given files_after.now) run
+        × (O.taken out_after.now ≡ append_known (O.taken out.now) (written run.ends.output))
+        × (E.taken report_after.now ≡ append_known (E.taken report.now) (report_of run.control.activations (length run.input) run.ends run.control.end))
+        × (status ≡ status_of run.ends.ends run.control.end)) }
+    ensures replay_undelivered { status ≡ 6 → IfSome (named_replay (texts words.now)) (λ job. (run : ProgramRun)
+        × IsRunByTrace (F.holds files.now) job (F.given files_after.now) run
+        × IsUndelivered O.Sink out.now out_after.now (written run.ends.output)
+        E.Sink report.now report_after.now (report_of run.control.activations (length run.input) run.ends run.control.end)) }
+    ensures not_replayed { status ≡ 8 → IfSome (named_replay (texts words.now)) (λ job. (line : List ℕ)
+        × IsLineOfReplay (F.holds files.now) job (F.given files_after.now) line
+        × (out_after.now ≡ out.now) × Tells E.Sink report.now report_after.now line) }
+
+    // 3 of both: where the program is told and within its limit, and its text is refused, the status is 3, unless a read failed (5) or
+    // memory ran out (7). So it is where the program and the input can be used, and the trace is told, within its limit, and is none.
+    ensures trace_refused_always { IfSome (named_trace (texts words.now)) (λ job.
+        IsRejected IsUnusable (F.holds files.now) (record { subject = ProgramFile; name = job.program })
+        → (status ≡ 3) ⊎ ((status ≡ 5) ⊎ (status ≡ 7))) }
+    ensures replay_refused_always { IfSome (named_replay (texts words.now)) (λ job.
+        IsRejected IsUnusable (F.holds files.now) (record { subject = ProgramFile; name = job.program })
+        → (status ≡ 3) ⊎ ((status ≡ 5) ⊎ (status ≡ 7))) }
+    ensures trace_rejected_always { IfSome (named_replay (texts words.now)) (λ job.
+        IsReadable IsUsable (F.holds files.now) (record { subject = ProgramFile; name = job.program })
+        → IsReadable IsUsable (F.holds files.now) (record { subject = InputFile; name = job.input })
+        → IsRejected IsUnusable (F.holds files.now) (record { subject = TraceFile; name = job.trace })
+        → (status ≡ 3) ⊎ ((status ≡ 5) ⊎ (status ≡ 7))) }
+
     // What stays.
     ensures faults_kept { F.faults files.now ≤ F.faults files_after.now }
     ensures holds { F.holds files_after.now ≡ F.holds files.now }
     ensures may { F.may files_after.now ≡ F.may files.now }
-{}
+{
+    never_usable_and_refused();
+}

@@ -1,19 +1,26 @@
 -- What the answer to a request says.
 use Rattle.std.proofs.Common.{◌≡◌, ◌∙◌, ◌⊎◌, inl, inr, subst, ℕ, zero, suc, ◌<◌, ◌≤◌, List, [], ◌∷◌, Option, Some, None, All, IfSome, refl, sym, ap, arith, length, slice_get, take, cond, Bool, true, false}
 use Rattle.std.specs.Prelude.{string_bytes}
+use Rattle.std.specs.declared.alloc.Global.{Global}
+use Rattle.std.specs.declared.string.String.{String}
 use Rattle.std.proofs.lemmas.List.Elements.{All-get_or}
 use Rattle.std.proofs.lemmas.Option.{get_or_from_slice_get, same_Some, slice_get_within}
 use Rattle.collector.specs.Report.{report}
 use Rattle.collector.specs.Status.{status}
+use Rattle.flow_core_laws.specs.declared.control.Control.{Control}
+use Rattle.flow_core_laws.specs.declared.plan.Plan.{Plan}
+use Rattle.os_ast.specs.Trees.{ProgramTree}
 use Rattle.os_io.specs.declared.files.Files.{Ghosts as FilesView}
 use Rattle.os_io.specs.declared.sink.Sink.{Ghosts as SinkView}
 use Rattle.osrun_core_answer.specs.Answers.{AnswersRequest, HasCause, IsGiven, IsMade, asked_files}
-use Rattle.osrun_core_answer.specs.Made.{AnswersGen, IsCompiledOf, IsExecOf, IsExplainedOf, IsMadeOf, IsUnmadeOf, told_outcome}
+use Rattle.osrun_core_answer.specs.Outcome.{GivesReplay, Outcome}
+use Rattle.osrun_core_answer.specs.Made.{AnswersGen, IsCompiledOf, IsExecOf, IsExplainedOf, IsMadeOf, IsReplayedOf, IsTracedOf, IsUnmadeOf, told_outcome}
 use Rattle.osrun_core_answer.specs.declared.make_explain.Explanation.{Explanation}
+use Rattle.osrun_core_answer.specs.declared.make_trace.TracedRun.{TracedRun}
 use Rattle.osrun_core_answer.proofs.Findings.{small_status}
 use Rattle.osrun_core_jobs.specs.Files.{JobFile, files_of, limit_of}
 use Rattle.osrun_core_jobs.specs.HandsOver.{HandsOver}
-use Rattle.osrun_core_jobs.specs.Jobs.{Compile, CompileJob, Exec, ExecJob, Explain, ExplainJob, Gen, GenJob, IsExecWithin, IsExplainWithin, IsGenWithin, IsRequestWithin, IsWithin, Job, Request, Run as RunRequest}
+use Rattle.osrun_core_jobs.specs.Jobs.{Compile, CompileJob, Exec, ExecJob, Explain, ExplainJob, Gen, GenJob, IsExecWithin, IsExplainWithin, IsGenWithin, IsReplayWithin, IsRequestWithin, IsTraceWithin, IsWithin, Job, Replay as ReplayRequest, ReplayJob, Request, Run as RunRequest, Trace, TraceJob}
 use Rattle.osrun_core_jobs.specs.Reading.{IsCauseOf, IsFailed, IsReadable, IsRejected, ReadsInOrder, WasRead, WereRead}
 use Rattle.osrun_core_jobs.specs.Refusal.{refusal_status, usage_line}
 use Rattle.osrun_core_jobs.specs.Refuses.{Refuses}
@@ -26,7 +33,14 @@ use Rattle.osrun_core_jobs.specs.declared.status.Status.TheVariants as statuses
 use Rattle.osrun_core_run.specs.Laws.{NeverUsableAndRefused}
 use Rattle.osrun_core_run.specs.Reported.{IsReportOf}
 use Rattle.osrun_core_run.specs.Refusal.{IsUnusable, IsUsable}
+use Rattle.osrun_core_run.specs.ReplayLine.{IsReplayLine}
+use Rattle.osrun_core_run.specs.Run.{ends_over}
+use Rattle.osrun_core_run.specs.RunOf.{IsRunOf}
 use Rattle.osrun_core_run.specs.declared.made.Run.{Run}
+use Rattle.osrun_core_run.specs.declared.replaying.Replay.{Replay}
+use Rattle.osrun_core_run.specs.declared.replaying.Replay.TheVariants.{Whole, Told}
+use Rattle.trace_replay_laws.specs.declared.replayed.Replayed.{Replayed}
+use Rattle.trace_replay_laws.specs.declared.replayed.Replayed.TheVariants as replayed
 
 -- ---- files
 
@@ -128,6 +142,7 @@ module _ {F O E : Type 0} (of_files : FilesView F) (files_old files_new : F) (of
   given_cause statuses.ReadFault small given = absurd (omega (arith, small))
   given_cause statuses.WriteFault small given = absurd (omega (arith, small))
   given_cause statuses.NoMemory small given = absurd (omega (arith, small))
+  given_cause statuses.NotReplayed small given = absurd (omega (arith, small))
 
   module _ (both : NeverUsableAndRefused) (made : IsMade of_files files_old files_new asked) where
     reads_made : ReadsInOrder IsUsable of_files files_old files_new (asked_files asked)
@@ -149,12 +164,12 @@ module _ {F O E : Type 0} (of_files : FilesView F) (files_old files_new : F) (of
       rejected = λ file at rejected. absurd (not_rejected file at rejected);
     }
 
-    pub answers_cut : IsUndelivered of_out out_old out_new made.outcome.output of_report report_old report_new made.outcome.told
+    pub answers_cut : made.outcome.own < 2 → IsUndelivered of_out out_old out_new made.outcome.output of_report report_old report_new made.outcome.told
         → AnswersRequest of_files files_old files_new of_out out_old out_new of_report report_old report_new asked 6
-    answers_cut undelivered = record {
+    answers_cut small undelivered = record {
       answered = statuses.WriteFault;
       status_is = refl;
-      cause = record { made = made; undelivered = undelivered };
+      cause = record { made = made; own = small; undelivered = undelivered };
       reads = reads_made;
       complete = λ request is all. inr (omega arith);
       rejected = λ file at rejected. absurd (not_rejected file at rejected);
@@ -169,7 +184,19 @@ module _ {F O E : Type 0} (of_files : FilesView F) (files_old files_new : F) (of
         (answers_given own small h.0 h.1 is)
     answers_handed own s small is (inr h) =
         subst (λ x. AnswersRequest of_files files_old files_new of_out out_old out_new of_report report_old report_new asked (code_of x)) (sym h.1)
-        (answers_cut h.0)
+        (answers_cut (omega (arith, small, is)) h.0)
+
+    -- what lists of a trace come to, where there is no run, was told
+    pub answers_line : made.outcome.own ≡ 8 → out_new ≡ out_old → Tells of_report report_old report_new made.outcome.told
+        → AnswersRequest of_files files_old files_new of_out out_old out_new of_report report_old report_new asked 8
+    answers_line own kept told = record {
+      answered = statuses.NotReplayed;
+      status_is = refl;
+      cause = record { made = made; own = own; output_kept = kept; report = told };
+      reads = reads_made;
+      complete = λ request is all. inr (omega arith);
+      rejected = λ file at rejected. absurd (not_rejected file at rejected);
+    }
 
   -- want of memory
   pub answers_unmade : ReadsInOrder IsUsable of_files files_old files_new (asked_files asked) → out_new ≡ out_old → report_new ≡ report_old
@@ -358,6 +385,139 @@ module _ {F O E : Type 0} (of_files : FilesView F) (files_old files_new : F) (of
       (record { request = Explain job; is_asked = refl; within = within; contents = is.0; read = is.1; outcome = told_outcome explanation; is_outcome = is.2 })
       explanation.status s (small_status is.2.explains.finding (code_of explanation.status) is.2.explains.own_is) refl hands
 
+-- ---- a trace
+
+module _ {F O E : Type 0} (of_files : FilesView F) (files_old files_new : F) (of_out : SinkView O) (out_old out_new : O)
+    (of_report : SinkView E) (report_old report_new : E) (both : NeverUsableAndRefused) (job : TraceJob) (within : IsTraceWithin job) where
+  module _ (traced : TracedRun) (is : IsTracedOf of_files files_old files_new job traced) (own : Status) (own_is : code_of own ≡ status traced.run.ends.ends traced.run.control) where
+    abbrev run : Run
+    run = traced.run
+
+    abbrev of_run : IsRunOf job.task_budget job.control_budget is.made.program is.made.input run.output.items run.layout run.ends run.control
+    of_run = is.made.is_run
+
+    abbrev traced_told : List ℕ
+    traced_told = report of_run.made.activations run.layout.input_len run.ends run.control
+
+    abbrev made_trace : IsMade of_files files_old files_new (Some (Trace job))
+    made_trace = record {
+      request = Trace job;
+      is_asked = refl;
+      within = within;
+      contents = is.made.text ∷ is.made.input ∷ [];
+      read = is.made.read;
+      outcome = record { output = traced.text.items; told = report of_run.made.activations run.layout.input_len run.ends run.control; own = code_of own };
+      is_outcome = record {
+        text = is.made.text;
+        run = record { control = of_run.made; input = is.made.input; ends = run.ends };
+        contents_are = refl;
+        program = is.made.program;
+        is_program = is.made.is_program;
+        control_is = of_run.made_is;
+        ends_are = of_run.ends_are;
+        lists = is.traces.lists;
+        one_each = is.traces.one_each;
+        hold_the_ended = is.traces.hold_the_ended;
+        output_is = is.traces.text_is;
+        report_is = ap (λ n. report of_run.made.activations n run.ends run.control) of_run.over
+            ∙ ap (report of_run.made.activations (length is.made.input) run.ends) of_run.end_is;
+        status_is = own_is ∙ ap (status run.ends.ends) of_run.end_is;
+      };
+    }
+
+    pub answers_trace : (s : Status) → ((text : List ℕ) → IsReportOf run text → HandsOver of_out out_old out_new traced.text.items of_report report_old report_new text own s)
+        → AnswersRequest of_files files_old files_new of_out out_old out_new of_report report_old report_new (Some (Trace job)) (code_of s)
+    answers_trace s hands =
+        answers_handed of_files files_old files_new of_out out_old out_new of_report report_old report_new (Some (Trace job)) both made_trace own s
+        (choice_small _ (code_of own) own_is) refl
+        (hands traced_told (record { whole = of_run.whole; activations = of_run.made.activations; laid = of_run.laid; is_report = refl }))
+
+-- ---- a run by the lists of a trace
+
+module _ {F O E : Type 0} (of_files : FilesView F) (files_old files_new : F) (of_out : SinkView O) (out_old out_new : O)
+    (of_report : SinkView E) (report_old report_new : E) (both : NeverUsableAndRefused) (job : ReplayJob) (within : IsReplayWithin job) where
+  -- what is given of it
+  abbrev made_replay : (replay : Replay) (is : IsReplayedOf of_files files_old files_new job replay) (outcome : Outcome)
+      → GivesReplay is.program is.comes_to.made is.input job.task_budget is.comes_to.plan is.comes_to.answer outcome
+      → IsMade of_files files_old files_new (Some (ReplayRequest job))
+  made_replay replay is outcome gives = record {
+    request = ReplayRequest job;
+    is_asked = refl;
+    within = within;
+    contents = is.text ∷ is.input ∷ is.told ∷ [];
+    read = is.read;
+    outcome = outcome;
+    is_outcome = record {
+      text = is.text;
+      input = is.input;
+      told = is.told;
+      contents_are = refl;
+      program = is.program;
+      is_program = is.is_program;
+      lists = is.lists;
+      is_trace = is.is_trace;
+      made = is.comes_to.made;
+      plan = is.comes_to.plan;
+      answer = is.comes_to.answer;
+      is_replay = is.comes_to.is_replay;
+      gives = gives;
+    };
+  }
+
+  -- a run is given of lists that are whole
+  module _ (run : Run) (is : IsReplayedOf of_files files_old files_new job (Whole run)) (own : Status) (own_is : code_of own ≡ status run.ends.ends run.control) where
+    abbrev of_whole : IsRunOf job.task_budget job.control_budget is.program is.input run.output.items run.layout run.ends run.control
+    of_whole = is.comes_to.is_handed_back.1
+
+    abbrev whole_told : List ℕ
+    whole_told = report of_whole.made.activations run.layout.input_len run.ends run.control
+
+    abbrev whole_outcome : Outcome
+    whole_outcome = record { output = run.output.items; told = whole_told; own = code_of own }
+
+    -- the control program creates the same over the plan and in the run
+    same_made : of_whole.made ≡ is.comes_to.made
+    same_made = of_whole.made_is ∙ sym is.comes_to.is_replay.made_is
+
+    whole_gives : GivesReplay is.program is.comes_to.made is.input job.task_budget is.comes_to.plan is.comes_to.answer whole_outcome
+    whole_gives =
+        subst (λ (a : Replayed). GivesReplay is.program is.comes_to.made is.input job.task_budget is.comes_to.plan a whole_outcome) (sym is.comes_to.is_handed_back.0) (
+          of_whole.ends_are ∙ ap (λ (m : Control). ends_over is.program m.activations is.input job.task_budget) same_made,
+          record {
+            output_is = of_whole.writes;
+            report_is = ap (λ n. report of_whole.made.activations n run.ends run.control) of_whole.over
+                ∙ ap (report of_whole.made.activations (length is.input) run.ends) of_whole.end_is
+                ∙ ap (λ (m : Control). report m.activations (length is.input) run.ends m.end) same_made;
+            status_is = own_is ∙ ap (status run.ends.ends) of_whole.end_is ∙ ap (λ (m : Control). status run.ends.ends m.end) same_made;
+          },
+        )
+
+    pub answers_whole : (s : Status) → ((text : List ℕ) → IsReportOf run text → HandsOver of_out out_old out_new run.output.items of_report report_old report_new text own s)
+        → AnswersRequest of_files files_old files_new of_out out_old out_new of_report report_old report_new (Some (ReplayRequest job)) (code_of s)
+    answers_whole s hands =
+        answers_handed of_files files_old files_new of_out out_old out_new of_report report_old report_new (Some (ReplayRequest job)) both
+        (made_replay (Whole run) is whole_outcome whole_gives) own s
+        (choice_small _ (code_of own) own_is) refl
+        (hands whole_told (record { whole = of_whole.whole; activations = of_whole.made.activations; laid = of_whole.laid; is_report = refl }))
+
+  -- the line of an answer that isn't whole
+  line_gives : (program : ProgramTree) (made : Control) (input : List ℕ) (budget : ℕ) (plan : Plan) (answer : Replayed) (text : List ℕ)
+      → IsReplayLine plan made.activations answer text → GivesReplay program made input budget plan answer (record { output = []; told = text; own = 8 })
+  line_gives program made input budget plan (replayed.Whole ends) text is = absurd is
+  line_gives program made input budget plan (replayed.Short frame) text is = record { output_is = refl; is_line = is; status_is = refl }
+  line_gives program made input budget plan (replayed.Stuck list frame cell) text is = record { output_is = refl; is_line = is; status_is = refl }
+  line_gives program made input budget plan (replayed.Repeat frame) text is = record { output_is = refl; is_line = is; status_is = refl }
+  line_gives program made input budget plan (replayed.Stranger list place) text is = record { output_is = refl; is_line = is; status_is = refl }
+
+  pub answers_told : (text : String Global) → IsReplayedOf of_files files_old files_new job (Told text) → out_new ≡ out_old
+      → Tells of_report report_old report_new (string_bytes text)
+      → AnswersRequest of_files files_old files_new of_out out_old out_new of_report report_old report_new (Some (ReplayRequest job)) 8
+  answers_told text is kept told =
+      answers_line of_files files_old files_new of_out out_old out_new of_report report_old report_new (Some (ReplayRequest job)) both
+      (made_replay (Told text) is (record { output = []; told = string_bytes text; own = 8 })
+      (line_gives is.program is.comes_to.made is.input job.task_budget is.comes_to.plan is.comes_to.answer (string_bytes text) is.comes_to.is_handed_back))
+      refl kept told
+
 -- ---- the four lines of `gen`
 
 module _ {F O E : Type 0} (of_files : FilesView F) (files : F) (of_out : SinkView O) (out_old out_new : O) (of_report : SinkView E) (report_old report_new : E)
@@ -384,3 +544,11 @@ exec_reported view old new job run is = (
   report is.is_run.made.activations run.layout.input_len run.ends run.control,
   record { whole = is.is_run.whole; activations = is.is_run.made.activations; laid = is.is_run.laid; is_report = refl },
 )
+
+pub replay_reported : {F : Type 0} (view : FilesView F) (old new : F) (job : ReplayJob) (run : Run) → IsReplayedOf view old new job (Whole run)
+    → (text : List ℕ) × IsReportOf run text
+replay_reported view old new job run is =
+    let ran = is.comes_to.is_handed_back.1 in (
+      report ran.made.activations run.layout.input_len run.ends run.control,
+      record { whole = ran.whole; activations = ran.made.activations; laid = ran.laid; is_report = refl },
+    )

@@ -21,6 +21,9 @@ object_file name = record { subject = subjects.Object; name = name }
 abbrev pub input_file : List ℕ → JobFile
 input_file name = record { subject = subjects.Input; name = name }
 
+abbrev pub trace_file : List ℕ → JobFile
+trace_file name = record { subject = subjects.Trace; name = name }
+
 -- every name is allowed from the last value of the count of openings on
 abbrev MayAtLast : (ℕ → List ℕ → Bool) → Type 0
 MayAtLast may = (number : ℕ) (name : List ℕ) → last_count ≤ number → may number name ≡ true
@@ -39,6 +42,14 @@ pub may_open_second : (may : ℕ → List ℕ → Bool) (opens : ℕ) (first sec
 may_open_second may opens first second rest last allowed = elim (cases_lt opens last_count) [
   | inl below ↦ let next : opens + 1 ≡ raised opens 1 = omega arith in subst (λ n. IsTrue (may n second.name)) next (allowed 1 second refl (omega arith))
   | inr past ↦ let stands : last_count ≡ raised opens 1 = omega arith in subst (λ n. IsTrue (may n second.name)) stands (last last_count second.name (omega arith))
+]
+
+-- the third one's is, after both
+pub may_open_third : (may : ℕ → List ℕ → Bool) (opens : ℕ) (first second third : JobFile) (rest : List JobFile) → MayAtLast may
+    → MayOpen may opens (first ∷ second ∷ third ∷ rest) → IsTrue (may (raised (raised opens 1) 1) third.name)
+may_open_third may opens first second third rest last allowed = elim (cases_lt (opens + 1) last_count) [
+  | inl below ↦ let next : opens + 2 ≡ raised (raised opens 1) 1 = omega arith in subst (λ n. IsTrue (may n third.name)) next (allowed 2 third refl (omega arith))
+  | inr past ↦ let stands : last_count ≡ raised (raised opens 1) 1 = omega arith in subst (λ n. IsTrue (may n third.name)) stands (last last_count third.name (omega arith))
 ]
 
 module _ {F : Type 0} (view : FilesView F) (first : JobFile) where
@@ -63,9 +74,9 @@ module _ {F : Type 0} (view : FilesView F) (first : JobFile) where
 
 module _ {F : Type 0} (view : FilesView F) (first second : JobFile) where
   -- the second file is the cause, after the first one was read
-  pub cause_of_second : (old between new : F) (text : List ℕ) (r : Refusal) → WasRead IsUsable view old between first text
-      → Opened view between new second → IsFailed IsUnusable view between new second r → IsUnmadeOf view old new (first ∷ second ∷ []) r
-  cause_of_second old between new text r read opened failed = inl (record {
+  pub cause_of_second : (rest : List JobFile) (old between new : F) (text : List ℕ) (r : Refusal) → WasRead IsUsable view old between first text
+      → Opened view between new second → IsFailed IsUnusable view between new second r → IsUnmadeOf view old new (first ∷ second ∷ rest) r
+  cause_of_second rest old between new text r read opened failed = inl (record {
     place = 1;
     file = second;
     ended = record { is_there = refl; contents = text ∷ []; before = between; earlier = (between, read, refl); last = opened };
@@ -82,3 +93,28 @@ module _ {F : Type 0} (view : FilesView F) (first second : JobFile) where
       → WasRead IsUsable view between new second input → IsUnmadeOf view old new (first ∷ second ∷ []) r
   memory_wanted old between new text input r is of_first of_second =
       inr (is, inr (inl (text ∷ input ∷ [], both_read old between new text input of_first of_second)))
+
+module _ {F : Type 0} (view : FilesView F) (first second third : JobFile) where
+  -- the third file is the cause, after the others were read
+  pub cause_of_third : (old between later new : F) (text input : List ℕ) (r : Refusal) → WasRead IsUsable view old between first text
+      → WasRead IsUsable view between later second input → Opened view later new third → IsFailed IsUnusable view later new third r
+      → IsUnmadeOf view old new (first ∷ second ∷ third ∷ []) r
+  cause_of_third old between later new text input r of_first of_second opened failed = inl (record {
+    place = 2;
+    file = third;
+    ended = record { is_there = refl; contents = text ∷ input ∷ []; before = later; earlier = (between, of_first, (later, of_second, refl)); last = opened };
+    failed = failed;
+  })
+
+  -- all three were read
+  pub all_read : (old between later new : F) (text input told : List ℕ) → WasRead IsUsable view old between first text
+      → WasRead IsUsable view between later second input → WasRead IsUsable view later new third told
+      → WereRead IsUsable view old new (first ∷ second ∷ third ∷ []) (text ∷ input ∷ told ∷ [])
+  all_read old between later new text input told of_first of_second of_third = (between, of_first, (later, of_second, (new, of_third, refl)))
+
+  -- all three were read, and then memory was wanted
+  pub memory_wanted_after_three : (old between later new : F) (text input told : List ℕ) (r : Refusal) → r ≡ refusals.Memory
+      → WasRead IsUsable view old between first text → WasRead IsUsable view between later second input → WasRead IsUsable view later new third told
+      → IsUnmadeOf view old new (first ∷ second ∷ third ∷ []) r
+  memory_wanted_after_three old between later new text input told r is of_first of_second of_third =
+      inr (is, inr (inl (text ∷ input ∷ told ∷ [], all_read old between later new text input told of_first of_second of_third)))

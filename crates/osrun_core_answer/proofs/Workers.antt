@@ -23,10 +23,10 @@ use Rattle.osrun_core_answer.specs.Answers.{IsMade}
 use Rattle.osrun_core_answer.proofs.Findings.{same_finding}
 use Rattle.osrun_core_answer.specs.Explained.{finding_status}
 use Rattle.osrun_core_answer.specs.Gen.{four_lines, gen_budget, gen_lines}
-use Rattle.osrun_core_answer.specs.Laws.{IsTold, ObjectsRunAsTexts, SameButForWorkers, WorkersChangeNothing}
-use Rattle.osrun_core_answer.specs.Outcome.{IsOutcome, IsOutcomeOfExec, IsOutcomeOfExplain, IsOutcomeOfGen, IsOutcomeOfRun, Outcome}
+use Rattle.osrun_core_answer.specs.Laws.{IsTold, ObjectsRunAsTexts, SameButForWorkers, TracesReportAsRuns, TracesReportTheSame, WorkersChangeNothing}
+use Rattle.osrun_core_answer.specs.Outcome.{IsOutcome, IsOutcomeOfExec, IsOutcomeOfExplain, IsOutcomeOfGen, IsOutcomeOfRun, IsOutcomeOfTrace, Outcome}
 use Rattle.osrun_core_jobs.specs.Files.{JobFile, files_of}
-use Rattle.osrun_core_jobs.specs.Jobs.{Compile, Exec, ExecJob, Explain, ExplainJob, Gen, GenJob, Job, Request, Run as RunRequest}
+use Rattle.osrun_core_jobs.specs.Jobs.{Compile, Exec, ExecJob, Explain, ExplainJob, Gen, GenJob, Job, Replay, Request, Run as RunRequest, Trace, TraceJob, traced_run}
 use Rattle.osrun_core_jobs.specs.Reading.{WereRead}
 use Rattle.osrun_core_run.specs.Code.{IsCodeOf}
 use Rattle.osrun_core_run.specs.Refusal.{IsUsable}
@@ -104,6 +104,22 @@ is_gen_outcome_of contents job outcome o =
     same_outcome outcome (gen_outcome job o.run) o.output_is o.report_is o.status_is
     ∙ ap (gen_outcome job) (is_run_of o.is_run.program gen_budget gen_budget o.run o.is_run.control_is o.is_run.ends_are
     ∙ ap (λ input. run_of o.is_run.program input gen_budget gen_budget) o.is_run.input_is)
+
+-- the run of which a trace is written, with what `run` gives of it
+untraced : (contents : List (List ℕ)) (trace : TraceJob) (traced : Outcome) (o : IsOutcomeOfTrace contents trace traced)
+    → IsOutcomeOfRun contents (traced_run trace) (record { output = written o.run.ends.output; told = traced.told; own = traced.own })
+untraced contents trace traced o = record {
+  text = o.text;
+  run = o.run;
+  contents_are = o.contents_are;
+  program = o.program;
+  is_program = o.is_program;
+  control_is = o.control_is;
+  ends_are = o.ends_are;
+  output_is = refl;
+  report_is = o.report_is;
+  status_is = o.status_is;
+}
 
 module _ (one : OneProgram) (reading : OneReading) (walks : OneWalk) where
   of_runs : (contents : List (List ℕ)) (job other : Job) (outcome another : Outcome) → SameButForWorkers (RunRequest job) (RunRequest other)
@@ -198,6 +214,41 @@ module _ (one : OneProgram) (reading : OneReading) (walks : OneWalk) where
   change_nothing contents (Explain job) (Gen other) outcome another same o q = absurd same
   change_nothing contents (Explain job) (Compile other) outcome another same o q = absurd same
   change_nothing contents (Explain job) (Exec other) outcome another same o q = absurd same
+  change_nothing contents (RunRequest job) (Trace other) outcome another same o q = absurd same
+  change_nothing contents (RunRequest job) (Replay other) outcome another same o q = absurd same
+  change_nothing contents (Gen job) (Trace other) outcome another same o q = absurd same
+  change_nothing contents (Gen job) (Replay other) outcome another same o q = absurd same
+  change_nothing contents (Compile job) (Trace other) outcome another same o q = absurd same
+  change_nothing contents (Compile job) (Replay other) outcome another same o q = absurd same
+  change_nothing contents (Exec job) (Trace other) outcome another same o q = absurd same
+  change_nothing contents (Exec job) (Replay other) outcome another same o q = absurd same
+  change_nothing contents (Explain job) (Trace other) outcome another same o q = absurd same
+  change_nothing contents (Explain job) (Replay other) outcome another same o q = absurd same
+  change_nothing contents (Trace job) (RunRequest other) outcome another same o q = absurd same
+  change_nothing contents (Trace job) (Gen other) outcome another same o q = absurd same
+  change_nothing contents (Trace job) (Compile other) outcome another same o q = absurd same
+  change_nothing contents (Trace job) (Exec other) outcome another same o q = absurd same
+  change_nothing contents (Trace job) (Explain other) outcome another same o q = absurd same
+  change_nothing contents (Trace job) (Trace other) outcome another same o q = absurd same
+  change_nothing contents (Trace job) (Replay other) outcome another same o q = absurd same
+  change_nothing contents (Replay job) (RunRequest other) outcome another same o q = absurd same
+  change_nothing contents (Replay job) (Gen other) outcome another same o q = absurd same
+  change_nothing contents (Replay job) (Compile other) outcome another same o q = absurd same
+  change_nothing contents (Replay job) (Exec other) outcome another same o q = absurd same
+  change_nothing contents (Replay job) (Explain other) outcome another same o q = absurd same
+  change_nothing contents (Replay job) (Trace other) outcome another same o q = absurd same
+  change_nothing contents (Replay job) (Replay other) outcome another same o q = absurd same
+
+  pub report_as_runs : TracesReportAsRuns
+  report_as_runs contents trace run traced of_run same o q =
+      let as_run : Outcome = record { output = written o.run.ends.output; told = traced.told; own = traced.own } in
+      let e : as_run ≡ of_run = of_runs contents (traced_run trace) run as_run of_run same (untraced contents trace traced o) q in
+      (ap (λ x. x.told) e, ap (λ x. x.own) e)
+
+  pub report_the_same : TracesReportTheSame
+  report_the_same contents trace other traced another same o q =
+      report_as_runs contents trace (traced_run other) traced (record { output = written q.run.ends.output; told = another.told; own = another.own })
+      same o (untraced contents other another q)
 
 -- the object of a text's code runs as the text
 pub objects_run : OneProgram → OneReading → AgreeingBodiesMeanOne → ObjectsRunAsTexts
@@ -274,6 +325,30 @@ same_files (Explain job) (RunRequest other) same = absurd same
 same_files (Explain job) (Gen other) same = absurd same
 same_files (Explain job) (Compile other) same = absurd same
 same_files (Explain job) (Exec other) same = absurd same
+same_files (RunRequest job) (Trace other) same = absurd same
+same_files (RunRequest job) (Replay other) same = absurd same
+same_files (Gen job) (Trace other) same = absurd same
+same_files (Gen job) (Replay other) same = absurd same
+same_files (Compile job) (Trace other) same = absurd same
+same_files (Compile job) (Replay other) same = absurd same
+same_files (Exec job) (Trace other) same = absurd same
+same_files (Exec job) (Replay other) same = absurd same
+same_files (Explain job) (Trace other) same = absurd same
+same_files (Explain job) (Replay other) same = absurd same
+same_files (Trace job) (RunRequest other) same = absurd same
+same_files (Trace job) (Gen other) same = absurd same
+same_files (Trace job) (Compile other) same = absurd same
+same_files (Trace job) (Exec other) same = absurd same
+same_files (Trace job) (Explain other) same = absurd same
+same_files (Trace job) (Trace other) same = absurd same
+same_files (Trace job) (Replay other) same = absurd same
+same_files (Replay job) (RunRequest other) same = absurd same
+same_files (Replay job) (Gen other) same = absurd same
+same_files (Replay job) (Compile other) same = absurd same
+same_files (Replay job) (Exec other) same = absurd same
+same_files (Replay job) (Explain other) same = absurd same
+same_files (Replay job) (Trace other) same = absurd same
+same_files (Replay job) (Replay other) same = absurd same
 
 pub made_same : {F : Type 0} (view : FilesView F) (old new other_old other_new : F) → OneProgram → OneReading → OneWalk → view.holds other_old ≡ view.holds old
     → (request other : Request) → SameButForWorkers request other → All (IsTold (view.holds old)) (files_of request)

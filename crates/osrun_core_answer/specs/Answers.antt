@@ -38,10 +38,11 @@ pub record IsGiven {F O E : Type 0} (of_files : FilesView F) (files_old files_ne
   pub report : TookLines of_report report_old report_new made.outcome.told
   pub own : status ≡ made.outcome.own
 
--- 6: a sink did not take all of it.
+-- 6: a sink did not take all of it. What was meant to be given is that of a status below 2.
 pub record IsCut {F O E : Type 0} (of_files : FilesView F) (files_old files_new : F) (of_out : SinkView O) (out_old out_new : O)
     (of_report : SinkView E) (report_old report_new : E) (asked : Option Request) : Type 0 where
   pub made : IsMade of_files files_old files_new asked
+  pub own : made.outcome.own < 2
   pub undelivered : IsUndelivered of_out out_old out_new made.outcome.output of_report report_old report_new made.outcome.told
 
 -- 2: nothing is asked for, which is told; no file was touched.
@@ -69,6 +70,15 @@ pub record IsUnmade {O E : Type 0} (out_old out_new : O) (report_old report_new 
   pub output_kept : out_new ≡ out_old
   pub report_kept : report_new ≡ report_old
 
+-- 8: all files were read, and what is meant to be given is a line alone, that of a trace by which the program isn't run whole. It is
+-- told; nothing was written on the output.
+pub record IsNotReplayed {F O E : Type 0} (of_files : FilesView F) (files_old files_new : F) (out_old out_new : O)
+    (of_report : SinkView E) (report_old report_new : E) (asked : Option Request) : Type 0 where
+  pub made : IsMade of_files files_old files_new asked
+  pub own : made.outcome.own ≡ 8
+  pub output_kept : out_new ≡ out_old
+  pub report : Tells of_report report_old report_new made.outcome.told
+
 -- what each status says
 abbrev pub HasCause : {F O E : Type 0} → FilesView F → F → F → SinkView O → O → O → SinkView E → E → E → Option Request → Status
     → Type 0
@@ -88,11 +98,13 @@ HasCause of_files files_old files_new of_out out_old out_new of_report report_ol
     IsCut of_files files_old files_new of_out out_old out_new of_report report_old report_new asked
 HasCause of_files files_old files_new of_out out_old out_new of_report report_old report_new asked statuses.NoMemory =
     IsUnmade out_old out_new report_old report_new
+HasCause of_files files_old files_new of_out out_old out_new of_report report_old report_new asked statuses.NotReplayed =
+    IsNotReplayed of_files files_old files_new out_old out_new of_report report_old report_new asked
 
 -- What a call leaves where this was asked for.
 pub record AnswersRequest {F O E : Type 0} (of_files : FilesView F) (files_old files_new : F) (of_out : SinkView O) (out_old out_new : O)
     (of_report : SinkView E) (report_old report_new : E) (asked : Option Request) (status : ℕ) : Type 0 where
-  -- The status is one of the eight,
+  -- The status is one of the nine,
   pub answered : Status
   pub status_is : status ≡ code_of answered
   -- for the cause that is its own, with what the two sinks took.

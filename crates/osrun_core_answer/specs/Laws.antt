@@ -1,8 +1,8 @@
 -- That what is given doesn't depend on the number of workers, nor on whether a program is run or its object, as statements.
 use Rattle.std.specs.Prelude.{◌≡◌, ℕ, List, [], ◌∷◌, Option, Some}
-use Rattle.osrun_core_answer.specs.Outcome.{IsOutcome, IsOutcomeOfCompile, IsOutcomeOfExec, IsOutcomeOfRun, Outcome}
+use Rattle.osrun_core_answer.specs.Outcome.{IsOutcome, IsOutcomeOfCompile, IsOutcomeOfExec, IsOutcomeOfRun, IsOutcomeOfTrace, Outcome}
 use Rattle.osrun_core_jobs.specs.Files.{JobFile}
-use Rattle.osrun_core_jobs.specs.Jobs.{CompileJob, Exec, ExecJob, Explain, Gen, Job, Request, Run}
+use Rattle.osrun_core_jobs.specs.Jobs.{CompileJob, Exec, ExecJob, Explain, Gen, Job, Request, Run, TraceJob, traced_run}
 
 -- the requests are the same, but for the number of workers
 abbrev pub SameButForWorkers : Request → Request → Type 0
@@ -15,6 +15,10 @@ SameButForWorkers (Explain job) (Explain other) = (job.program ≡ other.program
     × (job.task_budget ≡ other.task_budget) × (job.control_budget ≡ other.control_budget)
 SameButForWorkers _ _ = ⊥
 
+-- the requests are the same, but for the number of workers and for the trace that is written
+abbrev pub TracesTheRun : TraceJob → Job → Type 0
+TracesTheRun trace run = SameButForWorkers (Run (traced_run trace)) (Run run)
+
 -- what the file holds is told
 abbrev pub IsTold : (List ℕ → Option (List ℕ)) → JobFile → Type 0
 IsTold holds file = (bytes : List ℕ) × (holds file.name ≡ Some bytes)
@@ -23,6 +27,21 @@ IsTold holds file = (bytes : List ℕ) × (holds file.name ≡ Some bytes)
 abbrev pub WorkersChangeNothing : Type 0
 WorkersChangeNothing = (contents : List (List ℕ)) (request other : Request) (outcome another : Outcome) → SameButForWorkers request other
     → IsOutcome contents request outcome → IsOutcome contents other another → outcome ≡ another
+
+-- `trace` is meant to give the report and the status of `run` over the same bytes, whatever the numbers of workers. So two calls of
+-- `trace` that differ in that number alone are meant to give the same report and status, while their traces may differ.
+abbrev pub TracesReportAsRuns : Type 0
+TracesReportAsRuns = (contents : List (List ℕ)) (trace : TraceJob) (run : Job) (traced of_run : Outcome) → TracesTheRun trace run
+    → IsOutcomeOfTrace contents trace traced → IsOutcomeOfRun contents run of_run → (traced.told ≡ of_run.told) × (traced.own ≡ of_run.own)
+
+-- two traces of the same run, but for the number of workers
+abbrev pub SameTracedRun : TraceJob → TraceJob → Type 0
+SameTracedRun trace other = TracesTheRun trace (traced_run other)
+
+-- over the same bytes they are meant to give the same report and status
+abbrev pub TracesReportTheSame : Type 0
+TracesReportTheSame = (contents : List (List ℕ)) (trace other : TraceJob) (traced another : Outcome) → SameTracedRun trace other
+    → IsOutcomeOfTrace contents trace traced → IsOutcomeOfTrace contents other another → (traced.told ≡ another.told) × (traced.own ≡ another.own)
 
 -- the run of a program and that of an object are asked for with the same budgets
 abbrev pub SameBudgets : Job → ExecJob → Type 0

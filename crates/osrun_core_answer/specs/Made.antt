@@ -1,19 +1,21 @@
 -- What calls on the way of a job answer.
-use Rattle.std.specs.Prelude.{◌≡◌, ◌⊎◌, ℕ, List, [], ◌∷◌, MatchResult, Result, string_bytes}
+use Rattle.std.specs.Prelude.{◌≡◌, ◌⊎◌, ◌<◌, ◌^◌, ℕ, All, List, [], ◌∷◌, MatchResult, Option, Result, length, string_bytes}
+use Rattle.flow_core_laws.specs.declared.task_end.TaskEnd.{TaskEnd}
 use Rattle.front_end.specs.Texts.{IsAccepted}
 use Rattle.os_ast.specs.Trees.{ProgramTree}
 use Rattle.os_ast.specs.Views.{program_tree}
 use Rattle.os_io.specs.declared.files.Files.{Ghosts as FilesView}
 use Rattle.os_io.specs.declared.sink.Sink.{Ghosts as SinkView}
-use Rattle.osrun_core_answer.specs.Outcome.{IsOutcome, IsOutcomeOfExplain, Outcome}
+use Rattle.osrun_core_answer.specs.Outcome.{IsOutcome, IsOutcomeOfExplain, Outcome, replay_budgets}
 use Rattle.osrun_core_answer.specs.declared.make_explain.Explanation.{Explanation}
+use Rattle.osrun_core_answer.specs.declared.make_trace.TracedRun.{TracedRun}
 use Rattle.os_code.specs.Codes.{parts_of}
 use Rattle.os_code.specs.declared.code.Code.{Code}
 use Rattle.os_code.specs.declared.parts.Parts.{Parts}
 use Rattle.os_object.specs.Object.{Spells}
 use Rattle.osrun_core_jobs.specs.Files.{JobFile, files_of}
 use Rattle.osrun_core_jobs.specs.HandsOver.{HandsOver}
-use Rattle.osrun_core_jobs.specs.Jobs.{Compile, CompileJob, Exec, ExecJob, Explain, ExplainJob, Gen, GenJob, Job, Run as RunRequest}
+use Rattle.osrun_core_jobs.specs.Jobs.{Compile, CompileJob, Exec, ExecJob, Explain, ExplainJob, Gen, GenJob, Job, Replay as ReplayRequest, ReplayJob, Run as RunRequest, Trace, TraceJob, traced_run}
 use Rattle.osrun_core_jobs.specs.Reading.{IsCauseOf, IsFailed, Opened, ReadsInOrder, WasRead, WereRead}
 use Rattle.osrun_core_jobs.specs.Status.{code_of}
 use Rattle.osrun_core_jobs.specs.declared.refusal.Refusal.{Refusal}
@@ -23,8 +25,12 @@ use Rattle.osrun_core_jobs.specs.declared.status.Status.TheVariants as statuses
 use Rattle.osrun_core_jobs.specs.declared.subject.Subject.TheVariants as subjects
 use Rattle.osrun_core_run.specs.Code.{IsCodeOf, IsObjectOf}
 use Rattle.osrun_core_run.specs.Refusal.{IsUnusable, IsUsable}
+use Rattle.osrun_core_run.specs.Replay.{IsReplay}
 use Rattle.osrun_core_run.specs.RunOf.{IsRunOf, IsRunOfCode}
 use Rattle.osrun_core_run.specs.declared.made.Run.{Run}
+use Rattle.osrun_core_run.specs.declared.replaying.Replay.{Replay}
+use Rattle.task_workers.specs.Logged.{HoldTheEnded}
+use Rattle.trace_replay_text.specs.Trace.{IsTraceOf, trace}
 use Rattle.window_check.specs.declared.checked.Checked.{Checked}
 
 -- a program was read, or it was opened and is the cause
@@ -42,6 +48,14 @@ ReadsObject view old new name result = MatchResult result
     × IsObjectOf object (parts_of code))
     (λ refusal. Opened view old new (record { subject = subjects.Object; name = name })
     × IsFailed IsUnusable view old new (record { subject = subjects.Object; name = name }) refusal)
+
+-- the lists of a trace were read, or it was opened and is the cause
+abbrev pub ReadsLists : {F : Type 0} → FilesView F → F → F → List ℕ → Result (List (List ℕ)) Refusal → Type 0
+ReadsLists view old new name result = MatchResult result
+    (λ lists. (told : List ℕ) × WasRead IsUsable view old new (record { subject = subjects.Trace; name = name }) told
+    × IsTraceOf told lists × All (λ list. length list < 2 ^ 32) lists)
+    (λ refusal. Opened view old new (record { subject = subjects.Trace; name = name })
+    × IsFailed IsUnusable view old new (record { subject = subjects.Trace; name = name }) refusal)
 
 -- the files were read, and the run is that of the one over the other
 pub record IsMadeOf {F : Type 0} (view : FilesView F) (old new : F) (job : Job) (run : Run) : Type 0 where
@@ -94,6 +108,38 @@ IsExplainedOf view old new job explanation =
 
 abbrev pub MakesExplanation : {F : Type 0} → FilesView F → F → F → ExplainJob → Result Explanation Refusal → Type 0
 MakesExplanation view old new job result = MatchResult result (IsExplainedOf view old new job) (IsUnmadeOf view old new (files_of (Explain job)))
+
+-- the text is the trace of lists, one for each worker, in which the activations with an end stand once
+pub record TracesEnded (workers : ℕ) (ends : List (Option TaskEnd)) (text : List ℕ) : Type 0 where
+  pub lists : List (List ℕ)
+  pub one_each : length lists ≡ workers
+  pub hold_the_ended : HoldTheEnded ends lists
+  pub text_is : text ≡ trace lists
+
+-- the files were read, the run is that of the one over the other, and the text is its trace
+pub record IsTracedOf {F : Type 0} (view : FilesView F) (old new : F) (job : TraceJob) (traced : TracedRun) : Type 0 where
+  pub made : IsMadeOf view old new (traced_run job) traced.run
+  pub traces : TracesEnded job.workers traced.run.ends.ends traced.text.items
+
+abbrev pub MakesTrace : {F : Type 0} → FilesView F → F → F → TraceJob → Result TracedRun Refusal → Type 0
+MakesTrace view old new job result = MatchResult result (IsTracedOf view old new job) (IsUnmadeOf view old new (files_of (Trace job)))
+
+-- the three files were read, and this came of the lists of the third one where the program of the first one was run by them over
+-- the second one
+pub record IsReplayedOf {F : Type 0} (view : FilesView F) (old new : F) (job : ReplayJob) (replay : Replay) : Type 0 where
+  pub text : List ℕ
+  pub input : List ℕ
+  pub told : List ℕ
+  pub read : WereRead IsUsable view old new (files_of (ReplayRequest job)) (text ∷ input ∷ told ∷ [])
+  pub program : ProgramTree
+  pub is_program : IsAccepted text program
+  pub lists : List (List ℕ)
+  pub is_trace : IsTraceOf told lists
+  pub comes_to : IsReplay (replay_budgets job) program input lists replay
+
+abbrev pub MakesReplay : {F : Type 0} → FilesView F → F → F → ReplayJob → Result Replay Refusal → Type 0
+MakesReplay view old new job result =
+    MatchResult result (IsReplayedOf view old new job) (IsUnmadeOf view old new (files_of (ReplayRequest job)))
 
 -- the four lines were handed over, or memory was wanted and nothing was written
 abbrev pub AnswersGen : {O E : Type 0} → SinkView O → O → O → SinkView E → E → E → GenJob → Status → Type 0

@@ -2,7 +2,7 @@
 
 ghost use Rattle.std.specs.Prelude.{◌≡◌, All, Some};
 ghost use Rattle.osrun_core_answer.specs.Answers.{IsMade};
-ghost use Rattle.osrun_core_answer.specs.Laws.{IsTold, ObjectsRunAsTexts, SameButForWorkers, WorkersChangeNothing};
+ghost use Rattle.osrun_core_answer.specs.Laws.{IsTold, ObjectsRunAsTexts, SameButForWorkers, TracesReportAsRuns, TracesReportTheSame, WorkersChangeNothing};
 ghost use Rattle.osrun_core_jobs.specs.Files.{files_of};
 ghost use Rattle.osrun_core_jobs.specs.Jobs.{Request};
 
@@ -20,6 +20,18 @@ pub fn workers_change_nothing<F: Files>(files: &F, files_after: &F, others: &F, 
     ensures made { (request other : Request) → SameButForWorkers request other → All (IsTold (F.holds files.now)) (files_of request)
         → (one : IsMade F.Files files.now files_after.now (Some request)) → (two : IsMade F.Files others.now others_after.now (Some other))
         → one.outcome ≡ two.outcome }
+{
+    one_answer();
+    one_reading();
+    one_walk();
+}
+
+/// `trace` is meant to give the report and the status of `run` over the same bytes, whatever the numbers of workers; so two calls of
+/// `trace` that differ in that number alone are meant to give the same report and status. Their traces may differ, also where the
+/// numbers don't.
+pub fn traces_report_as_runs()
+    ensures as_runs { TracesReportAsRuns }
+    ensures alike { TracesReportTheSame }
 {
     one_answer();
     one_reading();

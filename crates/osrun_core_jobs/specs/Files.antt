@@ -2,21 +2,23 @@
 use Rattle.std.specs.Prelude.{◌≡◌, ◌≤◌, ◌+◌, ℕ, Bool, List, [], ◌∷◌, IfSome, IsTrue, Option, Some, codes, length, slice_get}
 use Rattle.os_io.specs.Counts.{last_count}
 use Rattle.os_lexer.specs.Limits.{text_limit}
-use Rattle.osrun_core_jobs.specs.Jobs.{Request, Run, Gen, Compile, Exec, Explain}
+use Rattle.osrun_core_jobs.specs.Jobs.{Request, Run, Gen, Compile, Exec, Explain, Trace, Replay}
 use Rattle.osrun_core_jobs.specs.declared.subject.Subject.{Subject}
-use Rattle.osrun_core_jobs.specs.declared.subject.Subject.TheVariants.{Program, Input, Object}
+use Rattle.osrun_core_jobs.specs.declared.subject.Subject.TheVariants as subjects
 
 -- what a refusal calls such a file
 abbrev pub subject_name : Subject → List ℕ
-subject_name Program = codes "program"
-subject_name Input = codes "input"
-subject_name Object = codes "object"
+subject_name subjects.Program = codes "program"
+subject_name subjects.Input = codes "input"
+subject_name subjects.Object = codes "object"
+subject_name subjects.Trace = codes "trace"
 
 -- how many bytes such a file may have
 abbrev pub limit_of : Subject → ℕ
-limit_of Program = text_limit
-limit_of Input = 4194304
-limit_of Object = 67108864
+limit_of subjects.Program = text_limit
+limit_of subjects.Input = 4194304
+limit_of subjects.Object = 67108864
+limit_of subjects.Trace = 4194304
 
 -- a file that a job reads: what it is to the job, and its name
 pub record JobFile : Type 0 where
@@ -26,13 +28,18 @@ pub record JobFile : Type 0 where
 -- the files of what is asked for, in the order of reading
 abbrev pub files_of : Request → List JobFile
 files_of (Run job) =
-    record { subject = Program; name = job.program } ∷ record { subject = Input; name = job.input } ∷ []
+    record { subject = subjects.Program; name = job.program } ∷ record { subject = subjects.Input; name = job.input } ∷ []
 files_of (Gen job) = []
-files_of (Compile job) = record { subject = Program; name = job.program } ∷ []
+files_of (Compile job) = record { subject = subjects.Program; name = job.program } ∷ []
 files_of (Exec job) =
-    record { subject = Object; name = job.object } ∷ record { subject = Input; name = job.input } ∷ []
+    record { subject = subjects.Object; name = job.object } ∷ record { subject = subjects.Input; name = job.input } ∷ []
 files_of (Explain job) =
-    record { subject = Program; name = job.program } ∷ record { subject = Input; name = job.input } ∷ []
+    record { subject = subjects.Program; name = job.program } ∷ record { subject = subjects.Input; name = job.input } ∷ []
+files_of (Trace job) =
+    record { subject = subjects.Program; name = job.program } ∷ record { subject = subjects.Input; name = job.input } ∷ []
+files_of (Replay job) =
+    record { subject = subjects.Program; name = job.program } ∷ record { subject = subjects.Input; name = job.input }
+    ∷ record { subject = subjects.Trace; name = job.trace } ∷ []
 
 -- each opening that a job makes is allowed: the first file's at the number of openings so far, and the k-th one's at
 -- that number plus k, as far as that is no more than the last value of the count

@@ -5,8 +5,10 @@ use Rattle.osrun_core_jobs.specs.declared.job.ExecJob.{ExecJob as LentExec}
 use Rattle.osrun_core_jobs.specs.declared.job.ExplainJob.{ExplainJob as LentExplain}
 use Rattle.osrun_core_jobs.specs.declared.job.GenJob.{GenJob as LentGen}
 use Rattle.osrun_core_jobs.specs.declared.job.Job.{Job as Lent}
+use Rattle.osrun_core_jobs.specs.declared.job.ReplayJob.{ReplayJob as LentReplay}
 use Rattle.osrun_core_jobs.specs.declared.job.Request.{Request as LentRequest}
 use Rattle.osrun_core_jobs.specs.declared.job.Request.TheVariants as lent
+use Rattle.osrun_core_jobs.specs.declared.job.TraceJob.{TraceJob as LentTrace}
 
 -- a run of a program over an input, by the names of their files, with as many workers and turns
 pub record Job : Type 0 where
@@ -54,6 +56,33 @@ explained_run job = record {
   control_budget = job.control_budget;
 }
 
+-- which activations each worker of a run runs, in which order: the run of a program over an input, by the names of their
+-- files, with as many workers and turns
+pub record TraceJob : Type 0 where
+  pub program : List ℕ
+  pub input : List ℕ
+  pub workers : ℕ
+  pub task_budget : ℕ
+  pub control_budget : ℕ
+
+-- the run of which a trace is written
+abbrev pub traced_run : TraceJob → Job
+traced_run job = record {
+  program = job.program;
+  input = job.input;
+  workers = job.workers;
+  task_budget = job.task_budget;
+  control_budget = job.control_budget;
+}
+
+-- a run of a program over an input in the order that a trace tells, by the names of the three files, with as many turns
+pub record ReplayJob : Type 0 where
+  pub program : List ℕ
+  pub input : List ℕ
+  pub trace : List ℕ
+  pub task_budget : ℕ
+  pub control_budget : ℕ
+
 -- what words may ask for
 pub data Request : Type 0 where
   Run : Job → Request
@@ -61,6 +90,8 @@ pub data Request : Type 0 where
   Compile : CompileJob → Request
   Exec : ExecJob → Request
   Explain : ExplainJob → Request
+  Trace : TraceJob → Request
+  Replay : ReplayJob → Request
 
 -- the run, where it is one
 abbrev pub run_in : Request → Option Job
@@ -69,6 +100,8 @@ run_in (Gen job) = None
 run_in (Compile job) = None
 run_in (Exec job) = None
 run_in (Explain job) = None
+run_in (Trace job) = None
+run_in (Replay job) = None
 
 -- the bytes to make, where it is that
 abbrev pub gen_in : Request → Option GenJob
@@ -77,6 +110,8 @@ gen_in (Gen job) = Some job
 gen_in (Compile job) = None
 gen_in (Exec job) = None
 gen_in (Explain job) = None
+gen_in (Trace job) = None
+gen_in (Replay job) = None
 
 -- the program to compile, where it is that
 abbrev pub compile_in : Request → Option CompileJob
@@ -85,6 +120,8 @@ compile_in (Gen job) = None
 compile_in (Compile job) = Some job
 compile_in (Exec job) = None
 compile_in (Explain job) = None
+compile_in (Trace job) = None
+compile_in (Replay job) = None
 
 -- the run of an object, where it is that
 abbrev pub exec_in : Request → Option ExecJob
@@ -93,6 +130,8 @@ exec_in (Gen job) = None
 exec_in (Compile job) = None
 exec_in (Exec job) = Some job
 exec_in (Explain job) = None
+exec_in (Trace job) = None
+exec_in (Replay job) = None
 
 -- the activation to explain, where it is that
 abbrev pub explain_in : Request → Option ExplainJob
@@ -101,6 +140,28 @@ explain_in (Gen job) = None
 explain_in (Compile job) = None
 explain_in (Exec job) = None
 explain_in (Explain job) = Some job
+explain_in (Trace job) = None
+explain_in (Replay job) = None
+
+-- the run to trace, where it is that
+abbrev pub trace_in : Request → Option TraceJob
+trace_in (Run job) = None
+trace_in (Gen job) = None
+trace_in (Compile job) = None
+trace_in (Exec job) = None
+trace_in (Explain job) = None
+trace_in (Trace job) = Some job
+trace_in (Replay job) = None
+
+-- the run in the order of a trace, where it is that
+abbrev pub replay_in : Request → Option ReplayJob
+replay_in (Run job) = None
+replay_in (Gen job) = None
+replay_in (Compile job) = None
+replay_in (Exec job) = None
+replay_in (Explain job) = None
+replay_in (Trace job) = None
+replay_in (Replay job) = Some job
 
 -- the numbers of a job are within their bounds
 pub record IsWithin (job : Job) : Type 0 where
@@ -129,12 +190,24 @@ pub record IsExplainWithin (job : ExplainJob) : Type 0 where
   pub task_turns : job.task_budget ≤ 1000000000
   pub control_turns : job.control_budget ≤ 1000000000
 
+pub record IsTraceWithin (job : TraceJob) : Type 0 where
+  pub some_workers : 1 ≤ job.workers
+  pub few_workers : job.workers ≤ 64
+  pub task_turns : job.task_budget ≤ 1000000000
+  pub control_turns : job.control_budget ≤ 1000000000
+
+pub record IsReplayWithin (job : ReplayJob) : Type 0 where
+  pub task_turns : job.task_budget ≤ 1000000000
+  pub control_turns : job.control_budget ≤ 1000000000
+
 abbrev pub IsRequestWithin : Request → Type 0
 IsRequestWithin (Run job) = IsWithin job
 IsRequestWithin (Gen job) = IsGenWithin job
 IsRequestWithin (Compile job) = Unit {0}
 IsRequestWithin (Exec job) = IsExecWithin job
 IsRequestWithin (Explain job) = IsExplainWithin job
+IsRequestWithin (Trace job) = IsTraceWithin job
+IsRequestWithin (Replay job) = IsReplayWithin job
 
 -- ---- what the code's values show
 
@@ -173,9 +246,29 @@ explain_of job = record {
   control_budget = job.terms.control_budget;
 }
 
+abbrev pub trace_of : LentTrace → TraceJob
+trace_of job = record {
+  program = job.program.now;
+  input = job.input.now;
+  workers = job.terms.workers;
+  task_budget = job.terms.task_budget;
+  control_budget = job.terms.control_budget;
+}
+
+abbrev pub replay_of : LentReplay → ReplayJob
+replay_of job = record {
+  program = job.program.now;
+  input = job.input.now;
+  trace = job.trace.now;
+  task_budget = job.task_budget;
+  control_budget = job.control_budget;
+}
+
 abbrev pub request_of : LentRequest → Request
 request_of (lent.Run job) = Run (job_of job)
 request_of (lent.Gen job) = Gen (gen_of job)
 request_of (lent.Compile job) = Compile (compile_of job)
 request_of (lent.Exec job) = Exec (exec_of job)
 request_of (lent.Explain job) = Explain (explain_of job)
+request_of (lent.Trace job) = Trace (trace_of job)
+request_of (lent.Replay job) = Replay (replay_of job)

@@ -1,7 +1,7 @@
 -- The statuses of the command.
 use Rattle.std.specs.Prelude.{ℕ}
 use Rattle.osrun_core_jobs.specs.declared.status.Status.{Status}
-use Rattle.osrun_core_jobs.specs.declared.status.Status.TheVariants.{AllDone, NotAllDone, BadWords, Refused, TooLong, ReadFault, WriteFault, NoMemory}
+use Rattle.osrun_core_jobs.specs.declared.status.Status.TheVariants.{AllDone, NotAllDone, BadWords, Refused, TooLong, ReadFault, WriteFault, NoMemory, NotReplayed}
 
 -- the number with which the process ends
 abbrev pub code_of : Status → ℕ
@@ -13,3 +13,4 @@ code_of TooLong = 4
 code_of ReadFault = 5
 code_of WriteFault = 6
 code_of NoMemory = 7
+code_of NotReplayed = 8

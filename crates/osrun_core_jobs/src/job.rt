@@ -63,6 +63,33 @@ pub struct ExplainJob<'w> {
     pub terms: Terms,
 }
 
+/// Which activations each worker of a run runs, in which order. The run is that of a program over an input, by the names of
+/// their files; it is made whole over one table.
+#[derive(Clone, Copy, Debug)]
+pub struct TraceJob<'w> {
+    /// The name of the program's file.
+    pub program: &'w str,
+    /// The name of the input's file.
+    pub input: &'w str,
+    /// With how many workers and turns.
+    pub terms: Terms,
+}
+
+/// A run of a program over an input, in the order that a trace tells. All three are names of files.
+#[derive(Clone, Copy, Debug)]
+pub struct ReplayJob<'w> {
+    /// The name of the program's file.
+    pub program: &'w str,
+    /// The name of the input's file.
+    pub input: &'w str,
+    /// The name of the trace's file.
+    pub trace: &'w str,
+    /// How many turns each task may take, up to 1,000,000,000.
+    pub task_budget: u64,
+    /// How many turns the control program may take, up to 1,000,000,000.
+    pub control_budget: u64,
+}
+
 /// What the words ask for.
 #[derive(Clone, Copy, Debug)]
 pub enum Request<'w> {
@@ -76,4 +103,8 @@ pub enum Request<'w> {
     Exec(ExecJob<'w>),
     /// To tell why an activation never runs.
     Explain(ExplainJob<'w>),
+    /// To run a program over an input, and to write which activations each worker ran.
+    Trace(TraceJob<'w>),
+    /// To run a program over an input in the order that a trace tells.
+    Replay(ReplayJob<'w>),
 }

@@ -18,7 +18,7 @@ mod subject;
 mod telling;
 
 pub use delivering::{Lines, NoLines, deliver};
-pub use job::{CompileJob, ExecJob, ExplainJob, GenJob, Job, Request, Terms};
+pub use job::{CompileJob, ExecJob, ExplainJob, GenJob, Job, ReplayJob, Request, Terms, TraceJob};
 pub use loading::load;
 pub use refusal::Refusal;
 pub use status::Status;

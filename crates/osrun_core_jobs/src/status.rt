@@ -21,10 +21,12 @@ pub enum Status {
     WriteFault = 6,
     /// Memory could not be had.
     NoMemory = 7,
+    /// A trace was read, and the program can't be run whole in the order that it tells.
+    NotReplayed = 8,
 }
 
 impl Status {
-    /// The status of the process, 0 to 7.
+    /// The status of the process, 0 to 8.
     pub fn code(self) -> u8
         ensures { result ≡ code_of self }
     {

@@ -12,6 +12,8 @@ pub enum Subject {
     Input,
     /// The object of a code.
     Object,
+    /// The trace of a run.
+    Trace,
 }
 
 impl Subject {
@@ -23,6 +25,7 @@ impl Subject {
             Subject::Program => TEXT_LIMIT as u64,
             Subject::Input => 4_194_304,
             Subject::Object => 67_108_864,
+            Subject::Trace => 4_194_304,
         }
     }
 
@@ -34,6 +37,7 @@ impl Subject {
             Subject::Program => b"program",
             Subject::Input => b"input",
             Subject::Object => b"object",
+            Subject::Trace => b"trace",
         }
     }
 }

@@ -3,9 +3,14 @@ pub mod BodyBytes
 pub mod Bytes
 pub mod FewWritten
 pub mod Filling
+pub mod HandedBack
+pub mod InputPlaces
 pub mod MachineBytes
+pub mod ManyPlans
 pub mod Objects
+pub mod Replays
 pub mod RunLaws
 pub mod TasksRun
 pub mod Telling
+pub mod Traces
 pub mod WrittenBytes

@@ -11,11 +11,12 @@ use Rattle.os_object.specs.declared.object_error.ObjectError.{ObjectError}
 use Rattle.os_object.specs.declared.object_error.ObjectError.TheVariants as errors
 use Rattle.osrun_core_jobs.specs.declared.refusal.Refusal.{Refusal}
 use Rattle.osrun_core_jobs.specs.declared.refusal.Refusal.TheVariants as refusals
-use Rattle.osrun_core_jobs.specs.declared.subject.Subject.TheVariants.{Input, Object, Program}
+use Rattle.osrun_core_jobs.specs.declared.subject.Subject.TheVariants.{Input, Object, Program, Trace}
 use Rattle.osrun_core_run.specs.Accepting.{object_refusal}
 use Rattle.osrun_core_run.specs.Code.{IsObjectOf}
 use Rattle.osrun_core_run.specs.Laws.{NeverUsableAndRefused}
 use Rattle.osrun_core_run.specs.Refusal.{IsRefusalAs}
+use Rattle.trace_replay_text.specs.Laws.{TracesAreTold}
 
 -- an error of an object is told as what is wrong with it
 pub object_told : (bytes : List ℕ) (e : ObjectError) → ((parts : Parts) → Spells bytes parts → IsReadAs parts (Err e))
@@ -43,10 +44,12 @@ object_not_refused one bytes parts is (refusals.ReadFault _) h = h
 object_not_refused one bytes parts is refusals.Memory h = h
 
 -- nor are the bytes of another file
-pub never_both : NeverBoth → OneReading → NeverUsableAndRefused
-never_both both one Program bytes code (Some line) usable refused = both bytes usable.0 code line usable.1 refused
-never_both both one Program bytes code None usable refused = refused
-never_both both one Input bytes code line usable refused = refused
-never_both both one Object bytes code (Some line) usable refused = refused
-never_both both one Object bytes code None usable refused =
+pub never_both : NeverBoth → OneReading → TracesAreTold → NeverUsableAndRefused
+never_both both one told Program bytes code (Some line) usable refused = both bytes usable.0 code line usable.1 refused
+never_both both one told Program bytes code None usable refused = refused
+never_both both one told Input bytes code line usable refused = refused
+never_both both one told Object bytes code (Some line) usable refused = refused
+never_both both one told Object bytes code None usable refused =
     object_not_refused one bytes usable.0 usable.1 (refusals.Refused code None) refused
+never_both both one told Trace bytes code (Some line) usable refused = told.not_both bytes usable.0 line usable.1 refused.1
+never_both both one told Trace bytes code None usable refused = refused

@@ -1,16 +1,21 @@
 -- What a run on the machine comes to is what the program's activations come to.
-use Rattle.std.proofs.Common.{◌≡◌, ℕ, ℤ, List, All, Option, Some, None, length, get_or, slice_get, refl, sym, ap, ◌∙◌, subst}
+use Rattle.std.proofs.Common.{◌≡◌, ℕ, ℤ, List, All, Option, Some, length, slice_get, sym, ap, ◌∙◌, subst}
 use Rattle.std.specs.Prelude.{IfOk, Result, Ok, Err}
-use Rattle.std.specs.Option.{ForSome, option_map_or}
+use Rattle.std.specs.Option.{option_map_or}
 use Rattle.std.proofs.lemmas.List.Elements.{All-get_or}
 use Rattle.std.proofs.lemmas.Option.{get_or_from_slice_get, slice_get_within}
 use Rattle.cddf_meaning.specs.Body.{body, over_budget}
 use Rattle.collector.specs.Written.{IsByteIfThere}
 use Rattle.epoch_run.specs.declared.result.RunResult.{RunResult}
-use Rattle.flow_core_laws.specs.Streams.{stream_ends}
+use Rattle.flow_core_laws.specs.Laws.{MeansTheStreams, SinkIsTheOutput}
+use Rattle.flow_core_laws.specs.Outcome.{ends_of}
+use Rattle.flow_core_laws.specs.Plans.{plan_meaning, sink_elements}
+use Rattle.flow_core_laws.specs.StandsFor.{StandsFor}
+use Rattle.flow_core_laws.specs.Streams.{output_elements, stream_ends, stream_meaning}
 use Rattle.flow_core_laws.specs.declared.activation.Activation.{Activation}
 use Rattle.flow_core_laws.specs.declared.control.ControlEnd.{ControlEnd}
 use Rattle.flow_core_laws.specs.declared.ends.Ends.{Ends}
+use Rattle.flow_core_laws.specs.declared.plan.Plan.{Plan}
 use Rattle.lowering.specs.Meanings.{RunsBodies}
 use Rattle.os_ast.specs.Trees.{ProgramTree}
 use Rattle.os_code.specs.IsValid.{IsValid}
@@ -22,21 +27,41 @@ use Rattle.osrun_core_run.specs.Code.{IsCodeOf}
 use Rattle.osrun_core_run.specs.Run.{body_at, ends_over}
 use Rattle.osrun_core_run.specs.RunOf.{IsRunOf, IsRunOfCode}
 use Rattle.epoch_run_bodies.specs.Frames.{code_ends, frame_outcome}
-use Rattle.flow_core_laws.specs.Byte.{IsByte}
 use Rattle.epoch_run_bodies.specs.Laws.{Agree, AgreeingBodiesMeanOne}
 use Rattle.osrun_core_run.specs.BodyLaws.{CodesGiveBytes, GivesBytes, OutputsAreBytes}
 use Rattle.stream_match_layouts.specs.declared.layout.Layout.{Layout}
+use Rattle.task_workers.specs.declared.logged.Logged.{Logged}
 
 -- an activation of those that fit
 fits_at : (code : Parts) (activations : List Activation) → All (Fits code) activations → (a : ℕ) (x : Activation) → slice_get activations a ≡ Some x → Fits code x
 fits_at code activations fit a x at =
     subst (Fits code) (get_or_from_slice_get activations a x x at) (All-get_or (Fits code) activations a x (slice_get_within activations a x at) fit)
 
+-- ---- a plan on the machine comes to what the activations of its code come to
+
+module _ (code : Parts) (activations : List Activation) (budget : ℕ) where
+  pub ends_are : MeansTheStreams → SinkIsTheOutput → (plan : Plan) (input : List ℕ) (ends : Ends) → StandsFor plan activations input
+      → ends.ends ≡ ends_of (plan_meaning plan (frame_outcome code activations budget)) → ends.output ≡ sink_elements plan (plan_meaning plan (frame_outcome code activations budget))
+      → ends ≡ code_ends code activations input budget
+  ends_are means sink plan input ends stands of_ends of_output =
+      let state = stream_meaning activations input (frame_outcome code activations budget) in
+      let meant : plan_meaning plan (frame_outcome code activations budget) ≡ state = means plan activations input (frame_outcome code activations budget) stands in
+      let es : ends.ends ≡ ends_of state = of_ends ∙ ap ends_of meant in
+      let os : ends.output ≡ output_elements activations input state = of_output ∙ ap (sink_elements plan) meant ∙ sink plan activations input state stands in
+      ap (λ xs. record { ends = xs; output = ends.output }) es ∙ ap (λ xs. record { ends = ends_of state; output = xs }) os
+
+  pub logged_if : {E : Type 0} → MeansTheStreams → SinkIsTheOutput → (plan : Plan) (input : List ℕ) → StandsFor plan activations input → (r : Result Logged E)
+      → IfOk r (λ (l : Logged). l.ends.ends ≡ ends_of (plan_meaning plan (frame_outcome code activations budget)))
+      → IfOk r (λ (l : Logged). l.ends.output ≡ sink_elements plan (plan_meaning plan (frame_outcome code activations budget)))
+      → IfOk r (λ (l : Logged). l.ends ≡ code_ends code activations input budget)
+  logged_if means sink plan input stands (Ok logged) of_ends of_output = ends_are means sink plan input logged.ends stands of_ends of_output
+  logged_if means sink plan input stands (Err error) of_ends of_output = tt
+
 -- ---- a code of a program comes to what the program does
 
 module _ (code : Parts) (p : ProgramTree) (activations : List Activation) (budget : ℕ) (runs : RunsBodies code p) (fit : All (Fits code) activations) where
   -- the machine makes of each activation what the body of its task does
-  agree : Agree activations (frame_outcome code activations budget) (body_at p activations budget)
+  pub agree : Agree activations (frame_outcome code activations budget) (body_at p activations budget)
   agree a x inputs at long =
       ap (λ o. option_map_or (λ (y : Activation). machine.task_outcome code y inputs budget) o machine.over_budget) at
       ∙ runs x inputs budget (fits_at code activations fit a x at) long
@@ -87,3 +112,10 @@ pub bytes_if : {E : Type 0} → CodesGiveBytes → OutputsAreBytes → (code : P
 bytes_if codes bytes code valid activations input budget (Ok run) fit is =
     subst (λ (e : Ends). All IsByteIfThere e.output) (sym is) (code_bytes_are codes bytes code valid activations fit input budget)
 bytes_if codes bytes code valid activations input budget (Err error) fit is = tt
+
+pub logged_bytes_if : {E : Type 0} → CodesGiveBytes → OutputsAreBytes → (code : Parts) → IsValid code → (activations : List Activation)
+    → All (Fits code) activations → (input : List ℕ) (budget : ℕ) (r : Result Logged E)
+    → IfOk r (λ (l : Logged). l.ends ≡ code_ends code activations input budget) → IfOk r (λ (l : Logged). All IsByteIfThere l.ends.output)
+logged_bytes_if codes bytes code valid activations fit input budget (Ok logged) is =
+    subst (λ (e : Ends). All IsByteIfThere e.output) (sym is) (code_bytes_are codes bytes code valid activations fit input budget)
+logged_bytes_if codes bytes code valid activations fit input budget (Err error) is = tt

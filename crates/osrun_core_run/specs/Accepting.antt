@@ -1,4 +1,4 @@
--- What an error of a text or of an object is told as.
+-- What an error of a text, of an object or of a trace is told as.
 use Rattle.std.specs.Prelude.{None, Some}
 use Rattle.front_end.specs.declared.text_error.TextError.{TextError}
 use Rattle.front_end.specs.declared.text_error.TextError.TheVariants as errors
@@ -6,6 +6,8 @@ use Rattle.os_object.specs.declared.object_error.ObjectError.{ObjectError}
 use Rattle.os_object.specs.declared.object_error.ObjectError.TheVariants as objects
 use Rattle.osrun_core_jobs.specs.declared.refusal.Refusal.{Refusal}
 use Rattle.osrun_core_jobs.specs.declared.refusal.Refusal.TheVariants as refusals
+use Rattle.trace_replay_text.specs.declared.trace_error.TraceError.{TraceError}
+use Rattle.trace_replay_text.specs.declared.trace_error.TraceError.TheVariants as traces
 
 abbrev pub text_refusal : TextError → Refusal
 text_refusal (errors.Refused code line) = refusals.Refused code (Some line)
@@ -15,3 +17,7 @@ abbrev pub object_refusal : ObjectError → Refusal
 object_refusal objects.Format = refusals.Refused 30 None
 object_refusal objects.Invalid = refusals.Refused 31 None
 object_refusal objects.Memory = refusals.Memory
+
+abbrev pub trace_refusal : TraceError → Refusal
+trace_refusal (traces.Line line) = refusals.Refused 40 (Some line)
+trace_refusal traces.Memory = refusals.Memory

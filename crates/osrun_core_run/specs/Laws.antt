@@ -5,15 +5,23 @@ use Rattle.collector.specs.Laws.{HasItsLines}
 use Rattle.collector.specs.Reported.{AreOfState}
 use Rattle.collector.specs.Status.{status}
 use Rattle.collector.specs.Written.{IsByteIfThere, written}
+use Rattle.epoch_run.specs.declared.result.Budgets.{Budgets}
 use Rattle.flow_core_laws.specs.Place.{written_count}
 use Rattle.flow_core_laws.specs.declared.activation.Activation.{Activation}
+use Rattle.flow_core_laws.specs.declared.control.Control.{Control}
+use Rattle.flow_core_laws.specs.declared.ends.Ends.{Ends}
+use Rattle.flow_core_laws.specs.declared.plan.Plan.{Plan}
 use Rattle.os_ast.specs.Trees.{ProgramTree}
 use Rattle.os_code.specs.Tasks.{input_count}
 use Rattle.osrun_core_jobs.specs.Jobs.{Job}
 use Rattle.osrun_core_jobs.specs.declared.subject.Subject.{Subject}
 use Rattle.osrun_core_run.specs.Refusal.{IsUnusable, IsUsable}
+use Rattle.osrun_core_run.specs.Replay.{IsReplayOf}
+use Rattle.osrun_core_run.specs.ReplayLine.{IsReplayLine}
 use Rattle.osrun_core_run.specs.Run.{IsRunOfJob, ProgramRun}
 use Rattle.osrun_core_run.specs.BodyLaws.{GivesBytes}
+use Rattle.trace_replay_laws.specs.declared.replayed.Replayed.{Replayed}
+use Rattle.trace_replay_laws.specs.declared.replayed.Replayed.TheVariants.{Whole}
 
 -- no bytes are usable as a file of a job and refused as one
 abbrev pub NeverUsableAndRefused : Type 0
@@ -24,6 +32,14 @@ NeverUsableAndRefused = (subject : Subject) (bytes : List ℕ) (code : ℕ) (lin
 abbrev pub BodiesGiveBytes : Type 0
 BodiesGiveBytes = (p : ProgramTree) (a : Activation) (inputs : List ℤ) (budget : ℕ) → length inputs ≡ input_count a
     → GivesBytes a (body p a inputs budget)
+
+-- A program that is run by lists comes to one thing, whatever plan stands for its activations: where the lists are whole the ends
+-- are the same, and elsewhere the line is.
+abbrev pub HasOneReplay : Type 0
+HasOneReplay = (budgets : Budgets) (p : ProgramTree) (input : List ℕ) (lists : List (List ℕ)) (made made_too : Control) (plan other : Plan)
+    (answer another : Replayed) → IsReplayOf budgets p input lists made plan answer → IsReplayOf budgets p input lists made_too other another
+    → (made ≡ made_too) × ((ends : Ends) → answer ≡ Whole ends → another ≡ Whole ends)
+    × ((text also : List ℕ) → IsReplayLine plan made.activations answer text → IsReplayLine other made_too.activations another also → text ≡ also)
 
 -- a fact of every run of a job
 abbrev pub OfRuns : (ProgramRun → Type 0) → Type 0

@@ -7,16 +7,18 @@ use Rattle.os_code.specs.declared.parts.Parts.{Parts}
 use Rattle.os_object.specs.Object.{Spells}
 use Rattle.osrun_core_run.specs.Code.{IsObjectOf}
 use Rattle.osrun_core_jobs.specs.declared.subject.Subject.{Subject}
-use Rattle.osrun_core_jobs.specs.declared.subject.Subject.TheVariants.{Program, Input, Object}
+use Rattle.osrun_core_jobs.specs.declared.subject.Subject.TheVariants.{Program, Input, Object, Trace}
 use Rattle.osrun_core_jobs.specs.declared.refusal.Refusal.{Refusal}
 use Rattle.osrun_core_jobs.specs.declared.refusal.Refusal.TheVariants as refusals
+use Rattle.trace_replay_text.specs.Trace.{IsFirstWrongLine, IsTraceOf}
 
--- Bytes are usable as such a file: those of the program are accepted as one, each input is one, and an object is that of a valid
--- code.
+-- Bytes are usable as such a file: those of the program are accepted as one, each input is one, an object is that of a valid
+-- code, and a trace is that of the lists of some workers.
 abbrev pub IsUsable : Subject → List ℕ → Type 0
 IsUsable Program bytes = (p : ProgramTree) × IsAccepted bytes p
 IsUsable Input bytes = Unit {0}
 IsUsable Object bytes = (code : Parts) × IsObjectOf bytes code
+IsUsable Trace bytes = (lists : List (List ℕ)) × IsTraceOf bytes lists
 
 -- An object is refused by the code 30 exactly where the bytes spell no parts of a code, and by 31 exactly where they spell parts
 -- that aren't valid.
@@ -25,13 +27,16 @@ IsNoObject bytes code = ((code ≡ 30) × ((parts : Parts) → Spells bytes part
     ⊎ ((code ≡ 31) × ((parts : Parts) × Spells bytes parts × (IsValid parts → ⊥)))
 
 -- They are refused as such a file: a text by a code and a line, those of its first fault, of the place where it stops being the
--- front of a program, or of its least violation. No input is refused. An object is refused by a code alone.
+-- front of a program, or of its least violation. No input is refused. An object is refused by a code alone. A trace
+-- is refused by the code 40 and its first line that isn't a trace's.
 abbrev pub IsUnusable : Subject → List ℕ → ℕ → Option ℕ → Type 0
 IsUnusable Program bytes code (Some line) = IsRefused bytes code line
 IsUnusable Program bytes code None = ⊥
 IsUnusable Input bytes code line = ⊥
 IsUnusable Object bytes code (Some line) = ⊥
 IsUnusable Object bytes code None = IsNoObject bytes code
+IsUnusable Trace bytes code (Some line) = (code ≡ 40) × IsFirstWrongLine bytes line
+IsUnusable Trace bytes code None = ⊥
 
 -- the bytes of such a file are refused so
 abbrev pub IsRefusalAs : Subject → List ℕ → Refusal → Type 0

@@ -1,15 +1,19 @@
 ghost use Rattle.std.specs.Prelude.{◌≡◌};
-ghost use Rattle.osrun_core_run.specs.Accepting.{object_refusal, text_refusal};
+ghost use Rattle.osrun_core_run.specs.Accepting.{object_refusal, text_refusal, trace_refusal};
 
 use front_end::TextError;
 use os_object::ObjectError;
 use osrun_core_jobs::Refusal;
+use trace_replay::TraceError;
 
 /// The code by which bytes are refused that spell no parts of a code.
 const NO_PARTS: u8 = 30;
 
 /// The code by which parts are refused that aren't valid.
 const NOT_VALID: u8 = 31;
+
+/// The code by which bytes are refused that are no trace.
+const NO_TRACE: u8 = 40;
 
 /// What an error of a text is told as.
 pub(crate) fn text_refusal(error: TextError) -> Refusal
@@ -38,5 +42,18 @@ pub(crate) fn object_refusal(error: ObjectError) -> Refusal
             line: None,
         },
         ObjectError::Memory => Refusal::Memory,
+    }
+}
+
+/// What an error of a trace is told as.
+pub(crate) fn trace_refusal(error: TraceError) -> Refusal
+    ensures { result ≡ trace_refusal error }
+{
+    match error {
+        TraceError::Line(line) => Refusal::Refused {
+            code: NO_TRACE,
+            line: Some(line),
+        },
+        TraceError::Memory => Refusal::Memory,
     }
 }

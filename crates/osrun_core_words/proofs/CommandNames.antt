@@ -18,9 +18,10 @@ unequal word first other = by (bytes_eq word first) refl
 pub none_named : (words : List (String Global)) (first : String Global) → slice_get words 0 ≡ Some first
     → (string_bytes first ≡ codes "run" → ⊥) → (string_bytes first ≡ codes "gen" → ⊥)
     → (string_bytes first ≡ codes "compile" → ⊥) → (string_bytes first ≡ codes "exec" → ⊥)
-    → (string_bytes first ≡ codes "explain" → ⊥) → command (texts words) ≡ None
-none_named [] first at run gen compile exec explain = refl
-none_named (word ∷ rest) first at run gen compile exec explain =
+    → (string_bytes first ≡ codes "explain" → ⊥) → (string_bytes first ≡ codes "trace" → ⊥)
+    → (string_bytes first ≡ codes "replay" → ⊥) → command (texts words) ≡ None
+none_named [] first at run gen compile exec explain trace replay = refl
+none_named (word ∷ rest) first at run gen compile exec explain trace replay =
     let same : word ≡ first = cc in
     let is : string_bytes word ≡ string_bytes first = ap string_bytes same in
     rw (
@@ -29,4 +30,6 @@ none_named (word ∷ rest) first at run gen compile exec explain =
       unequal (codes "compile") (string_bytes word) (λ e. compile (sym is ∙ e)),
       unequal (codes "exec") (string_bytes word) (λ e. exec (sym is ∙ e)),
       unequal (codes "explain") (string_bytes word) (λ e. explain (sym is ∙ e)),
+      unequal (codes "trace") (string_bytes word) (λ e. trace (sym is ∙ e)),
+      unequal (codes "replay") (string_bytes word) (λ e. replay (sym is ∙ e)),
     ) refl

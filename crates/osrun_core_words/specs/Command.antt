@@ -5,7 +5,7 @@ use Rattle.std.specs.declared.string.String.{String}
 use Rattle.std.specs.declared.alloc.Global.{Global}
 use Rattle.clap.specs.Words.{App, Kinds, Row, Text, fault_of, matches_of}
 use Rattle.osrun_core_words.specs.Arguments.{Argument, name, number, option, name_in, number_in, simple_command}
-use Rattle.osrun_core_jobs.specs.Jobs.{Compile, CompileJob, Exec, ExecJob, Explain, ExplainJob, Gen, GenJob, Job, Request, Run, compile_in, exec_in, explain_in, gen_in, run_in}
+use Rattle.osrun_core_jobs.specs.Jobs.{Compile, CompileJob, Exec, ExecJob, Explain, ExplainJob, Gen, GenJob, Job, Replay, ReplayJob, Request, Run, Trace, TraceJob, compile_in, exec_in, explain_in, gen_in, replay_in, run_in, trace_in}
 
 -- ---- the commands
 
@@ -91,8 +91,38 @@ explain_form = record {
   });
 }
 
+-- `trace PROGRAM INPUT [--workers N] [--budget N] [--control N]`
+abbrev pub trace_form : CommandForm
+trace_form = record {
+  word = codes "trace";
+  arguments =
+      name (codes "PROGRAM") ∷ name (codes "INPUT") ∷ workers ∷ task_budget ∷ control_budget ∷ [];
+  request = λ rows. Trace (record {
+    program = name_in rows (codes "PROGRAM");
+    input = name_in rows (codes "INPUT");
+    workers = number_in rows (codes "workers");
+    task_budget = number_in rows (codes "budget");
+    control_budget = number_in rows (codes "control");
+  });
+}
+
+-- `replay PROGRAM INPUT TRACE [--budget N] [--control N]`
+abbrev pub replay_form : CommandForm
+replay_form = record {
+  word = codes "replay";
+  arguments =
+      name (codes "PROGRAM") ∷ name (codes "INPUT") ∷ name (codes "TRACE") ∷ task_budget ∷ control_budget ∷ [];
+  request = λ rows. Replay (record {
+    program = name_in rows (codes "PROGRAM");
+    input = name_in rows (codes "INPUT");
+    trace = name_in rows (codes "TRACE");
+    task_budget = number_in rows (codes "budget");
+    control_budget = number_in rows (codes "control");
+  });
+}
+
 abbrev pub commands : List CommandForm
-commands = run_form ∷ gen_form ∷ compile_form ∷ exec_form ∷ explain_form ∷ []
+commands = run_form ∷ gen_form ∷ compile_form ∷ exec_form ∷ explain_form ∷ trace_form ∷ replay_form ∷ []
 
 -- ---- the words
 
@@ -136,6 +166,14 @@ named_exec words = option_and_then exec_in (command words)
 -- the activation that the words ask to be explained
 abbrev pub named_explain : List Text → Option ExplainJob
 named_explain words = option_and_then explain_in (command words)
+
+-- the run that the words ask to be traced
+abbrev pub named_trace : List Text → Option TraceJob
+named_trace words = option_and_then trace_in (command words)
+
+-- the run that the words ask to be made in the order of a trace
+abbrev pub named_replay : List Text → Option ReplayJob
+named_replay words = option_and_then replay_in (command words)
 
 -- ---- what the code's values show
 

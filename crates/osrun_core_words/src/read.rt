@@ -2,19 +2,21 @@ ghost use Rattle.std.specs.Prelude.{◌≡◌, ◌≤◌, IfOk, Err, None, Some}
 ghost use Rattle.clap.specs.Words.{found_of, rows_of};
 ghost use Rattle.osrun_core_words.specs.Arguments.{argument_of, id_of, name_in, number_in};
 ghost use Rattle.osrun_core_jobs.specs.Jobs.{IsRequestWithin, request_of};
-ghost use Rattle.osrun_core_words.specs.Command.{command, compile_form, exec_form, explain_form, gen_form, request_by, run_form, texts};
+ghost use Rattle.osrun_core_words.specs.Command.{command, compile_form, exec_form, explain_form, gen_form, replay_form, request_by, run_form, texts, trace_form};
 ghost use Rattle.osrun_core_words.specs.Parsed.{IsNumberFor, IsNumberGiven};
 ghost use Rattle.osrun_core_words.specs.declared.words_error.WordsError.TheVariants as errors;
 
 use crate::argument::Argument;
 use crate::parse::parse;
 use crate::table::{
-    ACTIVATION, BLOCKS, COMPILE, CONTROL_BUDGET, EXEC, EXPLAIN, GEN, INPUT, OBJECT, PROGRAM, RUN,
-    SEED, TASK_BUDGET, WORKERS,
+    ACTIVATION, BLOCKS, COMPILE, CONTROL_BUDGET, EXEC, EXPLAIN, GEN, INPUT, OBJECT, PROGRAM,
+    REPLAY, RUN, SEED, TASK_BUDGET, TRACE, TRACE_FILE, WORKERS,
 };
 use crate::words_error::WordsError;
 use clap::ArgMatches;
-use osrun_core_jobs::{CompileJob, ExecJob, ExplainJob, GenJob, Job, Request, Terms};
+use osrun_core_jobs::{
+    CompileJob, ExecJob, ExplainJob, GenJob, Job, ReplayJob, Request, Terms, TraceJob,
+};
 use std::alloc::Global;
 
 /// The name that an argument was given.
@@ -113,6 +115,40 @@ fn read_explain<'w>(alloc: Global, words: &'w [String]) -> Result<Request<'w>, W
     }))
 }
 
+/// The job of `trace`.
+fn read_trace<'w>(alloc: Global, words: &'w [String]) -> Result<Request<'w>, WordsError>
+    ensures request { IfOk result (λ request. request_by trace_form (texts words.entry.now) ≡ Some (request_of request)) }
+    ensures within { IfOk result (λ request. IsRequestWithin (request_of request)) }
+    ensures refused { result ≡ Err errors.Refused → request_by trace_form (texts words.entry.now) ≡ None }
+{
+    let matches = parse(alloc, TRACE, words)?;
+    Ok(Request::Trace(TraceJob {
+        program: name_of(&matches, PROGRAM),
+        input: name_of(&matches, INPUT),
+        terms: Terms {
+            workers: number_of(&matches, WORKERS) as u32,
+            task_budget: number_of(&matches, TASK_BUDGET),
+            control_budget: number_of(&matches, CONTROL_BUDGET),
+        },
+    }))
+}
+
+/// The job of `replay`.
+fn read_replay<'w>(alloc: Global, words: &'w [String]) -> Result<Request<'w>, WordsError>
+    ensures request { IfOk result (λ request. request_by replay_form (texts words.entry.now) ≡ Some (request_of request)) }
+    ensures within { IfOk result (λ request. IsRequestWithin (request_of request)) }
+    ensures refused { result ≡ Err errors.Refused → request_by replay_form (texts words.entry.now) ≡ None }
+{
+    let matches = parse(alloc, REPLAY, words)?;
+    Ok(Request::Replay(ReplayJob {
+        program: name_of(&matches, PROGRAM),
+        input: name_of(&matches, INPUT),
+        trace: name_of(&matches, TRACE_FILE),
+        task_budget: number_of(&matches, TASK_BUDGET),
+        control_budget: number_of(&matches, CONTROL_BUDGET),
+    }))
+}
+
 /// What the words ask for.
 pub fn command<'w>(alloc: Global, words: &'w [String]) -> Result<Request<'w>, WordsError>
     ensures request { IfOk result (λ request. command (texts words.entry.now) ≡ Some (request_of request)) }
@@ -128,6 +164,8 @@ pub fn command<'w>(alloc: Global, words: &'w [String]) -> Result<Request<'w>, Wo
         "compile" => read_compile(alloc, words),
         "exec" => read_exec(alloc, words),
         "explain" => read_explain(alloc, words),
+        "trace" => read_trace(alloc, words),
+        "replay" => read_replay(alloc, words),
         _ => Err(WordsError::Refused),
     }
 }

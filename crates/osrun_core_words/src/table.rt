@@ -17,6 +17,9 @@ pub const INPUT: Argument<'static> = Argument::Name { id: "INPUT" };
 /// The name of the object's file.
 pub const OBJECT: Argument<'static> = Argument::Name { id: "OBJECT" };
 
+/// The name of the trace's file.
+pub const TRACE_FILE: Argument<'static> = Argument::Name { id: "TRACE" };
+
 /// How many workers make a run.
 pub const WORKERS: Argument<'static> = Argument::Option {
     id: "workers",
@@ -97,4 +100,16 @@ pub const EXPLAIN: CommandForm<'static> = CommandForm {
         TASK_BUDGET,
         CONTROL_BUDGET,
     ],
+};
+
+/// Writes which activations each worker of a run runs.
+pub const TRACE: CommandForm<'static> = CommandForm {
+    word: "trace",
+    arguments: &[PROGRAM, INPUT, WORKERS, TASK_BUDGET, CONTROL_BUDGET],
+};
+
+/// Runs a program over an input in the order that a trace tells.
+pub const REPLAY: CommandForm<'static> = CommandForm {
+    word: "replay",
+    arguments: &[PROGRAM, INPUT, TRACE_FILE, TASK_BUDGET, CONTROL_BUDGET],
 };

@@ -52,3 +52,19 @@ answer_explain-requires-clause-may g c lifetimes live =
 pub returns-in-Ok-Explain : goal.returns-in-Ok-Explain
 returns-in-Ok-Explain g c =
     rw (c.in-Ok-Explain.ensures.request, c.in-Ok-Explain.field-0-is, c.code-in-Ok-Explain.ensures) c.answer_explain.ensures
+
+pub answer_trace-requires-clause-may : goal.answer_trace-requires-clause-may
+answer_trace-requires-clause-may g c lifetimes live =
+    c.requires _ (c.in-Ok-Trace.ensures.request ∙ ap (λ r. Some (request_of r)) c.in-Ok-Trace.field-0-is)
+
+pub returns-in-Ok-Trace : goal.returns-in-Ok-Trace
+returns-in-Ok-Trace g c =
+    rw (c.in-Ok-Trace.ensures.request, c.in-Ok-Trace.field-0-is, c.code-in-Ok-Trace.ensures) c.answer_trace.ensures
+
+pub answer_replay-requires-clause-may : goal.answer_replay-requires-clause-may
+answer_replay-requires-clause-may g c lifetimes live =
+    c.requires _ (c.in-Ok-Replay.ensures.request ∙ ap (λ r. Some (request_of r)) c.in-Ok-Replay.field-0-is)
+
+pub returns-in-Ok-Replay : goal.returns-in-Ok-Replay
+returns-in-Ok-Replay g c =
+    rw (c.in-Ok-Replay.ensures.request, c.in-Ok-Replay.field-0-is, c.code-in-Ok-Replay.ensures) c.answer_replay.ensures

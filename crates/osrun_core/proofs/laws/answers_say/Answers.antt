@@ -1,4 +1,4 @@
-use Rattle.osrun_core.proofs.Says.{all_opened, bad_words, bad_words_always, compile_cut_short, compile_refused_always, compiled, complete, exec_refused_always, exec_undelivered, executed, explain_cut_short, explain_refused_always, explained, gen_complete, gen_cut_short, gen_files, gen_report, gen_statuses, gen_written, headline, in_order, keeps, memory, no_read_fault, no_write_fault, nothing_read, nothing_written, opened_last, read_earlier, refused, refused_always, statuses_small, too_long_always, undelivered, usage, within}
+use Rattle.osrun_core.proofs.Says.{all_opened, bad_words, bad_words_always, compile_cut_short, compile_refused_always, compiled, complete, exec_refused_always, exec_undelivered, executed, explain_cut_short, explain_refused_always, explained, gen_complete, gen_cut_short, gen_files, gen_report, gen_statuses, gen_written, headline, in_order, keeps, memory, no_read_fault, no_write_fault, not_replayed, not_replayed_alone, nothing_read, nothing_written, opened_last, read_earlier, refused, refused_always, replay_refused_always, replay_undelivered, replayed_whole, statuses_small, too_long_always, trace_refused_always, trace_rejected_always, trace_undelivered, traced, undelivered, usage, within}
 use Rattle.osrun_core.proofs.laws.answers_say.Goals as goal
 
 pub returns-clause-headline : goal.returns-clause-headline
@@ -114,3 +114,30 @@ returns-clause-explain_cut_short g c = explain_cut_short _ _ _ _ _ _ _ _ _ _ _ c
 
 pub returns-clause-explain_refused_always : goal.returns-clause-explain_refused_always
 returns-clause-explain_refused_always g c = explain_refused_always _ _ _ _ _ _ _ _ _ _ _ c.requires
+
+pub returns-clause-not_replayed_alone : goal.returns-clause-not_replayed_alone
+returns-clause-not_replayed_alone g c = not_replayed_alone _ _ _ _ _ _ _ _ _ _ _ c.requires
+
+pub returns-clause-traced : goal.returns-clause-traced
+returns-clause-traced g c = traced _ _ _ _ _ _ _ _ _ _ _ c.requires
+
+pub returns-clause-trace_undelivered : goal.returns-clause-trace_undelivered
+returns-clause-trace_undelivered g c = trace_undelivered _ _ _ _ _ _ _ _ _ _ _ c.requires
+
+pub returns-clause-replayed : goal.returns-clause-replayed
+returns-clause-replayed g c = replayed_whole _ _ _ _ _ _ _ _ _ _ _ c.requires
+
+pub returns-clause-replay_undelivered : goal.returns-clause-replay_undelivered
+returns-clause-replay_undelivered g c = replay_undelivered _ _ _ _ _ _ _ _ _ _ _ c.requires
+
+pub returns-clause-not_replayed : goal.returns-clause-not_replayed
+returns-clause-not_replayed g c = not_replayed _ _ _ _ _ _ _ _ _ _ _ c.requires
+
+pub returns-clause-trace_refused_always : goal.returns-clause-trace_refused_always
+returns-clause-trace_refused_always g c = trace_refused_always _ _ _ _ _ _ _ _ _ _ _ c.requires
+
+pub returns-clause-replay_refused_always : goal.returns-clause-replay_refused_always
+returns-clause-replay_refused_always g c = replay_refused_always _ _ _ _ _ _ _ _ _ _ _ c.requires
+
+pub returns-clause-trace_rejected_always : goal.returns-clause-trace_rejected_always
+returns-clause-trace_rejected_always g c = trace_rejected_always _ _ _ _ _ _ _ _ _ _ _ c.requires c.never_usable_and_refused.ensures

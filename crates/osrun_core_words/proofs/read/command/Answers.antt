@@ -10,3 +10,5 @@ returns-in_default-as_str-clause-refused c is =
     (λ e. c.in_default-as_str.not-compile (c.as_str.ensures.value ∙ e))
     (λ e. c.in_default-as_str.not-exec (c.as_str.ensures.value ∙ e))
     (λ e. c.in_default-as_str.not-explain (c.as_str.ensures.value ∙ e))
+    (λ e. c.in_default-as_str.not-trace (c.as_str.ensures.value ∙ e))
+    (λ e. c.in_default-as_str.not-replay (c.as_str.ensures.value ∙ e))

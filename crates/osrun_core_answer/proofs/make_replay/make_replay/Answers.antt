@@ -1,0 +1,101 @@
+use Rattle.std.proofs.Common.{[], ◌∷◌, subst}
+use Rattle.std.proofs.lemmas.Result.{err_from_is_err_and}
+use Rattle.os_ast.specs.Views.{program_tree}
+use Rattle.osrun_core_answer.proofs.Loaded.{not_loaded, opened_so, was_read}
+use Rattle.osrun_core_answer.proofs.MadeRun.{all_read, cause_of_first, cause_of_second, cause_of_third, input_file, may_open_first, may_open_second, may_open_third, memory_wanted_after_three, program_file, trace_file}
+use Rattle.osrun_core_answer.specs.Outcome.{replay_budgets}
+use Rattle.osrun_core_jobs.specs.Jobs.{replay_of}
+use Rattle.osrun_core_jobs.specs.declared.subject.Subject.TheVariants as subjects
+use Rattle.osrun_core_run.specs.Replay.{IsReplay}
+use Rattle.osrun_core_answer.proofs.make_replay.make_replay.Goals as goal
+
+pub read_program-requires : goal.read_program-requires
+read_program-requires g c =
+    may_open_first (g.F.Files.may c.args.files.now) (g.F.Files.opens c.args.files.now) (program_file c.args.job.now.program.now)
+    (input_file c.args.job.now.input.now ∷ trace_file c.args.job.now.trace.now ∷ []) (g.met.F.Files.may_at_last c.args.files.now) c.requires.may
+
+pub returns-in_err-checked : goal.returns-in_err-checked
+returns-in_err-checked g c =
+    let e = err_from_is_err_and c.from_residual.result c.from_residual.ensures.1 in
+    let l = c.in_err-checked.ensures in
+    rw (e.1, e.2) (cause_of_first g.F.Files (program_file c.args.job.now.program.now) (input_file c.args.job.now.input.now ∷ trace_file c.args.job.now.trace.now ∷ [])
+    c.args.files.now c.read_program.new.files c.in_err-checked.field-0.0 l.0 l.1)
+
+pub load-requires : goal.load-requires
+load-requires g c =
+    let was = c.in_ok-checked.ensures.1 in
+    let allowed = may_open_second (g.F.Files.may c.args.files.now) (g.F.Files.opens c.args.files.now) (program_file c.args.job.now.program.now) (input_file c.args.job.now.input.now)
+    (trace_file c.args.job.now.trace.now ∷ []) (g.met.F.Files.may_at_last c.args.files.now) c.requires.may in
+    rw (was.may_kept, was.opened) allowed
+
+pub returns-in_err-input : goal.returns-in_err-input
+returns-in_err-input g c =
+    let e = err_from_is_err_and c.from_residual-in_err-input.result c.from_residual-in_err-input.ensures.1 in
+    let was = c.in_ok-checked.ensures in
+    let l = c.in_err-input.ensures in
+    let between = c.read_program.new.files in
+    let new = c.load.new.files in
+    rw (e.1, e.2) (cause_of_second g.F.Files (program_file c.args.job.now.program.now) (input_file c.args.job.now.input.now) (trace_file c.args.job.now.trace.now ∷ [])
+    c.args.files.now between new was.0 c.in_err-input.field-0.0 was.1
+    (opened_so g.F.Files between new (input_file c.args.job.now.input.now) l.opens l.left l.faults_kept l.holds l.may)
+    (not_loaded g.F.Files between new subjects.Input c.args.job.now.input.now c.in_err-input.field-0.0 l.refused l.no_fault))
+
+pub read_lists-requires : goal.read_lists-requires
+read_lists-requires g c =
+    let was = c.in_ok-checked.ensures.1 in
+    let l = c.in_ok-input.ensures in
+    let allowed = may_open_third (g.F.Files.may c.args.files.now) (g.F.Files.opens c.args.files.now) (program_file c.args.job.now.program.now) (input_file c.args.job.now.input.now)
+    (trace_file c.args.job.now.trace.now) [] (g.met.F.Files.may_at_last c.args.files.now) c.requires.may in
+    rw (l.may, was.may_kept, l.opens, was.opened) allowed
+
+pub returns-in_err-lists : goal.returns-in_err-lists
+returns-in_err-lists g c =
+    let e = err_from_is_err_and c.from_residual-in_err-lists.result c.from_residual-in_err-lists.ensures.1 in
+    let was = c.in_ok-checked.ensures in
+    let l = c.in_ok-input.ensures in
+    let between = c.read_program.new.files in
+    let later = c.load.new.files in
+    let failed = c.in_err-lists.ensures in
+    rw (e.1, e.2) (cause_of_third g.F.Files (program_file c.args.job.now.program.now) (input_file c.args.job.now.input.now) (trace_file c.args.job.now.trace.now)
+    c.args.files.now between later c.read_lists.new.files was.0 c.in_ok-input.input.items c.in_err-lists.field-0.0 was.1
+    (was_read g.F.Files between later subjects.Input c.args.job.now.input.now c.in_ok-input.input.items l.loaded tt l.opens l.no_fault l.holds l.may)
+    failed.0 failed.1)
+
+pub returns-in_err-replay : goal.returns-in_err-replay
+returns-in_err-replay g c =
+    let e = err_from_is_err_and c.from_residual-in_err-replay.result c.from_residual-in_err-replay.ensures.1 in
+    let was = c.in_ok-checked.ensures in
+    let l = c.in_ok-input.ensures in
+    let between = c.read_program.new.files in
+    let later = c.load.new.files in
+    let lists = c.in_ok-lists.ensures in
+    rw e.1 (memory_wanted_after_three g.F.Files (program_file c.args.job.now.program.now) (input_file c.args.job.now.input.now) (trace_file c.args.job.now.trace.now)
+    c.args.files.now between later c.read_lists.new.files was.0 c.in_ok-input.input.items lists.0 e.0 e.2 was.1
+    (was_read g.F.Files between later subjects.Input c.args.job.now.input.now c.in_ok-input.input.items l.loaded tt l.opens l.no_fault l.holds l.may)
+    lists.1)
+
+pub returns : goal.returns
+returns g c =
+    let job = replay_of c.args.job.now in
+    let was = c.in_ok-checked.ensures in
+    let l = c.in_ok-input.ensures in
+    let between = c.read_program.new.files in
+    let later = c.load.new.files in
+    let input = c.in_ok-input.input.items in
+    let lists = c.in_ok-lists.ensures in
+    let p = program_tree c.in_ok-checked.checked.program in
+    record {
+      text = was.0;
+      input = input;
+      told = lists.0;
+      read = all_read g.F.Files (program_file c.args.job.now.program.now) (input_file c.args.job.now.input.now) (trace_file c.args.job.now.trace.now)
+          c.args.files.now between later c.read_lists.new.files was.0 input lists.0 was.1
+          (was_read g.F.Files between later subjects.Input c.args.job.now.input.now input l.loaded tt l.opens l.no_fault l.holds l.may)
+          lists.1;
+      program = p;
+      is_program = was.2;
+      lists = c.in_ok-lists.lists;
+      is_trace = lists.2;
+      comes_to = subst (λ bytes. IsReplay (replay_budgets job) p bytes c.in_ok-lists.lists c.in_ok-replay.replay) c.deref.ensures.value
+          (subst (λ ls. IsReplay (replay_budgets job) p c.deref.result.now ls c.in_ok-replay.replay) c.as_slice.ensures c.in_ok-replay.ensures);
+    }
