@@ -1325,6 +1325,51 @@ shows "a run with fewer turns for main" 1 \
     "main used up its turns after 2 activations / 1 of 2 activations are done / 1 of 2 bytes of the output are there / activation 1, of the task in line 7, trapped in line 8: division by zero" \
     report "$top/examples/divide.c" --control=2 zero.bin
 shows "a stream of a run with fewer turns" 1 "0 50 activation 0 line 7" stream --workers 1 --control 1 "$top/examples/divide.c" zero.bin osout --budget 1
+cat >chain.c <<'END'
+int main(void) {
+    int s __attribute__((stream)), t __attribute__((stream));
+    int x, y;
+    #pragma omp task input(t >> x) output(osout << y)
+    y = x;
+    #pragma omp task output(s << x)
+    x = 5;
+    #pragma omp task input(s >> x) output(t << y)
+    y = x + 1;
+    #pragma omp task input(osin >> x) output(osout << y)
+    y = x;
+    #pragma omp task input(s >> x)
+    { int z = x; }
+}
+END
+# A task takes a step for each instruction: reading or storing an element takes two, a number, an operation and the end one each.
+shows "steps of a chain of three whose last one is created first" 1 "$(printf '%s / ' \
+    "line 4: 1 activation, 1 of them ran, 5 to 5 steps each, 5 on average, 5 in all, 23.8 % of the steps of all tasks" \
+    "line 6: 1 activation, 1 of them ran, 4 to 4 steps each, 4 on average, 4 in all, 19.0 % of the steps of all tasks" \
+    "line 8: 1 activation, 1 of them ran, 7 to 7 steps each, 7 on average, 7 in all, 33.3 % of the steps of all tasks" \
+    "line 10: 1 activation, 1 of them ran, 5 to 5 steps each, 5 on average, 5 in all, 23.8 % of the steps of all tasks" \
+    "line 12: 1 activation, 0 of them ran" "all tasks: 21 steps" \
+    "the longest chain of activations that wait for one another: 16 steps" \
+    "more workers can make the tasks 1.31 times as fast at most" | sed 's| / $||')" steps chain.c in.bin
+shows "steps of a task of which one activation trapped" 1 "$(printf '%s / ' \
+    "line 7: 3 activations, 3 of them ran, 5 to 7 steps each, 6 on average, 19 in all, 100.0 % of the steps of all tasks" \
+    "all tasks: 19 steps" "the longest chain of activations that wait for one another: 7 steps" \
+    "more workers can make the tasks 2.71 times as fast at most" | sed 's| / $||')" steps "$top/examples/divide.c" zero.bin --workers 1
+cat >loop.c <<'END'
+int main(void) {
+    int y;
+    #pragma omp task output(osout << y)
+    { y = 3; while (y) y = y - 1; }
+}
+END
+shows "steps of a loop" 0 "$(printf '%s / ' \
+    "line 3: 1 activation, 1 of them ran, 41 to 41 steps each, 41 on average, 41 in all, 100.0 % of the steps of all tasks" \
+    "all tasks: 41 steps" "the longest chain of activations that wait for one another: 41 steps" \
+    "more workers can make the tasks 1.00 times as fast at most" | sed 's| / $||')" steps loop.c in.bin
+echo 'int main(void) { }' >idle.c
+shows "steps where there is no task" 0 "$(printf '%s / ' "all tasks: 0 steps" \
+    "the longest chain of activations that wait for one another: 0 steps" \
+    "more workers can make the tasks 1.00 times as fast at most" | sed 's| / $||')" steps idle.c in.bin
+shows "a program that is refused, and none of whose steps are told" 3 "refused 23 line 1" steps empty.c in.bin
 shows "a program that is refused, and not run" 3 "refused 23 line 1" report empty.c in.bin
 shows "a program that is refused, and none of whose streams is shown" 3 "refused 23 line 1" stream empty.c in.bin none
 shows "an input that is too long to be shown" 4 "too long input" report first.c long.bin
@@ -1335,7 +1380,7 @@ status=$?
 : >out
 check "help of what shows" 0 "" ""
 for words in "" report "report first.c" "report first.c in.bin in.bin" "stream first.c in.bin" "stream first.c in.bin osin x" \
-    "stream first.c in.bin osin 1 -1" "stream first.c in.bin osin 1 2 3" "stream first.c in.bin osin 18446744073709551616" "show first.c in.bin" --versions \
+    "stream first.c in.bin osin 1 -1" "stream first.c in.bin osin 1 2 3" "stream first.c in.bin osin 18446744073709551616" "show first.c in.bin" "steps first.c" "steps first.c in.bin 1" --versions \
     "report --budget first.c in.bin" "report --budget 1000000001 first.c in.bin" "report --workers 0 first.c in.bin" \
     "report --workers=65 first.c in.bin" "report --control 1 --control 1 first.c in.bin" "report first.c in.bin --budget" \
     "report --turns 1 first.c in.bin" "report --budget= first.c in.bin" "report -w first.c" "--help report"; do

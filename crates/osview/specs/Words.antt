@@ -9,6 +9,7 @@ use Rattle.osview.specs.declared.request.Request.TheVariants as request
 abbrev pub IsLawful : Request → Type 0
 IsLawful (request.Report job) = IsWithin (job_of job)
 IsLawful (request.Stream job) = IsWithin (job_of job.run)
+IsLawful (request.Steps job) = IsWithin (job_of job)
 IsLawful request.Help = Unit {0}
 IsLawful request.Version = Unit {0}
 

@@ -15,6 +15,8 @@ pub(crate) enum Request<'w> {
     Report(Job<'w>),
     /// To show the elements of a stream.
     Stream(StreamJob<'w>),
+    /// To tell how many steps the tasks of a run take.
+    Steps(Job<'w>),
     /// To tell how the program is used.
     Help,
     /// To tell its version.
@@ -29,6 +31,7 @@ pub(crate) fn request_of(words: &[String]) -> Option<Request<'_>>
     match first.as_str() {
         "report" => report_of(&parts_of(rest)?),
         "stream" => stream_of(&parts_of(rest)?),
+        "steps" => steps_of(&parts_of(rest)?),
         word if rest.is_empty() => option_of(word),
         _ => None,
     }
@@ -55,6 +58,17 @@ fn report_of<'w>(words: &Parts<'w>) -> Option<Request<'w>>
         return None;
     }
     Some(Request::Report(job_of(words)))
+}
+
+/// The steps that words ask for: of a program and an input.
+fn steps_of<'w>(words: &Parts<'w>) -> Option<Request<'w>>
+    requires { AreWithin words.now.options }
+    ensures { IfSome result IsLawful }
+{
+    if words.count != 2 {
+        return None;
+    }
+    Some(Request::Steps(job_of(words)))
 }
 
 /// The stream that words ask for: of a program and an input, its name, from which position on, and how many positions at most.

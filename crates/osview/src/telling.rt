@@ -13,6 +13,7 @@ osview shows what a run of an OpenStream program came to.
     osview report PROGRAM INPUT   runs the program over the input, and tells in sentences what became of it
     osview stream PROGRAM INPUT NAME [FROM [COUNT]]
                                   runs it too, and shows the elements of the stream NAME, from position FROM on, COUNT at most
+    osview steps PROGRAM INPUT    runs it too, and tells how many steps its tasks take, and how much faster more workers can be
     --workers N, --budget N, --control N
                                   by how many workers, with how many turns for each task and for main, as osrun run takes them
     osview --help                 tells this

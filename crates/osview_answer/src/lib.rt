@@ -2,10 +2,12 @@
 //!
 //! `answer_report` reads both files as `osrun run` does, runs the program over the input, and hands over what the run came to in
 //! sentences: with the lines of tasks and the names of streams as they stand in the program's text. `answer_stream` hands over the
-//! elements of one of its streams, a line each. Where a file is refused they tell the same as `osrun run`.
+//! elements of one of its streams, a line each. `answer_steps` hands over how many steps its tasks take. Where a file is refused
+//! they tell the same as `osrun run`.
 //!
-//! What is told is a definition over the meaning of the program, `IsReportOf` and `AreElementsOf`; what a call leaves is
-//! `AnswersReport` and `AnswersStream`. The lines themselves are put together in `osview_sentences` and `osview_stream`.
+//! What is told is a definition over the meaning of the program, `IsReportOf`, `AreElementsOf` and `AreStepsOf`; what a call leaves
+//! is `AnswersReport`, `AnswersStream` and `AnswersSteps`. The lines themselves are put together in `osview_sentences`,
+//! `osview_stream` and `osview_steps`.
 #![tactic(auto)]
 
 mod answer;
@@ -13,11 +15,14 @@ mod lines;
 mod names;
 mod outcomes;
 mod source;
+mod steps_answer;
+mod steps_telling;
 mod stream_answer;
 mod stream_job;
 mod stream_telling;
 mod telling;
 
 pub use answer::answer_report;
+pub use steps_answer::answer_steps;
 pub use stream_answer::answer_stream;
 pub use stream_job::StreamJob;

@@ -1,5 +1,5 @@
 -- What is kept, frame by frame.
-use Rattle.std.proofs.Common.{◌≡◌, ◌≢◌, ◌<◌, ℕ, zero, suc, ℤ, List, [], ◌∷◌, Option, Some, None, true, length, map, set, get_or, refl, sym, ap, ◌∙◌, ◌⊎◌, inl, inr, arith}
+use Rattle.std.proofs.Common.{◌≡◌, ◌≢◌, ◌+◌, ◌-◌, ◌<◌, ◌≤◌, ℕ, zero, suc, ℤ, take, drop, subst, List, [], ◌∷◌, Option, Some, None, true, length, map, set, get_or, refl, sym, ap, ◌∙◌, ◌⊎◌, inl, inr, arith}
 use Rattle.std.specs.Prelude.{is_some}
 use Rattle.std.proofs.lemmas.Bool.{cases_eq}
 use Rattle.std.proofs.lemmas.List.{get_or-set_same, get_or-set_other}
@@ -8,8 +8,20 @@ use Rattle.flow_core_laws.specs.declared.outcome.Outcome.{Outcome}
 use Rattle.flow_core_laws.specs.declared.plan.FramePlan.{FramePlan}
 use Rattle.flow_core_laws.specs.declared.task_end.TaskEnd.{TaskEnd}
 use Rattle.flow_core_laws.specs.declared.task_end.TaskEnd.TheVariants.{Done}
-use Rattle.flow_core.specs.Shows.{Gives, end_at}
+use Rattle.flow_core_laws.specs.declared.elem.Elem.{Elem}
+use Rattle.flow_core_laws.specs.declared.plan.Plan.{Plan}
+use Rattle.flow_core_laws.specs.IsSound.{IsSound}
+use Rattle.flow_core_laws.specs.Plans.{cell_source, cells_of, frame_at, held_at, plan_element}
+use Rattle.flow_core_laws.specs.Poisoning.{values_of}
+use Rattle.flow_core_laws.specs.Round.{gathered}
+use Rattle.flow_core_laws.proofs.Gathering.{gathered-weaker}
+use Rattle.flow_core_laws.proofs.Sources.{map_map}
+use Rattle.flow_core.specs.declared.waits.Waits.{Waits}
+use Rattle.flow_core.specs.Counted.{IsCounted}
+use Rattle.flow_core.specs.Shows.{Gives, Shows, end_at}
+use Rattle.flow_core.proofs.Showing.{held_meant, stretch_of}
 use Rattle.osview_outcomes.specs.Kept.{AreKept}
+use Rattle.osview_outcomes.specs.Outcomes.{Reads}
 
 -- nothing has an end at the opening
 no_end : (frames : List FramePlan) (f : ℕ) → end_at (map (λ (p : FramePlan). None) frames) f ≡ None
@@ -17,29 +29,58 @@ no_end [] f = refl
 no_end (p ∷ ps) zero = refl
 no_end (p ∷ ps) (suc f) = no_end ps f
 
-pub kept_at_first : (m : State) (frames : List FramePlan) (ends : List (Option TaskEnd)) (outputs : List (List ℤ))
-    → ends ≡ map (λ (p : FramePlan). None) frames → AreKept m ends outputs
-kept_at_first m frames ends outputs none = record {
-  kept = λ f o some is done. let n : end_at ends f ≡ None = ap (λ (xs : List (Option TaskEnd)). end_at xs f) none ∙ no_end frames f in absurd (cc);
+pub kept_at_first : (plan : Plan) (m : State) (frames : List FramePlan) (ends : List (Option TaskEnd)) (inputs outputs : List (List ℤ))
+    → ends ≡ map (λ (p : FramePlan). None) frames → AreKept plan m ends inputs outputs
+kept_at_first plan m frames ends inputs outputs none = record {
+  read = λ f some. let n : end_at ends f ≡ None = ap (λ (xs : List (Option TaskEnd)). end_at xs f) none ∙ no_end frames f in absurd (cc);
+  written = λ f o some is done. let n : end_at ends f ≡ None = ap (λ (xs : List (Option TaskEnd)). end_at xs f) none ∙ no_end frames f in absurd (cc);
 }
 
--- what one more frame wrote is kept
-pub one_more : (m : State) (ends new_ends : List (Option TaskEnd)) (outputs new_outputs : List (List ℤ)) (f : ℕ) (e : TaskEnd) (written : List ℤ)
-    → AreKept m ends outputs → f < length ends → f < length outputs → new_ends ≡ set ends f (Some e) → new_outputs ≡ set outputs f written
-    → Gives m f e written → AreKept m new_ends new_outputs
-one_more m ends new_ends outputs new_outputs f e written old in_ends in_outputs ends_are outputs_are (given, meant, o_end, o_outputs) = record {
-  kept = λ g o some is done. by_case g o some is done (cases_eq g f);
-}
-  where
-    by_case : (g : ℕ) (o : Outcome) → is_some (end_at new_ends g) ≡ true → outcome_at m g ≡ Some o → o.end ≡ Done → (g ≡ f) ⊎ (g ≢ f)
-        → get_or new_outputs g [] ≡ o.outputs
-    by_case g o some is done (inl same) =
-        let same_o : Some given ≡ Some o = sym meant ∙ ap (outcome_at m) (sym same) ∙ is in
-        let o_is : given ≡ o = cc in
-        let e_done : e ≡ Done = sym o_end ∙ ap (λ (q : Outcome). q.end) o_is ∙ done in
-        ap (λ (xs : List (List ℤ)). get_or xs g []) outputs_are ∙ ap (λ (k : ℕ). get_or (set outputs f written) k []) same
-        ∙ get_or-set_same outputs f written [] in_outputs ∙ o_outputs e_done ∙ ap (λ (q : Outcome). q.outputs) o_is
-    by_case g o some is done (inr other) =
-        let stays : end_at new_ends g ≡ end_at ends g = ap (λ (xs : List (Option TaskEnd)). end_at xs g) ends_are ∙ get_or-set_other ends f g (Some e) None other in
-        ap (λ (xs : List (List ℤ)). get_or xs g []) outputs_are ∙ get_or-set_other outputs f g written [] other
-        ∙ old.kept g o (ap is_some (sym stays) ∙ some) is done
+module _ (plan : Plan) (m : State) (ends new_ends : List (Option TaskEnd)) (f : ℕ) (e : TaskEnd) (in_ends : f < length ends) (ends_are : new_ends ≡ set ends f (Some e)) where
+  -- another frame has the end that it had
+  stays : (g : ℕ) → g ≢ f → end_at new_ends g ≡ end_at ends g
+  stays g other = ap (λ (xs : List (Option TaskEnd)). end_at xs g) ends_are ∙ get_or-set_other ends f g (Some e) None other
+
+  -- what stands at a frame in lists of which one was set
+  set_here : (lists new_lists : List (List ℤ)) (values : List ℤ) → f < length lists → new_lists ≡ set lists f values → get_or new_lists f [] ≡ values
+  set_here lists new_lists values inside are = ap (λ (xs : List (List ℤ)). get_or xs f []) are ∙ get_or-set_same lists f values [] inside
+
+  set_there : (lists new_lists : List (List ℤ)) (values : List ℤ) (g : ℕ) → g ≢ f → new_lists ≡ set lists f values → get_or new_lists g [] ≡ get_or lists g []
+  set_there lists new_lists values g other are = ap (λ (xs : List (List ℤ)). get_or xs g []) are ∙ get_or-set_other lists f g values [] other
+
+  -- what one more frame read and wrote is kept
+  pub one_more : (inputs new_inputs outputs new_outputs : List (List ℤ)) (read written : List ℤ) → AreKept plan m ends inputs outputs
+      → f < length inputs → f < length outputs → new_inputs ≡ set inputs f read → new_outputs ≡ set outputs f written
+      → Reads plan m f read → Gives m f e written → AreKept plan m new_ends new_inputs new_outputs
+  one_more inputs new_inputs outputs new_outputs read written old in_inputs in_outputs inputs_are outputs_are reads (given, meant, o_end, o_outputs) = record {
+    read = λ g some. read_at g some (cases_eq g f);
+    written = λ g o some is done. written_at g o some is done (cases_eq g f);
+  }
+    where
+      read_at : (g : ℕ) → is_some (end_at new_ends g) ≡ true → (g ≡ f) ⊎ (g ≢ f) → Reads plan m g (get_or new_inputs g [])
+      read_at g some (inl same) = subst (λ (k : ℕ). Reads plan m k (get_or new_inputs k [])) (sym same)
+          (subst (Reads plan m f) (sym (set_here inputs new_inputs read in_inputs inputs_are)) reads)
+      read_at g some (inr other) = subst (Reads plan m g) (sym (set_there inputs new_inputs read g other inputs_are)) (old.read g (ap is_some (sym (stays g other)) ∙ some))
+
+      written_at : (g : ℕ) (o : Outcome) → is_some (end_at new_ends g) ≡ true → outcome_at m g ≡ Some o → o.end ≡ Done → (g ≡ f) ⊎ (g ≢ f)
+          → get_or new_outputs g [] ≡ o.outputs
+      written_at g o some is done (inl same) =
+          let same_o : Some given ≡ Some o = sym meant ∙ ap (outcome_at m) (sym same) ∙ is in
+          let o_is : given ≡ o = cc in
+          let e_done : e ≡ Done = sym o_end ∙ ap (λ (q : Outcome). q.end) o_is ∙ done in
+          ap (λ (k : ℕ). get_or new_outputs k []) same ∙ set_here outputs new_outputs written in_outputs outputs_are ∙ o_outputs e_done ∙ ap (λ (q : Outcome). q.outputs) o_is
+      written_at g o some is done (inr other) = set_there outputs new_outputs written g other outputs_are ∙ old.written g o (ap is_some (sym (stays g other)) ∙ some) is done
+
+-- the cells of a frame that misses nothing hold what it reads in the meaning
+pub reads_meant : (plan : Plan) (m : State) (cells : List (Option Elem)) (ends : List (Option TaskEnd)) (waits : Waits) (f : ℕ) (es : List Elem) (values : List ℤ)
+    → IsSound plan → IsCounted plan cells waits → Shows plan m cells ends → f < length plan.frames
+    → gathered (take ((frame_at plan f).cell + (frame_at plan f).inputs - (frame_at plan f).cell) (drop (frame_at plan f).cell cells)) ≡ Some es
+    → values ≡ values_of es → Reads plan m f values
+reads_meant plan m cells ends waits f es values sound counted shows lt h is =
+    let cell_by_cell : gathered (map (held_at cells) (cells_of plan f)) ≡ Some es = ap gathered (sym (stretch_of plan cells waits f sound counted (let le : f ≤ length plan.frames = omega arith in le))) ∙ h in
+    record {
+      elements = es;
+      are_there = ap gathered (map_map (cell_source plan) (plan_element plan m) (cells_of plan f))
+          ∙ gathered-weaker (held_at cells) (λ c. plan_element plan m (cell_source plan c)) (held_meant plan m cells ends shows) (cells_of plan f) es cell_by_cell;
+      values_are = is;
+    }

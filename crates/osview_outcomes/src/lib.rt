@@ -2,7 +2,8 @@
 //! wrote.
 //!
 //! `outcomes` promises the plan's meaning, as `execute_one` of `flow_core` does, but of each frame and not of the sink alone.
-//! What a frame read stands in the cells of the plan, and is kept too, so that its body can be run again over the same values.
+//! What a frame read stands in the cells of the plan, and is kept too, so that its body can be run again over the same values;
+//! and so is the order in which the frames were run, in which each stands behind those that it waits for.
 //! The run goes through the board of `flow_core`.
 #![tactic(auto)]
 

@@ -2,7 +2,7 @@ ghost use Rattle.std.specs.Prelude.{◌≡◌, ◌<◌, ◌≤◌, List, Some, N
 ghost use Rattle.flow_core_laws.specs.Round.{gathered};
 ghost use Rattle.flow_core_laws.specs.declared.elem.Elem.{Elem};
 ghost use Rattle.flow_core_laws.specs.declared.task_end.TaskEnd.{TaskEnd};
-ghost use Rattle.flow_core_laws.specs.Poisoning.{poisoning};
+ghost use Rattle.flow_core_laws.specs.Poisoning.{poisoning, values_of};
 ghost use Rattle.flow_core_laws.specs.Plans.{plan_meaning};
 ghost use Rattle.flow_core_laws.specs.IsSound.{IsSound};
 ghost use Rattle.flow_core_laws.specs.Serves.{Serves};
@@ -10,8 +10,8 @@ ghost use Rattle.flow_core.specs.Waits.{OpensMore};
 ghost use Rattle.flow_core.specs.Counted.{IsCounted};
 ghost use Rattle.flow_core.specs.Shows.{Gives, Shows, end_at};
 ghost use Rattle.flow_core.specs.Board.{IsRun};
-ghost use Rattle.osview_outcomes.specs.Kept.{AreKept};
-ghost use Rattle.osview_outcomes.specs.Outcomes.{AreOutcomesOf};
+ghost use Rattle.osview_outcomes.specs.Kept.{AreKept, StandBehind};
+ghost use Rattle.osview_outcomes.specs.Outcomes.{AreOutcomesOf, HasInputs, HasOrder, Reads};
 
 use crate::kept::Outcomes;
 use flow_core::{Board, Bodies, Elem, FramePlan, Plan, TaskEnd, gather};
@@ -43,6 +43,8 @@ fn frame_end<B: Bodies>(
     ensures outputs { (elements : List Elem) → gathered cells.now ≡ Some elements
         → IfOk result (λ end. end ≡ TaskEnd.Done
         → buffers.new.outputs.items ≡ (poisoning (B.outcome bodies.now) frame elements).outputs) }
+    ensures inputs { (elements : List Elem) → gathered cells.now ≡ Some elements
+        → OnOk result (buffers.new.inputs.items ≡ values_of elements) }
     ensures fits_again { OnOk result (B.fits bodies.now scratch.new) }
 {
     let root = gather(cells, &mut buffers.inputs)?;
@@ -80,6 +82,7 @@ fn run_frame<B: Bodies>(
     ensures shows { OnOk result (Shows plan.now (plan_meaning plan.now (B.outcome bodies.now))
         board.new.cells.items board.new.ends.items) }
     ensures opens { OnOk result (OpensMore board.old.waits board.new.waits) }
+    ensures reads { OnOk result (Reads plan.now (plan_meaning plan.now (B.outcome bodies.now)) frame buffers.new.inputs.items) }
     ensures ended { OnOk result ((end : TaskEnd)
         × (board.new.ends.items ≡ slice_set board.old.ends.items frame (Some end))
         × Gives (plan_meaning plan.now (B.outcome bodies.now)) frame end buffers.new.outputs.items) }
@@ -93,18 +96,18 @@ fn run_frame<B: Bodies>(
     Ok(())
 }
 
-/// Keeps what a frame wrote.
+/// Keeps the values of a frame.
 fn keep(
     alloc: Global,
-    outputs: &mut List<List<i32>>,
+    lists: &mut List<List<i32>>,
     frame: u32,
-    written: &[i32],
+    values: &[i32],
 ) -> Result<(), Memory>
-    requires { frame < length outputs.old }
-    ensures { OnOk result (outputs.new ≡ slice_set outputs.old frame written.now) }
+    requires { frame < length lists.old }
+    ensures { OnOk result (lists.new ≡ slice_set lists.old frame values.now) }
 {
-    let kept = List::from_slice(alloc, written)?;
-    outputs.as_mut_slice()[frame as usize] = kept;
+    let kept = List::from_slice(alloc, values)?;
+    lists.as_mut_slice()[frame as usize] = kept;
     Ok(())
 }
 
@@ -112,6 +115,7 @@ fn keep(
 fn run_all<B: Bodies>(
     alloc: Global,
     board: &mut Board,
+    inputs: &mut List<List<i32>>,
     outputs: &mut List<List<i32>>,
     plan: &Plan,
     bodies: &B,
@@ -119,11 +123,13 @@ fn run_all<B: Bodies>(
     requires sound { IsSound plan.now }
     requires served { Serves plan.now (B.outcome bodies.now) (B.takes bodies.now) }
     requires begins { IsRun plan.now (plan_meaning plan.now (B.outcome bodies.now)) board.old 0 }
-    requires room { length outputs.old ≡ length plan.now.frames }
+    requires inputs { length inputs.old ≡ length plan.now.frames }
+    requires outputs { length outputs.old ≡ length plan.now.frames }
     requires none { board.old.ends.items ≡ map (λ _. None) plan.now.frames }
     ensures run { OnOk result (IsRun plan.now (plan_meaning plan.now (B.outcome bodies.now))
         board.new (length board.new.waits.opened.items)) }
-    ensures kept { OnOk result (AreKept (plan_meaning plan.now (B.outcome bodies.now)) board.new.ends.items outputs.new) }
+    ensures kept { OnOk result (AreKept plan.now (plan_meaning plan.now (B.outcome bodies.now)) board.new.ends.items inputs.new outputs.new) }
+    ensures behind { OnOk result (StandBehind plan.now board.new.waits.opened.items (length board.new.waits.opened.items)) }
 {
     let mut scratch = bodies.scratch(alloc)?;
     let mut buffers = Buffers {
@@ -134,6 +140,7 @@ fn run_all<B: Bodies>(
     while turn < board.waits.opened.len() {
         let frame = board.waits.opened[turn];
         run_frame(board, plan, bodies, frame, &mut buffers, &mut scratch)?;
+        keep(alloc, inputs, frame, buffers.inputs.as_slice())?;
         keep(alloc, outputs, frame, buffers.outputs.as_slice())?;
         turn += 1;
     }
@@ -141,27 +148,34 @@ fn run_all<B: Bodies>(
 }
 
 /// So many empty lists.
-fn no_outputs(alloc: Global, count: usize) -> Result<List<List<i32>>, Memory>
-    ensures { IfOk result (λ outputs. length outputs ≡ count) }
+fn empty_lists(alloc: Global, count: usize) -> Result<List<List<i32>>, Memory>
+    ensures { IfOk result (λ lists. length lists ≡ count) }
 {
-    let mut outputs = List::with_capacity(alloc, count)?;
+    let mut lists = List::with_capacity(alloc, count)?;
     for _ in 0..count {
-        outputs.push(List::new(alloc))?;
+        lists.push(List::new(alloc))?;
     }
-    Ok(outputs)
+    Ok(lists)
 }
 
-/// Runs a plan on one thread, and keeps of each frame how it ended and what it wrote.
+/// Runs a plan on one thread, and keeps of each frame how it ended, what it read and what it wrote, and the order in which they
+/// were run.
 pub fn outcomes<B: Bodies>(alloc: Global, plan: &Plan, bodies: &B) -> Result<Outcomes, Memory>
     requires sound { IsSound plan.now }
     requires served { Serves plan.now (B.outcome bodies.now) (B.takes bodies.now) }
-    ensures { IfOk result (λ outcomes. AreOutcomesOf outcomes (plan_meaning plan.now (B.outcome bodies.now))) }
+    ensures outcomes { IfOk result (λ outcomes. AreOutcomesOf outcomes (plan_meaning plan.now (B.outcome bodies.now))) }
+    ensures inputs { IfOk result (λ outcomes. HasInputs outcomes plan.now (plan_meaning plan.now (B.outcome bodies.now))) }
+    ensures order { IfOk result (λ outcomes. HasOrder outcomes plan.now (plan_meaning plan.now (B.outcome bodies.now))) }
 {
-    let mut outputs = no_outputs(alloc, plan.frames.len())?;
+    let mut inputs = empty_lists(alloc, plan.frames.len())?;
+    let mut outputs = empty_lists(alloc, plan.frames.len())?;
     let mut board = Board::open(alloc, plan)?;
-    run_all(alloc, &mut board, &mut outputs, plan, bodies)?;
+    run_all(alloc, &mut board, &mut inputs, &mut outputs, plan, bodies)?;
+    let Board { ends, waits, .. } = board;
     Ok(Outcomes {
-        ends: board.ends,
+        ends,
+        inputs,
         outputs,
+        order: waits.opened,
     })
 }

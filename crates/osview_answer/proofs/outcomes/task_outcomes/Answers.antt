@@ -13,4 +13,4 @@ pub returns : goal.returns
 returns c =
     let stands = c.in_ok-plan.ensures.stands_for c.args.activations.now c.requires.laid in
     subst (AreOutcomesOf c.in_ok-kept.kept)
-    (c.plan_meaning.ensures.meaning c.in_ok-plan.plan c.args.activations.now c.args.input.now (frame_outcome (parts_of c.args.code.now) c.args.activations.now c.args.budget) stands) c.in_ok-kept.ensures
+    (c.plan_meaning.ensures.meaning c.in_ok-plan.plan c.args.activations.now c.args.input.now (frame_outcome (parts_of c.args.code.now) c.args.activations.now c.args.budget) stands) c.in_ok-kept.ensures.outcomes

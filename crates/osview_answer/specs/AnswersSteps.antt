@@ -1,0 +1,42 @@
+-- What a call leaves that was asked for steps.
+use Rattle.std.specs.Prelude.{◌⊎◌, ℕ, List, [], ◌∷◌, MatchResult, Result}
+use Rattle.os_io.specs.declared.files.Files.{Ghosts as FilesView}
+use Rattle.os_io.specs.declared.sink.Sink.{Ghosts as SinkView}
+use Rattle.osrun_core_answer.specs.Made.{IsUnmadeOf}
+use Rattle.osrun_core_jobs.specs.Files.{files_of}
+use Rattle.osrun_core_jobs.specs.HandsOver.{HandsOver}
+use Rattle.osrun_core_jobs.specs.Jobs.{Job, Run}
+use Rattle.osrun_core_jobs.specs.Reading.{WereRead}
+use Rattle.osrun_core_jobs.specs.Status.{code_of}
+use Rattle.osrun_core_jobs.specs.declared.refusal.Refusal.{Refusal}
+use Rattle.osrun_core_jobs.specs.declared.status.Status.{Status}
+use Rattle.osrun_core_run.specs.Refusal.{IsUsable}
+use Rattle.osview_answer.specs.Answers.{IsRefused}
+use Rattle.osview_answer.specs.Steps.{AreStepsOf}
+use Rattle.osview_answer.specs.declared.telling.Told.{Told}
+
+-- Both files were read, and these are the lines of steps of the run of the one over the other, and its status.
+pub record AreMeasured {F : Type 0} (of_files : FilesView F) (files_old files_new : F) (job : Job) (told : List ℕ) (own : ℕ) : Type 0 where
+  pub text : List ℕ
+  pub input : List ℕ
+  pub read : WereRead IsUsable of_files files_old files_new (files_of (Run job)) (text ∷ input ∷ [])
+  pub are_steps : AreStepsOf job.task_budget job.control_budget text input told own
+
+-- both files were read and the steps are told, or one of the files is the cause, or memory was wanted
+abbrev pub MakesSteps : {F : Type 0} → FilesView F → F → F → Job → Result Told Refusal → Type 0
+MakesSteps view old new job result = MatchResult result
+    (λ told. AreMeasured view old new job told.text.items (code_of told.status)) (IsUnmadeOf view old new (files_of (Run job)))
+
+-- The lines were handed over to the output, and nothing to the other sink: the status is that of the run, or the output did
+-- not take all.
+pub record StepsAreGiven {F O E : Type 0} (of_files : FilesView F) (files_old files_new : F) (of_out : SinkView O) (out_old out_new : O)
+    (of_report : SinkView E) (report_old report_new : E) (job : Job) (answered : Status) : Type 0 where
+  pub told : List ℕ
+  pub own : Status
+  pub measured : AreMeasured of_files files_old files_new job told (code_of own)
+  pub handed : HandsOver of_out out_old out_new told of_report report_old report_new [] own answered
+
+abbrev pub AnswersSteps : {F O E : Type 0} → FilesView F → F → F → SinkView O → O → O → SinkView E → E → E → Job → Status → Type 0
+AnswersSteps of_files files_old files_new of_out out_old out_new of_report report_old report_new job answered =
+    StepsAreGiven of_files files_old files_new of_out out_old out_new of_report report_old report_new job answered
+    ⊎ IsRefused of_files files_old files_new out_old out_new of_report report_old report_new job answered

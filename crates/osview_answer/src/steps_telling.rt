@@ -1,0 +1,94 @@
+ghost use Rattle.std.specs.Prelude.{◌≡◌, ◌≤◌, IfOk, length, map};
+ghost use Rattle.os_ast.specs.Views.{program_tree};
+ghost use Rattle.os_code.specs.Codes.{parts_of};
+ghost use Rattle.os_code.specs.declared.site.Site.{Site};
+ghost use Rattle.osrun_core_jobs.specs.Files.{MayOpen, files_of};
+ghost use Rattle.osrun_core_jobs.specs.Jobs.{IsWithin, Run as RunRequest, job_of};
+ghost use Rattle.osrun_core_jobs.specs.Status.{code_of};
+ghost use Rattle.osrun_core_run.specs.RunOf.{AreTerms};
+ghost use Rattle.osview_answer.specs.AnswersSteps.{MakesSteps};
+ghost use Rattle.osview_answer.specs.Source.{IsSource};
+ghost use Rattle.osview_answer.specs.Steps.{AreSteps};
+
+use crate::source::{Source, read_source};
+use crate::telling::Told;
+use control_run::run_control;
+use epoch_run_bodies::laws::agreeing_bodies_mean_one;
+use os_code::Code;
+use os_io::{Files, Memory};
+use osrun_core_jobs::{Job, Refusal, Subject, Terms, load};
+use osrun_core_run::run_code;
+use osview_steps::{measure, steps_text};
+use std::alloc::Global;
+use std::thread::Threads;
+use task_workers::Gate;
+
+/// The line of each task.
+fn site_lines(alloc: Global, code: &Code) -> Result<Vec<u32>, Memory>
+    ensures { IfOk result (λ lines. lines.items ≡ map (λ (s : Site). s.line) (parts_of code.now).sites) }
+{
+    let mut lines = Vec::new(alloc);
+    for site in code.sites.as_slice() {
+        lines.push(site.line)?;
+    }
+    Ok(lines)
+}
+
+/// Tells the steps of the run of a program over an input. The tasks are run by workers, once more on one thread for what they read,
+/// and once more for their steps; the control program runs a second time for its activations.
+pub(crate) fn tell_steps<R: Threads + Sync, G: Gate>(
+    rt: &R,
+    alloc: Global,
+    terms: Terms,
+    source: &Source,
+    input: &[u8],
+    gate: &G,
+) -> Result<Told, Memory>
+    requires within { AreTerms terms }
+    requires few { length input.now ≤ 4194304 }
+    requires source { IsSource source.now }
+    ensures { IfOk result (λ told. AreSteps terms.task_budget terms.control_budget (program_tree source.now.checked.program) input.now
+        told.text.items (code_of told.status)) }
+{
+    agreeing_bodies_mean_one();
+    let run = run_code(rt, alloc, terms, &source.code, input, gate)?;
+    let control = run_control(
+        alloc,
+        &source.code,
+        input.len() as u32,
+        terms.control_budget,
+    )?;
+    let activations = control.activations.as_slice();
+    let measured = measure(
+        alloc,
+        &source.code,
+        activations,
+        &run.layout,
+        input,
+        terms.task_budget,
+    )?;
+    let lines = site_lines(alloc, &source.code)?;
+    let text = steps_text(alloc, &lines, measured.runs.as_slice(), measured.longest)?;
+    Ok(Told {
+        text: text.into_bytes(),
+        status: run.status(),
+    })
+}
+
+/// Reads the files of a job, and tells the steps of the run. Nothing is written.
+pub(crate) fn make_steps<R: Threads + Sync, F: Files, G: Gate>(
+    rt: &R,
+    alloc: Global,
+    job: &Job<'_>,
+    files: &mut F,
+    gate: &G,
+) -> Result<Told, Refusal>
+    requires may { MayOpen (F.may files.old) (F.opens files.old) (files_of (RunRequest (job_of job.now))) }
+    requires within { IsWithin (job_of job.now) }
+    ensures { MakesSteps F.Files files.old files.new (job_of job.now) result }
+{
+    let source = read_source(alloc, files, job.program)?;
+    let input = load(alloc, files, job.input, Subject::Input)?;
+    let told = tell_steps(rt, alloc, job.terms, &source, &input, gate)?;
+    Ok(told)
+}

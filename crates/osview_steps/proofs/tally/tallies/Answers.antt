@@ -1,0 +1,31 @@
+use Rattle.std.proofs.Common.{◌∙◌, ◌<◌, None, ap, arith, get_or, length, sym}
+use Rattle.std.specs.Prelude.{fold}
+use Rattle.std.proofs.lemmas.List.{length-set, take_all}
+use Rattle.std.proofs.lemmas.List.Sums.{fold_more}
+use Rattle.osview_steps.specs.Counting.{nothing_counted}
+use Rattle.osview_steps.specs.declared.runs.TaskRun.{TaskRun}
+use Rattle.osview_steps.specs.declared.tally.Tally.{Tally}
+use Rattle.osview_steps.proofs.Counting.{at_task, is_tally, small_step, step}
+use Rattle.osview_steps.proofs.tally.tallies.Goals as goal
+
+pub loop-run-preserved : goal.loop-run-preserved
+loop-run-preserved c =
+    let old = c.loop-run.tallies in
+    let runs = c.args.runs.now in
+    let i = c.loop-run.run-index in
+    let d : TaskRun = record { task = 0; steps = None } in
+    let run : TaskRun = get_or runs i d in
+    let lt : i < length runs = omega arith in
+    let inside = c.requires.tasks i d lt in
+    let many = c.loop-run.invariant.many in
+    let here = at_task old c.count.new.tallies run (omega (arith, inside, many)) c.count.ensures.counted in
+    record {
+      many = ap length c.count.ensures.counted ∙ length-set old _ _ ∙ many;
+      so_far = λ t. here t ∙ ap (λ (x : Tally). step t x run) (c.loop-run.invariant.so_far t) ∙ sym (fold_more (step t) nothing_counted runs i d lt);
+      small = λ t. small_step i t old c.count.new.tallies run (here t) (c.count.ensures.small i) (c.loop-run.invariant.small t);
+    }
+
+pub returns-clause-exact : goal.returns-clause-exact
+returns-clause-exact c = λ t lt.
+    let past = take_all c.loop-run.run-index c.args.runs.now (omega arith) in
+    is_tally t c.args.runs.now (get_or c.loop-run.tallies t nothing_counted) (c.loop-run.invariant.so_far t ∙ ap (fold (step t) nothing_counted) past)

@@ -1,0 +1,42 @@
+-- How many steps the machine makes for each activation of a run.
+use Rattle.std.specs.Prelude.{◌≡◌, ℕ, ℤ, Bool, true, false, List, None, Option, Some, length, map, slice_get, slice_index_or}
+use Rattle.std.specs.Option.{option_map_or}
+use Rattle.flow_core_laws.specs.Outcome.{State, ends_of}
+use Rattle.flow_core_laws.specs.Round.{inputs_in}
+use Rattle.flow_core_laws.specs.Streams.{stream_element, stream_reads}
+use Rattle.flow_core_laws.specs.declared.activation.Activation.{Activation}
+use Rattle.flow_core_laws.specs.declared.elem.Elem.TheVariants.{Value}
+use Rattle.flow_core_laws.specs.declared.task_end.TaskEnd.{TaskEnd}
+use Rattle.flow_core_laws.specs.declared.task_end.TaskEnd.TheVariants as task_end
+use Rattle.os_code.specs.Outcomes.{task_outcome}
+use Rattle.os_code.specs.Tasks.{TaskEnds}
+use Rattle.os_code.specs.declared.parts.Parts.{Parts}
+use Rattle.osview_steps.specs.declared.runs.TaskRun.{TaskRun}
+
+-- whether the body of an activation with this end ran: it has an end, and isn't poisoned
+abbrev pub did_run : TaskEnd → Bool
+did_run task_end.Done = true
+did_run (task_end.Trapped code line) = true
+did_run task_end.OverBudget = true
+did_run (task_end.Poisoned root) = false
+
+abbrev pub has_run : Option TaskEnd → Bool
+has_run end = option_map_or did_run end false
+
+-- An activation takes so many steps: all that it reads is there as values, and over these the machine ends its task in so many.
+pub record TakesSteps (code : Parts) (activations : List Activation) (input : List ℕ) (budget : ℕ) (meaning : State) (a : ℕ) (activation : Activation) (steps : ℕ) : Type 0 where
+  pub inputs : List ℤ
+  pub are_read : inputs_in stream_element (stream_reads activations input) meaning a ≡ Some (map Value inputs)
+  pub ends : TaskEnds code activation inputs budget (task_outcome code activation inputs budget) steps
+
+-- The steps of each activation of a run, with the number of its task; none where its body never ran.
+pub record AreRuns (code : Parts) (activations : List Activation) (input : List ℕ) (budget : ℕ) (meaning : State) (runs : List TaskRun) : Type 0 where
+  pub as_many : length runs ≡ length activations
+  pub of_tasks : (a : ℕ) (x : Activation) (r : TaskRun) → slice_get activations a ≡ Some x → slice_get runs a ≡ Some r → r.task ≡ x.site
+  pub ran : (a n : ℕ) (x : Activation) (r : TaskRun) → slice_get activations a ≡ Some x → slice_get runs a ≡ Some r → r.steps ≡ Some n
+      → TakesSteps code activations input budget meaning a x n
+  pub never_ran : (a : ℕ) (r : TaskRun) → slice_get runs a ≡ Some r → r.steps ≡ None → has_run (slice_index_or (ends_of meaning) a None) ≡ false
+
+-- the steps alone
+abbrev pub steps_of_runs : List TaskRun → List (Option ℕ)
+steps_of_runs runs = map (λ (r : TaskRun). r.steps) runs

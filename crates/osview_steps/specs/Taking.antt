@@ -1,0 +1,28 @@
+-- What one activation takes, by what is kept of it.
+use Rattle.std.specs.Prelude.{◌≡◌, ℕ, ℤ, List, [], None, Option, Some, false, slice_get, slice_index_or, true}
+use Rattle.flow_core_laws.specs.declared.activation.Activation.{Activation}
+use Rattle.flow_core_laws.specs.declared.task_end.TaskEnd.{TaskEnd}
+use Rattle.os_code.specs.Outcomes.{task_outcome}
+use Rattle.os_code.specs.Tasks.{TaskEnds}
+use Rattle.os_code.specs.declared.parts.Parts.{Parts}
+use Rattle.osview_outcomes.specs.declared.kept.Outcomes.{Outcomes}
+use Rattle.osview_steps.specs.Steps.{has_run}
+use Rattle.osview_steps.specs.declared.runs.TaskRun.{TaskRun}
+
+-- the end of an activation that is kept, and what is kept that it read
+abbrev pub end_at : Outcomes → ℕ → Option TaskEnd
+end_at outcomes a = slice_index_or outcomes.ends.items a None
+
+abbrev pub inputs_at : Outcomes → ℕ → List ℤ
+inputs_at outcomes a = slice_index_or outcomes.inputs a []
+
+-- an activation with this end took so many steps over what it read, or it never ran
+abbrev pub Took : Parts → Activation → List ℤ → (budget : ℕ) → Option TaskEnd → Option ℕ → Type 0
+Took code activation inputs budget end None = has_run end ≡ false
+Took code activation inputs budget end (Some n) = (has_run end ≡ true) × TaskEnds code activation inputs budget (task_outcome code activation inputs budget) n
+
+-- each of the first activations took so many steps as its run says
+pub record HaveRun (code : Parts) (activations : List Activation) (budget : ℕ) (outcomes : Outcomes) (runs : List TaskRun) : Type 0 where
+  pub of_tasks : (a : ℕ) (x : Activation) (r : TaskRun) → slice_get activations a ≡ Some x → slice_get runs a ≡ Some r → r.task ≡ x.site
+  pub took : (a : ℕ) (x : Activation) (r : TaskRun) → slice_get activations a ≡ Some x → slice_get runs a ≡ Some r
+      → Took code x (inputs_at outcomes a) budget (end_at outcomes a) r.steps

@@ -1,0 +1,35 @@
+-- What is counted of a task.
+use Rattle.std.specs.Prelude.{ℕ, ◌*◌, ◌/◌, ◌==◌, min, max, List, [], ◌∷◌, None, count_by, filter_map, fold, if◌then◌else◌}
+use Rattle.osview_steps.specs.declared.runs.TaskRun.{TaskRun}
+
+-- how many activations a task has
+abbrev pub activation_count : ℕ → List TaskRun → ℕ
+activation_count task runs = count_by (λ (r : TaskRun). r.task == task) runs
+
+-- the steps of those of its activations that ran
+abbrev pub steps_of : ℕ → List TaskRun → List ℕ
+steps_of task runs = filter_map (λ (r : TaskRun). if r.task == task then r.steps else None) runs
+
+-- the steps of all that ran
+abbrev pub all_steps : List TaskRun → List ℕ
+all_steps runs = filter_map (λ (r : TaskRun). r.steps) runs
+
+-- the least and the most of some numbers; 0 where there is none
+abbrev pub least : List ℕ → ℕ
+least [] = 0
+least (n ∷ ns) = fold min n ns
+
+abbrev pub most : List ℕ → ℕ
+most ns = fold max 0 ns
+
+-- the mean of so many numbers with a sum, rounded down; 0 where there is none
+abbrev pub mean : (whole count : ℕ) → ℕ
+mean whole count = if count == 0 then 0 else whole / count
+
+-- a share in thousandths of the whole, rounded down
+abbrev pub share : (part whole : ℕ) → ℕ
+share part whole = if whole == 0 then 0 else part * 1000 / whole
+
+-- how many times as much one number is as another, in hundredths, rounded down; of nothing it is as much
+abbrev pub ratio : (all one : ℕ) → ℕ
+ratio all one = if one == 0 then 100 else all * 100 / one

@@ -1,0 +1,148 @@
+ghost use Rattle.std.specs.Prelude.{◌≡◌, ◌+◌, ◌^◌, ◌<◌, ◌≤◌, ℕ, All, IfOk, length, max, min, slice_index_or, slice_set, sum, ◌*◌};
+ghost use Rattle.std.specs.Option.{option_map_or};
+ghost use Rattle.osview_steps.specs.Counting.{IsSmall, IsTallyOf, counted, nothing_counted};
+ghost use Rattle.osview_steps.specs.Tallies.{all_steps};
+ghost use Rattle.osview_steps.specs.declared.runs.TaskRun.{TaskRun as Run};
+
+use crate::runs::TaskRun;
+use os_io::{List, Memory};
+use std::alloc::Global;
+
+/// What is counted of a task.
+#[derive(Clone, Copy, Debug)]
+pub(crate) struct Tally {
+    /// How many activations it has.
+    pub(crate) activations: u32,
+    /// How many of them ran.
+    pub(crate) ran: u32,
+    /// The least and the most steps of one of these; 0 where none ran.
+    pub(crate) least: u64,
+    pub(crate) most: u64,
+    /// The steps of all of them.
+    pub(crate) sum: u128,
+}
+
+impl Tally {
+    /// Nothing is counted yet.
+    pub(crate) fn nothing() -> Tally
+        ensures { result ≡ nothing_counted }
+    {
+        Tally {
+            activations: 0,
+            ran: 0,
+            least: 0,
+            most: 0,
+            sum: 0,
+        }
+    }
+
+    /// This with one more activation, with its steps if it ran.
+    fn with(self, steps: Option<u64>) -> Tally
+        requires { IsSmall 65535 self }
+        ensures exact { result ≡ counted self steps }
+        ensures small { (n : ℕ) → IsSmall n self → IsSmall (n + 1) result }
+    {
+        match steps {
+            None => Tally {
+                activations: self.activations + 1,
+                ..self
+            },
+            Some(steps) => Tally {
+                activations: self.activations + 1,
+                ran: self.ran + 1,
+                least: if self.ran == 0 {
+                    steps
+                } else {
+                    smaller(self.least, steps)
+                },
+                most: larger(self.most, steps),
+                sum: plus(self.sum, steps),
+            },
+        }
+    }
+}
+
+/// The smaller one of two numbers.
+fn smaller(a: u64, b: u64) -> u64
+    ensures { result ≡ min a b }
+{
+    if b < a { b } else { a }
+}
+
+/// The larger one of two numbers.
+fn larger(a: u64, b: u64) -> u64
+    ensures { result ≡ max a b }
+{
+    if a < b { b } else { a }
+}
+
+/// A sum with one more number.
+fn plus(sum: u128, steps: u64) -> u128
+    requires { sum + 18446744073709551615 < 2 ^ 128 }
+    ensures sum { result ≡ sum + steps }
+    ensures small { result ≤ sum + 18446744073709551615 }
+{
+    sum + u128::from(steps)
+}
+
+/// Counts one more activation.
+fn count(tallies: &mut List<Tally>, run: TaskRun)
+    requires inside { run.task < length tallies.old }
+    requires small { IsSmall 65535 (slice_index_or tallies.old run.task nothing_counted) }
+    ensures counted { tallies.new ≡ slice_set tallies.old run.task (counted (slice_index_or tallies.old run.task nothing_counted) run.steps) }
+    ensures small { (n : ℕ) → IsSmall n (slice_index_or tallies.old run.task nothing_counted)
+        → IsSmall (n + 1) (counted (slice_index_or tallies.old run.task nothing_counted) run.steps) }
+{
+    let before = tallies.as_slice()[run.task as usize];
+    tallies.as_mut_slice()[run.task as usize] = before.with(run.steps);
+}
+
+/// Nothing, counted of each of so many tasks.
+fn nothing_yet(alloc: Global, tasks: usize) -> Result<List<Tally>, Memory>
+    ensures many { IfOk result (λ tallies. length tallies ≡ tasks) }
+    ensures nothing { IfOk result (λ tallies. (t : ℕ) → slice_index_or tallies t nothing_counted ≡ nothing_counted) }
+{
+    let mut tallies = List::with_capacity(alloc, tasks)?;
+    for _ in 0..tasks {
+        tallies.push(Tally::nothing())?;
+    }
+    Ok(tallies)
+}
+
+/// What is counted of each of so many tasks, over the activations of a run.
+pub(crate) fn tallies(alloc: Global, tasks: usize, runs: &[TaskRun]) -> Result<List<Tally>, Memory>
+    requires few { length runs.now ≤ 65536 }
+    requires tasks { All (λ (r : Run). r.task < tasks) runs.now }
+    ensures many { IfOk result (λ tallies. length tallies ≡ tasks) }
+    ensures exact { IfOk result (λ tallies. (t : ℕ) → t < tasks → IsTallyOf t runs.now (slice_index_or tallies t nothing_counted)) }
+    ensures small { IfOk result (λ tallies. (t : ℕ) → t < tasks → IsSmall 65536 (slice_index_or tallies t nothing_counted)) }
+{
+    let mut tallies = nothing_yet(alloc, tasks)?;
+    for run in runs {
+        count(&mut tallies, *run);
+    }
+    Ok(tallies)
+}
+
+/// The steps of an activation; 0 where it never ran.
+fn steps_of(run: &TaskRun) -> u64
+    ensures { result ≡ option_map_or (λ n. n) run.now.steps 0 }
+{
+    match run.steps {
+        Some(steps) => steps,
+        None => 0,
+    }
+}
+
+/// The steps of all activations that ran.
+pub(crate) fn total(runs: &[TaskRun]) -> u128
+    requires few { length runs.now ≤ 65536 }
+    ensures exact { result ≡ sum (all_steps runs.now) }
+    ensures small { result ≤ 65536 * 18446744073709551615 }
+{
+    let mut total = 0;
+    for run in runs {
+        total = plus(total, steps_of(run));
+    }
+    total
+}

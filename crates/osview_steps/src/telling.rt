@@ -1,0 +1,122 @@
+ghost use Rattle.std.specs.Prelude.{◌≡◌, ◌<◌, ◌≤◌, ◌*◌, ◌++◌, ◌==◌, All, IfOk, OnOk, codes, if◌then◌else◌, length};
+ghost use Rattle.osview_steps.specs.Counting.{IsSmall};
+ghost use Rattle.osview_steps.specs.Lines.{all_line, counts_text, longest_line, range_text, share_text, speed_line, steps_lines};
+ghost use Rattle.osview_steps.specs.Told.{tally_line, tally_text};
+ghost use Rattle.osview_steps.specs.declared.runs.TaskRun.{TaskRun as Run};
+
+use crate::numbers::{add_between, add_hundredths, add_tenths, mean, ratio, share};
+use crate::runs::TaskRun;
+use crate::tally::{Tally, tallies, total};
+use os_io::Memory;
+use osview_text::Text;
+use std::alloc::Global;
+
+/// What stands behind the number of a task's activations.
+fn activation_word(count: u32) -> &'static [u8]
+    ensures { result.now ≡ (if count == 1 then codes " activation, " else codes " activations, ") }
+{
+    if count == 1 {
+        b" activation, "
+    } else {
+        b" activations, "
+    }
+}
+
+/// Adds how many activations a task has, and how many of them ran.
+fn add_counts(told: &mut Text, line: u32, activations: u32, ran: u32) -> Result<(), Memory>
+    ensures { OnOk result (told.new ≡ told.old ++ counts_text line activations ran) }
+{
+    told.field(b"line ", u64::from(line))?;
+    told.field(b": ", u64::from(activations))?;
+    told.field(activation_word(activations), u64::from(ran))?;
+    told.add(b" of them ran")
+}
+
+/// Adds the least and the most of steps.
+fn add_range(told: &mut Text, least: u64, most: u64) -> Result<(), Memory>
+    ensures { OnOk result (told.new ≡ told.old ++ range_text least most) }
+{
+    told.field(b", ", least)?;
+    told.field(b" to ", most)?;
+    told.add(b" steps each")
+}
+
+/// Adds the share of steps in those of all tasks.
+fn add_share(told: &mut Text, share: u128) -> Result<(), Memory>
+    ensures { OnOk result (told.new ≡ told.old ++ share_text share) }
+{
+    told.add(b", ")?;
+    add_tenths(told, share)?;
+    told.add(b" % of the steps of all tasks")
+}
+
+/// Adds the steps of a task's activations, where some ran.
+fn add_steps(told: &mut Text, tally: Tally, all: u128) -> Result<(), Memory>
+    requires { IsSmall 65536 tally }
+    ensures { OnOk result (told.new ≡ told.old ++ tally_text tally all) }
+{
+    if tally.ran == 0 {
+        return Ok(());
+    }
+    add_range(told, tally.least, tally.most)?;
+    add_between(told, b", ", mean(tally.sum, tally.ran), b" on average")?;
+    add_between(told, b", ", tally.sum, b" in all")?;
+    add_share(told, share(tally.sum, all))
+}
+
+/// Adds the line of a task.
+fn add_task(told: &mut Text, line: u32, tally: Tally, all: u128) -> Result<(), Memory>
+    requires { IsSmall 65536 tally }
+    ensures { OnOk result (told.new ≡ told.old ++ tally_line line tally all) }
+{
+    add_counts(told, line, tally.activations, tally.ran)?;
+    add_steps(told, tally, all)?;
+    told.add(b"\n")
+}
+
+/// Adds how many times as fast more workers can make the tasks.
+fn add_speed(told: &mut Text, all: u128, longest: u128) -> Result<(), Memory>
+    requires { all ≤ 65536 * 18446744073709551615 }
+    ensures { OnOk result (told.new ≡ told.old ++ speed_line all longest) }
+{
+    told.add(b"more workers can make the tasks ")?;
+    add_hundredths(told, ratio(all, longest))?;
+    told.add(b" times as fast at most\n")
+}
+
+/// Adds the lines of the whole.
+fn add_chain(told: &mut Text, all: u128, longest: u128) -> Result<(), Memory>
+    requires { all ≤ 65536 * 18446744073709551615 }
+    ensures { OnOk result (told.new ≡ told.old ++ (all_line all ++ longest_line longest ++ speed_line all longest)) }
+{
+    add_between(told, b"all tasks: ", all, b" steps\n")?;
+    add_between(
+        told,
+        b"the longest chain of activations that wait for one another: ",
+        longest,
+        b" steps\n",
+    )?;
+    add_speed(told, all, longest)
+}
+
+/// The lines of steps: one for each task, and those of the whole. `lines` has the line of each task's pragma, `runs` the activations,
+/// and `longest` the steps of a longest chain of them.
+pub fn steps_text(
+    alloc: Global,
+    lines: &[u32],
+    runs: &[TaskRun],
+    longest: u128,
+) -> Result<Text, Memory>
+    requires few { length runs.now ≤ 65536 }
+    requires tasks { All (λ (r : Run). r.task < length lines.now) runs.now }
+    ensures { IfOk result (λ told. told ≡ steps_lines lines.now runs.now longest) }
+{
+    let tallies = tallies(alloc, lines.len(), runs)?;
+    let all = total(runs);
+    let mut told = Text::new(alloc);
+    for task in 0..lines.len() {
+        add_task(&mut told, lines[task], tallies.as_slice()[task], all)?;
+    }
+    add_chain(&mut told, all, longest)?;
+    Ok(told)
+}
