@@ -1321,6 +1321,30 @@ shows "elements that aren't bytes" 0 "0 -2147483648 activation 0 line 4 / 1 2147
 for name in s "s[2]" "s[01]" "s[+1]" "s[-1]" "s[1" "s[]" "s[1]x" "s [1]" "st[0]" k none "" osi; do
     shows "a name that is no stream's: $name" 2 "no stream $name" stream waits.c in.bin "$name"
 done
+graph_begins='digraph streams { /   node [fontname="sans-serif"];'
+shows "a graph, with a task that traps" 1 "$graph_begins"' /   task0 [shape=box, label="task in line 7\n3 activations\n2 done, 1 trapped"]; /   stream0 [shape=ellipse, label="osin\n3 written, 3 read, 0 left"]; /   stream1 [shape=ellipse, label="osout\n2 written"]; /   stream0 -> task0 [label="1, burst 1"]; /   task0 -> stream1 [label="1"]; / }' \
+    graph "$top/examples/divide.c" zero.bin
+shows "a graph with tasks that wait, and streams by their names" 1 "$graph_begins"' /   task0 [shape=box, label="task in line 6\n3 activations\n0 done, 3 starved"]; /   task1 [shape=box, label="task in line 11\n4 activations\n1 done, 3 starved"]; /   task2 [shape=box, label="task in line 14\n1 activation\n0 done, 1 starved"]; /   task3 [shape=box, label="task in line 18\n1 activation\n1 done"]; /   task4 [shape=box, label="task in line 20\n1 activation\n0 done, 1 poisoned"]; /   task5 [shape=box, label="task in line 22\n1 activation\n0 done, 1 out of turns"]; /   stream1 [shape=ellipse, label="osout\n1 written"]; /   stream2 [shape=ellipse, label="st\n0 written, 0 read, 0 left"]; /   stream3 [shape=ellipse, label="s[0]\n0 written, 0 read, 0 left"]; /   stream4 [shape=ellipse, label="s[1]\n1 written, 1 read, 0 left"]; /   stream2 -> task0 [label="1, burst 1"]; /   task0 -> stream2 [label="1"]; /   stream4 -> task1 [label="1, burst 1"]; /   task1 -> stream1 [label="1"]; /   stream4 -> task2 [label="1, burst 1"]; /   task3 -> stream4 [label="1"]; /   stream3 -> task4 [label="1, burst 1"]; /   task4 -> stream1 [label="1"]; /   task5 -> stream3 [label="1"]; / }' \
+    graph waits.c in.bin
+cat >sizes.c <<'END'
+int main(void) {
+    int n;
+    for (n = 2; n < 4; n++) {
+        int w[n], v[n];
+        #pragma omp task input(osin >> w[1]) output(osout << v[n])
+        v[0] = w[0];
+    }
+}
+END
+shows "a graph with windows that overlap, and sizes that differ" 0 "$graph_begins"' /   task0 [shape=box, label="task in line 5\n2 activations\n2 done"]; /   stream0 [shape=ellipse, label="osin\n4 written, 4 read, 0 left"]; /   stream1 [shape=ellipse, label="osout\n5 written"]; /   stream0 -> task0 [label="2 to 3, burst 1"]; /   task0 -> stream1 [label="2 to 3"]; / }' \
+    graph sizes.c in.bin
+graph_begins='digraph activations { /   node [shape=box, fontname="sans-serif"]; /   input [shape=ellipse];'
+shows "some activations, and the input" 1 "$graph_begins"' /   a1 [label="1: line 7\ntrapped"]; /   input -> a1 [label="osin[1..2]"]; /   a2 [label="2: line 7\ndone"]; /   input -> a2 [label="osin[2..3]"]; / }' \
+    graph "$top/examples/divide.c" zero.bin --activations 1..9
+shows "an activation, and a dashed one that writes what it reads" 1 "$graph_begins"' /   a9 [label="9: line 20\npoisoned"]; /   a10 [style=dashed, label="10: line 22\nout of turns"]; /   a10 -> a9 [label="s[0][0..1]"]; / }' \
+    graph --activations=9..10 waits.c in.bin
+shows "no activations" 0 "$graph_begins / }" graph first.c in.bin --activations 3..1
+shows "a program that is refused, and not drawn" 3 "refused 23 line 1" graph empty.c in.bin
 shows "a run with fewer turns for main" 1 \
     "main used up its turns after 2 activations / 1 of 2 activations are done / 1 of 2 bytes of the output are there / activation 1, of the task in line 7, trapped in line 8: division by zero" \
     report "$top/examples/divide.c" --control=2 zero.bin
@@ -1383,7 +1407,9 @@ for words in "" report "report first.c" "report first.c in.bin in.bin" "stream f
     "stream first.c in.bin osin 1 -1" "stream first.c in.bin osin 1 2 3" "stream first.c in.bin osin 18446744073709551616" "show first.c in.bin" "steps first.c" "steps first.c in.bin 1" --versions \
     "report --budget first.c in.bin" "report --budget 1000000001 first.c in.bin" "report --workers 0 first.c in.bin" \
     "report --workers=65 first.c in.bin" "report --control 1 --control 1 first.c in.bin" "report first.c in.bin --budget" \
-    "report --turns 1 first.c in.bin" "report --budget= first.c in.bin" "report -w first.c" "--help report"; do
+    "report --turns 1 first.c in.bin" "report --budget= first.c in.bin" "report -w first.c" "--help report" "graph first.c" \
+    "graph first.c in.bin osin" "graph first.c in.bin --activations 1" "graph first.c in.bin --activations 1..x" \
+    "report first.c in.bin --activations 1..2" "stream first.c in.bin osin --activations 1..2"; do
     # shellcheck disable=SC2086
     shows "words that ask for nothing to be shown: $words" 2 "$(sed -e ':a' -e '$!{N;ba' -e '}' -e 's|\n| / |g' help)" $words
 done
@@ -1395,6 +1421,11 @@ check "a report in sentences for a full disk" 6 "" ""
 status=$?
 : >out
 check "a stream for a full disk" 6 "" ""
+if command -v dot >/dev/null; then
+    if "$top/tests/pictures.sh" >report 2>&1; then status=0; else status=1; fi
+    : >out
+    check "graphs that Graphviz draws" 0 "" "3 pictures"
+fi
 LD_PRELOAD=$work/failing_allocation.so FAILING_ALLOCATION=1 "$top/crates/osview/out/osview" report first.c in.bin >out 2>report
 status=$?
 check "no memory for the words of what shows" 7 "" ""

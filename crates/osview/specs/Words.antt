@@ -10,6 +10,7 @@ abbrev pub IsLawful : Request → Type 0
 IsLawful (request.Report job) = IsWithin (job_of job)
 IsLawful (request.Stream job) = IsWithin (job_of job.run)
 IsLawful (request.Steps job) = IsWithin (job_of job)
+IsLawful (request.Graph job) = IsWithin (job_of job.run)
 IsLawful request.Help = Unit {0}
 IsLawful request.Version = Unit {0}
 

@@ -3,6 +3,7 @@
 //! `osview report PROGRAM INPUT` runs the program over the input as `osrun run` does, and writes in sentences what became of its
 //! activations: `answer_report`'s answer. `osview stream PROGRAM INPUT NAME` writes the elements of a stream: `answer_stream`'s.
 //! `osview steps PROGRAM INPUT` writes how many steps its tasks take: `answer_steps`'s.
+//! `osview graph PROGRAM INPUT` writes a graph of the run: `answer_graph`'s.
 #![tactic(auto)]
 
 mod options;
@@ -11,7 +12,7 @@ mod telling;
 
 use os_io::{HostFiles, HostSink};
 use osrun_core_jobs::Status;
-use osview_answer::{answer_report, answer_steps, answer_stream};
+use osview_answer::{answer_graph, answer_report, answer_steps, answer_stream};
 use request::{Request, request_of};
 use std::os::fd::AsRawFd;
 use std::process::ExitCode;
@@ -72,6 +73,15 @@ fn main(rt: HostRuntime) -> ExitCode {
             &NoGate,
         ),
         Some(Request::Steps(job)) => answer_steps(
+            &rt,
+            rt.alloc(),
+            &job,
+            &mut files,
+            &mut out,
+            &mut told,
+            &NoGate,
+        ),
+        Some(Request::Graph(job)) => answer_graph(
             &rt,
             rt.alloc(),
             &job,

@@ -18,6 +18,8 @@ pub(crate) struct Options {
     task_budget: Option<u64>,
     /// `--control`: how many turns the control program may take, up to 1,000,000,000.
     control_budget: Option<u64>,
+    /// `--activations A..B`: which activations are shown.
+    pub(crate) activations: Option<(u64, u64)>,
 }
 
 /// The number that a word is, from the least to the most.
@@ -49,6 +51,14 @@ fn workers_of(word: &str) -> Option<u32>
     }
 }
 
+/// Two numbers with two dots between them.
+fn range_of(word: &str) -> Option<(u64, u64)> {
+    let (first, end) = word.split_once("..")?;
+    let first = first.parse::<u64>().ok()?;
+    let end = end.parse::<u64>().ok()?;
+    Some((first, end))
+}
+
 impl Options {
     /// No option.
     pub(crate) fn none() -> Options
@@ -58,6 +68,7 @@ impl Options {
             workers: None,
             task_budget: None,
             control_budget: None,
+            activations: None,
         }
     }
 
@@ -77,6 +88,10 @@ impl Options {
             }),
             "control" if self.control_budget.is_none() => Some(Options {
                 control_budget: Some(turns_of(value)?),
+                ..self
+            }),
+            "activations" if self.activations.is_none() => Some(Options {
+                activations: Some(range_of(value)?),
                 ..self
             }),
             _ => None,

@@ -6,7 +6,7 @@ ghost use Rattle.osview.specs.Words.{AreWithin, IsLawful};
 
 use crate::options::{Parts, parts_of};
 use osrun_core_jobs::Job;
-use osview_answer::StreamJob;
+use osview_answer::{GraphJob, StreamJob, View};
 
 /// What is to be done.
 #[derive(Clone, Copy, Debug)]
@@ -17,6 +17,8 @@ pub(crate) enum Request<'w> {
     Stream(StreamJob<'w>),
     /// To tell how many steps the tasks of a run take.
     Steps(Job<'w>),
+    /// To draw a graph.
+    Graph(GraphJob<'w>),
     /// To tell how the program is used.
     Help,
     /// To tell its version.
@@ -32,6 +34,7 @@ pub(crate) fn request_of(words: &[String]) -> Option<Request<'_>>
         "report" => report_of(&parts_of(rest)?),
         "stream" => stream_of(&parts_of(rest)?),
         "steps" => steps_of(&parts_of(rest)?),
+        "graph" => graph_of(&parts_of(rest)?),
         word if rest.is_empty() => option_of(word),
         _ => None,
     }
@@ -54,7 +57,7 @@ fn report_of<'w>(words: &Parts<'w>) -> Option<Request<'w>>
     requires { AreWithin words.now.options }
     ensures { IfSome result IsLawful }
 {
-    if words.count != 2 {
+    if words.count != 2 || words.options.activations.is_some() {
         return None;
     }
     Some(Request::Report(job_of(words)))
@@ -76,7 +79,7 @@ fn stream_of<'w>(words: &Parts<'w>) -> Option<Request<'w>>
     requires { AreWithin words.now.options }
     ensures { IfSome result IsLawful }
 {
-    if words.count < 3 {
+    if words.count < 3 || words.options.activations.is_some() {
         return None;
     }
     let first = number_at(words, 3, 0)?;
@@ -86,6 +89,24 @@ fn stream_of<'w>(words: &Parts<'w>) -> Option<Request<'w>>
         name: words.name(2),
         first,
         count,
+    }))
+}
+
+/// The graph that words ask for: of a program and an input, of its tasks and streams, or of some activations.
+fn graph_of<'w>(words: &Parts<'w>) -> Option<Request<'w>>
+    requires { AreWithin words.now.options }
+    ensures { IfSome result IsLawful }
+{
+    if words.count != 2 {
+        return None;
+    }
+    let view = match words.options.activations {
+        Some((first, end)) => View::Activations { first, end },
+        None => View::Streams,
+    };
+    Some(Request::Graph(GraphJob {
+        run: job_of(words),
+        view,
     }))
 }
 

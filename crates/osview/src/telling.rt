@@ -14,6 +14,9 @@ osview shows what a run of an OpenStream program came to.
     osview stream PROGRAM INPUT NAME [FROM [COUNT]]
                                   runs it too, and shows the elements of the stream NAME, from position FROM on, COUNT at most
     osview steps PROGRAM INPUT    runs it too, and tells how many steps its tasks take, and how much faster more workers can be
+    osview graph PROGRAM INPUT [--activations A..B]
+                                  runs it too, and writes the graph of tasks and streams as Graphviz text, or that of the
+                                  activations A to B - 1
     --workers N, --budget N, --control N
                                   by how many workers, with how many turns for each task and for main, as osrun run takes them
     osview --help                 tells this

@@ -1,7 +1,8 @@
 -- The sites of a program's code have the lines of its tasks.
-use Rattle.std.proofs.Common.{◌≡◌, ◌∙◌, ◌<◌, ℕ, zero, suc, inl, inr, All, List, [], ◌∷◌, Option, ap, arith, get_or, length, map, refl, slice_get, subst, sym}
+use Rattle.std.proofs.Common.{◌≡◌, ◌∙◌, ◌<◌, ℕ, zero, suc, inl, inr, All, List, [], ◌∷◌, ap, arith, get_or, length, map, refl, slice_get, subst, sym}
 use Rattle.std.specs.Option.{option_map_or}
-use Rattle.std.proofs.lemmas.List.{get_or_default, length-map, same_lists}
+use Rattle.std.proofs.lemmas.Grind.{same_number_lists}
+use Rattle.std.proofs.lemmas.List.{get_or_past, length-map}
 use Rattle.std.proofs.lemmas.Option.{slice_get-get_or, slice_get_cases, slice_get_past}
 use Rattle.flow_core_laws.specs.Outcome.{State}
 use Rattle.flow_core_laws.specs.declared.activation.Activation.{Activation}
@@ -11,10 +12,17 @@ use Rattle.os_ast.specs.Trees.{ProgramTree}
 use Rattle.os_code.specs.Tasks.{Fits}
 use Rattle.os_code.specs.declared.parts.Parts.{Parts}
 use Rattle.os_code.specs.declared.site.Site.{Site}
+use Rattle.osview_answer.specs.Graphs.{site_lines}
 use Rattle.osview_answer.specs.Source.{site_line}
 use Rattle.osview_answer.specs.Told.{task_line}
 use Rattle.osview_steps.specs.Steps.{AreRuns}
 use Rattle.osview_steps.specs.declared.runs.TaskRun.{TaskRun}
+
+-- the number of an element, by its place
+number_of : {A : Type 0} (xs : List A) (f : A → ℕ) (k : ℕ) → option_map_or f (slice_get xs k) 0 ≡ get_or (map f xs) k 0
+number_of [] f k = sym (get_or_past [] k 0 (omega arith))
+number_of (x ∷ xs) f zero = refl
+number_of (x ∷ xs) f (suc k) = number_of xs f k
 
 module _ (code : Parts) (program : ProgramTree) (stands : StandsFor code program) where
   -- the line of a site is that of the task of its number
@@ -36,22 +44,15 @@ module _ (code : Parts) (program : ProgramTree) (stands : StandsFor code program
       ap (λ at. at ∷ map (site_line code) rest) (same_line a.site)
       ∙ ap (λ lines. task_line program a ∷ lines) (same_lines rest)
 
-  -- and those of the tasks, in their order
-  pub all_lines : map (λ (s : Site). s.line) code.sites ≡ map (λ (t : TaskTree). t.mark.line) (program_tasks program)
-  all_lines =
-      let sizes = stands.has.sites in
-      same_lists (map (λ (s : Site). s.line) code.sites) (map (λ (t : TaskTree). t.mark.line) (program_tasks program))
-      (length-map code.sites (λ (s : Site). s.line) ∙ sizes ∙ sym (length-map (program_tasks program) (λ (t : TaskTree). t.mark.line)))
-      (λ k d lt.
-      let inside : k < length code.sites = omega (arith, lt, length-map code.sites (λ (s : Site). s.line)) in
-      get_or_default (map (λ (s : Site). s.line) code.sites) k d 0 lt
-      ∙ of_map (λ (s : Site). s.line) code.sites k ∙ same_line k ∙ sym (of_map (λ (t : TaskTree). t.mark.line) (program_tasks program) k)
-      ∙ sym (get_or_default (map (λ (t : TaskTree). t.mark.line) (program_tasks program)) k d 0 (omega (arith, inside, sizes, length-map (program_tasks program) (λ (t : TaskTree). t.mark.line)))))
-    where
-      of_map : {X : Type 0} (f : X → ℕ) (xs : List X) (k : ℕ) → get_or (map f xs) k 0 ≡ option_map_or f (slice_get xs k) 0
-      of_map f [] k = refl
-      of_map f (x ∷ xs) zero = refl
-      of_map f (x ∷ xs) (suc k) = of_map f xs k
+  -- the lines of all sites
+  pub all_lines : site_lines code ≡ map (λ (t : TaskTree). t.mark.line) (program_tasks program)
+  all_lines = same_number_lists (site_lines code) (map (λ (t : TaskTree). t.mark.line) (program_tasks program)) long each where
+    long : length (site_lines code) ≡ length (map (λ (t : TaskTree). t.mark.line) (program_tasks program))
+    long = length-map code.sites (λ (s : Site). s.line) ∙ stands.has.sites ∙ sym (length-map (program_tasks program) (λ (t : TaskTree). t.mark.line))
+
+    each : (k : ℕ) → k < length (site_lines code) → get_or (site_lines code) k 0 ≡ get_or (map (λ (t : TaskTree). t.mark.line) (program_tasks program)) k 0
+    each k lt =
+        sym (number_of code.sites (λ (s : Site). s.line) k) ∙ same_line k ∙ number_of (program_tasks program) (λ (t : TaskTree). t.mark.line) k
 
 -- the tasks of runs are sites of the code
 pub tasks_are_sites : (code : Parts) (activations : List Activation) (input : List ℕ) (budget : ℕ) (meaning : State) (runs : List TaskRun) → All (Fits code) activations

@@ -1,4 +1,5 @@
--- What a reader believes: where the names of streams stand, what is told of a run, of a stream and of steps, and what a call leaves.
+-- What a reader believes: where the names of streams stand, what is told of a run, of a stream and of steps, what is drawn of a run, and
+-- what a call leaves.
 pub mod StreamNames
 pub mod Told
 pub mod Answers
@@ -6,6 +7,9 @@ pub mod Elements
 pub mod AnswersStream
 pub mod Steps
 pub mod AnswersSteps
+pub mod Drawn
+pub mod AnswersGraph
 -- What restates private functions.
 pub mod Source
 pub mod Streams
+pub mod Graphs

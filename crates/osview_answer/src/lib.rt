@@ -2,15 +2,18 @@
 //!
 //! `answer_report` reads both files as `osrun run` does, runs the program over the input, and hands over what the run came to in
 //! sentences: with the lines of tasks and the names of streams as they stand in the program's text. `answer_stream` hands over the
-//! elements of one of its streams, a line each. `answer_steps` hands over how many steps its tasks take. Where a file is refused
-//! they tell the same as `osrun run`.
+//! elements of one of its streams, a line each, `answer_steps` how many steps its tasks take, and `answer_graph` a graph of the run.
+//! Where a file is refused they tell the same as `osrun run`.
 //!
-//! What is told is a definition over the meaning of the program, `IsReportOf`, `AreElementsOf` and `AreStepsOf`; what a call leaves
-//! is `AnswersReport`, `AnswersStream` and `AnswersSteps`. The lines themselves are put together in `osview_sentences`,
-//! `osview_stream` and `osview_steps`.
+//! What is told is a definition over the meaning of the program, `IsReportOf`, `AreElementsOf`, `AreStepsOf` and `IsGraphOf`; what a
+//! call leaves is `AnswersReport`, `AnswersStream`, `AnswersSteps` and `AnswersGraph`. The lines themselves are put together in
+//! `osview_sentences`, `osview_stream`, `osview_steps` and `osview_graph`.
 #![tactic(auto)]
 
 mod answer;
+mod graph_answer;
+mod graph_job;
+mod graph_telling;
 mod lines;
 mod names;
 mod outcomes;
@@ -23,6 +26,9 @@ mod stream_telling;
 mod telling;
 
 pub use answer::answer_report;
+pub use graph_answer::answer_graph;
+pub use graph_job::GraphJob;
+pub use osview_graph::View;
 pub use steps_answer::answer_steps;
 pub use stream_answer::answer_stream;
 pub use stream_job::StreamJob;

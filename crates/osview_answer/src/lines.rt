@@ -1,5 +1,6 @@
 ghost use Rattle.std.specs.Prelude.{◌≡◌, IfOk, map};
 ghost use Rattle.os_code.specs.Codes.{parts_of};
+ghost use Rattle.osview_answer.specs.Graphs.{site_lines};
 ghost use Rattle.osview_answer.specs.Source.{site_line};
 
 use flow_core_laws::Activation;
@@ -28,6 +29,17 @@ pub(crate) fn task_lines(
     let mut lines = Vec::new(alloc);
     for activation in activations {
         lines.push(site_line(code, activation))?;
+    }
+    Ok(lines)
+}
+
+/// The line of each task's pragma, in the order of the text.
+pub(crate) fn site_lines(alloc: Global, code: &Code) -> Result<Vec<u32>, Memory>
+    ensures { IfOk result (λ lines. lines.items ≡ site_lines (parts_of code.now)) }
+{
+    let mut lines = Vec::new(alloc);
+    for site in code.sites.as_slice() {
+        lines.push(site.line)?;
     }
     Ok(lines)
 }

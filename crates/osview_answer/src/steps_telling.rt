@@ -1,7 +1,5 @@
-ghost use Rattle.std.specs.Prelude.{◌≡◌, ◌≤◌, IfOk, length, map};
+ghost use Rattle.std.specs.Prelude.{◌≤◌, IfOk, length};
 ghost use Rattle.os_ast.specs.Views.{program_tree};
-ghost use Rattle.os_code.specs.Codes.{parts_of};
-ghost use Rattle.os_code.specs.declared.site.Site.{Site};
 ghost use Rattle.osrun_core_jobs.specs.Files.{MayOpen, files_of};
 ghost use Rattle.osrun_core_jobs.specs.Jobs.{IsWithin, Run as RunRequest, job_of};
 ghost use Rattle.osrun_core_jobs.specs.Status.{code_of};
@@ -10,11 +8,11 @@ ghost use Rattle.osview_answer.specs.AnswersSteps.{MakesSteps};
 ghost use Rattle.osview_answer.specs.Source.{IsSource};
 ghost use Rattle.osview_answer.specs.Steps.{AreSteps};
 
+use crate::lines::site_lines;
 use crate::source::{Source, read_source};
 use crate::telling::Told;
 use control_run::run_control;
 use epoch_run_bodies::laws::agreeing_bodies_mean_one;
-use os_code::Code;
 use os_io::{Files, Memory};
 use osrun_core_jobs::{Job, Refusal, Subject, Terms, load};
 use osrun_core_run::run_code;
@@ -22,17 +20,6 @@ use osview_steps::{measure, steps_text};
 use std::alloc::Global;
 use std::thread::Threads;
 use task_workers::Gate;
-
-/// The line of each task.
-fn site_lines(alloc: Global, code: &Code) -> Result<Vec<u32>, Memory>
-    ensures { IfOk result (λ lines. lines.items ≡ map (λ (s : Site). s.line) (parts_of code.now).sites) }
-{
-    let mut lines = Vec::new(alloc);
-    for site in code.sites.as_slice() {
-        lines.push(site.line)?;
-    }
-    Ok(lines)
-}
 
 /// Tells the steps of the run of a program over an input. The tasks are run by workers, once more on one thread for what they read,
 /// and once more for their steps; the control program runs a second time for its activations.

@@ -1,0 +1,33 @@
+ghost use Rattle.osrun_core_jobs.specs.Files.{MayOpen, files_of};
+ghost use Rattle.osrun_core_jobs.specs.Jobs.{IsWithin, Run as RunRequest, job_of};
+ghost use Rattle.osview_answer.specs.AnswersGraph.{AnswersGraph};
+
+use crate::graph_job::GraphJob;
+use crate::graph_telling::make_graph;
+use os_io::{Files, Sink};
+use osrun_core_jobs::{NoLines, Status, deliver, refuse};
+use std::alloc::Global;
+use std::thread::Threads;
+use task_workers::Gate;
+
+/// Runs the program of a job over its input and writes the graph of the run on `out`, as Graphviz text; or tells on `report` why
+/// there is no run. It answers the status that `osrun run` has. All memory is taken before the first byte is written.
+pub fn answer_graph<R: Threads + Sync, F: Files, O: Sink, E: Sink, G: Gate>(
+    rt: &R,
+    alloc: Global,
+    job: &GraphJob<'_>,
+    files: &mut F,
+    out: &mut O,
+    report: &mut E,
+    gate: &G,
+) -> Status
+    requires within { IsWithin (job_of job.now.run) }
+    requires may { MayOpen (F.may files.old) (F.opens files.old) (files_of (RunRequest (job_of job.now.run))) }
+    ensures { AnswersGraph F.Files files.old files.new O.Sink out.old out.new E.Sink report.old report.new
+        (job_of job.now.run) job.now.view result }
+{
+    match make_graph(rt, alloc, job, files, gate) {
+        Ok(told) => deliver(out, report, &told.text, &NoLines, told.status),
+        Err(refusal) => refuse(report, refusal),
+    }
+}

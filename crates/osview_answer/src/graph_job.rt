@@ -1,0 +1,11 @@
+use osrun_core_jobs::Job;
+use osview_graph::View;
+
+/// A run whose graph is to be shown.
+#[derive(Clone, Copy, Debug)]
+pub struct GraphJob<'w> {
+    /// The run.
+    pub run: Job<'w>,
+    /// Which graph of it.
+    pub view: View,
+}

@@ -1,0 +1,84 @@
+ghost use Rattle.std.specs.Prelude.{◌≤◌, IfOk, length};
+ghost use Rattle.osrun_core_jobs.specs.Files.{MayOpen, files_of};
+ghost use Rattle.osrun_core_jobs.specs.Jobs.{IsWithin, Run as RunRequest, job_of};
+ghost use Rattle.osrun_core_jobs.specs.Status.{code_of};
+ghost use Rattle.osrun_core_run.specs.RunOf.{AreTerms};
+ghost use Rattle.osview_answer.specs.Drawn.{IsGraphOf};
+ghost use Rattle.osview_answer.specs.Graphs.{MakesGraph};
+ghost use Rattle.osview_answer.specs.Source.{IsSource};
+
+use crate::graph_job::GraphJob;
+use crate::lines::site_lines;
+use crate::names::{stream_names, tokens_of};
+use crate::source::{Source, read_source};
+use crate::telling::Told;
+use control_run::run_control;
+use epoch_run_bodies::laws::agreeing_bodies_mean_one;
+use os_io::{Files, Memory};
+use osrun_core_jobs::{Refusal, Subject, load};
+use osrun_core_run::run_code;
+use osview_graph::{Drawn, graph_text};
+use std::alloc::Global;
+use std::thread::Threads;
+use task_workers::Gate;
+
+/// Runs a program over an input, and draws the graph that is asked for. The control program runs a second time, for its activations.
+fn tell_graph<R: Threads + Sync, G: Gate>(
+    rt: &R,
+    alloc: Global,
+    job: &GraphJob<'_>,
+    source: &Source,
+    input: &[u8],
+    gate: &G,
+) -> Result<Told, Memory>
+    requires within { AreTerms job.now.run.terms }
+    requires few { length input.now ≤ 4194304 }
+    requires source { IsSource source.now }
+    ensures { IfOk result (λ told. IsGraphOf job.now.run.terms.task_budget job.now.run.terms.control_budget source.now.text.items input.now
+        job.now.view told.text.items (code_of told.status)) }
+{
+    agreeing_bodies_mean_one();
+    let terms = job.run.terms;
+    let tokens = tokens_of(alloc, &source.text)?;
+    let names = stream_names(alloc, &tokens, source.checked.names.as_slice())?;
+    let run = run_code(rt, alloc, terms, &source.code, input, gate)?;
+    let control = run_control(
+        alloc,
+        &source.code,
+        input.len() as u32,
+        terms.control_budget,
+    )?;
+    let lines = site_lines(alloc, &source.code)?;
+    let drawn = Drawn {
+        text: &source.text,
+        names: &names,
+        lines: &lines,
+        streams: source.code.streams,
+        activations: control.activations.as_slice(),
+        layout: &run.layout,
+        ends: run.ends.ends.as_slice(),
+    };
+    let text = graph_text(alloc, &drawn, job.view)?;
+    Ok(Told {
+        text: text.into_bytes(),
+        status: run.status(),
+    })
+}
+
+/// Reads the files of a job, runs its program over its input, and draws the graph that is asked for. Nothing is written.
+pub(crate) fn make_graph<R: Threads + Sync, F: Files, G: Gate>(
+    rt: &R,
+    alloc: Global,
+    job: &GraphJob<'_>,
+    files: &mut F,
+    gate: &G,
+) -> Result<Told, Refusal>
+    requires may { MayOpen (F.may files.old) (F.opens files.old) (files_of (RunRequest (job_of job.now.run))) }
+    requires within { IsWithin (job_of job.now.run) }
+    ensures { MakesGraph F.Files files.old files.new (job_of job.now.run) job.now.view result }
+{
+    let source = read_source(alloc, files, job.run.program)?;
+    let input = load(alloc, files, job.run.input, Subject::Input)?;
+    let told = tell_graph(rt, alloc, job, &source, &input, gate)?;
+    Ok(told)
+}

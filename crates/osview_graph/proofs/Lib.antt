@@ -1,0 +1,7 @@
+pub mod Totals
+pub mod Spans
+pub mod Reading
+pub mod Joined
+pub mod Sizes
+pub mod Covering
+pub mod Linked

@@ -1,0 +1,64 @@
+ghost use Rattle.std.specs.Prelude.{◌≡◌};
+ghost use Rattle.osview_graph.specs.Drawing.{is_so};
+ghost use Rattle.osview_graph.specs.Run.{end_word, has_run, is_done};
+
+use flow_core_laws::TaskEnd;
+
+/// How activations end that are counted.
+#[derive(Clone, Copy, Debug)]
+pub(crate) enum Ending {
+    /// In any way, or not at all.
+    Any,
+    Done,
+    Trapped,
+    OverBudget,
+    Poisoned,
+    /// Not at all.
+    Starved,
+}
+
+impl Ending {
+    /// Whether an activation with this end, or none, is counted.
+    pub(crate) fn is(self, end: Option<TaskEnd>) -> bool
+        ensures { result ≡ is_so self end }
+    {
+        match self {
+            Ending::Any => true,
+            Ending::Done => is_done(end),
+            Ending::Trapped => matches!(end, Some(TaskEnd::Trapped { .. })),
+            Ending::OverBudget => matches!(end, Some(TaskEnd::OverBudget)),
+            Ending::Poisoned => matches!(end, Some(TaskEnd::Poisoned { .. })),
+            Ending::Starved => end.is_none(),
+        }
+    }
+}
+
+/// Whether an activation with this end, or none, is done.
+pub(crate) fn is_done(end: Option<TaskEnd>) -> bool
+    ensures { result ≡ is_done end }
+{
+    matches!(end, Some(TaskEnd::Done))
+}
+
+/// Whether it ran.
+pub(crate) fn has_run(end: Option<TaskEnd>) -> bool
+    ensures { result ≡ has_run end }
+{
+    match end {
+        None | Some(TaskEnd::Poisoned { .. }) => false,
+        Some(TaskEnd::Done | TaskEnd::Trapped { .. } | TaskEnd::OverBudget) => true,
+    }
+}
+
+/// The word for how an activation ended.
+pub(crate) fn end_word(end: Option<TaskEnd>) -> &'static [u8]
+    ensures { result.now ≡ end_word end }
+{
+    match end {
+        None => b"starved",
+        Some(TaskEnd::Done) => b"done",
+        Some(TaskEnd::Trapped { .. }) => b"trapped",
+        Some(TaskEnd::OverBudget) => b"out of turns",
+        Some(TaskEnd::Poisoned { .. }) => b"poisoned",
+    }
+}
