@@ -62,7 +62,7 @@ returns-in-Ok-Trace g c =
     rw (c.in-Ok-Trace.ensures.request, c.in-Ok-Trace.field-0-is, c.code-in-Ok-Trace.ensures) c.answer_trace.ensures
 
 pub answer_replay-requires-clause-may : goal.answer_replay-requires-clause-may
-answer_replay-requires-clause-may g c lifetimes live =
+answer_replay-requires-clause-may g c =
     c.requires _ (c.in-Ok-Replay.ensures.request ∙ ap (λ r. Some (request_of r)) c.in-Ok-Replay.field-0-is)
 
 pub returns-in-Ok-Replay : goal.returns-in-Ok-Replay
