@@ -1373,11 +1373,11 @@ shows "steps of a chain of three whose last one is created first" 1 "$(printf '%
     "line 10: 1 activation, 1 of them ran, 5 to 5 steps each, 5 on average, 5 in all, 23.8 % of the steps of all tasks" \
     "line 12: 1 activation, 0 of them ran" "all tasks: 21 steps" \
     "the longest chain of activations that wait for one another: 16 steps" \
-    "more workers can make the tasks 1.31 times as fast at most" | sed 's| / $||')" steps chain.c in.bin
+    "more workers can make the tasks 1.32 times as fast at most" | sed 's| / $||')" steps chain.c in.bin
 shows "steps of a task of which one activation trapped" 1 "$(printf '%s / ' \
     "line 7: 3 activations, 3 of them ran, 5 to 7 steps each, 6 on average, 19 in all, 100.0 % of the steps of all tasks" \
     "all tasks: 19 steps" "the longest chain of activations that wait for one another: 7 steps" \
-    "more workers can make the tasks 2.71 times as fast at most" | sed 's| / $||')" steps "$top/examples/divide.c" zero.bin --workers 1
+    "more workers can make the tasks 2.72 times as fast at most" | sed 's| / $||')" steps "$top/examples/divide.c" zero.bin --workers 1
 cat >loop.c <<'END'
 int main(void) {
     int y;

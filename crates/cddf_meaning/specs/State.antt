@@ -16,7 +16,7 @@ pub record State : Type 0 where
   pub activations : List Activation
   -- how many streams there are so far
   pub streams : ℕ
-  -- what the control program did to their read cursors, the last move first
+  -- the ticks so far, and the claims of the activations so far before they got their skips, the last move first
   pub moves : List Move
 
 -- the state of a function's body or a task's, which does nothing to streams but through its items

@@ -5,6 +5,6 @@ use flow_core_laws::Claim;
 pub enum Move {
     /// A tick moves it by an amount.
     Tick { stream: u32, amount: u32 },
-    /// An activation is created with this claim.
+    /// An activation is created with this claim, whose skip isn't told yet. A write claim leaves the read cursor as it is.
     Take(Claim),
 }

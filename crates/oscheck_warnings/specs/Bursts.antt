@@ -37,7 +37,7 @@ abbrev pub size_of : List Extent → (ℕ → Option What) → ℕ → Option Am
 size_of list means slot = size_behind means None list slot
 
 -- At a place an output item has a window with a burst: a constant other than the window's size, which is one from 1 to 65,536. So a run
--- traps with code 8 where the task is created, unless it ended before that.
+-- that comes to this pragma traps there with code 8, unless something before it in the pragma traps.
 pub record IsWrongBurst (list : List Extent) (means : ℕ → Option What) (place : ℕ) : Type 0 where
   pub index : ℕ
   pub burst : Extent

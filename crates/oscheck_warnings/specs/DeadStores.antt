@@ -17,7 +17,8 @@ pub record IsReadAt (list : List Access) (means : ℕ → Option What) (task slo
   pub is : means access.place ≡ Some (what.Scalar slot)
 
 -- At a place a task changes a scalar, and nothing reads that after the change: nothing of the task that comes later, and where a loop
--- of the task is round the change, nothing of the task at all. No two scalars of a task have one slot.
+-- of the task is round the change, nothing of the task at all. That a change uses the old value is no read. No two scalars of a task
+-- have one slot.
 pub record IsDeadStore (list : List Access) (means : ℕ → Option What) (place : ℕ) : Type 0 where
   pub index : ℕ
   pub change : Access

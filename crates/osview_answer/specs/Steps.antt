@@ -20,8 +20,8 @@ use Rattle.osview_steps.specs.declared.runs.TaskRun.{TaskRun}
 abbrev pub pragma_lines : ProgramTree → List ℕ
 pragma_lines program = map (λ (t : TaskTree). t.mark.line) (program_tasks program)
 
--- The lines of the steps that the activations take in the run of a program over an input, with these budgets, on a code of the
--- program, and the status of that run.
+-- The lines of the steps that the activations take in the run of a program over an input, with these budgets, and the status of that
+-- run. They are those of a code of the program; which one isn't said.
 pub record AreSteps (task_budget control_budget : ℕ) (program : ProgramTree) (input : List ℕ) (told : List ℕ) (own : ℕ) : Type 0 where
   pub code : Parts
   pub is_code : IsCodeOf code program

@@ -8,7 +8,8 @@ use Rattle.osview_graph.specs.Tasks.{task_boxes}
 use Rattle.osview_graph.specs.declared.drawn.View.{View}
 use Rattle.osview_graph.specs.declared.drawn.View.TheVariants as view
 
--- The graph of tasks and streams: a box for each task, an ellipse for each stream that is used, an arrow for each item.
+-- The graph of tasks and streams: a box for each task, an ellipse for each stream on which activations have windows, an arrow for each item
+-- that some activation has.
 abbrev pub stream_graph : Run → List ℕ
 stream_graph run =
     codes "digraph streams {\n  node [fontname=\"sans-serif\"];\n" ++ task_boxes run ++ ellipses run ++ arrows run ++ codes "}\n"

@@ -1,5 +1,5 @@
 -- What is counted of a task.
-use Rattle.std.specs.Prelude.{ℕ, ◌*◌, ◌/◌, ◌==◌, min, max, List, [], ◌∷◌, None, count_by, filter_map, fold, if◌then◌else◌}
+use Rattle.std.specs.Prelude.{ℕ, ◌+◌, ◌*◌, ◌/◌, ◌%◌, ◌==◌, min, max, List, [], ◌∷◌, None, count_by, filter_map, fold, if◌then◌else◌}
 use Rattle.osview_steps.specs.declared.runs.TaskRun.{TaskRun}
 
 -- how many activations a task has
@@ -30,6 +30,6 @@ mean whole count = if count == 0 then 0 else whole / count
 abbrev pub share : (part whole : ℕ) → ℕ
 share part whole = if whole == 0 then 0 else part * 1000 / whole
 
--- how many times as much one number is as another, in hundredths, rounded down; of nothing it is as much
+-- how many times as much one number is as another, in hundredths, rounded up; of nothing it is as much
 abbrev pub ratio : (all one : ℕ) → ℕ
-ratio all one = if one == 0 then 100 else all * 100 / one
+ratio all one = if one == 0 then 100 else all * 100 / one + (if all * 100 % one == 0 then 0 else 1)

@@ -71,7 +71,7 @@ pub(crate) fn share(part: u128, whole: u128) -> u128
     part * 1000 / whole
 }
 
-/// How many times as much all is as one, in hundredths, rounded down; of nothing it is as much.
+/// How many times as much all is as one, in hundredths, rounded up; of nothing it is as much.
 pub(crate) fn ratio(all: u128, one: u128) -> u128
     requires { all ≤ 65536 * 18446744073709551615 }
     ensures { result ≡ ratio all one }
@@ -79,5 +79,7 @@ pub(crate) fn ratio(all: u128, one: u128) -> u128
     if one == 0 {
         return 100;
     }
-    all * 100 / one
+    let hundredfold = all * 100;
+    let rest = u128::from(hundredfold % one != 0);
+    hundredfold / one + rest
 }

@@ -4,7 +4,7 @@ ghost use Rattle.std.specs.Prelude.{List, Option};
 ghost use Rattle.flow_core_laws.specs.Laws.{IsKept};
 ghost use Rattle.trace_replay_laws.specs.Laws.{LawfulIsReached, ChoicesAgree, FindsOrders, OfLists, HasOneAnswer};
 
-/// An order is lawful exactly where its activations can get their outcomes one at a time in it.
+/// The state behind a lawful order is one that is reached where activations that are enabled get their outcomes one at a time.
 pub fn lawful_is_reached<S, V, O>()
     ensures { (element : List (Option O) → S → Option V) → OfLists element (LawfulIsReached element) }
 {}
