@@ -9,7 +9,6 @@ mod jobs;
 mod meeting;
 mod objects;
 mod refusals;
-mod traced;
 mod whole_runs;
 mod words;
 mod workers;
