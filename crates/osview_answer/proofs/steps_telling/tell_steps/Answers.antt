@@ -50,8 +50,8 @@ steps_text-requires-clause-tasks g c =
     let code = parts_of c.args.source.now.code in
     let acts = c.as_slice-activations.result.now in
     let fit = subst (λ (xs : List Activation). All (Fits code) xs) (sym c.as_slice-activations.ensures) c.in_ok-control.ensures.fit in
-    let lines : length c.deref-2.result.now ≡ length code.sites = ap length (c.deref-2.ensures.value ∙ c.in_ok-lines.ensures) ∙ length-map code.sites (λ (s : Site). s.line) in
-    subst (λ (rs : List TaskRun). All (λ (r : TaskRun). r.task < length c.deref-2.result.now) rs) (sym c.as_slice.ensures)
+    let lines : length c.deref.result.now ≡ length code.sites = ap length (c.deref.ensures.value ∙ c.in_ok-lines.ensures) ∙ length-map code.sites (λ (s : Site). s.line) in
+    subst (λ (rs : List TaskRun). All (λ (r : TaskRun). r.task < length c.deref.result.now) rs) (sym c.as_slice.ensures)
     (subst (λ (n : ℕ). All (λ (r : TaskRun). r.task < n) c.in_ok-measured.measured.runs) (sym lines)
     (tasks_are_sites code acts c.args.input.now c.args.terms.task_budget _ c.in_ok-measured.measured.runs fit c.in_ok-measured.ensures.runs))
 
@@ -77,7 +77,7 @@ returns g c =
     let same_state : stream_meaning acts input (frame_outcome code acts budget) ≡ meaning =
     ap (λ (xs : List Activation). stream_meaning xs input (frame_outcome code xs budget)) same_acts
     ∙ same_meaning code p activations budget is_source.is_code.bodies fit c.agreeing_bodies_mean_one.ensures input in
-    let same_lines : c.deref-2.result.now ≡ pragma_lines p = c.deref-2.ensures.value ∙ c.in_ok-lines.ensures ∙ all_lines code p is_source.is_code.stands in
+    let same_lines : c.deref.result.now ≡ pragma_lines p = c.deref.ensures.value ∙ c.in_ok-lines.ensures ∙ all_lines code p is_source.is_code.stands in
     record {
       code = code;
       is_code = is_source.is_code;
