@@ -9,6 +9,7 @@ mod jobs;
 mod meeting;
 mod objects;
 mod refusals;
+mod traced;
 mod whole_runs;
 mod words;
 mod workers;
