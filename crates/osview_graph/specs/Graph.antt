@@ -20,6 +20,6 @@ activation_graph run shown =
     codes "digraph activations {\n  node [shape=box, fontname=\"sans-serif\"];\n" ++ codes "  input [shape=ellipse];\n" ++ shown_text run shown ++ codes "}\n"
 
 -- The graph of a run that is asked for.
-abbrev pub graph_of : Run → View → List ℕ
+unfoldable pub graph_of : Run → View → List ℕ
 graph_of run view.Streams = stream_graph run
 graph_of run (view.Activations first end) = activation_graph run (record { first = first; end = end })

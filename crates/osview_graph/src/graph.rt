@@ -35,6 +35,7 @@ fn add_activations(told: &mut Text, drawn: &Drawn<'_>, shown: Range) -> Result<(
 }
 
 /// The graph of a run as Graphviz text: that of its tasks and streams, or that of some of its activations.
+#[tactic(auto, unfolding(crate::specs::Graph::graph_of))]
 pub fn graph_text(alloc: Global, drawn: &Drawn<'_>, view: View) -> Result<Text, Memory>
     requires { IsDrawn drawn.now }
     ensures { IfOk result (λ told. told ≡ graph_of (run_of drawn.now) view) }

@@ -13,6 +13,7 @@ use Rattle.osrun_core_run.proofs.TasksRun.{run_of_code}
 use Rattle.osview_answer.proofs.TaskLines.{all_lines}
 use Rattle.osview_answer.specs.StreamNames.{stream_names}
 use Rattle.osview_graph.specs.Graph.{graph_of}
+use Rattle.osview_graph.specs.Run.{Run}
 use Rattle.osview_sentences.specs.declared.stream_name.StreamName.{StreamName}
 use Rattle.stream_match_layouts.specs.Lawful.{AreLawful}
 use Rattle.stream_match_layouts.specs.Layout.{IsLayoutOf}
@@ -42,9 +43,9 @@ returns g c =
     let same_made : c.in_ok-control.control ≡ r.made =
     c.in_ok-control.ensures.exact ∙ is_source.is_code.control (length input) c.args.job.now.run.terms.control_budget ∙ sym r.made_is in
     let view = c.args.job.now.view in
-    let drawn : List ℕ → List StreamName → List ℕ → ℕ → List Activation → ℕ → List (Option TaskEnd) → List ℕ =
+    let drawn : List ℕ → List StreamName → List ℕ → ℕ → List Activation → ℕ → List (Option TaskEnd) → Run =
     λ text named lines count activations input_len ends.
-    graph_of (record { text = text; names = named; lines = lines; streams = count; activations = activations; input_len = input_len; ends = ends }) view in
+        record { text = text; names = named; lines = lines; streams = count; activations = activations; input_len = input_len; ends = ends } in
     let same_names : c.deref-4.result.now ≡ stream_names tokens (names p) =
     c.deref-4.ensures.value ∙ c.in_ok-names.ensures ∙ ap (λ ts. stream_names ts c.as_slice.result.now) c.deref-2.ensures.value
     ∙ ap (stream_names tokens) (c.as_slice.ensures ∙ source.checked.named) in
@@ -62,13 +63,13 @@ returns g c =
       made_is = r.made_is;
       ends = run.ends;
       ends_are = r.ends_are;
-      told_is = c.into_bytes.ensures ∙ c.in_ok-text.ensures
-          ∙ ap (λ text. drawn text c.deref-4.result.now c.deref-5.result.now source.code.streams c.as_slice-2.result.now run.layout.input_len c.as_slice-3.result.now) c.deref-3.ensures.value
+      told_is = c.into_bytes.ensures ∙ c.in_ok-text.ensures ∙ ap (λ (r : Run). graph_of r view)
+          (ap (λ text. drawn text c.deref-4.result.now c.deref-5.result.now source.code.streams c.as_slice-2.result.now run.layout.input_len c.as_slice-3.result.now) c.deref-3.ensures.value
           ∙ ap (λ named. drawn source.text.items named c.deref-5.result.now source.code.streams c.as_slice-2.result.now run.layout.input_len c.as_slice-3.result.now) same_names
           ∙ ap (λ at. drawn source.text.items (stream_names tokens (names p)) at source.code.streams c.as_slice-2.result.now run.layout.input_len c.as_slice-3.result.now) same_lines
           ∙ ap (λ n. drawn source.text.items (stream_names tokens (names p)) lines n c.as_slice-2.result.now run.layout.input_len c.as_slice-3.result.now) same_streams
           ∙ ap (λ acts. drawn source.text.items (stream_names tokens (names p)) lines (streams p) acts run.layout.input_len c.as_slice-3.result.now) same_acts
           ∙ ap (λ n. drawn source.text.items (stream_names tokens (names p)) lines (streams p) r.made.activations n c.as_slice-3.result.now) r.over
-          ∙ ap (drawn source.text.items (stream_names tokens (names p)) lines (streams p) r.made.activations (length input)) c.as_slice-3.ensures;
+          ∙ ap (drawn source.text.items (stream_names tokens (names p)) lines (streams p) r.made.activations (length input)) c.as_slice-3.ensures);
       own_is = c.status.ensures ∙ ap (status run.ends.ends) r.end_is;
     }
