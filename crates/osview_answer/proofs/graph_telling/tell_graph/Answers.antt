@@ -45,7 +45,7 @@ returns g c =
     let view = c.args.job.now.view in
     let drawn : List ℕ → List StreamName → List ℕ → ℕ → List Activation → ℕ → List (Option TaskEnd) → Run =
     λ text named lines count activations input_len ends.
-        record { text = text; names = named; lines = lines; streams = count; activations = activations; input_len = input_len; ends = ends } in
+    record { text = text; names = named; lines = lines; streams = count; activations = activations; input_len = input_len; ends = ends } in
     let same_names : c.deref-4.result.now ≡ stream_names tokens (names p) =
     c.deref-4.ensures.value ∙ c.in_ok-names.ensures ∙ ap (λ ts. stream_names ts c.as_slice.result.now) c.deref-2.ensures.value
     ∙ ap (stream_names tokens) (c.as_slice.ensures ∙ source.checked.named) in
