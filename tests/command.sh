@@ -1424,7 +1424,7 @@ check "a stream for a full disk" 6 "" ""
 if command -v dot >/dev/null; then
     if "$top/tests/pictures.sh" >report 2>&1; then status=0; else status=1; fi
     : >out
-    check "graphs that Graphviz draws" 0 "" "3 pictures"
+    check "graphs that Graphviz draws" 0 "" "4 pictures"
 fi
 LD_PRELOAD=$work/failing_allocation.so FAILING_ALLOCATION=1 "$top/crates/osview/out/osview" report first.c in.bin >out 2>report
 status=$?
