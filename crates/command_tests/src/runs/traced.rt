@@ -1,8 +1,10 @@
 //! Which activations a worker ran, and runs by what a trace says of it.
 
-use super::calls::{ALL, call, call_through, files_of};
+use super::calls::{ALL, call, call_through};
 use super::has_left;
+use os_io::MemFiles;
 use osrun_core::NoGate;
+use std::alloc::Global;
 use std::process::Abort;
 use std::test::Fail;
 use std::thread::Threads;
@@ -54,10 +56,18 @@ const ROWS: [Row; 6] = [
     row!("worker 0 1 0", &[], "refused 40 line 1\n", 3),
 ];
 
+/// The files `p.c`, `in` and `t`, which has a trace.
+fn traced_files(alloc: Global, trace: &[u8]) -> Result<MemFiles, Fail> {
+    let mut files = MemFiles::new(alloc);
+    files.add("p.c", PAIR.as_bytes())?;
+    files.add("in", &[])?;
+    files.add("t", trace)?;
+    Ok(files)
+}
+
 /// Asks that the pair runs so by a trace.
 fn replays<R: Threads + Sync + AllocGlobal + Abort>(rt: &R, row: &Row) -> Result<(), Fail> {
-    let mut files = files_of(rt.alloc(), PAIR.as_bytes(), &[])?;
-    files.add("t", row.trace.as_bytes())?;
+    let files = traced_files(rt.alloc(), row.trace.as_bytes())?;
     let left = call_through(rt, &["replay", "p.c", "in", "t"], files, ALL, ALL, &NoGate)?;
     has_left(rt, &left, row.out, row.report, row.status)
 }

@@ -32,7 +32,7 @@ returns-in_err-input g c =
     let l = c.in_err-input.ensures in
     let between = c.read_source.new.files in
     let new = c.load.new.files in
-    rw (e.1, e.2) (cause_of_second g.F.Files (program_file c.args.job.now.program.now) (input_file c.args.job.now.input.now) c.args.files.now between new c.in_ok-source.source.text.items c.in_err-input.field-0.0 was
+    rw (e.1, e.2) (cause_of_second g.F.Files (program_file c.args.job.now.program.now) (input_file c.args.job.now.input.now) [] c.args.files.now between new c.in_ok-source.source.text.items c.in_err-input.field-0.0 was
     (opened_so g.F.Files between new (input_file c.args.job.now.input.now) l.opens l.left l.faults_kept l.holds l.may)
     (not_loaded g.F.Files between new subjects.Input c.args.job.now.input.now c.in_err-input.field-0.0 l.refused l.no_fault))
 
