@@ -3,10 +3,12 @@
 
 Call it in a fresh clone on a machine that has kept nothing, where the time from nothing is wanted: what an earlier run
 passed is not proved again. It prints a table of the minutes that proofs, tests and must-fail edits took, by crate in the
-order of crates.txt, and their sum beside that of the whole run (which builds and runs programs too). With --write it puts
-the table into docs/WORKING.md, where a crate that was kept, and so took no time, stays as it stands. It looks at the
-processes once a second, so up to a second of each is missed.
-Its status is that of the gate."""
+order of crates.txt, and their sum beside that of the whole run (which builds and runs programs too). By these minutes it
+works out how long a run takes on two processors and on four, where each does one check after another, and of those that
+can be begun the one with the longest chain behind it. With --write it puts the table into docs/WORKING.md, where a crate
+that was kept, and so took no time, stays as it stands. It looks at the processes once a second, so up to a second of each
+is missed. Its status is that of the gate."""
+import heapq
 import os
 import resource
 import subprocess
@@ -18,10 +20,12 @@ TICKS = os.sysconf("SC_CLK_TCK")
 KINDS = ["proof", "tests", "edits"]
 
 
-def crates():
-    """The crates that crates.txt lists, in its order."""
+def uses():
+    """The crates that crates.txt lists, in its order, each with those that it names."""
     with open(f"{TOP}/crates.txt") as lines:
-        return [line.split(":")[0] for line in lines if ":" in line and not line.startswith("#")]
+        rows = [line.split(":") for line in lines if ":" in line and not line.startswith("#")]
+    names = {name.split()[0] for name, _ in rows}
+    return {name.split()[0]: [it for it in used.split() if it in names] for name, used in rows}
 
 
 def processes():
@@ -56,11 +60,36 @@ def checks_below(root):
 def table(minutes):
     """The rows of the table, and the sums of its columns."""
     rows, sums = ["| crate | proof | tests | edits |", "|---|---|---|---|"], [0.0, 0.0, 0.0]
-    for crate in crates():
+    for crate in uses():
         row = [minutes.get((crate, kind), 0) for kind in KINDS]
         sums = [one + other for one, other in zip(sums, row)]
         rows.append(f"| `{crate}` | " + " | ".join(f"{it:.1f}" if it >= 0.05 else "-" for it in row) + " |")
     return rows, sums
+
+
+def spread(minutes, processors):
+    """The minutes of a run on so many processors: tests begin with their crate's proof, and edits end with it behind them."""
+    below = uses()
+    needs = {(crate, kind): [(it, "proof") for it in below[crate]] for crate in below for kind in KINDS}
+    for crate in below:
+        needs[crate, "edits"] = [(crate, "proof"), (crate, "tests")]
+    behind = {}
+
+    def chain(work):
+        if work not in behind:
+            behind[work] = minutes.get(work, 0) + max((chain(it) for it in needs if work in needs[it]), default=0)
+        return behind[work]
+
+    left, done, running, now = sorted(needs, key=chain, reverse=True), set(), [], 0.0
+    while left or running:
+        ready = next((it for it in left if done.issuperset(needs[it])), None)
+        if ready and len(running) < processors:
+            left.remove(ready)
+            heapq.heappush(running, (now + minutes.get(ready, 0), ready))
+        else:
+            now, ended = heapq.heappop(running)
+            done.add(ended)
+    return now
 
 
 def write(rows):
@@ -92,6 +121,7 @@ def main():
     print("\n".join(rows))
     print(f"proofs {sums[0]:.0f}, tests {sums[1]:.0f}, edits {sums[2]:.0f}: {sum(sums):.0f} of {(used.ru_utime + used.ru_stime) / 60:.0f} processor minutes")
     print(f"{(time.time() - begun) / 60:.0f} minutes, status {gate.returncode}")
+    print(f"by these minutes {spread(minutes, 2):.0f} on two processors, {spread(minutes, 4):.0f} on four")
     if "--write" in sys.argv[1:]:
         write(rows)
     return gate.returncode
