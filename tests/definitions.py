@@ -3,7 +3,8 @@
 
 It reads the contract of the call that `main` makes, CONTRACT in CALL, follows each name that it cites through the imports of the
 files in crates/*/specs, and compares the definitions that it comes to, with the lines on which they stand, with the list in
-docs/PROMISES.md. The last line is `N passed, M failed`. With --write it puts the list and its two numbers there. With --why NAME it prints one
+docs/PROMISES.md. The last line is `N passed, M failed`. With --write it puts the list and its numbers there: how many definitions in how
+many files, and how many of them in how many lines stand below ALONE, what a run alone is meant to give. With --why NAME it prints one
 way from the contract to a definition of that name. Types of the code (`declared`) and std's words are left out."""
 import os
 import re
@@ -12,6 +13,7 @@ import sys
 TOP = os.path.dirname(os.path.dirname(os.path.abspath(__file__)))
 CALL = "crates/os_serve/src/words.rt"
 CONTRACT = "pub fn serve_words"
+ALONE = "IsOutcomeOfRun"
 LIST = "docs/PROMISES.md"
 NAME = r"[^\s(){}.;,:=λ→∷×\"]+"
 KEYWORDS = {"abbrev", "pub", "unfoldable", "mutual", "record", "data", "module", "where", "use", "mod", "let", "in", "elim", "as"}
@@ -171,11 +173,11 @@ def contract_of_call():
     return module, "\n".join(re.findall(r"^    (?:requires|ensures)[^{]*\{(.*?)\}$", contract, re.M | re.S))
 
 
-def follow(modules):
-    """Each definition below the contract, with the one from which it was come to first."""
+def follow(modules, begun=None):
+    """Each definition below the contract, or below those that are given, with the one from which it was come to first."""
     citations = Citations(modules)
     come_from = {}
-    for found in citations.of(*contract_of_call()):
+    for found in begun or citations.of(*contract_of_call()):
         come_from.setdefault(found, None)
     todo = list(come_from)
     for at in todo:
@@ -195,12 +197,18 @@ def rows_of(modules, found):
     return [f"- `{path}`: " + ", ".join(f"`{name}` {line}" for line, name in sorted(files[path])) for path in sorted(files)]
 
 
-def page_with(page, rows, count):
+def size_of(modules, found):
+    """How many definitions these are, and how many lines they have, without comments and imports."""
+    return f"{len(found)} in {sum(len(modules[at].definitions[name][1].splitlines()) for at, name in found)} lines"
+
+
+def page_with(page, rows, count, alone):
     """The page with these rows as its list, and with its numbers."""
     lines = page.split("\n")
     first = next(at for at, line in enumerate(lines) if line.startswith("- `crates/"))
     behind = next(at for at in range(first, len(lines)) if not lines[at].startswith("- `crates/"))
     text = "\n".join(lines[:first] + rows + lines[behind:])
+    text = re.sub(rf"below `{ALONE}`: \d+ in \d+ lines", f"below `{ALONE}`: {alone}", text)
     return re.sub(r"\d+ in \d+ files of this repository", f"{count} in {len(rows)} files of this repository", text)
 
 
@@ -217,7 +225,8 @@ def main(words):
         return 0
     with open(f"{TOP}/{LIST}", encoding="utf-8") as file:
         page = file.read()
-    wanted = page_with(page, rows_of(modules, found), len(found))
+    alone = size_of(modules, follow(modules, [at for at in found if at[1] == ALONE]))
+    wanted = page_with(page, rows_of(modules, found), len(found), alone)
     if words[:1] == ["--write"]:
         with open(f"{TOP}/{LIST}", "w", encoding="utf-8") as file:
             file.write(wanted)
