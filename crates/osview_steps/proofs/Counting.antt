@@ -1,6 +1,6 @@
 -- What is counted, activation by activation, is what a task has.
 use Rattle.std.proofs.Common.{◌≡◌, ◌∙◌, ◌⊎◌, inl, inr, ℕ, ◌+◌, ◌<◌, ◌≤◌, min, max, Bool, true, false, cond, List, [], ◌∷◌, Option, Some, None, length, get_or, set, refl, subst, sym, ap, arith, zero-add, take}
-use Rattle.std.specs.Prelude.{◌==◌, ◌≢◌, fold, if◌then◌else◌, sum}
+use Rattle.std.specs.Prelude.{◌==◌, ◌≢◌, filter_map, fold, if◌then◌else◌, sum}
 use Rattle.std.specs.List.{cons_option}
 use Rattle.std.proofs.lemmas.Bool.{cases_eq, eq-eqb, ne_eqb}
 use Rattle.std.specs.Option.{option_map_or}

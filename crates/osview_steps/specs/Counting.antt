@@ -30,7 +30,7 @@ pub record IsSmall (n : ℕ) (t : Tally) : Type 0 where
 pub record IsTallyOf (task : ℕ) (runs : List TaskRun) (t : Tally) : Type 0 where
   pub activations : t.activations ≡ activation_count task runs
   pub ran : t.ran ≡ length (taken_by task runs)
+  pub turns : t.turns ≡ most (turns_in (taken_by task runs))
   pub least : t.least ≡ least (steps_in (taken_by task runs))
   pub most : t.most ≡ most (steps_in (taken_by task runs))
   pub sum : t.sum ≡ sum (steps_in (taken_by task runs))
-  pub turns : t.turns ≡ most (turns_in (taken_by task runs))
