@@ -1366,18 +1366,27 @@ int main(void) {
 }
 END
 # A task takes a step for each instruction: reading or storing an element takes two, a number, an operation and the end one each.
+# `main` takes two for a scalar that is declared, two for an item without a window, one for a task, and one at its end.
 shows "steps of a chain of three whose last one is created first" 1 "$(printf '%s / ' \
-    "line 4: 1 activation, 1 of them ran, 5 to 5 steps each, 5 on average, 5 in all, 23.8 % of the steps of all tasks" \
-    "line 6: 1 activation, 1 of them ran, 4 to 4 steps each, 4 on average, 4 in all, 19.0 % of the steps of all tasks" \
-    "line 8: 1 activation, 1 of them ran, 7 to 7 steps each, 7 on average, 7 in all, 33.3 % of the steps of all tasks" \
-    "line 10: 1 activation, 1 of them ran, 5 to 5 steps each, 5 on average, 5 in all, 23.8 % of the steps of all tasks" \
+    "main: 26 steps, 55.3 % of the steps of the run, 0 turns of its budget" \
+    "line 4: 1 activation, 1 of them ran, 5 to 5 steps each, 5 on average, 5 in all, 10.6 % of the steps of the run, at most 0 turns of its budget" \
+    "line 6: 1 activation, 1 of them ran, 4 to 4 steps each, 4 on average, 4 in all, 8.5 % of the steps of the run, at most 0 turns of its budget" \
+    "line 8: 1 activation, 1 of them ran, 7 to 7 steps each, 7 on average, 7 in all, 14.8 % of the steps of the run, at most 0 turns of its budget" \
+    "line 10: 1 activation, 1 of them ran, 5 to 5 steps each, 5 on average, 5 in all, 10.6 % of the steps of the run, at most 0 turns of its budget" \
     "line 12: 1 activation, 0 of them ran" "all tasks: 21 steps" \
     "the longest chain of activations that wait for one another: 16 steps" \
     "more workers can make the tasks 1.32 times as fast at most" | sed 's| / $||')" steps chain.c in.bin
+# A round of its loop takes a turn, four steps for the test, four for two scalars, five for the task, and five to go on.
 shows "steps of a task of which one activation trapped" 1 "$(printf '%s / ' \
-    "line 7: 3 activations, 3 of them ran, 5 to 7 steps each, 6 on average, 19 in all, 100.0 % of the steps of all tasks" \
+    "main: 68 steps, 78.1 % of the steps of the run, 4 turns of its budget" \
+    "line 7: 3 activations, 3 of them ran, 5 to 7 steps each, 6 on average, 19 in all, 21.8 % of the steps of the run, at most 0 turns of its budget" \
     "all tasks: 19 steps" "the longest chain of activations that wait for one another: 7 steps" \
     "more workers can make the tasks 2.72 times as fast at most" | sed 's| / $||')" steps "$top/examples/divide.c" zero.bin --workers 1
+shows "steps of a run with fewer turns for main, the last step the one that needs a turn" 1 "$(printf '%s / ' \
+    "main: 43 steps, 78.1 % of the steps of the run, 2 turns of its budget" \
+    "line 7: 2 activations, 2 of them ran, 5 to 7 steps each, 6 on average, 12 in all, 21.8 % of the steps of the run, at most 0 turns of its budget" \
+    "all tasks: 12 steps" "the longest chain of activations that wait for one another: 7 steps" \
+    "more workers can make the tasks 1.72 times as fast at most" | sed 's| / $||')" steps "$top/examples/divide.c" zero.bin --control 2
 cat >loop.c <<'END'
 int main(void) {
     int y;
@@ -1385,12 +1394,40 @@ int main(void) {
     { y = 3; while (y) y = y - 1; }
 }
 END
-shows "steps of a loop" 0 "$(printf '%s / ' \
-    "line 3: 1 activation, 1 of them ran, 41 to 41 steps each, 41 on average, 41 in all, 100.0 % of the steps of all tasks" \
+shows "steps of a loop, and a turn for each test of it" 0 "$(printf '%s / ' \
+    "main: 6 steps, 12.7 % of the steps of the run, 0 turns of its budget" \
+    "line 3: 1 activation, 1 of them ran, 41 to 41 steps each, 41 on average, 41 in all, 87.2 % of the steps of the run, at most 4 turns of its budget" \
     "all tasks: 41 steps" "the longest chain of activations that wait for one another: 41 steps" \
     "more workers can make the tasks 1.00 times as fast at most" | sed 's| / $||')" steps loop.c in.bin
+shows "steps of a task that takes all turns of its budget" 1 "$(printf '%s / ' \
+    "main: 6 steps, 13.9 % of the steps of the run, 0 turns of its budget" \
+    "line 3: 1 activation, 1 of them ran, 37 to 37 steps each, 37 on average, 37 in all, 86.0 % of the steps of the run, at most 3 turns of its budget" \
+    "all tasks: 37 steps" "the longest chain of activations that wait for one another: 37 steps" \
+    "more workers can make the tasks 1.00 times as fast at most" | sed 's| / $||')" steps loop.c in.bin --budget 3
+cat >calls.c <<'END'
+int twice(int a) { return a + a; }
+int main(void) {
+    int n, y;
+    n = twice(1);
+    #pragma omp task output(osout << y)
+    y = twice(n);
+    #pragma omp task output(osout << y)
+    { int k; for (k = 0; k < n; k++) y = twice(k); }
+    #pragma omp task output(osout << y)
+    y = n;
+}
+END
+# A call takes a turn, and so does each test of a loop. The body of the call takes four steps, and the call two behind its arguments.
+shows "turns of calls and of a loop, by task" 0 "$(printf '%s / ' \
+    "main: 22 steps, 26.1 % of the steps of the run, 1 turn of its budget" \
+    "line 5: 1 activation, 1 of them ran, 10 to 10 steps each, 10 on average, 10 in all, 11.9 % of the steps of the run, at most 1 turn of its budget" \
+    "line 7: 1 activation, 1 of them ran, 48 to 48 steps each, 48 on average, 48 in all, 57.1 % of the steps of the run, at most 5 turns of its budget" \
+    "line 9: 1 activation, 1 of them ran, 4 to 4 steps each, 4 on average, 4 in all, 4.7 % of the steps of the run, at most 0 turns of its budget" \
+    "all tasks: 62 steps" "the longest chain of activations that wait for one another: 48 steps" \
+    "more workers can make the tasks 1.30 times as fast at most" | sed 's| / $||')" steps calls.c in.bin
 echo 'int main(void) { }' >idle.c
-shows "steps where there is no task" 0 "$(printf '%s / ' "all tasks: 0 steps" \
+shows "steps where there is no task" 0 "$(printf '%s / ' \
+    "main: 1 steps, 100.0 % of the steps of the run, 0 turns of its budget" "all tasks: 0 steps" \
     "the longest chain of activations that wait for one another: 0 steps" \
     "more workers can make the tasks 1.00 times as fast at most" | sed 's| / $||')" steps idle.c in.bin
 shows "a program that is refused, and none of whose steps are told" 3 "refused 23 line 1" steps empty.c in.bin

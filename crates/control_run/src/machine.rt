@@ -1,6 +1,6 @@
 use crate::made::Made;
-use crate::running::run;
-use flow_core_laws::{Activation, ControlEnd};
+use crate::running::{Stopped, run};
+use flow_core_laws::Activation;
 use os_code::{Code, Unit};
 use os_io::{List, Memory};
 use std::alloc::Global;
@@ -70,7 +70,7 @@ impl Machine {
         budget: u64,
         into: &mut List<Activation>,
         at_most: u32,
-    ) -> Result<Option<ControlEnd>, Memory>
+    ) -> Result<Option<Stopped>, Memory>
         requires budget { budget ≤ 1000000000 }
         requires some { 1 ≤ at_most }
         requires stands { HasCome (parts_of code.now) input_len budget (contents self.old) }

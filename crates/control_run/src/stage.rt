@@ -1,4 +1,4 @@
-use flow_core_laws::ControlEnd;
+use crate::running::Stopped;
 
 /// Where a run by stretches is.
 #[derive(Clone, Copy, Debug)]
@@ -6,7 +6,7 @@ pub(crate) enum Stage {
     /// It can go on.
     Standing,
     /// It has told that no more activations come.
-    Ended(ControlEnd),
+    Ended(Stopped),
     /// Memory was wanting in it.
     GivenUp,
 }

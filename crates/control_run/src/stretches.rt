@@ -37,7 +37,7 @@ impl<'c> ControlRun<'c> {
     ghost use Rattle.os_code.specs.Codes.{parts_of};
     ghost use Rattle.os_code.specs.Tasks.{Fits};
     ghost use Rattle.stream_match_layouts.specs.Lawful.{AreLawful};
-    ghost use Rattle.control_run.specs.Stretches.{IsPartOfStretch, advanced, end_told, given_by, not_begun, remaining, whole};
+    ghost use Rattle.control_run.specs.Stretches.{IsPartOfStretch, StepsTold, TurnsTold, advanced, end_told, given_by, not_begun, remaining, whole};
 
     /// A run that has not begun. The input has so many bytes; the budget is in units, one for each turn of a loop, each
     /// call and each tick. It takes memory for what the longest chain of calls needs, and a number for each stream.
@@ -87,7 +87,7 @@ impl<'c> ControlRun<'c> {
             Stage::Standing => {}
         }
         self.stage = Stage::GivenUp;
-        let end = self.machine.go_on(
+        let stop = self.machine.go_on(
             self.alloc,
             self.code,
             self.input_len,
@@ -95,9 +95,9 @@ impl<'c> ControlRun<'c> {
             into,
             at_most,
         )?;
-        match end {
-            Some(end) => {
-                self.stage = Stage::Ended(end);
+        match stop {
+            Some(stopped) => {
+                self.stage = Stage::Ended(stopped);
                 Ok(true)
             }
             None => {
@@ -112,7 +112,27 @@ impl<'c> ControlRun<'c> {
         ensures { result ≡ end_told self.now }
     {
         match self.stage {
-            Stage::Ended(end) => Some(end),
+            Stage::Ended(stopped) => Some(stopped.end),
+            Stage::Standing | Stage::GivenUp => None,
+        }
+    }
+
+    /// How many steps the run has made in all, once `advance` has answered true.
+    pub fn steps(&self) -> Option<u64>
+        ensures { StepsTold self.now result }
+    {
+        match self.stage {
+            Stage::Ended(stopped) => Some(stopped.steps),
+            Stage::Standing | Stage::GivenUp => None,
+        }
+    }
+
+    /// How many turns of its budget the run has taken in all, once `advance` has answered true.
+    pub fn turns(&self) -> Option<u64>
+        ensures { TurnsTold self.now result }
+    {
+        match self.stage {
+            Stage::Ended(stopped) => Some(self.budget - stopped.turns),
             Stage::Standing | Stage::GivenUp => None,
         }
     }

@@ -11,11 +11,12 @@ use os_io::Memory;
 use std::alloc::Global;
 use task_vm::{Scratch, run_task};
 
-/// A run's end, and how many steps it made.
+/// A run's end, how many steps it made, and how many turns of its budget it took.
 #[derive(Clone, Copy, Debug, PartialEq, Eq)]
 pub(crate) struct Ran {
     pub end: TaskEnd,
     pub steps: u64,
+    pub turns: u64,
 }
 
 /// An activation of the code's site.
@@ -60,6 +61,7 @@ pub(crate) fn run_twice(
     let ran = Ran {
         end,
         steps: scratch.steps(),
+        turns: scratch.turns(),
     };
     let activation = activation_of(alloc, second.0, claims)?;
     let end = run_task(&code, &activation, inputs, outputs, &mut scratch, second.1);
@@ -68,6 +70,7 @@ pub(crate) fn run_twice(
         Ran {
             end,
             steps: scratch.steps(),
+            turns: scratch.turns(),
         },
     ))
 }

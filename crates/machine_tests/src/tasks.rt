@@ -22,11 +22,12 @@ use std::process::Abort;
 use std::test::Fail;
 use table::{CASES, Case, Run, SET};
 
-/// The end of a task that is done, after so many steps.
+/// The run of a task that is done, after so many steps, and that took no turn.
 fn done(steps: u64) -> Ran {
     Ran {
         end: TaskEnd::Done,
         steps,
+        turns: 0,
     }
 }
 
@@ -34,6 +35,7 @@ fn trapped(code: u8, line: u32, steps: u64) -> Ran {
     Ran {
         end: TaskEnd::Trapped { code, line },
         steps,
+        turns: 0,
     }
 }
 
@@ -41,7 +43,13 @@ fn over(steps: u64) -> Ran {
     Ran {
         end: TaskEnd::OverBudget,
         steps,
+        turns: 0,
     }
+}
+
+/// A run that took so many turns.
+fn taking(turns: u64, ran: Ran) -> Ran {
+    Ran { turns, ..ran }
 }
 
 /// Whether a body comes to what each of its runs says, where the last of them was made before with the same scratch.
@@ -64,6 +72,7 @@ fn comes_to(rt: &(impl AllocGlobal + Abort), body: &[Instr], runs: &[Run]) -> Re
         assert_eq!(rt; (before.end, before.steps), (last_end, last_steps));
         assert_eq!(rt; (ran.end, ran.steps), (end, steps));
         assert!(rt; end != TaskEnd::Done || written == outputs);
+        assert!(rt; end != TaskEnd::OverBudget || ran.turns == budget.min(1000));
     }
     Ok(())
 }
@@ -434,12 +443,31 @@ fn operators_trap_at_their_line(rt: HostRuntime) -> Result<(), Fail> {
 fn three_calls_deep_a_trap_keeps_its_line(rt: HostRuntime) -> Result<(), Fail> {
     assert_eq!(rt;
         deep(rt.alloc(), (0, 3), (1, 3))?,
-        (trapped(2, 33, 13), done(18), [1])
+        (taking(3, trapped(2, 33, 13)), taking(3, done(18)), [1])
     );
     assert_eq!(rt;
         deep(rt.alloc(), (0, 2), (-1, 4))?,
-        (over(9), done(18), [-1])
+        (taking(2, over(9)), taking(3, done(18)), [-1])
     );
+    Ok(())
+}
+
+#[test]
+fn a_trap_in_a_test_behind_a_turn_has_taken_the_turn(rt: HostRuntime) -> Result<(), Fail> {
+    let body = [
+        Instr::Turn,
+        Instr::Load(0),
+        Instr::Push(0),
+        Instr::Binary {
+            op: Binary::Divide,
+            line: 4,
+        },
+        Instr::JumpZero(5),
+        Instr::End,
+    ];
+    let (before, ran, _) = run_alone(rt.alloc(), &body, ([1, 0], 0), ([1, 0], 2))?;
+    assert_eq!(rt; before, over(1));
+    assert_eq!(rt; ran, taking(1, trapped(2, 4, 4)));
     Ok(())
 }
 

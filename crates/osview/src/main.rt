@@ -2,7 +2,7 @@
 //!
 //! `osview report PROGRAM INPUT` runs the program over the input as `osrun run` does, and writes in sentences what became of its
 //! activations: `answer_report`'s answer. `osview stream PROGRAM INPUT NAME` writes the elements of a stream: `answer_stream`'s.
-//! `osview steps PROGRAM INPUT` writes how many steps its tasks take: `answer_steps`'s.
+//! `osview steps PROGRAM INPUT` writes how many steps and turns `main` and its tasks take: `answer_steps`'s.
 //! `osview graph PROGRAM INPUT` writes a graph of the run: `answer_graph`'s.
 #![tactic(auto)]
 

@@ -15,7 +15,7 @@ pub(crate) enum Request<'w> {
     Report(Job<'w>),
     /// To show the elements of a stream.
     Stream(StreamJob<'w>),
-    /// To tell how many steps the tasks of a run take.
+    /// To tell how many steps `main` and the tasks of a run take.
     Steps(Job<'w>),
     /// To draw a graph.
     Graph(GraphJob<'w>),

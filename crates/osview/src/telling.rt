@@ -13,7 +13,8 @@ osview shows what a run of an OpenStream program came to.
     osview report PROGRAM INPUT   runs the program over the input, and tells in sentences what became of it
     osview stream PROGRAM INPUT NAME [FROM [COUNT]]
                                   runs it too, and shows the elements of the stream NAME, from position FROM on, COUNT at most
-    osview steps PROGRAM INPUT    runs it too, and tells how many steps its tasks take, and how much faster more workers can be
+    osview steps PROGRAM INPUT    runs it too, and tells how many steps main and its tasks take, how many turns of their budgets,
+                                  and how much faster more workers can make the tasks
     osview graph PROGRAM INPUT [--activations A..B]
                                   runs it too, and writes the graph of tasks and streams as Graphviz text, or that of the
                                   activations A to B - 1

@@ -1,3 +1,4 @@
 pub mod TaskLines
 pub mod Meanings
 pub mod ReadSo
+pub mod MainRuns

@@ -2,7 +2,7 @@
 //!
 //! `answer_report` reads both files as `osrun run` does, runs the program over the input, and hands over what the run came to in
 //! sentences: with the lines of tasks and the names of streams as they stand in the program's text. `answer_stream` hands over the
-//! elements of one of its streams, a line each, `answer_steps` how many steps its tasks take, and `answer_graph` a graph of the run.
+//! elements of one of its streams, a line each, `answer_steps` how many steps `main` and its tasks take, and `answer_graph` a graph of the run.
 //! Where a file is refused they tell the same as `osrun run`.
 //!
 //! What is told is a definition over the meaning of the program, `IsReportOf`, `AreElementsOf`, `AreStepsOf` and `IsGraphOf`; what a
@@ -15,6 +15,7 @@ mod graph_answer;
 mod graph_job;
 mod graph_telling;
 mod lines;
+mod main_run;
 mod names;
 mod outcomes;
 mod source;

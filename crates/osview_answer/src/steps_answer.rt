@@ -9,9 +9,9 @@ use std::alloc::Global;
 use std::thread::Threads;
 use task_workers::Gate;
 
-/// Runs the program of a job over its input and writes how many steps its tasks take on `out`: a line for each task, the steps of a
-/// longest chain of activations that wait for one another, and how many times as fast more workers can make the tasks; or tells on
-/// `report` why there is no run. It answers the status that `osrun run` has. All memory is taken before the first byte is written.
+/// Runs the program of a job over its input and writes on `out` how many steps it takes: a line for `main` and one for each task, the
+/// steps of a longest chain of activations that wait for one another, and how many times as fast more workers can make the tasks; or
+/// tells on `report` why there is no run. It answers the status that `osrun run` has. All memory is taken before the first byte is written.
 pub fn answer_steps<R: Threads + Sync, F: Files, O: Sink, E: Sink, G: Gate>(
     rt: &R,
     alloc: Global,

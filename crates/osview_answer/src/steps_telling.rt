@@ -9,9 +9,9 @@ ghost use Rattle.osview_answer.specs.Source.{IsSource};
 ghost use Rattle.osview_answer.specs.Steps.{AreSteps};
 
 use crate::lines::site_lines;
+use crate::main_run::run_main;
 use crate::source::{Source, read_source};
 use crate::telling::Told;
-use control_run::run_control;
 use epoch_run_bodies::laws::agreeing_bodies_mean_one;
 use os_io::{Files, Memory};
 use osrun_core_jobs::{Job, Refusal, Subject, Terms, load};
@@ -22,7 +22,7 @@ use std::thread::Threads;
 use task_workers::Gate;
 
 /// Tells the steps of the run of a program over an input. The tasks are run by workers, once more on one thread for what they read,
-/// and once more for their steps; the control program runs a second time for its activations.
+/// and once more for their steps; the control program runs a second time for its activations and its steps.
 pub(crate) fn tell_steps<R: Threads + Sync, G: Gate>(
     rt: &R,
     alloc: Global,
@@ -39,13 +39,13 @@ pub(crate) fn tell_steps<R: Threads + Sync, G: Gate>(
 {
     agreeing_bodies_mean_one();
     let run = run_code(rt, alloc, terms, &source.code, input, gate)?;
-    let control = run_control(
+    let main = run_main(
         alloc,
         &source.code,
         input.len() as u32,
         terms.control_budget,
     )?;
-    let activations = control.activations.as_slice();
+    let activations = main.activations.as_slice();
     let measured = measure(
         alloc,
         &source.code,
@@ -55,7 +55,13 @@ pub(crate) fn tell_steps<R: Threads + Sync, G: Gate>(
         terms.task_budget,
     )?;
     let lines = site_lines(alloc, &source.code)?;
-    let text = steps_text(alloc, &lines, measured.runs.as_slice(), measured.longest)?;
+    let text = steps_text(
+        alloc,
+        &lines,
+        measured.runs.as_slice(),
+        main.taken,
+        measured.longest,
+    )?;
     Ok(Told {
         text: text.into_bytes(),
         status: run.status(),

@@ -17,14 +17,15 @@ use Rattle.os_code.specs.declared.parts.Parts.{Parts}
 use Rattle.osview_chains.specs.Chains.{IsChain, IsChainFrom, IsLongest}
 use Rattle.osview_outcomes.specs.Outcomes.{AreOutcomesOf, HasInputs}
 use Rattle.osview_outcomes.specs.declared.kept.Outcomes.{Outcomes}
-use Rattle.osview_steps.specs.Steps.{AreRuns, has_run, steps_of_runs}
+use Rattle.osview_steps.specs.Steps.{AreRuns, has_run, steps_if, steps_of_runs}
 use Rattle.osview_steps.specs.Taking.{HaveRun, Took, end_at, inputs_at}
+use Rattle.osview_steps.specs.declared.runs.Taken.{Taken}
 use Rattle.osview_steps.specs.declared.runs.TaskRun.{TaskRun}
 use Rattle.osview_steps.proofs.Reading.{ends_are, has_outcome, read_at}
 
 -- what stands for a run where there is none
 abbrev pub no_run : TaskRun
-no_run = record { task = 0; steps = None }
+no_run = record { task = 0; took = None }
 
 abbrev no_activation : Activation
 no_activation = record { site = 0; captured = []; claims = [] }
@@ -75,12 +76,13 @@ module _ (code : Parts) (activations : List Activation) (input : List ℕ) (budg
   are_runs = record {
     as_many = many;
     of_tasks = have.of_tasks;
-    ran = λ a n x r x_is r_is steps_is.
-        let (ran, ends) = subst (Took code x (inputs_at outcomes a) budget (end_at outcomes a)) steps_is (have.took a x r x_is r_is) in
+    ran = λ a x r taken x_is r_is took_is.
+        let (ran, ends, turns) = subst (Took code x (inputs_at outcomes a) budget (end_at outcomes a)) took_is (have.took a x r x_is r_is) in
         record {
           inputs = inputs_at outcomes a;
           are_read = (read_at activations input plan outcomes body stands same are has a x x_is ran).0;
           ends = ends;
+          turns = turns;
         };
     never_ran = λ a r r_is none.
         let (x, x_is) = activation_of a r r_is in
@@ -92,21 +94,21 @@ module _ (code : Parts) (activations : List Activation) (input : List ℕ) (budg
   pub has_outcome_of : (a : ℕ) → IsSome (get_or (steps_of_runs runs) a None) → (o : Outcome) × (outcome_at (plan_meaning plan body) a ≡ Some o)
   has_outcome_of a ran =
       let lt = in_steps (steps_of_runs runs) a ran in
-      let size = length-map runs (λ (r : TaskRun). r.steps) in
+      let size = length-map runs (λ (r : TaskRun). steps_if r.took) in
       let r : TaskRun = get_or runs a no_run in
       let r_is : slice_get runs a ≡ Some r = slice_get-get_or runs a no_run (omega (arith, lt, size)) in
-      let steps_is : get_or (steps_of_runs runs) a None ≡ r.steps = get_or-map (λ (q : TaskRun). q.steps) runs a no_run None (omega (arith, lt, size)) in
+      let steps_is : get_or (steps_of_runs runs) a None ≡ steps_if r.took = get_or-map (λ (q : TaskRun). steps_if q.took) runs a no_run None (omega (arith, lt, size)) in
       let (x, x_is) = activation_of a r r_is in
       let (o, o_is, did) = has_outcome activations input plan outcomes body stands same are has a
-      (by_steps x a r.steps (ap is_some (sym steps_is) ∙ ran) (have.took a x r x_is r_is)) in
+      (by_took x a r.took (ap is_some (sym steps_is) ∙ ran) (have.took a x r x_is r_is)) in
       (o, ap (λ (s : State). outcome_at s a) same ∙ o_is)
     where
-      by_steps : (x : Activation) (a : ℕ) (s : Option ℕ) → is_some s ≡ true → Took code x (inputs_at outcomes a) budget (end_at outcomes a) s → has_run (end_at outcomes a) ≡ true
-      by_steps x a None some took = absurd (cc)
-      by_steps x a (Some n) some took = took.0
+      by_took : (x : Activation) (a : ℕ) (s : Option Taken) → is_some (steps_if s) ≡ true → Took code x (inputs_at outcomes a) budget (end_at outcomes a) s → has_run (end_at outcomes a) ≡ true
+      by_took x a None some took = absurd (cc)
+      by_took x a (Some taken) some took = took.0
 
   pub longest_of : (longest : ℕ) → IsLongest (plan_reads plan) (steps_of_runs runs) longest → IsLongest (stream_reads activations input) (steps_of_runs runs) longest
   longest_of longest = same_longest (plan_reads plan) (stream_reads activations input) (steps_of_runs runs) longest (λ a ran.
       let lt = in_steps (steps_of_runs runs) a ran in
-      let size = length-map runs (λ (r : TaskRun). r.steps) in
+      let size = length-map runs (λ (r : TaskRun). steps_if r.took) in
       stands.cells_are_window_elements a (omega (arith, lt, size, many)))

@@ -27,7 +27,7 @@ none_run code activations budget outcomes = record {
 
 pub one_more_run : (code : Parts) (activations : List Activation) (budget : ℕ) (outcomes : Outcomes) (runs : List TaskRun) (place : ℕ) (x : Activation) (run : TaskRun)
     → HaveRun code activations budget outcomes runs → length runs ≡ place → slice_get activations place ≡ Some x → run.task ≡ x.site
-    → Took code x (inputs_at outcomes place) budget (end_at outcomes place) run.steps → HaveRun code activations budget outcomes (runs ++ run ∷ [])
+    → Took code x (inputs_at outcomes place) budget (end_at outcomes place) run.took → HaveRun code activations budget outcomes (runs ++ run ∷ [])
 one_more_run code activations budget outcomes runs place x run old many is task took = record {
   of_tasks = λ a y r y_is r_is. task_at a y r y_is (at_end runs run r a r_is);
   took = λ a y r y_is r_is. took_at a y r y_is (at_end runs run r a r_is);
@@ -41,9 +41,9 @@ one_more_run code activations budget outcomes runs place x run old many is task 
     task_at a y r y_is (inr (at, r_is)) = ap (λ (q : TaskRun). q.task) (sym r_is) ∙ task ∙ ap (λ (z : Activation). z.site) (same a y y_is at)
 
     took_at : (a : ℕ) (y : Activation) (r : TaskRun) → slice_get activations a ≡ Some y → (slice_get runs a ≡ Some r) ⊎ ((a ≡ length runs) × (run ≡ r))
-        → Took code y (inputs_at outcomes a) budget (end_at outcomes a) r.steps
+        → Took code y (inputs_at outcomes a) budget (end_at outcomes a) r.took
     took_at a y r y_is (inl earlier) = old.took a y r y_is earlier
     took_at a y r y_is (inr (at, r_is)) =
-        subst (λ (q : TaskRun). Took code y (inputs_at outcomes a) budget (end_at outcomes a) q.steps) r_is
-        (subst (λ (z : Activation). Took code z (inputs_at outcomes a) budget (end_at outcomes a) run.steps) (same a y y_is at)
-        (subst (λ (k : ℕ). Took code x (inputs_at outcomes k) budget (end_at outcomes k) run.steps) (sym (at ∙ many)) took))
+        subst (λ (q : TaskRun). Took code y (inputs_at outcomes a) budget (end_at outcomes a) q.took) r_is
+        (subst (λ (z : Activation). Took code z (inputs_at outcomes a) budget (end_at outcomes a) run.took) (same a y y_is at)
+        (subst (λ (k : ℕ). Took code x (inputs_at outcomes k) budget (end_at outcomes k) run.took) (sym (at ∙ many)) took))

@@ -1,4 +1,4 @@
--- What a reader believes: the steps of activations, what is counted of a task, and the lines that tell it.
+-- What a reader believes: the steps and turns of activations, what is counted of a task, and the lines that tell it.
 pub mod Steps
 pub mod Tallies
 pub mod Lines

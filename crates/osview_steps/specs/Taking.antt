@@ -7,7 +7,9 @@ use Rattle.os_code.specs.Tasks.{TaskEnds}
 use Rattle.os_code.specs.declared.parts.Parts.{Parts}
 use Rattle.osview_outcomes.specs.declared.kept.Outcomes.{Outcomes}
 use Rattle.osview_steps.specs.Steps.{has_run}
+use Rattle.osview_steps.specs.declared.runs.Taken.{Taken}
 use Rattle.osview_steps.specs.declared.runs.TaskRun.{TaskRun}
+use Rattle.task_vm.specs.Turns.{TakesTurns}
 
 -- the end of an activation that is kept, and what is kept that it read
 abbrev pub end_at : Outcomes → ℕ → Option TaskEnd
@@ -16,13 +18,15 @@ end_at outcomes a = slice_index_or outcomes.ends.items a None
 abbrev pub inputs_at : Outcomes → ℕ → List ℤ
 inputs_at outcomes a = slice_index_or outcomes.inputs a []
 
--- an activation with this end took so many steps over what it read, or it never ran
-abbrev pub Took : Parts → Activation → List ℤ → (budget : ℕ) → Option TaskEnd → Option ℕ → Type 0
+-- an activation with this end took so many steps and turns over what it read, or it never ran
+abbrev pub Took : Parts → Activation → List ℤ → (budget : ℕ) → Option TaskEnd → Option Taken → Type 0
 Took code activation inputs budget end None = has_run end ≡ false
-Took code activation inputs budget end (Some n) = (has_run end ≡ true) × TaskEnds code activation inputs budget (task_outcome code activation inputs budget) n
+Took code activation inputs budget end (Some taken) =
+    (has_run end ≡ true) × TaskEnds code activation inputs budget (task_outcome code activation inputs budget) taken.steps
+    × TakesTurns code activation inputs budget taken.turns
 
--- each of the first activations took so many steps as its run says
+-- each of the first activations took as much as its run says
 pub record HaveRun (code : Parts) (activations : List Activation) (budget : ℕ) (outcomes : Outcomes) (runs : List TaskRun) : Type 0 where
   pub of_tasks : (a : ℕ) (x : Activation) (r : TaskRun) → slice_get activations a ≡ Some x → slice_get runs a ≡ Some r → r.task ≡ x.site
   pub took : (a : ℕ) (x : Activation) (r : TaskRun) → slice_get activations a ≡ Some x → slice_get runs a ≡ Some r
-      → Took code x (inputs_at outcomes a) budget (end_at outcomes a) r.steps
+      → Took code x (inputs_at outcomes a) budget (end_at outcomes a) r.took

@@ -1,18 +1,26 @@
 -- What is counted of a task.
-use Rattle.std.specs.Prelude.{ℕ, ◌+◌, ◌*◌, ◌/◌, ◌%◌, ◌==◌, min, max, List, [], ◌∷◌, None, count_by, filter_map, fold, if◌then◌else◌}
+use Rattle.std.specs.Prelude.{ℕ, ◌+◌, ◌*◌, ◌/◌, ◌%◌, ◌==◌, min, max, List, [], ◌∷◌, None, count_by, filter_map, fold, if◌then◌else◌, map}
+use Rattle.osview_steps.specs.declared.runs.Taken.{Taken}
 use Rattle.osview_steps.specs.declared.runs.TaskRun.{TaskRun}
 
 -- how many activations a task has
 abbrev pub activation_count : ℕ → List TaskRun → ℕ
 activation_count task runs = count_by (λ (r : TaskRun). r.task == task) runs
 
--- the steps of those of its activations that ran
-abbrev pub steps_of : ℕ → List TaskRun → List ℕ
-steps_of task runs = filter_map (λ (r : TaskRun). if r.task == task then r.steps else None) runs
+-- what those of its activations took that ran
+abbrev pub taken_by : ℕ → List TaskRun → List Taken
+taken_by task runs = filter_map (λ (r : TaskRun). if r.task == task then r.took else None) runs
+
+-- the steps of these, and their turns
+abbrev pub steps_in : List Taken → List ℕ
+steps_in all = map (λ (taken : Taken). taken.steps) all
+
+abbrev pub turns_in : List Taken → List ℕ
+turns_in all = map (λ (taken : Taken). taken.turns) all
 
 -- the steps of all that ran
 abbrev pub all_steps : List TaskRun → List ℕ
-all_steps runs = filter_map (λ (r : TaskRun). r.steps) runs
+all_steps runs = steps_in (filter_map (λ (r : TaskRun). r.took) runs)
 
 -- the least and the most of some numbers; 0 where there is none
 abbrev pub least : List ℕ → ℕ

@@ -1,9 +1,11 @@
-//! How many steps of the machine the activations of a run took, task by task, and how much faster more workers can make it.
+//! How many steps of the machine a run took, and how many turns of the budgets, for `main` and task by task, and how much faster more
+//! workers can make it.
 //!
-//! `measure` runs the tasks of activations over an input on one thread, and once more, over what each read, for their steps: `AreRuns`
-//! says that the machine ends each task in so many. It finds how many steps a longest chain of activations takes that wait for one
-//! another, `IsLongest`. `steps_text` tells in lines what that comes to for each task, and by how much all the steps are more than
-//! those of the longest chain: more workers can't make the tasks faster than that. The steps of the control program aren't counted.
+//! `measure` runs the tasks of activations over an input on one thread, and once more, over what each read, for what they take: `AreRuns`
+//! says that the machine ends each task in so many steps, and that it takes so many turns. It finds how many steps a longest chain of
+//! activations takes that wait for one another, `IsLongest`. `steps_text` tells in lines what that comes to for `main` and for each task,
+//! and by how much all steps of tasks are more than those of the longest chain: more workers can't make the tasks faster than that. The
+//! steps of `main` have no part in that bound.
 #![tactic(auto)]
 
 mod measuring;
@@ -14,5 +16,5 @@ mod tally;
 mod telling;
 
 pub use measuring::{Measured, measure};
-pub use runs::TaskRun;
+pub use runs::{Taken, TaskRun};
 pub use telling::steps_text;

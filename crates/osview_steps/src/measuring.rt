@@ -4,10 +4,10 @@ ghost use Rattle.flow_core_laws.specs.Streams.{stream_meaning, stream_reads};
 ghost use Rattle.os_code.specs.Codes.{parts_of};
 ghost use Rattle.os_code.specs.Tasks.{Fits};
 ghost use Rattle.osview_chains.specs.Chains.{IsLongest};
-ghost use Rattle.osview_steps.specs.Steps.{AreRuns, steps_of_runs};
+ghost use Rattle.osview_steps.specs.Steps.{AreRuns, steps_if, steps_of_runs};
 ghost use Rattle.stream_match_layouts.specs.Layout.{IsLayout, IsLayoutOf};
 
-use crate::runs::TaskRun;
+use crate::runs::{Taken, TaskRun};
 use crate::taking::all_runs;
 use epoch_run_bodies::TaskBodies;
 use epoch_run_bodies::laws::bodies_serve;
@@ -20,13 +20,23 @@ use std::alloc::Global;
 use stream_match::build;
 use stream_match_layouts::Layout;
 
-/// What the activations of a run took.
+/// What was measured of a run.
 #[derive(Debug, Drop)]
 pub struct Measured {
-    /// The run of each activation.
+    /// What each activation took.
     pub runs: List<TaskRun>,
     /// How many steps a longest chain takes, of activations that wait for one another.
     pub longest: u128,
+}
+
+/// The steps of an activation, if it ran.
+fn steps_if(took: Option<Taken>) -> Option<u64>
+    ensures { result ≡ steps_if took }
+{
+    match took {
+        Some(taken) => Some(taken.steps),
+        None => None,
+    }
 }
 
 /// The steps of each run.
@@ -35,13 +45,13 @@ fn steps_of_runs(alloc: Global, runs: &[TaskRun]) -> Result<List<Option<u64>>, M
 {
     let mut steps = List::with_capacity(alloc, runs.len())?;
     for run in runs {
-        steps.push(run.steps)?;
+        steps.push(steps_if(run.took))?;
     }
     Ok(steps)
 }
 
-/// Measures the steps of activations over an input, on one thread. Each task that runs is run twice: once for what it writes, and
-/// once more, over what it read, for its steps.
+/// Measures what activations take over an input, on one thread. Each task that runs is run twice: once for what it writes, and once
+/// more, over what it read, for its steps and turns.
 pub fn measure(
     alloc: Global,
     code: &Code,

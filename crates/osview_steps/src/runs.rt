@@ -1,6 +1,13 @@
-/// An activation, by the number of its task, with the steps that it took if it ran.
+/// What a run took: so many steps of the machine, and so many turns of its budget.
+#[derive(Clone, Copy, Debug, PartialEq, Eq)]
+pub struct Taken {
+    pub steps: u64,
+    pub turns: u64,
+}
+
+/// An activation, by the number of its task, with what it took if it ran.
 #[derive(Clone, Copy, Debug, PartialEq, Eq)]
 pub struct TaskRun {
     pub task: u32,
-    pub steps: Option<u64>,
+    pub took: Option<Taken>,
 }

@@ -8,8 +8,9 @@ ghost use Rattle.os_code.specs.Tasks.{Fits, TaskEnds, input_count};
 ghost use Rattle.osview_steps.specs.Steps.{has_run};
 ghost use Rattle.osview_steps.specs.Taking.{HaveRun, Took, end_at, inputs_at};
 ghost use Rattle.task_vm.specs.Space.{IsMadeFor};
+ghost use Rattle.task_vm.specs.Turns.{TakesTurns};
 
-use crate::runs::TaskRun;
+use crate::runs::{Taken, TaskRun};
 use flow_core_laws::{Activation, Plan, TaskEnd};
 use os_code::Code;
 use os_io::{List, Memory};
@@ -48,8 +49,8 @@ fn inputs_of(outcomes: &Outcomes, place: usize) -> &[i32]
     }
 }
 
-/// The steps that an activation takes over what it read, if it ran: its task is run once more. It has so many outputs.
-fn steps_over(
+/// What an activation takes over what it read: its task is run once more. It has so many outputs.
+fn taken_over(
     code: &Code,
     activation: &Activation,
     inputs: &[i32],
@@ -57,14 +58,15 @@ fn steps_over(
     outputs: &mut Vec<i32>,
     scratch: &mut Scratch,
     budget: u64,
-) -> Result<u64, Memory>
+) -> Result<Taken, Memory>
     requires fits { Fits (parts_of code.now) activation.now }
     requires inputs { length inputs.now ≡ input_count activation.now }
     requires outputs { count ≡ output_count activation.now }
     requires made { IsMadeFor (parts_of code.now) scratch.old }
     requires budget { budget ≤ 1000000000 }
-    ensures took { IfOk result (λ steps. TaskEnds (parts_of code.now) activation.now inputs.now budget
-        (task_outcome (parts_of code.now) activation.now inputs.now budget) steps) }
+    ensures steps { IfOk result (λ taken. TaskEnds (parts_of code.now) activation.now inputs.now budget
+        (task_outcome (parts_of code.now) activation.now inputs.now budget) taken.steps) }
+    ensures turns { IfOk result (λ taken. TakesTurns (parts_of code.now) activation.now inputs.now budget taken.turns) }
     ensures made { IsMadeFor (parts_of code.now) scratch.new }
 {
     outputs.resize(count as usize, 0)?;
@@ -76,7 +78,10 @@ fn steps_over(
         scratch,
         budget,
     );
-    Ok(scratch.steps())
+    Ok(Taken {
+        steps: scratch.steps(),
+        turns: scratch.turns(),
+    })
 }
 
 /// The run of an activation, by what is kept of it.
@@ -96,18 +101,18 @@ fn run_of(
     requires made { IsMadeFor (parts_of code.now) scratch.old }
     requires budget { budget ≤ 1000000000 }
     ensures task { IfOk result (λ run. run.task ≡ activation.now.site) }
-    ensures took { IfOk result (λ run. Took (parts_of code.now) activation.now (inputs_at outcomes.now place) budget (end_at outcomes.now place) run.steps) }
+    ensures took { IfOk result (λ run. Took (parts_of code.now) activation.now (inputs_at outcomes.now place) budget (end_at outcomes.now place) run.took) }
     ensures made { IsMadeFor (parts_of code.now) scratch.new }
 {
     let task = activation.site;
     if !has_run(end_of(outcomes, place)) {
-        return Ok(TaskRun { task, steps: None });
+        return Ok(TaskRun { task, took: None });
     }
     let inputs = inputs_of(outcomes, place);
-    let steps = steps_over(code, activation, inputs, count, outputs, scratch, budget)?;
+    let taken = taken_over(code, activation, inputs, count, outputs, scratch, budget)?;
     Ok(TaskRun {
         task,
-        steps: Some(steps),
+        took: Some(taken),
     })
 }
 

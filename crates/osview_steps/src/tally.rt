@@ -1,10 +1,11 @@
 ghost use Rattle.std.specs.Prelude.{◌≡◌, ◌+◌, ◌^◌, ◌<◌, ◌≤◌, ℕ, All, IfOk, length, max, min, slice_index_or, slice_set, sum, ◌*◌};
 ghost use Rattle.std.specs.Option.{option_map_or};
 ghost use Rattle.osview_steps.specs.Counting.{IsSmall, IsTallyOf, counted, nothing_counted};
+ghost use Rattle.osview_steps.specs.Steps.{steps_if};
 ghost use Rattle.osview_steps.specs.Tallies.{all_steps};
 ghost use Rattle.osview_steps.specs.declared.runs.TaskRun.{TaskRun as Run};
 
-use crate::runs::TaskRun;
+use crate::runs::{Taken, TaskRun};
 use os_io::{List, Memory};
 use std::alloc::Global;
 
@@ -20,6 +21,8 @@ pub(crate) struct Tally {
     pub(crate) most: u64,
     /// The steps of all of them.
     pub(crate) sum: u128,
+    /// The most turns of its budget that one of them took; 0 where none ran.
+    pub(crate) turns: u64,
 }
 
 impl Tally {
@@ -33,30 +36,32 @@ impl Tally {
             least: 0,
             most: 0,
             sum: 0,
+            turns: 0,
         }
     }
 
-    /// This with one more activation, with its steps if it ran.
-    fn with(self, steps: Option<u64>) -> Tally
+    /// This with one more activation, with what it took if it ran.
+    fn with(self, took: Option<Taken>) -> Tally
         requires { IsSmall 65535 self }
-        ensures exact { result ≡ counted self steps }
+        ensures exact { result ≡ counted self took }
         ensures small { (n : ℕ) → IsSmall n self → IsSmall (n + 1) result }
     {
-        match steps {
+        match took {
             None => Tally {
                 activations: self.activations + 1,
                 ..self
             },
-            Some(steps) => Tally {
+            Some(taken) => Tally {
                 activations: self.activations + 1,
                 ran: self.ran + 1,
                 least: if self.ran == 0 {
-                    steps
+                    taken.steps
                 } else {
-                    smaller(self.least, steps)
+                    smaller(self.least, taken.steps)
                 },
-                most: larger(self.most, steps),
-                sum: plus(self.sum, steps),
+                most: larger(self.most, taken.steps),
+                sum: plus(self.sum, taken.steps),
+                turns: larger(self.turns, taken.turns),
             },
         }
     }
@@ -77,7 +82,7 @@ fn larger(a: u64, b: u64) -> u64
 }
 
 /// A sum with one more number.
-fn plus(sum: u128, steps: u64) -> u128
+pub(crate) fn plus(sum: u128, steps: u64) -> u128
     requires { sum + 18446744073709551615 < 2 ^ 128 }
     ensures sum { result ≡ sum + steps }
     ensures small { result ≤ sum + 18446744073709551615 }
@@ -89,12 +94,12 @@ fn plus(sum: u128, steps: u64) -> u128
 fn count(tallies: &mut List<Tally>, run: TaskRun)
     requires inside { run.task < length tallies.old }
     requires small { IsSmall 65535 (slice_index_or tallies.old run.task nothing_counted) }
-    ensures counted { tallies.new ≡ slice_set tallies.old run.task (counted (slice_index_or tallies.old run.task nothing_counted) run.steps) }
+    ensures counted { tallies.new ≡ slice_set tallies.old run.task (counted (slice_index_or tallies.old run.task nothing_counted) run.took) }
     ensures small { (n : ℕ) → IsSmall n (slice_index_or tallies.old run.task nothing_counted)
-        → IsSmall (n + 1) (counted (slice_index_or tallies.old run.task nothing_counted) run.steps) }
+        → IsSmall (n + 1) (counted (slice_index_or tallies.old run.task nothing_counted) run.took) }
 {
     let before = tallies.as_slice()[run.task as usize];
-    tallies.as_mut_slice()[run.task as usize] = before.with(run.steps);
+    tallies.as_mut_slice()[run.task as usize] = before.with(run.took);
 }
 
 /// Nothing, counted of each of so many tasks.
@@ -126,10 +131,10 @@ pub(crate) fn tallies(alloc: Global, tasks: usize, runs: &[TaskRun]) -> Result<L
 
 /// The steps of an activation; 0 where it never ran.
 fn steps_of(run: &TaskRun) -> u64
-    ensures { result ≡ option_map_or (λ n. n) run.now.steps 0 }
+    ensures { result ≡ option_map_or (λ n. n) (steps_if run.now.took) 0 }
 {
-    match run.steps {
-        Some(steps) => steps,
+    match run.took {
+        Some(taken) => taken.steps,
         None => 0,
     }
 }

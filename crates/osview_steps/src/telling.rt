@@ -1,12 +1,12 @@
 ghost use Rattle.std.specs.Prelude.{◌≡◌, ◌<◌, ◌≤◌, ◌*◌, ◌++◌, ◌==◌, All, IfOk, OnOk, codes, if◌then◌else◌, length};
 ghost use Rattle.osview_steps.specs.Counting.{IsSmall};
-ghost use Rattle.osview_steps.specs.Lines.{all_line, counts_text, longest_line, range_text, share_text, speed_line, steps_lines};
+ghost use Rattle.osview_steps.specs.Lines.{all_line, counts_text, longest_line, main_line, range_text, share_text, speed_line, steps_lines, turns_text};
 ghost use Rattle.osview_steps.specs.Told.{tally_line, tally_text};
 ghost use Rattle.osview_steps.specs.declared.runs.TaskRun.{TaskRun as Run};
 
 use crate::numbers::{add_between, add_hundredths, add_tenths, mean, ratio, share};
-use crate::runs::TaskRun;
-use crate::tally::{Tally, tallies, total};
+use crate::runs::{Taken, TaskRun};
+use crate::tally::{Tally, plus, tallies, total};
 use os_io::Memory;
 use osview_text::Text;
 use std::alloc::Global;
@@ -41,16 +41,46 @@ fn add_range(told: &mut Text, least: u64, most: u64) -> Result<(), Memory>
     told.add(b" steps each")
 }
 
-/// Adds the share of steps in those of all tasks.
+/// Adds the share of steps in those of the run.
 fn add_share(told: &mut Text, share: u128) -> Result<(), Memory>
     ensures { OnOk result (told.new ≡ told.old ++ share_text share) }
 {
     told.add(b", ")?;
     add_tenths(told, share)?;
-    told.add(b" % of the steps of all tasks")
+    told.add(b" % of the steps of the run")
 }
 
-/// Adds the steps of a task's activations, where some ran.
+/// What stands behind a number of turns of a budget.
+fn turn_word(count: u64) -> &'static [u8]
+    ensures { result.now ≡ (if count == 1 then codes " turn of its budget" else codes " turns of its budget") }
+{
+    if count == 1 {
+        b" turn of its budget"
+    } else {
+        b" turns of its budget"
+    }
+}
+
+/// Adds bytes, and a number of turns of a budget behind them.
+fn add_turns(told: &mut Text, before: &[u8], turns: u64) -> Result<(), Memory>
+    ensures { OnOk result (told.new ≡ told.old ++ (before.now ++ turns_text turns)) }
+{
+    told.field(before, turns)?;
+    told.add(turn_word(turns))
+}
+
+/// Adds the line of `main`.
+fn add_main(told: &mut Text, main: Taken, all: u128) -> Result<(), Memory>
+    ensures { OnOk result (told.new ≡ told.old ++ main_line main all) }
+{
+    told.field(b"main: ", main.steps)?;
+    told.add(b" steps")?;
+    add_share(told, share(u128::from(main.steps), all))?;
+    add_turns(told, b", ", main.turns)?;
+    told.add(b"\n")
+}
+
+/// Adds what a task's activations took, where some ran.
 fn add_steps(told: &mut Text, tally: Tally, all: u128) -> Result<(), Memory>
     requires { IsSmall 65536 tally }
     ensures { OnOk result (told.new ≡ told.old ++ tally_text tally all) }
@@ -61,7 +91,8 @@ fn add_steps(told: &mut Text, tally: Tally, all: u128) -> Result<(), Memory>
     add_range(told, tally.least, tally.most)?;
     add_between(told, b", ", mean(tally.sum, tally.ran), b" on average")?;
     add_between(told, b", ", tally.sum, b" in all")?;
-    add_share(told, share(tally.sum, all))
+    add_share(told, share(tally.sum, all))?;
+    add_turns(told, b", at most ", tally.turns)
 }
 
 /// Adds the line of a task.
@@ -99,24 +130,27 @@ fn add_chain(told: &mut Text, all: u128, longest: u128) -> Result<(), Memory>
     add_speed(told, all, longest)
 }
 
-/// The lines of steps: one for each task, and those of the whole. `lines` has the line of each task's pragma, `runs` the activations,
-/// and `longest` the steps of a longest chain of them.
+/// The lines of steps: that of `main`, one for each task, and those of the whole. `lines` has the line of each task's pragma, `runs` the
+/// activations, `main` what the control program took, and `longest` has the steps of a longest chain of activations.
 pub fn steps_text(
     alloc: Global,
     lines: &[u32],
     runs: &[TaskRun],
+    main: Taken,
     longest: u128,
 ) -> Result<Text, Memory>
     requires few { length runs.now ≤ 65536 }
     requires tasks { All (λ (r : Run). r.task < length lines.now) runs.now }
-    ensures { IfOk result (λ told. told ≡ steps_lines lines.now runs.now longest) }
+    ensures { IfOk result (λ told. told ≡ steps_lines lines.now runs.now main longest) }
 {
     let tallies = tallies(alloc, lines.len(), runs)?;
-    let all = total(runs);
+    let tasks = total(runs);
+    let all = plus(tasks, main.steps);
     let mut told = Text::new(alloc);
+    add_main(&mut told, main, all)?;
     for task in 0..lines.len() {
         add_task(&mut told, lines[task], tallies.as_slice()[task], all)?;
     }
-    add_chain(&mut told, all, longest)?;
+    add_chain(&mut told, tasks, longest)?;
     Ok(told)
 }

@@ -8,6 +8,7 @@ pub mod Elements
 pub mod Calls
 pub mod Starting
 pub mod Looping
+pub mod Spending
 pub mod Ending
 pub mod Forms
 pub mod UnderWay

@@ -1,5 +1,6 @@
--- What a reader believes: what a scratch has space for.
+-- What a reader believes: what a scratch has space for, and how many turns of its budget a task takes.
 pub mod Space
+pub mod Turns
 -- What restates private functions.
 pub mod Room
 pub mod Rows

@@ -15,6 +15,7 @@ pub struct Scratch {
     pub(crate) slots: Room<i32>,
     pub(crate) callers: Vec<Caller>,
     pub(crate) steps: u64,
+    pub(crate) turns: u64,
 }
 
 impl Model for Scratch {
@@ -23,7 +24,7 @@ impl Model for Scratch {
 
     ghost Value = { Space };
 
-    ghost view = { λ s. record { stack = vec_len s.stack; slots = length s.slots.items + s.slots.spare; calls = vec_len s.callers; steps = s.steps } };
+    ghost view = { λ s. record { stack = vec_len s.stack; slots = length s.slots.items + s.slots.spare; calls = vec_len s.callers; steps = s.steps; turns = s.turns } };
 }
 
 impl Scratch {
@@ -34,6 +35,7 @@ impl Scratch {
     pub fn new(alloc: Global, code: &Code) -> Result<Scratch, Memory>
         ensures made { IfOk result (IsMadeFor (parts_of code.now)) }
         ensures steps { IfOk result (λ scratch. scratch.steps ≡ 0) }
+        ensures turns { IfOk result (λ scratch. scratch.turns ≡ 0) }
     {
         let Ok(slots) = u32::try_from(code.slots_need()) else {
             return Err(Memory);
@@ -48,6 +50,7 @@ impl Scratch {
                 end: 0
             }; code.units.len()]?,
             steps: 0,
+            turns: 0,
         })
     }
 
@@ -56,6 +59,13 @@ impl Scratch {
         ensures { result ≡ self.now.steps }
     {
         self.steps
+    }
+
+    /// How many turns of its budget the last run took; 0 before the first.
+    pub fn turns(&self) -> u64
+        ensures { result ≡ self.now.turns }
+    {
+        self.turns
     }
 }
 

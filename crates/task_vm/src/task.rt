@@ -13,6 +13,7 @@ ghost use Rattle.os_code.specs.Tasks.{Fits, input_count, TaskEnds};
 ghost use Rattle.task_vm.specs.Ending.{all_bytes_from, end_of, IsSiteLine};
 ghost use Rattle.task_vm.specs.Halting.{IsTaskUnit};
 ghost use Rattle.task_vm.specs.Space.{IsMadeFor};
+ghost use Rattle.task_vm.specs.Turns.{TakesTurns};
 
 use crate::registers::{fill_frame, unit_at};
 use crate::running::{Stop, run};
@@ -47,6 +48,8 @@ pub fn run_task(
     ensures steps { TaskEnds (parts_of code.now) activation.now inputs.now budget
         (task_outcome (parts_of code.now) activation.now inputs.now budget) scratch.new.steps }
     ensures few_steps { scratch.new.steps ≤ most_steps (parts_of code.now) budget }
+    // and takes so many turns of the budget
+    ensures turns { TakesTurns (parts_of code.now) activation.now inputs.now budget scratch.new.turns }
     ensures made_again { IsMadeFor (parts_of code.now) scratch.new }
     ensures same_length { length outputs.new ≡ length outputs.old }
 {
@@ -72,6 +75,7 @@ pub fn run_task(
         code.slots_need() as usize,
     );
     scratch.steps = stopped.steps;
+    scratch.turns = budget - stopped.turns;
     end_at(
         stopped.stop,
         activation.claims.as_slice(),

@@ -9,6 +9,8 @@ use Rattle.flow_core_laws.specs.declared.control.Control.{Control}
 use Rattle.flow_core_laws.specs.declared.ends.Ends.{Ends}
 use Rattle.os_ast.specs.Views.{program_tree}
 use Rattle.os_code.specs.Codes.{parts_of}
+use Rattle.os_code.specs.Control.{ControlEnds}
+use Rattle.os_code.specs.Outcomes as machine
 use Rattle.os_code.specs.Tasks.{Fits}
 use Rattle.os_code.specs.declared.site.Site.{Site}
 use Rattle.osrun_core_run.proofs.TasksRun.{run_of_code}
@@ -25,7 +27,7 @@ use Rattle.osview_answer.proofs.steps_telling.tell_steps.Goals as goal
 
 pub measure-requires-clause-fit : goal.measure-requires-clause-fit
 measure-requires-clause-fit g c =
-    subst (λ (xs : List Activation). All (Fits (parts_of c.args.source.now.code)) xs) (sym c.as_slice-activations.ensures) c.in_ok-control.ensures.fit
+    subst (λ (xs : List Activation). All (Fits (parts_of c.args.source.now.code)) xs) (sym c.as_slice-activations.ensures) c.in_ok-main.ensures.fit
 
 pub measure-requires-clause-layout : goal.measure-requires-clause-layout
 measure-requires-clause-layout g c = c.in_ok-run.ensures.run.whole
@@ -33,8 +35,7 @@ measure-requires-clause-layout g c = c.in_ok-run.ensures.run.whole
 pub measure-requires-clause-laid : goal.measure-requires-clause-laid
 measure-requires-clause-laid g c =
     let ran = c.in_ok-run.ensures.run in
-    let same : ran.made ≡ c.in_ok-control.control = ran.made_is ∙ sym c.in_ok-control.ensures.exact in
-    subst (IsLayoutOf c.in_ok-run.run'.layout) (ap (λ (m : Control). m.activations) same ∙ sym c.as_slice-activations.ensures) ran.laid
+    subst (IsLayoutOf c.in_ok-run.run'.layout) (ap (λ (m : Control). m.activations) ran.made_is ∙ sym c.in_ok-main.ensures.activations ∙ sym c.as_slice-activations.ensures) ran.laid
 
 pub measure-requires-clause-input : goal.measure-requires-clause-input
 measure-requires-clause-input g c = sym c.in_ok-run.ensures.run.over
@@ -49,7 +50,7 @@ pub steps_text-requires-clause-tasks : goal.steps_text-requires-clause-tasks
 steps_text-requires-clause-tasks g c =
     let code = parts_of c.args.source.now.code in
     let acts = c.as_slice-activations.result.now in
-    let fit = subst (λ (xs : List Activation). All (Fits code) xs) (sym c.as_slice-activations.ensures) c.in_ok-control.ensures.fit in
+    let fit = subst (λ (xs : List Activation). All (Fits code) xs) (sym c.as_slice-activations.ensures) c.in_ok-main.ensures.fit in
     let lines : length c.deref.result.now ≡ length code.sites = ap length (c.deref.ensures.value ∙ c.in_ok-lines.ensures) ∙ length-map code.sites (λ (s : Site). s.line) in
     subst (λ (rs : List TaskRun). All (λ (r : TaskRun). r.task < length c.deref.result.now) rs) (sym c.as_slice.ensures)
     (subst (λ (n : ℕ). All (λ (r : TaskRun). r.task < n) c.in_ok-measured.measured.runs) (sym lines)
@@ -70,10 +71,12 @@ returns g c =
     let acts = c.as_slice-activations.result.now in
     let meaning = stream_meaning activations input (body_at p activations budget) in
     let measured = c.in_ok-measured.measured in
-    let same_made : c.in_ok-control.control ≡ made =
-    c.in_ok-control.ensures.exact ∙ is_source.is_code.control (length input) c.args.terms.control_budget ∙ sym r.made_is in
-    let same_acts : acts ≡ activations = c.as_slice-activations.ensures ∙ ap (λ (m : Control). m.activations) same_made in
-    let fit = subst (λ (m : Control). All (Fits code) m.activations) same_made c.in_ok-control.ensures.fit in
+    let main = c.in_ok-main.main in
+    let same_made : machine.control code (length input) c.args.terms.control_budget ≡ made =
+    is_source.is_code.control (length input) c.args.terms.control_budget ∙ sym r.made_is in
+    let created = c.in_ok-main.ensures.activations ∙ ap (λ (m : Control). m.activations) same_made in
+    let same_acts : acts ≡ activations = c.as_slice-activations.ensures ∙ created in
+    let fit = subst (λ (xs : List Activation). All (Fits code) xs) created c.in_ok-main.ensures.fit in
     let same_state : stream_meaning acts input (frame_outcome code acts budget) ≡ meaning =
     ap (λ (xs : List Activation). stream_meaning xs input (frame_outcome code xs budget)) same_acts
     ∙ same_meaning code p activations budget is_source.is_code.bodies fit c.agreeing_bodies_mean_one.ensures input in
@@ -90,8 +93,11 @@ returns g c =
           (subst (λ (s : State). AreRuns code acts input budget s measured.runs) same_state c.in_ok-measured.ensures.runs);
       longest = measured.longest;
       is_longest = subst (λ (xs : List Activation). IsLongest (stream_reads xs input) (steps_of_runs measured.runs) measured.longest) same_acts c.in_ok-measured.ensures.longest;
+      main = main.taken;
+      main_steps = subst (λ (m : Control). ControlEnds code (length input) c.args.terms.control_budget m main.taken.steps) same_made c.in_ok-main.ensures.steps;
+      main_turns = c.in_ok-main.ensures.turns;
       told_is = c.into_bytes.ensures ∙ c.in_ok-text.ensures
-          ∙ ap (λ (lines : List ℕ). steps_lines lines c.as_slice.result.now measured.longest) same_lines
-          ∙ ap (λ (rs : List TaskRun). steps_lines (pragma_lines p) rs measured.longest) c.as_slice.ensures;
+          ∙ ap (λ (lines : List ℕ). steps_lines lines c.as_slice.result.now main.taken measured.longest) same_lines
+          ∙ ap (λ (rs : List TaskRun). steps_lines (pragma_lines p) rs main.taken measured.longest) c.as_slice.ensures;
       own_is = c.status.ensures ∙ ap (λ (e : Ends). status e.ends run.control) r.ends_are ∙ ap (status (ends_of meaning)) r.end_is;
     }

@@ -13,7 +13,7 @@ loop-run-preserved c =
     let old = c.loop-run.tallies in
     let runs = c.args.runs.now in
     let i = c.loop-run.run-index in
-    let d : TaskRun = record { task = 0; steps = None } in
+    let d : TaskRun = record { task = 0; took = None } in
     let run : TaskRun = get_or runs i d in
     let lt : i < length runs = omega arith in
     let inside = c.requires.tasks i d lt in
