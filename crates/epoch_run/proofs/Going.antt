@@ -25,7 +25,7 @@ use Rattle.stream_match_layouts.specs.Layout.{IsLayout, IsLayoutOf}
 use Rattle.stream_match_layouts.specs.declared.layout.Layout.{Layout}
 use Rattle.epoch_run.specs.Held.{IsHeldOf, IsOpenEpoch}
 use Rattle.epoch_run.specs.Run.{AreBudgets, created}
-use Rattle.epoch_run.specs.Standing.{HasAdvanced, StandsAt}
+use Rattle.epoch_run.specs.Standing.{HasAdvanced, HasCreated, StandsAt}
 use Rattle.epoch_run.specs.declared.held.Held.{Held}
 use Rattle.epoch_run.specs.declared.result.Budgets.{Budgets}
 use Rattle.epoch_run.specs.declared.standing.Standing.{Standing}
@@ -89,25 +89,31 @@ module _ (code : Code) (input : List ℕ) (budgets : Budgets) where
         ∙ ap (λ os. record { ends = (code_ends (parts_of code) run.activations input budgets.task).ends; output = os }) m.output_is_meant
 
     module _ (at_most : ℕ) (after : RunSoFar) (empty next : List Activation) (is_empty : empty ≡ []) (advance : HasAdvanced at_most run.control after empty next) where
-      next_is : next ≡ take at_most (remaining run.control)
-      next_is = advance.is_list ∙ ap (λ xs. xs ++ take at_most (remaining run.control)) is_empty
+      abbrev count : ℕ
+      count = advance.count
+
+      made : HasCreated count run.control after empty next
+      made = advance.created
+
+      next_is : next ≡ take count (remaining run.control)
+      next_is = made.is_list ∙ ap (λ xs. xs ++ take count (remaining run.control)) is_empty
 
       given : run.activations ++ next ≡ given_by after
       given =
-          ap (λ xs. xs ++ next) stands.are_given ∙ ap (λ xs. given_by run.control ++ xs) next_is ∙ sym advance.joined
+          ap (λ xs. xs ++ next) stands.are_given ∙ ap (λ xs. given_by run.control ++ xs) next_is ∙ sym made.joined
 
       after_code : after.code ≡ parts_of code
-      after_code = ap (λ (r : RunSoFar). r.code) advance.is_run ∙ stands.code_is
+      after_code = ap (λ (r : RunSoFar). r.code) made.is_run ∙ stands.code_is
 
       all_lawful : AreLawful code.streams (run.activations ++ next)
-      all_lawful = subst (AreLawful code.streams) (sym given) (subst (λ (p : Parts). AreLawful p.streams (given_by after)) after_code advance.lawful)
+      all_lawful = subst (AreLawful code.streams) (sym given) (subst (λ (p : Parts). AreLawful p.streams (given_by after)) after_code made.lawful)
 
       pub lawful_next : AreLawful (length run.layout.writers) (run.activations ++ next)
       lawful_next = subst (λ n. AreLawful n (run.activations ++ next)) (sym stands.streams) all_lawful
 
       pub whole_is : whole after ≡ control (parts_of code) (length input) budgets.control
       whole_is =
-          ap whole advance.is_run
+          ap whole made.is_run
           ∙ ap (λ p. control p run.control.input_len run.control.budget) stands.code_is
           ∙ ap (λ n. control (parts_of code) n run.control.budget) stands.input_is
           ∙ ap (control (parts_of code) (length input)) stands.budget_is
@@ -118,10 +124,10 @@ module _ (code : Code) (input : List ℕ) (budgets : Budgets) where
             → StandsAt code input budgets (record { control = after; activations = activations; layout = layout; held = held })
         stands_next layout held laid streams over is_held = record {
           code_is = after_code;
-          input_is = ap (λ (r : RunSoFar). r.input_len) advance.is_run ∙ stands.input_is;
-          budget_is = ap (λ (r : RunSoFar). r.budget) advance.is_run ∙ stands.budget_is;
+          input_is = ap (λ (r : RunSoFar). r.input_len) made.is_run ∙ stands.input_is;
+          budget_is = ap (λ (r : RunSoFar). r.budget) made.is_run ∙ stands.budget_is;
           are_given = are ∙ given;
-          fit = subst (All (Fits (parts_of code))) (sym (are ∙ given)) (subst (λ (p : Parts). All (Fits p) (given_by after)) after_code advance.fit);
+          fit = subst (All (Fits (parts_of code))) (sym (are ∙ given)) (subst (λ (p : Parts). All (Fits p) (given_by after)) after_code made.fit);
           lawful = subst (AreLawful code.streams) (sym are) all_lawful;
           has_output = stands.has_output;
           streams = streams ∙ stands.streams;
@@ -135,33 +141,34 @@ module _ (code : Code) (input : List ℕ) (budgets : Budgets) where
           };
         }
 
-        has_ended : after.has_ended ≡ nat_lt (length (remaining run.control)) at_most
-        has_ended = ap (λ (r : RunSoFar). r.has_ended) advance.is_run
+        has_ended : after.has_ended ≡ nat_lt (length (remaining run.control)) count
+        has_ended = ap (λ (r : RunSoFar). r.has_ended) made.is_run
 
         -- where the run hasn't ended, there are more activations
-        pub grows : 1 ≤ at_most → (end : Option ControlEnd) → end ≡ end_told after → end ≡ None → length run.activations < length activations
-        grows some end told none = by (cases_lt (length (remaining run.control)) at_most)
+        pub grows : (end : Option ControlEnd) → end ≡ end_told after → end ≡ None → length run.activations < length activations
+        grows end told none = by (cases_lt (length (remaining run.control)) count)
           where
-            by : (length (remaining run.control) < at_most) ⊎ (at_most ≤ length (remaining run.control)) → length run.activations < length activations
+            by : (length (remaining run.control) < count) ⊎ (count ≤ length (remaining run.control)) → length run.activations < length activations
             by (inl lt) =
-                let e : Some (whole after).end ≡ None = sym (ap (λ b. cond b (Some (whole after).end) None) (has_ended ∙ lt-ltb (length (remaining run.control)) at_most lt)) ∙ sym told ∙ none in
+                let e : Some (whole after).end ≡ None = sym (ap (λ b. cond b (Some (whole after).end) None) (has_ended ∙ lt-ltb (length (remaining run.control)) count lt)) ∙ sym told ∙ none in
                 absurd (cc)
             by (inr ge) =
                 let l = ap length are ∙ length-append run.activations next in
-                let n = ap length next_is ∙ length-take at_most (remaining run.control) in
-                omega (arith, l, n)
+                let n = ap length next_is ∙ length-take count (remaining run.control) in
+                let s = advance.some in
+                omega (arith, l, n, s)
 
         -- where it has, these are all
-        ended_so : (e : ControlEnd) → Some e ≡ end_told after → (nat_lt (length (remaining run.control)) at_most ≡ true) × (e ≡ (whole after).end)
+        ended_so : (e : ControlEnd) → Some e ≡ end_told after → (nat_lt (length (remaining run.control)) count ≡ true) × (e ≡ (whole after).end)
         ended_so e told = by (after.has_ended) refl
           where
-            by : (b : Bool) → after.has_ended ≡ b → (nat_lt (length (remaining run.control)) at_most ≡ true) × (e ≡ (whole after).end)
+            by : (b : Bool) → after.has_ended ≡ b → (nat_lt (length (remaining run.control)) count ≡ true) × (e ≡ (whole after).end)
             by true is = (sym has_ended ∙ is, let s : Some e ≡ Some (whole after).end = told ∙ ap (λ b. cond b (Some (whole after).end) None) is in cc)
             by false is = let z : Some e ≡ None = told ∙ ap (λ b. cond b (Some (whole after).end) None) is in absurd (cc)
 
         pub all_created : (end : Option ControlEnd) → end ≡ end_told after → IfSome end (λ e. activations ≡ created (parts_of code) input budgets)
         all_created None told = tt
-        all_created (Some e) told = are ∙ given ∙ advance.all (ended_so e told).0 ∙ ap (λ (c : Control). c.activations) whole_is
+        all_created (Some e) told = are ∙ given ∙ made.all (ended_so e told).0 ∙ ap (λ (c : Control). c.activations) whole_is
 
         pub end_is : (end : Option ControlEnd) → end ≡ end_told after → IfSome end (λ e. e ≡ (control (parts_of code) (length input) budgets.control).end)
         end_is None told = tt

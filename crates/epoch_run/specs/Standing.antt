@@ -11,14 +11,22 @@ use Rattle.epoch_run.specs.Held.{IsHeldBefore}
 use Rattle.epoch_run.specs.declared.result.Budgets.{Budgets}
 use Rattle.epoch_run.specs.declared.standing.Standing.{Standing}
 
--- the control program has created the next activations, at most so many, and they stand behind those of a list
-pub record HasAdvanced (at_most : ℕ) (before after : RunSoFar) (list added_to : List Activation) : Type 0 where
-  pub is_list : added_to ≡ list ++ take at_most (remaining before)
-  pub is_run : after ≡ advanced before at_most
-  pub joined : given_by after ≡ given_by before ++ take at_most (remaining before)
-  pub all : nat_lt (length (remaining before)) at_most ≡ true → given_by after ≡ (whole after).activations
+-- the control program has created so many of the next activations, or all where fewer remained, and they stand behind those
+-- of a list
+pub record HasCreated (count : ℕ) (before after : RunSoFar) (list added_to : List Activation) : Type 0 where
+  pub is_list : added_to ≡ list ++ take count (remaining before)
+  pub is_run : after ≡ advanced before count
+  pub joined : given_by after ≡ given_by before ++ take count (remaining before)
+  pub all : nat_lt (length (remaining before)) count ≡ true → given_by after ≡ (whole after).activations
   pub fit : All (Fits after.code) (given_by after)
   pub lawful : AreLawful after.code.streams (given_by after)
+
+-- it has created some of them, at most so many, or all where fewer remained
+pub record HasAdvanced (at_most : ℕ) (before after : RunSoFar) (list added_to : List Activation) : Type 0 where
+  pub count : ℕ
+  pub some : 1 ≤ count
+  pub few : count ≤ at_most
+  pub created : HasCreated count before after list added_to
 
 -- The activations so far are those that the control program of a code has created, and they are laid out; what is held is
 -- that of those before the epoch that comes.

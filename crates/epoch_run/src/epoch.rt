@@ -11,17 +11,20 @@ ghost use Rattle.stream_match_layouts.specs.Spans.{frame_count};
 ghost use Rattle.epoch_run.specs.Held.{IsHeldOf, IsOpenEpoch};
 
 use crate::held::Held;
+use crate::pace::Pace;
 use crate::plan::run_plan;
-use epoch_run_bodies::TaskBodies;
 use epoch_run_bodies::laws::{bodies_serve, later_activations_change_nothing};
+use epoch_run_bodies::{CountedBodies, TaskBodies};
 use epoch_run_ready::ready_frames;
 use flow_core_epochs::laws::{run_in_epochs, serving};
 use flow_core_epochs::{FrameBodies, open_frames};
 use flow_core_laws::{Bodies, Ends, Plan};
 use os_io::{List, Memory};
 use std::alloc::Global;
+use std::sync::atomic::{AtomicU64, Ordering};
 use std::thread::Threads;
 use stream_match::{EpochPlan, Layout, build_ready};
+use task_vm::Scratch;
 use task_workers::Gate;
 
 /// Runs an epoch by so many workers: the activations of a layout that have no end yet, over what was kept for
@@ -119,7 +122,16 @@ fn run_these<R: Threads + Sync, G: Gate>(
     bodies_serve();
     later_activations_change_nothing();
     let epoch = plan_these(alloc, bodies, layout, input, readers, frames, held)?;
-    let run = run_frames(rt, alloc, &epoch.plan, frames, bodies, workers, gate)?;
+    let run = run_frames(
+        rt,
+        alloc,
+        &epoch.plan,
+        frames,
+        bodies,
+        workers,
+        gate,
+        &mut held.pace,
+    )?;
     held.take(alloc, layout, frames, epoch.places.as_slice(), &run)?;
     Ok(())
 }
@@ -147,8 +159,8 @@ fn plan_these(
     Ok(epoch)
 }
 
-/// Runs the plan of an epoch with these frames.
-fn run_frames<R: Threads + Sync, B: Bodies, G: Gate>(
+/// Runs the plan of an epoch with these frames. Where several workers run it, it tells how long the bodies were.
+fn run_frames<R: Threads + Sync, B: Bodies<Scratch = Scratch>, G: Gate>(
     rt: &R,
     alloc: Global,
     plan: &Plan,
@@ -156,6 +168,7 @@ fn run_frames<R: Threads + Sync, B: Bodies, G: Gate>(
     bodies: &B,
     workers: u32,
     gate: &G,
+    pace: &mut Pace,
 ) -> Result<Ends, Memory>
     requires workers { (1 ≤ workers) × (workers ≤ 64) }
     requires sound { IsSound plan.now }
@@ -164,12 +177,27 @@ fn run_frames<R: Threads + Sync, B: Bodies, G: Gate>(
     ensures ends { IfOk result (λ e. e.ends ≡ ends_of (epoch_meaning plan.now frames.now (B.outcome bodies.now))) }
     ensures output { IfOk result (λ e. e.output ≡ sink_elements plan.now (epoch_meaning plan.now frames.now (B.outcome bodies.now))) }
 {
-    run_plan(
-        rt,
-        alloc,
-        plan,
-        &FrameBodies { bodies, frames },
-        workers,
-        gate,
-    )
+    if workers == 1 {
+        return run_plan(
+            rt,
+            alloc,
+            plan,
+            &FrameBodies { bodies, frames },
+            1,
+            gate,
+            *pace,
+        );
+    }
+    let steps = AtomicU64::new(0);
+    let bodies = CountedBodies {
+        bodies,
+        steps: &steps,
+    };
+    let bodies = FrameBodies {
+        bodies: &bodies,
+        frames,
+    };
+    let run = run_plan(rt, alloc, plan, &bodies, workers, gate, *pace)?;
+    *pace = Pace::of(steps.load(Ordering::Relaxed), frames.len());
+    Ok(run)
 }

@@ -18,10 +18,13 @@ mod beside;
 mod epoch;
 mod epochs;
 mod held;
+mod pace;
 mod plan;
 mod putting;
 mod result;
+mod size;
 mod standing;
 
 pub use epochs::{run_epochs, run_epochs_of};
 pub use result::{Budgets, RunResult};
+pub use size::EpochSize;

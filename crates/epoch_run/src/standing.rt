@@ -12,6 +12,7 @@ use crate::beside::run_and_advance;
 use crate::epoch::run_epoch;
 use crate::held::Held;
 use crate::result::Budgets;
+use crate::size::EpochSize;
 use control_run::ControlRun;
 use epoch_run_bodies::TaskBodies;
 use flow_core_epochs::laws::run_in_epochs;
@@ -59,8 +60,8 @@ impl<'c> Standing<'c> {
         })
     }
 
-    /// Runs an epoch, and has the control program create the activations of the next one, at most so many. It answers how
-    /// the control program has ended, once it has. After `Memory` the run is to be given up.
+    /// Runs an epoch, and has the control program create the new activations of the next one. It answers how the control
+    /// program has ended, once it has. After `Memory` the run is to be given up.
     pub(crate) fn go_on<R: Threads + Sync, G: Gate>(
         &mut self,
         rt: &R,
@@ -70,12 +71,12 @@ impl<'c> Standing<'c> {
         budgets: Budgets,
         workers: u32,
         gate: &G,
-        at_most: u32,
+        size: EpochSize,
     ) -> Result<Option<ControlEnd>, Memory>
         requires workers { (1 ≤ workers) × (workers ≤ 64) }
         requires budgets { AreBudgets budgets }
         requires stands { StandsAt code.now input.now budgets self.old }
-        requires some { 1 ≤ at_most }
+        requires some { 1 ≤ size.activations }
         ensures stands { IfOk result (λ _. StandsAt code.now input.now budgets self.new) }
         ensures grows { IfOk result (λ end. end ≡ None → length self.old.activations < length self.new.activations) }
         ensures all { IfOk result (λ end. IfSome end (λ _. self.new.activations ≡ created (parts_of code.now) input.now budgets)) }
@@ -98,7 +99,7 @@ impl<'c> Standing<'c> {
             &mut self.held,
             &mut self.control,
             &mut next,
-            at_most,
+            size,
         )?;
         add(alloc, &mut self.activations, &mut self.layout, next)?;
         Ok(self.control.end())
