@@ -2,14 +2,15 @@ ghost use Rattle.std.specs.Prelude.{◌≡◌, ◌≤◌, IfOk, OnOk, length, na
 ghost use denote.Param.Send.{IsSync};
 ghost use Rattle.control_run.specs.Stretches.{remaining};
 ghost use Rattle.os_code.specs.Codes.{parts_of};
+ghost use Rattle.epoch_run.specs.Bodies.{HaveOpen, all_of};
 ghost use Rattle.epoch_run.specs.Held.{IsHeldOf, IsOpenEpoch};
 ghost use Rattle.epoch_run.specs.Standing.{HasAdvanced, HasCreated};
 
 use crate::epoch::{has_new, run_epoch};
 use crate::held::Held;
+use crate::open_bodies::OpenBodies;
 use crate::size::EpochSize;
 use control_run::ControlRun;
-use epoch_run_bodies::TaskBodies;
 use flow_core_laws::Activation;
 use os_io::{List, Memory};
 use std::alloc::Global;
@@ -22,7 +23,7 @@ use task_workers::Gate;
 pub(crate) fn run_and_advance<R: Threads + Sync, G: Gate>(
     rt: &R,
     alloc: Global,
-    bodies: &TaskBodies,
+    bodies: &OpenBodies<'_>,
     layout: &Layout,
     input: &[u8],
     workers: u32,
@@ -33,9 +34,10 @@ pub(crate) fn run_and_advance<R: Threads + Sync, G: Gate>(
     size: EpochSize,
 ) -> Result<(), Memory>
     requires workers { (1 ≤ workers) × (workers ≤ 64) }
-    requires open { IsOpenEpoch bodies.now.code.now bodies.now.activations.now bodies.now.budget layout.now input.now held.old }
+    requires open { IsOpenEpoch bodies.now.code.now (all_of bodies.now) bodies.now.budgets.task layout.now input.now held.old }
+    requires there { HaveOpen bodies.now held.old.ends.ends }
     requires some { 1 ≤ size.activations }
-    ensures held { OnOk result (IsHeldOf (parts_of bodies.now.code.now) bodies.now.activations.now input.now bodies.now.budget held.new) }
+    ensures held { OnOk result (IsHeldOf (parts_of bodies.now.code.now) (all_of bodies.now) input.now bodies.now.budgets.task held.new) }
     ensures advanced { OnOk result (HasAdvanced size.activations control.old control.new next.old next.new) }
 {
     if workers > 1 && has_new(bodies, held) {
@@ -51,7 +53,7 @@ pub(crate) fn run_and_advance<R: Threads + Sync, G: Gate>(
 fn both<R: Threads + Sync, G: Gate>(
     rt: &R,
     alloc: Global,
-    bodies: &TaskBodies,
+    bodies: &OpenBodies<'_>,
     layout: &Layout,
     input: &[u8],
     workers: u32,
@@ -62,16 +64,17 @@ fn both<R: Threads + Sync, G: Gate>(
     size: EpochSize,
 ) -> Result<(), Memory>
     requires workers { (1 ≤ workers) × (workers ≤ 64) }
-    requires open { IsOpenEpoch bodies.now.code.now bodies.now.activations.now bodies.now.budget layout.now input.now held.old }
+    requires open { IsOpenEpoch bodies.now.code.now (all_of bodies.now) bodies.now.budgets.task layout.now input.now held.old }
+    requires there { HaveOpen bodies.now held.old.ends.ends }
     requires some { 1 ≤ size.activations }
-    ensures held { OnOk result (IsHeldOf (parts_of bodies.now.code.now) bodies.now.activations.now input.now bodies.now.budget held.new) }
+    ensures held { OnOk result (IsHeldOf (parts_of bodies.now.code.now) (all_of bodies.now) input.now bodies.now.budgets.task held.new) }
     ensures advanced { OnOk result (HasAdvanced size.activations control.old control.new next.old next.new) }
 {
     let mut run = || -> Result<(), Memory>
         requires { IsSync R.row × IsSync G.row × (1 ≤ workers) × (workers ≤ 64)
-            × IsOpenEpoch bodies.now.code.now bodies.now.activations.now bodies.now.budget layout.now input.now held.now }
-        ensures { OnOk result (IsHeldOf (parts_of bodies.entry.now.code.now) bodies.entry.now.activations.now input.entry.now
-            bodies.entry.now.budget held.exit.now) }
+            × IsOpenEpoch bodies.now.code.now (all_of bodies.now) bodies.now.budgets.task layout.now input.now held.now × HaveOpen bodies.now held.now.ends.ends }
+        ensures { OnOk result (IsHeldOf (parts_of bodies.entry.now.code.now) (all_of bodies.entry.now) input.entry.now
+            bodies.entry.now.budgets.task held.exit.now) }
     { run_epoch(rt, alloc, bodies, layout, input, workers, gate, held) };
     let mut create = || -> Result<(), Memory>
         requires { 1 ≤ size.activations }

@@ -8,15 +8,17 @@ ghost use Rattle.os_code.specs.Codes.{parts_of};
 ghost use Rattle.stream_match.specs.Kept.{kept_of, place_of};
 ghost use Rattle.stream_match_layouts.specs.Layout.{IsLayout};
 ghost use Rattle.stream_match_layouts.specs.Spans.{frame_count};
+ghost use Rattle.epoch_run.specs.Bodies.{HaveOpen, all_of};
 ghost use Rattle.epoch_run.specs.Held.{IsHeldOf, IsOpenEpoch};
 
 use crate::held::Held;
+use crate::open_bodies::OpenBodies;
 use crate::pace::Pace;
 use crate::plan::run_plan;
+use epoch_run_bodies::CountedBodies;
 use epoch_run_bodies::laws::{bodies_serve, later_activations_change_nothing};
-use epoch_run_bodies::{CountedBodies, TaskBodies};
 use epoch_run_ready::ready_frames;
-use flow_core_epochs::laws::{run_in_epochs, serving};
+use flow_core_epochs::laws::run_in_epochs;
 use flow_core_epochs::{FrameBodies, open_frames};
 use flow_core_laws::{Bodies, Ends, Plan};
 use os_io::{List, Memory};
@@ -33,7 +35,7 @@ use task_workers::Gate;
 pub(crate) fn run_epoch<R: Threads + Sync, G: Gate>(
     rt: &R,
     alloc: Global,
-    bodies: &TaskBodies,
+    bodies: &OpenBodies<'_>,
     layout: &Layout,
     input: &[u8],
     workers: u32,
@@ -41,8 +43,9 @@ pub(crate) fn run_epoch<R: Threads + Sync, G: Gate>(
     held: &mut Held,
 ) -> Result<(), Memory>
     requires workers { (1 ≤ workers) × (workers ≤ 64) }
-    requires open { IsOpenEpoch bodies.now.code.now bodies.now.activations.now bodies.now.budget layout.now input.now held.old }
-    ensures { OnOk result (IsHeldOf (parts_of bodies.now.code.now) bodies.now.activations.now input.now bodies.now.budget held.new) }
+    requires open { IsOpenEpoch bodies.now.code.now (all_of bodies.now) bodies.now.budgets.task layout.now input.now held.old }
+    requires there { HaveOpen bodies.now held.old.ends.ends }
+    ensures { OnOk result (IsHeldOf (parts_of bodies.now.code.now) (all_of bodies.now) input.now bodies.now.budgets.task held.new) }
 {
     if has_new(bodies, held) {
         run_open(rt, alloc, bodies, layout, input, workers, gate, held)
@@ -52,17 +55,17 @@ pub(crate) fn run_epoch<R: Threads + Sync, G: Gate>(
 }
 
 /// Whether some of the activations are new.
-pub(crate) fn has_new(bodies: &TaskBodies, held: &Held) -> bool
-    ensures { result ≡ nat_lt (length held.now.ends.ends) (length bodies.now.activations.now) }
+pub(crate) fn has_new(bodies: &OpenBodies<'_>, held: &Held) -> bool
+    ensures { result ≡ nat_lt (length held.now.ends.ends) bodies.now.count }
 {
-    held.ends.ends.len() < bodies.activations.len()
+    held.ends.ends.len() < bodies.count as usize
 }
 
 /// Runs those of the activations without an end that may run by now.
 fn run_open<R: Threads + Sync, G: Gate>(
     rt: &R,
     alloc: Global,
-    bodies: &TaskBodies,
+    bodies: &OpenBodies<'_>,
     layout: &Layout,
     input: &[u8],
     workers: u32,
@@ -70,8 +73,9 @@ fn run_open<R: Threads + Sync, G: Gate>(
     held: &mut Held,
 ) -> Result<(), Memory>
     requires workers { (1 ≤ workers) × (workers ≤ 64) }
-    requires open { IsOpenEpoch bodies.now.code.now bodies.now.activations.now bodies.now.budget layout.now input.now held.old }
-    ensures { OnOk result (IsHeldOf (parts_of bodies.now.code.now) bodies.now.activations.now input.now bodies.now.budget held.new) }
+    requires open { IsOpenEpoch bodies.now.code.now (all_of bodies.now) bodies.now.budgets.task layout.now input.now held.old }
+    requires there { HaveOpen bodies.now held.old.ends.ends }
+    ensures { OnOk result (IsHeldOf (parts_of bodies.now.code.now) (all_of bodies.now) input.now bodies.now.budgets.task held.new) }
 {
     let readers = open_activations(alloc, layout, held)?;
     let frames = ready_frames(alloc, layout, readers.as_slice())?;
@@ -102,7 +106,7 @@ fn open_activations(alloc: Global, layout: &Layout, held: &Held) -> Result<List<
 fn run_these<R: Threads + Sync, G: Gate>(
     rt: &R,
     alloc: Global,
-    bodies: &TaskBodies,
+    bodies: &OpenBodies<'_>,
     layout: &Layout,
     input: &[u8],
     workers: u32,
@@ -112,13 +116,13 @@ fn run_these<R: Threads + Sync, G: Gate>(
     held: &mut Held,
 ) -> Result<(), Memory>
     requires workers { (1 ≤ workers) × (workers ≤ 64) }
-    requires open { IsOpenEpoch bodies.now.code.now bodies.now.activations.now bodies.now.budget layout.now input.now held.old }
+    requires open { IsOpenEpoch bodies.now.code.now (all_of bodies.now) bodies.now.budgets.task layout.now input.now held.old }
+    requires there { HaveOpen bodies.now held.old.ends.ends }
     requires readers { readers.now ≡ open_in held.old.ends.ends (frame_count layout.now) }
-    requires frames { LeaveOutWaiting bodies.now.activations.now input.now held.old.ends.ends frames.now }
-    ensures { OnOk result (IsHeldOf (parts_of bodies.now.code.now) bodies.now.activations.now input.now bodies.now.budget held.new) }
+    requires frames { LeaveOutWaiting (all_of bodies.now) input.now held.old.ends.ends frames.now }
+    ensures { OnOk result (IsHeldOf (parts_of bodies.now.code.now) (all_of bodies.now) input.now bodies.now.budgets.task held.new) }
 {
     run_in_epochs();
-    serving(bodies);
     bodies_serve();
     later_activations_change_nothing();
     let epoch = plan_these(alloc, bodies, layout, input, readers, frames, held)?;
@@ -139,18 +143,18 @@ fn run_these<R: Threads + Sync, G: Gate>(
 /// The plan of an epoch with these frames.
 fn plan_these(
     alloc: Global,
-    bodies: &TaskBodies,
+    bodies: &OpenBodies<'_>,
     layout: &Layout,
     input: &[u8],
     readers: &[u32],
     frames: &[u32],
     held: &Held,
 ) -> Result<EpochPlan, Memory>
-    requires open { IsOpenEpoch bodies.now.code.now bodies.now.activations.now bodies.now.budget layout.now input.now held.now }
+    requires open { IsOpenEpoch bodies.now.code.now (all_of bodies.now) bodies.now.budgets.task layout.now input.now held.now }
     requires readers { readers.now ≡ open_in held.now.ends.ends (frame_count layout.now) }
-    requires frames { LeaveOutWaiting bodies.now.activations.now input.now held.now.ends.ends frames.now }
+    requires frames { LeaveOutWaiting (all_of bodies.now) input.now held.now.ends.ends frames.now }
     ensures sound { IfOk result (λ epoch. IsSound epoch.plan) }
-    ensures stands { IfOk result (λ epoch. StandsForEpoch epoch.plan bodies.now.activations.now input.now readers.now frames.now (map kept_of held.now.kept.items)
+    ensures stands { IfOk result (λ epoch. StandsForEpoch epoch.plan (all_of bodies.now) input.now readers.now frames.now (map kept_of held.now.kept.items)
         (map place_of epoch.places)) }
 {
     run_in_epochs();

@@ -1,4 +1,5 @@
 ghost use Rattle.std.specs.Prelude.{◌≡◌, ◌<◌, ◌≤◌, None, IfOk, IfSome, OnOk, length};
+ghost use Rattle.control_run.specs.Stretches.{given_by};
 ghost use Rattle.os_code.specs.Codes.{parts_of};
 ghost use Rattle.os_code.specs.Outcomes.{control};
 ghost use Rattle.stream_match_layouts.specs.Layout.{IsLayout, IsLayoutOf};
@@ -11,6 +12,8 @@ use crate::at_once::run_at_once;
 use crate::beside::run_and_advance;
 use crate::epoch::run_epoch;
 use crate::held::Held;
+use crate::open_bodies::OpenBodies;
+use crate::releasing::give_up_ended;
 use crate::result::Budgets;
 use crate::size::EpochSize;
 use control_run::ControlRun;
@@ -29,9 +32,11 @@ use task_workers::Gate;
 pub(crate) struct Standing<'c> {
     /// The control program, where it has come.
     control: ControlRun<'c>,
-    /// The activations that it has created.
+    /// The activations that it has created, from a number on: those before it have ended, and are run no more.
     activations: List<Activation>,
-    /// Their positions.
+    /// That number.
+    first: u32,
+    /// The positions of all that it has created.
     pub layout: Layout,
     /// What is held of those that were run.
     pub held: Held,
@@ -55,6 +60,7 @@ impl<'c> Standing<'c> {
         Ok(Standing {
             control,
             activations: List::new(alloc),
+            first: 0,
             layout,
             held: Held::nothing(alloc),
         })
@@ -78,15 +84,18 @@ impl<'c> Standing<'c> {
         requires stands { StandsAt code.now input.now budgets self.old }
         requires some { 1 ≤ size.activations }
         ensures stands { IfOk result (λ _. StandsAt code.now input.now budgets self.new) }
-        ensures grows { IfOk result (λ end. end ≡ None → length self.old.activations < length self.new.activations) }
-        ensures all { IfOk result (λ end. IfSome end (λ _. self.new.activations ≡ created (parts_of code.now) input.now budgets)) }
+        ensures grows { IfOk result (λ end. end ≡ None → length (given_by self.old.control) < length (given_by self.new.control)) }
+        ensures all { IfOk result (λ end. IfSome end (λ _. given_by self.new.control ≡ created (parts_of code.now) input.now budgets)) }
         ensures end { IfOk result (λ end. IfSome end (λ e. e ≡ (control (parts_of code.now) (length input.now) budgets.control).end)) }
     {
         let mut next = List::new(alloc);
-        let bodies = TaskBodies {
+        let bodies = OpenBodies {
             code,
+            input_len: input.len() as u32,
+            budgets,
+            count: self.layout.frames() as u32,
+            first: self.first,
             activations: self.activations.as_slice(),
-            budget: budgets.task,
         };
         run_and_advance(
             rt,
@@ -101,6 +110,12 @@ impl<'c> Standing<'c> {
             &mut next,
             size,
         )?;
+        give_up_ended(
+            alloc,
+            &mut self.activations,
+            &mut self.first,
+            self.held.ends.ends.as_slice(),
+        );
         add(alloc, &mut self.activations, &mut self.layout, next)?;
         Ok(self.control.end())
     }
@@ -119,10 +134,10 @@ impl<'c> Standing<'c> {
         requires workers { (1 ≤ workers) × (workers ≤ 64) }
         requires budgets { AreBudgets budgets }
         requires stands { StandsAt code.now input.now budgets self.old }
-        ensures layout { OnOk result (IsLayoutOf self.new.layout self.old.activations) }
+        ensures layout { OnOk result (IsLayoutOf self.new.layout (given_by self.old.control)) }
         ensures whole { OnOk result (IsLayout self.new.layout) }
         ensures input { OnOk result (self.new.layout.input_len ≡ length input.now) }
-        ensures ends { OnOk result (self.new.held.ends ≡ code_ends (parts_of code.now) self.old.activations input.now budgets.task) }
+        ensures ends { OnOk result (self.new.held.ends ≡ code_ends (parts_of code.now) (given_by self.old.control) input.now budgets.task) }
     {
         if self.held.ends.ends.len() == 0 {
             self.run_at_once(rt, alloc, code, input, budgets, workers, gate)
@@ -145,10 +160,10 @@ impl<'c> Standing<'c> {
         requires workers { (1 ≤ workers) × (workers ≤ 64) }
         requires budgets { AreBudgets budgets }
         requires stands { StandsAt code.now input.now budgets self.old }
-        ensures layout { OnOk result (IsLayoutOf self.new.layout self.old.activations) }
+        ensures layout { OnOk result (IsLayoutOf self.new.layout (given_by self.old.control)) }
         ensures whole { OnOk result (IsLayout self.new.layout) }
         ensures input { OnOk result (self.new.layout.input_len ≡ length input.now) }
-        ensures ends { OnOk result (self.new.held.ends ≡ code_ends (parts_of code.now) self.old.activations input.now budgets.task) }
+        ensures ends { OnOk result (self.new.held.ends ≡ code_ends (parts_of code.now) (given_by self.old.control) input.now budgets.task) }
     {
         let bodies = TaskBodies {
             code,
@@ -173,15 +188,18 @@ impl<'c> Standing<'c> {
         requires workers { (1 ≤ workers) × (workers ≤ 64) }
         requires budgets { AreBudgets budgets }
         requires stands { StandsAt code.now input.now budgets self.old }
-        ensures layout { OnOk result (IsLayoutOf self.new.layout self.old.activations) }
+        ensures layout { OnOk result (IsLayoutOf self.new.layout (given_by self.old.control)) }
         ensures whole { OnOk result (IsLayout self.new.layout) }
         ensures input { OnOk result (self.new.layout.input_len ≡ length input.now) }
-        ensures ends { OnOk result (self.new.held.ends ≡ code_ends (parts_of code.now) self.old.activations input.now budgets.task) }
+        ensures ends { OnOk result (self.new.held.ends ≡ code_ends (parts_of code.now) (given_by self.old.control) input.now budgets.task) }
     {
-        let bodies = TaskBodies {
+        let bodies = OpenBodies {
             code,
+            input_len: input.len() as u32,
+            budgets,
+            count: self.layout.frames() as u32,
+            first: self.first,
             activations: self.activations.as_slice(),
-            budget: budgets.task,
         };
         run_epoch(
             rt,
