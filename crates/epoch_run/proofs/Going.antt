@@ -1,13 +1,14 @@
 -- From one epoch to the next.
-use Rattle.std.proofs.Common.{◌≡◌, ℕ, ◌<◌, ◌≤◌, ◌⊎◌, inl, inr, List, [], ◌++◌, Option, Some, None, Bool, true, false, cond, All, length, map, take, refl, sym, ap, ◌∙◌, subst, arith, lit≤, lit<}
+use Rattle.std.proofs.Common.{◌≡◌, ℕ, ◌<◌, ◌≤◌, ◌⊎◌, inl, inr, List, [], ◌++◌, Option, Some, None, Bool, true, false, cond, All, drop, length, map, take, refl, sym, ap, ◌∙◌, subst, arith, lit≤, lit<}
 use Rattle.std.specs.Prelude.{IfSome, nat_lt}
 use Rattle.std.proofs.lemmas.Bool.{cases_lt, lt-ltb}
-use Rattle.std.proofs.lemmas.List.{length-append, length-take}
+use Rattle.std.proofs.lemmas.List.{drop-append-le, length-append, length-take, take_min}
 use Rattle.std.proofs.lemmas.List.Elements.{All-nil}
 use Rattle.control_run.specs.Stretches.{RunSoFar, end_told, given_by, not_begun, remaining, whole}
 use Rattle.epoch_run_bodies.specs.Frames.{code_ends, frame_outcome}
 use Rattle.flow_core_epochs.specs.Epoch.{IsHeld}
 use Rattle.flow_core_epochs.specs.Laws.{HeldAtFirst}
+use Rattle.flow_core_laws.specs.Outcome.{has_end_at}
 use Rattle.flow_core_laws.specs.declared.elem.Elem.{Elem}
 use Rattle.flow_core_laws.specs.declared.activation.Activation.{Activation}
 use Rattle.flow_core_laws.specs.declared.control.Control.{Control}
@@ -22,10 +23,13 @@ use Rattle.stream_match.specs.Kept.{kept_of}
 use Rattle.stream_match.specs.declared.kept.Kept.{Kept}
 use Rattle.stream_match_layouts.specs.Lawful.{AreLawful}
 use Rattle.stream_match_layouts.specs.Layout.{IsLayout, IsLayoutOf}
+use Rattle.stream_match_layouts.proofs.Tallies.{frame_count-is}
+use Rattle.stream_match_layouts.specs.Layout.{TakesMore}
+use Rattle.stream_match_layouts.specs.Spans.{frame_count}
 use Rattle.stream_match_layouts.specs.declared.layout.Layout.{Layout}
 use Rattle.epoch_run.specs.Held.{IsHeldOf, IsOpenEpoch}
 use Rattle.epoch_run.specs.Run.{AreBudgets, created}
-use Rattle.epoch_run.specs.Standing.{HasAdvanced, StandsAt}
+use Rattle.epoch_run.specs.Standing.{HasAdvanced, HasCreated, StandsAt}
 use Rattle.epoch_run.specs.declared.held.Held.{Held}
 use Rattle.epoch_run.specs.declared.result.Budgets.{Budgets}
 use Rattle.epoch_run.specs.declared.standing.Standing.{Standing}
@@ -39,21 +43,26 @@ module _ (code : Code) (input : List ℕ) (budgets : Budgets) where
   pub begins : HeldAtFirst → (layout : Layout) (held : Held) → 2 ≤ code.streams → IsLayoutOf layout [] → length layout.writers ≡ code.streams → layout.input_len ≡ length input
       → held.ends.ends ≡ [] → held.ends.output ≡ [] → held.kept.items ≡ [] → (run : RunSoFar) → run ≡ not_begun (parts_of code) (length input) budgets.control
       → (activations : List Activation) → activations ≡ []
-      → StandsAt code input budgets (record { control = run; activations = activations; layout = layout; held = held })
+      → StandsAt code input budgets (record { control = run; activations = activations; first = 0; layout = layout; held = held })
   begins first layout held two laid streams over ends output kept run is activations none = record {
     code_is = ap (λ (r : RunSoFar). r.code) is;
     input_is = ap (λ (r : RunSoFar). r.input_len) is;
     budget_is = ap (λ (r : RunSoFar). r.budget) is;
-    are_given = none ∙ sym (ap given_by is);
-    fit = subst (All (Fits (parts_of code))) (sym none) (All-nil (Fits (parts_of code)));
-    lawful = subst (AreLawful code.streams) (sym none) (none_lawful code.streams);
+    are_last = none ∙ sym no_given;
+    have_ended = λ a lt. absurd (omega arith);
+    within = omega arith;
+    fit = subst (All (Fits (parts_of code))) (sym no_given) (All-nil (Fits (parts_of code)));
+    lawful = subst (AreLawful code.streams) (sym no_given) (none_lawful code.streams);
     has_output = two;
     streams = streams;
     over = over;
-    laid = subst (IsLayoutOf layout) (sym none) laid;
-    held = record { before = []; new = []; are_all = none; meant = nothing };
+    laid = subst (IsLayoutOf layout) (sym no_given) laid;
+    held = record { before = []; new = []; are_all = no_given; meant = nothing };
   }
     where
+      no_given : given_by run ≡ []
+      no_given = ap given_by is
+
       nothing : IsHeldOf (parts_of code) [] input budgets.task held
       nothing =
           subst (λ (es : List (Option TaskEnd)). IsHeld [] input (frame_outcome (parts_of code) [] budgets.task) es (map kept_of held.kept.items) held.ends.output) (sym ends)
@@ -62,14 +71,32 @@ module _ (code : Code) (input : List ℕ) (budgets : Budgets) where
           (first input (frame_outcome (parts_of code) [] budgets.task))))
 
   module _ (run : Standing) (small : AreBudgets budgets) (stands : StandsAt code input budgets run) where
-    lawful : AreLawful (length run.layout.writers) run.activations
-    lawful = subst (λ n. AreLawful n run.activations) (sym stands.streams) stands.lawful
+    abbrev all : List Activation
+    all = given_by run.control
+
+    lawful : AreLawful (length run.layout.writers) all
+    lawful = subst (λ n. AreLawful n all) (sym stands.streams) stands.lawful
 
     pub whole_layout : IsLayout run.layout
-    whole_layout = record { has_output = omega (arith, stands.streams, stands.has_output); activations = run.activations; is_of = stands.laid; lawful = lawful }
+    whole_layout = record { has_output = omega (arith, stands.streams, stands.has_output); activations = all; is_of = stands.laid; lawful = lawful }
+
+    whole_now : whole run.control ≡ control (parts_of code) (length input) budgets.control
+    whole_now =
+        ap (λ p. control p run.control.input_len run.control.budget) stands.code_is
+        ∙ ap (λ n. control (parts_of code) n run.control.budget) stands.input_is
+        ∙ ap (control (parts_of code) (length input)) stands.budget_is
+
+    -- as many of those that are created as the layout has
+    pub first_created : (count input_len : ℕ) → count ≡ frame_count run.layout → input_len ≡ length input
+        → take count (control (parts_of code) input_len budgets.control).activations ≡ all
+    first_created count input_len as_many long =
+        ap (λ n. take count (control (parts_of code) n budgets.control).activations) long
+        ∙ ap (λ (c : Control). take count c.activations) (sym whole_now)
+        ∙ ap (λ n. take n (whole run.control).activations) (as_many ∙ frame_count-is run.layout all stands.laid ∙ length-take run.control.given (whole run.control).activations)
+        ∙ take_min run.control.given (whole run.control).activations
 
     -- the next epoch is open
-    pub opens : (slice : List Activation) → slice ≡ run.activations → IsOpenEpoch code slice budgets.task run.layout input run.held
+    pub opens : (slice : List Activation) → slice ≡ all → IsOpenEpoch code slice budgets.task run.layout input run.held
     opens slice is = subst (λ (xs : List Activation). IsOpenEpoch code xs budgets.task run.layout input run.held) (sym is) (record {
       small = small.task_turns;
       fit = stands.fit;
@@ -81,88 +108,101 @@ module _ (code : Code) (input : List ℕ) (budgets : Budgets) where
     })
 
     -- what is held when all were run is what they come to
-    pub comes_to : (held : Held) (slice : List Activation) → slice ≡ run.activations → IsHeldOf (parts_of code) slice input budgets.task held
-        → held.ends ≡ code_ends (parts_of code) run.activations input budgets.task
+    pub comes_to : (held : Held) (slice : List Activation) → slice ≡ all → IsHeldOf (parts_of code) slice input budgets.task held
+        → held.ends ≡ code_ends (parts_of code) all input budgets.task
     comes_to held slice is meant =
         let m = subst (λ (xs : List Activation). IsHeldOf (parts_of code) xs input budgets.task held) is meant in
         ap (λ es. record { ends = es; output = held.ends.output }) m.ends_are_meant
-        ∙ ap (λ os. record { ends = (code_ends (parts_of code) run.activations input budgets.task).ends; output = os }) m.output_is_meant
+        ∙ ap (λ os. record { ends = (code_ends (parts_of code) all input budgets.task).ends; output = os }) m.output_is_meant
+
+    -- where nothing has ended, the list has all
+    pub are_all : run.held.ends.ends ≡ [] → run.activations ≡ all
+    are_all nothing = stands.are_last ∙ ap (λ n. drop n all) none
+      where
+        none : run.first ≡ 0
+        none = by (cases_lt 0 run.first)
+          where
+            by : (0 < run.first) ⊎ (run.first ≤ 0) → run.first ≡ 0
+            by (inl some) =
+                let no : false ≡ true = sym (ap (λ (es : List (Option TaskEnd)). has_end_at es 0) nothing) ∙ stands.have_ended 0 some in
+                absurd (cc)
+            by (inr few) = omega arith
 
     module _ (at_most : ℕ) (after : RunSoFar) (empty next : List Activation) (is_empty : empty ≡ []) (advance : HasAdvanced at_most run.control after empty next) where
-      next_is : next ≡ take at_most (remaining run.control)
-      next_is = advance.is_list ∙ ap (λ xs. xs ++ take at_most (remaining run.control)) is_empty
+      abbrev count : ℕ
+      count = advance.count
 
-      given : run.activations ++ next ≡ given_by after
-      given =
-          ap (λ xs. xs ++ next) stands.are_given ∙ ap (λ xs. given_by run.control ++ xs) next_is ∙ sym advance.joined
+      made : HasCreated count run.control after empty next
+      made = advance.created
+
+      next_is : next ≡ take count (remaining run.control)
+      next_is = made.is_list ∙ ap (λ xs. xs ++ take count (remaining run.control)) is_empty
+
+      given : all ++ next ≡ given_by after
+      given = ap (λ xs. all ++ xs) next_is ∙ sym made.joined
 
       after_code : after.code ≡ parts_of code
-      after_code = ap (λ (r : RunSoFar). r.code) advance.is_run ∙ stands.code_is
+      after_code = ap (λ (r : RunSoFar). r.code) made.is_run ∙ stands.code_is
 
-      all_lawful : AreLawful code.streams (run.activations ++ next)
-      all_lawful = subst (AreLawful code.streams) (sym given) (subst (λ (p : Parts). AreLawful p.streams (given_by after)) after_code advance.lawful)
+      all_lawful : AreLawful code.streams (all ++ next)
+      all_lawful = subst (AreLawful code.streams) (sym given) (subst (λ (p : Parts). AreLawful p.streams (given_by after)) after_code made.lawful)
 
-      pub lawful_next : AreLawful (length run.layout.writers) (run.activations ++ next)
-      lawful_next = subst (λ n. AreLawful n (run.activations ++ next)) (sym stands.streams) all_lawful
+      pub takes_more : TakesMore run.layout next
+      takes_more = record { before = all; is_of = stands.laid; lawful = subst (λ n. AreLawful n (all ++ next)) (sym stands.streams) all_lawful }
 
-      pub whole_is : whole after ≡ control (parts_of code) (length input) budgets.control
-      whole_is =
-          ap whole advance.is_run
-          ∙ ap (λ p. control p run.control.input_len run.control.budget) stands.code_is
-          ∙ ap (λ n. control (parts_of code) n run.control.budget) stands.input_is
-          ∙ ap (control (parts_of code) (length input)) stands.budget_is
+      whole_is : whole after ≡ control (parts_of code) (length input) budgets.control
+      whole_is = ap whole made.is_run ∙ whole_now
 
-      module _ (slice activations : List Activation) (is_slice : slice ≡ run.activations) (are : activations ≡ run.activations ++ next) where
-        pub stands_next : (layout : Layout) (held : Held) → IsLayoutOf layout (run.activations ++ next) → length layout.writers ≡ length run.layout.writers
-            → layout.input_len ≡ run.layout.input_len → IsHeldOf (parts_of code) slice input budgets.task held
-            → StandsAt code input budgets (record { control = after; activations = activations; layout = layout; held = held })
-        stands_next layout held laid streams over is_held = record {
-          code_is = after_code;
-          input_is = ap (λ (r : RunSoFar). r.input_len) advance.is_run ∙ stands.input_is;
-          budget_is = ap (λ (r : RunSoFar). r.budget) advance.is_run ∙ stands.budget_is;
-          are_given = are ∙ given;
-          fit = subst (All (Fits (parts_of code))) (sym (are ∙ given)) (subst (λ (p : Parts). All (Fits p) (given_by after)) after_code advance.fit);
-          lawful = subst (AreLawful code.streams) (sym are) all_lawful;
-          has_output = stands.has_output;
-          streams = streams ∙ stands.streams;
-          over = over ∙ stands.over;
-          laid = subst (IsLayoutOf layout) (sym are) laid;
-          held = record {
-            before = run.activations;
-            new = next;
-            are_all = are;
-            meant = subst (λ (xs : List Activation). IsHeldOf (parts_of code) xs input budgets.task held) is_slice is_held;
-          };
-        }
+      -- the run after the epoch
+      pub stands_next : (activations : List Activation) (first : ℕ) (layout : Layout) (held : Held) → activations ≡ drop first all ++ next
+          → ((a : ℕ) → a < first → has_end_at held.ends.ends a ≡ true) → first ≤ length all → IsLayoutOf layout (all ++ next)
+          → length layout.writers ≡ length run.layout.writers → layout.input_len ≡ run.layout.input_len → IsHeldOf (parts_of code) all input budgets.task held
+          → StandsAt code input budgets (record { control = after; activations = activations; first = first; layout = layout; held = held })
+      stands_next activations first layout held are ended within laid streams over is_held = record {
+        code_is = after_code;
+        input_is = ap (λ (r : RunSoFar). r.input_len) made.is_run ∙ stands.input_is;
+        budget_is = ap (λ (r : RunSoFar). r.budget) made.is_run ∙ stands.budget_is;
+        are_last = are ∙ sym (drop-append-le first all next within) ∙ ap (drop first) given;
+        have_ended = ended;
+        within = let l = ap length given ∙ refl in let m = length-append all next in omega (arith, l, m, within);
+        fit = subst (λ (p : Parts). All (Fits p) (given_by after)) after_code made.fit;
+        lawful = subst (AreLawful code.streams) given all_lawful;
+        has_output = stands.has_output;
+        streams = streams ∙ stands.streams;
+        over = over ∙ stands.over;
+        laid = subst (IsLayoutOf layout) given laid;
+        held = record { before = all; new = next; are_all = sym given; meant = is_held };
+      }
 
-        has_ended : after.has_ended ≡ nat_lt (length (remaining run.control)) at_most
-        has_ended = ap (λ (r : RunSoFar). r.has_ended) advance.is_run
+      has_ended : after.has_ended ≡ nat_lt (length (remaining run.control)) count
+      has_ended = ap (λ (r : RunSoFar). r.has_ended) made.is_run
 
-        -- where the run hasn't ended, there are more activations
-        pub grows : 1 ≤ at_most → (end : Option ControlEnd) → end ≡ end_told after → end ≡ None → length run.activations < length activations
-        grows some end told none = by (cases_lt (length (remaining run.control)) at_most)
-          where
-            by : (length (remaining run.control) < at_most) ⊎ (at_most ≤ length (remaining run.control)) → length run.activations < length activations
-            by (inl lt) =
-                let e : Some (whole after).end ≡ None = sym (ap (λ b. cond b (Some (whole after).end) None) (has_ended ∙ lt-ltb (length (remaining run.control)) at_most lt)) ∙ sym told ∙ none in
-                absurd (cc)
-            by (inr ge) =
-                let l = ap length are ∙ length-append run.activations next in
-                let n = ap length next_is ∙ length-take at_most (remaining run.control) in
-                omega (arith, l, n)
+      -- where the run hasn't ended, there are more activations
+      pub grows : (end : Option ControlEnd) → end ≡ end_told after → end ≡ None → length all < length (given_by after)
+      grows end told none = by (cases_lt (length (remaining run.control)) count)
+        where
+          by : (length (remaining run.control) < count) ⊎ (count ≤ length (remaining run.control)) → length all < length (given_by after)
+          by (inl lt) =
+              let e : Some (whole after).end ≡ None = sym (ap (λ b. cond b (Some (whole after).end) None) (has_ended ∙ lt-ltb (length (remaining run.control)) count lt)) ∙ sym told ∙ none in
+              absurd (cc)
+          by (inr ge) =
+              let l = sym (ap length given) ∙ length-append all next in
+              let n = ap length next_is ∙ length-take count (remaining run.control) in
+              let s = advance.some in
+              omega (arith, l, n, s)
 
-        -- where it has, these are all
-        ended_so : (e : ControlEnd) → Some e ≡ end_told after → (nat_lt (length (remaining run.control)) at_most ≡ true) × (e ≡ (whole after).end)
-        ended_so e told = by (after.has_ended) refl
-          where
-            by : (b : Bool) → after.has_ended ≡ b → (nat_lt (length (remaining run.control)) at_most ≡ true) × (e ≡ (whole after).end)
-            by true is = (sym has_ended ∙ is, let s : Some e ≡ Some (whole after).end = told ∙ ap (λ b. cond b (Some (whole after).end) None) is in cc)
-            by false is = let z : Some e ≡ None = told ∙ ap (λ b. cond b (Some (whole after).end) None) is in absurd (cc)
+      -- where it has, these are all
+      ended_so : (e : ControlEnd) → Some e ≡ end_told after → (nat_lt (length (remaining run.control)) count ≡ true) × (e ≡ (whole after).end)
+      ended_so e told = by (after.has_ended) refl
+        where
+          by : (b : Bool) → after.has_ended ≡ b → (nat_lt (length (remaining run.control)) count ≡ true) × (e ≡ (whole after).end)
+          by true is = (sym has_ended ∙ is, let s : Some e ≡ Some (whole after).end = told ∙ ap (λ b. cond b (Some (whole after).end) None) is in cc)
+          by false is = let z : Some e ≡ None = told ∙ ap (λ b. cond b (Some (whole after).end) None) is in absurd (cc)
 
-        pub all_created : (end : Option ControlEnd) → end ≡ end_told after → IfSome end (λ e. activations ≡ created (parts_of code) input budgets)
-        all_created None told = tt
-        all_created (Some e) told = are ∙ given ∙ advance.all (ended_so e told).0 ∙ ap (λ (c : Control). c.activations) whole_is
+      pub all_created : (end : Option ControlEnd) → end ≡ end_told after → IfSome end (λ e. given_by after ≡ created (parts_of code) input budgets)
+      all_created None told = tt
+      all_created (Some e) told = made.all (ended_so e told).0 ∙ ap (λ (c : Control). c.activations) whole_is
 
-        pub end_is : (end : Option ControlEnd) → end ≡ end_told after → IfSome end (λ e. e ≡ (control (parts_of code) (length input) budgets.control).end)
-        end_is None told = tt
-        end_is (Some e) told = (ended_so e told).1 ∙ ap (λ (c : Control). c.end) whole_is
+      pub end_is : (end : Option ControlEnd) → end ≡ end_told after → IfSome end (λ e. e ≡ (control (parts_of code) (length input) budgets.control).end)
+      end_is None told = tt
+      end_is (Some e) told = (ended_so e told).1 ∙ ap (λ (c : Control). c.end) whole_is

@@ -4,3 +4,4 @@ pub mod Going
 pub mod Moving
 pub mod Over
 pub mod Step
+pub mod Stretches

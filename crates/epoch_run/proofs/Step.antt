@@ -1,9 +1,9 @@
 -- An epoch, from what is held before it to what is held after it.
-use Rattle.std.proofs.Common.{◌≡◌, ℕ, ℤ, ◌+◌, ◌<◌, ◌≤◌, ◌⊎◌, inl, inr, false, List, [], ◌∷◌, ◌++◌, Option, All, get_or, length, map, refl, sym, ap, ◌∙◌, subst, arith}
-use Rattle.std.specs.Prelude.{filter, nat_lt, slice_index, sum_by}
+use Rattle.std.proofs.Common.{◌≡◌, ℕ, ℤ, ◌+◌, ◌<◌, ◌≤◌, ◌⊎◌, inl, inr, false, List, [], ◌∷◌, ◌++◌, Option, Some, None, All, get_or, length, map, refl, sym, ap, ◌∙◌, subst, arith}
+use Rattle.std.specs.Prelude.{filter, is_some, nat_lt, slice_index, sum_by, true}
 use Rattle.std.specs.Option.{option_map}
 use Rattle.std.proofs.lemmas.Grind.{flat_map-append}
-use Rattle.std.proofs.lemmas.Bool.{cases_lt, lt-ltb}
+use Rattle.std.proofs.lemmas.Bool.{cases_lt, ltb-false}
 use Rattle.std.proofs.lemmas.List.{append-nil, length-append, length-map}
 use Rattle.std.proofs.lemmas.List.Elements.{filter-append}
 use Rattle.std.proofs.lemmas.List.FromFn.{length-map-range_with_len}
@@ -13,12 +13,15 @@ use Rattle.epoch_run_bodies.specs.Frames.{TakesFrame, frame_outcome}
 use Rattle.epoch_run_bodies.specs.Laws.{LaterActivationsChangeNothing}
 use Rattle.flow_core_epochs.specs.Epoch as epoch
 use Rattle.flow_core_epochs.specs.Epoch.{IsCarried, IsEpoch, IsHeld, IsOutside, LeaveOutWaiting, ReadNoOutput, ServesAll, StandsForEpoch, carried_over, epoch_meaning, open_in, output_over, put_over}
-use Rattle.flow_core_epochs.specs.Laws.{BeginsEpoch, EndsEpoch, ServesFrames}
+use Rattle.flow_core_epochs.proofs.Choosing.{end_in}
+use Rattle.flow_core_epochs.proofs.Prefixes.{prefix_extends}
+use Rattle.flow_core_epochs.proofs.Serving.{serves_frames}
+use Rattle.flow_core_epochs.specs.Laws.{BeginsEpoch, EndsEpoch}
 use Rattle.flow_core_laws.specs.declared.elem.Elem.{Elem}
 use Rattle.flow_core_laws.proofs.Rounds.{length-meaning}
 use Rattle.flow_core_laws.specs.Poisoning.{poisoning}
 use Rattle.flow_core_laws.specs.FirstPosition.{is_write_to, write_cursor}
-use Rattle.flow_core_laws.specs.Outcome.{State, ends_of}
+use Rattle.flow_core_laws.specs.Outcome.{State, ends_of, has_end_at, outcome_at}
 use Rattle.flow_core_laws.specs.Place as streams
 use Rattle.flow_core_laws.specs.Place.{written_count}
 use Rattle.flow_core_laws.specs.Plans.{plan_element, plan_reads, sink_elements}
@@ -43,8 +46,10 @@ use Rattle.stream_match_layouts.specs.Layout.{IsLayout, IsLayoutOf}
 use Rattle.stream_match_layouts.specs.Spans.{frame_count}
 use Rattle.stream_match_layouts.specs.declared.layout.Layout.{Layout}
 use Rattle.epoch_run.proofs.Frames.{all_exist, are_frames, kept_exist, places_exist}
+use Rattle.epoch_run.specs.Bodies.{HaveOpen, IsAmong}
 use Rattle.epoch_run.specs.Held.{IsHeldBefore, IsHeldOf}
 use Rattle.epoch_run.specs.declared.held.Held.{Held}
+use Rattle.epoch_run.specs.declared.open_bodies.OpenBodies.{OpenBodies}
 
 -- what is held depends on what activations mean alone
 pub same_held : (activations : List Activation) (input : List ℕ) (body other : ℕ → List ℤ → Outcome) (ends : List (Option TaskEnd)) (kept : List epoch.Kept) (output : List (Option Elem))
@@ -78,24 +83,54 @@ written_more before new =
     omega arith
 
 -- where no activation is new, it is that of all
-pub stays : (code : Parts) (activations : List Activation) (input : List ℕ) (budget : ℕ) (held : Held) → IsHeldBefore code activations input budget held
-    → nat_lt (length held.ends.ends) (length activations) ≡ false → IsHeldOf code activations input budget held
-stays code activations input budget held is no_more = subst (λ (xs : List Activation). IsHeldOf code xs input budget held) (sym (is.are_all ∙ ap (λ ns. is.before ++ ns) (none is.new few) ∙ append-nil is.before)) is.meant
+pub stays : (code : Parts) (activations : List Activation) (input : List ℕ) (budget : ℕ) (held : Held) (count : ℕ) → length activations ≤ count
+    → IsHeldBefore code activations input budget held → nat_lt (length held.ends.ends) count ≡ false → IsHeldOf code activations input budget held
+stays code activations input budget held count all is no_more = subst (λ (xs : List Activation). IsHeldOf code xs input budget held) (sym (is.are_all ∙ ap (λ ns. is.before ++ ns) (none is.new few) ∙ append-nil is.before)) is.meant
   where
     none : (xs : List Activation) → length xs ≤ 0 → xs ≡ []
     none [] h = refl
     none (x ∷ xs) h = absurd (omega arith)
 
-    not_less : (length held.ends.ends < length activations) ⊎ (length activations ≤ length held.ends.ends) → length activations ≤ length held.ends.ends
-    not_less (inl lt) = let t = lt-ltb (length held.ends.ends) (length activations) lt in absurd (cc)
-    not_less (inr ge) = ge
-
     few : length is.new ≤ 0
     few =
         let e = ap length is.meant.ends_are_meant ∙ length-ends is.before input (frame_outcome code is.before budget) in
         let l = ap length is.are_all ∙ length-append is.before is.new in
-        let ge = not_less (cases_lt (length held.ends.ends) (length activations)) in
-        omega arith
+        let ge = ltb-false (length held.ends.ends) count no_more in
+        omega (arith, e, l, ge, all)
+
+-- what has ended stays so
+pub stays_ended : (code : Parts) (activations : List Activation) (input : List ℕ) (budget : ℕ) (held after : Held) → LaterActivationsChangeNothing
+    → IsHeldBefore code activations input budget held → IsHeldOf code activations input budget after → (a : ℕ) → has_end_at held.ends.ends a ≡ true
+    → has_end_at after.ends.ends a ≡ true
+stays_ended code activations input budget held after later is meant a ended = some_after (outcome_at earlier a) refl
+  where
+    all : List Activation
+    all = is.before ++ is.new
+
+    earlier : State
+    earlier = stream_meaning is.before input (frame_outcome code all budget)
+
+    whole : State
+    whole = stream_meaning all input (frame_outcome code all budget)
+
+    held_ends : held.ends.ends ≡ ends_of earlier
+    held_ends = is.meant.ends_are_meant ∙ ap ends_of (later code is.before is.new input budget)
+
+    after_ends : after.ends.ends ≡ ends_of whole
+    after_ends = meant.ends_are_meant ∙ ap (λ (xs : List Activation). ends_of (stream_meaning xs input (frame_outcome code xs budget))) is.are_all
+
+    some_after : (o : Option Outcome) → outcome_at earlier a ≡ o → has_end_at after.ends.ends a ≡ true
+    some_after (Some o) at =
+        ap (λ (es : List (Option TaskEnd)). has_end_at es a) after_ends
+        ∙ ap is_some (end_in whole a)
+        ∙ ap (λ (p : Option Outcome). is_some (option_map (λ (q : Outcome). q.end) p)) ((prefix_extends is.before is.new input (frame_outcome code all budget)).kept a o at)
+    some_after None at =
+        let no : false ≡ true =
+        sym (ap (λ (p : Option Outcome). is_some (option_map (λ (q : Outcome). q.end) p)) at)
+        ∙ sym (ap is_some (end_in earlier a))
+        ∙ sym (ap (λ (es : List (Option TaskEnd)). has_end_at es a) held_ends)
+        ∙ ended in
+        absurd (cc)
 
 module _ (layout : Layout) (whole : IsLayout layout) (code : Parts) (activations : List Activation) (input : List ℕ) (budget : ℕ) (held : Held)
     (is : IsHeldBefore code activations input budget held) (laid : IsLayoutOf layout activations) (lawful : AreLawful (length layout.writers) activations)
@@ -172,10 +207,30 @@ module _ (layout : Layout) (whole : IsLayout layout) (code : Parts) (activations
       pub places_there : All (λ (p : Place). p.stream < length layout.writers) places
       places_there = places_exist layout whole all laid_out readers frames places exist all_stands.places_leave
 
-      pub served : ServesFrames (frame_outcome code activations budget) (TakesFrame code activations budget) → ServesAll activations (frame_outcome code activations budget) (TakesFrame code activations budget)
-          → Serves plan (λ f. frame_outcome code activations budget (slice_index frames f)) (λ f inputs outputs. (f < length frames) × TakesFrame code activations budget (slice_index frames f) inputs outputs)
-      served serves all_served =
-          serves plan activations input readers frames kept (map place_of places) stands (subst (λ (xs : List Activation). All (λ f. f < length xs) frames) (sym is.are_all) exist) all_served
+      -- so the bodies of activations serve it, which have those among them that have no end
+      pub served : (bodies : OpenBodies) → HaveOpen bodies held.ends.ends → ServesAll activations (frame_outcome code activations budget) (TakesFrame code activations budget)
+          → Serves plan (λ f. frame_outcome code activations budget (slice_index frames f)) (λ f inputs outputs. (f < length frames) × (TakesFrame code activations budget (slice_index frames f) inputs outputs × IsAmong bodies (slice_index frames f)))
+      served bodies have all_served = record {
+        takes_each = λ f lt. let t = of_all.takes_each f lt in (t.0, (t.1, (have.are_last, among f t.0)));
+        fills_outputs = of_all.fills_outputs;
+        traps_have_codes = of_all.traps_have_codes;
+        are_never_poisoned = of_all.are_never_poisoned;
+      }
+        where
+          of_all : Serves plan (λ f. frame_outcome code activations budget (slice_index frames f)) (λ f inputs outputs. (f < length frames) × TakesFrame code activations budget (slice_index frames f) inputs outputs)
+          of_all =
+              serves_frames plan activations input readers frames kept (map place_of places) (frame_outcome code activations budget) (TakesFrame code activations budget) stands (subst (λ (xs : List Activation). All (λ f. f < length xs) frames) (sym is.are_all) exist) all_served
+
+          among : (f : ℕ) → f < length frames → bodies.first ≤ slice_index frames f
+          among f lt = by (cases_lt (slice_index frames f) bodies.first)
+            where
+              by : (slice_index frames f < bodies.first) ⊎ (bodies.first ≤ slice_index frames f) → bodies.first ≤ slice_index frames f
+              by (inl before) =
+                  let none = (leave.are_open f (get_or frames f 0) (slice_get-get_or frames f 0 lt)).1 in
+                  let some : is_some (outcome_at held.ends.ends (get_or frames f 0)) ≡ true = have.have_ended (get_or frames f 0) before in
+                  let no : false ≡ true = sym (ap is_some none) ∙ some in
+                  absurd (cc)
+              by (inr behind) = behind
 
       module _ (ends_epoch : EndsEpoch) (run : Ends) (ends_are : run.ends ≡ ends_of (epoch_meaning plan frames (frame_outcome code activations budget)))
           (output_is : run.output ≡ sink_elements plan (epoch_meaning plan frames (frame_outcome code activations budget))) where

@@ -1,6 +1,8 @@
 -- What a reader believes: what the activations of a code come to on the machine.
 pub mod Run
--- What restates private functions: what is held between two epochs, where a run stands there, and moving activations.
+-- What restates private functions: the bodies of activations that may have no end, what is held between two epochs, where a run
+-- stands there, and moving activations.
+pub mod Bodies
 pub mod Held
 pub mod Standing
 pub mod Adding

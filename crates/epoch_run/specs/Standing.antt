@@ -1,6 +1,7 @@
 -- Where a run stands between two epochs.
-use Rattle.std.specs.Prelude.{◌≡◌, ℕ, ◌≤◌, true, nat_lt, All, List, ◌++◌, length, take}
+use Rattle.std.specs.Prelude.{◌≡◌, ℕ, ◌<◌, ◌≤◌, true, nat_lt, All, List, ◌++◌, drop, length, take}
 use Rattle.control_run.specs.Stretches.{RunSoFar, advanced, given_by, remaining, whole}
+use Rattle.flow_core_laws.specs.Outcome.{has_end_at}
 use Rattle.flow_core_laws.specs.declared.activation.Activation.{Activation}
 use Rattle.os_code.specs.Codes.{parts_of}
 use Rattle.os_code.specs.Tasks.{Fits}
@@ -11,26 +12,36 @@ use Rattle.epoch_run.specs.Held.{IsHeldBefore}
 use Rattle.epoch_run.specs.declared.result.Budgets.{Budgets}
 use Rattle.epoch_run.specs.declared.standing.Standing.{Standing}
 
--- the control program has created the next activations, at most so many, and they stand behind those of a list
-pub record HasAdvanced (at_most : ℕ) (before after : RunSoFar) (list added_to : List Activation) : Type 0 where
-  pub is_list : added_to ≡ list ++ take at_most (remaining before)
-  pub is_run : after ≡ advanced before at_most
-  pub joined : given_by after ≡ given_by before ++ take at_most (remaining before)
-  pub all : nat_lt (length (remaining before)) at_most ≡ true → given_by after ≡ (whole after).activations
+-- the control program has created so many of the next activations, or all where fewer remained, and they stand behind those
+-- of a list
+pub record HasCreated (count : ℕ) (before after : RunSoFar) (list added_to : List Activation) : Type 0 where
+  pub is_list : added_to ≡ list ++ take count (remaining before)
+  pub is_run : after ≡ advanced before count
+  pub joined : given_by after ≡ given_by before ++ take count (remaining before)
+  pub all : nat_lt (length (remaining before)) count ≡ true → given_by after ≡ (whole after).activations
   pub fit : All (Fits after.code) (given_by after)
   pub lawful : AreLawful after.code.streams (given_by after)
 
+-- it has created some of them, at most so many, or all where fewer remained
+pub record HasAdvanced (at_most : ℕ) (before after : RunSoFar) (list added_to : List Activation) : Type 0 where
+  pub count : ℕ
+  pub some : 1 ≤ count
+  pub few : count ≤ at_most
+  pub created : HasCreated count before after list added_to
+
 -- The activations so far are those that the control program of a code has created, and they are laid out; what is held is
--- that of those before the epoch that comes.
+-- that of those before the epoch that comes. The list has all from a number on, and those before it have ended.
 pub record StandsAt (code : Code) (input : List ℕ) (budgets : Budgets) (run : Standing) : Type 0 where
   pub code_is : run.control.code ≡ parts_of code
   pub input_is : run.control.input_len ≡ length input
   pub budget_is : run.control.budget ≡ budgets.control
-  pub are_given : run.activations ≡ given_by run.control
-  pub fit : All (Fits (parts_of code)) run.activations
-  pub lawful : AreLawful code.streams run.activations
+  pub are_last : run.activations ≡ drop run.first (given_by run.control)
+  pub have_ended : (a : ℕ) → a < run.first → has_end_at run.held.ends.ends a ≡ true
+  pub within : run.first ≤ length (given_by run.control)
+  pub fit : All (Fits (parts_of code)) (given_by run.control)
+  pub lawful : AreLawful code.streams (given_by run.control)
   pub has_output : 2 ≤ code.streams
   pub streams : length run.layout.writers ≡ code.streams
   pub over : run.layout.input_len ≡ length input
-  pub laid : IsLayoutOf run.layout run.activations
-  pub held : IsHeldBefore (parts_of code) run.activations input budgets.task run.held
+  pub laid : IsLayoutOf run.layout (given_by run.control)
+  pub held : IsHeldBefore (parts_of code) (given_by run.control) input budgets.task run.held

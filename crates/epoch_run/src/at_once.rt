@@ -4,6 +4,7 @@ ghost use Rattle.os_code.specs.Codes.{parts_of};
 ghost use Rattle.os_code.specs.Tasks.{Fits};
 ghost use Rattle.stream_match_layouts.specs.Layout.{IsLayout, IsLayoutOf};
 
+use crate::pace::Pace;
 use crate::plan::run_plan;
 use epoch_run_bodies::TaskBodies;
 use epoch_run_bodies::laws::bodies_serve;
@@ -36,5 +37,5 @@ pub(crate) fn run_at_once<R: Threads + Sync, G: Gate>(
     bodies_serve();
     laws::plan_meaning();
     let plan = build(alloc, layout, input)?;
-    run_plan(rt, alloc, &plan, bodies, workers, gate)
+    run_plan(rt, alloc, &plan, bodies, workers, gate, Pace::Unknown)
 }

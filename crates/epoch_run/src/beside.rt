@@ -1,13 +1,16 @@
-ghost use Rattle.std.specs.Prelude.{◌≤◌, OnOk};
+ghost use Rattle.std.specs.Prelude.{◌≡◌, ◌≤◌, IfOk, OnOk, length, nat_lt};
 ghost use denote.Param.Send.{IsSync};
+ghost use Rattle.control_run.specs.Stretches.{remaining};
 ghost use Rattle.os_code.specs.Codes.{parts_of};
+ghost use Rattle.epoch_run.specs.Bodies.{HaveOpen, all_of};
 ghost use Rattle.epoch_run.specs.Held.{IsHeldOf, IsOpenEpoch};
-ghost use Rattle.epoch_run.specs.Standing.{HasAdvanced};
+ghost use Rattle.epoch_run.specs.Standing.{HasAdvanced, HasCreated};
 
 use crate::epoch::{has_new, run_epoch};
 use crate::held::Held;
+use crate::open_bodies::OpenBodies;
+use crate::size::EpochSize;
 use control_run::ControlRun;
-use epoch_run_bodies::TaskBodies;
 use flow_core_laws::Activation;
 use os_io::{List, Memory};
 use std::alloc::Global;
@@ -15,12 +18,12 @@ use std::thread::{Threads, join_mut};
 use stream_match::Layout;
 use task_workers::Gate;
 
-/// Runs an epoch, and has the control program create the next activations, at most so many: they are put behind those
+/// Runs an epoch, and has the control program create the new activations of the next one: they are put behind those
 /// of a list. After `Memory` all that was lent may be anything, and the caller gives the run up.
 pub(crate) fn run_and_advance<R: Threads + Sync, G: Gate>(
     rt: &R,
     alloc: Global,
-    bodies: &TaskBodies,
+    bodies: &OpenBodies<'_>,
     layout: &Layout,
     input: &[u8],
     workers: u32,
@@ -28,28 +31,29 @@ pub(crate) fn run_and_advance<R: Threads + Sync, G: Gate>(
     held: &mut Held,
     control: &mut ControlRun<'_>,
     next: &mut List<Activation>,
-    at_most: u32,
+    size: EpochSize,
 ) -> Result<(), Memory>
     requires workers { (1 ≤ workers) × (workers ≤ 64) }
-    requires open { IsOpenEpoch bodies.now.code.now bodies.now.activations.now bodies.now.budget layout.now input.now held.old }
-    requires some { 1 ≤ at_most }
-    ensures held { OnOk result (IsHeldOf (parts_of bodies.now.code.now) bodies.now.activations.now input.now bodies.now.budget held.new) }
-    ensures advanced { OnOk result (HasAdvanced at_most control.old control.new next.old next.new) }
+    requires open { IsOpenEpoch bodies.now.code.now (all_of bodies.now) bodies.now.budgets.task layout.now input.now held.old }
+    requires there { HaveOpen bodies.now held.old.ends.ends }
+    requires some { 1 ≤ size.activations }
+    ensures held { OnOk result (IsHeldOf (parts_of bodies.now.code.now) (all_of bodies.now) input.now bodies.now.budgets.task held.new) }
+    ensures advanced { OnOk result (HasAdvanced size.activations control.old control.new next.old next.new) }
 {
     if workers > 1 && has_new(bodies, held) {
         return both(
-            rt, alloc, bodies, layout, input, workers, gate, held, control, next, at_most,
+            rt, alloc, bodies, layout, input, workers, gate, held, control, next, size,
         );
     }
     run_epoch(rt, alloc, bodies, layout, input, workers, gate, held)?;
-    advance(control, next, at_most)
+    advance(control, next, size)
 }
 
 /// Does both at once.
 fn both<R: Threads + Sync, G: Gate>(
     rt: &R,
     alloc: Global,
-    bodies: &TaskBodies,
+    bodies: &OpenBodies<'_>,
     layout: &Layout,
     input: &[u8],
     workers: u32,
@@ -57,37 +61,84 @@ fn both<R: Threads + Sync, G: Gate>(
     held: &mut Held,
     control: &mut ControlRun<'_>,
     next: &mut List<Activation>,
-    at_most: u32,
+    size: EpochSize,
 ) -> Result<(), Memory>
     requires workers { (1 ≤ workers) × (workers ≤ 64) }
-    requires open { IsOpenEpoch bodies.now.code.now bodies.now.activations.now bodies.now.budget layout.now input.now held.old }
-    requires some { 1 ≤ at_most }
-    ensures held { OnOk result (IsHeldOf (parts_of bodies.now.code.now) bodies.now.activations.now input.now bodies.now.budget held.new) }
-    ensures advanced { OnOk result (HasAdvanced at_most control.old control.new next.old next.new) }
+    requires open { IsOpenEpoch bodies.now.code.now (all_of bodies.now) bodies.now.budgets.task layout.now input.now held.old }
+    requires there { HaveOpen bodies.now held.old.ends.ends }
+    requires some { 1 ≤ size.activations }
+    ensures held { OnOk result (IsHeldOf (parts_of bodies.now.code.now) (all_of bodies.now) input.now bodies.now.budgets.task held.new) }
+    ensures advanced { OnOk result (HasAdvanced size.activations control.old control.new next.old next.new) }
 {
     let mut run = || -> Result<(), Memory>
         requires { IsSync R.row × IsSync G.row × (1 ≤ workers) × (workers ≤ 64)
-            × IsOpenEpoch bodies.now.code.now bodies.now.activations.now bodies.now.budget layout.now input.now held.now }
-        ensures { OnOk result (IsHeldOf (parts_of bodies.entry.now.code.now) bodies.entry.now.activations.now input.entry.now
-            bodies.entry.now.budget held.exit.now) }
+            × IsOpenEpoch bodies.now.code.now (all_of bodies.now) bodies.now.budgets.task layout.now input.now held.now × HaveOpen bodies.now held.now.ends.ends }
+        ensures { OnOk result (IsHeldOf (parts_of bodies.entry.now.code.now) (all_of bodies.entry.now) input.entry.now
+            bodies.entry.now.budgets.task held.exit.now) }
     { run_epoch(rt, alloc, bodies, layout, input, workers, gate, held) };
     let mut create = || -> Result<(), Memory>
-        requires { 1 ≤ at_most }
-        ensures { OnOk result (HasAdvanced at_most control.entry.now control.exit.now next.entry.now next.exit.now) }
-    { advance(control, next, at_most) };
+        requires { 1 ≤ size.activations }
+        ensures { OnOk result (HasAdvanced size.activations control.entry.now control.exit.now next.entry.now next.exit.now) }
+    { advance(control, next, size) };
     let (ran, created) = join_mut(rt, &mut run, &mut create);
     ran.and(created)
 }
 
-/// Has the control program create the next activations, at most so many.
+/// Has the control program create the new activations of an epoch, stretch by stretch.
 fn advance(
     control: &mut ControlRun<'_>,
     next: &mut List<Activation>,
-    at_most: u32,
+    size: EpochSize,
 ) -> Result<(), Memory>
-    requires { 1 ≤ at_most }
-    ensures { OnOk result (HasAdvanced at_most control.old control.new next.old next.new) }
+    requires { 1 ≤ size.activations }
+    ensures { OnOk result (HasAdvanced size.activations control.old control.new next.old next.new) }
 {
-    control.advance(next, at_most)?;
+    let mut begun = next.len();
+    let mut left = size.activations;
+    let mut count = stretch_of(size, left);
+    let mut ended = create(control, next, count)?;
+    left -= count;
+    let mut elements = elements_from(next.as_slice(), begun);
+    'stretches: while !ended && left > 0 && elements < size.elements {
+        begun = next.len();
+        count = stretch_of(size, left);
+        ended = create(control, next, count)?;
+        left -= count;
+        elements = elements.saturating_add(elements_from(next.as_slice(), begun));
+    }
     Ok(())
+}
+
+/// How many activations the next stretch of an epoch has, where so many are left to it.
+fn stretch_of(size: EpochSize, left: u32) -> u32
+    requires { 1 ≤ left }
+    ensures some { 1 ≤ result }
+    ensures few { result ≤ left }
+{
+    size.stretch.clamp(1, left)
+}
+
+/// Has the control program create the next activations, so many or all that remain. It answers whether fewer remained.
+fn create(
+    control: &mut ControlRun<'_>,
+    next: &mut List<Activation>,
+    count: u32,
+) -> Result<bool, Memory>
+    requires { 1 ≤ count }
+    ensures created { OnOk result (HasCreated count control.old control.new next.old next.new) }
+    ensures answer { IfOk result (λ ended. ended ≡ nat_lt (length (remaining control.old)) count) }
+{
+    let ended = control.advance(next, count)?;
+    Ok(ended)
+}
+
+/// How many elements the windows of activations have, from one of them on, as far as the number goes.
+fn elements_from(activations: &[Activation], first: usize) -> u64 {
+    let mut elements: u64 = 0;
+    for activation in activations.iter().skip(first) {
+        for claim in activation.claims.as_slice() {
+            elements = elements.saturating_add(u64::from(claim.horizon));
+        }
+    }
+    elements
 }

@@ -8,20 +8,25 @@ ghost use Rattle.os_code.specs.Codes.{parts_of};
 ghost use Rattle.stream_match.specs.Kept.{kept_of, place_of};
 ghost use Rattle.stream_match_layouts.specs.Layout.{IsLayout};
 ghost use Rattle.stream_match_layouts.specs.Spans.{frame_count};
+ghost use Rattle.epoch_run.specs.Bodies.{HaveOpen, all_of};
 ghost use Rattle.epoch_run.specs.Held.{IsHeldOf, IsOpenEpoch};
 
 use crate::held::Held;
+use crate::open_bodies::OpenBodies;
+use crate::pace::Pace;
 use crate::plan::run_plan;
-use epoch_run_bodies::TaskBodies;
+use epoch_run_bodies::CountedBodies;
 use epoch_run_bodies::laws::{bodies_serve, later_activations_change_nothing};
 use epoch_run_ready::ready_frames;
-use flow_core_epochs::laws::{run_in_epochs, serving};
+use flow_core_epochs::laws::run_in_epochs;
 use flow_core_epochs::{FrameBodies, open_frames};
 use flow_core_laws::{Bodies, Ends, Plan};
 use os_io::{List, Memory};
 use std::alloc::Global;
+use std::sync::atomic::{AtomicU64, Ordering};
 use std::thread::Threads;
 use stream_match::{EpochPlan, Layout, build_ready};
+use task_vm::Scratch;
 use task_workers::Gate;
 
 /// Runs an epoch by so many workers: the activations of a layout that have no end yet, over what was kept for
@@ -30,7 +35,7 @@ use task_workers::Gate;
 pub(crate) fn run_epoch<R: Threads + Sync, G: Gate>(
     rt: &R,
     alloc: Global,
-    bodies: &TaskBodies,
+    bodies: &OpenBodies<'_>,
     layout: &Layout,
     input: &[u8],
     workers: u32,
@@ -38,8 +43,9 @@ pub(crate) fn run_epoch<R: Threads + Sync, G: Gate>(
     held: &mut Held,
 ) -> Result<(), Memory>
     requires workers { (1 ≤ workers) × (workers ≤ 64) }
-    requires open { IsOpenEpoch bodies.now.code.now bodies.now.activations.now bodies.now.budget layout.now input.now held.old }
-    ensures { OnOk result (IsHeldOf (parts_of bodies.now.code.now) bodies.now.activations.now input.now bodies.now.budget held.new) }
+    requires open { IsOpenEpoch bodies.now.code.now (all_of bodies.now) bodies.now.budgets.task layout.now input.now held.old }
+    requires there { HaveOpen bodies.now held.old.ends.ends }
+    ensures { OnOk result (IsHeldOf (parts_of bodies.now.code.now) (all_of bodies.now) input.now bodies.now.budgets.task held.new) }
 {
     if has_new(bodies, held) {
         run_open(rt, alloc, bodies, layout, input, workers, gate, held)
@@ -49,17 +55,17 @@ pub(crate) fn run_epoch<R: Threads + Sync, G: Gate>(
 }
 
 /// Whether some of the activations are new.
-pub(crate) fn has_new(bodies: &TaskBodies, held: &Held) -> bool
-    ensures { result ≡ nat_lt (length held.now.ends.ends) (length bodies.now.activations.now) }
+pub(crate) fn has_new(bodies: &OpenBodies<'_>, held: &Held) -> bool
+    ensures { result ≡ nat_lt (length held.now.ends.ends) bodies.now.count }
 {
-    held.ends.ends.len() < bodies.activations.len()
+    held.ends.ends.len() < bodies.count as usize
 }
 
 /// Runs those of the activations without an end that may run by now.
 fn run_open<R: Threads + Sync, G: Gate>(
     rt: &R,
     alloc: Global,
-    bodies: &TaskBodies,
+    bodies: &OpenBodies<'_>,
     layout: &Layout,
     input: &[u8],
     workers: u32,
@@ -67,8 +73,9 @@ fn run_open<R: Threads + Sync, G: Gate>(
     held: &mut Held,
 ) -> Result<(), Memory>
     requires workers { (1 ≤ workers) × (workers ≤ 64) }
-    requires open { IsOpenEpoch bodies.now.code.now bodies.now.activations.now bodies.now.budget layout.now input.now held.old }
-    ensures { OnOk result (IsHeldOf (parts_of bodies.now.code.now) bodies.now.activations.now input.now bodies.now.budget held.new) }
+    requires open { IsOpenEpoch bodies.now.code.now (all_of bodies.now) bodies.now.budgets.task layout.now input.now held.old }
+    requires there { HaveOpen bodies.now held.old.ends.ends }
+    ensures { OnOk result (IsHeldOf (parts_of bodies.now.code.now) (all_of bodies.now) input.now bodies.now.budgets.task held.new) }
 {
     let readers = open_activations(alloc, layout, held)?;
     let frames = ready_frames(alloc, layout, readers.as_slice())?;
@@ -99,7 +106,7 @@ fn open_activations(alloc: Global, layout: &Layout, held: &Held) -> Result<List<
 fn run_these<R: Threads + Sync, G: Gate>(
     rt: &R,
     alloc: Global,
-    bodies: &TaskBodies,
+    bodies: &OpenBodies<'_>,
     layout: &Layout,
     input: &[u8],
     workers: u32,
@@ -109,17 +116,26 @@ fn run_these<R: Threads + Sync, G: Gate>(
     held: &mut Held,
 ) -> Result<(), Memory>
     requires workers { (1 ≤ workers) × (workers ≤ 64) }
-    requires open { IsOpenEpoch bodies.now.code.now bodies.now.activations.now bodies.now.budget layout.now input.now held.old }
+    requires open { IsOpenEpoch bodies.now.code.now (all_of bodies.now) bodies.now.budgets.task layout.now input.now held.old }
+    requires there { HaveOpen bodies.now held.old.ends.ends }
     requires readers { readers.now ≡ open_in held.old.ends.ends (frame_count layout.now) }
-    requires frames { LeaveOutWaiting bodies.now.activations.now input.now held.old.ends.ends frames.now }
-    ensures { OnOk result (IsHeldOf (parts_of bodies.now.code.now) bodies.now.activations.now input.now bodies.now.budget held.new) }
+    requires frames { LeaveOutWaiting (all_of bodies.now) input.now held.old.ends.ends frames.now }
+    ensures { OnOk result (IsHeldOf (parts_of bodies.now.code.now) (all_of bodies.now) input.now bodies.now.budgets.task held.new) }
 {
     run_in_epochs();
-    serving(bodies);
     bodies_serve();
     later_activations_change_nothing();
     let epoch = plan_these(alloc, bodies, layout, input, readers, frames, held)?;
-    let run = run_frames(rt, alloc, &epoch.plan, frames, bodies, workers, gate)?;
+    let run = run_frames(
+        rt,
+        alloc,
+        &epoch.plan,
+        frames,
+        bodies,
+        workers,
+        gate,
+        &mut held.pace,
+    )?;
     held.take(alloc, layout, frames, epoch.places.as_slice(), &run)?;
     Ok(())
 }
@@ -127,18 +143,18 @@ fn run_these<R: Threads + Sync, G: Gate>(
 /// The plan of an epoch with these frames.
 fn plan_these(
     alloc: Global,
-    bodies: &TaskBodies,
+    bodies: &OpenBodies<'_>,
     layout: &Layout,
     input: &[u8],
     readers: &[u32],
     frames: &[u32],
     held: &Held,
 ) -> Result<EpochPlan, Memory>
-    requires open { IsOpenEpoch bodies.now.code.now bodies.now.activations.now bodies.now.budget layout.now input.now held.now }
+    requires open { IsOpenEpoch bodies.now.code.now (all_of bodies.now) bodies.now.budgets.task layout.now input.now held.now }
     requires readers { readers.now ≡ open_in held.now.ends.ends (frame_count layout.now) }
-    requires frames { LeaveOutWaiting bodies.now.activations.now input.now held.now.ends.ends frames.now }
+    requires frames { LeaveOutWaiting (all_of bodies.now) input.now held.now.ends.ends frames.now }
     ensures sound { IfOk result (λ epoch. IsSound epoch.plan) }
-    ensures stands { IfOk result (λ epoch. StandsForEpoch epoch.plan bodies.now.activations.now input.now readers.now frames.now (map kept_of held.now.kept.items)
+    ensures stands { IfOk result (λ epoch. StandsForEpoch epoch.plan (all_of bodies.now) input.now readers.now frames.now (map kept_of held.now.kept.items)
         (map place_of epoch.places)) }
 {
     run_in_epochs();
@@ -147,8 +163,8 @@ fn plan_these(
     Ok(epoch)
 }
 
-/// Runs the plan of an epoch with these frames.
-fn run_frames<R: Threads + Sync, B: Bodies, G: Gate>(
+/// Runs the plan of an epoch with these frames. Where several workers run it, it tells how long the bodies were.
+fn run_frames<R: Threads + Sync, B: Bodies<Scratch = Scratch>, G: Gate>(
     rt: &R,
     alloc: Global,
     plan: &Plan,
@@ -156,6 +172,7 @@ fn run_frames<R: Threads + Sync, B: Bodies, G: Gate>(
     bodies: &B,
     workers: u32,
     gate: &G,
+    pace: &mut Pace,
 ) -> Result<Ends, Memory>
     requires workers { (1 ≤ workers) × (workers ≤ 64) }
     requires sound { IsSound plan.now }
@@ -164,12 +181,27 @@ fn run_frames<R: Threads + Sync, B: Bodies, G: Gate>(
     ensures ends { IfOk result (λ e. e.ends ≡ ends_of (epoch_meaning plan.now frames.now (B.outcome bodies.now))) }
     ensures output { IfOk result (λ e. e.output ≡ sink_elements plan.now (epoch_meaning plan.now frames.now (B.outcome bodies.now))) }
 {
-    run_plan(
-        rt,
-        alloc,
-        plan,
-        &FrameBodies { bodies, frames },
-        workers,
-        gate,
-    )
+    if workers == 1 {
+        return run_plan(
+            rt,
+            alloc,
+            plan,
+            &FrameBodies { bodies, frames },
+            1,
+            gate,
+            *pace,
+        );
+    }
+    let steps = AtomicU64::new(0);
+    let bodies = CountedBodies {
+        bodies,
+        steps: &steps,
+    };
+    let bodies = FrameBodies {
+        bodies: &bodies,
+        frames,
+    };
+    let run = run_plan(rt, alloc, plan, &bodies, workers, gate, *pace)?;
+    *pace = Pace::of(steps.load(Ordering::Relaxed), frames.len());
+    Ok(run)
 }

@@ -9,6 +9,7 @@ ghost use Rattle.epoch_run.specs.Run.{AreBudgets, created};
 
 use crate::held::Held;
 use crate::result::{Budgets, RunResult};
+use crate::size::EpochSize;
 use crate::standing::Standing;
 use os_code::Code;
 use os_io::Memory;
@@ -16,11 +17,17 @@ use std::alloc::Global;
 use std::thread::Threads;
 use task_workers::Gate;
 
-/// How many new activations an epoch has.
+/// How many new activations an epoch has at most.
 const EPOCH: u32 = 4096;
 
-/// Runs a code over an input in epochs of 4,096 new activations: while 1 to 64 workers run one epoch, the control program
-/// creates the activations of the next one. What it comes to is the data-flow meaning of all activations that it creates.
+/// With so many elements in their windows an epoch takes no more activations: their cells, and what they write, are held at once.
+const ELEMENTS: u64 = 65_536;
+
+/// How many activations are created before their elements are counted: so an epoch has one for each worker, where there are as many.
+const STRETCH: u32 = 64;
+
+/// Runs a code over an input in epochs of at most 4,096 new activations, and of fewer where their windows are large: while 1 to 64
+/// workers run one epoch, the control program creates the activations of the next one. What it comes to is the data-flow meaning of all activations that it creates.
 ///
 /// The gate is called as in `execute`, with the number of a frame in its epoch. The activations, their positions, their
 /// ends and the output are held of the whole run, a plan and its cells of one epoch at a time.
@@ -48,10 +55,15 @@ pub fn run_epochs<R: Threads + Sync, G: Gate>(
     ensures fit { IfOk result (λ run. All (Fits (parts_of code.now)) (created (parts_of code.now) input.now budgets)) }
     ensures lawful { IfOk result (λ run. AreLawful code.now.streams (created (parts_of code.now) input.now budgets)) }
 {
-    run_epochs_of(rt, alloc, code, input, budgets, workers, gate, EPOCH)
+    let size = EpochSize {
+        activations: EPOCH,
+        elements: ELEMENTS,
+        stretch: STRETCH,
+    };
+    run_epochs_of(rt, alloc, code, input, budgets, workers, gate, size)
 }
 
-/// Runs a code over an input in epochs of at most so many new activations, as `run_epochs` does.
+/// Runs a code over an input in epochs of this size, as `run_epochs` does.
 pub fn run_epochs_of<R: Threads + Sync, G: Gate>(
     rt: &R,
     alloc: Global,
@@ -60,12 +72,12 @@ pub fn run_epochs_of<R: Threads + Sync, G: Gate>(
     budgets: Budgets,
     workers: u32,
     gate: &G,
-    at_most: u32,
+    size: EpochSize,
 ) -> Result<RunResult, Memory>
     requires workers { (1 ≤ workers) × (workers ≤ 64) }
     requires input { length input.now ≤ 4194304 }
     requires budgets { AreBudgets budgets }
-    requires some { 1 ≤ at_most }
+    requires some { 1 ≤ size.activations }
     // the layout of all activations that `main` creates, and how it ended
     ensures layout { IfOk result (λ run. IsLayoutOf run.layout (created (parts_of code.now) input.now budgets)) }
     ensures whole { IfOk result (λ run. IsLayout run.layout) }
@@ -80,7 +92,7 @@ pub fn run_epochs_of<R: Threads + Sync, G: Gate>(
 {
     let mut run = Standing::new(alloc, code, input, budgets)?;
     let end = 'epochs: loop {
-        let end = run.go_on(rt, alloc, code, input, budgets, workers, gate, at_most)?;
+        let end = run.go_on(rt, alloc, code, input, budgets, workers, gate, size)?;
         if let Some(end) = end {
             break 'epochs end;
         }

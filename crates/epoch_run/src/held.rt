@@ -6,6 +6,7 @@ ghost use Rattle.stream_match.specs.Kept.{kept_of, place_of};
 ghost use Rattle.stream_match_layouts.specs.Layout.{IsLayout, IsLayoutOf};
 ghost use Rattle.stream_match_layouts.specs.Spans.{frame_count};
 
+use crate::pace::Pace;
 use crate::putting::{take_ends, take_output};
 use epoch_run_carrying::carry_over;
 use flow_core_epochs::open_frames;
@@ -21,6 +22,8 @@ pub(crate) struct Held {
     pub ends: Ends,
     /// The elements that may still be read.
     pub kept: Vec<Kept>,
+    /// How long the bodies of the last epoch were. It decides how the next one is run, and nothing of what it comes to.
+    pub pace: Pace,
 }
 
 impl Held {
@@ -36,6 +39,7 @@ impl Held {
                 output: List::new(alloc),
             },
             kept: Vec::new(alloc),
+            pace: Pace::Unknown,
         }
     }
 

@@ -18,10 +18,15 @@ mod beside;
 mod epoch;
 mod epochs;
 mod held;
+mod open_bodies;
+mod pace;
 mod plan;
 mod putting;
+mod releasing;
 mod result;
+mod size;
 mod standing;
 
 pub use epochs::{run_epochs, run_epochs_of};
 pub use result::{Budgets, RunResult};
+pub use size::EpochSize;

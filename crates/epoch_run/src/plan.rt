@@ -4,6 +4,7 @@ ghost use Rattle.flow_core_laws.specs.Outcome.{ends_of};
 ghost use Rattle.flow_core_laws.specs.Plans.{plan_meaning, sink_elements};
 ghost use Rattle.flow_core_laws.specs.Serves.{Serves};
 
+use crate::pace::Pace;
 use flow_core_laws::{Bodies, Ends, Plan};
 use os_io::Memory;
 use std::alloc::Global;
@@ -25,7 +26,7 @@ fn workers_for(asked: u32, frames: usize) -> u32
 }
 
 /// Runs a plan by so many workers, of which there are no more than frames. One worker runs it round by round, which needs no
-/// table of atomic words and no looks for frames.
+/// table of atomic words and no looks for frames. So do several, where the bodies are short for what the table costs.
 pub(crate) fn run_plan<R: Threads + Sync, B: Bodies, G: Gate>(
     rt: &R,
     alloc: Global,
@@ -33,6 +34,7 @@ pub(crate) fn run_plan<R: Threads + Sync, B: Bodies, G: Gate>(
     bodies: &B,
     workers: u32,
     gate: &G,
+    pace: Pace,
 ) -> Result<Ends, Memory>
     requires workers { (1 ≤ workers) × (workers ≤ 64) }
     requires sound { IsSound plan.now }
@@ -42,8 +44,10 @@ pub(crate) fn run_plan<R: Threads + Sync, B: Bodies, G: Gate>(
 {
     let workers = workers_for(workers, plan.frames.len());
     if workers == 1 {
-        execute_rounds(rt, alloc, plan, bodies, 1, gate)
-    } else {
-        execute(rt, alloc, plan, bodies, workers, gate)
+        return execute_rounds(rt, alloc, plan, bodies, 1, gate);
+    }
+    match pace.rounds_for(plan, workers) {
+        Some(workers) => execute_rounds(rt, alloc, plan, bodies, workers, gate),
+        None => execute(rt, alloc, plan, bodies, workers, gate),
     }
 }

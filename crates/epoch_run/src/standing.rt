@@ -1,4 +1,5 @@
 ghost use Rattle.std.specs.Prelude.{◌≡◌, ◌<◌, ◌≤◌, None, IfOk, IfSome, OnOk, length};
+ghost use Rattle.control_run.specs.Stretches.{given_by};
 ghost use Rattle.os_code.specs.Codes.{parts_of};
 ghost use Rattle.os_code.specs.Outcomes.{control};
 ghost use Rattle.stream_match_layouts.specs.Layout.{IsLayout, IsLayoutOf};
@@ -11,7 +12,10 @@ use crate::at_once::run_at_once;
 use crate::beside::run_and_advance;
 use crate::epoch::run_epoch;
 use crate::held::Held;
+use crate::open_bodies::OpenBodies;
+use crate::releasing::give_up_ended;
 use crate::result::Budgets;
+use crate::size::EpochSize;
 use control_run::ControlRun;
 use epoch_run_bodies::TaskBodies;
 use flow_core_epochs::laws::run_in_epochs;
@@ -28,9 +32,11 @@ use task_workers::Gate;
 pub(crate) struct Standing<'c> {
     /// The control program, where it has come.
     control: ControlRun<'c>,
-    /// The activations that it has created.
+    /// The activations that it has created, from a number on: those before it have ended, and are run no more.
     activations: List<Activation>,
-    /// Their positions.
+    /// That number.
+    first: u32,
+    /// The positions of all that it has created.
     pub layout: Layout,
     /// What is held of those that were run.
     pub held: Held,
@@ -54,13 +60,14 @@ impl<'c> Standing<'c> {
         Ok(Standing {
             control,
             activations: List::new(alloc),
+            first: 0,
             layout,
             held: Held::nothing(alloc),
         })
     }
 
-    /// Runs an epoch, and has the control program create the activations of the next one, at most so many. It answers how
-    /// the control program has ended, once it has. After `Memory` the run is to be given up.
+    /// Runs an epoch, and has the control program create the new activations of the next one. It answers how the control
+    /// program has ended, once it has. After `Memory` the run is to be given up.
     pub(crate) fn go_on<R: Threads + Sync, G: Gate>(
         &mut self,
         rt: &R,
@@ -70,22 +77,25 @@ impl<'c> Standing<'c> {
         budgets: Budgets,
         workers: u32,
         gate: &G,
-        at_most: u32,
+        size: EpochSize,
     ) -> Result<Option<ControlEnd>, Memory>
         requires workers { (1 ≤ workers) × (workers ≤ 64) }
         requires budgets { AreBudgets budgets }
         requires stands { StandsAt code.now input.now budgets self.old }
-        requires some { 1 ≤ at_most }
+        requires some { 1 ≤ size.activations }
         ensures stands { IfOk result (λ _. StandsAt code.now input.now budgets self.new) }
-        ensures grows { IfOk result (λ end. end ≡ None → length self.old.activations < length self.new.activations) }
-        ensures all { IfOk result (λ end. IfSome end (λ _. self.new.activations ≡ created (parts_of code.now) input.now budgets)) }
+        ensures grows { IfOk result (λ end. end ≡ None → length (given_by self.old.control) < length (given_by self.new.control)) }
+        ensures all { IfOk result (λ end. IfSome end (λ _. given_by self.new.control ≡ created (parts_of code.now) input.now budgets)) }
         ensures end { IfOk result (λ end. IfSome end (λ e. e ≡ (control (parts_of code.now) (length input.now) budgets.control).end)) }
     {
         let mut next = List::new(alloc);
-        let bodies = TaskBodies {
+        let bodies = OpenBodies {
             code,
+            input_len: input.len() as u32,
+            budgets,
+            count: self.layout.frames() as u32,
+            first: self.first,
             activations: self.activations.as_slice(),
-            budget: budgets.task,
         };
         run_and_advance(
             rt,
@@ -98,8 +108,14 @@ impl<'c> Standing<'c> {
             &mut self.held,
             &mut self.control,
             &mut next,
-            at_most,
+            size,
         )?;
+        give_up_ended(
+            alloc,
+            &mut self.activations,
+            &mut self.first,
+            self.held.ends.ends.as_slice(),
+        );
         add(alloc, &mut self.activations, &mut self.layout, next)?;
         Ok(self.control.end())
     }
@@ -118,10 +134,10 @@ impl<'c> Standing<'c> {
         requires workers { (1 ≤ workers) × (workers ≤ 64) }
         requires budgets { AreBudgets budgets }
         requires stands { StandsAt code.now input.now budgets self.old }
-        ensures layout { OnOk result (IsLayoutOf self.new.layout self.old.activations) }
+        ensures layout { OnOk result (IsLayoutOf self.new.layout (given_by self.old.control)) }
         ensures whole { OnOk result (IsLayout self.new.layout) }
         ensures input { OnOk result (self.new.layout.input_len ≡ length input.now) }
-        ensures ends { OnOk result (self.new.held.ends ≡ code_ends (parts_of code.now) self.old.activations input.now budgets.task) }
+        ensures ends { OnOk result (self.new.held.ends ≡ code_ends (parts_of code.now) (given_by self.old.control) input.now budgets.task) }
     {
         if self.held.ends.ends.len() == 0 {
             self.run_at_once(rt, alloc, code, input, budgets, workers, gate)
@@ -144,10 +160,10 @@ impl<'c> Standing<'c> {
         requires workers { (1 ≤ workers) × (workers ≤ 64) }
         requires budgets { AreBudgets budgets }
         requires stands { StandsAt code.now input.now budgets self.old }
-        ensures layout { OnOk result (IsLayoutOf self.new.layout self.old.activations) }
+        ensures layout { OnOk result (IsLayoutOf self.new.layout (given_by self.old.control)) }
         ensures whole { OnOk result (IsLayout self.new.layout) }
         ensures input { OnOk result (self.new.layout.input_len ≡ length input.now) }
-        ensures ends { OnOk result (self.new.held.ends ≡ code_ends (parts_of code.now) self.old.activations input.now budgets.task) }
+        ensures ends { OnOk result (self.new.held.ends ≡ code_ends (parts_of code.now) (given_by self.old.control) input.now budgets.task) }
     {
         let bodies = TaskBodies {
             code,
@@ -172,15 +188,18 @@ impl<'c> Standing<'c> {
         requires workers { (1 ≤ workers) × (workers ≤ 64) }
         requires budgets { AreBudgets budgets }
         requires stands { StandsAt code.now input.now budgets self.old }
-        ensures layout { OnOk result (IsLayoutOf self.new.layout self.old.activations) }
+        ensures layout { OnOk result (IsLayoutOf self.new.layout (given_by self.old.control)) }
         ensures whole { OnOk result (IsLayout self.new.layout) }
         ensures input { OnOk result (self.new.layout.input_len ≡ length input.now) }
-        ensures ends { OnOk result (self.new.held.ends ≡ code_ends (parts_of code.now) self.old.activations input.now budgets.task) }
+        ensures ends { OnOk result (self.new.held.ends ≡ code_ends (parts_of code.now) (given_by self.old.control) input.now budgets.task) }
     {
-        let bodies = TaskBodies {
+        let bodies = OpenBodies {
             code,
+            input_len: input.len() as u32,
+            budgets,
+            count: self.layout.frames() as u32,
+            first: self.first,
             activations: self.activations.as_slice(),
-            budget: budgets.task,
         };
         run_epoch(
             rt,

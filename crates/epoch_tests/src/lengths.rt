@@ -3,7 +3,7 @@
 ghost use Rattle.std.specs.Prelude.{◌≤◌};
 
 use crate::compiled::compiled;
-use epoch_run::{Budgets, RunResult, run_epochs_of};
+use epoch_run::{Budgets, EpochSize, RunResult, run_epochs_of};
 use kernels::{BROADCAST, INVERT, LIFT, PIPELINE, SMOOTH};
 use os_code::Code;
 use std::alloc::Global;
@@ -123,22 +123,45 @@ const PROGRAMS: [&str; 10] = [
     INVERT, SMOOTH, LIFT, PIPELINE, BROADCAST, WAITING, BACKWARD, KEPT, STARVED, POISONED,
 ];
 
-/// A run in epochs of at most so many activations, by so many workers.
+/// Epochs of at most so many activations, whatever their windows.
+fn of_activations(activations: u32) -> EpochSize
+    requires { 1 ≤ activations }
+    ensures { 1 ≤ result.activations }
+{
+    EpochSize {
+        activations,
+        elements: 65_536,
+        stretch: 64,
+    }
+}
+
+/// Epochs that end with the activation whose windows make so many elements.
+fn of_elements(elements: u64) -> EpochSize
+    ensures { 1 ≤ result.activations }
+{
+    EpochSize {
+        activations: 4096,
+        elements,
+        stretch: 1,
+    }
+}
+
+/// A run in epochs of a size, by so many workers.
 fn run<R: Threads + Sync>(
     rt: &R,
     alloc: Global,
     code: &Code,
-    length: u32,
+    size: EpochSize,
     workers: u32,
 ) -> Option<RunResult>
-    requires length { 1 ≤ length }
+    requires some { 1 ≤ size.activations }
     requires workers { (1 ≤ workers) × (workers ≤ 64) }
 {
     let budgets = Budgets {
         task: TURNS,
         control: 1_000_000,
     };
-    run_epochs_of(rt, alloc, code, &INPUT, budgets, workers, &NoGate, length).ok()
+    run_epochs_of(rt, alloc, code, &INPUT, budgets, workers, &NoGate, size).ok()
 }
 
 /// Whether two runs came to the same: how each activation and `main` ended, and the output.
@@ -148,18 +171,18 @@ fn are_same(run: &RunResult, other: &RunResult) -> bool {
         && run.ends.output.as_slice() == other.ends.output.as_slice()
 }
 
-/// Asks that a program comes to the same in epochs of this length, by one worker and by three, as in one epoch.
-fn comes_to_the_same<R: Threads + Sync + Abort>(rt: &R, alloc: Global, text: &str, length: u32)
-    requires { 1 ≤ length }
+/// Asks that a program comes to the same in epochs of this size, by one worker and by three, as in one epoch.
+fn comes_to_the_same<R: Threads + Sync + Abort>(rt: &R, alloc: Global, text: &str, size: EpochSize)
+    requires { 1 ≤ size.activations }
 {
     let code = compiled(rt, alloc, text);
     let Some(code) = code else {
         assert!(rt; false, "{text}");
         return;
     };
-    let whole = run(rt, alloc, &code, 4096, 1);
-    let alone = run(rt, alloc, &code, length, 1);
-    let beside = run(rt, alloc, &code, length, 3);
+    let whole = run(rt, alloc, &code, of_activations(4096), 1);
+    let alone = run(rt, alloc, &code, size, 1);
+    let beside = run(rt, alloc, &code, size, 3);
     match (whole, alone, beside) {
         (Some(whole), Some(alone), Some(beside)) => {
             assert!(rt; are_same(&whole, &alone), "{text}");
@@ -173,7 +196,17 @@ fn comes_to_the_same<R: Threads + Sync + Abort>(rt: &R, alloc: Global, text: &st
 fn short_epochs_come_to_what_one_comes_to(rt: HostRuntime) -> Result<(), Fail> {
     for text in PROGRAMS {
         for length in 1..5 {
-            comes_to_the_same(&rt, rt.alloc(), text, length);
+            comes_to_the_same(&rt, rt.alloc(), text, of_activations(length));
+        }
+    }
+    Ok(())
+}
+
+#[test]
+fn epochs_that_end_by_elements_come_to_what_one_comes_to(rt: HostRuntime) -> Result<(), Fail> {
+    for text in PROGRAMS {
+        for elements in [0, 3, 10, 40] {
+            comes_to_the_same(&rt, rt.alloc(), text, of_elements(elements));
         }
     }
     Ok(())

@@ -3,6 +3,7 @@ use Rattle.flow_core_epochs.specs.Epoch.{IsOutside, StandsForEpoch}
 use Rattle.os_code.specs.Codes.{parts_of}
 use Rattle.stream_match.specs.Kept.{IsKeptOutside, kept_of, place_of}
 use Rattle.stream_match.specs.declared.kept.Kept.{Kept}
+use Rattle.epoch_run.specs.Bodies.{all_of}
 use Rattle.epoch_run.proofs.Step.{frames_are, kept_outside, outside, readers_exist}
 use Rattle.epoch_run.proofs.epoch.plan_these.Goals as goal
 
@@ -12,27 +13,27 @@ build_ready-requires-clause-input c = sym c.requires.open.over
 pub build_ready-requires-clause-readers : goal.build_ready-requires-clause-readers
 build_ready-requires-clause-readers c =
     let o = c.requires.open in
-    readers_exist c.args.layout.now o.whole (parts_of c.args.bodies.now.code.now) c.args.bodies.now.activations.now c.args.input.now c.args.bodies.now.budget
+    readers_exist c.args.layout.now o.whole (parts_of c.args.bodies.now.code.now) (all_of c.args.bodies.now) c.args.input.now c.args.bodies.now.budgets.task
     c.args.held.now o.stands o.laid o.lawful c.args.readers.now c.args.frames.now c.requires.readers c.requires.frames
 
 pub build_ready-requires-clause-frames : goal.build_ready-requires-clause-frames
 build_ready-requires-clause-frames c =
     let o = c.requires.open in
-    frames_are c.args.layout.now o.whole (parts_of c.args.bodies.now.code.now) c.args.bodies.now.activations.now c.args.input.now c.args.bodies.now.budget
+    frames_are c.args.layout.now o.whole (parts_of c.args.bodies.now.code.now) (all_of c.args.bodies.now) c.args.input.now c.args.bodies.now.budgets.task
     c.args.held.now o.stands o.laid o.lawful c.args.readers.now c.args.frames.now c.requires.readers c.requires.frames
 
 pub build_ready-requires-clause-kept : goal.build_ready-requires-clause-kept
 build_ready-requires-clause-kept c =
     let o = c.requires.open in
     subst (λ (ks : List Kept). IsKeptOutside c.args.layout.now c.args.frames.now (map kept_of ks)) (sym c.as_slice.ensures.value)
-    (kept_outside c.args.layout.now o.whole (parts_of c.args.bodies.now.code.now) c.args.bodies.now.activations.now c.args.input.now c.args.bodies.now.budget
+    (kept_outside c.args.layout.now o.whole (parts_of c.args.bodies.now.code.now) (all_of c.args.bodies.now) c.args.input.now c.args.bodies.now.budgets.task
     c.args.held.now o.stands o.laid o.lawful c.args.readers.now c.args.frames.now c.requires.readers c.requires.frames c.later_activations_change_nothing.ensures c.run_in_epochs.ensures.begins)
 
 pub returns-clause-stands : goal.returns-clause-stands
 returns-clause-stands c =
     let o = c.requires.open in
-    let activations = c.args.bodies.now.activations.now in
-    let beside = outside c.args.layout.now o.whole (parts_of c.args.bodies.now.code.now) activations c.args.input.now c.args.bodies.now.budget
+    let activations = all_of c.args.bodies.now in
+    let beside = outside c.args.layout.now o.whole (parts_of c.args.bodies.now.code.now) activations c.args.input.now c.args.bodies.now.budgets.task
     c.args.held.now o.stands o.laid o.lawful c.args.readers.now c.args.frames.now c.requires.readers c.requires.frames c.later_activations_change_nothing.ensures c.run_in_epochs.ensures.begins in
     subst (λ (ks : List Kept). StandsForEpoch c.in_ok-epoch.epoch.plan activations c.args.input.now c.args.readers.now c.args.frames.now (map kept_of ks) (map place_of c.in_ok-epoch.epoch.places))
     c.as_slice.ensures.value

@@ -3,6 +3,7 @@ use Rattle.flow_core_epochs.proofs.Carried.{has_all}
 use Rattle.flow_core_epochs.proofs.Frames.{open_each}
 use Rattle.flow_core_epochs.specs.Epoch.{LeaveOutWaiting, open_in}
 use Rattle.stream_match_layouts.specs.Spans.{frame_count}
+use Rattle.epoch_run.specs.Bodies.{all_of}
 use Rattle.epoch_run.proofs.epoch.run_open.Goals as goal
 
 pub ready_frames-requires-clause-readers : goal.ready_frames-requires-clause-readers
@@ -18,7 +19,7 @@ run_these-requires-clause-readers g c κs within = c.as_slice-2.ensures ∙ c.in
 pub run_these-requires-clause-frames : goal.run_these-requires-clause-frames
 run_these-requires-clause-frames g c κs within =
     let o = c.requires.open in
-    let activations = c.args.bodies.now.activations.now in
+    let activations = all_of c.args.bodies.now in
     let input = c.args.input.now in
     subst (LeaveOutWaiting activations input c.args.held.now.ends.ends) (sym c.as_slice-3.ensures)
     (c.in_ok-frames.ensures activations input c.args.held.now.ends.ends o.laid (sym o.over) (c.as_slice.ensures ∙ c.in_ok-readers.ensures))

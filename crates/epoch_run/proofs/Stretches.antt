@@ -1,0 +1,61 @@
+-- Stretches of the control program, one behind the other.
+use Rattle.std.proofs.Common.{◌≡◌, ℕ, ◌+◌, ◌<◌, ◌≤◌, ◌⊎◌, inl, inr, Bool, true, false, List, ◌++◌, length, take, drop, sym, ap, ◌∙◌, arith}
+use Rattle.std.specs.Prelude.{nat_lt}
+use Rattle.std.proofs.lemmas.Bool.{cases_lt, le-ltb, lt-ltb, ltb-false}
+use Rattle.std.proofs.lemmas.List.{append_assoc, drop-drop, length-append, length-drop, length-take-le}
+use Rattle.std.proofs.Math.Seq.{take-add}
+use Rattle.control_run.specs.Stretches.{RunSoFar, advanced, given_by, remaining, whole}
+use Rattle.flow_core_laws.specs.declared.activation.Activation.{Activation}
+use Rattle.epoch_run.specs.Standing.{HasCreated}
+
+module _ (m n : ℕ) (before between after : RunSoFar) (list longer longest : List Activation) (enough : nat_lt (length (remaining before)) m ≡ false)
+    (one : HasCreated m before between list longer) (two : HasCreated n between after longer longest) where
+  many : m ≤ length (remaining before)
+  many = ltb-false (length (remaining before)) m enough
+
+  -- what remains between the two is what remained before, without what the first one gave
+  rest : remaining between ≡ drop m (remaining before)
+  rest =
+      ap remaining one.is_run
+      ∙ ap (λ k. drop (before.given + k) (whole before).activations) (length-take-le m (remaining before) many)
+      ∙ sym (drop-drop m before.given (whole before).activations)
+
+  left : length (remaining between) + m ≡ length (remaining before)
+  left = let e = ap length rest ∙ length-drop m (remaining before) in omega (arith, e, many)
+
+  pub fewer : nat_lt (length (remaining between)) n ≡ nat_lt (length (remaining before)) (m + n)
+  fewer = by (cases_lt (length (remaining between)) n)
+    where
+      by : (length (remaining between) < n) ⊎ (n ≤ length (remaining between)) → nat_lt (length (remaining between)) n ≡ nat_lt (length (remaining before)) (m + n)
+      by (inl lt) = lt-ltb (length (remaining between)) n lt ∙ sym (lt-ltb (length (remaining before)) (m + n) (omega (arith, left, lt)))
+      by (inr ge) = le-ltb (length (remaining between)) n ge ∙ sym (le-ltb (length (remaining before)) (m + n) (omega (arith, left, ge)))
+
+  both : take (m + n) (remaining before) ≡ take m (remaining before) ++ take n (remaining between)
+  both = take-add m n (remaining before) ∙ ap (λ xs. take m (remaining before) ++ take n xs) (sym rest)
+
+  given : between.given + length (take n (remaining between)) ≡ before.given + length (take (m + n) (remaining before))
+  given =
+      let e = ap length both ∙ length-append (take m (remaining before)) (take n (remaining between)) in
+      let b = ap (λ (r : RunSoFar). r.given) one.is_run in
+      omega (arith, e, b)
+
+  is_run : after ≡ advanced before (m + n)
+  is_run =
+      two.is_run
+      ∙ ap (λ (r : RunSoFar). record r { given = between.given + length (take n (remaining between)); has_ended = nat_lt (length (remaining between)) n }) one.is_run
+      ∙ ap (λ k. record before { given = k; has_ended = nat_lt (length (remaining between)) n }) given
+      ∙ ap (λ b. record before { given = before.given + length (take (m + n) (remaining before)); has_ended = b }) fewer
+
+  behind : (xs : List Activation) → (xs ++ take m (remaining before)) ++ take n (remaining between) ≡ xs ++ take (m + n) (remaining before)
+  behind xs = append_assoc xs (take m (remaining before)) (take n (remaining between)) ∙ ap (λ ys. xs ++ ys) (sym both)
+
+  -- two stretches are one
+  pub goes_on : HasCreated (m + n) before after list longest
+  goes_on = record {
+    is_list = two.is_list ∙ ap (λ xs. xs ++ take n (remaining between)) one.is_list ∙ behind list;
+    is_run = is_run;
+    joined = two.joined ∙ ap (λ xs. xs ++ take n (remaining between)) one.joined ∙ behind (given_by before);
+    all = λ h. two.all (fewer ∙ h);
+    fit = two.fit;
+    lawful = two.lawful;
+  }
