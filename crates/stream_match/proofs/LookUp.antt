@@ -15,7 +15,7 @@ use Rattle.flow_core_epochs.specs.Epoch.{number_in, is_at, value_kept, PlacesDif
 use Rattle.flow_core_epochs.proofs.Reading.{has_contained}
 use Rattle.stream_match.specs.declared.kept.Kept.{Kept}
 use Rattle.stream_match.specs.Kept.{kept_of}
-use Rattle.stream_match.specs.EpochCode.{Ascend, LiesBefore, AreSorted}
+use Rattle.stream_match.specs.EpochCode.{Ascend, AreBefore, LiesBefore, AreSorted}
 use Rattle.stream_match.proofs.Counting.{same_test}
 
 -- ---- frames
@@ -111,6 +111,14 @@ looked_up kept stream position n k up before behind at = one_at (record { stream
 pub looked_past : (kept : List Kept) (stream position n : ℕ) → ((i : ℕ) (l : Kept) → i < n → slice_get kept i ≡ Some l → LiesBefore stream position l) → length kept ≤ n
     → value_kept (map kept_of kept) (record { stream = stream; position = position }) ≡ None
 looked_past kept stream position n before past = ap (option_map (λ (l : epoch.Kept). l.value)) (none_at (record { stream = stream; position = position }) kept (λ i l h. before_not_at stream position l (before i l (let w = slice_get_within kept i l h in omega arith) h)))
+
+-- what lies before a place lies before a later one
+pub still_before : (kept : List Kept) (stream position later number : ℕ) → position ≤ later → AreBefore kept stream position number → AreBefore kept stream later number
+still_before kept stream position later number le before i k less at = by_case (before i k less at)
+  where
+    by_case : LiesBefore stream position k → LiesBefore stream later k
+    by_case (inl less) = inl less
+    by_case (inr (same, less)) = inr (same, (omega arith))
 
 -- ---- the same elements in another order
 

@@ -32,6 +32,16 @@ AreSorted kept =
     (i j : ℕ) (k l : Kept) → i < j → slice_get kept i ≡ Some k → slice_get kept j ≡ Some l
     → (k.stream < l.stream) ⊎ ((k.stream ≡ l.stream) × (k.position ≤ l.position))
 
+-- the kept elements before a number lie before a place
+abbrev pub AreBefore : List Kept → ℕ → ℕ → ℕ → Type 0
+AreBefore kept stream position number = (i : ℕ) (k : Kept) → i < number → slice_get kept i ≡ Some k → LiesBefore stream position k
+
+-- A number is that of the first kept element that doesn't lie before a place.
+pub record IsFirstFrom (kept : List Kept) (stream position number : ℕ) : Type 0 where
+  pub within : number ≤ length kept
+  pub before : AreBefore kept stream position number
+  pub behind : (i : ℕ) (k : Kept) → number ≤ i → slice_get kept i ≡ Some k → LiesBefore stream position k → ⊥
+
 -- a piece by the number of its frame, or none where it comes from no frame
 abbrev pub renumbered : List ℕ → Piece → List Piece
 renumbered frames p = option_map_or (λ f. record { from = f; to = p.to; first = p.first; count = p.count; at = p.at } ∷ []) (number_in frames p.from) []

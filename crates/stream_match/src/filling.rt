@@ -5,7 +5,7 @@ ghost use Rattle.stream_match.specs.Kept.{place_of};
 ghost use Rattle.stream_match.specs.EpochCode.{AreSorted, filled_cells, stretch_places};
 
 use crate::kept::Kept;
-use crate::look_up::epoch_opening;
+use crate::look_up::{epoch_opening, first_from, first_from_on};
 use crate::place::Place;
 use crate::stretch::Stretch;
 use flow_core_laws::Elem;
@@ -39,9 +39,11 @@ fn fill_one(
     requires small { stretch.first + stretch.count < 2 ^ 64 }
     ensures { OnOk result (cells.new ≡ cells.old ++ filled_cells input.now kept.now stretch) }
 {
+    let mut next = first_from(kept, stretch.stream, stretch.first);
     for offset in 0..stretch.count {
         let position = stretch.first + u64::from(offset);
-        cells.push(epoch_opening(kept, input, stretch.stream, position))?;
+        next = first_from_on(kept, next, stretch.stream, position);
+        cells.push(epoch_opening(kept, next, input, stretch.stream, position))?;
     }
     Ok(())
 }
