@@ -3,7 +3,7 @@ use Rattle.std.specs.List.{range_with_len}
 use Rattle.stream_match.specs.EpochPlan.{epoch_opening}
 use Rattle.stream_match.specs.Kept.{kept_of}
 use Rattle.stream_match.specs.EpochCode.{AreBefore}
-use Rattle.stream_match.proofs.filling.fill_one.Given as goal
+use Rattle.stream_match.proofs.filling.fill_kept.Given as goal
 
 abbrev pub invariant-loop-offset : goal.invariant-loop-offset
 invariant-loop-offset l = record {
