@@ -1,8 +1,9 @@
 -- Stretches one behind another.
-use Rattle.std.proofs.Common.{◌≡◌, ℕ, Option, is_none, count_by, drop, zero, suc, ◌+◌, ◌-◌, ◌^◌, ◌<◌, ◌≤◌, Bool, true, false, cond, List, [], ◌∷◌, ◌++◌, length, take, map, get_or, sym, ap, ◌∙◌, subst, inl, inr, arith, zero-add}
-use Rattle.std.specs.Prelude.{sum_by, All, ◌==◌}
+use Rattle.std.proofs.Common.{◌≡◌, ℕ, Option, is_none, count_by, drop, zero, suc, ◌+◌, ◌-◌, ◌^◌, ◌<◌, ◌≤◌, Bool, true, false, cond, List, [], ◌∷◌, ◌++◌, length, take, map, get_or, refl, sym, ap, ◌∙◌, subst, inl, inr, arith, zero-add}
+use Rattle.std.specs.Prelude.{sum_by, All, ◌==◌, nat_lt}
 use Rattle.std.specs.List.{flat_map, range_with_len}
-use Rattle.std.proofs.lemmas.Bool.{cases_lt}
+use Rattle.std.proofs.lemmas.Bool.{cases_lt, ltb-false}
+use Rattle.std.proofs.lemmas.List.Elements.{filter-append}
 use Rattle.std.proofs.lemmas.Grind.{flat_map-append}
 use Rattle.std.proofs.lemmas.List.{append-nil, append_assoc, map-append, take_more, take_all}
 use Rattle.std.proofs.lemmas.List.Sums.{sum_by-append, sum_by-cons, sum_by_more, sum_by-take-le}
@@ -21,7 +22,7 @@ use Rattle.stream_match_layouts.specs.Spans.{frame_count, read_count, write_coun
 use Rattle.stream_match.specs.Stretch.{by_frame, pieces_from}
 use Rattle.stream_match.specs.Weave.{Reach, total}
 use Rattle.stream_match.specs.EpochPlan.{AreFrames, read_reach, staying, leaving_reach, leaving_reaches}
-use Rattle.stream_match.specs.EpochCode.{stretches_from, reads_before, read_part, epoch_frame}
+use Rattle.stream_match.specs.EpochCode.{stretches_from, with_positions, reads_before, read_part, epoch_frame}
 use Rattle.stream_match_layouts.proofs.Windows.{no_window}
 use Rattle.stream_match_layouts.proofs.Writers.{window_number}
 use Rattle.stream_match_layouts.proofs.Sums.{frames_are, frames_bound, first_small}
@@ -29,6 +30,18 @@ use Rattle.stream_match_layouts.proofs.Tallies.{spans-few, counts-few, sum-le, w
 use Rattle.stream_match_layouts.proofs.FrameSpans.{spans_of-windows}
 use Rattle.stream_match.proofs.WovenSound.{sum_by-map}
 use Rattle.stream_match.proofs.EpochWeave.{over_frame, both_frames, frames_within, all_leaving-le, leaving-le, span_stream}
+
+pub with_positions-append : (xs ys : List Stretch) → with_positions (xs ++ ys) ≡ with_positions xs ++ with_positions ys
+with_positions-append xs ys = filter-append (λ (s : Stretch). nat_lt 0 s.count) xs ys
+
+-- what goes over stretches and makes nothing of one without positions makes the same of those that have some
+pub over_positions : {B : Type 0} (g : Stretch → List B) (xs : List Stretch) → ((s : Stretch) → s.count ≡ 0 → g s ≡ []) → flat_map g (with_positions xs) ≡ flat_map g xs
+over_positions g [] none = refl
+over_positions g (s ∷ xs) none = by_test (over_positions g xs none) (nat_lt 0 s.count) refl
+  where
+    by_test : flat_map g (with_positions xs) ≡ flat_map g xs → (b : Bool) → nat_lt 0 s.count ≡ b → flat_map g (cond b (s ∷ with_positions xs) (with_positions xs)) ≡ g s ++ flat_map g xs
+    by_test rest true e = ap (λ ys. g s ++ ys) rest
+    by_test rest false e = rest ∙ sym (ap (λ ys. ys ++ flat_map g xs) (none s (let le = ltb-false 0 s.count e in omega arith)))
 
 pub stretches-append : (to at : ℕ) (xs ys : List Reach) → stretches_from to at (xs ++ ys) ≡ stretches_from to at xs ++ stretches_from to (at + total xs) ys
 stretches-append to at [] ys = ap (λ k. stretches_from to k ys) (let e : at ≡ at + 0 = omega arith in e)
@@ -40,14 +53,16 @@ stretches-append to at (r ∷ rs) ys =
 map_more : (g : Span → Reach) (spans : List Span) (k : ℕ) (d : Span) → k < length spans → map g (take (k + 1) spans) ≡ map g (take k spans) ++ g (get_or spans k d) ∷ []
 map_more g spans k d lt = ap (map g) (take_more spans k d lt) ∙ map-append g (take k spans) (get_or spans k d ∷ [])
 
-pub span_added : (g : Span → Reach) (to at : ℕ) (spans : List Span) (k : ℕ) (d : Span) (old mid new : List Stretch) (next : ℕ) → k < length spans → mid ≡ old ++ stretches_from to at (map g (take k spans)) → next ≡ at + total (map g (take k spans)) → new ≡ mid ++ stretches_from to next (g (get_or spans k d) ∷ [])
-    → new ≡ old ++ stretches_from to at (map g (take (k + 1) spans))
+pub span_added : (g : Span → Reach) (to at : ℕ) (spans : List Span) (k : ℕ) (d : Span) (old mid new : List Stretch) (next : ℕ) → k < length spans → mid ≡ old ++ with_positions (stretches_from to at (map g (take k spans))) → next ≡ at + total (map g (take k spans)) → new ≡ mid ++ with_positions (stretches_from to next (g (get_or spans k d) ∷ []))
+    → new ≡ old ++ with_positions (stretches_from to at (map g (take (k + 1) spans)))
 span_added g to at spans k d old mid new next lt before next_is step =
     let now = stretches_from to at (map g (take k spans)) in
-    step ∙ ap (λ xs. xs ++ stretches_from to next (g (get_or spans k d) ∷ [])) before
-    ∙ ap (λ n. (old ++ now) ++ stretches_from to n (g (get_or spans k d) ∷ [])) next_is
-    ∙ append_assoc old now (stretches_from to (at + total (map g (take k spans))) (g (get_or spans k d) ∷ []))
-    ∙ ap (λ xs. old ++ xs) (sym (ap (stretches_from to at) (map_more g spans k d lt) ∙ stretches-append to at (map g (take k spans)) (g (get_or spans k d) ∷ [])))
+    let one = g (get_or spans k d) ∷ [] in
+    step ∙ ap (λ xs. xs ++ with_positions (stretches_from to next one)) before
+    ∙ ap (λ n. (old ++ with_positions now) ++ with_positions (stretches_from to n one)) next_is
+    ∙ append_assoc old (with_positions now) (with_positions (stretches_from to (at + total (map g (take k spans))) one))
+    ∙ ap (λ xs. old ++ xs) (sym (ap with_positions (ap (stretches_from to at) (map_more g spans k d lt) ∙ stretches-append to at (map g (take k spans)) one)
+    ∙ with_positions-append now (stretches_from to (at + total (map g (take k spans))) one)))
 
 pub total_one : (r : Reach) → total (r ∷ []) ≡ r.count
 total_one r = sum_by-cons (λ (x : Reach). x.count) r [] ∙ (let e : r.count + 0 ≡ r.count = omega arith in e)

@@ -1,6 +1,6 @@
 -- What is made of an epoch's stretches is its plan.
-use Rattle.std.proofs.Common.{◌≡◌, ℕ, ◌+◌, ◌-◌, ◌^◌, ◌<◌, ◌≤◌, List, ◌++◌, Option, is_none, count_by, length, take, drop, map, sym, ap, ◌∙◌, subst, arith}
-use Rattle.std.specs.Prelude.{All}
+use Rattle.std.proofs.Common.{◌≡◌, ℕ, ◌+◌, ◌-◌, ◌^◌, ◌<◌, ◌≤◌, List, [], ◌++◌, Option, is_none, count_by, length, take, drop, map, sym, ap, ◌∙◌, subst, arith}
+use Rattle.std.specs.Prelude.{All, nat_lt}
 use Rattle.std.specs.List.{flat_map, range_with_len}
 use Rattle.flow_core_laws.specs.declared.elem.Elem.{Elem}
 use Rattle.flow_core_laws.specs.declared.plan.FramePlan.{FramePlan}
@@ -13,34 +13,57 @@ use Rattle.stream_match_layouts.specs.Layout.{IsLayout}
 use Rattle.stream_match.specs.Stretch.{by_frame}
 use Rattle.stream_match.specs.Walking.{IsStretch}
 use Rattle.stream_match.specs.Weave.{Reach, Weave, total, cells_of_first, frame_cells, woven_pieces, IsWoven}
-use Rattle.stream_match.specs.EpochPlan.{AreFrames, reaches_over, weave_over}
+use Rattle.stream_match.specs.EpochPlan.{AreFrames, epoch_opening, reaches_over, weave_over}
 use Rattle.stream_match.specs.Kept.{kept_of}
-use Rattle.stream_match.specs.EpochCode.{pieces_for, filled_cells, stretches_from, reads_before, read_part, epoch_frame, IsRead, IsLeft, CanLeave}
+use Rattle.stream_match.specs.EpochCode.{pieces_for, renumbered, filled_cells, stretch_places, stretches_from, with_positions, reads_before, read_part, epoch_frame, IsRead, IsLeft, CanLeave}
+use Rattle.std.proofs.lemmas.List.Elements.{All-filter}
+use Rattle.flow_core_laws.specs.Place.{places_from}
+use Rattle.flow_core_laws.proofs.Stretches.{flat_map-none}
+use Rattle.stream_match_layouts.specs.Writers.{writers_on, writer_at}
+use Rattle.stream_match.proofs.Walks.{overlap_at, overlap-none}
+use Rattle.stream_match.proofs.Behind.{over_positions}
 use Rattle.stream_match.proofs.Gathering.{all_by_frame}
 use Rattle.stream_match.proofs.Rows.{all_pieces_are, all_cells_are, first-reads, frame_part, left_total}
 use Rattle.stream_match.proofs.EpochRows.{reads_are_stretches, sink_are_stretches, pieces_few, cells_length, from_frames, frames_are_woven}
 
 -- what is read and what leaves
 pub record AreRows (layout : Layout) (frames : List ℕ) (sink : List Reach) (reads leaves : List Stretch) (next end : ℕ) : Type 0 where
-  pub reads_are : reads ≡ flat_map (read_part layout frames) (range_with_len 0 (length frames))
-  pub leaves_are : leaves ≡ stretches_from (length frames) next sink
+  pub reads_are : reads ≡ with_positions (flat_map (read_part layout frames) (range_with_len 0 (length frames)))
+  pub leaves_are : leaves ≡ with_positions (stretches_from (length frames) next sink)
   pub next_is : next ≡ reads_before layout frames (length frames)
   pub end_is : end ≡ next + total sink
 
 pub rows_of : (layout : Layout) (frames : List ℕ) (sink : List Reach) (read left : Reaching) (reads leaves : List Stretch) → IsRead layout frames read → IsLeft layout frames sink left → reads ≡ read.stretches → leaves ≡ left.stretches → AreRows layout frames sink reads leaves read.next left.next
 rows_of layout frames sink read left reads leaves is_read is_left reads_are leaves_are = record {
   reads_are = reads_are ∙ is_read.stretches_are;
-  leaves_are = leaves_are ∙ is_left.stretches_are ∙ ap (λ n. stretches_from (length frames) n sink) (sym is_read.next_is);
+  leaves_are = leaves_are ∙ is_left.stretches_are ∙ ap (λ n. with_positions (stretches_from (length frames) n sink)) (sym is_read.next_is);
   next_is = is_read.next_is;
   end_is = is_left.next_is ∙ ap (λ n. n + total sink) (sym is_read.next_is);
 }
 
+-- a stretch without positions has no pieces and no cells
+no_pieces : (layout : Layout) (frames : List ℕ) (s : Stretch) → s.count ≡ 0 → pieces_for layout frames s ≡ []
+no_pieces layout frames s none = ap (flat_map (renumbered frames)) (flat_map-none (overlap_at layout s) 0 (length (writers_on layout s.stream)) (λ k l u. overlap-none s (writer_at layout s.stream k) (omega arith)))
+
+no_cells : (input : List ℕ) (kept : List Kept) (s : Stretch) → s.count ≡ 0 → filled_cells input kept s ≡ []
+no_cells input kept s none = ap (λ n. map (epoch_opening input (map kept_of kept) s.stream) (range_with_len s.first n)) none
+
+pub no_places : (s : Stretch) → s.count ≡ 0 → stretch_places s ≡ []
+no_places s none = ap (places_from s.stream s.first) none
+
 module _ (layout : Layout) (is : IsLayout layout) (frames : List ℕ) (are : AreFrames layout frames) (sink : List Reach) (can : CanLeave layout frames sink) (reads leaves : List Stretch) (next end : ℕ) (rows : AreRows layout frames sink reads leaves next end) where
+  -- going over them is going over all
+  over_all : {B : Type 0} (g : Stretch → List B) → ((s : Stretch) → s.count ≡ 0 → g s ≡ [])
+      → flat_map g reads ++ flat_map g leaves ≡ flat_map g (flat_map (read_part layout frames) (range_with_len 0 (length frames))) ++ flat_map g (stretches_from (length frames) next sink)
+  over_all g none =
+      ap (λ xs. xs ++ flat_map g leaves) (ap (flat_map g) rows.reads_are ∙ over_positions g (flat_map (read_part layout frames) (range_with_len 0 (length frames))) none)
+      ∙ ap (λ xs. flat_map g (flat_map (read_part layout frames) (range_with_len 0 (length frames))) ++ xs) (ap (flat_map g) rows.leaves_are ∙ over_positions g (stretches_from (length frames) next sink) none)
+
   pub reads_stretches : All (IsStretch layout) reads
-  reads_stretches = subst (All (IsStretch layout)) (sym rows.reads_are) (reads_are_stretches layout is frames are)
+  reads_stretches = subst (All (IsStretch layout)) (sym rows.reads_are) (All-filter (λ (s : Stretch). nat_lt 0 s.count) (IsStretch layout) _ (reads_are_stretches layout is frames are))
 
   pub leaves_stretches : All (IsStretch layout) leaves
-  leaves_stretches = subst (All (IsStretch layout)) (sym rows.leaves_are) (sink_are_stretches layout is frames are sink can next rows.next_is)
+  leaves_stretches = subst (All (IsStretch layout)) (sym rows.leaves_are) (All-filter (λ (s : Stretch). nat_lt 0 s.count) (IsStretch layout) _ (sink_are_stretches layout is frames are sink can next rows.next_is))
 
   pub reads_end : All (λ (s : Stretch). s.first + s.count < 2 ^ 64) reads
   reads_end k d lt = let e = (reads_stretches k d lt).ends in omega arith
@@ -51,14 +74,12 @@ module _ (layout : Layout) (is : IsLayout layout) (frames : List ℕ) (are : Are
   module _ (input : List ℕ) (kept : List Kept) where
     pub pieces_made : (pieces : List Piece) → pieces ≡ flat_map (pieces_for layout frames) reads ++ flat_map (pieces_for layout frames) leaves → pieces ≡ woven_pieces layout (weave_over layout input frames (map kept_of kept) sink)
     pieces_made pieces made =
-        made ∙ ap (λ xs. flat_map (pieces_for layout frames) xs ++ flat_map (pieces_for layout frames) leaves) rows.reads_are
-        ∙ ap (λ xs. flat_map (pieces_for layout frames) (flat_map (read_part layout frames) (range_with_len 0 (length frames))) ++ flat_map (pieces_for layout frames) xs) rows.leaves_are
+        made ∙ over_all (pieces_for layout frames) (no_pieces layout frames)
         ∙ all_pieces_are layout input frames kept sink next rows.next_is
 
     pub cells_made : (cells : List (Option Elem)) → cells ≡ flat_map (filled_cells input kept) reads ++ flat_map (filled_cells input kept) leaves → cells ≡ cells_of_first (weave_over layout input frames (map kept_of kept) sink) (length frames + 1)
     cells_made cells made =
-        made ∙ ap (λ xs. flat_map (filled_cells input kept) xs ++ flat_map (filled_cells input kept) leaves) rows.reads_are
-        ∙ ap (λ xs. flat_map (filled_cells input kept) (flat_map (read_part layout frames) (range_with_len 0 (length frames))) ++ flat_map (filled_cells input kept) xs) rows.leaves_are
+        made ∙ over_all (filled_cells input kept) (no_cells input kept)
         ∙ all_cells_are layout input frames kept sink next
 
     pub cells_end : (cells : List (Option Elem)) → cells ≡ flat_map (filled_cells input kept) reads ++ flat_map (filled_cells input kept) leaves → length cells ≡ end
@@ -97,8 +118,7 @@ module _ (layout : Layout) (is : IsLayout layout) (frames : List ℕ) (are : Are
 
   pub pieces_are_few : (pieces : List Piece) → pieces ≡ flat_map (pieces_for layout frames) reads ++ flat_map (pieces_for layout frames) leaves → length pieces ≤ 4194304
   pieces_are_few pieces made =
-      let e = ap length (made ∙ ap (λ xs. flat_map (pieces_for layout frames) xs ++ flat_map (pieces_for layout frames) leaves) rows.reads_are
-      ∙ ap (λ xs. flat_map (pieces_for layout frames) (flat_map (read_part layout frames) (range_with_len 0 (length frames))) ++ flat_map (pieces_for layout frames) xs) rows.leaves_are) in
+      let e = ap length (made ∙ over_all (pieces_for layout frames) (no_pieces layout frames)) in
       omega (arith, e, pieces_few layout is frames are sink can next rows.next_is)
 
   pub end_few : end ≤ 4194304

@@ -14,8 +14,9 @@ use Rattle.flow_core_epochs.specs.Epoch as epoch
 use Rattle.flow_core_epochs.specs.Epoch.{number_in, is_at, value_kept, PlacesDiffer}
 use Rattle.flow_core_epochs.proofs.Reading.{has_contained}
 use Rattle.stream_match.specs.declared.kept.Kept.{Kept}
+use Rattle.stream_match.specs.declared.stretch.Stretch.{Stretch}
 use Rattle.stream_match.specs.Kept.{kept_of}
-use Rattle.stream_match.specs.EpochCode.{Ascend, LiesBefore, AreSorted}
+use Rattle.stream_match.specs.EpochCode.{Ascend, AreBefore, IsFirstFrom, LiesBefore, NoneIsKept, AreSorted}
 use Rattle.stream_match.proofs.Counting.{same_test}
 
 -- ---- frames
@@ -111,6 +112,38 @@ looked_up kept stream position n k up before behind at = one_at (record { stream
 pub looked_past : (kept : List Kept) (stream position n : ℕ) → ((i : ℕ) (l : Kept) → i < n → slice_get kept i ≡ Some l → LiesBefore stream position l) → length kept ≤ n
     → value_kept (map kept_of kept) (record { stream = stream; position = position }) ≡ None
 looked_past kept stream position n before past = ap (option_map (λ (l : epoch.Kept). l.value)) (none_at (record { stream = stream; position = position }) kept (λ i l h. before_not_at stream position l (before i l (let w = slice_get_within kept i l h in omega arith) h)))
+
+-- what lies before a place lies before a later one
+pub still_before : (kept : List Kept) (stream position later number : ℕ) → position ≤ later → AreBefore kept stream position number → AreBefore kept stream later number
+still_before kept stream position later number le before i k less at = by_case (before i k less at)
+  where
+    by_case : LiesBefore stream position k → LiesBefore stream later k
+    by_case (inl less) = inl less
+    by_case (inr (same, less)) = inr (same, (omega arith))
+
+-- nothing is kept of a stretch where all kept elements lie before it
+pub none_behind : (kept : List Kept) (stretch : Stretch) (number : ℕ) → AreBefore kept stretch.stream stretch.first number → length kept ≤ number → NoneIsKept kept stretch
+none_behind kept stretch number before past position low high =
+    looked_past kept stretch.stream position number (still_before kept stretch.stream stretch.first position number low before) past
+
+-- nor where the first one that doesn't is of another stream or lies behind it
+pub none_within : (kept : List Kept) (stretch : Stretch) (number : ℕ) (k : Kept) → AreSorted kept → IsFirstFrom kept stretch.stream stretch.first number → slice_get kept number ≡ Some k
+    → (k.stream ≡ stretch.stream → stretch.first + stretch.count ≤ k.position) → NoneIsKept kept stretch
+none_within kept stretch number k up first at behind position low high =
+    ap (option_map (λ (l : epoch.Kept). l.value)) (none_at (record { stream = stretch.stream; position = position }) kept (λ i l h. apart i l h (cases_order i number)))
+  where
+    far : (l : Kept) → (LiesBefore stretch.stream stretch.first k → ⊥) → (k.stream < l.stream) ⊎ ((k.stream ≡ l.stream) × (k.position ≤ l.position)) → is_at (record { stream = stretch.stream; position = position }) (kept_of l) ≡ false
+    far l not_before (inl less) = not_at stretch.stream position l (λ s p. absurd (not_before (inl (omega arith))))
+    far l not_before (inr (same, le)) = not_at stretch.stream position l (λ s p. absurd (let b = behind (omega arith) in omega arith))
+
+    apart : (i : ℕ) (l : Kept) → slice_get kept i ≡ Some l → (i ≡ number) ⊎ ((i < number) ⊎ (number < i)) → is_at (record { stream = stretch.stream; position = position }) (kept_of l) ≡ false
+    apart i l h (inl same) =
+        let e : l ≡ k = same_Some l k (sym h ∙ ap (slice_get kept) same ∙ at) in
+        let s = ap (λ (x : Kept). x.stream) e in
+        let p = ap (λ (x : Kept). x.position) e in
+        not_at stretch.stream position l (λ a b. absurd (let c = behind (omega arith) in omega arith))
+    apart i l h (inr (inl less)) = before_not_at stretch.stream position l (still_before kept stretch.stream stretch.first position number low first.before i l less h)
+    apart i l h (inr (inr more)) = far l (first.behind number k (omega arith) at) (up number i k l more at h)
 
 -- ---- the same elements in another order
 

@@ -1,5 +1,5 @@
 -- What restates private functions of the plan of an epoch.
-use Rattle.std.specs.Prelude.{◌≡◌, ℕ, ℤ, ◌+◌, ◌<◌, ◌≤◌, ◌⊎◌, List, [], ◌∷◌, Option, Some, slice_get, slice_index, length, map, sum_by, take, drop, count_by, is_none, ◌^◌, All}
+use Rattle.std.specs.Prelude.{◌≡◌, ℕ, ℤ, ◌+◌, ◌<◌, ◌≤◌, ◌⊎◌, List, [], ◌∷◌, Option, Some, None, slice_get, slice_index, length, map, filter, nat_lt, sum_by, take, drop, count_by, is_none, ◌^◌, All}
 use Rattle.std.specs.Option.{option_map_or}
 use Rattle.std.specs.List.{flat_map, range_with_len}
 use Rattle.flow_core_laws.specs.declared.elem.Elem.{Elem}
@@ -7,7 +7,7 @@ use Rattle.flow_core_laws.specs.declared.plan.FramePlan.{FramePlan}
 use Rattle.flow_core_laws.specs.declared.plan.Piece.{Piece}
 use Rattle.flow_core_laws.specs.Place as streams
 use Rattle.flow_core_laws.specs.Place.{places_from}
-use Rattle.flow_core_epochs.specs.Epoch.{number_in}
+use Rattle.flow_core_epochs.specs.Epoch.{number_in, value_kept}
 use Rattle.stream_match.specs.declared.kept.Kept.{Kept}
 use Rattle.stream_match.specs.Kept.{kept_of}
 use Rattle.stream_match_layouts.specs.declared.layout.Layout.{Layout}
@@ -32,6 +32,22 @@ AreSorted kept =
     (i j : ℕ) (k l : Kept) → i < j → slice_get kept i ≡ Some k → slice_get kept j ≡ Some l
     → (k.stream < l.stream) ⊎ ((k.stream ≡ l.stream) × (k.position ≤ l.position))
 
+-- the kept elements before a number lie before a place
+abbrev pub AreBefore : List Kept → ℕ → ℕ → ℕ → Type 0
+AreBefore kept stream position number = (i : ℕ) (k : Kept) → i < number → slice_get kept i ≡ Some k → LiesBefore stream position k
+
+-- A number is that of the first kept element that doesn't lie before a place.
+pub record IsFirstFrom (kept : List Kept) (stream position number : ℕ) : Type 0 where
+  pub within : number ≤ length kept
+  pub before : AreBefore kept stream position number
+  pub behind : (i : ℕ) (k : Kept) → number ≤ i → slice_get kept i ≡ Some k → LiesBefore stream position k → ⊥
+
+-- no element of a stretch is kept
+abbrev pub NoneIsKept : List Kept → Stretch → Type 0
+NoneIsKept kept stretch =
+    (position : ℕ) → stretch.first ≤ position → position < stretch.first + stretch.count
+    → value_kept (map kept_of kept) (record { stream = stretch.stream; position = position }) ≡ None
+
 -- a piece by the number of its frame, or none where it comes from no frame
 abbrev pub renumbered : List ℕ → Piece → List Piece
 renumbered frames p = option_map_or (λ f. record { from = f; to = p.to; first = p.first; count = p.count; at = p.at } ∷ []) (number_in frames p.from) []
@@ -53,6 +69,10 @@ abbrev pub stretches_from : ℕ → ℕ → List Reach → List Stretch
 stretches_from to at [] = []
 stretches_from to at (r ∷ rs) = record { to = to; stream = r.stream; first = r.first; count = r.count; at = at } ∷ stretches_from to (at + r.count) rs
 
+-- those of the stretches that have positions
+abbrev pub with_positions : List Stretch → List Stretch
+with_positions stretches = filter (λ (s : Stretch). nat_lt 0 s.count) stretches
+
 -- how many cells the first frames read
 abbrev pub reads_before : Layout → List ℕ → ℕ → ℕ
 reads_before layout frames f = sum_by (λ a. sum_by read_count (spans_of layout a)) (take f frames)
@@ -72,14 +92,14 @@ epoch_frame layout frames pieces cells f = record {
   pieces = length (pieces_from pieces f);
 }
 
--- What frames read: stretches from the first cell on, and the cell behind them.
+-- What frames read: stretches from the first cell on, those with positions, and the cell behind them.
 pub record IsRead (layout : Layout) (frames : List ℕ) (read : Reaching) : Type 0 where
-  pub stretches_are : read.stretches ≡ flat_map (read_part layout frames) (range_with_len 0 (length frames))
+  pub stretches_are : read.stretches ≡ with_positions (flat_map (read_part layout frames) (range_with_len 0 (length frames)))
   pub next_is : read.next ≡ reads_before layout frames (length frames)
 
--- What leaves frames: stretches behind the cells that they read, and the cell behind them.
+-- What leaves frames: stretches with positions behind the cells that they read, and the cell behind them.
 pub record IsLeft (layout : Layout) (frames : List ℕ) (sink : List Reach) (left : Reaching) : Type 0 where
-  pub stretches_are : left.stretches ≡ stretches_from (length frames) (reads_before layout frames (length frames)) sink
+  pub stretches_are : left.stretches ≡ with_positions (stretches_from (length frames) (reads_before layout frames (length frames)) sink)
   pub next_is : left.next ≡ reads_before layout frames (length frames) + total sink
 
 -- Reaches can leave frames: they are of streams of the layout, and no number passes the end of its type.

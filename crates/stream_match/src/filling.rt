@@ -1,11 +1,12 @@
 ghost use Rattle.std.specs.Prelude.{◌≡◌, ◌+◌, ◌++◌, ◌^◌, ◌<◌, ◌≤◌, All, IfOk, OnOk, count_by, is_none, length, map};
-ghost use Rattle.std.specs.List.{flat_map};
+ghost use Rattle.std.specs.List.{flat_map, range_with_len};
 ghost use Rattle.stream_match.specs.declared.stretch.Stretch.{Stretch};
 ghost use Rattle.stream_match.specs.Kept.{place_of};
-ghost use Rattle.stream_match.specs.EpochCode.{AreSorted, filled_cells, stretch_places};
+ghost use Rattle.stream_match.specs.EpochPlan.{opening_element};
+ghost use Rattle.stream_match.specs.EpochCode.{AreSorted, IsFirstFrom, filled_cells, stretch_places};
 
 use crate::kept::Kept;
-use crate::look_up::epoch_opening;
+use crate::look_up::{epoch_opening, first_from, first_from_on, is_kept_in, opening_element};
 use crate::place::Place;
 use crate::stretch::Stretch;
 use flow_core_laws::Elem;
@@ -39,9 +40,44 @@ fn fill_one(
     requires small { stretch.first + stretch.count < 2 ^ 64 }
     ensures { OnOk result (cells.new ≡ cells.old ++ filled_cells input.now kept.now stretch) }
 {
+    let number = first_from(kept, stretch.stream, stretch.first);
+    if is_kept_in(kept, number, stretch) {
+        return fill_kept(cells, kept, number, input, stretch);
+    }
+    fill_open(cells, input, stretch)?;
+    Ok(())
+}
+
+/// Adds the cells of a stretch of which nothing is kept.
+fn fill_open(cells: &mut List<Option<Elem>>, input: &[u8], stretch: Stretch) -> Result<(), Memory>
+    requires { stretch.first + stretch.count < 2 ^ 64 }
+    ensures { OnOk result (cells.new ≡ cells.old ++ map (opening_element input.now stretch.stream) (range_with_len stretch.first stretch.count)) }
+{
     for offset in 0..stretch.count {
         let position = stretch.first + u64::from(offset);
-        cells.push(epoch_opening(kept, input, stretch.stream, position))?;
+        cells.push(opening_element(input, stretch.stream, position))?;
+    }
+    Ok(())
+}
+
+/// Adds the cells of a stretch, where the first kept element that doesn't lie before it has a number.
+fn fill_kept(
+    cells: &mut List<Option<Elem>>,
+    kept: &[Kept],
+    number: usize,
+    input: &[u8],
+    stretch: Stretch,
+) -> Result<(), Memory>
+    requires kept { AreSorted kept.now }
+    requires number { IsFirstFrom kept.now stretch.stream stretch.first number }
+    requires small { stretch.first + stretch.count < 2 ^ 64 }
+    ensures { OnOk result (cells.new ≡ cells.old ++ filled_cells input.now kept.now stretch) }
+{
+    let mut next = number;
+    for offset in 0..stretch.count {
+        let position = stretch.first + u64::from(offset);
+        next = first_from_on(kept, next, stretch.stream, position);
+        cells.push(epoch_opening(kept, next, input, stretch.stream, position))?;
     }
     Ok(())
 }

@@ -19,6 +19,7 @@ mod frames;
 mod gather;
 mod kept;
 mod look_up;
+mod nearby;
 mod numbers;
 mod pieces;
 mod place;

@@ -6,7 +6,7 @@ ghost use Rattle.stream_match_layouts.specs.Layout.{IsLayout};
 ghost use Rattle.stream_match_layouts.specs.Spans.{frame_count, write_count};
 ghost use Rattle.stream_match.specs.Weave.{total};
 ghost use Rattle.stream_match.specs.EpochPlan.{AreFrames, read_reach, leaves_from, staying, leaving_reach, leaving_reaches};
-ghost use Rattle.stream_match.specs.EpochCode.{stretches_from, reads_before, read_part};
+ghost use Rattle.stream_match.specs.EpochCode.{stretches_from, with_positions, reads_before, read_part};
 
 use crate::pieces::reads;
 use crate::stretch::Stretch;
@@ -14,7 +14,7 @@ use os_io::{List, Memory};
 use std::alloc::Global;
 use stream_match_layouts::{Layout, Span};
 
-/// Stretches behind one another, and the cell behind the last one.
+/// Stretches behind one another, each with a position at least, and the cell behind the last one.
 #[derive(Drop)]
 pub(crate) struct Reaching {
     pub(crate) stretches: List<Stretch>,
@@ -25,11 +25,11 @@ pub(crate) struct Reaching {
 pub(crate) fn reading(alloc: Global, layout: &Layout, frames: &[u32]) -> Result<Reaching, Memory>
     requires layout { IsLayout layout.now }
     requires frames { AreFrames layout.now frames.now }
-    ensures stretches { IfOk result (λ r. r.stretches ≡ flat_map (read_part layout.now frames.now) (range_with_len 0 (length frames.now))) }
+    ensures stretches { IfOk result (λ r. r.stretches ≡ with_positions (flat_map (read_part layout.now frames.now) (range_with_len 0 (length frames.now)))) }
     ensures next { IfOk result (λ r. r.next ≡ reads_before layout.now frames.now (length frames.now)) }
 {
     let mut reading = Reaching {
-        stretches: List::new(alloc),
+        stretches: List::with_capacity(alloc, spans_in(layout, frames))?,
         next: 0,
     };
     for (number, frame) in frames.iter().enumerate() {
@@ -51,11 +51,11 @@ pub(crate) fn leaving(
     requires cursors { length cursors.now ≡ length layout.now.writers }
     requires small { All (λ cursor. cursor < 2 ^ 62) cursors.now }
     requires next { next ≡ reads_before layout.now frames.now (length frames.now) }
-    ensures stretches { IfOk result (λ r. r.stretches ≡ stretches_from (length frames.now) next (leaving_reaches layout.now frames.now cursors.now)) }
+    ensures stretches { IfOk result (λ r. r.stretches ≡ with_positions (stretches_from (length frames.now) next (leaving_reaches layout.now frames.now cursors.now))) }
     ensures next { IfOk result (λ r. r.next ≡ next + total (leaving_reaches layout.now frames.now cursors.now)) }
 {
     let mut leaving = Reaching {
-        stretches: List::new(alloc),
+        stretches: List::with_capacity(alloc, spans_in(layout, frames))?,
         next,
     };
     for frame in frames {
@@ -68,11 +68,24 @@ pub(crate) fn leaving(
     Ok(leaving)
 }
 
+/// How many spans frames have, as far as a `usize` goes.
+fn spans_in(layout: &Layout, frames: &[u32]) -> usize
+    requires layout { IsLayout layout.now }
+    requires frames { AreFrames layout.now frames.now }
+{
+    let mut spans: usize = 0;
+    for frame in frames {
+        spans = spans.saturating_add(layout.spans_of(*frame as usize).len());
+    }
+    spans
+}
+
 impl Reaching {
     /// Adds what spans read.
     fn add_reads(&mut self, spans: &[Span], to: u32) -> Result<(), Memory>
         requires { self.old.next + sum_by (λ (s : Span). s.count) spans.now < 2 ^ 32 }
-        ensures stretches { OnOk result (self.new.stretches ≡ self.old.stretches ++ stretches_from to self.old.next (map read_reach spans.now)) }
+        ensures stretches { OnOk result (self.new.stretches ≡ self.old.stretches
+            ++ with_positions (stretches_from to self.old.next (map read_reach spans.now))) }
         ensures next { OnOk result (self.new.next ≡ self.old.next + total (map read_reach spans.now)) }
     {
         for span in spans {
@@ -87,7 +100,7 @@ impl Reaching {
         requires exist { All (λ (s : Span). s.stream < length cursors.now) spans.now }
         requires small { All (λ (s : Span). s.first + staying cursors.now s < 2 ^ 63) spans.now }
         ensures stretches { OnOk result (self.new.stretches ≡ self.old.stretches
-            ++ stretches_from to self.old.next (map (leaving_reach cursors.now) spans.now)) }
+            ++ with_positions (stretches_from to self.old.next (map (leaving_reach cursors.now) spans.now))) }
         ensures next { OnOk result (self.new.next ≡ self.old.next + total (map (leaving_reach cursors.now) spans.now)) }
     {
         for span in spans {
@@ -101,7 +114,8 @@ impl Reaching {
         requires room { self.old.next + span.count < 2 ^ 32 }
         requires exists { span.stream < length cursors.now }
         requires small { span.first + staying cursors.now span < 2 ^ 63 }
-        ensures stretches { OnOk result (self.new.stretches ≡ self.old.stretches ++ stretches_from to self.old.next (leaving_reach cursors.now span ∷ [])) }
+        ensures stretches { OnOk result (self.new.stretches ≡ self.old.stretches
+            ++ with_positions (stretches_from to self.old.next (leaving_reach cursors.now span ∷ []))) }
         ensures next { OnOk result (self.new.next ≡ self.old.next + total (leaving_reach cursors.now span ∷ [])) }
     {
         let staying = staying(span, cursors);
@@ -109,13 +123,16 @@ impl Reaching {
         self.add(to, span.stream, first, left(span, staying))
     }
 
-    /// Adds a stretch.
+    /// Adds a stretch, if it has a position.
     pub(crate) fn add(&mut self, to: u32, stream: u32, first: u64, count: u32) -> Result<(), Memory>
         requires { self.old.next + count < 2 ^ 32 }
         ensures stretches { OnOk result (self.new.stretches ≡ self.old.stretches
-            ++ record { to = to; stream = stream; first = first; count = count; at = self.old.next } ∷ []) }
+            ++ with_positions (record { to = to; stream = stream; first = first; count = count; at = self.old.next } ∷ [])) }
         ensures next { OnOk result (self.new.next ≡ self.old.next + count) }
     {
+        if count == 0 {
+            return Ok(());
+        }
         self.stretches.push(Stretch {
             to,
             stream,

@@ -12,6 +12,7 @@ use crate::epoch_frames::{between, epoch_frames};
 use crate::filling::{empty, fill};
 use crate::gather::{gather, place_by_frame};
 use crate::kept::Kept;
+use crate::nearby::Nearby;
 use crate::reaching::Reaching;
 use crate::stretch::Stretch;
 use flow_core_laws::{Elem, FramePlan, Piece, Plan};
@@ -39,7 +40,7 @@ pub(crate) fn weave_rows(
 {
     let reads = read.stretches.as_slice();
     let leaves = left.stretches.as_slice();
-    let filled = filled(alloc, kept, input, reads, leaves)?;
+    let filled = filled(alloc, kept, input, reads, leaves, left.next)?;
     let pieces = gathered(alloc, layout, frames, reads, leaves)?;
     let plans = epoch_frames(alloc, layout, frames, pieces.as_slice(), filled.as_slice())?;
     let placed = place_by_frame(alloc, pieces.as_slice(), plans.as_slice())?;
@@ -61,20 +62,21 @@ pub(crate) fn weave_rows(
     })
 }
 
-/// The cells of what is read and of what leaves.
+/// The cells of what is read and of what leaves, so many together.
 fn filled(
     alloc: Global,
     kept: &[Kept],
     input: &[u8],
     reads: &[Stretch],
     leaves: &[Stretch],
+    count: u32,
 ) -> Result<List<Option<Elem>>, Memory>
     requires kept { AreSorted kept.now }
     requires reads { All (λ (s : Stretch). s.first + s.count < 2 ^ 64) reads.now }
     requires leaves { All (λ (s : Stretch). s.first + s.count < 2 ^ 64) leaves.now }
     ensures { IfOk result (λ cells. cells ≡ flat_map (filled_cells input.now kept.now) reads.now ++ flat_map (filled_cells input.now kept.now) leaves.now) }
 {
-    let mut cells = List::new(alloc);
+    let mut cells = List::with_capacity(alloc, count as usize)?;
     fill(&mut cells, kept, input, reads)?;
     fill(&mut cells, kept, input, leaves)?;
     Ok(cells)
@@ -96,7 +98,8 @@ fn gathered(
         ++ flat_map (pieces_for layout.now frames.now) leaves.now) }
 {
     let mut pieces = List::new(alloc);
-    gather(&mut pieces, layout, frames, reads)?;
-    gather(&mut pieces, layout, frames, leaves)?;
+    let mut nearby = Nearby::new(alloc, layout.writers.len())?;
+    gather(&mut pieces, layout, frames, reads, &mut nearby)?;
+    gather(&mut pieces, layout, frames, leaves, &mut nearby)?;
     Ok(pieces)
 }

@@ -1,19 +1,15 @@
-use Rattle.std.proofs.Common.{◌∙◌, ◌+◌, ◌++◌, ◌∷◌, [], ap, sym, map, refl}
-use Rattle.std.specs.List.{range_with_len}
-use Rattle.std.proofs.lemmas.List.{append_assoc}
-use Rattle.std.proofs.lemmas.List.FromFn.{map-range_with_len_more}
-use Rattle.stream_match.specs.EpochPlan.{epoch_opening}
+use Rattle.std.proofs.Common.{◌∙◌, ◌++◌, ap, map, sym}
+use Rattle.std.specs.Option.{option_map_or}
+use Rattle.std.specs.Prelude.{Some}
+use Rattle.stream_match.specs.EpochPlan.{epoch_opening, opening_element}
 use Rattle.stream_match.specs.Kept.{kept_of}
+use Rattle.stream_match_layouts.proofs.Pushing.{map-range-same}
 use Rattle.stream_match.proofs.filling.fill_one.Goals as goal
 
-pub loop-offset-preserved : goal.loop-offset-preserved
-loop-offset-preserved c =
-    let f = epoch_opening c.args.input.now (map kept_of c.args.kept.now) c.args.stretch.stream in
-    let first = c.args.stretch.first in
-    let k = c.loop-offset.offset in
-    let old = c.args.cells.now in
-    c.in_ok-push.ensures.ok
-    ∙ ap (λ v. c.loop-offset.cells ++ v ∷ []) (c.epoch_opening.ensures ∙ ap (λ n. f (first + n)) c.from.ensures)
-    ∙ ap (λ xs. xs ++ f (first + k) ∷ []) c.loop-offset.invariant
-    ∙ append_assoc old (map f (range_with_len first k)) (f (first + k) ∷ [])
-    ∙ ap (λ xs. old ++ xs) (sym (map-range_with_len_more f first k (first + k) refl))
+pub returns : goal.returns
+returns c =
+    let s = c.args.stretch in
+    let opening = opening_element c.args.input.now s.stream in
+    c.in_ok-fill_open.ensures
+    ∙ ap (λ xs. c.args.cells.now ++ xs) (map-range-same opening (epoch_opening c.args.input.now (map kept_of c.args.kept.now) s.stream) s.first s.count
+    (λ p low high. sym (ap (λ o. option_map_or (λ e. Some e) o (opening p)) (c.is_kept_in.ensures c.if-is_kept_in.false p low high))))

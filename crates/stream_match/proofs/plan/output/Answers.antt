@@ -2,6 +2,7 @@ use Rattle.std.proofs.Common.{◌≡◌, ◌+◌, ◌++◌, ◌∷◌, [], ◌�
 use Rattle.stream_match_layouts.proofs.Sums.{cells_few, frames_bound}
 use Rattle.stream_match.specs.declared.stretch.Stretch.{Stretch}
 use Rattle.stream_match.specs.Weave.{total}
+use Rattle.stream_match.specs.EpochCode.{with_positions}
 use Rattle.stream_match.specs.Whole.{all_frames, output_reach}
 use Rattle.stream_match.proofs.Behind.{total_one}
 use Rattle.stream_match.proofs.Whole.{can_leave, count_is}
@@ -27,9 +28,9 @@ returns c =
     let at = c.requires.next in
     record {
       stretches_are = c.in_ok-add.ensures.stretches
-          ∙ ap (λ (xs : List Stretch). xs ++ record { to = c.frames.result; stream = 1; first = 0; count = get_or c.as_slice.result.now 1 0; at = c.args.next } ∷ []) c.new.ensures
-          ∙ ap (λ m. record { to = m; stream = 1; first = 0; count = get_or c.as_slice.result.now 1 0; at = c.args.next } ∷ []) n
-          ∙ ap (λ m. record { to = length all; stream = 1; first = 0; count = m; at = c.args.next } ∷ []) k
-          ∙ ap (λ m. record { to = length all; stream = 1; first = 0; count = get_or layout.writes 1 0; at = m } ∷ []) at;
+          ∙ ap (λ (xs : List Stretch). xs ++ with_positions (record { to = c.frames.result; stream = 1; first = 0; count = get_or c.as_slice.result.now 1 0; at = c.args.next } ∷ [])) c.new.ensures
+          ∙ ap (λ m. with_positions (record { to = m; stream = 1; first = 0; count = get_or c.as_slice.result.now 1 0; at = c.args.next } ∷ [])) n
+          ∙ ap (λ m. with_positions (record { to = length all; stream = 1; first = 0; count = m; at = c.args.next } ∷ [])) k
+          ∙ ap (λ m. with_positions (record { to = length all; stream = 1; first = 0; count = get_or layout.writes 1 0; at = m } ∷ [])) at;
       next_is = c.in_ok-add.ensures.next ∙ ap (λ m. c.args.next + m) (k ∙ sym (total_one (output_reach layout))) ∙ ap (λ m. m + total (output_reach layout ∷ [])) at;
     }

@@ -5,8 +5,8 @@ use Rattle.stream_match_layouts.specs.declared.span.Span.{Span}
 use Rattle.stream_match_layouts.specs.Spans.{spans_of}
 use Rattle.stream_match.specs.Weave.{Reach, total}
 use Rattle.stream_match.specs.EpochPlan.{staying, leaving_reach, leaving_reaches}
-use Rattle.stream_match.specs.EpochCode.{stretches_from}
-use Rattle.stream_match.proofs.Behind.{few_frames, frame_few, left_few, spans_exist, spans_small, leaving_more, stretches-append}
+use Rattle.stream_match.specs.EpochCode.{stretches_from, with_positions}
+use Rattle.stream_match.proofs.Behind.{few_frames, frame_few, left_few, spans_exist, spans_small, leaving_more, stretches-append, with_positions-append}
 use Rattle.stream_match.proofs.reaching.leaving.Goals as goal
 
 pub overflow_cast-frames : goal.overflow_cast-frames
@@ -46,10 +46,10 @@ loop-frame-preserved c =
     let more = leaving_more layout c.requires.layout frames cursors k c.loop-frame-test.true in
     record {
       stretches = c.in_ok-add_leaving.ensures.stretches
-          ∙ ap (λ xs. c.loop-frame.leaving.stretches ++ stretches_from n c.loop-frame.leaving.next (map (leaving_reach cursors) xs)) c.spans_of.ensures
-          ∙ ap (λ xs. xs ++ stretches_from n c.loop-frame.leaving.next here) i.stretches
-          ∙ ap (λ m. stretches_from n c.args.next before ++ stretches_from n m here) i.next
-          ∙ sym (ap (stretches_from n c.args.next) more ∙ stretches-append n c.args.next before here);
+          ∙ ap (λ xs. c.loop-frame.leaving.stretches ++ with_positions (stretches_from n c.loop-frame.leaving.next (map (leaving_reach cursors) xs))) c.spans_of.ensures
+          ∙ ap (λ xs. xs ++ with_positions (stretches_from n c.loop-frame.leaving.next here)) i.stretches
+          ∙ ap (λ m. with_positions (stretches_from n c.args.next before) ++ with_positions (stretches_from n m here)) i.next
+          ∙ sym (ap with_positions (ap (stretches_from n c.args.next) more ∙ stretches-append n c.args.next before here) ∙ with_positions-append (stretches_from n c.args.next before) (stretches_from n (c.args.next + total before) here));
       next = (let a = ap total more ∙ sum_by-append (λ (x : Reach). x.count) before here in
           let b = c.in_ok-add_leaving.ensures.next ∙ ap (λ xs. c.loop-frame.leaving.next + total (map (leaving_reach cursors) xs)) c.spans_of.ensures in
           omega (arith, a, b, i.next));

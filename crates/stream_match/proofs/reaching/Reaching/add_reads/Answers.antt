@@ -2,6 +2,7 @@ use Rattle.std.proofs.Common.{◌+◌, ◌++◌, ◌∷◌, [], ◌∙◌, get_o
 use Rattle.stream_match_layouts.specs.Spans.{read_count}
 use Rattle.stream_match_layouts.specs.Writers.{no_span}
 use Rattle.stream_match.specs.EpochPlan.{read_reach}
+use Rattle.stream_match.specs.EpochCode.{with_positions}
 use Rattle.stream_match_layouts.proofs.Tallies.{read-le, tally_fits}
 use Rattle.stream_match.proofs.Behind.{span_added, span_next, read_total}
 use Rattle.stream_match.proofs.reaching.Reaching.add_reads.Goals as goal
@@ -22,6 +23,6 @@ loop-span-preserved c =
     let self = c.args.self.now in
     record {
       stretches = span_added read_reach c.args.to self.next spans k no_span self.stretches c.loop-span.self.stretches c.add.new.self.stretches c.loop-span.self.next c.loop-span-test.true i.stretches i.next
-          (c.in_ok-add.ensures.stretches ∙ ap (λ n. c.loop-span.self.stretches ++ record { to = c.args.to; stream = s.stream; first = s.first; count = n; at = c.loop-span.self.next } ∷ []) c.reads.ensures);
+          (c.in_ok-add.ensures.stretches ∙ ap (λ n. c.loop-span.self.stretches ++ with_positions (record { to = c.args.to; stream = s.stream; first = s.first; count = n; at = c.loop-span.self.next } ∷ [])) c.reads.ensures);
       next = span_next read_reach self.next spans k no_span c.loop-span.self.next c.add.new.self.next c.loop-span-test.true i.next (c.in_ok-add.ensures.next ∙ ap (λ n. c.loop-span.self.next + n) c.reads.ensures);
     }

@@ -1,8 +1,0 @@
-use Rattle.std.proofs.Common.{◌≡◌, ◌++◌, map}
-use Rattle.std.specs.List.{range_with_len}
-use Rattle.stream_match.specs.EpochPlan.{epoch_opening}
-use Rattle.stream_match.specs.Kept.{kept_of}
-use Rattle.stream_match.proofs.filling.fill_one.Given as goal
-
-abbrev pub invariant-loop-offset : goal.invariant-loop-offset
-invariant-loop-offset l = l.cells ≡ l.initial.cells ++ map (epoch_opening l.input (map kept_of l.kept) l.stretch.stream) (range_with_len l.stretch.first l.offset)
