@@ -1,3 +1,2 @@
 pub mod TaskLines
-pub mod Meanings
 pub mod ReadSo
