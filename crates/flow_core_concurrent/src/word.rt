@@ -1,6 +1,6 @@
 use flow_core_laws::TaskEnd;
 
-/// How far a frame is.
+/// How far a frame has come.
 #[derive(Clone, Copy, Debug, PartialEq, Eq)]
 pub enum Word {
     /// It misses so many elements, at least one.
