@@ -1,6 +1,6 @@
 use flow_core_laws::TaskEnd;
 
-/// How far a frame has come.
+/// How far a frame is.
 #[derive(Clone, Copy, Debug, PartialEq, Eq)]
 pub enum Word {
     /// It misses so many elements, at least one.
