@@ -2,25 +2,22 @@
 # How the time of a walk grows with its members, and that of checking the chain that it is, as a table: for each number of activations, each
 # of which waits for the next one, the members of the walk, whether they are told to be a chain, the milliseconds of the quickest of
 # five walks and of the quickest of five checks, and how many times those of half the number. The program for it is proved and built
-# in a copy of the crates below; it tests the conditions as wait_tests does.
+# in a copy of the crates below.
 set -eu
 top=$(cd "$(dirname "${BASH_SOURCE[0]}")/.." && pwd)
 work=$(mktemp -d)
 trap 'rm -rf "$work"' EXIT
 mkdir "$work/crates"
-below='os_io flow_core_laws stream_match_layouts collector wait_certs_laws wait_certs'
+below='os_io flow_core_laws stream_match_layouts lawful_layouts collector wait_certs_laws wait_certs'
 for crate in $below; do
     cp -r "$top/crates/$crate" "$work/crates"
     grep -E "^$crate:" "$top/crates.txt" >>"$work/crates.txt"
 done
-echo 'chains: wait_certs stream_match_layouts flow_core_laws os_io' >>"$work/crates.txt"
+echo 'chains: lawful_layouts wait_certs stream_match_layouts flow_core_laws os_io' >>"$work/crates.txt"
 
 chains=$work/crates/chains
-mkdir -p "$chains/src" "$chains/proofs"
+mkdir -p "$chains/src"
 cp "$top/bench/chains.program" "$chains/src/main.rt"
-cp "$top/crates/wait_tests/src/lawful.rt" "$chains/src"
-cp -r "$top/crates/wait_tests/proofs/lawful" "$chains/proofs"
-find "$chains/proofs" -name '*.antt' -exec sed -i 's/wait_tests\.proofs\.lawful/chains.proofs.lawful/' {} +
 (cd "$chains" && rt run -- 1) >"$work/log" 2>&1 || { cat "$work/log" >&2; exit 1; }
 
 printf '%8s %8s %6s %10s %6s %10s %6s\n' number members chain walk ratio check ratio

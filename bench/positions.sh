@@ -2,24 +2,19 @@
 # How the time of laying out and planning activations grows with their number, as a table: for each kind and each
 # number of activations the cells and pieces of the plan, the milliseconds of the quickest of five times, the test of
 # the conditions included, and how many times those of half the number. The program for it is proved and built in a
-# copy of the crates below; it tests the conditions as runtime_tests does.
+# copy of the crates below.
 set -eu
 top=$(cd "$(dirname "${BASH_SOURCE[0]}")/.." && pwd)
 work=$(mktemp -d)
 trap 'rm -rf "$work"' EXIT
 mkdir "$work/crates"
-for crate in os_io flow_core_laws flow_core_epochs stream_match_layouts stream_match; do cp -r "$top/crates/$crate" "$work/crates"; done
-grep -E '^(os_io|flow_core_laws|flow_core_epochs|stream_match_layouts|stream_match):' "$top/crates.txt" >"$work/crates.txt"
-echo 'positions: stream_match stream_match_layouts flow_core_laws os_io' >>"$work/crates.txt"
+for crate in os_io flow_core_laws flow_core_epochs stream_match_layouts stream_match lawful_layouts; do cp -r "$top/crates/$crate" "$work/crates"; done
+grep -E '^(os_io|flow_core_laws|flow_core_epochs|stream_match_layouts|stream_match|lawful_layouts):' "$top/crates.txt" >"$work/crates.txt"
+echo 'positions: lawful_layouts stream_match stream_match_layouts flow_core_laws os_io' >>"$work/crates.txt"
 
 positions=$work/crates/positions
 mkdir -p "$positions/src"
 cp "$top/bench/positions.program" "$positions/src/main.rt"
-cp "$top/crates/runtime_tests/src/lawful.rt" "$positions/src"
-mkdir "$positions/proofs"
-cp -r "$top/crates/runtime_tests/proofs/lawful" "$positions/proofs"
-find "$positions/proofs" -name '*.antt' \
-    -exec sed -i 's/runtime_tests\.proofs\.lawful/positions.proofs.lawful/' {} +
 (cd "$positions" && rt run -- ones 1) >"$work/log" 2>&1 || { cat "$work/log" >&2; exit 1; }
 
 printf '%-10s %8s %8s %8s %10s %6s\n' kind number cells pieces ms ratio

@@ -19,7 +19,7 @@
 #   rounds     60 rounds of 500 activations
 #
 # With the word `small` there are 64 times fewer activations and turns, to try the script. The program is proved and built in a
-# copy of the crates below it; its bodies and its test of the conditions are those of runtime_tests.
+# copy of the crates below it; its bodies are those of runtime_tests.
 #
 #     bench/rounds.sh [small] [TIMES]
 set -eu
@@ -34,22 +34,20 @@ work=$(mktemp -d)
 trap 'rm -rf "$work"' EXIT
 mkdir "$work/crates"
 for crate in os_io flow_core_laws flow_core_concurrent flow_core flow_core_epochs stream_match_layouts stream_match frame_table \
-    steal_pool task_workers_round task_workers_worker task_workers_crew task_workers; do
+    steal_pool lawful_layouts task_workers_round task_workers_worker task_workers_crew task_workers; do
     cp -r "$top/crates/$crate" "$work/crates"
     grep -E "^$crate:" "$top/crates.txt" >>"$work/crates.txt"
 done
-echo 'rounds: task_workers stream_match stream_match_layouts flow_core flow_core_laws os_io' >>"$work/crates.txt"
+echo 'rounds: lawful_layouts task_workers stream_match stream_match_layouts flow_core flow_core_laws os_io' >>"$work/crates.txt"
 cp "$top/HANDLES" "$work"
 
 rounds=$work/crates/rounds
-mkdir -p "$rounds/src" "$rounds/specs" "$rounds/proofs"
+mkdir -p "$rounds/src" "$rounds/specs"
 cp "$top/bench/rounds.program" "$rounds/src/main.rt"
-cp "$top/crates/runtime_tests/src/lawful.rt" "$top/crates/runtime_tests/src/rounds/lasts.rt" "$rounds/src"
+cp "$top/crates/runtime_tests/src/rounds/lasts.rt" "$rounds/src"
 cp "$top/crates/runtime_tests/specs/Lasts.antt" "$rounds/specs"
 echo 'pub mod Lasts' >"$rounds/specs/Lib.antt"
-cp -r "$top/crates/runtime_tests/proofs/lawful" "$rounds/proofs"
-find "$rounds" \( -name '*.antt' -o -name '*.rt' \) \
-    -exec sed -i 's/runtime_tests\.proofs\.lawful/rounds.proofs.lawful/; s/runtime_tests\.specs/rounds.specs/' {} +
+find "$rounds" -name '*.rt' -exec sed -i 's/runtime_tests\.specs/rounds.specs/' {} +
 (cd "$rounds" && rt run -- lag 4 1 1 0 alone 1 1) >"$work/log" 2>&1 || { cat "$work/log" >&2; exit 1; }
 program=$rounds/out/rounds
 valgrind=$(command -v valgrind || true)

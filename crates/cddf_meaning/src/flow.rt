@@ -1,4 +1,4 @@
-/// What comes behind a statement.
+/// How a statement is left, and so what comes behind it.
 #[derive(Clone, Copy, Debug, PartialEq, Eq)]
 pub enum Flow {
     GoesOn,

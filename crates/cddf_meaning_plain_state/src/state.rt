@@ -305,7 +305,7 @@ impl State {
         }
     }
 
-    /// A name is in scope from here on, of the type `unsigned` or `int`.
+    /// Declares a name: it is in scope from here on, of the type `unsigned` or `int`.
     pub fn declare(&mut self, id: u32, unsigned: bool, variable: Variable) -> Result<(), Memory>
         ensures ok { OnOk result (self.new ≡ states.declared id unsigned variable self.old) }
         ensures err { OnErr result (self.new ≡ self.old) }

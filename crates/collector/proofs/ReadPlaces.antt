@@ -24,7 +24,7 @@ use Rattle.collector.specs.Walking.{IsSpanIn, is_gap, is_missing, first_gap, rea
 use Rattle.collector.proofs.Searches.{from_bound, none_in, find-map, find-parts}
 
 -- the places that the spans of windows read are those of the input windows
-reads_are : (ws : List Window) → flat_map read_places (map span_of ws) ≡ flat_map places_of (filter (λ (w : Window). not w.claim.write) ws)
+pub reads_are : (ws : List Window) → flat_map read_places (map span_of ws) ≡ flat_map places_of (filter (λ (w : Window). not w.claim.write) ws)
 reads_are [] = refl
 reads_are (w ∷ ws) = by w.claim.write (reads_are ws)
   where

@@ -22,7 +22,7 @@ pub struct Label {
 }
 
 impl Draft {
-    /// A draft of no code.
+    /// A draft without instructions.
     pub fn new(alloc: Global) -> Draft
         ensures instrs { result.instrs ≡ [] }
         ensures places { result.places ≡ [] }

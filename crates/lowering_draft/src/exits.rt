@@ -16,7 +16,7 @@ impl Exits {
     ghost use Rattle.std.specs.Prelude.{◌≡◌};
     ghost use Rattle.lowering_draft.specs.Emission.Statements.{in_loop};
 
-    /// Those of the body of a loop.
+    /// Where the statements of a loop's body are left: `break` and `continue` go to labels of this loop.
     pub fn in_loop(self, broke: Label, continued: Label) -> Exits
         ensures { result ≡ in_loop self broke continued }
     {

@@ -10,7 +10,7 @@ use os_ast::{Direction, What};
 use os_code::Instr;
 use os_io::Memory;
 
-/// Reads a name without an index. An item's one element has index 0.
+/// Adds the code that reads a name without an index. The one element of an item has index 0.
 pub fn emit_reading(draft: &mut Draft, what: What, line: u32) -> Result<(), Memory>
     ensures { OnOk result (draft.new ≡ with_instrs draft.old (reading what line)) }
 {
@@ -26,7 +26,7 @@ pub fn emit_reading(draft: &mut Draft, what: What, line: u32) -> Result<(), Memo
     }
 }
 
-/// Reads a name whose index is on the stack.
+/// The instruction that reads a name whose index is on the stack.
 pub fn reading_at(what: What, line: u32) -> Instr
     ensures { result ≡ reading_at what line }
 {
@@ -45,7 +45,7 @@ pub fn reading_at(what: What, line: u32) -> Instr
     }
 }
 
-/// Calls a function.
+/// The instruction that calls a function.
 pub fn calling(what: What) -> Instr
     ensures { result ≡ calling what }
 {
@@ -61,7 +61,7 @@ pub fn calling(what: What) -> Instr
     }
 }
 
-/// The element at an index, which stays on the stack.
+/// Adds the code that loads the element at the index on the stack, and leaves the index below it.
 pub fn emit_element(draft: &mut Draft, what: What, line: u32) -> Result<(), Memory>
     ensures { OnOk result (draft.new ≡ with_instrs draft.old (fetching_at true what line)) }
 {
@@ -69,7 +69,7 @@ pub fn emit_element(draft: &mut Draft, what: What, line: u32) -> Result<(), Memo
     draft.emit(reading_at(what, line))
 }
 
-/// The index of an item's one element is 0.
+/// Adds the index where the target has none in the text: the one element of an item has index 0.
 pub fn emit_aiming(draft: &mut Draft, what: What) -> Result<(), Memory>
     ensures { OnOk result (draft.new ≡ with_instrs draft.old (aiming what)) }
 {
@@ -84,7 +84,7 @@ pub fn emit_aiming(draft: &mut Draft, what: What) -> Result<(), Memory>
     }
 }
 
-/// Checks an index, which stays on the stack.
+/// The instruction that checks an index and leaves it on the stack.
 pub fn checking_at(what: What, line: u32) -> Instr
     ensures { result ≡ checking_at what line }
 {
@@ -99,7 +99,7 @@ pub fn checking_at(what: What, line: u32) -> Instr
     }
 }
 
-/// Stores into a name without an index.
+/// The instruction that stores into a name without an index.
 pub fn storing(what: What, line: u32) -> Instr
     ensures { result ≡ storing what line }
 {
@@ -114,7 +114,7 @@ pub fn storing(what: What, line: u32) -> Instr
     }
 }
 
-/// Stores into a name whose index stands below the value.
+/// The instruction that stores into a name whose index stands below the value.
 pub fn storing_at(what: What, line: u32) -> Instr
     ensures { result ≡ storing_at what line }
 {
@@ -133,7 +133,7 @@ pub fn storing_at(what: What, line: u32) -> Instr
     }
 }
 
-/// Checks a burst: that of an output item is its window's horizon.
+/// The instruction that checks a burst: that of an output item has to be the horizon of its window.
 pub fn bursting(direction: Direction, window: What, line: u32) -> Instr
     ensures { result ≡ bursting direction window line }
 {

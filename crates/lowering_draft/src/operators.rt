@@ -19,7 +19,7 @@ pub fn literal(number: u32) -> i32
     number.min(2_147_483_647) as i32
 }
 
-/// The operator on two numbers of these types that are on the stack.
+/// Adds the operator on the two numbers on the stack, by their types.
 pub fn emit_operation(
     draft: &mut Draft,
     operator: Binary,

@@ -17,7 +17,7 @@ pub struct Units {
 }
 
 impl Units {
-    /// No unit yet.
+    /// A code of which no unit is made yet.
     pub fn new(alloc: Global) -> Units
         ensures { result ≡ no_units }
     {
@@ -29,7 +29,7 @@ impl Units {
         }
     }
 
-    /// A unit of the code from a place on, which has been drafted.
+    /// Adds a unit whose instructions were drafted: those from a place on.
     pub fn add(&mut self, start: usize, args: u32, slots: u32) -> Result<(), Memory>
         ensures { OnOk result (self.new ≡ unit_from start args slots self.old) }
     {

@@ -19,7 +19,7 @@ use os_ast::{Assign, Binary, Change, Expr, Mark, Step, Target};
 use os_code::Instr;
 use os_io::Memory;
 
-/// A change.
+/// Adds the code of a change: of an assignment, or of `++` and `--`.
 pub fn emit_change(draft: &mut Draft, told: &Told<'_>, change: &Change) -> Result<(), Memory>
     ensures { OnOk result (draft.new ≡ change_code (told_at told.now.names.now) (change_tree change.now) draft.old) }
 {

@@ -13,7 +13,7 @@ use os_ast::{Declarator, Expr, Index, Start, What};
 use os_code::Instr;
 use os_io::{List, Memory};
 
-/// What stands before the first `;` in the head of a `for`.
+/// Adds the code of what stands before the first `;` in the head of a `for`.
 pub fn emit_start(draft: &mut Draft, told: &Told<'_>, start: &Start) -> Result<(), Memory>
     ensures { OnOk result (draft.new ≡ start_code (told_at told.now.names.now) (start_tree start.now) draft.old) }
 {
@@ -24,7 +24,7 @@ pub fn emit_start(draft: &mut Draft, told: &Told<'_>, start: &Start) -> Result<(
     }
 }
 
-/// Declarators, one after another.
+/// Adds the code of declarators, one after another.
 #[tactic(auto, using(crate::proofs::Rules::declarators))]
 pub fn emit_declarators(
     draft: &mut Draft,

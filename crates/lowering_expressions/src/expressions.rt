@@ -17,7 +17,7 @@ use os_ast::{Binary, Call, Expr, Link, Mark, Target, Unary};
 use os_code::Instr;
 use os_io::{List, Memory};
 
-/// An expression. It tells whether this is of the type `unsigned`.
+/// Adds the code of an expression, which leaves its value on the stack. The answer is whether it is of the type `unsigned`.
 #[cycle(expressions)]
 #[tactic(auto, using(crate::proofs::Rules::expressions))]
 pub fn emit_expr(draft: &mut Draft, told: &Told<'_>, expr: &Expr) -> Result<bool, Memory>
@@ -79,7 +79,7 @@ pub(crate) fn emit_place(
     Ok(named.unsigned)
 }
 
-/// A call: its arguments, a unit of the budget, the call.
+/// Adds the code of a call: its arguments, the unit of the budget that it takes, and the call itself.
 #[cycle(expressions)]
 #[tactic(auto, using(crate::proofs::Rules::expressions))]
 pub fn emit_call(draft: &mut Draft, told: &Told<'_>, call: &Call) -> Result<bool, Memory>

@@ -38,7 +38,7 @@ fn is_same(kind: Kind, other: Kind) -> bool
 }
 
 impl<'a> Cursor<'a> {
-    /// The first token's place.
+    /// A cursor before the first of some tokens.
     pub fn new(tokens: &'a [Token]) -> Cursor<'a>
         requires { length tokens.now ≤ text_limit }
         ensures { result ≡ placed_from 0 tokens.now }

@@ -31,7 +31,7 @@ pub struct Reading {
 }
 
 impl Reading {
-    /// Nothing that was read. It takes no memory.
+    /// A file of which nothing was read yet. It takes no memory.
     pub fn new(alloc: Global) -> Reading
         ensures { IsFresh result }
     {

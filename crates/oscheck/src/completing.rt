@@ -9,6 +9,7 @@ use crate::judging::tell_fault;
 use crate::telling::{Named, tell_no_memory};
 use front_end::{TEXT_LIMIT, TextError, read_program};
 use os_io::Memory;
+use oscheck_places::TextFault;
 use oscheck_sentences::NO_PROGRAM;
 use std::alloc::Global;
 use std::io;
@@ -56,16 +57,17 @@ pub(crate) fn complete_text(
 {
     let Named { name, text } = named;
     match read_program(alloc, text) {
-        Err(TextError::Refused { code, line }) if code < NO_PROGRAM => tell_fault(
-            told, alloc, named, code, line,
-        ),
         Err(
             TextError::Refused {
                 code: NO_PROGRAM,
                 ..
             },
         ) => write_completion(out, told, alloc, name, text),
+        Err(TextError::Refused { code, line }) => match TextFault::of_code(code) {
+            Some(fault) => tell_fault(told, alloc, named, fault, line),
+            None => write_text(out, text),
+        },
         Err(TextError::Memory) => tell_no_memory(told, name),
-        _ => write_text(out, text),
+        Ok(_) => write_text(out, text),
     }
 }

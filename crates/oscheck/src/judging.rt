@@ -14,13 +14,10 @@ use front_end::{TEXT_LIMIT, TextError, read_program};
 use os_ast::{Rule, Violation};
 use os_io::Memory;
 use os_lexer::{Kind, Token, lex};
-use oscheck_places::{Spot, fault_spot};
+use oscheck_places::{Spot, TextFault, fault_spot};
 use oscheck_sentences::{NO_PROGRAM, Word, of_fault, of_rule, word_of};
 use std::alloc::Global;
 use std::io;
-
-/// The greatest code of a fault of the bytes.
-const BYTES: u8 = 3;
 
 /// Tells why a file has no text.
 pub(crate) fn tell_no_text(
@@ -68,24 +65,24 @@ fn tell_stop(out: &mut impl io::Write, alloc: Global, named: Named<'_>) -> io::R
     }
 }
 
-/// Tells the first fault of the bytes of a text, by its code and its line.
+/// Tells the first fault of the bytes of a text, by what it is and its line.
 pub(crate) fn tell_fault(
     out: &mut impl io::Write,
     alloc: Global,
     named: Named<'_>,
-    code: u8,
+    fault: TextFault,
     line: u32,
 ) -> io::Result<Judged>
     requires { length named.text.now ≤ text_limit }
 {
-    let spot = match fault_spot(alloc, named.text, code, line) {
+    let spot = match fault_spot(alloc, named.text, fault, line) {
         Ok(Some(spot)) => spot,
         Ok(None) => nowhere(line),
         Err(Memory) => return tell_no_memory(out, named.name),
     };
     let bytes = bytes_of(named.text, spot);
-    tell_place(out, named, spot, code)?;
-    of_fault(code, bytes).write(out, word_of_bytes(bytes))?;
+    tell_place(out, named, spot, fault.code())?;
+    of_fault(fault, bytes).write(out, word_of_bytes(bytes))?;
     show(out, alloc, named, spot)
 }
 
@@ -211,12 +208,10 @@ fn tell_error(
 ) -> io::Result<Judged>
     requires { length named.text.now ≤ text_limit }
 {
-    if code == NO_PROGRAM {
-        tell_stop(out, alloc, named)
-    } else if code <= BYTES {
-        tell_fault(out, alloc, named, code, line)
-    } else {
-        tell_violations(out, alloc, named, extent)
+    match TextFault::of_code(code) {
+        Some(fault) => tell_fault(out, alloc, named, fault, line),
+        None if code == NO_PROGRAM => tell_stop(out, alloc, named),
+        None => tell_violations(out, alloc, named, extent),
     }
 }
 

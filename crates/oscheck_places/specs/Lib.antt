@@ -1,2 +1,3 @@
--- What a reader believes: lines and columns.
+-- What a reader believes: lines and columns, and the codes of faults.
+pub mod Faults
 pub mod Lines

@@ -5,6 +5,7 @@ ghost use Rattle.std.specs.Prelude.{◌≤◌, length, IfOk, IfSome};
 ghost use Rattle.os_lexer.specs.Limits.{text_limit};
 
 use crate::spot::Spot;
+use crate::text_fault::TextFault;
 use os_io::Memory;
 use os_lexer::{LexError, lex};
 use std::alloc::Global;
@@ -16,7 +17,7 @@ const MOST: usize = 64;
 #[derive(Clone, Copy, PartialEq, Eq)]
 enum Answer {
     Tokens,
-    Fault(u8),
+    Fault(TextFault),
 }
 
 /// What the lexer says of the front of a text.
@@ -25,9 +26,9 @@ fn says(alloc: Global, text: &[u8], end: usize) -> Result<Answer, Memory>
 {
     match lex(alloc, &text[..end.min(text.len())]) {
         Ok(_) => Ok(Answer::Tokens),
-        Err(LexError::BadByte { .. }) => Ok(Answer::Fault(1)),
-        Err(LexError::OpenComment { .. }) => Ok(Answer::Fault(2)),
-        Err(LexError::BigNumber { .. }) => Ok(Answer::Fault(3)),
+        Err(LexError::BadByte { .. }) => Ok(Answer::Fault(TextFault::BadByte)),
+        Err(LexError::OpenComment { .. }) => Ok(Answer::Fault(TextFault::OpenComment)),
+        Err(LexError::BigNumber { .. }) => Ok(Answer::Fault(TextFault::BigNumber)),
         Err(LexError::Memory) => Err(Memory),
     }
 }
@@ -120,11 +121,11 @@ fn is_harmless(byte: u8) -> bool {
         )
 }
 
-/// Where a fault of a code ends that would begin at a point; none where none could begin there.
-fn fault_end(text: &[u8], code: u8, point: usize) -> Option<usize> {
+/// Where a fault ends that would begin at a point; none where it could not begin there.
+fn fault_end(text: &[u8], fault: TextFault, point: usize) -> Option<usize> {
     let byte = byte_at(text, point);
     let next = point.saturating_add(1);
-    if code == 2 {
+    if fault == TextFault::OpenComment {
         let opens = byte == b'/' && byte_at(text, next) == b'*';
         let behind = point.saturating_add(2);
         return if opens && !is_closed(text, behind) {
@@ -141,24 +142,30 @@ fn fault_end(text: &[u8], code: u8, point: usize) -> Option<usize> {
             None
         };
     }
-    if code == 1 && byte == b'#' {
+    if fault == TextFault::BadByte && byte == b'#' {
         return Some(word_end(text, blanks_end(text, next)));
     }
-    if code == 1 && !is_harmless(byte) {
+    if fault == TextFault::BadByte && !is_harmless(byte) {
         Some(next)
     } else {
         None
     }
 }
 
-/// Whether the fault with a code begins at a point: the front of the text before it has tokens, and the front up to its end has
+/// Whether a fault begins at a point: the front of the text before it has tokens, and the front up to its end has
 /// the fault.
-fn begins_at(alloc: Global, text: &[u8], code: u8, point: usize, end: usize) -> Result<bool, Memory>
+fn begins_at(
+    alloc: Global,
+    text: &[u8],
+    fault: TextFault,
+    point: usize,
+    end: usize,
+) -> Result<bool, Memory>
     requires { length text.now ≤ text_limit }
 {
     Ok(
         says(alloc, text, point)? == Answer::Tokens
-            && says(alloc, text, end)? == Answer::Fault(code),
+            && says(alloc, text, end)? == Answer::Fault(fault),
     )
 }
 
@@ -178,9 +185,14 @@ fn begin_of(text: &[u8], line: u32) -> usize {
     point
 }
 
-/// The bytes of the first fault of a text, by its code and its line. None where it isn't found among the first bytes of the line at
+/// The bytes of the first fault of a text, by what it is and its line. None where it isn't found among the first bytes of the line at
 /// which a fault could begin.
-pub fn fault_spot(alloc: Global, text: &[u8], code: u8, line: u32) -> Result<Option<Spot>, Memory>
+pub fn fault_spot(
+    alloc: Global,
+    text: &[u8],
+    fault: TextFault,
+    line: u32,
+) -> Result<Option<Spot>, Memory>
     requires { length text.now ≤ text_limit }
     ensures within { IfOk result (λ found. IfSome found (λ spot. spot.start ≤ length text.now)) }
 {
@@ -190,9 +202,9 @@ pub fn fault_spot(alloc: Global, text: &[u8], code: u8, line: u32) -> Result<Opt
         if text[point] == b'\n' || tried >= MOST {
             return Ok(None);
         }
-        if let Some(end) = fault_end(text, code, point) {
+        if let Some(end) = fault_end(text, fault, point) {
             tried += 1;
-            if begins_at(alloc, text, code, point, end)? {
+            if begins_at(alloc, text, fault, point, end)? {
                 return Ok(Some(Spot {
                     line,
                     start: point,

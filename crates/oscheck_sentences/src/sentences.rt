@@ -3,6 +3,7 @@
 use crate::word::Word;
 use os_ast::Rule;
 use os_lexer::Kind;
+use oscheck_places::TextFault;
 use std::io;
 
 /// The code of a text whose tokens mean no program. What could stand at the place is told in place of a sentence.
@@ -174,11 +175,11 @@ fn of_number(bytes: &[u8]) -> Sentence {
     }
 }
 
-/// What is said of the first fault of a text, by its code from 1 to 3 and its bytes.
-pub fn of_fault(code: u8, bytes: &[u8]) -> Sentence {
-    match code {
-        1 => of_bytes(bytes),
-        2 => plain("a comment that is never closed: end it by */"),
-        _ => of_number(bytes),
+/// What is said of the first fault of a text, by what it is and its bytes.
+pub fn of_fault(fault: TextFault, bytes: &[u8]) -> Sentence {
+    match fault {
+        TextFault::BadByte => of_bytes(bytes),
+        TextFault::OpenComment => plain("a comment that is never closed: end it by */"),
+        TextFault::BigNumber => of_number(bytes),
     }
 }

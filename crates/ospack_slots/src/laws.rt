@@ -3,7 +3,7 @@
 ghost use Rattle.ospack_slots.specs.Formats.{packing, unpacking};
 ghost use Rattle.ospack_slots.specs.Laws.{PacksToPieces, UnpacksToSlots, PacksBack, NeverGrows, DividesOnce};
 
-/// What unpacks is what was packed, up to what a slot ignores, and packing saves bytes or none.
+/// Unpacking gives back what was packed, but for what a slot ignores, and packing never adds bytes.
 pub fn unpacks_what_was_packed()
     ensures packed { PacksToPieces }
     ensures unpacked { UnpacksToSlots }

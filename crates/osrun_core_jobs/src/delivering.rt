@@ -17,7 +17,7 @@ pub trait Lines {
         ensures nothing { tells self.now [] → sink.new ≡ sink.old };
 }
 
-/// No line.
+/// A report without lines.
 #[derive(Clone, Copy, Debug)]
 pub struct NoLines;
 

@@ -67,9 +67,13 @@ module _ (code : Parts) (p : ProgramTree) (activations : List Activation) (budge
       ∙ runs x inputs budget (fits_at code activations fit a x at) long
       ∙ sym (ap (λ o. option_map_or (λ (y : Activation). body p y inputs budget) o over_budget) at)
 
+  -- so the activations mean the same
+  pub same_meaning : AgreeingBodiesMeanOne → (input : List ℕ)
+      → stream_meaning activations input (frame_outcome code activations budget) ≡ stream_meaning activations input (body_at p activations budget)
+  same_meaning one input = one activations input (frame_outcome code activations budget) (body_at p activations budget) agree
+
   pub same_ends : AgreeingBodiesMeanOne → (input : List ℕ) → code_ends code activations input budget ≡ ends_over p activations input budget
-  same_ends one input =
-      ap (stream_ends activations input) (one activations input (frame_outcome code activations budget) (body_at p activations budget) agree)
+  same_ends one input = ap (stream_ends activations input) (same_meaning one input)
 
 -- so the run of a code of a program is a run of the program
 pub run_of_code : AgreeingBodiesMeanOne → (code : Parts) (p : ProgramTree) → IsCodeOf code p → (task_budget control_budget : ℕ) (input output : List ℕ)

@@ -1,4 +1,3 @@
 pub mod TaskLines
-pub mod Meanings
 pub mod ReadSo
 pub mod MainRuns

@@ -1,29 +1,10 @@
-ghost use Rattle.std.specs.Prelude.{◌≡◌, ◌++◌, OnOk, find};
+ghost use Rattle.std.specs.Prelude.{◌≡◌, ◌++◌, OnOk};
 ghost use Rattle.osview_graph.specs.Arrows.{span_text};
-ghost use Rattle.osview_sentences.specs.Names.{called, covers, stream_text};
+ghost use Rattle.osview_sentences.specs.Names.{called, stream_text};
 
 use os_io::Memory;
-use osview_sentences::StreamName;
+use osview_sentences::{StreamName, name_of};
 use osview_text::Text;
-
-/// Whether a stream is the one with this name, or one of the array.
-fn covers(stream: u32, name: StreamName) -> bool
-    ensures { result ≡ covers stream name }
-{
-    name.first <= stream && stream - name.first < name.count
-}
-
-/// The first name that covers a stream.
-fn name_of(names: &[StreamName], stream: u32) -> Option<StreamName>
-    ensures { result ≡ find (covers stream) names.now }
-{
-    for name in names {
-        if covers(stream, *name) {
-            return Some(*name);
-        }
-    }
-    None
-}
 
 /// Adds what a stream is called that has this name, or is one of the array that has it.
 fn add_called(told: &mut Text, text: &[u8], name: StreamName, stream: u32) -> Result<(), Memory>

@@ -21,4 +21,4 @@ mod wording;
 
 pub use fact::{Fact, Sentence, Supply};
 pub use report::report_text;
-pub use stream_name::StreamName;
+pub use stream_name::{StreamName, name_of};

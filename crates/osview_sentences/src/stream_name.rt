@@ -34,7 +34,7 @@ impl StreamName {
 }
 
 /// The first name that covers a stream.
-pub(crate) fn name_of(names: &[StreamName], stream: u32) -> Option<StreamName>
+pub fn name_of(names: &[StreamName], stream: u32) -> Option<StreamName>
     ensures { result ≡ find (covers stream) names.now }
 {
     for name in names {

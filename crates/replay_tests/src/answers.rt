@@ -3,8 +3,8 @@ ghost use Rattle.std.specs.Prelude.{◌≡◌, ◌≤◌, ◌<◌, ◌^◌, All,
 ghost use Rattle.flow_core_laws.specs.IsSound.{IsSound};
 
 use crate::lasts::Lasts;
-use crate::lawful::lawful_layout;
 use flow_core::{Activation, Claim, Elem, Plan};
+use lawful_layouts::lawful_layout;
 use os_io::{List, Memory};
 use std::alloc::Global;
 use std::test::Fail;

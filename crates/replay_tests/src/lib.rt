@@ -8,6 +8,4 @@ mod answers;
 #[cfg(test)]
 mod lasts;
 #[cfg(test)]
-mod lawful;
-#[cfg(test)]
 mod workers;

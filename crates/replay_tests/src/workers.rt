@@ -4,8 +4,8 @@ ghost use Rattle.flow_core_laws.specs.IsSound.{IsSound};
 
 use crate::answers::may_replay;
 use crate::lasts::Lasts;
-use crate::lawful::lawful_layout;
 use flow_core::{Activation, Claim, Plan};
+use lawful_layouts::lawful_layout;
 use os_io::{List, Memory};
 use std::alloc::Global;
 use std::sync::atomic::{AtomicU32, Ordering};

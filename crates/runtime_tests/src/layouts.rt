@@ -7,8 +7,8 @@ mod writers;
 
 use crate::activations::activations_of;
 use crate::elements::are_values;
-use crate::lawful::lawful_layout;
 use flow_core::{Claim, FramePlan, Piece, Plan};
+use lawful_layouts::lawful_layout;
 use std::process::Abort;
 use std::test::Fail;
 use stream_match::{Layout, Span, build};

@@ -14,8 +14,6 @@ mod elements;
 #[cfg(test)]
 mod hands;
 #[cfg(test)]
-mod lawful;
-#[cfg(test)]
 mod layouts;
 #[cfg(test)]
 mod lists;

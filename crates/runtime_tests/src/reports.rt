@@ -9,10 +9,10 @@ mod told;
 
 use crate::activations::activations_of;
 use crate::bytes::are_bytes;
-use crate::lawful::lawful_layout;
 use crate::lists::list_of;
 use collector::{output_bytes, report_lines};
 use flow_core::{Claim, ControlEnd, Elem, Ends, TaskEnd};
+use lawful_layouts::lawful_layout;
 use os_io::{MemSink, Memory, WriteError};
 use std::alloc::Global;
 use std::process::Abort;

@@ -7,9 +7,9 @@ mod lasts;
 mod logs;
 mod stealing;
 
-use crate::lawful::lawful_layout;
 use crate::rounds::lasts::Lasts;
 use flow_core::{Activation, Claim, Elem, Ends, Plan, TaskEnd, execute_one};
+use lawful_layouts::lawful_layout;
 use os_io::{List, Memory};
 use std::alloc::Global;
 use std::process::Abort;

@@ -15,7 +15,7 @@ pub fn choices_agree<S, V, O>()
     ensures { (element : List (Option O) → S → Option V) → IsKept element → OfLists element (ChoicesAgree element) }
 {}
 
-/// And they use all lists up where any lawful order of the lists does.
+/// Heads that are run as long as one is enabled use all lists up where any lawful order of the lists does.
 pub fn finds_orders<S, V, O>()
     ensures { (element : List (Option O) → S → Option V) → IsKept element → OfLists element (FindsOrders element) }
 {}

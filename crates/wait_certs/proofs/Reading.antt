@@ -1,11 +1,11 @@
 -- Whether an activation reads an element that another one should write, span by span and position by position.
-use Rattle.std.proofs.Common.{◌≡◌, ℕ, zero, suc, ◌+◌, ◌-◌, ◌<◌, ◌≤◌, ◌||◌, Bool, true, false, cond, not, List, [], ◌∷◌, ◌++◌, Option, Some, None, length, drop, drop-cons, get_or, map, refl, ap, ◌∙◌, arith}
-use Rattle.std.specs.Prelude.{filter, slice_get, option_and_then}
+use Rattle.std.proofs.Common.{◌≡◌, ℕ, zero, suc, ◌+◌, ◌-◌, ◌<◌, ◌≤◌, ◌||◌, Bool, true, false, cond, List, [], ◌∷◌, ◌++◌, Option, Some, None, length, drop, drop-cons, get_or, map, refl, ap, ◌∙◌, arith}
+use Rattle.std.specs.Prelude.{slice_get, option_and_then}
 use Rattle.std.specs.List.{flat_map, list_any, range_with_len}
 use Rattle.std.specs.Option.{option_map}
 use Rattle.std.proofs.lemmas.List.Folds.{list_any-append}
 use Rattle.flow_core_laws.specs.declared.activation.Activation.{Activation}
-use Rattle.flow_core_laws.specs.Place.{Place, places_of, places_from, input_places}
+use Rattle.flow_core_laws.specs.Place.{Place, places_from, input_places}
 use Rattle.flow_core_laws.specs.Window.{Window, windows_of, producer, producer_number}
 use Rattle.stream_match_layouts.specs.declared.layout.Layout.{Layout}
 use Rattle.stream_match_layouts.specs.declared.span.Span.{Span}
@@ -15,6 +15,7 @@ use Rattle.stream_match_layouts.proofs.FrameSpans.{spans_of-windows}
 use Rattle.stream_match_layouts.proofs.Tallies.{frame_count-is}
 use Rattle.collector.specs.Walking.{read_places}
 use Rattle.collector.proofs.Producers.{span_by_number}
+use Rattle.collector.proofs.ReadPlaces.{reads_are}
 use Rattle.wait_certs.specs.Searching.{is_produced_by, reads_from}
 
 -- the activation of the span of a producer's number is the producer's
@@ -26,16 +27,6 @@ frame_by_number layout activations of stream position number is =
     by : (o : Option Window) → option_map (λ (s : Span). s.frame) (option_map span_of o) ≡ option_map (λ (w : Window). w.activation) o
     by None = refl
     by (Some w) = refl
-
--- the places that the spans of windows read are those of the input windows
-reads_are : (ws : List Window) → flat_map read_places (map span_of ws) ≡ flat_map places_of (filter (λ (w : Window). not w.claim.write) ws)
-reads_are [] = refl
-reads_are (w ∷ ws) = by w.claim.write (reads_are ws)
-  where
-    by : (b : Bool) → flat_map read_places (map span_of ws) ≡ flat_map places_of (filter (λ (v : Window). not v.claim.write) ws)
-        → cond b [] (places_of w) ++ flat_map read_places (map span_of ws) ≡ flat_map places_of (cond (not b) (w ∷ filter (λ (v : Window). not v.claim.write) ws) (filter (λ (v : Window). not v.claim.write) ws))
-    by true h = h
-    by false h = ap (λ xs. places_of w ++ xs) h
 
 -- what an activation reads by its spans
 pub reads_by_spans : (layout : Layout) (activations : List Activation) → IsLayoutOf layout activations → (a writer : ℕ) → a < frame_count layout

@@ -4,6 +4,4 @@
 #![tactic(auto)]
 
 #[cfg(test)]
-mod lawful;
-#[cfg(test)]
 mod told;

@@ -3,8 +3,8 @@
 ghost use Rattle.std.specs.Prelude.{IfOk};
 ghost use Rattle.stream_match_layouts.specs.Layout.{IsLayout};
 
-use crate::lawful::lawful_layout;
 use flow_core_laws::{Activation, Claim, Ends, TaskEnd};
+use lawful_layouts::lawful_layout;
 use os_io::{List, Memory};
 use std::alloc::Global;
 use std::test::Fail;

@@ -8,7 +8,7 @@ use thiserror::Error;
 /// Why a program was not accepted.
 #[derive(Clone, Copy, Debug, PartialEq, Eq, Error)]
 pub enum CheckError {
-    /// The refusal: the code of the violated rule, from 10 to 24, and the line of the token.
+    /// The program is refused: the code of the least violation's rule, from 10 to 24, and the line of its token.
     #[error("rule {code} is violated in line {line}")]
     Fault { code: u8, line: u32 },
     /// Memory could not be had.

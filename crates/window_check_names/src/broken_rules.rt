@@ -13,7 +13,7 @@ pub fn when(violated: bool, rule: Rule) -> Option<Rule>
     if violated { Some(rule) } else { None }
 }
 
-/// The one of two rules with the lesser code.
+/// The one of two rules that has the lesser code; where one is none, the other.
 pub fn lesser(rule: Option<Rule>, other: Option<Rule>) -> Option<Rule>
     ensures { result ≡ lesser_rule rule other }
 {
@@ -33,7 +33,7 @@ pub struct BrokenRules {
 }
 
 impl BrokenRules {
-    /// One, or none.
+    /// The one rule of a token, where it is violated.
     pub fn one(rule: Option<Rule>) -> BrokenRules
         ensures { all_rules result ≡ rule_list rule }
     {
@@ -44,7 +44,7 @@ impl BrokenRules {
         }
     }
 
-    /// One and another, each where it is there.
+    /// Two rules of a token, each where it is violated.
     pub fn two(rule: Option<Rule>, other: Option<Rule>) -> BrokenRules
         ensures { all_rules result ≡ rule_list rule ++ rule_list other }
     {
@@ -55,7 +55,7 @@ impl BrokenRules {
         }
     }
 
-    /// Three, each where it is there.
+    /// Three rules of a token, each where it is violated.
     pub fn three(first: Option<Rule>, second: Option<Rule>, third: Option<Rule>) -> BrokenRules
         ensures { all_rules result ≡ rule_list first ++ (rule_list second ++ rule_list third) }
     {

@@ -30,7 +30,7 @@ impl Model for Captured {
 }
 
 impl Captured {
-    /// None.
+    /// No scalars.
     pub fn new(alloc: Global) -> Captured
         ensures { result ≡ [] }
     {
@@ -112,7 +112,7 @@ impl Model for Slots {
 }
 
 impl Slots {
-    /// None.
+    /// No slots, as a task has them that captures nothing.
     pub fn none(alloc: Global) -> Slots
         ensures { result ≡ [] }
     {
@@ -121,7 +121,7 @@ impl Slots {
         }
     }
 
-    /// These.
+    /// The slots of a list that ascends.
     pub fn new(slots: List<u32>) -> Slots
         requires ascending { IsStrictlySortedBy nat_cmp slots }
         requires few { length slots ≤ 2 ^ 32 }
@@ -137,7 +137,7 @@ impl Slots {
         self.slots.len()
     }
 
-    /// What a name means in the task that is declared as this.
+    /// What a name means in the task, by what it is declared as.
     pub fn meaning(&self, entity: Entity) -> What
         ensures { result ≡ meaning_in_task self.now entity }
     {

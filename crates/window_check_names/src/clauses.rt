@@ -143,7 +143,7 @@ fn clause(
     }
 }
 
-/// The clauses of a task. The answer is what they list.
+/// Judges the clauses of a task, one after another. The answer is what they list.
 #[tactic(auto, using(crate::proofs::Listing::listing))]
 pub fn clauses(
     alloc: Global,

@@ -12,7 +12,7 @@ use crate::uses::used;
 use os_ast::{Call, Change, Expr, Index, Link, Role, Shape, Target, Use};
 use os_io::{List, Memory};
 
-/// An expression.
+/// Judges the names of an expression.
 #[cycle(exprs)]
 #[tactic(auto, using(crate::proofs::Rules::exprs))]
 pub fn expr(scopes: &Scopes, found: &mut Found, expr: &Expr) -> Result<(), Memory>
@@ -36,7 +36,7 @@ pub fn expr(scopes: &Scopes, found: &mut Found, expr: &Expr) -> Result<(), Memor
     }
 }
 
-/// A name with an index or without, by where it stands.
+/// Judges a name with an index or without, by where it stands, and the names of the index.
 #[cycle(exprs)]
 #[tactic(auto, using(crate::proofs::Rules::exprs))]
 pub fn place(scopes: &Scopes, found: &mut Found, role: Role, target: &Target) -> Result<(), Memory>
@@ -51,7 +51,7 @@ pub fn place(scopes: &Scopes, found: &mut Found, role: Role, target: &Target) ->
     }
 }
 
-/// A call.
+/// Judges a call: the name of its function, how many arguments it has, and their names.
 #[cycle(exprs)]
 #[tactic(auto, using(crate::proofs::Rules::exprs))]
 pub fn called(scopes: &Scopes, found: &mut Found, call: &Call) -> Result<(), Memory>
@@ -85,7 +85,7 @@ fn linked(scopes: &Scopes, found: &mut Found, links: &List<Link>) -> Result<(), 
     Ok(())
 }
 
-/// An expression that may be left out.
+/// Judges the names of an expression that may be left out.
 pub fn value(scopes: &Scopes, found: &mut Found, value: &Option<Expr>) -> Result<(), Memory>
     ensures { OnOk result (found.new ≡ noted found.old (value_notes scopes.now (option_map expr_tree value.now))) }
 {
@@ -109,7 +109,7 @@ pub(crate) fn indexed(
     }
 }
 
-/// A change.
+/// Judges the names of a change.
 #[tactic(auto, using(crate::proofs::Rules::exprs))]
 pub fn change(scopes: &Scopes, found: &mut Found, change: &Change) -> Result<(), Memory>
     ensures { OnOk result (found.new ≡ noted found.old (change_notes scopes.now (change_tree change.now))) }
@@ -125,7 +125,7 @@ pub fn change(scopes: &Scopes, found: &mut Found, change: &Change) -> Result<(),
     }
 }
 
-/// A change that may be left out.
+/// Judges the names of a change that may be left out.
 pub fn step(scopes: &Scopes, found: &mut Found, step: &Option<Change>) -> Result<(), Memory>
     ensures { OnOk result (found.new ≡ noted found.old (step_notes scopes.now (option_map change_tree step.now))) }
 {

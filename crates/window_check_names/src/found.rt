@@ -201,7 +201,7 @@ impl Found {
         }
     }
 
-    /// A name is declared, which violates these rules, and means this, of the type `unsigned` or not.
+    /// Notes that a name is declared: the rules that it violates, what it means, and whether it is of the type `unsigned`.
     pub fn declare(
         &mut self,
         mark: Mark,
@@ -230,7 +230,7 @@ impl Found {
         }
     }
 
-    /// A task starts in a body of this owner, with so many items, and captures these scalars.
+    /// Notes that a task begins in a body of this owner, how many items it has, and which scalars it captures.
     pub fn task(
         &mut self,
         alloc: Global,

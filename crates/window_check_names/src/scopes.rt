@@ -148,7 +148,7 @@ impl Scopes {
         self.unsigned
     }
 
-    /// A declaration of a type begins, which is `unsigned` or isn't.
+    /// Notes the type of the declaration that begins: whether it is `unsigned`.
     pub fn set_unsigned(&mut self, unsigned: bool)
         ensures { self.new ≡ flagged unsigned self.old }
     {
@@ -200,7 +200,7 @@ impl Scopes {
         }
     }
 
-    /// One more declaration in the innermost scope, of the type that was begun with.
+    /// Adds a declaration to the innermost scope, of the type that was noted last.
     pub fn declare(&mut self, id: u32, entity: Entity) -> Result<(), Memory>
         ensures { OnOk result (self.new ≡ declare self.old id entity) }
     {
@@ -212,7 +212,7 @@ impl Scopes {
         })
     }
 
-    /// A new innermost scope. The answer is what leaving it restores.
+    /// Enters a new innermost scope. The answer is what leaving it restores.
     pub fn enter(&mut self) -> Outer
         requires { self.old.depth + 1 ≤ room_end }
         ensures scope { self.new ≡ enter self.old }
@@ -236,7 +236,7 @@ impl Scopes {
         self.in_loop = outer.in_loop;
     }
 
-    /// A loop of the body is round what follows.
+    /// Enters a loop: a loop of this body is round what follows. The answer is whether one was round the place before.
     pub fn enter_loop(&mut self) -> bool
         ensures scope { self.new ≡ in_loop self.old }
         ensures before { result ≡ self.old.loop }
@@ -246,14 +246,14 @@ impl Scopes {
         before
     }
 
-    /// Behind a loop, whether one is round the place is as before it.
+    /// Leaves a loop: whether one is round the place is again as it was before.
     pub fn leave_loop(&mut self, before: bool)
         ensures { self.new ≡ record self.old { loop = before } }
     {
         self.in_loop = before;
     }
 
-    /// The body of a function or of `main` begins, with a new scope. The answer is what its end restores.
+    /// Begins the body of a function or of `main`, with a new scope. The answer is what its end restores.
     pub fn begin(&mut self, alloc: Global, owner: Owner) -> Around
         requires { self.old.depth + 1 ≤ room_end }
         ensures scope { self.new ≡ enter (in_unit owner self.old) }
@@ -262,7 +262,7 @@ impl Scopes {
         self.begin_with(owner, Slots::none(alloc), 0)
     }
 
-    /// The body of a task begins, with a new scope: the scalars that it captures have its first slots.
+    /// Begins the body of a task, with a new scope: the scalars that it captures have its first slots. The answer is what its end restores.
     pub fn begin_task(&mut self, captured: Slots) -> Around
         requires depth { self.old.depth + 1 ≤ room_end }
         requires few { length captured ≤ room_end }
@@ -297,7 +297,7 @@ impl Scopes {
         around
     }
 
-    /// The body ends.
+    /// Ends a body, and restores what stood before it.
     pub fn end(&mut self, around: Around)
         ensures { self.new ≡ ended around self.old }
     {
@@ -326,7 +326,7 @@ impl Scopes {
         }
     }
 
-    /// So much was taken of the program, and no more.
+    /// Sets what was taken of the program so far.
     pub fn set_totals(&mut self, totals: Totals)
         ensures { self.new ≡ with_totals totals self.old }
     {
@@ -335,7 +335,7 @@ impl Scopes {
         self.functions = totals.functions;
     }
 
-    /// What a scalar is that is declared next.
+    /// What the scalar is that is declared next: its slot.
     pub fn scalar(&self) -> Entity
         ensures { result ≡ scalar_entity self.now.owner self.now.slots }
     {
@@ -345,7 +345,7 @@ impl Scopes {
         }
     }
 
-    /// What a name is that is declared next in this form.
+    /// What the name is that is declared next, by the form of its declarator.
     pub fn form_entity(&self, form: Form) -> Entity
         requires { HasRoom self.now (form_weight form) }
         ensures { result ≡ form_entity self.now form }
@@ -359,7 +359,7 @@ impl Scopes {
         }
     }
 
-    /// Takes what a declarator of this form takes.
+    /// Counts what a declarator of this form takes: slots, elements of arrays or streams.
     pub fn take(&mut self, form: Form)
         requires { HasRoom self.old (form_weight form) }
         ensures { self.new ≡ taken self.old form }
@@ -381,7 +381,7 @@ impl Scopes {
         self.arrays += size;
     }
 
-    /// The rule that a declarator of this form violates, whose size is none, or passes a limit with what was taken before it.
+    /// The rule that a declarator of this form violates: its size is no size, or passes a limit together with what was taken before it.
     pub fn rule_with(&self, form: Form) -> Option<Rule>
         requires { HasRoom self.now (form_weight form) }
         ensures { result ≡ least_rule (when (passes_limit (taken self.now form) form) WrongSize) }
@@ -431,7 +431,7 @@ impl Scopes {
         Ok(())
     }
 
-    /// One more function of the program, with so many parameters, whose result is of the type `unsigned` or isn't.
+    /// Declares the next function of the program, by how many parameters it has and whether its result is of the type `unsigned`.
     pub fn declare_function(&mut self, id: u32, params: u32, unsigned: bool) -> Result<(), Memory>
         requires { self.old.functions + 1 ≤ room_end }
         ensures { OnOk result (self.new ≡ with_function self.old unsigned id params) }

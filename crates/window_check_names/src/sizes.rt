@@ -65,7 +65,7 @@ pub fn size_of(scopes: &Scopes, size: &Expr) -> Option<u32>
     within_limit(value)
 }
 
-/// The name that a size is; any other expression there isn't looked into.
+/// Judges the name that stands as a size. The names in any other expression there aren't judged.
 #[tactic(auto, using(crate::proofs::UsedNames::sizes))]
 pub fn size_name(scopes: &Scopes, found: &mut Found, size: &Expr) -> Result<(), Memory>
     ensures { OnOk result (found.new ≡ noted found.old (size_notes scopes.now (expr_tree size.now))) }

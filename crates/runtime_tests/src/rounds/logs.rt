@@ -1,11 +1,11 @@
 //! What one worker opens stands in the logs of others too.
 ghost use Rattle.flow_core_laws.specs.IsSound.{IsSound};
 
-use crate::lawful::lawful_layout;
 use crate::rounds::lasts::Lasts;
 use crate::rounds::{CASES, activations_of};
 use flow_core::Plan;
 use frame_table::FrameTable;
+use lawful_layouts::lawful_layout;
 use os_io::Memory;
 use std::alloc::Global;
 use std::test::Fail;

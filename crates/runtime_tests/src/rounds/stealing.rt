@@ -1,10 +1,10 @@
 //! What one worker opens others run too.
 ghost use Rattle.flow_core_laws.specs.IsSound.{IsSound};
 
-use crate::lawful::lawful_layout;
 use crate::rounds::lasts::Lasts;
 use crate::rounds::{CASES, activations_of};
 use flow_core::Plan;
+use lawful_layouts::lawful_layout;
 use std::alloc::Global;
 use std::sync::atomic::{AtomicU32, Ordering};
 use std::test::Fail;

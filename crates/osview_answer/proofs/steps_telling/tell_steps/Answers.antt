@@ -15,7 +15,7 @@ use Rattle.os_code.specs.Tasks.{Fits}
 use Rattle.os_code.specs.declared.site.Site.{Site}
 use Rattle.osrun_core_run.proofs.TasksRun.{run_of_code}
 use Rattle.osrun_core_run.specs.Run.{body_at}
-use Rattle.osview_answer.proofs.Meanings.{same_meaning}
+use Rattle.osrun_core_run.proofs.TasksRun.{same_meaning}
 use Rattle.osview_answer.proofs.TaskLines.{all_lines, tasks_are_sites}
 use Rattle.osview_answer.specs.Steps.{pragma_lines}
 use Rattle.osview_chains.specs.Chains.{IsLongest}

@@ -11,7 +11,7 @@ use Rattle.os_code.specs.Codes.{parts_of}
 use Rattle.os_code.specs.Tasks.{Fits}
 use Rattle.osrun_core_run.proofs.TasksRun.{run_of_code}
 use Rattle.osrun_core_run.specs.Run.{body_at}
-use Rattle.osview_answer.proofs.Meanings.{same_meaning}
+use Rattle.osrun_core_run.proofs.TasksRun.{same_meaning}
 use Rattle.osview_answer.proofs.TaskLines.{same_lines}
 use Rattle.osview_answer.specs.Source.{site_line}
 use Rattle.osview_answer.specs.Told.{task_line}

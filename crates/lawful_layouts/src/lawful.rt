@@ -1,38 +1,58 @@
-//! Layouts of activations, where these are lawful.
+//! The test whether activations are lawful, and their layout where they are.
 
-ghost use Rattle.std.specs.Prelude.{◌≡◌, ◌+◌, ◌-◌, ◌^◌, ◌≤◌, All, IfOk, IfSome, length, min, sum_by, true};
+ghost use Rattle.std.specs.Prelude.{◌≡◌, ◌+◌, ◌-◌, ◌^◌, ◌≤◌, All, IfNone, IfOk, IfSome, length, min, sum_by, false, true};
 ghost use Rattle.flow_core_laws.specs.declared.claim.Claim.{Claim};
 ghost use Rattle.flow_core_laws.specs.Window.{claims_of};
 ghost use Rattle.stream_match_layouts.specs.Lawful.{IsLawfulClaim, AreLawful};
-ghost use Rattle.stream_match_layouts.specs.Layout.{IsLayout};
+ghost use Rattle.stream_match_layouts.specs.Layout.{IsLayout, IsLayoutOf};
 
-use flow_core::{Activation, Claim};
+use flow_core_laws::{Activation, Claim};
 use os_io::Memory;
 use std::alloc::Global;
-use stream_match::Layout;
+use stream_match_layouts::Layout;
 
-/// The layout of activations, or none where they aren't lawful.
-pub(crate) fn lawful_layout(
+/// The most activations of a run.
+const ACTIVATIONS_LIMIT: usize = 65_536;
+/// The most positions that the claims of a run cover together.
+const POSITIONS_LIMIT: u64 = 4_194_304;
+/// What the moves of a run's cursors stay below together.
+const MOVES_BOUND: u64 = 1 << 62;
+/// The most positions that a claim covers.
+const HORIZON_LIMIT: u32 = 65_536;
+
+/// The layout of activations over so many streams and an input of so many elements, or none where they aren't lawful.
+pub fn lawful_layout(
     alloc: Global,
     streams: u32,
     input_len: u32,
     activations: &[Activation],
 ) -> Result<Option<Layout>, Memory>
     ensures layout { IfOk result (λ found. IfSome found IsLayout) }
+    ensures of { IfOk result (λ found. IfSome found (λ l. IsLayoutOf l activations.now)) }
     ensures streams { IfOk result (λ found. IfSome found (λ l. length l.writers ≡ streams)) }
     ensures input { IfOk result (λ found. IfSome found (λ l. l.input_len ≡ input_len)) }
+    ensures none { IfOk result (λ found. IfNone found (2 ≤ streams → AreLawful streams activations.now → ⊥)) }
 {
-    let claims = claims_in(alloc, activations)?;
-    if streams < 2 || activations.len() > 65_536 {
-        return Ok(None);
-    }
-    if !are_lawful(streams, claims.as_slice()) {
-        return Ok(None);
-    }
-    if positions_in(claims.as_slice()) > 4_194_304 || moves_in(claims.as_slice()) >= 1 << 62 {
+    if streams < 2 || !are_lawful(alloc, streams, activations)? {
         return Ok(None);
     }
     Ok(Some(laid_out(alloc, streams, input_len, activations)?))
+}
+
+/// Whether activations are lawful over so many streams.
+fn are_lawful(alloc: Global, streams: u32, activations: &[Activation]) -> Result<bool, Memory>
+    ensures lawful { IfOk result (λ lawful. lawful ≡ true → AreLawful streams activations.now) }
+    ensures unlawful { IfOk result (λ lawful. lawful ≡ false → AreLawful streams activations.now → ⊥) }
+{
+    if activations.len() > ACTIVATIONS_LIMIT {
+        return Ok(false);
+    }
+    let claims = claims_in(alloc, activations)?;
+    Ok(
+        are_claims_lawful(streams, claims.as_slice())
+            && positions_in(claims.as_slice()) <= POSITIONS_LIMIT
+            && moves_in(claims.as_slice()) < MOVES_BOUND,
+    )
 }
 
 /// The layout of lawful activations.
@@ -45,6 +65,7 @@ fn laid_out(
     requires two { 2 ≤ streams }
     requires lawful { AreLawful streams activations.now }
     ensures layout { IfOk result IsLayout }
+    ensures of { IfOk result (λ l. IsLayoutOf l activations.now) }
     ensures streams { IfOk result (λ l. length l.writers ≡ streams) }
     ensures input { IfOk result (λ l. l.input_len ≡ input_len) }
 {
@@ -65,8 +86,9 @@ fn claims_in(alloc: Global, activations: &[Activation]) -> Result<Vec<Claim>, Me
 }
 
 /// Whether claims are lawful over so many streams.
-fn are_lawful(streams: u32, claims: &[Claim]) -> bool
-    ensures { result ≡ true → All (IsLawfulClaim streams) claims.now }
+fn are_claims_lawful(streams: u32, claims: &[Claim]) -> bool
+    ensures lawful { result ≡ true → All (IsLawfulClaim streams) claims.now }
+    ensures unlawful { result ≡ false → All (IsLawfulClaim streams) claims.now → ⊥ }
 {
     for claim in claims {
         if !is_lawful(streams, *claim) {
@@ -78,9 +100,10 @@ fn are_lawful(streams: u32, claims: &[Claim]) -> bool
 
 /// Whether a claim is lawful over so many streams.
 fn is_lawful(streams: u32, claim: Claim) -> bool
-    ensures { result ≡ true → IsLawfulClaim streams claim }
+    ensures lawful { result ≡ true → IsLawfulClaim streams claim }
+    ensures unlawful { result ≡ false → IsLawfulClaim streams claim → ⊥ }
 {
-    if claim.stream >= streams || claim.horizon == 0 || claim.horizon > 65_536 {
+    if claim.stream >= streams || claim.horizon == 0 || claim.horizon > HORIZON_LIMIT {
         return false;
     }
     if claim.write {

@@ -1,0 +1,1 @@
+-- What a reader believes: nothing but the words of `stream_match_layouts`.
