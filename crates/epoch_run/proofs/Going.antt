@@ -6,6 +6,7 @@ use Rattle.std.proofs.lemmas.List.{drop-append-le, length-append, length-take, t
 use Rattle.std.proofs.lemmas.List.Elements.{All-nil}
 use Rattle.control_run.specs.Stretches.{RunSoFar, end_told, given_by, not_begun, remaining, whole}
 use Rattle.epoch_run_bodies.specs.Frames.{code_ends, frame_outcome}
+use Rattle.epoch_run_bodies.specs.Laws.{LaterActivationsChangeNothing}
 use Rattle.flow_core_epochs.specs.Epoch.{IsHeld}
 use Rattle.flow_core_epochs.specs.Laws.{HeldAtFirst}
 use Rattle.flow_core_laws.specs.Outcome.{has_end_at}
@@ -27,6 +28,7 @@ use Rattle.stream_match_layouts.proofs.Tallies.{frame_count-is}
 use Rattle.stream_match_layouts.specs.Layout.{TakesMore}
 use Rattle.stream_match_layouts.specs.Spans.{frame_count}
 use Rattle.stream_match_layouts.specs.declared.layout.Layout.{Layout}
+use Rattle.epoch_run.proofs.Step.{length-ends, stays_ended}
 use Rattle.epoch_run.specs.Held.{IsHeldOf, IsOpenEpoch}
 use Rattle.epoch_run.specs.Run.{AreBudgets, created}
 use Rattle.epoch_run.specs.Standing.{HasAdvanced, HasCreated, StandsAt}
@@ -114,6 +116,13 @@ module _ (code : Code) (input : List ℕ) (budgets : Budgets) where
         let m = subst (λ (xs : List Activation). IsHeldOf (parts_of code) xs input budgets.task held) is meant in
         ap (λ es. record { ends = es; output = held.ends.output }) m.ends_are_meant
         ∙ ap (λ os. record { ends = (code_ends (parts_of code) all input budgets.task).ends; output = os }) m.output_is_meant
+
+    -- what has ended stays so, and each has an end or none
+    pub stays_so : LaterActivationsChangeNothing → (after : Held) → IsHeldOf (parts_of code) all input budgets.task after → (a : ℕ) → a < run.first → has_end_at after.ends.ends a ≡ true
+    stays_so later after meant a lt = stays_ended (parts_of code) all input budgets.task run.held after later stands.held meant a (stands.have_ended a lt)
+
+    pub as_many_ends : (after : Held) → IsHeldOf (parts_of code) all input budgets.task after → length after.ends.ends ≡ length all
+    as_many_ends after meant = ap length meant.ends_are_meant ∙ length-ends all input (frame_outcome (parts_of code) all budgets.task)
 
     -- where nothing has ended, the list has all
     pub are_all : run.held.ends.ends ≡ [] → run.activations ≡ all

@@ -62,7 +62,7 @@ same_held activations input body other ends kept output same held = record {
 }
 
 -- how many ends and how many elements of the output are held
-length-ends : (activations : List Activation) (input : List ℕ) (body : ℕ → List ℤ → Outcome) → length (ends_of (stream_meaning activations input body)) ≡ length activations
+pub length-ends : (activations : List Activation) (input : List ℕ) (body : ℕ → List ℤ → Outcome) → length (ends_of (stream_meaning activations input body)) ≡ length activations
 length-ends activations input body =
     length-map (stream_meaning activations input body) (option_map (λ (o : Outcome). o.end))
     ∙ length-meaning stream_element (stream_reads activations input) (poisoning body) (length activations)

@@ -67,10 +67,10 @@ fn threads_for(steps: u64, workers: u32) -> u32
 
 /// How many frames wait for nothing.
 fn open_at_first(plan: &Plan) -> u64 {
-    let mut open = 0;
+    let mut open: u64 = 0;
     for frame in plan.frames.as_slice() {
         if frame.wait == 0 {
-            open += 1;
+            open = open.saturating_add(1);
         }
     }
     open

@@ -1,4 +1,4 @@
-ghost use Rattle.std.specs.Prelude.{◌≡◌, ◌<◌, ◌≤◌, None, IfOk, IfSome, OnOk, length};
+ghost use Rattle.std.specs.Prelude.{◌≡◌, ◌<◌, ◌≤◌, [], None, IfOk, IfSome, OnOk, length};
 ghost use Rattle.control_run.specs.Stretches.{given_by};
 ghost use Rattle.os_code.specs.Codes.{parts_of};
 ghost use Rattle.os_code.specs.Outcomes.{control};
@@ -18,6 +18,7 @@ use crate::result::Budgets;
 use crate::size::EpochSize;
 use control_run::ControlRun;
 use epoch_run_bodies::TaskBodies;
+use epoch_run_bodies::laws::later_activations_change_nothing;
 use flow_core_epochs::laws::run_in_epochs;
 use flow_core_laws::{Activation, ControlEnd};
 use os_code::Code;
@@ -88,10 +89,11 @@ impl<'c> Standing<'c> {
         ensures all { IfOk result (λ end. IfSome end (λ _. given_by self.new.control ≡ created (parts_of code.now) input.now budgets)) }
         ensures end { IfOk result (λ end. IfSome end (λ e. e ≡ (control (parts_of code.now) (length input.now) budgets.control).end)) }
     {
+        later_activations_change_nothing();
         let mut next = List::new(alloc);
         let bodies = OpenBodies {
             code,
-            input_len: input.len() as u32,
+            input_len: self.layout.input_len,
             budgets,
             count: self.layout.frames() as u32,
             first: self.first,
@@ -146,7 +148,7 @@ impl<'c> Standing<'c> {
         }
     }
 
-    /// Runs all activations by one plan.
+    /// Runs all activations by one plan, where none has ended.
     fn run_at_once<R: Threads + Sync, G: Gate>(
         &mut self,
         rt: &R,
@@ -160,6 +162,7 @@ impl<'c> Standing<'c> {
         requires workers { (1 ≤ workers) × (workers ≤ 64) }
         requires budgets { AreBudgets budgets }
         requires stands { StandsAt code.now input.now budgets self.old }
+        requires none_ended { self.old.held.ends.ends ≡ [] }
         ensures layout { OnOk result (IsLayoutOf self.new.layout (given_by self.old.control)) }
         ensures whole { OnOk result (IsLayout self.new.layout) }
         ensures input { OnOk result (self.new.layout.input_len ≡ length input.now) }
@@ -195,7 +198,7 @@ impl<'c> Standing<'c> {
     {
         let bodies = OpenBodies {
             code,
-            input_len: input.len() as u32,
+            input_len: self.layout.input_len,
             budgets,
             count: self.layout.frames() as u32,
             first: self.first,

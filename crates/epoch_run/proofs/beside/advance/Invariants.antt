@@ -5,11 +5,11 @@ use Rattle.epoch_run.specs.Standing.{HasCreated}
 use Rattle.epoch_run.proofs.beside.advance.Given as goal
 
 abbrev pub invariant-stretches : goal.invariant-stretches
-invariant-stretches g l = record {
+invariant-stretches l = record {
   some : l.left + 1 ≤ l.size.activations;
-  created : HasCreated (l.size.activations - l.left) l.initial.control l.control l.initial.next l.next;
-  told : l.ended ≡ nat_lt (length (remaining l.initial.control)) (l.size.activations - l.left);
+  created : HasCreated (l.size.activations - l.left) l.fn.control l.control l.fn.next l.next;
+  told : l.ended ≡ nat_lt (length (remaining l.fn.control)) (l.size.activations - l.left);
 }
 
 abbrev pub decreases-stretches : goal.decreases-stretches
-decreases-stretches g l = l.left
+decreases-stretches l = l.left
