@@ -16,6 +16,7 @@ positions=$work/crates/positions
 mkdir -p "$positions/src"
 cp "$top/bench/positions.program" "$positions/src/main.rt"
 cp "$top/crates/runtime_tests/src/lawful.rt" "$positions/src"
+sed -i 's/^use flow_core::/use flow_core_laws::/' "$positions/src/lawful.rt"
 mkdir "$positions/proofs"
 cp -r "$top/crates/runtime_tests/proofs/lawful" "$positions/proofs"
 find "$positions/proofs" -name '*.antt' \
@@ -23,7 +24,7 @@ find "$positions/proofs" -name '*.antt' \
 (cd "$positions" && rt run -- ones 1) >"$work/log" 2>&1 || { cat "$work/log" >&2; exit 1; }
 
 printf '%-10s %8s %8s %8s %10s %6s\n' kind number cells pieces ms ratio
-for kind in ones windows overlaps streams writers reader starved; do
+for kind in ones outputs windows overlaps streams writers reader starved; do
     before=
     for number in 4096 8192 16384 32768 65536; do
         read -r cells pieces now < <("$positions/out/positions" "$kind" "$number" | sort -n -k3 | head -n 1)
