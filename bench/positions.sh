@@ -18,7 +18,7 @@ cp "$top/bench/positions.program" "$positions/src/main.rt"
 (cd "$positions" && rt run -- ones 1) >"$work/log" 2>&1 || { cat "$work/log" >&2; exit 1; }
 
 printf '%-10s %8s %8s %8s %10s %6s\n' kind number cells pieces ms ratio
-for kind in ones windows overlaps streams writers reader starved; do
+for kind in ones outputs windows overlaps streams writers reader starved; do
     before=
     for number in 4096 8192 16384 32768 65536; do
         read -r cells pieces now < <("$positions/out/positions" "$kind" "$number" | sort -n -k3 | head -n 1)

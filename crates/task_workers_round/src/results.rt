@@ -1,4 +1,4 @@
-ghost use Rattle.std.specs.Prelude.{◌≡◌, ◌≤◌, ◌+◌, IfOk, length, sum_by};
+ghost use Rattle.std.specs.Prelude.{◌≡◌, ◌≤◌, ◌+◌, All, IfOk, length, sum_by};
 ghost use Rattle.flow_core_laws.specs.IsSound.{IsSound};
 ghost use Rattle.task_workers_round.specs.Results.{room_of};
 
@@ -41,6 +41,17 @@ fn all_outputs(plan: &Plan) -> usize
         count += frame.outputs as usize;
     }
     count
+}
+
+/// The greatest number of elements that a frame writes.
+pub fn most_outputs(plan: &Plan) -> usize
+    ensures { All (λ p. p.outputs ≤ result) plan.now.frames }
+{
+    let mut most = 0;
+    for frame in plan.frames.as_slice() {
+        most = most.max(frame.outputs as usize);
+    }
+    most
 }
 
 /// How many elements these frames write together.

@@ -55,7 +55,7 @@ fn frame_end<B: Bodies>(
 }
 
 /// Takes the end of a frame whose cells all hold an element.
-fn run_frame<B: Bodies, G: Gate>(
+pub(crate) fn run_frame<B: Bodies, G: Gate>(
     plan: &Plan,
     bodies: &B,
     board: &Board,

@@ -1,0 +1,28 @@
+use Rattle.std.proofs.Common.{length, ◌∙◌, arith}
+use Rattle.flow_core_laws.specs.Poisoning.{poisoning}
+use Rattle.flow_core_laws.specs.Plans.{plan_reads, plan_element, plan_meaning}
+use Rattle.flow_core_laws.proofs.Rounds.{length-meaning}
+use Rattle.flow_core.proofs.Running.{IsRun-opening, all_ended, ends_meant, sink_meant, sink_fits}
+use Rattle.task_workers.proofs.by_rounds.execute_alone.Goals as goal
+
+pub run_alone-requires-clause-begins : goal.run_alone-requires-clause-begins
+run_alone-requires-clause-begins g c = λ _ _. IsRun-opening _ _ _ c.in_ok-board.ensures.counted c.in_ok-board.ensures.filled c.in_ok-board.ensures.waiting
+
+pub collect-requires-clause-exists : goal.collect-requires-clause-exists
+collect-requires-clause-exists g c = sink_fits _ _ _ c.requires.sound c.in_ok-run_alone.ensures.counted
+
+pub returns-clause-ends : goal.returns-clause-ends
+returns-clause-ends g c =
+    let plan = c.args.plan.now in
+    let outcome = g.B.Bodies.outcome c.args.bodies.now in
+    let run = c.in_ok-run_alone.ensures in
+    let all = all_ended plan outcome c.run_alone.new.board _ c.requires.sound run (omega arith) in
+    c.in_ok-ends.ensures.ends ∙ ends_meant plan (plan_meaning plan outcome) _ _ (length-meaning (plan_element plan) (plan_reads plan) (poisoning outcome) (length plan.frames)) run.shows all
+
+pub returns-clause-output : goal.returns-clause-output
+returns-clause-output g c =
+    let plan = c.args.plan.now in
+    let outcome = g.B.Bodies.outcome c.args.bodies.now in
+    let run = c.in_ok-run_alone.ensures in
+    let all = all_ended plan outcome c.run_alone.new.board _ c.requires.sound run (omega arith) in
+    c.in_ok-ends.ensures.output ∙ sink_meant plan (plan_meaning plan outcome) _ _ _ c.requires.sound run.counted run.shows all
