@@ -27,10 +27,10 @@ use Rattle.osrun_core_answer.specs.Gen.{IsRunOfGen, gen_lines}
 use Rattle.osrun_core_answer.specs.Outcome.{GivesReplay, GivesRun, IsOutcome, IsOutcomeOfCompile, IsOutcomeOfExec, IsOutcomeOfExplain, IsOutcomeOfGen, IsOutcomeOfReplay, IsOutcomeOfRun, IsOutcomeOfTrace, Outcome, replay_budgets}
 use Rattle.osrun_core_jobs.specs.Files.{AreBytesOf, JobFile, files_of, limit_of}
 use Rattle.osrun_core_jobs.specs.Jobs.{Compile, CompileJob, Exec, ExecJob, Explain, ExplainJob, Gen, GenJob, IsRequestWithin, Job, Replay, ReplayJob, Request, Run as RunRequest, Trace, TraceJob, compile_in, exec_in, explain_in, gen_in, replay_in, run_in, trace_in}
-use Rattle.osrun_core_jobs.specs.Reading.{EndedAt, IsCauseOf, IsFailed, IsReadable, IsRejected, ReadsInOrder, WasRead, WereRead}
+use Rattle.osrun_core_jobs.specs.Reading.{EndedAt, IsCauseOf, IsFailed, IsReadable, IsRejected, ReadsInOrder, WereRead}
 use Rattle.osrun_core_jobs.specs.Refusal.{refusal_line, refusal_status, usage_line}
 use Rattle.osrun_core_jobs.specs.Status.{code_of}
-use Rattle.osrun_core_jobs.specs.Telling.{HasTrouble, IsCutShort, IsUndelivered, Tells, Took, TookLines}
+use Rattle.osrun_core_jobs.specs.Telling.{HasTrouble, IsCutShort, IsUndelivered, Tells}
 use Rattle.osrun_core_jobs.specs.declared.refusal.Refusal.{Refusal}
 use Rattle.osrun_core_jobs.specs.declared.refusal.Refusal.TheVariants as refusals
 use Rattle.osrun_core_jobs.specs.declared.status.Status.{Status}
