@@ -27,10 +27,10 @@ use Rattle.osrun_core_answer.specs.Gen.{IsRunOfGen, gen_lines}
 use Rattle.osrun_core_answer.specs.Outcome.{GivesReplay, GivesRun, IsOutcome, IsOutcomeOfCompile, IsOutcomeOfExec, IsOutcomeOfExplain, IsOutcomeOfGen, IsOutcomeOfReplay, IsOutcomeOfRun, IsOutcomeOfTrace, Outcome, replay_budgets}
 use Rattle.osrun_core_jobs.specs.Files.{AreBytesOf, JobFile, files_of, limit_of}
 use Rattle.osrun_core_jobs.specs.Jobs.{Compile, CompileJob, Exec, ExecJob, Explain, ExplainJob, Gen, GenJob, IsRequestWithin, Job, Replay, ReplayJob, Request, Run as RunRequest, Trace, TraceJob, compile_in, exec_in, explain_in, gen_in, replay_in, run_in, trace_in}
-use Rattle.osrun_core_jobs.specs.Reading.{EndedAt, IsCauseOf, IsFailed, IsReadable, IsRejected, ReadsInOrder, WasRead, WereRead}
+use Rattle.osrun_core_jobs.specs.Reading.{EndedAt, IsCauseOf, IsFailed, IsReadable, IsRejected, ReadsInOrder, WereRead}
 use Rattle.osrun_core_jobs.specs.Refusal.{refusal_line, refusal_status, usage_line}
 use Rattle.osrun_core_jobs.specs.Status.{code_of}
-use Rattle.osrun_core_jobs.specs.Telling.{HasTrouble, IsCutShort, IsUndelivered, Tells, Took, TookLines}
+use Rattle.osrun_core_jobs.specs.Telling.{HasTrouble, IsCutShort, IsUndelivered, Tells}
 use Rattle.osrun_core_jobs.specs.declared.refusal.Refusal.{Refusal}
 use Rattle.osrun_core_jobs.specs.declared.refusal.Refusal.TheVariants as refusals
 use Rattle.osrun_core_jobs.specs.declared.status.Status.{Status}
@@ -214,6 +214,37 @@ module _ {F : Type 0} (view : FilesView F) where
   ended_opens old new files place file ended =
       opened_behind old ended.before (take place files) ended.contents (view.opens new) ended.earlier ended.last.opened
       ∙ ap (λ n. raised (view.opens old) (n + 1)) (take_all files place (slice_get_within files place file ended.is_there))
+
+  -- one file and more that were read were all opened
+  read_opens : (old new : F) (file : JobFile) (files : List JobFile) (contents : List (List ℕ)) → WereRead IsUsable view old new (file ∷ files) contents
+      → view.opens new ≡ raised (view.opens old) (length files + 1)
+  read_opens old new file files [] read = absurd read
+  read_opens old new file [] (bytes ∷ []) read = ap view.opens read.2 ∙ read.1.opened
+  read_opens old new file [] (bytes ∷ other ∷ contents) read = absurd read.2
+  read_opens old new file (next ∷ files) (bytes ∷ contents) read =
+      let first = read.1.opened in
+      let others = read_opens read.0 new next files contents read.2 in
+      omega (arith, first, others)
+
+  -- of the last one no more than its limit was given
+  read_within : (place : ℕ) (old new : F) (files : List JobFile) (contents : List (List ℕ)) (file : JobFile) → WereRead IsUsable view old new files contents
+      → slice_get files place ≡ Some file → view.opens old + length files ≤ last_count → view.opens new ≡ raised (view.opens old) (place + 1)
+      → view.given new ≤ limit_of file.subject
+  read_within place old new [] contents file read at room opened = absurd (let lt = slice_get_within [] place file at in omega (arith, lt))
+  read_within place old new (first ∷ files) [] file read at room opened = absurd read
+  read_within zero old new (first ∷ []) (bytes ∷ []) file read at room opened =
+      let same : limit_of first.subject ≡ limit_of file.subject = ap (λ (f : JobFile). limit_of f.subject) (same_Some first file at) in
+      let given : view.given new ≡ view.given read.0 = ap view.given read.2 in
+      let whole = read.1.whole in
+      let fits = read.1.read.fits in
+      omega (arith, same, given, whole, fits)
+  read_within zero old new (first ∷ []) (bytes ∷ other ∷ contents) file read at room opened = absurd read.2
+  read_within zero old new (first ∷ next ∷ files) (bytes ∷ contents) file read at room opened =
+      absurd (let all = read_opens old new first (next ∷ files) (bytes ∷ contents) read in omega (arith, all, room, opened))
+  read_within (suc place) old new (first ∷ files) (bytes ∷ contents) file read at room opened =
+      let step = read.1.opened in
+      let few = slice_get_within files place file at in
+      read_within place read.0 new files contents file read.2 at (omega (arith, step, room)) (omega (arith, step, room, opened, few))
 
   -- the first files were read
   read_first : (k place : ℕ) (old before : F) (files : List JobFile) (contents : List (List ℕ)) → k ≤ place → WereRead IsUsable view old before (take place files) contents
@@ -682,36 +713,33 @@ module _ {F O E : Type 0} (of_files : FilesView F) (fo fn : F) (of_out : SinkVie
   refused_always = on_run asked _ (λ job is rejected.
       answer.rejected (program_file job) (subst (λ a. slice_get (asked_files a) 0 ≡ Some (program_file job)) (sym is) refl) rejected)
 
-  -- a file of which more than its limit was given is no input of a run that was made
-  too_much : (made : IsMade of_files fo fn asked) (job : Job) → asked ≡ Some (RunRequest job) → (place : ℕ) (file : JobFile)
-      → slice_get (files_of (RunRequest job)) place ≡ Some file → of_files.opens fo + 2 ≤ last_count → of_files.opens fn ≡ raised (of_files.opens fo) (place + 1)
-      → limit_of file.subject < of_files.given fn → ⊥
-  too_much made job is place file at room opened more =
-      let r = made_run made job is in
-      let few : place < 2 = slice_get_within (files_of (RunRequest job)) place file at in
-      let all = r.6 in
-      let same : input_file job ≡ file = same_file (files_of (RunRequest job)) 1 place (input_file job) file refl at (omega (arith, few, room, opened, all)) in
-      let limit : 4194304 ≡ limit_of file.subject = ap (λ (f : JobFile). limit_of f.subject) same in
-      omega (arith, limit, more, r.2, r.7)
+  -- a file of which more than its limit was given isn't the last one of those that were read for what was made
+  too_much : (made : IsMade of_files fo fn asked) (request : Request) → asked ≡ Some request → (place : ℕ) (file : JobFile)
+      → slice_get (files_of request) place ≡ Some file → of_files.opens fo + length (files_of request) ≤ last_count
+      → of_files.opens fn ≡ raised (of_files.opens fo) (place + 1) → limit_of file.subject < of_files.given fn → ⊥
+  too_much made request is place file at room opened more =
+      let read = subst (λ q. WereRead IsUsable of_files fo fn (files_of q) made.contents) (one asked made.request request made.is_asked is) made.read in
+      let fits = read_within of_files place fo fn (files_of request) made.contents file read at room opened in
+      omega (arith, fits, more)
 
-  pub too_long_always : IfSome (option_and_then run_in asked) (λ job. (place : ℕ) (file : JobFile) → slice_get (files_of (RunRequest job)) place ≡ Some file
-      → of_files.opens fo + length (files_of (RunRequest job)) ≤ last_count → of_files.opens fn ≡ raised (of_files.opens fo) (place + 1)
+  pub too_long_always : IfSome asked (λ request. (place : ℕ) (file : JobFile) → slice_get (files_of request) place ≡ Some file
+      → of_files.opens fo + length (files_of request) ≤ last_count → of_files.opens fn ≡ raised (of_files.opens fo) (place + 1)
       → limit_of file.subject < of_files.given fn → (status ≡ 4) ⊎ (status ≡ 7))
-  too_long_always = on_run asked _ (λ job is place file at room opened more. cases
-      (λ g _. absurd (too_much g.made job is place file at room opened more))
-      (λ u _. absurd (none (RunRequest job) u.nothing_asked is))
+  too_long_always = on_request asked _ (λ request is place file at room opened more. cases
+      (λ g _. absurd (too_much g.made request is place file at room opened more))
+      (λ u _. absurd (none request u.nothing_asked is))
       (λ s h status_is _ _.
-      let cause = refused_run s h job is in
-      let ended = ended_opens of_files fo fn (files_of (RunRequest job)) cause.place cause.file cause.ended in
-      let few : place < 2 = slice_get_within (files_of (RunRequest job)) place file at in
-      let few_too : cause.place < 2 = slice_get_within (files_of (RunRequest job)) cause.place cause.file cause.ended.is_there in
-      let same : file ≡ cause.file = same_file (files_of (RunRequest job)) place cause.place file cause.file at cause.ended.is_there (omega (arith, few, few_too, room, opened, ended)) in
+      let cause = subst (λ q. IsCauseOf IsUsable IsUnusable of_files fo fn (files_of q) h.refusal) (one asked h.request request h.is_asked is) h.cause in
+      let ended = ended_opens of_files fo fn (files_of request) cause.place cause.file cause.ended in
+      let few = slice_get_within (files_of request) place file at in
+      let few_too = slice_get_within (files_of request) cause.place cause.file cause.ended.is_there in
+      let same : file ≡ cause.file = same_file (files_of request) place cause.place file cause.file at cause.ended.is_there (omega (arith, few, few_too, room, opened, ended)) in
       let limit : limit_of file.subject ≡ limit_of cause.file.subject = ap (λ (f : JobFile). limit_of f.subject) same in
       subst (λ n. (n ≡ 4) ⊎ (n ≡ 7)) (sym (status_is ∙ ap code_of h.answered_is))
       (past_limit of_files cause.ended.before fn cause.file h.refusal cause.failed (omega (arith, limit, more))))
-      (λ c _. absurd (too_much c.made job is place file at room opened more))
+      (λ c _. absurd (too_much c.made request is place file at room opened more))
       (λ _ n. inr n)
-      (λ h _. absurd (too_much h.made job is place file at room opened more)))
+      (λ h _. absurd (too_much h.made request is place file at room opened more)))
 
   pub undelivered : status ≡ 6 → IfSome (option_and_then run_in asked) (λ job. (run : ProgramRun) × IsRunOfJob (of_files.holds fo) job run
       × (of_files.given fn ≡ length run.input) × IsUndelivered of_out oo on (written run.ends.output)

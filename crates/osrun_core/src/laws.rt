@@ -87,11 +87,11 @@ pub fn answers_say<F: Files, O: Sink, E: Sink>(
         IsRejected IsUnusable (F.holds files.now) (record { subject = ProgramFile; name = job.program })
         → (status ≡ 3) ⊎ ((status ≡ 5) ⊎ (status ≡ 7))) }
 
-    // 4: where more than the limit of the file that was opened last was given, the status is 4, unless memory
-    // ran out (7).
-    ensures too_long_always { IfSome (named_run (texts words.now)) (λ job. (place : ℕ) (file : JobFile)
-        → slice_get (files_of (RunRequest job)) place ≡ Some file
-        → F.opens files.now + length (files_of (RunRequest job)) ≤ last_count
+    // 4, whatever the words ask for: where more than the limit of the file that was opened last was given, the status is 4,
+    // unless memory ran out (7).
+    ensures too_long_always { IfSome (command (texts words.now)) (λ request. (place : ℕ) (file : JobFile)
+        → slice_get (files_of request) place ≡ Some file
+        → F.opens files.now + length (files_of request) ≤ last_count
         → F.opens files_after.now ≡ raised (F.opens files.now) (place + 1)
         → limit_of file.subject < F.given files_after.now → (status ≡ 4) ⊎ (status ≡ 7)) }
 
