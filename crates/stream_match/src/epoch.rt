@@ -112,7 +112,7 @@ fn weave(
 {
     let read = reading(alloc, layout, frames)?;
     let left = leaving(alloc, layout, frames, cursors, read.next)?;
-    let places = places(alloc, left.stretches.as_slice())?;
+    let places = places(alloc, left.stretches.as_slice(), left.next - read.next)?;
     let plan = weave_rows(alloc, layout, frames, &read, &left, kept, input)?;
     let frames = List::from_slice(alloc, frames)?;
     Ok(EpochPlan {
@@ -122,12 +122,12 @@ fn weave(
     })
 }
 
-/// The places of what leaves.
-fn places(alloc: Global, leaves: &[Stretch]) -> Result<List<Place>, Memory>
+/// The places of what leaves, so many.
+fn places(alloc: Global, leaves: &[Stretch], count: u32) -> Result<List<Place>, Memory>
     requires { All (λ (s : Stretch). s.first + s.count < 2 ^ 64) leaves.now }
     ensures { IfOk result (λ places. map place_of places ≡ flat_map stretch_places leaves.now) }
 {
-    let mut places = List::new(alloc);
+    let mut places = List::with_capacity(alloc, count as usize)?;
     add_places(&mut places, leaves)?;
     Ok(places)
 }
