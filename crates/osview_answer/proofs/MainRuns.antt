@@ -1,14 +1,16 @@
 -- A run of `main` whose only stretch is longer than all runs.
-use Rattle.std.proofs.Common.{◌≡◌, ◌∙◌, ◌≤◌, ℕ, true, false, List, Option, None, Some, ap, arith, drop, length, subst, take}
+use Rattle.std.proofs.Common.{◌≡◌, ◌∙◌, ◌+◌, ◌≤◌, All, ℕ, true, List, None, Some, ap, arith, length, subst, take}
 use Rattle.std.proofs.lemmas.Bool.{lt-ltb}
 use Rattle.std.proofs.lemmas.List.{take_all}
-use Rattle.control_run.specs.Stretches.{MainTakes, RunSoFar, StepsTold, TurnsTold, advanced, not_begun, remaining}
+use Rattle.control_run.specs.Stretches.{MainTakes, RunSoFar, StepsTold, TurnsTold, advanced, given_by, not_begun, remaining}
 use Rattle.control_run.proofs.All.{all-few}
 use Rattle.flow_core_laws.specs.declared.activation.Activation.{Activation}
 use Rattle.os_code.specs.Codes.{parts_of}
 use Rattle.os_code.specs.Control.{ControlEnds}
 use Rattle.os_code.specs.Outcomes.{control}
+use Rattle.os_code.specs.Tasks.{Fits}
 use Rattle.os_code.specs.declared.code.Code.{Code}
+use Rattle.os_code.specs.declared.parts.Parts.{Parts}
 
 module _ (code : Code) (input_len budget : ℕ) (low : budget ≤ 1000000000) (run after : RunSoFar) (begins : run ≡ not_begun (parts_of code) input_len budget)
     (goes : after ≡ advanced run 4294967295) where
@@ -34,9 +36,18 @@ module _ (code : Code) (input_len budget : ℕ) (low : budget ≤ 1000000000) (r
   pub turns-told : (turns : ℕ) → TurnsTold after (Some turns) → MainTakes (parts_of code) input_len budget turns
   turns-told turns told = (subst (λ (r : RunSoFar). TurnsTold r (Some turns)) same told).1
 
-  -- it gives all activations
+  -- it gives all activations, and they fit the code
   pub all-given : take 4294967295 (remaining run) ≡ (control (parts_of code) input_len budget).activations
   all-given =
       let few = all-few (parts_of code) code.valid input_len budget low in
       ap (λ (r : RunSoFar). take 4294967295 (remaining r)) begins
       ∙ take_all 4294967295 (control (parts_of code) input_len budget).activations (omega (arith, few))
+
+  pub all-fit : All (Fits after.code) (given_by after) → All (Fits (parts_of code)) (control (parts_of code) input_len budget).activations
+  all-fit fit =
+      let activations = (control (parts_of code) input_len budget).activations in
+      let few = all-few (parts_of code) code.valid input_len budget low in
+      let size = ap length (take_all 4294967295 activations (omega (arith, few))) in
+      let all : given_by after ≡ activations = ap given_by same ∙ take_all (0 + length (take 4294967295 activations)) activations (omega (arith, size)) in
+      subst (λ (xs : List Activation). All (Fits (parts_of code)) xs) all
+      (subst (λ (p : Parts). All (Fits p) (given_by after)) (ap (λ (r : RunSoFar). r.code) same) fit)

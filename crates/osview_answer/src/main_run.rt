@@ -36,14 +36,14 @@ pub(crate) fn run_main(
     let mut run = ControlRun::new(alloc, code, input_len, budget)?;
     let mut activations = List::new(alloc);
     run.advance(&mut activations, u32::MAX)?;
-    let Some(steps) = run.steps() else {
-        unreachable!()
-    };
-    let Some(turns) = run.turns() else {
-        unreachable!()
-    };
-    Ok(MainRun {
-        activations,
-        taken: Taken { steps, turns },
-    })
+    match run.steps() {
+        None => unreachable!(),
+        Some(steps) => match run.turns() {
+            None => unreachable!(),
+            Some(turns) => Ok(MainRun {
+                activations,
+                taken: Taken { steps, turns },
+            }),
+        },
+    }
 }
