@@ -72,7 +72,8 @@ fn both<R: Threads + Sync, G: Gate>(
 {
     let mut run = || -> Result<(), Memory>
         requires { IsSync R.row × IsSync G.row × (1 ≤ workers) × (workers ≤ 64)
-            × IsOpenEpoch bodies.now.code.now (all_of bodies.now) bodies.now.budgets.task layout.now input.now held.now × HaveOpen bodies.now held.now.ends.ends }
+            × IsOpenEpoch bodies.now.code.now (all_of bodies.now) bodies.now.budgets.task layout.now input.now held.now
+            × HaveOpen bodies.now held.now.ends.ends }
         ensures { OnOk result (IsHeldOf (parts_of bodies.entry.now.code.now) (all_of bodies.entry.now) input.entry.now
             bodies.entry.now.budgets.task held.exit.now) }
     { run_epoch(rt, alloc, bodies, layout, input, workers, gate, held) };

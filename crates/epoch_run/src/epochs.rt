@@ -23,7 +23,7 @@ const EPOCH: u32 = 4096;
 /// With so many elements in their windows an epoch takes no more activations: their cells, and what they write, are held at once.
 const ELEMENTS: u64 = 65_536;
 
-/// How many activations are created before their elements are counted: so an epoch has one for each worker, where there are as many.
+/// How many activations are created before their elements are counted: so an epoch has one for each of 64 workers.
 const STRETCH: u32 = 64;
 
 /// Runs a code over an input in epochs of at most 4,096 new activations, and of fewer where their windows are large: while 1 to 64

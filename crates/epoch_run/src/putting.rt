@@ -50,11 +50,23 @@ fn grow<T: Drop>(list: &mut List<Option<T>>, count: usize) -> Result<(), Memory>
     ensures length { OnOk result (length list.new ≡ count) }
     ensures same { OnOk result ((at : ℕ) → outcome_at list.new at ≡ outcome_at list.old at) }
 {
-    list.reserve(count - list.len())?;
+    list.reserve(room_for(count).saturating_sub(list.len()))?;
     'growing: while list.len() < count {
         list.push(None)?;
     }
     Ok(())
+}
+
+/// How many items a list that grows to so many is to have room for: so it has twice as many at most, and just so many where
+/// that is a power of two.
+fn room_for(count: usize) -> usize {
+    let mut room: usize = 1;
+    for _ in 0..usize::BITS {
+        if room < count {
+            room = room.saturating_mul(2);
+        }
+    }
+    room
 }
 
 /// Puts the elements that left an epoch at their positions of the output, the last one first.
