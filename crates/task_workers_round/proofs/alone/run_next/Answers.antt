@@ -1,4 +1,3 @@
-use Rattle.std.proofs.Common.{◌∙◌}
 use Rattle.flow_core.proofs.Showing.{AreEmpty-waiting}
 use Rattle.task_workers_round.proofs.alone.run_next.Goals as goal
 

@@ -1,4 +1,4 @@
-use Rattle.std.proofs.Common.{◌≡◌, ℕ, length, sym, ap, ◌∙◌, subst, arith}
+use Rattle.std.proofs.Common.{ℕ, length, sym, ap, ◌∙◌, subst, arith}
 use Rattle.flow_core_laws.specs.Plans.{frame_at}
 use Rattle.flow_core_laws.specs.Round.{gathered}
 use Rattle.flow_core.proofs.Showing.{inputs_there, outcome_meant, part_read, length-stretch, IsSome-from}
