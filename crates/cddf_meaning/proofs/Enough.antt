@@ -5,10 +5,10 @@ use Rattle.cddf_meaning.specs.Answers.{Answer, Left}
 use Rattle.cddf_meaning.specs.Flow.{Ran, Went, Ended, Runs, given, goes_on, flows, loops}
 use Rattle.cddf_meaning.specs.Moves.{Falls, Keeps}
 use Rattle.cddf_meaning.specs.Run.{loop}
-use Rattle.cddf_meaning.specs.State.{State}
+use Rattle.cddf_meaning.specs.BodyState.{BodyState}
 use Rattle.cddf_meaning.specs.declared.flow.Flow.TheVariants.{GoesOn, Breaks, Continues, Returns}
 
-pub given-same : (s : State) (turns : ℕ) (a : Answer (Left ℤ)) (f g : Left ℤ → Ran) → Falls turns a →
+pub given-same : (s : BodyState) (turns : ℕ) (a : Answer (Left ℤ)) (f g : Left ℤ → Ran) → Falls turns a →
     ((n : Left ℤ) → n.turns ≤ turns → f n ≡ g n) → given a s f ≡ given a s g
 given-same s turns (Err ending) f g h e = refl
 given-same s turns (Ok n) f g h e = e n h
@@ -17,7 +17,7 @@ pub if-same : (t : Bool) (a b c : Ran) → b ≡ c → (if t then a else b) ≡ 
 if-same true a b c e = refl
 if-same false a b c e = e
 
-pub flows-same : (s : State) (turns : ℕ) (f g : Runs) (r : Ran) → Keeps s turns r → ((t : State) (left : ℕ) → left ≤ turns → f t left ≡ g t left) →
+pub flows-same : (s : BodyState) (turns : ℕ) (f g : Runs) (r : Ran) → Keeps s turns r → ((t : BodyState) (left : ℕ) → left ≤ turns → f t left ≡ g t left) →
     flows f r ≡ flows g r
 flows-same s turns f g (Ended ending acts) k e = refl
 flows-same s turns f g (Went GoesOn t left) (a, b) e = e t left a
@@ -25,7 +25,7 @@ flows-same s turns f g (Went Breaks t left) k e = refl
 flows-same s turns f g (Went Continues t left) k e = refl
 flows-same s turns f g (Went (Returns v) t left) k e = refl
 
-pub loops-same : (s : State) (turns : ℕ) (f g : Runs) (r : Ran) → Keeps s turns r → ((t : State) (left : ℕ) → left ≤ turns → f t left ≡ g t left) →
+pub loops-same : (s : BodyState) (turns : ℕ) (f g : Runs) (r : Ran) → Keeps s turns r → ((t : BodyState) (left : ℕ) → left ≤ turns → f t left ≡ g t left) →
     loops f r ≡ loops g r
 loops-same s turns f g (Ended ending acts) k e = refl
 loops-same s turns f g (Went GoesOn t left) (a, b) e = e t left a
@@ -33,9 +33,9 @@ loops-same s turns f g (Went Breaks t left) k e = refl
 loops-same s turns f g (Went Continues t left) (a, b) e = e t left a
 loops-same s turns f g (Went (Returns v) t left) k e = refl
 
-pub loop-enough : (most other : ℕ) (test : State → ℕ → Answer (Left ℤ)) (body step : Runs) →
-    ((s : State) (turns : ℕ) → Falls turns (test s turns)) → ((s : State) (turns : ℕ) → Keeps s turns (body s turns)) →
-    ((s : State) (turns : ℕ) → Keeps s turns (step s turns)) → (s : State) (turns : ℕ) → turns ≤ most → turns ≤ other →
+pub loop-enough : (most other : ℕ) (test : BodyState → ℕ → Answer (Left ℤ)) (body step : Runs) →
+    ((s : BodyState) (turns : ℕ) → Falls turns (test s turns)) → ((s : BodyState) (turns : ℕ) → Keeps s turns (body s turns)) →
+    ((s : BodyState) (turns : ℕ) → Keeps s turns (step s turns)) → (s : BodyState) (turns : ℕ) → turns ≤ most → turns ≤ other →
     loop most test body step s turns ≡ loop other test body step s turns
 loop-enough most other test body step ft kb ks s zero m o = refl
 loop-enough zero other test body step ft kb ks s (suc turns) m o = search (m, arith)

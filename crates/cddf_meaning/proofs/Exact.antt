@@ -7,7 +7,7 @@ use Rattle.cddf_meaning.specs.Answers.{Answer, Left, and_then, left, with_turns,
 use Rattle.cddf_meaning.specs.Exact.{Spends, Stays, IsExact}
 use Rattle.cddf_meaning.specs.File.{File, variable, type_in}
 use Rattle.cddf_meaning.specs.Operators.{binary_value, unary_value}
-use Rattle.cddf_meaning.specs.State.{State}
+use Rattle.cddf_meaning.specs.BodyState.{BodyState}
 use Rattle.cddf_meaning.specs.Value.{value, place_value, values, chained, linked, call_value, as_truth, element_at, elements, scalar_value}
 use Rattle.cddf_meaning.specs.ExpressionTypes.{type_of_two}
 use Rattle.cddf_meaning.specs.Variables.{find}
@@ -125,7 +125,7 @@ linked-exact op line t u v right e turns =
     (λ n. exact-with (binary_value op line t u v n.value) n.turns)
 
 mutual
-  pub value-exact : (file : File) → CallsExact file → (e : tree.ExprTree) (s : State) (turns : ℕ) →
+  pub value-exact : (file : File) → CallsExact file → (e : tree.ExprTree) (s : BodyState) (turns : ℕ) →
       IsExact ℤ (value file e s) turns (value file e s turns)
   value-exact file calls (tree.Number n) s turns = exact-here (pos n) turns
   value-exact file calls (tree.Wide n) s turns = exact-here (cast_signed w32 n) turns
@@ -146,14 +146,14 @@ mutual
       (λ n. exact-if (is_zero n.value) (value file b s) (value file a s) n.turns
       (value-exact file calls b s n.turns) (value-exact file calls a s n.turns))
 
-  pub place-exact : (file : File) → CallsExact file → (t : tree.TargetTree) (s : State) (turns : ℕ) →
+  pub place-exact : (file : File) → CallsExact file → (t : tree.TargetTree) (s : BodyState) (turns : ℕ) →
       IsExact ℤ (place_value file t s) turns (place_value file t s turns)
   place-exact file calls (tree.Variable n) s turns = exact-here (scalar_value s (variable file s n.id)) turns
   place-exact file calls (tree.Element n m e) s turns =
       exact-then (value file e s) (λ i. with_turns i.turns (element_at (elements s (find s.bound n.id)) m.line i.value)) turns (value file e s turns)
       (value-exact file calls e s turns) (λ i. exact-with (element_at (elements s (find s.bound n.id)) m.line i.value) i.turns)
 
-  pub values-exact : (file : File) → CallsExact file → (es : tree.Args) (s : State) (turns : ℕ) →
+  pub values-exact : (file : File) → CallsExact file → (es : tree.Args) (s : BodyState) (turns : ℕ) →
       IsExact (List ℤ) (values file es s) turns (values file es s turns)
   values-exact file calls tree.no_args s turns = exact-here [] turns
   values-exact file calls (tree.arg e es) s turns =
@@ -162,7 +162,7 @@ mutual
       (λ n. exact-then (values file es s) (λ ns. Ok (left (n.value ∷ ns.value) ns.turns)) n.turns (values file es s n.turns)
       (values-exact file calls es s n.turns) (λ ns. exact-here (n.value ∷ ns.value) ns.turns))
 
-  pub chained-exact : (file : File) → CallsExact file → (ls : tree.Links) (s : State) (u : Bool) (v : ℤ) (turns : ℕ) →
+  pub chained-exact : (file : File) → CallsExact file → (ls : tree.Links) (s : BodyState) (u : Bool) (v : ℤ) (turns : ℕ) →
       IsExact ℤ (λ t. chained file ls s u (left v t)) turns (chained file ls s u (left v turns))
   chained-exact file calls tree.no_links s u v turns = exact-here v turns
   chained-exact file calls (tree.link op m e rest) s u v turns =

@@ -7,7 +7,7 @@ use Rattle.cddf_meaning.specs.Flow.{Ran, Went, Ended}
 use Rattle.cddf_meaning.specs.Functions.{file_of, with_item, with_items, empty_file, call_function, in_function, bind_params, returned}
 use Rattle.cddf_meaning.specs.Moves.{CallsFall}
 use Rattle.cddf_meaning.specs.Run.{run_all}
-use Rattle.cddf_meaning.specs.State.{state_of}
+use Rattle.cddf_meaning.specs.BodyState.{state_of}
 use Rattle.os_ast.specs.Notes.Programs.{param_list}
 use Rattle.os_ast.specs.Trees as tree
 use Rattle.cddf_meaning.proofs.Exact.{CallsExact, exact-if, stays-behind, stays-made}

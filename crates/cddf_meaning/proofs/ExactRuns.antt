@@ -11,7 +11,7 @@ use Rattle.cddf_meaning.specs.Flow.{Ran, Went, Ended, Runs, given, goes_on, flow
 use Rattle.cddf_meaning.specs.Moves.{Falls, CallsFall, Keeps}
 use Rattle.cddf_meaning.specs.Operators.{binary_value, step_operator}
 use Rattle.cddf_meaning.specs.Run.{Around, loop, assigned, aim_at, old_value, after_store, changed, run_change, run_scalar, run_array, run_window, window_size, with_streams, run_streams, run_unsized_or, run_declarator, run_declarators, run_start, run_test, run_step, run, run_all, array_size, target_type}
-use Rattle.cddf_meaning.specs.State.{State, declared, stored}
+use Rattle.cddf_meaning.specs.BodyState.{BodyState, declared, stored}
 use Rattle.cddf_meaning.specs.Streams.{stream_number, first_stream, stream_count, cursor_move, burst, burst_of, joined, item_claim, items_claims, claim_of, horizon_of, run_task, run_tick, tick_turn, moved, unless_limited, with_activation, captured_by, task_number}
 use Rattle.cddf_meaning.specs.Value.{value, values, checked, elements, call_value}
 use Rattle.cddf_meaning.specs.Variables.{find}
@@ -24,8 +24,8 @@ use Rattle.cddf_meaning.specs.declared.site.Site.{Site}
 use Rattle.cddf_meaning.specs.declared.variable.Variable.TheVariants.{Scalar, Array, Window}
 use Rattle.flow_core_laws.specs.declared.activation.Activation.{Activation}
 use Rattle.flow_core_laws.specs.declared.claim.Claim.{Claim}
-use Rattle.os_ast.specs.Parts as clause
-use Rattle.os_ast.specs.Parts.{parts}
+use Rattle.os_ast.specs.ClauseParts as clause
+use Rattle.os_ast.specs.ClauseParts.{parts}
 use Rattle.os_ast.specs.Trees as tree
 use Rattle.os_ast.specs.declared.expr.Mark.{Mark}
 use Rattle.os_ast.specs.declared.names.Direction.{Direction}
@@ -40,7 +40,7 @@ abbrev IsOver : Ran → Type 0
 IsOver r = (made : List Activation) × (r ≡ Ended OverBudget made)
 
 -- nothing is spent where a state is left at once
-went-exact : (flow : Flow) (s : State) (turns : ℕ) → RunsExactly (λ t. Went flow s t) turns (Went flow s turns)
+went-exact : (flow : Flow) (s : BodyState) (turns : ℕ) → RunsExactly (λ t. Went flow s t) turns (Went flow s turns)
 went-exact flow s turns = record {
   spent = 0;
   all = omega arith;
@@ -54,14 +54,14 @@ runs-if true f g turns a b = a
 runs-if false f g turns a b = b
 
 -- an answer, and what follows it
-given-enough : {A : Type 0} (f : ℕ → Answer (Left A)) (s : State) (next : Left A → Ran) (a b more : ℕ) (v : A) (flow : Flow) (t : State) →
+given-enough : {A : Type 0} (f : ℕ → Answer (Left A)) (s : BodyState) (next : Left A → Ran) (a b more : ℕ) (v : A) (flow : Flow) (t : BodyState) →
     f (a + (b + more)) ≡ Ok (left v (b + more)) → next (left v (b + more)) ≡ Went flow t more →
     given (f (a + b + more)) s next ≡ Went flow t more
 given-enough f s next a b more v flow t first second =
     let sums : a + b + more ≡ a + (b + more) = omega arith in
     ap (λ k. given (f k) s next) sums ∙ (ap (λ x. given x s next) first ∙ second)
 
-given-fewer : {A : Type 0} (f : ℕ → Answer (Left A)) (s : State) (next : Left A → Ran) (a b less : ℕ) (v : A) →
+given-fewer : {A : Type 0} (f : ℕ → Answer (Left A)) (s : BodyState) (next : Left A → Ran) (a b less : ℕ) (v : A) →
     ((k : ℕ) → f (a + k) ≡ Ok (left v k)) → ((k : ℕ) → k < a → f k ≡ over) → ((k : ℕ) → k < b → IsOver (next (left v k))) →
     less < a + b → (less < a) ⊎ (a ≤ less) → IsOver (given (f less) s next)
 given-fewer f s next a b less v enough fewer behind h (inl lt) = (s.activations, ap (λ x. given x s next) (fewer less lt))
@@ -70,7 +70,7 @@ given-fewer f s next a b less v enough fewer behind h (inr ge) =
     let (made, is) = behind (less - a) (omega (arith, h, ge)) in
     (made, ap (λ k. given (f k) s next) sums ∙ (ap (λ x. given x s next) (enough (less - a)) ∙ is))
 
-given-behind : {A : Type 0} (f : ℕ → Answer (Left A)) (s : State) (next : Left A → Ran) (turns : ℕ) (n : Left A) →
+given-behind : {A : Type 0} (f : ℕ → Answer (Left A)) (s : BodyState) (next : Left A → Ran) (turns : ℕ) (n : Left A) →
     Spends A f turns n → (b : Ran) → RunsExactly (λ t. next (left n.value t)) n.turns b → RunsExactly (λ t. given (f t) s next) turns b
 given-behind f s next turns n e (Ended ending made) r =
     stays-behind (λ t. given (f t) s next) (λ t. next (left n.value t)) turns e.spent n.turns ending (Ended ending made) e.all
@@ -82,25 +82,25 @@ given-behind f s next turns n e (Went flow t rest) r = record {
   fewer = λ less h. given-fewer f s next e.spent r.spent less n.value e.enough e.fewer r.fewer h (cases_lt less e.spent);
 }
 
-given-exact : {A : Type 0} (f : ℕ → Answer (Left A)) (s : State) (next : Left A → Ran) (turns : ℕ) (a : Answer (Left A)) → IsExact A f turns a →
+given-exact : {A : Type 0} (f : ℕ → Answer (Left A)) (s : BodyState) (next : Left A → Ran) (turns : ℕ) (a : Answer (Left A)) → IsExact A f turns a →
     ((n : Left A) → n.turns ≤ turns → RunsExactly (λ t. next (left n.value t)) n.turns (next n)) → RunsExactly (λ t. given (f t) s next) turns (given a s next)
 given-exact f s next turns (Err ending) e rest = stays-made (λ x. given x s next) f turns ending (Err ending) (Ended ending s.activations) refl e
 given-exact f s next turns (Ok n) e rest = given-behind f s next turns n e (next n) (rest n (omega (arith, e.all)))
 
-given-plain : {A : Type 0} (a : Answer A) (s : State) (next : A → ℕ → Ran) (turns : ℕ) → ((v : A) → RunsExactly (next v) turns (next v turns)) →
+given-plain : {A : Type 0} (a : Answer A) (s : BodyState) (next : A → ℕ → Ran) (turns : ℕ) → ((v : A) → RunsExactly (next v) turns (next v turns)) →
     RunsExactly (λ t. given a s (λ v. next v t)) turns (given a s (λ v. next v turns))
 given-plain (Err ending) s next turns rest = stays-always _ turns ending (Ended ending s.activations) (λ k. refl)
 given-plain (Ok v) s next turns rest = rest v
 
 -- a statement, and what follows it: `join` is `flows` or `loops`, where it goes on in a way
-joined-enough : (join : Ran → Ran) (f : ℕ → Ran) (next : ℕ → Ran) (a b more : ℕ) (first last : Flow) (s t : State) →
+joined-enough : (join : Ran → Ran) (f : ℕ → Ran) (next : ℕ → Ran) (a b more : ℕ) (first last : Flow) (s t : BodyState) →
     ((k : ℕ) → join (Went first s k) ≡ next k) → f (a + (b + more)) ≡ Went first s (b + more) → next (b + more) ≡ Went last t more →
     join (f (a + b + more)) ≡ Went last t more
 joined-enough join f next a b more first last s t goes one two =
     let sums : a + b + more ≡ a + (b + more) = omega arith in
     ap (λ k. join (f k)) sums ∙ (ap join one ∙ (goes (b + more) ∙ two))
 
-joined-fewer : (join : Ran → Ran) (f : ℕ → Ran) (next : ℕ → Ran) (a b less : ℕ) (first : Flow) (s : State) →
+joined-fewer : (join : Ran → Ran) (f : ℕ → Ran) (next : ℕ → Ran) (a b less : ℕ) (first : Flow) (s : BodyState) →
     ((k : ℕ) → join (Went first s k) ≡ next k) → ((made : List Activation) → join (Ended OverBudget made) ≡ Ended OverBudget made) →
     ((k : ℕ) → f (a + k) ≡ Went first s k) → ((k : ℕ) → k < a → IsOver (f k)) → ((k : ℕ) → k < b → IsOver (next k)) →
     less < a + b → (less < a) ⊎ (a ≤ less) → IsOver (join (f less))
@@ -112,7 +112,7 @@ joined-fewer join f next a b less first s goes ends enough fewer behind h (inr g
     let (made, is) = behind (less - a) (omega (arith, h, ge)) in
     (made, ap (λ k. join (f k)) sums ∙ (ap join (enough (less - a)) ∙ (goes (less - a) ∙ is)))
 
-joined-behind : (join : Ran → Ran) (f : ℕ → Ran) (next : ℕ → Ran) (turns rest : ℕ) (first : Flow) (s : State) →
+joined-behind : (join : Ran → Ran) (f : ℕ → Ran) (next : ℕ → Ran) (turns rest : ℕ) (first : Flow) (s : BodyState) →
     ((k : ℕ) → join (Went first s k) ≡ next k) → ((made : List Activation) → join (Ended OverBudget made) ≡ Ended OverBudget made) →
     SpendsIn f turns first s rest → (b : Ran) → RunsExactly next rest b → RunsExactly (λ t. join (f t)) turns b
 joined-behind join f next turns rest first s goes ends e (Ended ending made) r =
@@ -125,14 +125,14 @@ joined-behind join f next turns rest first s goes ends e (Went last t left) r = 
 }
 
 -- nothing follows: `join` changes at most the flow and the state
-ended-exact : (join : Ran → Ran) (f : ℕ → Ran) (turns rest : ℕ) (first last : Flow) (s t : State) →
+ended-exact : (join : Ran → Ran) (f : ℕ → Ran) (turns rest : ℕ) (first last : Flow) (s t : BodyState) →
     ((k : ℕ) → join (Went first s k) ≡ Went last t k) → ((made : List Activation) → join (Ended OverBudget made) ≡ Ended OverBudget made) →
     SpendsIn f turns first s rest → RunsExactly (λ k. join (f k)) turns (Went last t rest)
 ended-exact join f turns rest first last s t goes ends e =
     joined-behind join f (λ k. Went last t k) turns rest first s goes ends e (Went last t rest) (went-exact last t rest)
 
 flows-exact : (next : Runs) (f : ℕ → Ran) (turns : ℕ) (r : Ran) → RunsExactly f turns r →
-    ((s : State) (left : ℕ) → left ≤ turns → RunsExactly (next s) left (next s left)) → RunsExactly (λ t. flows next (f t)) turns (flows next r)
+    ((s : BodyState) (left : ℕ) → left ≤ turns → RunsExactly (next s) left (next s left)) → RunsExactly (λ t. flows next (f t)) turns (flows next r)
 flows-exact next f turns (Ended ending made) e rest = stays-made (flows next) f turns ending (Ended ending made) (Ended ending made) refl e
 flows-exact next f turns (Went GoesOn s left) e rest =
     joined-behind (flows next) f (next s) turns left GoesOn s (λ k. refl) (λ made. refl) e (next s left) (rest s left (omega (arith, e.all)))
@@ -141,7 +141,7 @@ flows-exact next f turns (Went Continues s left) e rest = ended-exact (flows nex
 flows-exact next f turns (Went (Returns v) s left) e rest = ended-exact (flows next) f turns left (Returns v) (Returns v) s s (λ k. refl) (λ made. refl) e
 
 loops-exact : (next : Runs) (f : ℕ → Ran) (turns : ℕ) (r : Ran) → RunsExactly f turns r →
-    ((s : State) (left : ℕ) → left ≤ turns → RunsExactly (next s) left (next s left)) → RunsExactly (λ t. loops next (f t)) turns (loops next r)
+    ((s : BodyState) (left : ℕ) → left ≤ turns → RunsExactly (next s) left (next s left)) → RunsExactly (λ t. loops next (f t)) turns (loops next r)
 loops-exact next f turns (Ended ending made) e rest = stays-made (loops next) f turns ending (Ended ending made) (Ended ending made) refl e
 loops-exact next f turns (Went GoesOn s left) e rest =
     joined-behind (loops next) f (next s) turns left GoesOn s (λ k. refl) (λ made. refl) e (next s left) (rest s left (omega (arith, e.all)))
@@ -150,7 +150,7 @@ loops-exact next f turns (Went Continues s left) e rest =
     joined-behind (loops next) f (next s) turns left Continues s (λ k. refl) (λ made. refl) e (next s left) (rest s left (omega (arith, e.all)))
 loops-exact next f turns (Went (Returns v) s left) e rest = ended-exact (loops next) f turns left (Returns v) (Returns v) s s (λ k. refl) (λ made. refl) e
 
-left-exact : (outer : State) (f : ℕ → Ran) (turns : ℕ) (r : Ran) → RunsExactly f turns r → RunsExactly (λ t. left_from outer (f t)) turns (left_from outer r)
+left-exact : (outer : BodyState) (f : ℕ → Ran) (turns : ℕ) (r : Ran) → RunsExactly f turns r → RunsExactly (λ t. left_from outer (f t)) turns (left_from outer r)
 left-exact outer f turns (Ended ending made) e = stays-made (left_from outer) f turns ending (Ended ending made) (Ended ending made) refl e
 left-exact outer f turns (Went flow s left) e =
     ended-exact (left_from outer) f turns left flow flow s (left_state outer s) (λ k. refl) (λ made. refl) e
@@ -173,18 +173,18 @@ one-more f g turns (Went flow s left) first more e = record {
 
 -- A loop takes as many turns as it has, for every count that is as large as these: so a loop with its turns as count is one step of it, and then one
 -- with the turns that are left.
-abbrev again : (test : State → ℕ → Answer (Left ℤ)) (body step : Runs) → Runs
+abbrev again : (test : BodyState → ℕ → Answer (Left ℤ)) (body step : Runs) → Runs
 again test body step s turns = loop turns test body step s turns
 
-abbrev turn-of : (test : State → ℕ → Answer (Left ℤ)) (body step : Runs) → Runs
+abbrev turn-of : (test : BodyState → ℕ → Answer (Left ℤ)) (body step : Runs) → Runs
 turn-of test body step s turns =
     given (test s turns) s
     (λ n. if is_zero n.value then goes_on s n.turns
     else loops (λ s turns. flows (again test body step) (step s turns)) (body s n.turns))
 
-loop-turn : (test : State → ℕ → Answer (Left ℤ)) (body step : Runs) → ((s : State) (turns : ℕ) → Falls turns (test s turns)) →
-    ((s : State) (turns : ℕ) → Keeps s turns (body s turns)) → ((s : State) (turns : ℕ) → Keeps s turns (step s turns)) →
-    (s : State) (turns : ℕ) → again test body step s (suc turns) ≡ turn-of test body step s turns
+loop-turn : (test : BodyState → ℕ → Answer (Left ℤ)) (body step : Runs) → ((s : BodyState) (turns : ℕ) → Falls turns (test s turns)) →
+    ((s : BodyState) (turns : ℕ) → Keeps s turns (body s turns)) → ((s : BodyState) (turns : ℕ) → Keeps s turns (step s turns)) →
+    (s : BodyState) (turns : ℕ) → again test body step s (suc turns) ≡ turn-of test body step s turns
 loop-turn test body step ft kb ks s turns =
     let f : Runs = λ s left. flows (loop turns test body step) (step s left) in
     let g : Runs = λ s left. flows (again test body step) (step s left) in
@@ -195,12 +195,12 @@ loop-turn test body step ft kb ks s turns =
     (λ t left k. flows-same t left (loop turns test body step) (again test body step) (step t left) (ks t left)
     (λ u rest j. loop-enough turns rest test body step ft kb ks u rest (omega (arith, h, k, j)) (omega arith)))))
 
-loop-exact : (test : State → ℕ → Answer (Left ℤ)) (body step : Runs) → ((s : State) (turns : ℕ) → Falls turns (test s turns)) →
-    ((s : State) (turns : ℕ) → Keeps s turns (body s turns)) → ((s : State) (turns : ℕ) → Keeps s turns (step s turns)) →
-    ((s : State) (turns : ℕ) → IsExact ℤ (test s) turns (test s turns)) →
-    ((s : State) (turns : ℕ) → RunsExactly (body s) turns (body s turns)) →
-    ((s : State) (turns : ℕ) → RunsExactly (step s) turns (step s turns)) →
-    (bound : ℕ) (s : State) (turns : ℕ) → turns ≤ bound → RunsExactly (again test body step s) turns (again test body step s turns)
+loop-exact : (test : BodyState → ℕ → Answer (Left ℤ)) (body step : Runs) → ((s : BodyState) (turns : ℕ) → Falls turns (test s turns)) →
+    ((s : BodyState) (turns : ℕ) → Keeps s turns (body s turns)) → ((s : BodyState) (turns : ℕ) → Keeps s turns (step s turns)) →
+    ((s : BodyState) (turns : ℕ) → IsExact ℤ (test s) turns (test s turns)) →
+    ((s : BodyState) (turns : ℕ) → RunsExactly (body s) turns (body s turns)) →
+    ((s : BodyState) (turns : ℕ) → RunsExactly (step s) turns (step s turns)) →
+    (bound : ℕ) (s : BodyState) (turns : ℕ) → turns ≤ bound → RunsExactly (again test body step s) turns (again test body step s turns)
 loop-exact test body step ft kb ks et eb es bound s zero h = tt
 loop-exact test body step ft kb ks et eb es zero s (suc turns) h = absurd (omega (arith, h))
 loop-exact test body step ft kb ks et eb es (suc bound) s (suc turns) h =
@@ -221,7 +221,7 @@ mapped-exact : {A B : Type 0} (a : Answer A) (f : A → B) (turns : ℕ) →
 mapped-exact (Err ending) f turns = stays-always _ turns ending (Err ending) (λ k. refl)
 mapped-exact (Ok v) f turns = exact-here (f v) turns
 
-aim-exact : (file : File) → CallsExact file → (t : tree.TargetTree) (s : State) (turns : ℕ) → IsExact Aim (aim_at file t s) turns (aim_at file t s turns)
+aim-exact : (file : File) → CallsExact file → (t : tree.TargetTree) (s : BodyState) (turns : ℕ) → IsExact Aim (aim_at file t s) turns (aim_at file t s turns)
 aim-exact file calls (tree.Variable n) s turns = exact-here (Name n.id) turns
 aim-exact file calls (tree.Element n m e) s turns =
     exact-then (value file e s)
@@ -229,8 +229,8 @@ aim-exact file calls (tree.Element n m e) s turns =
     (value-exact file calls e s turns)
     (λ i. mapped-exact (checked (length (elements s (find s.bound n.id))) m.line i.value) (Element n.id) i.turns)
 
-changed-exact : (file : File) → CallsExact file → (t : tree.TargetTree) (right : ℤ → State → ℕ → Answer (Left ℤ)) →
-    ((old : ℤ) (s : State) (turns : ℕ) → IsExact ℤ (right old s) turns (right old s turns)) → (s : State) (turns : ℕ) →
+changed-exact : (file : File) → CallsExact file → (t : tree.TargetTree) (right : ℤ → BodyState → ℕ → Answer (Left ℤ)) →
+    ((old : ℤ) (s : BodyState) (turns : ℕ) → IsExact ℤ (right old s) turns (right old s turns)) → (s : BodyState) (turns : ℕ) →
     RunsExactly (changed file t right s) turns (changed file t right s turns)
 changed-exact file calls t right e s turns =
     given-exact (aim_at file t s) s
@@ -240,7 +240,7 @@ changed-exact file calls t right e s turns =
     (right (old_value file s a.value) s a.turns) (e (old_value file s a.value) s a.turns)
     (λ v j. went-exact GoesOn (after_store s a.value v.value) v.turns))
 
-change-exact : (file : File) → CallsExact file → (c : tree.ChangeTree) (s : State) (turns : ℕ) →
+change-exact : (file : File) → CallsExact file → (c : tree.ChangeTree) (s : BodyState) (turns : ℕ) →
     RunsExactly (run_change file c s) turns (run_change file c s turns)
 change-exact file calls (tree.Set t a m e) s turns =
     changed-exact file calls t
@@ -255,33 +255,33 @@ change-exact file calls (tree.Before t p m) s turns =
     changed-exact file calls t (λ old s turns. with_turns turns (binary_value (step_operator p) m.line (target_type file s t) false old (pos 1)))
     (λ old s turns. exact-with (binary_value (step_operator p) m.line (target_type file s t) false old (pos 1)) turns) s turns
 
-valued-exact : (file : File) → CallsExact file → (e : tree.ExprTree) (s : State) (turns : ℕ) (next : Left ℤ → Ran) →
+valued-exact : (file : File) → CallsExact file → (e : tree.ExprTree) (s : BodyState) (turns : ℕ) (next : Left ℤ → Ran) →
     ((n : Left ℤ) → RunsExactly (λ t. next (left n.value t)) n.turns (next n)) →
     RunsExactly (λ t. given (value file e s t) s next) turns (given (value file e s turns) s next)
 valued-exact file calls e s turns next k =
     given-exact (value file e s) s next turns (value file e s turns) (value-exact file calls e s turns) (λ n i. k n)
 
-scalar-exact : (file : File) → CallsExact file → (w : Bool) (id : ℕ) (first : Option tree.ExprTree) (s : State) (turns : ℕ) →
+scalar-exact : (file : File) → CallsExact file → (w : Bool) (id : ℕ) (first : Option tree.ExprTree) (s : BodyState) (turns : ℕ) →
     RunsExactly (run_scalar file w id first s) turns (run_scalar file w id first s turns)
 scalar-exact file calls w id None s turns = went-exact GoesOn (declared id w (Scalar (pos 0)) s) turns
 scalar-exact file calls w id (Some e) s turns =
     let inner = declared id w (Scalar (pos 0)) s in
     valued-exact file calls e inner turns (λ n. goes_on (stored inner id n.value) n.turns) (λ n. went-exact GoesOn (stored inner id n.value) n.turns)
 
-either-exact : (t : Bool) (a b : Runs) → ((s : State) (turns : ℕ) → RunsExactly (a s) turns (a s turns)) →
-    ((s : State) (turns : ℕ) → RunsExactly (b s) turns (b s turns)) → (s : State) (turns : ℕ) →
+either-exact : (t : Bool) (a b : Runs) → ((s : BodyState) (turns : ℕ) → RunsExactly (a s) turns (a s turns)) →
+    ((s : BodyState) (turns : ℕ) → RunsExactly (b s) turns (b s turns)) → (s : BodyState) (turns : ℕ) →
     RunsExactly ((if t then a else b) s) turns ((if t then a else b) s turns)
 either-exact true a b f g s turns = f s turns
 either-exact false a b f g s turns = g s turns
 
-streams-exact : (file : File) → CallsExact file → (w : Bool) (id : ℕ) (size : Option tree.IndexTree) (s : State) (turns : ℕ) →
+streams-exact : (file : File) → CallsExact file → (w : Bool) (id : ℕ) (size : Option tree.IndexTree) (s : BodyState) (turns : ℕ) →
     RunsExactly (run_streams file w id size s) turns (run_streams file w id size s turns)
 streams-exact file calls w id None s turns = went-exact GoesOn (with_streams id w 1 s) turns
 streams-exact file calls w id (Some i) s turns =
     valued-exact file calls i.value s turns (λ n. goes_on (with_streams id w (array_size n.value) s) n.turns)
     (λ n. went-exact GoesOn (with_streams id w (array_size n.value) s) n.turns)
 
-window-exact : (file : File) → CallsExact file → (w : Bool) (id : ℕ) (i : tree.IndexTree) (s : State) (turns : ℕ) →
+window-exact : (file : File) → CallsExact file → (w : Bool) (id : ℕ) (i : tree.IndexTree) (s : BodyState) (turns : ℕ) →
     RunsExactly (run_window file w id i s) turns (run_window file w id i s turns)
 window-exact file calls w id i s turns =
     valued-exact file calls i.value s turns
@@ -289,49 +289,49 @@ window-exact file calls w id i s turns =
     (λ n. given-plain (window_size i.mark.line n.value) s (λ horizon. goes_on (declared id w (Window horizon) s)) n.turns
     (λ horizon. went-exact GoesOn (declared id w (Window horizon) s) n.turns))
 
-array-exact : (file : File) → CallsExact file → (w : Bool) (id : ℕ) (size : tree.ExprTree) (s : State) (turns : ℕ) →
+array-exact : (file : File) → CallsExact file → (w : Bool) (id : ℕ) (size : tree.ExprTree) (s : BodyState) (turns : ℕ) →
     RunsExactly (run_array file w id size s) turns (run_array file w id size s turns)
 array-exact file calls w id size s turns =
     valued-exact file calls size s turns (λ n. goes_on (declared id w (Array (replicate (array_size n.value) (pos 0))) s) n.turns)
     (λ n. went-exact GoesOn (declared id w (Array (replicate (array_size n.value) (pos 0))) s) n.turns)
 
-unsized-exact : (u : Around) → CallsExact u.file → (w : Bool) (d : tree.DeclaratorTree) (size : Option tree.IndexTree) (s : State) (turns : ℕ) →
+unsized-exact : (u : Around) → CallsExact u.file → (w : Bool) (d : tree.DeclaratorTree) (size : Option tree.IndexTree) (s : BodyState) (turns : ℕ) →
     RunsExactly (run_unsized_or u w d size s) turns (run_unsized_or u w d size s turns)
 unsized-exact u calls w d None s turns = scalar-exact u.file calls w d.name.id d.first s turns
 unsized-exact u calls w d (Some i) s turns =
     either-exact u.is_control (run_window u.file w d.name.id i) (run_array u.file w d.name.id i.value)
     (window-exact u.file calls w d.name.id i) (array-exact u.file calls w d.name.id i.value) s turns
 
-declarator-exact : (u : Around) → CallsExact u.file → (w : Bool) (d : tree.DeclaratorTree) (s : State) (turns : ℕ) →
+declarator-exact : (u : Around) → CallsExact u.file → (w : Bool) (d : tree.DeclaratorTree) (s : BodyState) (turns : ℕ) →
     RunsExactly (run_declarator u w d s) turns (run_declarator u w d s turns)
 declarator-exact u calls w d s turns =
     either-exact d.stream (run_streams u.file w d.name.id d.size) (run_unsized_or u w d d.size)
     (streams-exact u.file calls w d.name.id d.size) (unsized-exact u calls w d d.size) s turns
 
-declarators-exact : (u : Around) → CallsExact u.file → (w : Bool) (ds : List tree.DeclaratorTree) (s : State) (turns : ℕ) →
+declarators-exact : (u : Around) → CallsExact u.file → (w : Bool) (ds : List tree.DeclaratorTree) (s : BodyState) (turns : ℕ) →
     RunsExactly (run_declarators u w ds s) turns (run_declarators u w ds s turns)
 declarators-exact u calls w [] s turns = went-exact GoesOn s turns
 declarators-exact u calls w (d ∷ ds) s turns =
     flows-exact (run_declarators u w ds) (run_declarator u w d s) turns (run_declarator u w d s turns) (declarator-exact u calls w d s turns)
     (λ t left i. declarators-exact u calls w ds t left)
 
-start-exact : (u : Around) → CallsExact u.file → (start : tree.StartTree) (s : State) (turns : ℕ) →
+start-exact : (u : Around) → CallsExact u.file → (start : tree.StartTree) (s : BodyState) (turns : ℕ) →
     RunsExactly (run_start u start s) turns (run_start u start s turns)
 start-exact u calls tree.StartTree.Empty s turns = went-exact GoesOn s turns
 start-exact u calls (tree.StartTree.Declare ty ds) s turns = declarators-exact u calls (is_unsigned ty) ds s turns
 start-exact u calls (tree.StartTree.Change c) s turns = change-exact u.file calls c s turns
 
-test-exact : (file : File) → CallsExact file → (test : Option tree.ExprTree) (s : State) (turns : ℕ) →
+test-exact : (file : File) → CallsExact file → (test : Option tree.ExprTree) (s : BodyState) (turns : ℕ) →
     IsExact ℤ (run_test file test s) turns (run_test file test s turns)
 test-exact file calls None s turns = exact-here (pos 1) turns
 test-exact file calls (Some e) s turns = value-exact file calls e s turns
 
-step-exact : (file : File) → CallsExact file → (step : Option tree.ChangeTree) (s : State) (turns : ℕ) →
+step-exact : (file : File) → CallsExact file → (step : Option tree.ChangeTree) (s : BodyState) (turns : ℕ) →
     RunsExactly (run_step file step s) turns (run_step file step s turns)
 step-exact file calls None s turns = went-exact GoesOn s turns
 step-exact file calls (Some c) s turns = change-exact file calls c s turns
 
-number-exact : (file : File) → CallsExact file → (t : tree.TargetTree) (s : State) (turns : ℕ) →
+number-exact : (file : File) → CallsExact file → (t : tree.TargetTree) (s : BodyState) (turns : ℕ) →
     IsExact ℕ (stream_number file t s) turns (stream_number file t s turns)
 number-exact file calls (tree.Variable n) s turns = exact-here (first_stream (find s.bound n.id)) turns
 number-exact file calls (tree.Element n m e) s turns =
@@ -340,14 +340,14 @@ number-exact file calls (tree.Element n m e) s turns =
     (value file e s turns) (value-exact file calls e s turns)
     (λ i. mapped-exact (checked (stream_count (find s.bound n.id)) m.line i.value) (λ k. first_stream (find s.bound n.id) + k) i.turns)
 
-burst-exact : (file : File) → CallsExact file → (d : Direction) (horizon : ℕ) (i : Option tree.IndexTree) (s : State) (turns : ℕ) →
+burst-exact : (file : File) → CallsExact file → (d : Direction) (horizon : ℕ) (i : Option tree.IndexTree) (s : BodyState) (turns : ℕ) →
     IsExact ℕ (burst file d horizon i s) turns (burst file d horizon i s turns)
 burst-exact file calls d horizon None s turns = exact-here 1 turns
 burst-exact file calls d horizon (Some i) s turns =
     exact-then (value file i.value s) (λ n. with_turns n.turns (burst_of d i.mark.line horizon n.value)) turns (value file i.value s turns)
     (value-exact file calls i.value s turns) (λ n. exact-with (burst_of d i.mark.line horizon n.value) n.turns)
 
-joined-exact : (file : File) → CallsExact file → (d : Direction) (stream : ℕ) (j : Option tree.JoinTree) (s : State) (turns : ℕ) →
+joined-exact : (file : File) → CallsExact file → (d : Direction) (stream : ℕ) (j : Option tree.JoinTree) (s : BodyState) (turns : ℕ) →
     IsExact Claim (joined file d stream j s) turns (joined file d stream j s turns)
 joined-exact file calls d stream None s turns = exact-here (claim_of d stream 1 1) turns
 joined-exact file calls d stream (Some j) s turns =
@@ -355,13 +355,13 @@ joined-exact file calls d stream (Some j) s turns =
     exact-then (burst file d horizon j.burst s) (λ b. Ok (left (claim_of d stream horizon b.value) b.turns)) turns (burst file d horizon j.burst s turns)
     (burst-exact file calls d horizon j.burst s turns) (λ b. exact-here (claim_of d stream horizon b.value) b.turns)
 
-item-exact : (file : File) → CallsExact file → (d : Direction) (i : tree.ClauseItemTree) (s : State) (turns : ℕ) →
+item-exact : (file : File) → CallsExact file → (d : Direction) (i : tree.ClauseItemTree) (s : BodyState) (turns : ℕ) →
     IsExact Claim (item_claim file d i s) turns (item_claim file d i s turns)
 item-exact file calls d i s turns =
     exact-then (stream_number file i.stream s) (λ n. joined file d n.value i.window s n.turns) turns (stream_number file i.stream s turns)
     (number-exact file calls i.stream s turns) (λ n. joined-exact file calls d n.value i.window s n.turns)
 
-items-exact : (file : File) → CallsExact file → (ps : List clause.Part) (s : State) (turns : ℕ) →
+items-exact : (file : File) → CallsExact file → (ps : List clause.ClausePart) (s : BodyState) (turns : ℕ) →
     IsExact (List Claim) (items_claims file ps s) turns (items_claims file ps s turns)
 items-exact file calls [] s turns = exact-here [] turns
 items-exact file calls (clause.Private n ∷ ps) s turns = items-exact file calls ps s turns
@@ -372,11 +372,11 @@ items-exact file calls (clause.Item d i ∷ ps) s turns =
     (λ c. exact-then (items_claims file ps s) (λ cs. Ok (left (c.value ∷ cs.value) cs.turns)) c.turns (items_claims file ps s c.turns)
     (items-exact file calls ps s c.turns) (λ cs. exact-here (c.value ∷ cs.value) cs.turns))
 
-limited-exact : (l : Option ControlLimit) (s next : State) (turns : ℕ) → RunsExactly (λ t. unless_limited l s t next) turns (unless_limited l s turns next)
+limited-exact : (l : Option ControlLimit) (s next : BodyState) (turns : ℕ) → RunsExactly (λ t. unless_limited l s t next) turns (unless_limited l s turns next)
 limited-exact None s next turns = went-exact GoesOn next turns
 limited-exact (Some limit) s next turns = λ more. refl
 
-task-exact : (file : File) → CallsExact file → (sites : List Site) (number : Option ℕ) (ps : List clause.Part) (s : State) (turns : ℕ) →
+task-exact : (file : File) → CallsExact file → (sites : List Site) (number : Option ℕ) (ps : List clause.ClausePart) (s : BodyState) (turns : ℕ) →
     RunsExactly (run_task file sites number ps s) turns (run_task file sites number ps s turns)
 task-exact file calls sites None ps s turns = went-exact GoesOn s turns
 task-exact file calls sites (Some number) ps s turns =
@@ -385,13 +385,13 @@ task-exact file calls sites (Some number) ps s turns =
     (items_claims file ps s turns) (items-exact file calls ps s turns)
     (λ c i. limited-exact (limit s.activations c.value) s (with_activation file number (captured_by sites number) c.value s) c.turns)
 
-turn-exact : (stream amount : ℕ) (s : State) (turns : ℕ) → RunsExactly (tick_turn stream amount s) turns (tick_turn stream amount s turns)
+turn-exact : (stream amount : ℕ) (s : BodyState) (turns : ℕ) → RunsExactly (tick_turn stream amount s) turns (tick_turn stream amount s turns)
 turn-exact stream amount s zero = tt
 turn-exact stream amount s (suc turns) =
     one-more (tick_turn stream amount s) (goes_on (moved stream amount s)) turns (goes_on (moved stream amount s) turns) (s.activations, refl)
     (λ k. refl) (went-exact GoesOn (moved stream amount s) turns)
 
-tick-exact : (file : File) → CallsExact file → (t : tree.TargetTree) (arrow : Mark) (e : tree.ExprTree) (s : State) (turns : ℕ) →
+tick-exact : (file : File) → CallsExact file → (t : tree.TargetTree) (arrow : Mark) (e : tree.ExprTree) (s : BodyState) (turns : ℕ) →
     RunsExactly (run_tick file t arrow e s) turns (run_tick file t arrow e s turns)
 tick-exact file calls t arrow e s turns =
     given-exact (stream_number file t s) s
@@ -403,7 +403,7 @@ tick-exact file calls t arrow e s turns =
     (λ amount. turn-exact n.value amount s v.turns)))
 
 mutual
-  pub run-exact : (u : Around) → CallsFall u.file → CallsExact u.file → (a : tree.StmtTree) (s : State) (turns : ℕ) →
+  pub run-exact : (u : Around) → CallsFall u.file → CallsExact u.file → (a : tree.StmtTree) (s : BodyState) (turns : ℕ) →
       RunsExactly (run u a s) turns (run u a s turns)
   run-exact u fall calls tree.StmtTree.Empty s turns = went-exact GoesOn s turns
   run-exact u fall calls (tree.Block ss) s turns = left-exact s (run_all u ss s) turns (run_all u ss s turns) (all-exact u fall calls ss s turns)
@@ -439,7 +439,7 @@ mutual
   run-exact u fall calls (tree.Tick m t arrow e) s turns = tick-exact u.file calls t arrow e s turns
   run-exact u fall calls (tree.Taskwait m) s turns = went-exact GoesOn s turns
 
-  pub all-exact : (u : Around) → CallsFall u.file → CallsExact u.file → (ss : tree.Stmts) (s : State) (turns : ℕ) →
+  pub all-exact : (u : Around) → CallsFall u.file → CallsExact u.file → (ss : tree.Stmts) (s : BodyState) (turns : ℕ) →
       RunsExactly (run_all u ss s) turns (run_all u ss s turns)
   all-exact u fall calls tree.no_stmts s turns = went-exact GoesOn s turns
   all-exact u fall calls (tree.stmt a rest) s turns =

@@ -5,7 +5,7 @@ use Rattle.cddf_meaning.specs.Answers.{Answer, Left, and_then, left, with_turns}
 use Rattle.cddf_meaning.specs.File.{File, variable, type_in}
 use Rattle.cddf_meaning.specs.Moves.{Falls, CallsFall}
 use Rattle.cddf_meaning.specs.Operators.{binary_value, unary_value}
-use Rattle.cddf_meaning.specs.State.{State}
+use Rattle.cddf_meaning.specs.BodyState.{BodyState}
 use Rattle.cddf_meaning.specs.Value.{value, place_value, values, chained, linked, call_value, as_truth, element_at, elements}
 use Rattle.cddf_meaning.specs.ExpressionTypes.{type_of_two}
 use Rattle.cddf_meaning.specs.Variables.{find}
@@ -58,7 +58,7 @@ linked-falls op line u v a right f =
     (λ n. falls-with n.turns (binary_value op line u v a.value n.value))
 
 mutual
-  pub value-falls : (file : File) → CallsFall file → (e : tree.ExprTree) (s : State) (turns : ℕ) → Falls turns (value file e s turns)
+  pub value-falls : (file : File) → CallsFall file → (e : tree.ExprTree) (s : BodyState) (turns : ℕ) → Falls turns (value file e s turns)
   value-falls file calls (tree.Number n) s turns = same turns
   value-falls file calls (tree.Wide n) s turns = same turns
   value-falls file calls (tree.Place t) s turns = place-falls file calls t s turns
@@ -78,13 +78,13 @@ mutual
       (λ n. falls-if (is_zero n.value) n.turns (value file b s n.turns) (value file a s n.turns)
       (value-falls file calls b s n.turns) (value-falls file calls a s n.turns))
 
-  pub place-falls : (file : File) → CallsFall file → (t : tree.TargetTree) (s : State) (turns : ℕ) → Falls turns (place_value file t s turns)
+  pub place-falls : (file : File) → CallsFall file → (t : tree.TargetTree) (s : BodyState) (turns : ℕ) → Falls turns (place_value file t s turns)
   place-falls file calls (tree.Variable n) s turns = same turns
   place-falls file calls (tree.Element n m e) s turns =
       falls-then turns (value file e s turns) (λ i. with_turns i.turns (element_at (elements s (find s.bound n.id)) m.line i.value))
       (value-falls file calls e s turns) (λ i. falls-with i.turns (element_at (elements s (find s.bound n.id)) m.line i.value))
 
-  pub values-falls : (file : File) → CallsFall file → (es : tree.Args) (s : State) (turns : ℕ) → Falls turns (values file es s turns)
+  pub values-falls : (file : File) → CallsFall file → (es : tree.Args) (s : BodyState) (turns : ℕ) → Falls turns (values file es s turns)
   values-falls file calls tree.no_args s turns = same turns
   values-falls file calls (tree.arg e es) s turns =
       falls-then turns (value file e s turns)
@@ -93,7 +93,7 @@ mutual
       (λ n. falls-then n.turns (values file es s n.turns) (λ ns. Ok (left (n.value ∷ ns.value) ns.turns))
       (values-falls file calls es s n.turns) (λ ns. same ns.turns))
 
-  pub chained-falls : (file : File) → CallsFall file → (ls : tree.Links) (s : State) (u : Bool) (n : Left ℤ) → Falls n.turns (chained file ls s u n)
+  pub chained-falls : (file : File) → CallsFall file → (ls : tree.Links) (s : BodyState) (u : Bool) (n : Left ℤ) → Falls n.turns (chained file ls s u n)
   chained-falls file calls tree.no_links s u n = same n.turns
   chained-falls file calls (tree.link op m e rest) s u n =
       falls-then n.turns (linked op m.line u (type_in file s e) n (value file e s)) (chained file rest s (type_of_two op u (type_in file s e)))

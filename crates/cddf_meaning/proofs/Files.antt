@@ -5,13 +5,13 @@ use Rattle.cddf_meaning.specs.Flow.{Ran, Went, Ended}
 use Rattle.cddf_meaning.specs.Functions.{file_of, with_item, with_items, empty_file, call_function, in_function, bind_params, returned}
 use Rattle.cddf_meaning.specs.Moves.{Falls, CallsFall, Keeps}
 use Rattle.cddf_meaning.specs.Run.{run_all}
-use Rattle.cddf_meaning.specs.State.{State, state_of}
+use Rattle.cddf_meaning.specs.BodyState.{BodyState, state_of}
 use Rattle.os_ast.specs.Notes.Programs.{param_list}
 use Rattle.os_ast.specs.Trees as tree
 use Rattle.cddf_meaning.proofs.Falls.{falls-if, falls-less}
 use Rattle.cddf_meaning.proofs.Keeps.{all-keeps}
 
-returned-falls : (s : State) (turns : ℕ) (r : Ran) → Keeps s turns r → Falls turns (returned r)
+returned-falls : (s : BodyState) (turns : ℕ) (r : Ran) → Keeps s turns r → Falls turns (returned r)
 returned-falls s turns (Ended ending acts) k = tt
 returned-falls s turns (Went flow t left) (a, b) = a
 

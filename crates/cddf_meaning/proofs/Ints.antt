@@ -15,7 +15,7 @@ use Rattle.cddf_meaning.specs.Flow.{Ran, Went, Ended, Runs, flows, given, goes_o
 use Rattle.cddf_meaning.specs.Functions.{bind_params, call_function, empty_file, file_of, in_function, item_variable, returned, with_item, with_items}
 use Rattle.cddf_meaning.specs.Operators.{binary_value, step_operator}
 use Rattle.cddf_meaning.specs.Run.{Around, after_store, aim_at, array_size, assigned, changed, loop, old_value, run, run_all, run_array, run_change, run_declarator, run_declarators, run_scalar, run_start, run_step, run_streams, run_test, run_unsized_or, run_window, target_type, window_size, with_streams}
-use Rattle.cddf_meaning.specs.State.{State, declared, item_elements, state_of, stored, stored_in, stored_in_at, with_element}
+use Rattle.cddf_meaning.specs.BodyState.{BodyState, declared, item_elements, state_of, stored, stored_in, stored_in_at, with_element}
 use Rattle.cddf_meaning.specs.Streams.{captured_by, cursor_move, items_claims, run_task, run_tick, stream_number, task_number, tick_turn, unless_limited, with_activation}
 use Rattle.cddf_meaning.specs.Value.{call_value, elements, value, values}
 use Rattle.cddf_meaning.specs.Variables.{assign, bind, find}
@@ -27,7 +27,7 @@ use Rattle.cddf_meaning.specs.declared.variable.Binding.{Binding}
 use Rattle.cddf_meaning.specs.declared.variable.Variable.TheVariants.{Constant, Function, Scalar, Array, Window, Stream, Item}
 use Rattle.cddf_meaning.specs.declared.variable.Variable.{Variable}
 use Rattle.os_ast.specs.Notes.Programs.{param_list}
-use Rattle.os_ast.specs.Parts.{Part, parts}
+use Rattle.os_ast.specs.ClauseParts.{ClausePart, parts}
 use Rattle.os_ast.specs.Trees as tree
 use Rattle.os_ast.specs.Unsigned.{is_unsigned}
 use Rattle.os_ast.specs.declared.expr.Mark.{Mark}
@@ -82,10 +82,10 @@ zeros-fit n l =
     (ap (λ k. leb k (2 ^ 31)) (length-replicate n (pos 0)) ∙ few n l) (replicate-all is_int n (pos 0) refl)
 
 -- a state that is changed
-bound-in : (s : State) → StateFits s → (bound : List Binding) → bound_fits bound ≡ true → StateFits (record s { bound = bound })
+bound-in : (s : BodyState) → StateFits s → (bound : List Binding) → bound_fits bound ≡ true → StateFits (record s { bound = bound })
 bound-in s f bound h = record { variables = h; items = f.items }
 
-declared-fits : (id : ℕ) (w : Bool) (v : Variable) (s : State) → StateFits s → variable_fits v ≡ true → StateFits (declared id w v s)
+declared-fits : (id : ℕ) (w : Bool) (v : Variable) (s : BodyState) → StateFits s → variable_fits v ≡ true → StateFits (declared id w v s)
 declared-fits id w v s f h = record { variables = joined (variable_fits v) (bound_fits s.bound) h f.variables; items = f.items }
 
 assign-fits : (bound : List Binding) (id : ℕ) (v : Variable) → bound_fits bound ≡ true → variable_fits v ≡ true → bound_fits (assign bound id v) ≡ true
@@ -100,13 +100,13 @@ assign-fits (b ∷ bound) id v h i =
     chosen true b xs ys h f g = f
     chosen false b xs ys h f g = joined (variable_fits b.variable) (bound_fits ys) h g
 
-element-fits : (s : State) (item k : ℕ) (v : ℤ) → StateFits s → is_int v ≡ true → StateFits (with_element s item k v)
+element-fits : (s : BodyState) (item k : ℕ) (v : ℤ) → StateFits s → is_int v ≡ true → StateFits (with_element s item k v)
 element-fits s item k v f h = record {
   variables = f.variables;
   items = set-all elements_fit s.items item (set (item_elements s item) k v) f.items (set-fits (item_elements s item) k v (item-fits s f item) h);
 }
 
-stored-fits : (o : Option Variable) (s : State) (id : ℕ) (v : ℤ) → StateFits s → is_int v ≡ true → StateFits (stored_in o s id v)
+stored-fits : (o : Option Variable) (s : BodyState) (id : ℕ) (v : ℤ) → StateFits s → is_int v ≡ true → StateFits (stored_in o s id v)
 stored-fits None s id v f h = f
 stored-fits (Some (Constant c)) s id v f h = f
 stored-fits (Some (Function place)) s id v f h = f
@@ -116,7 +116,7 @@ stored-fits (Some (Window horizon)) s id v f h = f
 stored-fits (Some (Stream first count)) s id v f h = f
 stored-fits (Some (Item item)) s id v f h = element-fits s item 0 v f h
 
-stored-at-fits : (o : Option Variable) → Fits o → (s : State) (id k : ℕ) (v : ℤ) → StateFits s → is_int v ≡ true → StateFits (stored_in_at o s id k v)
+stored-at-fits : (o : Option Variable) → Fits o → (s : BodyState) (id k : ℕ) (v : ℤ) → StateFits s → is_int v ≡ true → StateFits (stored_in_at o s id k v)
 stored-at-fits None g s id k v f h = f
 stored-at-fits (Some (Constant c)) g s id k v f h = f
 stored-at-fits (Some (Function place)) g s id k v f h = f
@@ -127,26 +127,26 @@ stored-at-fits (Some (Window horizon)) g s id k v f h = f
 stored-at-fits (Some (Stream first count)) g s id k v f h = f
 stored-at-fits (Some (Item item)) g s id k v f h = element-fits s item k v f h
 
-after-fits : (s : State) (aim : Aim) (v : ℤ) → StateFits s → is_int v ≡ true → StateFits (after_store s aim v)
+after-fits : (s : BodyState) (aim : Aim) (v : ℤ) → StateFits s → is_int v ≡ true → StateFits (after_store s aim v)
 after-fits s (Name id) v f h = stored-fits (find s.bound id) s id v f h
 after-fits s (Element id k) v f h = stored-at-fits (find s.bound id) (find-fits s.bound id f.variables) s id k v f h
 
-old-int : (file : File) → FileFits file → (s : State) → StateFits s → (aim : Aim) → is_int (old_value file s aim) ≡ true
+old-int : (file : File) → FileFits file → (s : BodyState) → StateFits s → (aim : Aim) → is_int (old_value file s aim) ≡ true
 old-int file g s f (Name id) = scalar-int s f (variable file s id) (in-file file g id (find s.bound id) (find-fits s.bound id f.variables))
 old-int file g s f (Element id k) =
     let vs = elements s (find s.bound id) in
     get-fits is_int vs k (pos 0) (ints vs (elements-fit s f (find s.bound id) (find-fits s.bound id f.variables))) refl
 
 -- what follows
-went : (s : State) (turns : ℕ) → StateFits s → RanFits (goes_on s turns)
+went : (s : BodyState) (turns : ℕ) → StateFits s → RanFits (goes_on s turns)
 went s turns f = (f, tt)
 
-given-int : (a : Answer (Left ℤ)) (s : State) (next : Left ℤ → Ran) → GivesInt a → ((n : Left ℤ) → is_int n.value ≡ true → RanFits (next n)) →
+given-int : (a : Answer (Left ℤ)) (s : BodyState) (next : Left ℤ → Ran) → GivesInt a → ((n : Left ℤ) → is_int n.value ≡ true → RanFits (next n)) →
     RanFits (given a s next)
 given-int (Ok n) s next h k = k n h
 given-int (Err ending) s next h k = tt
 
-given-any : {A : Type 0} (a : Answer A) (s : State) (next : A → Ran) → ((x : A) → RanFits (next x)) → RanFits (given a s next)
+given-any : {A : Type 0} (a : Answer A) (s : BodyState) (next : A → Ran) → ((x : A) → RanFits (next x)) → RanFits (given a s next)
 given-any (Ok x) s next k = k x
 given-any (Err ending) s next k = tt
 
@@ -154,29 +154,29 @@ ran-if : (t : Bool) (a b : Ran) → RanFits a → RanFits b → RanFits (if t th
 ran-if true a b f g = f
 ran-if false a b f g = g
 
-flows-fit : (next : Runs) (r : Ran) → RanFits r → ((s : State) (turns : ℕ) → StateFits s → RanFits (next s turns)) → RanFits (flows next r)
+flows-fit : (next : Runs) (r : Ran) → RanFits r → ((s : BodyState) (turns : ℕ) → StateFits s → RanFits (next s turns)) → RanFits (flows next r)
 flows-fit next (Ended ending acts) f k = tt
 flows-fit next (Went GoesOn s turns) f k = k s turns f.0
 flows-fit next (Went Breaks s turns) f k = f
 flows-fit next (Went Continues s turns) f k = f
 flows-fit next (Went (Returns v) s turns) f k = f
 
-loops-fit : (next : Runs) (r : Ran) → RanFits r → ((s : State) (turns : ℕ) → StateFits s → RanFits (next s turns)) → RanFits (loops next r)
+loops-fit : (next : Runs) (r : Ran) → RanFits r → ((s : BodyState) (turns : ℕ) → StateFits s → RanFits (next s turns)) → RanFits (loops next r)
 loops-fit next (Ended ending acts) f k = tt
 loops-fit next (Went GoesOn s turns) f k = k s turns f.0
 loops-fit next (Went Breaks s turns) f k = (f.0, tt)
 loops-fit next (Went Continues s turns) f k = k s turns f.0
 loops-fit next (Went (Returns v) s turns) f k = f
 
-left-fits : (outer : State) (r : Ran) → RanFits r → RanFits (left_from outer r)
+left-fits : (outer : BodyState) (r : Ran) → RanFits r → RanFits (left_from outer r)
 left-fits outer (Ended ending acts) f = tt
 left-fits outer (Went flow s turns) (f, g) =
     (record { variables = drop-all (λ (b : Binding). variable_fits b.variable) (length s.bound - length outer.bound) s.bound f.variables; items = f.items }, g)
 
 abbrev RunsFit : Runs → Type 0
-RunsFit r = (s : State) (turns : ℕ) → StateFits s → RanFits (r s turns)
+RunsFit r = (s : BodyState) (turns : ℕ) → StateFits s → RanFits (r s turns)
 
-loop-fits : (most : ℕ) (test : State → ℕ → Answer (Left ℤ)) (body step : Runs) → RunsFit body → RunsFit step → RunsFit (loop most test body step)
+loop-fits : (most : ℕ) (test : BodyState → ℕ → Answer (Left ℤ)) (body step : Runs) → RunsFit body → RunsFit step → RunsFit (loop most test body step)
 loop-fits most test body step f g s zero h = tt
 loop-fits zero test body step f g s (suc turns) h = tt
 loop-fits (suc most) test body step f g s (suc turns) h =
@@ -200,8 +200,8 @@ assigned-int : (a : Assign) (line : ℕ) (t r : Bool) (old new : ℤ) → is_int
 assigned-int assign_of.Plain line t r old new h k = k
 assigned-int (assign_of.With op) line t r old new h k = binary-int op line t r old new h k
 
-changed-fits : (file : File) → FileFits file → (t : tree.TargetTree) (right : ℤ → State → ℕ → Answer (Left ℤ)) →
-    ((old : ℤ) (s : State) (turns : ℕ) → StateFits s → is_int old ≡ true → GivesInt (right old s turns)) → RunsFit (changed file t right)
+changed-fits : (file : File) → FileFits file → (t : tree.TargetTree) (right : ℤ → BodyState → ℕ → Answer (Left ℤ)) →
+    ((old : ℤ) (s : BodyState) (turns : ℕ) → StateFits s → is_int old ≡ true → GivesInt (right old s turns)) → RunsFit (changed file t right)
 changed-fits file g t right k s turns f =
     given-any (aim_at file t s turns) s
     (λ a. given (right (old_value file s a.value) s a.turns) s (λ v. goes_on (after_store s a.value v.value) v.turns))
@@ -209,7 +209,7 @@ changed-fits file g t right k s turns f =
     (k (old_value file s a.value) s a.turns f (old-int file g s f a.value))
     (λ v h. went (after_store s a.value v.value) v.turns (after-fits s a.value v.value f h)))
 
-value-int : (file : File) → FileFits file → (e : tree.ExprTree) → numbers_fit e ≡ true → (s : State) (turns : ℕ) → StateFits s → GivesInt (value file e s turns)
+value-int : (file : File) → FileFits file → (e : tree.ExprTree) → numbers_fit e ≡ true → (s : BodyState) (turns : ℕ) → StateFits s → GivesInt (value file e s turns)
 value-int file g e h s turns f = (value-agrees file g e s f h turns).int
 
 change-fits : (file : File) → FileFits file → (c : tree.ChangeTree) → change_fits c ≡ true → RunsFit (run_change file c)
@@ -239,7 +239,7 @@ scalar-fits file g w id (Some e) h s turns f =
     given-int (value file e inner turns) inner (λ n. goes_on (stored inner id n.value) n.turns) (value-int file g e h inner turns fits)
     (λ n i. went (stored inner id n.value) n.turns (stored-fits (find inner.bound id) inner id n.value fits i))
 
-streams-in : (id : ℕ) (w : Bool) (count : ℕ) (s : State) → StateFits s → StateFits (with_streams id w count s)
+streams-in : (id : ℕ) (w : Bool) (count : ℕ) (s : BodyState) → StateFits s → StateFits (with_streams id w count s)
 streams-in id w count s f = record { variables = f.variables; items = f.items }
 
 streams-fit : (file : File) (w : Bool) (id : ℕ) (size : Option tree.IndexTree) → RunsFit (run_streams file w id size)
@@ -294,11 +294,11 @@ step-run file g None h s turns f = went s turns f
 step-run file g (Some c) h s turns f = change-fits file g c h s turns f
 
 -- streams
-limited-fits : (l : Option ControlLimit) (s next : State) (turns : ℕ) → StateFits next → RanFits (unless_limited l s turns next)
+limited-fits : (l : Option ControlLimit) (s next : BodyState) (turns : ℕ) → StateFits next → RanFits (unless_limited l s turns next)
 limited-fits None s next turns f = went next turns f
 limited-fits (Some n) s next turns f = tt
 
-task-run : (file : File) (sites : List Site) (number : Option ℕ) (ps : List Part) → RunsFit (run_task file sites number ps)
+task-run : (file : File) (sites : List Site) (number : Option ℕ) (ps : List ClausePart) → RunsFit (run_task file sites number ps)
 task-run file sites None ps s turns f = went s turns f
 task-run file sites (Some number) ps s turns f =
     given-any (items_claims file ps s turns) s

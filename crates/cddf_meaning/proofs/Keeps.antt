@@ -10,7 +10,7 @@ use Rattle.cddf_meaning.specs.Flow.{Ran, Went, Ended, Runs, given, goes_on, flow
 use Rattle.cddf_meaning.specs.Moves.{Falls, CallsFall, Keeps, item_lengths}
 use Rattle.cddf_meaning.specs.Operators.{binary_value, step_operator}
 use Rattle.cddf_meaning.specs.Run.{Around, loop, assigned, aim_at, old_value, after_store, changed, run_change, run_scalar, run_array, run_window, window_size, with_streams, run_streams, run_unsized_or, run_declarator, run_declarators, run_start, run_test, run_step, run, run_all, array_size, target_type}
-use Rattle.cddf_meaning.specs.State.{State, declared, stored, stored_in, stored_in_at, with_element}
+use Rattle.cddf_meaning.specs.BodyState.{BodyState, declared, stored, stored_in, stored_in_at, with_element}
 use Rattle.cddf_meaning.specs.Streams.{stream_number, first_stream, stream_count, cursor_move, burst, burst_of, joined, item_claim, items_claims, claim_of, horizon_of, run_task, run_tick, tick_turn, unless_limited, with_activation, captured_by, task_number}
 use Rattle.cddf_meaning.specs.Value.{value, values, checked, elements, call_value}
 use Rattle.cddf_meaning.specs.Variables.{find}
@@ -20,37 +20,37 @@ use Rattle.cddf_meaning.specs.declared.flow.Flow.TheVariants.{GoesOn, Breaks, Co
 use Rattle.cddf_meaning.specs.declared.site.Site.{Site}
 use Rattle.cddf_meaning.specs.declared.variable.Variable.{Variable}
 use Rattle.cddf_meaning.specs.declared.variable.Variable.TheVariants.{Constant, Function, Scalar, Array, Window, Stream, Item}
-use Rattle.os_ast.specs.Parts as clause
-use Rattle.os_ast.specs.Parts.{parts}
+use Rattle.os_ast.specs.ClauseParts as clause
+use Rattle.os_ast.specs.ClauseParts.{parts}
 use Rattle.os_ast.specs.Trees as tree
 use Rattle.os_ast.specs.declared.expr.Mark.{Mark}
 use Rattle.os_ast.specs.declared.names.Direction.{Direction}
 use Rattle.cddf_meaning.proofs.Falls.{falls-then, falls-with, value-falls, values-falls, call-falls}
 use Rattle.os_ast.specs.Unsigned.{is_unsigned}
 
-keeps-less : (s : State) (turns less : ℕ) (r : Ran) → less ≤ turns → Keeps s less r → Keeps s turns r
+keeps-less : (s : BodyState) (turns less : ℕ) (r : Ran) → less ≤ turns → Keeps s less r → Keeps s turns r
 keeps-less s turns less (Ended ending acts) h k = tt
 keeps-less s turns less (Went flow t left) h (a, b) = (omega (arith, h, a), b)
 
-keeps-from : (s t : State) (turns less : ℕ) (r : Ran) → less ≤ turns → item_lengths t ≡ item_lengths s → Keeps t less r → Keeps s turns r
+keeps-from : (s t : BodyState) (turns less : ℕ) (r : Ran) → less ≤ turns → item_lengths t ≡ item_lengths s → Keeps t less r → Keeps s turns r
 keeps-from s t turns less (Ended ending acts) h e k = tt
 keeps-from s t turns less (Went flow u left) h e (a, b) = (omega (arith, h, a), b ∙ e)
 
 -- where a state has the same items
-pub keeps-on : (s t : State) (turns : ℕ) → item_lengths t ≡ item_lengths s → Keeps s turns (goes_on t turns)
+pub keeps-on : (s t : BodyState) (turns : ℕ) → item_lengths t ≡ item_lengths s → Keeps s turns (goes_on t turns)
 keeps-on s t turns e = (omega arith, e)
 
-given-left : {A : Type 0} (s : State) (turns : ℕ) (a : Answer (Left A)) (next : Left A → Ran) → Falls turns a →
+given-left : {A : Type 0} (s : BodyState) (turns : ℕ) (a : Answer (Left A)) (next : Left A → Ran) → Falls turns a →
     ((n : Left A) → Keeps s n.turns (next n)) → Keeps s turns (given a s next)
 given-left s turns (Err ending) next f k = tt
 given-left s turns (Ok n) next f k = keeps-less s turns n.turns (next n) f (k n)
 
-given-plain : {A : Type 0} (s : State) (turns : ℕ) (a : Answer A) (next : A → Ran) → ((v : A) → Keeps s turns (next v)) →
+given-plain : {A : Type 0} (s : BodyState) (turns : ℕ) (a : Answer A) (next : A → Ran) → ((v : A) → Keeps s turns (next v)) →
     Keeps s turns (given a s next)
 given-plain s turns (Err ending) next k = tt
 given-plain s turns (Ok v) next k = k v
 
-flows-keeps : (s : State) (turns : ℕ) (next : Runs) (r : Ran) → Keeps s turns r → ((t : State) (left : ℕ) → Keeps t left (next t left)) →
+flows-keeps : (s : BodyState) (turns : ℕ) (next : Runs) (r : Ran) → Keeps s turns r → ((t : BodyState) (left : ℕ) → Keeps t left (next t left)) →
     Keeps s turns (flows next r)
 flows-keeps s turns next (Ended ending acts) k rest = tt
 flows-keeps s turns next (Went GoesOn t left) (a, b) rest = keeps-from s t turns left (next t left) a b (rest t left)
@@ -58,7 +58,7 @@ flows-keeps s turns next (Went Breaks t left) k rest = k
 flows-keeps s turns next (Went Continues t left) k rest = k
 flows-keeps s turns next (Went (Returns v) t left) k rest = k
 
-loops-keeps : (s : State) (turns : ℕ) (next : Runs) (r : Ran) → Keeps s turns r → ((t : State) (left : ℕ) → Keeps t left (next t left)) →
+loops-keeps : (s : BodyState) (turns : ℕ) (next : Runs) (r : Ran) → Keeps s turns r → ((t : BodyState) (left : ℕ) → Keeps t left (next t left)) →
     Keeps s turns (loops next r)
 loops-keeps s turns next (Ended ending acts) k rest = tt
 loops-keeps s turns next (Went GoesOn t left) (a, b) rest = keeps-from s t turns left (next t left) a b (rest t left)
@@ -66,11 +66,11 @@ loops-keeps s turns next (Went Breaks t left) k rest = k
 loops-keeps s turns next (Went Continues t left) (a, b) rest = keeps-from s t turns left (next t left) a b (rest t left)
 loops-keeps s turns next (Went (Returns v) t left) k rest = k
 
-left-keeps : (s outer : State) (turns : ℕ) (r : Ran) → Keeps s turns r → Keeps s turns (left_from outer r)
+left-keeps : (s outer : BodyState) (turns : ℕ) (r : Ran) → Keeps s turns r → Keeps s turns (left_from outer r)
 left-keeps s outer turns (Ended ending acts) k = tt
 left-keeps s outer turns (Went flow t left) k = k
 
-keeps-if : (t : Bool) (s : State) (turns : ℕ) (a b : Ran) → Keeps s turns a → Keeps s turns b → Keeps s turns (if t then a else b)
+keeps-if : (t : Bool) (s : BodyState) (turns : ℕ) (a b : Ran) → Keeps s turns a → Keeps s turns b → Keeps s turns (if t then a else b)
 keeps-if true s turns a b f g = f
 keeps-if false s turns a b f g = g
 
@@ -80,10 +80,10 @@ lengths-set [] i ys h = refl
 lengths-set (xs ∷ xss) zero ys h = ap (λ n. n ∷ map length xss) h
 lengths-set (xs ∷ xss) (suc i) ys h = ap (λ ns. length xs ∷ ns) (lengths-set xss i ys h)
 
-element-keeps : (s : State) (item k : ℕ) (v : ℤ) → item_lengths (with_element s item k v) ≡ item_lengths s
+element-keeps : (s : BodyState) (item k : ℕ) (v : ℤ) → item_lengths (with_element s item k v) ≡ item_lengths s
 element-keeps s item k v = lengths-set s.items item (set (get_or s.items item []) k v) (length-set (get_or s.items item []) k v)
 
-stored_in-keeps : (found : Option Variable) (s : State) (id : ℕ) (v : ℤ) → item_lengths (stored_in found s id v) ≡ item_lengths s
+stored_in-keeps : (found : Option Variable) (s : BodyState) (id : ℕ) (v : ℤ) → item_lengths (stored_in found s id v) ≡ item_lengths s
 stored_in-keeps (Some (Item item)) s id v = element-keeps s item 0 v
 stored_in-keeps (Some (Scalar old)) s id v = refl
 stored_in-keeps (Some (Constant c)) s id v = refl
@@ -93,7 +93,7 @@ stored_in-keeps (Some (Window h)) s id v = refl
 stored_in-keeps (Some (Stream first count)) s id v = refl
 stored_in-keeps None s id v = refl
 
-stored_in_at-keeps : (found : Option Variable) (s : State) (id k : ℕ) (v : ℤ) → item_lengths (stored_in_at found s id k v) ≡ item_lengths s
+stored_in_at-keeps : (found : Option Variable) (s : BodyState) (id k : ℕ) (v : ℤ) → item_lengths (stored_in_at found s id k v) ≡ item_lengths s
 stored_in_at-keeps (Some (Item item)) s id k v = element-keeps s item k v
 stored_in_at-keeps (Some (Scalar old)) s id k v = refl
 stored_in_at-keeps (Some (Constant c)) s id k v = refl
@@ -103,7 +103,7 @@ stored_in_at-keeps (Some (Window h)) s id k v = refl
 stored_in_at-keeps (Some (Stream first count)) s id k v = refl
 stored_in_at-keeps None s id k v = refl
 
-after_store-keeps : (s : State) (aim : Aim) (v : ℤ) → item_lengths (after_store s aim v) ≡ item_lengths s
+after_store-keeps : (s : BodyState) (aim : Aim) (v : ℤ) → item_lengths (after_store s aim v) ≡ item_lengths s
 after_store-keeps s (Name id) v = stored_in-keeps (find s.bound id) s id v
 after_store-keeps s (Element id k) v = stored_in_at-keeps (find s.bound id) s id k v
 
@@ -111,7 +111,7 @@ aimed-falls : (a : Answer ℕ) (id turns : ℕ) → Falls turns (and_then a (λ 
 aimed-falls (Ok k) id turns = omega arith
 aimed-falls (Err ending) id turns = tt
 
-aim-falls : (file : File) → CallsFall file → (t : tree.TargetTree) (s : State) (turns : ℕ) → Falls turns (aim_at file t s turns)
+aim-falls : (file : File) → CallsFall file → (t : tree.TargetTree) (s : BodyState) (turns : ℕ) → Falls turns (aim_at file t s turns)
 aim-falls file calls (tree.Variable n) s turns = omega arith
 aim-falls file calls (tree.Element n m e) s turns =
     falls-then turns (value file e s turns)
@@ -119,8 +119,8 @@ aim-falls file calls (tree.Element n m e) s turns =
     (value-falls file calls e s turns)
     (λ i. aimed-falls (checked (length (elements s (find s.bound n.id))) m.line i.value) n.id i.turns)
 
-changed-keeps : (file : File) → CallsFall file → (t : tree.TargetTree) (right : ℤ → State → ℕ → Answer (Left ℤ)) →
-    ((old : ℤ) (s : State) (turns : ℕ) → Falls turns (right old s turns)) → (s : State) (turns : ℕ) → Keeps s turns (changed file t right s turns)
+changed-keeps : (file : File) → CallsFall file → (t : tree.TargetTree) (right : ℤ → BodyState → ℕ → Answer (Left ℤ)) →
+    ((old : ℤ) (s : BodyState) (turns : ℕ) → Falls turns (right old s turns)) → (s : BodyState) (turns : ℕ) → Keeps s turns (changed file t right s turns)
 changed-keeps file calls t right f s turns =
     given-left s turns (aim_at file t s turns)
     (λ a. given (right (old_value file s a.value) s a.turns) s (λ v. goes_on (after_store s a.value v.value) v.turns))
@@ -129,7 +129,7 @@ changed-keeps file calls t right f s turns =
     (f (old_value file s a.value) s a.turns)
     (λ v. keeps-on s (after_store s a.value v.value) v.turns (after_store-keeps s a.value v.value)))
 
-change-keeps : (file : File) → CallsFall file → (c : tree.ChangeTree) (s : State) (turns : ℕ) → Keeps s turns (run_change file c s turns)
+change-keeps : (file : File) → CallsFall file → (c : tree.ChangeTree) (s : BodyState) (turns : ℕ) → Keeps s turns (run_change file c s turns)
 change-keeps file calls (tree.Set t a m e) s turns =
     changed-keeps file calls t
     (λ old s turns. and_then (value file e s turns) (λ n. with_turns n.turns (assigned a m.line (target_type file s t) (type_in file s e) old n.value)))
@@ -143,7 +143,7 @@ change-keeps file calls (tree.Before t p m) s turns =
     changed-keeps file calls t (λ old s turns. with_turns turns (binary_value (step_operator p) m.line (target_type file s t) false old (pos 1)))
     (λ old s turns. falls-with turns (binary_value (step_operator p) m.line (target_type file s t) false old (pos 1))) s turns
 
-scalar-keeps : (file : File) → CallsFall file → (w : Bool) (id : ℕ) (first : Option tree.ExprTree) (s : State) (turns : ℕ) →
+scalar-keeps : (file : File) → CallsFall file → (w : Bool) (id : ℕ) (first : Option tree.ExprTree) (s : BodyState) (turns : ℕ) →
     Keeps s turns (run_scalar file w id first s turns)
 scalar-keeps file calls w id None s turns = keeps-on s (declared id w (Scalar (pos 0)) s) turns refl
 scalar-keeps file calls w id (Some e) s turns =
@@ -152,68 +152,68 @@ scalar-keeps file calls w id (Some e) s turns =
     (λ n. keeps-on inner (stored inner id n.value) n.turns (stored_in-keeps (find inner.bound id) inner id n.value))
 
 -- one value, and then a state with the same items
-valued-keeps : (file : File) → CallsFall file → (e : tree.ExprTree) (s : State) (turns : ℕ) (next : Left ℤ → Ran) →
+valued-keeps : (file : File) → CallsFall file → (e : tree.ExprTree) (s : BodyState) (turns : ℕ) (next : Left ℤ → Ran) →
     ((n : Left ℤ) → Keeps s n.turns (next n)) → Keeps s turns (given (value file e s turns) s next)
 valued-keeps file calls e s turns next k = given-left s turns (value file e s turns) next (value-falls file calls e s turns) k
 
-either-keeps : (t : Bool) (a b : Runs) → ((s : State) (turns : ℕ) → Keeps s turns (a s turns)) →
-    ((s : State) (turns : ℕ) → Keeps s turns (b s turns)) → (s : State) (turns : ℕ) → Keeps s turns ((if t then a else b) s turns)
+either-keeps : (t : Bool) (a b : Runs) → ((s : BodyState) (turns : ℕ) → Keeps s turns (a s turns)) →
+    ((s : BodyState) (turns : ℕ) → Keeps s turns (b s turns)) → (s : BodyState) (turns : ℕ) → Keeps s turns ((if t then a else b) s turns)
 either-keeps true a b f g s turns = f s turns
 either-keeps false a b f g s turns = g s turns
 
-streams-keeps : (file : File) → CallsFall file → (w : Bool) (id : ℕ) (size : Option tree.IndexTree) (s : State) (turns : ℕ) →
+streams-keeps : (file : File) → CallsFall file → (w : Bool) (id : ℕ) (size : Option tree.IndexTree) (s : BodyState) (turns : ℕ) →
     Keeps s turns (run_streams file w id size s turns)
 streams-keeps file calls w id None s turns = keeps-on s (with_streams id w 1 s) turns refl
 streams-keeps file calls w id (Some i) s turns =
     valued-keeps file calls i.value s turns (λ n. goes_on (with_streams id w (array_size n.value) s) n.turns)
     (λ n. keeps-on s (with_streams id w (array_size n.value) s) n.turns refl)
 
-window-keeps : (file : File) → CallsFall file → (w : Bool) (id : ℕ) (i : tree.IndexTree) (s : State) (turns : ℕ) → Keeps s turns (run_window file w id i s turns)
+window-keeps : (file : File) → CallsFall file → (w : Bool) (id : ℕ) (i : tree.IndexTree) (s : BodyState) (turns : ℕ) → Keeps s turns (run_window file w id i s turns)
 window-keeps file calls w id i s turns =
     valued-keeps file calls i.value s turns
     (λ n. given (window_size i.mark.line n.value) s (λ horizon. goes_on (declared id w (Window horizon) s) n.turns))
     (λ n. given-plain s n.turns (window_size i.mark.line n.value) (λ horizon. goes_on (declared id w (Window horizon) s) n.turns)
     (λ horizon. keeps-on s (declared id w (Window horizon) s) n.turns refl))
 
-array-keeps : (file : File) → CallsFall file → (w : Bool) (id : ℕ) (size : tree.ExprTree) (s : State) (turns : ℕ) → Keeps s turns (run_array file w id size s turns)
+array-keeps : (file : File) → CallsFall file → (w : Bool) (id : ℕ) (size : tree.ExprTree) (s : BodyState) (turns : ℕ) → Keeps s turns (run_array file w id size s turns)
 array-keeps file calls w id size s turns =
     valued-keeps file calls size s turns (λ n. goes_on (declared id w (Array (replicate (array_size n.value) (pos 0))) s) n.turns)
     (λ n. keeps-on s (declared id w (Array (replicate (array_size n.value) (pos 0))) s) n.turns refl)
 
-unsized-keeps : (u : Around) → CallsFall u.file → (w : Bool) (d : tree.DeclaratorTree) (size : Option tree.IndexTree) (s : State) (turns : ℕ) →
+unsized-keeps : (u : Around) → CallsFall u.file → (w : Bool) (d : tree.DeclaratorTree) (size : Option tree.IndexTree) (s : BodyState) (turns : ℕ) →
     Keeps s turns (run_unsized_or u w d size s turns)
 unsized-keeps u calls w d None s turns = scalar-keeps u.file calls w d.name.id d.first s turns
 unsized-keeps u calls w d (Some i) s turns =
     either-keeps u.is_control (run_window u.file w d.name.id i) (run_array u.file w d.name.id i.value)
     (window-keeps u.file calls w d.name.id i) (array-keeps u.file calls w d.name.id i.value) s turns
 
-declarator-keeps : (u : Around) → CallsFall u.file → (w : Bool) (d : tree.DeclaratorTree) (s : State) (turns : ℕ) → Keeps s turns (run_declarator u w d s turns)
+declarator-keeps : (u : Around) → CallsFall u.file → (w : Bool) (d : tree.DeclaratorTree) (s : BodyState) (turns : ℕ) → Keeps s turns (run_declarator u w d s turns)
 declarator-keeps u calls w d s turns =
     either-keeps d.stream (run_streams u.file w d.name.id d.size) (run_unsized_or u w d d.size)
     (streams-keeps u.file calls w d.name.id d.size) (unsized-keeps u calls w d d.size) s turns
 
-declarators-keeps : (u : Around) → CallsFall u.file → (w : Bool) (ds : List tree.DeclaratorTree) (s : State) (turns : ℕ) →
+declarators-keeps : (u : Around) → CallsFall u.file → (w : Bool) (ds : List tree.DeclaratorTree) (s : BodyState) (turns : ℕ) →
     Keeps s turns (run_declarators u w ds s turns)
 declarators-keeps u calls w [] s turns = keeps-on s s turns refl
 declarators-keeps u calls w (d ∷ ds) s turns =
     flows-keeps s turns (run_declarators u w ds) (run_declarator u w d s turns) (declarator-keeps u calls w d s turns) (declarators-keeps u calls w ds)
 
-start-keeps : (u : Around) → CallsFall u.file → (start : tree.StartTree) (s : State) (turns : ℕ) → Keeps s turns (run_start u start s turns)
+start-keeps : (u : Around) → CallsFall u.file → (start : tree.StartTree) (s : BodyState) (turns : ℕ) → Keeps s turns (run_start u start s turns)
 start-keeps u calls tree.StartTree.Empty s turns = keeps-on s s turns refl
 start-keeps u calls (tree.StartTree.Declare ty ds) s turns = declarators-keeps u calls (is_unsigned ty) ds s turns
 start-keeps u calls (tree.StartTree.Change c) s turns = change-keeps u.file calls c s turns
 
-pub test-falls : (file : File) → CallsFall file → (test : Option tree.ExprTree) (s : State) (turns : ℕ) → Falls turns (run_test file test s turns)
+pub test-falls : (file : File) → CallsFall file → (test : Option tree.ExprTree) (s : BodyState) (turns : ℕ) → Falls turns (run_test file test s turns)
 test-falls file calls None s turns = omega arith
 test-falls file calls (Some e) s turns = value-falls file calls e s turns
 
-pub step-keeps : (file : File) → CallsFall file → (step : Option tree.ChangeTree) (s : State) (turns : ℕ) → Keeps s turns (run_step file step s turns)
+pub step-keeps : (file : File) → CallsFall file → (step : Option tree.ChangeTree) (s : BodyState) (turns : ℕ) → Keeps s turns (run_step file step s turns)
 step-keeps file calls None s turns = keeps-on s s turns refl
 step-keeps file calls (Some c) s turns = change-keeps file calls c s turns
 
-loop-keeps : (most : ℕ) (test : State → ℕ → Answer (Left ℤ)) (body step : Runs) →
-    ((s : State) (turns : ℕ) → Falls turns (test s turns)) → ((s : State) (turns : ℕ) → Keeps s turns (body s turns)) →
-    ((s : State) (turns : ℕ) → Keeps s turns (step s turns)) → (s : State) (turns : ℕ) → Keeps s turns (loop most test body step s turns)
+loop-keeps : (most : ℕ) (test : BodyState → ℕ → Answer (Left ℤ)) (body step : Runs) →
+    ((s : BodyState) (turns : ℕ) → Falls turns (test s turns)) → ((s : BodyState) (turns : ℕ) → Keeps s turns (body s turns)) →
+    ((s : BodyState) (turns : ℕ) → Keeps s turns (step s turns)) → (s : BodyState) (turns : ℕ) → Keeps s turns (loop most test body step s turns)
 loop-keeps most test body step ft kb ks s zero = tt
 loop-keeps zero test body step ft kb ks s (suc turns) = tt
 loop-keeps (suc most) test body step ft kb ks s (suc turns) =
@@ -229,7 +229,7 @@ numbered-falls : (a : Answer ℕ) (first turns : ℕ) → Falls turns (and_then 
 numbered-falls (Ok k) first turns = omega arith
 numbered-falls (Err ending) first turns = tt
 
-number-falls : (file : File) → CallsFall file → (t : tree.TargetTree) (s : State) (turns : ℕ) → Falls turns (stream_number file t s turns)
+number-falls : (file : File) → CallsFall file → (t : tree.TargetTree) (s : BodyState) (turns : ℕ) → Falls turns (stream_number file t s turns)
 number-falls file calls (tree.Variable n) s turns = omega arith
 number-falls file calls (tree.Element n m e) s turns =
     falls-then turns (value file e s turns)
@@ -237,14 +237,14 @@ number-falls file calls (tree.Element n m e) s turns =
     (value-falls file calls e s turns)
     (λ i. numbered-falls (checked (stream_count (find s.bound n.id)) m.line i.value) (first_stream (find s.bound n.id)) i.turns)
 
-burst-falls : (file : File) → CallsFall file → (d : Direction) (horizon : ℕ) (i : Option tree.IndexTree) (s : State) (turns : ℕ) →
+burst-falls : (file : File) → CallsFall file → (d : Direction) (horizon : ℕ) (i : Option tree.IndexTree) (s : BodyState) (turns : ℕ) →
     Falls turns (burst file d horizon i s turns)
 burst-falls file calls d horizon None s turns = omega arith
 burst-falls file calls d horizon (Some i) s turns =
     falls-then turns (value file i.value s turns) (λ n. with_turns n.turns (burst_of d i.mark.line horizon n.value))
     (value-falls file calls i.value s turns) (λ n. falls-with n.turns (burst_of d i.mark.line horizon n.value))
 
-joined-falls : (file : File) → CallsFall file → (d : Direction) (stream : ℕ) (j : Option tree.JoinTree) (s : State) (turns : ℕ) →
+joined-falls : (file : File) → CallsFall file → (d : Direction) (stream : ℕ) (j : Option tree.JoinTree) (s : BodyState) (turns : ℕ) →
     Falls turns (joined file d stream j s turns)
 joined-falls file calls d stream None s turns = omega arith
 joined-falls file calls d stream (Some j) s turns =
@@ -252,12 +252,12 @@ joined-falls file calls d stream (Some j) s turns =
     falls-then turns (burst file d horizon j.burst s turns) (λ b. Ok (left (claim_of d stream horizon b.value) b.turns))
     (burst-falls file calls d horizon j.burst s turns) (λ b. omega arith)
 
-item-falls : (file : File) → CallsFall file → (d : Direction) (i : tree.ClauseItemTree) (s : State) (turns : ℕ) → Falls turns (item_claim file d i s turns)
+item-falls : (file : File) → CallsFall file → (d : Direction) (i : tree.ClauseItemTree) (s : BodyState) (turns : ℕ) → Falls turns (item_claim file d i s turns)
 item-falls file calls d i s turns =
     falls-then turns (stream_number file i.stream s turns) (λ n. joined file d n.value i.window s n.turns)
     (number-falls file calls i.stream s turns) (λ n. joined-falls file calls d n.value i.window s n.turns)
 
-items-falls : (file : File) → CallsFall file → (ps : List clause.Part) (s : State) (turns : ℕ) → Falls turns (items_claims file ps s turns)
+items-falls : (file : File) → CallsFall file → (ps : List clause.ClausePart) (s : BodyState) (turns : ℕ) → Falls turns (items_claims file ps s turns)
 items-falls file calls [] s turns = omega arith
 items-falls file calls (clause.Private n ∷ ps) s turns = items-falls file calls ps s turns
 items-falls file calls (clause.Item d i ∷ ps) s turns =
@@ -267,11 +267,11 @@ items-falls file calls (clause.Item d i ∷ ps) s turns =
     (λ c. falls-then c.turns (items_claims file ps s c.turns) (λ cs. Ok (left (c.value ∷ cs.value) cs.turns))
     (items-falls file calls ps s c.turns) (λ cs. omega arith))
 
-limited-keeps : (l : Option ControlLimit) (s next : State) (turns : ℕ) → item_lengths next ≡ item_lengths s → Keeps s turns (unless_limited l s turns next)
+limited-keeps : (l : Option ControlLimit) (s next : BodyState) (turns : ℕ) → item_lengths next ≡ item_lengths s → Keeps s turns (unless_limited l s turns next)
 limited-keeps None s next turns e = keeps-on s next turns e
 limited-keeps (Some n) s next turns e = tt
 
-task-keeps : (file : File) → CallsFall file → (sites : List Site) (number : Option ℕ) (ps : List clause.Part) (s : State) (turns : ℕ) →
+task-keeps : (file : File) → CallsFall file → (sites : List Site) (number : Option ℕ) (ps : List clause.ClausePart) (s : BodyState) (turns : ℕ) →
     Keeps s turns (run_task file sites number ps s turns)
 task-keeps file calls sites None ps s turns = keeps-on s s turns refl
 task-keeps file calls sites (Some number) ps s turns =
@@ -280,11 +280,11 @@ task-keeps file calls sites (Some number) ps s turns =
     (items-falls file calls ps s turns)
     (λ c. limited-keeps (limit s.activations c.value) s (with_activation file number (captured_by sites number) c.value s) c.turns refl)
 
-turn-keeps : (stream amount : ℕ) (s : State) (turns : ℕ) → Keeps s turns (tick_turn stream amount s turns)
+turn-keeps : (stream amount : ℕ) (s : BodyState) (turns : ℕ) → Keeps s turns (tick_turn stream amount s turns)
 turn-keeps stream amount s zero = tt
 turn-keeps stream amount s (suc turns) = (omega arith, refl)
 
-tick-keeps : (file : File) → CallsFall file → (t : tree.TargetTree) (arrow : Mark) (e : tree.ExprTree) (s : State) (turns : ℕ) →
+tick-keeps : (file : File) → CallsFall file → (t : tree.TargetTree) (arrow : Mark) (e : tree.ExprTree) (s : BodyState) (turns : ℕ) →
     Keeps s turns (run_tick file t arrow e s turns)
 tick-keeps file calls t arrow e s turns =
     given-left s turns (stream_number file t s turns)
@@ -296,7 +296,7 @@ tick-keeps file calls t arrow e s turns =
     (λ amount. turn-keeps n.value amount s v.turns)))
 
 mutual
-  pub run-keeps : (u : Around) → CallsFall u.file → (a : tree.StmtTree) (s : State) (turns : ℕ) → Keeps s turns (run u a s turns)
+  pub run-keeps : (u : Around) → CallsFall u.file → (a : tree.StmtTree) (s : BodyState) (turns : ℕ) → Keeps s turns (run u a s turns)
   run-keeps u calls tree.StmtTree.Empty s turns = keeps-on s s turns refl
   run-keeps u calls (tree.Block ss) s turns = left-keeps s s turns (run_all u ss s turns) (all-keeps u calls ss s turns)
   run-keeps u calls (tree.StmtTree.Declare ty ds) s turns = declarators-keeps u calls (is_unsigned ty) ds s turns
@@ -329,7 +329,7 @@ mutual
   run-keeps u calls (tree.Tick m t arrow e) s turns = tick-keeps u.file calls t arrow e s turns
   run-keeps u calls (tree.Taskwait m) s turns = keeps-on s s turns refl
 
-  pub all-keeps : (u : Around) → CallsFall u.file → (ss : tree.Stmts) (s : State) (turns : ℕ) → Keeps s turns (run_all u ss s turns)
+  pub all-keeps : (u : Around) → CallsFall u.file → (ss : tree.Stmts) (s : BodyState) (turns : ℕ) → Keeps s turns (run_all u ss s turns)
   all-keeps u calls tree.no_stmts s turns = keeps-on s s turns refl
   all-keeps u calls (tree.stmt a rest) s turns =
       flows-keeps s turns (run_all u rest) (run u a s turns) (run-keeps u calls a s turns) (all-keeps u calls rest)

@@ -6,7 +6,7 @@ use Rattle.cddf_meaning.specs.Scoped.{scoped_task_at, scoped_tasks_in, scoped_ta
 use Rattle.cddf_meaning.specs.Program.{main_at, main_behind, main_of}
 use Rattle.cddf_meaning.specs.File.{File}
 use Rattle.cddf_meaning.specs.Functions.{empty_file, file_of, with_item, with_items}
-use Rattle.cddf_meaning.specs.declared.known.Known.{Known}
+use Rattle.cddf_meaning.specs.declared.known_name.KnownName.{KnownName}
 use Rattle.os_ast.specs.Captured as captures
 use Rattle.os_ast.specs.Captured.{Scalar}
 use Rattle.os_ast.specs.FreeNames.{task_names}
@@ -15,7 +15,7 @@ use Rattle.os_ast.specs.Notes.Declarators.{after_declarator, after_declarators, 
 use Rattle.os_ast.specs.Notes.Programs as notes
 use Rattle.os_ast.specs.Notes.Programs.{after_item, after_items, after_param, after_params, in_body, in_function, param_list}
 use Rattle.os_ast.specs.Notes.Statements.{after_stmt, after_stmts}
-use Rattle.os_ast.specs.Parts.{is_in, item_ids, parts}
+use Rattle.os_ast.specs.ClauseParts.{is_in, item_ids, parts}
 use Rattle.os_ast.specs.Trees as tree
 use Rattle.os_ast.specs.Unsigned.{is_unsigned}
 use Rattle.os_ast.specs.declared.expr.Mark.{Mark}
@@ -34,7 +34,7 @@ is_scalar (entity.Control slot) = true
 is_scalar entity.InputLength = true
 is_scalar _ = false
 
-abbrev known_of : List Entry → List Known
+abbrev known_of : List Entry → List KnownName
 known_of [] = []
 known_of (e ∷ es) = known_of es ++ known e.id (is_scalar e.entity) e.unsigned ∷ []
 
@@ -80,7 +80,7 @@ ids-of id (entity.Streams n k) = refl
 ids-of id (entity.Element n d) = refl
 ids-of id (entity.View n d) = refl
 
-known-last : (is : List ℕ) (ks : List Known) (k : Known) → with_all_known is (ks ++ k ∷ []) ≡ with_known (with_all_known is ks) k
+known-last : (is : List ℕ) (ks : List KnownName) (k : KnownName) → with_all_known is (ks ++ k ∷ []) ≡ with_known (with_all_known is ks) k
 known-last is [] k = refl
 known-last is (x ∷ ks) k = known-last (with_known is x) ks k
 
@@ -93,7 +93,7 @@ ids-scalars (e ∷ es) =
     ∙ sym (known-last [] (known_of es) (known e.id (is_scalar e.entity) e.unsigned))
 
 -- the types of names in scope
-flag-last : (b : Bool) (ks : List Known) (k : Known) (id : ℕ) →
+flag-last : (b : Bool) (ks : List KnownName) (k : KnownName) (id : ℕ) →
     known_flag b (ks ++ k ∷ []) id ≡ (if k.id == id then k.unsigned else known_flag b ks id)
 flag-last b [] k id = refl
 flag-last b (x ∷ ks) k id = flag-last (if x.id == id then x.unsigned else b) ks k id

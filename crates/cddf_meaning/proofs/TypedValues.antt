@@ -14,7 +14,7 @@ use Rattle.cddf_meaning.specs.Answers.{Answer, Left, and_then, left, with_turns}
 use Rattle.cddf_meaning.specs.File.{File, flags, or_in_file, type_in, variable}
 use Rattle.cddf_meaning.specs.Fitting.{FileFits, GivesInt, StateFits, args_fit, bound_fits, elements_fit, links_fit, numbers_fit, target_fits, variable_fits}
 use Rattle.cddf_meaning.specs.Operators.{binary_value, unary_value}
-use Rattle.cddf_meaning.specs.State.{State, item_elements}
+use Rattle.cddf_meaning.specs.BodyState.{BodyState, item_elements}
 use Rattle.cddf_meaning.specs.TypedValue.{as_type, element_with_type, passed, typed_binary, typed_chained, typed_linked, typed_place, typed_truth, typed_unary, typed_value, with_type}
 use Rattle.cddf_meaning.specs.ExpressionTypes.{type_behind, type_of_one, type_of_two}
 use Rattle.cddf_meaning.specs.Value.{as_truth, call_value, chained, checked, element_at, elements, linked, place_value, scalar_value, value, values}
@@ -146,13 +146,13 @@ pub in-file : (file : File) → FileFits file → (id : ℕ) (v : Option Variabl
 in-file file f id None h = find-fits file.names id f.constants
 in-file file f id (Some v) h = h
 
-pub item-fits : (s : State) → StateFits s → (item : ℕ) → elements_fit (item_elements s item) ≡ true
+pub item-fits : (s : BodyState) → StateFits s → (item : ℕ) → elements_fit (item_elements s item) ≡ true
 item-fits s f item = get-fits elements_fit s.items item [] f.items refl
 
 pub ints : (vs : List ℤ) → elements_fit vs ≡ true → list_all is_int vs ≡ true
 ints vs h = (both (leb (length vs) (2 ^ 31)) (list_all is_int vs) h).1
 
-pub scalar-int : (s : State) → StateFits s → (v : Option Variable) → Fits v → is_int (scalar_value s v) ≡ true
+pub scalar-int : (s : BodyState) → StateFits s → (v : Option Variable) → Fits v → is_int (scalar_value s v) ≡ true
 scalar-int s f None h = refl
 scalar-int s f (Some (Constant v)) h = h
 scalar-int s f (Some (Function place)) h = refl
@@ -162,7 +162,7 @@ scalar-int s f (Some (Window horizon)) h = refl
 scalar-int s f (Some (Stream first count)) h = refl
 scalar-int s f (Some (Item item)) h = get-fits is_int (item_elements s item) 0 (pos 0) (ints (item_elements s item) (item-fits s f item)) refl
 
-pub elements-fit : (s : State) → StateFits s → (v : Option Variable) → Fits v → elements_fit (elements s v) ≡ true
+pub elements-fit : (s : BodyState) → StateFits s → (v : Option Variable) → Fits v → elements_fit (elements s v) ≡ true
 elements-fit s f None h = refl
 elements-fit s f (Some (Constant v)) h = refl
 elements-fit s f (Some (Function place)) h = refl
@@ -243,7 +243,7 @@ one-passed u t b more more' a f =
     here (Err ending) h = record { same = refl; ints = tt }
 
 mutual
-  pub value-agrees : (file : File) → FileFits file → (e : tree.ExprTree) (s : State) → StateFits s → numbers_fit e ≡ true → (turns : ℕ) →
+  pub value-agrees : (file : File) → FileFits file → (e : tree.ExprTree) (s : BodyState) → StateFits s → numbers_fit e ≡ true → (turns : ℕ) →
       Agrees (type_in file s e) (typed_value file e s turns) (value file e s turns)
   value-agrees file f (tree.Number n) s g h turns =
       record { same = ap (λ x. Ok (left (record { number = x; unsigned = false }) turns)) (sym (same_int (pos n) h)); int = h }
@@ -279,7 +279,7 @@ mutual
       (λ n i. chosen-agrees w (type_in file s b) (type_in file s a) (type_in file s c) n.value (typed_value file b s n.turns) (typed_value file a s n.turns)
       (value file b s n.turns) (value file a s n.turns) i (value-agrees file f b s g branches.1 n.turns) (value-agrees file f a s g branches.0 n.turns))
 
-  place-agrees : (file : File) → FileFits file → (t : tree.TargetTree) (s : State) → StateFits s → target_fits t ≡ true → (turns : ℕ) →
+  place-agrees : (file : File) → FileFits file → (t : tree.TargetTree) (s : BodyState) → StateFits s → target_fits t ≡ true → (turns : ℕ) →
       Agrees (type_in file s (tree.Place t)) (typed_place file t s turns) (place_value file t s turns)
   place-agrees file f (tree.Variable n) s g h turns =
       record { same = refl; int = scalar-int s g (variable file s n.id) (in-file file f n.id (find s.bound n.id) (find-fits s.bound n.id g.variables)) }
@@ -293,7 +293,7 @@ mutual
       (λ i k. turns-agrees w (and_then (element_at vs m.line (converted (type_in file s e) i.value)) (element_with_type w)) (element_at vs m.line i.value) i.turns
       (ap (λ a. and_then a (element_with_type w)) (element-judged vs m.line (type_in file s e) i.value fit k)) (element-int vs m.line i.value (ints vs fit)))
 
-  passed-agrees : (file : File) → FileFits file → (es : tree.Args) (s : State) → StateFits s → args_fit es ≡ true → (turns : ℕ) →
+  passed-agrees : (file : File) → FileFits file → (es : tree.Args) (s : BodyState) → StateFits s → args_fit es ≡ true → (turns : ℕ) →
       Passes (passed file es s turns) (values file es s turns)
   passed-agrees file f tree.no_args s g h turns = record { same = refl; ints = refl }
   passed-agrees file f (tree.arg e es) s g h turns =
@@ -301,7 +301,7 @@ mutual
       one-passed (type_in file s e) (typed_value file e s turns) (value file e s turns) (passed file es s) (values file es s)
       (value-agrees file f e s g fits.0 turns) (passed-agrees file f es s g fits.1)
 
-  chained-agrees : (file : File) → FileFits file → (links : tree.Links) (s : State) → StateFits s → links_fit links ≡ true → (u : Bool) (n : Left ℤ) →
+  chained-agrees : (file : File) → FileFits file → (links : tree.Links) (s : BodyState) → StateFits s → links_fit links ≡ true → (u : Bool) (n : Left ℤ) →
       is_int n.value ≡ true →
       Agrees (type_behind (flags file s) links u) (typed_chained file links s (left (of_type u n.value) n.turns)) (chained file links s u n)
   chained-agrees file f tree.no_links s g h u n i = record { same = refl; int = i }

@@ -8,7 +8,7 @@ use Rattle.cddf_meaning.specs.Flow.{Ran, Went, Ended}
 use Rattle.cddf_meaning.specs.Functions.{file_of, in_function}
 use Rattle.cddf_meaning.specs.Moves.{Keeps, item_lengths, read_horizons, written_horizons}
 use Rattle.cddf_meaning.specs.Run.{run}
-use Rattle.cddf_meaning.specs.State.{State, state_of}
+use Rattle.cddf_meaning.specs.BodyState.{BodyState, state_of}
 use Rattle.cddf_meaning.specs.Tasks.{Task}
 use Rattle.cddf_meaning.specs.declared.ending.Ending.TheVariants.{Trapped, OverBudget, Limited}
 use Rattle.flow_core_laws.specs.declared.activation.Activation.{Activation}
@@ -57,7 +57,7 @@ ended-has : (bytes : Bool) (line : ℕ) (claims : List Claim) (items : List (Lis
 ended-has true line claims items h e = outputs_of-has claims items h
 ended-has false line claims items h e = cc
 
-outcome-has : (line : ℕ) (claims : List Claim) (s : State) (turns : ℕ) (r : Ran) → Keeps s turns r →
+outcome-has : (line : ℕ) (claims : List Claim) (s : BodyState) (turns : ℕ) (r : Ran) → Keeps s turns r →
     item_lengths s ≡ map (λ (c : Claim). c.horizon) claims → (outcome line claims r).end ≡ end.Done →
     length (outcome line claims r).outputs ≡ written_horizons claims
 outcome-has line claims s turns (Went flow t left) (a, b) h e = ended-has (gives_bytes claims t.items) line claims t.items (b ∙ h) e

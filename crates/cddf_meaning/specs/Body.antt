@@ -8,7 +8,7 @@ use Rattle.cddf_meaning.specs.Flow.{Ran, Went, Ended}
 use Rattle.cddf_meaning.specs.Functions.{in_function}
 use Rattle.cddf_meaning.specs.Program.{Main, main_of}
 use Rattle.cddf_meaning.specs.Run.{run}
-use Rattle.cddf_meaning.specs.State.{state_of}
+use Rattle.cddf_meaning.specs.BodyState.{state_of}
 use Rattle.cddf_meaning.specs.Tasks.{Task}
 use Rattle.cddf_meaning.specs.Variables.{bind}
 use Rattle.cddf_meaning.specs.declared.ending.Ending.TheVariants.{Trapped, OverBudget, Limited}

@@ -5,7 +5,7 @@ use Rattle.c_int.specs.Traps.{trap_code}
 use Rattle.cddf_meaning.specs.Flow.{Ran, Went, Ended}
 use Rattle.cddf_meaning.specs.Program.{Main, main_of}
 use Rattle.cddf_meaning.specs.Run.{Around, run_all}
-use Rattle.cddf_meaning.specs.State.{State}
+use Rattle.cddf_meaning.specs.BodyState.{BodyState}
 use Rattle.cddf_meaning.specs.Tasks.{sites_of}
 use Rattle.cddf_meaning.specs.Variables.{bind}
 use Rattle.cddf_meaning.specs.declared.ending.Ending.TheVariants.{Trapped, OverBudget, Limited}
@@ -36,7 +36,7 @@ abbrev pub bound_round_main : (input_len : ℕ) → List Binding
 bound_round_main input_len =
     bind osin_len_id false (Scalar (pos input_len)) (bind osout_id false (Stream 1 1) (bind osin_id false (Stream 0 1) []))
 
-abbrev pub control_state : (input_len : ℕ) → State
+abbrev pub control_state : (input_len : ℕ) → BodyState
 control_state input_len =
     record { bound = bound_round_main input_len; items = []; activations = []; streams = 2; moves = [] }
 

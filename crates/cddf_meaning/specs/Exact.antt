@@ -3,7 +3,7 @@
 use Rattle.std.specs.Prelude.{◌≡◌, ⊤, ℕ, ◌+◌, ◌<◌, List, Ok, Err}
 use Rattle.cddf_meaning.specs.Answers.{Answer, Left, left, over}
 use Rattle.cddf_meaning.specs.Flow.{Ran, Went, Ended}
-use Rattle.cddf_meaning.specs.State.{State}
+use Rattle.cddf_meaning.specs.BodyState.{BodyState}
 use Rattle.cddf_meaning.specs.declared.ending.Ending.{Ending}
 use Rattle.cddf_meaning.specs.declared.ending.Ending.TheVariants.{Trapped, OverBudget, Limited}
 use Rattle.cddf_meaning.specs.declared.flow.Flow.{Flow}
@@ -29,7 +29,7 @@ IsExact A evaluate turns (Ok n) = Spends A evaluate turns n
 IsExact A evaluate turns (Err ending) = Stays evaluate turns ending (Err ending)
 
 -- the same of a statement, which leaves a state behind it
-pub record SpendsIn (run : ℕ → Ran) (turns : ℕ) (flow : Flow) (behind : State) (rest : ℕ) : Type 0 where
+pub record SpendsIn (run : ℕ → Ran) (turns : ℕ) (flow : Flow) (behind : BodyState) (rest : ℕ) : Type 0 where
   pub spent : ℕ
   pub all : turns ≡ spent + rest
   pub enough : (more : ℕ) → run (spent + more) ≡ Went flow behind more

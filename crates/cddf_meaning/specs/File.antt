@@ -1,7 +1,7 @@
 -- What a body sees of the file: the constants and functions that were declared before it.
 use Rattle.std.specs.Prelude.{ℕ, Bool, false, List, Option, Some, None, ℤ}
 use Rattle.cddf_meaning.specs.Answers.{Answer, Left}
-use Rattle.cddf_meaning.specs.State.{State}
+use Rattle.cddf_meaning.specs.BodyState.{BodyState}
 use Rattle.cddf_meaning.specs.ExpressionTypes.{Flags, type_of}
 use Rattle.cddf_meaning.specs.Variables.{find, flag_or}
 use Rattle.cddf_meaning.specs.declared.variable.Binding.{Binding}
@@ -23,17 +23,17 @@ or_in_file file id None = find file.names id
 or_in_file file id (Some v) = Some v
 
 -- what a name stands for: in the body, and else in the file
-abbrev pub variable : File → State → ℕ → Option Variable
+abbrev pub variable : File → BodyState → ℕ → Option Variable
 variable file s id = or_in_file file id (find s.bound id)
 
 -- whether what a name stands for there is of the type `unsigned`: a constant, a function's result, a variable, or the elements of
 -- an array, a window or a stream
-abbrev pub unsigned_name : File → State → ℕ → Bool
+abbrev pub unsigned_name : File → BodyState → ℕ → Bool
 unsigned_name file s id = flag_or (flag_or false file.names id) s.bound id
 
-abbrev pub flags : File → State → Flags
+abbrev pub flags : File → BodyState → Flags
 flags file s n = unsigned_name file s n.id
 
 -- the type of an expression there
-abbrev pub type_in : File → State → tree.ExprTree → Bool
+abbrev pub type_in : File → BodyState → tree.ExprTree → Bool
 type_in file s e = type_of (flags file s) e

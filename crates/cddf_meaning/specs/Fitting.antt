@@ -5,7 +5,7 @@ use Rattle.c_int.specs.Operators.{is_int}
 use Rattle.cddf_meaning.specs.Answers.{Answer, Left}
 use Rattle.cddf_meaning.specs.File.{File}
 use Rattle.cddf_meaning.specs.Flow.{Ran, Went, Ended}
-use Rattle.cddf_meaning.specs.State.{State}
+use Rattle.cddf_meaning.specs.BodyState.{BodyState}
 use Rattle.cddf_meaning.specs.declared.flow.Flow.TheVariants.{GoesOn, Breaks, Continues, Returns}
 use Rattle.cddf_meaning.specs.declared.flow.Flow.{Flow}
 use Rattle.cddf_meaning.specs.declared.variable.Binding.{Binding}
@@ -30,7 +30,7 @@ abbrev pub bound_fits : List Binding → Bool
 bound_fits bound = list_all (λ (b : Binding). variable_fits b.variable) bound
 
 -- a state's numbers
-pub record StateFits (s : State) : Type 0 where
+pub record StateFits (s : BodyState) : Type 0 where
   pub variables : bound_fits s.bound ≡ true
   pub items : list_all elements_fit s.items ≡ true
 

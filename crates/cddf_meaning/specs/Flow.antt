@@ -1,7 +1,7 @@
 -- What a statement comes to, and what follows it. C11, 6.8.
 use Rattle.std.specs.Prelude.{ℕ, List, Ok, Err}
 use Rattle.cddf_meaning.specs.Answers.{Answer}
-use Rattle.cddf_meaning.specs.State.{State}
+use Rattle.cddf_meaning.specs.BodyState.{BodyState}
 use Rattle.cddf_meaning.specs.Variables.{leave}
 use Rattle.cddf_meaning.specs.declared.ending.Ending.{Ending}
 use Rattle.cddf_meaning.specs.declared.flow.Flow.TheVariants.{GoesOn, Breaks, Continues, Returns}
@@ -11,19 +11,19 @@ use Rattle.flow_core_laws.specs.declared.activation.Activation.{Activation}
 -- A statement leaves a state and turns behind it, or the body ends in it. What the control program created before its
 -- end stands.
 pub data Ran : Type 0 where
-  Went : Flow → State → (turns : ℕ) → Ran
+  Went : Flow → BodyState → (turns : ℕ) → Ran
   Ended : Ending → List Activation → Ran
 
 -- a statement in its place: from a state and the turns that are left
 abbrev pub Runs : Type 0
-Runs = State → ℕ → Ran
+Runs = BodyState → ℕ → Ran
 
 -- where something is given, what follows; and else the end of the body
-abbrev pub given : {A : Type 0} → Answer A → State → (A → Ran) → Ran
+abbrev pub given : {A : Type 0} → Answer A → BodyState → (A → Ran) → Ran
 given (Ok a) s next = next a
 given (Err ending) s next = Ended ending s.activations
 
-abbrev pub goes_on : State → ℕ → Ran
+abbrev pub goes_on : BodyState → ℕ → Ran
 goes_on s turns = Went GoesOn s turns
 
 -- what follows, where nothing leaves it
@@ -42,10 +42,10 @@ loops next (Went Continues s turns) = next s turns
 loops next (Went (Returns v) s turns) = Went (Returns v) s turns
 loops next (Ended ending activations) = Ended ending activations
 
-abbrev pub left_state : State → State → State
+abbrev pub left_state : BodyState → BodyState → BodyState
 left_state outer inner = record inner { bound = leave outer.bound inner.bound }
 
 -- behind a scope: what was declared in it is gone
-abbrev pub left_from : State → Ran → Ran
+abbrev pub left_from : BodyState → Ran → Ran
 left_from outer (Went flow inner turns) = Went flow (left_state outer inner) turns
 left_from outer (Ended ending activations) = Ended ending activations

@@ -4,7 +4,7 @@ use Rattle.cddf_meaning.specs.Answers.{Answer, over, Left, left}
 use Rattle.cddf_meaning.specs.File.{Calls, File}
 use Rattle.cddf_meaning.specs.Flow.{Ran, Went, Ended}
 use Rattle.cddf_meaning.specs.Run.{Around, run_all}
-use Rattle.cddf_meaning.specs.State.{state_of}
+use Rattle.cddf_meaning.specs.BodyState.{state_of}
 use Rattle.cddf_meaning.specs.Variables.{bind}
 use Rattle.cddf_meaning.specs.declared.flow.Flow.TheVariants.{GoesOn, Breaks, Continues, Returns}
 use Rattle.cddf_meaning.specs.declared.flow.Flow.{Flow}

@@ -3,7 +3,7 @@ pub mod Answers
 pub mod Operators
 pub mod Variables
 pub mod ExpressionTypes
-pub mod State
+pub mod BodyState
 pub mod File
 pub mod Value
 pub mod TypedValue

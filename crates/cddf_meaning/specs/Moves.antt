@@ -3,7 +3,7 @@ use Rattle.std.specs.Prelude.{◌≡◌, ⊤, ℕ, ◌+◌, ◌≤◌, if◌then
 use Rattle.cddf_meaning.specs.Answers.{Answer, Left}
 use Rattle.cddf_meaning.specs.File.{File}
 use Rattle.cddf_meaning.specs.Flow.{Ran, Went, Ended}
-use Rattle.cddf_meaning.specs.State.{State}
+use Rattle.cddf_meaning.specs.BodyState.{BodyState}
 use Rattle.flow_core_laws.specs.declared.claim.Claim.{Claim}
 
 -- the turns that are left are no more than there were
@@ -16,11 +16,11 @@ abbrev pub CallsFall : File → Type 0
 CallsFall file = (n : ℕ) (args : List ℤ) (turns : ℕ) → Falls turns (file.calls n args turns)
 
 -- how many elements each item has
-abbrev pub item_lengths : State → List ℕ
+abbrev pub item_lengths : BodyState → List ℕ
 item_lengths s = map length s.items
 
 -- behind a statement there are no more turns than before it, and the items have as many elements
-abbrev pub Keeps : State → ℕ → Ran → Type 0
+abbrev pub Keeps : BodyState → ℕ → Ran → Type 0
 Keeps s turns (Went flow behind left) = (left ≤ turns) × (item_lengths behind ≡ item_lengths s)
 Keeps s turns (Ended ending activations) = ⊤
 

@@ -6,7 +6,7 @@ use Rattle.cddf_meaning.specs.Answers.{Answer, traps, and_then, Left, left, with
 use Rattle.cddf_meaning.specs.File.{File, variable, flags, type_in}
 use Rattle.cddf_meaning.specs.Flow.{Went, Ended, Runs, given, goes_on, flows, loops, left_from}
 use Rattle.cddf_meaning.specs.Operators.{binary_value, step_operator}
-use Rattle.cddf_meaning.specs.State.{State, declared, stored, stored_at}
+use Rattle.cddf_meaning.specs.BodyState.{BodyState, declared, stored, stored_at}
 use Rattle.cddf_meaning.specs.Streams.{run_task, run_tick, task_number}
 use Rattle.cddf_meaning.specs.declared.site.Site.{Site}
 use Rattle.cddf_meaning.specs.declared.aim.Aim.{Aim}
@@ -16,7 +16,7 @@ use Rattle.cddf_meaning.specs.Value.{value, values, call_value, scalar_value, el
 use Rattle.cddf_meaning.specs.declared.ending.Ending.TheVariants.{OverBudget}
 use Rattle.cddf_meaning.specs.declared.flow.Flow.TheVariants.{Breaks, Continues, Returns}
 use Rattle.cddf_meaning.specs.declared.variable.Variable.TheVariants.{Scalar, Array, Window, Stream}
-use Rattle.os_ast.specs.Parts.{parts, target_name}
+use Rattle.os_ast.specs.ClauseParts.{parts, target_name}
 use Rattle.os_ast.specs.Unsigned.{is_unsigned}
 use Rattle.os_ast.specs.Notes.Declarators.{within_limit}
 use Rattle.os_ast.specs.Trees as tree
@@ -32,7 +32,7 @@ pub record Around : Type 0 where
 
 -- A loop takes a unit, evaluates its condition, and runs its body and its step, over and over. C11, 6.8.5. Each time it
 -- takes a unit, so that `most` never runs out before the turns, where it is as large as they are at first.
-abbrev pub loop : ℕ → (State → ℕ → Answer (Left ℤ)) → Runs → Runs → Runs
+abbrev pub loop : ℕ → (BodyState → ℕ → Answer (Left ℤ)) → Runs → Runs → Runs
 loop most test body step s zero = Ended OverBudget s.activations
 loop zero test body step s (suc turns) = Ended OverBudget s.activations
 loop (suc most) test body step s (suc turns) =
@@ -47,29 +47,29 @@ assigned assign_of.Plain line target right old new = Ok new
 assigned (assign_of.With op) line target right old new = binary_value op line target right old new
 
 -- The target of a change: its index is evaluated, and checked with the line of its `[`.
-abbrev pub aim_at : File → tree.TargetTree → State → ℕ → Answer (Left Aim)
+abbrev pub aim_at : File → tree.TargetTree → BodyState → ℕ → Answer (Left Aim)
 aim_at file (tree.Variable n) s turns = Ok (left (Name n.id) turns)
 aim_at file (tree.Element n m e) s turns =
     and_then (value file e s turns)
     (λ i. and_then (checked (length (elements s (find s.bound n.id))) m.line i.value) (λ k. Ok (left (Element n.id k) i.turns)))
 
-abbrev pub old_value : File → State → Aim → ℤ
+abbrev pub old_value : File → BodyState → Aim → ℤ
 old_value file s (Name id) = scalar_value s (variable file s id)
 old_value file s (Element id k) = get_or (elements s (find s.bound id)) k (pos 0)
 
-abbrev pub after_store : State → Aim → ℤ → State
+abbrev pub after_store : BodyState → Aim → ℤ → BodyState
 after_store s (Name id) v = stored s id v
 after_store s (Element id k) v = stored_at s id k v
 
 -- A change: the target; then what is stored, which may be made of the old value; then it is stored. Expressions change
 -- no name, so that it makes no difference when the old value is read.
-abbrev pub changed : File → tree.TargetTree → (ℤ → State → ℕ → Answer (Left ℤ)) → Runs
+abbrev pub changed : File → tree.TargetTree → (ℤ → BodyState → ℕ → Answer (Left ℤ)) → Runs
 changed file t right s turns =
     given (aim_at file t s turns) s
     (λ a. given (right (old_value file s a.value) s a.turns) s (λ v. goes_on (after_store s a.value v.value) v.turns))
 
 -- the type of a target
-abbrev pub target_type : File → State → tree.TargetTree → Bool
+abbrev pub target_type : File → BodyState → tree.TargetTree → Bool
 target_type file s t = flags file s (target_name t)
 
 -- `x op= e` operates as `x op e`; `++` and `--` add or take 1. The line of a trap is the operator's. C11, 6.5.16,
@@ -111,7 +111,7 @@ run_window file unsigned id i s turns =
     (λ n. given (window_size i.mark.line n.value) s (λ horizon. goes_on (declared id unsigned (Window horizon) s) n.turns))
 
 -- Streams are numbered in the order of the text, behind `osin` and `osout`.
-abbrev pub with_streams : ℕ → Bool → ℕ → State → State
+abbrev pub with_streams : ℕ → Bool → ℕ → BodyState → BodyState
 with_streams id unsigned count s =
     record (declared id unsigned (Stream s.streams count) s) { streams = s.streams + count }
 
@@ -145,7 +145,7 @@ run_start u (tree.StartTree.Declare ty ds) s turns = run_declarators u (is_unsig
 run_start u (tree.StartTree.Change c) s turns = run_change u.file c s turns
 
 -- Without a test a loop goes on.
-abbrev pub run_test : File → Option tree.ExprTree → State → ℕ → Answer (Left ℤ)
+abbrev pub run_test : File → Option tree.ExprTree → BodyState → ℕ → Answer (Left ℤ)
 run_test file None s turns = Ok (left (pos 1) turns)
 run_test file (Some e) s turns = value file e s turns
 

@@ -11,7 +11,7 @@ use Rattle.os_ast.specs.Notes.Declarators.{after_start}
 use Rattle.os_ast.specs.Notes.Programs as notes
 use Rattle.os_ast.specs.Notes.Programs.{after_item, in_body}
 use Rattle.os_ast.specs.Notes.Statements.{after_stmt}
-use Rattle.os_ast.specs.Parts.{item_ids, parts}
+use Rattle.os_ast.specs.ClauseParts.{item_ids, parts}
 use Rattle.os_ast.specs.Trees as tree
 use Rattle.os_ast.specs.declared.expr.Mark.{Mark}
 use Rattle.os_ast.specs.declared.names.Entry.{Entry}

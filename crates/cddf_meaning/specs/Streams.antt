@@ -6,7 +6,7 @@ use Rattle.cddf_meaning.specs.Answers.{Answer, Left, traps, and_then, left, with
 use Rattle.cddf_meaning.specs.Claims.{read_claim, write_claim, with_skips, moves_behind, limit}
 use Rattle.cddf_meaning.specs.File.{File, variable}
 use Rattle.cddf_meaning.specs.Flow.{Ran, Ended, given, goes_on}
-use Rattle.cddf_meaning.specs.State.{State}
+use Rattle.cddf_meaning.specs.BodyState.{BodyState}
 use Rattle.cddf_meaning.specs.declared.site.Site.{Site}
 use Rattle.cddf_meaning.specs.Variables.{find}
 use Rattle.cddf_meaning.specs.Value.{value, checked, scalar_value}
@@ -15,7 +15,7 @@ use Rattle.cddf_meaning.specs.declared.ending.Ending.TheVariants.{OverBudget, Li
 use Rattle.cddf_meaning.specs.declared.variable.Variable.TheVariants.{Window, Stream}
 use Rattle.cddf_meaning.specs.declared.variable.Variable.{Variable}
 use Rattle.flow_core_laws.specs.declared.claim.Claim.{Claim}
-use Rattle.os_ast.specs.Parts.{Part, Item, Private}
+use Rattle.os_ast.specs.ClauseParts.{ClausePart, Item, Private}
 use Rattle.os_ast.specs.Trees as tree
 use Rattle.os_ast.specs.declared.expr.Mark.{Mark}
 use Rattle.os_ast.specs.declared.names.Direction.TheVariants as direction
@@ -31,7 +31,7 @@ stream_count (Some (Stream first count)) = count
 stream_count _ = 0
 
 -- the stream of an item or a tick; an index that the array doesn't have is trap 4, with the line of the `[`
-abbrev pub stream_number : File → tree.TargetTree → State → ℕ → Answer (Left ℕ)
+abbrev pub stream_number : File → tree.TargetTree → BodyState → ℕ → Answer (Left ℕ)
 stream_number file (tree.Variable n) s turns = Ok (left (first_stream (find s.bound n.id)) turns)
 stream_number file (tree.Element n m e) s turns =
     let v = find s.bound n.id in
@@ -64,24 +64,24 @@ claim_of direction.Reads stream horizon burst = read_claim stream horizon burst
 claim_of direction.Writes stream horizon burst = write_claim stream horizon
 
 -- the burst of an item: 1 without one; else it is evaluated and checked, with the line of its `[`
-abbrev pub burst : File → Direction → ℕ → Option tree.IndexTree → State → ℕ → Answer (Left ℕ)
+abbrev pub burst : File → Direction → ℕ → Option tree.IndexTree → BodyState → ℕ → Answer (Left ℕ)
 burst file d horizon None s turns = Ok (left 1 turns)
 burst file d horizon (Some i) s turns =
     and_then (value file i.value s turns) (λ n. with_turns n.turns (burst_of d i.mark.line horizon n.value))
 
 -- A stream alone has horizon 1 and burst 1.
-abbrev pub joined : File → Direction → ℕ → Option tree.JoinTree → State → ℕ → Answer (Left Claim)
+abbrev pub joined : File → Direction → ℕ → Option tree.JoinTree → BodyState → ℕ → Answer (Left Claim)
 joined file d stream None s turns = Ok (left (claim_of d stream 1 1) turns)
 joined file d stream (Some j) s turns =
     let horizon = horizon_of (find s.bound j.name.id) in
     and_then (burst file d horizon j.burst s turns) (λ b. Ok (left (claim_of d stream horizon b.value) b.turns))
 
 -- An item: first the stream's index, then the burst.
-abbrev pub item_claim : File → Direction → tree.ClauseItemTree → State → ℕ → Answer (Left Claim)
+abbrev pub item_claim : File → Direction → tree.ClauseItemTree → BodyState → ℕ → Answer (Left Claim)
 item_claim file d i s turns = and_then (stream_number file i.stream s turns) (λ n. joined file d n.value i.window s n.turns)
 
 -- The items of a task, one after another.
-abbrev pub items_claims : File → List Part → State → ℕ → Answer (Left (List Claim))
+abbrev pub items_claims : File → List ClausePart → BodyState → ℕ → Answer (Left (List Claim))
 items_claims file [] s turns = Ok (left [] turns)
 items_claims file (Private n ∷ ps) s turns = items_claims file ps s turns
 items_claims file (Item d i ∷ ps) s turns =
@@ -89,11 +89,11 @@ items_claims file (Item d i ∷ ps) s turns =
     (λ c. and_then (items_claims file ps s c.turns) (λ cs. Ok (left (c.value ∷ cs.value) cs.turns)))
 
 -- the values of captured scalars
-abbrev pub captured_values : File → State → List ℕ → List ℤ
+abbrev pub captured_values : File → BodyState → List ℕ → List ℤ
 captured_values file s ids = map (λ id. scalar_value s (variable file s id)) ids
 
 -- an activation of the task with this number and these captured scalars
-abbrev pub with_activation : File → ℕ → List ℕ → List Claim → State → State
+abbrev pub with_activation : File → ℕ → List ℕ → List Claim → BodyState → BodyState
 with_activation file site ids claims s = record s {
   activations = s.activations ++ record {
     site = site;
@@ -104,7 +104,7 @@ with_activation file site ids claims s = record s {
 }
 
 -- the control program ends at a limit; else there is one more activation
-abbrev pub unless_limited : Option ControlLimit → State → ℕ → State → Ran
+abbrev pub unless_limited : Option ControlLimit → BodyState → ℕ → BodyState → Ran
 unless_limited (Some limit) s turns next = Ended (Limited limit) s.activations
 unless_limited None s turns next = goes_on next turns
 
@@ -119,23 +119,23 @@ captured_by sites number = get_or (map (λ t. t.captured) sites) number []
 
 -- A task pragma: its items in order, then the limits, then the activation is there. Its PragmaStart is that of one of
 -- the program's tasks.
-abbrev pub run_task : File → List Site → Option ℕ → List Part → State → ℕ → Ran
+abbrev pub run_task : File → List Site → Option ℕ → List ClausePart → BodyState → ℕ → Ran
 run_task file sites None ps s turns = goes_on s turns
 run_task file sites (Some number) ps s turns =
     given (items_claims file ps s turns) s
     (λ c. unless_limited (limit s.activations c.value) s c.turns (with_activation file number (captured_by sites number) c.value s))
 
 -- a tick moves the read cursor of a stream
-abbrev pub moved : ℕ → ℕ → State → State
+abbrev pub moved : ℕ → ℕ → BodyState → BodyState
 moved stream amount s = record s { moves = Tick stream amount ∷ s.moves }
 
 -- the unit of a tick, behind its amount
-abbrev pub tick_turn : ℕ → ℕ → State → ℕ → Ran
+abbrev pub tick_turn : ℕ → ℕ → BodyState → ℕ → Ran
 tick_turn stream amount s zero = Ended OverBudget s.activations
 tick_turn stream amount s (suc turns) = goes_on (moved stream amount s) turns
 
 -- A tick: first the stream's index, then the amount, which is checked with the line of the `>>`, then a unit.
-abbrev pub run_tick : File → tree.TargetTree → Mark → tree.ExprTree → State → ℕ → Ran
+abbrev pub run_tick : File → tree.TargetTree → Mark → tree.ExprTree → BodyState → ℕ → Ran
 run_tick file stream arrow e s turns =
     given (stream_number file stream s turns) s
     (λ n. given (value file e s n.turns) s

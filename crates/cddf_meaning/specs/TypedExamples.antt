@@ -8,7 +8,7 @@ use Rattle.cddf_meaning.specs.Flow.{Ran, Went, Ended}
 use Rattle.cddf_meaning.specs.File.{type_in}
 use Rattle.cddf_meaning.specs.Functions.{empty_file, in_function}
 use Rattle.cddf_meaning.specs.Run.{run}
-use Rattle.cddf_meaning.specs.State.{State, state_of}
+use Rattle.cddf_meaning.specs.BodyState.{BodyState, state_of}
 use Rattle.cddf_meaning.specs.TypedValue.{typed_value}
 use Rattle.cddf_meaning.specs.Value.{scalar_value, value}
 use Rattle.cddf_meaning.specs.Variables.{bind, find}
@@ -117,7 +117,7 @@ y_id = 40
 abbrev pub u_id : ℕ
 u_id = 41
 
-abbrev pub start : State
+abbrev pub start : BodyState
 start = state_of (bind y_id false (Scalar (pos 0)) []) []
 
 abbrev pub name : ℕ → tree.ExprTree

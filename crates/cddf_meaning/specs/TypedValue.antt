@@ -9,7 +9,7 @@ use Rattle.c_int.specs.declared.operators.Binary as int_binary
 use Rattle.cddf_meaning.specs.Answers.{Answer, Left, and_then, at_line, left, with_turns}
 use Rattle.cddf_meaning.specs.File.{File, flags, type_in, variable}
 use Rattle.cddf_meaning.specs.Operators.{operator_of_one, operator_of_two}
-use Rattle.cddf_meaning.specs.State.{State}
+use Rattle.cddf_meaning.specs.BodyState.{BodyState}
 use Rattle.cddf_meaning.specs.Value.{call_value, element_at, elements, scalar_value}
 use Rattle.cddf_meaning.specs.Variables.{find}
 use Rattle.os_ast.specs.Trees as tree
@@ -54,7 +54,7 @@ abbrev pub element_with_type : Bool → ℤ → Answer Typed
 element_with_type unsigned v = Ok (of_type unsigned v)
 
 abbrev mutual
-  pub typed_value : File → tree.ExprTree → State → ℕ → Answer (Left Typed)
+  pub typed_value : File → tree.ExprTree → BodyState → ℕ → Answer (Left Typed)
   typed_value file (tree.Number n) s turns = Ok (left (record { number = pos n; unsigned = false }) turns)
   typed_value file (tree.Wide n) s turns = Ok (left (record { number = pos n; unsigned = true }) turns)
   typed_value file (tree.Place t) s turns = typed_place file t s turns
@@ -72,7 +72,7 @@ abbrev mutual
       (as_type (type_in file s a || type_in file s b)))
 
   -- a name, without an index or with one
-  pub typed_place : File → tree.TargetTree → State → ℕ → Answer (Left Typed)
+  pub typed_place : File → tree.TargetTree → BodyState → ℕ → Answer (Left Typed)
   typed_place file (tree.Variable n) s turns = Ok (left (of_type (flags file s n) (scalar_value s (variable file s n.id))) turns)
   typed_place file (tree.Element n m e) s turns =
       and_then (typed_value file e s turns)
@@ -80,14 +80,14 @@ abbrev mutual
       (and_then (element_at (elements s (find s.bound n.id)) m.line i.value.number) (element_with_type (flags file s n))))
 
   -- the bits of the arguments of a call
-  pub passed : File → tree.Args → State → ℕ → Answer (Left (List ℤ))
+  pub passed : File → tree.Args → BodyState → ℕ → Answer (Left (List ℤ))
   passed file tree.no_args s turns = Ok (left [] turns)
   passed file (tree.arg e es) s turns =
       and_then (typed_value file e s turns)
       (λ n. and_then (passed file es s n.turns) (λ ns. Ok (left (bits n.value ∷ ns.value) ns.turns)))
 
   -- the links of a chain behind a value
-  pub typed_chained : File → tree.Links → State → Left Typed → Answer (Left Typed)
+  pub typed_chained : File → tree.Links → BodyState → Left Typed → Answer (Left Typed)
   typed_chained file tree.no_links s n = Ok n
   typed_chained file (tree.link op m e rest) s n =
       and_then (typed_linked op m.line n (typed_value file e s)) (typed_chained file rest s)

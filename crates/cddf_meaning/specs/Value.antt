@@ -7,7 +7,7 @@ use Rattle.c_int.specs.declared.trap.Trap.TheVariants.{Index}
 use Rattle.cddf_meaning.specs.Answers.{Answer, Left, traps, and_then, left, with_turns}
 use Rattle.cddf_meaning.specs.File.{Calls, File, variable, type_in}
 use Rattle.cddf_meaning.specs.Operators.{binary_value, unary_value}
-use Rattle.cddf_meaning.specs.State.{State, item_elements}
+use Rattle.cddf_meaning.specs.BodyState.{BodyState, item_elements}
 use Rattle.cddf_meaning.specs.ExpressionTypes.{type_of_two}
 use Rattle.cddf_meaning.specs.Variables.{find}
 use Rattle.cddf_meaning.specs.declared.variable.Variable.TheVariants.{Constant, Function, Scalar, Array, Item}
@@ -17,14 +17,14 @@ use Rattle.os_ast.specs.declared.expr.Binary.TheVariants as binary
 use Rattle.os_ast.specs.declared.expr.Binary.{Binary}
 
 -- A name without an index: a constant, a scalar, or an item's one element. Nothing else stands so.
-abbrev pub scalar_value : State → Option Variable → ℤ
+abbrev pub scalar_value : BodyState → Option Variable → ℤ
 scalar_value s (Some (Constant v)) = v
 scalar_value s (Some (Scalar v)) = v
 scalar_value s (Some (Item item)) = get_or (item_elements s item) 0 (pos 0)
 scalar_value s _ = pos 0
 
 -- A name with an index: a local array, or a task's view of a window. Nothing else stands so, and the file declares none.
-abbrev pub elements : State → Option Variable → List ℤ
+abbrev pub elements : BodyState → Option Variable → List ℤ
 elements s (Some (Array vs)) = vs
 elements s (Some (Item item)) = item_elements s item
 elements s _ = []
@@ -56,7 +56,7 @@ linked op line u v a right = and_then (right a.turns) (λ b. with_turns b.turns 
 
 abbrev mutual
   -- The value of an expression, which changes no name. A wide number stands by its 32 bits.
-  pub value : File → tree.ExprTree → State → ℕ → Answer (Left ℤ)
+  pub value : File → tree.ExprTree → BodyState → ℕ → Answer (Left ℤ)
   value file (tree.Number n) s turns = Ok (left (pos n) turns)
   value file (tree.Wide n) s turns = Ok (left (cast_signed w32 n) turns)
   value file (tree.Place t) s turns = place_value file t s turns
@@ -72,20 +72,20 @@ abbrev mutual
       (λ n. if is_zero n.value then value file b s n.turns else value file a s n.turns)
 
   -- a name, without an index or with one
-  pub place_value : File → tree.TargetTree → State → ℕ → Answer (Left ℤ)
+  pub place_value : File → tree.TargetTree → BodyState → ℕ → Answer (Left ℤ)
   place_value file (tree.Variable n) s turns = Ok (left (scalar_value s (variable file s n.id)) turns)
   place_value file (tree.Element n m e) s turns =
       and_then (value file e s turns) (λ i. with_turns i.turns (element_at (elements s (find s.bound n.id)) m.line i.value))
 
   -- the arguments of a call
-  pub values : File → tree.Args → State → ℕ → Answer (Left (List ℤ))
+  pub values : File → tree.Args → BodyState → ℕ → Answer (Left (List ℤ))
   values file tree.no_args s turns = Ok (left [] turns)
   values file (tree.arg e es) s turns =
       and_then (value file e s turns)
       (λ n. and_then (values file es s n.turns) (λ ns. Ok (left (n.value ∷ ns.value) ns.turns)))
 
   -- the links of a chain behind a number of type `u`
-  pub chained : File → tree.Links → State → (u : Bool) → Left ℤ → Answer (Left ℤ)
+  pub chained : File → tree.Links → BodyState → (u : Bool) → Left ℤ → Answer (Left ℤ)
   chained file tree.no_links s u n = Ok n
   chained file (tree.link op m e rest) s u n =
       and_then (linked op m.line u (type_in file s e) n (value file e s)) (chained file rest s (type_of_two op u (type_in file s e)))

@@ -17,7 +17,7 @@ ghost use Rattle.cddf_meaning.specs.Moves.{Falls, Keeps, read_horizons, written_
 ghost use Rattle.cddf_meaning.specs.Scoped.{FindTheSame};
 ghost use Rattle.cddf_meaning.specs.Run.{Around, array_size, loop, run, window_size};
 ghost use Rattle.cddf_meaning.specs.Skips.{skips_of};
-ghost use Rattle.cddf_meaning.specs.State.{State};
+ghost use Rattle.cddf_meaning.specs.BodyState.{BodyState};
 ghost use Rattle.cddf_meaning.specs.Streams.{cursor_move, output_burst};
 ghost use Rattle.cddf_meaning.specs.Tasks.{Task};
 ghost use Rattle.cddf_meaning.specs.TypedValue.{typed_value, with_type};
@@ -30,19 +30,19 @@ ghost use Rattle.os_ast.specs.Trees as tree;
 
 /// Turns never grow: not in an expression, and not in a statement, which also keeps the length of each item's list.
 pub fn turns_never_grow()
-    ensures expressions { (items : List tree.ItemTree) (e : tree.ExprTree) (s : State) (turns : ℕ) →
+    ensures expressions { (items : List tree.ItemTree) (e : tree.ExprTree) (s : BodyState) (turns : ℕ) →
         Falls turns (value (file_of items) e s turns) }
-    ensures statements { (items : List tree.ItemTree) (u : Around) (a : tree.StmtTree) (s : State) (turns : ℕ) →
+    ensures statements { (items : List tree.ItemTree) (u : Around) (a : tree.StmtTree) (s : BodyState) (turns : ℕ) →
         u.file ≡ file_of items → Keeps s turns (run u a s turns) }
 {}
 
 /// A loop is over budget where its turns are used up, and nowhere else: it is the same for every count that is at
 /// least its turns.
 pub fn loops_end_by_turns_alone()
-    ensures { (most other : ℕ) (test : State → ℕ → Answer (Left ℤ)) (body step : Runs) (s : State) (turns : ℕ) →
-        ((s : State) (turns : ℕ) → Falls turns (test s turns)) →
-        ((s : State) (turns : ℕ) → Keeps s turns (body s turns)) →
-        ((s : State) (turns : ℕ) → Keeps s turns (step s turns)) →
+    ensures { (most other : ℕ) (test : BodyState → ℕ → Answer (Left ℤ)) (body step : Runs) (s : BodyState) (turns : ℕ) →
+        ((s : BodyState) (turns : ℕ) → Falls turns (test s turns)) →
+        ((s : BodyState) (turns : ℕ) → Keeps s turns (body s turns)) →
+        ((s : BodyState) (turns : ℕ) → Keeps s turns (step s turns)) →
         turns ≤ most → turns ≤ other →
         loop most test body step s turns ≡ loop other test body step s turns }
 {}
@@ -72,18 +72,18 @@ pub fn outputs_have_their_horizons()
 /// value and leaves the rest, and with fewer it is over budget. Where it traps, or the control program meets a limit, it does so with
 /// any more turns too. The same holds of statements.
 pub fn budgets_are_exact()
-    ensures expressions { (items : List tree.ItemTree) (e : tree.ExprTree) (s : State) (turns : ℕ) →
+    ensures expressions { (items : List tree.ItemTree) (e : tree.ExprTree) (s : BodyState) (turns : ℕ) →
         IsExact ℤ (value (file_of items) e s) turns (value (file_of items) e s turns) }
-    ensures statements { (items : List tree.ItemTree) (u : Around) (a : tree.StmtTree) (s : State) (turns : ℕ) →
+    ensures statements { (items : List tree.ItemTree) (u : Around) (a : tree.StmtTree) (s : BodyState) (turns : ℕ) →
         u.file ≡ file_of items → RunsExactly (run u a s) turns (run u a s turns) }
 {}
 
 /// The value of an expression with its type is the number of its type that has the bits of its value, or the same trap, wherever
 /// numbers stand for 32 bits. These bits are an `int`.
 pub fn values_have_types()
-    ensures values { (file : File) (e : tree.ExprTree) (s : State) (turns : ℕ) → FileFits file → StateFits s → numbers_fit e ≡ true →
+    ensures values { (file : File) (e : tree.ExprTree) (s : BodyState) (turns : ℕ) → FileFits file → StateFits s → numbers_fit e ≡ true →
         typed_value file e s turns ≡ and_then (value file e s turns) (with_type (type_in file s e)) }
-    ensures bits { (file : File) (e : tree.ExprTree) (s : State) (turns : ℕ) → FileFits file → StateFits s → numbers_fit e ≡ true →
+    ensures bits { (file : File) (e : tree.ExprTree) (s : BodyState) (turns : ℕ) → FileFits file → StateFits s → numbers_fit e ≡ true →
         GivesInt (value file e s turns) }
 {}
 
@@ -101,6 +101,6 @@ pub fn judged_by_bits()
 pub fn numbers_stay_ints()
     ensures programs { (p : tree.ProgramTree) → IsLeveled p → items_fit p ≡ true }
     ensures files { (items : List tree.ItemTree) → items_fit items ≡ true → FileFits (file_of items) }
-    ensures statements { (u : Around) (a : tree.StmtTree) (s : State) (turns : ℕ) →
+    ensures statements { (u : Around) (a : tree.StmtTree) (s : BodyState) (turns : ℕ) →
         FileFits u.file → stmt_fits a ≡ true → StateFits s → RanFits (run u a s turns) }
 {}

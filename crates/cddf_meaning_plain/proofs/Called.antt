@@ -4,7 +4,7 @@ use Rattle.cddf_meaning.specs.Answers.{over}
 use Rattle.cddf_meaning.specs.File.{File}
 use Rattle.cddf_meaning.specs.Functions.{bind_params, in_function, returned, file_of, with_item, with_items, empty_file, call_function, calls_with}
 use Rattle.cddf_meaning.specs.Run.{run_all}
-use Rattle.cddf_meaning.specs.State.{State, state_of}
+use Rattle.cddf_meaning.specs.BodyState.{BodyState, state_of}
 use Rattle.os_ast.specs.Notes.Programs.{param_list}
 use Rattle.os_ast.specs.Trees as tree
 use Rattle.os_ast.specs.Views.{item_tree, stmts_tree}
@@ -76,7 +76,7 @@ calls-some items n f args turns h =
 pub call-zero : (file : File) (f : tree.FunctionTree) (args : List ℤ) (turns : ℕ) → turns ≡ 0 → call_function file f args turns ≡ over
 call-zero file f args turns z = ap (call_function file f args) z
 
-pub call-one : (file : File) (f : Function) (args : List ℤ) (turns left : ℕ) (s : State) → turns ≡ left + 1 →
+pub call-one : (file : File) (f : Function) (args : List ℤ) (turns left : ℕ) (s : BodyState) → turns ≡ left + 1 →
     s ≡ state_of (bind_params (param_list f.params) args []) [] →
     call_function file (function_tree f) args turns ≡ returned (run_all (in_function file) (stmts_tree f.body) s left)
 call-one file f args turns left s z e =

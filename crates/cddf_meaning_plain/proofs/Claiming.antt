@@ -3,14 +3,14 @@ use Rattle.std.proofs.Common.{◌≡◌, ℕ, List, [], ◌∷◌, ◌++◌, len
 use Rattle.std.proofs.Math.Seq.{drop-cons}
 use Rattle.cddf_meaning.specs.Answers.{Answer, Left, and_then, left}
 use Rattle.cddf_meaning.specs.File.{File}
-use Rattle.cddf_meaning.specs.State.{State}
+use Rattle.cddf_meaning.specs.BodyState.{BodyState}
 use Rattle.cddf_meaning_plain_state.specs.Stops.{Stops}
 use Rattle.cddf_meaning.specs.Streams.{items_claims, item_claim}
 use Rattle.cddf_meaning_plain_state.specs.Claimed.{behind}
 use Rattle.cddf_meaning_plain_state.specs.declared.stop.Stop.{Stop}
 use Rattle.cddf_meaning_plain_state.specs.declared.stop.Stop.TheVariants as stop
 use Rattle.flow_core_laws.specs.declared.claim.Claim.{Claim}
-use Rattle.os_ast.specs.Parts as clause
+use Rattle.os_ast.specs.ClauseParts as clause
 use Rattle.os_ast.specs.Views.{clause_tree, clause_kind_tree}
 use Rattle.os_ast.specs.declared.expr.Name.{Name}
 use Rattle.os_ast.specs.declared.pragma.Clause.{Clause}
@@ -43,7 +43,7 @@ then-then : (a : Answer (Left Claim)) (f : Left Claim → Answer (Left (List Cla
 then-then (Ok v) f g = refl
 then-then (Err ending) f g = refl
 
-pub claims-append : (file : File) (ps qs : List clause.Part) (s : State) (turns : ℕ) →
+pub claims-append : (file : File) (ps qs : List clause.ClausePart) (s : BodyState) (turns : ℕ) →
     items_claims file (ps ++ qs) s turns ≡ and_then (items_claims file ps s turns) (λ cs. behind cs.value (items_claims file qs s cs.turns))
 claims-append file [] qs s turns = sym (behind-none (items_claims file qs s turns))
 claims-append file (clause.Private n ∷ ps) qs s turns = claims-append file ps qs s turns
@@ -74,7 +74,7 @@ went-on before after turns (Ok cs) q h =
     behind-behind before cs.value (q cs.turns)
     ∙ ap (λ (l : Left (List Claim)). behind l.value (q l.turns)) same
 
-abbrev pub at_clause : List Clause → ℕ → List clause.Part
+abbrev pub at_clause : List Clause → ℕ → List clause.ClausePart
 at_clause clauses i = clause.parts (map clause_tree (drop i clauses))
 
 clause-step : (clauses : List Clause) (i : ℕ) (c : Clause) → i < length clauses → c ≡ get_or clauses i c →
@@ -84,7 +84,7 @@ clause-step clauses i c inside is =
     ∙ ap (λ d. clause.parts (map clause_tree (d ∷ drop (suc i) clauses))) (sym is)
     ∙ ap (λ k. clause.parts_of (clause_kind_tree c.kind) ++ at_clause clauses k) (sym (add-one i))
 
-pub clause-stops : (file : File) (clauses : List Clause) (i : ℕ) (c : Clause) (s : State) (turns : ℕ) (before : List Claim)
+pub clause-stops : (file : File) (clauses : List Clause) (i : ℕ) (c : Clause) (s : BodyState) (turns : ℕ) (before : List Claim)
     (all : Answer (Left (List Claim))) (reason : Stop) → i < length clauses → c ≡ get_or clauses i c →
     behind before (items_claims file (at_clause clauses i) s turns) ≡ all →
     Stops reason (items_claims file (clause.parts_of (clause_kind_tree c.kind)) s turns) → Stops reason all
@@ -96,7 +96,7 @@ clause-stops file clauses i c s turns before all (stop.Ended ending) inside is i
     ∙ stopped (stop.Ended ending) before (items_claims file ps s turns) (λ cs. behind cs.value (items_claims file qs s cs.turns)) h
 clause-stops file clauses i c s turns before all stop.Memory inside is inv h = tt
 
-pub clause-goes : (file : File) (clauses : List Clause) (i : ℕ) (c : Clause) (s : State) (turns left : ℕ) (before after : List Claim)
+pub clause-goes : (file : File) (clauses : List Clause) (i : ℕ) (c : Clause) (s : BodyState) (turns left : ℕ) (before after : List Claim)
     (all : Answer (Left (List Claim))) → i < length clauses → c ≡ get_or clauses i c →
     behind before (items_claims file (at_clause clauses i) s turns) ≡ all →
     behind before (items_claims file (clause.parts_of (clause_kind_tree c.kind)) s turns) ≡ Ok (record { value = after; turns = left }) →
@@ -113,7 +113,7 @@ append_nil [] = refl
 append_nil (c ∷ cs) = ap (λ ds. c ∷ ds) (append_nil cs)
 
 -- `firstprivate` claims nothing
-pub privates-claim : (file : File) (ns : List Name) (s : State) (turns : ℕ) (before : List Claim) →
+pub privates-claim : (file : File) (ns : List Name) (s : BodyState) (turns : ℕ) (before : List Claim) →
     behind before (items_claims file (map clause.Private ns) s turns) ≡ Ok (left before turns)
 privates-claim file [] s turns before = ap (λ cs. Ok (left cs turns)) (append_nil before)
 privates-claim file (n ∷ ns) s turns before = privates-claim file ns s turns before

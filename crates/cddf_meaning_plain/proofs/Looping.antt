@@ -4,14 +4,14 @@ use Rattle.c_int.specs.Operators.{is_zero}
 use Rattle.cddf_meaning.specs.Answers.{Answer, Left, left}
 use Rattle.cddf_meaning.specs.Flow.{Ran, Went, Runs, given, goes_on, flows, loops}
 use Rattle.cddf_meaning.specs.Run.{loop}
-use Rattle.cddf_meaning.specs.State.{State}
+use Rattle.cddf_meaning.specs.BodyState.{BodyState}
 use Rattle.cddf_meaning.specs.declared.flow.Flow.{Flow}
 
 -- behind such a body a loop goes on
 abbrev pub Again : Flow → Type 0
-Again flow = (next : Runs) (s : State) (turns : ℕ) → loops next (Went flow s turns) ≡ next s turns
+Again flow = (next : Runs) (s : BodyState) (turns : ℕ) → loops next (Went flow s turns) ≡ next s turns
 
-one-turn : (m : ℕ) (test : State → ℕ → Answer (Left ℤ)) (body step : Runs) (s s2 s3 : State) (t t1 t2 t3 : ℕ) (n : ℤ) (flow : Flow) →
+one-turn : (m : ℕ) (test : BodyState → ℕ → Answer (Left ℤ)) (body step : Runs) (s s2 s3 : BodyState) (t t1 t2 t3 : ℕ) (n : ℤ) (flow : Flow) →
     test s t ≡ Ok (left n t1) → is_zero n ≡ false → body s t1 ≡ Went flow s2 t2 → Again flow → step s2 t2 ≡ goes_on s3 t3 →
     loop (suc m) test body step s (suc t) ≡ loop m test body step s3 t3
 one-turn m test body step s s2 s3 t t1 t2 t3 n flow et ez eb again es =
@@ -23,7 +23,7 @@ one-turn m test body step s s2 s3 t t1 t2 t3 n flow et ez eb again es =
 nothing-left : (t turns : ℕ) → turns ≤ 0 → turns ≡ t + 1 → ⊥
 nothing-left t turns h z = omega (arith, h, z)
 
-pub loop-kept : (most turns t t1 t2 t3 : ℕ) (test : State → ℕ → Answer (Left ℤ)) (body step : Runs) (s s2 s3 : State) (n : ℤ) (flow : Flow)
+pub loop-kept : (most turns t t1 t2 t3 : ℕ) (test : BodyState → ℕ → Answer (Left ℤ)) (body step : Runs) (s s2 s3 : BodyState) (n : ℤ) (flow : Flow)
     (all : Ran) → turns ≤ most → turns ≡ t + 1 → loop most test body step s turns ≡ all → test s t ≡ Ok (left n t1) → is_zero n ≡ false →
     body s t1 ≡ Went flow s2 t2 → Again flow → step s2 t2 ≡ goes_on s3 t3 → t3 ≤ t →
     (x : ℕ) × (t3 ≤ x) × (loop x test body step s3 t3 ≡ all)

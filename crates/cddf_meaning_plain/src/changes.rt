@@ -11,7 +11,7 @@ use c_int::Types;
 use cddf_meaning::Aim;
 use cddf_meaning_plain_state::changes::{assign, take_step};
 use cddf_meaning_plain_state::typing::{target_type, type_of};
-use cddf_meaning_plain_state::{State, Stop};
+use cddf_meaning_plain_state::{BodyState, Stop};
 use os_ast::{Change, Item, Target};
 use std::alloc::Global;
 
@@ -21,7 +21,7 @@ fn aim_at(
     alloc: Global,
     file: &[Item],
     target: &Target,
-    state: &State,
+    state: &BodyState,
     turns: &mut u64,
 ) -> Result<Aim, Stop>
     ensures aims { Gives result turns.new (aim_at (file_of (map item_tree file.now)) (target_tree target.now) state.now turns.old) }
@@ -44,7 +44,7 @@ pub(crate) fn change(
     alloc: Global,
     file: &[Item],
     change: &Change,
-    state: &mut State,
+    state: &mut BodyState,
     turns: &mut u64,
 ) -> Result<(), Stop>
     ensures goes_on { GoesOn result state.new turns.new (run_change (file_of (map item_tree file.now)) (change_tree change.now) state.old turns.old) }

@@ -19,7 +19,7 @@ use cddf_meaning_plain_state::functions::take_unit;
 use cddf_meaning_plain_state::loops::step_behind;
 use cddf_meaning_plain_state::operators::holds;
 use cddf_meaning_plain_state::sizes::array_size;
-use cddf_meaning_plain_state::{State, Stop};
+use cddf_meaning_plain_state::{BodyState, Stop};
 use cddf_meaning_plain_tasks::Around;
 use os_ast::{Change, Declarator, Expr, Head, Item, Start, Stmt, Ty};
 use os_io::List;
@@ -31,7 +31,7 @@ pub(crate) fn stmt(
     alloc: Global,
     around: &Around<'_>,
     stmt: &Stmt,
-    state: &mut State,
+    state: &mut BodyState,
     turns: &mut u64,
 ) -> Result<Flow, Stop>
     ensures leaves { Leaves result state.new turns.new (run (around_of around.now) (stmt_tree stmt.now) state.old turns.old) }
@@ -90,7 +90,7 @@ pub(crate) fn stmts(
     alloc: Global,
     around: &Around<'_>,
     list: &List<Stmt>,
-    state: &mut State,
+    state: &mut BodyState,
     turns: &mut u64,
 ) -> Result<Flow, Stop>
     ensures leaves { Leaves result state.new turns.new (run_all (around_of around.now) (stmts_tree list.now) state.old turns.old) }
@@ -111,7 +111,7 @@ fn block(
     alloc: Global,
     around: &Around<'_>,
     list: &List<Stmt>,
-    state: &mut State,
+    state: &mut BodyState,
     turns: &mut u64,
 ) -> Result<Flow, Stop>
     ensures leaves { Leaves result state.new turns.new (run (around_of around.now) (tree.Block (stmts_tree list.now)) state.old turns.old) }
@@ -130,7 +130,7 @@ fn for_loop(
     around: &Around<'_>,
     head: &Head,
     body: &Stmt,
-    state: &mut State,
+    state: &mut BodyState,
     turns: &mut u64,
 ) -> Result<Flow, Stop>
     ensures leaves { Leaves result state.new turns.new (run (around_of around.now) (tree.For (start_tree head.now.start) (option_map expr_tree head.now.test)
@@ -158,7 +158,7 @@ fn start(
     alloc: Global,
     around: &Around<'_>,
     start: &Start,
-    state: &mut State,
+    state: &mut BodyState,
     turns: &mut u64,
 ) -> Result<(), Stop>
     ensures goes_on { GoesOn result state.new turns.new (run_start (around_of around.now) (start_tree start.now) state.old turns.old) }
@@ -179,7 +179,7 @@ fn repeat(
     test: Option<&Expr>,
     body: &Stmt,
     step: Option<&Change>,
-    state: &mut State,
+    state: &mut BodyState,
     turns: &mut u64,
 ) -> Result<Flow, Stop>
     ensures leaves { Leaves result state.new turns.new (repeated (around_of around.now) (option_copied test.entry) body.now
@@ -205,7 +205,7 @@ fn tested(
     alloc: Global,
     file: &[Item],
     test: Option<&Expr>,
-    state: &State,
+    state: &BodyState,
     turns: &mut u64,
 ) -> Result<bool, Stop>
     ensures gives { Tests result turns.new (run_test (file_of (map item_tree file.now)) (option_map expr_tree (option_copied test.entry)) state.now turns.old) }
@@ -226,7 +226,7 @@ fn stepped(
     alloc: Global,
     file: &[Item],
     step: Option<&Change>,
-    state: &mut State,
+    state: &mut BodyState,
     turns: &mut u64,
 ) -> Result<(), Stop>
     ensures goes_on { GoesOn result state.new turns.new (run_step (file_of (map item_tree file.now))
@@ -246,7 +246,7 @@ fn declarators(
     around: &Around<'_>,
     ty: Ty,
     list: &List<Declarator>,
-    state: &mut State,
+    state: &mut BodyState,
     turns: &mut u64,
 ) -> Result<(), Stop>
     ensures goes_on { GoesOn result state.new turns.new
@@ -266,7 +266,7 @@ fn declarator(
     around: &Around<'_>,
     ty: Ty,
     declarator: &Declarator,
-    state: &mut State,
+    state: &mut BodyState,
     turns: &mut u64,
 ) -> Result<(), Stop>
     ensures goes_on { GoesOn result state.new turns.new
@@ -298,7 +298,7 @@ fn scalar(
     file: &[Item],
     ty: Ty,
     declarator: &Declarator,
-    state: &mut State,
+    state: &mut BodyState,
     turns: &mut u64,
 ) -> Result<(), Stop>
     ensures goes_on { GoesOn result state.new turns.new (run_scalar (file_of (map item_tree file.now)) (is_unsigned ty) declarator.now.name.id

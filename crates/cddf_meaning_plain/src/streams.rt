@@ -4,7 +4,7 @@ ghost use Rattle.std.specs.Prelude.{◌≤◌, map, option_map};
 ghost use Rattle.cddf_meaning.specs.Functions.{file_of};
 ghost use Rattle.cddf_meaning.specs.Run as runs;
 ghost use Rattle.cddf_meaning.specs.Streams.{items_claims, item_claim, joined, run_tick, stream_number};
-ghost use Rattle.os_ast.specs.Parts as clause;
+ghost use Rattle.os_ast.specs.ClauseParts as clause;
 ghost use Rattle.os_ast.specs.Trees as tree;
 ghost use Rattle.os_ast.specs.Views.{clause_item_tree, clause_kind_tree, clause_tree, expr_tree, item_tree, join_tree, stmt_tree, target_tree};
 ghost use Rattle.cddf_meaning_plain_state.specs.Stops.{Adds, Gives, GoesOn};
@@ -15,7 +15,7 @@ use cddf_meaning_plain_state::functions::take_unit;
 use cddf_meaning_plain_state::streams::{
     burst_of, captured_values, claim_of, cursor_move, site_number,
 };
-use cddf_meaning_plain_state::{State, Stop};
+use cddf_meaning_plain_state::{BodyState, Stop};
 use cddf_meaning_plain_tasks::Around;
 use flow_core_laws::Claim;
 use os_ast::{Clause, ClauseItem, ClauseKind, Direction, Item, Join, Target, TaskSite, TickSite};
@@ -28,7 +28,7 @@ fn stream_number(
     alloc: Global,
     file: &[Item],
     stream: &Target,
-    state: &State,
+    state: &BodyState,
     turns: &mut u64,
 ) -> Result<u32, Stop>
     ensures counts { Gives result turns.new (stream_number (file_of (map item_tree file.now)) (target_tree stream.now) state.now turns.old) }
@@ -51,7 +51,7 @@ fn item_claim(
     file: &[Item],
     direction: Direction,
     item: &ClauseItem,
-    state: &State,
+    state: &BodyState,
     turns: &mut u64,
 ) -> Result<Claim, Stop>
     ensures claims { Gives result turns.new (item_claim (file_of (map item_tree file.now)) direction (clause_item_tree item.now) state.now turns.old) }
@@ -72,7 +72,7 @@ fn joined(
     direction: Direction,
     stream: u32,
     join: &Join,
-    state: &State,
+    state: &BodyState,
     turns: &mut u64,
 ) -> Result<Claim, Stop>
     ensures claims { Gives result turns.new (joined (file_of (map item_tree file.now)) direction stream
@@ -98,7 +98,7 @@ fn add_claims(
     direction: Direction,
     items: &List<ClauseItem>,
     claims: &mut List<Claim>,
-    state: &State,
+    state: &BodyState,
     turns: &mut u64,
 ) -> Result<(), Stop>
     ensures adds { Adds result claims.old claims.new turns.new (items_claims (file_of (map item_tree file.now))
@@ -119,7 +119,7 @@ fn clause_claims(
     file: &[Item],
     kind: &ClauseKind,
     claims: &mut List<Claim>,
-    state: &State,
+    state: &BodyState,
     turns: &mut u64,
 ) -> Result<(), Stop>
     ensures adds { Adds result claims.old claims.new turns.new (items_claims (file_of (map item_tree file.now))
@@ -143,7 +143,7 @@ fn all_claims(
     alloc: Global,
     file: &[Item],
     clauses: &List<Clause>,
-    state: &State,
+    state: &BodyState,
     turns: &mut u64,
 ) -> Result<List<Claim>, Stop>
     ensures claims { Gives result turns.new (items_claims (file_of (map item_tree file.now)) (clause.parts (map clause_tree clauses.now)) state.now turns.old) }
@@ -162,7 +162,7 @@ pub(crate) fn task(
     alloc: Global,
     around: &Around<'_>,
     site: &TaskSite,
-    state: &mut State,
+    state: &mut BodyState,
     turns: &mut u64,
 ) -> Result<(), Stop>
     ensures goes_on { GoesOn result state.new turns.new (runs.run (around_of around.now)
@@ -187,7 +187,7 @@ pub(crate) fn tick(
     alloc: Global,
     file: &[Item],
     site: &TickSite,
-    state: &mut State,
+    state: &mut BodyState,
     turns: &mut u64,
 ) -> Result<(), Stop>
     ensures goes_on { GoesOn result state.new turns.new (run_tick (file_of (map item_tree file.now)) (target_tree site.now.stream) site.now.arrow

@@ -15,7 +15,7 @@ use cddf_meaning_plain_state::links::{link_value, needs_right};
 use cddf_meaning_plain_state::names::{Seen, int, scalar, seen_as};
 use cddf_meaning_plain_state::operators::{holds, unary};
 use cddf_meaning_plain_state::typing::type_of;
-use cddf_meaning_plain_state::{State, Stop};
+use cddf_meaning_plain_state::{BodyState, Stop};
 use os_ast::{Call, Expr, Item, Link, Target};
 use os_io::List;
 use std::alloc::Global;
@@ -26,7 +26,7 @@ pub(crate) fn value(
     alloc: Global,
     file: &[Item],
     expr: &Expr,
-    state: &State,
+    state: &BodyState,
     turns: &mut u64,
 ) -> Result<i32, Stop>
     ensures gives { Gives result turns.new (value (file_of (map item_tree file.now)) (expr_tree expr.now) state.now turns.old) }
@@ -65,7 +65,7 @@ fn place(
     alloc: Global,
     file: &[Item],
     target: &Target,
-    state: &State,
+    state: &BodyState,
     turns: &mut u64,
 ) -> Result<i32, Stop>
     ensures gives { Gives result turns.new (place_value (file_of (map item_tree file.now)) (target_tree target.now) state.now turns.old) }
@@ -90,7 +90,7 @@ fn chained(
     unsigned: bool,
     first: i32,
     links: &List<Link>,
-    state: &State,
+    state: &BodyState,
     turns: &mut u64,
 ) -> Result<i32, Stop>
     ensures gives { Gives result turns.new (chained (file_of (map item_tree file.now)) (links_tree links.now) state.now unsigned (pair first turns.old)) }
@@ -117,7 +117,7 @@ fn linked(
     types: Types,
     left: i32,
     link: &Link,
-    state: &State,
+    state: &BodyState,
     turns: &mut u64,
 ) -> Result<i32, Stop>
     ensures gives { Gives result turns.new (linked link.now.op link.now.mark.line types.left types.right (pair left turns.old)
@@ -137,7 +137,7 @@ pub(crate) fn called(
     alloc: Global,
     file: &[Item],
     call: &Call,
-    state: &State,
+    state: &BodyState,
     turns: &mut u64,
 ) -> Result<i32, Stop>
     ensures gives { Gives result turns.new (called (file_of (map item_tree file.now)) call.now.name.id (args_tree call.now.args) state.now turns.old) }
@@ -156,7 +156,7 @@ fn arguments(
     alloc: Global,
     file: &[Item],
     args: &List<Expr>,
-    state: &State,
+    state: &BodyState,
     turns: &mut u64,
 ) -> Result<List<i32>, Stop>
     ensures gives { Gives result turns.new (values (file_of (map item_tree file.now)) (args_tree args.now) state.now turns.old) }

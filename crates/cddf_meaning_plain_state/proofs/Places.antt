@@ -2,8 +2,8 @@
 use Rattle.std.proofs.Common.{◌≡◌, ◌≢◌, ℕ, zero, suc, ◌-◌, ◌<◌, ◌==◌, Bool, true, false, List, [], ◌∷◌, ◌++◌, length, get_or, set, take, drop, reverse, Some, None, refl, ap, sym, ◌∙◌, arith, if◌then◌else◌, ℤ}
 use Rattle.std.proofs.lemmas.List.{reverse-append, length-reverse, length-drop, take-append-drop}
 use Rattle.std.proofs.Math.Seq.{drop-append_seam, drop-cons}
-use Rattle.cddf_meaning_plain_state.specs.Places.{IsPlace}
-use Rattle.cddf_meaning.specs.State.{State, stored, stored_at, stored_in, stored_in_at}
+use Rattle.cddf_meaning_plain_state.specs.Places.{IsInnermostPlace}
+use Rattle.cddf_meaning.specs.BodyState.{BodyState, stored, stored_at, stored_in, stored_in_at}
 use Rattle.cddf_meaning.specs.declared.variable.Variable.TheVariants.{Scalar, Array}
 use Rattle.cddf_meaning.specs.Variables.{find, flag_or, assign}
 use Rattle.cddf_meaning.specs.declared.variable.Binding.{Binding}
@@ -106,7 +106,7 @@ flag_none e (x ∷ xs) id h = flag_by-none (x.id == id) e x xs id (flag_none e x
 
 -- the declaration at a place is the innermost of its name, where none of that name is behind it
 pub is_place : (bound : List Binding) (place : ℕ) (id : ℕ) → place < length bound →
-    ((d : Binding) → (get_or bound place d).id ≡ id) → find (reverse (drop (suc place) bound)) id ≡ None → IsPlace bound id place
+    ((d : Binding) → (get_or bound place d).id ≡ id) → find (reverse (drop (suc place) bound)) id ≡ None → IsInnermostPlace bound id place
 is_place [] place id inside named none = search (inside, arith)
 is_place (b ∷ bs) zero id inside named none = record {
   inside = inside;
@@ -154,7 +154,7 @@ drop-reverse xs n =
     ∙ drop-append_seam (reverse (drop n xs)) (reverse (take n xs))
 
 -- a scalar is set where it stands
-pub scalar_set : (bound : List Binding) (place id : ℕ) (b : Binding) (s : State) (old v : ℤ) → IsPlace bound id place →
+pub scalar_set : (bound : List Binding) (place id : ℕ) (b : Binding) (s : BodyState) (old v : ℤ) → IsInnermostPlace bound id place →
     s.bound ≡ reverse bound → b ≡ get_or bound place b → b.variable ≡ Scalar old →
     record s { bound = reverse (set bound place (record { id = b.id; variable = Scalar v; unsigned = b.unsigned })) } ≡ stored s id v
 scalar_set bound place id b s old v at is b_is var =
@@ -167,7 +167,7 @@ scalar_set bound place id b s old v at is b_is var =
     ∙ ap (λ (x : Binding). reverse (set bound place (record { id = b.id; variable = Scalar v; unsigned = x.unsigned }))) (sym b_is) in
     sym (ap (λ f. stored_in f s id v) found ∙ ap (λ xs. record s { bound = xs }) changed)
 
-pub array_set : (bound : List Binding) (place id k : ℕ) (b : Binding) (s : State) (old : List ℤ) (v : ℤ) → IsPlace bound id place →
+pub array_set : (bound : List Binding) (place id k : ℕ) (b : Binding) (s : BodyState) (old : List ℤ) (v : ℤ) → IsInnermostPlace bound id place →
     s.bound ≡ reverse bound → b ≡ get_or bound place b → b.variable ≡ Array old →
     record s { bound = reverse (set bound place (record { id = b.id; variable = Array (set old k v); unsigned = b.unsigned })) } ≡ stored_at s id k v
 array_set bound place id k b s old v at is b_is var =

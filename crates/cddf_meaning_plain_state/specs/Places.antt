@@ -5,7 +5,7 @@ use Rattle.cddf_meaning.specs.declared.variable.Binding.{Binding}
 use Rattle.cddf_meaning.specs.declared.variable.Variable.{Variable}
 
 -- the declaration at this place is the innermost of the name
-pub record IsPlace (bound : List Binding) (id : ℕ) (place : ℕ) : Type 0 where
+pub record IsInnermostPlace (bound : List Binding) (id : ℕ) (place : ℕ) : Type 0 where
   pub inside : place < length bound
   pub named : (d : Binding) → (get_or bound place d).id ≡ id
   pub found : (d : Binding) → find (reverse bound) id ≡ Some (get_or bound place d).variable
@@ -15,4 +15,4 @@ pub record IsPlace (bound : List Binding) (id : ℕ) (place : ℕ) : Type 0 wher
 
 abbrev pub IsInnermost : List Binding → ℕ → Option ℕ → Type 0
 IsInnermost bound id None = find (reverse bound) id ≡ None
-IsInnermost bound id (Some place) = IsPlace bound id place
+IsInnermost bound id (Some place) = IsInnermostPlace bound id place

@@ -4,7 +4,7 @@ use Rattle.c_int.specs.Operators.{is_zero}
 use Rattle.c_int.specs.declared.control_limit.ControlLimit.{ControlLimit}
 use Rattle.cddf_meaning.specs.Answers.{Answer, Left, left}
 use Rattle.cddf_meaning.specs.Flow.{Ran, Went, Ended, goes_on}
-use Rattle.cddf_meaning.specs.State.{State}
+use Rattle.cddf_meaning.specs.BodyState.{BodyState}
 use Rattle.cddf_meaning_plain_state.specs.Claimed.{behind}
 use Rattle.cddf_meaning.specs.declared.ending.Ending.TheVariants.{Limited}
 use Rattle.cddf_meaning.specs.declared.flow.Flow.{Flow}
@@ -34,22 +34,22 @@ Gives (Ok v) turns answer = answer ≡ Ok (left v turns)
 Gives (Err stop) turns answer = Stops stop answer
 
 -- a statement that leaves this state and these turns
-abbrev pub Leaves : Result Flow Stop → State → ℕ → Ran → Type 0
+abbrev pub Leaves : Result Flow Stop → BodyState → ℕ → Ran → Type 0
 Leaves (Ok flow) s turns r = r ≡ Went flow s turns
 Leaves (Err stop) s turns r = StopsIn stop s.activations r
 
 -- one that nothing leaves
-abbrev pub GoesOn : {A : Type 0} → Result A Stop → State → ℕ → Ran → Type 0
+abbrev pub GoesOn : {A : Type 0} → Result A Stop → BodyState → ℕ → Ran → Type 0
 GoesOn (Ok done) s turns r = r ≡ goes_on s turns
 GoesOn (Err stop) s turns r = StopsIn stop s.activations r
 
 -- a change of the state
-abbrev pub Now : {A : Type 0} → Result A Stop → State → State → Answer State → Type 0
+abbrev pub Now : {A : Type 0} → Result A Stop → BodyState → BodyState → Answer BodyState → Type 0
 Now (Ok done) new old answer = answer ≡ Ok new
 Now (Err stop) new old answer = Stops stop answer × (new.activations ≡ old.activations)
 
 -- a change of the state that nothing but want of memory stops
-abbrev pub Made : {A : Type 0} → Result A Stop → State → State → Type 0
+abbrev pub Made : {A : Type 0} → Result A Stop → BodyState → BodyState → Type 0
 Made (Ok done) new wanted = new ≡ wanted
 Made (Err reason) new wanted = reason ≡ stop.Memory
 

@@ -9,9 +9,9 @@ ghost use Rattle.cddf_meaning.specs.Run.{after_store, assigned, old_value};
 ghost use Rattle.os_ast.specs.Views.{item_tree};
 ghost use Rattle.cddf_meaning_plain_state.specs.Stops.{Comes, Now};
 
+use crate::body_state::BodyState;
 use crate::names::scalar;
 use crate::operators::binary;
-use crate::state::State;
 use crate::stop::Stop;
 use c_int::Types;
 use cddf_meaning::Aim;
@@ -19,7 +19,7 @@ use cddf_meaning::operators::step_operator;
 use os_ast::{Assign, Item, Mark, Step};
 
 /// The value of a target before its change.
-fn old_value(file: &[Item], state: &State, aim: Aim) -> Result<i32, Stop>
+fn old_value(file: &[Item], state: &BodyState, aim: Aim) -> Result<i32, Stop>
     ensures { Comes result (Ok (old_value (file_of (map item_tree file.now)) state.now aim)) }
 {
     match aim {
@@ -31,7 +31,7 @@ fn old_value(file: &[Item], state: &State, aim: Aim) -> Result<i32, Stop>
 /// What is stored where the right side has this value, by the types of the target and of the right side.
 fn assigned(
     file: &[Item],
-    state: &State,
+    state: &BodyState,
     aim: Aim,
     assign: Assign,
     line: u32,
@@ -56,7 +56,7 @@ pub fn assign(
     types: Types,
     aim: Aim,
     right: i32,
-    state: &mut State,
+    state: &mut BodyState,
 ) -> Result<(), Stop>
     ensures { Now result state.new state.old
         (and_then (assigned operator mark.line types.left types.right (old_value (file_of (map item_tree file.now)) state.old aim) right)
@@ -74,7 +74,7 @@ pub fn take_step(
     mark: Mark,
     unsigned: bool,
     aim: Aim,
-    state: &mut State,
+    state: &mut BodyState,
 ) -> Result<(), Stop>
     ensures { Now result state.new state.old (and_then (binary_value (operators.step_operator step) mark.line unsigned false
         (old_value (file_of (map item_tree file.now)) state.old aim) (pos 1)) (λ v. Ok (after_store state.old aim v))) }

@@ -4,7 +4,7 @@ ghost use Rattle.std.specs.Prelude.{◌≡◌, ℕ, IfOk};
 ghost use Rattle.std.specs.List.{list_all};
 ghost use Rattle.cddf_meaning.specs.Body.{gives_bytes, outcome, outputs_of};
 ghost use Rattle.cddf_meaning.specs.Flow.{Ran};
-ghost use Rattle.cddf_meaning.specs.State as states;
+ghost use Rattle.cddf_meaning.specs.BodyState as states;
 ghost use Rattle.flow_core_laws.specs.Byte.{is_byte};
 ghost use Rattle.cddf_meaning_plain_state.specs.Ends.{IsOutcome, finished, task_end};
 ghost use Rattle.cddf_meaning_plain_state.specs.Stops.{Leaves};
@@ -111,7 +111,7 @@ pub fn outcome_of(
     came: Result<Flow, Stop>,
     items: &[List<i32>],
 ) -> Result<(TaskEnd, Vec<i32>), Memory>
-    ensures { (s : states.State) (turns : ℕ) (ran : Ran) → s.items ≡ items.now → Leaves came s turns ran
+    ensures { (s : states.BodyState) (turns : ℕ) (ran : Ran) → s.items ≡ items.now → Leaves came s turns ran
         → IfOk result (λ r. IsOutcome r.0 r.1.items (outcome line claims.now ran)) }
 {
     match came {

@@ -3,14 +3,14 @@
 ghost use Rattle.std.specs.Option.{option_copied};
 ghost use Rattle.std.specs.Prelude.{◌≡◌, ◌+◌, ◌<◌, ◌≤◌, IfErr, IfOk, IfSome, [], get_or, length, map, option_map, pos, slice_get};
 ghost use Rattle.cddf_meaning.specs.Functions.{bind_params, result_of};
-ghost use Rattle.cddf_meaning.specs.State as states;
+ghost use Rattle.cddf_meaning.specs.BodyState as states;
 ghost use Rattle.cddf_meaning.specs.declared.ending.Ending.TheVariants as endings;
 ghost use Rattle.os_ast.specs.Notes.Programs.{param_list};
 ghost use Rattle.os_ast.specs.Views.{item_tree};
 ghost use Rattle.cddf_meaning_plain_state.specs.FunctionTrees.{function_of, function_tree};
 ghost use Rattle.cddf_meaning_plain_state.specs.declared.stop.Stop.TheVariants as stops;
 
-use crate::state::State;
+use crate::body_state::BodyState;
 use crate::stop::Stop;
 use cddf_meaning::{Flow, Variable};
 use os_ast::{Function, Item, Param, Params};
@@ -61,10 +61,10 @@ fn argument(args: &[i32], place: usize) -> i32
 }
 
 /// The state of a function's body, with its parameters set. One that has no argument is 0.
-pub fn with_params(alloc: Global, params: &[Param], args: &[i32]) -> Result<State, Memory>
+pub fn with_params(alloc: Global, params: &[Param], args: &[i32]) -> Result<BodyState, Memory>
     ensures { IfOk result (λ s. s ≡ states.state_of (bind_params params.now args.now []) []) }
 {
-    let mut state = State::new(alloc, Vec::new(alloc));
+    let mut state = BodyState::new(alloc, Vec::new(alloc));
     for (place, param) in params.iter().enumerate() {
         state.declare(
             param.name.id,

@@ -1,6 +1,6 @@
 //! What a body works on, and each step of it that evaluates no part of a tree.
 //!
-//! `State` keeps the declarations in scope, the elements of items, and what the control program did to streams; it looks
+//! `BodyState` keeps the declarations in scope, the elements of items, and what the control program did to streams; it looks
 //! each name up among all that are in scope, so it is slow, and for tests. `Stop` is why an evaluation gives nothing.
 //! Beside them stand the functions that decide what comes of values that are there already: `names` what a name stands
 //! for, `operators` and `links` what an operator gives, `changes` what is stored, `loops` what a loop does behind its
@@ -10,6 +10,7 @@
 //! `specs/Stops` has the words for what such functions answer, as the definitions of `cddf_meaning` have it.
 #![tactic(auto)]
 
+mod body_state;
 pub mod changes;
 pub mod ends;
 pub mod functions;
@@ -18,10 +19,9 @@ pub mod loops;
 pub mod names;
 pub mod operators;
 pub mod sizes;
-mod state;
 mod stop;
 pub mod streams;
 pub mod typing;
 
-pub use state::{State, Streams, zeros};
+pub use body_state::{BodyState, Streams, zeros};
 pub use stop::Stop;

@@ -3,7 +3,7 @@
 ghost use Rattle.std.specs.Prelude.{◌≡◌, Ok, Some, false, map, pos};
 ghost use Rattle.cddf_meaning.specs.File.{unsigned_name, variable};
 ghost use Rattle.cddf_meaning.specs.Functions.{file_of, item_id, item_unsigned, item_variable};
-ghost use Rattle.cddf_meaning.specs.State as states;
+ghost use Rattle.cddf_meaning.specs.BodyState as states;
 ghost use Rattle.cddf_meaning.specs.Value.{scalar_value};
 ghost use Rattle.cddf_meaning.specs.Variables.{find, flag_or};
 ghost use Rattle.os_ast.specs.Names.{constant_value};
@@ -11,7 +11,7 @@ ghost use Rattle.os_ast.specs.Views.{item_tree};
 ghost use Rattle.cddf_meaning_plain_state.specs.Seen.{seen};
 ghost use Rattle.cddf_meaning_plain_state.specs.Stops.{Comes};
 
-use crate::state::State;
+use crate::body_state::BodyState;
 use crate::stop::Stop;
 use os_ast::{Constant, Item};
 
@@ -71,7 +71,7 @@ pub fn item_unsigned(item: &Item) -> bool
 
 /// What the item at a place of the file is seen as.
 fn seen_item(place: usize, item: &Item) -> Result<Seen, Stop>
-    ensures { (s : states.State) → Comes result (Ok (seen s (Some (item_variable place (item_tree item.now))))) }
+    ensures { (s : states.BodyState) → Comes result (Ok (seen s (Some (item_variable place (item_tree item.now))))) }
 {
     match item {
         Item::Constant(constant) => Ok(Seen::Number(constant_value(constant))),
@@ -81,7 +81,7 @@ fn seen_item(place: usize, item: &Item) -> Result<Seen, Stop>
 
 /// What the file declares with a name, the last declaration first.
 fn seen_in_file(file: &[Item], id: u32) -> Result<Seen, Stop>
-    ensures { (s : states.State) → Comes result (Ok (seen s (find (file_of (map item_tree file.now)).names id))) }
+    ensures { (s : states.BodyState) → Comes result (Ok (seen s (find (file_of (map item_tree file.now)).names id))) }
 {
     let mut place = file.len();
     while place > 0 {
@@ -95,7 +95,7 @@ fn seen_in_file(file: &[Item], id: u32) -> Result<Seen, Stop>
 }
 
 /// What a name is seen as.
-pub fn seen_as(file: &[Item], state: &State, id: u32) -> Result<Seen, Stop>
+pub fn seen_as(file: &[Item], state: &BodyState, id: u32) -> Result<Seen, Stop>
     ensures { Comes result (Ok (seen state.now (variable (file_of (map item_tree file.now)) state.now id))) }
 {
     match state.find(id) {
@@ -120,7 +120,7 @@ fn unsigned_in_file(file: &[Item], id: u32) -> bool
 }
 
 /// Whether what a name stands for is of the type `unsigned`.
-pub fn is_unsigned(file: &[Item], state: &State, id: u32) -> bool
+pub fn is_unsigned(file: &[Item], state: &BodyState, id: u32) -> bool
     ensures { result ≡ unsigned_name (file_of (map item_tree file.now)) state.now id }
 {
     match state.flag(id) {
@@ -130,7 +130,7 @@ pub fn is_unsigned(file: &[Item], state: &State, id: u32) -> bool
 }
 
 /// The value of a name without an index; 0 where the name has none.
-pub fn scalar(file: &[Item], state: &State, id: u32) -> Result<i32, Stop>
+pub fn scalar(file: &[Item], state: &BodyState, id: u32) -> Result<i32, Stop>
     ensures { Comes result (Ok (scalar_value state.now (variable (file_of (map item_tree file.now)) state.now id))) }
 {
     match seen_as(file, state, id)? {

@@ -6,8 +6,8 @@ ghost use Rattle.cddf_meaning.specs.Streams.{burst_of, captured_values, claim_of
 ghost use Rattle.os_ast.specs.Views.{item_tree};
 ghost use Rattle.cddf_meaning_plain_state.specs.Stops.{Comes};
 
+use crate::body_state::BodyState;
 use crate::names::scalar;
-use crate::state::State;
 use crate::stop::Stop;
 use c_int::Trap;
 use flow_core_laws::Claim;
@@ -76,7 +76,7 @@ pub fn captured_values(
     alloc: Global,
     file: &[Item],
     ids: &[u32],
-    state: &State,
+    state: &BodyState,
 ) -> Result<List<i32>, Stop>
     ensures { Comes result (Ok (captured_values (file_of (map item_tree file.now)) state.now ids.now)) }
 {

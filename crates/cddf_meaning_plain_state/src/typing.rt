@@ -7,15 +7,15 @@ ghost use Rattle.cddf_meaning.specs.Run.{target_type};
 ghost use Rattle.cddf_meaning.specs.ExpressionTypes.{type_behind};
 ghost use Rattle.os_ast.specs.Views.{expr_tree, item_tree, links_tree, target_tree};
 
+use crate::body_state::BodyState;
 use crate::names::is_unsigned;
-use crate::state::State;
 use c_int::Types;
 use cddf_meaning::operators::{type_of_one, type_of_two};
 use os_ast::{Expr, Item, Link, Target};
 use os_io::List;
 
 /// Whether a target, or what stands as one, is of the type `unsigned`.
-pub fn target_type(file: &[Item], state: &State, target: &Target) -> bool
+pub fn target_type(file: &[Item], state: &BodyState, target: &Target) -> bool
     ensures { result ≡ target_type (file_of (map item_tree file.now)) state.now (target_tree target.now) }
 {
     match &target.index {
@@ -27,7 +27,7 @@ pub fn target_type(file: &[Item], state: &State, target: &Target) -> bool
 /// Whether an expression is of the type `unsigned`.
 #[cycle(typing)]
 #[tactic(auto, using(os_ast::proofs::Rows::rows))]
-pub fn type_of(file: &[Item], state: &State, expr: &Expr) -> bool
+pub fn type_of(file: &[Item], state: &BodyState, expr: &Expr) -> bool
     ensures { result ≡ type_in (file_of (map item_tree file.now)) state.now (expr_tree expr.now) }
 {
     match expr {
@@ -49,7 +49,7 @@ pub fn type_of(file: &[Item], state: &State, expr: &Expr) -> bool
 
 /// The type behind the links of a chain.
 #[cycle(typing)]
-fn type_behind(file: &[Item], state: &State, links: &List<Link>, first: bool) -> bool
+fn type_behind(file: &[Item], state: &BodyState, links: &List<Link>, first: bool) -> bool
     ensures { result ≡ type_behind (flags (file_of (map item_tree file.now)) state.now) (links_tree links.now) first }
 {
     let mut left = first;

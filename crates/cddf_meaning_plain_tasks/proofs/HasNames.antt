@@ -5,7 +5,7 @@ use Rattle.cddf_meaning.proofs.IsIn.{in-append}
 use Rattle.cddf_meaning_plain_tasks.specs.Sought.{ids_of, item_names, items_names}
 use Rattle.cddf_meaning_plain_tasks.specs.Has.{calls_item, clause_calls_item, clause_item_ids, clause_lists, clauses_item_ids, declares, has_args, has_change, has_clause, has_clauses, has_declarators, has_expr, has_index, has_items, has_join, has_links, has_start, has_step, has_stmt, has_stmts, has_target, has_task, has_value, lists}
 use Rattle.os_ast.specs.FreeNames.{args_names, change_names, declarators_names, expr_names, index_names, join_names, links_names, parts_names, start_ids, start_names, step_names, stmt_ids, stmt_names, stmts_names, target_names, task_names, value_names, without}
-use Rattle.os_ast.specs.Parts.{Part, Item, Private, is_in, item_ids, item_name, parts, parts_of, private_ids}
+use Rattle.os_ast.specs.ClauseParts.{ClausePart, Item, Private, is_in, item_ids, item_name, parts, parts_of, private_ids}
 use Rattle.os_ast.specs.Trees as tree
 use Rattle.os_ast.specs.declared.expr.Name.{Name}
 use Rattle.os_ast.specs.declared.names.Direction.TheVariants as direction
@@ -40,19 +40,19 @@ pub in-without : (id : ℕ) (ds xs : List ℕ) → is_in id (without ds xs) ≡ 
 in-without id ds [] = and-false (not (is_in id ds))
 in-without id ds (x ∷ xs) = in-step id x ds xs (is_in x ds) refl (in-without id ds xs)
 
-pub parts_names-append : (ps qs : List Part) → parts_names (ps ++ qs) ≡ parts_names ps ++ parts_names qs
+pub parts_names-append : (ps qs : List ClausePart) → parts_names (ps ++ qs) ≡ parts_names ps ++ parts_names qs
 parts_names-append [] qs = refl
 parts_names-append (Item d i ∷ ps) qs =
     ap (λ ids. target_names i.stream ++ join_names i.window ++ ids) (parts_names-append ps qs)
     ∙ sym (append_assoc (target_names i.stream ++ join_names i.window) (parts_names ps) (parts_names qs))
 parts_names-append (Private n ∷ ps) qs = ap (λ ids. n.id ∷ ids) (parts_names-append ps qs)
 
-pub item_ids-append : (ps qs : List Part) → item_ids (ps ++ qs) ≡ item_ids ps ++ item_ids qs
+pub item_ids-append : (ps qs : List ClausePart) → item_ids (ps ++ qs) ≡ item_ids ps ++ item_ids qs
 item_ids-append [] qs = refl
 item_ids-append (Item d i ∷ ps) qs = ap (λ ids. (item_name i.stream i.window).id ∷ ids) (item_ids-append ps qs)
 item_ids-append (Private n ∷ ps) qs = item_ids-append ps qs
 
-pub private_ids-append : (ps qs : List Part) → private_ids (ps ++ qs) ≡ private_ids ps ++ private_ids qs
+pub private_ids-append : (ps qs : List ClausePart) → private_ids (ps ++ qs) ≡ private_ids ps ++ private_ids qs
 private_ids-append [] qs = refl
 private_ids-append (Item d i ∷ ps) qs = private_ids-append ps qs
 private_ids-append (Private n ∷ ps) qs = ap (λ ids. n.id ∷ ids) (private_ids-append ps qs)

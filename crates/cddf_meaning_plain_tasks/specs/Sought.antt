@@ -3,7 +3,7 @@ use Rattle.std.specs.Prelude.{ℕ, List, [], ◌∷◌, ◌++◌, map}
 use Rattle.cddf_meaning.specs.Tasks.{Task}
 use Rattle.cddf_meaning_plain_tasks.specs.declared.found_task.FoundTask.{FoundTask}
 use Rattle.os_ast.specs.FreeNames.{target_names, join_names}
-use Rattle.os_ast.specs.Parts.{item_name, parts}
+use Rattle.os_ast.specs.ClauseParts.{item_name, parts}
 use Rattle.os_ast.specs.Trees as tree
 use Rattle.os_ast.specs.Views.{clause_tree, stmt_tree}
 use Rattle.os_ast.specs.declared.expr.Name.{Name}

@@ -2,12 +2,12 @@
 
 ghost use Rattle.std.specs.Prelude.{◌≡◌, IfOk, OnOk, drop, take};
 ghost use Rattle.cddf_meaning.specs.Body.{bind_captured, bind_items, bound_round, item_lists};
-ghost use Rattle.cddf_meaning.specs.State as states;
+ghost use Rattle.cddf_meaning.specs.BodyState as states;
 ghost use Rattle.cddf_meaning_plain_tasks.specs.Sought.{task_of};
 
 use crate::found_task::FoundTask;
 use cddf_meaning::{TypedName, Variable};
-use cddf_meaning_plain_state::{State, zeros};
+use cddf_meaning_plain_state::{BodyState, zeros};
 use flow_core_laws::{Activation, Claim};
 use os_io::{List, Memory};
 use std::alloc::Global;
@@ -41,7 +41,7 @@ fn item_lists(alloc: Global, claims: &[Claim], inputs: &[i32]) -> Result<Vec<Lis
 }
 
 /// Declares captured scalars, with their values.
-fn bind_captured(state: &mut State, names: &[TypedName], values: &[i32]) -> Result<(), Memory>
+fn bind_captured(state: &mut BodyState, names: &[TypedName], values: &[i32]) -> Result<(), Memory>
     ensures { OnOk result (state.new ≡ record state.old { bound = bind_captured names.now values.now state.old.bound }) }
 {
     for (place, name) in names.iter().enumerate() {
@@ -55,7 +55,7 @@ fn bind_captured(state: &mut State, names: &[TypedName], values: &[i32]) -> Resu
 }
 
 /// Declares the items, by their numbers.
-fn bind_items(state: &mut State, names: &[TypedName]) -> Result<(), Memory>
+fn bind_items(state: &mut BodyState, names: &[TypedName]) -> Result<(), Memory>
     ensures { OnOk result (state.new ≡ record state.old { bound = bind_items 0 names.now state.old.bound }) }
 {
     for (item, name) in names.iter().enumerate() {
@@ -70,11 +70,11 @@ pub fn state_round(
     task: &FoundTask<'_>,
     activation: &Activation,
     inputs: &[i32],
-) -> Result<State, Memory>
+) -> Result<BodyState, Memory>
     ensures { IfOk result (λ s. s ≡ states.state_of (bound_round (task_of task.now) activation.now.captured) (item_lists activation.now.claims inputs.now)) }
 {
     let items = item_lists(alloc, activation.claims.as_slice(), inputs)?;
-    let mut state = State::new(alloc, items);
+    let mut state = BodyState::new(alloc, items);
     bind_captured(
         &mut state,
         task.captured.as_slice(),

@@ -6,18 +6,18 @@ ghost use Rattle.cddf_meaning_plain_state.specs.declared.stop.Stop.TheVariants a
 
 use cddf_meaning::{Ending, Variable};
 use cddf_meaning_plain_state::names::int;
-use cddf_meaning_plain_state::{State, Stop};
+use cddf_meaning_plain_state::{BodyState, Stop};
 use flow_core_laws::ControlEnd;
 use os_lexer::names::{OSIN, OSIN_LEN, OSOUT};
 use std::alloc::Global;
 
 /// The state round the body of `main`: `osin` is stream 0, `osout` stream 1, and `osin_len` the length of the input in
 /// bytes. That is an `int`, and else the answer is `Memory`.
-pub fn state_round(alloc: Global, input_len: u32) -> Result<State, Stop>
+pub fn state_round(alloc: Global, input_len: u32) -> Result<BodyState, Stop>
     ensures state { IfOk result (λ s. s ≡ control_state input_len) }
     ensures memory { IfErr result (λ stop. stop ≡ stops.Memory) }
 {
-    let mut state = State::new(alloc, Vec::new(alloc));
+    let mut state = BodyState::new(alloc, Vec::new(alloc));
     state.declare_streams(OSIN, false, 1)?;
     state.declare_streams(OSOUT, false, 1)?;
     state.declare(OSIN_LEN, false, Variable::Scalar(int(input_len)?))?;

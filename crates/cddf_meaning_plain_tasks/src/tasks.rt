@@ -4,7 +4,7 @@ ghost use Rattle.std.specs.Prelude.{◌≡◌, ◌++◌, if◌then◌else◌, Li
 ghost use Rattle.cddf_meaning.specs.Program.{main_at, main_behind, main_of};
 ghost use Rattle.os_ast.specs.FreeNames.{task_names};
 ghost use Rattle.os_ast.specs.Names.{main_id};
-ghost use Rattle.os_ast.specs.Parts.{is_in, parts};
+ghost use Rattle.os_ast.specs.ClauseParts.{is_in, parts};
 ghost use Rattle.os_ast.specs.Trees as tree;
 ghost use Rattle.os_ast.specs.Unsigned.{is_unsigned};
 ghost use Rattle.os_ast.specs.Views.{clause_tree, declarator_tree, item_tree, start_tree, stmt_tree, stmts_tree};
@@ -15,7 +15,7 @@ ghost use Rattle.cddf_meaning_plain_tasks.specs.Sought.{task_of};
 use crate::found_task::FoundTask;
 use crate::items::item_ids;
 use crate::naming::in_task;
-use cddf_meaning::{Known, TypedName};
+use cddf_meaning::{KnownName, TypedName};
 use cddf_meaning_plain_state::functions::param_list;
 use cddf_meaning_plain_state::names::{item_id, item_unsigned};
 use os_ast::{Declarator, Function, Head, Item, Start, Stmt, TaskSite, Ty};
@@ -70,7 +70,7 @@ fn forget(ids: &mut Vec<u32>, id: u32)
 }
 
 /// Takes the scalar of a name away, and adds its newest declaration, where that is a scalar.
-fn with_known(ids: &mut Vec<u32>, known: Known) -> Result<(), Memory>
+fn with_known(ids: &mut Vec<u32>, known: KnownName) -> Result<(), Memory>
     ensures { OnOk result (ids.new.items ≡ with_known ids.old.items known) }
 {
     forget(ids, known.id);
@@ -81,7 +81,7 @@ fn with_known(ids: &mut Vec<u32>, known: Known) -> Result<(), Memory>
 }
 
 /// The scalars in scope, in the order of their declarations.
-fn scalars(alloc: Global, known: &[Known]) -> Result<Vec<u32>, Memory>
+fn scalars(alloc: Global, known: &[KnownName]) -> Result<Vec<u32>, Memory>
     ensures { IfOk result (λ ids. ids.items ≡ with_all_known [] known.now) }
 {
     let mut ids = Vec::new(alloc);
@@ -112,7 +112,7 @@ fn capture(site: &TaskSite, id: u32, captured: &mut List<u32>) -> Result<(), Mem
 }
 
 /// The names of the scalars that a task captures.
-fn captured(alloc: Global, site: &TaskSite, known: &[Known]) -> Result<List<u32>, Memory>
+fn captured(alloc: Global, site: &TaskSite, known: &[KnownName]) -> Result<List<u32>, Memory>
     ensures { IfOk result (λ ids. ids ≡ among (task_names (parts (map clause_tree site.now.clauses)) (stmt_tree site.now.body))
         (with_all_known [] known.now)) }
 {
@@ -125,7 +125,7 @@ fn captured(alloc: Global, site: &TaskSite, known: &[Known]) -> Result<List<u32>
 }
 
 /// Whether the newest declaration of a name is of the type `unsigned`.
-fn is_unsigned(known: &[Known], id: u32) -> bool
+fn is_unsigned(known: &[KnownName], id: u32) -> bool
     ensures { result ≡ known_flag false known.now id }
 {
     let mut unsigned = false;
@@ -138,7 +138,7 @@ fn is_unsigned(known: &[Known], id: u32) -> bool
 }
 
 /// Names with the types that they have in scope.
-fn typed(alloc: Global, ids: &[u32], known: &[Known]) -> Result<List<TypedName>, Memory>
+fn typed(alloc: Global, ids: &[u32], known: &[KnownName]) -> Result<List<TypedName>, Memory>
     ensures { IfOk result (λ names. names ≡ map (typed_known known.now) ids.now) }
 {
     let mut names = List::new(alloc);
@@ -152,11 +152,11 @@ fn typed(alloc: Global, ids: &[u32], known: &[Known]) -> Result<List<TypedName>,
 }
 
 /// Adds what declarators of a type declare.
-fn declare(ty: Ty, declarators: &List<Declarator>, known: &mut Vec<Known>) -> Result<(), Memory>
+fn declare(ty: Ty, declarators: &List<Declarator>, known: &mut Vec<KnownName>) -> Result<(), Memory>
     ensures { OnOk result (known.new.items ≡ known.old.items ++ map (known_declarator (is_unsigned ty)) (map declarator_tree declarators.now)) }
 {
     for declarator in declarators.as_slice() {
-        known.push(Known {
+        known.push(KnownName {
             id: declarator.name.id,
             scalar: !declarator.stream && declarator.size.is_none(),
             unsigned: ty.is_unsigned(),
@@ -166,7 +166,7 @@ fn declare(ty: Ty, declarators: &List<Declarator>, known: &mut Vec<Known>) -> Re
 }
 
 /// Adds what stands before the first `;` of a `for`.
-fn declare_start(start: &Start, known: &mut Vec<Known>) -> Result<(), Memory>
+fn declare_start(start: &Start, known: &mut Vec<KnownName>) -> Result<(), Memory>
     ensures { OnOk result (known.new.items ≡ known.old.items ++ known_start (start_tree start.now)) }
 {
     match start {
@@ -177,7 +177,11 @@ fn declare_start(start: &Start, known: &mut Vec<Known>) -> Result<(), Memory>
 
 /// A task, where this is in scope round it.
 #[tactic(auto, using(crate::proofs::HasNames::clauses_ids))]
-fn found<'p>(alloc: Global, site: &'p TaskSite, known: &[Known]) -> Result<FoundTask<'p>, Memory>
+fn found<'p>(
+    alloc: Global,
+    site: &'p TaskSite,
+    known: &[KnownName],
+) -> Result<FoundTask<'p>, Memory>
     ensures { IfOk result (λ f. task_of f ≡ task_at known.now site.now.mark (map clause_tree site.now.clauses) (stmt_tree site.now.body)) }
 {
     let captured = captured(alloc, site, known)?;
@@ -195,7 +199,7 @@ fn found<'p>(alloc: Global, site: &'p TaskSite, known: &[Known]) -> Result<Found
 fn add_task<'p>(
     alloc: Global,
     site: &'p TaskSite,
-    known: &[Known],
+    known: &[KnownName],
     tasks: &mut Vec<FoundTask<'p>>,
 ) -> Result<(), Memory>
     ensures { OnOk result (map task_of tasks.new.items ≡ map task_of tasks.old.items
@@ -211,7 +215,7 @@ fn add_task<'p>(
 fn tasks_in<'p>(
     alloc: Global,
     stmt: &'p Stmt,
-    known: &mut Vec<Known>,
+    known: &mut Vec<KnownName>,
     tasks: &mut Vec<FoundTask<'p>>,
 ) -> Result<(), Memory>
     ensures tasks { OnOk result (map task_of tasks.new.items ≡ map task_of tasks.old.items ++ tasks_in known.old.items (stmt_tree stmt.now)) }
@@ -240,7 +244,7 @@ fn tasks_in_for<'p>(
     alloc: Global,
     head: &Head,
     body: &'p Stmt,
-    known: &mut Vec<Known>,
+    known: &mut Vec<KnownName>,
     tasks: &mut Vec<FoundTask<'p>>,
 ) -> Result<(), Memory>
     ensures tasks { OnOk result (map task_of tasks.new.items ≡ map task_of tasks.old.items
@@ -259,7 +263,7 @@ fn tasks_in_for<'p>(
 fn tasks_in_block<'p>(
     alloc: Global,
     stmts: &'p List<Stmt>,
-    known: &mut Vec<Known>,
+    known: &mut Vec<KnownName>,
     tasks: &mut Vec<FoundTask<'p>>,
 ) -> Result<(), Memory>
     ensures tasks { OnOk result (map task_of tasks.new.items ≡ map task_of tasks.old.items ++ tasks_in_all known.old.items (stmts_tree stmts.now)) }
@@ -274,27 +278,27 @@ fn tasks_in_block<'p>(
 }
 
 /// What is in scope round the body of `main`.
-fn known_in_main(alloc: Global, main: &Main<'_>) -> Result<Vec<Known>, Memory>
+fn known_in_main(alloc: Global, main: &Main<'_>) -> Result<Vec<KnownName>, Memory>
     ensures { IfOk result (λ known. known.items ≡ known_in_main (map item_tree main.now.file.now) (function_tree main.now.function.now)) }
 {
     let mut known = known_in_file(alloc, main.file)?;
-    known.push(Known {
+    known.push(KnownName {
         id: OSIN,
         scalar: false,
         unsigned: false,
     })?;
-    known.push(Known {
+    known.push(KnownName {
         id: OSOUT,
         scalar: false,
         unsigned: false,
     })?;
-    known.push(Known {
+    known.push(KnownName {
         id: OSIN_LEN,
         scalar: true,
         unsigned: false,
     })?;
     for param in param_list(&main.function.params) {
-        known.push(Known {
+        known.push(KnownName {
             id: param.name.id,
             scalar: true,
             unsigned: param.ty.is_unsigned(),
@@ -303,12 +307,12 @@ fn known_in_main(alloc: Global, main: &Main<'_>) -> Result<Vec<Known>, Memory>
     Ok(known)
 }
 
-fn known_in_file(alloc: Global, file: &[Item]) -> Result<Vec<Known>, Memory>
+fn known_in_file(alloc: Global, file: &[Item]) -> Result<Vec<KnownName>, Memory>
     ensures { IfOk result (λ known. known.items ≡ map known_item (map item_tree file.now)) }
 {
     let mut known = Vec::new(alloc);
     for item in file {
-        known.push(Known {
+        known.push(KnownName {
             id: item_id(item),
             scalar: false,
             unsigned: item_unsigned(item),

@@ -20,7 +20,7 @@ use std::test::Fail;
 use std::thread::Threads;
 
 /// What a run over a program and an input is wanted to come to.
-struct Run {
+struct WantedRun {
     /// What stands behind the names of the files.
     options: &'static [&'static str],
     program: &'static str,
@@ -45,7 +45,7 @@ fn has_left(
 }
 
 /// Asks that a run comes to what is wanted.
-fn shows<R: Threads + Sync + AllocGlobal + Abort>(rt: &R, run: &Run) -> Result<(), Fail> {
+fn shows<R: Threads + Sync + AllocGlobal + Abort>(rt: &R, run: &WantedRun) -> Result<(), Fail> {
     let mut words = Vec::from_slice(rt.alloc(), &["run", "p.c", "in"])?;
     words.extend_from_slice(run.options)?;
     let left = call(

@@ -2,8 +2,8 @@
 //!
 //! `ready_frames` takes the positions of all activations so far and the activations that have no end. It leaves out those
 //! that get none in this epoch: they read an element that nobody writes yet, or that one writes which waits itself. An
-//! activation with an end keeps nobody waiting: what it should have written is there, if only as poison. Each is looked at, and nothing more: what waits is planned once, in the
-//! epoch in which it may run.
+//! activation with an end keeps nobody waiting: what it should have written is there, if only as poison. Each is looked at, and nothing
+//! more: what waits is planned once, in the epoch in which it may run.
 //!
 //! Its promise is `LeaveOutWaiting` of `flow_core_epochs`. It may leave in what can't run after all: the laws ask only that
 //! what is left out waits.

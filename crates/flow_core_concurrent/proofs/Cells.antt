@@ -5,7 +5,7 @@ use Rattle.std.specs.List.{range_with_len}
 use Rattle.std.proofs.lemmas.Bool.{cases_eq, and_parts, and_right, lt-ltb, le-ltb}
 use Rattle.std.proofs.lemmas.List.Sums.{sum_by-cons}
 use Rattle.flow_core_laws.specs.declared.plan.Piece.{Piece}
-use Rattle.flow_core_concurrent.specs.declared.view.Run.{Run}
+use Rattle.flow_core_concurrent.specs.declared.view.FrameRun.{FrameRun}
 use Rattle.flow_core_concurrent.specs.Counted.{one, is_run_of, is_past, has_stored, counted, counted_at, underway_at, lacks_cell, lacking}
 use Rattle.flow_core_concurrent.proofs.Sums.{count_by-sole, count_by-written}
 use Rattle.flow_core_concurrent.proofs.Runs.{is_past-earlier, same_frame, run_there, running_is_taken, runs_alone}
@@ -74,14 +74,14 @@ full_once known s f c g le none has =
     at_most false = omega arith
 
 -- what a READ gives
-pub reads : (known : Known) (s : CoreState) (i : ℕ) (v : View) (r : Run) (c : ℕ) → IsGood known s → CanRead known s i v r c → (value : Elem) × (held_at s.cells c ≡ Some value) × (plan_element known.plan known.meaning (cell_source known.plan c) ≡ Some value)
+pub reads : (known : Known) (s : CoreState) (i : ℕ) (v : View) (r : FrameRun) (c : ℕ) → IsGood known s → CanRead known s i v r c → (value : Elem) × (held_at s.cells c ≡ Some value) × (plan_element known.plan known.meaning (cell_source known.plan c) ≡ Some value)
 reads known s i v r c g can =
     let sees = can.is_seat.sees in
     let place = (g.views_are_sound i v sees).runs_at_a_place r can.runs in
     full_value known s r.frame c g (let lt = place.of_a_frame in omega (arith, lt)) (ap amount (running_is_taken known s i v r g sees can.runs)) can.is_its_cell
 
 -- A piece at which a seat stands doesn't count yet, and its stored elements are those of that seat.
-module _ (known : Known) (s : CoreState) (i : ℕ) (v : View) (r : Run) (p : Piece) (g : IsGood known s) (sees : slice_get s.seats i ≡ Some v) (runs : v.run ≡ Some r) (stands : StandsAt known.plan r p) where
+module _ (known : Known) (s : CoreState) (i : ℕ) (v : View) (r : FrameRun) (p : Piece) (g : IsGood known s) (sees : slice_get s.seats i ≡ Some v) (runs : v.run ≡ Some r) (stands : StandsAt known.plan r p) where
   there : slice_get (runs_of s) i ≡ Some (Some r)
   there = run_there s i v r sees runs
 
@@ -91,11 +91,11 @@ module _ (known : Known) (s : CoreState) (i : ℕ) (v : View) (r : Run) (p : Pie
   runs_it : is_run_of p.from (Some r) ≡ true
   runs_it = ap (λ f. r.frame == f) stands.is_its_own ∙ same_frame r.frame
 
-  past_runs : (q : ℕ) (x : Option Run) → is_past p.from q x ≡ true → is_run_of p.from x ≡ true
+  past_runs : (q : ℕ) (x : Option FrameRun) → is_past p.from q x ≡ true → is_run_of p.from x ≡ true
   past_runs q None h = h
   past_runs q (Some x) h = (and_parts (x.frame == p.from) (nat_lt q x.piece) h).0
 
-  stored_runs : (q k : ℕ) (x : Option Run) → has_stored p.from q k x ≡ true → is_run_of p.from x ≡ true
+  stored_runs : (q k : ℕ) (x : Option FrameRun) → has_stored p.from q k x ≡ true → is_run_of p.from x ≡ true
   stored_runs q k None h = h
   stored_runs q k (Some x) h = (and_parts (x.frame == p.from) (x.piece == q) (and_parts (x.frame == p.from && x.piece == q) (nat_lt k x.stored) h).0).0
 

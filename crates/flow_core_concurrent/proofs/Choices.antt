@@ -5,7 +5,7 @@ use Rattle.std.specs.List.{fold}
 use Rattle.std.proofs.lemmas.Bool.{eqb-true, ne_eqb, and_parts, and_from, le-leb, leb-true, lt-ltb, ltb-true}
 use Rattle.std.proofs.lemmas.Option.{cond_some, same_Some}
 use Rattle.flow_core_laws.specs.declared.plan.Piece.{Piece}
-use Rattle.flow_core_concurrent.specs.declared.view.Run.{Run}
+use Rattle.flow_core_concurrent.specs.declared.view.FrameRun.{FrameRun}
 use Rattle.flow_core_concurrent.specs.Choices.{Choice, to_split, to_join, to_claim, to_read, to_store, to_sub, to_finish, to_look, seat_in, own_piece, is_first_place, is_behind_last, is_cell_of, after_choice, choice_of, reached_by}
 use Rattle.flow_core_laws.specs.declared.plan.Plan.{Plan}
 use Rattle.flow_core_laws.specs.declared.task_end.TaskEnd.{TaskEnd}
@@ -37,24 +37,24 @@ is_seat s i v h =
 seat_is : (s : CoreState) (i : ℕ) (v : View) → IsSeat s i v → seat_in s i ≡ Some v
 seat_is s i v seat = ap (option_and_then (λ (v : View). if nat_le 1 v.shares then Some v else None)) seat.sees ∙ passed (nat_le 1 v.shares) v (le-leb 1 v.shares seat.is_not_spent)
 
-stands_at : (plan : Plan) (r : Run) (p : Piece) → own_piece plan r ≡ Some p → StandsAt plan r p
+stands_at : (plan : Plan) (r : FrameRun) (p : Piece) → own_piece plan r ≡ Some p → StandsAt plan r p
 stands_at plan r p h =
     let (q, there, e) = bound (λ (p : Piece). if p.from == r.frame then Some p else None) (slice_get plan.pieces r.piece) p h in
     let (own, same) = chosen (q.from == r.frame) q p e in
     record { has_number = there ∙ ap Some same; is_its_own = sym (ap (λ (p : Piece). p.from) same) ∙ eqb-true q.from r.frame own }
 
-piece_is : (plan : Plan) (r : Run) (p : Piece) → StandsAt plan r p → own_piece plan r ≡ Some p
+piece_is : (plan : Plan) (r : FrameRun) (p : Piece) → StandsAt plan r p → own_piece plan r ≡ Some p
 piece_is plan r p stands = ap (option_and_then (λ (p : Piece). if p.from == r.frame then Some p else None)) stands.has_number ∙ passed (p.from == r.frame) p (eq-eqb p.from r.frame stands.is_its_own)
 
-is_first : (plan : Plan) (r : Run) → is_first_place plan r ≡ true → r ≡ first_place plan r.frame
+is_first : (plan : Plan) (r : FrameRun) → is_first_place plan r ≡ true → r ≡ first_place plan r.frame
 is_first plan r h =
     let (a, b) = and_parts (r.piece == (frame_at plan r.frame).piece) (r.stored == 0) h in
     let piece : r.piece ≡ (frame_at plan r.frame).piece = eqb-true r.piece (frame_at plan r.frame).piece a in
     let stored : r.stored ≡ 0 = eqb-true r.stored 0 b in
     (λ k. record { frame = r.frame; piece = piece k; stored = stored k })
 
-first_is : (plan : Plan) (r : Run) → r ≡ first_place plan r.frame → is_first_place plan r ≡ true
-first_is plan r h = and_from (r.piece == (frame_at plan r.frame).piece) (r.stored == 0) (eq-eqb r.piece (frame_at plan r.frame).piece (ap (λ (r : Run). r.piece) h)) (eq-eqb r.stored 0 (ap (λ (r : Run). r.stored) h))
+first_is : (plan : Plan) (r : FrameRun) → r ≡ first_place plan r.frame → is_first_place plan r ≡ true
+first_is plan r h = and_from (r.piece == (frame_at plan r.frame).piece) (r.stored == 0) (eq-eqb r.piece (frame_at plan r.frame).piece (ap (λ (r : FrameRun). r.piece) h)) (eq-eqb r.stored 0 (ap (λ (r : FrameRun). r.stored) h))
 
 is_none_is : {X : Type 0} (o : Option X) → is_none o ≡ true → o ≡ None
 is_none_is None h = refl
@@ -81,27 +81,27 @@ choices_are_steps known s t (to_claim i f) h =
     let (idle, lt) = and_parts (is_none v.run) (nat_lt f (length known.plan.frames)) may in
     subst (λ (u : CoreState). (step : Step known s u) × (choice_of known s u step ≡ to_claim i f)) same (claim i v f (record { is_seat = is_seat s i v seat; runs_nothing = is_none_is v.run idle; exists = ltb-true f (length known.plan.frames) lt }), refl)
 choices_are_steps known s t (to_read i c) h =
-    let (v, seat, e) = bound (λ (v : View). option_and_then (λ (r : Run). if is_first_place known.plan r && is_cell_of known.plan r.frame c then Some s else None) v.run) (seat_in s i) t h in
-    let (r, runs, e') = bound (λ (r : Run). if is_first_place known.plan r && is_cell_of known.plan r.frame c then Some s else None) v.run t e in
+    let (v, seat, e) = bound (λ (v : View). option_and_then (λ (r : FrameRun). if is_first_place known.plan r && is_cell_of known.plan r.frame c then Some s else None) v.run) (seat_in s i) t h in
+    let (r, runs, e') = bound (λ (r : FrameRun). if is_first_place known.plan r && is_cell_of known.plan r.frame c then Some s else None) v.run t e in
     let (may, same) = chosen (is_first_place known.plan r && is_cell_of known.plan r.frame c) s t e' in
     let (nothing, cell) = and_parts (is_first_place known.plan r) (is_cell_of known.plan r.frame c) may in
     let (low, high) = and_parts (nat_le (frame_at known.plan r.frame).cell c) (nat_lt c ((frame_at known.plan r.frame).cell + (frame_at known.plan r.frame).inputs)) cell in
     subst (λ (u : CoreState). (step : Step known s u) × (choice_of known s u step ≡ to_read i c)) same (read i v r c (record { is_seat = is_seat s i v seat; runs = runs; gave_nothing = is_first known.plan r nothing; is_its_cell = (leb-true (frame_at known.plan r.frame).cell c low, ltb-true c ((frame_at known.plan r.frame).cell + (frame_at known.plan r.frame).inputs) high) }), refl)
 choices_are_steps known s t (to_store i) h =
-    let (v, seat, e) = bound (λ (v : View). option_and_then (λ (r : Run). option_and_then (λ (p : Piece). if nat_lt r.stored p.count then Some (after_store known s i v r p) else None) (own_piece known.plan r)) v.run) (seat_in s i) t h in
-    let (r, runs, e') = bound (λ (r : Run). option_and_then (λ (p : Piece). if nat_lt r.stored p.count then Some (after_store known s i v r p) else None) (own_piece known.plan r)) v.run t e in
+    let (v, seat, e) = bound (λ (v : View). option_and_then (λ (r : FrameRun). option_and_then (λ (p : Piece). if nat_lt r.stored p.count then Some (after_store known s i v r p) else None) (own_piece known.plan r)) v.run) (seat_in s i) t h in
+    let (r, runs, e') = bound (λ (r : FrameRun). option_and_then (λ (p : Piece). if nat_lt r.stored p.count then Some (after_store known s i v r p) else None) (own_piece known.plan r)) v.run t e in
     let (p, piece, e'') = bound (λ (p : Piece). if nat_lt r.stored p.count then Some (after_store known s i v r p) else None) (own_piece known.plan r) t e' in
     let (more, same) = chosen (nat_lt r.stored p.count) (after_store known s i v r p) t e'' in
     subst (λ (u : CoreState). (step : Step known s u) × (choice_of known s u step ≡ to_store i)) same (store i v r p (record { is_seat = is_seat s i v seat; runs = runs; stands = stands_at known.plan r p piece; has_more = ltb-true r.stored p.count more }), refl)
 choices_are_steps known s t (to_sub i) h =
-    let (v, seat, e) = bound (λ (v : View). option_and_then (λ (r : Run). option_and_then (λ (p : Piece). if r.stored == p.count then Some (after_sub s i v r p) else None) (own_piece known.plan r)) v.run) (seat_in s i) t h in
-    let (r, runs, e') = bound (λ (r : Run). option_and_then (λ (p : Piece). if r.stored == p.count then Some (after_sub s i v r p) else None) (own_piece known.plan r)) v.run t e in
+    let (v, seat, e) = bound (λ (v : View). option_and_then (λ (r : FrameRun). option_and_then (λ (p : Piece). if r.stored == p.count then Some (after_sub s i v r p) else None) (own_piece known.plan r)) v.run) (seat_in s i) t h in
+    let (r, runs, e') = bound (λ (r : FrameRun). option_and_then (λ (p : Piece). if r.stored == p.count then Some (after_sub s i v r p) else None) (own_piece known.plan r)) v.run t e in
     let (p, piece, e'') = bound (λ (p : Piece). if r.stored == p.count then Some (after_sub s i v r p) else None) (own_piece known.plan r) t e' in
     let (all, same) = chosen (r.stored == p.count) (after_sub s i v r p) t e'' in
     subst (λ (u : CoreState). (step : Step known s u) × (choice_of known s u step ≡ to_sub i)) same (sub i v r p (record { is_seat = is_seat s i v seat; runs = runs; stands = stands_at known.plan r p piece; has_stored_all = eqb-true r.stored p.count all }), refl)
 choices_are_steps known s t (to_finish i) h =
-    let (v, seat, e) = bound (λ (v : View). option_and_then (λ (r : Run). option_and_then (λ (e : TaskEnd). if is_behind_last known.plan r then Some (after_finish s i v r e) else None) (end_of known r.frame)) v.run) (seat_in s i) t h in
-    let (r, runs, e') = bound (λ (r : Run). option_and_then (λ (e : TaskEnd). if is_behind_last known.plan r then Some (after_finish s i v r e) else None) (end_of known r.frame)) v.run t e in
+    let (v, seat, e) = bound (λ (v : View). option_and_then (λ (r : FrameRun). option_and_then (λ (e : TaskEnd). if is_behind_last known.plan r then Some (after_finish s i v r e) else None) (end_of known r.frame)) v.run) (seat_in s i) t h in
+    let (r, runs, e') = bound (λ (r : FrameRun). option_and_then (λ (e : TaskEnd). if is_behind_last known.plan r then Some (after_finish s i v r e) else None) (end_of known r.frame)) v.run t e in
     let (end, meant, e'') = bound (λ (e : TaskEnd). if is_behind_last known.plan r then Some (after_finish s i v r e) else None) (end_of known r.frame) t e' in
     let (all, same) = chosen (is_behind_last known.plan r) (after_finish s i v r end) t e'' in
     subst (λ (u : CoreState). (step : Step known s u) × (choice_of known s u step ≡ to_finish i)) same (finish i v r end (record { is_seat = is_seat s i v seat; runs = runs; is_meant = meant; gave_all = eqb-true r.piece ((frame_at known.plan r.frame).piece + (frame_at known.plan r.frame).pieces) all }), refl)
@@ -123,22 +123,22 @@ steps_are_choices known s t (claim i v f can) =
     ap (option_and_then (λ (v : View). if is_none v.run && nat_lt f (length known.plan.frames) then Some (after_claim known s i v f) else None)) (seat_is s i v can.is_seat)
     ∙ passed (is_none v.run && nat_lt f (length known.plan.frames)) (after_claim known s i v f) (and_from (is_none v.run) (nat_lt f (length known.plan.frames)) (ap is_none can.runs_nothing) (lt-ltb f (length known.plan.frames) can.exists))
 steps_are_choices known s t (read i v r c can) =
-    ap (option_and_then (λ (v : View). option_and_then (λ (r : Run). if is_first_place known.plan r && is_cell_of known.plan r.frame c then Some s else None) v.run)) (seat_is s i v can.is_seat)
-    ∙ ap (option_and_then (λ (r : Run). if is_first_place known.plan r && is_cell_of known.plan r.frame c then Some s else None)) can.runs
+    ap (option_and_then (λ (v : View). option_and_then (λ (r : FrameRun). if is_first_place known.plan r && is_cell_of known.plan r.frame c then Some s else None) v.run)) (seat_is s i v can.is_seat)
+    ∙ ap (option_and_then (λ (r : FrameRun). if is_first_place known.plan r && is_cell_of known.plan r.frame c then Some s else None)) can.runs
     ∙ passed (is_first_place known.plan r && is_cell_of known.plan r.frame c) s (and_from (is_first_place known.plan r) (is_cell_of known.plan r.frame c) (first_is known.plan r can.gave_nothing) (and_from (nat_le (frame_at known.plan r.frame).cell c) (nat_lt c ((frame_at known.plan r.frame).cell + (frame_at known.plan r.frame).inputs)) (le-leb (frame_at known.plan r.frame).cell c can.is_its_cell.0) (lt-ltb c ((frame_at known.plan r.frame).cell + (frame_at known.plan r.frame).inputs) can.is_its_cell.1)))
 steps_are_choices known s t (store i v r p can) =
-    ap (option_and_then (λ (v : View). option_and_then (λ (r : Run). option_and_then (λ (p : Piece). if nat_lt r.stored p.count then Some (after_store known s i v r p) else None) (own_piece known.plan r)) v.run)) (seat_is s i v can.is_seat)
-    ∙ ap (option_and_then (λ (r : Run). option_and_then (λ (p : Piece). if nat_lt r.stored p.count then Some (after_store known s i v r p) else None) (own_piece known.plan r))) can.runs
+    ap (option_and_then (λ (v : View). option_and_then (λ (r : FrameRun). option_and_then (λ (p : Piece). if nat_lt r.stored p.count then Some (after_store known s i v r p) else None) (own_piece known.plan r)) v.run)) (seat_is s i v can.is_seat)
+    ∙ ap (option_and_then (λ (r : FrameRun). option_and_then (λ (p : Piece). if nat_lt r.stored p.count then Some (after_store known s i v r p) else None) (own_piece known.plan r))) can.runs
     ∙ ap (option_and_then (λ (p : Piece). if nat_lt r.stored p.count then Some (after_store known s i v r p) else None)) (piece_is known.plan r p can.stands)
     ∙ passed (nat_lt r.stored p.count) (after_store known s i v r p) (lt-ltb r.stored p.count can.has_more)
 steps_are_choices known s t (sub i v r p can) =
-    ap (option_and_then (λ (v : View). option_and_then (λ (r : Run). option_and_then (λ (p : Piece). if r.stored == p.count then Some (after_sub s i v r p) else None) (own_piece known.plan r)) v.run)) (seat_is s i v can.is_seat)
-    ∙ ap (option_and_then (λ (r : Run). option_and_then (λ (p : Piece). if r.stored == p.count then Some (after_sub s i v r p) else None) (own_piece known.plan r))) can.runs
+    ap (option_and_then (λ (v : View). option_and_then (λ (r : FrameRun). option_and_then (λ (p : Piece). if r.stored == p.count then Some (after_sub s i v r p) else None) (own_piece known.plan r)) v.run)) (seat_is s i v can.is_seat)
+    ∙ ap (option_and_then (λ (r : FrameRun). option_and_then (λ (p : Piece). if r.stored == p.count then Some (after_sub s i v r p) else None) (own_piece known.plan r))) can.runs
     ∙ ap (option_and_then (λ (p : Piece). if r.stored == p.count then Some (after_sub s i v r p) else None)) (piece_is known.plan r p can.stands)
     ∙ passed (r.stored == p.count) (after_sub s i v r p) (eq-eqb r.stored p.count can.has_stored_all)
 steps_are_choices known s t (finish i v r e can) =
-    ap (option_and_then (λ (v : View). option_and_then (λ (r : Run). option_and_then (λ (e : TaskEnd). if is_behind_last known.plan r then Some (after_finish s i v r e) else None) (end_of known r.frame)) v.run)) (seat_is s i v can.is_seat)
-    ∙ ap (option_and_then (λ (r : Run). option_and_then (λ (e : TaskEnd). if is_behind_last known.plan r then Some (after_finish s i v r e) else None) (end_of known r.frame))) can.runs
+    ap (option_and_then (λ (v : View). option_and_then (λ (r : FrameRun). option_and_then (λ (e : TaskEnd). if is_behind_last known.plan r then Some (after_finish s i v r e) else None) (end_of known r.frame)) v.run)) (seat_is s i v can.is_seat)
+    ∙ ap (option_and_then (λ (r : FrameRun). option_and_then (λ (e : TaskEnd). if is_behind_last known.plan r then Some (after_finish s i v r e) else None) (end_of known r.frame))) can.runs
     ∙ ap (option_and_then (λ (e : TaskEnd). if is_behind_last known.plan r then Some (after_finish s i v r e) else None)) can.is_meant
     ∙ passed (is_behind_last known.plan r) (after_finish s i v r e) (eq-eqb r.piece ((frame_at known.plan r.frame).piece + (frame_at known.plan r.frame).pieces) can.gave_all)
 steps_are_choices known s t (look i v can) =

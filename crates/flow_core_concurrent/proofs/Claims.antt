@@ -13,7 +13,7 @@ use Rattle.flow_core_concurrent.specs.Laws.{IsFit}
 use Rattle.flow_core_laws.specs.declared.outcome.Outcome.{Outcome}
 use Rattle.flow_core_laws.specs.Plans.{frame_at, cells_of, cell_source, plan_reads, plan_element}
 use Rattle.flow_core_laws.proofs.Sources.{map_map}
-use Rattle.flow_core_concurrent.specs.declared.view.Run.{Run}
+use Rattle.flow_core_concurrent.specs.declared.view.FrameRun.{FrameRun}
 use Rattle.flow_core_concurrent.specs.States.{times, CoreState, runs_of}
 use Rattle.flow_core_concurrent.specs.Counted.{one, is_run_of, is_past, has_stored}
 use Rattle.flow_core_concurrent.proofs.Sums.{count_by-written, count_by-kept}
@@ -25,7 +25,7 @@ use Rattle.flow_core_concurrent.specs.declared.word.Word.{Word}
 use Rattle.flow_core_concurrent.specs.declared.word.Word.TheVariants.{Open, Taken, Ended}
 use Rattle.flow_core_concurrent.specs.Words.{word_at, amount, waits, is_open, is_taken, is_started, has_ended}
 use Rattle.flow_core_concurrent.specs.Steps.{first_place, CanClaim, with_claim, with_miss, after_claim, with_view, end_of}
-use Rattle.flow_core_concurrent.specs.IsGood.{IsGood, IsPlace}
+use Rattle.flow_core_concurrent.specs.IsGood.{IsGood, IsRunPlace}
 use Rattle.flow_core_concurrent.proofs.Words.{open_is, word_at-set, word_at-kept}
 use Rattle.flow_core_concurrent.proofs.Counts.{CountsAlike, StoresAlike}
 use Rattle.flow_core_concurrent.proofs.Parts.{Sits, sits_of, run_at}
@@ -49,10 +49,10 @@ hit_keeps known s i v f fit g can opened = started_keeps known s i v (with_claim
     words' : List Word
     words' = set s.words f Taken
 
-    runs : List (Option Run)
+    runs : List (Option FrameRun)
     runs = runs_of s
 
-    runs' : List (Option Run)
+    runs' : List (Option FrameRun)
     runs' = set runs i (Some (first_place known.plan f))
 
     sees : slice_get s.seats i ≡ Some v
@@ -126,9 +126,9 @@ hit_keeps known s i v f fit g can opened = started_keeps known s i v (with_claim
           sound = record {
             knows_the_run = old.sound.knows_the_run;
             spent_is_empty = λ e. absurd (omega (arith, positive, e));
-            runs_at_a_place = λ r h. subst (IsPlace known.plan) (same_Some (first_place known.plan f) r h) (first_is_place known.plan f can.exists);
+            runs_at_a_place = λ r h. subst (IsRunPlace known.plan) (same_Some (first_place known.plan f) r h) (first_is_place known.plan f can.exists);
           };
-          has_end = λ r h. subst (λ (r : Run). IsSome (end_of known r.frame)) (same_Some (first_place known.plan f) r h) (full_has_end known s f fit g can.exists (ap amount is));
+          has_end = λ r h. subst (λ (r : FrameRun). IsSome (end_of known r.frame)) (same_Some (first_place known.plan f) r h) (full_has_end known s f fit g can.exists (ap amount is));
           looked = λ j last low high below. absurd (omega (arith, low, high));
           found = old.found;
           lost = old.lost;

@@ -11,7 +11,7 @@ use Rattle.flow_core_laws.specs.Round.{gathered, inputs_in}
 use Rattle.flow_core_laws.proofs.Counting.{passing-none}
 use Rattle.flow_core_laws.proofs.Gathering.{gathered-cons}
 use Rattle.flow_core_laws.proofs.Rounds.{Extends, IsClosed, passes_from_closed}
-use Rattle.flow_core_concurrent.specs.declared.view.Run.{Run}
+use Rattle.flow_core_concurrent.specs.declared.view.FrameRun.{FrameRun}
 use Rattle.flow_core_concurrent.specs.Counted.{one, is_run_of, is_past, counted_at, lacks_cell, lacking}
 use Rattle.flow_core_concurrent.proofs.Words.{one_is_false, full_waits}
 use Rattle.flow_core_laws.specs.declared.outcome.Outcome.{Outcome}
@@ -109,7 +109,7 @@ gathered_each t source from (suc n) vs h c low high =
 
 module _ (known : Known) (outcome : ℕ → List ℤ → Outcome) (s : CoreState) (i : ℕ) (v : View) (sound : IsSound known.plan) (is_meant : IsMeant known outcome) (g : IsGood known s) (sees : slice_get s.seats i ≡ Some v) (last : IsLast known v) (runs_nothing : v.run ≡ None) (looked : length known.plan.frames ≤ v.looks) where
   -- nobody runs
-  idle : (j : ℕ) (x : Option Run) → slice_get (runs_of s) j ≡ Some x → x ≡ None
+  idle : (j : ℕ) (x : Option FrameRun) → slice_get (runs_of s) j ≡ Some x → x ≡ None
   idle j x h = by (slice_get s.seats j) refl
     where
       shares_elsewhere : (u : View) → slice_get s.seats j ≡ Some u → j ≢ i → u.run ≡ None

@@ -7,7 +7,7 @@ use Rattle.std.proofs.lemmas.Option.{slice_get-get_or}
 use Rattle.flow_core_laws.specs.declared.plan.Piece.{Piece}
 use Rattle.flow_core_laws.specs.Plans.{is_covered_by, frame_at, held_at, cells_of, piece_at}
 use Rattle.flow_core_laws.proofs.Sources.{test_covers}
-use Rattle.flow_core_concurrent.specs.declared.view.Run.{Run}
+use Rattle.flow_core_concurrent.specs.declared.view.FrameRun.{FrameRun}
 use Rattle.flow_core_concurrent.specs.Counted.{one, is_past, has_stored, counted, underway, counted_at, underway_at, lacks_cell, lacking}
 use Rattle.flow_core_concurrent.proofs.Sums.{count_by-same, option_map_or-same}
 use Rattle.flow_core_laws.specs.declared.plan.Plan.{Plan}
@@ -25,42 +25,42 @@ piece_is plan c q h =
     (p, slice_get-get_or plan.pieces q no_piece found.0, w.0, w.1)
 
 -- how often a piece counts, where it is known
-pub counted-is : (plan : Plan) (words : List Word) (runs : List (Option Run)) (q : ℕ) (p : Piece) → slice_get plan.pieces q ≡ Some p → counted plan words runs q ≡ one (has_ended (word_at words p.from)) + count_by (is_past p.from q) runs
+pub counted-is : (plan : Plan) (words : List Word) (runs : List (Option FrameRun)) (q : ℕ) (p : Piece) → slice_get plan.pieces q ≡ Some p → counted plan words runs q ≡ one (has_ended (word_at words p.from)) + count_by (is_past p.from q) runs
 counted-is plan words runs q p h = ap (λ (o : Option Piece). option_map_or (λ (p : Piece). one (has_ended (word_at words p.from)) + count_by (is_past p.from q) runs) o 0) h
 
-pub underway-is : (plan : Plan) (runs : List (Option Run)) (c q : ℕ) (p : Piece) → slice_get plan.pieces q ≡ Some p → underway plan runs c q ≡ count_by (has_stored p.from q (c - p.at)) runs
+pub underway-is : (plan : Plan) (runs : List (Option FrameRun)) (c q : ℕ) (p : Piece) → slice_get plan.pieces q ≡ Some p → underway plan runs c q ≡ count_by (has_stored p.from q (c - p.at)) runs
 underway-is plan runs c q p h = ap (λ (o : Option Piece). option_map_or (λ (p : Piece). count_by (has_stored p.from q (c - p.at)) runs) o 0) h
 
-pub counted_at-is : (plan : Plan) (words : List Word) (runs : List (Option Run)) (c q : ℕ) → piece_at plan c ≡ Some q → counted_at plan words runs c ≡ counted plan words runs q
+pub counted_at-is : (plan : Plan) (words : List Word) (runs : List (Option FrameRun)) (c q : ℕ) → piece_at plan c ≡ Some q → counted_at plan words runs c ≡ counted plan words runs q
 counted_at-is plan words runs c q h = ap (λ (o : Option ℕ). option_map_or (counted plan words runs) o 0) h
 
-pub underway_at-is : (plan : Plan) (runs : List (Option Run)) (c q : ℕ) → piece_at plan c ≡ Some q → underway_at plan runs c ≡ underway plan runs c q
+pub underway_at-is : (plan : Plan) (runs : List (Option FrameRun)) (c q : ℕ) → piece_at plan c ≡ Some q → underway_at plan runs c ≡ underway plan runs c q
 underway_at-is plan runs c q h = ap (λ (o : Option ℕ). option_map_or (underway plan runs c) o 0) h
 
-pub counted_at-none : (plan : Plan) (words : List Word) (runs : List (Option Run)) (c : ℕ) → piece_at plan c ≡ None → counted_at plan words runs c ≡ 0
+pub counted_at-none : (plan : Plan) (words : List Word) (runs : List (Option FrameRun)) (c : ℕ) → piece_at plan c ≡ None → counted_at plan words runs c ≡ 0
 counted_at-none plan words runs c h = ap (λ (o : Option ℕ). option_map_or (counted plan words runs) o 0) h
 
-pub underway_at-none : (plan : Plan) (runs : List (Option Run)) (c : ℕ) → piece_at plan c ≡ None → underway_at plan runs c ≡ 0
+pub underway_at-none : (plan : Plan) (runs : List (Option FrameRun)) (c : ℕ) → piece_at plan c ≡ None → underway_at plan runs c ≡ 0
 underway_at-none plan runs c h = ap (λ (o : Option ℕ). option_map_or (underway plan runs c) o 0) h
 
 -- Words and runs that count each piece as often as others do.
-pub record CountsAlike (plan : Plan) (words : List Word) (runs : List (Option Run)) (words' : List Word) (runs' : List (Option Run)) : Type 0 where
+pub record CountsAlike (plan : Plan) (words : List Word) (runs : List (Option FrameRun)) (words' : List Word) (runs' : List (Option FrameRun)) : Type 0 where
   pub each : (q : ℕ) (p : Piece) → slice_get plan.pieces q ≡ Some p → one (has_ended (word_at words' p.from)) + count_by (is_past p.from q) runs' ≡ one (has_ended (word_at words p.from)) + count_by (is_past p.from q) runs
 
-pub counted-alike : (plan : Plan) (words : List Word) (runs : List (Option Run)) (words' : List Word) (runs' : List (Option Run)) → CountsAlike plan words runs words' runs' → (q : ℕ) → counted plan words' runs' q ≡ counted plan words runs q
+pub counted-alike : (plan : Plan) (words : List Word) (runs : List (Option FrameRun)) (words' : List Word) (runs' : List (Option FrameRun)) → CountsAlike plan words runs words' runs' → (q : ℕ) → counted plan words' runs' q ≡ counted plan words runs q
 counted-alike plan words runs words' runs' alike q = option_map_or-same (λ (p : Piece). one (has_ended (word_at words' p.from)) + count_by (is_past p.from q) runs') (λ (p : Piece). one (has_ended (word_at words p.from)) + count_by (is_past p.from q) runs) (slice_get plan.pieces q) 0 (alike.each q)
 
-pub counted_at-alike : (plan : Plan) (words : List Word) (runs : List (Option Run)) (words' : List Word) (runs' : List (Option Run)) → CountsAlike plan words runs words' runs' → (c : ℕ) → counted_at plan words' runs' c ≡ counted_at plan words runs c
+pub counted_at-alike : (plan : Plan) (words : List Word) (runs : List (Option FrameRun)) (words' : List Word) (runs' : List (Option FrameRun)) → CountsAlike plan words runs words' runs' → (c : ℕ) → counted_at plan words' runs' c ≡ counted_at plan words runs c
 counted_at-alike plan words runs words' runs' alike c = option_map_or-same (counted plan words' runs') (counted plan words runs) (piece_at plan c) 0 (λ q h. counted-alike plan words runs words' runs' alike q)
 
-pub lacking-alike : (plan : Plan) (words : List Word) (runs : List (Option Run)) (words' : List Word) (runs' : List (Option Run)) → CountsAlike plan words runs words' runs' → (f : ℕ) → lacking plan words' runs' f ≡ lacking plan words runs f
+pub lacking-alike : (plan : Plan) (words : List Word) (runs : List (Option FrameRun)) (words' : List Word) (runs' : List (Option FrameRun)) → CountsAlike plan words runs words' runs' → (f : ℕ) → lacking plan words' runs' f ≡ lacking plan words runs f
 lacking-alike plan words runs words' runs' alike f = count_by-same (lacks_cell plan words' runs') (lacks_cell plan words runs) (cells_of plan f) (λ c. ap (λ (n : ℕ). is_none (held_at plan.filled c) && n == 0) (counted_at-alike plan words runs words' runs' alike c))
 
 -- Runs that have stored each element as often as others have.
-pub record StoresAlike (plan : Plan) (runs runs' : List (Option Run)) : Type 0 where
+pub record StoresAlike (plan : Plan) (runs runs' : List (Option FrameRun)) : Type 0 where
   pub each : (q k : ℕ) (p : Piece) → slice_get plan.pieces q ≡ Some p → count_by (has_stored p.from q k) runs' ≡ count_by (has_stored p.from q k) runs
 
-pub underway_at-alike : (plan : Plan) (runs runs' : List (Option Run)) → StoresAlike plan runs runs' → (c : ℕ) → underway_at plan runs' c ≡ underway_at plan runs c
+pub underway_at-alike : (plan : Plan) (runs runs' : List (Option FrameRun)) → StoresAlike plan runs runs' → (c : ℕ) → underway_at plan runs' c ≡ underway_at plan runs c
 underway_at-alike plan runs runs' alike c = option_map_or-same (underway plan runs' c) (underway plan runs c) (piece_at plan c) 0 (λ q h. option_map_or-same (λ (p : Piece). count_by (has_stored p.from q (c - p.at)) runs') (λ (p : Piece). count_by (has_stored p.from q (c - p.at)) runs) (slice_get plan.pieces q) 0 (λ p at. alike.each q (c - p.at) p at))
 
 -- the pieces of a frame, by their numbers

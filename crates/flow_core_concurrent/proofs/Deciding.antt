@@ -7,7 +7,7 @@ use Rattle.flow_core_laws.specs.Round.{gathered, inputs_in}
 use Rattle.flow_core_laws.proofs.Counting.{passing-none}
 use Rattle.flow_core_laws.proofs.Gathering.{all_gathered, gathered-weaker}
 use Rattle.flow_core_laws.proofs.Rounds.{outcome_at-meaning}
-use Rattle.flow_core_concurrent.specs.declared.view.Run.{Run}
+use Rattle.flow_core_concurrent.specs.declared.view.FrameRun.{FrameRun}
 use Rattle.flow_core_laws.specs.declared.elem.Elem.{Elem}
 use Rattle.flow_core_laws.specs.declared.outcome.Outcome.{Outcome}
 use Rattle.flow_core_laws.specs.Poisoning.{poisoning}
@@ -23,7 +23,7 @@ use Rattle.flow_core_concurrent.specs.Laws.{IsFit, IsMeant}
 use Rattle.flow_core_concurrent.proofs.Cells.{full_value}
 use Rattle.flow_core_concurrent.proofs.Runs.{running_is_taken}
 
-pub reads_decide : (known : Known) (outcome : ℕ → List ℤ → Outcome) (s : CoreState) (i : ℕ) (v : View) (r : Run) → IsFit known → IsMeant known outcome → IsGood known s → slice_get s.seats i ≡ Some v → v.run ≡ Some r → (inputs : List Elem) × (gathered (map (held_at s.cells) (cells_of known.plan r.frame)) ≡ Some inputs) × (outcome_at known.meaning r.frame ≡ Some (poisoning outcome r.frame inputs))
+pub reads_decide : (known : Known) (outcome : ℕ → List ℤ → Outcome) (s : CoreState) (i : ℕ) (v : View) (r : FrameRun) → IsFit known → IsMeant known outcome → IsGood known s → slice_get s.seats i ≡ Some v → v.run ≡ Some r → (inputs : List Elem) × (gathered (map (held_at s.cells) (cells_of known.plan r.frame)) ≡ Some inputs) × (outcome_at known.meaning r.frame ≡ Some (poisoning outcome r.frame inputs))
 reads_decide known outcome s i v r fit is_meant g sees runs =
     let f : ℕ = r.frame in
     let exists = ((g.views_are_sound i v sees).runs_at_a_place r runs).of_a_frame in

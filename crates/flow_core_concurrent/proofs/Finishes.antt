@@ -3,7 +3,7 @@ use Rattle.std.proofs.Common.{◌≡◌, ℕ, ◌+◌, ◌<◌, ◌≢◌, true,
 use Rattle.std.specs.Prelude.{slice_get}
 use Rattle.std.proofs.lemmas.Bool.{ne_eqb}
 use Rattle.flow_core_laws.specs.declared.plan.Piece.{Piece}
-use Rattle.flow_core_concurrent.specs.declared.view.Run.{Run}
+use Rattle.flow_core_concurrent.specs.declared.view.FrameRun.{FrameRun}
 use Rattle.flow_core_concurrent.specs.Counted.{one, is_run_of, is_past, has_stored}
 use Rattle.flow_core_concurrent.proofs.Sums.{count_by-written, count_by-kept}
 use Rattle.flow_core_concurrent.proofs.Runs.{same_frame, is_past-later, is_past-other, has_stored-none, run_there, running_is_taken, runs_alone}
@@ -17,24 +17,24 @@ use Rattle.flow_core_concurrent.specs.declared.word.Word.TheVariants.{Taken, End
 use Rattle.flow_core_concurrent.specs.Words.{word_at, amount, waits, is_taken, is_started, has_ended, end_in}
 use Rattle.flow_core_concurrent.specs.States.{CoreState, runs_of}
 use Rattle.flow_core_concurrent.specs.Steps.{CanFinish, after_finish}
-use Rattle.flow_core_concurrent.specs.IsGood.{IsGood, IsPlace}
+use Rattle.flow_core_concurrent.specs.IsGood.{IsGood, IsRunPlace}
 use Rattle.flow_core_concurrent.proofs.Words.{word_at-set, word_at-kept}
 use Rattle.flow_core_concurrent.proofs.Counts.{CountsAlike, StoresAlike, piece_of_frame}
 use Rattle.flow_core_concurrent.proofs.Parts.{Sits, sits_of}
 use Rattle.flow_core_concurrent.proofs.Starts.{Starts, still_sits, started_keeps}
 
 -- what a run gave when it ends
-record Gave (known : Known) (r : Run) : Type 0 where
+record Gave (known : Known) (r : FrameRun) : Type 0 where
   stored_none : r.stored ≡ 0
   past_each : (q : ℕ) (p : Piece) → slice_get known.plan.pieces q ≡ Some p → p.from ≡ r.frame → is_past p.from q (Some r) ≡ true
 
-gave : (known : Known) (s : CoreState) (i : ℕ) (v : View) (r : Run) (end : TaskEnd) → IsSound known.plan → IsPlace known.plan r → CanFinish known s i v r end → Gave known r
+gave : (known : Known) (s : CoreState) (i : ℕ) (v : View) (r : FrameRun) (end : TaskEnd) → IsSound known.plan → IsRunPlace known.plan r → CanFinish known s i v r end → Gave known r
 gave known s i v r end sound place can = record {
   stored_none = place.has_none_behind can.gave_all;
   past_each = λ q p h e. is_past-later r p.from q (sym e) (let a = subst (λ f. q < (frame_at known.plan f).piece + (frame_at known.plan f).pieces) e (piece_of_frame known.plan q p sound h).1 in let b = can.gave_all in omega (arith, a, b));
 }
 
-pub finish_keeps : (known : Known) (s : CoreState) (i : ℕ) (v : View) (r : Run) (end : TaskEnd) → IsSound known.plan → IsGood known s → CanFinish known s i v r end → IsGood known (after_finish s i v r end)
+pub finish_keeps : (known : Known) (s : CoreState) (i : ℕ) (v : View) (r : FrameRun) (end : TaskEnd) → IsSound known.plan → IsGood known s → CanFinish known s i v r end → IsGood known (after_finish s i v r end)
 finish_keeps known s i v r end sound g can = started_keeps known s i v w f (Ended end) g sees starts counts stores taken refl (λ h. let a = word_at-kept (λ w. one (is_started w)) s.words f (Ended end) lt (ap (λ w. one (is_started w)) (sym is)) h in omega (arith, a)) refl sits
   where
     f : ℕ
@@ -55,7 +55,7 @@ finish_keeps known s i v r end sound g can = started_keeps known s i v w f (Ende
     is : word_at s.words f ≡ Taken
     is = running_is_taken known s i v r g sees can.runs
 
-    place : IsPlace known.plan r
+    place : IsRunPlace known.plan r
     place = (g.views_are_sound i v sees).runs_at_a_place r can.runs
 
     lt : f < length s.words

@@ -1,6 +1,6 @@
 -- Steps that store and count nothing: what flows is as it was, where words and runs count alike.
 use Rattle.std.proofs.Common.{◌≡◌, ℕ, ◌<◌, ◌≢◌, false, List, [], ◌∷◌, ◌++◌, Option, Some, None, length, set, refl, sym, ◌∙◌, ◌⊎◌, inl, inr, arith, count_by}
-use Rattle.flow_core_concurrent.specs.declared.view.Run.{Run}
+use Rattle.flow_core_concurrent.specs.declared.view.FrameRun.{FrameRun}
 use Rattle.flow_core_concurrent.specs.Counted.{one, is_run_of, is_past, has_stored}
 use Rattle.flow_core_concurrent.proofs.Sums.{count_by_push}
 use Rattle.flow_core_laws.specs.declared.task_end.TaskEnd.{TaskEnd}
@@ -14,7 +14,7 @@ use Rattle.flow_core_concurrent.proofs.Words.{word_at-set}
 use Rattle.flow_core_concurrent.proofs.Counts.{CountsAlike, StoresAlike, counted_at-alike, underway_at-alike, lacking-alike}
 use Rattle.flow_core_concurrent.proofs.Parts.{Flows}
 
-pub flows_moved : (known : Known) (words : List Word) (cells : List (Option Elem)) (runs : List (Option Run)) (words' : List Word) (runs' : List (Option Run)) → Flows known words cells runs → length words' ≡ length words → ((g : ℕ) → amount (word_at words' g) ≡ amount (word_at words g)) → ((g : ℕ) → word_at words' g ≢ Wait 0) → CountsAlike known.plan words runs words' runs' → StoresAlike known.plan runs runs' → ((f : ℕ) → count_by (is_run_of f) runs' ≡ one (is_taken (word_at words' f))) → ((f : ℕ) (end : TaskEnd) → word_at words' f ≡ Ended end → end_of known f ≡ Some end) → is_started (word_at words' (length known.plan.frames)) ≡ false → Flows known words' cells runs'
+pub flows_moved : (known : Known) (words : List Word) (cells : List (Option Elem)) (runs : List (Option FrameRun)) (words' : List Word) (runs' : List (Option FrameRun)) → Flows known words cells runs → length words' ≡ length words → ((g : ℕ) → amount (word_at words' g) ≡ amount (word_at words g)) → ((g : ℕ) → word_at words' g ≢ Wait 0) → CountsAlike known.plan words runs words' runs' → StoresAlike known.plan runs runs' → ((f : ℕ) → count_by (is_run_of f) runs' ≡ one (is_taken (word_at words' f))) → ((f : ℕ) (end : TaskEnd) → word_at words' f ≡ Ended end → end_of known f ≡ Some end) → is_started (word_at words' (length known.plan.frames)) ≡ false → Flows known words' cells runs'
 flows_moved known words cells runs words' runs' flows lengths amounts some counts stores taken meant sink = record {
   words_of_plan = lengths ∙ flows.words_of_plan;
   cells_of_plan = flows.cells_of_plan;
@@ -28,7 +28,7 @@ flows_moved known words cells runs words' runs' flows lengths amounts some count
 }
 
 -- one more seat that runs nothing
-pub flows_pushed : (known : Known) (words : List Word) (cells : List (Option Elem)) (runs : List (Option Run)) → Flows known words cells runs → Flows known words cells (runs ++ None ∷ [])
+pub flows_pushed : (known : Known) (words : List Word) (cells : List (Option Elem)) (runs : List (Option FrameRun)) → Flows known words cells runs → Flows known words cells (runs ++ None ∷ [])
 flows_pushed known words cells runs flows = flows_moved known words cells runs words (runs ++ None ∷ []) flows refl (λ g. refl) flows.wait_for_some
     (record { each = λ q p h. let e = count_by_push (is_past p.from q) runs None in let z : one (is_past p.from q None) ≡ 0 = refl in omega (arith, e, z) })
     (record { each = λ q k p h. let e = count_by_push (has_stored p.from q k) runs None in let z : one (has_stored p.from q k None) ≡ 0 = refl in omega (arith, e, z) })

@@ -4,7 +4,7 @@ use Rattle.std.specs.Prelude.{slice_get, is_none, not, ◌&&◌, ◌||◌, ◌==
 use Rattle.std.proofs.lemmas.Bool.{eqb-true, cases_lt, or_cases, and_parts}
 use Rattle.std.proofs.lemmas.List.{get_or-map, get_or_append_left, get_or_push, get_or_past, length_push, length-map}
 use Rattle.flow_core_laws.specs.declared.plan.FramePlan.{FramePlan}
-use Rattle.flow_core_concurrent.specs.declared.view.Run.{Run}
+use Rattle.flow_core_concurrent.specs.declared.view.FrameRun.{FrameRun}
 use Rattle.flow_core_concurrent.specs.States.{times, has, CoreState, IsSeat, runs_of, knows}
 use Rattle.flow_core_concurrent.proofs.Sums.{sum_by-has}
 use Rattle.flow_core_concurrent.proofs.Words.{one_is_true, full_waits}
@@ -70,7 +70,7 @@ opening_is_some frame = by (frame.wait == 0) refl
     by false e = λ h. let z : frame.wait ≡ 0 = ap amount h in let t : (frame.wait == 0) ≡ true = eq-eqb frame.wait 0 z in cc
 
 -- a frame misses at most what it missed at opening
-pub lacking_at_most : (plan : Plan) (words : List Word) (runs : List (Option Run)) (f : ℕ) → IsSound plan → f ≤ length plan.frames → lacking plan words runs f ≤ (frame_at plan f).wait
+pub lacking_at_most : (plan : Plan) (words : List Word) (runs : List (Option FrameRun)) (f : ℕ) → IsSound plan → f ≤ length plan.frames → lacking plan words runs f ≤ (frame_at plan f).wait
 lacking_at_most plan words runs f sound le =
     let w : (frame_at plan f).wait ≡ missing_of plan plan.filled f = sound.wait_counts f le in
     let c : lacking plan words runs f ≤ missing_of plan plan.filled f = count_by-fewer (lacks_cell plan words runs) (λ c. is_none (held_at plan.filled c)) (cells_of plan f) (λ c h. (and_parts (is_none (held_at plan.filled c)) (counted_at plan words runs c == 0) h).0) in

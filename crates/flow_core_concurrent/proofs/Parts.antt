@@ -4,7 +4,7 @@ use Rattle.std.specs.Prelude.{slice_get, sum_by, is_some, not, ◌&&◌, IsSome}
 use Rattle.std.specs.Option.{option_map}
 use Rattle.std.proofs.lemmas.Option.{slice_get-map}
 use Rattle.std.proofs.lemmas.List.{map-set}
-use Rattle.flow_core_concurrent.specs.declared.view.Run.{Run}
+use Rattle.flow_core_concurrent.specs.declared.view.FrameRun.{FrameRun}
 use Rattle.flow_core_concurrent.specs.States.{times, CoreState, runs_of}
 use Rattle.flow_core_concurrent.specs.Counted.{one, is_run_of, counted_at, underway_at, lacking}
 use Rattle.flow_core_concurrent.proofs.Sums.{each_set, set_again, sum_by-kept}
@@ -20,7 +20,7 @@ use Rattle.flow_core_concurrent.specs.Steps.{end_of, with_view}
 use Rattle.flow_core_concurrent.specs.IsGood.{IsGood, IsView, IsLast}
 
 -- words, cells and runs
-pub record Flows (known : Known) (words : List Word) (cells : List (Option Elem)) (runs : List (Option Run)) : Type 0 where
+pub record Flows (known : Known) (words : List Word) (cells : List (Option Elem)) (runs : List (Option FrameRun)) : Type 0 where
   pub words_of_plan : length words ≡ length known.plan.frames + 1
   pub cells_of_plan : length cells ≡ length known.plan.filled
   pub hold : (c : ℕ) (value : Elem) → held_at cells c ≡ Some value → plan_element known.plan known.meaning (cell_source known.plan c) ≡ Some value
@@ -34,7 +34,7 @@ pub record Flows (known : Known) (words : List Word) (cells : List (Option Elem)
 -- the view of a seat, beside the words
 pub record Sits (known : Known) (words : List Word) (v : View) : Type 0 where
   pub sound : IsView known v
-  pub has_end : (r : Run) → v.run ≡ Some r → IsSome (end_of known r.frame)
+  pub has_end : (r : FrameRun) → v.run ≡ Some r → IsSome (end_of known r.frame)
   pub looked : (j : ℕ) → IsLast known v → 1 ≤ j → j ≤ v.looks → j ≤ length known.plan.frames → is_open (word_at words ((v.looks - j) % length known.plan.frames)) ≡ false
   pub found : (f : ℕ) → 1 ≤ times f v.found → waits (word_at words f) ≡ false
   pub lost : (f : ℕ) → 1 ≤ times f v.lost → is_started (word_at words f) ≡ true

@@ -4,7 +4,7 @@ use Rattle.std.specs.Prelude.{slice_get, sum_by}
 use Rattle.std.proofs.lemmas.Bool.{cases_lt}
 use Rattle.std.proofs.lemmas.List.{map_push}
 use Rattle.std.proofs.lemmas.List.Sums.{sum_by_push, sum_by-append}
-use Rattle.flow_core_concurrent.specs.declared.view.Run.{Run}
+use Rattle.flow_core_concurrent.specs.declared.view.FrameRun.{FrameRun}
 use Rattle.flow_core_concurrent.specs.States.{times, CoreState, fresh, runs_of}
 use Rattle.flow_core_concurrent.proofs.Sums.{each_set, each_push, set_again, sum_by-written, at_other}
 use Rattle.flow_core_concurrent.specs.declared.known.Known.{Known}
@@ -68,7 +68,7 @@ split_keeps known s i v g can = good_from known (after_split s i v) flows
     same_runs : runs_of (after_split s i v) ≡ runs_of s ++ None ∷ []
     same_runs =
         map_push (λ (v : View). v.run) (set s.seats i left) (fresh v.about 1)
-        ∙ ap (λ (l : List (Option Run)). l ++ None ∷ []) (runs-set s.seats i left ∙ set_again (runs_of s) i v.run (run_at s.seats i v sees))
+        ∙ ap (λ (l : List (Option FrameRun)). l ++ None ∷ []) (runs-set s.seats i left ∙ set_again (runs_of s) i v.run (run_at s.seats i v sees))
 
     flows : Flows known s.words s.cells (runs_of (after_split s i v))
     flows = subst (Flows known s.words s.cells) (sym same_runs) (flows_pushed known s.words s.cells (runs_of s) (flows_of known s g))
@@ -133,7 +133,7 @@ join_keeps known s i v j w g can = good_from known (after_join s i v j w) flows
     same_runs : runs_of (after_join s i v j w) ≡ runs_of s
     same_runs =
         runs-set (set s.seats i both) j (fresh w.about 0)
-        ∙ ap (λ (l : List (Option Run)). set l j None) (runs-set s.seats i both ∙ set_again (runs_of s) i v.run (run_at s.seats i v sees))
+        ∙ ap (λ (l : List (Option FrameRun)). set l j None) (runs-set s.seats i both ∙ set_again (runs_of s) i v.run (run_at s.seats i v sees))
         ∙ set_again (runs_of s) j None (run_at s.seats j w sees_other ∙ ap Some can.runs_nothing)
 
     flows : Flows known s.words s.cells (runs_of (after_join s i v j w))

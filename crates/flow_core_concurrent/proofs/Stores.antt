@@ -9,7 +9,7 @@ use Rattle.flow_core_laws.specs.declared.plan.Piece.{Piece}
 use Rattle.flow_core_laws.specs.Outcome.{outcome_at, root_of}
 use Rattle.flow_core_laws.specs.declared.task_end.TaskEnd.{TaskEnd}
 use Rattle.flow_core_laws.specs.declared.elem.Elem.TheVariants.{Value, Poison}
-use Rattle.flow_core_concurrent.specs.declared.view.Run.{Run}
+use Rattle.flow_core_concurrent.specs.declared.view.FrameRun.{FrameRun}
 use Rattle.flow_core_concurrent.specs.States.{times, CoreState, runs_of}
 use Rattle.flow_core_concurrent.specs.Counted.{one, is_run_of, is_past, has_stored, counted_at, underway_at}
 use Rattle.flow_core_concurrent.proofs.Sums.{each_set, sum_by-kept, count_by-kept}
@@ -25,7 +25,7 @@ use Rattle.flow_core_concurrent.specs.declared.known.Known.{Known}
 use Rattle.flow_core_concurrent.specs.declared.view.View.{View}
 use Rattle.flow_core_concurrent.specs.Words.{word_at, has_ended}
 use Rattle.flow_core_concurrent.specs.Steps.{end_of, StandsAt, CanStore, after_store}
-use Rattle.flow_core_concurrent.specs.IsGood.{IsGood, IsPlace}
+use Rattle.flow_core_concurrent.specs.IsGood.{IsGood, IsRunPlace}
 use Rattle.flow_core_concurrent.specs.Laws.{IsFit}
 use Rattle.flow_core_concurrent.proofs.Counts.{CountsAlike, counted_at-alike, lacking-alike, counted_at-is, underway_at-is, underway_at-none, underway-is, piece_is, piece_of_frame}
 use Rattle.flow_core_concurrent.proofs.Parts.{Flows, Sits, Books, sits_of, books_of, good_from, runs-set}
@@ -59,7 +59,7 @@ output_within known f place o within = by_end o.end refl
     by_end (Poisoned root) e = at_root root (ap (root_of number) e)
 
 -- the element that a frame with an end has for its piece, a value or poison
-pub has_output : (known : Known) (r : Run) (p : Piece) (k : ℕ) → IsFit known → r.frame < length known.plan.frames → IsSome (end_of known r.frame) → StandsAt known.plan r p → k < p.count → (elem : Elem) × (output_at (number_at known.plan) known.meaning r.frame (p.first + k) ≡ Some elem)
+pub has_output : (known : Known) (r : FrameRun) (p : Piece) (k : ℕ) → IsFit known → r.frame < length known.plan.frames → IsSome (end_of known r.frame) → StandsAt known.plan r p → k < p.count → (elem : Elem) × (output_at (number_at known.plan) known.meaning r.frame (p.first + k) ≡ Some elem)
 has_output known r p k fit exists ended stands lt = by (outcome_at known.meaning r.frame) refl
   where
     by : (o : Option Outcome) → outcome_at known.meaning r.frame ≡ o → (elem : Elem) × (output_at (number_at known.plan) known.meaning r.frame (p.first + k) ≡ Some elem)
@@ -71,7 +71,7 @@ has_output known r p k fit exists ended stands lt = by (outcome_at known.meaning
         (elem, ap (option_and_then (λ (o : Outcome). written (number_at known.plan r.frame) o (p.first + k))) e ∙ is)
 
 -- only the next element is stored beside those that were
-stores_more : (r : Run) (from q k : ℕ) → (r.piece ≡ q → k ≢ r.stored) → has_stored from q k (Some (record r { stored = r.stored + 1 })) ≡ has_stored from q k (Some r)
+stores_more : (r : FrameRun) (from q k : ℕ) → (r.piece ≡ q → k ≢ r.stored) → has_stored from q k (Some (record r { stored = r.stored + 1 })) ≡ has_stored from q k (Some r)
 stores_more r from q k other = by (cases_eq r.piece q)
   where
     within : (k < r.stored) ⊎ (r.stored ≤ k) → k ≢ r.stored → nat_lt k (r.stored + 1) ≡ nat_lt k r.stored
@@ -84,7 +84,7 @@ stores_more r from q k other = by (cases_eq r.piece q)
         let no : (r.frame == from && r.piece == q) ≡ false = and_right (r.frame == from) (r.piece == q) (ne_eqb r.piece q n) in
         and_left (r.frame == from && r.piece == q) (nat_lt k (r.stored + 1)) no ∙ sym (and_left (r.frame == from && r.piece == q) (nat_lt k r.stored) no)
 
-pub store_keeps : (known : Known) (s : CoreState) (i : ℕ) (v : View) (r : Run) (p : Piece) → IsFit known → IsGood known s → CanStore known s i v r p → IsGood known (after_store known s i v r p)
+pub store_keeps : (known : Known) (s : CoreState) (i : ℕ) (v : View) (r : FrameRun) (p : Piece) → IsFit known → IsGood known s → CanStore known s i v r p → IsGood known (after_store known s i v r p)
 store_keeps known s i v r p fit g can = good_from known (after_store known s i v r p) flows
     (each_set (Sits known s.words) s.seats i w sits (λ j u n there. sits_of known s g j u there))
     books
@@ -92,7 +92,7 @@ store_keeps known s i v r p fit g can = good_from known (after_store known s i v
     sound : IsSound known.plan
     sound = fit.plan_is_sound
 
-    next : Run
+    next : FrameRun
     next = record r { stored = r.stored + 1 }
 
     w : View
@@ -107,7 +107,7 @@ store_keeps known s i v r p fit g can = good_from known (after_store known s i v
     cells' : List (Option Elem)
     cells' = set s.cells cell value
 
-    runs' : List (Option Run)
+    runs' : List (Option FrameRun)
     runs' = set (runs_of s) i (Some next)
 
     sees : slice_get s.seats i ≡ Some v
@@ -116,7 +116,7 @@ store_keeps known s i v r p fit g can = good_from known (after_store known s i v
     there : slice_get (runs_of s) i ≡ Some (Some r)
     there = run_there s i v r sees can.runs
 
-    place : IsPlace known.plan r
+    place : IsRunPlace known.plan r
     place = (g.views_are_sound i v sees).runs_at_a_place r can.runs
 
     number : slice_get known.plan.pieces r.piece ≡ Some p
@@ -206,7 +206,7 @@ store_keeps known s i v r p fit g can = good_from known (after_store known s i v
           sound = record {
             knows_the_run = old.sound.knows_the_run;
             spent_is_empty = λ e. absurd (omega (arith, positive, e));
-            runs_at_a_place = λ r' h. subst (IsPlace known.plan) (same_Some next r' h) (record {
+            runs_at_a_place = λ r' h. subst (IsRunPlace known.plan) (same_Some next r' h) (record {
               of_a_frame = place.of_a_frame;
               from_its_first = place.from_its_first;
               to_its_last = place.to_its_last;
@@ -214,7 +214,7 @@ store_keeps known s i v r p fit g can = good_from known (after_store known s i v
               has_none_behind = λ last. let b = (piece_of_frame known.plan r.piece p sound number).1 in let c : (frame_at known.plan p.from).piece + (frame_at known.plan p.from).pieces ≡ r.piece = ap (λ f. (frame_at known.plan f).piece + (frame_at known.plan f).pieces) can.stands.is_its_own ∙ sym last in absurd (omega (arith, b, c));
             });
           };
-          has_end = λ r' h. subst (λ (r : Run). IsSome (end_of known r.frame)) (same_Some next r' h) (old.has_end r can.runs);
+          has_end = λ r' h. subst (λ (r : FrameRun). IsSome (end_of known r.frame)) (same_Some next r' h) (old.has_end r can.runs);
           looked = old.looked;
           found = old.found;
           lost = old.lost;

@@ -6,7 +6,7 @@ use Rattle.std.proofs.lemmas.List.{length-set}
 use Rattle.std.proofs.lemmas.Option.{same_Some}
 use Rattle.flow_core_laws.specs.declared.plan.Piece.{Piece}
 use Rattle.flow_core_laws.proofs.Counting.{passing-same, passing-lowered}
-use Rattle.flow_core_concurrent.specs.declared.view.Run.{Run}
+use Rattle.flow_core_concurrent.specs.declared.view.FrameRun.{FrameRun}
 use Rattle.flow_core_concurrent.specs.States.{times, CoreState, fresh, runs_of}
 use Rattle.flow_core_concurrent.specs.Counted.{one, is_run_of, is_past, has_stored, counted, underway, counted_at, underway_at, lacks_cell, lacking}
 use Rattle.flow_core_concurrent.proofs.Sums.{each_set, sum_by-written, sum_by-kept, sum_by-has, count_by-written, count_by-kept, at_other, option_map_or-same}
@@ -22,7 +22,7 @@ use Rattle.flow_core_concurrent.specs.declared.word.Word.{Word}
 use Rattle.flow_core_concurrent.specs.declared.word.Word.TheVariants.{Wait, Ended}
 use Rattle.flow_core_concurrent.specs.Words.{word_at, opening_words, amount, waits, is_open, is_taken, is_started, has_ended, waits_for, lowered}
 use Rattle.flow_core_concurrent.specs.Steps.{end_of, CanSub, with_sub, after_sub}
-use Rattle.flow_core_concurrent.specs.IsGood.{IsGood, IsPlace, IsLast}
+use Rattle.flow_core_concurrent.specs.IsGood.{IsGood, IsRunPlace, IsLast}
 use Rattle.flow_core_concurrent.proofs.Words.{word_at-set, word_at-kept, wait_is}
 use Rattle.flow_core_concurrent.proofs.Counts.{counted-is, counted_at-is, underway_at-is, underway-is, piece_is, piece_of_frame, piece_cells}
 use Rattle.flow_core_concurrent.proofs.Parts.{Flows, Sits, Books, sits_of, books_of, good_from, runs-set}
@@ -40,18 +40,18 @@ last_is_only known s i j v u g sees positive other there last =
     omega (arith, a, b, c, positive, last)
 
 -- where a run goes on to the next piece, it is past the one that it left
-past_next : (r : Run) (from q : ℕ) → q ≢ r.piece → is_past from q (Some (record { frame = r.frame; piece = r.piece + 1; stored = 0 })) ≡ is_past from q (Some r)
+past_next : (r : FrameRun) (from q : ℕ) → q ≢ r.piece → is_past from q (Some (record { frame = r.frame; piece = r.piece + 1; stored = 0 })) ≡ is_past from q (Some r)
 past_next r from q n = ap (λ b. r.frame == from && b) (within (cases_lt q r.piece))
   where
     within : (q < r.piece) ⊎ (r.piece ≤ q) → nat_lt q (r.piece + 1) ≡ nat_lt q r.piece
     within (inl lt) = lt-ltb q (r.piece + 1) (omega (arith, lt)) ∙ sym (lt-ltb q r.piece lt)
     within (inr ge) = le-ltb q (r.piece + 1) (omega (arith, ge, n)) ∙ sym (le-ltb q r.piece ge)
 
-stored_other : (r : Run) (from q k : ℕ) → r.piece ≢ q → has_stored from q k (Some r) ≡ false
+stored_other : (r : FrameRun) (from q k : ℕ) → r.piece ≢ q → has_stored from q k (Some r) ≡ false
 stored_other r from q k n = and_left (r.frame == from && r.piece == q) (nat_lt k r.stored) (and_right (r.frame == from) (r.piece == q) (ne_eqb r.piece q n))
 
-module _ (known : Known) (s : CoreState) (i : ℕ) (v : View) (r : Run) (p : Piece) (sound : IsSound known.plan) (g : IsGood known s) (can : CanSub known s i v r p) where
-  abbrev next : Run
+module _ (known : Known) (s : CoreState) (i : ℕ) (v : View) (r : FrameRun) (p : Piece) (sound : IsSound known.plan) (g : IsGood known s) (can : CanSub known s i v r p) where
+  abbrev next : FrameRun
   next = record { frame = r.frame; piece = r.piece + 1; stored = 0 }
 
   abbrev word : Word
@@ -60,7 +60,7 @@ module _ (known : Known) (s : CoreState) (i : ℕ) (v : View) (r : Run) (p : Pie
   abbrev words' : List Word
   words' = set s.words p.to (lowered p.count (word_at s.words p.to))
 
-  abbrev runs' : List (Option Run)
+  abbrev runs' : List (Option FrameRun)
   runs' = set (runs_of s) i (Some (record { frame = r.frame; piece = r.piece + 1; stored = 0 }))
 
   sees : slice_get s.seats i ≡ Some v
@@ -75,7 +75,7 @@ module _ (known : Known) (s : CoreState) (i : ℕ) (v : View) (r : Run) (p : Pie
   there : slice_get (runs_of s) i ≡ Some (Some r)
   there = run_there s i v r sees can.runs
 
-  place : IsPlace known.plan r
+  place : IsRunPlace known.plan r
   place = (g.views_are_sound i v sees).runs_at_a_place r can.runs
 
   exists : p.to < length s.words
@@ -278,7 +278,7 @@ module _ (known : Known) (s : CoreState) (i : ℕ) (v : View) (r : Run) (p : Pie
         sound = record {
           knows_the_run = o.sound.knows_the_run;
           spent_is_empty = λ e. absurd (omega (arith, positive, e));
-          runs_at_a_place = λ r' h. subst (IsPlace known.plan) (same_Some next r' h) (record {
+          runs_at_a_place = λ r' h. subst (IsRunPlace known.plan) (same_Some next r' h) (record {
             of_a_frame = place.of_a_frame;
             from_its_first = let a = place.from_its_first in omega (arith, a);
             to_its_last = let a : r.piece < (frame_at known.plan r.frame).piece + (frame_at known.plan r.frame).pieces = subst (λ f. r.piece < (frame_at known.plan f).piece + (frame_at known.plan f).pieces) can.stands.is_its_own (piece_of_frame known.plan r.piece p sound number).1 in omega (arith, a);
@@ -286,7 +286,7 @@ module _ (known : Known) (s : CoreState) (i : ℕ) (v : View) (r : Run) (p : Pie
             has_none_behind = λ last. refl;
           });
         };
-        has_end = λ r' h. subst (λ (r : Run). IsSome (end_of known r.frame)) (same_Some next r' h) (o.has_end r can.runs);
+        has_end = λ r' h. subst (λ (r : FrameRun). IsSome (end_of known r.frame)) (same_Some next r' h) (o.has_end r can.runs);
         looked = looked opens refl;
         found = λ f h. still_full f (o.found f h);
         lost = λ f h. started_same f ∙ o.lost f h;

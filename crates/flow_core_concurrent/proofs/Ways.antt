@@ -15,7 +15,7 @@ use Rattle.flow_core_laws.proofs.Counting.{passing-none}
 use Rattle.flow_core_laws.proofs.Gathering.{all_gathered, gathered-weaker}
 use Rattle.flow_core_laws.proofs.Orders.{reached_extends, reached_meaning}
 use Rattle.flow_core_laws.proofs.Rounds.{outcome_at-meaning, outcome_at_past}
-use Rattle.flow_core_concurrent.specs.declared.view.Run.{Run}
+use Rattle.flow_core_concurrent.specs.declared.view.FrameRun.{FrameRun}
 use Rattle.flow_core_concurrent.specs.Counted.{one, is_run_of, is_past, has_stored, counted, counted_at, underway, underway_at}
 use Rattle.flow_core_concurrent.proofs.Opening.{count_by-fewer}
 use Rattle.flow_core_laws.specs.declared.outcome.Outcome.{Outcome}
@@ -47,7 +47,7 @@ use Rattle.flow_core_concurrent.proofs.Lowered.{is_started-lowered}
 use Rattle.flow_core_concurrent.proofs.Steps.{way_is_good}
 
 -- a STORE fills its cell, which was empty, and leaves the others
-store_fills : (known : Known) (s : CoreState) (i : ℕ) (v : View) (r : Run) (p : Piece) (c : ℕ) → IsFit known → IsGood known s → CanStore known s i v r p → one (is_some (held_at (after_store known s i v r p).cells c)) ≡ one (is_some (held_at s.cells c)) + one (c == p.at + r.stored)
+store_fills : (known : Known) (s : CoreState) (i : ℕ) (v : View) (r : FrameRun) (p : Piece) (c : ℕ) → IsFit known → IsGood known s → CanStore known s i v r p → one (is_some (held_at (after_store known s i v r p).cells c)) ≡ one (is_some (held_at s.cells c)) + one (c == p.at + r.stored)
 store_fills known s i v r p c fit g can = by (cases_eq c (p.at + r.stored))
   where
     within : p.at + r.stored < length s.cells
@@ -123,14 +123,14 @@ counted_started known s q c p g number some = by (word_at s.words p.from) refl
     fewer : count_by (is_past p.from q) (runs_of s) ≤ one (is_taken (word_at s.words p.from))
     fewer = subst (λ n. count_by (is_past p.from q) (runs_of s) ≤ n) (g.taken_is_run_by_one p.from) (count_by-fewer (is_past p.from q) (is_run_of p.from) (runs_of s) (past_runs q))
       where
-        past_runs : (q : ℕ) (x : Option Run) → is_past p.from q x ≡ true → is_run_of p.from x ≡ true
+        past_runs : (q : ℕ) (x : Option FrameRun) → is_past p.from q x ≡ true → is_run_of p.from x ≡ true
         past_runs q None h = h
         past_runs q (Some x) h = (and_parts (x.frame == p.from) (nat_lt q x.piece) h).0
 
     fewer_stored : count_by (has_stored p.from q (c - p.at)) (runs_of s) ≤ one (is_taken (word_at s.words p.from))
     fewer_stored = subst (λ n. count_by (has_stored p.from q (c - p.at)) (runs_of s) ≤ n) (g.taken_is_run_by_one p.from) (count_by-fewer (has_stored p.from q (c - p.at)) (is_run_of p.from) (runs_of s) (stored_runs (c - p.at)))
       where
-        stored_runs : (k : ℕ) (x : Option Run) → has_stored p.from q k x ≡ true → is_run_of p.from x ≡ true
+        stored_runs : (k : ℕ) (x : Option FrameRun) → has_stored p.from q k x ≡ true → is_run_of p.from x ≡ true
         stored_runs k None h = h
         stored_runs k (Some x) h = (and_parts (x.frame == p.from) (x.piece == q) (and_parts (x.frame == p.from && x.piece == q) (nat_lt k x.stored) h).0).0
 

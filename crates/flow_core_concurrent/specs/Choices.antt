@@ -3,7 +3,7 @@
 use Rattle.std.specs.Prelude.{[], ℕ, ◌+◌, ◌==◌, Bool, not, ◌&&◌, nat_lt, nat_le, if◌then◌else◌, List, ◌∷◌, ◌++◌, Option, Some, None, is_none, is_some, map, length, take, count_by, slice_get, option_and_then}
 use Rattle.std.specs.List.{fold, range_with_len}
 use Rattle.flow_core_laws.specs.declared.plan.Piece.{Piece}
-use Rattle.flow_core_concurrent.specs.declared.view.Run.{Run}
+use Rattle.flow_core_concurrent.specs.declared.view.FrameRun.{FrameRun}
 use Rattle.flow_core_laws.specs.declared.plan.Plan.{Plan}
 use Rattle.flow_core_laws.specs.declared.task_end.TaskEnd.{TaskEnd}
 use Rattle.flow_core_laws.specs.Plans.{frame_at}
@@ -28,14 +28,14 @@ abbrev pub seat_in : CoreState → ℕ → Option View
 seat_in state seat = option_and_then (λ (v : View). if nat_le 1 v.shares then Some v else None) (slice_get state.seats seat)
 
 -- the piece at which a run stands, where it is one of its frame
-abbrev pub own_piece : Plan → Run → Option Piece
+abbrev pub own_piece : Plan → FrameRun → Option Piece
 own_piece plan run = option_and_then (λ (p : Piece). if p.from == run.frame then Some p else None) (slice_get plan.pieces run.piece)
 
 -- whether nothing was given of what a run runs, and whether all was
-abbrev pub is_first_place : Plan → Run → Bool
+abbrev pub is_first_place : Plan → FrameRun → Bool
 is_first_place plan run = run.piece == (frame_at plan run.frame).piece && run.stored == 0
 
-abbrev pub is_behind_last : Plan → Run → Bool
+abbrev pub is_behind_last : Plan → FrameRun → Bool
 is_behind_last plan run = run.piece == (frame_at plan run.frame).piece + (frame_at plan run.frame).pieces
 
 -- whether a cell is a frame's
@@ -51,17 +51,17 @@ after_choice known s (to_join i j) =
 after_choice known s (to_claim i f) =
     option_and_then (λ (v : View). if is_none v.run && nat_lt f (length known.plan.frames) then Some (after_claim known s i v f) else None) (seat_in s i)
 after_choice known s (to_read i c) =
-    option_and_then (λ (v : View). option_and_then (λ (r : Run). if is_first_place known.plan r
+    option_and_then (λ (v : View). option_and_then (λ (r : FrameRun). if is_first_place known.plan r
     && is_cell_of known.plan r.frame c then Some s else None) v.run)
     (seat_in s i)
 after_choice known s (to_store i) =
-    option_and_then (λ (v : View). option_and_then (λ (r : Run). option_and_then
+    option_and_then (λ (v : View). option_and_then (λ (r : FrameRun). option_and_then
     (λ (p : Piece). if nat_lt r.stored p.count then Some (after_store known s i v r p) else None) (own_piece known.plan r)) v.run) (seat_in s i)
 after_choice known s (to_sub i) =
-    option_and_then (λ (v : View). option_and_then (λ (r : Run). option_and_then
+    option_and_then (λ (v : View). option_and_then (λ (r : FrameRun). option_and_then
     (λ (p : Piece). if r.stored == p.count then Some (after_sub s i v r p) else None) (own_piece known.plan r)) v.run) (seat_in s i)
 after_choice known s (to_finish i) =
-    option_and_then (λ (v : View). option_and_then (λ (r : Run). option_and_then
+    option_and_then (λ (v : View). option_and_then (λ (r : FrameRun). option_and_then
     (λ (e : TaskEnd). if is_behind_last known.plan r then Some (after_finish s i v r e) else None) (end_of known r.frame)) v.run) (seat_in s i)
 after_choice known s (to_look i) =
     option_and_then (λ (v : View). if is_none v.run && nat_le 1 (length known.plan.frames) then Some (after_look known s i v) else None) (seat_in s i)

@@ -1,7 +1,7 @@
 -- Good states of the concurrent core with poison.
 use Rattle.std.specs.Prelude.{◌≡◌, ◌≢◌, ℕ, ◌+◌, ◌-◌, ◌%◌, ◌<◌, ◌≤◌, true, false, not, ◌&&◌, Some, IsSome, is_some, length, count_by, sum_by, slice_get}
 use Rattle.flow_core_laws.specs.declared.plan.Piece.{Piece}
-use Rattle.flow_core_concurrent.specs.declared.view.Run.{Run}
+use Rattle.flow_core_concurrent.specs.declared.view.FrameRun.{FrameRun}
 use Rattle.flow_core_concurrent.specs.States.{times, CoreState, fresh, runs_of, times_in_all}
 use Rattle.flow_core_concurrent.specs.Counted.{one, is_run_of, counted_at, underway_at, lacking}
 use Rattle.flow_core_laws.specs.declared.plan.Plan.{Plan}
@@ -16,7 +16,7 @@ use Rattle.flow_core_concurrent.specs.Steps.{end_of, meant_at, StandsAt, IsPastL
 
 -- A run is of a frame, and its place is one of that frame's: at a piece with at most all of its elements
 -- stored, or behind the last piece with none stored.
-pub record IsPlace (plan : Plan) (run : Run) : Type 0 where
+pub record IsRunPlace (plan : Plan) (run : FrameRun) : Type 0 where
   pub of_a_frame : run.frame < length plan.frames
   pub from_its_first : (frame_at plan run.frame).piece ≤ run.piece
   pub to_its_last : run.piece ≤ (frame_at plan run.frame).piece + (frame_at plan run.frame).pieces
@@ -27,7 +27,7 @@ pub record IsPlace (plan : Plan) (run : Run) : Type 0 where
 pub record IsView (known : Known) (view : View) : Type 0 where
   pub knows_the_run : 1 ≤ view.shares → view.about ≡ known
   pub spent_is_empty : view.shares ≡ 0 → view ≡ fresh view.about 0
-  pub runs_at_a_place : (r : Run) → view.run ≡ Some r → IsPlace known.plan r
+  pub runs_at_a_place : (r : FrameRun) → view.run ≡ Some r → IsRunPlace known.plan r
 
 -- A seat has all shares, so every other one is spent.
 abbrev pub IsLast : Known → View → Type 0
@@ -53,7 +53,7 @@ pub record IsGood (known : Known) (state : CoreState) : Type 0 where
   -- an end is the meaning's
   pub ends_are_meant : (f : ℕ) (end : TaskEnd) → word_at state.words f ≡ Ended end → end_of known f ≡ Some end
   -- a frame that a seat runs has an end in the meaning
-  pub runs_have_ends : (seat : ℕ) (v : View) (r : Run) → slice_get state.seats seat ≡ Some v → v.run ≡ Some r → IsSome (end_of known r.frame)
+  pub runs_have_ends : (seat : ℕ) (v : View) (r : FrameRun) → slice_get state.seats seat ≡ Some v → v.run ≡ Some r → IsSome (end_of known r.frame)
   -- the seats together made each frame once that waited at opening and doesn't wait now, and no other
   pub made_once : (f : ℕ) → times_in_all (λ v. v.made) state f
       ≡ one (waits (word_at (opening_words known.plan) f) && not (waits (word_at state.words f)))

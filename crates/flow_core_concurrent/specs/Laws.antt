@@ -5,7 +5,7 @@ use Rattle.flow_core_laws.specs.declared.plan.Piece.{Piece}
 use Rattle.flow_core_laws.specs.Outcome.{outcome_at, State}
 use Rattle.flow_core_laws.specs.Round.{IsEnabled, gathered, inputs_in}
 use Rattle.flow_core_laws.specs.Laws.{Reached}
-use Rattle.flow_core_concurrent.specs.declared.view.Run.{Run}
+use Rattle.flow_core_concurrent.specs.declared.view.FrameRun.{FrameRun}
 use Rattle.flow_core_concurrent.specs.States.{times, CoreState, IsSeat, opening, runs_of, times_in_all, knows}
 use Rattle.flow_core_concurrent.specs.Counted.{one, counted_at}
 use Rattle.flow_core_concurrent.specs.Choices.{Choice, after_choice, choice_of, reached_by}
@@ -71,17 +71,17 @@ ClaimKeepsGood =
 
 abbrev pub StoreKeepsGood : Type 0
 StoreKeepsGood =
-    (known : Known) (state : CoreState) (seat : ℕ) (view : View) (run : Run) (piece : Piece) → IsFit known → IsGood known state
+    (known : Known) (state : CoreState) (seat : ℕ) (view : View) (run : FrameRun) (piece : Piece) → IsFit known → IsGood known state
     → CanStore known state seat view run piece → IsGood known (after_store known state seat view run piece)
 
 abbrev pub SubKeepsGood : Type 0
 SubKeepsGood =
-    (known : Known) (state : CoreState) (seat : ℕ) (view : View) (run : Run) (piece : Piece) → IsFit known → IsGood known state
+    (known : Known) (state : CoreState) (seat : ℕ) (view : View) (run : FrameRun) (piece : Piece) → IsFit known → IsGood known state
     → CanSub known state seat view run piece → IsGood known (after_sub state seat view run piece)
 
 abbrev pub FinishKeepsGood : Type 0
 FinishKeepsGood =
-    (known : Known) (state : CoreState) (seat : ℕ) (view : View) (run : Run) (end : TaskEnd) → IsFit known → IsGood known state
+    (known : Known) (state : CoreState) (seat : ℕ) (view : View) (run : FrameRun) (end : TaskEnd) → IsFit known → IsGood known state
     → CanFinish known state seat view run end → IsGood known (after_finish state seat view run end)
 
 abbrev pub LookKeepsGood : Type 0
@@ -99,14 +99,14 @@ ReachedIsGood = (known : Known) (state : CoreState) → IsFit known → Way know
 -- what a READ gives is there, and is the meaning's element, a value or poison
 abbrev pub ReadsTheMeaning : Type 0
 ReadsTheMeaning =
-    (known : Known) (state : CoreState) (seat : ℕ) (view : View) (run : Run) (cell : ℕ) → IsFit known → IsGood known state
+    (known : Known) (state : CoreState) (seat : ℕ) (view : View) (run : FrameRun) (cell : ℕ) → IsFit known → IsGood known state
     → CanRead known state seat view run cell → (elem : Elem) × (held_at state.cells cell ≡ Some elem) × (meant_at known cell ≡ Some elem)
 
 -- What a frame that a seat runs reads is all there, and decides its end: its outcome in the meaning is that of what it reads,
 -- poisoned by the least root among these elements, or else what its body makes of their values.
 abbrev pub ReadsDecideTheEnd : Type 0
 ReadsDecideTheEnd =
-    (known : Known) (outcome : ℕ → List ℤ → Outcome) (state : CoreState) (seat : ℕ) (view : View) (run : Run) → IsFit known → IsMeant known outcome
+    (known : Known) (outcome : ℕ → List ℤ → Outcome) (state : CoreState) (seat : ℕ) (view : View) (run : FrameRun) → IsFit known → IsMeant known outcome
     → IsGood known state → slice_get state.seats seat ≡ Some view → view.run ≡ Some run
     → (inputs : List Elem) × (gathered (map (held_at state.cells) (cells_of known.plan run.frame)) ≡ Some inputs)
     × (outcome_at known.meaning run.frame ≡ Some (poisoning outcome run.frame inputs))
@@ -114,14 +114,14 @@ ReadsDecideTheEnd =
 -- a STORE finds its cell empty, and has an element for it
 abbrev pub StoresIntoEmpty : Type 0
 StoresIntoEmpty =
-    (known : Known) (state : CoreState) (seat : ℕ) (view : View) (run : Run) (piece : Piece) → IsFit known → IsGood known state
+    (known : Known) (state : CoreState) (seat : ℕ) (view : View) (run : FrameRun) (piece : Piece) → IsFit known → IsGood known state
     → CanStore known state seat view run piece → (held_at state.cells (piece.at + run.stored) ≡ None)
     × ((elem : Elem) × (output_of known run.frame (piece.first + run.stored) ≡ Some elem))
 
 -- a SUB finds a frame that waits for at least as many elements as come
 abbrev pub SubFindsItsCount : Type 0
 SubFindsItsCount =
-    (known : Known) (state : CoreState) (seat : ℕ) (view : View) (run : Run) (piece : Piece) → IsFit known → IsGood known state
+    (known : Known) (state : CoreState) (seat : ℕ) (view : View) (run : FrameRun) (piece : Piece) → IsFit known → IsGood known state
     → CanSub known state seat view run piece → (n : ℕ) × (word_at state.words piece.to ≡ Wait n) × (piece.count ≤ n)
 
 -- a frame stands in the ran lists of all seats together at most once

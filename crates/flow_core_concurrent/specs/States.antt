@@ -1,6 +1,6 @@
 -- States of the concurrent core with poison.
 use Rattle.std.specs.Prelude.{[], ◌≡◌, ℕ, ◌≤◌, Bool, ◌||◌, List, ◌∷◌, Option, Some, None, map, sum_by, slice_get, ◌==◌, not, count_by}
-use Rattle.flow_core_concurrent.specs.declared.view.Run.{Run}
+use Rattle.flow_core_concurrent.specs.declared.view.FrameRun.{FrameRun}
 use Rattle.flow_core_laws.specs.declared.elem.Elem.{Elem}
 use Rattle.flow_core_concurrent.specs.declared.known.Known.{Known}
 use Rattle.flow_core_concurrent.specs.declared.view.View.{View}
@@ -36,7 +36,7 @@ abbrev pub opening : Known → CoreState
 opening known = record { words = opening_words known.plan; cells = known.plan.filled; seats = fresh known known.seats ∷ [] }
 
 -- what the seats run
-abbrev pub runs_of : CoreState → List (Option Run)
+abbrev pub runs_of : CoreState → List (Option FrameRun)
 runs_of state = map (λ (v : View). v.run) state.seats
 
 -- how often a frame stands in the lists of this kind of all seats

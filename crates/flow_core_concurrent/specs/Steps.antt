@@ -4,7 +4,7 @@ use Rattle.std.specs.Prelude.{◌≡◌, ◌≢◌, ℕ, ◌+◌, ◌-◌, ◌%�
 use Rattle.std.specs.Option.{option_map}
 use Rattle.flow_core_laws.specs.declared.plan.Piece.{Piece}
 use Rattle.flow_core_laws.specs.Outcome.{outcome_at}
-use Rattle.flow_core_concurrent.specs.declared.view.Run.{Run}
+use Rattle.flow_core_concurrent.specs.declared.view.FrameRun.{FrameRun}
 use Rattle.flow_core_laws.specs.declared.plan.Plan.{Plan}
 use Rattle.flow_core_laws.specs.declared.task_end.TaskEnd.{TaskEnd}
 use Rattle.flow_core_laws.specs.declared.elem.Elem.{Elem}
@@ -31,16 +31,16 @@ abbrev pub output_of : Known → ℕ → ℕ → Option Elem
 output_of known frame place = output_at (number_at known.plan) known.meaning frame place
 
 -- The place of a run of which nothing was given: the first piece of the frame with none stored.
-abbrev pub first_place : Plan → ℕ → Run
+abbrev pub first_place : Plan → ℕ → FrameRun
 first_place plan frame = record { frame = frame; piece = (frame_at plan frame).piece; stored = 0 }
 
 -- A run stands at this piece of its frame.
-pub record StandsAt (plan : Plan) (run : Run) (piece : Piece) : Type 0 where
+pub record StandsAt (plan : Plan) (run : FrameRun) (piece : Piece) : Type 0 where
   pub has_number : slice_get plan.pieces run.piece ≡ Some piece
   pub is_its_own : piece.from ≡ run.frame
 
 -- A run stands behind the last piece of its frame.
-abbrev pub IsPastLast : Plan → Run → Type 0
+abbrev pub IsPastLast : Plan → FrameRun → Type 0
 IsPastLast plan run = run.piece ≡ (frame_at plan run.frame).piece + (frame_at plan run.frame).pieces
 
 -- A state in which one seat has another view.
@@ -117,7 +117,7 @@ after_claim known state seat view frame =
 
 -- READ of a cell: of the frame that the seat runs, where nothing of it was given. It gives the cell, and
 -- changes nothing.
-pub record CanRead (known : Known) (state : CoreState) (seat : ℕ) (view : View) (run : Run) (cell : ℕ) : Type 0 where
+pub record CanRead (known : Known) (state : CoreState) (seat : ℕ) (view : View) (run : FrameRun) (cell : ℕ) : Type 0 where
   pub is_seat : IsSeat state seat view
   pub runs : view.run ≡ Some run
   pub gave_nothing : run ≡ first_place known.plan run.frame
@@ -125,16 +125,16 @@ pub record CanRead (known : Known) (state : CoreState) (seat : ℕ) (view : View
 
 -- STORE: the next cell of the piece at which the seat stands gets the meaning's element: a value where the running
 -- frame is Done, and else poison.
-pub record CanStore (known : Known) (state : CoreState) (seat : ℕ) (view : View) (run : Run) (piece : Piece) : Type 0 where
+pub record CanStore (known : Known) (state : CoreState) (seat : ℕ) (view : View) (run : FrameRun) (piece : Piece) : Type 0 where
   pub is_seat : IsSeat state seat view
   pub runs : view.run ≡ Some run
   pub stands : StandsAt known.plan run piece
   pub has_more : run.stored < piece.count
 
-abbrev pub stored : View → Run → View
+abbrev pub stored : View → FrameRun → View
 stored view run = record view { run = Some (record run { stored = run.stored + 1 }) }
 
-abbrev pub after_store : Known → CoreState → ℕ → View → Run → Piece → CoreState
+abbrev pub after_store : Known → CoreState → ℕ → View → FrameRun → Piece → CoreState
 after_store known state seat view run piece = record {
   words = state.words;
   cells = slice_set state.cells (piece.at + run.stored) (output_of known run.frame (piece.first + run.stored));
@@ -143,20 +143,20 @@ after_store known state seat view run piece = record {
 
 -- SUB: where all elements of the piece are stored, they are counted at the frame that they go to. Where
 -- it missed just these it opens, and the seat made it.
-pub record CanSub (known : Known) (state : CoreState) (seat : ℕ) (view : View) (run : Run) (piece : Piece) : Type 0 where
+pub record CanSub (known : Known) (state : CoreState) (seat : ℕ) (view : View) (run : FrameRun) (piece : Piece) : Type 0 where
   pub is_seat : IsSeat state seat view
   pub runs : view.run ≡ Some run
   pub stands : StandsAt known.plan run piece
   pub has_stored_all : run.stored ≡ piece.count
 
-abbrev pub with_sub : View → Run → ℕ → Bool → View
+abbrev pub with_sub : View → FrameRun → ℕ → Bool → View
 with_sub view run frame opens = record view {
   run = Some (record { frame = run.frame; piece = run.piece + 1; stored = 0 });
   made = if opens then view.made ++ frame ∷ [] else view.made;
   looks = if opens then 0 else view.looks;
 }
 
-abbrev pub after_sub : CoreState → ℕ → View → Run → Piece → CoreState
+abbrev pub after_sub : CoreState → ℕ → View → FrameRun → Piece → CoreState
 after_sub state seat view run piece = record {
   words = slice_set state.words piece.to (lowered piece.count (word_at state.words piece.to));
   cells = state.cells;
@@ -164,7 +164,7 @@ after_sub state seat view run piece = record {
 }
 
 -- FINISH with the meaning's end of the running frame, whatever it is, where all its pieces are given.
-pub record CanFinish (known : Known) (state : CoreState) (seat : ℕ) (view : View) (run : Run) (end : TaskEnd) : Type 0 where
+pub record CanFinish (known : Known) (state : CoreState) (seat : ℕ) (view : View) (run : FrameRun) (end : TaskEnd) : Type 0 where
   pub is_seat : IsSeat state seat view
   pub runs : view.run ≡ Some run
   pub is_meant : end_of known run.frame ≡ Some end
@@ -173,7 +173,7 @@ pub record CanFinish (known : Known) (state : CoreState) (seat : ℕ) (view : Vi
 abbrev pub finished : View → View
 finished view = record view { run = None }
 
-abbrev pub after_finish : CoreState → ℕ → View → Run → TaskEnd → CoreState
+abbrev pub after_finish : CoreState → ℕ → View → FrameRun → TaskEnd → CoreState
 after_finish state seat view run end = record {
   words = slice_set state.words run.frame (Ended end);
   cells = state.cells;
@@ -207,11 +207,11 @@ pub data Step (known : Known) (state : CoreState) : CoreState → Type 0 where
   join : (seat : ℕ) (view : View) (other : ℕ) (guest : View) → CanJoin state seat view other guest
       → Step known state (after_join state seat view other guest)
   claim : (seat : ℕ) (view : View) (frame : ℕ) → CanClaim known state seat view frame → Step known state (after_claim known state seat view frame)
-  read : (seat : ℕ) (view : View) (run : Run) (cell : ℕ) → CanRead known state seat view run cell → Step known state state
-  store : (seat : ℕ) (view : View) (run : Run) (piece : Piece) → CanStore known state seat view run piece
+  read : (seat : ℕ) (view : View) (run : FrameRun) (cell : ℕ) → CanRead known state seat view run cell → Step known state state
+  store : (seat : ℕ) (view : View) (run : FrameRun) (piece : Piece) → CanStore known state seat view run piece
       → Step known state (after_store known state seat view run piece)
-  sub : (seat : ℕ) (view : View) (run : Run) (piece : Piece) → CanSub known state seat view run piece
+  sub : (seat : ℕ) (view : View) (run : FrameRun) (piece : Piece) → CanSub known state seat view run piece
       → Step known state (after_sub state seat view run piece)
-  finish : (seat : ℕ) (view : View) (run : Run) (end : TaskEnd) → CanFinish known state seat view run end
+  finish : (seat : ℕ) (view : View) (run : FrameRun) (end : TaskEnd) → CanFinish known state seat view run end
       → Step known state (after_finish state seat view run end)
   look : (seat : ℕ) (view : View) → CanLook known state seat view → Step known state (after_look known state seat view)

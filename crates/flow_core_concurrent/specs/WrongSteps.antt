@@ -3,7 +3,7 @@
 use Rattle.std.specs.Prelude.{ℕ, ℤ, pos, ◌+◌, ◌==◌, ◌&&◌, true, if◌then◌else◌, List, [], ◌∷◌, Some, None, map, length, count_by, slice_set}
 use Rattle.std.specs.List.{range_with_len, list_any}
 use Rattle.flow_core_laws.specs.declared.plan.Piece.{Piece}
-use Rattle.flow_core_concurrent.specs.declared.view.Run.{Run}
+use Rattle.flow_core_concurrent.specs.declared.view.FrameRun.{FrameRun}
 use Rattle.flow_core_laws.specs.declared.outcome.Outcome.{Outcome}
 use Rattle.flow_core_laws.specs.declared.plan.Plan.{Plan}
 use Rattle.flow_core_laws.specs.declared.task_end.TaskEnd.TheVariants.{Done, Trapped, Poisoned}
@@ -28,7 +28,7 @@ pub record Breaks (known : Known) (state : CoreState) (wrong : CoreState → Cor
   pub is_not_good : ¬ (IsGood known (wrong state))
 
 -- The giver of the two frames of which the reader was created first runs, and stored nothing yet.
-abbrev pub giver_run : Run
+abbrev pub giver_run : FrameRun
 giver_run = record { frame = 1; piece = 1; stored = 0 }
 
 abbrev pub giver_view : View
@@ -93,11 +93,11 @@ abbrev pub CountsProducers : Type 0
 CountsProducers = Breaks pairs (opening pairs) (by_producers pairs.plan)
 
 -- And the frame opens at the first piece of its producer.
-abbrev pub opens_at_once : CoreState → ℕ → View → Run → Piece → CoreState
+abbrev pub opens_at_once : CoreState → ℕ → View → FrameRun → Piece → CoreState
 opens_at_once s i view run piece =
     record { words = slice_set s.words piece.to Open; cells = s.cells; seats = slice_set s.seats i (with_sub view run piece.to true) }
 
-abbrev pub first_run : Run
+abbrev pub first_run : FrameRun
 first_run = record { frame = 0; piece = 0; stored = 1 }
 
 abbrev pub first_view : View
@@ -127,7 +127,7 @@ abbrev pub trapped_runs : CoreState
 trapped_runs = state (Wait 1 ∷ Taken ∷ Wait 1 ∷ []) (None ∷ None ∷ []) (trapped_view ∷ [])
 
 -- A STORE of a value that the body wrote, whether the meaning is Done or not.
-abbrev pub store_anyway : ℕ → CoreState → ℕ → View → Run → Piece → CoreState
+abbrev pub store_anyway : ℕ → CoreState → ℕ → View → FrameRun → Piece → CoreState
 store_anyway number s i view run piece =
     record {
       words = s.words;

@@ -24,5 +24,5 @@ mod word;
 pub mod wrong_steps;
 
 pub use known::Known;
-pub use view::{Run, View};
+pub use view::{FrameRun, View};
 pub use word::Word;

@@ -4,7 +4,7 @@ use os_io::List;
 /// A frame that a seat runs, and how many of its output elements are stored: all those of its pieces
 /// before `piece`, and the first `stored` of that piece.
 #[derive(Clone, Copy, Debug, PartialEq, Eq)]
-pub struct Run {
+pub struct FrameRun {
     pub frame: u32,
     pub piece: u32,
     pub stored: u32,
@@ -15,7 +15,7 @@ pub struct Run {
 pub struct View {
     pub about: Known,
     /// What it runs at this moment, if it runs something.
-    pub run: Option<Run>,
+    pub run: Option<FrameRun>,
     /// The frames that it opened by a SUB.
     pub made: List<u32>,
     /// The frames that it claimed.

@@ -3,7 +3,7 @@ use Rattle.std.proofs.Common.{◌≡◌, ℕ, Bool, true, false, ◌+◌, ◌-�
 use Rattle.std.specs.Prelude.{◌==◌, slice_get, slice_index, if◌then◌else◌}
 use Rattle.std.proofs.lemmas.List.{set-get_or}
 use Rattle.std.proofs.lemmas.Nat.{mod_below}
-use Rattle.flow_core_concurrent.specs.declared.view.Run.{Run}
+use Rattle.flow_core_concurrent.specs.declared.view.FrameRun.{FrameRun}
 use Rattle.flow_core_laws.specs.declared.elem.Elem.{Elem}
 use Rattle.flow_core_laws.specs.Plans.{held_at}
 use Rattle.flow_core_concurrent.specs.declared.known.Known.{Known}
@@ -34,7 +34,7 @@ kept_by : (known : Known) (words words' : List ℕ) (views views' : List View) (
 kept_by known words words' views views' s kept is good spelled = record { fit = kept.fit; good = subst (IsGood known) (sym is) good; spelled = spelled }
 
 -- a frame that a seat runs is one
-exists : (known : Known) (words : List ℕ) (views : List View) (i : ℕ) (v : View) (r : Run) → ShowsGood known words views → slice_get views i ≡ Some v → v.run ≡ Some r → r.frame < length known.plan.frames
+exists : (known : Known) (words : List ℕ) (views : List View) (i : ℕ) (v : View) (r : FrameRun) → ShowsGood known words views → slice_get views i ≡ Some v → v.run ≡ Some r → r.frame < length known.plan.frames
 exists known words views i v r kept sees runs = ((kept.good.views_are_sound i v sees).runs_at_a_place r runs).of_a_frame
 
 pub split_rule : SplitKeepsTheRule

@@ -6,7 +6,7 @@ use Rattle.flow_core_laws.specs.declared.elem.Elem.{Elem}
 use Rattle.flow_core_laws.specs.Poisoning.{values_of, least_root}
 use Rattle.flow_core_laws.specs.IsSound.{HasCell}
 use Rattle.flow_core_concurrent.specs.declared.known.Known.{Known}
-use Rattle.flow_core_concurrent.specs.declared.view.Run.{Run}
+use Rattle.flow_core_concurrent.specs.declared.view.FrameRun.{FrameRun}
 use Rattle.flow_core_concurrent.specs.declared.view.View.{View}
 use Rattle.flow_core_concurrent.specs.Steps.{output_of, first_place, StandsAt}
 use Rattle.frame_table.specs.Seats.{at}
@@ -16,7 +16,7 @@ abbrev pub standing : View → (frame piece stored : ℕ) → View
 standing v frame piece stored = record v { run = Some (at frame piece stored) }
 
 -- A seat may store this element into this word.
-pub record MayStore (known : Known) (view : View) (run : Run) (piece : Piece) (word : ℕ) (elem : Elem) : Type 0 where
+pub record MayStore (known : Known) (view : View) (run : FrameRun) (piece : Piece) (word : ℕ) (elem : Elem) : Type 0 where
   pub runs : view.run ≡ Some run
   pub stands : StandsAt known.plan run piece
   pub has_more : run.stored < piece.count
@@ -24,13 +24,13 @@ pub record MayStore (known : Known) (view : View) (run : Run) (piece : Piece) (w
   pub is_meant : output_of known run.frame (piece.first + run.stored) ≡ Some elem
 
 -- A seat may count a piece.
-pub record MaySub (known : Known) (view : View) (run : Run) (piece : Piece) : Type 0 where
+pub record MaySub (known : Known) (view : View) (run : FrameRun) (piece : Piece) : Type 0 where
   pub runs : view.run ≡ Some run
   pub stands : StandsAt known.plan run piece
   pub has_stored_all : run.stored ≡ piece.count
 
 -- A seat may read a cell.
-pub record MayRead (known : Known) (view : View) (run : Run) (cell : ℕ) : Type 0 where
+pub record MayRead (known : Known) (view : View) (run : FrameRun) (cell : ℕ) : Type 0 where
   pub runs : view.run ≡ Some run
   pub gave_nothing : run ≡ first_place known.plan run.frame
   pub is_its_cell : HasCell known.plan run.frame cell

@@ -2,7 +2,7 @@
 
 ghost use Rattle.std.specs.Prelude.{◌≡◌, OnOk, map, option_map};
 ghost use Rattle.lowering_draft.specs.Emission.Tasks.{burst_code, item_code, items_code, join_code, stream_code, tick_code};
-ghost use Rattle.os_ast.specs.Parts.{Item, parts, parts_of};
+ghost use Rattle.os_ast.specs.ClauseParts.{Item, parts, parts_of};
 ghost use Rattle.os_ast.specs.Views.{clause_item_tree, clause_kind_tree, clause_tree, expr_tree, index_tree, join_tree, target_tree};
 ghost use Rattle.lowering_relation.specs.Names.{told_at};
 

@@ -6,7 +6,7 @@ ghost use Rattle.lowering_draft.specs.Emission.Changes.{change_code};
 ghost use Rattle.lowering_draft.specs.Emission.Declarators.{start_code};
 ghost use Rattle.lowering_draft.specs.Emission.Tasks.{items_code};
 ghost use Rattle.lowering_draft.specs.Emission.Statements.{begin_code, block_code, closed, end_of, jump_on, next_behind, opened, stmt_code, test_code};
-ghost use Rattle.os_ast.specs.Parts.{parts};
+ghost use Rattle.os_ast.specs.ClauseParts.{parts};
 ghost use Rattle.os_ast.specs.Views.{change_tree, clause_tree, expr_tree, start_tree, stmt_tree, stmts_tree};
 ghost use Rattle.lowering_relation.specs.Names.{told_at};
 

@@ -8,7 +8,7 @@ use Rattle.os_ast.specs.Notes.Expressions.{expr_notes, step_notes, value_notes}
 use Rattle.os_ast.specs.Notes.Kinds.{Global, Note, Task}
 use Rattle.os_ast.specs.Notes.Programs.{after_item, in_body, in_function, item_notes, items_notes, param_list, params_notes, after_param}
 use Rattle.os_ast.specs.Notes.Statements.{after_stmt, stmt_notes, stmts_notes}
-use Rattle.os_ast.specs.Parts.{count_items, parts}
+use Rattle.os_ast.specs.ClauseParts.{count_items, parts}
 use Rattle.os_ast.specs.Trees as tree
 use Rattle.os_ast.specs.Violations.{captures, main_task}
 use Rattle.os_ast.specs.declared.expr.Mark.{Mark}

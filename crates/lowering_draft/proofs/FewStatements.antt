@@ -17,7 +17,7 @@ use Rattle.lowering_draft.specs.declared.draft.Draft.{Draft}
 use Rattle.lowering_draft.specs.declared.draft.Label.{Label}
 use Rattle.lowering_draft.specs.declared.exits.Exits.{Exits}
 use Rattle.os_ast.proofs.Prints.{prints_stmt}
-use Rattle.os_ast.specs.Parts.{parts}
+use Rattle.os_ast.specs.ClauseParts.{parts}
 use Rattle.os_ast.specs.Spelling as spelling
 use Rattle.os_ast.specs.Spelling.{Symbol, Printer, bare, change, clause, each, expr, optional, params, stmt, stmts, ◌⨾◌}
 use Rattle.os_ast.specs.Trees as tree

@@ -8,7 +8,7 @@ use Rattle.lowering_draft.proofs.Paying.{Pays, length-instrs}
 use Rattle.lowering_draft.specs.Emission.Expressions.{expr_code}
 use Rattle.lowering_draft.specs.Emission.Tasks.{burst_code, item_code, items_code, join_code, stream_code, tick_code}
 use Rattle.lowering_draft.specs.declared.draft.Draft.{Draft}
-use Rattle.os_ast.specs.Parts.{Item, Private, parts, parts_of, target_name}
+use Rattle.os_ast.specs.ClauseParts.{Item, Private, parts, parts_of, target_name}
 use Rattle.os_ast.specs.Spelling as spelling
 use Rattle.os_ast.specs.Spelling.{Symbol, Printer, bare, marked, clause, clause_item, clause_kind, comma, each, expr, index, join, listed, name, optional, punct, target, ◌⨾◌}
 use Rattle.os_ast.specs.Trees as tree

@@ -4,7 +4,7 @@ use Rattle.std.proofs.lemmas.Option.{none-some, same_Some}
 use Rattle.lowering_draft.specs.Given.{IsGiven, IsItem, joined, private_name}
 use Rattle.os_ast.specs.Leveled as leveled
 use Rattle.os_ast.specs.Leveled.{AreAll, AreClauses, AreListed, IsClause, IsClauseItem, IsClauseKind, IsDeclarator, IsExpr, IsHeadDeclarator, IsIndex, IsOptional}
-use Rattle.os_ast.specs.Parts.{Item, Private, parts, parts_of}
+use Rattle.os_ast.specs.ClauseParts.{Item, Private, parts, parts_of}
 use Rattle.os_ast.specs.Trees as tree
 use Rattle.os_ast.specs.declared.expr.Name.{Name}
 use Rattle.os_ast.specs.declared.names.Direction.{Direction}

@@ -3,13 +3,13 @@ use Rattle.std.proofs.Common.{◌≡◌, ℕ, ◌+◌, ◌<◌, List, [], ◌∷
 use Rattle.std.proofs.Math.Seq.{drop-cons}
 use Rattle.lowering_draft.specs.Emission.Tasks.{item_code, items_code}
 use Rattle.lowering_draft.specs.declared.draft.Draft.{Draft}
-use Rattle.os_ast.specs.Parts.{Part, Item, Private, parts, parts_of}
+use Rattle.os_ast.specs.ClauseParts.{ClausePart, Item, Private, parts, parts_of}
 use Rattle.os_ast.specs.Views.{clause_kind_tree, clause_tree}
 use Rattle.os_ast.specs.declared.expr.Name.{Name}
 use Rattle.os_ast.specs.declared.names.Resolved.{Resolved}
 use Rattle.os_ast.specs.declared.pragma.Clause.{Clause}
 
-pub items_code-append : (tells : ℕ → Resolved) (ps qs : List Part) (d : Draft) → items_code tells (ps ++ qs) d ≡ items_code tells qs (items_code tells ps d)
+pub items_code-append : (tells : ℕ → Resolved) (ps qs : List ClausePart) (d : Draft) → items_code tells (ps ++ qs) d ≡ items_code tells qs (items_code tells ps d)
 items_code-append tells [] qs d = refl
 items_code-append tells (Item direction i ∷ ps) qs d = items_code-append tells ps qs (item_code tells direction i d)
 items_code-append tells (Private n ∷ ps) qs d = items_code-append tells ps qs d

@@ -18,7 +18,7 @@ use Rattle.lowering_draft.specs.Going.{IsLeave, ends, returns}
 use Rattle.lowering_draft.specs.declared.draft.Draft.{Draft}
 use Rattle.os_ast.specs.Leveled as leveled
 use Rattle.os_ast.specs.Leveled.{AreAll, AreArgs, AreClauses, IsExpr, IsTarget}
-use Rattle.os_ast.specs.Parts.{parts}
+use Rattle.os_ast.specs.ClauseParts.{parts}
 use Rattle.os_ast.specs.Trees as tree
 use Rattle.os_ast.specs.declared.expr.Mark.{Mark}
 use Rattle.os_ast.specs.declared.expr.Name.{Name}

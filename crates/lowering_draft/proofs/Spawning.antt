@@ -14,7 +14,7 @@ use Rattle.lowering_draft.specs.declared.exits.Exits.{Exits}
 use Rattle.cddf_meaning.specs.Operators.{step_operator}
 use Rattle.cddf_meaning.specs.ExpressionTypes.{type_of_two}
 use Rattle.os_ast.specs.FreeNames.{expr_names}
-use Rattle.os_ast.specs.Parts.{Part, Item, Private, is_in, parts}
+use Rattle.os_ast.specs.ClauseParts.{ClausePart, Item, Private, is_in, parts}
 use Rattle.os_ast.specs.Trees as tree
 use Rattle.os_ast.specs.declared.expr.Binary.{Binary}
 use Rattle.os_ast.specs.declared.expr.Binary.TheVariants as binary
@@ -200,7 +200,7 @@ module _ (tells : ℕ → Resolved) where
   join_spawned r None d = refl
   join_spawned r (Some j) d = burst_spawned r (tells j.name.mark.place).what j.burst d
 
-  pub items_spawned : (ps : List Part) → SpawnsNothing (items_code tells ps)
+  pub items_spawned : (ps : List ClausePart) → SpawnsNothing (items_code tells ps)
   items_spawned [] d = refl
   items_spawned (Private n ∷ ps) d = items_spawned ps d
   items_spawned (Item r i ∷ ps) d =

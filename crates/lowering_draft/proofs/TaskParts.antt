@@ -3,14 +3,14 @@ use Rattle.std.proofs.Common.{◌≡◌, ◌∙◌, ℕ, List, [], ◌∷◌, �
 use Rattle.lowering_draft.specs.Emission.TaskUnits.{with_block_tasks, with_stmt_tasks}
 use Rattle.lowering_draft.specs.Emission.Units.{with_task, with_tasks}
 use Rattle.lowering_draft.specs.declared.units.Units.{Units}
-use Rattle.os_ast.specs.Parts.{Part, Item, Private}
+use Rattle.os_ast.specs.ClauseParts.{ClausePart, Item, Private}
 use Rattle.os_ast.specs.Trees as tree
 use Rattle.os_ast.specs.declared.expr.Name.{Name}
 use Rattle.os_ast.specs.declared.names.Resolved.{Resolved}
 use Rattle.os_code.specs.declared.site.SiteItem.{SiteItem}
 use Rattle.lowering_relation.specs.Tasks.{TaskTree, all_tasks_of, site_item, site_items, tasks_of}
 
-pub site_items-append : (tells : ℕ → Resolved) (ps qs : List Part) → site_items tells (ps ++ qs) ≡ site_items tells ps ++ site_items tells qs
+pub site_items-append : (tells : ℕ → Resolved) (ps qs : List ClausePart) → site_items tells (ps ++ qs) ≡ site_items tells ps ++ site_items tells qs
 site_items-append tells [] qs = refl
 site_items-append tells (Item d i ∷ ps) qs = ap (λ is. site_item tells d i ∷ is) (site_items-append tells ps qs)
 site_items-append tells (Private n ∷ ps) qs = site_items-append tells ps qs

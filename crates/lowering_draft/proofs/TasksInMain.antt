@@ -13,7 +13,7 @@ use Rattle.os_ast.specs.Notes.Expressions.{expr_notes, place_notes, step_notes, 
 use Rattle.os_ast.specs.Notes.Kinds.{Global, Note, Task}
 use Rattle.os_ast.specs.Notes.Programs.{after_item, after_param, in_body, in_function, item_notes, items_notes, param_list, params_notes, round_body}
 use Rattle.os_ast.specs.Notes.Statements.{after_stmt, stmt_notes, stmts_notes}
-use Rattle.os_ast.specs.Parts.{Part, count_items, parts}
+use Rattle.os_ast.specs.ClauseParts.{ClausePart, count_items, parts}
 use Rattle.os_ast.specs.Rules.{is_main_body}
 use Rattle.os_ast.specs.Trees as tree
 use Rattle.os_ast.specs.Violations.{captures, main_task}
@@ -36,7 +36,7 @@ pragma_owner owner.OfMain h = refl
 pragma_owner owner.OfFunction h = absurd (cc)
 pragma_owner owner.OfTask h = absurd (cc)
 
-module _ (s : Scope) (m : Mark) (ps : List Part) (a : tree.StmtTree) (lawful : AreLawful (clauses_notes s m ps a)) where
+module _ (s : Scope) (m : Mark) (ps : List ClausePart) (a : tree.StmtTree) (lawful : AreLawful (clauses_notes s m ps a)) where
   own_note : AreLawful (Task s m (count_items ps) (captured s.entries ps a) ∷ [])
   own_note = lawful-rest (parts_notes s [] ps) (Task s m (count_items ps) (captured s.entries ps a) ∷ []) lawful
 

@@ -1,7 +1,7 @@
 //! The sites of tasks: what each captures, and its clause items.
 
 ghost use Rattle.std.specs.Prelude.{◌≡◌, ◌++◌, [], IfOk, OnOk, get_or, map, option_map};
-ghost use Rattle.os_ast.specs.Parts.{Item, parts, parts_of};
+ghost use Rattle.os_ast.specs.ClauseParts.{Item, parts, parts_of};
 ghost use Rattle.os_ast.specs.Views.{clause_item_tree, clause_kind_tree, clause_tree, join_tree};
 ghost use Rattle.lowering_relation.specs.Names.{told_at};
 ghost use Rattle.lowering_relation.specs.Tasks.{is_write, site_item, site_items, window_of};

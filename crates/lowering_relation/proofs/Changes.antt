@@ -5,7 +5,7 @@ use Rattle.cddf_meaning.specs.File.{variable, type_in}
 use Rattle.cddf_meaning.specs.Flow.{Ran, given, goes_on}
 use Rattle.cddf_meaning.specs.Operators.{binary_value, step_operator}
 use Rattle.cddf_meaning.specs.Run.{assigned, old_value, after_store, changed, target_type, run_change}
-use Rattle.cddf_meaning.specs.State.{State, stored, stored_at}
+use Rattle.cddf_meaning.specs.BodyState.{BodyState, stored, stored_at}
 use Rattle.cddf_meaning.specs.Value.{scalar_value, elements, checked, value}
 use Rattle.cddf_meaning.specs.Variables.{find}
 use Rattle.cddf_meaning.specs.declared.aim.Aim.{Aim}
@@ -45,7 +45,7 @@ abbrev pub with_old : Bool → ℤ → List ℤ → List ℤ
 with_old true v stack = v ∷ stack
 with_old false v stack = stack
 
-given_then : {A B : Type 0} (a : Answer A) (f : A → Answer B) (st : State) (g : B → Ran) → given a st (λ x. given (f x) st g) ≡ given (and_then a f) st g
+given_then : {A B : Type 0} (a : Answer A) (f : A → Answer B) (st : BodyState) (g : B → Ran) → given a st (λ x. given (f x) st g) ≡ given (and_then a f) st g
 given_then (Ok x) f st g = refl
 given_then (Err e) f st g = refl
 
@@ -69,9 +69,9 @@ module _ (code : Parts) (callers : List Frame) (m : Store) (turns : ℕ) (v : �
   fronts old (what.Window x) line from to stack reads h = plain old (what.Window x) line from to stack reads h
   fronts old (what.Stream x y) line from to stack reads h = plain old (what.Stream x y) line from to stack reads h
 
-module _ (c : Context) (callers : List Frame) (leaves : Instr) (total : ℕ) (s : Scope) (es : List Entry) (top : ℕ) (st : State) (m : Store) (ready : Ready c s es st m) (stacked : Stacked (means c) top (es ++ c.bound)) (fits : top ≤ total) (len : length m.slots ≡ total) where
+module _ (c : Context) (callers : List Frame) (leaves : Instr) (total : ℕ) (s : Scope) (es : List Entry) (top : ℕ) (st : BodyState) (m : Store) (ready : Ready c s es st m) (stacked : Stacked (means c) top (es ++ c.bound)) (fits : top ≤ total) (len : length m.slots ≡ total) where
   -- The right side of a change, on the old value where that is needed.
-  abbrev RightRuns : Bool → (ℤ → State → ℕ → Answer (Left ℤ)) → (ℕ → ℕ → Type 0) → Type 0
+  abbrev RightRuns : Bool → (ℤ → BodyState → ℕ → Answer (Left ℤ)) → (ℕ → ℕ → Type 0) → Type 0
   RightRuns old right has = (x : ℤ) (below : List ℤ) (turns p q : ℕ) → has p q →
       Meets c.code (at callers p (with_old old x below) m turns) (pushed callers q below m) (right x st turns)
 
@@ -87,7 +87,7 @@ module _ (c : Context) (callers : List Frame) (leaves : Instr) (total : ℕ) (s 
       (fetches_at c callers es st m false n k.entity line p i stack turns (name c s es st m.slots n u plain ready.scope k ready.aligned) ready.kept h.0)
 
   -- a target is changed
-  pub changed_does : (t : tree.TargetTree) (old : Bool) (right : ℤ → State → ℕ → Answer (Left ℤ)) (has : ℕ → ℕ → Type 0) (broke continued from to : ℕ) (stack : List ℤ) (turns : ℕ) (within : List Entry → Type 0) →
+  pub changed_does : (t : tree.TargetTree) (old : Bool) (right : ℤ → BodyState → ℕ → Answer (Left ℤ)) (has : ℕ → ℕ → Type 0) (broke continued from to : ℕ) (stack : List ℤ) (turns : ℕ) (within : List Entry → Type 0) →
       Agree c (place_notes s role.Changed t) → RightRuns old right has → HasChanged c.code (tells c) old t has from to →
       Does c.code (at callers from stack m turns) (settled c callers leaves total to broke continued stack within es) (changed c.file t right st turns)
   changed_does (tree.Variable n) old right has broke continued from to stack turns within agree rights h =
@@ -137,7 +137,7 @@ module _ (c : Context) (callers : List Frame) (leaves : Instr) (total : ℕ) (s 
       let named = name c s es st m.slots n u tt ready.scope k ready.aligned in
       let line = open_mark.line in
       let size = length (elements st (find st.bound n.id)) in
-      let right : ℤ → State → ℕ → Answer (Left ℤ) = λ old s2 t. and_then (value c.file e s2 t) (λ n. with_turns n.turns (Ok n.value)) in
+      let right : ℤ → BodyState → ℕ → Answer (Left ℤ) = λ old s2 t. and_then (value c.file e s2 t) (λ n. with_turns n.turns (Ok n.value)) in
       let g : Left Aim → Ran = λ a. given (right (old_value c.file st a.value) st a.turns) st (λ v. goes_on (after_store st a.value v.value) v.turns) in
       let f : Left ℤ → Answer (Left Aim) = λ i. and_then (checked size line i.value) (λ j. Ok (left (Element n.id j) i.turns)) in
       subst (Does c.code (at callers from stack m turns) (settled c callers leaves total (end + 1) broke continued stack within es)) (given_then (value c.file i st turns) f st g)

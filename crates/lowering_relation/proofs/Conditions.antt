@@ -4,7 +4,7 @@ use Rattle.c_int.specs.Operators.{is_zero, truth}
 use Rattle.cddf_meaning.specs.Answers.{Answer, and_then, Left, left}
 use Rattle.cddf_meaning.specs.File.{type_in}
 use Rattle.cddf_meaning.specs.Run.{run_test}
-use Rattle.cddf_meaning.specs.State.{State}
+use Rattle.cddf_meaning.specs.BodyState.{BodyState}
 use Rattle.cddf_meaning.specs.Value.{as_truth, value, chained}
 use Rattle.os_ast.specs.Names.{Scope}
 use Rattle.os_ast.specs.Notes.Expressions.{expr_notes, links_notes, value_notes}
@@ -23,7 +23,7 @@ use Rattle.lowering_relation.proofs.Flows.{branched}
 use Rattle.lowering_relation.proofs.Steps.{Store, at, pushed, Leads, stays, leads_on, Meets, gives, halts, meets_then, meets_in, branch}
 
 module _ (code : Parts) (callers : List Frame) (stack : List ℤ) (m : Store) where
-  branch_on : {s : machine.State} {a : Answer (Left ℤ)} (end fails : ℕ) → instr_at code end ≡ Some (instr.JumpZero fails) →
+  branch_on : {s : machine.MachineState} {a : Answer (Left ℤ)} (end fails : ℕ) → instr_at code end ≡ Some (instr.JumpZero fails) →
       Meets code s (pushed callers end stack m) a → Meets code s (branched callers fails (end + 1) stack m) a
   branch_on end fails is (gives n u l) = gives n tt (leads_on code l (branch code callers end fails n.value stack m n.turns (is_zero n.value) refl is))
   branch_on end fails is (halts h) = halts h
@@ -35,7 +35,7 @@ module _ (code : Parts) (callers : List Frame) (stack : List ℤ) (m : Store) wh
   fails_at : (v : ℤ) (turns fails to : ℕ) → is_zero v ≡ true → Leads code (at callers fails stack m turns) (at callers (if is_zero v then fails else to) stack m turns)
   fails_at v turns fails to e = subst (λ t. Leads code (at callers fails stack m turns) (at callers (if t then fails else to) stack m turns)) (sym e) stays
 
-module _ (c : Context) (callers : List Frame) (s : Scope) (es : List Entry) (st : State) (m : Store) (ready : Ready c s es st m) (stack : List ℤ) where
+module _ (c : Context) (callers : List Frame) (s : Scope) (es : List Entry) (st : BodyState) (m : Store) (ready : Ready c s es st m) (stack : List ℤ) where
   -- a chain of `&&` behind 0 is 0
   zero_chain : {links : tree.Links} {fails mid to : ℕ} → HaveConditions c.code (tells c) links fails mid to → (y : Bool) (n : Left ℤ) → is_zero n.value ≡ true →
       (v : ℤ) × (chained c.file links st y n ≡ Ok (left v n.turns)) × (is_zero v ≡ true)

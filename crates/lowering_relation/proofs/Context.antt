@@ -4,7 +4,7 @@ use Rattle.std.specs.Prelude.{⊤, ◌⊎◌, Contains}
 use Rattle.cddf_meaning.specs.File.{File, flags}
 use Rattle.cddf_meaning.specs.Moves.{CallsFall}
 use Rattle.cddf_meaning.specs.Skips.{skips_of}
-use Rattle.cddf_meaning.specs.State.{State}
+use Rattle.cddf_meaning.specs.BodyState.{BodyState}
 use Rattle.cddf_meaning.specs.Variables.{find, flag_or}
 use Rattle.cddf_meaning.specs.declared.variable.Variable.{Variable}
 use Rattle.cddf_meaning.specs.declared.variable.Variable.TheVariants as variable
@@ -87,7 +87,7 @@ Windows [] (vs ∷ items) = ⊥
 Windows (w ∷ ws) [] = ⊥
 Windows (w ∷ ws) (vs ∷ items) = (w.elements ≡ vs) × (w.claim.horizon ≡ length vs) × (1 ≤ length vs) × Windows ws items
 
-abbrev pub Kept : Side → State → Store → Type 0
+abbrev pub Kept : Side → BodyState → Store → Type 0
 Kept (InFunction windows created skips) s m = (m.windows ≡ windows) × (m.created ≡ created) × (m.skips ≡ skips)
 Kept (InTask claims) s m = (map (λ (w : TaskWindow). w.claim) m.windows ≡ claims) × Windows m.windows s.items
 Kept (InMain streams later) s m = (s.activations ≡ m.created) × (s.streams ≡ streams) × (m.skips ≡ skips_of (streams + later) s.moves)
@@ -222,7 +222,7 @@ used c s es n u ns is h =
     }
 
 -- What is found in scope is declared in the body, or round it, or in the file.
-abbrev pub Named : Context → List Entry → List ℤ → State → Name → Entity → Type 0
+abbrev pub Named : Context → List Entry → List ℤ → BodyState → Name → Entity → Type 0
 Named c es slots st n d =
     ((entity_of (lookup (es ++ c.bound) n.id) ≡ Some d) × Found (resources c.side) (means c) slots (find st.bound n.id) d) ⊎ ((find st.bound n.id ≡ None) × FileHas c.code c.file (find c.file.names n.id) d)
 
@@ -238,7 +238,7 @@ split (e ∷ es) xs ys id = by_case (e.id == id) (split es xs ys id)
     by_case true next = inl refl
     by_case false next = next
 
-pub name : (c : Context) (s : Scope) (es : List Entry) (st : State) (slots : List ℤ) (n : Name) (u : Use) → IsPlain u → In c s es → (k : IsUsed c s n u) →
+pub name : (c : Context) (s : Scope) (es : List Entry) (st : BodyState) (slots : List ℤ) (n : Name) (u : Use) → IsPlain u → In c s es → (k : IsUsed c s n u) →
     Aligned (resources c.side) (means c) slots st.bound (es ++ c.bound) → Named c es slots st n k.entity
 name c s es st slots n u plain is k al = by_split (split es c.round c.bound n.id)
   where
@@ -261,7 +261,7 @@ declared_flag elsewhere None d is = absurd (cc)
 declared_flag elsewhere (Some e) d is = refl
 
 -- A name is of the type that the list of names tells.
-pub name_flag : (c : Context) (s : Scope) (es : List Entry) (st : State) (slots : List ℤ) (n : Name) (u : Use) → IsPlain u → In c s es → IsUsed c s n u →
+pub name_flag : (c : Context) (s : Scope) (es : List Entry) (st : BodyState) (slots : List ℤ) (n : Name) (u : Use) → IsPlain u → In c s es → IsUsed c s n u →
     Aligned (resources c.side) (means c) slots st.bound (es ++ c.bound) → flags_by (tells c) n ≡ flags c.file st n
 name_flag c s es st slots n u plain is k al = k.flag ∙ ap (λ xs. flag_of (lookup xs n.id)) is.entries ∙ sym (seen ∙ by_split (split es c.round c.bound n.id))
   where

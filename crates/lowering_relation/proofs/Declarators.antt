@@ -3,7 +3,7 @@ use Rattle.std.proofs.Common.{◌≡◌, ℕ, ◌+◌, ◌<◌, ◌≤◌, ◌&&
 use Rattle.std.specs.Prelude.{unwrap_or}
 use Rattle.cddf_meaning.specs.Flow.{Ran, given, goes_on}
 use Rattle.cddf_meaning.specs.Run.{Around, run_scalar, array_size, run_array, run_sized, run_declarator, run_declarators}
-use Rattle.cddf_meaning.specs.State.{State, declared, stored}
+use Rattle.cddf_meaning.specs.BodyState.{BodyState, declared, stored}
 use Rattle.cddf_meaning.specs.Variables.{bind}
 use Rattle.cddf_meaning.specs.declared.site.Site.{Site}
 use Rattle.cddf_meaning.specs.declared.variable.Variable.TheVariants.{Scalar, Array}
@@ -47,7 +47,7 @@ around_of c sites = record { file = c.file; is_control = is_window c.owner; site
 module _ (c : Context) (callers : List Frame) (leaves : Instr) (total : ℕ) (sites : List Site) where
   abbrev pub DeclaratorDoes : tree.DeclaratorTree → Type 1
   DeclaratorDoes d =
-      (s : Scope) (es : List Entry) (st : State) (m : Store) (broke continued from to : ℕ) (stack : List ℤ) (turns : ℕ) (within : List Entry → Type 0) → Ready c s es st m → c.floor < s.depth →
+      (s : Scope) (es : List Entry) (st : BodyState) (m : Store) (broke continued from to : ℕ) (stack : List ℤ) (turns : ℕ) (within : List Entry → Type 0) → Ready c s es st m → c.floor < s.depth →
       Stacked (means c) s.slots (es ++ c.bound) → (after_declarator s d).slots ≤ total → length m.slots ≡ total → Agree c (declarator_notes s d) →
       HasDeclared c.code (tells c) (tells c d.name.mark.place).what d from to →
       Does c.code (at callers from stack m turns) (settled c callers leaves total to broke continued stack within (entry s d ∷ es)) (run_declarator (around_of c sites) s.unsigned d st turns)
@@ -55,7 +55,7 @@ module _ (c : Context) (callers : List Frame) (leaves : Instr) (total : ℕ) (si
   -- the same, at any depth
   abbrev pub DeclaratorRuns : tree.DeclaratorTree → Type 1
   DeclaratorRuns d =
-      (s : Scope) (es : List Entry) (st : State) (m : Store) (broke continued from to : ℕ) (stack : List ℤ) (turns : ℕ) (within : List Entry → Type 0) → Ready c s es st m →
+      (s : Scope) (es : List Entry) (st : BodyState) (m : Store) (broke continued from to : ℕ) (stack : List ℤ) (turns : ℕ) (within : List Entry → Type 0) → Ready c s es st m →
       Stacked (means c) s.slots (es ++ c.bound) → (after_declarator s d).slots ≤ total → length m.slots ≡ total → Agree c (declarator_notes s d) →
       HasDeclared c.code (tells c) (tells c d.name.mark.place).what d from to →
       Does c.code (at callers from stack m turns) (settled c callers leaves total to broke continued stack within (entry s d ∷ es)) (run_declarator (around_of c sites) s.unsigned d st turns)
@@ -69,7 +69,7 @@ module _ (c : Context) (callers : List Frame) (leaves : Instr) (total : ℕ) (si
       subst (λ q. Leads c.code (at callers p stack m turns) (at callers q stack (with_slots m (set m.slots k (pos 0))) turns)) h.1.1
       (leads_on c.code (push c.code callers (pos 0) p stack m turns h.0) (store_top c.code callers k (p + 1) (pos 0) stack m turns h.1.0))
 
-  module _ (s : Scope) (es : List Entry) (st : State) (m : Store) (broke continued : ℕ) (stack : List ℤ) (turns : ℕ) (within : List Entry → Type 0) (ready : Ready c s es st m)
+  module _ (s : Scope) (es : List Entry) (st : BodyState) (m : Store) (broke continued : ℕ) (stack : List ℤ) (turns : ℕ) (within : List Entry → Type 0) (ready : Ready c s es st m)
       (stacked : Stacked (means c) s.slots (es ++ c.bound)) (len : length m.slots ≡ total) where
     abbrev Declares : ℕ → ℕ → List Entry → Ran → Type 0
     Declares from to after r = Does c.code (at callers from stack m turns) (settled c callers leaves total to broke continued stack within after) r
@@ -181,11 +181,11 @@ module _ (c : Context) (callers : List Frame) (leaves : Instr) (total : ℕ) (si
         let d : tree.DeclaratorTree = record { name = n; size = size; stream = true; first = first } in
         control (main_stream s ready.scope.owner agree.0.0.1.1.1.1.1.1.1.0) d s es st m broke continued from to stack turns within ready deep stacked fits len agree h
 
-    abbrev ArrayGoal : Form → Name → tree.IndexTree → Scope → List Entry → State → Store → ℕ → ℕ → ℕ → ℕ → List ℤ → ℕ → (List Entry → Type 0) → Type 0
+    abbrev ArrayGoal : Form → Name → tree.IndexTree → Scope → List Entry → BodyState → Store → ℕ → ℕ → ℕ → ℕ → List ℤ → ℕ → (List Entry → Type 0) → Type 0
     ArrayGoal f n i s es st m broke continued from to stack turns within =
         Does c.code (at callers from stack m turns) (settled c callers leaves total to broke continued stack within (record { id = n.id; depth = (taken s f).depth; entity = form_entity s f; unsigned = (taken s f).unsigned } ∷ es)) (run_array c.file s.unsigned n.id i.value st turns)
 
-    array_done : (n : Name) (i : tree.IndexTree) (first : Option tree.ExprTree) (f : Form) (s : Scope) (es : List Entry) (st : State) (m : Store) (broke continued from to : ℕ) (stack : List ℤ) (turns : ℕ) (within : List Entry → Type 0) →
+    array_done : (n : Name) (i : tree.IndexTree) (first : Option tree.ExprTree) (f : Form) (s : Scope) (es : List Entry) (st : BodyState) (m : Store) (broke continued from to : ℕ) (stack : List ℤ) (turns : ℕ) (within : List Entry → Type 0) →
         f ≡ form_of.Array (size_of s i.value) → Ready c s es st m → Stacked (means c) s.slots (es ++ c.bound) → (taken s f).slots ≤ total → length m.slots ≡ total →
         has_no_size f (size_value s i.value) ≡ false → (tells c n.mark.place).what ≡ meaning (form_entity s f) →
         HasDeclared c.code (tells c) (tells c n.mark.place).what (record { name = n; size = Some i; stream = false; first = first }) from to →
@@ -229,7 +229,7 @@ module _ (c : Context) (callers : List Frame) (leaves : Instr) (total : ℕ) (si
         by_parts n None false first = at_depth (record { name = n; size = None; stream = false; first = first }) (scalar_done n first)
         by_parts n (Some i) false first = sized_done n i first
 
-    pub declarators_does : (ds : List tree.DeclaratorTree) (s : Scope) (es : List Entry) (st : State) (m : Store) (broke continued from to : ℕ) (stack : List ℤ) (turns : ℕ) (within : List Entry → Type 0) → Ready c s es st m → c.floor < s.depth →
+    pub declarators_does : (ds : List tree.DeclaratorTree) (s : Scope) (es : List Entry) (st : BodyState) (m : Store) (broke continued from to : ℕ) (stack : List ℤ) (turns : ℕ) (within : List Entry → Type 0) → Ready c s es st m → c.floor < s.depth →
         Stacked (means c) s.slots (es ++ c.bound) → (after_declarators s ds).slots ≤ total → length m.slots ≡ total → Agree c (declarators_notes s ds) → HasDeclarators c.code (tells c) ds from to →
         Does c.code (at callers from stack m turns) (settled c callers leaves total to broke continued stack within (made s ds es)) (run_declarators (around_of c sites) s.unsigned ds st turns)
     declarators_does [] s es st m broke continued from to stack turns within ready deep stacked fits len agree h =

@@ -5,7 +5,7 @@ use Rattle.std.specs.Int.{w32, cast_signed}
 use Rattle.std.specs.Prelude.{◌⊎◌, unwrap_or}
 use Rattle.cddf_meaning.specs.Answers.{left}
 use Rattle.cddf_meaning.specs.File.{variable, or_in_file}
-use Rattle.cddf_meaning.specs.State.{State, declared, stored_in, stored}
+use Rattle.cddf_meaning.specs.BodyState.{BodyState, declared, stored_in, stored}
 use Rattle.cddf_meaning.specs.Value.{scalar_value, value}
 use Rattle.cddf_meaning.specs.Variables.{bind, find, assign}
 use Rattle.cddf_meaning.specs.declared.variable.Variable.{Variable}
@@ -125,7 +125,7 @@ constant_known (Some (entity.Streams n k)) v h = absurd (cc)
 constant_known (Some (entity.Element n d)) v h = absurd (cc)
 constant_known (Some (entity.View n d)) v h = absurd (cc)
 
-pub stored_own : (id : ℕ) (w : Bool) (y x : ℤ) (st : State) → stored (declared id w (Scalar y) st) id x ≡ declared id w (Scalar x) st
+pub stored_own : (id : ℕ) (w : Bool) (y x : ℤ) (st : BodyState) → stored (declared id w (Scalar y) st) id x ≡ declared id w (Scalar x) st
 stored_own id w y x st =
     let e : (id == id) ≡ true = eq-eqb id id refl in
     ap (λ t. stored_in (if t then Some (Scalar y) else find st.bound id) (declared id w (Scalar y) st) id x) e
@@ -168,7 +168,7 @@ module _ (c : Context) where
   stacked_behind s es d own st = stacked_form s es d.name.id (form s d) (taken s (form s d)).unsigned own st
 
   -- the size of a local array, which is an `int` also where it is wide
-  pub size_runs : (e : tree.ExprTree) (s : Scope) (es : List Entry) (st : State) (m : Store) (v : ℤ) (k turns : ℕ) → v ≡ pos k → k < 2 ^ 31 → Ready c s es st m → size_value s e ≡ Some v → value c.file e st turns ≡ Ok (left v turns)
+  pub size_runs : (e : tree.ExprTree) (s : Scope) (es : List Entry) (st : BodyState) (m : Store) (v : ℤ) (k turns : ℕ) → v ≡ pos k → k < 2 ^ 31 → Ready c s es st m → size_value s e ≡ Some v → value c.file e st turns ≡ Ok (left v turns)
   size_runs (tree.Number n) s es st m v k turns is_k small ready h = let e : pos n ≡ v = cc in ap (λ x. Ok (left x turns)) e
   size_runs (tree.Wide n) s es st m v k turns is_k small ready h =
       let e : pos n ≡ v = cc in

@@ -5,7 +5,7 @@ use Rattle.c_int.specs.Operators.{is_zero}
 use Rattle.cddf_meaning.specs.Answers.{Answer, and_then, Left, left, with_turns}
 use Rattle.cddf_meaning.specs.File.{File, variable, or_in_file, flags, type_in}
 use Rattle.cddf_meaning.specs.Operators.{binary_value, unary_value}
-use Rattle.cddf_meaning.specs.State.{State, declared}
+use Rattle.cddf_meaning.specs.BodyState.{BodyState, declared}
 use Rattle.cddf_meaning.specs.ExpressionTypes.{type_of_one, type_of_two, type_behind}
 use Rattle.cddf_meaning.specs.Value.{call_value, scalar_value, elements, element_at, as_truth, linked, value, place_value, values, chained}
 use Rattle.cddf_meaning.specs.Variables.{bind, find, flag_or}
@@ -13,7 +13,7 @@ use Rattle.cddf_meaning.specs.declared.variable.Binding.{Binding}
 use Rattle.cddf_meaning.specs.declared.variable.Variable.{Variable}
 use Rattle.cddf_meaning.specs.declared.variable.Variable.TheVariants as variable_of
 use Rattle.os_ast.specs.FreeNames.{expr_names, target_names, args_names, links_names}
-use Rattle.os_ast.specs.Parts.{is_in, target_name}
+use Rattle.os_ast.specs.ClauseParts.{is_in, target_name}
 use Rattle.os_ast.specs.Trees as tree
 use Rattle.os_ast.specs.declared.expr.Binary.{Binary}
 use Rattle.os_ast.specs.declared.expr.Binary.TheVariants as binary
@@ -77,11 +77,11 @@ same_then a b f g e h = ap (λ x. and_then x f) e ∙ by_answer b h
     by_answer (Ok y) h = h y
     by_answer (Err e) h = refl
 
-module _ (file : File) (s : State) (one other : List Binding) where
-  abbrev here : State
+module _ (file : File) (s : BodyState) (one other : List Binding) where
+  abbrev here : BodyState
   here = record s { bound = one }
 
-  abbrev there : State
+  abbrev there : BodyState
   there = record s { bound = other }
 
   -- the state counts for items alone
@@ -185,7 +185,7 @@ module _ (file : File) (s : State) (one other : List Binding) where
         (λ k. ap (λ t. chained file rest here (type_of_two op u t) k) same ∙ links_same rest (type_of_two op u y) k (same_rest one other (expr_names e) (links_names rest) h))
 
 -- An expression that doesn't have a name gives the same, whatever the name stands for.
-pub value_elsewhere : (file : File) (s : State) (id : ℕ) (u : Bool) (v w : Variable) (e : tree.ExprTree) (turns : ℕ) → is_in id (expr_names e) ≡ false →
+pub value_elsewhere : (file : File) (s : BodyState) (id : ℕ) (u : Bool) (v w : Variable) (e : tree.ExprTree) (turns : ℕ) → is_in id (expr_names e) ≡ false →
     value file e (declared id u v s) turns ≡ value file e (declared id u w s) turns
 value_elsewhere file s id u v w e turns apart = value_same file s (bind id u v s.bound) (bind id u w s.bound) e turns found
   where

@@ -8,7 +8,7 @@ use Rattle.c_int.specs.declared.operators.Unary.TheVariants as int_unary
 use Rattle.cddf_meaning.specs.Answers.{Answer, and_then, Left, left, with_turns}
 use Rattle.cddf_meaning.specs.File.{variable, or_in_file, type_in}
 use Rattle.cddf_meaning.specs.Operators.{operator_of_one, operator_of_two, given_by, binary_value, unary_value}
-use Rattle.cddf_meaning.specs.State.{State}
+use Rattle.cddf_meaning.specs.BodyState.{BodyState}
 use Rattle.cddf_meaning.specs.ExpressionTypes.{type_of_two}
 use Rattle.cddf_meaning.specs.Value.{call_value, scalar_value, elements, element_at, as_truth, linked, value, place_value, values, chained}
 use Rattle.cddf_meaning.specs.Variables.{find}
@@ -45,12 +45,12 @@ use Rattle.lowering_relation.proofs.TypesTold.{type_told}
 use Rattle.lowering_relation.proofs.Steps.{Store, at, pushed, onto, pushed_all, Leads, stays, leads_on, Meets, gives, halts, meets_then, push, drop_top, jump, jump_zero, unary_step, binary_step}
 
 -- a state of the machine beside one of the meaning, in a scope of the body
-pub record Ready (c : Context) (s : Scope) (es : List Entry) (st : State) (m : Store) : Type 0 where
+pub record Ready (c : Context) (s : Scope) (es : List Entry) (st : BodyState) (m : Store) : Type 0 where
   pub scope : In c s es
   pub aligned : Aligned (resources c.side) (means c) m.slots st.bound (es ++ c.bound)
   pub kept : Kept c.side st m
 
-pub ready_typed : (c : Context) (ty : Ty) (s : Scope) (es : List Entry) (st : State) (m : Store) → Ready c s es st m → Ready c (typed ty s) es st m
+pub ready_typed : (c : Context) (ty : Ty) (s : Scope) (es : List Entry) (st : BodyState) (m : Store) → Ready c s es st m → Ready c (typed ty s) es st m
 ready_typed c ty s es st m ready = record { scope = in_typed c ty s es ready.scope; aligned = ready.aligned; kept = ready.kept }
 
 not_not : (t : Bool) → truth (is_zero (truth t)) ≡ truth (not t)
@@ -58,7 +58,7 @@ not_not true = refl
 not_not false = refl
 
 -- a call is one of a function, with as many arguments as it has parameters
-pub record IsCall (c : Context) (slots : List ℤ) (st : State) (n : Name) (count : ℕ) (w : What) : Type 0 where
+pub record IsCall (c : Context) (slots : List ℤ) (st : BodyState) (n : Name) (count : ℕ) (w : What) : Type 0 where
   pub place : ℕ
   pub number : ℕ
   pub is : variable c.file st n.id ≡ Some (Function place)
@@ -82,7 +82,7 @@ no_function has slots (variable_of.Stream x y) number w e h = let z : what.Funct
 no_function has slots (variable_of.Item k) number w e (_, inl f) = let z : what.Function number ≡ what.Element k = sym e ∙ f in absurd (cc)
 no_function has slots (variable_of.Item k) number w e (_, inr f) = let z : what.Function number ≡ what.View k = sym e ∙ f in absurd (cc)
 
-is_call : (c : Context) (es : List Entry) (slots : List ℤ) (st : State) (n : Name) (count : ℕ) (d : Entity) → Named c es slots st n d → is_wrong_kind n.id (usage.Called count) d ≡ false →
+is_call : (c : Context) (es : List Entry) (slots : List ℤ) (st : BodyState) (n : Name) (count : ℕ) (d : Entity) → Named c es slots st n d → is_wrong_kind n.id (usage.Called count) d ≡ false →
     has_other_count n.id (usage.Called count) d ≡ false → IsCall c slots st n count (means c d)
 is_call c es slots st n count (entity.Function number params) (inl (there, (v, is, h))) kind other =
     absurd (no_function (resources c.side) slots v number (means c (entity.Function number params)) (means_function c.owner c.captured number params) h)
@@ -180,7 +180,7 @@ module _ (code : Parts) (callers : List Frame) where
       (subst (λ a. Meets code (at callers from stack m turns) (pushed callers (from + 1) stack m) (with_turns turns a)) (sym (ap (λ t. unary_value op line t (pos n)) (number n is).1 ∙ given))
       (gives (left w turns) tt (push code callers w from stack m turns at_push)))
 
-module _ (c : Context) (callers : List Frame) (s : Scope) (es : List Entry) (st : State) (m : Store) (ready : Ready c s es st m) where
+module _ (c : Context) (callers : List Frame) (s : Scope) (es : List Entry) (st : BodyState) (m : Store) (ready : Ready c s es st m) where
   number_value : (e : tree.ExprTree) (turns n : ℕ) → e ≡ tree.Number n → (value c.file e st turns ≡ Ok (left (pos n) turns)) × (type_in c.file st e ≡ false)
   number_value e turns n is = (ap (λ x. value c.file x st turns) is, ap (type_in c.file st) is)
 

@@ -5,7 +5,7 @@ use Rattle.cddf_meaning.specs.Answers.{Answer, Left}
 use Rattle.cddf_meaning.specs.Flow.{Ran, Went, Ended, Runs, given, goes_on, flows, loops, left_state, left_from}
 use Rattle.cddf_meaning.specs.Moves.{Falls, Keeps}
 use Rattle.cddf_meaning.specs.Run.{loop}
-use Rattle.cddf_meaning.specs.State.{State}
+use Rattle.cddf_meaning.specs.BodyState.{BodyState}
 use Rattle.cddf_meaning.specs.Variables.{leave}
 use Rattle.cddf_meaning.specs.declared.ending.Ending.{Ending}
 use Rattle.cddf_meaning.specs.declared.flow.Flow.{Flow}
@@ -26,27 +26,27 @@ use Rattle.lowering_relation.proofs.Steps.{Store, at, Behind, Leads, stays, lead
 
 -- where the machine stands behind a statement, by what is known of it
 pub record After : Type 1 where
-  pub Known : Flow → State → Type 0
-  pub state : (f : Flow) (st : State) (turns : ℕ) → Known f st → machine.State
+  pub Known : Flow → BodyState → Type 0
+  pub state : (f : Flow) (st : BodyState) (turns : ℕ) → Known f st → machine.MachineState
   pub side : Side
 
 -- the machine does what a statement does
-pub data Does (code : Parts) (s : machine.State) (end : After) : Ran → Type 0 where
-  went : (f : Flow) (st : State) (turns : ℕ) (w : end.Known f st) → Leads code s (end.state f st turns w) → Does code s end (Went f st turns)
+pub data Does (code : Parts) (s : machine.MachineState) (end : After) : Ran → Type 0 where
+  went : (f : Flow) (st : BodyState) (turns : ℕ) (w : end.Known f st) → Leads code s (end.state f st turns w) → Does code s end (Went f st turns)
   ended : {e : Ending} {activations : List Activation} (made : List Activation) → Stops code s e made → Made end.side activations made →
       Does code s end (Ended e activations)
 
-pub does_from : {code : Parts} {s t : machine.State} {end : After} {r : Ran} → Leads code s t → Does code t end r → Does code s end r
+pub does_from : {code : Parts} {s t : machine.MachineState} {end : After} {r : Ran} → Leads code s t → Does code t end r → Does code s end r
 does_from {code = code} l (went f st turns w k) = went f st turns w (leads_on code l k)
 does_from {code = code} l (ended made h k) = ended made (stops_from code l h) k
 
-pub kept_made : (side : Side) (st : State) (m : Store) → Kept side st m → Made side st.activations m.created
+pub kept_made : (side : Side) (st : BodyState) (m : Store) → Kept side st m → Made side st.activations m.created
 kept_made (InFunction windows created skips) st m h = h.1
 kept_made (InTask claims) st m h = tt
 kept_made (InMain streams later) st m h = sym h.0
 
 -- what follows an answer
-pub given_does : {A : Type 0} {code : Parts} {s : machine.State} {end : After} {mid : Behind A} {a : Answer A} (st : State) (m : Store) (next : A → Ran) → mid.created ≡ m.created → Kept end.side st m →
+pub given_does : {A : Type 0} {code : Parts} {s : machine.MachineState} {end : After} {mid : Behind A} {a : Answer A} (st : BodyState) (m : Store) (next : A → Ran) → mid.created ≡ m.created → Kept end.side st m →
     Meets code s mid a → ((x : A) (w : mid.Known x) → a ≡ Ok x → Does code (mid.state x w) end (next x)) → Does code s end (given a st next)
 given_does st m next same kept (gives x w l) go = does_from l (go x w refl)
 given_does {end = end} {mid = mid} st m next same kept (halts h) go = ended mid.created h (subst (Made end.side st.activations) (sym same) (kept_made end.side st m kept))
@@ -80,7 +80,7 @@ module _ (c : Context) (callers : List Frame) (leaves : Instr) (total : ℕ) whe
   Placed within after m bound (Returns v) = (p : ℕ) × (instr_at c.code p ≡ Some leaves)
 
   abbrev pub stands : (next broke continued : ℕ) (stack : List ℤ) (within : List Entry → Type 0) (after : List Entry) (m : Store) (bound : List Binding) (turns : ℕ) (f : Flow) →
-      Placed within after m bound f → machine.State
+      Placed within after m bound f → machine.MachineState
   stands next broke continued stack within after m bound turns GoesOn h = at callers next stack m turns
   stands next broke continued stack within after m bound turns Breaks h = at callers broke stack m turns
   stands next broke continued stack within after m bound turns Continues h = at callers continued stack m turns
@@ -96,19 +96,19 @@ module _ (c : Context) (callers : List Frame) (leaves : Instr) (total : ℕ) whe
   -- A part of the code does what a statement does, from each state in which these are in scope.
   abbrev pub DoesFrom : (from : ℕ) → List ℤ → List Entry → After → Runs → Type 0
   DoesFrom from stack es end runs =
-      (st : State) (m : Store) (turns : ℕ) → length m.slots ≡ total → Kept c.side st m → AlignedIn m st.bound es →
+      (st : BodyState) (m : Store) (turns : ℕ) → length m.slots ≡ total → Kept c.side st m → AlignedIn m st.bound es →
       Does c.code (at callers from stack m turns) end (runs st turns)
 
   -- behind a statement that goes on
-  pub went_on : {s : machine.State} {next broke continued : ℕ} {stack : List ℤ} {within : List Entry → Type 0} (after : List Entry) (st : State) (m : Store) (turns : ℕ) →
+  pub went_on : {s : machine.MachineState} {next broke continued : ℕ} {stack : List ℤ} {within : List Entry → Type 0} (after : List Entry) (st : BodyState) (m : Store) (turns : ℕ) →
       length m.slots ≡ total → Kept c.side st m → AlignedIn m st.bound after → Leads c.code s (at callers next stack m turns) →
       Does c.code s (settled next broke continued stack within after) (goes_on st turns)
   went_on after st m turns len kept al l = went GoesOn st turns (m, len, kept, al) l
 
   -- what follows a statement
-  pub flows_does : {s : machine.State} {r : Ran} (mid next broke continued : ℕ) (stack : List ℤ) (inner within : List Entry → Type 0) (after1 after : List Entry) (runs : Runs) →
+  pub flows_does : {s : machine.MachineState} {r : Ran} (mid next broke continued : ℕ) (stack : List ℤ) (inner within : List Entry → Type 0) (after1 after : List Entry) (runs : Runs) →
       ((x : List Entry) → inner x → within x) → Does c.code s (settled mid broke continued stack inner after1) r →
-      ((st : State) (m : Store) (turns : ℕ) → r ≡ Went GoesOn st turns → length m.slots ≡ total → Kept c.side st m → AlignedIn m st.bound after1 →
+      ((st : BodyState) (m : Store) (turns : ℕ) → r ≡ Went GoesOn st turns → length m.slots ≡ total → Kept c.side st m → AlignedIn m st.bound after1 →
       Does c.code (at callers mid stack m turns) (settled next broke continued stack within after) (runs st turns)) →
       Does c.code s (settled next broke continued stack within after) (flows runs r)
   flows_does mid next broke continued stack inner within after1 after runs wide (went GoesOn st turns (m, len, kept, al) l) go = does_from l (go st m turns refl len kept al)
@@ -121,9 +121,9 @@ module _ (c : Context) (callers : List Frame) (leaves : Instr) (total : ℕ) whe
   flows_does mid next broke continued stack inner within after1 after runs wide (ended made h k) go = ended made h k
 
   -- behind the body of a loop
-  pub loops_does : {s : machine.State} {r : Ran} (again exit broke continued : ℕ) (stack : List ℤ) (es : List Entry) (runs : Runs) →
+  pub loops_does : {s : machine.MachineState} {r : Ran} (again exit broke continued : ℕ) (stack : List ℤ) (es : List Entry) (runs : Runs) →
       Does c.code s (settled again exit again stack (exactly es) es) r →
-      ((st : State) (m : Store) (turns : ℕ) (f : Flow) → r ≡ Went f st turns → length m.slots ≡ total → Kept c.side st m → AlignedIn m st.bound es →
+      ((st : BodyState) (m : Store) (turns : ℕ) (f : Flow) → r ≡ Went f st turns → length m.slots ≡ total → Kept c.side st m → AlignedIn m st.bound es →
       Does c.code (at callers again stack m turns) (settled exit broke continued stack (exactly es) es) (runs st turns)) →
       Does c.code s (settled exit broke continued stack (exactly es) es) (loops runs r)
   loops_does again exit broke continued stack es runs (went GoesOn st turns (m, len, kept, al) l) go = does_from l (go st m turns GoesOn refl len kept al)
@@ -135,7 +135,7 @@ module _ (c : Context) (callers : List Frame) (leaves : Instr) (total : ℕ) whe
       went (Returns v) st turns (m, len, kept, (p, is)) l
   loops_does again exit broke continued stack es runs (ended made h k) go = ended made h k
 
-  kept_bound : (side : Side) (st : State) (m : Store) (bound : List Binding) → Kept side st m → Kept side (record st { bound = bound }) m
+  kept_bound : (side : Side) (st : BodyState) (m : Store) (bound : List Binding) → Kept side st m → Kept side (record st { bound = bound }) m
   kept_bound (InFunction windows created skips) st m bound h = h
   kept_bound (InTask claims) st m bound h = h
   kept_bound (InMain streams later) st m bound h = h
@@ -146,7 +146,7 @@ module _ (c : Context) (callers : List Frame) (leaves : Instr) (total : ℕ) whe
       (subst (λ y. Aligned (resources c.side) (means c) m.slots inner y) (ap (λ y. y ++ c.bound) e ∙ append_assoc added es c.bound) h)
 
   -- a scope of its own
-  pub scope_does : {s : machine.State} {r : Ran} (outer : State) (was : Store) (next broke continued : ℕ) (stack : List ℤ) (inner : List Entry → Type 0) (after es : List Entry) →
+  pub scope_does : {s : machine.MachineState} {r : Ran} (outer : BodyState) (was : Store) (next broke continued : ℕ) (stack : List ℤ) (inner : List Entry → Type 0) (after es : List Entry) →
       ((x : List Entry) → inner x → Extends x es) → Extends after es → AlignedIn was outer.bound es →
       Does c.code s (settled next broke continued stack inner after) r →
       Does c.code s (settled next broke continued stack (exactly es) es) (left_from outer r)
@@ -161,7 +161,7 @@ module _ (c : Context) (callers : List Frame) (leaves : Instr) (total : ℕ) whe
   scope_does outer was next broke continued stack inner after es wide ext o (ended made h k) = ended made h k
 
   -- a part that goes on elsewhere by a jump behind it
-  pub jumped : {s : machine.State} {r : Ran} (mid next broke continued : ℕ) (stack : List ℤ) (within : List Entry → Type 0) (after : List Entry) → instr_at c.code mid ≡ Some (instr.Jump next) →
+  pub jumped : {s : machine.MachineState} {r : Ran} (mid next broke continued : ℕ) (stack : List ℤ) (within : List Entry → Type 0) (after : List Entry) → instr_at c.code mid ≡ Some (instr.Jump next) →
       Does c.code s (settled mid broke continued stack within after) r → Does c.code s (settled next broke continued stack within after) r
   jumped mid next broke continued stack within after is (went GoesOn st turns (m, len, kept, al) l) =
       went GoesOn st turns (m, len, kept, al) (leads_on c.code l (jump c.code callers mid next stack m turns is))
@@ -183,14 +183,14 @@ module _ (c : Context) (callers : List Frame) (leaves : Instr) (total : ℕ) whe
   branch_does v fails to stack m turns end x y a b = by_branch (is_zero v) v fails to stack m turns end x y refl a b
 
   -- a loop from its unit on
-  pub loop_does : (most : ℕ) (test : State → ℕ → Answer (Left ℤ)) (body step : Runs) (from begin again exit broke continued : ℕ) (stack : List ℤ) (es : List Entry) →
+  pub loop_does : (most : ℕ) (test : BodyState → ℕ → Answer (Left ℤ)) (body step : Runs) (from begin again exit broke continued : ℕ) (stack : List ℤ) (es : List Entry) →
       instr_at c.code from ≡ Some instr.Turn →
-      ((st : State) (turns : ℕ) → Falls turns (test st turns)) → ((st : State) (turns : ℕ) → Keeps st turns (body st turns)) → ((st : State) (turns : ℕ) → Keeps st turns (step st turns)) →
-      ((st : State) (m : Store) (turns : ℕ) → length m.slots ≡ total → Kept c.side st m → AlignedIn m st.bound es →
+      ((st : BodyState) (turns : ℕ) → Falls turns (test st turns)) → ((st : BodyState) (turns : ℕ) → Keeps st turns (body st turns)) → ((st : BodyState) (turns : ℕ) → Keeps st turns (step st turns)) →
+      ((st : BodyState) (m : Store) (turns : ℕ) → length m.slots ≡ total → Kept c.side st m → AlignedIn m st.bound es →
       Meets c.code (at callers (from + 1) stack m turns) (branched callers exit begin stack m) (test st turns)) →
       DoesFrom begin stack es (settled again exit again stack (exactly es) es) body →
       DoesFrom again stack es (settled from broke continued stack (exactly es) es) step →
-      (st : State) (m : Store) (turns : ℕ) → turns ≤ most → length m.slots ≡ total → Kept c.side st m → AlignedIn m st.bound es →
+      (st : BodyState) (m : Store) (turns : ℕ) → turns ≤ most → length m.slots ≡ total → Kept c.side st m → AlignedIn m st.bound es →
       Does c.code (at callers from stack m turns) (settled exit broke continued stack (exactly es) es) (loop most test body step st turns)
   loop_does most test body step from begin again exit broke continued stack es at_turn falls keeps moves tests bodies steps st m zero le len kept al =
       ended m.created (no_turn c.code callers from stack m at_turn) (kept_made c.side st m kept)

@@ -9,7 +9,7 @@ use Rattle.cddf_meaning.specs.File.{File}
 use Rattle.cddf_meaning.specs.Flow.{Ran}
 use Rattle.cddf_meaning.specs.Functions.{returned, bind_params, call_function}
 use Rattle.cddf_meaning.specs.Moves.{CallsFall}
-use Rattle.cddf_meaning.specs.State.{state_of}
+use Rattle.cddf_meaning.specs.BodyState.{state_of}
 use Rattle.cddf_meaning.specs.Variables.{bind, find, flag_or}
 use Rattle.cddf_meaning.specs.declared.flow.Flow.TheVariants.{GoesOn, Breaks, Continues, Returns}
 use Rattle.cddf_meaning.specs.declared.variable.Binding.{Binding}
@@ -178,7 +178,7 @@ module _ (code : Parts) (file : File) (falls : CallsFall file) (names : List Res
     falls_off end last m1 turns h kept = leads_on code (push code (back ∷ callers) (pos 0) end [] m1 turns h.0) (gone_back (pos 0) (end + 1) [] m1 turns h.1.0 kept)
 
     -- what a call gives where the body ended
-    returns : {s : machine.State} {r : Ran} (total end last : ℕ) (es1 after : List Entry) → Stands code (instr.Push (pos 0) ∷ instr.Return ∷ []) end last →
+    returns : {s : machine.MachineState} {r : Ran} (total end last : ℕ) (es1 after : List Entry) → Stands code (instr.Push (pos 0) ∷ instr.Return ∷ []) end last →
         Does code s (settled (function_context m) (back ∷ callers) instr.Return total end end end [] (around es1) after) r → Meets code s (pushed callers p stack m) (returned r)
     returns total end last es1 after off (went GoesOn st turns (m1, len, kept, al) l) = gives (left (pos 0) turns) tt (leads_on code l (falls_off end last m1 turns off kept))
     returns total end last es1 after off (went Breaks st turns (m1, len, kept, al) l) = gives (left (pos 0) turns) tt (leads_on code l (falls_off end last m1 turns off kept))

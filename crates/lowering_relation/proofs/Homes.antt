@@ -5,7 +5,7 @@ use Rattle.os_ast.specs.Captured.{slots_of}
 use Rattle.os_ast.specs.Meanings.{meaning}
 use Rattle.os_ast.specs.Notes.Declarators.{declared_entity}
 use Rattle.os_ast.specs.Notes.Kinds.{Note, Used, Declared, Pragma, Task}
-use Rattle.os_ast.specs.Parts.{count_items}
+use Rattle.os_ast.specs.ClauseParts.{count_items}
 use Rattle.os_ast.specs.declared.names.Role.TheVariants as role
 use Rattle.os_ast.specs.declared.names.Use.{Use}
 use Rattle.os_ast.specs.declared.names.Use.TheVariants as usage
@@ -14,7 +14,7 @@ use Rattle.os_ast.specs.declared.names.What.{What}
 use Rattle.os_ast.specs.declared.names.What.TheVariants as what
 use Rattle.os_code.specs.Effects.{operands_of, height_after, jump_of, needs_turn, stands_in}
 use Rattle.os_code.specs.Parts as code_parts
-use Rattle.os_code.specs.Parts.{Kind, Main, Function, instr_at}
+use Rattle.os_code.specs.Parts.{UnitKind, Main, Function, instr_at}
 use Rattle.os_code.specs.declared.instr.Instr.{Instr}
 use Rattle.os_code.specs.declared.instr.Instr.TheVariants as instr
 use Rattle.os_code.specs.declared.parts.Parts.{Parts}
@@ -30,7 +30,7 @@ pub record Home : Type 0 where
   pub code : Parts
   pub body : Body
   pub number : ℕ
-  pub kind : Kind
+  pub kind : UnitKind
   pub first : ℕ
   pub last : ℕ
   pub slots : ℕ

@@ -7,7 +7,7 @@ use Rattle.c_int.specs.declared.trap.Trap.TheVariants as trap_of
 use Rattle.cddf_meaning.specs.Answers.{traps, and_then, Left, left, with_turns}
 use Rattle.cddf_meaning.specs.File.{File}
 use Rattle.cddf_meaning.specs.Moves.{CallsFall}
-use Rattle.cddf_meaning.specs.State.{State}
+use Rattle.cddf_meaning.specs.BodyState.{BodyState}
 use Rattle.cddf_meaning.specs.Streams.{horizon_of, output_burst, burst_of, burst, claim_of, joined, item_claim, items_claims}
 use Rattle.cddf_meaning.specs.Variables.{find}
 use Rattle.cddf_meaning.specs.declared.ending.Ending.TheVariants as ending
@@ -15,7 +15,7 @@ use Rattle.flow_core_laws.specs.declared.claim.Claim.{Claim}
 use Rattle.os_ast.specs.Names.{Scope}
 use Rattle.os_ast.specs.Notes.Clauses.{shape_of, window_notes, part_notes, parts_notes}
 use Rattle.os_ast.specs.Notes.Expressions.{place_notes, index_notes}
-use Rattle.os_ast.specs.Parts.{Part, Item, Private, part_name}
+use Rattle.os_ast.specs.ClauseParts.{ClausePart, Item, Private, part_name}
 use Rattle.os_ast.specs.Trees as tree
 use Rattle.os_ast.specs.declared.expr.Name.{Name}
 use Rattle.os_ast.specs.declared.names.Direction.{Direction}
@@ -130,7 +130,7 @@ module _ (code : Parts) (callers : List Frame) where
       by_sign (negsuc n) h = halts (stops_at code (ending.Trapped trap_of.OutputBurst line) h)
 
 module _ (code : Parts) (file : File) (falls : CallsFall file) (names : List Resolved) (ordered : InOrder names) (file_es : List Entry) (fits : FileFits code file file_es) (streams later : ℕ) (all : streams ≤ code.streams) (callers : List Frame)
-    (s : Scope) (es : List Entry) (st : State) (m : Store) (ready : Ready (main_context code file falls names ordered file_es fits streams later) s es st m) where
+    (s : Scope) (es : List Entry) (st : BodyState) (m : Store) (ready : Ready (main_context code file falls names ordered file_es fits streams later) s es st m) where
   abbrev c : Context
   c = main_context code file falls names ordered file_es fits streams later
 
@@ -238,7 +238,7 @@ module _ (code : Parts) (file : File) (falls : CallsFall file) (names : List Res
     created = m.created;
   }
 
-  pub items_run : (ps : List Part) (before : List ℕ) (from to : ℕ) (stack : List ℤ) (turns : ℕ) → Agree c (parts_notes s before ps) → HasItems code (tells c) ps from to →
+  pub items_run : (ps : List ClausePart) (before : List ℕ) (from to : ℕ) (stack : List ℤ) (turns : ℕ) → Agree c (parts_notes s before ps) → HasItems code (tells c) ps from to →
       Meets code (at callers from stack m turns) (all_itemed (site_items (tells c) ps) to stack) (items_claims file ps st turns)
   items_run [] before from to stack turns agree h =
       gives (left [] turns) ([], refl, refl, tt) (subst (λ q. Leads code (at callers from stack m turns) (at callers q stack m turns)) h stays)

@@ -4,7 +4,7 @@ use Rattle.std.specs.Prelude.{⊤}
 use Rattle.os_ast.specs.Names.{Scope}
 use Rattle.os_ast.specs.Notes.Clauses.{window_notes, part_notes, parts_notes}
 use Rattle.os_ast.specs.Notes.Expressions.{index_notes, place_notes}
-use Rattle.os_ast.specs.Parts.{Part, Item, Private, part_name, count_items, target_name}
+use Rattle.os_ast.specs.ClauseParts.{ClausePart, Item, Private, part_name, count_items, target_name}
 use Rattle.os_ast.specs.Trees as tree
 use Rattle.os_ast.specs.declared.names.Direction.{Direction}
 use Rattle.os_ast.specs.declared.names.Direction.TheVariants as direction
@@ -59,7 +59,7 @@ module _ (h : Home) (in_main : h.kind ≡ Main) where
       straight h (instr.Push (pos 1) ∷ []) from to x (suc x) has ((refl, refl, refl, refl), omega arith, tt, omega arith)
   join_lays d stream (Some j) s before from to x fit has = burst_lays d (tells h j.name.mark.place).what j.burst s from to x fit.1.0 fit.1.1 has
 
-  pub items_lay : (ps : List Part) (s : Scope) (before : List ℕ) (from to x : ℕ) → AllFit h (parts_notes s before ps) → HasItems h.code (tells h) ps from to →
+  pub items_lay : (ps : List ClausePart) (s : Scope) (before : List ℕ) (from to x : ℕ) → AllFit h (parts_notes s before ps) → HasItems h.code (tells h) ps from to →
       Lays h ⊤ from x to (x + (count_items ps + count_items ps))
   items_lay [] s before from to x fit has = to_end h has (to_height h (omega arith) (nothing h from x))
   items_lay (Private n ∷ ps) s before from to x fit has = items_lay ps s ((part_name (Private n)).id ∷ before) from to x fit.1.1 has

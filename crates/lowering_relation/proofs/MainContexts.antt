@@ -3,7 +3,7 @@ use Rattle.std.proofs.Common.{◌≡◌, ℕ, ◌+◌, ◌≤◌, ◌<◌, ◌==
 use Rattle.std.specs.Prelude.{⊤, ◌⊎◌}
 use Rattle.cddf_meaning.specs.File.{File}
 use Rattle.cddf_meaning.specs.Moves.{CallsFall}
-use Rattle.cddf_meaning.specs.State.{State}
+use Rattle.cddf_meaning.specs.BodyState.{BodyState}
 use Rattle.cddf_meaning.specs.Variables.{find}
 use Rattle.cddf_meaning.specs.declared.variable.Variable.{Variable}
 use Rattle.cddf_meaning.specs.declared.variable.Variable.TheVariants as variable
@@ -124,7 +124,7 @@ module _ (code : Parts) (file : File) (falls : CallsFall file) (names : List Res
     constants = λ id v is. inr (refl, known_has code file (find file.names id) (entity.Constant v) (fits.known id (entity.Constant v) is));
   }
 
-  module _ (streams later : ℕ) (s : Scope) (es : List Entry) (st : State) (m : Store) (ready : Ready (main_context streams later) s es st m) where
+  module _ (streams later : ℕ) (s : Scope) (es : List Entry) (st : BodyState) (m : Store) (ready : Ready (main_context streams later) s es st m) where
     abbrev c : Context
     c = main_context streams later
 

@@ -2,7 +2,7 @@
 use Rattle.std.proofs.Common.{◌≡◌, ℕ, List, [], ◌∷◌, length, Some, ℤ, refl, sym, ap, ◌∙◌, subst}
 use Rattle.cddf_meaning.specs.Control as meaning
 use Rattle.cddf_meaning.specs.Flow.{Ran, Went, Ended, Runs as StmtRuns, flows}
-use Rattle.cddf_meaning.specs.State.{State}
+use Rattle.cddf_meaning.specs.BodyState.{BodyState}
 use Rattle.cddf_meaning.specs.declared.ending.Ending.{Ending}
 use Rattle.cddf_meaning.specs.declared.ending.Ending.TheVariants as ending
 use Rattle.cddf_meaning.specs.declared.flow.Flow.{Flow}
@@ -25,18 +25,18 @@ abbrev pub made_so : List Activation → Halt → Control
 made_so activations halt = record { activations = activations; end = control_end halt }
 
 -- the machine ends from this state as the rest of `main` does
-pub record MainEnds (code : Parts) (s : machine.State) (r : Ran) : Type 0 where
+pub record MainEnds (code : Parts) (s : machine.MachineState) (r : Ran) : Type 0 where
   pub halt : Halt
-  pub last : machine.State
+  pub last : machine.MachineState
   pub count : ℕ
   pub runs : Runs code s halt last count
   pub ends : meaning.control_of r ≡ made_so last.created halt
 
-pub ends_from : {code : Parts} {s t : machine.State} {r : Ran} → Leads code s t → MainEnds code t r → MainEnds code s r
+pub ends_from : {code : Parts} {s t : machine.MachineState} {r : Ran} → Leads code s t → MainEnds code t r → MainEnds code s r
 ends_from stays h = h
 ends_from (steps a l) h = let k = ends_from l h in record { halt = k.halt; last = k.last; count = _; runs = machine.GoesOn a k.runs; ends = k.ends }
 
-pub at_end : {code : Parts} {s : machine.State} (f : Flow) (st : State) (m : Store) (q : ℕ) (stack : List ℤ) (turns left : ℕ) → Leads code s (at [] q stack m turns) → instr_at code q ≡ Some instr.End → st.activations ≡ m.created →
+pub at_end : {code : Parts} {s : machine.MachineState} (f : Flow) (st : BodyState) (m : Store) (q : ℕ) (stack : List ℤ) (turns left : ℕ) → Leads code s (at [] q stack m turns) → instr_at code q ≡ Some instr.End → st.activations ≡ m.created →
     MainEnds code s (Went f st left)
 at_end {code = code} {s = s} f st m q stack turns left l is same =
     let run = to_end code s (at [] q stack m turns) l is in
@@ -47,7 +47,7 @@ same_end (ending.Trapped code line) = refl
 same_end ending.OverBudget = refl
 same_end (ending.Limited n) = refl
 
-pub at_halt : {code : Parts} {s : machine.State} (e : Ending) (activations made : List Activation) → Stops code s e made → made ≡ activations → MainEnds code s (Ended e activations)
+pub at_halt : {code : Parts} {s : machine.MachineState} (e : Ending) (activations made : List Activation) → Stops code s e made → made ≡ activations → MainEnds code s (Ended e activations)
 at_halt e activations made h same = record {
   halt = halt_of e;
   last = h.last;
@@ -57,9 +57,9 @@ at_halt e activations made h same = record {
 }
 
 -- what follows a statement of the outermost block
-pub flow_ends : {s : machine.State} {r : Ran} (c : Context) (streams later total mid end : ℕ) (within : List Entry → Type 0) (after : List Entry) (next : StmtRuns) → c.side ≡ InMain streams later → instr_at c.code end ≡ Some instr.End →
+pub flow_ends : {s : machine.MachineState} {r : Ran} (c : Context) (streams later total mid end : ℕ) (within : List Entry → Type 0) (after : List Entry) (next : StmtRuns) → c.side ≡ InMain streams later → instr_at c.code end ≡ Some instr.End →
     Does c.code s (settled c [] instr.End total mid end end [] within after) r →
-    ((st : State) (m : Store) (turns : ℕ) → length m.slots ≡ total → Kept c.side st m → AlignedIn c [] instr.End total m st.bound after → MainEnds c.code (at [] mid [] m turns) (next st turns)) → MainEnds c.code s (flows next r)
+    ((st : BodyState) (m : Store) (turns : ℕ) → length m.slots ≡ total → Kept c.side st m → AlignedIn c [] instr.End total m st.bound after → MainEnds c.code (at [] mid [] m turns) (next st turns)) → MainEnds c.code s (flows next r)
 flow_ends c streams later total mid end within after next side is (went GoesOn st turns (m, len, kept, al) l) go = ends_from l (go st m turns len kept al)
 flow_ends c streams later total mid end within after next side is (went Breaks st turns (m, len, kept, al) l) go =
     let k : Kept (InMain streams later) st m = subst (λ x. Kept x st m) side kept in at_end Breaks st m end [] turns turns l is k.0

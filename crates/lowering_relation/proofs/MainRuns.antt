@@ -7,7 +7,7 @@ use Rattle.cddf_meaning.specs.Flow.{Ran, Went, Ended, Runs, given, goes_on, flow
 use Rattle.cddf_meaning.specs.Moves.{CallsFall}
 use Rattle.cddf_meaning.specs.Run.{Around, array_size, with_streams, run_declarator, run_declarators, run_all}
 use Rattle.cddf_meaning.specs.Skips.{skips_of}
-use Rattle.cddf_meaning.specs.State.{State}
+use Rattle.cddf_meaning.specs.BodyState.{BodyState}
 use Rattle.cddf_meaning.specs.declared.flow.Flow.TheVariants.{GoesOn, Breaks, Continues, Returns}
 use Rattle.cddf_meaning.specs.declared.site.Site.{Site}
 use Rattle.cddf_meaning.specs.declared.variable.Binding.{Binding}
@@ -101,7 +101,7 @@ module _ (code : Parts) (file : File) (falls : CallsFall file) (names : List Res
   b = record { tells = told_at names; tasks = tasks; leaves = instr.End }
 
   -- A place of the outermost block: the run has so many streams so far, as the text has; the code's others come later.
-  pub record Outer (s : Scope) (es : List Entry) (st : State) (m : Store) : Type 0 where
+  pub record Outer (s : Scope) (es : List Entry) (st : BodyState) (m : Store) : Type 0 where
     pub streams : ℕ
     pub later : ℕ
     pub ready : Ready (context streams later) s es st m
@@ -115,7 +115,7 @@ module _ (code : Parts) (file : File) (falls : CallsFall file) (names : List Res
   no_rule streams later ns lawful tells = agrees (context streams later) ns lawful tells (λ n. tt)
 
   -- behind the declaration of so many streams
-  streams_behind : (s : Scope) (es : List Entry) (st : State) (m : Store) (d : tree.DeclaratorTree) (count : ℕ) → Outer s es st m → (entry s d).id ≡ d.name.id → meaning (entry s d).entity ≡ what.Stream (2 + s.streams) count →
+  streams_behind : (s : Scope) (es : List Entry) (st : BodyState) (m : Store) (d : tree.DeclaratorTree) (count : ℕ) → Outer s es st m → (entry s d).id ≡ d.name.id → meaning (entry s d).entity ≡ what.Stream (2 + s.streams) count →
       (after_declarator s d).streams ≡ s.streams + count → 2 + (after_declarator s d).streams ≤ code.streams →
       Outer (after_declarator s d) (entry s d ∷ es) (with_streams d.name.id s.unsigned count st) m
   streams_behind s es st m d count o same mean taken_so few =
@@ -150,7 +150,7 @@ module _ (code : Parts) (file : File) (falls : CallsFall file) (names : List Res
       }
 
   -- behind any other declarator
-  other_behind : (s : Scope) (es : List Entry) (st st1 : State) (m m1 : Store) (d : tree.DeclaratorTree) (o : Outer s es st m) → (after_declarator s d).streams ≡ s.streams → length m1.slots ≡ total → Kept (InMain o.streams o.later) st1 m1 →
+  other_behind : (s : Scope) (es : List Entry) (st st1 : BodyState) (m m1 : Store) (d : tree.DeclaratorTree) (o : Outer s es st m) → (after_declarator s d).streams ≡ s.streams → length m1.slots ≡ total → Kept (InMain o.streams o.later) st1 m1 →
       AlignedIn (context o.streams o.later) [] instr.End total m1 st1.bound (entry s d ∷ es) → Outer (after_declarator s d) (entry s d ∷ es) st1 m1
   other_behind s es st st1 m m1 d o same len kept al = record {
     streams = o.streams;
@@ -165,11 +165,11 @@ module _ (code : Parts) (file : File) (falls : CallsFall file) (names : List Res
 
   -- One declarator, and what follows it.
   abbrev Follows : Scope → List Entry → ℕ → Runs → Type 0
-  Follows s es p next = (st : State) (m : Store) (turns : ℕ) → Outer s es st m → MainEnds code (at [] p [] m turns) (next st turns)
+  Follows s es p next = (st : BodyState) (m : Store) (turns : ℕ) → Outer s es st m → MainEnds code (at [] p [] m turns) (next st turns)
 
   abbrev DeclaratorEnds : tree.DeclaratorTree → Type 0
   DeclaratorEnds d =
-      (s : Scope) (es : List Entry) (st : State) (m : Store) (from to turns : ℕ) (next : Runs) → Outer s es st m → (after_declarator s d).slots ≤ total → 2 + (after_declarator s d).streams ≤ code.streams →
+      (s : Scope) (es : List Entry) (st : BodyState) (m : Store) (from to turns : ℕ) (next : Runs) → Outer s es st m → (after_declarator s d).slots ≤ total → 2 + (after_declarator s d).streams ≤ code.streams →
       AreLawful (declarator_notes s d) → Tells names (declarator_notes s d) → HasDeclared code (told_at names) (told_at names d.name.mark.place).what d from to → Follows (after_declarator s d) (entry s d ∷ es) to next →
       MainEnds code (at [] from [] m turns) (flows next (run_declarator u s.unsigned d st turns))
 
@@ -218,7 +218,7 @@ module _ (code : Parts) (file : File) (falls : CallsFall file) (names : List Res
       by_parts n (Some i) false first =
           by_runs (record { name = n; size = Some i; stream = false; first = first }) refl (λ streams later. window_done code file falls names ordered file_es fits streams later [] instr.End total sites n i first) (λ s. plain_streams s (Some i))
 
-  declarators_end : (ds : List tree.DeclaratorTree) (s : Scope) (es : List Entry) (st : State) (m : Store) (from to mid turns : ℕ) (next : Runs) → Outer s es st m → (after_declarators s ds).slots ≤ total → 2 + (after_declarators s ds).streams ≤ code.streams →
+  declarators_end : (ds : List tree.DeclaratorTree) (s : Scope) (es : List Entry) (st : BodyState) (m : Store) (from to mid turns : ℕ) (next : Runs) → Outer s es st m → (after_declarators s ds).slots ≤ total → 2 + (after_declarators s ds).streams ≤ code.streams →
       AreLawful (declarators_notes s ds) → Tells names (declarators_notes s ds) → HasDeclarators code (told_at names) ds from to → mid ≡ to → Follows (after_declarators s ds) (made s ds es) mid next →
       MainEnds code (at [] from [] m turns) (flows next (run_declarators u s.unsigned ds st turns))
   declarators_end [] s es st m from to mid turns next o fits2 few lawful tells h there go = stays_at from mid m turns (next st turns) (h ∙ sym there) (go st m turns o)
@@ -232,7 +232,7 @@ module _ (code : Parts) (file : File) (falls : CallsFall file) (names : List Res
       (declarators_end ds s1 (entry s d ∷ es) st1 m1 h.0 to mid t1 next o1 fits2 few (lawful-rest (declarator_notes s d) (declarators_notes s1 ds) lawful) (tells-rest names (declarator_notes s d) (declarators_notes s1 ds) tells) h.2 there go)))
 
   -- a declaration of a type begins
-  outer_typed : (ty : Ty) (s : Scope) (es : List Entry) (st : State) (m : Store) → Outer s es st m → Outer (typed ty s) es st m
+  outer_typed : (ty : Ty) (s : Scope) (es : List Entry) (st : BodyState) (m : Store) → Outer s es st m → Outer (typed ty s) es st m
   outer_typed ty s es st m o = record {
     streams = o.streams;
     later = o.later;
@@ -245,7 +245,7 @@ module _ (code : Parts) (file : File) (falls : CallsFall file) (names : List Res
   }
 
   -- behind a statement that declares nothing
-  stmt_behind : {a : tree.StmtTree} (is : IsStmt a) (s : Scope) (es : List Entry) (st st1 : State) (m m1 : Store) (o : Outer s es st m) → AreLawful (stmt_notes s a) → length m1.slots ≡ total → Kept (InMain o.streams o.later) st1 m1 →
+  stmt_behind : {a : tree.StmtTree} (is : IsStmt a) (s : Scope) (es : List Entry) (st st1 : BodyState) (m m1 : Store) (o : Outer s es st m) → AreLawful (stmt_notes s a) → length m1.slots ≡ total → Kept (InMain o.streams o.later) st1 m1 →
       AlignedIn (context o.streams o.later) [] instr.End total m1 st1.bound es → Outer (after_stmt s a) es st1 m1
   stmt_behind {a = a} is s es st st1 m m1 o lawful len kept al =
       let on = stmt_onward a s in
@@ -268,10 +268,10 @@ module _ (code : Parts) (file : File) (falls : CallsFall file) (names : List Res
 
   abbrev StmtsEnd : tree.Stmts → Type 0
   StmtsEnd ss =
-      (s : Scope) (es : List Entry) (st : State) (m : Store) (from to turns : ℕ) → Outer s es st m → (after_stmts s ss).slots ≤ total → 2 + (after_stmts s ss).streams ≤ code.streams → AreLawful (stmts_notes s ss) →
+      (s : Scope) (es : List Entry) (st : BodyState) (m : Store) (from to turns : ℕ) → Outer s es st m → (after_stmts s ss).slots ≤ total → 2 + (after_stmts s ss).streams ≤ code.streams → AreLawful (stmts_notes s ss) →
       Tells names (stmts_notes s ss) → OwnsAll (IsSite code (told_at names) sites tasks) s ss → HasStmts code b ss end end end from to → MainEnds code (at [] from [] m turns) (run_all u ss st turns)
 
-  rest_ends : (ss : tree.Stmts) (s : Scope) (es : List Entry) (st : State) (m : Store) (mid from to turns : ℕ) → Outer s es st m → HasRest code b ss end end end mid from to →
+  rest_ends : (ss : tree.Stmts) (s : Scope) (es : List Entry) (st : BodyState) (m : Store) (mid from to turns : ℕ) → Outer s es st m → HasRest code b ss end end end mid from to →
       (HasStmts code b ss end end end from to → MainEnds code (at [] from [] m turns) (run_all u ss st turns)) → MainEnds code (at [] mid [] m turns) (run_all u ss st turns)
   rest_ends ss s es st m mid from to turns o (last none) go =
       subst (λ x. MainEnds code (at [] end [] m turns) (run_all u x st turns)) (sym none) (at_end GoesOn st m end [] turns turns stays at_the_end o.ready.kept.0)

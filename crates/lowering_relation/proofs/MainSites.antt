@@ -15,7 +15,7 @@ use Rattle.os_ast.specs.Notes.Declarators.{after_declarators, declarators_notes,
 use Rattle.os_ast.specs.Notes.Expressions.{expr_notes, value_notes, step_notes}
 use Rattle.os_ast.specs.Notes.Kinds.{Note, Task}
 use Rattle.os_ast.specs.Notes.Statements.{after_stmt, stmt_notes, stmts_notes}
-use Rattle.os_ast.specs.Parts.{parts, count_items}
+use Rattle.os_ast.specs.ClauseParts.{parts, count_items}
 use Rattle.os_ast.specs.Trees as tree
 use Rattle.os_ast.specs.Violations.{main_task, captures}
 use Rattle.os_ast.specs.declared.expr.Mark.{Mark}

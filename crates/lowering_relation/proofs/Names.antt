@@ -6,7 +6,7 @@ use Rattle.std.specs.Prelude.{slice_get, slice_index_or}
 use Rattle.c_int.specs.declared.trap.Trap.TheVariants as trap_of
 use Rattle.cddf_meaning.specs.Answers.{Answer, left, with_turns}
 use Rattle.cddf_meaning.specs.File.{variable, or_in_file}
-use Rattle.cddf_meaning.specs.State.{State, item_elements}
+use Rattle.cddf_meaning.specs.BodyState.{BodyState, item_elements}
 use Rattle.cddf_meaning.specs.Value.{scalar_value, elements, checked, element_at}
 use Rattle.cddf_meaning.specs.Variables.{find}
 use Rattle.cddf_meaning.specs.declared.variable.Variable.{Variable}
@@ -67,7 +67,7 @@ windows_length [] (vs ∷ items) h = elim h [ ]
 windows_length (w ∷ ws) [] h = elim h [ ]
 windows_length (w ∷ ws) (vs ∷ items) h = let n = windows_length ws items h.3 in omega (arith, n)
 
-pub window_of : (side : Side) (st : State) (m : Store) (k : ℕ) → HasItem side k → Kept side st m → HasWindow m.windows (item_elements st k) k
+pub window_of : (side : Side) (st : BodyState) (m : Store) (k : ℕ) → HasItem side k → Kept side st m → HasWindow m.windows (item_elements st k) k
 window_of (InFunction windows created skips) st m k has kept = elim has [ ]
 window_of (InMain streams later) st m k has kept = elim has [ ]
 window_of (InTask claims) st m k has kept =
@@ -77,7 +77,7 @@ window_of (InTask claims) st m k has kept =
     window_there m.windows st.items k kept.1 (omega (arith, has, a, b, n))
 
 -- the states behind a check, in other words
-pub instead : {code : Parts} {s : machine.State} {v : ℤ} {size : ℕ} {t u : ℕ → machine.State} {created : List Activation} {a : Answer ℕ} →
+pub instead : {code : Parts} {s : machine.MachineState} {v : ℤ} {size : ℕ} {t u : ℕ → machine.MachineState} {created : List Activation} {a : Answer ℕ} →
     Meets code s (checked_index v size t created) a → ((k : ℕ) → k < size → t k ≡ u k) → Meets code s (checked_index v size u created) a
 instead {code = code} {s = s} (gives k w l) same = gives k w (subst (Leads code s) (same k w.1) l)
 instead (halts h) same = halts h
@@ -153,7 +153,7 @@ module _ (code : Parts) (callers : List Frame) where
           let lt : ltb 0 n ≡ true = lt-ltb 0 n (omega (arith, le)) in
           ap (λ b. or_trap (at callers (from + 1) (pos 0 ∷ stack) m turns) trap_of.Index line (if b then Some 0 else None) (λ k. Going (at callers (from + 1 + 1) (slice_index_or has.window.elements k (pos 0) ∷ stack) m turns))) lt
 
-module _ (c : Context) (callers : List Frame) (es : List Entry) (st : State) (m : Store) where
+module _ (c : Context) (callers : List Frame) (es : List Entry) (st : BodyState) (m : Store) where
   by_variable : (v : Variable) (w : What) (line from to : ℕ) (stack : List ℤ) (turns : ℕ) → Holds (resources c.side) m.slots v w → Kept c.side st m →
       Stands c.code (reading w line) from to → Leads c.code (at callers from stack m turns) (at callers to (scalar_value st (Some v) ∷ stack) m turns)
   by_variable (Constant x) w line from to stack turns h kept is = elim h [ ]

@@ -7,7 +7,7 @@ use Rattle.os_ast.specs.Notes.Declarators.{is_window, after_declarator, declarat
 use Rattle.os_ast.specs.Notes.Expressions.{expr_notes, place_notes, args_notes, links_notes, value_notes, index_notes, change_notes, step_notes}
 use Rattle.os_ast.specs.Notes.Kinds.{Note, Task}
 use Rattle.os_ast.specs.Notes.Statements.{after_stmt, stmt_notes, stmts_notes}
-use Rattle.os_ast.specs.Parts.{Part, Item, Private, parts, part_name, count_items}
+use Rattle.os_ast.specs.ClauseParts.{ClausePart, Item, Private, parts, part_name, count_items}
 use Rattle.os_ast.specs.Trees as tree
 use Rattle.os_ast.specs.Violations.{main_task, captures_of, captures}
 use Rattle.os_ast.specs.declared.names.Direction.TheVariants as direction
@@ -69,7 +69,7 @@ none_window : (s : Scope) (before : List ℕ) (stream : tree.TargetTree) (w : Op
 none_window s before stream None = refl
 none_window s before stream (Some j) = none_index j.burst s
 
-pub none_parts : (ps : List Part) (s : Scope) (before : List ℕ) → captures (parts_notes s before ps) ≡ []
+pub none_parts : (ps : List ClausePart) (s : Scope) (before : List ℕ) → captures (parts_notes s before ps) ≡ []
 none_parts [] s before = refl
 none_parts (Private n ∷ ps) s before = none_parts ps s (n.id ∷ before)
 none_parts (Item d i ∷ ps) s before =
@@ -108,7 +108,7 @@ none_start tree.StartTree.Empty s = refl
 none_start (tree.StartTree.Declare ty ds) s = none_declarators ds (typed ty s)
 none_start (tree.StartTree.Change c) s = none_change c s
 
-pub items_owner : (ps : List Part) (s inner : Scope) (item : ℕ) → (with_items s inner item ps).owner ≡ inner.owner
+pub items_owner : (ps : List ClausePart) (s inner : Scope) (item : ℕ) → (with_items s inner item ps).owner ≡ inner.owner
 items_owner [] s inner item = refl
 items_owner (Item d i ∷ ps) s inner item = items_owner ps s _ (suc item)
 items_owner (Private n ∷ ps) s inner item = items_owner ps s inner item

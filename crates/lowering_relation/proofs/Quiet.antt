@@ -10,7 +10,7 @@ use Rattle.c_int.specs.declared.operators.Unary.TheVariants as one
 use Rattle.cddf_meaning.specs.Answers.{Answer, at_line, and_then, Left, left, with_turns}
 use Rattle.cddf_meaning.specs.File.{File, variable, type_in}
 use Rattle.cddf_meaning.specs.Operators.{binary_value, unary_value}
-use Rattle.cddf_meaning.specs.State.{State}
+use Rattle.cddf_meaning.specs.BodyState.{BodyState}
 use Rattle.cddf_meaning.specs.ExpressionTypes.{type_of_two}
 use Rattle.cddf_meaning.specs.Value.{scalar_value, as_truth, linked, value, chained}
 use Rattle.os_ast.specs.Trees as tree
@@ -90,7 +90,7 @@ linked_gives binary.Divide line x y turns v right h g = absurd (cc)
 linked_gives binary.Remainder line x y turns v right h g = absurd (cc)
 
 mutual
-  pub quiet_gives : (file : File) (e : tree.ExprTree) (s : State) (turns : ℕ) → is_quiet e ≡ true → Gives turns (value file e s turns)
+  pub quiet_gives : (file : File) (e : tree.ExprTree) (s : BodyState) (turns : ℕ) → is_quiet e ≡ true → Gives turns (value file e s turns)
   quiet_gives file (tree.Number n) s turns h = (pos n, refl)
   quiet_gives file (tree.Wide n) s turns h = (cast_signed w32 n, refl)
   quiet_gives file (tree.Place (tree.Variable n)) s turns h = (scalar_value s (variable file s n.id), refl)
@@ -107,7 +107,7 @@ mutual
       gives_then (λ n. if is_zero n.value then value file b s n.turns else value file a s n.turns) (quiet_gives file x s turns (first (is_quiet x) (is_quiet a && is_quiet b) h))
       (λ v. gives_if (is_zero v) (value file b s turns) (value file a s turns) (quiet_gives file b s turns (rest (is_quiet a) (is_quiet b) more)) (quiet_gives file a s turns (first (is_quiet a) (is_quiet b) more)))
 
-  links_give : (file : File) (ls : tree.Links) (s : State) (y : Bool) (turns : ℕ) (v : ℤ) → are_quiet ls ≡ true → Gives turns (chained file ls s y (left v turns))
+  links_give : (file : File) (ls : tree.Links) (s : BodyState) (y : Bool) (turns : ℕ) (v : ℤ) → are_quiet ls ≡ true → Gives turns (chained file ls s y (left v turns))
   links_give file tree.no_links s y turns v h = (v, refl)
   links_give file (tree.link op m e more) s y turns v h =
       let inner = rest (is_quiet_two op) (is_quiet e && are_quiet more) h in

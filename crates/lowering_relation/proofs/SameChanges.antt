@@ -6,7 +6,7 @@ use Rattle.cddf_meaning.specs.File.{File, or_in_file, type_in}
 use Rattle.cddf_meaning.specs.Flow.{Ran, given, goes_on}
 use Rattle.cddf_meaning.specs.Operators.{binary_value, step_operator}
 use Rattle.cddf_meaning.specs.Run.{assigned, aim_at, old_value, after_store, changed, target_type, run_change, array_size, run_array, window_size, run_window, with_streams, run_sized, run_declarator, run_declarators, run_start}
-use Rattle.cddf_meaning.specs.State.{State, declared, stored_in, stored, stored_in_at}
+use Rattle.cddf_meaning.specs.BodyState.{BodyState, declared, stored_in, stored, stored_in_at}
 use Rattle.cddf_meaning.specs.Value.{value, scalar_value, elements, checked}
 use Rattle.cddf_meaning.specs.Variables.{bind, find, assign}
 use Rattle.cddf_meaning.specs.declared.aim.Aim.{Aim}
@@ -20,7 +20,7 @@ use Rattle.os_ast.specs.Limits.{is_size}
 use Rattle.os_ast.specs.Names.{Scope, typed}
 use Rattle.os_ast.specs.Notes.Declarators.{form, sized_form, size_of, size_value, after_declarator, declarator_notes, declarators_notes, sized_notes, size_notes, is_window, start_notes}
 use Rattle.os_ast.specs.Notes.Expressions.{expr_notes, place_notes, value_notes, change_notes}
-use Rattle.os_ast.specs.Parts.{is_in, target_name}
+use Rattle.os_ast.specs.ClauseParts.{is_in, target_name}
 use Rattle.os_ast.specs.Rules.{has_no_size, has_too_many}
 use Rattle.os_ast.specs.Trees as tree
 use Rattle.os_ast.specs.Unsigned.{is_unsigned}
@@ -58,7 +58,7 @@ assign_more (b ∷ bound) more id v x h = by_case (b.id == id) h (λ k. assign_m
     by_case false k next = ap (λ xs. b ∷ xs) (next k)
 
 -- a store, and what is in scope behind it
-module _ (more : List Binding) (s : State) (id : ℕ) where
+module _ (more : List Binding) (s : BodyState) (id : ℕ) where
   stored_by : (o : Option Variable) (v : ℤ) → find s.bound id ≡ o → (stored_in o (with_more more s) id v ≡ with_more more (stored_in o s id v)) × (ids (stored_in o s id v).bound ≡ ids s.bound)
   stored_by None v is = (refl, refl)
   stored_by (Some (Constant x)) v is = (refl, refl)
@@ -83,7 +83,7 @@ abbrev aimed_id : Aim → ℕ
 aimed_id (Name id) = id
 aimed_id (Element id k) = id
 
-aim_name : (file : File) (t : tree.TargetTree) (s : State) (turns : ℕ) (x : Left Aim) → aim_at file t s turns ≡ Ok x → aimed_id x.value ≡ (target_name t).id
+aim_name : (file : File) (t : tree.TargetTree) (s : BodyState) (turns : ℕ) (x : Left Aim) → aim_at file t s turns ≡ Ok x → aimed_id x.value ≡ (target_name t).id
 aim_name file (tree.Variable n) s turns x h = let e : left (Name n.id) turns ≡ x = cc in ap (λ (y : Left Aim). aimed_id y.value) (sym e)
 aim_name file (tree.Element n m e) s turns x h = by_value (value file e s turns) h
   where
@@ -95,8 +95,8 @@ aim_name file (tree.Element n m e) s turns x h = by_value (value file e s turns)
     by_value (Err ending) k = absurd (cc)
     by_value (Ok i) k = by_index i (checked (length (elements s (find s.bound n.id))) m.line i.value) k
 
-module _ (file : File) (more : List Binding) (apart : AreElse file more) (st : State) where
-  abbrev st2 : State
+module _ (file : File) (more : List Binding) (apart : AreElse file more) (st : BodyState) where
+  abbrev st2 : BodyState
   st2 = with_more more st
 
   pub scalar_more : (id : ℕ) → Seen file st.bound id → scalar_value st (or_in_file file id (find st.bound id)) ≡ scalar_value st2 (or_in_file file id (find st2.bound id))
@@ -134,7 +134,7 @@ module _ (c : Context) (more : List Binding) (apart : AreElse c.file more) (site
   abbrev Same : List Entry → (List Entry → Type 0) → Ran → Ran → Type 0
   Same after within r1 r2 = SameRan c more within after r1 r2
 
-  changed_same : (t : tree.TargetTree) (right : ℤ → State → ℕ → Answer (Left ℤ)) (st : State) (turns : ℕ) (es : List Entry) (within : List Entry → Type 0) → AllSeen c.file st.bound (target_names t) → Matches c st.bound es →
+  changed_same : (t : tree.TargetTree) (right : ℤ → BodyState → ℕ → Answer (Left ℤ)) (st : BodyState) (turns : ℕ) (es : List Entry) (within : List Entry → Type 0) → AllSeen c.file st.bound (target_names t) → Matches c st.bound es →
       ((old : ℤ) (left_turns : ℕ) → right old st left_turns ≡ right old (with_more more st) left_turns) → Same es within (changed c.file t right st turns) (changed c.file t right (with_more more st) turns)
   changed_same t right st turns es within seen m same =
       given_same c more st (aim_at c.file t st turns) (aim_at c.file t (with_more more st) turns)
@@ -151,7 +151,7 @@ module _ (c : Context) (more : List Binding) (apart : AreElse c.file more) (site
       subst (λ x. Same es within (goes_on (after_store st a.value v.value) v.turns) (goes_on x v.turns)) (sym w.0) (went (after_store st a.value v.value) v.turns (w.1 ∙ m))))
 
   module _ (s : Scope) (es : List Entry) (is : In c s es) where
-    pub change_same : (x : tree.ChangeTree) (st : State) (turns : ℕ) (within : List Entry → Type 0) → Matches c st.bound es → Agree c (change_notes s x) → Same es within (run_change c.file x st turns) (run_change c.file x (with_more more st) turns)
+    pub change_same : (x : tree.ChangeTree) (st : BodyState) (turns : ℕ) (within : List Entry → Type 0) → Matches c st.bound es → Agree c (change_notes s x) → Same es within (run_change c.file x st turns) (run_change c.file x (with_more more st) turns)
     change_same (tree.Set t a m e) st turns within same agree =
         let seen_e = seen_expr c s es is st.bound same e (agree_rest c (place_notes s role.Changed t) (expr_notes s e) agree) in
         let seen_t = seen_target c s es is st.bound same t (agree_first c (place_notes s role.Changed t) (expr_notes s e) agree) in
@@ -172,7 +172,7 @@ module _ (c : Context) (more : List Binding) (apart : AreElse c.file more) (site
 
     -- a declarator, by its parts
     abbrev DeclaratorSame : tree.DeclaratorTree → Type 1
-    DeclaratorSame d = (w : Bool) (st : State) (turns : ℕ) (within : List Entry → Type 0) → Matches c st.bound es → Agree c (declarator_notes s d) →
+    DeclaratorSame d = (w : Bool) (st : BodyState) (turns : ℕ) (within : List Entry → Type 0) → Matches c st.bound es → Agree c (declarator_notes s d) →
         Same (entry s d ∷ es) within (run_declarator (around_of c sites) w d st turns) (run_declarator (around_of c sites) w d (with_more more st) turns)
 
     scalar_same_by : (n : NameToken) (first : Option tree.ExprTree) → DeclaratorSame (record { name = n; size = None; stream = false; first = first })
@@ -187,7 +187,7 @@ module _ (c : Context) (more : List Binding) (apart : AreElse c.file more) (site
         let written = written_more c.file more apart inner (Name n.id) x.value (inl (ap (λ b. b || is_in n.id (ids st.bound)) (eq-eqb n.id n.id refl))) in
         subst (λ y. Same (entry s d ∷ es) within (goes_on (stored inner n.id x.value) x.turns) (goes_on y x.turns)) (sym written.0) (went (stored inner n.id x.value) x.turns (written.1 ∙ here)))
 
-    size_more : (i : tree.IndexTree) (st : State) (turns : ℕ) → Matches c st.bound es → is_size (size_value s i.value) ≡ true → value c.file i.value st turns ≡ value c.file i.value (with_more more st) turns
+    size_more : (i : tree.IndexTree) (st : BodyState) (turns : ℕ) → Matches c st.bound es → is_size (size_value s i.value) ≡ true → value c.file i.value st turns ≡ value c.file i.value (with_more more st) turns
     size_more i st turns same sized = let known = size_known (size_value s i.value) sized in value_more c.file more apart st i.value turns (seen_size c s es is st.bound same i.value (pos known.size) known.is)
 
     stream_same : (n : NameToken) (size : Option tree.IndexTree) (first : Option tree.ExprTree) → DeclaratorSame (record { name = n; size = size; stream = true; first = first })
@@ -199,7 +199,7 @@ module _ (c : Context) (more : List Binding) (apart : AreElse c.file more) (site
         (λ x. goes_on (with_streams n.id w (array_size x.value) (with_more more st)) x.turns) (size_more i st turns same (not_false (is_size (size_value s i.value)) kind))
         (λ x q. went (with_streams n.id w (array_size x.value) st) x.turns (ap (λ xs. n.id ∷ xs) same))
 
-    window_same : (w : Bool) (n : NameToken) (i : tree.IndexTree) (st : State) (turns : ℕ) (within : List Entry → Type 0) (after : List Entry) → AllSeen c.file st.bound (expr_names i.value) → ((v : ℕ) → Matches c (bind n.id w (Window v) st.bound) after) →
+    window_same : (w : Bool) (n : NameToken) (i : tree.IndexTree) (st : BodyState) (turns : ℕ) (within : List Entry → Type 0) (after : List Entry) → AllSeen c.file st.bound (expr_names i.value) → ((v : ℕ) → Matches c (bind n.id w (Window v) st.bound) after) →
         Same after within (run_window c.file w n.id i st turns) (run_window c.file w n.id i (with_more more st) turns)
     window_same w n i st turns within after seen m =
         given_same c more st (value c.file i.value st turns) (value c.file i.value (with_more more st) turns) (λ x. given (window_size i.mark.line x.value) st (λ horizon. goes_on (declared n.id w (Window horizon) st) x.turns))
@@ -207,7 +207,7 @@ module _ (c : Context) (more : List Binding) (apart : AreElse c.file more) (site
         (λ x q. given_same c more st (window_size i.mark.line x.value) (window_size i.mark.line x.value) (λ horizon. goes_on (declared n.id w (Window horizon) st) x.turns)
         (λ horizon. goes_on (declared n.id w (Window horizon) (with_more more st)) x.turns) refl (λ horizon r. went (declared n.id w (Window horizon) st) x.turns (m horizon)))
 
-    array_same : (w : Bool) (n : NameToken) (i : tree.IndexTree) (st : State) (turns : ℕ) (within : List Entry → Type 0) (after : List Entry) → Matches c st.bound es → is_size (size_value s i.value) ≡ true → ((v : List ℤ) → Matches c (bind n.id w (Array v) st.bound) after) →
+    array_same : (w : Bool) (n : NameToken) (i : tree.IndexTree) (st : BodyState) (turns : ℕ) (within : List Entry → Type 0) (after : List Entry) → Matches c st.bound es → is_size (size_value s i.value) ≡ true → ((v : List ℤ) → Matches c (bind n.id w (Array v) st.bound) after) →
         Same after within (run_array c.file w n.id i.value st turns) (run_array c.file w n.id i.value (with_more more st) turns)
     array_same w n i st turns within after same sized m =
         given_same c more st (value c.file i.value st turns) (value c.file i.value (with_more more st) turns) (λ x. goes_on (declared n.id w (Array (replicate (array_size x.value) (pos 0))) st) x.turns)
@@ -249,7 +249,7 @@ module _ (c : Context) (more : List Binding) (apart : AreElse c.file more) (site
         by_parts n None false first = scalar_same_by n first
         by_parts n (Some i) false first = sized_same n i first
 
-  pub declarators_same : (w : Bool) (ds : List tree.DeclaratorTree) (s : Scope) (es : List Entry) (st : State) (turns : ℕ) (within : List Entry → Type 0) → In c s es → Matches c st.bound es → Agree c (declarators_notes s ds) →
+  pub declarators_same : (w : Bool) (ds : List tree.DeclaratorTree) (s : Scope) (es : List Entry) (st : BodyState) (turns : ℕ) (within : List Entry → Type 0) → In c s es → Matches c st.bound es → Agree c (declarators_notes s ds) →
       Same (made s ds es) within (run_declarators (around_of c sites) w ds st turns) (run_declarators (around_of c sites) w ds (with_more more st) turns)
   declarators_same w [] s es st turns within is same agree = went st turns same
   declarators_same w (d ∷ ds) s es st turns within is same agree =
@@ -258,7 +258,7 @@ module _ (c : Context) (more : List Binding) (apart : AreElse c.file more) (site
       (declarator_same s es is d w st turns within same (agree_first c (declarator_notes s d) (declarators_notes s1 ds) agree))
       (λ st1 t1 m1. declarators_same w ds s1 (entry s d ∷ es) st1 t1 within (in_behind c s es d is) m1 (agree_rest c (declarator_notes s d) (declarators_notes s1 ds) agree))
 
-  pub start_same : (t : tree.StartTree) (s : Scope) (es : List Entry) (st : State) (turns : ℕ) (within : List Entry → Type 0) → In c s es → Matches c st.bound es → Agree c (start_notes s t) →
+  pub start_same : (t : tree.StartTree) (s : Scope) (es : List Entry) (st : BodyState) (turns : ℕ) (within : List Entry → Type 0) → In c s es → Matches c st.bound es → Agree c (start_notes s t) →
       Same (made_first s t es) within (run_start (around_of c sites) t st turns) (run_start (around_of c sites) t (with_more more st) turns)
   start_same tree.StartTree.Empty s es st turns within is same agree = went st turns same
   start_same (tree.StartTree.Declare ty ds) s es st turns within is same agree = declarators_same (is_unsigned ty) ds (typed ty s) es st turns within (in_typed c ty s es is) same agree

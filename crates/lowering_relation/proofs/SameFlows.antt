@@ -5,7 +5,7 @@ use Rattle.c_int.specs.Operators.{is_zero}
 use Rattle.cddf_meaning.specs.Answers.{Answer, Left}
 use Rattle.cddf_meaning.specs.Flow.{Ran, Went, Ended, Runs, given, goes_on, flows, loops, left_state, left_from}
 use Rattle.cddf_meaning.specs.Run.{loop}
-use Rattle.cddf_meaning.specs.State.{State}
+use Rattle.cddf_meaning.specs.BodyState.{BodyState}
 use Rattle.cddf_meaning.specs.Variables.{leave}
 use Rattle.cddf_meaning.specs.declared.ending.Ending.{Ending}
 use Rattle.cddf_meaning.specs.declared.ending.Ending.TheVariants.{OverBudget}
@@ -38,13 +38,13 @@ leave_more outer inner more =
 module _ (c : Context) (more : List Binding) where
   -- the same end, or the same state with more in scope; where it goes on or leaves a loop it has in scope what the text has
   pub data SameRan (within : List Entry → Type 0) (after : List Entry) : Ran → Ran → Type 0 where
-    went : (st : State) (turns : ℕ) → Matches c st.bound after → SameRan within after (Went GoesOn st turns) (Went GoesOn (with_more more st) turns)
-    breaks : (st : State) (turns : ℕ) (es : List Entry) → within es → Matches c st.bound es → SameRan within after (Went Breaks st turns) (Went Breaks (with_more more st) turns)
-    continues : (st : State) (turns : ℕ) (es : List Entry) → within es → Matches c st.bound es → SameRan within after (Went Continues st turns) (Went Continues (with_more more st) turns)
-    returns : (v : ℤ) (st : State) (turns : ℕ) → SameRan within after (Went (Returns v) st turns) (Went (Returns v) (with_more more st) turns)
+    went : (st : BodyState) (turns : ℕ) → Matches c st.bound after → SameRan within after (Went GoesOn st turns) (Went GoesOn (with_more more st) turns)
+    breaks : (st : BodyState) (turns : ℕ) (es : List Entry) → within es → Matches c st.bound es → SameRan within after (Went Breaks st turns) (Went Breaks (with_more more st) turns)
+    continues : (st : BodyState) (turns : ℕ) (es : List Entry) → within es → Matches c st.bound es → SameRan within after (Went Continues st turns) (Went Continues (with_more more st) turns)
+    returns : (v : ℤ) (st : BodyState) (turns : ℕ) → SameRan within after (Went (Returns v) st turns) (Went (Returns v) (with_more more st) turns)
     ended : (e : Ending) (activations : List Activation) → SameRan within after (Ended e activations) (Ended e activations)
 
-  pub given_same : {A : Type 0} {within : List Entry → Type 0} {after : List Entry} (st : State) (a b : Answer A) (f g : A → Ran) → a ≡ b → ((x : A) → a ≡ Ok x → SameRan within after (f x) (g x)) →
+  pub given_same : {A : Type 0} {within : List Entry → Type 0} {after : List Entry} (st : BodyState) (a b : Answer A) (f g : A → Ran) → a ≡ b → ((x : A) → a ≡ Ok x → SameRan within after (f x) (g x)) →
       SameRan within after (given a st f) (given b (with_more more st) g)
   given_same {within = within} {after = after} st a b f g e go = subst (λ y. SameRan within after (given a st f) (given y (with_more more st) g)) e (by_answer a go)
     where
@@ -54,7 +54,7 @@ module _ (c : Context) (more : List Binding) where
 
   -- what follows a statement
   pub flows_same : {r1 r2 : Ran} (inner within : List Entry → Type 0) (after1 after : List Entry) (runs other : Runs) → ((x : List Entry) → inner x → within x) → SameRan inner after1 r1 r2 →
-      ((st : State) (turns : ℕ) → Matches c st.bound after1 → SameRan within after (runs st turns) (other (with_more more st) turns)) → SameRan within after (flows runs r1) (flows other r2)
+      ((st : BodyState) (turns : ℕ) → Matches c st.bound after1 → SameRan within after (runs st turns) (other (with_more more st) turns)) → SameRan within after (flows runs r1) (flows other r2)
   flows_same inner within after1 after runs other wide (went st turns m) go = go st turns m
   flows_same inner within after1 after runs other wide (breaks st turns es i m) go = breaks st turns es (wide es i) m
   flows_same inner within after1 after runs other wide (continues st turns es i m) go = continues st turns es (wide es i) m
@@ -63,7 +63,7 @@ module _ (c : Context) (more : List Binding) where
 
   -- behind the body of a loop
   pub loops_same : {r1 r2 : Ran} (es : List Entry) (runs other : Runs) → SameRan (exactly es) es r1 r2 →
-      ((st : State) (turns : ℕ) → Matches c st.bound es → SameRan (exactly es) es (runs st turns) (other (with_more more st) turns)) → SameRan (exactly es) es (loops runs r1) (loops other r2)
+      ((st : BodyState) (turns : ℕ) → Matches c st.bound es → SameRan (exactly es) es (runs st turns) (other (with_more more st) turns)) → SameRan (exactly es) es (loops runs r1) (loops other r2)
   loops_same es runs other (went st turns m) go = go st turns m
   loops_same es runs other (breaks st turns x i m) go = went st turns (subst (Matches c st.bound) i m)
   loops_same es runs other (continues st turns x i m) go = go st turns (subst (Matches c st.bound) i m)
@@ -81,11 +81,11 @@ module _ (c : Context) (more : List Binding) where
       let n : length inner - length outer ≡ length (entry_ids added) = omega (arith, a, b, p, q) in
       drop_ids (length inner - length outer) inner ∙ ap (λ k. drop k (ids inner)) n ∙ ap (drop (length (entry_ids added))) whole ∙ drop_front (entry_ids added) (entry_ids (es ++ c.bound))
 
-  left_more : (outer inner : State) → left_state (with_more more outer) (with_more more inner) ≡ with_more more (left_state outer inner)
+  left_more : (outer inner : BodyState) → left_state (with_more more outer) (with_more more inner) ≡ with_more more (left_state outer inner)
   left_more outer inner = ap (λ bound. record inner { bound = bound }) (leave_more outer.bound inner.bound more)
 
   -- a scope of its own
-  pub scope_same : {r1 r2 : Ran} (outer : State) (inner : List Entry → Type 0) (after es : List Entry) → ((x : List Entry) → inner x → Extends x es) → Extends after es → Matches c outer.bound es → SameRan inner after r1 r2 →
+  pub scope_same : {r1 r2 : Ran} (outer : BodyState) (inner : List Entry → Type 0) (after es : List Entry) → ((x : List Entry) → inner x → Extends x es) → Extends after es → Matches c outer.bound es → SameRan inner after r1 r2 →
       SameRan (exactly es) es (left_from outer r1) (left_from (with_more more outer) r2)
   scope_same outer inner after es wide ext o (went st turns m) =
       subst (λ x. SameRan (exactly es) es (Went GoesOn (left_state outer st) turns) (Went GoesOn x turns)) (sym (left_more outer st)) (went (left_state outer st) turns (left_matches outer.bound st.bound after es ext o m))
@@ -105,11 +105,11 @@ module _ (c : Context) (more : List Binding) where
   pub branch_same : (v : ℤ) {within : List Entry → Type 0} {after : List Entry} {a b x y : Ran} → SameRan within after a x → SameRan within after b y → SameRan within after (if is_zero v then a else b) (if is_zero v then x else y)
   branch_same v h k = by_branch (is_zero v) h k
 
-  pub loop_same : (most : ℕ) (test : State → ℕ → Answer (Left ℤ)) (body step : Runs) (es : List Entry) →
-      ((st : State) (turns : ℕ) → Matches c st.bound es → test st turns ≡ test (with_more more st) turns) →
-      ((st : State) (turns : ℕ) → Matches c st.bound es → SameRan (exactly es) es (body st turns) (body (with_more more st) turns)) →
-      ((st : State) (turns : ℕ) → Matches c st.bound es → SameRan (exactly es) es (step st turns) (step (with_more more st) turns)) →
-      (st : State) (turns : ℕ) → Matches c st.bound es → SameRan (exactly es) es (loop most test body step st turns) (loop most test body step (with_more more st) turns)
+  pub loop_same : (most : ℕ) (test : BodyState → ℕ → Answer (Left ℤ)) (body step : Runs) (es : List Entry) →
+      ((st : BodyState) (turns : ℕ) → Matches c st.bound es → test st turns ≡ test (with_more more st) turns) →
+      ((st : BodyState) (turns : ℕ) → Matches c st.bound es → SameRan (exactly es) es (body st turns) (body (with_more more st) turns)) →
+      ((st : BodyState) (turns : ℕ) → Matches c st.bound es → SameRan (exactly es) es (step st turns) (step (with_more more st) turns)) →
+      (st : BodyState) (turns : ℕ) → Matches c st.bound es → SameRan (exactly es) es (loop most test body step st turns) (loop most test body step (with_more more st) turns)
   loop_same most test body step es tests bodies steps st zero m = ended OverBudget st.activations
   loop_same zero test body step es tests bodies steps st (suc turns) m = ended OverBudget st.activations
   loop_same (suc most) test body step es tests bodies steps st (suc turns) m =

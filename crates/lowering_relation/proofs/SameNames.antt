@@ -3,7 +3,7 @@ use Rattle.std.proofs.Common.{◌≡◌, ℕ, ◌==◌, ◌||◌, Bool, true, fa
 use Rattle.std.proofs.lemmas.Bool.{or_cases}
 use Rattle.std.specs.Prelude.{◌⊎◌}
 use Rattle.cddf_meaning.specs.File.{File, variable, or_in_file, flags, type_in}
-use Rattle.cddf_meaning.specs.State.{State}
+use Rattle.cddf_meaning.specs.BodyState.{BodyState}
 use Rattle.cddf_meaning.specs.Value.{value, values}
 use Rattle.cddf_meaning.specs.Variables.{find, flag_or}
 use Rattle.cddf_meaning.specs.declared.variable.Binding.{Binding}
@@ -14,7 +14,7 @@ use Rattle.os_ast.specs.Names.{Scope, lookup, entity_of}
 use Rattle.os_ast.specs.Notes.Declarators.{size_value}
 use Rattle.os_ast.specs.Notes.Expressions.{count_args, expr_notes, place_notes, args_notes, links_notes}
 use Rattle.os_ast.specs.Notes.Kinds.{Note, Used}
-use Rattle.os_ast.specs.Parts.{is_in, target_name}
+use Rattle.os_ast.specs.ClauseParts.{is_in, target_name}
 use Rattle.os_ast.specs.Trees as tree
 use Rattle.os_ast.specs.declared.expr.Name.{Name}
 use Rattle.os_ast.specs.declared.names.Entity.{Entity}
@@ -225,7 +225,7 @@ module _ (c : Context) where
     seen_all args agree = seen_args args agree
 
 -- values where more is in scope
-module _ (file : File) (more : List Binding) (apart : AreElse file more) (st : State) where
+module _ (file : File) (more : List Binding) (apart : AreElse file more) (st : BodyState) where
   pub value_more : (e : tree.ExprTree) (turns : ℕ) → AllSeen file st.bound (expr_names e) → value file e st turns ≡ value file e (with_more more st) turns
   value_more e turns seen = value_same file st st.bound (st.bound ++ more) e turns (all_same file st.bound more (expr_names e) apart seen)
 

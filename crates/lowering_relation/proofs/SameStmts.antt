@@ -5,7 +5,7 @@ use Rattle.cddf_meaning.specs.Answers.{and_then}
 use Rattle.cddf_meaning.specs.File.{variable}
 use Rattle.cddf_meaning.specs.Flow.{Ran, Went, goes_on}
 use Rattle.cddf_meaning.specs.Run.{Around, loop, run_test, run_step, run, run_all}
-use Rattle.cddf_meaning.specs.State.{State}
+use Rattle.cddf_meaning.specs.BodyState.{BodyState}
 use Rattle.cddf_meaning.specs.Value.{value, values, call_value}
 use Rattle.cddf_meaning.specs.declared.flow.Flow.TheVariants.{Returns}
 use Rattle.cddf_meaning.specs.declared.site.Site.{Site}
@@ -18,7 +18,7 @@ use Rattle.os_ast.specs.Notes.Declarators.{after_declarators, declarators_notes,
 use Rattle.os_ast.specs.Notes.Expressions.{count_args, expr_notes, args_notes, value_notes, step_notes}
 use Rattle.os_ast.specs.Notes.Kinds.{Task}
 use Rattle.os_ast.specs.Notes.Statements.{after_stmt, stmt_notes, stmts_notes}
-use Rattle.os_ast.specs.Parts.{parts, count_items}
+use Rattle.os_ast.specs.ClauseParts.{parts, count_items}
 use Rattle.os_ast.specs.Trees as tree
 use Rattle.os_ast.specs.Unsigned.{is_unsigned}
 use Rattle.os_ast.specs.declared.expr.Mark.{Mark}
@@ -59,14 +59,14 @@ module _ (c : Context) (more : List Binding) (apart : AreElse c.file more) (site
   start_in (tree.StartTree.Declare ty ds) s es is = declarators_in c ds (typed ty s) es (in_typed c ty s es is)
   start_in (tree.StartTree.Change x) s es is = is
 
-  expr_same : (s : Scope) (es : List Entry) (st : State) (e : tree.ExprTree) (turns : ℕ) → In c s es → Matches c st.bound es → Agree c (expr_notes s e) → value c.file e st turns ≡ value c.file e (with_more more st) turns
+  expr_same : (s : Scope) (es : List Entry) (st : BodyState) (e : tree.ExprTree) (turns : ℕ) → In c s es → Matches c st.bound es → Agree c (expr_notes s e) → value c.file e st turns ≡ value c.file e (with_more more st) turns
   expr_same s es st e turns is same agree = value_more c.file more apart st e turns (seen_expr c s es is st.bound same e agree)
 
-  test_same : (test : Option tree.ExprTree) (s : Scope) (es : List Entry) → In c s es → Agree c (value_notes s test) → (st : State) (turns : ℕ) → Matches c st.bound es → run_test c.file test st turns ≡ run_test c.file test (with_more more st) turns
+  test_same : (test : Option tree.ExprTree) (s : Scope) (es : List Entry) → In c s es → Agree c (value_notes s test) → (st : BodyState) (turns : ℕ) → Matches c st.bound es → run_test c.file test st turns ≡ run_test c.file test (with_more more st) turns
   test_same None s es is agree st turns same = refl
   test_same (Some e) s es is agree st turns same = expr_same s es st e turns is same agree
 
-  step_same : (step : Option tree.ChangeTree) (s : Scope) (es : List Entry) → In c s es → Agree c (step_notes s step) → (st : State) (turns : ℕ) → Matches c st.bound es →
+  step_same : (step : Option tree.ChangeTree) (s : Scope) (es : List Entry) → In c s es → Agree c (step_notes s step) → (st : BodyState) (turns : ℕ) → Matches c st.bound es →
       Same (exactly es) es (run_step c.file step st turns) (run_step c.file step (with_more more st) turns)
   step_same None s es is agree st turns same = went st turns same
   step_same (Some x) s es is agree st turns same = change_same c more apart sites s es is x st turns (exactly es) same agree
@@ -80,7 +80,7 @@ module _ (c : Context) (more : List Binding) (apart : AreElse c.file more) (site
   widened inner es after ext (ended e activations) = ended e activations
 
   mutual
-    pub stmt_same : {a : tree.StmtTree} → IsStmt a → (s : Scope) (es : List Entry) (st : State) (turns : ℕ) → In c s es → Matches c st.bound es → Agree c (stmt_notes s a) → Owns known s a →
+    pub stmt_same : {a : tree.StmtTree} → IsStmt a → (s : Scope) (es : List Entry) (st : BodyState) (turns : ℕ) → In c s es → Matches c st.bound es → Agree c (stmt_notes s a) → Owns known s a →
         Same (exactly es) es (run u a st turns) (run u a (with_more more st) turns)
     stmt_same IsStmt.empty s es st turns is same agree own = went st turns same
     stmt_same (IsStmt.block {ss = ss} block) s es st turns is same agree own =
@@ -141,7 +141,7 @@ module _ (c : Context) (more : List Binding) (apart : AreElse c.file more) (site
         tick_same c more apart (sees main) s es is st same t arrow e turns agree.1
     stmt_same IsStmt.taskwait s es st turns is same agree own = went st turns same
 
-    pub stmts_same : {ss : tree.Stmts} → AreStmts ss → (s : Scope) (es : List Entry) (st : State) (turns : ℕ) → In c s es → Matches c st.bound es → Agree c (stmts_notes s ss) → OwnsAll known s ss →
+    pub stmts_same : {ss : tree.Stmts} → AreStmts ss → (s : Scope) (es : List Entry) (st : BodyState) (turns : ℕ) → In c s es → Matches c st.bound es → Agree c (stmts_notes s ss) → OwnsAll known s ss →
         Same (around es) (made_all s ss es) (run_all u ss st turns) (run_all u ss (with_more more st) turns)
     stmts_same AreStmts.no_stmts s es st turns is same agree own = went st turns same
     stmts_same (AreStmts.declare {t = ty} {ds = ds} {ss = ss} _ rest) s0 es st turns before same agree own =

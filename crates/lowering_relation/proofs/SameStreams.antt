@@ -5,7 +5,7 @@ use Rattle.cddf_meaning.specs.Answers.{left, and_then, with_turns}
 use Rattle.cddf_meaning.specs.Claims.{with_skips, moves_behind, limit}
 use Rattle.cddf_meaning.specs.File.{or_in_file}
 use Rattle.cddf_meaning.specs.Flow.{given}
-use Rattle.cddf_meaning.specs.State.{State}
+use Rattle.cddf_meaning.specs.BodyState.{BodyState}
 use Rattle.cddf_meaning.specs.Streams.{first_stream, stream_count, stream_number, cursor_move, burst_of, horizon_of, claim_of, burst, joined, item_claim, items_claims, captured_values, with_activation, unless_limited, task_number, captured_by, run_task, moved, tick_turn, run_tick}
 use Rattle.cddf_meaning.specs.Value.{scalar_value, value, checked}
 use Rattle.cddf_meaning.specs.Variables.{find}
@@ -18,7 +18,7 @@ use Rattle.os_ast.specs.Names.{Scope, lookup, entity_of}
 use Rattle.os_ast.specs.Notes.Clauses.{shape_of, window_notes, part_notes, parts_notes}
 use Rattle.os_ast.specs.Notes.Expressions.{expr_notes, place_notes, index_notes}
 use Rattle.os_ast.specs.Notes.Kinds.{Note, Used}
-use Rattle.os_ast.specs.Parts.{Part, Item, Private, part_name, parts}
+use Rattle.os_ast.specs.ClauseParts.{ClausePart, Item, Private, part_name, parts}
 use Rattle.os_ast.specs.Trees as tree
 use Rattle.os_ast.specs.declared.expr.Mark.{Mark}
 use Rattle.os_ast.specs.declared.expr.Name.{Name}
@@ -48,8 +48,8 @@ SeesAll c =
 abbrev pub IsNamed : List Site → Scope → Mark → List tree.ClauseTree → tree.StmtTree → Type 0
 IsNamed sites s m cs a = (number : ℕ) × (task_number sites m ≡ Some number) × (captured_by sites number ≡ map (λ (x : Scalar). x.id) (captured s.entries (parts cs) a))
 
-module _ (c : Context) (more : List Binding) (apart : AreElse c.file more) (sees : SeesAll c) (s : Scope) (es : List Entry) (is : In c s es) (st : State) (same : Matches c st.bound es) where
-  abbrev st2 : State
+module _ (c : Context) (more : List Binding) (apart : AreElse c.file more) (sees : SeesAll c) (s : Scope) (es : List Entry) (is : In c s es) (st : BodyState) (same : Matches c st.bound es) where
+  abbrev st2 : BodyState
   st2 = with_more more st
 
   found_more : (n : Name) (u : Use) (ns : List Note) → Agree c (Used s n u ∷ ns) → find st.bound n.id ≡ find st2.bound n.id
@@ -82,7 +82,7 @@ module _ (c : Context) (more : List Binding) (apart : AreElse c.file more) (sees
       same_then (stream_number c.file i.stream st turns) (stream_number c.file i.stream st2 turns) (λ n. joined c.file d n.value i.window st n.turns) (λ n. joined c.file d n.value i.window st2 n.turns)
       (stream_more i.stream d turns (agree_first c front rest agree)) (λ n. joined_more d n.value i.stream before i.window n.turns (agree_rest c front rest agree))
 
-  items_more : (ps : List Part) (before : List ℕ) (turns : ℕ) → Agree c (parts_notes s before ps) → items_claims c.file ps st turns ≡ items_claims c.file ps st2 turns
+  items_more : (ps : List ClausePart) (before : List ℕ) (turns : ℕ) → Agree c (parts_notes s before ps) → items_claims c.file ps st turns ≡ items_claims c.file ps st2 turns
   items_more [] before turns agree = refl
   items_more (Private n ∷ ps) before turns agree = items_more ps (n.id ∷ before) turns agree.1.1
   items_more (Item d i ∷ ps) before turns agree =

@@ -13,7 +13,7 @@ use Rattle.cddf_meaning.specs.Flow.{Ran, Runs, Went, Ended, given, goes_on, flow
 use Rattle.cddf_meaning.specs.Operators.{binary_value, step_operator}
 use Rattle.cddf_meaning.specs.Program.{Main, main_of}
 use Rattle.cddf_meaning.specs.Run.{Around, loop, assigned, aim_at, old_value, after_store, changed, target_type, run_change, run_scalar, array_size, run_array, run_window, window_size, with_streams, run_streams, run_unsized_or, run_declarator, run_declarators, run_start, run_test, run_step, run, run_all}
-use Rattle.cddf_meaning.specs.State.{State, declared, stored, stored_in, stored_in_at}
+use Rattle.cddf_meaning.specs.BodyState.{BodyState, declared, stored, stored_in, stored_in_at}
 use Rattle.cddf_meaning.specs.Streams.{stream_number, cursor_move, items_claims, run_task, run_tick, tick_turn, unless_limited, with_activation, captured_by, task_number}
 use Rattle.cddf_meaning.specs.Tasks.{Task, sites_of}
 use Rattle.cddf_meaning.specs.Value.{value, values, call_value}
@@ -25,7 +25,7 @@ use Rattle.cddf_meaning.specs.declared.site.Site.{Site}
 use Rattle.cddf_meaning.specs.declared.variable.Variable.{Variable}
 use Rattle.cddf_meaning.specs.declared.variable.Variable.TheVariants.{Constant, Function, Scalar, Array, Window, Stream, Item}
 use Rattle.flow_core_laws.specs.declared.activation.Activation.{Activation}
-use Rattle.os_ast.specs.Parts.{Part, parts}
+use Rattle.os_ast.specs.ClauseParts.{ClausePart, parts}
 use Rattle.os_ast.specs.Trees as tree
 use Rattle.os_ast.specs.Unsigned.{is_unsigned}
 use Rattle.os_ast.specs.declared.expr.Mark.{Mark}
@@ -50,7 +50,7 @@ sited_at n (b ∷ made) zero a h at = let same : b ≡ a = cc in subst (λ (x : 
 sited_at n (b ∷ made) (suc k) a h at = sited_at n made k a h.1 at
 
 -- what is stored creates nothing
-stored_in-made : (found : Option Variable) (s : State) (id : ℕ) (v : ℤ) → (stored_in found s id v).activations ≡ s.activations
+stored_in-made : (found : Option Variable) (s : BodyState) (id : ℕ) (v : ℤ) → (stored_in found s id v).activations ≡ s.activations
 stored_in-made (Some (Item item)) s id v = refl
 stored_in-made (Some (Scalar old)) s id v = refl
 stored_in-made (Some (Constant c)) s id v = refl
@@ -60,7 +60,7 @@ stored_in-made (Some (Window h)) s id v = refl
 stored_in-made (Some (Stream first count)) s id v = refl
 stored_in-made None s id v = refl
 
-stored_in_at-made : (found : Option Variable) (s : State) (id k : ℕ) (v : ℤ) → (stored_in_at found s id k v).activations ≡ s.activations
+stored_in_at-made : (found : Option Variable) (s : BodyState) (id k : ℕ) (v : ℤ) → (stored_in_at found s id k v).activations ≡ s.activations
 stored_in_at-made (Some (Item item)) s id k v = refl
 stored_in_at-made (Some (Scalar old)) s id k v = refl
 stored_in_at-made (Some (Constant c)) s id k v = refl
@@ -70,7 +70,7 @@ stored_in_at-made (Some (Window h)) s id k v = refl
 stored_in_at-made (Some (Stream first count)) s id k v = refl
 stored_in_at-made None s id k v = refl
 
-after_store-made : (s : State) (aim : Aim) (v : ℤ) → (after_store s aim v).activations ≡ s.activations
+after_store-made : (s : BodyState) (aim : Aim) (v : ℤ) → (after_store s aim v).activations ≡ s.activations
 after_store-made s (Name id) v = stored_in-made (find s.bound id) s id v
 after_store-made s (Element id k) v = stored_in_at-made (find s.bound id) s id k v
 
@@ -79,12 +79,12 @@ module _ (n : ℕ) where
   Sited r = AreSited n (made_in r)
 
   abbrev RunsSited : Runs → Type 0
-  RunsSited next = (s : State) (turns : ℕ) → AreSited n s.activations → Sited (next s turns)
+  RunsSited next = (s : BodyState) (turns : ℕ) → AreSited n s.activations → Sited (next s turns)
 
-  on_sited : (s t : State) (turns : ℕ) → t.activations ≡ s.activations → AreSited n s.activations → Sited (goes_on t turns)
+  on_sited : (s t : BodyState) (turns : ℕ) → t.activations ≡ s.activations → AreSited n s.activations → Sited (goes_on t turns)
   on_sited s t turns same h = subst (AreSited n) (sym same) h
 
-  given_sited : {A : Type 0} (s : State) (a : Answer A) (next : A → Ran) → AreSited n s.activations → ((v : A) → Sited (next v)) → Sited (given a s next)
+  given_sited : {A : Type 0} (s : BodyState) (a : Answer A) (next : A → Ran) → AreSited n s.activations → ((v : A) → Sited (next v)) → Sited (given a s next)
   given_sited s (Ok v) next h f = f v
   given_sited s (Err ending) next h f = h
 
@@ -102,7 +102,7 @@ module _ (n : ℕ) where
   loops_sited next (Went (Returns v) s turns) h f = h
   loops_sited next (Ended ending made) h f = h
 
-  left_sited : (outer : State) (r : Ran) → Sited r → Sited (left_from outer r)
+  left_sited : (outer : BodyState) (r : Ran) → Sited r → Sited (left_from outer r)
   left_sited outer (Went flow s turns) h = h
   left_sited outer (Ended ending made) h = h
 
@@ -114,7 +114,7 @@ module _ (n : ℕ) where
   either_sited true a b f g = f
   either_sited false a b f g = g
 
-  changed_sited : (file : File) (t : tree.TargetTree) (right : ℤ → State → ℕ → Answer (Left ℤ)) → RunsSited (changed file t right)
+  changed_sited : (file : File) (t : tree.TargetTree) (right : ℤ → BodyState → ℕ → Answer (Left ℤ)) → RunsSited (changed file t right)
   changed_sited file t right s turns h =
       given_sited s (aim_at file t s turns)
       (λ a. given (right (old_value file s a.value) s a.turns) s (λ v. goes_on (after_store s a.value v.value) v.turns)) h
@@ -174,7 +174,7 @@ module _ (n : ℕ) where
   step_sited file None s turns h = h
   step_sited file (Some c) s turns h = change_sited file c s turns h
 
-  loop_sited : (most : ℕ) (test : State → ℕ → Answer (Left ℤ)) (body step : Runs) → RunsSited body → RunsSited step → RunsSited (loop most test body step)
+  loop_sited : (most : ℕ) (test : BodyState → ℕ → Answer (Left ℤ)) (body step : Runs) → RunsSited body → RunsSited step → RunsSited (loop most test body step)
   loop_sited most test body step f g s zero h = h
   loop_sited zero test body step f g s (suc turns) h = h
   loop_sited (suc most) test body step f g s (suc turns) h =
@@ -184,11 +184,11 @@ module _ (n : ℕ) where
       (loops_sited again (body s n.turns) (f s n.turns h)
       (λ t left k. flows_sited (loop most test body step) (step t left) (g t left k) (loop_sited most test body step f g))))
 
-  limited_sited : (l : Option ControlLimit) (s next : State) (turns : ℕ) → AreSited n s.activations → AreSited n next.activations → Sited (unless_limited l s turns next)
+  limited_sited : (l : Option ControlLimit) (s next : BodyState) (turns : ℕ) → AreSited n s.activations → AreSited n next.activations → Sited (unless_limited l s turns next)
   limited_sited None s next turns h k = k
   limited_sited (Some limit) s next turns h k = h
 
-  task_sited : (file : File) (sites : List Site) (number : Option ℕ) (ps : List Part) → ((k : ℕ) → number ≡ Some k → k < n)
+  task_sited : (file : File) (sites : List Site) (number : Option ℕ) (ps : List ClausePart) → ((k : ℕ) → number ≡ Some k → k < n)
       → RunsSited (run_task file sites number ps)
   task_sited file sites None ps below s turns h = h
   task_sited file sites (Some number) ps below s turns h =

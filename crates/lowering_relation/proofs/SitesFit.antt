@@ -9,7 +9,7 @@ use Rattle.os_ast.specs.Notes.Declarators.{after_start, start_notes}
 use Rattle.os_ast.specs.Notes.Expressions.{expr_notes, place_notes, value_notes, step_notes}
 use Rattle.os_ast.specs.Notes.Kinds.{Note, Task}
 use Rattle.os_ast.specs.Notes.Statements.{after_stmt, stmt_notes, stmts_notes}
-use Rattle.os_ast.specs.Parts.{Part, Item, Private, part_name, parts, count_items}
+use Rattle.os_ast.specs.ClauseParts.{ClausePart, Item, Private, part_name, parts, count_items}
 use Rattle.os_ast.specs.Trees as tree
 use Rattle.os_ast.specs.Violations.{main_task, captures}
 use Rattle.os_ast.specs.declared.names.Direction.{Direction}
@@ -143,7 +143,7 @@ module _ (h : Home) where
       by_window None slot fit is = absurd (cc)
       by_window (Some j) slot fit is = window_below (tells h j.name.mark.place).what slot fit.1.0 is
 
-  items_fit : (ps : List Part) (s : Scope) (before : List ℕ) → AllFit h (parts_notes s before ps) → All ItemFits (site_items (tells h) ps)
+  items_fit : (ps : List ClausePart) (s : Scope) (before : List ℕ) → AllFit h (parts_notes s before ps) → All ItemFits (site_items (tells h) ps)
   items_fit [] s before fit = all_none ItemFits
   items_fit (Private n ∷ ps) s before fit = items_fit ps s ((part_name (Private n)).id ∷ before) fit.1.1
   items_fit (Item d i ∷ ps) s before fit =

@@ -10,7 +10,7 @@ use Rattle.os_ast.specs.Notes.Declarators.{limited, constant_of, size_value, siz
 use Rattle.os_ast.specs.Notes.Expressions.{expr_notes, place_notes, args_notes, links_notes, value_notes, index_notes, change_notes, step_notes}
 use Rattle.os_ast.specs.Notes.Kinds.{Note, Used, Sized, Declared, Given, Global, Left, Returned, Pragma, Task, Listed}
 use Rattle.os_ast.specs.Notes.Statements.{after_stmt, stmt_notes, stmts_notes}
-use Rattle.os_ast.specs.Parts.{Part, Item, Private, parts, part_name, count_items}
+use Rattle.os_ast.specs.ClauseParts.{ClausePart, Item, Private, parts, part_name, count_items}
 use Rattle.os_ast.specs.Rules.{has_no_size, has_too_many}
 use Rattle.os_ast.specs.Trees as tree
 use Rattle.os_ast.specs.Violations.{constant_meaning}
@@ -100,7 +100,7 @@ module _ (size : tree.ExprTree → ℕ) where
   window_sizes s before stream None = tt
   window_sizes s before stream (Some j) = index_sizes j.burst s
 
-  parts_sizes : (ps : List Part) (s : Scope) (before : List ℕ) → HasSizes size (parts_notes s before ps)
+  parts_sizes : (ps : List ClausePart) (s : Scope) (before : List ℕ) → HasSizes size (parts_notes s before ps)
   parts_sizes [] s before = tt
   parts_sizes (Private n ∷ ps) s before = parts_sizes ps s (n.id ∷ before)
   parts_sizes (Item d i ∷ ps) s before =

@@ -2,7 +2,7 @@
 use Rattle.std.proofs.Common.{◌≡◌, ℕ, suc, ◌+◌, ◌*◌, List, [], ◌∷◌, length, Some, None, slice_get, refl, sym, ap, ◌∙◌, subst, arith}
 use Rattle.std.proofs.lemmas.Option.{slice_get_within}
 use Rattle.std.specs.Option.{option_map_or}
-use Rattle.os_ast.specs.Parts.{Part, Item, Private, count_items}
+use Rattle.os_ast.specs.ClauseParts.{ClausePart, Item, Private, count_items}
 use Rattle.os_ast.specs.declared.names.Resolved.{Resolved}
 use Rattle.os_code.specs.declared.site.Site.{Site}
 use Rattle.lowering_relation.specs.Programs.{HasTask}
@@ -10,7 +10,7 @@ use Rattle.lowering_relation.specs.Tasks.{TaskTree, number_of, site_items}
 use Rattle.lowering_relation.proofs.Homes.{Home, AreSpawned}
 use Rattle.lowering_relation.proofs.TaskMarks.{Rises, place_of, position_is}
 
-pub items_length : (tells : ℕ → Resolved) (ps : List Part) → length (site_items tells ps) ≡ count_items ps
+pub items_length : (tells : ℕ → Resolved) (ps : List ClausePart) → length (site_items tells ps) ≡ count_items ps
 items_length tells [] = refl
 items_length tells (Private n ∷ ps) = items_length tells ps
 items_length tells (Item d i ∷ ps) = ap suc (items_length tells ps)

@@ -5,7 +5,7 @@ use Rattle.c_int.specs.declared.control_limit.ControlLimit.{ControlLimit}
 use Rattle.cddf_meaning.specs.Claims.{with_skips, horizons, all_horizons, limit}
 use Rattle.cddf_meaning.specs.File.{File, variable, or_in_file}
 use Rattle.cddf_meaning.specs.Moves.{CallsFall}
-use Rattle.cddf_meaning.specs.State.{State}
+use Rattle.cddf_meaning.specs.BodyState.{BodyState}
 use Rattle.cddf_meaning.specs.Streams.{captured_values, with_activation, unless_limited, task_number, captured_by, run_task}
 use Rattle.cddf_meaning.specs.Value.{scalar_value}
 use Rattle.cddf_meaning.specs.declared.ending.Ending.TheVariants as ending
@@ -18,7 +18,7 @@ use Rattle.os_ast.specs.Names.{Scope, lookup, entity_of}
 use Rattle.os_ast.specs.Notes.Clauses.{in_task_body, parts_notes, clauses_notes}
 use Rattle.os_ast.specs.Notes.Kinds.{Task}
 use Rattle.os_ast.specs.Notes.Statements.{stmt_notes}
-use Rattle.os_ast.specs.Parts.{parts, count_items}
+use Rattle.os_ast.specs.ClauseParts.{parts, count_items}
 use Rattle.os_ast.specs.Trees as tree
 use Rattle.os_ast.specs.declared.expr.Mark.{Mark}
 use Rattle.os_ast.specs.declared.names.Entity.{Entity}
@@ -67,7 +67,7 @@ module _ (code : Parts) (file : File) (falls : CallsFall file) (names : List Res
   abbrev pub site_known : OfTask
   site_known = IsSite code (tells c) sites tasks
 
-  module _ (s : Scope) (es : List Entry) (st : State) (m : Store) (ready : Ready c s es st m) where
+  module _ (s : Scope) (es : List Entry) (st : BodyState) (m : Store) (ready : Ready c s es st m) where
     -- the value of a captured scalar stands in its slot
     value_of : (id k : ℕ) → HasSlot (entity_of (lookup s.entries id)) k → scalar_value st (variable file st id) ≡ slot_at m.slots k
     value_of id k h = by_entity (entity_of (lookup s.entries id)) refl h
@@ -102,7 +102,7 @@ module _ (code : Parts) (file : File) (falls : CallsFall file) (names : List Res
     module _ (number : ℕ) (site : Site) (ids : List ℕ) (operands stack : List ℤ) (claims : List Claim) (turns p next broke continued : ℕ) (is_site : site_at code number ≡ Some site) (many : 2 * length site.items ≡ length operands)
         (spawned : spawned_claims code.streams m.slots site.items operands ≡ Ok claims) (below : AllBelow streams claims) (values : captured_values file st ids ≡ map (λ k. slot_at m.slots k) site.captured)
         (len : length m.slots ≡ total) (is : instr_at code p ≡ Some (instr.Spawn number)) (there : p + 1 ≡ next) where
-      abbrev before : machine.State
+      abbrev before : machine.MachineState
       before = at callers p (onto operands stack) m turns
 
       abbrev activation : Activation
@@ -111,7 +111,7 @@ module _ (code : Parts) (file : File) (falls : CallsFall file) (names : List Res
       abbrev created_store : Store
       created_store = record m { created = m.created ++ activation ∷ []; skips = skips_after_all m.skips claims }
 
-      abbrev after : machine.State
+      abbrev after : machine.MachineState
       after = at callers (p + 1) stack created_store turns
 
       abbrev unless_passed : Bool → Bool → Progress

@@ -6,7 +6,7 @@ use Rattle.os_ast.specs.Names.{Scope, declare, flagged, typed, enter, in_loop}
 use Rattle.os_ast.specs.Notes.Clauses.{with_items, in_task, in_task_body, captured_in, item_entity, item_flag}
 use Rattle.os_ast.specs.Notes.Declarators.{after_declarator, after_declarators, after_start, taken, form, declared_entity}
 use Rattle.os_ast.specs.Notes.Statements.{after_stmt, after_stmts}
-use Rattle.os_ast.specs.Parts.{Part, Item, Private, parts, item_name}
+use Rattle.os_ast.specs.ClauseParts.{ClausePart, Item, Private, parts, item_name}
 use Rattle.os_ast.specs.Trees as tree
 use Rattle.os_ast.specs.declared.names.Entry.{Entry}
 use Rattle.os_ast.specs.declared.names.Form.{Form}
@@ -119,7 +119,7 @@ start_onward (tree.StartTree.Declare ty ds) s = typed_onward ty s (after_declara
 start_onward (tree.StartTree.Change c) s = here s
 
 -- the clauses of a task declare no stream
-pub items_streams : (s inner : Scope) (n : ℕ) (ps : List Part) → (with_items s inner n ps).streams ≡ inner.streams
+pub items_streams : (s inner : Scope) (n : ℕ) (ps : List ClausePart) → (with_items s inner n ps).streams ≡ inner.streams
 items_streams s inner n [] = refl
 items_streams s inner n (Item d i ∷ ps) = items_streams s (declare (flagged (item_flag s i) inner) (item_name i.stream i.window).id (item_entity s n d i)) (suc n) ps
 items_streams s inner n (Private p ∷ ps) = items_streams s inner n ps

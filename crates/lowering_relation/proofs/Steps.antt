@@ -15,7 +15,7 @@ use Rattle.flow_core_laws.specs.declared.activation.Activation.{Activation}
 use Rattle.os_code.specs.declared.instr.Instr.{Instr}
 use Rattle.os_code.specs.declared.instr.Instr.TheVariants as instr
 use Rattle.os_code.specs.declared.parts.Parts.{Parts}
-use Rattle.os_code.specs.Machine.{Frame, TaskWindow, State, Halt, Trapped, OverBudget, Limited, Going, Halted, or_trap, or_its_trap, below, act, step, Runs, Halts, GoesOn}
+use Rattle.os_code.specs.Machine.{Frame, TaskWindow, MachineState, Halt, Trapped, OverBudget, Limited, Going, Halted, or_trap, or_its_trap, below, act, step, Runs, Halts, GoesOn}
 use Rattle.os_code.specs.Parts.{instr_at}
 
 -- what a machine's state holds beside its place, operands, callers and turns
@@ -28,7 +28,7 @@ pub record Store : Type 0 where
 abbrev pub with_slots : Store → List ℤ → Store
 with_slots m slots = record m { slots = slots }
 
-abbrev pub at : List Frame → ℕ → List ℤ → Store → ℕ → State
+abbrev pub at : List Frame → ℕ → List ℤ → Store → ℕ → MachineState
 at callers place stack m turns = record {
   callers = callers;
   place = place;
@@ -43,7 +43,7 @@ at callers place stack m turns = record {
 -- where the machine stands behind an answer, by what is known of it
 pub record Behind (A : Type 0) : Type 1 where
   pub Known : A → Type 0
-  pub state : (x : A) → Known x → State
+  pub state : (x : A) → Known x → MachineState
   -- what holds where it halted
   pub created : List Activation
 
@@ -57,7 +57,7 @@ onto [] stack = stack
 onto (v ∷ vs) stack = onto vs (v ∷ stack)
 
 -- behind the check of an index
-abbrev pub checked_index : ℤ → ℕ → (ℕ → State) → List Activation → Behind ℕ
+abbrev pub checked_index : ℤ → ℕ → (ℕ → MachineState) → List Activation → Behind ℕ
 checked_index v size t created = record { Known = λ k. (v ≡ pos k) × (k < size); state = λ k u. t k; created = created }
 
 -- behind arguments their values are on the stack
@@ -72,47 +72,47 @@ halt_of (ending.Limited n) = Limited n
 
 module _ (code : Parts) where
   -- from one state the machine comes to another
-  pub data Leads : State → State → Type 0 where
-    stays : {s : State} → Leads s s
-    steps : {s t u : State} → step code s ≡ Going t → Leads t u → Leads s u
+  pub data Leads : MachineState → MachineState → Type 0 where
+    stays : {s : MachineState} → Leads s s
+    steps : {s t u : MachineState} → step code s ≡ Going t → Leads t u → Leads s u
 
-  pub one : {s t : State} → step code s ≡ Going t → Leads s t
+  pub one : {s t : MachineState} → step code s ≡ Going t → Leads s t
   one h = steps h stays
 
-  pub leads_on : {s t u : State} → Leads s t → Leads t u → Leads s u
+  pub leads_on : {s t u : MachineState} → Leads s t → Leads t u → Leads s u
   leads_on stays b = b
   leads_on (steps h a) b = steps h (leads_on a b)
 
   -- the machine halts so
-  pub record Stops (s : State) (e : Ending) (created : List Activation) : Type 0 where
+  pub record Stops (s : MachineState) (e : Ending) (created : List Activation) : Type 0 where
     pub steps : ℕ
-    pub last : State
+    pub last : MachineState
     pub runs : Runs code s (halt_of e) last steps
     pub made : last.created ≡ created
 
-  pub stops_from : {s t : State} {e : Ending} {created : List Activation} → Leads s t → Stops t e created → Stops s e created
+  pub stops_from : {s t : MachineState} {e : Ending} {created : List Activation} → Leads s t → Stops t e created → Stops s e created
   stops_from stays h = h
   stops_from (steps a l) h = let k = stops_from l h in record { steps = k.steps + 1; last = k.last; runs = GoesOn a k.runs; made = k.made }
 
-  pub stops_at : {s : State} (e : Ending) → step code s ≡ Halted (halt_of e) s → Stops s e s.created
+  pub stops_at : {s : MachineState} (e : Ending) → step code s ≡ Halted (halt_of e) s → Stops s e s.created
   stops_at {s = s} e h = record { steps = 1; last = s; runs = Halts h; made = refl }
 
   -- the machine does what the answer says
-  pub data Meets {A : Type 0} (s : State) (end : Behind A) : Answer A → Type 0 where
+  pub data Meets {A : Type 0} (s : MachineState) (end : Behind A) : Answer A → Type 0 where
     gives : (x : A) (w : end.Known x) → Leads s (end.state x w) → Meets s end (Ok x)
     halts : {e : Ending} → Stops s e end.created → Meets s end (Err e)
 
-  pub meets_from : {A : Type 0} {s t : State} {end : Behind A} {a : Answer A} → Leads s t → Meets t end a → Meets s end a
+  pub meets_from : {A : Type 0} {s t : MachineState} {end : Behind A} {a : Answer A} → Leads s t → Meets t end a → Meets s end a
   meets_from l (gives x w m) = gives x w (leads_on l m)
   meets_from l (halts h) = halts (stops_from l h)
 
-  pub meets_then : {A B : Type 0} {s : State} {mid : Behind A} {end : Behind B} {a : Answer A} (f : A → Answer B) → end.created ≡ mid.created →
+  pub meets_then : {A B : Type 0} {s : MachineState} {mid : Behind A} {end : Behind B} {a : Answer A} (f : A → Answer B) → end.created ≡ mid.created →
       Meets s mid a → ((x : A) (w : mid.Known x) → Meets (mid.state x w) end (f x)) → Meets s end (and_then a f)
   meets_then f same (gives x w l) next = meets_from l (next x w)
   meets_then {s = s} f same (halts {e = e} h) next = halts (subst (Stops s e) (sym same) h)
 
   -- an index that is checked
-  pub checks : (s : State) (v : ℤ) (size line : ℕ) (t : ℕ → State) → step code s ≡ or_trap s trap_of.Index line (below size v) (λ k. Going (t k)) →
+  pub checks : (s : MachineState) (v : ℤ) (size line : ℕ) (t : ℕ → MachineState) → step code s ≡ or_trap s trap_of.Index line (below size v) (λ k. Going (t k)) →
       Meets s (checked_index v size t s.created) (checked size line v)
   checks s (pos i) size line t is = by_case (ltb i size) refl is
     where
@@ -126,12 +126,12 @@ module _ (code : Parts) where
   then_assoc (Ok x) f g = refl
   then_assoc (Err e) f g = refl
 
-  pub meets_in : {A B C : Type 0} (s : State) (end : Behind C) (a : Answer A) (f : A → Answer B) (g : B → Answer C) →
+  pub meets_in : {A B C : Type 0} (s : MachineState) (end : Behind C) (a : Answer A) (f : A → Answer B) (g : B → Answer C) →
       Meets s end (and_then a (λ x. and_then (f x) g)) → Meets s end (and_then (and_then a f) g)
   meets_in s end a f g h = subst (Meets s end) (then_assoc a f g) h
 
   -- an instruction
-  pub acts : (s : State) (i : Instr) → instr_at code s.place ≡ Some i → step code s ≡ act code s (Some i)
+  pub acts : (s : MachineState) (i : Instr) → instr_at code s.place ≡ Some i → step code s ≡ act code s (Some i)
   acts s i is = ap (act code s) is
 
   module _ (callers : List Frame) where

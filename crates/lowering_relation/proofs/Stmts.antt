@@ -4,7 +4,7 @@ use Rattle.c_int.specs.Operators.{is_zero}
 use Rattle.cddf_meaning.specs.Flow.{Ran, Went, goes_on}
 use Rattle.cddf_meaning.specs.Moves.{Falls, Keeps}
 use Rattle.cddf_meaning.specs.Run.{loop, run_change, run_start, run_test, run_step, run, run_all}
-use Rattle.cddf_meaning.specs.State.{State}
+use Rattle.cddf_meaning.specs.BodyState.{BodyState}
 use Rattle.cddf_meaning.specs.Value.{value}
 use Rattle.cddf_meaning.specs.declared.flow.Flow.TheVariants.{GoesOn, Breaks, Continues, Returns}
 use Rattle.cddf_meaning.specs.declared.site.Site.{Site}
@@ -17,7 +17,7 @@ use Rattle.os_ast.specs.Notes.Declarators.{after_declarators, declarators_notes,
 use Rattle.os_ast.specs.Notes.Expressions.{expr_notes, value_notes, change_notes, step_notes}
 use Rattle.os_ast.specs.Notes.Kinds.{Task}
 use Rattle.os_ast.specs.Notes.Statements.{after_stmt, after_stmts, stmt_notes, stmts_notes}
-use Rattle.os_ast.specs.Parts.{parts, count_items}
+use Rattle.os_ast.specs.ClauseParts.{parts, count_items}
 use Rattle.os_ast.specs.Captured.{captured}
 use Rattle.os_ast.specs.Rules.{is_main_body}
 use Rattle.os_ast.specs.Trees as tree
@@ -71,7 +71,7 @@ module _ (c : Context) (callers : List Frame) (leaves : Instr) (total : ℕ) (si
 
   abbrev pub StmtDoes : tree.StmtTree → Type 0
   StmtDoes a =
-      (s : Scope) (es : List Entry) (st : State) (m : Store) (broke continued next from to : ℕ) (stack : List ℤ) (turns : ℕ) → Ready c s es st m →
+      (s : Scope) (es : List Entry) (st : BodyState) (m : Store) (broke continued next from to : ℕ) (stack : List ℤ) (turns : ℕ) → Ready c s es st m →
       Stacked (means c) s.slots (es ++ c.bound) → (after_stmt s a).slots ≤ total → length m.slots ≡ total → Agree c (stmt_notes s a) → Owns known s a →
       HasStmt c.code body_of a broke continued next from to →
       Does c.code (at callers from stack m turns) (settled c callers leaves total next broke continued stack (exactly es) es) (run (around_of c sites) a st turns)
@@ -82,22 +82,22 @@ module _ (c : Context) (callers : List Frame) (leaves : Instr) (total : ℕ) (si
   moved_in : (s t : Scope) (es : List Entry) → In c s es → t.owner ≡ s.owner → t.captured ≡ s.captured → t.entries ≡ s.entries → s.depth ≤ t.depth → In c t es
   moved_in s t es is a b e d = record { owner = a ∙ is.owner; captured = b ∙ is.captured; entries = e ∙ is.entries; deep = omega (arith, is.deep, d); arrays = is.arrays }
 
-  moved_on : (s t : Scope) (es : List Entry) (st : State) (m : Store) → Ready c s es st m → Onward s t → t.entries ≡ s.entries → Ready c t es st m
+  moved_on : (s t : Scope) (es : List Entry) (st : BodyState) (m : Store) → Ready c s es st m → Onward s t → t.entries ≡ s.entries → Ready c t es st m
   moved_on s t es st m ready o e = record { scope = moved_in s t es ready.scope o.owner o.captured e (omega (arith, o.depth)); aligned = ready.aligned; kept = ready.kept }
 
   -- the same state, in a scope that differs only in what it counts
-  same_place : (s t : Scope) (es : List Entry) (st : State) (m : Store) → Ready c s es st m → t.owner ≡ s.owner → t.captured ≡ s.captured → t.entries ≡ s.entries → s.depth ≤ t.depth → Ready c t es st m
+  same_place : (s t : Scope) (es : List Entry) (st : BodyState) (m : Store) → Ready c s es st m → t.owner ≡ s.owner → t.captured ≡ s.captured → t.entries ≡ s.entries → s.depth ≤ t.depth → Ready c t es st m
   same_place s t es st m ready a b e d = record { scope = moved_in s t es ready.scope a b e d; aligned = ready.aligned; kept = ready.kept }
 
   onto_next : (from to next : ℕ) (stack : List ℤ) (m : Store) (turns : ℕ) → from ≡ to → next ≡ to → Leads c.code (at callers from stack m turns) (at callers next stack m turns)
   onto_next from to next stack m turns a b = subst (λ q. Leads c.code (at callers from stack m turns) (at callers q stack m turns)) (a ∙ sym b) stays
 
-  ends_next : {s : machine.State} {r : Ran} (next to broke continued : ℕ) (stack : List ℤ) (within : List Entry → Type 0) (after : List Entry) → next ≡ to →
+  ends_next : {s : machine.MachineState} {r : Ran} (next to broke continued : ℕ) (stack : List ℤ) (within : List Entry → Type 0) (after : List Entry) → next ≡ to →
       Does c.code s (settled c callers leaves total to broke continued stack within after) r → Does c.code s (settled c callers leaves total next broke continued stack within after) r
   ends_next {s = s} {r = r} next to broke continued stack within after e d = subst (λ q. Does c.code s (settled c callers leaves total q broke continued stack within after) r) (sym e) d
 
   -- what is known of more scopes
-  widened : {s : machine.State} {r : Ran} (es1 es after : List Entry) (next broke continued : ℕ) (stack : List ℤ) → Extends es1 es →
+  widened : {s : machine.MachineState} {r : Ran} (es1 es after : List Entry) (next broke continued : ℕ) (stack : List ℤ) → Extends es1 es →
       Does c.code s (settled c callers leaves total next broke continued stack (around es1) after) r → Does c.code s (settled c callers leaves total next broke continued stack (around es) after) r
   widened es1 es after next broke continued stack ext (went GoesOn st turns w l) = went GoesOn st turns w l
   widened es1 es after next broke continued stack ext (went Breaks st turns (m, len, kept, (x, i, al)) l) = went Breaks st turns (m, len, kept, (x, extends_more ext i, al)) l
@@ -106,7 +106,7 @@ module _ (c : Context) (callers : List Frame) (leaves : Instr) (total : ℕ) (si
   widened es1 es after next broke continued stack ext (ended made h k) = ended made h k
 
   -- a part that goes on elsewhere
-  ends_does : {part : (next from to : ℕ) → Type 0} (next broke continued from to : ℕ) (stack : List ℤ) (es : List Entry) {s : machine.State} {r : Ran} →
+  ends_does : {part : (next from to : ℕ) → Type 0} (next broke continued from to : ℕ) (stack : List ℤ) (es : List Entry) {s : machine.MachineState} {r : Ran} →
       ((q end : ℕ) → part q from end → Does c.code s (Settled q broke continued stack es) r) → Ends c.code part next from to → Does c.code s (Settled next broke continued stack es) r
   ends_does next broke continued from to stack es runs (by_itself h) = runs next to h
   ends_does next broke continued from to stack es runs (by_jump end h is) = jumped c callers leaves total end next broke continued stack (exactly es) es is (runs end end h)
@@ -115,7 +115,7 @@ module _ (c : Context) (callers : List Frame) (leaves : Instr) (total : ℕ) (si
       (task_does : c.owner ≡ owner.OfMain → (mark : Mark) (cs : List tree.ClauseTree) (a : tree.StmtTree) → StmtDoes (tree.Task mark cs a))
       (tick_does : c.owner ≡ owner.OfMain → (mark : Mark) (t : tree.TargetTree) (arrow : Mark) (e : tree.ExprTree) → StmtDoes (tree.Tick mark t arrow e)) where
     -- the step of a loop, and the jump behind it
-    step_does : (x : tree.ChangeTree) (s : Scope) (es : List Entry) (broke continued step end to again : ℕ) (stack : List ℤ) → ((st : State) (m : Store) → AlignedIn c callers leaves total m st.bound es → Kept c.side st m → Ready c s es st m) →
+    step_does : (x : tree.ChangeTree) (s : Scope) (es : List Entry) (broke continued step end to again : ℕ) (stack : List ℤ) → ((st : BodyState) (m : Store) → AlignedIn c callers leaves total m st.bound es → Kept c.side st m → Ready c s es st m) →
         Stacked (means c) s.slots (es ++ c.bound) → s.slots ≤ total → Agree c (change_notes s x) → HasChange c.code (tells c) x step end → Stands c.code (instr.Jump again ∷ []) end to →
         DoesFrom c callers leaves total step stack es (Settled again broke continued stack es) (run_change c.file x)
     step_does x s es broke continued step end to again stack ready stacked fits agree h back st m turns len kept al =
@@ -123,7 +123,7 @@ module _ (c : Context) (callers : List Frame) (leaves : Instr) (total : ℕ) (si
         (change_does c callers leaves total s es s.slots st m (ready st m al kept) stacked fits len x broke continued step end stack turns (exactly es) agree h)
 
     -- what stands behind a first statement
-    rest_does : (ss : tree.Stmts) (s1 : Scope) (es1 es : List Entry) (st1 : State) (m1 : Store) (broke continued next mid end to : ℕ) (stack : List ℤ) (t1 : ℕ) → Extends es1 es → length m1.slots ≡ total → Kept c.side st1 m1 →
+    rest_does : (ss : tree.Stmts) (s1 : Scope) (es1 es : List Entry) (st1 : BodyState) (m1 : Store) (broke continued next mid end to : ℕ) (stack : List ℤ) (t1 : ℕ) → Extends es1 es → length m1.slots ≡ total → Kept c.side st1 m1 →
         AlignedIn c callers leaves total m1 st1.bound es1 → HasRest c.code body_of ss broke continued next mid end to →
         (HasStmts c.code body_of ss broke continued next end to → Does c.code (at callers end stack m1 t1) (settled c callers leaves total next broke continued stack (around es1) (made_all s1 ss es1)) (run_all (around_of c sites) ss st1 t1)) →
         Does c.code (at callers mid stack m1 t1) (settled c callers leaves total next broke continued stack (around es) (made_all s1 ss es1)) (run_all (around_of c sites) ss st1 t1)
@@ -134,12 +134,12 @@ module _ (c : Context) (callers : List Frame) (leaves : Instr) (total : ℕ) (si
 
     abbrev BodyDoes : tree.StmtTree → List ℤ → Type 0
     BodyDoes a stack =
-        (s : Scope) (es : List Entry) (st : State) (m : Store) (broke continued next from to turns : ℕ) → Ready c s es st m →
+        (s : Scope) (es : List Entry) (st : BodyState) (m : Store) (broke continued next from to turns : ℕ) → Ready c s es st m →
         Stacked (means c) s.slots (es ++ c.bound) → (after_stmt s a).slots ≤ total → length m.slots ≡ total → Agree c (stmt_notes s a) → Owns known s a →
         HasStmt c.code body_of a broke continued next from to →
         Does c.code (at callers from stack m turns) (Settled next broke continued stack es) (run (around_of c sites) a st turns)
 
-    start_does : (t : tree.StartTree) (s : Scope) (es : List Entry) (st : State) (m : Store) (broke continued from to : ℕ) (stack : List ℤ) (turns : ℕ) (within : List Entry → Type 0) → Ready c s es st m → c.floor < s.depth →
+    start_does : (t : tree.StartTree) (s : Scope) (es : List Entry) (st : BodyState) (m : Store) (broke continued from to : ℕ) (stack : List ℤ) (turns : ℕ) (within : List Entry → Type 0) → Ready c s es st m → c.floor < s.depth →
         Stacked (means c) s.slots (es ++ c.bound) → (after_start s t).slots ≤ total → length m.slots ≡ total → Agree c (start_notes s t) → HasStart c.code (tells c) t from to →
         Does c.code (at callers from stack m turns) (settled c callers leaves total to broke continued stack within (made_first s t es)) (run_start (around_of c sites) t st turns)
     start_does tree.StartTree.Empty s es st m broke continued from to stack turns within ready deep stacked fits len agree h =
@@ -159,18 +159,18 @@ module _ (c : Context) (callers : List Frame) (leaves : Instr) (total : ℕ) (si
     start_stacked (tree.StartTree.Declare ty ds) s es is st = declarators_stacked c ds (typed ty s) es (in_typed c ty s es is) st
     start_stacked (tree.StartTree.Change x) s es is st = st
 
-    test_falls : (test : Option tree.ExprTree) (st : State) (turns : ℕ) → Falls turns (run_test c.file test st turns)
+    test_falls : (test : Option tree.ExprTree) (st : BodyState) (turns : ℕ) → Falls turns (run_test c.file test st turns)
     test_falls None st turns = omega arith
     test_falls (Some e) st turns = value-falls c.file c.falls e st turns
 
-    step_keeps : (step : Option tree.ChangeTree) (st : State) (turns : ℕ) → Keeps st turns (run_step c.file step st turns)
+    step_keeps : (step : Option tree.ChangeTree) (st : BodyState) (turns : ℕ) → Keeps st turns (run_step c.file step st turns)
     step_keeps None st turns = (omega arith, refl)
     step_keeps (Some x) st turns = run-keeps (around_of c sites) c.falls (tree.StmtTree.Change x) st turns
 
     -- the rounds of a loop with a test and a step
     rounds_do : (test : Option tree.ExprTree) (step : Option tree.ChangeTree) (a : tree.StmtTree) (s : Scope) (es : List Entry) (broke continued next from to : ℕ) (stack : List ℤ) → In c s es → Stacked (means c) s.slots (es ++ c.bound) →
         (after_stmt (in_loop s) a).slots ≤ total → Agree c (value_notes s test) → Agree c (step_notes s step) → Agree c (stmt_notes (in_loop s) a) → Owns known (in_loop s) a → BodyDoes a stack →
-        HasLoop c.code (tells c) test (HasStmt c.code body_of a next) step next from to → (st : State) (m : Store) (turns : ℕ) → length m.slots ≡ total → Kept c.side st m → AlignedIn c callers leaves total m st.bound es →
+        HasLoop c.code (tells c) test (HasStmt c.code body_of a next) step next from to → (st : BodyState) (m : Store) (turns : ℕ) → length m.slots ≡ total → Kept c.side st m → AlignedIn c callers leaves total m st.bound es →
         Does c.code (at callers from stack m turns) (Settled next broke continued stack es) (loop turns (run_test c.file test) (run (around_of c sites) a) (run_step c.file step) st turns)
     rounds_do test None a s es broke continued next from to stack is stacked fits agree_test agree_step agree_a own body h st m turns len kept al =
         loop_does c callers leaves total turns (run_test c.file test) (run (around_of c sites) a) (run_step c.file None) from h.0 from next broke continued stack es h.1
@@ -189,7 +189,7 @@ module _ (c : Context) (callers : List Frame) (leaves : Instr) (total : ℕ) (si
         (step_does x s es broke continued r.0 r.1 to from stack (λ st1 m1 al1 kept1. record { scope = is; aligned = al1; kept = kept1 }) stacked (omega (arith, fits, (stmt_onward a (in_loop s)).slots)) agree_step r.3 r.4)
         st m turns (omega arith) len kept al
 
-    for_does : (start : tree.StartTree) (test : Option tree.ExprTree) (step : Option tree.ChangeTree) (a : tree.StmtTree) (s : Scope) (es : List Entry) (st : State) (m : Store) (broke continued next from to : ℕ) (stack : List ℤ) (turns : ℕ) → Ready c s es st m →
+    for_does : (start : tree.StartTree) (test : Option tree.ExprTree) (step : Option tree.ChangeTree) (a : tree.StmtTree) (s : Scope) (es : List Entry) (st : BodyState) (m : Store) (broke continued next from to : ℕ) (stack : List ℤ) (turns : ℕ) → Ready c s es st m →
         Stacked (means c) s.slots (es ++ c.bound) → (after_stmt s (tree.For start test step a)).slots ≤ total → length m.slots ≡ total → Agree c (stmt_notes s (tree.For start test step a)) → Owns known s (tree.For start test step a) →
         HasStmt c.code body_of (tree.For start test step a) broke continued next from to → BodyDoes a stack →
         Does c.code (at callers from stack m turns) (Settled next broke continued stack es) (run (around_of c sites) (tree.For start test step a) st turns)
@@ -270,7 +270,7 @@ module _ (c : Context) (callers : List Frame) (leaves : Instr) (total : ℕ) (si
       stmt_does IsStmt.taskwait s es st m broke continued next from to stack turns ready stacked fits len agree own h =
           went_on c callers leaves total es st m turns len ready.kept ready.aligned (onto_next from to next stack m turns h.0 h.1)
 
-      pub stmts_does : {ss : tree.Stmts} → AreStmts ss → (s : Scope) (es : List Entry) (st : State) (m : Store) (broke continued next from to : ℕ) (stack : List ℤ) (turns : ℕ) → Ready c s es st m → c.floor < s.depth →
+      pub stmts_does : {ss : tree.Stmts} → AreStmts ss → (s : Scope) (es : List Entry) (st : BodyState) (m : Store) (broke continued next from to : ℕ) (stack : List ℤ) (turns : ℕ) → Ready c s es st m → c.floor < s.depth →
           Stacked (means c) s.slots (es ++ c.bound) → (after_stmts s ss).slots ≤ total → length m.slots ≡ total → Agree c (stmts_notes s ss) → OwnsAll known s ss → HasStmts c.code body_of ss broke continued next from to →
           Does c.code (at callers from stack m turns) (settled c callers leaves total next broke continued stack (around es) (made_all s ss es)) (run_all (around_of c sites) ss st turns)
       stmts_does AreStmts.no_stmts s es st m broke continued next from to stack turns ready deep stacked fits len agree own h =

@@ -5,7 +5,7 @@ use Rattle.std.specs.Prelude.{slice_get, slice_set}
 use Rattle.c_int.specs.declared.trap.Trap.TheVariants as trap_of
 use Rattle.cddf_meaning.specs.Answers.{traps}
 use Rattle.cddf_meaning.specs.Flow.{given, goes_on}
-use Rattle.cddf_meaning.specs.State.{State, item_elements, with_element, stored_in, stored, stored_in_at, stored_at}
+use Rattle.cddf_meaning.specs.BodyState.{BodyState, item_elements, with_element, stored_in, stored, stored_in_at, stored_at}
 use Rattle.cddf_meaning.specs.Value.{elements, checked}
 use Rattle.cddf_meaning.specs.Variables.{find, assign}
 use Rattle.cddf_meaning.specs.declared.variable.Binding.{Binding}
@@ -35,7 +35,7 @@ aimed (what.Element item) stack = pos 0 ∷ stack
 aimed (what.View item) stack = pos 0 ∷ stack
 aimed _ stack = stack
 
-pub kept_slots : (side : Side) (st : State) (m : Store) (bound : List Binding) (slots : List ℤ) → Kept side st m → Kept side (record st { bound = bound }) (with_slots m slots)
+pub kept_slots : (side : Side) (st : BodyState) (m : Store) (bound : List Binding) (slots : List ℤ) → Kept side st m → Kept side (record st { bound = bound }) (with_slots m slots)
 kept_slots (InFunction windows created skips) st m bound slots h = h
 kept_slots (InTask claims) st m bound slots h = h
 kept_slots (InMain streams later) st m bound slots h = h
@@ -64,7 +64,7 @@ claims_same [] k i x w is = refl
 claims_same (y ∷ ws) zero i x w is = let same : y ≡ w = cc in ap (λ (z : TaskWindow). z.claim ∷ map (λ (y : TaskWindow). y.claim) ws) (sym same)
 claims_same (y ∷ ws) (suc k) i x w is = ap (λ cs. y.claim ∷ cs) (claims_same ws k i x w is)
 
-kept_item : (side : Side) (st : State) (m : Store) (k i : ℕ) (x : ℤ) (w : TaskWindow) → HasItem side k → Kept side st m → slice_get m.windows k ≡ Some w →
+kept_item : (side : Side) (st : BodyState) (m : Store) (k i : ℕ) (x : ℤ) (w : TaskWindow) → HasItem side k → Kept side st m → slice_get m.windows k ≡ Some w →
     Kept side (with_element st k i x) (with_window m k w i x)
 kept_item (InFunction windows created skips) st m k i x w has h is = elim has [ ]
 kept_item (InMain streams later) st m k i x w has h is = elim has [ ]
@@ -76,7 +76,7 @@ below_in size k line lt = ap (λ b. if b then Ok k else traps trap_of.Index line
 
 module _ (c : Context) (callers : List Frame) (leaves : Instr) (total next broke continued : ℕ) (within : List Entry → Type 0) (es : List Entry) where
   -- an element of an item
-  item_store : (k line p : ℕ) (v x : ℤ) (stack : List ℤ) (st : State) (m : Store) (turns : ℕ) → p + 1 ≡ next → length m.slots ≡ total → HasItem c.side k → Kept c.side st m →
+  item_store : (k line p : ℕ) (v x : ℤ) (stack : List ℤ) (st : BodyState) (m : Store) (turns : ℕ) → p + 1 ≡ next → length m.slots ≡ total → HasItem c.side k → Kept c.side st m →
       AlignedIn c callers leaves total m st.bound es → instr_at c.code p ≡ Some (instr.ItemStore k line) →
       Does c.code (at callers p (x ∷ v ∷ stack) m turns) (settled c callers leaves total next broke continued stack within es)
       (given (checked (length (item_elements st k)) line v) st (λ i. goes_on (with_element st k i x) turns))
@@ -92,7 +92,7 @@ module _ (c : Context) (callers : List Frame) (leaves : Instr) (total next broke
       (λ i u e. went_on c callers leaves total es (with_element st k i x) (with_window m k w.window i x) turns len (kept_item c.side st m k i x w.window has kept w.is) al
       (subst (λ q. Leads c.code (at callers (p + 1) stack (with_window m k w.window i x) turns) (at callers q stack (with_window m k w.window i x) turns)) there stays))
 
-  item_first_store : (k line p : ℕ) (x : ℤ) (stack : List ℤ) (st : State) (m : Store) (turns : ℕ) → p + 1 ≡ next → length m.slots ≡ total → HasItem c.side k → Kept c.side st m →
+  item_first_store : (k line p : ℕ) (x : ℤ) (stack : List ℤ) (st : BodyState) (m : Store) (turns : ℕ) → p + 1 ≡ next → length m.slots ≡ total → HasItem c.side k → Kept c.side st m →
       AlignedIn c callers leaves total m st.bound es → instr_at c.code p ≡ Some (instr.ItemStore k line) →
       Does c.code (at callers p (x ∷ pos 0 ∷ stack) m turns) (settled c callers leaves total next broke continued stack within es) (goes_on (with_element st k 0 x) turns)
   item_first_store k line p x stack st m turns there len has kept al is =
@@ -100,13 +100,13 @@ module _ (c : Context) (callers : List Frame) (leaves : Instr) (total next broke
       (below_in (length (item_elements st k)) 0 line (omega (arith, (window_of c.side st m k has kept).some)))
       (item_store k line p (pos 0) x stack st m turns there len has kept al is)
 
-  dropped : (p : ℕ) (x : ℤ) (stack : List ℤ) (st : State) (m : Store) (turns : ℕ) → p + 1 ≡ next → length m.slots ≡ total → Kept c.side st m → AlignedIn c callers leaves total m st.bound es →
+  dropped : (p : ℕ) (x : ℤ) (stack : List ℤ) (st : BodyState) (m : Store) (turns : ℕ) → p + 1 ≡ next → length m.slots ≡ total → Kept c.side st m → AlignedIn c callers leaves total m st.bound es →
       instr_at c.code p ≡ Some instr.Drop → Does c.code (at callers p (x ∷ stack) m turns) (settled c callers leaves total next broke continued stack within es) (goes_on st turns)
   dropped p x stack st m turns there len kept al is =
       went_on c callers leaves total es st m turns len kept al
       (subst (λ q. Leads c.code (at callers p (x ∷ stack) m turns) (at callers q stack m turns)) there (drop_top c.code callers x p stack m turns is))
 
-  module _ (top : ℕ) (st : State) (m : Store) (turns : ℕ) (stacked : Stacked (means c) top (es ++ c.bound)) (fits : top ≤ total) (len : length m.slots ≡ total) (kept : Kept c.side st m) (al : AlignedIn c callers leaves total m st.bound es) where
+  module _ (top : ℕ) (st : BodyState) (m : Store) (turns : ℕ) (stacked : Stacked (means c) top (es ++ c.bound)) (fits : top ≤ total) (len : length m.slots ≡ total) (kept : Kept c.side st m) (al : AlignedIn c callers leaves total m st.bound es) where
     abbrev StoresName : What → ℕ → ℤ → List ℤ → Option Variable → ℕ → Type 0
     StoresName w p x stack v id = Does c.code (at callers p (x ∷ aimed w stack) m turns) (settled c callers leaves total next broke continued stack within es) (goes_on (stored_in v st id x) turns)
 

@@ -4,14 +4,14 @@ use Rattle.c_int.specs.declared.trap.Trap.TheVariants as trap_of
 use Rattle.cddf_meaning.specs.Answers.{traps, and_then, Left, left}
 use Rattle.cddf_meaning.specs.File.{File}
 use Rattle.cddf_meaning.specs.Moves.{CallsFall}
-use Rattle.cddf_meaning.specs.State.{State}
+use Rattle.cddf_meaning.specs.BodyState.{BodyState}
 use Rattle.cddf_meaning.specs.Streams.{first_stream, stream_count, stream_number, cursor_move}
 use Rattle.cddf_meaning.specs.Value.{checked}
 use Rattle.cddf_meaning.specs.Variables.{find}
 use Rattle.cddf_meaning.specs.declared.ending.Ending.TheVariants as ending
 use Rattle.os_ast.specs.Names.{Scope}
 use Rattle.os_ast.specs.Notes.Expressions.{expr_notes, place_notes}
-use Rattle.os_ast.specs.Parts.{target_name}
+use Rattle.os_ast.specs.ClauseParts.{target_name}
 use Rattle.os_ast.specs.Trees as tree
 use Rattle.os_ast.specs.declared.names.Direction.{Direction}
 use Rattle.os_ast.specs.declared.names.Entry.{Entry}
@@ -53,7 +53,7 @@ module _ (code : Parts) (callers : List Frame) where
   burst_in line p (negsuc n) stack m turns is = halts (stops_at code (ending.Trapped trap_of.Move line) (acts code (at callers p (negsuc n ∷ stack) m turns) (instr.BurstIn line) is))
   burst_in line p (pos n) stack m turns is = by_case (leb n 65536) refl (acts code (at callers p (pos n ∷ stack) m turns) (instr.BurstIn line) is)
     where
-      s : machine.State
+      s : machine.MachineState
       s = at callers p (pos n ∷ stack) m turns
 
       moved : Bool → machine.Progress
@@ -65,7 +65,7 @@ module _ (code : Parts) (callers : List Frame) where
       by_case false e h = halts (stops_at code (ending.Trapped trap_of.Move line) (h ∙ ap moved (le-ltb n 65537 (let x = leb-false n 65536 e in omega (arith, x)))))
 
 module _ (code : Parts) (file : File) (falls : CallsFall file) (names : List Resolved) (ordered : InOrder names) (file_es : List Entry) (fits : FileFits code file file_es) (streams later : ℕ) (callers : List Frame)
-    (s : Scope) (es : List Entry) (st : State) (m : Store) (ready : Ready (main_context code file falls names ordered file_es fits streams later) s es st m) where
+    (s : Scope) (es : List Entry) (st : BodyState) (m : Store) (ready : Ready (main_context code file falls names ordered file_es fits streams later) s es st m) where
   abbrev c : Context
   c = main_context code file falls names ordered file_es fits streams later
 

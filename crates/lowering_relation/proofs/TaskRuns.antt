@@ -12,7 +12,7 @@ use Rattle.cddf_meaning.specs.Flow.{Ran, Ended}
 use Rattle.cddf_meaning.specs.Functions.{in_function}
 use Rattle.cddf_meaning.specs.Moves.{CallsFall, read_horizons}
 use Rattle.cddf_meaning.specs.Run.{run}
-use Rattle.cddf_meaning.specs.State.{State, state_of}
+use Rattle.cddf_meaning.specs.BodyState.{BodyState, state_of}
 use Rattle.cddf_meaning.specs.Tasks.{Task as MeaningTask}
 use Rattle.cddf_meaning.specs.declared.ending.Ending.{Ending}
 use Rattle.cddf_meaning.specs.declared.ending.Ending.TheVariants as ending
@@ -24,7 +24,7 @@ use Rattle.flow_core_laws.specs.declared.outcome.Outcome.{Outcome}
 use Rattle.os_ast.specs.Captured.{captured}
 use Rattle.os_ast.specs.Names.{Scope}
 use Rattle.os_ast.specs.Notes.Statements.{after_stmt}
-use Rattle.os_ast.specs.Parts.{Part, Item, Private, parts, count_items}
+use Rattle.os_ast.specs.ClauseParts.{ClausePart, Item, Private, parts, count_items}
 use Rattle.os_ast.specs.Stacked.{main_extent, begins, ends}
 use Rattle.os_ast.specs.Stacked as text
 use Rattle.os_ast.specs.declared.names.Entry.{Entry}
@@ -66,30 +66,30 @@ claims_fit streams [] (c ∷ claims) h = elim h [ ]
 claims_fit streams (i ∷ items) [] h = elim h [ ]
 claims_fit streams (i ∷ items) (c ∷ claims) h = let r = claims_fit streams items claims h.1 in (ap suc r.0, (h.0.some, r.1))
 
-items_counted : (tells : ℕ → Resolved) (qs : List Part) → length (site_items tells qs) ≡ count_items qs
+items_counted : (tells : ℕ → Resolved) (qs : List ClausePart) → length (site_items tells qs) ≡ count_items qs
 items_counted tells [] = refl
 items_counted tells (Private n ∷ qs) = items_counted tells qs
 items_counted tells (Item d i ∷ qs) = ap suc (items_counted tells qs)
 
 -- the outcome of a run from a state
-pub record EndsIn (code : Parts) (line : ℕ) (s : machine.State) (out : Outcome) : Type 0 where
+pub record EndsIn (code : Parts) (line : ℕ) (s : machine.MachineState) (out : Outcome) : Type 0 where
   pub halt : Halt
-  pub last : machine.State
+  pub last : machine.MachineState
   pub count : ℕ
   pub runs : Runs code s halt last count
   pub ends : TaskOutcome line halt last out
 
-pub to_end : (code : Parts) (s last : machine.State) → Leads code s last → instr_at code last.place ≡ Some instr.End → (count : ℕ) × Runs code s machine.Ended last count
+pub to_end : (code : Parts) (s last : machine.MachineState) → Leads code s last → instr_at code last.place ≡ Some instr.End → (count : ℕ) × Runs code s machine.Ended last count
 unfolding act
 to_end code s last stays is = (1, Halts (acts code last instr.End is))
 to_end code s last (steps {t = t} a l) is = let r = to_end code t last l is in (r.0 + 1, machine.GoesOn a r.1)
 
-at_end : (code : Parts) (line : ℕ) (claims : List Claim) (m : Store) (items : List (List ℤ)) (s : machine.State) (q turns : ℕ) (stack : List ℤ) → Leads code s (at [] q stack m turns) → instr_at code q ≡ Some instr.End →
+at_end : (code : Parts) (line : ℕ) (claims : List Claim) (m : Store) (items : List (List ℤ)) (s : machine.MachineState) (q turns : ℕ) (stack : List ℤ) → Leads code s (at [] q stack m turns) → instr_at code q ≡ Some instr.End →
     map (λ (w : machine.TaskWindow). w.claim) m.windows ≡ claims → Windows m.windows items →
     EndsIn code line s (if meaning.gives_bytes claims items then meaning.done (meaning.outputs_of claims items) else meaning.trapped (trap_code trap_of.NoByte) line)
 at_end code line claims m items s q turns stack l is same windows = by_case (meaning.gives_bytes claims items) refl
   where
-    last : machine.State
+    last : machine.MachineState
     last = at [] q stack m turns
 
     run_there : (count : ℕ) × Runs code s machine.Ended (at [] q stack m turns) count
@@ -111,21 +111,21 @@ at_end code line claims m items s q turns stack l is same windows = by_case (mea
     }
     by_case false e = record { halt = machine.Ended; last = at [] q stack m turns; count = run_there.0; runs = run_there.1; ends = SendsNoByte {last = at [] q stack m turns} (sym bytes ∙ e) }
 
-pub no_limit : (line : ℕ) (n : ControlLimit) (h : Halt) (last : machine.State) (out : Outcome) → TaskOutcome line h last out → h ≡ Limited n → ⊥
+pub no_limit : (line : ℕ) (n : ControlLimit) (h : Halt) (last : machine.MachineState) (out : Outcome) → TaskOutcome line h last out → h ≡ Limited n → ⊥
 no_limit line n h last out (IsDone e) is = absurd (cc)
 no_limit line n h last out (SendsNoByte e) is = absurd (cc)
 no_limit line n h last out IsTrapped is = absurd (cc)
 no_limit line n h last out IsOver is = absurd (cc)
 
 -- where the body ended
-at_halt : (code : Parts) (line : ℕ) (claims : List Claim) (e : Ending) (activations : List Activation) (s : machine.State) (made : List Activation) → Stops code s e made → ((n : ControlLimit) → e ≡ ending.Limited n → ⊥) →
+at_halt : (code : Parts) (line : ℕ) (claims : List Claim) (e : Ending) (activations : List Activation) (s : machine.MachineState) (made : List Activation) → Stops code s e made → ((n : ControlLimit) → e ≡ ending.Limited n → ⊥) →
     EndsIn code line s (outcome line claims (Ended e activations))
 at_halt code line claims (ending.Trapped x at_line) activations s made h apart = record { halt = Trapped x at_line; last = h.last; count = h.steps; runs = h.runs; ends = IsTrapped }
 at_halt code line claims ending.OverBudget activations s made h apart = record { halt = OverBudget; last = h.last; count = h.steps; runs = h.runs; ends = IsOver }
 at_halt code line claims (ending.Limited n) activations s made h apart = absurd (apart n refl)
 
 -- the end of a task, from what its body does
-task_end : (c : Context) (total end : ℕ) (es after : List Entry) (claims : List Claim) (line : ℕ) (s : machine.State) (r : Ran) → c.side ≡ InTask claims → instr_at c.code end ≡ Some instr.End →
+task_end : (c : Context) (total end : ℕ) (es after : List Entry) (claims : List Claim) (line : ℕ) (s : machine.MachineState) (r : Ran) → c.side ≡ InTask claims → instr_at c.code end ≡ Some instr.End →
     ((e : Ending) (made : List Activation) (n : ControlLimit) → Stops c.code s e made → e ≡ ending.Limited n → ⊥) →
     Does c.code s (settled c [] instr.End total end end end [] (exactly es) after) r → EndsIn c.code line s (outcome line claims r)
 task_end c total end es after claims line s _ side is limits (went GoesOn st turns (m, len, kept, al) l) =
@@ -154,7 +154,7 @@ module _ (code : Parts) (file : File) (falls : CallsFall file) (rs : List Resolv
   abbrev m0 : Store
   m0 = record { slots = frame_slots has.unit a.captured; windows = windows_of a.claims inputs; created = []; skips = [] }
 
-  abbrev begun : State
+  abbrev begun : BodyState
   begun = state_of (bound_round these a.captured) (item_lists a.claims inputs)
 
   count_captured : length slots ≡ length (captured there.scope.entries (parts there.clauses) there.body)

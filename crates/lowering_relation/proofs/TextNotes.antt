@@ -4,7 +4,7 @@ use Rattle.os_ast.specs.Names.{Scope}
 use Rattle.os_ast.specs.Notes.Clauses.{window_notes, parts_notes}
 use Rattle.os_ast.specs.Notes.Declarators.{is_window, size_notes, sized_notes}
 use Rattle.os_ast.specs.Notes.Expressions.{expr_notes, place_notes, args_notes, links_notes, value_notes, index_notes, change_notes, step_notes}
-use Rattle.os_ast.specs.Parts.{Part, Item, Private, part_name}
+use Rattle.os_ast.specs.ClauseParts.{ClausePart, Item, Private, part_name}
 use Rattle.os_ast.specs.Trees as tree
 use Rattle.os_ast.specs.declared.names.Owner.TheVariants as owner
 use Rattle.os_ast.specs.declared.names.Role.{Role}
@@ -81,7 +81,7 @@ module _ (t : Text) (s : Scope) (is : In t s) where
     window_scoped before stream None = (tt, tt)
     window_scoped before stream (Some j) = (tt, ((is, main), index_scoped j.burst))
 
-    pub parts_scoped : (ps : List Part) (before : List ℕ) → AllScoped t (parts_notes s before ps)
+    pub parts_scoped : (ps : List ClausePart) (before : List ℕ) → AllScoped t (parts_notes s before ps)
     parts_scoped [] before = tt
     parts_scoped (Private n ∷ ps) before = (tt, ((is, tt), parts_scoped ps ((part_name (Private n)).id ∷ before)))
     parts_scoped (Item d i ∷ ps) before =

@@ -12,7 +12,7 @@ use Rattle.os_ast.specs.Notes.Declarators.{scalar_entity, sized_form, form_with,
 use Rattle.os_ast.specs.Notes.Expressions.{count_args, expr_notes, place_notes, args_notes, value_notes, change_notes, step_notes}
 use Rattle.os_ast.specs.Notes.Kinds.{Note, Used, Declared, Pragma, Task}
 use Rattle.os_ast.specs.Notes.Statements.{after_stmt, after_stmts, stmt_notes, stmts_notes}
-use Rattle.os_ast.specs.Parts.{parts, count_items}
+use Rattle.os_ast.specs.ClauseParts.{parts, count_items}
 use Rattle.os_ast.specs.Rules.{rules, is_outermost, is_main_body, has_no_size, has_too_many}
 use Rattle.os_ast.specs.Trees as tree
 use Rattle.os_ast.specs.declared.names.Direction.TheVariants as direction

@@ -5,7 +5,7 @@ use Rattle.c_int.specs.declared.trap.Trap.TheVariants as trap_of
 use Rattle.cddf_meaning.specs.File.{File}
 use Rattle.cddf_meaning.specs.Flow.{given}
 use Rattle.cddf_meaning.specs.Moves.{CallsFall}
-use Rattle.cddf_meaning.specs.State.{State}
+use Rattle.cddf_meaning.specs.BodyState.{BodyState}
 use Rattle.cddf_meaning.specs.Streams.{cursor_move, moved, tick_turn}
 use Rattle.cddf_meaning.specs.Value.{value}
 use Rattle.cddf_meaning.specs.declared.site.Site.{Site}
@@ -42,7 +42,7 @@ module _ (code : Parts) (file : File) (falls : CallsFall file) (names : List Res
   ticked_store m stream amount = record m { skips = slice_set m.skips stream (skip_at m.skips stream + amount) }
 
   -- a tick is counted, as it is a move
-  ticked_kept : (st : State) (m : Store) (stream amount : ℕ) → Kept (InMain streams later) st m → Kept (InMain streams later) (moved stream amount st) (ticked_store m stream amount)
+  ticked_kept : (st : BodyState) (m : Store) (stream amount : ℕ) → Kept (InMain streams later) st m → Kept (InMain streams later) (moved stream amount st) (ticked_store m stream amount)
   ticked_kept st m stream amount kept = (kept.0, kept.1, ap (λ xs. set xs stream (get_or xs stream 0 + amount)) kept.2)
 
   tick_step : (first k amount p : ℕ) (stack : List ℤ) (m : Store) (turns : ℕ) → first + k < code.streams → (first + k == 1) ≡ false → amount ≤ 65536 → instr_at code p ≡ Some (instr.Tick first) →
@@ -54,7 +54,7 @@ module _ (code : Parts) (file : File) (falls : CallsFall file) (names : List Res
       ∙ ap (λ o. or_trap s trap_of.Index 0 o (λ stream. or_trap s trap_of.Move 0 (amount_of (pos amount)) (λ taken. Going (at callers (p + 1) stack (ticked_store m stream taken) turns)))) (stream_of_is code.streams 1 first k lt apart)
       ∙ ap (λ o. or_trap s trap_of.Move 0 o (λ taken. Going (at callers (p + 1) stack (ticked_store m (first + k) taken) turns))) (amount_is amount few))
 
-  turn_does : (es : List Entry) (st : State) (m : Store) (first k stream amount broke continued next p : ℕ) (stack : List ℤ) (turns : ℕ) → stream ≡ first + k → first + k < streams → (first + k == 1) ≡ false → amount ≤ 65536 →
+  turn_does : (es : List Entry) (st : BodyState) (m : Store) (first k stream amount broke continued next p : ℕ) (stack : List ℤ) (turns : ℕ) → stream ≡ first + k → first + k < streams → (first + k == 1) ≡ false → amount ≤ 65536 →
       length m.slots ≡ total → Kept (InMain streams later) st m → AlignedIn c callers leaves total m st.bound es → instr_at code p ≡ Some instr.Turn → instr_at code (p + 1) ≡ Some (instr.Tick first) → p + 1 + 1 ≡ next →
       Does code (at callers p (pos amount ∷ pos k ∷ stack) m turns) (settled c callers leaves total next broke continued stack (exactly es) es) (tick_turn stream amount st turns)
   turn_does es st m first k stream amount broke continued next p stack zero same lt apart few len kept al at_turn at_tick there =

@@ -2,7 +2,7 @@
 use Rattle.std.proofs.Common.{◌≡◌, Bool, ◌||◌, List, [], ◌++◌, ℤ, refl, ap, ◌∙◌}
 use Rattle.cddf_meaning.specs.File.{flags, type_in}
 use Rattle.cddf_meaning.specs.Run.{target_type}
-use Rattle.cddf_meaning.specs.State.{State}
+use Rattle.cddf_meaning.specs.BodyState.{BodyState}
 use Rattle.cddf_meaning.specs.ExpressionTypes.{type_of_one, type_of_two, type_behind}
 use Rattle.os_ast.specs.Names.{Scope}
 use Rattle.os_ast.specs.Notes.Expressions.{count_args, args_notes, expr_notes, place_notes, links_notes}
@@ -17,7 +17,7 @@ use Rattle.lowering_relation.specs.Expressions.{type_by}
 use Rattle.lowering_relation.specs.Names.{flags_by}
 use Rattle.lowering_relation.proofs.Context.{resources, Context, means, tells, Agree, agree_first, agree_rest, In, used, name_flag}
 
-module _ (c : Context) (s : Scope) (es : List Entry) (st : State) (slots : List ℤ) (scope : In c s es) (aligned : Aligned (resources c.side) (means c) slots st.bound (es ++ c.bound)) where
+module _ (c : Context) (s : Scope) (es : List Entry) (st : BodyState) (slots : List ℤ) (scope : In c s es) (aligned : Aligned (resources c.side) (means c) slots st.bound (es ++ c.bound)) where
   mutual
     pub type_told : (e : tree.ExprTree) → Agree c (expr_notes s e) → type_by (tells c) e ≡ type_in c.file st e
     type_told (tree.Number n) agree = refl

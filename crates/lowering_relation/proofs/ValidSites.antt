@@ -9,7 +9,7 @@ use Rattle.os_ast.specs.Notes.Statements.{stmts_notes}
 use Rattle.os_ast.specs.Violations.{captures, names, captured_by_tasks}
 use Rattle.os_code.specs.Effects.{item_of, stands_in}
 use Rattle.os_code.specs.IsValid.{HasInstr, HasSites}
-use Rattle.os_code.specs.Parts.{Kind, Main, Task, Function, kind_at, unit_at, site_at}
+use Rattle.os_code.specs.Parts.{UnitKind, Main, Task, Function, kind_at, unit_at, site_at}
 use Rattle.os_code.specs.declared.instr.Instr.{Instr}
 use Rattle.os_code.specs.declared.instr.Instr.TheVariants as instr
 use Rattle.os_code.specs.declared.parts.Parts.{Parts}
@@ -31,7 +31,7 @@ use Rattle.window_check_laws.proofs.Told.{lawful-program}
 use Rattle.window_check_laws.proofs.Within.{within-items_of_file}
 
 -- An instruction stands in the kind of unit that is its.
-kind_fits : (h : Home) (k : Kind) (i : Instr) → h.kind ≡ k → Suits h i → IsTrue (stands_in k i)
+kind_fits : (h : Home) (k : UnitKind) (i : Instr) → h.kind ≡ k → Suits h i → IsTrue (stands_in k i)
 kind_fits h Main (instr.Push v) is suits = refl
 kind_fits h Main instr.Drop is suits = refl
 kind_fits h Main instr.Copy is suits = refl

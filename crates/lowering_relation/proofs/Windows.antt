@@ -7,7 +7,7 @@ use Rattle.cddf_meaning.specs.File.{File}
 use Rattle.cddf_meaning.specs.Flow.{given, goes_on}
 use Rattle.cddf_meaning.specs.Moves.{CallsFall}
 use Rattle.cddf_meaning.specs.Run.{window_size, run_window}
-use Rattle.cddf_meaning.specs.State.{State, declared}
+use Rattle.cddf_meaning.specs.BodyState.{BodyState, declared}
 use Rattle.cddf_meaning.specs.Variables.{bind}
 use Rattle.cddf_meaning.specs.declared.ending.Ending.TheVariants as ending
 use Rattle.cddf_meaning.specs.declared.site.Site.{Site}
@@ -75,7 +75,7 @@ module _ (code : Parts) (callers : List Frame) where
   size_kept slot line p (negsuc n) stack m turns is = halts (stops_at code (ending.Trapped trap_of.WindowSize line) (acts code (at callers p (negsuc n ∷ stack) m turns) (instr.Window slot line) is))
   size_kept slot line p (pos n) stack m turns is = by_case (leb 1 n && leb n 65536) refl (acts code (at callers p (pos n ∷ stack) m turns) (instr.Window slot line) is)
     where
-      s : machine.State
+      s : machine.MachineState
       s = at callers p (pos n ∷ stack) m turns
 
       moved : Bool → machine.Progress
@@ -90,7 +90,7 @@ module _ (code : Parts) (file : File) (falls : CallsFall file) (names : List Res
   abbrev c : Context
   c = main_context code file falls names ordered file_es fits streams later
 
-  abbrev WindowGoal : Form → Name → tree.IndexTree → Scope → List Entry → State → Store → ℕ → ℕ → ℕ → ℕ → List ℤ → ℕ → (List Entry → Type 0) → Type 0
+  abbrev WindowGoal : Form → Name → tree.IndexTree → Scope → List Entry → BodyState → Store → ℕ → ℕ → ℕ → ℕ → List ℤ → ℕ → (List Entry → Type 0) → Type 0
   WindowGoal f n i s es st m broke continued from to stack turns within =
       Does code (at callers from stack m turns) (settled c callers leaves total to broke continued stack within (record { id = n.id; depth = (taken s f).depth; entity = form_entity s f; unsigned = (taken s f).unsigned } ∷ es)) (run_window file s.unsigned n.id i st turns)
 

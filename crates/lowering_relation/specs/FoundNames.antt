@@ -6,7 +6,7 @@ use Rattle.cddf_meaning.specs.File.{File}
 use Rattle.cddf_meaning.specs.Functions.{returned, bind_params, in_function, call_function, file_of}
 use Rattle.cddf_meaning.specs.Program.{Main, main_of}
 use Rattle.cddf_meaning.specs.Run.{run, run_all}
-use Rattle.cddf_meaning.specs.State.{State, state_of}
+use Rattle.cddf_meaning.specs.BodyState.{BodyState, state_of}
 use Rattle.cddf_meaning.specs.Tasks.{Task}
 use Rattle.cddf_meaning.specs.Variables.{find}
 use Rattle.cddf_meaning.specs.declared.variable.Binding.{Binding}
@@ -29,7 +29,7 @@ abbrev pub AreElse : File → List Binding → Type 0
 AreElse file more = (id : ℕ) → (find file.names id ≡ None) ⊎ (find more id ≡ None)
 
 -- with these in scope too, round all that is
-abbrev pub with_more : List Binding → State → State
+abbrev pub with_more : List Binding → BodyState → BodyState
 with_more more s = record s { bound = s.bound ++ more }
 
 -- Whatever else is in scope, under names that the file doesn't have, `main` creates the same and ends in the same way.

@@ -1,7 +1,7 @@
 -- Which instructions stand for a statement, from one place to another. Behind it the code goes on at `next`, which need
 -- not be the place behind it; `break` goes to `broke`, and `continue` to `continued`.
 use Rattle.std.specs.Prelude.{◌≡◌, ℕ, ◌+◌, List, [], ◌∷◌, Option, Some, None}
-use Rattle.os_ast.specs.Parts.{parts, target_name}
+use Rattle.os_ast.specs.ClauseParts.{parts, target_name}
 use Rattle.os_ast.specs.Trees as tree
 use Rattle.os_ast.specs.declared.names.Resolved.{Resolved}
 use Rattle.os_code.specs.declared.instr.Instr.{Instr}

@@ -34,7 +34,7 @@ impl Draw {
 
 /// A unit whose instructions are drawn.
 #[derive(Clone, Copy, PartialEq, Eq)]
-enum Unit {
+enum UnitKind {
     Function,
     Task,
     Main,
@@ -67,7 +67,7 @@ impl Body {
     }
 
     /// Adds a piece that stands in each unit.
-    fn add_piece(&mut self, draw: &mut Draw, shape: Shape, unit: Unit) -> Result<(), Memory> {
+    fn add_piece(&mut self, draw: &mut Draw, shape: Shape, unit: UnitKind) -> Result<(), Memory> {
         let place = self.place;
         let line = draw.below(u32::MAX);
         let slot = draw.below(SLOTS);
@@ -84,7 +84,7 @@ impl Body {
             ),
             // What nothing reaches, with heights that don't fit.
             (4, _) => self.add(&[14, place.wrapping_add(3), 1, 13, 0, line], 3, 0, 0),
-            (5, height) if unit != Unit::Function && height >= shape.args => self.add(
+            (5, height) if unit != UnitKind::Function && height >= shape.args => self.add(
                 &[16, 17, 0],
                 2,
                 shape.args,
@@ -134,27 +134,27 @@ impl Body {
     }
 
     /// Adds the instructions of a unit. Behind a `Turn` it may open with a call.
-    fn add_unit(&mut self, draw: &mut Draw, shape: Shape, unit: Unit) -> Result<(), Memory> {
+    fn add_unit(&mut self, draw: &mut Draw, shape: Shape, unit: UnitKind) -> Result<(), Memory> {
         self.height = 0;
-        if unit != Unit::Function && shape.args == 0 {
+        if unit != UnitKind::Function && shape.args == 0 {
             self.add(&[17, 0], 1, 0, 1)?;
         }
         for _ in 0..draw.below(40) {
             self.add_piece(draw, shape, unit)?;
             match unit {
-                Unit::Function => {}
-                Unit::Task => self.add_task_piece(draw, shape)?,
-                Unit::Main => self.add_main_piece(draw, shape)?,
+                UnitKind::Function => {}
+                UnitKind::Task => self.add_task_piece(draw, shape)?,
+                UnitKind::Main => self.add_main_piece(draw, shape)?,
             }
         }
         self.add_end(unit)
     }
 
     /// Adds the end of a unit, and a `Turn` that nothing reaches.
-    fn add_end(&mut self, unit: Unit) -> Result<(), Memory> {
+    fn add_end(&mut self, unit: UnitKind) -> Result<(), Memory> {
         match unit {
-            Unit::Function => self.add(&[0, 7, 18, 16], 3, 0, 0),
-            Unit::Task | Unit::Main => self.add(&[19, 16], 2, 0, 0),
+            UnitKind::Function => self.add(&[0, 7, 18, 16], 3, 0, 0),
+            UnitKind::Task | UnitKind::Main => self.add(&[19, 16], 2, 0, 0),
         }
     }
 }
@@ -172,11 +172,11 @@ fn code_of(alloc: Global, draw: &mut Draw) -> Result<Vec<u32>, Memory> {
         place: 0,
         height: 0,
     };
-    body.add_unit(draw, shape, Unit::Function)?;
+    body.add_unit(draw, shape, UnitKind::Function)?;
     let task = body.place;
-    body.add_unit(draw, shape, Unit::Task)?;
+    body.add_unit(draw, shape, UnitKind::Task)?;
     let main = body.place;
-    body.add_unit(draw, shape, Unit::Main)?;
+    body.add_unit(draw, shape, UnitKind::Main)?;
     let mut units = [
         [0, shape.args, SLOTS, task],
         [task, shape.captured, SLOTS, main.wrapping_sub(task)],

@@ -1,7 +1,7 @@
 -- The scalars that a task captures.
 use Rattle.std.specs.Prelude.{ℕ, ◌==◌, if◌then◌else◌, List, [], ◌∷◌, ◌++◌, map}
 use Rattle.os_ast.specs.FreeNames.{task_names}
-use Rattle.os_ast.specs.Parts.{Part, is_in}
+use Rattle.os_ast.specs.ClauseParts.{ClausePart, is_in}
 use Rattle.os_ast.specs.Trees as tree
 use Rattle.os_ast.specs.declared.names.Entity.{Entity}
 use Rattle.os_ast.specs.declared.names.Entity.TheVariants as entity
@@ -37,7 +37,7 @@ among ids (c ∷ cs) = if is_in c.id ids then c ∷ among ids cs else among ids 
 -- What a task with these clauses and this body captures, by what is in scope round it: the scalars of the control
 -- program that `firstprivate` lists, or that the body names and doesn't declare. The sizes of its arrays count for
 -- nothing here.
-abbrev pub captured : List Entry → List Part → tree.StmtTree → List Scalar
+abbrev pub captured : List Entry → List ClausePart → tree.StmtTree → List Scalar
 captured es ps body = among (task_names ps body) (scalars es)
 
 -- their slots in the control program

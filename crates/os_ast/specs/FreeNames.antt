@@ -1,7 +1,7 @@
 -- The free names of a part of a task's body: those that it uses and doesn't declare itself, by their numbers, in the
 -- order of the text.
 use Rattle.std.specs.Prelude.{ℕ, if◌then◌else◌, List, [], ◌∷◌, ◌++◌, Option, Some, None}
-use Rattle.os_ast.specs.Parts.{Part, Item, Private, parts, item_ids, private_ids, is_in}
+use Rattle.os_ast.specs.ClauseParts.{ClausePart, Item, Private, parts, item_ids, private_ids, is_in}
 use Rattle.os_ast.specs.Trees as tree
 
 -- Expressions declare nothing.
@@ -50,7 +50,7 @@ join_names None = []
 join_names (Some j) = j.name.id ∷ index_names j.burst
 
 -- Clauses belong to what is round their task.
-abbrev pub parts_names : List Part → List ℕ
+abbrev pub parts_names : List ClausePart → List ℕ
 parts_names [] = []
 parts_names (Item d i ∷ ps) = target_names i.stream ++ join_names i.window ++ parts_names ps
 parts_names (Private n ∷ ps) = n.id ∷ parts_names ps
@@ -124,5 +124,5 @@ abbrev mutual
 
 -- What a task may take from round it: what `firstprivate` lists, and what the body names and neither an item nor the
 -- body declares.
-abbrev pub task_names : List Part → tree.StmtTree → List ℕ
+abbrev pub task_names : List ClausePart → tree.StmtTree → List ℕ
 task_names ps body = private_ids ps ++ without (item_ids ps) (stmt_names body)

@@ -13,7 +13,7 @@ pub mod Means
 pub mod Names
 pub mod Notes
 pub mod Operators
-pub mod Parts
+pub mod ClauseParts
 pub mod Rules
 pub mod Spelling
 pub mod Trees

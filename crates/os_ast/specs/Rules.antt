@@ -5,7 +5,7 @@ use Rattle.os_ast.specs.Limits.{is_size, elements_limit, arrays_limit, streams_l
 use Rattle.os_ast.specs.Names.{Scope, lookup, entity_of, is_declared, main_id}
 use Rattle.os_ast.specs.Notes.Declarators.{form, size_told, after_declarator}
 use Rattle.os_ast.specs.Notes.Kinds.{Note, Used, Declared, Given, Global, Left, Returned, Pragma, Task, Listed}
-use Rattle.os_ast.specs.Parts.{is_in}
+use Rattle.os_ast.specs.ClauseParts.{is_in}
 use Rattle.os_ast.specs.declared.names.Direction.TheVariants as direction
 use Rattle.os_ast.specs.declared.names.Entity.{Entity}
 use Rattle.os_ast.specs.declared.names.Entity.TheVariants as entity

@@ -7,7 +7,8 @@
 //! `Spelling` prints a tree as tokens, production by production; `Leveled` says where each part may stand;
 //! `Depth` says how deep it is; `Means` joins them to what a list of tokens means, and states that this is
 //! at most one program; `Fronts` says where a list of tokens stops being the front of any program, which is where it is
-//! refused. What names mean, and which rules they have to keep, stand in `Names`, `Notes`, `Rules` and `Violations`. `laws` and `examples` show that these definitions are the ones that were meant.
+//! refused. What names mean, and which rules they have to keep, stand in `Names`, `Notes`, `Rules` and `Violations`. `laws` and `examples`
+//! show that these definitions are the ones that were meant.
 #![tactic(auto)]
 
 pub mod examples;

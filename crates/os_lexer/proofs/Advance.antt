@@ -6,7 +6,7 @@ use Rattle.std.proofs.lemmas.List.Elements.{All-push}
 use Rattle.std.proofs.lemmas.Slice.Eq.{bytes_eq-Decides}
 use Rattle.std.specs.Prelude.{count_by, ◌&&◌, slice_range}
 use Rattle.os_lexer.specs.Bytes.{is_line_feed}
-use Rattle.os_lexer.specs.Cover.{Point, token_of, effect_at, Step, skips, gives, IsFaultAt, faulty}
+use Rattle.os_lexer.specs.Cover.{Point, token_of, effect_at, LexemeStep, skips, gives, IsFaultAt, faulty}
 use Rattle.os_lexer.specs.Effects.{effect}
 use Rattle.os_lexer.specs.Forms.{IsLexeme}
 use Rattle.os_lexer.specs.Lines.{line_of}
@@ -67,12 +67,12 @@ module _ (text : List ℕ) (old : Lexer) (f : Form) (n : ℕ) (state : IsState t
 
   -- the lexeme is skipped
   module _ (new : Lexer) (mode : Mode) (does : effect old.mode (number_in old.spellings (length old.tokens.items) (slice_range text old.at (old.at + n))) f (slice_range text old.at (old.at + n)) ≡ Skip mode) (at_is : new.at ≡ old.at + length (slice_range text old.at (old.at + n))) (tokens_are : new.tokens.items ≡ old.tokens.items) where
-    pub step_skip : new.mode ≡ mode → Step text (point_of old) (point_of new)
+    pub step_skip : new.mode ≡ mode → LexemeStep text (point_of old) (point_of new)
     step_skip mode_is =
         let at_end : new.at ≡ old.at + n = at_is ∙ ap (λ k. old.at + k) slice_length in
-        let there : Step text (point_of old) (record { at = old.at + n; mode = mode; tokens = old.tokens.items }) = skips is_lexeme (sym effect_is ∙ does) in
+        let there : LexemeStep text (point_of old) (record { at = old.at + n; mode = mode; tokens = old.tokens.items }) = skips is_lexeme (sym effect_is ∙ does) in
         let point_is : ◌≡◌ {A = Point} (record { at = old.at + n; mode = mode; tokens = old.tokens.items }) (point_of new) = λ i. record { at = sym at_end i; mode = sym mode_is i; tokens = sym tokens_are i } in
-        subst (λ p. Step text (point_of old) p) point_is there
+        subst (λ p. LexemeStep text (point_of old) p) point_is there
 
     pub state_skip : new.line ≡ old.line + count_by is_line_feed (slice_range text old.at (old.at + n)) → new.spellings ≡ old.spellings → IsState text new
     state_skip lines same =
@@ -91,12 +91,12 @@ module _ (text : List ℕ) (old : Lexer) (f : Form) (n : ℕ) (state : IsState t
     given_tokens : new.tokens.items ≡ old.tokens.items ++ token_of text kind old.at (old.at + n) ∷ []
     given_tokens = tokens_are ∙ ap₂ (λ k line. old.tokens.items ++ record { kind = kind; start = old.at; end = old.at + k; line = line } ∷ []) slice_length state.lined
 
-    pub step_give : new.mode ≡ mode → Step text (point_of old) (point_of new)
+    pub step_give : new.mode ≡ mode → LexemeStep text (point_of old) (point_of new)
     step_give mode_is =
         let at_end : new.at ≡ old.at + n = at_is ∙ ap (λ k. old.at + k) slice_length in
-        let there : Step text (point_of old) (record { at = old.at + n; mode = mode; tokens = old.tokens.items ++ token_of text kind old.at (old.at + n) ∷ [] }) = gives is_lexeme (sym effect_is ∙ does) in
+        let there : LexemeStep text (point_of old) (record { at = old.at + n; mode = mode; tokens = old.tokens.items ++ token_of text kind old.at (old.at + n) ∷ [] }) = gives is_lexeme (sym effect_is ∙ does) in
         let point_is : ◌≡◌ {A = Point} (record { at = old.at + n; mode = mode; tokens = old.tokens.items ++ token_of text kind old.at (old.at + n) ∷ [] }) (point_of new) = λ i. record { at = sym at_end i; mode = sym mode_is i; tokens = sym given_tokens i } in
-        subst (λ p. Step text (point_of old) p) point_is there
+        subst (λ p. LexemeStep text (point_of old) p) point_is there
 
     pub state_give : new.line ≡ old.line + count_by is_line_feed (slice_range text old.at (old.at + n)) → ((name : List ℕ) → first_of new.spellings name ≡ cond (is_name kind && bytes_eq (slice_range text old.at (old.at + n)) name) (Some (unwrap_or (first_of old.spellings name) (length old.tokens.items))) (first_of old.spellings name)) → IsState text new
     state_give lines noted =

@@ -4,7 +4,7 @@ use Rattle.std.proofs.lemmas.Bool.{cases_lt}
 use Rattle.std.proofs.lemmas.List.{drop-take}
 use Rattle.std.specs.Prelude.{count_by, bytes_eq, position, unwrap_or, not}
 use Rattle.os_lexer.specs.Bytes.{is_line_feed}
-use Rattle.os_lexer.specs.Cover.{Point, token_of, effect_at, Step, skips, gives, Leads, here, on, tokens_at_end, IsTokenCover, IsFirstFault}
+use Rattle.os_lexer.specs.Cover.{Point, token_of, effect_at, LexemeStep, skips, gives, Leads, here, on, tokens_at_end, IsTokenCover, IsFirstFault}
 use Rattle.os_lexer.specs.Effects.{effect}
 use Rattle.os_lexer.specs.Forms.{IsForm, IsLexeme}
 use Rattle.os_lexer.specs.Laws.{CoverBeforeFault}
@@ -71,12 +71,12 @@ module _ (text : List ℕ) (c : ℕ) (inside : c ≤ length text) where
       }
 
   -- a step within the first bytes is one of theirs
-  step_before : {p q : Point} → Step text p q → AreWithin c p.tokens → q.at ≤ c → Step (take c text) p q × AreWithin c q.tokens
+  step_before : {p q : Point} → LexemeStep text p q → AreWithin c p.tokens → q.at ≤ c → LexemeStep (take c text) p q × AreWithin c q.tokens
   step_before (skips {p = p} {form = form} {n = n} {mode = mode} is_lexeme e) within high =
       (skips (lexeme_before p.at n form high is_lexeme) (effect_before p form n within high ∙ e), within)
   step_before (gives {p = p} {form = form} {n = n} {kind = kind} {mode = mode} is_lexeme e) within high =
       let low : p.at ≤ c = omega arith in (
-        subst (λ line. Step (take c text) p (record { at = p.at + n; mode = mode; tokens = p.tokens ++ record { kind = kind; start = p.at; end = p.at + n; line = line } ∷ [] }))
+        subst (λ line. LexemeStep (take c text) p (record { at = p.at + n; mode = mode; tokens = p.tokens ++ record { kind = kind; start = p.at; end = p.at + n; line = line } ∷ [] }))
             (line_before p.at low)
             (gives (lexeme_before p.at n form high is_lexeme) (effect_before p form n within high ∙ e)),
         AreWithin-push c p.tokens (token_of text kind p.at (p.at + n)) within low high,

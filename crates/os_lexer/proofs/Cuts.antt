@@ -1,6 +1,6 @@
 -- The lexemes of a text by what is found, and where they lead.
 use Rattle.std.proofs.Common.{◌≡◌, ℕ, ◌-◌, ◌<◌, ◌≤◌, List, length, take, drop, Option, Some, None, Result, Ok, Err, refl, ap, ◌∙◌, subst, ⊎_elim, arith, length-take-le, length-drop}
-use Rattle.os_lexer.specs.Cover.{Point, effect_at, skipped_to, given_to, IsFormless, Step, skips, gives, Leads, here, on, IsFaultAt, formless, faulty}
+use Rattle.os_lexer.specs.Cover.{Point, effect_at, skipped_to, given_to, IsFormless, LexemeStep, skips, gives, Leads, here, on, IsFaultAt, formless, faulty}
 use Rattle.os_lexer.specs.Forms.{IsForm, IsLexeme}
 use Rattle.os_lexer.specs.Reading.{lexeme, lexeme_at}
 use Rattle.os_lexer.specs.declared.effect.Effect.{Effect}
@@ -87,7 +87,7 @@ module _ (text : List ℕ) where
   rest_length : (p : Point) → length (drop p.at text) ≡ length text - p.at
   rest_length p = length-drop p.at text
 
-  pub move-step : {p q : Point} → Step text p q → move text p ≡ Ok q
+  pub move-step : {p q : Point} → LexemeStep text p q → move text p ≡ Ok q
   unfolding move
   move-step (skips {p = p} {form = form} {n = n} is_lexeme e) =
       ap (outcome_of text p) (lexeme_at-is (drop p.at text) form n is_lexeme) ∙ ap (outcome text p n) e
@@ -95,7 +95,7 @@ module _ (text : List ℕ) where
       ap (outcome_of text p) (lexeme_at-is (drop p.at text) form n is_lexeme) ∙ ap (outcome text p n) e
 
   -- a step goes on within the text
-  pub step_within : {p q : Point} → Step text p q → (p.at < q.at) × (q.at ≤ length text)
+  pub step_within : {p q : Point} → LexemeStep text p q → (p.at < q.at) × (q.at ≤ length text)
   step_within (skips {p = p} {form = form} {n = n} is_lexeme e) =
       let some = IsLexeme-some (drop p.at text) form n is_lexeme in (omega (arith, some), omega (arith, some, rest_length p))
   step_within (gives {p = p} {form = form} {n = n} is_lexeme e) =
@@ -115,7 +115,7 @@ module _ (text : List ℕ) where
 
   -- the point is no fault, or one
   abbrev pub Goes : Point → Result Point Fault → Type 0
-  Goes p (Ok q) = Step text p q
+  Goes p (Ok q) = LexemeStep text p q
   Goes p (Err wrong) = IsFaultAt text p wrong
 
   goes_by : (p : Point) (q : Lexeme) → IsLexeme (drop p.at text) q.form q.length → (e : Effect) → effect_at text p q.form q.length ≡ e → Goes p (outcome text p q.length e)
@@ -133,7 +133,7 @@ module _ (text : List ℕ) where
 
   -- nothing leads on from a point
   abbrev pub IsLast : Point → Type 0
-  IsLast p = (q : Point) → Step text p q → ⊥
+  IsLast p = (q : Point) → LexemeStep text p q → ⊥
 
   pub last_at_end : (p : Point) → p.at ≡ length text → IsLast p
   last_at_end p e q step = let w = step_within step in omega (arith, w)
@@ -141,7 +141,7 @@ module _ (text : List ℕ) where
   pub last_at_fault : (p : Point) (wrong : Fault) → IsFaultAt text p wrong → IsLast p
   last_at_fault p wrong f q step = cc (move-fault f, move-step step)
 
-  one_step : {p q r : Point} → Step text p q → Step text p r → q ≡ r
+  one_step : {p q r : Point} → LexemeStep text p q → LexemeStep text p r → q ≡ r
   one_step s t = let a = move-step s in let b = move-step t in cc
 
   -- two ways to a last point are one
@@ -151,7 +151,7 @@ module _ (text : List ℕ) where
   one_way (on s l) here last_q last_r = absurd (last_r _ s)
   one_way {r = r} (on s l) (on t k) last_q last_r = one_way l (subst (λ x. Leads text x r) (one_step t s) k) last_q last_r
 
-  pub leads_on : {p q r : Point} → Leads text p q → Step text q r → Leads text p r
+  pub leads_on : {p q r : Point} → Leads text p q → LexemeStep text q r → Leads text p r
   leads_on here s = on s here
   leads_on (on t l) s = on t (leads_on l s)
 

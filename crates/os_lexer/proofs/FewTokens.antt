@@ -4,7 +4,7 @@ use Rattle.std.proofs.lemmas.Bool.{cond_both}
 use Rattle.std.specs.List.{list_any}
 use Rattle.std.specs.Prelude.{nat_le}
 use Rattle.os_lexer.specs.Bytes.{is_line_feed}
-use Rattle.os_lexer.specs.Cover.{Point, token_of, effect_at, Step, skips, gives, Leads, here, on, tokens_at_end}
+use Rattle.os_lexer.specs.Cover.{Point, token_of, effect_at, LexemeStep, skips, gives, Leads, here, on, tokens_at_end}
 use Rattle.os_lexer.specs.Effects.{effect, directive_effect, space_effect, number_effect, word_kind, mode_after_token, mode_after_gap}
 use Rattle.os_lexer.specs.Forms.{IsForm, IsLexeme}
 use Rattle.os_lexer.specs.Keywords.{key_of}
@@ -90,7 +90,7 @@ module _ (text : List ℕ) where
       let some = IsLexeme-some (drop p.at text) f n is_lexeme in
       subst (OwesNoMore (owed p.mode) n) is (effect_owes p.mode (name_number text p.tokens (take n (drop p.at text))) n f (take n (drop p.at text)) some.0 (length-take-le n (drop p.at text) some.1) is_lexeme.of_form)
 
-  step_pays : {p q : Point} → Step text p q → Pays p → Pays q
+  step_pays : {p q : Point} → LexemeStep text p q → Pays p → Pays q
   step_pays (skips {p = p} {form = form} {n = n} {mode = mode} is_lexeme e) pays = omega (arith, pays, lexeme_owes p form n (Skip mode) is_lexeme e)
   step_pays (gives {p = p} {form = form} {n = n} {kind = kind} {mode = mode} is_lexeme e) pays =
       omega (arith, pays, lexeme_owes p form n (Give kind mode) is_lexeme e, length-append p.tokens (token_of text kind p.at (p.at + n) ∷ []))

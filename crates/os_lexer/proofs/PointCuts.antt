@@ -8,7 +8,7 @@ use Rattle.std.proofs.lemmas.List.Sums.{fold_push, sum_by-append}
 use Rattle.std.specs.List.{list_all, list_any}
 use Rattle.std.specs.Prelude.{count_by, nat_le, nat_lt, not, ◌&&◌, ◌||◌, ◌==◌, slice_index}
 use Rattle.os_lexer.specs.Bytes.{is_line_feed, is_word_byte}
-use Rattle.os_lexer.specs.Cover.{Point, text_start, token_of, effect_at, skipped_to, given_to, Step, skips, gives, Leads, here, on, tokens_at_end, IsTokenCover, IsFaultAt, IsFirstFault}
+use Rattle.os_lexer.specs.Cover.{Point, text_start, token_of, effect_at, skipped_to, given_to, LexemeStep, skips, gives, Leads, here, on, tokens_at_end, IsTokenCover, IsFaultAt, IsFirstFault}
 use Rattle.os_lexer.specs.Cover as walk
 use Rattle.os_lexer.specs.Cut.{opens_pragma, is_in_pragma, is_first_on_line, mode_at, does, IsSkip, IsGive, IsFail, IsCutTo, start, gap, token, pragma_end, IsCut, StandsAt, formless, faulty, IsFaultPoint}
 use Rattle.os_lexer.specs.Effects.{effect, directive_effect, space_effect, number_effect, word_kind, mode_after_token, mode_after_gap}
@@ -435,7 +435,7 @@ module _ (text : List ℕ) where
   abbrev pub CutAt : Point → Type 0
   CutAt p = IsCutTo text p.tokens p.at × Knows p
 
-  step_cut : {p q : Point} → Step text p q → CutAt p → CutAt q
+  step_cut : {p q : Point} → LexemeStep text p q → CutAt p → CutAt q
   step_cut (skips {p = p} {form = form} {n = n} {mode = mode} is_lexeme e) c = (
     gap c.0 is_lexeme (to_cut p form n c.1 is_lexeme IsSkip skip_blind (subst IsSkip (sym e) tt)),
     gap_knows p form n mode c.1 is_lexeme e,

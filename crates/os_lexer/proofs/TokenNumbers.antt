@@ -5,7 +5,7 @@ use Rattle.std.proofs.lemmas.List.Elements.{All-append, All-push}
 use Rattle.std.specs.List.{list_any}
 use Rattle.std.specs.Prelude.{nat_le}
 use Rattle.os_lexer.specs.Bytes.{is_line_feed}
-use Rattle.os_lexer.specs.Cover.{Point, token_of, Step, skips, gives, Leads, here, on, tokens_at_end}
+use Rattle.os_lexer.specs.Cover.{Point, token_of, LexemeStep, skips, gives, Leads, here, on, tokens_at_end}
 use Rattle.os_lexer.specs.Effects.{effect, directive_effect, space_effect, number_effect, word_kind, mode_after_token}
 use Rattle.os_lexer.specs.Keywords.{key_of}
 use Rattle.os_lexer.specs.Laws.{HasFittingNumber, NumbersFit}
@@ -71,7 +71,7 @@ abbrev AllFit : List Token → Type 0
 AllFit tokens = All (λ token. HasFittingNumber token.kind) tokens
 
 module _ (text : List ℕ) where
-  step_fits : {p q : Point} → Step text p q → AllFit p.tokens → AllFit q.tokens
+  step_fits : {p q : Point} → LexemeStep text p q → AllFit p.tokens → AllFit q.tokens
   step_fits (skips {p = p} {form = form} {n = n} {mode = mode} is_lexeme e) fits = fits
   step_fits (gives {p = p} {form = form} {n = n} {kind = kind} {mode = mode} is_lexeme e) fits =
       let slice = take n (drop p.at text) in

@@ -52,18 +52,18 @@ abbrev pub IsFormless : List ℕ → Type 0
 IsFormless rest = (form : Form) (n : ℕ) → n ≤ length rest → IsForm form (take n rest) → ⊥
 
 -- a lexeme leads from a point to the point behind it: it is skipped, or is the next token
-pub data Step (text : List ℕ) : Point → Point → Type 0 where
+pub data LexemeStep (text : List ℕ) : Point → Point → Type 0 where
   skips : {p : Point} {form : Form} {n : ℕ} {mode : Mode} →
       IsLexeme (drop p.at text) form n → effect_at text p form n ≡ Skip mode →
-      Step text p (skipped_to p n mode)
+      LexemeStep text p (skipped_to p n mode)
   gives : {p : Point} {form : Form} {n : ℕ} {kind : Kind} {mode : Mode} →
       IsLexeme (drop p.at text) form n → effect_at text p form n ≡ Give kind mode →
-      Step text p (given_to text p n kind mode)
+      LexemeStep text p (given_to text p n kind mode)
 
 -- lexemes lead from a point to another
 pub data Leads (text : List ℕ) : Point → Point → Type 0 where
   here : {p : Point} → Leads text p p
-  on : {p q r : Point} → Step text p q → Leads text q r → Leads text p r
+  on : {p q r : Point} → LexemeStep text p q → Leads text q r → Leads text p r
 
 -- a pragma's line may end with the text, and its end is then an empty slice
 abbrev pub tokens_at_end : List ℕ → Mode → List Token

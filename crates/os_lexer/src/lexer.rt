@@ -24,7 +24,7 @@ pub(crate) struct Lexer<'a> {
 
 impl<'a> Lexer<'a> {
     ghost use Rattle.os_lexer.specs.Answer.{IsMemory};
-    ghost use Rattle.os_lexer.specs.Cover.{text_start, Step};
+    ghost use Rattle.os_lexer.specs.Cover.{text_start, LexemeStep};
     ghost use Rattle.os_lexer.specs.Effects.{effect};
     ghost use Rattle.os_lexer.specs.Forms.{IsLexeme};
     ghost use Rattle.os_lexer.specs.Limits.{text_limit};
@@ -56,7 +56,7 @@ impl<'a> Lexer<'a> {
     pub(crate) fn advance(&mut self, text: &'a [u8]) -> Result<(), LexError>
         requires state { IsState text.now self.old }
         requires inside { self.old.at < length text.now }
-        ensures step { OnOk result (Step text.now (point_of self.old) (point_of self.new)) }
+        ensures step { OnOk result (LexemeStep text.now (point_of self.old) (point_of self.new)) }
         ensures state { OnOk result (IsState text.now self.new) }
         ensures fault { IfErr result (IsFaultHere text.now (point_of self.old)) }
     {
@@ -70,7 +70,7 @@ impl<'a> Lexer<'a> {
     fn take(&mut self, text: &'a [u8], lexeme: Lexeme) -> Result<(), LexError>
         requires state { IsState text.now self.old }
         requires lexeme { IsLexeme (drop self.old.at text.now) lexeme.form lexeme.length }
-        ensures step { OnOk result (Step text.now (point_of self.old) (point_of self.new)) }
+        ensures step { OnOk result (LexemeStep text.now (point_of self.old) (point_of self.new)) }
         ensures state { OnOk result (IsState text.now self.new) }
         ensures fault { IfErr result (IsFaultHere text.now (point_of self.old)) }
     {

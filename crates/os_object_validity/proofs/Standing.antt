@@ -13,7 +13,7 @@ use Rattle.os_code.specs.declared.unit.Unit.{Unit as CodeUnit}
 use Rattle.os_code.specs.Checking.{is_turn, is_function, called_of, spawned_of, ticked_of, stored_of}
 use Rattle.os_code.specs.Effects.{jump_of, needs_turn, slots_named, item_of}
 use Rattle.os_code.specs.IsValid.{HasInstr, HasRegions, HasTargets, HasFrames, HasSites, HasHeights, IsValid}
-use Rattle.os_code.specs.Parts.{instr_at, unit_at, site_at, region_end, Kind, Main, Task, Function, kind_at}
+use Rattle.os_code.specs.Parts.{instr_at, unit_at, site_at, region_end, UnitKind, Main, Task, Function, kind_at}
 use Rattle.os_code.proofs.Lists.{there}
 use Rattle.os_code.proofs.Regions.{is_within-from}
 use Rattle.os_code.proofs.Spans.{found}
@@ -114,7 +114,7 @@ module _ (code : Parts) (regions : HasRegions code) (stand : AllStand code) wher
   items_of_kind : (number place : ℕ) (unit : CodeUnit) (instr : Instr) (site : Site) → HasInstr code number unit place instr → kind_at code number ≡ Task site
       → items_fit_in site.items instr ≡ true
   items_of_kind number place unit instr site has task =
-      ap (λ (kind : Kind). items_fit kind instr) (sym task) ∙ (and_parts _ _ (parts number place unit instr has).kind).1
+      ap (λ (kind : UnitKind). items_fit kind instr) (sym task) ∙ (and_parts _ _ (parts number place unit instr has).kind).1
 
   pub sites_from : sites_stand code ≡ true → TasksDistinct code → HasSites code
   sites_from h distinct = by_main (unit_at code code.main) refl (and_parts _ _ h).1
@@ -202,7 +202,7 @@ module _ (code : Parts) (valid : IsValid code) where
     kind = and_from _ _ (valid.sites.kinds_fit number place unit instr has) (by_kind (kind_at code number) refl);
   })
     where
-      by_kind : (kind : Kind) → kind_at code number ≡ kind → items_fit kind instr ≡ true
+      by_kind : (kind : UnitKind) → kind_at code number ≡ kind → items_fit kind instr ≡ true
       by_kind Main is = refl
       by_kind Function is = refl
       by_kind (Task site) is = and_from _ _

@@ -6,7 +6,7 @@ use Rattle.std.proofs.lemmas.Bool.{and_parts, and_from, or_left, or_right}
 use Rattle.os_code.specs.declared.instr.Instr.{Instr}
 use Rattle.os_code.specs.declared.instr.Instr.TheVariants.{Push, Drop, Copy, Load, Store, Zero, CheckAt, LoadAt, StoreAt, ItemCheck, ItemLoad, ItemStore, Unary, Binary, Jump, JumpZero, Turn, Call, Return, End, Window, BurstIn, BurstOut, Spawn, Tick}
 use Rattle.os_code.specs.Checking.{implies, if_there, is_turn, is_function, called_of, spawned_of, ticked_of, stored_of}
-use Rattle.os_code.specs.Parts.{Kind, Main, Task, Function}
+use Rattle.os_code.specs.Parts.{UnitKind, Main, Task, Function}
 
 pub implied : (a b : Bool) → implies a b ≡ true → a ≡ true → b ≡ true
 implied true b h e = h
@@ -80,7 +80,7 @@ turn_from (Some (Tick a)) h = cc
 pub turn-is : (o : Option Instr) → o ≡ Some Turn → is_turn o ≡ true
 turn-is o e = ap is_turn e
 
-pub function_from : (kind : Kind) → is_function kind ≡ true → kind ≡ Function
+pub function_from : (kind : UnitKind) → is_function kind ≡ true → kind ≡ Function
 function_from Main h = cc
 function_from (Task site) h = cc
 function_from Function h = refl

@@ -12,9 +12,9 @@ use Rattle.os_code.specs.Heights.{HeightsFit}
 use Rattle.os_code.specs.IsValid.{HasInstr, Reaches}
 use Rattle.os_code.specs.declared.parts.Parts.{Parts}
 use Rattle.os_code.specs.Needs.{starts_at}
-use Rattle.os_code.specs.Parts.{instr_at, unit_at, site_at, region_end, is_within, Kind as CodeKind, Main, Task, Function, kind_at}
-use Rattle.os_object_validity.specs.declared.kinds.Kind.{Kind}
-use Rattle.os_object_validity.specs.declared.kinds.Kind.TheVariants as kind
+use Rattle.os_code.specs.Parts.{instr_at, unit_at, site_at, region_end, is_within, UnitKind as CodeKind, Main, Task, Function, kind_at}
+use Rattle.os_object_validity.specs.declared.kinds.UnitKind.{UnitKind}
+use Rattle.os_object_validity.specs.declared.kinds.UnitKind.TheVariants as kind
 use Rattle.os_object_validity.specs.declared.heights.Waiting.{Waiting}
 
 -- the end of each unit's region
@@ -37,7 +37,7 @@ pub record AreTasks (code : Parts) (tasks : List (Option ℕ)) : Type 0 where
       → find (λ (site : Site). site.unit == number) code.sites ≡ site_told code (task_in tasks number)
 
 -- the kind of a unit without its site, and the items of that site
-abbrev pub kind_name : CodeKind → Kind
+abbrev pub kind_name : CodeKind → UnitKind
 kind_name Main = kind.Main
 kind_name (Task site) = kind.Task
 kind_name Function = kind.Function

@@ -3,7 +3,7 @@
 ghost use Rattle.std.specs.Prelude.{◌≡◌, ◌<◌, length, IfOk, IfSome, IfNone};
 ghost use Rattle.os_code.specs.Effects as effects;
 ghost use Rattle.os_code.specs.IsValid.{IsValid};
-ghost use Rattle.os_code.specs.Parts.{kind_at, Kind as CodeKind};
+ghost use Rattle.os_code.specs.Parts.{kind_at, UnitKind as CodeKind};
 ghost use Rattle.os_object_validity.specs.Tables.{AreTasks, TasksDistinct, kind_name, items_of as items_named};
 
 use os_code::{Instr, Parts, SiteItem};
@@ -12,7 +12,7 @@ use std::alloc::Global;
 
 /// What kind a unit is of.
 #[derive(Clone, Copy, Debug, PartialEq, Eq)]
-pub(crate) enum Kind {
+pub(crate) enum UnitKind {
     Main,
     Task,
     Function,
@@ -38,17 +38,17 @@ pub(crate) fn tasks_of(alloc: Global, parts: &Parts) -> Result<Option<Vec<Option
 }
 
 /// The kind of a unit.
-pub(crate) fn kind_of(parts: &Parts, tasks: &[Option<usize>], number: usize) -> Kind
+pub(crate) fn kind_of(parts: &Parts, tasks: &[Option<usize>], number: usize) -> UnitKind
     requires told { AreTasks parts.now tasks.now }
     requires there { number < length parts.now.units }
     ensures { result ≡ kind_name (kind_at parts.now number) }
 {
     if number == parts.main as usize {
-        return Kind::Main;
+        return UnitKind::Main;
     }
     match tasks[number] {
-        Some(_) => Kind::Task,
-        None => Kind::Function,
+        Some(_) => UnitKind::Task,
+        None => UnitKind::Function,
     }
 }
 
@@ -73,7 +73,7 @@ pub(crate) fn items_of<'a>(
 
 /// Whether an instruction stands in its kinds of unit: `Window`, `BurstIn`, `BurstOut`, `Spawn` and `Tick` in `main` alone,
 /// `ItemCheck`, `ItemLoad` and `ItemStore` in tasks alone, `Return` in functions alone, and `End` in no function.
-pub(crate) fn stands_in(kind: Kind, instr: Instr) -> bool
+pub(crate) fn stands_in(kind: UnitKind, instr: Instr) -> bool
     ensures { (at : CodeKind) → kind_name at ≡ kind → result ≡ effects.stands_in at instr }
 {
     match instr {
@@ -81,11 +81,11 @@ pub(crate) fn stands_in(kind: Kind, instr: Instr) -> bool
         | Instr::BurstIn { .. }
         | Instr::BurstOut { .. }
         | Instr::Spawn(_)
-        | Instr::Tick(_) => kind == Kind::Main,
+        | Instr::Tick(_) => kind == UnitKind::Main,
         Instr::ItemCheck { .. } | Instr::ItemLoad { .. } | Instr::ItemStore { .. } => kind
-            == Kind::Task,
-        Instr::Return => kind == Kind::Function,
-        Instr::End => kind != Kind::Function,
+            == UnitKind::Task,
+        Instr::Return => kind == UnitKind::Function,
+        Instr::End => kind != UnitKind::Function,
         _ => true,
     }
 }

@@ -10,7 +10,7 @@ ghost use Rattle.os_object_validity.specs.Tables as tested;
 use crate::effects::{
     called_of, item_of, jump_of, needs_turn, slots_named, spawned_of, stored_of, ticked_of,
 };
-use crate::kinds::{Kind, items_of, kind_of, stands_in};
+use crate::kinds::{UnitKind, items_of, kind_of, stands_in};
 use os_code::{Instr, Parts, SiteItem, Unit};
 
 /// A unit, with its number and the end of its region.
@@ -151,8 +151,8 @@ fn is_function(parts: &Parts, tasks: &[Option<usize>], number: usize) -> bool
     ensures { result ≡ checking.is_function (kind_at parts.now number) }
 {
     match kind_of(parts, tasks, number) {
-        Kind::Function => true,
-        Kind::Main | Kind::Task => false,
+        UnitKind::Function => true,
+        UnitKind::Main | UnitKind::Task => false,
     }
 }
 
@@ -193,7 +193,7 @@ fn kind_stands(parts: &Parts, tasks: &[Option<usize>], number: usize, instr: Ins
 {
     let kind = kind_of(parts, tasks, number);
     stands_in(kind, instr)
-        && (kind != Kind::Task || items_fit(items_of(parts, tasks, number), instr))
+        && (kind != UnitKind::Task || items_fit(items_of(parts, tasks, number), instr))
 }
 
 /// Whether the item that an instruction names is there, and is an output item where it stores into it.

@@ -13,14 +13,14 @@ use os_io::List;
 use os_lexer::{Key, Kind, Punct};
 use os_parser_expressions::{Cursor, ProductionError};
 use os_parser_grammar::Numeral;
-use os_parser_parts::comma_list::{Part, comma_list};
+use os_parser_parts::comma_list::{Production, comma_list};
 use os_parser_parts::{name, number_at, type_words};
 use std::alloc::Global;
 
 /// `type name`, a parameter of `params`.
 struct ParamPart;
 
-impl Part for ParamPart {
+impl Production for ParamPart {
     type Item = Param;
 
     ghost Tree = { Param };

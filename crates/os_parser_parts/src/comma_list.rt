@@ -11,7 +11,7 @@ use os_parser_expressions::{Cursor, ProductionError};
 use std::alloc::Global;
 
 /// A production that lists are made of, with what reading it takes beside the tokens.
-pub trait Part {
+pub trait Production {
     /// What is read.
     type Item: Drop;
 
@@ -30,7 +30,7 @@ pub trait Part {
 }
 
 /// `part { "," part }`
-pub fn comma_list<P: Part>(
+pub fn comma_list<P: Production>(
     alloc: Global,
     cursor: &mut Cursor<'_>,
     part: &P,

@@ -9,7 +9,7 @@ ghost use Rattle.os_parser_expressions.specs.Gives.{Gives};
 ghost use Rattle.os_parser_grammar.specs.Reading.{Same, after};
 ghost use Rattle.os_parser_grammar.specs.Statements.{name, target, size, value, attribute, scalar, declarator, head_declarator, type_words, begins_type, declared, head_declared, change_of, change_by, before, change, ended, named_stmt, return_stmt};
 
-use crate::comma_list::{Part, comma_list};
+use crate::comma_list::{Production, comma_list};
 use crate::starts::{change_at, name_at, stmt_at};
 use os_ast::{Assign, Call, Change, Declarator, Expr, Index, Mark, Name, Step, Stmt, Target, Ty};
 use os_io::List;
@@ -138,7 +138,7 @@ struct DeclaratorPart {
     depth: u32,
 }
 
-impl Part for DeclaratorPart {
+impl Production for DeclaratorPart {
     type Item = Declarator;
 
     ghost Tree = { DeclaratorTree };
@@ -198,7 +198,7 @@ struct HeadDeclaratorPart {
     depth: u32,
 }
 
-impl Part for HeadDeclaratorPart {
+impl Production for HeadDeclaratorPart {
     type Item = Declarator;
 
     ghost Tree = { DeclaratorTree };

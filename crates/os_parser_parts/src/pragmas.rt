@@ -9,7 +9,7 @@ ghost use Rattle.os_parser_expressions.specs.Gives.{Gives};
 ghost use Rattle.os_parser_grammar.specs.Reading.{Same, after};
 ghost use Rattle.os_parser_grammar.specs.Statements.{name, join, alone, clause_item, clause_kind, clause, clauses, first_clause, some_clauses, in_parens, ticked, tick_tree, tick, taskwait};
 
-use crate::comma_list::{Part, comma_list};
+use crate::comma_list::{Production, comma_list};
 use crate::parts::{name, size, target};
 use os_ast::{Clause, ClauseItem, ClauseKind, Join, Mark, Name, Stmt, Target, TickSite};
 use os_io::List;
@@ -55,7 +55,7 @@ struct InOrOut {
     depth: u32,
 }
 
-impl Part for InOrOut {
+impl Production for InOrOut {
     type Item = ClauseItem;
 
     ghost Tree = { ClauseItemTree };
@@ -81,7 +81,7 @@ impl Part for InOrOut {
 /// A `name` that a task takes a copy of.
 struct Copied;
 
-impl Part for Copied {
+impl Production for Copied {
     type Item = Name;
 
     ghost Tree = { Name };
@@ -97,7 +97,7 @@ impl Part for Copied {
 
 /// `"(" part { "," part } ")"`
 #[tactic(auto, unfolding(os_parser_grammar::specs::Statements::in_parens))]
-fn in_parens<P: Part>(
+fn in_parens<P: Production>(
     alloc: Global,
     cursor: &mut Cursor<'_>,
     part: &P,

@@ -11,7 +11,7 @@ use Rattle.os_serve.specs.Command.{MayRun, Text, is_serve}
 use Rattle.os_serve.specs.Commands.{IsReplyOf, IsReplyTo, kept_sink}
 use Rattle.os_serve_answers.specs.Replies.{no_job, reply_by}
 use Rattle.os_serve_jobs.specs.Answers.{Reply}
-use Rattle.os_serve_jobs.specs.KeptStates.{KeptState, fresh_kept}
+use Rattle.os_serve_jobs.specs.MemorySinkStates.{MemorySinkState, fresh_kept}
 use Rattle.os_serve_jobs.specs.Words.{IsText, line_words}
 
 module _ {F : Type 0} (view : FilesView F) where
@@ -29,7 +29,7 @@ module _ {F : Type 0} (view : FilesView F) where
       let ended = end.2 in ended.last.may_kept ∙ were_read_may old ended.before (take end.0 files) ended.contents ended.earlier
 
   -- the reply, by what the command left
-  pub reply_made : (old new : F) (words : List Text) (output_old output report_old report : KeptState) (status : ℕ) (reply : Reply) → output_old ≡ fresh_kept 67108864
+  pub reply_made : (old new : F) (words : List Text) (output_old output report_old report : MemorySinkState) (status : ℕ) (reply : Reply) → output_old ≡ fresh_kept 67108864
       → report_old ≡ fresh_kept 8400000 → AnswersRequest view old new kept_sink output_old output kept_sink report_old report (command words) status
       → reply ≡ reply_by status output report → IsReplyOf view old new words reply
   reply_made old new words output_old output report_old report status reply fresh fresh_too answers is = record {

@@ -7,7 +7,7 @@ use Rattle.osrun_core_words.specs.Command.{command}
 use Rattle.os_serve.specs.Command.{Text, is_serve}
 use Rattle.os_serve_answers.specs.Replies.{no_job, reply_by}
 use Rattle.os_serve_jobs.specs.Answers.{Reply}
-use Rattle.os_serve_jobs.specs.KeptStates.{KeptState, fresh_kept}
+use Rattle.os_serve_jobs.specs.MemorySinkStates.{MemorySinkState, fresh_kept}
 use Rattle.os_serve_jobs.specs.Words.{IsText, line_words}
 
 -- how many bytes the output and the report of a job may have; no job has more
@@ -18,13 +18,13 @@ abbrev pub report_room : ℕ
 report_room = 8400000
 
 -- a sink in memory as a sink: it tells its bytes, and fails where it finds no memory
-abbrev pub kept_sink : SinkView KeptState
+abbrev pub kept_sink : SinkView MemorySinkState
 kept_sink = record { faults = λ s. s.faults; empty_takes = λ _. 0; taken = λ s. Some s.taken }
 
 -- What the command leaves where it is called for the words, with fresh sinks in memory.
 pub record IsReplyOf {F : Type 0} (of_files : FilesView F) (files_old files_new : F) (words : List Text) (reply : Reply) : Type 0 where
-  pub output : KeptState
-  pub report : KeptState
+  pub output : MemorySinkState
+  pub report : MemorySinkState
   pub status : ℕ
   pub answers : AnswersRequest of_files files_old files_new kept_sink (fresh_kept output_room) output kept_sink (fresh_kept report_room) report
       (command words) status

@@ -7,7 +7,7 @@ ghost use Rattle.os_serve_jobs.specs.Words.{IsText};
 
 use crate::beside::answer_beside;
 use os_io::{Files, Sink};
-use os_serve_answers::{Stop, write_answer};
+use os_serve_answers::{ServeError, write_answer};
 use os_serve_jobs::{Reading, take_first};
 use osrun_core::Gate;
 use std::alloc::Global;
@@ -24,7 +24,7 @@ fn answer_next<R: Threads + Sync, J: Files + Send, F: Files + Send, O: Sink, G: 
     out: &mut O,
     gate: &G,
     number: u32,
-) -> Result<(), Stop>
+) -> Result<(), ServeError>
     requires is_reading { IsReading reading.old }
     requires given { J.given jobs.old ≡ reading.old.total }
     requires waits { 0 < vec_len waiting.old }
@@ -40,13 +40,13 @@ fn answer_next<R: Threads + Sync, J: Files + Send, F: Files + Send, O: Sink, G: 
     let line = take_first(waiting);
     let (answer, read) = answer_beside(rt, alloc, jobs, reading, waiting, &line, files, gate);
     let Ok(answer) = answer else {
-        return Err(Stop::Memory);
+        return Err(ServeError::Memory);
     };
     if write_answer(out, number, &answer).is_err() {
-        return Err(Stop::Write);
+        return Err(ServeError::Write);
     }
     if read.is_err() {
-        return Err(Stop::Memory);
+        return Err(ServeError::Memory);
     }
     Ok(())
 }
@@ -61,7 +61,7 @@ pub(crate) fn answer_all<R: Threads + Sync, J: Files + Send, F: Files + Send, O:
     files: &mut F,
     out: &mut O,
     gate: &G,
-) -> Result<(), Stop>
+) -> Result<(), ServeError>
     requires fresh { IsFresh reading.old }
     requires jobs { IsTrue (J.may jobs.old (J.opens jobs.old) name.now) }
     requires files { MayServe (J.holds jobs.old name.now) (F.may files.old) }
@@ -73,7 +73,7 @@ pub(crate) fn answer_all<R: Threads + Sync, J: Files + Send, F: Files + Send, O:
     let mut number = 0;
     'serving: loop {
         if reading.read_on(alloc, jobs, &mut waiting, 1).is_err() {
-            return Err(Stop::Memory);
+            return Err(ServeError::Memory);
         }
         if waiting.is_empty() {
             return Ok(());

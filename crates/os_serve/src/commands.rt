@@ -10,7 +10,7 @@ ghost use Rattle.os_serve_jobs.specs.Words.{IsText};
 use crate::asked::asks_to_serve;
 use os_io::{Files, Memory};
 use os_serve_answers::JobAnswer;
-use os_serve_jobs::{Kept, words_of};
+use os_serve_jobs::{MemorySink, words_of};
 use osrun_core::{Gate, run_words};
 use std::alloc::Global;
 use std::thread::Threads;
@@ -55,8 +55,8 @@ fn run_job<R: Threads + Sync, F: Files, G: Gate>(
     ensures reply { IsReplyOf F.Files files.old files.new (texts words.now) (reply_of result) }
     ensures may { F.may files.new ≡ F.may files.old }
 {
-    let mut output = Kept::new(alloc, OUTPUT_ROOM);
-    let mut report = Kept::new(alloc, REPORT_ROOM);
+    let mut output = MemorySink::new(alloc, OUTPUT_ROOM);
+    let mut report = MemorySink::new(alloc, REPORT_ROOM);
     let status = run_words(rt, alloc, words, files, &mut output, &mut report, gate);
     JobAnswer::of_command(status, output, report)
 }

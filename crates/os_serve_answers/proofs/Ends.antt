@@ -10,19 +10,19 @@ use Rattle.osrun_core_jobs.specs.Telling.{Took}
 use Rattle.osrun_core_jobs.specs.declared.status.Status.{Status}
 use Rattle.osrun_core_jobs.specs.declared.status.Status.TheVariants as statuses
 use Rattle.os_serve_answers.specs.Answered.{EndsBy, IsAnswered, IsOutOfMemory, IsOutOfOutput, StopsServing, stop_status}
-use Rattle.os_serve_answers.specs.Replies.{AreReplies, Run}
-use Rattle.os_serve_answers.specs.declared.stop.Stop.{Stop}
-use Rattle.os_serve_answers.specs.declared.stop.Stop.TheVariants as stops
+use Rattle.os_serve_answers.specs.Replies.{AreReplies, JobRun}
+use Rattle.os_serve_answers.specs.declared.serve_error.ServeError.{ServeError}
+use Rattle.os_serve_answers.specs.declared.serve_error.ServeError.TheVariants as stops
 use Rattle.os_serve_answers.specs.Serving.{AreFirst, ServedCause, Serves, WasGiven}
 use Rattle.os_serve_jobs.proofs.ReadOn.{uncut-line}
 use Rattle.os_serve_jobs.specs.Answers.{Reply, answers}
 use Rattle.os_serve_jobs.specs.Lines.{IsLine, StartsWith}
 use Rattle.os_serve_jobs.specs.Reading.{IsDone, IsReading, StandsBy, uncut}
 use Rattle.os_serve_jobs.specs.declared.reading.Reading.{Reading}
-use Rattle.os_serve_jobs.specs.declared.source.Source.{Source}
-use Rattle.os_serve_jobs.specs.declared.source.Source.TheVariants.{AtEnd, Failed, Open, TooLong}
+use Rattle.os_serve_jobs.specs.declared.input_state.InputState.{InputState}
+use Rattle.os_serve_jobs.specs.declared.input_state.InputState.TheVariants.{AtEnd, Failed, Open, TooLong}
 
-module _ {J F O E : Type 0} (of_jobs : FilesView J) (jobs_old jobs : J) (run : Run F) (files_old files : F) (of_out : SinkView O) (out_old out : O)
+module _ {J F O E : Type 0} (of_jobs : FilesView J) (jobs_old jobs : J) (run : JobRun F) (files_old files : F) (of_out : SinkView O) (out_old out : O)
     (of_report : SinkView E) (report_old report : E) (name : List ℕ) where
   serves : (lines : List (List ℕ)) (replies : List Reply) (status : Status) → AreReplies run files_old files lines replies
       → ServedCause of_jobs jobs_old jobs of_out out_old out of_report report_old report name lines replies status
@@ -37,7 +37,7 @@ module _ {J F O E : Type 0} (of_jobs : FilesView J) (jobs_old jobs : J) (run : R
   }
 
   -- all jobs were answered: how the file of jobs ended says the rest
-  cause_by : (lines : List (List ℕ)) (replies : List Reply) (status : Status) (read left : List ℕ) (source : Source) → of_jobs.given jobs ≡ length read → IsLine left
+  cause_by : (lines : List (List ℕ)) (replies : List Reply) (status : Status) (read left : List ℕ) (source : InputState) → of_jobs.given jobs ≡ length read → IsLine left
       → StandsBy of_jobs (of_jobs.holds jobs_old name) (of_jobs.faults jobs_old) jobs lines read left source → Took of_out out_old out (answers replies)
       → EndsBy of_report report_old report source status → ServedCause of_jobs jobs_old jobs of_out out_old out of_report report_old report name lines replies status
   cause_by lines replies status read left Open given is_line s took ends = absurd ends
@@ -90,7 +90,7 @@ module _ {J F O E : Type 0} (of_jobs : FilesView J) (jobs_old jobs : J) (run : R
       (cause_by a.lines a.replies status a.has_read.read (uncut reading) reading.source a.has_read.given is_line a.has_read.stands a.output ends)
 
   -- the first jobs, where further ones wait
-  first_by : (lines waiting : List (List ℕ)) (read left : List ℕ) (source : Source) → of_jobs.given jobs ≡ length read
+  first_by : (lines waiting : List (List ℕ)) (read left : List ℕ) (source : InputState) → of_jobs.given jobs ≡ length read
       → StandsBy of_jobs (of_jobs.holds jobs_old name) (of_jobs.faults jobs_old) jobs (lines ++ waiting) read left source → AreFirst of_jobs jobs_old jobs name lines
   first_by lines waiting read left Open given s = record {
     read = read;
@@ -141,7 +141,7 @@ module _ {J F O E : Type 0} (of_jobs : FilesView J) (jobs_old jobs : J) (run : R
     report_kept = kept;
   })
 
-  pub served_stopped : (reading : Reading) (stop : Stop)
+  pub served_stopped : (reading : Reading) (stop : ServeError)
       → StopsServing of_jobs (of_jobs.holds jobs_old name) (of_jobs.faults jobs_old) jobs reading run files_old files of_out out_old out stop
       → report ≡ report_old → Serves of_jobs jobs_old jobs run files_old files of_out out_old out of_report report_old report name (code_of (stop_status stop))
   served_stopped reading stops.Memory a kept = served_until reading a kept

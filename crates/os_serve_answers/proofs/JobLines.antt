@@ -11,8 +11,8 @@ use Rattle.os_serve_jobs.proofs.FirstJobs.{told_front}
 use Rattle.os_serve_jobs.specs.Lines.{IsEndedIn, IsJobIn, IsLine, StartsWith, ended, last_line}
 use Rattle.os_serve_jobs.specs.Reading.{HasRead, StandsBy, uncut}
 use Rattle.os_serve_jobs.specs.declared.reading.Reading.{Reading}
-use Rattle.os_serve_jobs.specs.declared.source.Source.{Source}
-use Rattle.os_serve_jobs.specs.declared.source.Source.TheVariants.{AtEnd, Failed, Open, TooLong}
+use Rattle.os_serve_jobs.specs.declared.input_state.InputState.{InputState}
+use Rattle.os_serve_jobs.specs.declared.input_state.InputState.TheVariants.{AtEnd, Failed, Open, TooLong}
 
 -- ---- how many lines there are
 
@@ -75,7 +75,7 @@ split_last (first ∷ whole) rest (one ∷ earlier) line more is =
 
 module _ {J : Type 0} (view : FilesView J) (told : Option (List ℕ)) (faults : ℕ) where
   -- there are no more lines than bytes that were given
-  few_by : (jobs : J) (lines : List (List ℕ)) (read left : List ℕ) (source : Source) → StandsBy view told faults jobs lines read left source → length lines ≤ 4194305
+  few_by : (jobs : J) (lines : List (List ℕ)) (read left : List ℕ) (source : InputState) → StandsBy view told faults jobs lines read left source → length lines ≤ 4194305
   few_by jobs lines read left Open s = let w = starts_within read left lines s.starts in let f = s.fits in omega (arith, w, f)
   few_by jobs lines read left AtEnd s =
       let l = s.lines_are in
@@ -135,7 +135,7 @@ module _ {J : Type 0} (view : FilesView J) (told : Option (List ℕ)) (faults : 
       omega (arith, w, n, l)
       )
 
-  job_by : (bytes : List ℕ) (jobs : J) (earlier : List (List ℕ)) (line : List ℕ) (more : List (List ℕ)) (read left : List ℕ) (source : Source) → told ≡ Some bytes
+  job_by : (bytes : List ℕ) (jobs : J) (earlier : List (List ℕ)) (line : List ℕ) (more : List (List ℕ)) (read left : List ℕ) (source : InputState) → told ≡ Some bytes
       → StandsBy view told faults jobs (earlier ++ line ∷ more) read left source → IsJobIn bytes line
   job_by bytes jobs earlier line more read left Open is s =
       let f = told_front bytes read (view.rest jobs) (sym is ∙ s.so_far.front) in

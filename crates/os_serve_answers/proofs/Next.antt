@@ -9,9 +9,9 @@ use Rattle.os_serve_answers.proofs.JobLines.{few, is_job}
 use Rattle.os_serve_answers.proofs.Written.{answers_to_more, cut_later, one_more, took_more, took_nothing}
 use Rattle.os_serve_answers.specs.Answered.{AnswersNext, IsAnswered, IsOutOfMemory, StopsServing}
 use Rattle.os_serve_answers.specs.Between.{IsServing}
-use Rattle.os_serve_answers.specs.Replies.{AreReplies, Run}
-use Rattle.os_serve_answers.specs.declared.stop.Stop.{Stop}
-use Rattle.os_serve_answers.specs.declared.stop.Stop.TheVariants as stops
+use Rattle.os_serve_answers.specs.Replies.{AreReplies, JobRun}
+use Rattle.os_serve_answers.specs.declared.serve_error.ServeError.{ServeError}
+use Rattle.os_serve_answers.specs.declared.serve_error.ServeError.TheVariants as stops
 use Rattle.os_serve_jobs.proofs.FirstJobs.{are_first_jobs}
 use Rattle.os_serve_jobs.specs.Answers.{Reply, answer, answers}
 use Rattle.os_serve_jobs.specs.Lines.{IsJobIn}
@@ -34,7 +34,7 @@ behind lines line more = sym (append_assoc lines (line ∷ []) more)
 one_longer : (number : ℕ) (lines : List (List ℕ)) (line : List ℕ) → number ≡ length lines → number + 1 ≡ length (lines ++ line ∷ [])
 one_longer number lines line counted = let l = length-append lines (line ∷ []) in omega (arith, l, counted)
 
-module _ {J F O : Type 0} (of_jobs : FilesView J) (run : Run F) (of_out : SinkView O) where
+module _ {J F O : Type 0} (of_jobs : FilesView J) (run : JobRun F) (of_out : SinkView O) where
   -- the line was taken off those that wait, and further lines were read behind it
   read_behind : (told : Option (List ℕ)) (faults : ℕ) (jobs_old jobs : J) (reading_old reading : Reading) (lines waiting_old waiting_mid waiting : List (List ℕ)) (line : List ℕ)
       → waiting_old ≡ line ∷ waiting_mid → ReadsOn of_jobs jobs_old jobs reading_old reading waiting_mid waiting
@@ -46,7 +46,7 @@ module _ {J F O : Type 0} (of_jobs : FilesView J) (run : Run F) (of_out : SinkVi
   module _ (jobs_old jobs : J) (reading_old reading : Reading) (waiting_old waiting_mid waiting : List (List ℕ)) (files_old files : F) (out_old out : O) (number : ℕ)
       (line : List ℕ) (first : waiting_old ≡ line ∷ waiting_mid) (reads : ReadsOn of_jobs jobs_old jobs reading_old reading waiting_mid waiting) where
     -- no memory was found for the words of the line
-    pub next_memory : (stop : Stop) → stop ≡ stops.Memory → files ≡ files_old → out ≡ out_old
+    pub next_memory : (stop : ServeError) → stop ≡ stops.Memory → files ≡ files_old → out ≡ out_old
         → AnswersNext of_jobs jobs_old jobs reading_old reading waiting_old waiting run files_old files of_out out_old out number (Err stop)
     next_memory stop is same kept told faults files_first out_first s =
         subst (StopsServing of_jobs told faults jobs reading run files_first files of_out out_first out) (sym is) (record {
@@ -61,7 +61,7 @@ module _ {J F O : Type 0} (of_jobs : FilesView J) (run : Run F) (of_out : SinkVi
 
     module _ (reply : Reply) (is_reply : run files_old files line reply) where
       -- the output did not take the whole answer
-      pub next_short : (stop : Stop) → stop ≡ stops.Write → IsCutShort of_out out_old out (answer number reply)
+      pub next_short : (stop : ServeError) → stop ≡ stops.Write → IsCutShort of_out out_old out (answer number reply)
           → AnswersNext of_jobs jobs_old jobs reading_old reading waiting_old waiting run files_old files of_out out_old out number (Err stop)
       next_short stop is short told faults files_first out_first s =
           subst (StopsServing of_jobs told faults jobs reading run files_first files of_out out_first out) (sym is) (record {
@@ -95,7 +95,7 @@ module _ {J F O : Type 0} (of_jobs : FilesView J) (run : Run F) (of_out : SinkVi
         }
 
         -- it did, and no memory was found for the lines that were read on
-        pub next_last : (stop : Stop) → stop ≡ stops.Memory
+        pub next_last : (stop : ServeError) → stop ≡ stops.Memory
             → AnswersNext of_jobs jobs_old jobs reading_old reading waiting_old waiting run files_old files of_out out_old out number (Err stop)
         next_last stop is told faults files_first out_first s =
             subst (StopsServing of_jobs told faults jobs reading run files_first files of_out out_first out) (sym is) (record {

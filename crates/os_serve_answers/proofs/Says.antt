@@ -9,7 +9,7 @@ use Rattle.osrun_core_jobs.specs.Status.{code_of}
 use Rattle.osrun_core_jobs.specs.Telling.{HasTrouble}
 use Rattle.osrun_core_jobs.specs.declared.status.Status.{Status}
 use Rattle.osrun_core_jobs.specs.declared.status.Status.TheVariants as statuses
-use Rattle.os_serve_answers.specs.Replies.{Run}
+use Rattle.os_serve_answers.specs.Replies.{JobRun}
 use Rattle.os_serve_answers.specs.Said.{AnswersJobs, HaveReplies}
 use Rattle.os_serve_answers.specs.Serving.{AreFirst, IsBroken, IsCutIn, IsCutOff, IsServed, IsStopped, ServedCause, Serves, WasGiven}
 use Rattle.os_serve_jobs.proofs.FirstJobs.{all_jobs, all_whole, fewer, first_past, first_read, first_unread, no_lines, read_past, read_whole, some_jobs, told_front, within_or_past}
@@ -120,7 +120,7 @@ module _ {J : Type 0} (of_jobs : FilesView J) (jobs_old jobs : J) (name : List �
       → IsAtEnd (of_jobs.rest jobs) → length read ≡ length held
   given_whole read held told front at_end = ap length (sym (read_whole held read (of_jobs.rest jobs) (sym told ∙ front) at_end))
 
-module _ {J F O E : Type 0} (of_jobs : FilesView J) (jobs_old jobs : J) (run : Run F) (files_old files : F) (of_out : SinkView O) (out_old out : O)
+module _ {J F O E : Type 0} (of_jobs : FilesView J) (jobs_old jobs : J) (run : JobRun F) (files_old files : F) (of_out : SinkView O) (out_old out : O)
     (of_report : SinkView E) (report_old report : E) (name : List ℕ) (status : ℕ)
     (s : Serves of_jobs jobs_old jobs run files_old files of_out out_old out of_report report_old report name status) where
   -- the cause, of the status that it is

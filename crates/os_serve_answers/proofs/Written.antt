@@ -8,7 +8,7 @@ use Rattle.os_io.specs.Counts.{HasRisen}
 use Rattle.os_io.specs.declared.sink.Sink.{Ghosts as SinkView}
 use Rattle.os_io.specs.declared.writing.WriteError.{WriteError}
 use Rattle.osrun_core_jobs.specs.Telling.{HasTrouble, IsCutShort, IsWritten, Took}
-use Rattle.os_serve_answers.specs.Replies.{AreReplies, Run}
+use Rattle.os_serve_answers.specs.Replies.{AreReplies, JobRun}
 use Rattle.os_serve_jobs.specs.Answers.{Reply, answer, answers, answers_from, heading}
 
 -- bytes behind bytes behind what is known
@@ -121,7 +121,7 @@ answers_more number (first ∷ replies) reply =
     ∙ sym (append_assoc (answer number first) (answers_from (number + 1) replies) (answer (number + 1 + length replies) reply))
     ∙ ap (λ n. (answer number first ++ answers_from (number + 1) replies) ++ answer n reply) (omega arith)
 
-module _ {F : Type 0} (run : Run F) where
+module _ {F : Type 0} (run : JobRun F) where
   -- each line has one reply
   pub as_many : (old new : F) (lines : List (List ℕ)) (replies : List Reply) → AreReplies run old new lines replies → length replies ≡ length lines
   as_many old new [] [] are = refl

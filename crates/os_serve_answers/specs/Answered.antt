@@ -7,18 +7,18 @@ use Rattle.osrun_core_jobs.specs.Telling.{IsCutShort, Tells, Took}
 use Rattle.osrun_core_jobs.specs.declared.status.Status.{Status}
 use Rattle.osrun_core_jobs.specs.declared.status.Status.TheVariants as statuses
 use Rattle.os_serve_answers.specs.Between.{IsServing}
-use Rattle.os_serve_answers.specs.Replies.{AreReplies, Run}
-use Rattle.os_serve_answers.specs.declared.stop.Stop.{Stop}
-use Rattle.os_serve_answers.specs.declared.stop.Stop.TheVariants as stops
+use Rattle.os_serve_answers.specs.Replies.{AreReplies, JobRun}
+use Rattle.os_serve_answers.specs.declared.serve_error.ServeError.{ServeError}
+use Rattle.os_serve_answers.specs.declared.serve_error.ServeError.TheVariants as stops
 use Rattle.os_serve_jobs.specs.Answers.{Reply, answers}
 use Rattle.os_serve_jobs.specs.Reading.{HasRead, IsDone, IsReading}
 use Rattle.os_serve_jobs.specs.declared.reading.Reading.{Reading}
-use Rattle.os_serve_jobs.specs.declared.source.Source.{Source}
-use Rattle.os_serve_jobs.specs.declared.source.Source.TheVariants.{AtEnd, Failed, Open, TooLong}
+use Rattle.os_serve_jobs.specs.declared.input_state.InputState.{InputState}
+use Rattle.os_serve_jobs.specs.declared.input_state.InputState.TheVariants.{AtEnd, Failed, Open, TooLong}
 
 -- The first jobs were answered, but for a part of the last answer.
 pub record IsOutOfOutput {J F O : Type 0} (of_jobs : FilesView J) (told : Option (List ℕ)) (faults : ℕ) (jobs : J) (reading : Reading)
-    (run : Run F) (files_old files : F) (of_out : SinkView O) (out_old out : O) : Type 0 where
+    (run : JobRun F) (files_old files : F) (of_out : SinkView O) (out_old out : O) : Type 0 where
   pub lines : List (List ℕ)
   pub replies : List Reply
   pub waiting : List (List ℕ)
@@ -28,7 +28,7 @@ pub record IsOutOfOutput {J F O : Type 0} (of_jobs : FilesView J) (told : Option
 
 -- The first jobs were answered, and then memory was wanted.
 pub record IsOutOfMemory {J F O : Type 0} (of_jobs : FilesView J) (told : Option (List ℕ)) (faults : ℕ) (jobs : J) (reading : Reading)
-    (run : Run F) (files_old files : F) (of_out : SinkView O) (out_old out : O) : Type 0 where
+    (run : JobRun F) (files_old files : F) (of_out : SinkView O) (out_old out : O) : Type 0 where
   pub lines : List (List ℕ)
   pub replies : List Reply
   pub waiting : List (List ℕ)
@@ -37,21 +37,21 @@ pub record IsOutOfMemory {J F O : Type 0} (of_jobs : FilesView J) (told : Option
   pub output : Took of_out out_old out (answers replies)
 
 -- why the server stopped
-abbrev pub StopsServing : {J F O : Type 0} → FilesView J → Option (List ℕ) → ℕ → J → Reading → Run F → (files_old files : F) → SinkView O
-    → (out_old out : O) → Stop → Type 0
+abbrev pub StopsServing : {J F O : Type 0} → FilesView J → Option (List ℕ) → ℕ → J → Reading → JobRun F → (files_old files : F) → SinkView O
+    → (out_old out : O) → ServeError → Type 0
 StopsServing of_jobs told faults jobs reading run files_old files of_out out_old out stops.Memory =
     IsOutOfMemory of_jobs told faults jobs reading run files_old files of_out out_old out
 StopsServing of_jobs told faults jobs reading run files_old files of_out out_old out stops.Write =
     IsOutOfOutput of_jobs told faults jobs reading run files_old files of_out out_old out
 
 -- the status with which it then ends
-abbrev pub stop_status : Stop → Status
+abbrev pub stop_status : ServeError → Status
 stop_status stops.Memory = statuses.NoMemory
 stop_status stops.Write = statuses.WriteFault
 
 -- All jobs were answered.
 pub record IsAnswered {J F O : Type 0} (of_jobs : FilesView J) (told : Option (List ℕ)) (faults : ℕ) (jobs : J) (reading : Reading)
-    (run : Run F) (files_old files : F) (of_out : SinkView O) (out_old out : O) : Type 0 where
+    (run : JobRun F) (files_old files : F) (of_out : SinkView O) (out_old out : O) : Type 0 where
   pub lines : List (List ℕ)
   pub replies : List Reply
   pub has_read : HasRead of_jobs told faults jobs reading lines
@@ -60,8 +60,8 @@ pub record IsAnswered {J F O : Type 0} (of_jobs : FilesView J) (told : Option (L
 
 -- Where the first jobs were answered and further ones wait, one more was answered; or the server stopped.
 abbrev pub AnswersNext : {J F O : Type 0} → FilesView J → (jobs_old jobs : J) → (reading_old reading : Reading)
-    → (waiting_old waiting : List (List ℕ)) → Run F → (files_old files : F) → SinkView O → (out_old out : O) → ℕ
-    → Result (Unit {0}) Stop → Type 0
+    → (waiting_old waiting : List (List ℕ)) → JobRun F → (files_old files : F) → SinkView O → (out_old out : O) → ℕ
+    → Result (Unit {0}) ServeError → Type 0
 AnswersNext {J} {F} {O} of_jobs jobs_old jobs reading_old reading waiting_old waiting run files_old files of_out out_old out number result =
     (told : Option (List ℕ)) (faults : ℕ) (files_first : F) (out_first : O)
     → IsServing of_jobs told faults jobs_old reading_old waiting_old run files_first files_old of_out out_first out_old number
@@ -70,14 +70,14 @@ AnswersNext {J} {F} {O} of_jobs jobs_old jobs reading_old reading waiting_old wa
     (StopsServing of_jobs told faults jobs reading run files_first files of_out out_first out)
 
 -- all jobs of a file were answered, to its end, or the server stopped
-abbrev pub AnswersAll : {J F O : Type 0} → FilesView J → Option (List ℕ) → ℕ → J → Reading → Run F → (files_old files : F)
-    → SinkView O → (out_old out : O) → Result (Unit {0}) Stop → Type 0
+abbrev pub AnswersAll : {J F O : Type 0} → FilesView J → Option (List ℕ) → ℕ → J → Reading → JobRun F → (files_old files : F)
+    → SinkView O → (out_old out : O) → Result (Unit {0}) ServeError → Type 0
 AnswersAll of_jobs told faults jobs reading run files_old files of_out out_old out result = MatchResult result
     (λ _. IsAnswered of_jobs told faults jobs reading run files_old files of_out out_old out × IsDone reading × IsReading reading)
     (StopsServing of_jobs told faults jobs reading run files_old files of_out out_old out)
 
 -- the status by how the file of jobs ended, and what is told of it
-abbrev pub EndsBy : {E : Type 0} → SinkView E → (report_old report : E) → Source → Status → Type 0
+abbrev pub EndsBy : {E : Type 0} → SinkView E → (report_old report : E) → InputState → Status → Type 0
 EndsBy of_report report_old report Open status = ⊥
 EndsBy of_report report_old report AtEnd status = (status ≡ statuses.AllDone) × (report ≡ report_old)
 EndsBy of_report report_old report TooLong status = (status ≡ statuses.TooLong) × Tells of_report report_old report (line (codes "too long jobs"))

@@ -4,7 +4,7 @@ use Rattle.osrun_core_jobs.specs.Refusal.{usage_line}
 use Rattle.os_serve_answers.specs.declared.job_answer.JobAnswer.{JobAnswer}
 use Rattle.os_serve_answers.specs.declared.job_answer.JobAnswer.TheVariants as answered
 use Rattle.os_serve_jobs.specs.Answers.{Reply}
-use Rattle.os_serve_jobs.specs.KeptStates.{KeptState}
+use Rattle.os_serve_jobs.specs.MemorySinkStates.{MemorySinkState}
 
 -- the answer to a line that names no job
 abbrev pub no_job : Reply
@@ -16,7 +16,7 @@ no_memory = record { status = 7; output = []; told = [] }
 
 -- The answer to a job whose command was called with such sinks: its status, and what they took. A sink in memory that has room fails
 -- where it finds no memory.
-abbrev pub reply_by : (status : ℕ) → (output report : KeptState) → Reply
+abbrev pub reply_by : (status : ℕ) → (output report : MemorySinkState) → Reply
 reply_by status output report =
     if (output.faults == 0) && (report.faults == 0) then record { status = status; output = output.taken; told = report.taken } else no_memory
 
@@ -27,11 +27,11 @@ reply_of answered.NoMemory = no_memory
 reply_of (answered.Done status output report) = record { status = status; output = output.taken; told = report.taken }
 
 -- from which state to which a job goes that is answered so
-abbrev pub Run : Type 0 → Type 1
-Run S = S → S → List ℕ → Reply → Type 0
+abbrev pub JobRun : Type 0 → Type 1
+JobRun S = S → S → List ℕ → Reply → Type 0
 
 -- Each line has its reply, in their order, each over the state as the one before left it.
-abbrev pub AreReplies : {S : Type 0} → (run : Run S) → (old new : S) → List (List ℕ) → List Reply → Type 0
+abbrev pub AreReplies : {S : Type 0} → (run : JobRun S) → (old new : S) → List (List ℕ) → List Reply → Type 0
 AreReplies run old new [] [] = new ≡ old
 AreReplies run old new [] (reply ∷ replies) = ⊥
 AreReplies run old new (line ∷ lines) [] = ⊥

@@ -3,12 +3,12 @@ use Rattle.std.specs.Prelude.{◌≡◌, ◌≢◌, ◌⊎◌, ℕ, List, IfSome
 use Rattle.os_io.specs.declared.files.Files.{Ghosts as FilesView}
 use Rattle.os_io.specs.declared.sink.Sink.{Ghosts as SinkView}
 use Rattle.osrun_core_jobs.specs.Telling.{IsCutShort, Took}
-use Rattle.os_serve_answers.specs.Replies.{AreReplies, Run}
+use Rattle.os_serve_answers.specs.Replies.{AreReplies, JobRun}
 use Rattle.os_serve_jobs.specs.Answers.{Reply, answers}
 use Rattle.os_serve_jobs.specs.Lines.{AreFirstJobs, AreJobs}
 
 -- Some lines were answered, each with its reply, and this is said of them.
-abbrev pub HaveReplies : {F : Type 0} → Run F → (files_old files_new : F) → (List (List ℕ) → List Reply → Type 0) → Type 0
+abbrev pub HaveReplies : {F : Type 0} → JobRun F → (files_old files_new : F) → (List (List ℕ) → List Reply → Type 0) → Type 0
 HaveReplies run files_old files_new said =
     (lines : List (List ℕ)) × (replies : List Reply) × AreReplies run files_old files_new lines replies × said lines replies
 

@@ -10,7 +10,7 @@ use Rattle.osrun_core_jobs.specs.Status.{code_of}
 use Rattle.osrun_core_jobs.specs.Telling.{IsCutShort, Tells, Took}
 use Rattle.osrun_core_jobs.specs.declared.status.Status.{Status}
 use Rattle.osrun_core_jobs.specs.declared.status.Status.TheVariants as statuses
-use Rattle.os_serve_answers.specs.Replies.{AreReplies, Run}
+use Rattle.os_serve_answers.specs.Replies.{AreReplies, JobRun}
 use Rattle.os_serve_jobs.specs.Answers.{Reply, answers}
 use Rattle.os_serve_jobs.specs.Lines.{AreEnded, AreLines, StartsWith, jobs_limit}
 
@@ -101,7 +101,7 @@ ServedCause of_jobs jobs_old jobs_new of_out out_old out_new of_report report_ol
 
 -- What a call leaves that serves the jobs of a file: the jobs that were answered, with what each was answered, and the status with
 -- its cause.
-pub record Serves {J F O E : Type 0} (of_jobs : FilesView J) (jobs_old jobs_new : J) (run : Run F) (files_old files_new : F)
+pub record Serves {J F O E : Type 0} (of_jobs : FilesView J) (jobs_old jobs_new : J) (run : JobRun F) (files_old files_new : F)
     (of_out : SinkView O) (out_old out_new : O) (of_report : SinkView E) (report_old report_new : E) (name : List ℕ) (status : ℕ) : Type 0 where
   pub lines : List (List ℕ)
   pub replies : List Reply

@@ -2,7 +2,7 @@ ghost use Rattle.std.specs.Prelude.{◌≢◌};
 ghost use Rattle.os_serve_answers.specs.Answered.{EndsBy};
 
 use os_io::Sink;
-use os_serve_jobs::Source;
+use os_serve_jobs::InputState;
 use osrun_core_jobs::{Status, tell};
 
 /// What is told where the file of jobs is too long.
@@ -11,19 +11,19 @@ const TOO_LONG: &[u8] = b"too long jobs\n";
 const READ_FAULT: &[u8] = b"read fault jobs\n";
 
 /// Tells how the file of jobs ended, where that is no good end, and answers the status.
-pub fn end<E: Sink>(source: Source, report: &mut E) -> Status
-    requires { source ≢ Source.Open }
+pub fn end<E: Sink>(source: InputState, report: &mut E) -> Status
+    requires { source ≢ InputState.Open }
     ensures { EndsBy E.Sink report.old report.new source result }
 {
     match source {
-        Source::TooLong => {
+        InputState::TooLong => {
             tell(report, TOO_LONG);
             Status::TooLong
         }
-        Source::Failed => {
+        InputState::Failed => {
             tell(report, READ_FAULT);
             Status::ReadFault
         }
-        Source::AtEnd | Source::Open => Status::AllDone,
+        InputState::AtEnd | InputState::Open => Status::AllDone,
     }
 }

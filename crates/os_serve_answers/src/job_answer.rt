@@ -1,7 +1,7 @@
 ghost use Rattle.std.specs.Prelude.{◌≡◌, ◌≤◌, length};
 ghost use Rattle.os_serve_answers.specs.Replies.{reply_by, reply_of};
 
-use os_serve_jobs::Kept;
+use os_serve_jobs::MemorySink;
 
 /// The status of words that name no job.
 const BAD_WORDS: u8 = 2;
@@ -20,14 +20,14 @@ pub enum JobAnswer {
     /// The status of its command, and what its sinks took.
     Done {
         status: u8,
-        output: Kept,
-        report: Kept,
+        output: MemorySink,
+        report: MemorySink,
     },
 }
 
 impl JobAnswer {
     /// What a job came to whose command ended with a status, and with these sinks.
-    pub fn of_command(status: u8, output: Kept, report: Kept) -> JobAnswer
+    pub fn of_command(status: u8, output: MemorySink, report: MemorySink) -> JobAnswer
         ensures { reply_of result ≡ reply_by status output report }
     {
         if output.has_failed() || report.has_failed() {

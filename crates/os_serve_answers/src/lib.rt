@@ -7,10 +7,10 @@
 
 mod ending;
 mod job_answer;
-mod stop;
+mod serve_error;
 mod writing;
 
 pub use ending::end;
 pub use job_answer::JobAnswer;
-pub use stop::Stop;
+pub use serve_error::ServeError;
 pub use writing::write_answer;

@@ -14,8 +14,8 @@ use Rattle.os_io.specs.declared.files.Files.{Ghosts as FilesView}
 use Rattle.os_serve_jobs.specs.Lines.{AreEnded, AreFirstJobs, AreJobs, AreLines, IsLine, StartsWith, ended, jobs_limit, last_line}
 use Rattle.os_serve_jobs.specs.Reading.{HasRead, StandsBy, uncut}
 use Rattle.os_serve_jobs.specs.declared.reading.Reading.{Reading}
-use Rattle.os_serve_jobs.specs.declared.source.Source.{Source}
-use Rattle.os_serve_jobs.specs.declared.source.Source.TheVariants.{AtEnd, Failed, Open, TooLong}
+use Rattle.os_serve_jobs.specs.declared.input_state.InputState.{InputState}
+use Rattle.os_serve_jobs.specs.declared.input_state.InputState.TheVariants.{AtEnd, Failed, Open, TooLong}
 
 -- ---- all bytes are lines and a rest
 
@@ -242,7 +242,7 @@ first_read held read left lines rest front fits starts =
     first_lines held read f.0 left lines fits f.2 starts (within_or_past (length held))
 
 module _ {J : Type 0} (view : FilesView J) (faults : ℕ) (held : List ℕ) (jobs : J) where
-  first_by : (lines : List (List ℕ)) (read left : List ℕ) (source : Source) → StandsBy view (Some held) faults jobs lines read left source → AreFirstJobs held lines
+  first_by : (lines : List (List ℕ)) (read left : List ℕ) (source : InputState) → StandsBy view (Some held) faults jobs lines read left source → AreFirstJobs held lines
   first_by lines read left Open s = first_read held read left lines (view.rest jobs) s.so_far.front s.fits s.starts
   first_by lines read left AtEnd s =
       all_jobs held lines (all_whole held read lines (read_whole held read (view.rest jobs) s.so_far.front s.at_end) s.fits s.lines_are)

@@ -15,8 +15,8 @@ use Rattle.os_serve_jobs.specs.Cutting.{IsCut, TookPiece}
 use Rattle.os_serve_jobs.specs.Lines.{AreLines, IsLine, StartsWith, ended, jobs_limit, last_line}
 use Rattle.os_serve_jobs.specs.Reading.{CutsOn, HasRead, IsOpenAt, ReadSoFar, StandsBy, uncut, waiting_lines}
 use Rattle.os_serve_jobs.specs.declared.reading.Reading.{Reading}
-use Rattle.os_serve_jobs.specs.declared.source.Source.{Source}
-use Rattle.os_serve_jobs.specs.declared.source.Source.TheVariants.{AtEnd, Failed, Open, TooLong}
+use Rattle.os_serve_jobs.specs.declared.input_state.InputState.{InputState}
+use Rattle.os_serve_jobs.specs.declared.input_state.InputState.TheVariants.{AtEnd, Failed, Open, TooLong}
 
 -- nothing in front of what is known
 pub prepend_known-nil : (known : Option (List ℕ)) → prepend_known [] known ≡ known
@@ -102,7 +102,7 @@ cuts_more first before reading waiting_first waiting_before waiting cuts some wi
 
 module _ {J : Type 0} (view : FilesView J) (told : Option (List ℕ)) (faults : ℕ) where
   -- how it stands, by another name of how more may come
-  pub stands_by : (jobs : J) (lines : List (List ℕ)) (read left : List ℕ) (source other : Source) → source ≡ other
+  pub stands_by : (jobs : J) (lines : List (List ℕ)) (read left : List ℕ) (source other : InputState) → source ≡ other
       → StandsBy view told faults jobs lines read left source → StandsBy view told faults jobs lines read left other
   stands_by jobs lines read left source other same = subst (StandsBy view told faults jobs lines read left) same
 
@@ -139,7 +139,7 @@ module _ {J : Type 0} (view : FilesView J) (told : Option (List ℕ)) (faults : 
         (each (subst (All IsLine) (drop-append_seam before waiting_old) (All-drop IsLine (length before) (before ++ waiting_old) starts.each)));
   }
 
-  cut_stands : (jobs : J) (read left_old left_new : List ℕ) (before waiting_old waiting_new : List (List ℕ)) (source : Source)
+  cut_stands : (jobs : J) (read left_old left_new : List ℕ) (before waiting_old waiting_new : List (List ℕ)) (source : InputState)
       → flat_map ended waiting_new ++ left_new ≡ flat_map ended waiting_old ++ left_old → (All IsLine waiting_old → All IsLine waiting_new)
       → (left_old ≡ [] → (waiting_new ≡ waiting_old) × (left_new ≡ []))
       → StandsBy view told faults jobs (before ++ waiting_old) read left_old source → StandsBy view told faults jobs (before ++ waiting_new) read left_new source
@@ -201,7 +201,7 @@ module _ {J : Type 0} (view : FilesView J) (told : Option (List ℕ)) (faults : 
 
   -- the file came to its end, and the line that has begun is its last one; or the room for it was wanted
   pub at_end : {A E : Type 0} (result : Result A E) (jobs_old jobs_new : J) (reading_old reading_new : Reading) (before : List (List ℕ)) (items_old items_new : List (Vec ℕ Global))
-      (line left_mid : List ℕ) (source_mid : Source)
+      (line left_mid : List ℕ) (source_mid : InputState)
       → reading_old.source ≡ Open → uncut reading_old ≡ line → IsLine line
       → view.rest jobs_old ≡ prepend_known [] (view.rest jobs_new) → view.faults jobs_new ≡ view.faults jobs_old → view.given jobs_new ≡ view.given jobs_old → IsAtEnd (view.rest jobs_new)
       → OnOk result (waiting_lines items_new ≡ waiting_lines items_old ++ last_line line) → OnOk result (uncut reading_new ≡ []) → OnOk result (reading_new.source ≡ AtEnd)

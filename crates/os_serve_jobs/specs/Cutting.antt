@@ -3,8 +3,8 @@ use Rattle.std.specs.Prelude.{◌≡◌, ◌<◌, ◌≤◌, ◌⊎◌, ◌+◌,
 use Rattle.std.specs.List.{flat_map}
 use Rattle.os_serve_jobs.specs.Lines.{IsLine, ended, jobs_limit}
 use Rattle.os_serve_jobs.specs.declared.reading.Reading.{Reading}
-use Rattle.os_serve_jobs.specs.declared.source.Source.{Source}
-use Rattle.os_serve_jobs.specs.declared.source.Source.TheVariants.{AtEnd, Failed, Open, TooLong}
+use Rattle.os_serve_jobs.specs.declared.input_state.InputState.{InputState}
+use Rattle.os_serve_jobs.specs.declared.input_state.InputState.TheVariants.{AtEnd, Failed, Open, TooLong}
 
 -- So many bytes of a piece were added to the line that had begun, and where they ended it, it waits behind those that did. Nothing
 -- is lost: lines, the line begun and the rest of the piece are what they were, one after the other.
@@ -15,7 +15,7 @@ pub record IsCut (waiting_old waiting_new : List (List ℕ)) (line_old line_new 
   pub begun : IsLine line_old → IsLine line_new
 
 -- one where more may come
-abbrev pub open_one : Source → ℕ
+abbrev pub open_one : InputState → ℕ
 open_one Open = 1
 open_one AtEnd = 0
 open_one TooLong = 0

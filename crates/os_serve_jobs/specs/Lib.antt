@@ -4,6 +4,6 @@ pub mod Lines
 pub mod Words
 pub mod Reading
 pub mod Answers
-pub mod KeptStates
+pub mod MemorySinkStates
 -- What restates private functions.
 pub mod Cutting

@@ -9,8 +9,8 @@ use Rattle.os_io.specs.Counts.{HasRisen}
 use Rattle.os_io.specs.declared.files.Files.{Ghosts as FilesView}
 use Rattle.os_serve_jobs.specs.Lines.{AreLines, IsLine, StartsWith, ended, jobs_limit}
 use Rattle.os_serve_jobs.specs.declared.reading.Reading.{Reading}
-use Rattle.os_serve_jobs.specs.declared.source.Source.{Source}
-use Rattle.os_serve_jobs.specs.declared.source.Source.TheVariants.{AtEnd, Failed, Open, TooLong}
+use Rattle.os_serve_jobs.specs.declared.input_state.InputState.{InputState}
+use Rattle.os_serve_jobs.specs.declared.input_state.InputState.TheVariants.{AtEnd, Failed, Open, TooLong}
 
 -- the lines that wait, as contracts see them
 abbrev pub waiting_lines : List (Vec ℕ Global) → List (List ℕ)
@@ -56,7 +56,7 @@ pub record IsFailedAt {J : Type 0} (view : FilesView J) (told : Option (List ℕ
   pub fault : HasRisen faults (view.faults jobs)
   pub starts : StartsWith read lines left
 
-abbrev pub StandsBy : {J : Type 0} → FilesView J → Option (List ℕ) → ℕ → J → List (List ℕ) → (read left : List ℕ) → Source → Type 0
+abbrev pub StandsBy : {J : Type 0} → FilesView J → Option (List ℕ) → ℕ → J → List (List ℕ) → (read left : List ℕ) → InputState → Type 0
 StandsBy view told faults jobs lines read left Open = IsOpenAt view told faults jobs lines read left
 StandsBy view told faults jobs lines read left AtEnd = IsWhole view told faults jobs lines read left
 StandsBy view told faults jobs lines read left TooLong = IsTooLong view told faults jobs lines read left

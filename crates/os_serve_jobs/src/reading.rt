@@ -5,7 +5,7 @@ ghost use Rattle.os_serve_jobs.specs.Lines.{IsLine, ended, jobs_limit, last_line
 ghost use Rattle.os_serve_jobs.specs.Reading.{CutsOn, HasRead, IsDone, IsFresh, IsReading, ReadsOn, uncut, waiting_lines};
 
 use crate::cutting::{cut, end_line};
-use crate::source::Source;
+use crate::input_state::InputState;
 use os_io::{Files, Memory};
 use std::alloc::Global;
 
@@ -27,7 +27,7 @@ pub struct Reading {
     /// How many bytes were given, at most one more than the limit.
     pub(crate) total: u32,
     /// Whether more may come.
-    pub source: Source,
+    pub source: InputState,
 }
 
 impl Reading {
@@ -41,7 +41,7 @@ impl Reading {
             filled: 0,
             line: Vec::new(alloc),
             total: 0,
-            source: Source::Open,
+            source: InputState::Open,
         }
     }
 
@@ -54,7 +54,7 @@ impl Reading {
         ensures begun { HasRead J.Files (J.holds jobs.old name.now) (J.faults jobs.old) jobs.new self.new [] }
     {
         if jobs.open(name).is_err() {
-            self.source = Source::Failed;
+            self.source = InputState::Failed;
         }
     }
 
@@ -106,7 +106,7 @@ impl Reading {
         ensures done { IsTrue result → IsDone self.now }
         ensures more { result ≡ false → HasMore self.now }
     {
-        self.next == self.filled && self.source != Source::Open
+        self.next == self.filled && self.source != InputState::Open
     }
 
     /// Cuts the next line off the piece, or reads the next piece.
@@ -164,7 +164,7 @@ impl Reading {
         requires is_reading { IsReading self.old }
         requires given { J.given jobs.old ≡ self.old.total }
         requires all_cut { self.old.next ≡ self.old.filled }
-        requires is_open { self.old.source ≡ Source.Open }
+        requires is_open { self.old.source ≡ InputState.Open }
         ensures is_reading { IsReading self.new }
         ensures given { J.given jobs.new ≡ self.new.total }
         ensures reads { ReadsOn J.Files jobs.old jobs.new self.old self.new (waiting_lines waiting.old.items) (waiting_lines waiting.new.items) }
@@ -179,7 +179,7 @@ impl Reading {
                 Ok(())
             }
             Err(_) => {
-                self.source = Source::Failed;
+                self.source = InputState::Failed;
                 Ok(())
             }
         }
@@ -189,7 +189,7 @@ impl Reading {
     fn make_room(&mut self) -> Result<(), Memory>
         requires is_reading { IsReading self.old }
         requires all_cut { self.old.next ≡ self.old.filled }
-        requires is_open { self.old.source ≡ Source.Open }
+        requires is_open { self.old.source ≡ InputState.Open }
         ensures is_reading { IsReading self.new }
         ensures all_cut { self.new.next ≡ self.new.filled }
         ensures line { self.new.line ≡ self.old.line }
@@ -208,7 +208,7 @@ impl Reading {
     /// Takes what was read at the front of the piece. One byte past the limit is left out, and ends the reading.
     fn take(&mut self, count: usize)
         requires is_reading { IsReading self.old }
-        requires is_open { self.old.source ≡ Source.Open }
+        requires is_open { self.old.source ≡ InputState.Open }
         requires some { 0 < count }
         requires within { count ≤ vec_len self.old.piece }
         requires limited { self.old.total + count ≤ jobs_limit + 1 }
@@ -222,7 +222,7 @@ impl Reading {
         self.next = 0;
         if self.total > JOBS_LIMIT {
             self.filled = count - 1;
-            self.source = Source::TooLong;
+            self.source = InputState::TooLong;
         } else {
             self.filled = count;
         }
@@ -232,12 +232,12 @@ impl Reading {
     fn end(&mut self, alloc: Global, waiting: &mut Vec<Vec<u8>>) -> Result<(), Memory>
         requires is_reading { IsReading self.old }
         requires all_cut { self.old.next ≡ self.old.filled }
-        requires is_open { self.old.source ≡ Source.Open }
+        requires is_open { self.old.source ≡ InputState.Open }
         ensures is_reading { IsReading self.new }
         ensures total { self.new.total ≡ self.old.total }
         ensures waits { OnOk result (waiting_lines waiting.new.items ≡ waiting_lines waiting.old.items ++ last_line self.old.line.items) }
         ensures none_left { OnOk result (uncut self.new ≡ []) }
-        ensures ended { OnOk result (self.new.source ≡ Source.AtEnd) }
+        ensures ended { OnOk result (self.new.source ≡ InputState.AtEnd) }
         ensures left { OnErr result (uncut self.new ≡ uncut self.old) }
         ensures waiting { OnErr result (waiting.new.items ≡ waiting.old.items) }
         ensures source { OnErr result (self.new.source ≡ self.old.source) }
@@ -247,7 +247,7 @@ impl Reading {
         if !self.line.is_empty() {
             end_line(alloc, &[], &mut self.line, waiting)?;
         }
-        self.source = Source::AtEnd;
+        self.source = InputState::AtEnd;
         Ok(())
     }
 }

@@ -30,7 +30,7 @@ struct Name<'a> {
 
 /// What the words before one asked for, and what was said of the files among them.
 #[derive(Clone, Copy)]
-struct State {
+struct WordsSoFar {
     way: Way,
     manner: Manner,
     /// Whether a file was named.
@@ -90,7 +90,7 @@ fn complete<R: Files>(
 }
 
 /// Judges a file, or completes it.
-fn answer_name(rt: &HostRuntime, state: State, name: Name<'_>) -> io::Result<Judged> {
+fn answer_name(rt: &HostRuntime, state: WordsSoFar, name: Name<'_>) -> io::Result<Judged> {
     let mut out = rt.stdout();
     match state.way {
         Way::Judge => judge(rt, &mut out, rt.alloc(), name, state.manner),
@@ -114,7 +114,7 @@ fn refuse_name(rt: &HostRuntime, way: Way, word: &[u8]) -> io::Result<Judged> {
 }
 
 /// Judges a file by the word that names it, or completes it.
-fn answer_file(rt: &HostRuntime, state: State, word: &[u8]) -> io::Result<Judged> {
+fn answer_file(rt: &HostRuntime, state: WordsSoFar, word: &[u8]) -> io::Result<Judged> {
     match str::from_utf8(word) {
         Ok(name) => answer_name(
             rt,
@@ -129,7 +129,7 @@ fn answer_file(rt: &HostRuntime, state: State, word: &[u8]) -> io::Result<Judged
 }
 
 /// What a word asks for that stands before the files.
-fn option_in(state: State, word: &[u8]) -> Option<Request> {
+fn option_in(state: WordsSoFar, word: &[u8]) -> Option<Request> {
     if state.has_file {
         return None;
     }
@@ -140,7 +140,7 @@ fn option_in(state: State, word: &[u8]) -> Option<Request> {
 }
 
 /// Does what an option asks for.
-fn take_option(rt: &HostRuntime, state: &mut State, option: Request) -> io::Result<Next> {
+fn take_option(rt: &HostRuntime, state: &mut WordsSoFar, option: Request) -> io::Result<Next> {
     match option {
         Request::Complete => {
             state.way = Way::Complete;
@@ -170,7 +170,7 @@ fn take_option(rt: &HostRuntime, state: &mut State, option: Request) -> io::Resu
 }
 
 /// Does what a word asks for.
-fn take_word(rt: &HostRuntime, state: &mut State, word: &[u8]) -> io::Result<Next> {
+fn take_word(rt: &HostRuntime, state: &mut WordsSoFar, word: &[u8]) -> io::Result<Next> {
     if let Some(option) = option_in(*state, word) {
         return take_option(rt, state, option);
     }
@@ -180,7 +180,7 @@ fn take_word(rt: &HostRuntime, state: &mut State, word: &[u8]) -> io::Result<Nex
 }
 
 /// Tells how the program is used, where no file was named.
-fn end(rt: &HostRuntime, state: State) -> io::Result<Judged> {
+fn end(rt: &HostRuntime, state: WordsSoFar) -> io::Result<Judged> {
     if !state.has_file {
         tell_help(&mut rt.stdout())?;
     }
@@ -189,7 +189,7 @@ fn end(rt: &HostRuntime, state: State) -> io::Result<Judged> {
 
 /// Judges each file that the words name, or completes each, and goes on behind one that is refused or can't be judged.
 pub(crate) fn answer_all(rt: &HostRuntime) -> io::Result<Judged> {
-    let mut state = State {
+    let mut state = WordsSoFar {
         way: Way::Judge,
         manner: Manner {
             extent: Extent::Some,

@@ -7,7 +7,7 @@ use crate::judged::Judged;
 use crate::listing::{listed, token_of};
 use crate::loading::NoText;
 use crate::manner::{Extent, Manner};
-use crate::stop::Stop;
+use crate::syntax_error::SyntaxError;
 use crate::telling::{Named, show, tell_more, tell_no_memory, tell_place};
 use crate::warning::tell_accepted;
 use front_end::{TEXT_LIMIT, TextError, read_program};
@@ -55,7 +55,7 @@ fn nowhere(line: u32) -> Spot {
 fn tell_stop(out: &mut impl io::Write, alloc: Global, named: Named<'_>) -> io::Result<Judged>
     requires { length named.text.now ≤ text_limit }
 {
-    match Stop::find(alloc, named.text) {
+    match SyntaxError::find(alloc, named.text) {
         Ok(stop) => {
             tell_place(out, named, stop.spot(), NO_PROGRAM)?;
             stop.write(out)?;

@@ -18,7 +18,7 @@ mod loading;
 mod manner;
 mod open_part;
 mod options;
-mod stop;
+mod syntax_error;
 mod telling;
 mod warning;
 mod words;

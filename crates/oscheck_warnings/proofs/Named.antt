@@ -8,11 +8,11 @@ use Rattle.os_lexer.specs.declared.token.Token.{Token}
 use Rattle.oscheck_warnings.specs.Open.{open_in}
 use Rattle.oscheck_warnings.specs.Streams.{part_at, part_past, BeginsItem, IsInClauses, AreInClauses}
 use Rattle.oscheck_warnings.specs.Warnings.{kind_at}
-use Rattle.oscheck_warnings.specs.declared.part.Part.{Part}
-use Rattle.oscheck_warnings.specs.declared.part.Part.TheVariants as part
+use Rattle.oscheck_warnings.specs.declared.clause_place.ClausePlace.{ClausePlace}
+use Rattle.oscheck_warnings.specs.declared.clause_place.ClausePlace.TheVariants as part
 
 -- the names of the items that begin at the first places are marked, and the part behind these places is known
-pub record AreMarked (tokens : List Token) (word : ℕ) (marks : List Bool) (here : Part) (count : ℕ) : Type 0 where
+pub record AreMarked (tokens : List Token) (word : ℕ) (marks : List Bool) (here : ClausePlace) (count : ℕ) : Type 0 where
   pub counted : length marks ≡ 12 + length tokens
   pub sound : (name : ℕ) → get_or marks name false ≡ true → IsInClauses tokens word name
   pub complete : (name place : ℕ) → name < 12 + length tokens → place < count → BeginsItem tokens word place name → get_or marks name false ≡ true
@@ -35,14 +35,14 @@ named-none tokens word marks is = record {
 }
 
 -- the part behind the next token
-stands_next : (tokens : List Token) (here behind : Part) (count : ℕ) → here ≡ part_at tokens count → behind ≡ part_past here (kind_at tokens count) →
+stands_next : (tokens : List Token) (here behind : ClausePlace) (count : ℕ) → here ≡ part_at tokens count → behind ≡ part_past here (kind_at tokens count) →
     behind ≡ part_at tokens (count + 1)
 stands_next tokens here behind count h next =
     let step : count + 1 ≡ suc count = omega arith in
-    next ∙ ap (λ (p : Part). part_past p (kind_at tokens count)) h ∙ sym (ap (part_at tokens) step)
+    next ∙ ap (λ (p : ClausePlace). part_past p (kind_at tokens count)) h ∙ sym (ap (part_at tokens) step)
 
 -- an item begins, with a name
-pub named-set : (tokens : List Token) (word : ℕ) (marks : List Bool) (here behind : Part) (count name : ℕ) → AreMarked tokens word marks here count →
+pub named-set : (tokens : List Token) (word : ℕ) (marks : List Bool) (here behind : ClausePlace) (count name : ℕ) → AreMarked tokens word marks here count →
     here ≡ part.Start word → kind_at tokens count ≡ Some (kind.Name name) → name < length marks →
     behind ≡ part_past here (kind_at tokens count) → open_in behind ≤ open_in here + 1 → AreMarked tokens word (set marks name true) behind (count + 1)
 named-set tokens word marks here behind count first h start is low next few = record {
@@ -71,7 +71,7 @@ named-set tokens word marks here behind count first h start is low next few = re
         get_or-set_other marks first name true false p ∙ h.complete name place l (omega (arith, before, o)) e
 
 -- a name that is behind the marks
-pub named-past : (tokens : List Token) (word : ℕ) (marks : List Bool) (here behind : Part) (count name : ℕ) → AreMarked tokens word marks here count →
+pub named-past : (tokens : List Token) (word : ℕ) (marks : List Bool) (here behind : ClausePlace) (count name : ℕ) → AreMarked tokens word marks here count →
     kind_at tokens count ≡ Some (kind.Name name) → (name < length marks → ⊥) →
     behind ≡ part_past here (kind_at tokens count) → open_in behind ≤ open_in here + 1 → AreMarked tokens word marks behind (count + 1)
 named-past tokens word marks here behind count first h is high next few = record {
@@ -92,7 +92,7 @@ named-past tokens word marks here behind count first h is high next few = record
     complete_of name place l before e (inr o) = h.complete name place l (omega (arith, before, o)) e
 
 -- no item begins
-pub named-same : (tokens : List Token) (word : ℕ) (marks : List Bool) (here behind : Part) (count : ℕ) → AreMarked tokens word marks here count →
+pub named-same : (tokens : List Token) (word : ℕ) (marks : List Bool) (here behind : ClausePlace) (count : ℕ) → AreMarked tokens word marks here count →
     ((name : ℕ) → here ≡ part.Start word → kind_at tokens count ≡ Some (kind.Name name) → ⊥) →
     behind ≡ part_past here (kind_at tokens count) → open_in behind ≤ open_in here + 1 → AreMarked tokens word marks behind (count + 1)
 named-same tokens word marks here behind count h none next few = record {
@@ -116,7 +116,7 @@ kind_within (t ∷ ts) zero k is = omega arith
 kind_within (t ∷ ts) (suc place) k is = let rest = kind_within ts place k is in omega (arith, rest)
 
 -- all tokens were gone over
-pub named-all : (tokens : List Token) (word : ℕ) (marks : List Bool) (here : Part) (count : ℕ) → AreMarked tokens word marks here count → length tokens ≤ count →
+pub named-all : (tokens : List Token) (word : ℕ) (marks : List Bool) (here : ClausePlace) (count : ℕ) → AreMarked tokens word marks here count → length tokens ≤ count →
     AreInClauses tokens word marks
 named-all tokens word marks here count h all = record {
   counted = h.counted;

@@ -8,17 +8,17 @@ use Rattle.os_lexer.specs.declared.token.Punct.{Punct}
 use Rattle.os_lexer.specs.declared.token.Punct.TheVariants as puncts
 use Rattle.os_lexer.specs.declared.token.Token.{Token}
 use Rattle.oscheck_warnings.specs.Warnings.{kind_at}
-use Rattle.oscheck_warnings.specs.declared.part.Part.{Part}
-use Rattle.oscheck_warnings.specs.declared.part.Part.TheVariants as part
+use Rattle.oscheck_warnings.specs.declared.clause_place.ClausePlace.{ClausePlace}
+use Rattle.oscheck_warnings.specs.declared.clause_place.ClausePlace.TheVariants as part
 
 -- A name is kept, and a bracket opens the items of the clause with the last name as its word.
-abbrev pub past_in_line : ℕ → Kind → Part
+abbrev pub past_in_line : ℕ → Kind → ClausePlace
 past_in_line word (kind.Name name) = part.Line name
 past_in_line word (kind.Punct puncts.OpenParen) = part.Start word
 past_in_line word _ = part.Line word
 
 -- In an item, a comma outside its brackets begins the next one, and a bracket that it didn't open closes the clause.
-abbrev pub past_mark : ℕ → ℕ → Punct → Part
+abbrev pub past_mark : ℕ → ℕ → Punct → ClausePlace
 past_mark word deep puncts.OpenParen = part.Within word (suc deep)
 past_mark word deep puncts.OpenBracket = part.Within word (suc deep)
 past_mark word zero puncts.CloseParen = part.Line word
@@ -28,25 +28,25 @@ past_mark word (suc deep) puncts.CloseBracket = part.Within word deep
 past_mark word zero puncts.Comma = part.Start word
 past_mark word deep _ = part.Within word deep
 
-abbrev pub past_in_item : ℕ → ℕ → Kind → Part
+abbrev pub past_in_item : ℕ → ℕ → Kind → ClausePlace
 past_in_item word deep (kind.Punct p) = past_mark word deep p
 past_in_item word deep _ = part.Within word deep
 
-abbrev pub past_in_part : Part → Kind → Part
+abbrev pub past_in_part : ClausePlace → Kind → ClausePlace
 past_in_part part.Outside k = part.Outside
 past_in_part (part.Line word) k = past_in_line word k
 past_in_part (part.Start word) k = past_in_item word 0 k
 past_in_part (part.Within word deep) k = past_in_item word deep k
 
 -- the part behind a token: a pragma's line goes from its start to its end
-abbrev pub part_past : Part → Option Kind → Part
+abbrev pub part_past : ClausePlace → Option Kind → ClausePlace
 part_past before (Some kind.PragmaStart) = part.Line omp_id
 part_past before (Some kind.PragmaEnd) = part.Outside
 part_past before (Some k) = past_in_part before k
 part_past before None = before
 
 -- the part in which the token at a place stands
-abbrev pub part_at : List Token → ℕ → Part
+abbrev pub part_at : List Token → ℕ → ClausePlace
 part_at tokens zero = part.Outside
 part_at tokens (suc place) = part_past (part_at tokens place) (kind_at tokens place)
 

@@ -12,6 +12,7 @@
 mod access;
 mod bare;
 mod bursts;
+mod clause_place;
 mod constants;
 mod expressions;
 mod extent;
@@ -20,7 +21,6 @@ mod kinds;
 mod last_reads;
 mod lone;
 mod meanings;
-mod part;
 mod past;
 mod places;
 mod statements;
@@ -29,8 +29,8 @@ mod streams;
 
 pub use bare::is_bare_task;
 pub use bursts::wrong_bursts;
+pub use clause_place::ClausePlace;
 pub use lone::{is_lone_name, repeated_names};
-pub use part::Part;
 pub use places::Places;
 pub use stores::dead_stores;
 pub use streams::{is_left_out, names_in_clauses};

@@ -5,72 +5,72 @@ ghost use Rattle.os_lexer.specs.Limits.{text_limit};
 ghost use Rattle.oscheck_warnings.specs.Open.{open_in};
 ghost use Rattle.oscheck_warnings.specs.Streams.{past_in_line, past_mark, past_in_item, past_in_part, part_past};
 
-use crate::part::Part;
+use crate::clause_place::ClausePlace;
 use os_lexer::names::OMP;
 use os_lexer::{Kind, Punct};
 
 /// Behind a token in a pragma's line, outside brackets.
-fn past_in_line(word: u32, kind: Kind) -> Part
+fn past_in_line(word: u32, kind: Kind) -> ClausePlace
     ensures exact { result ≡ past_in_line word kind }
     ensures few { open_in result ≤ 0 }
 {
     match kind {
-        Kind::Name(name) => Part::Line(name),
-        Kind::Punct(Punct::OpenParen) => Part::Start(word),
-        _ => Part::Line(word),
+        Kind::Name(name) => ClausePlace::Line(name),
+        Kind::Punct(Punct::OpenParen) => ClausePlace::Start(word),
+        _ => ClausePlace::Line(word),
     }
 }
 
 /// Behind a mark in an item.
-fn past_mark(word: u32, deep: usize, mark: Punct) -> Part
+fn past_mark(word: u32, deep: usize, mark: Punct) -> ClausePlace
     requires { deep ≤ text_limit }
     ensures exact { result ≡ past_mark word deep mark }
     ensures few { open_in result ≤ deep + 1 }
 {
     match mark {
-        Punct::OpenParen | Punct::OpenBracket => Part::Within(word, deep + 1),
-        Punct::CloseParen | Punct::CloseBracket if deep == 0 => Part::Line(word),
-        Punct::CloseParen | Punct::CloseBracket => Part::Within(word, deep - 1),
-        Punct::Comma if deep == 0 => Part::Start(word),
-        _ => Part::Within(word, deep),
+        Punct::OpenParen | Punct::OpenBracket => ClausePlace::Within(word, deep + 1),
+        Punct::CloseParen | Punct::CloseBracket if deep == 0 => ClausePlace::Line(word),
+        Punct::CloseParen | Punct::CloseBracket => ClausePlace::Within(word, deep - 1),
+        Punct::Comma if deep == 0 => ClausePlace::Start(word),
+        _ => ClausePlace::Within(word, deep),
     }
 }
 
 /// Behind a token in an item.
-fn past_in_item(word: u32, deep: usize, kind: Kind) -> Part
+fn past_in_item(word: u32, deep: usize, kind: Kind) -> ClausePlace
     requires { deep ≤ text_limit }
     ensures exact { result ≡ past_in_item word deep kind }
     ensures few { open_in result ≤ deep + 1 }
 {
     match kind {
         Kind::Punct(mark) => past_mark(word, deep, mark),
-        _ => Part::Within(word, deep),
+        _ => ClausePlace::Within(word, deep),
     }
 }
 
 /// Behind a token that neither begins nor ends a pragma's line.
-fn past_in_part(part: Part, kind: Kind) -> Part
+fn past_in_part(part: ClausePlace, kind: Kind) -> ClausePlace
     requires { open_in part ≤ text_limit }
     ensures exact { result ≡ past_in_part part kind }
     ensures few { open_in result ≤ open_in part + 1 }
 {
     match part {
-        Part::Outside => Part::Outside,
-        Part::Line(word) => past_in_line(word, kind),
-        Part::Start(word) => past_in_item(word, 0, kind),
-        Part::Within(word, deep) => past_in_item(word, deep, kind),
+        ClausePlace::Outside => ClausePlace::Outside,
+        ClausePlace::Line(word) => past_in_line(word, kind),
+        ClausePlace::Start(word) => past_in_item(word, 0, kind),
+        ClausePlace::Within(word, deep) => past_in_item(word, deep, kind),
     }
 }
 
 /// Behind a token, where there is one.
-pub(crate) fn part_past(part: Part, kind: Option<Kind>) -> Part
+pub(crate) fn part_past(part: ClausePlace, kind: Option<Kind>) -> ClausePlace
     requires { open_in part ≤ text_limit }
     ensures exact { result ≡ part_past part kind }
     ensures few { open_in result ≤ open_in part + 1 }
 {
     match kind {
-        Some(Kind::PragmaStart) => Part::Line(OMP),
-        Some(Kind::PragmaEnd) => Part::Outside,
+        Some(Kind::PragmaStart) => ClausePlace::Line(OMP),
+        Some(Kind::PragmaEnd) => ClausePlace::Outside,
         Some(kind) => past_in_part(part, kind),
         None => part,
     }

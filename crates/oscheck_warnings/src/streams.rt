@@ -6,11 +6,11 @@ ghost use Rattle.os_lexer.specs.declared.token.Kind.TheVariants as kinds;
 ghost use Rattle.oscheck_warnings.specs.Streams.{part_past, AreInClauses, HasAttribute, IsLeftOut};
 ghost use Rattle.oscheck_warnings.specs.Open.{open_in};
 ghost use Rattle.oscheck_warnings.specs.Warnings.{kind_at};
-ghost use Rattle.oscheck_warnings.specs.declared.part.Part.TheVariants as parts;
+ghost use Rattle.oscheck_warnings.specs.declared.clause_place.ClausePlace.TheVariants as parts;
 
 use crate::bare::stands;
+use crate::clause_place::ClausePlace;
 use crate::kinds::kind_at;
-use crate::part::Part;
 use crate::past::part_past;
 use os_io::Memory;
 use os_lexer::{Key, Kind, Punct, Token};
@@ -20,19 +20,19 @@ use std::alloc::Global;
 const FIXED: usize = 12;
 
 /// The name with which an item of a clause with a word begins at a place, where it begins there. The part there is handed in.
-fn begun(tokens: &[Token], word: u32, part: Part, place: usize) -> Option<u32>
+fn begun(tokens: &[Token], word: u32, part: ClausePlace, place: usize) -> Option<u32>
     requires { place < length tokens.now }
     ensures some { IfSome result (λ name. (part ≡ parts.Start word) × (kind_at tokens.now place ≡ Some (kinds.Name name))) }
     ensures none { IfNone result ((name : ℕ) → part ≡ parts.Start word → kind_at tokens.now place ≢ Some (kinds.Name name)) }
 {
     match tokens[place].kind {
-        Kind::Name(name) if part == Part::Start(word) => Some(name),
+        Kind::Name(name) if part == ClausePlace::Start(word) => Some(name),
         _ => None,
     }
 }
 
 /// The part behind the token at a place.
-fn part_behind(tokens: &[Token], part: Part, place: usize) -> Part
+fn part_behind(tokens: &[Token], part: ClausePlace, place: usize) -> ClausePlace
     requires { open_in part ≤ text_limit }
     ensures exact { result ≡ part_past part (kind_at tokens.now place) }
     ensures few { open_in result ≤ open_in part + 1 }
@@ -48,7 +48,7 @@ pub fn names_in_clauses(alloc: Global, tokens: &[Token], word: u32) -> Result<Ve
     ensures { IfOk result (λ marks. AreInClauses tokens.now word marks.items) }
 {
     let mut marks = vec![in alloc; false; FIXED + tokens.len()]?;
-    let mut part = Part::Outside;
+    let mut part = ClausePlace::Outside;
     for place in 0..tokens.len() {
         if let Some(name) = begun(tokens, word, part, place) {
             let name = name as usize;

@@ -24,7 +24,7 @@ use Rattle.osrun_core.specs.Traces.{AreListsOfJob, IsLineOfReplay, IsRunByTrace,
 use Rattle.osrun_core_answer.specs.Answers.{AnswersRequest, HasCause, IsCut, IsGiven, IsMade, IsNotReplayed, IsRefused, IsUnasked, IsUnmade, asked_files}
 use Rattle.osrun_core_answer.proofs.Findings.{small_status}
 use Rattle.osrun_core_answer.specs.Gen.{IsRunOfGen, gen_lines}
-use Rattle.osrun_core_answer.specs.Outcome.{GivesReplay, GivesRun, IsOutcome, IsOutcomeOfCompile, IsOutcomeOfExec, IsOutcomeOfExplain, IsOutcomeOfGen, IsOutcomeOfReplay, IsOutcomeOfRun, IsOutcomeOfTrace, Outcome, replay_budgets}
+use Rattle.osrun_core_answer.specs.JobOutcome.{GivesReplay, GivesRun, IsOutcome, IsOutcomeOfCompile, IsOutcomeOfExec, IsOutcomeOfExplain, IsOutcomeOfGen, IsOutcomeOfReplay, IsOutcomeOfRun, IsOutcomeOfTrace, JobOutcome, replay_budgets}
 use Rattle.osrun_core_jobs.specs.Files.{AreBytesOf, JobFile, files_of, limit_of}
 use Rattle.osrun_core_jobs.specs.Jobs.{Compile, CompileJob, Exec, ExecJob, Explain, ExplainJob, Gen, GenJob, IsRequestWithin, Job, Replay, ReplayJob, Request, Run as RunRequest, Trace, TraceJob, compile_in, exec_in, explain_in, gen_in, replay_in, run_in, trace_in}
 use Rattle.osrun_core_jobs.specs.Reading.{EndedAt, IsCauseOf, IsFailed, IsReadable, IsRejected, ReadsInOrder, WereRead}
@@ -138,7 +138,7 @@ status_small : (ends : List (Option TaskEnd)) (control : ControlEnd) (n : ℕ) �
 status_small ends control n is = choice_small _ n is
 
 -- only a replay is meant to give the status 8
-of_replay : (contents : List (List ℕ)) (request : Request) (outcome : Outcome) → IsOutcome contents request outcome → outcome.own ≡ 8 → IsSome (replay_in request)
+of_replay : (contents : List (List ℕ)) (request : Request) (outcome : JobOutcome) → IsOutcome contents request outcome → outcome.own ≡ 8 → IsSome (replay_in request)
 of_replay contents (RunRequest job) outcome o own = absurd (let small = status_small o.run.ends.ends o.run.control.end outcome.own o.status_is in omega (arith, own, small))
 of_replay contents (Gen job) outcome o own = absurd (let is = o.status_is in omega (arith, own, is))
 of_replay contents (Compile job) outcome o own = absurd (let is = o.status_is in omega (arith, own, is))
@@ -148,7 +148,7 @@ of_replay contents (Trace job) outcome o own = absurd (let small = status_small 
 of_replay contents (Replay job) outcome o own = refl
 
 -- the run that lists give that are whole
-record RunOfLists (program : ProgramTree) (made : Control) (input : List ℕ) (task_budget : ℕ) (answer : Replayed) (outcome : Outcome) : Type 0 where
+record RunOfLists (program : ProgramTree) (made : Control) (input : List ℕ) (task_budget : ℕ) (answer : Replayed) (outcome : JobOutcome) : Type 0 where
   ends : Ends
   is_whole : answer ≡ replayed.Whole ends
   ends_are : ends ≡ ends_over program made.activations input task_budget
@@ -156,7 +156,7 @@ record RunOfLists (program : ProgramTree) (made : Control) (input : List ℕ) (t
 
 module _ (program : ProgramTree) (made : Control) (input : List ℕ) (task_budget : ℕ) (plan : Plan) where
   -- below 2 the lists are whole
-  run_of_lists : (answer : Replayed) (outcome : Outcome) → GivesReplay program made input task_budget plan answer outcome → outcome.own < 2
+  run_of_lists : (answer : Replayed) (outcome : JobOutcome) → GivesReplay program made input task_budget plan answer outcome → outcome.own < 2
       → RunOfLists program made input task_budget answer outcome
   run_of_lists (replayed.Whole ends) outcome gives small = record { ends = ends; is_whole = refl; ends_are = gives.0; gives = gives.1 }
   run_of_lists (replayed.Short frame) outcome gives small = absurd (let is = gives.status_is in omega (arith, is, small))
@@ -165,7 +165,7 @@ module _ (program : ProgramTree) (made : Control) (input : List ℕ) (task_budge
   run_of_lists (replayed.Stranger list place) outcome gives small = absurd (let is = gives.status_is in omega (arith, is, small))
 
   -- at 8 there is the line of an answer
-  line_of_lists : (answer : Replayed) (outcome : Outcome) → GivesReplay program made input task_budget plan answer outcome → outcome.own ≡ 8
+  line_of_lists : (answer : Replayed) (outcome : JobOutcome) → GivesReplay program made input task_budget plan answer outcome → outcome.own ≡ 8
       → IsReplayLine plan made.activations answer outcome.told
   line_of_lists (replayed.Whole ends) outcome gives own =
       absurd (let small = status_small ends.ends made.end outcome.own gives.1.status_is in omega (arith, own, small))
@@ -262,7 +262,7 @@ module _ {F : Type 0} (view : FilesView F) where
 
   module _ (job : Job) (old new : F) where
     -- both files of a run that were read, by what they have given
-    the_run : (contents : List (List ℕ)) (outcome : Outcome) → IsOutcomeOfRun contents job outcome → WereRead IsUsable view old new (files_of (RunRequest job)) contents
+    the_run : (contents : List (List ℕ)) (outcome : JobOutcome) → IsOutcomeOfRun contents job outcome → WereRead IsUsable view old new (files_of (RunRequest job)) contents
         → (run : ProgramRun) × IsRunOfJob (view.holds old) job run × (view.given new ≡ length run.input) × (outcome.output ≡ written run.ends.output)
         × (outcome.told ≡ report_of run.control.activations (length run.input) run.ends run.control.end) × (outcome.own ≡ status_of run.ends.ends run.control.end)
         × (view.opens new ≡ raised (view.opens old) 2) × (length run.input ≤ 4194304)
@@ -306,7 +306,7 @@ module _ {F : Type 0} (view : FilesView F) where
         read_first k ended.0 old ended.2.before (files_of (RunRequest job)) ended.2.contents (omega (arith, opened, more)) ended.2.earlier
 
   -- the object that was read with its input, by what they have given
-  the_exec : (job : ExecJob) (old new : F) (contents : List (List ℕ)) (outcome : Outcome) → IsOutcomeOfExec contents job outcome
+  the_exec : (job : ExecJob) (old new : F) (contents : List (List ℕ)) (outcome : JobOutcome) → IsOutcomeOfExec contents job outcome
       → WereRead IsUsable view old new (files_of (Exec job)) contents
       → (run : ProgramRun) × IsRunOfObject (view.holds old) job run × (view.given new ≡ length run.input) × (outcome.output ≡ written run.ends.output)
       × (outcome.told ≡ report_of run.control.activations (length run.input) run.ends run.control.end) × (outcome.own ≡ status_of run.ends.ends run.control.end)
@@ -325,7 +325,7 @@ module _ {F : Type 0} (view : FilesView F) where
       )
 
   -- the line of a run whose files were read, by what they have given
-  the_line : (job : ExplainJob) (old new : F) (contents : List (List ℕ)) (outcome : Outcome) → IsOutcomeOfExplain contents job outcome
+  the_line : (job : ExplainJob) (old new : F) (contents : List (List ℕ)) (outcome : JobOutcome) → IsOutcomeOfExplain contents job outcome
       → WereRead IsUsable view old new (files_of (Explain job)) contents
       → IsLineOfJob (view.holds old) job (view.given new) outcome.output outcome.own
   the_line job old new contents outcome o read =
@@ -342,7 +342,7 @@ module _ {F : Type 0} (view : FilesView F) where
       }
 
   -- the run that was traced, by what its files have given
-  the_trace : (job : TraceJob) (old new : F) (contents : List (List ℕ)) (outcome : Outcome) (o : IsOutcomeOfTrace contents job outcome)
+  the_trace : (job : TraceJob) (old new : F) (contents : List (List ℕ)) (outcome : JobOutcome) (o : IsOutcomeOfTrace contents job outcome)
       → WereRead IsUsable view old new (files_of (Trace job)) contents
       → IsTraceOfJob (view.holds old) job (view.given new) o.run outcome.output
   the_trace job old new contents outcome o read =
@@ -366,7 +366,7 @@ module _ {F : Type 0} (view : FilesView F) where
     input_read : AreBytesOf (view.holds old job.input) subjects.Input input
     are_lists : AreListsOfJob (view.holds old) job (view.given new) lists
 
-  read_for_replay : (job : ReplayJob) (old new : F) (contents : List (List ℕ)) (outcome : Outcome) (o : IsOutcomeOfReplay contents job outcome)
+  read_for_replay : (job : ReplayJob) (old new : F) (contents : List (List ℕ)) (outcome : JobOutcome) (o : IsOutcomeOfReplay contents job outcome)
       → WereRead IsUsable view old new (files_of (Replay job)) contents → ReadForReplay job old new o.text o.input o.lists
   read_for_replay job old new contents outcome o read =
       let three = subst (WereRead IsUsable view old new (files_of (Replay job))) o.contents_are read in
@@ -386,7 +386,7 @@ module _ {F : Type 0} (view : FilesView F) where
       }
 
   -- the run by a trace, where its status is below 2
-  module _ (job : ReplayJob) (old new : F) (contents : List (List ℕ)) (outcome : Outcome) (o : IsOutcomeOfReplay contents job outcome)
+  module _ (job : ReplayJob) (old new : F) (contents : List (List ℕ)) (outcome : JobOutcome) (o : IsOutcomeOfReplay contents job outcome)
       (read : WereRead IsUsable view old new (files_of (Replay job)) contents) where
     the_replay : (small : outcome.own < 2) → (run : ProgramRun) × IsRunByTrace (view.holds old) job (view.given new) run × GivesRun run outcome
     the_replay small =
@@ -424,7 +424,7 @@ module _ {F : Type 0} (view : FilesView F) where
         }
 
   -- the program that was read, with the object of its code
-  the_object : (job : CompileJob) (old new : F) (contents : List (List ℕ)) (outcome : Outcome) → IsOutcomeOfCompile contents job outcome
+  the_object : (job : CompileJob) (old new : F) (contents : List (List ℕ)) (outcome : JobOutcome) → IsOutcomeOfCompile contents job outcome
       → WereRead IsUsable view old new (files_of (Compile job)) contents → IsObjectOfJob (view.holds old) job outcome.output
   the_object job old new contents outcome o read =
       let was = subst (WereRead IsUsable view old new (files_of (Compile job))) o.contents_are read in

@@ -4,7 +4,7 @@ use Rattle.flow_core_laws.specs.declared.control.Control.{Control}
 use Rattle.flow_core_laws.specs.declared.plan.Plan.{Plan}
 use Rattle.front_end.specs.Texts.{IsAccepted}
 use Rattle.os_ast.specs.Trees.{ProgramTree}
-use Rattle.osrun_core_answer.specs.Outcome.{replay_budgets}
+use Rattle.osrun_core_answer.specs.JobOutcome.{replay_budgets}
 use Rattle.osrun_core_jobs.specs.Files.{AreBytesOf}
 use Rattle.osrun_core_jobs.specs.Jobs.{Job, ReplayJob, TraceJob, traced_run}
 use Rattle.osrun_core_jobs.specs.declared.subject.Subject.TheVariants.{Input, Program, Trace}

@@ -13,7 +13,7 @@ use Rattle.os_ast.specs.Trees.{ProgramTree}
 use Rattle.os_io.specs.declared.files.Files.{Ghosts as FilesView}
 use Rattle.os_io.specs.declared.sink.Sink.{Ghosts as SinkView}
 use Rattle.osrun_core_answer.specs.Answers.{AnswersRequest, HasCause, IsGiven, IsMade, asked_files}
-use Rattle.osrun_core_answer.specs.Outcome.{GivesReplay, Outcome}
+use Rattle.osrun_core_answer.specs.JobOutcome.{GivesReplay, JobOutcome}
 use Rattle.osrun_core_answer.specs.Made.{AnswersGen, IsCompiledOf, IsExecOf, IsExplainedOf, IsMadeOf, IsReplayedOf, IsTracedOf, IsUnmadeOf, told_outcome}
 use Rattle.osrun_core_answer.specs.declared.make_explain.Explanation.{Explanation}
 use Rattle.osrun_core_answer.specs.declared.make_trace.TracedRun.{TracedRun}
@@ -437,7 +437,7 @@ module _ {F O E : Type 0} (of_files : FilesView F) (files_old files_new : F) (of
 module _ {F O E : Type 0} (of_files : FilesView F) (files_old files_new : F) (of_out : SinkView O) (out_old out_new : O)
     (of_report : SinkView E) (report_old report_new : E) (both : NeverUsableAndRefused) (job : ReplayJob) (within : IsReplayWithin job) where
   -- what is given of it
-  abbrev made_replay : (replay : Replay) (is : IsReplayedOf of_files files_old files_new job replay) (outcome : Outcome)
+  abbrev made_replay : (replay : Replay) (is : IsReplayedOf of_files files_old files_new job replay) (outcome : JobOutcome)
       → GivesReplay is.program is.comes_to.made is.input job.task_budget is.comes_to.plan is.comes_to.answer outcome
       → IsMade of_files files_old files_new (Some (ReplayRequest job))
   made_replay replay is outcome gives = record {
@@ -472,7 +472,7 @@ module _ {F O E : Type 0} (of_files : FilesView F) (files_old files_new : F) (of
     abbrev whole_told : List ℕ
     whole_told = report of_whole.made.activations run.layout.input_len run.ends run.control
 
-    abbrev whole_outcome : Outcome
+    abbrev whole_outcome : JobOutcome
     whole_outcome = record { output = run.output.items; told = whole_told; own = code_of own }
 
     -- the control program creates the same over the plan and in the run

@@ -24,7 +24,7 @@ use Rattle.osrun_core_answer.proofs.Findings.{same_finding}
 use Rattle.osrun_core_answer.specs.Explained.{finding_status}
 use Rattle.osrun_core_answer.specs.Gen.{four_lines, gen_budget, gen_lines}
 use Rattle.osrun_core_answer.specs.Laws.{IsTold, ObjectsRunAsTexts, SameButForWorkers, TracesReportAsRuns, TracesReportTheSame, WorkersChangeNothing}
-use Rattle.osrun_core_answer.specs.Outcome.{IsOutcome, IsOutcomeOfExec, IsOutcomeOfExplain, IsOutcomeOfGen, IsOutcomeOfRun, IsOutcomeOfTrace, Outcome}
+use Rattle.osrun_core_answer.specs.JobOutcome.{IsOutcome, IsOutcomeOfExec, IsOutcomeOfExplain, IsOutcomeOfGen, IsOutcomeOfRun, IsOutcomeOfTrace, JobOutcome}
 use Rattle.osrun_core_jobs.specs.Files.{JobFile, files_of}
 use Rattle.osrun_core_jobs.specs.Jobs.{Compile, Exec, ExecJob, Explain, ExplainJob, Gen, GenJob, Job, Replay, Request, Run as RunRequest, Trace, TraceJob, traced_run}
 use Rattle.osrun_core_jobs.specs.Reading.{WereRead}
@@ -62,17 +62,17 @@ is_exec_run code task_budget control_budget run control_is ends_are =
     ∙ ap (λ (c : Control). record { control = c; input = run.input; ends = code_ends code c.activations run.input task_budget }) control_is
 
 -- what is given of a run, and what is given of one of `gen`
-abbrev outcome_of : ProgramRun → Outcome
+abbrev outcome_of : ProgramRun → JobOutcome
 outcome_of run = record {
   output = written run.ends.output;
   told = report run.control.activations (length run.input) run.ends run.control.end;
   own = status run.ends.ends run.control.end;
 }
 
-abbrev gen_outcome : GenJob → ProgramRun → Outcome
+abbrev gen_outcome : GenJob → ProgramRun → JobOutcome
 gen_outcome job run = record { output = gen_lines job run; told = []; own = 0 }
 
-abbrev explain_outcome : ProgramRun → (activation : ℕ) → Finding → Outcome
+abbrev explain_outcome : ProgramRun → (activation : ℕ) → Finding → JobOutcome
 explain_outcome run activation finding = record {
   output = finding_line activation finding;
   told = [];
@@ -80,25 +80,25 @@ explain_outcome run activation finding = record {
 }
 
 -- outcomes with the same parts are the same
-same_outcome : (o q : Outcome) → o.output ≡ q.output → o.told ≡ q.told → o.own ≡ q.own → o ≡ q
+same_outcome : (o q : JobOutcome) → o.output ≡ q.output → o.told ≡ q.told → o.own ≡ q.own → o ≡ q
 same_outcome o q output told own =
     ap (λ x. record { output = x; told = o.told; own = o.own }) output
     ∙ ap (λ x. record { output = q.output; told = x; own = o.own }) told
     ∙ ap (λ x. record { output = q.output; told = q.told; own = x }) own
 
-is_outcome_of : (contents : List (List ℕ)) (job : Job) (outcome : Outcome) (o : IsOutcomeOfRun contents job outcome)
+is_outcome_of : (contents : List (List ℕ)) (job : Job) (outcome : JobOutcome) (o : IsOutcomeOfRun contents job outcome)
     → outcome ≡ outcome_of (run_of o.program o.run.input job.task_budget job.control_budget)
 is_outcome_of contents job outcome o =
     same_outcome outcome (outcome_of o.run) o.output_is o.report_is o.status_is
     ∙ ap outcome_of (is_run_of o.program job.task_budget job.control_budget o.run o.control_is o.ends_are)
 
-is_exec_outcome_of : (contents : List (List ℕ)) (job : ExecJob) (outcome : Outcome) (o : IsOutcomeOfExec contents job outcome)
+is_exec_outcome_of : (contents : List (List ℕ)) (job : ExecJob) (outcome : JobOutcome) (o : IsOutcomeOfExec contents job outcome)
     → outcome ≡ outcome_of (exec_run o.code o.run.input job.task_budget job.control_budget)
 is_exec_outcome_of contents job outcome o =
     same_outcome outcome (outcome_of o.run) o.output_is o.report_is o.status_is
     ∙ ap outcome_of (is_exec_run o.code job.task_budget job.control_budget o.run o.control_is o.ends_are)
 
-is_gen_outcome_of : (contents : List (List ℕ)) (job : GenJob) (outcome : Outcome) (o : IsOutcomeOfGen contents job outcome)
+is_gen_outcome_of : (contents : List (List ℕ)) (job : GenJob) (outcome : JobOutcome) (o : IsOutcomeOfGen contents job outcome)
     → outcome ≡ gen_outcome job (run_of o.is_run.program (generated job.seed (4 * job.blocks)) gen_budget gen_budget)
 is_gen_outcome_of contents job outcome o =
     same_outcome outcome (gen_outcome job o.run) o.output_is o.report_is o.status_is
@@ -106,7 +106,7 @@ is_gen_outcome_of contents job outcome o =
     ∙ ap (λ input. run_of o.is_run.program input gen_budget gen_budget) o.is_run.input_is)
 
 -- the run of which a trace is written, with what `run` gives of it
-untraced : (contents : List (List ℕ)) (trace : TraceJob) (traced : Outcome) (o : IsOutcomeOfTrace contents trace traced)
+untraced : (contents : List (List ℕ)) (trace : TraceJob) (traced : JobOutcome) (o : IsOutcomeOfTrace contents trace traced)
     → IsOutcomeOfRun contents (traced_run trace) (record { output = written o.run.ends.output; told = traced.told; own = traced.own })
 untraced contents trace traced o = record {
   text = o.text;
@@ -122,7 +122,7 @@ untraced contents trace traced o = record {
 }
 
 module _ (one : OneProgram) (reading : OneReading) (walks : OneWalk) where
-  of_runs : (contents : List (List ℕ)) (job other : Job) (outcome another : Outcome) → SameButForWorkers (RunRequest job) (RunRequest other)
+  of_runs : (contents : List (List ℕ)) (job other : Job) (outcome another : JobOutcome) → SameButForWorkers (RunRequest job) (RunRequest other)
       → IsOutcomeOfRun contents job outcome → IsOutcomeOfRun contents other another → outcome ≡ another
   of_runs contents job other outcome another same o q =
       let contents_same = sym o.contents_are ∙ q.contents_are in
@@ -136,7 +136,7 @@ module _ (one : OneProgram) (reading : OneReading) (walks : OneWalk) where
       ∙ ap (λ n. outcome_of (run_of q.program q.run.input other.task_budget n)) same.3
       ∙ sym (is_outcome_of contents other another q)
 
-  of_execs : (contents : List (List ℕ)) (job other : ExecJob) (outcome another : Outcome) → SameButForWorkers (Exec job) (Exec other)
+  of_execs : (contents : List (List ℕ)) (job other : ExecJob) (outcome another : JobOutcome) → SameButForWorkers (Exec job) (Exec other)
       → IsOutcomeOfExec contents job outcome → IsOutcomeOfExec contents other another → outcome ≡ another
   of_execs contents job other outcome another same o q =
       let contents_same = sym o.contents_are ∙ q.contents_are in
@@ -150,7 +150,7 @@ module _ (one : OneProgram) (reading : OneReading) (walks : OneWalk) where
       ∙ ap (λ n. outcome_of (exec_run q.code q.run.input other.task_budget n)) same.3
       ∙ sym (is_exec_outcome_of contents other another q)
 
-  of_explains : (contents : List (List ℕ)) (job other : ExplainJob) (outcome another : Outcome) → SameButForWorkers (Explain job) (Explain other)
+  of_explains : (contents : List (List ℕ)) (job other : ExplainJob) (outcome another : JobOutcome) → SameButForWorkers (Explain job) (Explain other)
       → IsOutcomeOfExplain contents job outcome → IsOutcomeOfExplain contents other another → outcome ≡ another
   of_explains contents job other outcome another same o q =
       let contents_same = sym o.contents_are ∙ q.contents_are in
@@ -173,7 +173,7 @@ module _ (one : OneProgram) (reading : OneReading) (walks : OneWalk) where
       (same_finding walks q.run.control.activations (length q.run.input) q.run.ends.ends other.activation o.explains.finding q.explains.finding found q.explains.is_finding)
       ∙ sym (same_outcome another (explain_outcome q.run other.activation q.explains.finding) q.explains.text_is q.report_is q.explains.own_is)
 
-  of_gens : (contents : List (List ℕ)) (job other : GenJob) (outcome another : Outcome) → SameButForWorkers (Gen job) (Gen other)
+  of_gens : (contents : List (List ℕ)) (job other : GenJob) (outcome another : JobOutcome) → SameButForWorkers (Gen job) (Gen other)
       → IsOutcomeOfGen contents job outcome → IsOutcomeOfGen contents other another → outcome ≡ another
   of_gens contents job other outcome another same o q =
       let programs : o.is_run.program ≡ q.is_run.program = one LIFT.now o.is_run.program q.is_run.program o.is_run.is_program q.is_run.is_program in
@@ -183,7 +183,7 @@ module _ (one : OneProgram) (reading : OneReading) (walks : OneWalk) where
       ∙ ap (λ b. gen_of q.is_run.program other.seed b) same.1
       ∙ sym (is_gen_outcome_of contents other another q)
     where
-      gen_of : ProgramTree → (seed blocks : ℕ) → Outcome
+      gen_of : ProgramTree → (seed blocks : ℕ) → JobOutcome
       gen_of p seed blocks =
           let run = run_of p (generated seed (4 * blocks)) gen_budget gen_budget in
           record { output = four_lines (record { seed = seed; blocks = blocks; workers = 1 }) run.input (written run.ends.output) (status run.ends.ends run.control.end); told = []; own = 0 }
@@ -241,7 +241,7 @@ module _ (one : OneProgram) (reading : OneReading) (walks : OneWalk) where
 
   pub report_as_runs : TracesReportAsRuns
   report_as_runs contents trace run traced of_run same o q =
-      let as_run : Outcome = record { output = written o.run.ends.output; told = traced.told; own = traced.own } in
+      let as_run : JobOutcome = record { output = written o.run.ends.output; told = traced.told; own = traced.own } in
       let e : as_run ≡ of_run = of_runs contents (traced_run trace) run as_run of_run same (untraced contents trace traced o) q in
       (ap (λ x. x.told) e, ap (λ x. x.own) e)
 

@@ -3,7 +3,7 @@ use Rattle.std.specs.Prelude.{◌≡◌, ◌<◌, ◌≤◌, ◌⊎◌, ℕ, Lis
 use Rattle.std.specs.Option.{option_map_or}
 use Rattle.os_io.specs.declared.files.Files.{Ghosts as FilesView}
 use Rattle.os_io.specs.declared.sink.Sink.{Ghosts as SinkView}
-use Rattle.osrun_core_answer.specs.Outcome.{IsOutcome, Outcome}
+use Rattle.osrun_core_answer.specs.JobOutcome.{IsOutcome, JobOutcome}
 use Rattle.osrun_core_jobs.specs.Files.{JobFile, files_of}
 use Rattle.osrun_core_jobs.specs.Jobs.{IsRequestWithin, Request}
 use Rattle.osrun_core_jobs.specs.Reading.{IsCauseOf, IsReadable, IsRejected, ReadsInOrder, WereRead}
@@ -27,7 +27,7 @@ pub record IsMade {F : Type 0} (of_files : FilesView F) (files_old files_new : F
   pub within : IsRequestWithin request
   pub contents : List (List ℕ)
   pub read : WereRead IsUsable of_files files_old files_new (files_of request) contents
-  pub outcome : Outcome
+  pub outcome : JobOutcome
   pub is_outcome : IsOutcome contents request outcome
 
 -- 0 and 1: that was given, the sinks took it whole, and its status is answered.

@@ -1,6 +1,6 @@
 -- That what is given doesn't depend on the number of workers, nor on whether a program is run or its object, as statements.
 use Rattle.std.specs.Prelude.{◌≡◌, ℕ, List, [], ◌∷◌, Option, Some}
-use Rattle.osrun_core_answer.specs.Outcome.{IsOutcome, IsOutcomeOfCompile, IsOutcomeOfExec, IsOutcomeOfRun, IsOutcomeOfTrace, Outcome}
+use Rattle.osrun_core_answer.specs.JobOutcome.{IsOutcome, IsOutcomeOfCompile, IsOutcomeOfExec, IsOutcomeOfRun, IsOutcomeOfTrace, JobOutcome}
 use Rattle.osrun_core_jobs.specs.Files.{JobFile}
 use Rattle.osrun_core_jobs.specs.Jobs.{CompileJob, Exec, ExecJob, Explain, Gen, Job, Request, Run, TraceJob, traced_run}
 
@@ -25,13 +25,13 @@ IsTold holds file = (bytes : List ℕ) × (holds file.name ≡ Some bytes)
 
 -- over the same bytes they are meant to give the same
 abbrev pub WorkersChangeNothing : Type 0
-WorkersChangeNothing = (contents : List (List ℕ)) (request other : Request) (outcome another : Outcome) → SameButForWorkers request other
+WorkersChangeNothing = (contents : List (List ℕ)) (request other : Request) (outcome another : JobOutcome) → SameButForWorkers request other
     → IsOutcome contents request outcome → IsOutcome contents other another → outcome ≡ another
 
 -- `trace` is meant to give the report and the status of `run` over the same bytes, whatever the numbers of workers. So two calls of
 -- `trace` that differ in that number alone are meant to give the same report and status, while their traces may differ.
 abbrev pub TracesReportAsRuns : Type 0
-TracesReportAsRuns = (contents : List (List ℕ)) (trace : TraceJob) (run : Job) (traced of_run : Outcome) → TracesTheRun trace run
+TracesReportAsRuns = (contents : List (List ℕ)) (trace : TraceJob) (run : Job) (traced of_run : JobOutcome) → TracesTheRun trace run
     → IsOutcomeOfTrace contents trace traced → IsOutcomeOfRun contents run of_run → (traced.told ≡ of_run.told) × (traced.own ≡ of_run.own)
 
 -- two traces of the same run, but for the number of workers
@@ -40,7 +40,7 @@ SameTracedRun trace other = TracesTheRun trace (traced_run other)
 
 -- over the same bytes they are meant to give the same report and status
 abbrev pub TracesReportTheSame : Type 0
-TracesReportTheSame = (contents : List (List ℕ)) (trace other : TraceJob) (traced another : Outcome) → SameTracedRun trace other
+TracesReportTheSame = (contents : List (List ℕ)) (trace other : TraceJob) (traced another : JobOutcome) → SameTracedRun trace other
     → IsOutcomeOfTrace contents trace traced → IsOutcomeOfTrace contents other another → (traced.told ≡ another.told) × (traced.own ≡ another.own)
 
 -- the run of a program and that of an object are asked for with the same budgets
@@ -50,7 +50,7 @@ SameBudgets run exec = (run.task_budget ≡ exec.task_budget) × (run.control_bu
 -- What `compile` gives of a text is an object of which `exec` gives what `run` gives of the text, over every input and with the
 -- same budgets, whatever the numbers of workers.
 abbrev pub ObjectsRunAsTexts : Type 0
-ObjectsRunAsTexts = (text input : List ℕ) (compile : CompileJob) (exec : ExecJob) (run : Job) (object of_object of_text : Outcome)
+ObjectsRunAsTexts = (text input : List ℕ) (compile : CompileJob) (exec : ExecJob) (run : Job) (object of_object of_text : JobOutcome)
     → SameBudgets run exec → IsOutcomeOfCompile (text ∷ []) compile object
     → IsOutcomeOfExec (object.output ∷ input ∷ []) exec of_object → IsOutcomeOfRun (text ∷ input ∷ []) run of_text
     → of_object ≡ of_text

@@ -6,7 +6,7 @@ use Rattle.os_ast.specs.Trees.{ProgramTree}
 use Rattle.os_ast.specs.Views.{program_tree}
 use Rattle.os_io.specs.declared.files.Files.{Ghosts as FilesView}
 use Rattle.os_io.specs.declared.sink.Sink.{Ghosts as SinkView}
-use Rattle.osrun_core_answer.specs.Outcome.{IsOutcome, IsOutcomeOfExplain, Outcome, replay_budgets}
+use Rattle.osrun_core_answer.specs.JobOutcome.{IsOutcome, IsOutcomeOfExplain, JobOutcome, replay_budgets}
 use Rattle.osrun_core_answer.specs.declared.make_explain.Explanation.{Explanation}
 use Rattle.osrun_core_answer.specs.declared.make_trace.TracedRun.{TracedRun}
 use Rattle.os_code.specs.Codes.{parts_of}
@@ -98,7 +98,7 @@ abbrev pub MakesExec : {F : Type 0} → FilesView F → F → F → ExecJob → 
 MakesExec view old new job result = MatchResult result (IsExecOf view old new job) (IsUnmadeOf view old new (files_of (Exec job)))
 
 -- what is meant to be given where this is told
-abbrev pub told_outcome : Explanation → Outcome
+abbrev pub told_outcome : Explanation → JobOutcome
 told_outcome explanation = record { output = string_bytes explanation.text; told = []; own = code_of explanation.status }
 
 -- the files were read, and what is told is what is meant to be given over them
@@ -144,6 +144,6 @@ MakesReplay view old new job result =
 -- the four lines were handed over, or memory was wanted and nothing was written
 abbrev pub AnswersGen : {O E : Type 0} → SinkView O → O → O → SinkView E → E → E → GenJob → Status → Type 0
 AnswersGen of_out out_old out_new of_report report_old report_new job answered =
-    ((outcome : Outcome) × IsOutcome [] (Gen job) outcome
+    ((outcome : JobOutcome) × IsOutcome [] (Gen job) outcome
     × HandsOver of_out out_old out_new outcome.output of_report report_old report_new outcome.told statuses.AllDone answered)
     ⊎ ((answered ≡ statuses.NoMemory) × (out_new ≡ out_old) × (report_new ≡ report_old))

@@ -10,7 +10,7 @@ use Rattle.cddf_meaning.specs.Functions.{file_of, in_function}
 use Rattle.cddf_meaning.specs.Moves.{Keeps, item_lengths}
 use Rattle.cddf_meaning.specs.Program.{Main, main_at, main_behind, main_of}
 use Rattle.cddf_meaning.specs.Run.{Around, run}
-use Rattle.cddf_meaning.specs.State.{State, state_of}
+use Rattle.cddf_meaning.specs.BodyState.{BodyState, state_of}
 use Rattle.cddf_meaning.specs.Tasks.{Task}
 use Rattle.cddf_meaning.specs.declared.ending.Ending.TheVariants.{Trapped, OverBudget, Limited}
 use Rattle.flow_core_laws.specs.Window.{offset_after}
@@ -25,7 +25,7 @@ use Rattle.osrun_core_run.proofs.WrittenBytes.{bytes_written}
 
 -- statements keep the lengths of the items' lists
 abbrev pub RunsKeep : Type 0
-RunsKeep = (items : List tree.ItemTree) (u : Around) (a : tree.StmtTree) (s : State) (turns : ℕ) → u.file ≡ file_of items → Keeps s turns (run u a s turns)
+RunsKeep = (items : List tree.ItemTree) (u : Around) (a : tree.StmtTree) (s : BodyState) (turns : ℕ) → u.file ≡ file_of items → Keeps s turns (run u a s turns)
 
 -- as many inputs as the read claims have horizons
 list-has : (write : Bool) (horizon rest : ℕ) (inputs : List ℤ) (next : List ℤ → List (List ℤ)) (hs : List ℕ)
@@ -61,7 +61,7 @@ ended : (x : Activation) (line : ℕ) (items : List (List ℤ)) → map length i
 ended x line items long true gives = bytes_written x.claims items long gives
 ended x line items long false gives = nothing x (trapped 5 line) refl
 
-ran : (x : Activation) (line : ℕ) (s : State) (turns : ℕ) (r : Ran) → Keeps s turns r → item_lengths s ≡ map (λ (c : Claim). c.horizon) x.claims → GivesBytes x (outcome line x.claims r)
+ran : (x : Activation) (line : ℕ) (s : BodyState) (turns : ℕ) (r : Ran) → Keeps s turns r → item_lengths s ≡ map (λ (c : Claim). c.horizon) x.claims → GivesBytes x (outcome line x.claims r)
 ran x line s turns (Went flow t left) kept long = ended x line t.items (kept.1 ∙ long) (gives_bytes x.claims t.items) refl
 ran x line s turns (Ended (Trapped why at) activations) kept long = nothing x (trapped (trap_code why) at) refl
 ran x line s turns (Ended OverBudget activations) kept long = nothing x over_budget refl

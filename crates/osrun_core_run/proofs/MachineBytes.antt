@@ -18,7 +18,7 @@ use Rattle.os_code.specs.declared.site.Site.{Site}
 use Rattle.os_code.specs.declared.unit.Unit.{Unit as CodeUnit}
 use Rattle.os_code.specs.IsValid.{IsValid}
 use Rattle.os_code.specs.Laws.{TasksEnd}
-use Rattle.os_code.specs.Machine.{State, TaskWindow, Halt, Progress, Going, Halted, act, step, Runs, Halts, GoesOn}
+use Rattle.os_code.specs.Machine.{MachineState, TaskWindow, Halt, Progress, Going, Halted, act, step, Runs, Halts, GoesOn}
 use Rattle.os_code.specs.Outcomes.{task_outcome}
 use Rattle.os_code.specs.Parts.{unit_at, kind_at}
 use Rattle.os_code.specs.Tasks.{TaskOutcome, IsDone, SendsNoByte, IsTrapped, IsOver, sends_bytes, task_start, windows_of, written}
@@ -36,7 +36,7 @@ use Rattle.osrun_core_run.proofs.WrittenBytes.{bytes_written}
 
 -- ---- a run of a task keeps the claims of its windows, and how many elements each has
 
-keeps_step : (code : Parts) → IsValid code → (job : Job) (left : ℕ) (s : State) → job.is_main ≡ false → IsSound code job left s → Keeps 4 s (step code s)
+keeps_step : (code : Parts) → IsValid code → (job : Job) (left : ℕ) (s : MachineState) → job.is_main ≡ false → IsSound code job left s → Keeps 4 s (step code s)
 keeps_step code valid job left s no_main sound =
     let at = within code sound.unit s.place sound.stands.is_within in
     let inside = next_start-end (length code.instrs) sound.unit.start code.units in
@@ -46,25 +46,25 @@ keeps_step code valid job left s no_main sound =
     subst (λ (o : Option Instr). Keeps 4 s (act code s o)) (sym here.1)
     (subst (λ (n : ℕ). Keeps n s (act code s (Some here.0))) few (keeps code s here.0))
 
-kept_halted : (s last : State) (halt : Halt) (p : Progress) → Keeps 4 s p → p ≡ Halted halt last → shape_of last.windows ≡ shape_of s.windows
+kept_halted : (s last : MachineState) (halt : Halt) (p : Progress) → Keeps 4 s p → p ≡ Halted halt last → shape_of last.windows ≡ shape_of s.windows
 kept_halted s last halt _ (KeepsGoing shape) e = cc
 kept_halted s last halt _ KeepsStuck e = cc
-kept_halted s last halt _ (KeepsHalted {t = t} shape codes) e = let same : t ≡ last = cc in ap (λ (u : State). shape_of u.windows) (sym same) ∙ shape
+kept_halted s last halt _ (KeepsHalted {t = t} shape codes) e = let same : t ≡ last = cc in ap (λ (u : MachineState). shape_of u.windows) (sym same) ∙ shape
 
-kept_going : (s t : State) (p : Progress) → Keeps 4 s p → p ≡ Going t → shape_of t.windows ≡ shape_of s.windows
-kept_going s t _ (KeepsGoing {t = u} shape) e = let same : u ≡ t = cc in ap (λ (v : State). shape_of v.windows) (sym same) ∙ shape
+kept_going : (s t : MachineState) (p : Progress) → Keeps 4 s p → p ≡ Going t → shape_of t.windows ≡ shape_of s.windows
+kept_going s t _ (KeepsGoing {t = u} shape) e = let same : u ≡ t = cc in ap (λ (v : MachineState). shape_of v.windows) (sym same) ∙ shape
 kept_going s t _ KeepsStuck e = cc
 kept_going s t _ (KeepsHalted shape codes) e = cc
 
-record SoundAt (code : Parts) (job : Job) (t : State) : Type 0 where
+record SoundAt (code : Parts) (job : Job) (t : MachineState) : Type 0 where
   pub left : ℕ
   pub sound : IsSound code job left t
 
-sound_going : (code : Parts) (job : Job) (left : ℕ) (p : Progress) (t : State) → Proceeds code job left p → p ≡ Going t → SoundAt code job t
+sound_going : (code : Parts) (job : Job) (left : ℕ) (p : Progress) (t : MachineState) → Proceeds code job left p → p ≡ Going t → SoundAt code job t
 sound_going code job _ _ t (Goes {left = left} {t = u} sound) e = let same : u ≡ t = cc in record { left = left; sound = subst (IsSound code job left) same sound }
 sound_going code job _ _ t (StopsAt limits) e = cc
 
-run_keeps : (code : Parts) → IsValid code → (job : Job) → job.is_main ≡ false → (left : ℕ) (s last : State) (halt : Halt) (n : ℕ) → IsSound code job left s → Runs code s halt last n
+run_keeps : (code : Parts) → IsValid code → (job : Job) → job.is_main ≡ false → (left : ℕ) (s last : MachineState) (halt : Halt) (n : ℕ) → IsSound code job left s → Runs code s halt last n
     → shape_of last.windows ≡ shape_of s.windows
 run_keeps code valid job no_main left s last halt _ sound (Halts is) = kept_halted s last halt (step code s) (keeps_step code valid job left s no_main sound) is
 run_keeps code valid job no_main left s last halt _ sound (GoesOn {t = t} {steps = n} is rest) =
@@ -140,7 +140,7 @@ done_gives x windows sends shape k j c value at write stream lt is =
     (ap (λ (cs : List Claim). slice_get (outputs_of (claims_in windows) (elements_in windows)) (offset_after (take k cs) c + j)) same.0
     ∙ ap (λ (xs : List ℤ). slice_get xs (offset_after (take k x.claims) c + j)) (same_written windows) ∙ is)
 
-gives_at : (x : Activation) (line : ℕ) (halt : Halt) (last : State) (o : Outcome) → TaskOutcome line halt last o → shape_of last.windows ≡ shape_for x.claims → GivesBytes x o
+gives_at : (x : Activation) (line : ℕ) (halt : Halt) (last : MachineState) (o : Outcome) → TaskOutcome line halt last o → shape_of last.windows ≡ shape_for x.claims → GivesBytes x o
 gives_at x line halt last _ (IsDone sends) shape = done_gives x last.windows sends shape
 gives_at x line halt last _ (SendsNoByte fails) shape = nothing x (outcome_of (task.Trapped 5 line) []) refl
 gives_at x line halt last _ (IsTrapped {why = why} {at_line = at_line}) shape = nothing x (outcome_of (task.Trapped (trap_code why) at_line) []) refl

@@ -11,10 +11,10 @@ use Rattle.osrun_core_jobs.specs.declared.status.Status.{Status}
 use Rattle.osrun_core_run.specs.Refusal.{IsUsable}
 use Rattle.osview_answer.specs.Answers.{IsRefused}
 use Rattle.osview_answer.specs.Drawn.{IsGraphOf}
-use Rattle.osview_graph.specs.declared.drawn.View.{View}
+use Rattle.osview_graph.specs.declared.drawn.GraphChoice.{GraphChoice}
 
 -- Both files were read, and this is the graph of the run of the one over the other, and its status.
-pub record IsGraphMade {F : Type 0} (of_files : FilesView F) (files_old files_new : F) (job : Job) (view : View) (told : List ℕ) (own : ℕ) : Type 0 where
+pub record IsGraphMade {F : Type 0} (of_files : FilesView F) (files_old files_new : F) (job : Job) (view : GraphChoice) (told : List ℕ) (own : ℕ) : Type 0 where
   pub text : List ℕ
   pub input : List ℕ
   pub read : WereRead IsUsable of_files files_old files_new (files_of (Run job)) (text ∷ input ∷ [])
@@ -23,13 +23,13 @@ pub record IsGraphMade {F : Type 0} (of_files : FilesView F) (files_old files_ne
 -- The graph was handed over to the output, and nothing to the other sink: the status is that of the run, or the output did
 -- not take all.
 pub record IsGraphGiven {F O E : Type 0} (of_files : FilesView F) (files_old files_new : F) (of_out : SinkView O) (out_old out_new : O)
-    (of_report : SinkView E) (report_old report_new : E) (job : Job) (view : View) (answered : Status) : Type 0 where
+    (of_report : SinkView E) (report_old report_new : E) (job : Job) (view : GraphChoice) (answered : Status) : Type 0 where
   pub told : List ℕ
   pub own : Status
   pub made : IsGraphMade of_files files_old files_new job view told (code_of own)
   pub handed : HandsOver of_out out_old out_new told of_report report_old report_new [] own answered
 
-abbrev pub AnswersGraph : {F O E : Type 0} → FilesView F → F → F → SinkView O → O → O → SinkView E → E → E → Job → View → Status → Type 0
+abbrev pub AnswersGraph : {F O E : Type 0} → FilesView F → F → F → SinkView O → O → O → SinkView E → E → E → Job → GraphChoice → Status → Type 0
 AnswersGraph of_files files_old files_new of_out out_old out_new of_report report_old report_new job view answered =
     IsGraphGiven of_files files_old files_new of_out out_old out_new of_report report_old report_new job view answered
     ⊎ IsRefused of_files files_old files_new out_old out_new of_report report_old report_new job answered

@@ -13,11 +13,11 @@ use Rattle.os_lexer.specs.declared.token.Token.{Token}
 use Rattle.osrun_core_run.specs.Run.{ends_over}
 use Rattle.osview_answer.specs.StreamNames.{stream_names}
 use Rattle.osview_graph.specs.Graph.{graph_of}
-use Rattle.osview_graph.specs.Run.{Run}
-use Rattle.osview_graph.specs.declared.drawn.View.{View}
+use Rattle.osview_graph.specs.DrawnRun.{DrawnRun}
+use Rattle.osview_graph.specs.declared.drawn.GraphChoice.{GraphChoice}
 
 -- the run that is drawn: of a program, by its text and tokens, over an input of a length, with what `main` created and the ends
-abbrev pub drawn_run : List ℕ → List Token → ProgramTree → Control → (input_len : ℕ) → Ends → Run
+abbrev pub drawn_run : List ℕ → List Token → ProgramTree → Control → (input_len : ℕ) → Ends → DrawnRun
 drawn_run text tokens program made input_len ends = record {
   text = text;
   names = stream_names tokens (names program);
@@ -29,7 +29,7 @@ drawn_run text tokens program made input_len ends = record {
 }
 
 -- The graph of the run of a text's program over an input, with these budgets, and the status of that run.
-pub record IsGraphOf (task_budget control_budget : ℕ) (text input : List ℕ) (view : View) (told : List ℕ) (own : ℕ) : Type 0 where
+pub record IsGraphOf (task_budget control_budget : ℕ) (text input : List ℕ) (view : GraphChoice) (told : List ℕ) (own : ℕ) : Type 0 where
   pub program : ProgramTree
   pub is_program : IsAccepted text program
   pub tokens : List Token

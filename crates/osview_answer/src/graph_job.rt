@@ -1,5 +1,5 @@
 use osrun_core_jobs::Job;
-use osview_graph::View;
+use osview_graph::GraphChoice;
 
 /// A run whose graph is to be shown.
 #[derive(Clone, Copy, Debug)]
@@ -7,5 +7,5 @@ pub struct GraphJob<'w> {
     /// The run.
     pub run: Job<'w>,
     /// Which graph of it.
-    pub view: View,
+    pub view: GraphChoice,
 }

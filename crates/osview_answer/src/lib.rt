@@ -29,7 +29,7 @@ mod telling;
 pub use answer::answer_report;
 pub use graph_answer::answer_graph;
 pub use graph_job::GraphJob;
-pub use osview_graph::View;
+pub use osview_graph::GraphChoice;
 pub use steps_answer::answer_steps;
 pub use stream_answer::answer_stream;
 pub use stream_job::StreamJob;

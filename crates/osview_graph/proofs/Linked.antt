@@ -8,7 +8,7 @@ use Rattle.flow_core_laws.specs.Window.{Window, claims_at, claims_of, producer}
 use Rattle.flow_core_laws.specs.declared.activation.Activation.{Activation}
 use Rattle.flow_core_laws.proofs.Windows.{claims_of-take_more, claims_split}
 use Rattle.osview_graph.specs.Links.{Shown, link, link_at}
-use Rattle.osview_graph.specs.Run.{Run}
+use Rattle.osview_graph.specs.DrawnRun.{DrawnRun}
 use Rattle.stream_match_layouts.specs.Layout.{span_of}
 use Rattle.stream_match_layouts.specs.declared.span.Span.{Span}
 
@@ -23,7 +23,7 @@ found None s e = absurd cc
 found (Some w) s e = record { window = w; is = refl; span = cc }
 
 -- the arrow at a position that is the first one of those that a producer gives
-pub linked : (run : Run) (shown : Shown) (r w : Window) (position : ℕ) → producer run.activations r.claim.stream position ≡ Some w → position ≡ max r.first w.first
+pub linked : (run : DrawnRun) (shown : Shown) (r w : Window) (position : ℕ) → producer run.activations r.claim.stream position ≡ Some w → position ≡ max r.first w.first
     → link run shown r w ≡ link_at run shown r position
 linked run shown r w position is first =
     let same : (position == max r.first w.first) ≡ true = grind (arith, nat_tests) in

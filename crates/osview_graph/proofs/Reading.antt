@@ -14,23 +14,23 @@ use Rattle.flow_core_laws.specs.FirstPosition.{first_position, is_read_of, read_
 use Rattle.flow_core_laws.specs.Window.{Window, claims_of, windows}
 use Rattle.flow_core_laws.specs.declared.claim.Claim.{Claim}
 use Rattle.flow_core_laws.proofs.Windows.{length-windows, window_at}
-use Rattle.osview_graph.specs.Run.{Run, end_at, has_run}
+use Rattle.osview_graph.specs.DrawnRun.{DrawnRun, end_at, has_run}
 use Rattle.osview_graph.specs.Streams as streams
 use Rattle.osview_graph.specs.Streams.{has_read, newly_read, no_window, reads_at}
 use Rattle.osview_graph.specs.Tables.{newly_behind, read_to}
 
 -- what a window reads that none before it read, by its number
-abbrev pub newly_at : Run → ℕ → ℕ
+abbrev pub newly_at : DrawnRun → ℕ → ℕ
 newly_at run k = newly_read run (take k (windows run.activations)) (streams.window_at run k)
 
 -- Of the positions of a stream from its read cursor on, just those before its row were read.
-pub record Reached (run : Run) (n : ℕ) (rows : List ℕ) (k : ℕ) : Type 0 where
+pub record Reached (run : DrawnRun) (n : ℕ) (rows : List ℕ) (k : ℕ) : Type 0 where
   pub wide : length rows ≡ n
   pub read_before : (s p : ℕ) → s < n → read_cursor s (take k (claims_of run.activations)) ≤ p
       → list_any (reads_at run s p) (take k (windows run.activations)) ≡ nat_lt p (get_or rows s 0)
 
 -- at first nothing was
-pub none_reached : (run : Run) (n : ℕ) → Reached run n (replicate n 0) 0
+pub none_reached : (run : DrawnRun) (n : ℕ) → Reached run n (replicate n 0) 0
 none_reached run n = record {
   wide = length-replicate n 0;
   read_before = λ s p lt from. none p ∙ ap (nat_lt p) (sym (get_or-replicate n s 0 0 lt));
@@ -76,7 +76,7 @@ cursor-more s k cs d lt =
 cursor_rises : (s k : ℕ) (cs : List Claim) (d : Claim) → k < length cs → read_cursor s (take k cs) ≤ read_cursor s (take (k + 1) cs)
 cursor_rises s k cs d lt = omega (arith, cursor-more s k cs d lt)
 
-module _ (run : Run) (k : ℕ) (exists : k < length (windows run.activations)) where
+module _ (run : DrawnRun) (k : ℕ) (exists : k < length (windows run.activations)) where
   stands : slice_get (windows run.activations) k ≡ Some (streams.window_at run k)
   stands = slice_get-get_or (windows run.activations) k no_window exists
 
@@ -184,7 +184,7 @@ module _ (run : Run) (k : ℕ) (exists : k < length (windows run.activations)) w
           ∙ sym (ap (nat_lt p) (get_or-set_other rows t s to 0 other))
 
 -- a window reads no more than it covers
-pub newly-le : (run : Run) (k : ℕ) → newly_at run k ≤ (streams.window_at run k).claim.horizon
+pub newly-le : (run : DrawnRun) (k : ℕ) → newly_at run k ≤ (streams.window_at run k).claim.horizon
 newly-le run k = by (has_read run (streams.window_at run k)) where
   by : (b : Bool) → cond {A = ℕ} b (count_by (λ p. not (list_any (reads_at run (streams.window_at run k).claim.stream p) (take k (windows run.activations))))
       (range_with_len (streams.window_at run k).first (streams.window_at run k).claim.horizon)) 0 ≤ (streams.window_at run k).claim.horizon

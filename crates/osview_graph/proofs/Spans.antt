@@ -5,7 +5,7 @@ use Rattle.std.proofs.lemmas.Bool.{cases_lt}
 use Rattle.std.proofs.lemmas.List.{get_or_past, get_or_default}
 use Rattle.flow_core_laws.specs.Window.{Window, windows}
 use Rattle.osview_graph.specs.Drawing.{IsDrawn, run_of}
-use Rattle.osview_graph.specs.Run.{end_at, is_done}
+use Rattle.osview_graph.specs.DrawnRun.{end_at, is_done}
 use Rattle.osview_graph.specs.Streams.{given_by, no_window, window_at}
 use Rattle.osview_graph.specs.declared.drawn.Drawn.{Drawn}
 use Rattle.stream_match_layouts.specs.Layout.{span_of}

@@ -7,7 +7,7 @@ use Rattle.std.proofs.lemmas.Bool.Decides.{nat_tests}
 use Rattle.std.proofs.lemmas.List.{get_or_past, set_past}
 use Rattle.std.proofs.lemmas.List.FromFn.{get_or-map-range_with_len, length-map-range_with_len}
 use Rattle.std.proofs.lemmas.List.Sums.{fold_push}
-use Rattle.osview_graph.specs.Run.{total}
+use Rattle.osview_graph.specs.DrawnRun.{total}
 use Rattle.osview_graph.specs.Tables.{table}
 use Rattle.stream_match_layouts.proofs.Pushing.{map-range-same, map-range-set, range-more}
 

@@ -6,7 +6,7 @@ use Rattle.std.specs.Option.{option_map_or}
 use Rattle.flow_core_laws.specs.Window.{claim_at}
 use Rattle.flow_core_laws.specs.declared.activation.Activation.{Activation}
 use Rattle.flow_core_laws.specs.declared.claim.Claim.{Claim}
-use Rattle.osview_graph.specs.Run.{Run}
+use Rattle.osview_graph.specs.DrawnRun.{DrawnRun}
 use Rattle.osview_graph.specs.declared.uses.Use.{Use}
 
 -- an item of a task's clauses as an activation has it, by its claim
@@ -72,5 +72,5 @@ abbrev pub arrows_of : List Use → List ℕ
 arrows_of all = flat_map (arrow_at all) (range_with_len 0 (length all))
 
 -- The arrows of a run: one for each item of a task and each stream that it is on.
-abbrev pub arrows : Run → List ℕ
+abbrev pub arrows : DrawnRun → List ℕ
 arrows run = arrows_of (uses run.activations)

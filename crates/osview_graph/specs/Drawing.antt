@@ -1,7 +1,7 @@
 -- A run as the code has it, by its layout.
 use Rattle.std.specs.Prelude.{Bool, Option, true}
 use Rattle.flow_core_laws.specs.declared.task_end.TaskEnd.{TaskEnd}
-use Rattle.osview_graph.specs.Run.{Run, is_done, is_over_budget, is_poisoned, is_starved, is_trapped}
+use Rattle.osview_graph.specs.DrawnRun.{DrawnRun, is_done, is_over_budget, is_poisoned, is_starved, is_trapped}
 use Rattle.osview_graph.specs.declared.drawn.Drawn.{Drawn}
 use Rattle.osview_graph.specs.declared.ending.Ending.{Ending}
 use Rattle.osview_graph.specs.declared.ending.Ending.TheVariants as ending
@@ -11,7 +11,7 @@ use Rattle.stream_match_layouts.specs.Lawful.{AreLawful}
 use Rattle.stream_match_layouts.specs.Layout.{IsLayout, IsLayoutOf}
 
 -- the run that is drawn
-abbrev pub run_of : Drawn → Run
+abbrev pub run_of : Drawn → DrawnRun
 run_of d = record {
   text = d.text.now;
   names = d.names.now;

@@ -1,5 +1,5 @@
 -- What a reader believes: what is drawn of a run, and the text of its graphs.
-pub mod Run
+pub mod DrawnRun
 pub mod Tasks
 pub mod Streams
 pub mod Arrows

@@ -1,6 +1,6 @@
 ghost use Rattle.std.specs.Prelude.{◌≡◌, slice_index_or};
 ghost use Rattle.osview_graph.specs.Drawing.{run_of};
-ghost use Rattle.osview_graph.specs.Run.{end_at, task_at};
+ghost use Rattle.osview_graph.specs.DrawnRun.{end_at, task_at};
 
 use flow_core_laws::{Activation, TaskEnd};
 use osview_sentences::StreamName;
@@ -27,7 +27,7 @@ pub struct Drawn<'a> {
 
 /// Which graph of a run is drawn.
 #[derive(Clone, Copy, Debug)]
-pub enum View {
+pub enum GraphChoice {
     /// That of its tasks and streams.
     Streams,
     /// That of its activations from a number on, to the one before another; at most all that there are.

@@ -1,6 +1,6 @@
 ghost use Rattle.std.specs.Prelude.{◌≡◌};
 ghost use Rattle.osview_graph.specs.Drawing.{is_so};
-ghost use Rattle.osview_graph.specs.Run.{end_word, has_run, is_done};
+ghost use Rattle.osview_graph.specs.DrawnRun.{end_word, has_run, is_done};
 
 use flow_core_laws::TaskEnd;
 

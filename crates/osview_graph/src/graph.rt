@@ -3,7 +3,7 @@ ghost use Rattle.osview_graph.specs.Drawing.{IsDrawn, run_of, shown_of};
 ghost use Rattle.osview_graph.specs.Graph.{activation_graph, graph_of, stream_graph};
 
 use crate::arrows::add_arrows;
-use crate::drawn::{Drawn, View};
+use crate::drawn::{Drawn, GraphChoice};
 use crate::links::{Range, add_shown};
 use crate::streams::add_ellipses;
 use crate::tasks::add_boxes;
@@ -36,14 +36,14 @@ fn add_activations(told: &mut Text, drawn: &Drawn<'_>, shown: Range) -> Result<(
 
 /// The graph of a run as Graphviz text: that of its tasks and streams, or that of some of its activations.
 #[tactic(auto, unfolding(crate::specs::Graph::graph_of))]
-pub fn graph_text(alloc: Global, drawn: &Drawn<'_>, view: View) -> Result<Text, Memory>
+pub fn graph_text(alloc: Global, drawn: &Drawn<'_>, view: GraphChoice) -> Result<Text, Memory>
     requires { IsDrawn drawn.now }
     ensures { IfOk result (λ told. told ≡ graph_of (run_of drawn.now) view) }
 {
     let mut told = Text::new(alloc);
     match view {
-        View::Streams => add_streams(alloc, &mut told, drawn)?,
-        View::Activations { first, end } => {
+        GraphChoice::Streams => add_streams(alloc, &mut told, drawn)?,
+        GraphChoice::Activations { first, end } => {
             add_activations(&mut told, drawn, Range { first, end })?
         }
     }

@@ -21,5 +21,5 @@ mod tasks;
 mod uses;
 mod writer;
 
-pub use drawn::{Drawn, View};
+pub use drawn::{Drawn, GraphChoice};
 pub use graph::graph_text;

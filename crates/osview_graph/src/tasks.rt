@@ -1,7 +1,7 @@
 ghost use Rattle.std.specs.Prelude.{◌≡◌, ◌<◌, ◌++◌, if◌then◌else◌, IfOk, OnOk, length, map, slice_index_or};
 ghost use Rattle.std.specs.List.{range_with_len};
 ghost use Rattle.osview_graph.specs.Drawing.{is_so, run_of};
-ghost use Rattle.osview_graph.specs.Run.{ended_so};
+ghost use Rattle.osview_graph.specs.DrawnRun.{ended_so};
 ghost use Rattle.osview_graph.specs.Tasks.{activations_text, ends_text, part_text, task_box, task_boxes, task_head};
 ghost use Rattle.osview_graph.specs.Tables.{AreTaskCounts};
 

@@ -61,7 +61,8 @@ main_line main all =
 abbrev pub task_line : (lines : List ℕ) → List TaskRun → Taken → (task : ℕ) → List ℕ
 task_line lines runs main task =
     let taken = taken_by task runs in
-    numbers_line (slice_index_or lines task 0) (activation_count task runs) (length taken) (least (steps_in taken)) (most (steps_in taken)) (sum (steps_in taken))
+    numbers_line (slice_index_or lines task 0) (activation_count task runs) (length taken) (least (steps_in taken)) (most (steps_in taken))
+    (sum (steps_in taken))
     (most (turns_in taken)) (run_steps runs main)
 
 -- The steps of all tasks, those of a longest chain, and how many times as fast more workers can make the tasks at most.

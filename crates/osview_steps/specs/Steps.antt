@@ -27,7 +27,8 @@ has_run end = option_map_or did_run end false
 
 -- An activation takes so many steps and turns of its budget: all that it reads is there as values, over these the machine ends its task
 -- in so many steps, and the task takes so many turns.
-pub record Takes (code : Parts) (activations : List Activation) (input : List ℕ) (budget : ℕ) (meaning : State) (a : ℕ) (activation : Activation) (taken : Taken) : Type 0 where
+pub record Takes (code : Parts) (activations : List Activation) (input : List ℕ) (budget : ℕ) (meaning : State) (a : ℕ) (activation : Activation)
+    (taken : Taken) : Type 0 where
   pub inputs : List ℤ
   pub are_read : inputs_in stream_element (stream_reads activations input) meaning a ≡ Some (map Value inputs)
   pub ends : TaskEnds code activation inputs budget (task_outcome code activation inputs budget) taken.steps

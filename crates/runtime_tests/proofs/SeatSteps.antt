@@ -12,7 +12,7 @@ use Rattle.flow_core_laws.specs.Plans.{frame_at, cell_source}
 use Rattle.flow_core_laws.specs.Round.{round, rounds, meaning}
 use Rattle.flow_core_laws.specs.Serves.{Serves}
 use Rattle.flow_core_concurrent.specs.declared.known.Known.{Known}
-use Rattle.flow_core_concurrent.specs.declared.view.Run.{Run}
+use Rattle.flow_core_concurrent.specs.declared.view.FrameRun.{FrameRun}
 use Rattle.flow_core_concurrent.specs.declared.view.View.{View}
 use Rattle.flow_core_concurrent.specs.States as states
 use Rattle.flow_core_concurrent.specs.ReaderFirst.{plan, outcome, known}
@@ -29,7 +29,7 @@ pub may_deliver : (k : Known) (v : View) (steps number : ℕ) (piece : Piece) (o
 may_deliver k v steps number piece outcome is_known is_view may =
     subst (λ k. MayDeliver k v number piece outcome) (sym is_known) (subst (λ v. MayDeliver known v number piece outcome) (sym is_view) may)
 
-pub may_finish : (k : Known) (v : View) (steps : ℕ) (run : Run) (end : TaskEnd) → k ≡ known → v ≡ view_after steps
+pub may_finish : (k : Known) (v : View) (steps : ℕ) (run : FrameRun) (end : TaskEnd) → k ≡ known → v ≡ view_after steps
     → MayFinish known (view_after steps) run end → MayFinish k v run end
 may_finish k v steps run end is_known is_view may =
     subst (λ k. MayFinish k v run end) (sym is_known) (subst (λ v. MayFinish known v run end) (sym is_view) may)

@@ -3,7 +3,7 @@ pub mod Space
 pub mod Turns
 -- What restates private functions.
 pub mod Room
-pub mod Rows
+pub mod ItemRanges
 pub mod Halting
 pub mod Ending
 pub mod Frames

@@ -11,8 +11,8 @@
 #![tactic(auto)]
 
 pub mod laws;
+mod ranges;
 pub mod registers;
-mod rows;
 mod running;
 mod scratch;
 mod task;

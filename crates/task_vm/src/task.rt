@@ -16,7 +16,7 @@ ghost use Rattle.task_vm.specs.Space.{IsMadeFor};
 ghost use Rattle.task_vm.specs.Turns.{TakesTurns};
 
 use crate::registers::{fill_frame, unit_at};
-use crate::running::{Stop, run};
+use crate::running::{TaskHalt, run};
 use crate::scratch::{Scratch, reach};
 use c_int::Trap;
 use flow_core_laws::{Activation, Claim, TaskEnd};
@@ -105,12 +105,12 @@ fn entry_of(code: &Code, activation: &Activation) -> Entry
 }
 
 /// The end of a task whose run stops so with these outputs.
-fn end_at(stop: Stop, claims: &[Claim], outputs: &[i32], line: u32) -> TaskEnd
+fn end_at(stop: TaskHalt, claims: &[Claim], outputs: &[i32], line: u32) -> TaskEnd
     requires whole { sum_by (λ (claim : TheClaim). claim.horizon) (filter (λ (claim : TheClaim). claim.write) claims.now) ≤ length outputs.now }
     ensures { result ≡ end_of stop (all_bytes_from claims.now outputs.now) line }
 {
     match stop {
-        Stop::Ended => {
+        TaskHalt::Ended => {
             if all_bytes(claims, outputs) {
                 TaskEnd::Done
             } else {
@@ -120,11 +120,11 @@ fn end_at(stop: Stop, claims: &[Claim], outputs: &[i32], line: u32) -> TaskEnd
                 }
             }
         }
-        Stop::Trapped { trap, line } => TaskEnd::Trapped {
+        TaskHalt::Trapped { trap, line } => TaskEnd::Trapped {
             code: trap.code(),
             line,
         },
-        Stop::OverBudget => TaskEnd::OverBudget,
+        TaskHalt::OverBudget => TaskEnd::OverBudget,
     }
 }
 

@@ -12,7 +12,7 @@ use Rattle.flow_core_laws.specs.Poisoning.{poisoning}
 use Rattle.flow_core_laws.specs.Plans.{plan_reads, plan_element}
 use Rattle.flow_core_laws.proofs.Rounds.{length-meaning}
 use Rattle.flow_core_concurrent.specs.declared.known.Known.{Known}
-use Rattle.flow_core_concurrent.specs.declared.view.Run.{Run}
+use Rattle.flow_core_concurrent.specs.declared.view.FrameRun.{FrameRun}
 use Rattle.flow_core_concurrent.specs.declared.view.View.{View}
 use Rattle.flow_core_concurrent.specs.declared.word.Word.{Word}
 use Rattle.flow_core_concurrent.specs.declared.word.Word.TheVariants.{Wait, Open, Taken, Ended}
@@ -98,7 +98,7 @@ module _ (known : Known) (s : CoreState) (i : ℕ) (v : View) (good : IsGood kno
       by (inl some) = absurd (last_is_only known s j i u v good there (omega arith) (λ e. n (sym e)) sees last)
       by (inr none) = (good.views_are_sound j u there).spent_is_empty (omega arith)
 
-  idle : (j : ℕ) (x : Option Run) → slice_get (runs_of s) j ≡ Some x → x ≡ None
+  idle : (j : ℕ) (x : Option FrameRun) → slice_get (runs_of s) j ≡ Some x → x ≡ None
   idle j x h = by (slice_get s.seats j) refl
     where
       at : (u : View) → slice_get s.seats j ≡ Some u → (j ≡ i) ⊎ (j ≢ i) → u.run ≡ None

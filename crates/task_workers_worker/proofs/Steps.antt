@@ -2,7 +2,7 @@
 use Rattle.std.proofs.Common.{◌≡◌, ℕ, zero, suc, ◌+◌, ◌%◌, ◌==◌, ◌<◌, ◌≤◌, Bool, true, false, if◌then◌else◌, List, [], ◌∷◌, ◌++◌, length, Option, Some, None, refl, sym, ap, ◌∙◌, subst, append-nil, append_assoc, arith, eq-eqb, get_or}
 use Rattle.std.specs.Option.{option_map_or}
 use Rattle.flow_core_concurrent.specs.declared.known.Known.{Known}
-use Rattle.flow_core_concurrent.specs.declared.view.Run.{Run}
+use Rattle.flow_core_concurrent.specs.declared.view.FrameRun.{FrameRun}
 use Rattle.flow_core_concurrent.specs.declared.view.View.{View}
 use Rattle.flow_core_concurrent.specs.States.{times, knows}
 use Rattle.flow_core_concurrent.specs.Steps.{with_claim, with_miss, with_sub, lost_with}
@@ -93,7 +93,7 @@ claimed_looks known v w f b is took = ap (λ (u : View). u.looks) (is ∙ ap (cl
 
 -- a piece was counted
 pub sub_is : (v w : View) (f n to : ℕ) (opens : Bool) → v.run ≡ Some (at f n 0) → w ≡ subbed v to opens → w ≡ with_sub v (at f n 0) to opens
-sub_is v w f n to opens runs is = is ∙ ap (λ (r : Option Run). option_map_or (λ (r : Run). with_sub v r to opens) r v) runs
+sub_is v w f n to opens runs is = is ∙ ap (λ (r : Option FrameRun). option_map_or (λ (r : FrameRun). with_sub v r to opens) r v) runs
 
 pub gave_closed : (n : ℕ) (v w : View) (f k to : ℕ) (opens : Bool) (pushed pushed' : List ℕ) → w ≡ with_sub v (at f k 0) to opens → opens ≡ false → pushed' ≡ pushed → Gave n v w pushed pushed'
 gave_closed n v w f k to opens pushed pushed' is shut same =

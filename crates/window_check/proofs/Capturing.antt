@@ -6,7 +6,7 @@ use Rattle.os_ast.specs.Names.{Scope}
 use Rattle.os_ast.specs.Notes.Clauses.{with_items, in_task, captured_in}
 use Rattle.os_ast.specs.Notes.Kinds.{Note}
 use Rattle.os_ast.specs.Notes.Statements.{stmt_notes}
-use Rattle.os_ast.specs.Parts.{Part, item_ids, private_ids}
+use Rattle.os_ast.specs.ClauseParts.{ClausePart, item_ids, private_ids}
 use Rattle.os_ast.specs.Stacked.{Stacked, main_extent}
 use Rattle.os_ast.specs.Trees as tree
 use Rattle.os_ast.specs.declared.names.Owner.{Owner}
@@ -27,7 +27,7 @@ listed-all : (ns : List Note) (slots : List ℕ) → slots_found (noted (Listing
 listed-all [] slots = refl
 listed-all (n ∷ ns) slots = listed-all ns (with_slots (named_slots n) slots) ∙ sym (with_slots-append (named_slots n) (used_slots ns) slots)
 
-listed-in : (o : Owner) (s : Scope) (l : ListedParts) (ps : List Part) (a : tree.StmtTree) (top : ℕ) → Stacked main_extent top s.entries →
+listed-in : (o : Owner) (s : Scope) (l : ListedParts) (ps : List ClausePart) (a : tree.StmtTree) (top : ℕ) → Stacked main_extent top s.entries →
     l ≡ after_parts s none_listed ps → listed_in o s l.slots l.items a ≡ captured_in o (slots_of (captured s.entries ps a))
 listed-in owner.OfFunction s l ps a top st is = refl
 listed-in owner.OfTask s l ps a top st is = refl
@@ -46,7 +46,7 @@ listed-in owner.OfMain s l ps a top st is =
     ∙ collected s.entries (task_names ps a) top st
 
 -- what is wanted of a task that captures this, where its clauses list this
-pub listed-captured : (f : Found) (s : Scope) (l : ListedParts) (ps : List Part) (a : tree.StmtTree) (top : ℕ) → Stacked main_extent top s.entries →
+pub listed-captured : (f : Found) (s : Scope) (l : ListedParts) (ps : List ClausePart) (a : tree.StmtTree) (top : ℕ) → Stacked main_extent top s.entries →
     l ≡ after_parts s none_listed ps → listed_for f s.owner s l.slots l.items a ≡ captured_for f s.owner (slots_of (captured s.entries ps a))
 listed-captured (Listing slots) s l ps a top st is = listed-in s.owner s l ps a top st is
 listed-captured (Judging j) s l ps a top st is = listed-in s.owner s l ps a top st is

@@ -23,7 +23,7 @@ use os_io::{List, Memory};
 use os_lexer::names::MAIN;
 use std::alloc::Global;
 use window_check_names::broken_rules::{BrokenRules, when};
-use window_check_names::{Around, Found, Scopes, meaning};
+use window_check_names::{EnclosingBody, Found, Scopes, meaning};
 
 /// Whose body that of a function with this name is: the control program is the function `main`.
 fn owner_of(id: u32) -> Owner
@@ -111,7 +111,7 @@ fn constant(scopes: &mut Scopes, found: &mut Found, constant: &Constant) -> Resu
 }
 
 /// The scopes of a function begin: the one round the body of `main`, and that of the parameters and the body.
-fn begin_function(alloc: Global, scopes: &mut Scopes, id: u32) -> Result<Around, Memory>
+fn begin_function(alloc: Global, scopes: &mut Scopes, id: u32) -> Result<EnclosingBody, Memory>
     requires { scopes.old.depth + 2 ≤ room_end }
     ensures scopes { OnOk result (scopes.new ≡ in_function scopes.old id) }
     ensures around { IfOk result (λ around. around ≡ around_of scopes.old) }

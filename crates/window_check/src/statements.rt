@@ -3,7 +3,7 @@
 ghost use Rattle.std.specs.Prelude.{◌≡◌, ◌+◌, ◌≤◌, [], OnOk, IfOk, length, map, option_map};
 ghost use Rattle.os_ast.specs.Names.{after_unit, behind, in_loop};
 ghost use Rattle.os_ast.specs.Notes.Statements.{after_stmt, after_stmts, stmt_notes, stmts_notes};
-ghost use Rattle.os_ast.specs.Parts.{parts};
+ghost use Rattle.os_ast.specs.ClauseParts.{parts};
 ghost use Rattle.os_ast.specs.Rules.{is_main_body, is_task_body, when};
 ghost use Rattle.os_ast.specs.Trees as tree;
 ghost use Rattle.os_ast.specs.Views.{expr_tree, target_tree, change_tree, clause_tree, start_tree, stmt_tree, stmts_tree};

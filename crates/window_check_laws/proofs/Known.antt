@@ -13,7 +13,7 @@ use Rattle.os_ast.specs.Notes.Expressions.{expr_notes, place_notes, args_notes, 
 use Rattle.os_ast.specs.Notes.Kinds.{Note, Used, Sized, Declared, Given, Global, Left, Returned, Pragma, Task, Listed}
 use Rattle.os_ast.specs.Notes.Programs.{in_body, in_function, after_param, after_item, after_items, params_notes, item_notes, items_notes, owner_of, param_list, file, program_notes}
 use Rattle.os_ast.specs.Notes.Statements.{after_stmt, after_stmts, stmt_notes, stmts_notes}
-use Rattle.os_ast.specs.Parts.{Part, Item, Private, parts, part_name, count_items, is_in}
+use Rattle.os_ast.specs.ClauseParts.{ClausePart, Item, Private, parts, part_name, count_items, is_in}
 use Rattle.os_ast.specs.Rules.{has_no_size, has_too_many, is_main_body}
 use Rattle.os_ast.specs.Stacked.{Stacked}
 use Rattle.os_ast.specs.Trees as tree
@@ -32,7 +32,7 @@ use Rattle.window_check_laws.proofs.Holds.{Holds, sound, holds-declared, holds-d
 use Rattle.window_check_laws.proofs.Rise.{grow_taken, grow_declarators, grow_stmt, grow_stmts, grow_items, streams_items, streams_in_body}
 use Rattle.window_check_laws.proofs.Told.{lawful-first, lawful-rest, lawful-program}
 use Rattle.window_check_laws.specs.Globals.{AreApart}
-use Rattle.window_check_laws.specs.Known.{global_behind, global, IsSound, Stands, size_in}
+use Rattle.window_check_laws.specs.Known.{global_behind, global, IsSoundScope, Stands, size_in}
 use Rattle.window_check_laws.specs.Sums.{HasSize, HasSizes, IsArraySize, extent_in}
 use Rattle.window_check_laws.specs.Told.{AreLawful}
 
@@ -90,7 +90,7 @@ all-stand p [] ys a b = b
 all-stand p (x ∷ xs) ys a b = (a.0, all-stand p xs ys a.1 b)
 
 -- Expressions declare nothing.
-module _ (p : tree.ProgramTree) (s : Scope) (ok : IsSound p s) where
+module _ (p : tree.ProgramTree) (s : Scope) (ok : IsSoundScope p s) where
   mutual
     stand-expr : (e : tree.ExprTree) → AllStand p (expr_notes s e)
     stand-expr (tree.Number n) = tt
@@ -137,13 +137,13 @@ module _ (p : tree.ProgramTree) (s : Scope) (ok : IsSound p s) where
   stand-window before stream None = (tt, tt)
   stand-window before stream (Some j) = (tt, (ok, stand-index j.burst))
 
-  stand-part : (before : List ℕ) (part : Part) → AllStand p (part_notes s before part)
+  stand-part : (before : List ℕ) (part : ClausePart) → AllStand p (part_notes s before part)
   stand-part before (Item d i) =
       all-stand p (place_notes s (role.Flow d) i.stream) (window_notes s before i.stream i.window) (stand-place (role.Flow d) i.stream)
       (stand-window before i.stream i.window)
   stand-part before (Private n) = (tt, (ok, tt))
 
-  stand-parts : (before : List ℕ) (ps : List Part) → AllStand p (parts_notes s before ps)
+  stand-parts : (before : List ℕ) (ps : List ClausePart) → AllStand p (parts_notes s before ps)
   stand-parts before [] = tt
   stand-parts before (part ∷ ps) =
       let again = (part_name part).id ∷ before in
@@ -176,7 +176,7 @@ constant-there (Some (entity.Streams n k)) v h = absurd (cc)
 constant-there (Some (entity.Element n x)) v h = absurd (cc)
 constant-there (Some (entity.View n x)) v h = absurd (cc)
 
-module _ (p : tree.ProgramTree) (s : Scope) (ok : IsSound p s) where
+module _ (p : tree.ProgramTree) (s : Scope) (ok : IsSoundScope p s) where
   stand-size : (e : tree.ExprTree) → (v : ℤ) × (size_value s e ≡ Some v) → AllStand p (size_notes s e)
   stand-size (tree.Number n) h = tt
   stand-size (tree.Wide n) h = tt
@@ -234,7 +234,7 @@ module _ (p : tree.ProgramTree) (s : Scope) (ok : IsSound p s) where
 
 -- Statements, in a program with so many streams.
 module _ (p : tree.ProgramTree) (top : ℕ) (few : 2 + top ≤ streams p) where
-  sound-below : (s : Scope) → s.streams ≤ top → Holds p s → IsSound p s
+  sound-below : (s : Scope) → s.streams ≤ top → Holds p s → IsSoundScope p s
   sound-below s below h = sound p s (omega (arith, below, few)) h
 
   stand-declarators : (s : Scope) (ds : List tree.DeclaratorTree) → Holds p s → (after_declarators s ds).streams ≤ top → AreLawful (declarators_notes s ds) →

@@ -14,7 +14,7 @@ use Rattle.os_ast.specs.Notes.Expressions.{expr_notes, place_notes, args_notes, 
 use Rattle.os_ast.specs.Notes.Kinds.{Note, Used, Task}
 use Rattle.os_ast.specs.Notes.Programs.{params_notes, after_param, param_list, item_notes, items_notes, after_item, in_function, in_body, program_notes, file}
 use Rattle.os_ast.specs.Notes.Statements.{stmt_notes, stmts_notes, after_stmt}
-use Rattle.os_ast.specs.Parts.{Part, Item, Private, parts, parts_of, part_name, count_items}
+use Rattle.os_ast.specs.ClauseParts.{ClausePart, Item, Private, parts, parts_of, part_name, count_items}
 use Rattle.os_ast.specs.Rules.{rules, has_no_size, has_too_many}
 use Rattle.os_ast.specs.Spelling as spelling
 use Rattle.os_ast.specs.Spelling.{Symbol, ◌⨾◌}
@@ -275,11 +275,11 @@ at-comma : (comma : Bool) (ps : List Symbol) → name_places (spelling.comma com
 at-comma false ps = refl
 at-comma true ps = refl
 
-abbrev names_behind : List ℕ → List Part → List ℕ
+abbrev names_behind : List ℕ → List ClausePart → List ℕ
 names_behind before [] = before
 names_behind before (p ∷ ps) = names_behind ((part_name p).id ∷ before) ps
 
-parts-append : (s : Scope) (before : List ℕ) (ps qs : List Part) → parts_notes s before (ps ++ qs) ≡ parts_notes s before ps ++ parts_notes s (names_behind before ps) qs
+parts-append : (s : Scope) (before : List ℕ) (ps qs : List ClausePart) → parts_notes s before (ps ++ qs) ≡ parts_notes s before ps ++ parts_notes s (names_behind before ps) qs
 parts-append s before [] qs = refl
 parts-append s before (p ∷ ps) qs =
     ap (λ ns. part_notes s before p ++ ns) (parts-append s ((part_name p).id ∷ before) ps qs)

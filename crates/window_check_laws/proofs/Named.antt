@@ -9,7 +9,7 @@ use Rattle.os_ast.specs.Notes.Declarators.{form, form_entity, declared_entity, t
 use Rattle.os_ast.specs.Notes.Expressions.{expr_notes, place_notes, args_notes, links_notes, value_notes, index_notes, change_notes, step_notes}
 use Rattle.os_ast.specs.Notes.Kinds.{Note}
 use Rattle.os_ast.specs.Notes.Statements.{after_stmt, stmt_notes, stmts_notes}
-use Rattle.os_ast.specs.Parts.{Part, Item, Private, parts, part_name, item_name, item_ids, private_ids, is_in}
+use Rattle.os_ast.specs.ClauseParts.{ClausePart, Item, Private, parts, part_name, item_name, item_ids, private_ids, is_in}
 use Rattle.os_ast.specs.Trees as tree
 use Rattle.os_ast.specs.declared.names.Direction.{Direction}
 use Rattle.os_ast.specs.declared.names.Entity.{Entity}
@@ -88,7 +88,7 @@ named-window : (s : Scope) (before : List ℕ) (t : tree.TargetTree) (j : Option
 named-window s before t None = refl
 named-window s before t (Some j) = ap (λ zs. control_slots (entity_of (lookup s.entries j.name.id)) ++ zs) (named-index s j.burst)
 
-named-parts : (s : Scope) (before : List ℕ) (ps : List Part) → used_slots (parts_notes s before ps) ≡ slots_named s.entries (parts_names ps)
+named-parts : (s : Scope) (before : List ℕ) (ps : List ClausePart) → used_slots (parts_notes s before ps) ≡ slots_named s.entries (parts_names ps)
 named-parts s before [] = refl
 named-parts s before (Item d i ∷ ps) =
     two s.entries (part_notes s before (Item d i)) (parts_notes s ((part_name (Item d i)).id ∷ before) ps) (target_names i.stream ++ join_names i.window) (parts_names ps)
@@ -240,7 +240,7 @@ item_hides i d (Some j) (Some (entity.Streams n k)) = refl
 item_hides i d (Some j) (Some (entity.Element n k)) = refl
 item_hides i d (Some j) (Some (entity.View n k)) = refl
 
-hide_items : (s inner : Scope) (item : ℕ) (ps : List Part) → Hide (with_items s inner item ps).entries inner.entries (item_ids ps)
+hide_items : (s inner : Scope) (item : ℕ) (ps : List ClausePart) → Hide (with_items s inner item ps).entries inner.entries (item_ids ps)
 hide_items s inner item [] = λ id. refl
 hide_items s inner item (Item d i ∷ ps) =
     let name = (item_name i.stream i.window).id in
@@ -322,14 +322,14 @@ mutual
       (named-stmts after rest (owner_stmt s a ∙ h) ∙ hidden after.entries s.entries (stmt_ids a) (stmts_names rest) (hide_stmt s a h))
 
 -- what a task's body uses, by its free names
-pub named-body : (s : Scope) (slots : List ℕ) (ps : List Part) (a : tree.StmtTree) →
+pub named-body : (s : Scope) (slots : List ℕ) (ps : List ClausePart) (a : tree.StmtTree) →
     used_slots (stmt_notes (with_items s (in_task s slots) 0 ps) a) ≡ slots_named s.entries (without (item_ids ps) (stmt_names a))
 named-body s slots ps a =
     let inner = with_items s (in_task s slots) 0 ps in
     named-stmt inner a (owner_items s (in_task s slots) 0 ps) ∙ hidden inner.entries s.entries (item_ids ps) (stmt_names a) (hide_items s (in_task s slots) 0 ps)
 
 -- The members of what a task captures are those that its `firstprivate` clauses name and those that its body uses.
-pub captured-members : (s : Scope) (ps : List Part) (a : tree.StmtTree) (x : ℕ) →
+pub captured-members : (s : Scope) (ps : List ClausePart) (a : tree.StmtTree) (x : ℕ) →
     is_in x (slots_of (captured s.entries ps a))
     ≡ (is_in x (slots_named s.entries (private_ids ps)) || is_in x (used_slots (stmt_notes (in_task_body s ps a) a)))
 captured-members s ps a x =

@@ -14,7 +14,7 @@ use Rattle.os_ast.specs.Notes.Kinds.{Note, Used, Sized, Declared, Given, Global,
 use Rattle.os_ast.specs.Notes.Programs.{params_notes, after_param, param_list, item_notes, items_notes, after_item, in_function, in_body, program_notes, file}
 use Rattle.os_ast.specs.Notes.Statements.{stmt_notes, stmts_notes, after_stmt}
 use Rattle.os_ast.specs.Operators.{assign_mark, step_mark}
-use Rattle.os_ast.specs.Parts.{Part, Item, Private, parts, parts_of, part_name, count_items, target_name}
+use Rattle.os_ast.specs.ClauseParts.{ClausePart, Item, Private, parts, parts_of, part_name, count_items, target_name}
 use Rattle.os_ast.specs.Spelling as spelling
 use Rattle.os_ast.specs.Spelling.{Symbol, bare, marked, symbols, ◌⨾◌}
 use Rattle.os_ast.specs.Trees as tree
@@ -258,11 +258,11 @@ in-start s (tree.StartTree.Declare t ds) lo rest h = in-declare (typed t s) t ds
 in-start s (tree.StartTree.Change c) lo rest h = closed (in-change s c lo (spelling.punct puncts.Semicolon rest) h)
 
 -- the parts of clauses
-abbrev pub names_after : List ℕ → List Part → List ℕ
+abbrev pub names_after : List ℕ → List ClausePart → List ℕ
 names_after before [] = before
 names_after before (p ∷ ps) = names_after ((part_name p).id ∷ before) ps
 
-parts_notes-append : (s : Scope) (before : List ℕ) (ps qs : List Part) → parts_notes s before (ps ++ qs) ≡ parts_notes s before ps ++ parts_notes s (names_after before ps) qs
+parts_notes-append : (s : Scope) (before : List ℕ) (ps qs : List ClausePart) → parts_notes s before (ps ++ qs) ≡ parts_notes s before ps ++ parts_notes s (names_after before ps) qs
 parts_notes-append s before [] qs = refl
 parts_notes-append s before (p ∷ ps) qs =
     ap (λ ns. part_notes s before p ++ ns) (parts_notes-append s ((part_name p).id ∷ before) ps qs)

@@ -11,7 +11,7 @@ use Rattle.os_ast.specs.Notes.Expressions.{expr_notes, place_notes, args_notes, 
 use Rattle.os_ast.specs.Notes.Kinds.{Note, mark_of}
 use Rattle.os_ast.specs.Notes.Programs.{params_notes, after_param, param_list, item_notes, items_notes, after_item, in_function, in_body}
 use Rattle.os_ast.specs.Notes.Statements.{stmt_notes, stmts_notes, after_stmt}
-use Rattle.os_ast.specs.Parts.{Part, Item, Private, parts, parts_of, part_name, target_name}
+use Rattle.os_ast.specs.ClauseParts.{ClausePart, Item, Private, parts, parts_of, part_name, target_name}
 use Rattle.os_ast.specs.Spelling as spelling
 use Rattle.os_ast.specs.Spelling.{Symbol, bare, marked, ◌⨾◌}
 use Rattle.os_ast.specs.Trees as tree
@@ -162,15 +162,15 @@ of-start P s (tree.StartTree.Declare t ds) rest h = of-listed P (typed t s) ds _
 of-start P s (tree.StartTree.Change c) rest h = of-change P s c _ h
 
 -- the parts of clauses
-abbrev pub ArePlaced : (Mark → Type 0) → Scope → List Part → Type 0
+abbrev pub ArePlaced : (Mark → Type 0) → Scope → List ClausePart → Type 0
 ArePlaced P s [] = ⊤
 ArePlaced P s (p ∷ ps) = ((before : List ℕ) → AreOf P (part_notes s before p)) × ArePlaced P s ps
 
-placed-append : (P : Mark → Type 0) (s : Scope) (ps qs : List Part) → ArePlaced P s ps → ArePlaced P s qs → ArePlaced P s (ps ++ qs)
+placed-append : (P : Mark → Type 0) (s : Scope) (ps qs : List ClausePart) → ArePlaced P s ps → ArePlaced P s qs → ArePlaced P s (ps ++ qs)
 placed-append P s [] qs a b = b
 placed-append P s (p ∷ ps) qs a b = (a.0, placed-append P s ps qs a.1 b)
 
-of-parts : (P : Mark → Type 0) (s : Scope) (before : List ℕ) (ps : List Part) → ArePlaced P s ps → AreOf P (parts_notes s before ps)
+of-parts : (P : Mark → Type 0) (s : Scope) (before : List ℕ) (ps : List ClausePart) → ArePlaced P s ps → AreOf P (parts_notes s before ps)
 of-parts P s before [] h = tt
 of-parts P s before (p ∷ ps) h = of-append P (part_notes s before p) (parts_notes s ((part_name p).id ∷ before) ps) (h.0 before) (of-parts P s ((part_name p).id ∷ before) ps h.1)
 
@@ -236,7 +236,7 @@ of-clauses P s (c ∷ cs) rest h =
     let more = of-clauses P s cs rest one.1 in
     (placed-append P s (parts_of c.kind) (parts cs) one.0 more.0, more.1)
 
-of-task : (P : Mark → Type 0) (s : Scope) (m : Mark) (ps : List Part) (a : tree.StmtTree) → P m → ArePlaced P s ps → AreOf P (clauses_notes s m ps a)
+of-task : (P : Mark → Type 0) (s : Scope) (m : Mark) (ps : List ClausePart) (a : tree.StmtTree) → P m → ArePlaced P s ps → AreOf P (clauses_notes s m ps a)
 of-task P s m ps a h is = of-append P (parts_notes s [] ps) _ (of-parts P s [] ps is) (h, tt)
 
 mutual

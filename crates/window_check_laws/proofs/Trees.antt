@@ -4,7 +4,7 @@ use Rattle.std.proofs.Math.Seq.{drop-cons}
 use Rattle.os_ast.proofs.Rows.{stmt_tree-block}
 use Rattle.os_ast.specs.Trees as tree
 use Rattle.os_ast.specs.Names.{Scope}
-use Rattle.os_ast.specs.Parts.{parts, parts_of}
+use Rattle.os_ast.specs.ClauseParts.{parts, parts_of}
 use Rattle.os_ast.specs.Notes.Declarators.{after_declarator, after_declarators, declarator_notes, declarators_notes}
 use Rattle.os_ast.specs.Notes.Expressions.{count_args}
 use Rattle.os_ast.specs.Notes.Statements.{after_stmt, after_stmts, stmt_notes, stmts_notes}

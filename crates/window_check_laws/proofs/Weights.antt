@@ -7,7 +7,7 @@ use Rattle.os_ast.specs.declared.ty.Ty.{Ty}
 use Rattle.os_ast.specs.declared.program.Param.{Param}
 use Rattle.os_ast.proofs.Prints.{prints_item}
 use Rattle.os_ast.specs.Limits.{size_limit}
-use Rattle.os_ast.specs.Parts.{Item, Private, parts, parts_of}
+use Rattle.os_ast.specs.ClauseParts.{Item, Private, parts, parts_of}
 use Rattle.os_ast.specs.Notes.Programs.{file, param_list}
 use Rattle.os_ast.specs.Operators.{assign_mark, step_mark}
 use Rattle.os_ast.specs.Spelling as spelling

@@ -39,7 +39,7 @@ IsKnown p s id (entity.Element item d) = ⊤
 IsKnown p s id (entity.View item d) = ⊤
 
 -- all that is in scope is known, and its slots lie above one another
-pub record IsSound (p : tree.ProgramTree) (s : Scope) : Type 0 where
+pub record IsSoundScope (p : tree.ProgramTree) (s : Scope) : Type 0 where
   pub known : (id : ℕ) (e : Entity) → entity_of (lookup s.entries id) ≡ Some e → IsKnown p s id e
   pub stacked : Stacked (extent_in s.owner) s.slots s.entries
 
@@ -59,13 +59,13 @@ size_in p _ = 0
 
 -- what stands in a program stands in such a scope, and a name that is a size is that of a constant
 abbrev pub Stands : tree.ProgramTree → Note → Type 0
-Stands p (Used s n u) = IsSound p s
-Stands p (Sized s n) = IsSound p s × IsConstant p s n.id
-Stands p (Declared s d) = IsSound p s
-Stands p (Given s n) = IsSound p s
-Stands p (Global s n) = IsSound p s
-Stands p (Left s m) = IsSound p s
-Stands p (Returned s m) = IsSound p s
-Stands p (Pragma s m) = IsSound p s
-Stands p (Task s m items captured) = IsSound p s
+Stands p (Used s n u) = IsSoundScope p s
+Stands p (Sized s n) = IsSoundScope p s × IsConstant p s n.id
+Stands p (Declared s d) = IsSoundScope p s
+Stands p (Given s n) = IsSoundScope p s
+Stands p (Global s n) = IsSoundScope p s
+Stands p (Left s m) = IsSoundScope p s
+Stands p (Returned s m) = IsSoundScope p s
+Stands p (Pragma s m) = IsSoundScope p s
+Stands p (Task s m items captured) = IsSoundScope p s
 Stands p (Listed before n) = ⊤

@@ -5,7 +5,7 @@ use Rattle.os_ast.specs.Notes.Clauses.{in_task_body}
 use Rattle.os_ast.specs.Notes.Declarators.{after_start}
 use Rattle.os_ast.specs.Notes.Programs.{after_item, file, in_body}
 use Rattle.os_ast.specs.Notes.Statements.{after_stmt, after_stmts}
-use Rattle.os_ast.specs.Parts.{parts}
+use Rattle.os_ast.specs.ClauseParts.{parts}
 use Rattle.os_ast.specs.Trees as tree
 
 -- those of the tasks in a statement

@@ -4,6 +4,6 @@ pub mod Listing
 pub mod Lists
 pub mod Noted
 pub mod Restored
-pub mod Rows
+pub mod HidingEntries
 pub mod Rules
 pub mod UsedNames

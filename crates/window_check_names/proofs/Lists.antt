@@ -3,7 +3,7 @@ use Rattle.std.proofs.Common.{◌≡◌, ℕ, ◌+◌, ◌<◌, ◌≤◌, List,
 use Rattle.std.proofs.Math.Seq.{drop-cons}
 use Rattle.os_ast.specs.Names.{Scope}
 use Rattle.os_ast.specs.Notes.Clauses.{part_notes}
-use Rattle.os_ast.specs.Parts.{Part, Item, Private}
+use Rattle.os_ast.specs.ClauseParts.{ClausePart, Item, Private}
 use Rattle.os_ast.specs.Views.{clause_item_tree}
 use Rattle.os_ast.specs.declared.expr.Name.{Name}
 use Rattle.os_ast.specs.declared.names.Direction.{Direction}
@@ -23,25 +23,25 @@ pub privates-drop : (ns : List Name) (i : ℕ) (n : Name) → i < length ns → 
 privates-drop ns i n h is = rw (drop-cons ns i n h, ← is, add-one)
 
 -- each part adds an item or none
-pub items-part : (s : Scope) (l : ListedParts) (p : Part) → length (after_part s l p).items ≤ length l.items + 1
+pub items-part : (s : Scope) (l : ListedParts) (p : ClausePart) → length (after_part s l p).items ≤ length l.items + 1
 items-part s l (Item d i) = simp length-append (omega arith)
 items-part s l (Private n) = omega arith
 
-pub items-parts : (s : Scope) (l : ListedParts) (ps : List Part) → length (after_parts s l ps).items ≤ length l.items + length ps
+pub items-parts : (s : Scope) (l : ListedParts) (ps : List ClausePart) → length (after_parts s l ps).items ≤ length l.items + length ps
 items-parts s l [] = omega arith
 items-parts s l (p ∷ ps) = omega (arith, items-part s l p, items-parts s (after_part s l p) ps)
 
 -- what is found of a part, and of the parts after it
-pub found-part : (s : Scope) (f g : Found) (l m : ListedParts) (p : Part) (rest all : List Part) (whole : Found) →
+pub found-part : (s : Scope) (f g : Found) (l m : ListedParts) (p : ClausePart) (rest all : List ClausePart) (whole : Found) →
     all ≡ p ∷ rest → g ≡ noted f (part_notes s l.names p) → m ≡ after_part s l p →
     noted f (listed_notes s l all) ≡ whole → noted g (listed_notes s m rest) ≡ whole
 found-part s f g l m p rest all whole split found listed h =
     let both = noted-append f (part_notes s l.names p) (listed_notes s (after_part s l p) rest) in
-    let these = subst (λ (ps : List Part). noted f (listed_notes s l ps) ≡ whole) split h in
+    let these = subst (λ (ps : List ClausePart). noted f (listed_notes s l ps) ≡ whole) split h in
     rw (found, listed) (cc (both, these))
 
 -- what is found of the parts of a clause, and of the parts after them
-pub found-parts : (s : Scope) (f g : Found) (l m : ListedParts) (ps rest all : List Part) (whole : Found) →
+pub found-parts : (s : Scope) (f g : Found) (l m : ListedParts) (ps rest all : List ClausePart) (whole : Found) →
     all ≡ ps ++ rest → g ≡ noted f (listed_notes s l ps) → m ≡ after_parts s l ps →
     noted f (listed_notes s l all) ≡ whole → noted g (listed_notes s m rest) ≡ whole
 found-parts s f g l m ps rest all whole split found listed h =
@@ -49,12 +49,12 @@ found-parts s f g l m ps rest all whole split found listed h =
     let both = noted-append f (listed_notes s l ps) (listed_notes s (after_parts s l ps) rest) in
     cc (parts, both)
 
-pub listed-part : (s : Scope) (l m : ListedParts) (p : Part) (rest all : List Part) (whole : ListedParts) →
+pub listed-part : (s : Scope) (l m : ListedParts) (p : ClausePart) (rest all : List ClausePart) (whole : ListedParts) →
     all ≡ p ∷ rest → m ≡ after_part s l p → after_parts s l all ≡ whole → after_parts s m rest ≡ whole
 listed-part s l m p rest all whole split listed h =
-    rw listed (subst (λ (ps : List Part). after_parts s l ps ≡ whole) split h)
+    rw listed (subst (λ (ps : List ClausePart). after_parts s l ps ≡ whole) split h)
 
-pub listed-parts : (s : Scope) (l m : ListedParts) (ps rest all : List Part) (whole : ListedParts) →
+pub listed-parts : (s : Scope) (l m : ListedParts) (ps rest all : List ClausePart) (whole : ListedParts) →
     all ≡ ps ++ rest → m ≡ after_parts s l ps → after_parts s l all ≡ whole → after_parts s m rest ≡ whole
 listed-parts s l m ps rest all whole split listed h =
     let both = after_parts-append s l ps rest in

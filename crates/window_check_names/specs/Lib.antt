@@ -5,5 +5,5 @@ pub mod Parts
 pub mod Scopes
 pub mod Sizes
 -- What restates the parts of this for their own contracts.
-pub mod Rows
+pub mod HidingEntries
 pub mod Uses

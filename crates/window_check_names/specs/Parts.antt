@@ -5,7 +5,7 @@ use Rattle.std.specs.Ordering.{nat_cmp}
 use Rattle.os_ast.specs.Names.{Scope, lookup, entity_of, flag_of, flagged, declare}
 use Rattle.os_ast.specs.Notes.Clauses.{part_notes}
 use Rattle.os_ast.specs.Notes.Kinds.{Note}
-use Rattle.os_ast.specs.Parts.{Part, Item, Private, item_name}
+use Rattle.os_ast.specs.ClauseParts.{ClausePart, Item, Private, item_name}
 use Rattle.os_ast.specs.declared.names.Direction.{Direction}
 use Rattle.os_ast.specs.declared.names.Entity.{Entity}
 use Rattle.os_ast.specs.declared.names.Entity.TheVariants as entity
@@ -37,18 +37,18 @@ with_item e l id joined d = record l {
 abbrev pub with_private : Option Entity → ListedParts → ℕ → ListedParts
 with_private e l id = record l { names = insert_key nat_cmp l.names id; slots = with_slots (control_slots e) l.slots }
 
-abbrev pub after_part : Scope → ListedParts → Part → ListedParts
+abbrev pub after_part : Scope → ListedParts → ClausePart → ListedParts
 after_part s l (Item d i) =
     let id = (item_name i.stream i.window).id in
     with_item (lookup s.entries id) l id (is_some i.window) d
 after_part s l (Private n) = with_private (entity_of (lookup s.entries n.id)) l n.id
 
-abbrev pub after_parts : Scope → ListedParts → List Part → ListedParts
+abbrev pub after_parts : Scope → ListedParts → List ClausePart → ListedParts
 after_parts s l [] = l
 after_parts s l (p ∷ ps) = after_parts s (after_part s l p) ps
 
 -- the notes of parts, where the names before them are listed
-abbrev pub listed_notes : Scope → ListedParts → List Part → List Note
+abbrev pub listed_notes : Scope → ListedParts → List ClausePart → List Note
 listed_notes s l [] = []
 listed_notes s l (p ∷ ps) = part_notes s l.names p ++ listed_notes s (after_part s l p) ps
 

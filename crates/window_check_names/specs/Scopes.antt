@@ -2,20 +2,20 @@
 use Rattle.std.specs.Prelude.{ℕ, Bool, ◌+◌, ◌-◌, length, drop}
 use Rattle.os_ast.specs.Names.{Scope, flagged, declare}
 use Rattle.os_ast.specs.declared.names.Entity.TheVariants as entity
-use Rattle.window_check_names.specs.declared.scopes.Around.{Around}
+use Rattle.window_check_names.specs.declared.scopes.EnclosingBody.{EnclosingBody}
 use Rattle.window_check_names.specs.declared.scopes.Outer.{Outer}
 use Rattle.window_check_names.specs.declared.scopes.Totals.{Totals}
 
 abbrev pub outer_of : Scope → Outer
 outer_of s = record { declared = length s.entries; depth = s.depth; in_loop = s.loop }
 
-abbrev pub around_of : Scope → Around
+abbrev pub around_of : Scope → EnclosingBody
 around_of s = record { outer = outer_of s; owner = s.owner; captured = s.captured; slots = s.slots; elements = s.elements }
 
 abbrev pub returned : Outer → Scope → Scope
 returned o s = record s { entries = drop (length s.entries - o.declared) s.entries; depth = o.depth; loop = o.in_loop }
 
-abbrev pub ended : Around → Scope → Scope
+abbrev pub ended : EnclosingBody → Scope → Scope
 ended a s = record (returned a.outer s) { owner = a.owner; captured = a.captured; slots = a.slots; elements = a.elements }
 
 -- the scope with so much taken of the program

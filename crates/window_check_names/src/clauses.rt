@@ -4,7 +4,7 @@ ghost use Rattle.std.specs.Prelude.{◌≡◌, ◌+◌, ◌≤◌, ◌∷◌, []
 ghost use Rattle.os_ast.specs.Notes.Clauses.{parts_notes, part_notes, window_notes, shape_of};
 ghost use Rattle.os_ast.specs.Notes.Expressions.{index_notes};
 ghost use Rattle.os_ast.specs.Notes.Kinds.{Used};
-ghost use Rattle.os_ast.specs.Parts.{Item, Private, parts, parts_of};
+ghost use Rattle.os_ast.specs.ClauseParts.{Item, Private, parts, parts_of};
 ghost use Rattle.os_ast.specs.Views.{clause_tree, clause_kind_tree, clause_item_tree, join_tree, index_tree, target_tree};
 ghost use Rattle.os_ast.specs.declared.names.Use.TheVariants as usage;
 ghost use Rattle.window_check_names.specs.Findings.{noted};

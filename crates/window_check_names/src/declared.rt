@@ -9,7 +9,7 @@ use std::marker::Model;
 
 /// A declaration in scope, and the one that it hides.
 #[derive(Clone, Copy)]
-struct Row {
+struct HidingEntry {
     entry: Entry,
     hidden: Option<Entry>,
 }
@@ -17,7 +17,7 @@ struct Row {
 /// The declarations in scope, from the innermost on.
 #[derive(Drop)]
 pub(crate) struct Declared {
-    rows: Vec<Row>,
+    rows: Vec<HidingEntry>,
     newest: BTreeMap<u32, Entry>,
 }
 
@@ -27,7 +27,7 @@ impl Model for Declared {
     ghost use Rattle.std.specs.Ordering.{nat_cmp};
     ghost use Rattle.os_ast.specs.Names.{lookup};
     ghost use Rattle.os_ast.specs.declared.names.Entry.{Entry};
-    ghost use Rattle.window_check_names.specs.Rows.{entries, Hides};
+    ghost use Rattle.window_check_names.specs.HidingEntries.{entries, Hides};
 
     ghost Value = { List Entry };
 
@@ -48,7 +48,7 @@ impl Declared {
     }
 
     /// How many declarations there are, hidden ones included.
-    #[tactic(auto, using(crate::proofs::Rows::length_entries))]
+    #[tactic(auto, using(crate::proofs::HidingEntries::length_entries))]
     pub(crate) fn len(&self) -> usize
         ensures { result ≡ length self.now }
     {
@@ -69,7 +69,7 @@ impl Declared {
     {
         self.rows.reserve(1)?;
         let hidden = self.newest.insert(entry.id, entry)?;
-        self.rows.push_reserved(Row { entry, hidden });
+        self.rows.push_reserved(HidingEntry { entry, hidden });
         Ok(())
     }
 

@@ -25,5 +25,5 @@ mod uses;
 pub use captures::{Captured, Slots};
 pub use found::{Found, Judged};
 pub use meanings::meaning;
-pub use scopes::{Around, Outer, Scopes, Totals};
+pub use scopes::{EnclosingBody, Outer, Scopes, Totals};
 pub use sizes::{size_name, size_of};

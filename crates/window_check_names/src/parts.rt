@@ -1,5 +1,5 @@
 ghost use Rattle.std.specs.Prelude.{◌≡◌, ◌≤◌, OnOk, length, option_map};
-ghost use Rattle.os_ast.specs.Parts.{Item, Private, item_name, is_in};
+ghost use Rattle.os_ast.specs.ClauseParts.{Item, Private, item_name, is_in};
 ghost use Rattle.os_ast.specs.Rules.{when};
 ghost use Rattle.os_ast.specs.Views.{clause_item_tree, join_tree, target_tree};
 ghost use Rattle.window_check_names.specs.BrokenRules.{least_rule};

@@ -77,7 +77,7 @@ pub struct Outer {
 
 /// What the end of a function's or a task's body restores.
 #[derive(Drop)]
-pub struct Around {
+pub struct EnclosingBody {
     outer: Outer,
     owner: Owner,
     captured: Slots,
@@ -254,7 +254,7 @@ impl Scopes {
     }
 
     /// Begins the body of a function or of `main`, with a new scope. The answer is what its end restores.
-    pub fn begin(&mut self, alloc: Global, owner: Owner) -> Around
+    pub fn begin(&mut self, alloc: Global, owner: Owner) -> EnclosingBody
         requires { self.old.depth + 1 ≤ room_end }
         ensures scope { self.new ≡ enter (in_unit owner self.old) }
         ensures around { result ≡ around_of self.old }
@@ -263,7 +263,7 @@ impl Scopes {
     }
 
     /// Begins the body of a task, with a new scope: the scalars that it captures have its first slots. The answer is what its end restores.
-    pub fn begin_task(&mut self, captured: Slots) -> Around
+    pub fn begin_task(&mut self, captured: Slots) -> EnclosingBody
         requires depth { self.old.depth + 1 ≤ room_end }
         requires few { length captured ≤ room_end }
         ensures scope { self.new ≡ in_task self.old captured }
@@ -273,12 +273,12 @@ impl Scopes {
         self.begin_with(Owner::OfTask, captured, slots)
     }
 
-    fn begin_with(&mut self, owner: Owner, captured: Slots, slots: u32) -> Around
+    fn begin_with(&mut self, owner: Owner, captured: Slots, slots: u32) -> EnclosingBody
         requires { self.old.depth + 1 ≤ room_end }
         ensures scope { self.new ≡ enter (record (in_unit owner self.old) { captured = captured; slots = slots }) }
         ensures around { result ≡ around_of self.old }
     {
-        let around = Around {
+        let around = EnclosingBody {
             outer: Outer {
                 declared: self.declared.len(),
                 depth: self.depth,
@@ -298,10 +298,10 @@ impl Scopes {
     }
 
     /// Ends a body, and restores what stood before it.
-    pub fn end(&mut self, around: Around)
+    pub fn end(&mut self, around: EnclosingBody)
         ensures { self.new ≡ ended around self.old }
     {
-        let Around {
+        let EnclosingBody {
             outer,
             owner,
             captured,

@@ -2,7 +2,7 @@ use Rattle.std.proofs.Common.{◌≡◌, ◌<◌, Bool, map, option_map, pos, ar
 use Rattle.std.specs.List.{take-map}
 use Rattle.std.specs.Option.{option_copied}
 use Rattle.os_ast.specs.Trees as ast
-use Rattle.os_ast.specs.Parts as clauses
+use Rattle.os_ast.specs.ClauseParts as clauses
 use Rattle.os_ast.specs.declared.pragma.ClauseKind.{ClauseKind}
 use Rattle.cddf_meaning.specs.Answers.{Answer, Left, left}
 use Rattle.cddf_meaning.specs.File.{type_in}
@@ -13,7 +13,7 @@ use Rattle.cddf_meaning.specs.Value.{chained, linked, value}
 use Rattle.std.proofs.lemmas.Result.{err_from_is_err_and}
 use Rattle.os_ast.proofs.Rows.{expr_tree-call, expr_tree-chain, stmt_tree-block}
 use Rattle.cddf_meaning.specs.Functions.{bind_params, file_of, result_of, returned}
-use Rattle.cddf_meaning.specs.State.{state_of}
+use Rattle.cddf_meaning.specs.BodyState.{state_of}
 use Rattle.cddf_meaning_plain_state.specs.Claimed.{behind}
 use Rattle.cddf_meaning_plain_state.specs.FunctionTrees.{function_tree}
 use Rattle.cddf_meaning_plain_tasks.specs.Arounds.{around_of}

@@ -1,13 +1,13 @@
 //! A run in which all is done, and one in which nothing is. `tests/rows/runs.rows` has more of them.
 
-use super::{Run, shows};
+use super::{WantedRun, shows};
 use std::test::Fail;
 
 #[test]
 fn a_window_is_reversed(rt: HostRuntime) -> Result<(), Fail> {
     shows(
         &rt,
-        &Run {
+        &WantedRun {
             options: &[],
             program: r"int main(void) {
     int a[4], b[4];
@@ -27,7 +27,7 @@ fn a_window_is_reversed(rt: HostRuntime) -> Result<(), Fail> {
 fn who_reads_from_a_failed_activation_is_poisoned(rt: HostRuntime) -> Result<(), Fail> {
     shows(
         &rt,
-        &Run {
+        &WantedRun {
             options: &["--budget", "9"],
             program: r"int main(void) {
     int s __attribute__((stream)), t __attribute__((stream));

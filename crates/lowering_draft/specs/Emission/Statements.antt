@@ -9,7 +9,7 @@ use Rattle.lowering_draft.specs.Emission.Tasks.{items_code, tick_code}
 use Rattle.lowering_draft.specs.declared.draft.Draft.{Draft}
 use Rattle.lowering_draft.specs.declared.draft.Label.{Label}
 use Rattle.lowering_draft.specs.declared.exits.Exits.{Exits}
-use Rattle.os_ast.specs.Parts.{parts}
+use Rattle.os_ast.specs.ClauseParts.{parts}
 use Rattle.os_ast.specs.Trees as tree
 use Rattle.os_ast.specs.declared.names.Resolved.{Resolved}
 use Rattle.os_code.specs.declared.instr.Instr.TheVariants.{Drop, Jump, Turn}

@@ -9,7 +9,7 @@ use Rattle.lowering_draft.specs.declared.exits.Exits.{Exits}
 use Rattle.lowering_draft.specs.declared.units.Units.{Units}
 use Rattle.os_ast.specs.Names.{main_id}
 use Rattle.os_ast.specs.Notes.Programs.{param_list}
-use Rattle.os_ast.specs.Parts.{parts}
+use Rattle.os_ast.specs.ClauseParts.{parts}
 use Rattle.os_ast.specs.Trees as tree
 use Rattle.os_ast.specs.Views.{clause_tree, stmt_tree, stmts_tree}
 use Rattle.os_ast.specs.declared.names.Owner.TheVariants as owner

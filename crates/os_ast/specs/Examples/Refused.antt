@@ -28,7 +28,8 @@ missing_argument =
       params = params.Names (int_param 16 4 1 ∷ []);
       body = (block (tree.Return (mark 7 1) (tree.Place (variable 16 8 1)) ∷ []));
     }
-    ∷ tree.Function record { ty = ty.Int; name = (named 8 12 1); params = params.Void; body = (block (tree.StmtTree.Call (named 13 17 1) tree.no_args ∷ [])) } ∷ []
+    ∷ tree.Function record { ty = ty.Int; name = (named 8 12 1); params = params.Void; body = (block (tree.StmtTree.Call (named 13 17 1) tree.no_args ∷ [])) }
+    ∷ []
 
 -- int main(void) { break; }
 abbrev pub break_outside_a_loop : tree.ProgramTree
@@ -69,7 +70,13 @@ changed_stream =
 abbrev pub return_in_a_task : tree.ProgramTree
 return_in_a_task =
     tree.Function
-    record { ty = ty.Int; name = (named 8 1 1); params = params.Void; body = (block (tree.Task (mark 6 2) ([]) (tree.Return (mark 10 3) (tree.Number 1)) ∷ [])) } ∷ []
+    record {
+      ty = ty.Int;
+      name = (named 8 1 1);
+      params = params.Void;
+      body = (block (tree.Task (mark 6 2) ([]) (tree.Return (mark 10 3) (tree.Number 1))
+          ∷ []));
+    } ∷ []
 
 -- int main(void) {
 -- #pragma omp task output(osin << x)

@@ -128,7 +128,8 @@ stream_in_an_inner_block =
       name = (named 8 1 1);
       params = params.Void;
       body =
-          (block (tree.Block (block (tree.StmtTree.Declare ty.Int (record { name = (named 20 8 1); size = None; stream = true; first = None } ∷ []) ∷ [])) ∷ []));
+          (block (tree.Block (block (tree.StmtTree.Declare ty.Int (record { name = (named 20 8 1); size = None; stream = true; first = None } ∷ []) ∷ []))
+          ∷ []));
     } ∷ []
 
 -- int f(void) {
@@ -137,7 +138,13 @@ stream_in_an_inner_block =
 abbrev pub pragma_in_a_function : tree.ProgramTree
 pragma_in_a_function =
     tree.Function
-    record { ty = ty.Int; name = (named 13 1 1); params = params.Void; body = (block (tree.Taskwait (mark 6 2) ∷ tree.Return (mark 10 3) (tree.Number 0) ∷ [])) }
+    record {
+      ty = ty.Int;
+      name = (named 13 1 1);
+      params = params.Void;
+      body = (block (tree.Taskwait (mark 6 2) ∷ tree.Return (mark 10 3) (tree.Number 0)
+          ∷ []));
+    }
     ∷ tree.Function record { ty = ty.Int; name = (named 8 15 3); params = params.Void; body = (block ([])) } ∷ []
 
 -- int main(void) { int x = osin; }
@@ -150,7 +157,8 @@ stream_as_a_value =
       params = params.Void;
       body =
           (block
-          (tree.StmtTree.Declare ty.Int (record { name = (named 19 7 1); size = None; stream = false; first = (Some (tree.Place (variable 9 9 1))) } ∷ []) ∷ []));
+          (tree.StmtTree.Declare ty.Int (record { name = (named 19 7 1); size = None; stream = false; first = (Some (tree.Place (variable 9 9 1))) } ∷ [])
+          ∷ []));
     } ∷ []
 
 -- int main(void) {
@@ -159,7 +167,13 @@ stream_as_a_value =
 abbrev pub read_output : tree.ProgramTree
 read_output =
     tree.Function
-    record { ty = ty.Int; name = (named 8 1 1); params = params.Void; body = (block (tree.Tick (mark 6 2) (variable 10 10 2) (mark 11 2) (tree.Number 1) ∷ [])) } ∷ []
+    record {
+      ty = ty.Int;
+      name = (named 8 1 1);
+      params = params.Void;
+      body = (block (tree.Tick (mark 6 2) (variable 10 10 2) (mark 11 2) (tree.Number 1)
+          ∷ []));
+    } ∷ []
 
 -- int main(void) { int x;
 -- #pragma omp task input(osin >> x) output(osout << x)
@@ -256,7 +270,13 @@ main_with_a_parameter = tree.Function record { ty = ty.Int; name = (named 8 1 1)
 abbrev pub function_in_its_own_body : tree.ProgramTree
 function_in_its_own_body =
     tree.Function
-    record { ty = ty.Int; name = (named 13 1 1); params = params.Void; body = (block (tree.Return (mark 6 1) (tree.ExprTree.Call (named 13 7 1) tree.no_args) ∷ [])) }
+    record {
+      ty = ty.Int;
+      name = (named 13 1 1);
+      params = params.Void;
+      body = (block (tree.Return (mark 6 1) (tree.ExprTree.Call (named 13 7 1) tree.no_args)
+          ∷ []));
+    }
     ∷ tree.Function record { ty = ty.Int; name = (named 8 13 1); params = params.Void; body = (block ([])) } ∷ []
 
 -- int main(void) { for (int i = 0; i < 2; i++) ; i = 1; }
@@ -286,7 +306,8 @@ name_of_a_function =
       params = params.Void;
       body =
           (block
-          (tree.StmtTree.Declare ty.Int (record { name = (named 29 17 1); size = None; stream = false; first = (Some (tree.Place (variable 13 19 1))) } ∷ []) ∷ []));
+          (tree.StmtTree.Declare ty.Int (record { name = (named 29 17 1); size = None; stream = false; first = (Some (tree.Place (variable 13 19 1))) } ∷ [])
+          ∷ []));
     } ∷ []
 
 -- int main(void) { int w[2];

@@ -65,4 +65,5 @@ wrong_name_behind_too_many_items =
 abbrev pub no_main_and_others : tree.ProgramTree
 no_main_and_others =
     tree.Function
-    record { ty = ty.Int; name = (named 13 1 1); params = params.Void; body = (block (tree.Break (mark 6 1) ∷ tree.Return (mark 8 1) (tree.Number 0) ∷ [])) } ∷ []
+    record { ty = ty.Int; name = (named 13 1 1); params = params.Void; body = (block (tree.Break (mark 6 1) ∷ tree.Return (mark 8 1) (tree.Number 0) ∷ [])) }
+    ∷ []

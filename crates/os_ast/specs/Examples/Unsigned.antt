@@ -69,4 +69,5 @@ program =
 
 -- what its names mean
 abbrev pub meanings : List Resolved
-meanings = resolved 12 (what.Scalar 0) true ∷ resolved 16 (what.Scalar 0) true ∷ resolved 28 (what.Scalar 1) true ∷ resolved 30 (what.Constant (negsuc 0)) true ∷ []
+meanings = resolved 12 (what.Scalar 0) true ∷ resolved 16 (what.Scalar 0) true ∷ resolved 28 (what.Scalar 1) true ∷ resolved 30 (what.Constant (negsuc 0)) true
+    ∷ []

@@ -5,7 +5,7 @@ use Rattle.os_ast.specs.Notes.Clauses.{in_task_body, clauses_notes}
 use Rattle.os_ast.specs.Notes.Declarators.{after_declarators, declarators_notes, after_start, start_notes}
 use Rattle.os_ast.specs.Notes.Expressions.{count_args, expr_notes, place_notes, args_notes, value_notes, change_notes, step_notes}
 use Rattle.os_ast.specs.Notes.Kinds.{Note, Used, Left, Returned, Pragma}
-use Rattle.os_ast.specs.Parts.{parts}
+use Rattle.os_ast.specs.ClauseParts.{parts}
 use Rattle.os_ast.specs.Trees as tree
 use Rattle.os_ast.specs.declared.names.Direction.TheVariants as direction
 use Rattle.os_ast.specs.declared.names.Role.TheVariants as role

@@ -1,6 +1,6 @@
 use Rattle.std.proofs.Common.{◌≡◌, [], drop}
 use Rattle.cddf_meaning.specs.Functions.{bind_params}
-use Rattle.cddf_meaning.specs.State.{state_of}
+use Rattle.cddf_meaning.specs.BodyState.{state_of}
 use Rattle.cddf_meaning_plain_state.proofs.functions.with_params.Given as goal
 
 abbrev pub invariant-loop-place : goal.invariant-loop-place

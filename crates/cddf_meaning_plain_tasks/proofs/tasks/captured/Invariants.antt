@@ -1,7 +1,7 @@
 use Rattle.std.proofs.Common.{◌≡◌, ◌++◌, drop, map}
 use Rattle.cddf_meaning.specs.Tasks.{among}
 use Rattle.os_ast.specs.FreeNames.{task_names}
-use Rattle.os_ast.specs.Parts.{parts}
+use Rattle.os_ast.specs.ClauseParts.{parts}
 use Rattle.os_ast.specs.Views.{clause_tree, stmt_tree}
 use Rattle.cddf_meaning_plain_tasks.proofs.tasks.captured.Given as goal
 

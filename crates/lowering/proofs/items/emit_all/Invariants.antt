@@ -1,6 +1,6 @@
 use Rattle.std.proofs.Common.{◌≡◌, drop, map}
 use Rattle.lowering_draft.specs.Emission.Tasks.{items_code}
-use Rattle.os_ast.specs.Parts.{Item}
+use Rattle.os_ast.specs.ClauseParts.{Item}
 use Rattle.os_ast.specs.Views.{clause_item_tree}
 use Rattle.lowering_relation.specs.Names.{told_at}
 use Rattle.lowering.proofs.items.emit_all.Given as goal

@@ -1,6 +1,6 @@
 use Rattle.std.proofs.Common.{◌≡◌, drop, map}
 use Rattle.lowering_draft.specs.Emission.Tasks.{items_code}
-use Rattle.os_ast.specs.Parts.{parts}
+use Rattle.os_ast.specs.ClauseParts.{parts}
 use Rattle.os_ast.specs.Views.{clause_tree}
 use Rattle.lowering_relation.specs.Names.{told_at}
 use Rattle.lowering.proofs.items.emit_items.Given as goal

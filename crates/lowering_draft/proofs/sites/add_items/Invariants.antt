@@ -1,5 +1,5 @@
 use Rattle.std.proofs.Common.{◌≡◌, ◌++◌, drop, map}
-use Rattle.os_ast.specs.Parts.{Item}
+use Rattle.os_ast.specs.ClauseParts.{Item}
 use Rattle.os_ast.specs.Views.{clause_item_tree}
 use Rattle.lowering_relation.specs.Names.{told_at}
 use Rattle.lowering_relation.specs.Tasks.{site_items}

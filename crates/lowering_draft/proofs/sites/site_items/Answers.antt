@@ -1,7 +1,7 @@
 use Rattle.std.proofs.Common.{◌≡◌, ◌∙◌, ◌+◌, ◌<◌, List, ◌++◌, length, drop, get_or, map, ap, sym, subst, append_assoc}
 use Rattle.lowering_draft.proofs.Parts.{parts-drop}
 use Rattle.lowering_draft.proofs.TaskParts.{site_items-append}
-use Rattle.os_ast.specs.Parts.{parts, parts_of}
+use Rattle.os_ast.specs.ClauseParts.{parts, parts_of}
 use Rattle.os_ast.specs.Views.{clause_kind_tree, clause_tree}
 use Rattle.os_ast.specs.declared.pragma.Clause.{Clause}
 use Rattle.lowering_relation.specs.Names.{told_at}

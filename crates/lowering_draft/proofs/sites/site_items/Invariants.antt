@@ -1,5 +1,5 @@
 use Rattle.std.proofs.Common.{◌≡◌, ◌++◌, drop, map}
-use Rattle.os_ast.specs.Parts.{parts}
+use Rattle.os_ast.specs.ClauseParts.{parts}
 use Rattle.os_ast.specs.Views.{clause_tree}
 use Rattle.lowering_relation.specs.Names.{told_at}
 use Rattle.lowering_relation.specs.Tasks.{site_items}

@@ -21,7 +21,7 @@ loop-alloc-init g c =
     let pushed : c.push.new.self ≡ [] ++ c.in_ok-read.field-0 ∷ [] = c.in_ok-push.ensures.ok ∙ ap (λ xs. xs ++ c.in_ok-read.field-0 ∷ []) c.new-items.ensures in
     let one : length c.push.new.self ≡ 1 = ap length pushed in
     record {
-      read = rw pushed (lists.list_of-start g.P.Part.view (g.P.Part.reads c.args.part.now) c.args.cursor.now c.read.new.cursor c.in_ok-read.field-0 c.in_ok-read.ensures.gives);
+      read = rw pushed (lists.list_of-start g.P.Production.view (g.P.Production.reads c.args.part.now) c.args.cursor.now c.read.new.cursor c.in_ok-read.field-0 c.in_ok-read.ensures.gives);
       within = omega arith;
       some = omega arith;
       shorter = c.in_ok-read.ensures.within;
@@ -34,7 +34,7 @@ returns-in_err-read-2-clause-gives g c =
     rw (p.1, p.2)
     (refuses-on c.in_err-read-2.field-0.0 c.read-in-loop-alloc.new.cursor _ _ c.in_err-read-2.ensures.gives
     (λ e. c.loop-alloc.invariant.read
-    ∙ lists.with_list-fails (length c.read.new.cursor + 2) g.P.Part.view c.loop-alloc.items (begins (kind.Punct puncts.Comma)) (λ ts. g.P.Part.reads c.args.part.now (after ts))
+    ∙ lists.with_list-fails (length c.read.new.cursor + 2) g.P.Production.view c.loop-alloc.items (begins (kind.Punct puncts.Comma)) (λ ts. g.P.Production.reads c.args.part.now (after ts))
     c.loop-alloc.cursor c.read-in-loop-alloc.new.cursor (omega arith) comma (rw (← c.advance.ensures) e)))
 
 pub loop-alloc-preserved : goal.loop-alloc-preserved
@@ -45,7 +45,7 @@ loop-alloc-preserved g c =
     let longer : length c.push-in-loop-alloc.new.self ≡ length c.loop-alloc.items + 1 = ap length pushed ∙ length_push c.loop-alloc.items x in
     record {
       read = rw pushed (c.loop-alloc.invariant.read
-          ∙ lists.with_list-more (length c.read.new.cursor + 2) g.P.Part.view c.loop-alloc.items (begins (kind.Punct puncts.Comma)) (λ ts. g.P.Part.reads c.args.part.now (after ts))
+          ∙ lists.with_list-more (length c.read.new.cursor + 2) g.P.Production.view c.loop-alloc.items (begins (kind.Punct puncts.Comma)) (λ ts. g.P.Production.reads c.args.part.now (after ts))
           c.loop-alloc.cursor c.read-in-loop-alloc.new.cursor x (omega arith) comma (rw (← c.advance.ensures) c.in_ok-read-2.ensures.gives));
       within =
           let past = begins-takes (kind.Punct puncts.Comma) c.loop-alloc.cursor comma in
@@ -66,7 +66,7 @@ pub returns-clause-gives : goal.returns-clause-gives
 returns-clause-gives g c =
     let none : begins (kind.Punct puncts.Comma) c.loop-alloc.cursor ≡ false = cc in
     c.loop-alloc.invariant.read
-    ∙ lists.with_list-end (length c.read.new.cursor + 2) g.P.Part.view c.loop-alloc.items (begins (kind.Punct puncts.Comma)) (λ ts. g.P.Part.reads c.args.part.now (after ts))
+    ∙ lists.with_list-end (length c.read.new.cursor + 2) g.P.Production.view c.loop-alloc.items (begins (kind.Punct puncts.Comma)) (λ ts. g.P.Production.reads c.args.part.now (after ts))
     c.loop-alloc.cursor (omega arith) none
 
 pub returns-clause-within : goal.returns-clause-within

@@ -3,7 +3,7 @@ use Rattle.std.proofs.lemmas.Result.{IfErr-at_err, IfOk-at_ok}
 use Rattle.os_serve_answers.proofs.Next.{next_answered, next_last, next_memory, next_short}
 use Rattle.os_serve_answers.proofs.Written.{cut_by, took_first}
 use Rattle.os_serve_answers.specs.Replies.{reply_of}
-use Rattle.os_serve_answers.specs.declared.stop.Stop.TheVariants as stops
+use Rattle.os_serve_answers.specs.declared.serve_error.ServeError.TheVariants as stops
 use Rattle.os_serve_jobs.specs.Answers.{answer}
 use Rattle.os_serve_jobs.specs.Reading.{waiting_lines}
 use Rattle.os_serve_jobs.specs.Words.{IsText}

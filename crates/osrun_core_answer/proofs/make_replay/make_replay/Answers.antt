@@ -3,7 +3,7 @@ use Rattle.std.proofs.lemmas.Result.{err_from_is_err_and}
 use Rattle.os_ast.specs.Views.{program_tree}
 use Rattle.osrun_core_answer.proofs.Loaded.{not_loaded, opened_so, was_read}
 use Rattle.osrun_core_answer.proofs.MadeRun.{all_read, cause_of_first, cause_of_second, cause_of_third, input_file, may_open_first, may_open_second, may_open_third, memory_wanted_after_three, program_file, trace_file}
-use Rattle.osrun_core_answer.specs.Outcome.{replay_budgets}
+use Rattle.osrun_core_answer.specs.JobOutcome.{replay_budgets}
 use Rattle.osrun_core_jobs.specs.Jobs.{replay_of}
 use Rattle.osrun_core_jobs.specs.declared.subject.Subject.TheVariants as subjects
 use Rattle.osrun_core_run.specs.Replay.{IsReplay}

@@ -13,7 +13,7 @@ use Rattle.osrun_core_run.proofs.TasksRun.{run_of_code}
 use Rattle.osview_answer.proofs.TaskLines.{all_lines}
 use Rattle.osview_answer.specs.StreamNames.{stream_names}
 use Rattle.osview_graph.specs.Graph.{graph_of}
-use Rattle.osview_graph.specs.Run.{Run}
+use Rattle.osview_graph.specs.DrawnRun.{DrawnRun}
 use Rattle.osview_sentences.specs.declared.stream_name.StreamName.{StreamName}
 use Rattle.stream_match_layouts.specs.Lawful.{AreLawful}
 use Rattle.stream_match_layouts.specs.Layout.{IsLayoutOf}
@@ -43,7 +43,7 @@ returns g c =
     let same_made : c.in_ok-control.control ≡ r.made =
     c.in_ok-control.ensures.exact ∙ is_source.is_code.control (length input) c.args.job.now.run.terms.control_budget ∙ sym r.made_is in
     let view = c.args.job.now.view in
-    let drawn : List ℕ → List StreamName → List ℕ → ℕ → List Activation → ℕ → List (Option TaskEnd) → Run =
+    let drawn : List ℕ → List StreamName → List ℕ → ℕ → List Activation → ℕ → List (Option TaskEnd) → DrawnRun =
     λ text named lines count activations input_len ends.
     record { text = text; names = named; lines = lines; streams = count; activations = activations; input_len = input_len; ends = ends } in
     let same_names : c.deref-4.result.now ≡ stream_names tokens (names p) =
@@ -63,7 +63,7 @@ returns g c =
       made_is = r.made_is;
       ends = run.ends;
       ends_are = r.ends_are;
-      told_is = c.into_bytes.ensures ∙ c.in_ok-text.ensures ∙ ap (λ (r : Run). graph_of r view)
+      told_is = c.into_bytes.ensures ∙ c.in_ok-text.ensures ∙ ap (λ (r : DrawnRun). graph_of r view)
           (ap (λ text. drawn text c.deref-4.result.now c.deref-5.result.now source.code.streams c.as_slice-2.result.now run.layout.input_len c.as_slice-3.result.now) c.deref-3.ensures.value
           ∙ ap (λ named. drawn source.text.items named c.deref-5.result.now source.code.streams c.as_slice-2.result.now run.layout.input_len c.as_slice-3.result.now) same_names
           ∙ ap (λ at. drawn source.text.items (stream_names tokens (names p)) at source.code.streams c.as_slice-2.result.now run.layout.input_len c.as_slice-3.result.now) same_lines

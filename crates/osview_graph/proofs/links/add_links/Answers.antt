@@ -5,11 +5,11 @@ use Rattle.std.proofs.lemmas.Bool.Decides.{nat_tests}
 use Rattle.flow_core_laws.specs.Window.{Window}
 use Rattle.osview_graph.specs.Drawing.{run_of, shown_of}
 use Rattle.osview_graph.specs.Links.{Shown, input_link, link_at, links, window_links}
-use Rattle.osview_graph.specs.Run.{Run}
+use Rattle.osview_graph.specs.DrawnRun.{DrawnRun}
 use Rattle.stream_match_layouts.specs.declared.span.Span.{Span}
 use Rattle.osview_graph.proofs.links.add_links.Goals as goal
 
-from_input : (run : Run) (shown : Shown) (w : Window) → w.claim.write ≡ false → w.claim.stream ≡ 0 → input_link run w ≡ window_links run shown w
+from_input : (run : DrawnRun) (shown : Shown) (w : Window) → w.claim.write ≡ false → w.claim.stream ≡ 0 → input_link run w ≡ window_links run shown w
 from_input run shown w reads input =
     let same : (w.claim.stream == 0) ≡ true = grind (arith, nat_tests) in
     sym (ap (λ (b : Bool). cond b [] (links run shown w)) reads

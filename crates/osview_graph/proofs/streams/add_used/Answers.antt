@@ -2,15 +2,15 @@ use Rattle.std.proofs.Common.{◌≡◌, ◌∙◌, ◌++◌, Bool, List, OnOk, 
 use Rattle.std.specs.Prelude.{◌==◌}
 use Rattle.std.proofs.lemmas.Bool.Decides.{nat_tests}
 use Rattle.osview_graph.specs.Drawing.{run_of}
-use Rattle.osview_graph.specs.Run.{Run}
+use Rattle.osview_graph.specs.DrawnRun.{DrawnRun}
 use Rattle.osview_graph.specs.Streams.{ellipse, ellipse_if_used, window_count}
 use Rattle.osview_graph.proofs.Joined.{row_of}
 use Rattle.osview_graph.proofs.streams.add_used.Goals as goal
 
-none_used : (run : Run) (s : ℕ) → window_count run s ≡ 0 → [] ≡ ellipse_if_used run s
+none_used : (run : DrawnRun) (s : ℕ) → window_count run s ≡ 0 → [] ≡ ellipse_if_used run s
 none_used run s none = sym (ap (λ (b : Bool). cond b [] (ellipse run s)) (let e : (window_count run s == 0) ≡ true = grind (arith, nat_tests) in e))
 
-is_used : (run : Run) (s : ℕ) → (window_count run s ≡ 0 → ⊥) → ellipse run s ≡ ellipse_if_used run s
+is_used : (run : DrawnRun) (s : ℕ) → (window_count run s ≡ 0 → ⊥) → ellipse run s ≡ ellipse_if_used run s
 is_used run s some = sym (ap (λ (b : Bool). cond b [] (ellipse run s)) (let e : (window_count run s == 0) ≡ false = grind (arith, nat_tests) in e))
 
 pub returns-then-row-eq0 : goal.returns-then-row-eq0

@@ -2,7 +2,7 @@ use Rattle.std.proofs.Common.{◌≡◌, ◌∙◌, ◌<◌, ◌+◌, ℕ, List,
 use Rattle.std.specs.Prelude.{slice_set}
 use Rattle.flow_core_laws.specs.Window.{windows}
 use Rattle.osview_graph.specs.Drawing.{run_of}
-use Rattle.osview_graph.specs.Run.{total}
+use Rattle.osview_graph.specs.DrawnRun.{total}
 use Rattle.osview_graph.specs.Streams.{stream_at, window_at}
 use Rattle.osview_graph.specs.Tables.{newly_behind, read_to, table}
 use Rattle.stream_match_layouts.specs.Layout.{span_of}

@@ -2,7 +2,7 @@ use Rattle.std.proofs.Common.{◌≡◌, ◌∙◌, ◌<◌, ◌≤◌, ◌+◌,
 use Rattle.std.specs.Prelude.{slice_set}
 use Rattle.flow_core_laws.specs.Window.{windows}
 use Rattle.osview_graph.specs.Drawing.{run_of}
-use Rattle.osview_graph.specs.Run.{total}
+use Rattle.osview_graph.specs.DrawnRun.{total}
 use Rattle.osview_graph.specs.Streams.{stream_at}
 use Rattle.osview_graph.specs.Tables.{table}
 use Rattle.stream_match_layouts.specs.declared.span.Span.{Span}

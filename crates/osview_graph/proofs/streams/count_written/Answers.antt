@@ -6,7 +6,7 @@ use Rattle.std.proofs.lemmas.List.FromFn.{length-map-range_with_len}
 use Rattle.stream_match_layouts.proofs.Pushing.{map-range-same, map-range-set}
 use Rattle.flow_core_laws.specs.Window.{windows}
 use Rattle.osview_graph.specs.Drawing.{run_of}
-use Rattle.osview_graph.specs.Run.{total}
+use Rattle.osview_graph.specs.DrawnRun.{total}
 use Rattle.osview_graph.specs.Streams.{given_by, stream_at, window_at, written}
 use Rattle.osview_graph.specs.Tables.{table}
 use Rattle.stream_match_layouts.specs.declared.span.Span.{Span}

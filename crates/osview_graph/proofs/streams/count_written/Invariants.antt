@@ -1,6 +1,6 @@
 use Rattle.std.proofs.Common.{◌≡◌}
 use Rattle.osview_graph.specs.Drawing.{run_of}
-use Rattle.osview_graph.specs.Run.{total}
+use Rattle.osview_graph.specs.DrawnRun.{total}
 use Rattle.osview_graph.specs.Streams.{given_by, stream_at, window_at}
 use Rattle.osview_graph.specs.Tables.{table}
 use Rattle.osview_graph.proofs.streams.count_written.Given as goal

@@ -1,6 +1,6 @@
 use Rattle.std.proofs.Common.{◌≡◌, ◌∙◌, ◌++◌, List, OnOk, ap, codes, get_or, length, subst, true, ℕ}
 use Rattle.osview_graph.specs.Drawing.{run_of}
-use Rattle.osview_graph.specs.Run.{ended_so, is_done, is_over_budget, is_poisoned, is_starved, is_trapped}
+use Rattle.osview_graph.specs.DrawnRun.{ended_so, is_done, is_over_budget, is_poisoned, is_starved, is_trapped}
 use Rattle.osview_graph.specs.Tasks.{activations_text, ends_text, task_ends, task_head}
 use Rattle.osview_graph.proofs.Joined.{more, row_of}
 use Rattle.osview_graph.proofs.tasks.add_box.Goals as goal

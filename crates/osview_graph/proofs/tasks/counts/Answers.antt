@@ -1,7 +1,7 @@
 use Rattle.std.proofs.Common.{◌≡◌, ◌∙◌, ◌≤◌, ◌+◌, ℕ, Bool, true, false, cond, List, ap, arith, get_or, length, refl}
 use Rattle.std.specs.Prelude.{slice_set}
 use Rattle.osview_graph.specs.Drawing.{is_so, run_of}
-use Rattle.osview_graph.specs.Run.{end_at, task_at, total}
+use Rattle.osview_graph.specs.DrawnRun.{end_at, task_at, total}
 use Rattle.osview_graph.specs.Tables.{table}
 use Rattle.osview_graph.proofs.Totals.{raised, row_small, zeros_are}
 use Rattle.osview_graph.proofs.tasks.counts.Goals as goal

@@ -1,6 +1,6 @@
 use Rattle.std.proofs.Common.{◌≡◌, cond, length}
 use Rattle.osview_graph.specs.Drawing.{is_so, run_of}
-use Rattle.osview_graph.specs.Run.{end_at, task_at, total}
+use Rattle.osview_graph.specs.DrawnRun.{end_at, task_at, total}
 use Rattle.osview_graph.specs.Tables.{table}
 use Rattle.osview_graph.proofs.tasks.counts.Given as goal
 

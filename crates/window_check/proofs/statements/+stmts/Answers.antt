@@ -5,7 +5,7 @@ use Rattle.os_ast.specs.Notes.Declarators.{after_start, start_notes}
 use Rattle.os_ast.specs.Notes.Expressions.{value_notes, step_notes}
 use Rattle.os_ast.specs.Notes.Statements.{stmt_notes}
 use Rattle.os_ast.specs.Names.{Scope, enter, in_loop}
-use Rattle.os_ast.specs.Parts.{parts}
+use Rattle.os_ast.specs.ClauseParts.{parts}
 use Rattle.os_ast.specs.Views.{expr_tree, change_tree, start_tree, stmt_tree, stmts_tree, clause_tree}
 use Rattle.os_ast.specs.declared.stmt.Stmt.{the_lemmas}
 use Rattle.window_check_laws.specs.Room.{stmt_weight}

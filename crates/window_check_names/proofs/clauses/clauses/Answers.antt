@@ -1,5 +1,5 @@
 use Rattle.std.proofs.Common.{List, ◌+◌, arith, drop, map, length, length-append, ap}
-use Rattle.os_ast.specs.Parts.{Part, parts, parts_of}
+use Rattle.os_ast.specs.ClauseParts.{ClausePart, parts, parts_of}
 use Rattle.os_ast.specs.Views.{clause_kind_tree, clause_tree}
 use Rattle.window_check_names.specs.Parts.{ListedParts}
 use Rattle.window_check_names.proofs.Lists.{items-parts, found-parts, listed-parts}
@@ -20,6 +20,6 @@ loop-next-preserved c =
         arith,
         items-parts s l here,
         ap (λ (l : ListedParts). length l.items) c.in_ok-clause.ensures.listed,
-        simp length-append at (ap (λ (ps : List Part). length ps) split),
+        simp length-append at (ap (λ (ps : List ClausePart). length ps) split),
       );
     }

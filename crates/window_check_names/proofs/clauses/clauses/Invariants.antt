@@ -1,6 +1,6 @@
 use Rattle.std.proofs.Common.{◌≡◌, ◌+◌, ◌≤◌, [], length, map, drop}
 use Rattle.os_ast.specs.Notes.Clauses.{parts_notes}
-use Rattle.os_ast.specs.Parts.{parts}
+use Rattle.os_ast.specs.ClauseParts.{parts}
 use Rattle.os_ast.specs.Views.{clause_tree}
 use Rattle.window_check_names.specs.Findings.{noted}
 use Rattle.window_check_names.specs.Parts.{none_listed, after_parts, listed_notes}

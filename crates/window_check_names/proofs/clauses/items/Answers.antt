@@ -1,5 +1,5 @@
 use Rattle.std.proofs.Common.{◌+◌, arith, length, ap, drop, map}
-use Rattle.os_ast.specs.Parts.{Item}
+use Rattle.os_ast.specs.ClauseParts.{Item}
 use Rattle.os_ast.specs.Views.{clause_item_tree}
 use Rattle.window_check_names.specs.Parts.{ListedParts}
 use Rattle.window_check_names.proofs.Lists.{items-drop, items-part, found-part, listed-part}

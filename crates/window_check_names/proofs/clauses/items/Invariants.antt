@@ -1,5 +1,5 @@
 use Rattle.std.proofs.Common.{◌≡◌, ◌+◌, ◌≤◌, length, map, drop}
-use Rattle.os_ast.specs.Parts.{Item}
+use Rattle.os_ast.specs.ClauseParts.{Item}
 use Rattle.os_ast.specs.Views.{clause_item_tree}
 use Rattle.window_check_names.specs.Findings.{noted}
 use Rattle.window_check_names.specs.Parts.{after_parts, listed_notes}

@@ -1,5 +1,5 @@
 use Rattle.std.proofs.Common.{◌≡◌, map, drop}
-use Rattle.os_ast.specs.Parts.{Private}
+use Rattle.os_ast.specs.ClauseParts.{Private}
 use Rattle.window_check_names.specs.Findings.{noted}
 use Rattle.window_check_names.specs.Parts.{after_parts, listed_notes}
 use Rattle.window_check_names.proofs.clauses.privates.Given as goal

@@ -1,4 +1,4 @@
-use Rattle.window_check_names.proofs.Rows.{entries_push, kept_more}
+use Rattle.window_check_names.proofs.HidingEntries.{entries_push, kept_more}
 use Rattle.window_check_names.proofs.declared.Declared.declare.Goals as goal
 
 pub invariant_of-self-2 : goal.invariant_of-self-2

@@ -1,5 +1,5 @@
 use Rattle.std.proofs.Common.{◌∙◌, sym, arith}
-use Rattle.window_check_names.proofs.Rows.{drop_one, shorter, drop_done}
+use Rattle.window_check_names.proofs.HidingEntries.{drop_one, shorter, drop_done}
 use Rattle.window_check_names.proofs.declared.Declared.drop_to.Goals as goal
 
 pub loop-self-smaller : goal.loop-self-smaller

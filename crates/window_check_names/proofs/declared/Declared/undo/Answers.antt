@@ -1,5 +1,5 @@
 use Rattle.std.proofs.Common.{None, Some}
-use Rattle.window_check_names.proofs.Rows.{entries_less, is_some, kept_less, kept_there}
+use Rattle.window_check_names.proofs.HidingEntries.{entries_less, is_some, kept_less, kept_there}
 use Rattle.window_check_names.proofs.declared.Declared.undo.Goals as goal
 
 pub invariant_of-self-in-Some-get_mut : goal.invariant_of-self-in-Some-get_mut

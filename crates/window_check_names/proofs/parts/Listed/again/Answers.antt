@@ -1,5 +1,5 @@
 use Rattle.std.proofs.Common.{ap, ◌∙◌, Bool}
-use Rattle.os_ast.specs.Parts.{is_in}
+use Rattle.os_ast.specs.ClauseParts.{is_in}
 use Rattle.os_ast.specs.Rules.{when}
 use Rattle.window_check_names.specs.BrokenRules.{least_rule}
 use Rattle.window_check_names.specs.Parts.{ListedParts}

@@ -1,9 +1,0 @@
-/// A declaration in scope: its name, whether it declares a scalar of the control program, and whether what it declares is of the
-/// type `unsigned`.
-#[derive(Clone, Copy, Debug, PartialEq, Eq)]
-pub struct Known {
-    /// The number that the lexer gave the name's spelling.
-    pub id: u32,
-    pub scalar: bool,
-    pub unsigned: bool,
-}

@@ -1,6 +1,0 @@
-use Rattle.std.proofs.Common.{rules}
-use Rattle.cddf_meaning_plain_state.proofs.Places.{drop-reverse}
-use Rattle.cddf_meaning_plain_state.proofs.state.State.leave.Goals as goal
-
-pub returns : goal.returns
-returns c = search (rules, drop-reverse)

@@ -1,6 +1,0 @@
-use Rattle.std.proofs.Common.{◌≡◌, ◌^◌, ◌-◌, min, take}
-use Rattle.cddf_meaning.specs.Claims.{horizons}
-use Rattle.cddf_meaning_plain_state.proofs.state.horizons.Given as goal
-
-abbrev pub invariant-loop-claim : goal.invariant-loop-claim
-invariant-loop-claim l = l.sum ≡ min (horizons (take l.claim-index l.claims)) (2 ^ 64 - 1)

@@ -1,0 +1,14 @@
+-- A sink in memory, of which writes fail where no memory or no room is left.
+use Rattle.std.specs.Prelude.{ℕ, List, []}
+
+pub record MemorySinkState : Type 0 where
+  -- the bytes taken so far
+  pub taken : List ℕ
+  -- how many it takes at most
+  pub room : ℕ
+  -- how many writes have failed
+  pub faults : ℕ
+
+-- nothing taken yet
+abbrev pub fresh_kept : ℕ → MemorySinkState
+fresh_kept room = record { taken = []; room = room; faults = 0 }

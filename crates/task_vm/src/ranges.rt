@@ -1,0 +1,43 @@
+ghost use Rattle.std.specs.Prelude.{◌≡◌, ℕ, ◌+◌, ◌<◌, ◌≤◌, length, take, sum_by};
+ghost use Rattle.flow_core_laws.specs.declared.claim.Claim.{Claim as TheClaim};
+ghost use Rattle.task_vm.specs.ItemRanges.{ranges_of};
+
+use flow_core_laws::Claim;
+
+/// Where the window of an item lies: among the outputs, or among the inputs.
+#[derive(Clone, Copy, Debug, PartialEq, Eq)]
+pub(crate) struct ItemRange {
+    pub write: bool,
+    /// The index of its first element.
+    pub first: u32,
+    pub horizon: u32,
+}
+
+/// The ranges of the items, in order; an item that isn't there has an empty range.
+pub(crate) fn ranges(claims: &[Claim]) -> [ItemRange; 8]
+    requires few { length claims.now ≤ 8 }
+    requires small { sum_by (λ (claim : TheClaim). claim.horizon) claims.now ≤ 524288 }
+    ensures { take (length claims.now) result ≡ ranges_of claims.now 0 0 }
+{
+    let mut ranges = [ItemRange {
+        write: false,
+        first: 0,
+        horizon: 0,
+    }; 8];
+    let mut inputs: u32 = 0;
+    let mut outputs: u32 = 0;
+    for (item, claim) in claims.iter().enumerate() {
+        let first = if claim.write { outputs } else { inputs };
+        ranges[item] = ItemRange {
+            write: claim.write,
+            first,
+            horizon: claim.horizon,
+        };
+        if claim.write {
+            outputs += claim.horizon;
+        } else {
+            inputs += claim.horizon;
+        }
+    }
+    ranges
+}
