@@ -12,6 +12,10 @@ use Rattle.os_code.specs.Tasks.{Fits}
 use Rattle.os_code.specs.declared.code.Code.{Code}
 use Rattle.os_code.specs.declared.parts.Parts.{Parts}
 
+-- as many as a longer part of a list has are all of it
+all-of : (all : List Activation) (most : ℕ) → length all ≤ most → take (0 + length (take most all)) all ≡ all
+all-of all most few = let size = ap length (take_all most all few) in take_all (0 + length (take most all)) all (omega (arith, size))
+
 module _ (code : Code) (input_len budget : ℕ) (low : budget ≤ 1000000000) (run after : RunSoFar) (begins : run ≡ not_begun (parts_of code) input_len budget)
     (goes : after ≡ advanced run 4294967295) where
   same : after ≡ advanced (not_begun (parts_of code) input_len budget) 4294967295
@@ -47,7 +51,6 @@ module _ (code : Code) (input_len budget : ℕ) (low : budget ≤ 1000000000) (r
   all-fit fit =
       let activations = (control (parts_of code) input_len budget).activations in
       let few = all-few (parts_of code) code.valid input_len budget low in
-      let size = ap length (take_all 4294967295 activations (omega (arith, few))) in
-      let all : given_by after ≡ activations = ap given_by same ∙ take_all (0 + length (take 4294967295 activations)) activations (omega (arith, size)) in
+      let all : given_by after ≡ activations = ap given_by same ∙ all-of activations 4294967295 (omega (arith, few)) in
       subst (λ (xs : List Activation). All (Fits (parts_of code)) xs) all
       (subst (λ (p : Parts). All (Fits p) (given_by after)) (ap (λ (r : RunSoFar). r.code) same) fit)
