@@ -6,7 +6,7 @@ ghost use Rattle.osview.specs.Words.{AreWithin, IsLawful};
 
 use crate::options::{Parts, parts_of};
 use osrun_core_jobs::Job;
-use osview_answer::{GraphJob, StreamJob, View};
+use osview_answer::{GraphChoice, GraphJob, StreamJob};
 
 /// What is to be done.
 #[derive(Clone, Copy, Debug)]
@@ -101,8 +101,8 @@ fn graph_of<'w>(words: &Parts<'w>) -> Option<Request<'w>>
         return None;
     }
     let view = match words.options.activations {
-        Some((first, end)) => View::Activations { first, end },
-        None => View::Streams,
+        Some((first, end)) => GraphChoice::Activations { first, end },
+        None => GraphChoice::Streams,
     };
     Some(Request::Graph(GraphJob {
         run: job_of(words),
