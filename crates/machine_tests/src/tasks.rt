@@ -14,7 +14,7 @@ use crate::task_runs::{Ran, run_twice};
 use alone::run_alone;
 use drawn::DRAWN;
 use flow_core_laws::{Claim, TaskEnd};
-use forms::FORMS;
+use forms::{FORMS, FORMS_OF_WINDOWS_AND_OPERATORS};
 use os_code::{Binary, Instr, SiteItem, Unary, Unit};
 use os_io::Memory;
 use std::alloc::Global;
@@ -362,6 +362,13 @@ fn each_instruction_has_its_effect_and_its_traps(rt: HostRuntime) -> Result<(), 
 #[test]
 fn each_form_of_several_instructions_ends_as_they_do(rt: HostRuntime) -> Result<(), Fail> {
     all_come_to(&rt, &FORMS)
+}
+
+#[test]
+fn each_form_of_windows_and_operators_ends_as_its_instructions_do(
+    rt: HostRuntime,
+) -> Result<(), Fail> {
+    all_come_to(&rt, &FORMS_OF_WINDOWS_AND_OPERATORS)
 }
 
 #[test]

@@ -1,5 +1,5 @@
 //! Each form of several instructions that the machine takes in one turn, with each way out of it and a jump to each of its
-//! parts. `tests/machine_codes.py forms` writes the rows, by an interpreter that goes step by step.
+//! parts. `tests/machine_codes.py forms` writes the rows of both tables, by an interpreter that goes step by step.
 
 use super::table::Case;
 use flow_core_laws::TaskEnd::{Done, OverBudget, Trapped};
@@ -8,7 +8,7 @@ use os_code::Instr::{
 };
 use os_code::{Binary, Instr};
 
-pub(crate) const FORMS: [Case<'static>; 62] = [
+pub(crate) const FORMS: [Case<'static>; 49] = [
     (
         &[
             Load(0),
@@ -1706,6 +1706,11 @@ pub(crate) const FORMS: [Case<'static>; 62] = [
             ([-1, 1], 0, Done, 9, [7, 0, 0]),
         ],
     ),
+];
+
+/// The same of forms of windows and of operators, of which some are named by their operator and some aren't. (Both in one table are more
+/// than the prover can take.)
+pub(crate) const FORMS_OF_WINDOWS_AND_OPERATORS: [Case<'static>; 13] = [
     (
         &[
             Load(1),
