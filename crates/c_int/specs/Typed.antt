@@ -1,6 +1,7 @@
 -- Values with their types, `int` and `unsigned`, and the operators between them. C11, 6.3.1.3, 6.3.1.8 and 6.5.3 to 6.5.12; what C leaves
 -- undefined is a trap here, and what it leaves to the implementation the two's complement result.
-use Rattle.std.specs.Prelude.{ℕ, ◌^◌, Bool, true, false, ◌||◌, if◌then◌else◌, not, ltb, ℤ, pos, negsuc, ◌+ℤ◌, ◌-ℤ◌, ◌*ℤ◌, neg_ℤ, int_lt, int_le, int_div, unsigned_abs, Result, Ok, Err}
+use Rattle.std.specs.Prelude.{ℕ, ◌^◌, Bool, true, false, ◌||◌, if◌then◌else◌, not, ltb, ℤ, pos, negsuc, ◌+ℤ◌}
+use Rattle.std.specs.Prelude.{◌-ℤ◌, ◌*ℤ◌, neg_ℤ, int_lt, int_le, int_div, unsigned_abs, Result, Ok, Err}
 use Rattle.std.specs.Int.{w32, int_bit_and, int_bit_or, int_bit_xor, int_bit_not, int_div_euclid, int_rem_euclid}
 use Rattle.c_int.specs.Operators.{is_int, is_zero, is_equal}
 use Rattle.c_int.specs.Trapping.{truth}

@@ -1,5 +1,6 @@
 -- What a task's body makes of its captured scalars and its input windows.
-use Rattle.std.specs.Prelude.{ℕ, suc, ◌==◌, Bool, true, not, ◌&&◌, ◌||◌, if◌then◌else◌, List, [], ◌∷◌, ◌++◌, take, drop, replicate, slice_get, Option, Some, None, ℤ, pos}
+use Rattle.std.specs.Prelude.{ℕ, suc, ◌==◌, Bool, true, not, ◌&&◌, ◌||◌, if◌then◌else◌, List, [], ◌∷◌}
+use Rattle.std.specs.Prelude.{◌++◌, take, drop, replicate, slice_get, Option, Some, None, ℤ, pos}
 use Rattle.std.specs.List.{list_all}
 use Rattle.c_int.specs.Traps.{trap_code}
 use Rattle.c_int.specs.declared.trap.Trap.TheVariants.{NoByte}

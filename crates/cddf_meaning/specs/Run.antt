@@ -1,5 +1,6 @@
 -- What a statement does. C11, 6.8; the declarations and pragmas of the control program by the rules of streams.
-use Rattle.std.specs.Prelude.{ℕ, zero, suc, ◌+◌, Bool, false, if◌then◌else◌, leb, ◌&&◌, List, [], ◌∷◌, length, get_or, replicate, Option, Some, None, ℤ, pos, negsuc, unwrap_or, Ok}
+use Rattle.std.specs.Prelude.{ℕ, zero, suc, ◌+◌, Bool, false, if◌then◌else◌, leb, ◌&&◌, List, [], ◌∷◌}
+use Rattle.std.specs.Prelude.{length, get_or, replicate, Option, Some, None, ℤ, pos, negsuc, unwrap_or, Ok}
 use Rattle.c_int.specs.Operators.{is_zero}
 use Rattle.c_int.specs.declared.trap.Trap.TheVariants.{WindowSize}
 use Rattle.cddf_meaning.specs.Answers.{Answer, traps, and_then, Left, left, with_turns}

@@ -1,7 +1,8 @@
 //! What a body works on: its variables, the elements of its items, and what it did to streams.
 
 ghost use Rattle.std.specs.Option.{option_copied};
-ghost use Rattle.std.specs.Prelude.{◌≡◌, ◌-◌, ◌^◌, Bool, [], ◌∷◌, IfOk, IfSome, OnErr, OnOk, drop, get_or, length, min, pos, replicate, reverse, set, unwrap_or};
+ghost use Rattle.std.specs.Prelude.{◌≡◌, ◌-◌, ◌^◌, Bool, [], ◌∷◌, IfOk, IfSome, OnErr, OnOk, drop};
+ghost use Rattle.std.specs.Prelude.{get_or, length, min, pos, replicate, reverse, set, unwrap_or};
 ghost use Rattle.cddf_meaning.specs.Answers.{and_then};
 ghost use Rattle.cddf_meaning.specs.Claims.{horizons, limit, moves_behind, since_read, with_skip, with_skips};
 ghost use Rattle.cddf_meaning.specs.Run.{window_size, with_streams, after_store};

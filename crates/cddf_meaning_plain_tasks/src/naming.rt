@@ -4,8 +4,11 @@ ghost use Rattle.std.specs.Prelude.{◌≡◌, map, option_map};
 ghost use Rattle.os_ast.specs.FreeNames.{declared_ids, start_ids};
 ghost use Rattle.os_ast.specs.ClauseParts.{is_in, item_name};
 ghost use Rattle.os_ast.specs.Trees as tree;
-ghost use Rattle.os_ast.specs.Views.{args_tree, change_tree, clause_item_tree, clause_kind_tree, clause_tree, declarator_tree, expr_tree, index_tree, join_tree, links_tree, start_tree, stmt_tree, stmts_tree, target_tree};
-ghost use Rattle.cddf_meaning_plain_tasks.specs.Has.{calls_item, clause_calls_item, clause_lists, declares, has_args, has_change, has_clause, has_clauses, has_declarators, has_expr, has_index, has_items, has_join, has_links, has_start, has_step, has_stmt, has_stmts, has_target, has_task, has_value, lists};
+ghost use Rattle.os_ast.specs.Views.{args_tree, change_tree, clause_item_tree, clause_kind_tree, clause_tree, declarator_tree};
+ghost use Rattle.os_ast.specs.Views.{expr_tree, index_tree, join_tree, links_tree, start_tree, stmt_tree, stmts_tree, target_tree};
+ghost use Rattle.cddf_meaning_plain_tasks.specs.Has.{calls_item, clause_calls_item, clause_lists, declares, has_args, has_change, has_clause};
+ghost use Rattle.cddf_meaning_plain_tasks.specs.Has.{has_clauses, has_declarators, has_expr, has_index, has_items, has_join, has_links};
+ghost use Rattle.cddf_meaning_plain_tasks.specs.Has.{has_start, has_step, has_stmt, has_stmts, has_target, has_task, has_value, lists};
 ghost use Rattle.cddf_meaning_plain_tasks.specs.Sought.{ids_of, item_names};
 
 use os_ast::{

@@ -9,7 +9,8 @@ ghost use Rattle.os_ast.specs.Trees as tree;
 ghost use Rattle.os_ast.specs.Unsigned.{is_unsigned};
 ghost use Rattle.os_ast.specs.Views.{clause_tree, declarator_tree, item_tree, start_tree, stmt_tree, stmts_tree};
 ghost use Rattle.cddf_meaning_plain_state.specs.FunctionTrees.{function_tree};
-ghost use Rattle.cddf_meaning.specs.Tasks.{among, task_at, tasks_in, tasks_in_all, known_behind, known_declarator, known_flag, known_in_main, known_item, known_start, others, typed_known, with_all_known, with_known};
+ghost use Rattle.cddf_meaning.specs.Tasks.{among, task_at, tasks_in, tasks_in_all, known_behind, known_declarator, known_flag};
+ghost use Rattle.cddf_meaning.specs.Tasks.{known_in_main, known_item, known_start, others, typed_known, with_all_known, with_known};
 ghost use Rattle.cddf_meaning_plain_tasks.specs.Sought.{task_of};
 
 use crate::found_task::FoundTask;

@@ -1,13 +1,14 @@
 //! Bodies of each form of statement and expression, in which each trap comes.
 
 /// The lines before a body, which stands from line 11 on. It has an element and a view to write, a view to read, and two captured scalars.
-pub(crate) const BEFORE: &str = "const int N = 3; const int M = -7;
+pub(crate) const BEFORE: &str =
+    "const int N = 3; const int M = -7; int over(int N) { return N * 2; }
 int one(void) { return 1; } int add(int a, int b) { return a + b; } int mix(int a, int b, int c) { return a * 100 + b * 10 + c; }
 int off(int a) { if (a) return 5; } int none(void) { } int two(int a) { a = a + one(); return a + one(); }
 int nested(int n) { int i, j; for (i = 0; i < n; i++) { j = 0; while (1) { if (i * j > 6) return i * 10 + j; if (j > i) break; j++; } } return -1; }
 int fresh(int n) { int i, s = 0; for (i = 0; i < n; i++) { int a[3]; s += a[i % 3]; a[i % 3] = 7; s = s * 2 + a[0]; } return s; }
 int deep(int n) { while (n) { for (;;) { if (n > 3) return two(n) + nested(n); n++; continue; } } return off(n); }
-int hide(int a) { int b = a; { int a = 7; b = b * 10 + a; } for (int a = 3; a; a--) { int b = a; b++; } if (b) { int a = b; b = a + 1; } return b * 10 + a; } int over(int N) { return N * 2; }
+int hide(int a) { int b = a; { int a = 7; b = b * 10 + a; } for (int a = 3; a; a--) { int b = a; b++; } if (b) { int a = b; b = a + 1; } return b * 10 + a; }
 int main(void) {
 int s __attribute__((stream)); int c = 5, d = -2, y, w[4], v[3];
 #pragma omp task input(osin >> v[3]) output(s << y, s << w[4])

@@ -1,6 +1,7 @@
 -- Steps by choice, for tables of states: what a state becomes where a seat makes a step of a kind, or none
 -- where it can't. The choices are those of `flow_core_concurrent`. Laws say that this is so exactly for the steps of that kind.
-use Rattle.std.specs.Prelude.{[], ℕ, ◌+◌, ◌==◌, Bool, not, ◌&&◌, nat_lt, nat_le, if◌then◌else◌, List, ◌∷◌, ◌++◌, Option, Some, None, is_none, is_some, map, length, take, count_by, slice_get, option_and_then}
+use Rattle.std.specs.Prelude.{[], ℕ, ◌+◌, ◌==◌, Bool, not, ◌&&◌, nat_lt, nat_le, if◌then◌else◌, List, ◌∷◌, ◌++◌, Option}
+use Rattle.std.specs.Prelude.{Some, None, is_none, is_some, map, length, take, count_by, slice_get, option_and_then}
 use Rattle.std.specs.List.{fold, range_with_len}
 use Rattle.flow_core_laws.specs.declared.plan.Piece.{Piece}
 use Rattle.flow_core_concurrent.specs.declared.view.FrameRun.{FrameRun}
@@ -10,7 +11,8 @@ use Rattle.flow_core_laws.specs.Plans.{frame_at}
 use Rattle.flow_core_concurrent.specs.declared.known.Known.{Known}
 use Rattle.flow_core_concurrent.specs.declared.view.View.{View}
 use Rattle.flow_core_concurrent.specs.States.{CoreState, opening}
-use Rattle.flow_core_concurrent.specs.Steps.{end_of, after_split, after_join, after_claim, after_store, after_sub, after_finish, after_look, Step, split, join, claim, read, store, sub, finish, look}
+use Rattle.flow_core_concurrent.specs.Steps.{end_of, after_split, after_join, after_claim, after_store, after_sub, after_finish}
+use Rattle.flow_core_concurrent.specs.Steps.{after_look, Step, split, join, claim, read, store, sub, finish, look}
 
 -- A kind of step, with its seat and what it is made at.
 pub data Choice : Type 0 where

@@ -21,7 +21,8 @@ use Rattle.flow_core_concurrent.specs.declared.known.Known.{Known}
 use Rattle.flow_core_concurrent.specs.declared.view.View.{View}
 use Rattle.flow_core_concurrent.specs.declared.word.Word.TheVariants.{Wait, Ended}
 use Rattle.flow_core_concurrent.specs.Words.{word_at, opening_words, waits, is_open, is_started, end_in}
-use Rattle.flow_core_concurrent.specs.Steps.{end_of, meant_at, output_of, CanSplit, after_split, CanJoin, after_join, CanClaim, after_claim, CanRead, CanStore, after_store, CanSub, after_sub, CanFinish, after_finish, CanLook, after_look, Step}
+use Rattle.flow_core_concurrent.specs.Steps.{end_of, meant_at, output_of, CanSplit, after_split, CanJoin, after_join, CanClaim, after_claim, CanRead}
+use Rattle.flow_core_concurrent.specs.Steps.{CanStore, after_store, CanSub, after_sub, CanFinish, after_finish, CanLook, after_look, Step}
 use Rattle.flow_core_concurrent.specs.IsGood.{IsGood, IsLast}
 use Rattle.flow_core_concurrent.specs.Ways.{Way, stores}
 

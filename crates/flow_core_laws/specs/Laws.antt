@@ -1,5 +1,6 @@
 -- The laws of the meaning, as statements.
-use Rattle.std.specs.Prelude.{◌≡◌, ◌≢◌, ℕ, ℤ, ◌≤◌, true, List, Option, Some, None, is_some, slice_get, length, map, Contains, ◌+◌, ◌<◌, ◌++◌, replicate, slice_set, take, option_and_then, IsTrue}
+use Rattle.std.specs.Prelude.{◌≡◌, ◌≢◌, ℕ, ℤ, ◌≤◌, true, List, Option, Some, None, is_some, slice_get, length, map}
+use Rattle.std.specs.Prelude.{Contains, ◌+◌, ◌<◌, ◌++◌, replicate, slice_set, take, option_and_then, IsTrue}
 use Rattle.flow_core_laws.specs.declared.activation.Activation.{Activation}
 use Rattle.flow_core_laws.specs.Outcome.{outcome_at, State, ends_of, has_failed}
 use Rattle.flow_core_laws.specs.Place.{Place}

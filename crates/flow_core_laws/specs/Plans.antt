@@ -1,5 +1,6 @@
 -- The meaning of a plan: the same rounds, with the sources of its cells.
-use Rattle.std.specs.Prelude.{ℕ, ℤ, ◌+◌, ◌-◌, List, Option, None, slice_index_or, map, length, count_by, is_none, slice_get, option_and_then, Bool, ◌&&◌, nat_le, nat_lt}
+use Rattle.std.specs.Prelude.{ℕ, ℤ, ◌+◌, ◌-◌, List, Option, None, slice_index_or, map, length, count_by}
+use Rattle.std.specs.Prelude.{is_none, slice_get, option_and_then, Bool, ◌&&◌, nat_le, nat_lt}
 use Rattle.std.specs.Option.{option_map_or}
 use Rattle.std.specs.List.{range_with_len, position}
 use Rattle.flow_core_laws.specs.declared.plan.FramePlan.{FramePlan}

@@ -1,5 +1,6 @@
 -- Each claim with its place, and who produces an element.
-use Rattle.std.specs.Prelude.{ℕ, ◌+◌, Bool, ◌&&◌, false, nat_lt, nat_le, List, [], ◌++◌, Option, slice_get, slice_index_or, take, length, map, filter, sum_by, find}
+use Rattle.std.specs.Prelude.{ℕ, ◌+◌, Bool, ◌&&◌, false, nat_lt, nat_le, List, [], ◌++◌, Option}
+use Rattle.std.specs.Prelude.{slice_get, slice_index_or, take, length, map, filter, sum_by, find}
 use Rattle.std.specs.Bool.{beq}
 use Rattle.std.specs.Option.{option_map_or}
 use Rattle.std.specs.List.{flat_map, position, range_with_len}

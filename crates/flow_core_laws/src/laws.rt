@@ -3,7 +3,9 @@
 
 ghost use Rattle.std.specs.Prelude.{List, Option};
 ghost use Rattle.flow_core_laws.specs.declared.activation.Activation.{Activation};
-ghost use Rattle.flow_core_laws.specs.Laws.{IsSettled, KeepsOutcomes, IsFixed, OfStreams, OfPlans, LeastRootsAreLeast, OthersAreValues, RootsFailed, MeansTheStreams, SinkIsTheOutput, HasOneWriter, WritersAreInOrder, WritersAreProducers, ProducersHaveNumbers, EndsSayWhatIsThere, WindowsAreInOrder, RoundsFire, IsConfluent, IsKept, OfAll, HasFewPieces};
+ghost use Rattle.flow_core_laws.specs.Laws.{IsSettled, KeepsOutcomes, IsFixed, OfStreams, OfPlans, LeastRootsAreLeast, OthersAreValues, RootsFailed};
+ghost use Rattle.flow_core_laws.specs.Laws.{MeansTheStreams, SinkIsTheOutput, HasOneWriter, WritersAreInOrder, WritersAreProducers, ProducersHaveNumbers};
+ghost use Rattle.flow_core_laws.specs.Laws.{EndsSayWhatIsThere, WindowsAreInOrder, RoundsFire, IsConfluent, IsKept, OfAll, HasFewPieces};
 
 /// A round runs what is enabled, and nothing else.
 pub fn one_round()

@@ -1,7 +1,8 @@
 //! Laws of the code that is drafted. Each is a call that does nothing and ensures its law.
 
 ghost use Rattle.lowering_draft.specs.Few.{FunctionsAreFew, StatementsAreFew, UnitsAreFew};
-ghost use Rattle.lowering_draft.specs.Laws.{BlocksAreSpawned, BlocksStand, ChangesStand, ConditionsStand, DeclaratorsStand, ExpressionsStand, ItemsStand, StatementsStand, TasksAreSpawned};
+ghost use Rattle.lowering_draft.specs.Laws.{BlocksAreSpawned, BlocksStand, ChangesStand, ConditionsStand, DeclaratorsStand};
+ghost use Rattle.lowering_draft.specs.Laws.{ExpressionsStand, ItemsStand, StatementsStand, TasksAreSpawned};
 
 /// The code of an expression stands for it, and that of a condition and of a change.
 #[tactic(auto, using(crate::proofs::Lawful::expressions_law, crate::proofs::Lawful::conditions_law, crate::proofs::Lawful::changes_law))]

@@ -1,5 +1,6 @@
 -- Codes that tests write out: a task, the functions that it calls, and `main`, which is the last unit.
-use Rattle.std.specs.Prelude.{ℕ, ◌+◌, ◌-◌, min, Bool, true, false, not, ◌==◌, ◌&&◌, nat_le, nat_lt, List, [], ◌∷◌, ◌++◌, length, filter, sum_by, Option, Some, None, ℤ, pos}
+use Rattle.std.specs.Prelude.{ℕ, ◌+◌, ◌-◌, min, Bool, true, false, not, ◌==◌, ◌&&◌, nat_le, nat_lt}
+use Rattle.std.specs.Prelude.{List, [], ◌∷◌, ◌++◌, length, filter, sum_by, Option, Some, None, ℤ, pos}
 use Rattle.c_int.specs.declared.operators.Binary.TheVariants as binary
 use Rattle.flow_core_laws.specs.declared.claim.Claim.{Claim}
 use Rattle.os_code.specs.declared.instr.Instr.{Instr}

@@ -1,5 +1,6 @@
 -- The violations of a program, its refusal, and what its names mean where there is none.
-use Rattle.std.specs.Prelude.{◌≡◌, ℕ, ◌+◌, ◌<◌, ◌≤◌, ◌==◌, ◌&&◌, ◌||◌, Bool, true, false, not, List, [], ◌∷◌, ◌++◌, length, All, Contains, if◌then◌else◌, Option, Some, None, ℤ}
+use Rattle.std.specs.Prelude.{◌≡◌, ℕ, ◌+◌, ◌<◌, ◌≤◌, ◌==◌, ◌&&◌, ◌||◌, Bool, true, false, not, List, []}
+use Rattle.std.specs.Prelude.{◌∷◌, ◌++◌, length, All, Contains, if◌then◌else◌, Option, Some, None, ℤ}
 use Rattle.os_ast.specs.Captured.{slots_of}
 use Rattle.os_ast.specs.Codes.{code}
 use Rattle.os_ast.specs.Meanings.{meaning, meaning_in, resolved}

@@ -1,6 +1,9 @@
 ghost use Rattle.std.specs.Prelude.{◌≡◌, ◌<◌, ◌^◌, map, option_map};
-ghost use Rattle.os_ast.specs.Depth.{expr_depth, target_depth, args_depth, links_depth, index_depth, value_depth, deepest, declarator_depth, change_depth, start_depth, step_depth, clause_item_depth, clause_kind_depth, clause_depth, stmt_depth, stmts_depth, item_depth, program_depth};
-ghost use Rattle.os_ast.specs.Views.{expr_tree, target_tree, args_tree, links_tree, index_tree, declarator_tree, change_tree, start_tree, clause_item_tree, clause_kind_tree, clause_tree, stmt_tree, stmts_tree, item_tree, program_tree};
+ghost use Rattle.os_ast.specs.Depth.{expr_depth, target_depth, args_depth, links_depth, index_depth, value_depth, deepest};
+ghost use Rattle.os_ast.specs.Depth.{declarator_depth, change_depth, start_depth, step_depth, clause_item_depth};
+ghost use Rattle.os_ast.specs.Depth.{clause_kind_depth, clause_depth, stmt_depth, stmts_depth, item_depth, program_depth};
+ghost use Rattle.os_ast.specs.Views.{expr_tree, target_tree, args_tree, links_tree, index_tree, declarator_tree, change_tree, start_tree};
+ghost use Rattle.os_ast.specs.Views.{clause_item_tree, clause_kind_tree, clause_tree, stmt_tree, stmts_tree, item_tree, program_tree};
 ghost use Rattle.std.specs.Option.{option_map_or};
 
 use crate::expr::{Expr, Index, Link, Target};

@@ -3,7 +3,8 @@
 
 ghost use Rattle.os_code.specs.ControlExamples.{ControlExamples};
 ghost use Rattle.os_code.specs.Examples.{Examples};
-ghost use Rattle.os_code.specs.Laws.{HeightsSuffice, TestsSuffice, RunsAreOne, TasksEnd, TaskEndsAreOne, TaskEndsAreProper, MainEnds, MainEndsAreOne, StepsAreSmall, RunsGoOn, StepsAddUp};
+ghost use Rattle.os_code.specs.Laws.{HeightsSuffice, TestsSuffice, RunsAreOne, TasksEnd, TaskEndsAreOne};
+ghost use Rattle.os_code.specs.Laws.{TaskEndsAreProper, MainEnds, MainEndsAreOne, StepsAreSmall, RunsGoOn, StepsAddUp};
 ghost use Rattle.os_code.specs.Refusals.{Refusals};
 
 /// Heights that fit at each instruction show what validity says of all paths.

@@ -3,7 +3,8 @@ use Rattle.std.specs.Prelude.{◌≡◌, ℕ, ◌^◌, ◌<◌, ◌≤◌, ◌�
 use Rattle.os_lexer.specs.Cover.{IsTokenCover, IsFirstFault}
 use Rattle.os_lexer.specs.Cut.{IsCut, IsFaultPoint}
 use Rattle.os_lexer.specs.Lines.{line_of}
-use Rattle.os_lexer.specs.Names.{fixed_names, omp_id, task_id, tick_id, taskwait_id, input_id, output_id, firstprivate_id, stream_id, main_id, osin_id, osout_id, osin_len_id}
+use Rattle.os_lexer.specs.Names.{fixed_names, omp_id, task_id, tick_id, taskwait_id, input_id, output_id}
+use Rattle.os_lexer.specs.Names.{firstprivate_id, stream_id, main_id, osin_id, osout_id, osin_len_id}
 use Rattle.os_lexer.specs.declared.token.Kind.{Kind}
 use Rattle.os_lexer.specs.declared.token.Kind.TheVariants as kind
 use Rattle.os_lexer.specs.declared.token.Token.{Token}

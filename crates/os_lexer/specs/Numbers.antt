@@ -1,5 +1,6 @@
 -- The forms of numbers, their values, and the types that they may have (C11, 6.4.4.1).
-use Rattle.std.specs.Prelude.{ℕ, ◌+◌, ◌-◌, ◌*◌, Bool, not, ◌&&◌, ◌||◌, List, [], ◌∷◌, length, take, Option, Some, None, fold, nat_le, nat_lt, ◌==◌, slice_index, if◌then◌else◌}
+use Rattle.std.specs.Prelude.{ℕ, ◌+◌, ◌-◌, ◌*◌, Bool, not, ◌&&◌, ◌||◌, List, [], ◌∷◌, length, take, Option}
+use Rattle.std.specs.Prelude.{Some, None, fold, nat_le, nat_lt, ◌==◌, slice_index, if◌then◌else◌}
 use Rattle.std.specs.List.{list_all}
 use Rattle.os_lexer.specs.Bytes.{is_digit}
 

@@ -1,6 +1,7 @@
 -- What the private functions give, one definition for each. The promises of `lex` don't cite them: that they find the
 -- lexemes of the text is proved.
-use Rattle.std.specs.Prelude.{ℕ, zero, suc, min, ◌+◌, ◌-◌, Bool, not, ◌&&◌, ◌||◌, List, [], ◌∷◌, length, take, Option, Some, None, map, position, codes, bytes_eq, nat_lt, ◌==◌, slice_index, slice_range, if◌then◌else◌}
+use Rattle.std.specs.Prelude.{ℕ, zero, suc, min, ◌+◌, ◌-◌, Bool, not, ◌&&◌, ◌||◌, List, [], ◌∷◌, length, take, Option, Some}
+use Rattle.std.specs.Prelude.{None, map, position, codes, bytes_eq, nat_lt, ◌==◌, slice_index, slice_range, if◌then◌else◌}
 use Rattle.std.specs.Map.{lookup}
 use Rattle.os_lexer.specs.Bytes.{is_white, is_blank, is_letter, is_digit, is_word_byte}
 use Rattle.os_lexer.specs.Marks.{mark_spelling}

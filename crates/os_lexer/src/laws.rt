@@ -1,5 +1,6 @@
 //! Laws of the token cover and the first fault. These functions do nothing: their contracts are the laws.
-ghost use Rattle.os_lexer.specs.Laws.{OneCover, OneFault, CoverOrFault, NeverBoth, CoverCuts, FaultPoints, CoverBeforeFault, FewTokens, NumbersFit, FixedNamesAreNumbered};
+ghost use Rattle.os_lexer.specs.Laws.{OneCover, OneFault, CoverOrFault, NeverBoth, CoverCuts, FaultPoints};
+ghost use Rattle.os_lexer.specs.Laws.{CoverBeforeFault, FewTokens, NumbersFit, FixedNamesAreNumbered};
 
 /// Each text has one outcome.
 pub fn one_cover()

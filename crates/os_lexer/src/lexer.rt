@@ -1,4 +1,5 @@
-ghost use Rattle.std.specs.Prelude.{◌≡◌, ◌+◌, ◌^◌, ◌<◌, ◌≤◌, ℕ, Some, List, [], ◌∷◌, ◌++◌, length, drop, IfOk, IfErr, OnOk, count_by, bytes_eq, unwrap_or, ◌&&◌, if◌then◌else◌};
+ghost use Rattle.std.specs.Prelude.{◌≡◌, ◌+◌, ◌^◌, ◌<◌, ◌≤◌, ℕ, Some, List, [], ◌∷◌, ◌++◌, length, drop};
+ghost use Rattle.std.specs.Prelude.{IfOk, IfErr, OnOk, count_by, bytes_eq, unwrap_or, ◌&&◌, if◌then◌else◌};
 ghost use Rattle.os_lexer.specs.Bytes.{is_line_feed};
 
 use crate::bytes::is_line_feed;

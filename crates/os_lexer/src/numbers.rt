@@ -2,7 +2,8 @@
 ghost use Rattle.std.specs.Prelude.{◌≡◌, ◌≤◌, min};
 ghost use Rattle.std.specs.List.{list_all};
 ghost use Rattle.os_lexer.specs.Bytes.{is_digit};
-ghost use Rattle.os_lexer.specs.Numbers.{is_octal_digit, is_hexadecimal_digit, is_decimal, digit_value, value_in, value_if_all, has_suffix, plain_value, number_value, may_be_int, may_be_unsigned, value_after_zero, hexadecimal_value};
+ghost use Rattle.os_lexer.specs.Numbers.{is_octal_digit, is_hexadecimal_digit, is_decimal, digit_value, value_in, value_if_all, has_suffix};
+ghost use Rattle.os_lexer.specs.Numbers.{plain_value, number_value, may_be_int, may_be_unsigned, value_after_zero, hexadecimal_value};
 ghost use Rattle.os_lexer.specs.Reading.{capped};
 
 /// One more than the greatest number: a value is read up to it.

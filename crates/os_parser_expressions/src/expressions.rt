@@ -2,7 +2,8 @@
 
 ghost use Rattle.std.specs.Prelude.{◌≡◌, ◌+◌, ◌-◌, ◌≤◌, ◌<◌, length, IfOk, IfErr, box_value};
 ghost use Rattle.os_ast.specs.Views.{expr_tree, target_tree, index_tree, args_tree, links_tree};
-ghost use Rattle.os_parser_grammar.specs.Expressions.{below, layer, chained, branches, operand, chains, linked, expr_on, named, target_of, index, args, some_args, paren, sign};
+ghost use Rattle.os_parser_grammar.specs.Expressions.{below, layer, chained, branches, operand, chains, linked};
+ghost use Rattle.os_parser_grammar.specs.Expressions.{expr_on, named, target_of, index, args, some_args, paren, sign};
 ghost use Rattle.os_parser_expressions.specs.Gives.{Gives};
 ghost use Rattle.os_parser_expressions.specs.declared.production_error.ProductionError.TheVariants as errors;
 

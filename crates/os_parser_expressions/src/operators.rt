@@ -3,7 +3,8 @@
 ghost use Rattle.std.specs.Prelude.{◌≡◌};
 ghost use Rattle.os_ast.specs.Operators.{level_of};
 ghost use Rattle.os_lexer.specs.declared.token.Kind.TheVariants as kind;
-ghost use Rattle.os_parser_grammar.specs.Operands.{punct_start, operand_start, start_at, punct_binary, binary_of, of_precedence, op_precedence, operator_at, level_at};
+ghost use Rattle.os_parser_grammar.specs.Operands.{punct_start, operand_start, start_at, punct_binary, binary_of};
+ghost use Rattle.os_parser_grammar.specs.Operands.{of_precedence, op_precedence, operator_at, level_at};
 ghost use Rattle.os_parser_grammar.specs.Reading.{kind_at};
 
 use crate::cursor::Cursor;

@@ -2,7 +2,8 @@
 use Rattle.std.specs.Prelude.{ℕ, zero, suc, ◌||◌, Bool, true, false, not, List, [], ◌∷◌, length, Option, Some, None, option_map, if◌then◌else◌}
 use Rattle.os_ast.specs.Means.{Placed}
 use Rattle.os_ast.specs.Trees as tree
-use Rattle.os_ast.specs.Trees.{ExprTree, TargetTree, IndexTree, Args, DeclaratorTree, ChangeTree, StartTree, JoinTree, ClauseItemTree, ClauseKindTree, ClauseTree, StmtTree, Stmts, ItemTree, ProgramTree}
+use Rattle.os_ast.specs.Trees.{ExprTree, TargetTree, IndexTree, Args, DeclaratorTree, ChangeTree, StartTree, JoinTree}
+use Rattle.os_ast.specs.Trees.{ClauseItemTree, ClauseKindTree, ClauseTree, StmtTree, Stmts, ItemTree, ProgramTree}
 use Rattle.os_ast.specs.declared.expr.Mark.{Mark}
 use Rattle.os_ast.specs.declared.expr.Name.{Name}
 use Rattle.os_ast.specs.declared.program.Param.{Param}

@@ -7,7 +7,8 @@ ghost use Rattle.os_ast.specs.Views.{expr_tree, target_tree, index_tree, declara
 ghost use Rattle.os_parser_grammar.specs.Expressions.{below};
 ghost use Rattle.os_parser_expressions.specs.Gives.{Gives};
 ghost use Rattle.os_parser_grammar.specs.Reading.{Same, after};
-ghost use Rattle.os_parser_grammar.specs.Statements.{name, target, size, value, attribute, scalar, declarator, head_declarator, type_words, begins_type, declared, head_declared, change_of, change_by, before, change, ended, named_stmt, return_stmt};
+ghost use Rattle.os_parser_grammar.specs.Statements.{name, target, size, value, attribute, scalar, declarator, head_declarator, type_words, begins_type};
+ghost use Rattle.os_parser_grammar.specs.Statements.{declared, head_declared, change_of, change_by, before, change, ended, named_stmt, return_stmt};
 
 use crate::comma_list::{Production, comma_list};
 use crate::starts::{change_at, name_at, stmt_at};

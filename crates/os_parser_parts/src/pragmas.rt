@@ -7,7 +7,8 @@ ghost use Rattle.os_ast.specs.Views.{expr_tree, target_tree, index_tree, join_tr
 ghost use Rattle.os_parser_grammar.specs.Expressions.{below};
 ghost use Rattle.os_parser_expressions.specs.Gives.{Gives};
 ghost use Rattle.os_parser_grammar.specs.Reading.{Same, after};
-ghost use Rattle.os_parser_grammar.specs.Statements.{name, join, alone, clause_item, clause_kind, clause, clauses, first_clause, some_clauses, in_parens, ticked, tick_tree, tick, taskwait};
+ghost use Rattle.os_parser_grammar.specs.Statements.{name, join, alone, clause_item, clause_kind, clause, clauses, first_clause};
+ghost use Rattle.os_parser_grammar.specs.Statements.{some_clauses, in_parens, ticked, tick_tree, tick, taskwait};
 
 use crate::comma_list::{Production, comma_list};
 use crate::parts::{name, size, target};

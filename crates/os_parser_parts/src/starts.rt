@@ -2,7 +2,8 @@
 
 ghost use Rattle.std.specs.Prelude.{◌≡◌};
 ghost use Rattle.os_lexer.specs.declared.token.Kind.TheVariants as kind;
-ghost use Rattle.os_parser_grammar.specs.Beginners.{punct_stmt, key_stmt, stmt_start, stmt_at, punct_change, change_sign, change_at, name_of, name_at, number_of, number_at};
+ghost use Rattle.os_parser_grammar.specs.Beginners.{punct_stmt, key_stmt, stmt_start, stmt_at, punct_change};
+ghost use Rattle.os_parser_grammar.specs.Beginners.{change_sign, change_at, name_of, name_at, number_of, number_at};
 
 use os_ast::{Assign, Binary, Step};
 use os_lexer::{Key, Kind, Punct};

@@ -19,7 +19,8 @@ ghost use Rattle.osrun_core_jobs.specs.Refusal.{refusal_line, refusal_status, us
 ghost use Rattle.osrun_core_jobs.specs.Status.{code_of};
 ghost use Rattle.osrun_core_jobs.specs.Telling.{HasTrouble, IsCutShort, IsUndelivered, Tells};
 ghost use Rattle.osrun_core_jobs.specs.declared.refusal.Refusal.{Refusal as Cause};
-ghost use Rattle.osrun_core_jobs.specs.declared.subject.Subject.TheVariants.{Input as InputFile, Object as ObjectFile, Program as ProgramFile, Trace as TraceFile};
+ghost use Rattle.osrun_core_jobs.specs.declared.subject.Subject.TheVariants.{Input as InputFile, Object as ObjectFile};
+ghost use Rattle.osrun_core_jobs.specs.declared.subject.Subject.TheVariants.{Program as ProgramFile, Trace as TraceFile};
 ghost use Rattle.osrun_core_run.specs.Refusal.{IsUnusable, IsUsable};
 ghost use Rattle.osrun_core_run.specs.Run.{ProgramRun, IsRunOfJob};
 ghost use Rattle.osrun_core_words.specs.Command.{command, named_compile, named_exec, named_explain, named_gen, named_replay, named_run, named_trace, texts};

@@ -16,7 +16,8 @@ use Rattle.os_object.specs.Object.{Spells}
 use Rattle.epoch_run_bodies.specs.Frames.{code_ends}
 use Rattle.osrun_core_answer.specs.Explained.{Explains}
 use Rattle.osrun_core_answer.specs.Gen.{IsRunOfGen, gen_lines}
-use Rattle.osrun_core_jobs.specs.Jobs.{Compile, CompileJob, Exec, ExecJob, Explain, ExplainJob, Gen, GenJob, Job, Replay, ReplayJob, Request, Run, Trace, TraceJob}
+use Rattle.osrun_core_jobs.specs.Jobs.{Compile, CompileJob, Exec, ExecJob, Explain, ExplainJob, Gen}
+use Rattle.osrun_core_jobs.specs.Jobs.{GenJob, Job, Replay, ReplayJob, Request, Run, Trace, TraceJob}
 use Rattle.osrun_core_run.specs.Code.{IsCodeOf, IsObjectOf}
 use Rattle.osrun_core_run.specs.Replay.{IsReplayOf}
 use Rattle.osrun_core_run.specs.ReplayLine.{IsReplayLine}

@@ -1,7 +1,8 @@
 -- The statuses of the command.
 use Rattle.std.specs.Prelude.{ℕ}
 use Rattle.osrun_core_jobs.specs.declared.status.Status.{Status}
-use Rattle.osrun_core_jobs.specs.declared.status.Status.TheVariants.{AllDone, NotAllDone, BadWords, Refused, TooLong, ReadFault, WriteFault, NoMemory, NotReplayed}
+use Rattle.osrun_core_jobs.specs.declared.status.Status.TheVariants.{AllDone, NotAllDone, BadWords, Refused, TooLong}
+use Rattle.osrun_core_jobs.specs.declared.status.Status.TheVariants.{ReadFault, WriteFault, NoMemory, NotReplayed}
 
 -- the number with which the process ends
 abbrev pub code_of : Status → ℕ

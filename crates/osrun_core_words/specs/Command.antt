@@ -5,7 +5,8 @@ use Rattle.std.specs.declared.string.String.{String}
 use Rattle.std.specs.declared.alloc.Global.{Global}
 use Rattle.clap.specs.Words.{App, Kinds, Row, Text, fault_of, matches_of}
 use Rattle.osrun_core_words.specs.Arguments.{Argument, name, number, option, name_in, number_in, simple_command}
-use Rattle.osrun_core_jobs.specs.Jobs.{Compile, CompileJob, Exec, ExecJob, Explain, ExplainJob, Gen, GenJob, Job, Replay, ReplayJob, Request, Run, Trace, TraceJob, compile_in, exec_in, explain_in, gen_in, replay_in, run_in, trace_in}
+use Rattle.osrun_core_jobs.specs.Jobs.{Compile, CompileJob, Exec, ExecJob, Explain, ExplainJob, Gen, GenJob, Job, Replay, ReplayJob, Request}
+use Rattle.osrun_core_jobs.specs.Jobs.{Run, Trace, TraceJob, compile_in, exec_in, explain_in, gen_in, replay_in, run_in, trace_in}
 
 -- ---- the commands
 

@@ -2,7 +2,8 @@
 use Rattle.std.specs.Prelude.{◌≡◌, ◌≤◌, ◌⊎◌, ◌==◌, ◌&&◌, ◌||◌, not, true, Bool, false, [], ◌∷◌, List, ℕ, Option, Some}
 use Rattle.std.specs.List.{list_all, list_any}
 use Rattle.std.specs.Str.{bytes_eq}
-use Rattle.clap.specs.Words.{App, IsParsed, IsUnsignedIn, Rule, app_of, built, fault_of, found_of, has_subcommand, is_simple_and_free, matches_of, one_text, rows_of, Text}
+use Rattle.clap.specs.Words.{App, IsParsed, IsUnsignedIn, Rule, app_of, built, fault_of, found_of}
+use Rattle.clap.specs.Words.{has_subcommand, is_simple_and_free, matches_of, one_text, rows_of, Text}
 use Rattle.clap.specs.Facts.{unwrap_or_range}
 use Rattle.clap.specs.Walk.{action_of, is_empty}
 use Rattle.clap.specs.declared.builder.ArgAction.{ArgAction}

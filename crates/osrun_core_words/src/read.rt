@@ -2,7 +2,8 @@ ghost use Rattle.std.specs.Prelude.{◌≡◌, ◌≤◌, IfOk, Err, None, Some}
 ghost use Rattle.clap.specs.Words.{found_of, rows_of};
 ghost use Rattle.osrun_core_words.specs.Arguments.{argument_of, id_of, name_in, number_in};
 ghost use Rattle.osrun_core_jobs.specs.Jobs.{IsRequestWithin, request_of};
-ghost use Rattle.osrun_core_words.specs.Command.{command, compile_form, exec_form, explain_form, gen_form, replay_form, request_by, run_form, texts, trace_form};
+ghost use Rattle.osrun_core_words.specs.Command.{command, compile_form, exec_form, explain_form, gen_form};
+ghost use Rattle.osrun_core_words.specs.Command.{replay_form, request_by, run_form, texts, trace_form};
 ghost use Rattle.osrun_core_words.specs.Parsed.{IsNumberFor, IsNumberGiven};
 ghost use Rattle.osrun_core_words.specs.declared.words_error.WordsError.TheVariants as errors;
 

@@ -24,7 +24,13 @@ impl Model for Scratch {
 
     ghost Value = { Space };
 
-    ghost view = { λ s. record { stack = vec_len s.stack; slots = length s.slots.items + s.slots.spare; calls = vec_len s.callers; steps = s.steps; turns = s.turns } };
+    ghost view = { λ s. record {
+      stack = vec_len s.stack;
+      slots = length s.slots.items + s.slots.spare;
+      calls = vec_len s.callers;
+      steps = s.steps;
+      turns = s.turns;
+    } };
 }
 
 impl Scratch {

@@ -1,7 +1,8 @@
 //! Declarators: what they declare and take, and which rules they violate.
 
 ghost use Rattle.std.specs.Prelude.{◌≡◌, ◌++◌, ◌&&◌, not, OnOk, map, option_map};
-ghost use Rattle.os_ast.specs.Notes.Declarators.{form, sized_form, is_window, sized_notes, declarator_notes, declarators_notes, after_declarator, after_declarators, after_start, start_notes};
+ghost use Rattle.os_ast.specs.Notes.Declarators.{form, sized_form, is_window, sized_notes, declarator_notes, declarators_notes};
+ghost use Rattle.os_ast.specs.Notes.Declarators.{after_declarator, after_declarators, after_start, start_notes};
 ghost use Rattle.os_ast.specs.Names.{is_declared, typed};
 ghost use Rattle.os_ast.specs.Rules.{is_outermost, when};
 ghost use Rattle.os_ast.specs.Views.{declarator_tree, index_tree, start_tree};

@@ -1,5 +1,7 @@
 ghost use Rattle.std.specs.Prelude.{◌≡◌, OnOk};
-ghost use Rattle.window_check_names.specs.Findings.{nothing_found, before, lesser, pushed, all_task_rules, with_violation, with_violations, judged_with_violation, means, named, constant_found, started, started_in, slots_found, judged_in, violations_in};
+ghost use Rattle.window_check_names.specs.Findings.{nothing_found, before, lesser, pushed, all_task_rules, with_violation};
+ghost use Rattle.window_check_names.specs.Findings.{with_violations, judged_with_violation, means, named, constant_found};
+ghost use Rattle.window_check_names.specs.Findings.{started, started_in, slots_found, judged_in, violations_in};
 ghost use Rattle.os_ast.specs.Rules.{when, takes_more};
 ghost use Rattle.os_ast.specs.Violations.{violated, violations_at};
 ghost use Rattle.window_check_names.specs.BrokenRules.{all_rules, rule_list, least_rule};

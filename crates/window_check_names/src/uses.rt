@@ -5,7 +5,8 @@ ghost use Rattle.os_ast.specs.Names.{lookup, entity_of};
 ghost use Rattle.os_ast.specs.Notes.Kinds.{Used};
 ghost use Rattle.window_check_names.specs.BrokenRules.{all_rules, rule_list, least_rule};
 ghost use Rattle.window_check_names.specs.Findings.{note, judged, collected};
-ghost use Rattle.window_check_names.specs.Uses.{no_index, one_index, only_read, misplaced, value_rules, target_rules, call_rules, end_rules, stream_rules, item_rules, private_rules, role_rules, use_rules};
+ghost use Rattle.window_check_names.specs.Uses.{no_index, one_index, only_read, misplaced, value_rules, target_rules, call_rules};
+ghost use Rattle.window_check_names.specs.Uses.{end_rules, stream_rules, item_rules, private_rules, role_rules, use_rules};
 
 use crate::broken_rules::{BrokenRules, when};
 use crate::found::{Found, Judged, add_rules};

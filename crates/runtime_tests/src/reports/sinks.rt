@@ -6,7 +6,8 @@ use flow_core::ControlEnd;
 use std::test::Fail;
 
 const REPORT: &[u8] =
-    b"starved 0 stream 2 position 0 producer 1 starved\nstarved 1 stream 3 position 0 producer 0 starved\nstarved 2 stream 2 position 1 producer 2 starved\ncontrol done\noutput 0 of 0\n";
+    b"starved 0 stream 2 position 0 producer 1 starved\nstarved 1 stream 3 position 0 producer 0 starved\n\
+         starved 2 stream 2 position 1 producer 2 starved\ncontrol done\noutput 0 of 0\n";
 
 const CASE: Case<'static> = Case {
     streams: 4,

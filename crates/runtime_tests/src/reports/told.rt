@@ -56,7 +56,8 @@ const STARVED: [Told; 3] = [
             control: ControlEnd::Done,
         },
         b"",
-        "starved 0 stream 2 position 0 producer 1 starved\nstarved 1 stream 3 position 0 producer 0 starved\nstarved 2 stream 2 position 1 producer 2 starved\ncontrol done\noutput 0 of 0\n",
+        "starved 0 stream 2 position 0 producer 1 starved\nstarved 1 stream 3 position 0 producer 0 starved\n\
+            starved 2 stream 2 position 1 producer 2 starved\ncontrol done\noutput 0 of 0\n",
     ),
     // An input that is too short.
     (
