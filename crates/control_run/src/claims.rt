@@ -1,46 +1,50 @@
-//! The claims that a `Spawn` makes.
+//! The claims that a `Spawn` makes, and what it captures.
 
 ghost use Rattle.std.specs.Prelude.{◌≡◌, ℕ, ◌*◌, ◌<◌, ◌≤◌, All, if◌then◌else◌, length, map, Some, pos, slice_index_or, IfOk};
 ghost use Rattle.c_int.specs.declared.trap.Trap.TheVariants as traps;
-ghost use Rattle.flow_core_laws.specs.declared.claim.Claim.{Claim as TheClaim};
 ghost use Rattle.os_code.specs.Machine as machine;
-ghost use Rattle.control_run.specs.Spawning.{HasWindow};
+ghost use Rattle.control_run.specs.Spawning.{HasWindow, with_claims};
 
 use crate::numbers::{amount_of, size_of, stream_of};
 use c_int::Trap;
 use flow_core_laws::Claim;
 use os_code::SiteItem;
-use os_io::{List, Memory};
-use std::alloc::Global;
 use task_vm::registers::number_at;
 
-/// The claims of the items, in order, or the first trap. The operands are an index and a burst for each
-/// item; the slots are those of `main`.
-pub(crate) fn claims_of(
-    alloc: Global,
+/// Sets the claims of the items, in order, and answers how many positions they cover together; or the first trap, and
+/// then some of them are set. The operands are an index and a burst for each item; the slots are those of `main`.
+#[inline(always)]
+pub(crate) fn set_claims(
     streams: u32,
     slots: &[i32],
     items: &[SiteItem],
     operands: &[i32],
-) -> Result<Result<List<Claim>, Trap>, Memory>
+    claims: &mut [Claim],
+) -> Result<u32, Trap>
     requires windows { All (HasWindow (length slots.now)) items.now }
     requires pairs { length operands.now ≡ 2 * length items.now }
     requires few { length items.now ≤ 8 }
-    ensures { IfOk result (λ claims. claims ≡ machine.spawned_claims streams slots.now items.now operands.now) }
+    requires room { length claims.old ≡ length items.now }
+    ensures claims { with_claims result claims.new ≡ machine.spawned_claims streams slots.now items.now operands.now }
+    ensures positions { IfOk result (λ positions. positions ≡ machine.horizon_sum claims.new) }
 {
-    let mut claims = List::with_capacity(alloc, items.len())?;
+    let mut positions: u32 = 0;
     for (k, item) in items.iter().enumerate() {
         let index = number_at(operands, 2 * k);
         let burst = number_at(operands, 2 * k + 1);
         match claim_of(streams, slots, *item, index, burst) {
-            Ok(claim) => claims.push(claim)?,
-            Err(trap) => return Ok(Err(trap)),
+            Ok(claim) => {
+                positions += claim.horizon;
+                claims[k] = claim;
+            }
+            Err(trap) => return Err(trap),
         }
     }
-    Ok(Ok(claims))
+    Ok(positions)
 }
 
 /// The claim of an item, or its trap: the stream is looked at first, then the horizon, then the burst.
+#[inline(always)]
 fn claim_of(
     streams: u32,
     slots: &[i32],
@@ -81,6 +85,7 @@ fn burst_trap(item: SiteItem) -> Trap
 }
 
 /// Nothing writes the input, and nothing reads the output.
+#[inline(always)]
 fn forbidden_to(item: SiteItem) -> u32
     ensures { result ≡ machine.forbidden_to item }
 {
@@ -88,6 +93,7 @@ fn forbidden_to(item: SiteItem) -> u32
 }
 
 /// The horizon that a slot keeps, or 1.
+#[inline(always)]
 fn horizon_of(slots: &[i32], window: Option<u32>) -> Option<u32>
     requires { (slot : ℕ) → window ≡ Some slot → slot < length slots.now }
     ensures { result ≡ machine.horizon_of slots.now window }
@@ -99,6 +105,7 @@ fn horizon_of(slots: &[i32], window: Option<u32>) -> Option<u32>
 }
 
 /// The burst of an input item; that of an output item is its horizon.
+#[inline(always)]
 fn burst_of(item: SiteItem, horizon: u32, burst: i32) -> Option<u32>
     ensures { result ≡ machine.burst_of item horizon burst }
 {
@@ -112,31 +119,14 @@ fn burst_of(item: SiteItem, horizon: u32, burst: i32) -> Option<u32>
     }
 }
 
-/// How many positions claims cover together.
-pub(crate) fn horizons(claims: &[Claim]) -> u32
-    requires few { length claims.now ≤ 8 }
-    requires small { All (λ (claim : TheClaim). claim.horizon ≤ 65536) claims.now }
-    ensures { result ≡ machine.horizon_sum claims.now }
+/// Sets the captured values: those of slots.
+#[inline(always)]
+pub(crate) fn set_captured(slots: &[i32], captured: &[u32], values: &mut [i32])
+    requires there { All (λ slot. slot < length slots.now) captured.now }
+    requires room { length values.old ≡ length captured.now }
+    ensures { values.new ≡ map (λ slot. slice_index_or slots.now slot (pos 0)) captured.now }
 {
-    let mut sum: u32 = 0;
-    for claim in claims {
-        sum += claim.horizon;
+    for (k, slot) in captured.iter().enumerate() {
+        values[k] = number_at(slots, *slot as usize);
     }
-    sum
-}
-
-/// The values of slots.
-pub(crate) fn captured_of(
-    alloc: Global,
-    slots: &[i32],
-    captured: &[u32],
-) -> Result<List<i32>, Memory>
-    requires { All (λ slot. slot < length slots.now) captured.now }
-    ensures { IfOk result (λ values. values ≡ map (λ slot. slice_index_or slots.now slot (pos 0)) captured.now) }
-{
-    let mut values = List::with_capacity(alloc, captured.len())?;
-    for slot in captured {
-        values.push(number_at(slots, *slot as usize))?;
-    }
-    Ok(values)
 }

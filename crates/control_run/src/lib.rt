@@ -8,7 +8,8 @@
 //! A `ControlRun` gives the same activations by stretches, so that others can begin to run while `main` goes on: each
 //! call of `advance` appends the next ones, at most as many as it is asked for, and tells when no more come. Budget and
 //! limits are those of the whole run, however it is cut; and cutting it costs nothing, since the machine is kept, and
-//! nothing is kept of the activations but their number and what the limits and ticks need.
+//! nothing is kept of the activations but their number and what the limits and ticks need. Activations that are run no more
+//! can be handed back by `reuse`: the next ones are made in their lists.
 //!
 //! The loop stands in `running`; what it shares with the loop of tasks are the pieces of `task_vm::registers`.
 #![tactic(auto)]
@@ -19,6 +20,7 @@ mod machine;
 mod made;
 mod numbers;
 mod running;
+mod spare;
 mod spawning;
 mod stage;
 mod stretches;

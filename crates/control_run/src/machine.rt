@@ -1,5 +1,6 @@
 use crate::made::Made;
 use crate::running::{Stopped, run};
+use crate::spare::Spare;
 use flow_core_laws::Activation;
 use os_code::{Code, Unit};
 use os_io::{List, Memory};
@@ -68,6 +69,7 @@ impl Machine {
         code: &Code,
         input_len: u32,
         budget: u64,
+        spare: &mut Spare,
         into: &mut List<Activation>,
         at_most: u32,
     ) -> Result<Option<Stopped>, Memory>
@@ -86,6 +88,7 @@ impl Machine {
             self.slots.as_mut_slice(),
             self.callers.as_mut_slice(),
             &mut self.made,
+            spare,
             into,
             at_most,
             input_len,

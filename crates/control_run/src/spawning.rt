@@ -2,16 +2,18 @@ ghost use Rattle.std.specs.Prelude.{◌≡◌, ◌*◌, ◌<◌, ◌≤◌, All,
 ghost use Rattle.os_code.specs.Machine.{spawned_claims};
 ghost use Rattle.control_run.specs.Spawning.{HasWindow, spawn_end, spawn_list, spawn_made};
 
-use crate::claims::{captured_of, claims_of, horizons};
+use crate::claims::{set_captured, set_claims};
 use crate::made::{Made, take_skips};
+use crate::spare::Spare;
 use flow_core_laws::{Activation, ControlEnd};
 use os_code::Site;
 use os_io::{List, Memory};
 use std::alloc::Global;
 
-/// Creates the activation of a site and adds it to the list, or answers how `main` ends there. The slots are those of
-/// `main`; the operands are an index and a burst for each item. `Memory` leaves the list as it was, and may lose what
-/// ticks took.
+/// Creates the activation of a site, in the lists of a spare one where one fits, and adds it to the list; or answers how
+/// `main` ends there. The slots are those of `main`; the operands are an index and a burst for each item. `Memory` leaves
+/// the list as it was, and may lose what ticks took.
+#[inline(never)]
 pub(crate) fn spawn(
     alloc: Global,
     streams: u32,
@@ -20,6 +22,7 @@ pub(crate) fn spawn(
     slots: &[i32],
     operands: &[i32],
     made: &mut Made,
+    spare: &mut Spare,
     into: &mut List<Activation>,
 ) -> Result<Option<ControlEnd>, Memory>
     requires windows { All (HasWindow (length slots.now)) site.now.items }
@@ -36,8 +39,19 @@ pub(crate) fn spawn(
     ensures count_kept { OnErr result (made.new.created ≡ made.old.created) }
     ensures list_kept { OnErr result (into.new ≡ into.old) }
 {
-    let mut claims = match claims_of(alloc, streams, slots, site.items.as_slice(), operands)? {
-        Ok(claims) => claims,
+    let Activation {
+        mut captured,
+        mut claims,
+        ..
+    } = spare.take(alloc, site.captured.len(), site.items.len())?;
+    let positions = match set_claims(
+        streams,
+        slots,
+        site.items.as_slice(),
+        operands,
+        claims.as_mut_slice(),
+    ) {
+        Ok(positions) => positions,
         Err(trap) => {
             return Ok(Some(ControlEnd::Trapped {
                 code: trap.code(),
@@ -45,11 +59,10 @@ pub(crate) fn spawn(
             }));
         }
     };
-    let positions = horizons(claims.as_slice());
     if let Some(limit) = made.limit(positions) {
         return Ok(Some(ControlEnd::Limit(limit.code())));
     }
-    let captured = captured_of(alloc, slots, site.captured.as_slice())?;
+    set_captured(slots, site.captured.as_slice(), captured.as_mut_slice());
     take_skips(claims.as_mut_slice(), made.skips.as_mut_slice());
     into.push(Activation {
         site: number,

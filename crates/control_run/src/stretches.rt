@@ -1,4 +1,5 @@
 use crate::machine::Machine;
+use crate::spare::Spare;
 use crate::stage::Stage;
 use flow_core_laws::{Activation, ControlEnd};
 use os_code::Code;
@@ -17,6 +18,7 @@ pub struct ControlRun<'c> {
     input_len: u32,
     budget: u64,
     machine: Machine,
+    spare: Spare,
     stage: Stage,
 }
 
@@ -59,8 +61,16 @@ impl<'c> ControlRun<'c> {
             input_len,
             budget,
             machine,
+            spare: Spare::of(List::new(alloc)),
             stage: Stage::Standing,
         })
+    }
+
+    /// Takes activations that are run no more: the next ones are made in their lists, which saves asking for memory anew.
+    pub fn reuse(&mut self, ended: List<Activation>)
+        ensures { self.new ≡ self.old }
+    {
+        self.spare = Spare::of(ended);
     }
 
     /// Appends the next activations, so many, or all that remain where fewer do. It answers true exactly where fewer
@@ -92,6 +102,7 @@ impl<'c> ControlRun<'c> {
             self.code,
             self.input_len,
             self.budget,
+            &mut self.spare,
             into,
             at_most,
         )?;
