@@ -12,6 +12,7 @@ pub mod EpochStands
 pub mod Lowering
 pub mod LookUp
 pub mod Gathering
+pub mod Opening
 pub mod Behind
 pub mod Rows
 pub mod EpochRows

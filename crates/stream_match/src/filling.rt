@@ -1,12 +1,13 @@
-ghost use Rattle.std.specs.Prelude.{◌≡◌, ◌+◌, ◌++◌, ◌^◌, ◌<◌, ◌≤◌, All, IfOk, OnOk, count_by, is_none, length, map};
+ghost use Rattle.std.specs.Prelude.{◌≡◌, ◌+◌, ◌-◌, ◌++◌, ◌^◌, ◌<◌, ◌≤◌, All, IfOk, None, OnOk, count_by, is_none, length, map, min, pos, replicate};
 ghost use Rattle.std.specs.List.{flat_map, range_with_len};
+ghost use Rattle.flow_core_laws.specs.declared.elem.Elem.TheVariants.{Value};
 ghost use Rattle.stream_match.specs.declared.stretch.Stretch.{Stretch};
 ghost use Rattle.stream_match.specs.Kept.{place_of};
 ghost use Rattle.stream_match.specs.EpochPlan.{opening_element};
 ghost use Rattle.stream_match.specs.EpochCode.{AreSorted, IsFirstFrom, filled_cells, stretch_places};
 
 use crate::kept::Kept;
-use crate::look_up::{epoch_opening, first_from, first_from_on, is_kept_in, opening_element};
+use crate::look_up::{epoch_opening, first_from, first_from_on, is_kept_in};
 use crate::place::Place;
 use crate::stretch::Stretch;
 use flow_core_laws::Elem;
@@ -53,9 +54,54 @@ fn fill_open(cells: &mut List<Option<Elem>>, input: &[u8], stretch: Stretch) -> 
     requires { stretch.first + stretch.count < 2 ^ 64 }
     ensures { OnOk result (cells.new ≡ cells.old ++ map (opening_element input.now stretch.stream) (range_with_len stretch.first stretch.count)) }
 {
-    for offset in 0..stretch.count {
-        let position = stretch.first + u64::from(offset);
-        cells.push(opening_element(input, stretch.stream, position))?;
+    if stretch.stream != 0 {
+        fill_empty(cells, stretch.count)?;
+        return Ok(());
+    }
+    let given = given(input, stretch.first, stretch.count);
+    fill_given(cells, input, stretch.first, given)?;
+    fill_empty(cells, stretch.count - given)?;
+    Ok(())
+}
+
+/// How many of so many positions from a first one on the input has.
+fn given(input: &[u8], first: u64, count: u32) -> u32
+    ensures { result ≡ min count (length input.now - first) }
+{
+    let left = (input.len() as u64).saturating_sub(first);
+    left.min(u64::from(count)) as u32
+}
+
+/// Adds the cells of positions that the input has.
+fn fill_given(
+    cells: &mut List<Option<Elem>>,
+    input: &[u8],
+    first: u64,
+    count: u32,
+) -> Result<(), Memory>
+    requires { count ≤ length input.now - first }
+    ensures { OnOk result (cells.new ≡ cells.old ++ map (opening_element input.now 0) (range_with_len first count)) }
+{
+    for offset in 0..count {
+        let position = first + u64::from(offset);
+        cells.push(Some(element_of(input[position as usize])))?;
+    }
+    Ok(())
+}
+
+/// The element that a byte of the input is.
+fn element_of(byte: u8) -> Elem
+    ensures { result ≡ Value (pos byte) }
+{
+    Elem::Value(i32::from(byte))
+}
+
+/// Adds cells that hold nothing.
+fn fill_empty(cells: &mut List<Option<Elem>>, count: u32) -> Result<(), Memory>
+    ensures { OnOk result (cells.new ≡ cells.old ++ replicate count None) }
+{
+    for _ in 0..count {
+        cells.push(None)?;
     }
     Ok(())
 }

@@ -61,7 +61,30 @@ fn is_first_behind(layout: &Layout, stream: u32, position: u64, place: usize) ->
     requires writers { HasWriters layout.now stream }
     ensures { result ≡ true → FirstBehind layout.now stream position place }
 {
-    ends_before(layout, stream, position, place) && reaches_past(layout, stream, position, place)
+    reaches_past(layout, stream, position, place) && is_behind(layout, stream, position, place)
+}
+
+/// Whether the write spans before a place of a stream end at a position or before it, as the one at the place, which is
+/// read anyway, mostly tells.
+fn is_behind(layout: &Layout, stream: u32, position: u64, place: usize) -> bool
+    requires exists { stream < length layout.now.writers }
+    requires writers { HasWriters layout.now stream }
+    ensures { result ≡ true → EndsBefore layout.now stream position place }
+{
+    begins_before(layout, stream, position, place) || ends_before(layout, stream, position, place)
+}
+
+/// Whether there is a write span at a place of a stream that begins at a position or before it.
+fn begins_before(layout: &Layout, stream: u32, position: u64, place: usize) -> bool
+    requires exists { stream < length layout.now.writers }
+    requires writers { HasWriters layout.now stream }
+    ensures { result ≡ true → EndsBefore layout.now stream position place }
+{
+    let Some(number) = layout.writer(stream, place) else {
+        return false;
+    };
+    let span = layout.span(number as usize);
+    span.first <= position
 }
 
 /// Whether the write span before a place of a stream, if the place isn't the first one, ends at a position or before it.

@@ -2,23 +2,32 @@ ghost use Rattle.std.specs.Prelude.{◌≡◌, ◌^◌, ◌<◌, true, length, s
 ghost use Rattle.flow_core_epochs.specs.Epoch.{number_in};
 ghost use Rattle.stream_match.specs.EpochCode.{Ascend};
 
-/// The number of an activation among frames: where all activations are frames it is its own, where all behind it are, it
-/// is told by the last frame, and else it is found by halving.
+/// The number of an activation among frames: where all between the first frame and it are frames, the first one tells it,
+/// where all behind it are, the last one does, and else it is found by halving.
 pub(crate) fn number_of(frames: &[u32], activation: u32) -> Option<u32>
     requires ascend { Ascend frames.now }
     requires few { length frames.now < 2 ^ 32 }
     ensures { result ≡ number_in frames.now activation }
 {
-    if is_at(frames, activation, activation) {
-        return Some(activation);
+    let by_first = number_by_first(frames, activation);
+    if is_at(frames, by_first, activation) {
+        return Some(by_first);
     }
-    let number = number_by_last(frames, activation);
-    if is_at(frames, number, activation) {
-        return Some(number);
+    let by_last = number_by_last(frames, activation);
+    if is_at(frames, by_last, activation) {
+        return Some(by_last);
     }
     match frames.binary_search(&activation) {
         Ok(number) => Some(number as u32),
         Err(_) => None,
+    }
+}
+
+/// The number that an activation has where all between the first frame and it are frames.
+fn number_by_first(frames: &[u32], activation: u32) -> u32 {
+    match frames.first() {
+        Some(first) => activation.saturating_sub(*first),
+        None => 0,
     }
 }
 

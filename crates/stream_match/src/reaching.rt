@@ -29,7 +29,7 @@ pub(crate) fn reading(alloc: Global, layout: &Layout, frames: &[u32]) -> Result<
     ensures next { IfOk result (λ r. r.next ≡ reads_before layout.now frames.now (length frames.now)) }
 {
     let mut reading = Reaching {
-        stretches: List::with_capacity(alloc, spans_in(layout, frames))?,
+        stretches: List::with_capacity(alloc, frames.len())?,
         next: 0,
     };
     for (number, frame) in frames.iter().enumerate() {
@@ -55,7 +55,7 @@ pub(crate) fn leaving(
     ensures next { IfOk result (λ r. r.next ≡ next + total (leaving_reaches layout.now frames.now cursors.now)) }
 {
     let mut leaving = Reaching {
-        stretches: List::with_capacity(alloc, spans_in(layout, frames))?,
+        stretches: List::with_capacity(alloc, frames.len())?,
         next,
     };
     for frame in frames {
@@ -66,18 +66,6 @@ pub(crate) fn leaving(
         )?;
     }
     Ok(leaving)
-}
-
-/// How many spans frames have, as far as a `usize` goes.
-fn spans_in(layout: &Layout, frames: &[u32]) -> usize
-    requires layout { IsLayout layout.now }
-    requires frames { AreFrames layout.now frames.now }
-{
-    let mut spans: usize = 0;
-    for frame in frames {
-        spans = spans.saturating_add(layout.spans_of(*frame as usize).len());
-    }
-    spans
 }
 
 impl Reaching {

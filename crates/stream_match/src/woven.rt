@@ -97,7 +97,7 @@ fn gathered(
     ensures { IfOk result (λ pieces. pieces ≡ flat_map (pieces_for layout.now frames.now) reads.now
         ++ flat_map (pieces_for layout.now frames.now) leaves.now) }
 {
-    let mut pieces = List::with_capacity(alloc, leaves.len())?;
+    let mut pieces = List::with_capacity(alloc, reads.len().saturating_add(leaves.len()))?;
     let mut nearby = Nearby::new(alloc, layout.writers.len())?;
     gather(&mut pieces, layout, frames, reads, &mut nearby)?;
     gather(&mut pieces, layout, frames, leaves, &mut nearby)?;

@@ -1,18 +1,23 @@
-use Rattle.std.proofs.Common.{◌∙◌, ◌+◌, ◌++◌, ◌∷◌, [], ap, sym, map, refl}
+use Rattle.std.proofs.Common.{◌∙◌, ◌-◌, ◌++◌, ap, sym, map}
+use Rattle.std.specs.Prelude.{None, replicate}
 use Rattle.std.specs.List.{range_with_len}
 use Rattle.std.proofs.lemmas.List.{append_assoc}
-use Rattle.std.proofs.lemmas.List.FromFn.{map-range_with_len_more}
 use Rattle.stream_match.specs.EpochPlan.{opening_element}
+use Rattle.stream_match.proofs.Opening.{declared_cells, input_cells}
 use Rattle.stream_match.proofs.filling.fill_open.Goals as goal
 
-pub loop-offset-preserved : goal.loop-offset-preserved
-loop-offset-preserved c =
-    let f = opening_element c.args.input.now c.args.stretch.stream in
-    let first = c.args.stretch.first in
-    let k = c.loop-offset.offset in
+pub returns : goal.returns
+returns c =
+    let s = c.args.stretch in
     let old = c.args.cells.now in
-    c.in_ok-push.ensures.ok
-    ∙ ap (λ v. c.loop-offset.cells ++ v ∷ []) (c.opening_element.ensures ∙ ap (λ n. f (first + n)) c.from.ensures)
-    ∙ ap (λ xs. xs ++ f (first + k) ∷ []) c.loop-offset.invariant
-    ∙ append_assoc old (map f (range_with_len first k)) (f (first + k) ∷ [])
-    ∙ ap (λ xs. old ++ xs) (sym (map-range_with_len_more f first k (first + k) refl))
+    let input = c.args.input.now in
+    c.in_ok-fill_empty-2.ensures
+    ∙ ap (λ vs. vs ++ replicate (s.count - c.given-given.result) None) c.in_ok-fill_given.ensures
+    ∙ append_assoc old (map (opening_element input 0) (range_with_len s.first c.given-given.result)) (replicate (s.count - c.given-given.result) None)
+    ∙ ap (λ vs. old ++ vs) (sym (input_cells input s.first s.count c.given-given.result c.given-given.ensures))
+    ∙ ap (λ stream. old ++ map (opening_element input stream) (range_with_len s.first s.count)) (sym c.if-stretch-ne0.false)
+
+pub returns-then-stretch-ne0 : goal.returns-then-stretch-ne0
+returns-then-stretch-ne0 c =
+    let s = c.args.stretch in
+    c.in_ok-fill_empty.ensures ∙ ap (λ vs. c.args.cells.now ++ vs) (sym (declared_cells c.args.input.now s.stream s.first s.count c.if-stretch-ne0.true))

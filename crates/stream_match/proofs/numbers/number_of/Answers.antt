@@ -22,7 +22,7 @@ returns-in-Err c =
     sym (no_number xs x (λ k lt e. elim (cases_lt k c.in-Err.field-0) [ inl less ↦ absurd (omega (arith, s.1 k less)) | inr ge ↦ absurd (omega (arith, s.2 k ge lt)) ]))
 
 pub returns-then-is_at : goal.returns-then-is_at
-returns-then-is_at c = let t = c.if-is_at.true in sym (found_number c.args.frames.now c.args.activation c.args.activation c.requires.ascend (c.is_at.ensures.within t) (c.is_at.ensures.at t))
+returns-then-is_at c = let t = c.if-is_at.true in sym (found_number c.args.frames.now c.args.activation c.number_by_first-by_first.result c.requires.ascend (c.is_at.ensures.within t) (c.is_at.ensures.at t))
 
 pub returns-then-is_at-2 : goal.returns-then-is_at-2
-returns-then-is_at-2 c = let t = c.if-is_at-2.true in sym (found_number c.args.frames.now c.args.activation c.number_by_last-number.result c.requires.ascend (c.is_at-2.ensures.within t) (c.is_at-2.ensures.at t))
+returns-then-is_at-2 c = let t = c.if-is_at-2.true in sym (found_number c.args.frames.now c.args.activation c.number_by_last-by_last.result c.requires.ascend (c.is_at-2.ensures.within t) (c.is_at-2.ensures.at t))
