@@ -17,17 +17,8 @@ use std::alloc::Global;
 use std::thread::Threads;
 use task_workers::Gate;
 
-/// How many new activations an epoch has at most.
-const EPOCH: u32 = 4096;
-
-/// With so many elements in their windows an epoch takes no more activations: their cells, and what they write, are held at once.
-const ELEMENTS: u64 = 65_536;
-
-/// How many activations are created before their elements are counted: so an epoch has one for each of 64 workers.
-const STRETCH: u32 = 64;
-
-/// Runs a code over an input in epochs of at most 4,096 new activations, and of fewer where their windows are large: while 1 to 64
-/// workers run one epoch, the control program creates the activations of the next one. What it comes to is the data-flow meaning of all
+/// Runs a code over an input in epochs of at most 4,096 new activations, and of fewer where their windows are large, or the
+/// workers few: while 1 to 64 workers run one epoch, the control program creates the activations of the next one. What it comes to is the data-flow meaning of all
 /// activations that it creates.
 ///
 /// The gate is called as in `execute`, with the number of a frame in its epoch. The activations, their positions, their
@@ -56,11 +47,7 @@ pub fn run_epochs<R: Threads + Sync, G: Gate>(
     ensures fit { IfOk result (λ run. All (Fits (parts_of code.now)) (created (parts_of code.now) input.now budgets)) }
     ensures lawful { IfOk result (λ run. AreLawful code.now.streams (created (parts_of code.now) input.now budgets)) }
 {
-    let size = EpochSize {
-        activations: EPOCH,
-        elements: ELEMENTS,
-        stretch: STRETCH,
-    };
+    let size = EpochSize::by_workers(workers);
     run_epochs_of(rt, alloc, code, input, budgets, workers, gate, size)
 }
 

@@ -1,3 +1,18 @@
+ghost use Rattle.std.specs.Prelude.{◌≤◌};
+
+/// How many new activations an epoch has at most for each worker, and by how many workers at most.
+const ACTIVATIONS: u32 = 1024;
+
+/// How many elements the windows of an epoch's new activations may have for each worker: with so many it takes no more activations,
+/// since their cells, and what they write, are held at once.
+const ELEMENTS: u64 = 16_384;
+
+/// For how many workers an epoch has a share. More of them share what these have.
+const SHARES: u32 = 4;
+
+/// How many activations are created before their elements are counted: so an epoch has one for each of 64 workers.
+const STRETCH: u32 = 64;
+
 /// How much of what is new an epoch has at most. It has at least one new activation.
 #[derive(Clone, Copy, Debug, PartialEq, Eq)]
 pub struct EpochSize {
@@ -7,4 +22,38 @@ pub struct EpochSize {
     pub elements: u64,
     /// The elements are counted each time that the control program has created so many activations; 0 stands for 1.
     pub stretch: u32,
+    /// How many times as much it may have while many activations wait, since each of them is looked at again in each epoch; 0 stands
+    /// for 1.
+    pub growth: u32,
+}
+
+impl EpochSize {
+    /// The size of the epochs of a run by so many workers: at most 4,096 new activations.
+    pub(crate) fn by_workers(workers: u32) -> EpochSize
+        requires { 1 ≤ workers }
+        ensures { 1 ≤ result.activations }
+    {
+        let shares = workers.min(SHARES);
+        EpochSize {
+            activations: shares * ACTIVATIONS,
+            elements: u64::from(shares) * ELEMENTS,
+            stretch: STRETCH,
+            growth: SHARES / shares,
+        }
+    }
+
+    /// The size of the next epoch, where so many activations wait: of so many times as many new ones, as far as it may grow.
+    pub(crate) fn with_waiting(self, waiting: usize) -> EpochSize
+        requires { 1 ≤ self.activations }
+        ensures { 1 ≤ result.activations }
+    {
+        let times = (waiting as u64 / u64::from(self.activations))
+            .min(u64::from(self.growth))
+            .max(1) as u32;
+        EpochSize {
+            activations: self.activations.saturating_mul(times).max(self.activations),
+            elements: self.elements.saturating_mul(u64::from(times)),
+            ..self
+        }
+    }
 }

@@ -132,6 +132,19 @@ fn of_activations(activations: u32) -> EpochSize
         activations,
         elements: 65_536,
         stretch: 64,
+        growth: 1,
+    }
+}
+
+/// Epochs of one activation, and of up to so many while as many wait.
+fn growing(growth: u32) -> EpochSize
+    ensures { 1 ≤ result.activations }
+{
+    EpochSize {
+        activations: 1,
+        elements: 65_536,
+        stretch: 64,
+        growth,
     }
 }
 
@@ -143,6 +156,7 @@ fn of_elements(elements: u64) -> EpochSize
         activations: 4096,
         elements,
         stretch: 1,
+        growth: 0,
     }
 }
 
@@ -207,6 +221,18 @@ fn epochs_that_end_by_elements_come_to_what_one_comes_to(rt: HostRuntime) -> Res
     for text in PROGRAMS {
         for elements in [0, 3, 10, 40] {
             comes_to_the_same(&rt, rt.alloc(), text, of_elements(elements));
+        }
+    }
+    Ok(())
+}
+
+#[test]
+fn epochs_that_grow_while_activations_wait_come_to_what_one_comes_to(
+    rt: HostRuntime,
+) -> Result<(), Fail> {
+    for text in PROGRAMS {
+        for growth in [2, 7] {
+            comes_to_the_same(&rt, rt.alloc(), text, growing(growth));
         }
     }
     Ok(())
