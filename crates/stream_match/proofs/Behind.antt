@@ -5,7 +5,7 @@ use Rattle.std.specs.List.{flat_map, range_with_len}
 use Rattle.std.proofs.lemmas.Bool.{cases_lt, ltb-false}
 use Rattle.std.proofs.lemmas.List.Elements.{filter-append}
 use Rattle.std.proofs.lemmas.Grind.{flat_map-append}
-use Rattle.std.proofs.lemmas.List.{append-nil, append_assoc, map-append, take_more, take_all}
+use Rattle.std.proofs.lemmas.List.{append-nil, append_assoc, map-append, take_more}
 use Rattle.std.proofs.lemmas.List.Sums.{sum_by-append, sum_by-cons, sum_by_more, sum_by-take-le}
 use Rattle.std.proofs.lemmas.Option.{slice_get-get_or, slice_get_within, get_or_from_slice_get}
 use Rattle.flow_core_laws.specs.declared.plan.Piece.{Piece}
@@ -132,9 +132,6 @@ module _ (layout : Layout) (is : IsLayout layout) where
 
   pub reads_more : (frames : List ℕ) (k : ℕ) → k < length frames → reads_before layout frames (k + 1) ≡ reads_before layout frames k + sum_by read_count (spans_of layout (get_or frames k 0))
   reads_more frames k lt = sum_by_more (over_frame read_count layout) frames k 0 lt
-
-  pub reads_most : (frames : List ℕ) (k : ℕ) → reads_before layout frames k ≤ reads_before layout frames (length frames)
-  reads_most frames k = omega (arith, sum_by-take-le (over_frame read_count layout) frames k, ap (sum_by (over_frame read_count layout)) (take_all (length frames) frames (omega arith)))
 
   pub parts_more : (frames : List ℕ) (k : ℕ) → flat_map (read_part layout frames) (range_with_len 0 (k + 1)) ≡ flat_map (read_part layout frames) (range_with_len 0 k) ++ read_part layout frames k
   parts_more frames k = flat_map-range_more (read_part layout frames) 0 k ∙ ap (λ n. flat_map (read_part layout frames) (range_with_len 0 k) ++ read_part layout frames n) (zero-add k)

@@ -22,10 +22,7 @@ abbrev pub no_stretch : Stretch
 no_stretch = record { to = 0; stream = 0; first = 0; count = 0; at = 0 }
 
 module _ (input : List ℕ) (kept : List Kept) where
-  -- the empty cells of a stretch, by its frame
-  abbrev cells : Stretch → ℕ
-  cells s = count_by is_none (filled_cells input kept s)
-
+  -- a stretch counts for its own frame alone
   pub of_own : (f : ℕ) (s : Stretch) → s.to ≡ f → empty_in input kept f s ≡ count_by is_none (filled_cells input kept s)
   of_own f s same = ap (λ b. cond {A = ℕ} b (count_by is_none (filled_cells input kept s)) 0) (same_test s.to f same)
 
@@ -91,9 +88,6 @@ module _ (input : List ℕ) (kept : List Kept) where
           omega (arith, sum_by-cons (empty_in input kept f) s xs, of_any f s, no_cells, rest)
 
   module _ (layout : Layout) (frames : List ℕ) where
-    abbrev parts : ℕ → List Stretch
-    parts k = flat_map (read_part layout frames) (range_with_len 0 k)
-
     parts_more : (k : ℕ) → flat_map (read_part layout frames) (range_with_len 0 (k + 1)) ≡ flat_map (read_part layout frames) (range_with_len 0 k) ++ read_part layout frames k
     parts_more k = flat_map-range_more (read_part layout frames) 0 k ∙ ap (λ n. flat_map (read_part layout frames) (range_with_len 0 k) ++ read_part layout frames n) (zero-add k)
 

@@ -12,7 +12,7 @@ use os_io::{List, Memory};
 use std::alloc::Global;
 use stream_match_layouts::Layout;
 
-/// The frames of an epoch, by all its pieces and by how many cells of each hold nothing.
+/// The frames of an epoch, by all its pieces and by how many cells of each, and of the sink behind them, hold nothing.
 pub(crate) fn epoch_frames(
     alloc: Global,
     layout: &Layout,
