@@ -1,14 +1,13 @@
 -- Stretches one behind another.
-use Rattle.std.proofs.Common.{◌≡◌, ℕ, Option, is_none, count_by, drop, zero, suc, ◌+◌, ◌-◌, ◌^◌, ◌<◌, ◌≤◌, Bool, true, false, cond, List, [], ◌∷◌, ◌++◌, length, take, map, get_or, refl, sym, ap, ◌∙◌, subst, inl, inr, arith, zero-add}
+use Rattle.std.proofs.Common.{◌≡◌, ℕ, zero, suc, ◌+◌, ◌-◌, ◌^◌, ◌<◌, ◌≤◌, Bool, true, false, cond, List, [], ◌∷◌, ◌++◌, length, take, map, get_or, refl, sym, ap, ◌∙◌, subst, inl, inr, arith, zero-add}
 use Rattle.std.specs.Prelude.{sum_by, All, ◌==◌, nat_lt}
 use Rattle.std.specs.List.{flat_map, range_with_len}
 use Rattle.std.proofs.lemmas.Bool.{cases_lt, ltb-false}
 use Rattle.std.proofs.lemmas.List.Elements.{filter-append}
 use Rattle.std.proofs.lemmas.Grind.{flat_map-append}
-use Rattle.std.proofs.lemmas.List.{append-nil, append_assoc, map-append, take_more, take_all}
+use Rattle.std.proofs.lemmas.List.{append-nil, append_assoc, map-append, take_more}
 use Rattle.std.proofs.lemmas.List.Sums.{sum_by-append, sum_by-cons, sum_by_more, sum_by-take-le}
 use Rattle.std.proofs.lemmas.Option.{slice_get-get_or, slice_get_within, get_or_from_slice_get}
-use Rattle.flow_core_laws.specs.declared.elem.Elem.{Elem}
 use Rattle.flow_core_laws.specs.declared.plan.Piece.{Piece}
 use Rattle.flow_core_laws.proofs.Stretches.{flat_map-range_more}
 use Rattle.flow_core_laws.specs.Window.{Window, windows, windows_of}
@@ -134,9 +133,6 @@ module _ (layout : Layout) (is : IsLayout layout) where
   pub reads_more : (frames : List ℕ) (k : ℕ) → k < length frames → reads_before layout frames (k + 1) ≡ reads_before layout frames k + sum_by read_count (spans_of layout (get_or frames k 0))
   reads_more frames k lt = sum_by_more (over_frame read_count layout) frames k 0 lt
 
-  pub reads_most : (frames : List ℕ) (k : ℕ) → reads_before layout frames k ≤ reads_before layout frames (length frames)
-  reads_most frames k = omega (arith, sum_by-take-le (over_frame read_count layout) frames k, ap (sum_by (over_frame read_count layout)) (take_all (length frames) frames (omega arith)))
-
   pub parts_more : (frames : List ℕ) (k : ℕ) → flat_map (read_part layout frames) (range_with_len 0 (k + 1)) ≡ flat_map (read_part layout frames) (range_with_len 0 k) ++ read_part layout frames k
   parts_more frames k = flat_map-range_more (read_part layout frames) 0 k ∙ ap (λ n. flat_map (read_part layout frames) (range_with_len 0 k) ++ read_part layout frames n) (zero-add k)
 
@@ -146,16 +142,16 @@ module _ (layout : Layout) (is : IsLayout layout) where
       ap (flat_map g) (take_more frames k 0 lt) ∙ flat_map-append g (take k frames) (get_or frames k 0 ∷ []) ∙ ap (λ xs. flat_map g (take k frames) ++ xs) (append-nil (g (get_or frames k 0)))
 
 -- a frame by its fields
-pub epoch_frame_is : (layout : Layout) (frames : List ℕ) (all : List Piece) (cells : List (Option Elem)) (f cell inputs outputs wait piece pieces : ℕ)
-    → cell ≡ reads_before layout frames f → inputs ≡ sum_by read_count (spans_of layout (get_or frames f 0)) → outputs ≡ sum_by write_count (spans_of layout (get_or frames f 0)) → wait ≡ count_by is_none (take inputs (drop cell cells)) → piece ≡ length (by_frame all f) → pieces ≡ length (pieces_from all f)
-    → record { cell = cell; inputs = inputs; outputs = outputs; wait = wait; piece = piece; pieces = pieces } ≡ epoch_frame layout frames all cells f
-epoch_frame_is layout frames all cells f cell inputs outputs wait piece pieces a b c d e g =
+pub epoch_frame_is : (layout : Layout) (frames : List ℕ) (all : List Piece) (waits : List ℕ) (f cell inputs outputs wait piece pieces : ℕ)
+    → cell ≡ reads_before layout frames f → inputs ≡ sum_by read_count (spans_of layout (get_or frames f 0)) → outputs ≡ sum_by write_count (spans_of layout (get_or frames f 0)) → wait ≡ get_or waits f 0 → piece ≡ length (by_frame all f) → pieces ≡ length (pieces_from all f)
+    → record { cell = cell; inputs = inputs; outputs = outputs; wait = wait; piece = piece; pieces = pieces } ≡ epoch_frame layout frames all waits f
+epoch_frame_is layout frames all waits f cell inputs outputs wait piece pieces a b c d e g =
     let r = reads_before layout frames f in
     let i = sum_by read_count (spans_of layout (get_or frames f 0)) in
     let o = sum_by write_count (spans_of layout (get_or frames f 0)) in
-    ap (λ x. record { cell = cell; inputs = inputs; outputs = outputs; wait = x; piece = piece; pieces = pieces }) d
-    ∙ ap (λ x. record { cell = x; inputs = inputs; outputs = outputs; wait = count_by is_none (take inputs (drop x cells)); piece = piece; pieces = pieces }) a
-    ∙ ap (λ x. record { cell = r; inputs = x; outputs = outputs; wait = count_by is_none (take x (drop r cells)); piece = piece; pieces = pieces }) b
-    ∙ ap (λ x. record { cell = r; inputs = i; outputs = x; wait = count_by is_none (take i (drop r cells)); piece = piece; pieces = pieces }) c
-    ∙ ap (λ x. record { cell = r; inputs = i; outputs = o; wait = count_by is_none (take i (drop r cells)); piece = x; pieces = pieces }) e
-    ∙ ap (λ x. record { cell = r; inputs = i; outputs = o; wait = count_by is_none (take i (drop r cells)); piece = length (by_frame all f); pieces = x }) g
+    ap (λ x. record { cell = x; inputs = inputs; outputs = outputs; wait = wait; piece = piece; pieces = pieces }) a
+    ∙ ap (λ x. record { cell = r; inputs = x; outputs = outputs; wait = wait; piece = piece; pieces = pieces }) b
+    ∙ ap (λ x. record { cell = r; inputs = i; outputs = x; wait = wait; piece = piece; pieces = pieces }) c
+    ∙ ap (λ x. record { cell = r; inputs = i; outputs = o; wait = x; piece = piece; pieces = pieces }) d
+    ∙ ap (λ x. record { cell = r; inputs = i; outputs = o; wait = get_or waits f 0; piece = x; pieces = pieces }) e
+    ∙ ap (λ x. record { cell = r; inputs = i; outputs = o; wait = get_or waits f 0; piece = length (by_frame all f); pieces = x }) g

@@ -1,6 +1,6 @@
 -- What is made of an epoch's stretches is its plan.
-use Rattle.std.proofs.Common.{◌≡◌, ℕ, ◌+◌, ◌-◌, ◌^◌, ◌<◌, ◌≤◌, List, [], ◌++◌, Option, is_none, count_by, length, take, drop, map, sym, ap, ◌∙◌, subst, arith}
-use Rattle.std.specs.Prelude.{All, nat_lt}
+use Rattle.std.proofs.Common.{◌≡◌, ℕ, ◌+◌, ◌-◌, ◌^◌, ◌<◌, ◌≤◌, List, [], ◌++◌, Option, is_none, count_by, length, map, get_or, sym, ap, ◌∙◌, subst, arith}
+use Rattle.std.specs.Prelude.{All, nat_lt, sum_by}
 use Rattle.std.specs.List.{flat_map, range_with_len}
 use Rattle.flow_core_laws.specs.declared.elem.Elem.{Elem}
 use Rattle.flow_core_laws.specs.declared.plan.FramePlan.{FramePlan}
@@ -15,7 +15,7 @@ use Rattle.stream_match.specs.Walking.{IsStretch}
 use Rattle.stream_match.specs.Weave.{Reach, Weave, total, cells_of_first, frame_cells, woven_pieces, IsWoven}
 use Rattle.stream_match.specs.EpochPlan.{AreFrames, epoch_opening, reaches_over, weave_over}
 use Rattle.stream_match.specs.Kept.{kept_of}
-use Rattle.stream_match.specs.EpochCode.{pieces_for, renumbered, filled_cells, stretch_places, stretches_from, with_positions, reads_before, read_part, epoch_frame, IsRead, IsLeft, CanLeave}
+use Rattle.stream_match.specs.EpochCode.{pieces_for, renumbered, empty_in, filled_cells, stretch_places, stretches_from, with_positions, reads_before, read_part, epoch_frame, IsRead, IsLeft, CanLeave}
 use Rattle.std.proofs.lemmas.List.Elements.{All-filter}
 use Rattle.flow_core_laws.specs.Place.{places_from}
 use Rattle.flow_core_laws.proofs.Stretches.{flat_map-none}
@@ -23,8 +23,9 @@ use Rattle.stream_match_layouts.specs.Writers.{writers_on, writer_at}
 use Rattle.stream_match.proofs.Walks.{overlap_at, overlap-none}
 use Rattle.stream_match.proofs.Behind.{over_positions}
 use Rattle.stream_match.proofs.Gathering.{all_by_frame}
-use Rattle.stream_match.proofs.Rows.{all_pieces_are, all_cells_are, first-reads, frame_part, left_total}
-use Rattle.stream_match.proofs.EpochRows.{reads_are_stretches, sink_are_stretches, pieces_few, cells_length, from_frames, frames_are_woven}
+use Rattle.stream_match.proofs.Rows.{all_pieces_are, all_cells_are, first-reads, left_total}
+use Rattle.stream_match.proofs.EpochRows.{reads_are_stretches, sink_are_stretches, pieces_few, cells_length, from_frames, frames_are_woven, reads_into, stretches_into}
+use Rattle.stream_match.proofs.Waits.{frame_waits, sink_waits}
 
 -- what is read and what leaves
 pub record AreRows (layout : Layout) (frames : List ℕ) (sink : List Reach) (reads leaves : List Stretch) (next end : ℕ) : Type 0 where
@@ -65,6 +66,12 @@ module _ (layout : Layout) (is : IsLayout layout) (frames : List ℕ) (are : Are
   pub leaves_stretches : All (IsStretch layout) leaves
   leaves_stretches = subst (All (IsStretch layout)) (sym rows.leaves_are) (All-filter (λ (s : Stretch). nat_lt 0 s.count) (IsStretch layout) _ (sink_are_stretches layout is frames are sink can next rows.next_is))
 
+  pub reads_into_frames : All (λ (s : Stretch). s.to < length frames + 1) reads
+  reads_into_frames = subst (All (λ (s : Stretch). s.to < length frames + 1)) (sym rows.reads_are) (All-filter (λ (s : Stretch). nat_lt 0 s.count) (λ (s : Stretch). s.to < length frames + 1) _ (λ k d lt. let into = reads_into layout frames k d lt in omega arith))
+
+  pub leaves_into_sink : All (λ (s : Stretch). s.to < length frames + 1) leaves
+  leaves_into_sink = subst (All (λ (s : Stretch). s.to < length frames + 1)) (sym rows.leaves_are) (All-filter (λ (s : Stretch). nat_lt 0 s.count) (λ (s : Stretch). s.to < length frames + 1) _ (λ k d lt. let into = stretches_into (length frames) next sink k d lt in omega arith))
+
   pub reads_end : All (λ (s : Stretch). s.first + s.count < 2 ^ 64) reads
   reads_end k d lt = let e = (reads_stretches k d lt).ends in omega arith
 
@@ -88,28 +95,30 @@ module _ (layout : Layout) (is : IsLayout layout) (frames : List ℕ) (are : Are
     pub pieces_from_frames : (pieces : List Piece) → pieces ≡ flat_map (pieces_for layout frames) reads ++ flat_map (pieces_for layout frames) leaves → All (λ (p : Piece). p.from < length frames) pieces
     pieces_from_frames pieces made = subst (All (λ (p : Piece). p.from < length frames)) (sym (pieces_made pieces made)) (from_frames layout input frames kept sink)
 
-    pub plan_made : (cells : List (Option Elem)) (pieces : List Piece) (plans : List FramePlan) (placed : List Piece) (numbers : List ℕ) (inputs wait piece : ℕ)
+    pub plan_made : (cells : List (Option Elem)) (waits : List ℕ) (pieces : List Piece) (plans : List FramePlan) (placed : List Piece) (numbers : List ℕ) (inputs wait piece : ℕ)
         → cells ≡ flat_map (filled_cells input kept) reads ++ flat_map (filled_cells input kept) leaves
+        → ((f : ℕ) → f < length frames + 1 → get_or waits f 0 ≡ sum_by (empty_in input kept f) reads + sum_by (empty_in input kept f) leaves)
         → pieces ≡ flat_map (pieces_for layout frames) reads ++ flat_map (pieces_for layout frames) leaves
-        → plans ≡ map (epoch_frame layout frames pieces cells) (range_with_len 0 (length frames))
+        → plans ≡ map (epoch_frame layout frames pieces waits) (range_with_len 0 (length frames))
         → placed ≡ by_frame pieces (length frames) → numbers ≡ frames
-        → inputs ≡ end - next → wait ≡ count_by is_none (take (end - next) (drop next cells)) → piece ≡ length pieces
+        → inputs ≡ end - next → wait ≡ get_or waits (length frames) 0 → piece ≡ length pieces
         → IsWoven layout (weave_over layout input frames (map kept_of kept) sink) (record { frames = plans; sink = record { cell = next; inputs = inputs; outputs = 0; wait = wait; piece = piece; pieces = 0 }; pieces = placed; filled = cells; numbers = numbers })
-    plan_made cells pieces plans placed numbers inputs wait piece cells_raw pieces_raw plans_are placed_are numbers_are inputs_is wait_is piece_is =
+    plan_made cells waits pieces plans placed numbers inputs wait piece cells_raw waits_raw pieces_raw plans_are placed_are numbers_are inputs_is wait_is piece_is =
         let w : Weave = weave_over layout input frames (map kept_of kept) sink in
         let n = length frames in
         let all = pieces_made pieces pieces_raw in
         let filled = cells_made cells cells_raw in
         let first : next ≡ length (cells_of_first w n) = rows.next_is ∙ sym (first-reads layout input frames kept sink n (omega arith)) in
         let count : end - next ≡ total (reaches_over layout frames sink n) = let e = rows.end_is in omega (arith, left_total layout input frames kept sink) in
-        let waits = wait_is ∙ ap (count_by is_none) (frame_part layout input frames kept sink n next (end - next) cells (omega arith) filled rows.next_is count) in
+        let each : (f : ℕ) → f < length frames → get_or waits f 0 ≡ count_by is_none (frame_cells (weave_over layout input frames (map kept_of kept) sink) f) = λ f lt. waits_raw f (omega arith) ∙ frame_waits input kept layout frames sink reads leaves next rows.reads_are rows.leaves_are f lt in
+        let last = wait_is ∙ waits_raw n (omega arith) ∙ sink_waits input kept layout frames sink reads leaves next rows.reads_are rows.leaves_are in
         let placed_all : piece ≡ length (by_frame (woven_pieces layout w) n) = piece_is ∙ ap length all ∙ sym (all_by_frame (woven_pieces layout w) n (from_frames layout input frames kept sink)) in
         record {
-          frames = plans_are ∙ frames_are_woven layout input frames kept sink pieces cells all filled;
+          frames = plans_are ∙ frames_are_woven layout input frames kept sink pieces waits all each;
           sink =
               ap (λ k. record { cell = k; inputs = inputs; outputs = 0; wait = wait; piece = piece; pieces = 0 }) first
               ∙ ap (λ k. record { cell = length (cells_of_first w n); inputs = k; outputs = 0; wait = wait; piece = piece; pieces = 0 }) (inputs_is ∙ count)
-              ∙ ap (λ k. record { cell = length (cells_of_first w n); inputs = total (reaches_over layout frames sink n); outputs = 0; wait = k; piece = piece; pieces = 0 }) waits
+              ∙ ap (λ k. record { cell = length (cells_of_first w n); inputs = total (reaches_over layout frames sink n); outputs = 0; wait = k; piece = piece; pieces = 0 }) last
               ∙ ap (λ k. record { cell = length (cells_of_first w n); inputs = total (reaches_over layout frames sink n); outputs = 0; wait = count_by is_none (frame_cells w n); piece = k; pieces = 0 }) placed_all;
           pieces = placed_are ∙ ap (λ xs. by_frame xs n) all;
           filled = filled;

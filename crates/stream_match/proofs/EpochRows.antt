@@ -1,5 +1,5 @@
 -- What the parts of an epoch's plan come to.
-use Rattle.std.proofs.Common.{◌≡◌, ℕ, zero, suc, ◌+◌, ◌-◌, ◌^◌, ◌<◌, ◌≤◌, Bool, true, false, cond, List, [], ◌∷◌, ◌++◌, Option, Some, None, length, take, map, get_or, refl, sym, ap, ◌∙◌, subst, arith}
+use Rattle.std.proofs.Common.{◌≡◌, ℕ, zero, suc, ◌+◌, ◌-◌, ◌^◌, ◌<◌, ◌≤◌, Bool, true, false, cond, List, [], ◌∷◌, ◌++◌, Option, Some, None, is_none, count_by, length, take, map, get_or, refl, sym, ap, ◌∙◌, subst, arith}
 use Rattle.std.specs.Prelude.{All, ◌==◌}
 use Rattle.std.specs.Option.{option_map_or}
 use Rattle.std.specs.List.{flat_map, range_with_len}
@@ -9,7 +9,6 @@ use Rattle.std.proofs.lemmas.List.Elements.{All-head, All-tail}
 use Rattle.std.proofs.lemmas.List.FromFn.{length-map-range_with_len}
 use Rattle.std.proofs.lemmas.List.Sums.{sum_by-cons}
 use Rattle.std.proofs.lemmas.Option.{slice_get-get_or, slice_get_within, get_or_from_slice_get}
-use Rattle.flow_core_laws.specs.declared.elem.Elem.{Elem}
 use Rattle.flow_core_laws.specs.declared.plan.FramePlan.{FramePlan}
 use Rattle.flow_core_laws.specs.declared.plan.Piece.{Piece}
 use Rattle.flow_core_epochs.specs.Epoch.{number_in}
@@ -24,7 +23,7 @@ use Rattle.stream_match_layouts.specs.Writers.{no_span}
 use Rattle.stream_match_layouts.specs.Spans.{spans_of, frame_count}
 use Rattle.stream_match.specs.Stretch.{pieces_into}
 use Rattle.stream_match.specs.Walking.{IsStretch, HasPlace}
-use Rattle.stream_match.specs.Weave.{Reach, no_reach, total, cells_of_first, woven_pieces, woven_frame}
+use Rattle.stream_match.specs.Weave.{Reach, no_reach, total, cells_of_first, frame_cells, woven_pieces, woven_frame}
 use Rattle.stream_match.specs.EpochPlan.{AreFrames, read_reach, leaving_reach, leaving_reaches, weave_over}
 use Rattle.stream_match.specs.Kept.{kept_of}
 use Rattle.stream_match.specs.EpochCode.{renumbered, pieces_for, stretches_from, reads_before, read_part, epoch_frame, CanLeave}
@@ -40,6 +39,9 @@ use Rattle.stream_match.proofs.Rows.{at_stretch, length-stretches, first-reads, 
 -- all stretches from a cell on
 all_stretches : (P : Stretch → Type 0) (to at : ℕ) (rs : List Reach) → ((i : ℕ) → i < length rs → P (record { to = to; stream = (get_or rs i no_reach).stream; first = (get_or rs i no_reach).first; count = (get_or rs i no_reach).count; at = at + total (take i rs) })) → All P (stretches_from to at rs)
 all_stretches P to at rs h = λ k d lt. let l : k < length rs = omega (arith, length-stretches to at rs) in subst P (sym (at_stretch to at rs k d l)) (h k l)
+
+pub stretches_into : (to at : ℕ) (rs : List Reach) → All (λ (s : Stretch). s.to ≡ to) (stretches_from to at rs)
+stretches_into to at rs = all_stretches (λ (s : Stretch). s.to ≡ to) to at rs (λ i lt. refl)
 
 -- a stretch has no more pieces from frames than positions
 few_renumbered : (frames : List ℕ) (ps : List Piece) → length (flat_map (renumbered frames) ps) ≤ length ps
@@ -170,6 +172,17 @@ module _ (layout : Layout) (is : IsLayout layout) (frames : List ℕ) (are : Are
       let n = length frames in
       omega (arith, first-more (weave_over layout input frames (map kept_of kept) sink) n, first-reads layout input frames kept sink n (omega arith), ap total (reaches-left layout input frames kept sink))
 
+-- ---- the frames that stretches go into
+
+pub reads_into : (layout : Layout) (frames : List ℕ) → All (λ (s : Stretch). s.to < length frames) (flat_map (read_part layout frames) (range_with_len 0 (length frames)))
+reads_into layout frames = has_all (λ (s : Stretch). s.to < length frames) (flat_map (read_part layout frames) (range_with_len 0 (length frames))) (λ s h.
+    let r = of_flat_map (read_part layout frames) (range_with_len 0 (length frames)) s h in
+    let f : ℕ = r.0 in
+    let low = of_range 0 (length frames) f r.1 in
+    let lt : f < length frames = (let l = low.1 in omega arith) in
+    let into : s.to ≡ f = all_has (λ (t : Stretch). t.to ≡ f) (read_part layout frames f) s (stretches_into f (reads_before layout frames f) (map read_reach (spans_of layout (get_or frames f 0)))) r.2 in
+    omega arith)
+
 -- ---- pieces and frames
 
 pub from_frames : (layout : Layout) (input frames : List ℕ) (kept : List Kept) (sink : List Reach) → All (λ (p : Piece). p.from < length frames) (woven_pieces layout (weave_over layout input frames (map kept_of kept) sink))
@@ -179,18 +192,19 @@ from_frames layout input frames kept sink = has_all (λ (p : Piece). p.from < le
     let lt = slice_get_within frames o.writer _ (numbers_back frames _ o.writer o.numbered) in
     omega arith)
 
-pub has_place : (layout : Layout) (frames : List ℕ) (pieces : List Piece) (cells : List (Option Elem)) (plans : List FramePlan) → plans ≡ map (epoch_frame layout frames pieces cells) (range_with_len 0 (length frames)) → HasPlace plans pieces (length frames)
-has_place layout frames pieces cells plans are = record {
-  one_each = ap length are ∙ length-map-range_with_len (epoch_frame layout frames pieces cells) 0 (length frames);
-  places = ap (map (λ (f : FramePlan). f.piece)) are ∙ map_map (epoch_frame layout frames pieces cells) (λ (f : FramePlan). f.piece) (range_with_len 0 (length frames));
+pub has_place : (layout : Layout) (frames : List ℕ) (pieces : List Piece) (waits : List ℕ) (plans : List FramePlan) → plans ≡ map (epoch_frame layout frames pieces waits) (range_with_len 0 (length frames)) → HasPlace plans pieces (length frames)
+has_place layout frames pieces waits plans are = record {
+  one_each = ap length are ∙ length-map-range_with_len (epoch_frame layout frames pieces waits) 0 (length frames);
+  places = ap (map (λ (f : FramePlan). f.piece)) are ∙ map_map (epoch_frame layout frames pieces waits) (λ (f : FramePlan). f.piece) (range_with_len 0 (length frames));
 }
 
 map-range-same : {X : Type 0} (f g : ℕ → X) (a n : ℕ) → ((k : ℕ) → a ≤ k → k < a + n → f k ≡ g k) → map f (range_with_len a n) ≡ map g (range_with_len a n)
 map-range-same f g a zero h = refl
 map-range-same f g a (suc n) h = ap (λ x. x ∷ map f (range_with_len (a + 1) n)) (h a (omega arith) (omega arith)) ∙ ap (λ xs. g a ∷ xs) (map-range-same f g (a + 1) n (λ k l u. h k (omega arith) (omega arith)))
 
-pub frames_are_woven : (layout : Layout) (input frames : List ℕ) (kept : List Kept) (sink : List Reach) (pieces : List Piece) (cells : List (Option Elem)) → pieces ≡ woven_pieces layout (weave_over layout input frames (map kept_of kept) sink) → cells ≡ cells_of_first (weave_over layout input frames (map kept_of kept) sink) (length frames + 1)
-    → map (epoch_frame layout frames pieces cells) (range_with_len 0 (length frames)) ≡ map (woven_frame layout (weave_over layout input frames (map kept_of kept) sink)) (range_with_len 0 (length frames))
-frames_are_woven layout input frames kept sink pieces cells pieces_are cells_are =
-    ap (λ ps. map (epoch_frame layout frames ps cells) (range_with_len 0 (length frames))) pieces_are
-    ∙ map-range-same (epoch_frame layout frames (woven_pieces layout (weave_over layout input frames (map kept_of kept) sink)) cells) (woven_frame layout (weave_over layout input frames (map kept_of kept) sink)) 0 (length frames) (λ f l u. frame_is_woven layout input frames kept sink f cells (omega arith) cells_are)
+pub frames_are_woven : (layout : Layout) (input frames : List ℕ) (kept : List Kept) (sink : List Reach) (pieces : List Piece) (waits : List ℕ) → pieces ≡ woven_pieces layout (weave_over layout input frames (map kept_of kept) sink)
+    → ((f : ℕ) → f < length frames → get_or waits f 0 ≡ count_by is_none (frame_cells (weave_over layout input frames (map kept_of kept) sink) f))
+    → map (epoch_frame layout frames pieces waits) (range_with_len 0 (length frames)) ≡ map (woven_frame layout (weave_over layout input frames (map kept_of kept) sink)) (range_with_len 0 (length frames))
+frames_are_woven layout input frames kept sink pieces waits pieces_are waits_are =
+    ap (λ ps. map (epoch_frame layout frames ps waits) (range_with_len 0 (length frames))) pieces_are
+    ∙ map-range-same (epoch_frame layout frames (woven_pieces layout (weave_over layout input frames (map kept_of kept) sink)) waits) (woven_frame layout (weave_over layout input frames (map kept_of kept) sink)) 0 (length frames) (λ f l u. let lt : f < length frames = omega arith in frame_is_woven layout input frames kept sink f waits lt (waits_are f lt))

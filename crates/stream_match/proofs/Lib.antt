@@ -15,6 +15,7 @@ pub mod Gathering
 pub mod Opening
 pub mod Behind
 pub mod Rows
+pub mod Waits
 pub mod EpochRows
 pub mod EpochMade
 pub mod EpochTop

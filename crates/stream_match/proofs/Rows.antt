@@ -1,5 +1,5 @@
 -- The rows of stretches of an epoch, and the plan over reaches.
-use Rattle.std.proofs.Common.{◌≡◌, ℕ, zero, suc, ◌+◌, ◌-◌, ◌<◌, ◌≤◌, Bool, true, false, cond, List, [], ◌∷◌, ◌++◌, Option, Some, None, is_none, count_by, length, take, drop, map, get_or, refl, sym, ap, ◌∙◌, arith, zero-add}
+use Rattle.std.proofs.Common.{◌≡◌, ℕ, zero, suc, ◌+◌, ◌<◌, ◌≤◌, Bool, true, false, cond, List, [], ◌∷◌, ◌++◌, Option, Some, None, is_none, count_by, length, take, map, get_or, refl, sym, ap, ◌∙◌, arith, zero-add}
 use Rattle.std.specs.Prelude.{sum_by, nat_lt}
 use Rattle.std.specs.Option.{option_map_or}
 use Rattle.std.specs.List.{flat_map, range_with_len}
@@ -7,9 +7,8 @@ use Rattle.std.proofs.lemmas.Bool.{lt-ltb, le-ltb}
 use Rattle.std.proofs.lemmas.Grind.{flat_map-append}
 use Rattle.std.proofs.lemmas.List.FromFn.{fill_by_all}
 use Rattle.std.proofs.lemmas.List.Sums.{sum_by-cons, sum_by_more}
-use Rattle.flow_core_laws.specs.declared.elem.Elem.{Elem}
 use Rattle.flow_core_laws.specs.declared.plan.Piece.{Piece}
-use Rattle.flow_core_laws.proofs.Stretches.{flat_map-range_more, flat_map-range-add, flat_map-range-same}
+use Rattle.flow_core_laws.proofs.Stretches.{flat_map-range_more, flat_map-range-same}
 use Rattle.flow_core_epochs.specs.Epoch.{number_in}
 use Rattle.stream_match.specs.declared.kept.Kept.{Kept}
 use Rattle.stream_match_layouts.specs.declared.span.Span.{Span}
@@ -22,7 +21,7 @@ use Rattle.stream_match.specs.Weave.{Reach, no_reach, Weave, total, reach_places
 use Rattle.stream_match.specs.EpochPlan.{read_reach, reaches_over, weave_over}
 use Rattle.stream_match.specs.Kept.{kept_of}
 use Rattle.stream_match.specs.EpochCode.{renumbered, pieces_for, filled_cells, stretch_places, stretches_from, reads_before, read_part, epoch_frame}
-use Rattle.stream_match.proofs.Weaving.{length-reaches, first-more}
+use Rattle.stream_match.proofs.Weaving.{first-more}
 use Rattle.stream_match.proofs.Behind.{read_total}
 
 -- ---- lists
@@ -75,7 +74,7 @@ module _ (layout : Layout) (input frames : List ℕ) (kept : List Kept) (sink : 
   abbrev w : Weave
   w = weave_over layout input frames (map kept_of kept) sink
 
-  reaches-read : (f : ℕ) → f < length frames → reaches_over layout frames sink f ≡ map read_reach (spans_of layout (get_or frames f 0))
+  pub reaches-read : (f : ℕ) → f < length frames → reaches_over layout frames sink f ≡ map read_reach (spans_of layout (get_or frames f 0))
   reaches-read f lt = ap (λ b. cond b (map read_reach (spans_of layout (get_or frames f 0))) sink) (lt-ltb f (length frames) lt)
 
   pub reaches-left : reaches_over layout frames sink (length frames) ≡ sink
@@ -150,43 +149,14 @@ module _ (layout : Layout) (input frames : List ℕ) (kept : List Kept) (sink : 
       ∙ ap (λ xs. flat_map g (range_with_len 0 n) ++ xs) (cells_from layout input frames kept sink n next sink ∙ ap (flat_map (reach_cells (weave_over layout input frames (map kept_of kept) sink))) (sym reaches-left))
       ∙ sym (flat_map-range_more g 0 n ∙ ap (λ k. flat_map g (range_with_len 0 n) ++ g k) (zero-add n))
 
-  -- the cells of a frame stand together
-  cells_split : (f : ℕ) → f ≤ length frames → (rest : List (Option Elem)) × (cells_of_first (weave_over layout input frames (map kept_of kept) sink) (length frames + 1) ≡ cells_of_first (weave_over layout input frames (map kept_of kept) sink) f ++ (frame_cells (weave_over layout input frames (map kept_of kept) sink) f ++ rest))
-  cells_split f le =
-      let g = frame_cells (weave_over layout input frames (map kept_of kept) sink) in
-      let m = length frames - f in (
-        flat_map g (range_with_len (f + 1) m),
-        ap (λ k. flat_map g (range_with_len 0 k)) (let e : length frames + 1 ≡ f + suc m = omega arith in e)
-            ∙ flat_map-range-add g 0 f (suc m)
-            ∙ ap (λ k. flat_map g (range_with_len 0 f) ++ (g k ++ flat_map g (range_with_len (k + 1) m))) (zero-add f),
-      )
-
-  part : {A : Type 0} (before here rest : List A) (a n : ℕ) → a ≡ length before → n ≡ length here → take n (drop a (before ++ (here ++ rest))) ≡ here
-  part before here rest a n a_is n_is = ap (λ k. take n (drop k (before ++ (here ++ rest)))) a_is ∙ ap (take n) (drop_front before (here ++ rest)) ∙ ap (λ k. take k (here ++ rest)) n_is ∙ take_front here rest
-    where
-      drop_front : {B : Type 0} (xs ys : List B) → drop (length xs) (xs ++ ys) ≡ ys
-      drop_front [] ys = refl
-      drop_front (x ∷ xs) ys = drop_front xs ys
-
-      take_front : {B : Type 0} (xs ys : List B) → take (length xs) (xs ++ ys) ≡ xs
-      take_front [] ys = refl
-      take_front (x ∷ xs) ys = ap (λ zs. x ∷ zs) (take_front xs ys)
-
-  pub frame_part : (f a n : ℕ) (cells : List (Option Elem)) → f ≤ length frames → cells ≡ cells_of_first (weave_over layout input frames (map kept_of kept) sink) (length frames + 1) → a ≡ reads_before layout frames f → n ≡ total (reaches_over layout frames sink f) → take n (drop a cells) ≡ frame_cells (weave_over layout input frames (map kept_of kept) sink) f
-  frame_part f a n cells le cells_are a_is n_is =
-      let s = cells_split f le in
-      ap (λ xs. take n (drop a xs)) (cells_are ∙ s.1)
-      ∙ part (cells_of_first (weave_over layout input frames (map kept_of kept) sink) f) (frame_cells (weave_over layout input frames (map kept_of kept) sink) f) s.0 a n (a_is ∙ sym (first-reads f le)) (n_is ∙ sym (length-reaches (weave_over layout input frames (map kept_of kept) sink) (reaches_over layout frames sink f)))
-
-  pub frame_is_woven : (f : ℕ) (cells : List (Option Elem)) → f < length frames → cells ≡ cells_of_first (weave_over layout input frames (map kept_of kept) sink) (length frames + 1)
-      → epoch_frame layout frames (woven_pieces layout (weave_over layout input frames (map kept_of kept) sink)) cells f ≡ woven_frame layout (weave_over layout input frames (map kept_of kept) sink) f
-  frame_is_woven f cells lt cells_are =
-      let wv = weave_over layout input frames (map kept_of kept) sink in
+  pub frame_is_woven : (f : ℕ) (waits : List ℕ) → f < length frames → get_or waits f 0 ≡ count_by is_none (frame_cells (weave_over layout input frames (map kept_of kept) sink) f)
+      → epoch_frame layout frames (woven_pieces layout (weave_over layout input frames (map kept_of kept) sink)) waits f ≡ woven_frame layout (weave_over layout input frames (map kept_of kept) sink) f
+  frame_is_woven f waits lt wait_is =
       let all = woven_pieces layout (weave_over layout input frames (map kept_of kept) sink) in
       let inputs : sum_by read_count (spans_of layout (get_or frames f 0)) ≡ total (reaches_over layout frames sink f) = sym (ap total (reaches-read f lt) ∙ read_total (spans_of layout (get_or frames f 0))) in
       let o = sum_by write_count (spans_of layout (get_or frames f 0)) in
-      ap (λ n. record { cell = n; inputs = sum_by read_count (spans_of layout (get_or frames f 0)); outputs = o; wait = count_by is_none (take (sum_by read_count (spans_of layout (get_or frames f 0))) (drop (reads_before layout frames f) cells)); piece = length (by_frame all f); pieces = length (pieces_from all f) }) (sym (first-reads f (omega arith)))
-      ∙ ap (λ n. record { cell = length (cells_of_first (weave_over layout input frames (map kept_of kept) sink) f); inputs = sum_by read_count (spans_of layout (get_or frames f 0)); outputs = o; wait = count_by is_none n; piece = length (by_frame all f); pieces = length (pieces_from all f) }) (frame_part f (reads_before layout frames f) (sum_by read_count (spans_of layout (get_or frames f 0))) cells (omega arith) cells_are refl inputs)
+      ap (λ n. record { cell = n; inputs = sum_by read_count (spans_of layout (get_or frames f 0)); outputs = o; wait = get_or waits f 0; piece = length (by_frame all f); pieces = length (pieces_from all f) }) (sym (first-reads f (omega arith)))
+      ∙ ap (λ n. record { cell = length (cells_of_first (weave_over layout input frames (map kept_of kept) sink) f); inputs = sum_by read_count (spans_of layout (get_or frames f 0)); outputs = o; wait = n; piece = length (by_frame all f); pieces = length (pieces_from all f) }) wait_is
       ∙ ap (λ n. record { cell = length (cells_of_first (weave_over layout input frames (map kept_of kept) sink) f); inputs = n; outputs = o; wait = count_by is_none (frame_cells (weave_over layout input frames (map kept_of kept) sink) f); piece = length (by_frame all f); pieces = length (pieces_from all f) }) inputs
 
   -- the cells of the sink

@@ -1,5 +1,5 @@
 -- What restates private functions of the plan of an epoch.
-use Rattle.std.specs.Prelude.{◌≡◌, ℕ, ◌+◌, ◌<◌, ◌≤◌, ◌⊎◌, List, [], ◌∷◌, Option, Some, None, slice_get, slice_index, length, map, filter, nat_lt, sum_by, take, drop, count_by, is_none, ◌^◌, All}
+use Rattle.std.specs.Prelude.{◌≡◌, ℕ, ◌+◌, ◌<◌, ◌≤◌, ◌⊎◌, ◌==◌, if◌then◌else◌, List, [], ◌∷◌, Option, Some, None, slice_get, slice_index, length, map, filter, nat_lt, sum_by, take, count_by, is_none, ◌^◌, All}
 use Rattle.std.specs.Option.{option_map_or}
 use Rattle.std.specs.List.{flat_map, range_with_len}
 use Rattle.flow_core_laws.specs.declared.elem.Elem.{Elem}
@@ -60,6 +60,10 @@ pieces_for layout frames stretch = flat_map (renumbered frames) (pieces_into lay
 abbrev pub filled_cells : List ℕ → List Kept → Stretch → List (Option Elem)
 filled_cells input kept stretch = map (epoch_opening input (map kept_of kept) stretch.stream) (range_with_len stretch.first stretch.count)
 
+-- how many cells of a stretch are empty, where it goes into the frame of a number
+abbrev pub empty_in : List ℕ → List Kept → ℕ → Stretch → ℕ
+empty_in input kept f stretch = if stretch.to == f then count_by is_none (filled_cells input kept stretch) else 0
+
 -- the places of a stretch
 abbrev pub stretch_places : Stretch → List streams.Place
 stretch_places stretch = places_from stretch.stream stretch.first stretch.count
@@ -81,13 +85,13 @@ reads_before layout frames f = sum_by (λ a. sum_by read_count (spans_of layout 
 abbrev pub read_part : Layout → List ℕ → ℕ → List Stretch
 read_part layout frames f = stretches_from f (reads_before layout frames f) (map read_reach (spans_of layout (slice_index frames f)))
 
--- the frame of a number, by all pieces and cells
-abbrev pub epoch_frame : Layout → List ℕ → List Piece → List (Option Elem) → ℕ → FramePlan
-epoch_frame layout frames pieces cells f = record {
+-- the frame of a number, by all pieces and by how many cells of each frame are empty
+abbrev pub epoch_frame : Layout → List ℕ → List Piece → List ℕ → ℕ → FramePlan
+epoch_frame layout frames pieces waits f = record {
   cell = reads_before layout frames f;
   inputs = sum_by read_count (spans_of layout (slice_index frames f));
   outputs = sum_by write_count (spans_of layout (slice_index frames f));
-  wait = count_by is_none (take (sum_by read_count (spans_of layout (slice_index frames f))) (drop (reads_before layout frames f) cells));
+  wait = slice_index waits f;
   piece = length (by_frame pieces f);
   pieces = length (pieces_from pieces f);
 }

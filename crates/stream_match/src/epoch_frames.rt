@@ -1,33 +1,31 @@
-ghost use Rattle.std.specs.Prelude.{◌≡◌, ◌^◌, ◌-◌, ◌<◌, ◌≤◌, All, IfOk, drop, length, map, take};
+ghost use Rattle.std.specs.Prelude.{◌≡◌, ◌+◌, ◌^◌, ◌<◌, All, IfOk, length, map};
 ghost use Rattle.std.specs.List.{range_with_len};
 ghost use Rattle.flow_core_laws.specs.declared.plan.Piece.{Piece};
 ghost use Rattle.stream_match_layouts.specs.Layout.{IsLayout};
 ghost use Rattle.stream_match.specs.EpochPlan.{AreFrames};
-ghost use Rattle.stream_match.specs.EpochCode.{epoch_frame, reads_before};
+ghost use Rattle.stream_match.specs.EpochCode.{epoch_frame};
 
-use crate::filling::empty;
 use crate::frames::frame_tally;
 use crate::gather::count_by_frame;
-use flow_core_laws::{Elem, FramePlan, Piece};
+use flow_core_laws::{FramePlan, Piece};
 use os_io::{List, Memory};
 use std::alloc::Global;
 use stream_match_layouts::Layout;
 
-/// The frames of an epoch, by all its pieces and cells.
+/// The frames of an epoch, by all its pieces and by how many cells of each, and of the sink behind them, hold nothing.
 pub(crate) fn epoch_frames(
     alloc: Global,
     layout: &Layout,
     frames: &[u32],
     pieces: &[Piece],
-    cells: &[Option<Elem>],
+    waits: &[u32],
 ) -> Result<List<FramePlan>, Memory>
     requires layout { IsLayout layout.now }
     requires frames { AreFrames layout.now frames.now }
     requires from { All (λ (p : Piece). p.from < length frames.now) pieces.now }
     requires few { length pieces.now < 2 ^ 32 }
-    requires cells { reads_before layout.now frames.now (length frames.now) ≤ length cells.now }
-    requires few_cells { length cells.now < 2 ^ 32 }
-    ensures { IfOk result (λ plans. plans ≡ map (epoch_frame layout.now frames.now pieces.now cells.now) (range_with_len 0 (length frames.now))) }
+    requires waits { length waits.now ≡ length frames.now + 1 }
+    ensures { IfOk result (λ plans. plans ≡ map (epoch_frame layout.now frames.now pieces.now waits.now) (range_with_len 0 (length frames.now))) }
 {
     let counted = count_by_frame(alloc, pieces, frames.len())?;
     let counts = counted.as_slice();
@@ -37,27 +35,17 @@ pub(crate) fn epoch_frames(
     let mut piece = 0;
     for (number, frame) in frames.iter().enumerate() {
         let tally = frame_tally(layout, *frame as usize);
-        let end = cell + tally.inputs;
         let count = counts[number];
         plans.push(FramePlan {
             cell,
             inputs: tally.inputs,
             outputs: tally.outputs,
-            wait: empty(between(cells, cell as usize, end as usize)),
+            wait: waits[number],
             piece,
             pieces: count,
         })?;
-        cell = end;
+        cell += tally.inputs;
         piece += count;
     }
     Ok(plans)
-}
-
-/// The cells from one number to another.
-pub(crate) fn between(cells: &[Option<Elem>], first: usize, end: usize) -> &[Option<Elem>]
-    requires ordered { first ≤ end }
-    requires within { end ≤ length cells.now }
-    ensures { result.now ≡ take (end - first) (drop first cells.now) }
-{
-    &cells[first..end]
 }

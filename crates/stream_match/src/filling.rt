@@ -1,10 +1,10 @@
-ghost use Rattle.std.specs.Prelude.{◌≡◌, ◌+◌, ◌-◌, ◌++◌, ◌^◌, ◌<◌, ◌≤◌, All, IfOk, None, OnOk, count_by, is_none, length, map, min, pos, replicate};
+ghost use Rattle.std.specs.Prelude.{◌≡◌, ℕ, [], ◌∷◌, ◌+◌, ◌-◌, ◌++◌, ◌^◌, ◌<◌, ◌≤◌, All, IfOk, None, OnOk, count_by, is_none, length, map, min, pos, replicate, slice_index, sum_by};
 ghost use Rattle.std.specs.List.{flat_map, range_with_len};
 ghost use Rattle.flow_core_laws.specs.declared.elem.Elem.TheVariants.{Value};
 ghost use Rattle.stream_match.specs.declared.stretch.Stretch.{Stretch};
 ghost use Rattle.stream_match.specs.Kept.{place_of};
 ghost use Rattle.stream_match.specs.EpochPlan.{opening_element};
-ghost use Rattle.stream_match.specs.EpochCode.{AreSorted, IsFirstFrom, filled_cells, stretch_places};
+ghost use Rattle.stream_match.specs.EpochCode.{AreSorted, IsFirstFrom, empty_in, filled_cells, stretch_places};
 
 use crate::kept::Kept;
 use crate::look_up::{epoch_opening, first_from, first_from_on, is_kept_in};
@@ -13,55 +13,73 @@ use crate::stretch::Stretch;
 use flow_core_laws::Elem;
 use os_io::{List, Memory};
 
-/// Adds the cells of stretches, with their elements at opening.
+/// The cells of a plan, with their elements at opening, and how many of each frame's and of the sink's are empty.
+#[derive(Drop)]
+pub(crate) struct Filled {
+    pub(crate) cells: List<Option<Elem>>,
+    pub(crate) waits: Vec<u32>,
+}
+
+/// Adds the cells of stretches, with their elements at opening, and counts those that are empty by the frames that they go
+/// into.
 pub(crate) fn fill(
     cells: &mut List<Option<Elem>>,
+    waits: &mut Vec<u32>,
     kept: &[Kept],
     input: &[u8],
     stretches: &[Stretch],
 ) -> Result<(), Memory>
     requires kept { AreSorted kept.now }
     requires small { All (λ (s : Stretch). s.first + s.count < 2 ^ 64) stretches.now }
-    ensures { OnOk result (cells.new ≡ cells.old ++ flat_map (filled_cells input.now kept.now) stretches.now) }
+    requires into { All (λ (s : Stretch). s.to < length waits.old.items) stretches.now }
+    requires few { (f : ℕ) → slice_index waits.old.items f + length (flat_map (filled_cells input.now kept.now) stretches.now) < 2 ^ 32 }
+    ensures cells { OnOk result (cells.new ≡ cells.old ++ flat_map (filled_cells input.now kept.now) stretches.now) }
+    ensures frames { OnOk result (length waits.new.items ≡ length waits.old.items) }
+    ensures waits { OnOk result ((f : ℕ) → f < length waits.old.items
+        → slice_index waits.new.items f ≡ slice_index waits.old.items f + sum_by (empty_in input.now kept.now f) stretches.now) }
 {
     for stretch in stretches {
-        fill_one(cells, kept, input, *stretch)?;
+        let empty = fill_one(cells, kept, input, *stretch)?;
+        waits[stretch.to as usize] += empty;
     }
     Ok(())
 }
 
-/// Adds the cells of a stretch.
+/// Adds the cells of a stretch, and tells how many of them are empty.
 fn fill_one(
     cells: &mut List<Option<Elem>>,
     kept: &[Kept],
     input: &[u8],
     stretch: Stretch,
-) -> Result<(), Memory>
+) -> Result<u32, Memory>
     requires kept { AreSorted kept.now }
     requires small { stretch.first + stretch.count < 2 ^ 64 }
-    ensures { OnOk result (cells.new ≡ cells.old ++ filled_cells input.now kept.now stretch) }
+    ensures cells { OnOk result (cells.new ≡ cells.old ++ filled_cells input.now kept.now stretch) }
+    ensures empty { IfOk result (λ empty. empty ≡ count_by is_none (filled_cells input.now kept.now stretch)) }
 {
     let number = first_from(kept, stretch.stream, stretch.first);
     if is_kept_in(kept, number, stretch) {
-        return fill_kept(cells, kept, number, input, stretch);
+        let empty = fill_kept(cells, kept, number, input, stretch)?;
+        return Ok(empty);
     }
-    fill_open(cells, input, stretch)?;
-    Ok(())
+    let empty = fill_open(cells, input, stretch)?;
+    Ok(empty)
 }
 
-/// Adds the cells of a stretch of which nothing is kept.
-fn fill_open(cells: &mut List<Option<Elem>>, input: &[u8], stretch: Stretch) -> Result<(), Memory>
+/// Adds the cells of a stretch of which nothing is kept, and tells how many of them are empty.
+fn fill_open(cells: &mut List<Option<Elem>>, input: &[u8], stretch: Stretch) -> Result<u32, Memory>
     requires { stretch.first + stretch.count < 2 ^ 64 }
-    ensures { OnOk result (cells.new ≡ cells.old ++ map (opening_element input.now stretch.stream) (range_with_len stretch.first stretch.count)) }
+    ensures cells { OnOk result (cells.new ≡ cells.old ++ map (opening_element input.now stretch.stream) (range_with_len stretch.first stretch.count)) }
+    ensures empty { IfOk result (λ empty. empty ≡ count_by is_none (map (opening_element input.now stretch.stream) (range_with_len stretch.first stretch.count))) }
 {
     if stretch.stream != 0 {
         fill_empty(cells, stretch.count)?;
-        return Ok(());
+        return Ok(stretch.count);
     }
     let given = given(input, stretch.first, stretch.count);
     fill_given(cells, input, stretch.first, given)?;
     fill_empty(cells, stretch.count - given)?;
-    Ok(())
+    Ok(stretch.count - given)
 }
 
 /// How many of so many positions from a first one on the input has.
@@ -106,26 +124,38 @@ fn fill_empty(cells: &mut List<Option<Elem>>, count: u32) -> Result<(), Memory>
     Ok(())
 }
 
-/// Adds the cells of a stretch, where the first kept element that doesn't lie before it has a number.
+/// Adds the cells of a stretch, where the first kept element that doesn't lie before it has a number, and tells how many
+/// of them are empty.
 fn fill_kept(
     cells: &mut List<Option<Elem>>,
     kept: &[Kept],
     number: usize,
     input: &[u8],
     stretch: Stretch,
-) -> Result<(), Memory>
+) -> Result<u32, Memory>
     requires kept { AreSorted kept.now }
     requires number { IsFirstFrom kept.now stretch.stream stretch.first number }
     requires small { stretch.first + stretch.count < 2 ^ 64 }
-    ensures { OnOk result (cells.new ≡ cells.old ++ filled_cells input.now kept.now stretch) }
+    ensures cells { OnOk result (cells.new ≡ cells.old ++ filled_cells input.now kept.now stretch) }
+    ensures empty { IfOk result (λ empty. empty ≡ count_by is_none (filled_cells input.now kept.now stretch)) }
 {
     let mut next = number;
+    let mut empty = 0;
     for offset in 0..stretch.count {
         let position = stretch.first + u64::from(offset);
         next = first_from_on(kept, next, stretch.stream, position);
-        cells.push(epoch_opening(kept, next, input, stretch.stream, position))?;
+        let element = epoch_opening(kept, next, input, stretch.stream, position);
+        cells.push(element)?;
+        empty += missing(element);
     }
-    Ok(())
+    Ok(empty)
+}
+
+/// How many elements are missing where one should be: one or none.
+fn missing(element: Option<Elem>) -> u32
+    ensures { result ≡ count_by is_none (element ∷ []) }
+{
+    if element.is_none() { 1 } else { 0 }
 }
 
 /// Adds the places of stretches.
@@ -151,18 +181,4 @@ fn add_places_of(places: &mut List<Place>, stretch: Stretch) -> Result<(), Memor
         })?;
     }
     Ok(())
-}
-
-/// How many cells have no value.
-pub(crate) fn empty(cells: &[Option<Elem>]) -> u32
-    requires { length cells.now < 2 ^ 32 }
-    ensures { result ≡ count_by is_none cells.now }
-{
-    let mut count = 0;
-    for cell in cells {
-        if cell.is_none() {
-            count += 1;
-        }
-    }
-    count
 }

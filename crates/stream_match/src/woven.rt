@@ -1,4 +1,4 @@
-ghost use Rattle.std.specs.Prelude.{◌≡◌, ◌+◌, ◌++◌, ◌^◌, ◌<◌, All, List, IfOk, length, map};
+ghost use Rattle.std.specs.Prelude.{◌≡◌, ◌+◌, ◌++◌, ◌^◌, ◌<◌, ℕ, All, List, IfOk, length, map, slice_index, sum_by};
 ghost use Rattle.std.specs.List.{flat_map};
 ghost use Rattle.stream_match_layouts.specs.Layout.{IsLayout};
 ghost use Rattle.stream_match.specs.declared.stretch.Stretch.{Stretch};
@@ -6,16 +6,16 @@ ghost use Rattle.stream_match.specs.Walking.{IsStretch};
 ghost use Rattle.stream_match.specs.Weave.{Reach, IsWoven};
 ghost use Rattle.stream_match.specs.EpochPlan.{AreFrames, weave_over};
 ghost use Rattle.stream_match.specs.Kept.{kept_of};
-ghost use Rattle.stream_match.specs.EpochCode.{Ascend, AreSorted, pieces_for, filled_cells, IsRead, IsLeft, CanLeave};
+ghost use Rattle.stream_match.specs.EpochCode.{Ascend, AreSorted, empty_in, pieces_for, filled_cells, IsRead, IsLeft, CanLeave};
 
-use crate::epoch_frames::{between, epoch_frames};
-use crate::filling::{empty, fill};
+use crate::epoch_frames::epoch_frames;
+use crate::filling::{Filled, fill};
 use crate::gather::{gather, place_by_frame};
 use crate::kept::Kept;
 use crate::nearby::Nearby;
 use crate::reaching::Reaching;
 use crate::stretch::Stretch;
-use flow_core_laws::{Elem, FramePlan, Piece, Plan};
+use flow_core_laws::{FramePlan, Piece, Plan};
 use os_io::{List, Memory};
 use std::alloc::Global;
 use stream_match_layouts::Layout;
@@ -40,16 +40,17 @@ pub(crate) fn weave_rows(
 {
     let reads = read.stretches.as_slice();
     let leaves = left.stretches.as_slice();
-    let filled = filled(alloc, kept, input, reads, leaves, left.next)?;
+    let filled = filled(alloc, frames.len(), kept, input, reads, leaves, left.next)?;
     let pieces = gathered(alloc, layout, frames, reads, leaves)?;
-    let plans = epoch_frames(alloc, layout, frames, pieces.as_slice(), filled.as_slice())?;
+    let waits = filled.waits.as_slice();
+    let plans = epoch_frames(alloc, layout, frames, pieces.as_slice(), waits)?;
     let placed = place_by_frame(alloc, pieces.as_slice(), plans.as_slice())?;
     let numbers = List::from_slice(alloc, frames)?;
     let sink = FramePlan {
         cell: read.next,
         inputs: left.next - read.next,
         outputs: 0,
-        wait: empty(between(filled.as_slice(), read.next as usize, left.next as usize)),
+        wait: waits[frames.len()],
         piece: pieces.len() as u32,
         pieces: 0,
     };
@@ -57,29 +58,39 @@ pub(crate) fn weave_rows(
         frames: plans,
         sink,
         pieces: placed,
-        filled,
+        filled: filled.cells,
         numbers,
     })
 }
 
-/// The cells of what is read and of what leaves, so many together.
+/// The cells of what so many frames read and of what leaves, so many together.
 fn filled(
     alloc: Global,
+    frames: usize,
     kept: &[Kept],
     input: &[u8],
     reads: &[Stretch],
     leaves: &[Stretch],
     count: u32,
-) -> Result<List<Option<Elem>>, Memory>
+) -> Result<Filled, Memory>
     requires kept { AreSorted kept.now }
     requires reads { All (λ (s : Stretch). s.first + s.count < 2 ^ 64) reads.now }
     requires leaves { All (λ (s : Stretch). s.first + s.count < 2 ^ 64) leaves.now }
-    ensures { IfOk result (λ cells. cells ≡ flat_map (filled_cells input.now kept.now) reads.now ++ flat_map (filled_cells input.now kept.now) leaves.now) }
+    requires frames { frames < 2 ^ 32 }
+    requires into { All (λ (s : Stretch). s.to < frames + 1) reads.now }
+    requires leave { All (λ (s : Stretch). s.to < frames + 1) leaves.now }
+    requires few { length (flat_map (filled_cells input.now kept.now) reads.now ++ flat_map (filled_cells input.now kept.now) leaves.now) < 2 ^ 32 }
+    ensures cells { IfOk result (λ filled. filled.cells ≡ flat_map (filled_cells input.now kept.now) reads.now ++ flat_map (filled_cells input.now kept.now) leaves.now) }
+    ensures frames { IfOk result (λ filled. length filled.waits.items ≡ frames + 1) }
+    ensures waits { IfOk result (λ filled. (f : ℕ) → f < frames + 1
+        → slice_index filled.waits.items f ≡ sum_by (empty_in input.now kept.now f) reads.now + sum_by (empty_in input.now kept.now f) leaves.now) }
 {
     let mut cells = List::with_capacity(alloc, count as usize)?;
-    fill(&mut cells, kept, input, reads)?;
-    fill(&mut cells, kept, input, leaves)?;
-    Ok(cells)
+    let mut waits = Vec::new(alloc);
+    waits.resize(frames + 1, 0)?;
+    fill(&mut cells, &mut waits, kept, input, reads)?;
+    fill(&mut cells, &mut waits, kept, input, leaves)?;
+    Ok(Filled { cells, waits })
 }
 
 /// The pieces into what is read and into what leaves.

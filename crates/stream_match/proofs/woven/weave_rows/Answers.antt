@@ -1,21 +1,20 @@
-use Rattle.std.proofs.Common.{◌≡◌, ◌∙◌, ◌-◌, ◌<◌, ℕ, List, Option, length, take, drop, map, is_none, count_by, ap, sym, subst, refl, arith}
+use Rattle.std.proofs.Common.{◌≡◌, ◌∙◌, ◌-◌, ◌++◌, ◌<◌, ℕ, List, length, get_or, map, ap, sym, subst, refl, arith}
 use Rattle.std.specs.Prelude.{All}
-use Rattle.std.specs.List.{range_with_len}
+use Rattle.std.specs.List.{flat_map, range_with_len}
 use Rattle.std.proofs.lemmas.List.FromFn.{length-map-range_with_len}
-use Rattle.flow_core_laws.specs.declared.elem.Elem.{Elem}
 use Rattle.flow_core_laws.specs.declared.plan.FramePlan.{FramePlan}
 use Rattle.flow_core_laws.specs.declared.plan.Piece.{Piece}
 use Rattle.stream_match_layouts.specs.declared.layout.Layout.{Layout}
 use Rattle.stream_match.specs.Stretch.{by_frame}
 use Rattle.stream_match.specs.Walking.{HasPlace}
-use Rattle.stream_match.specs.EpochCode.{epoch_frame}
+use Rattle.stream_match.specs.EpochCode.{epoch_frame, filled_cells}
 use Rattle.stream_match.proofs.Behind.{few_frames}
 use Rattle.stream_match.proofs.EpochRows.{has_place}
-use Rattle.stream_match.proofs.EpochMade.{rows_of, reads_stretches, leaves_stretches, reads_end, leaves_end, pieces_from_frames, pieces_are_few, cells_end, end_few, plan_made}
+use Rattle.stream_match.proofs.EpochMade.{rows_of, reads_stretches, leaves_stretches, reads_into_frames, leaves_into_sink, reads_end, leaves_end, pieces_from_frames, pieces_are_few, cells_end, end_few, plan_made}
 use Rattle.stream_match.proofs.woven.weave_rows.Goals as goal
 
-plans_count : (plans : List FramePlan) (layout : Layout) (frames : List ℕ) (pieces : List Piece) (cells : List (Option Elem)) → plans ≡ map (epoch_frame layout frames pieces cells) (range_with_len 0 (length frames)) → length plans ≡ length frames
-plans_count plans layout frames pieces cells are = ap length are ∙ length-map-range_with_len (epoch_frame layout frames pieces cells) 0 (length frames)
+plans_count : (plans : List FramePlan) (layout : Layout) (frames : List ℕ) (pieces : List Piece) (waits : List ℕ) → plans ≡ map (epoch_frame layout frames pieces waits) (range_with_len 0 (length frames)) → length plans ≡ length frames
+plans_count plans layout frames pieces waits are = ap length are ∙ length-map-range_with_len (epoch_frame layout frames pieces waits) 0 (length frames)
 
 pub filled-requires-clause-reads : goal.filled-requires-clause-reads
 filled-requires-clause-reads c =
@@ -34,6 +33,38 @@ filled-requires-clause-leaves c =
     let sink = c.requires.left.0 in
     let rows = rows_of layout frames sink c.args.read.now c.args.left.now c.as_slice-reads.result.now c.as_slice-leaves.result.now c.requires.read c.requires.left.2 c.as_slice-reads.ensures c.as_slice-leaves.ensures in
     leaves_end layout is frames c.requires.frames sink c.requires.left.1 c.as_slice-reads.result.now c.as_slice-leaves.result.now c.args.read.now.next c.args.left.now.next rows
+
+pub filled-requires-clause-frames : goal.filled-requires-clause-frames
+filled-requires-clause-frames c =
+    let few = few_frames c.args.layout.now c.requires.layout c.args.frames.now c.requires.frames in
+    omega (arith, few)
+
+pub filled-requires-clause-into : goal.filled-requires-clause-into
+filled-requires-clause-into c =
+    let layout = c.args.layout.now in
+    let is = c.requires.layout in
+    let frames = c.args.frames.now in
+    let sink = c.requires.left.0 in
+    let rows = rows_of layout frames sink c.args.read.now c.args.left.now c.as_slice-reads.result.now c.as_slice-leaves.result.now c.requires.read c.requires.left.2 c.as_slice-reads.ensures c.as_slice-leaves.ensures in
+    reads_into_frames layout is frames c.requires.frames sink c.requires.left.1 c.as_slice-reads.result.now c.as_slice-leaves.result.now c.args.read.now.next c.args.left.now.next rows
+
+pub filled-requires-clause-leave : goal.filled-requires-clause-leave
+filled-requires-clause-leave c =
+    let layout = c.args.layout.now in
+    let is = c.requires.layout in
+    let frames = c.args.frames.now in
+    let sink = c.requires.left.0 in
+    let rows = rows_of layout frames sink c.args.read.now c.args.left.now c.as_slice-reads.result.now c.as_slice-leaves.result.now c.requires.read c.requires.left.2 c.as_slice-reads.ensures c.as_slice-leaves.ensures in
+    leaves_into_sink layout is frames c.requires.frames sink c.requires.left.1 c.as_slice-reads.result.now c.as_slice-leaves.result.now c.args.read.now.next c.args.left.now.next rows
+
+pub filled-requires-clause-few : goal.filled-requires-clause-few
+filled-requires-clause-few c =
+    let layout = c.args.layout.now in
+    let is = c.requires.layout in
+    let frames = c.args.frames.now in
+    let sink = c.requires.left.0 in
+    let rows = rows_of layout frames sink c.args.read.now c.args.left.now c.as_slice-reads.result.now c.as_slice-leaves.result.now c.requires.read c.requires.left.2 c.as_slice-reads.ensures c.as_slice-leaves.ensures in
+    omega (arith, end_few layout is frames c.requires.frames sink c.requires.left.1 c.as_slice-reads.result.now c.as_slice-leaves.result.now c.args.read.now.next c.args.left.now.next rows, cells_end layout is frames c.requires.frames sink c.requires.left.1 c.as_slice-reads.result.now c.as_slice-leaves.result.now c.args.read.now.next c.args.left.now.next rows c.args.input.now c.args.kept.now (flat_map (filled_cells c.args.input.now c.args.kept.now) c.as_slice-reads.result.now ++ flat_map (filled_cells c.args.input.now c.args.kept.now) c.as_slice-leaves.result.now) refl)
 
 pub gathered-requires-clause-few : goal.gathered-requires-clause-few
 gathered-requires-clause-few c =
@@ -80,23 +111,8 @@ epoch_frames-requires-clause-few c =
     let rows = rows_of layout frames sink c.args.read.now c.args.left.now c.as_slice-reads.result.now c.as_slice-leaves.result.now c.requires.read c.requires.left.2 c.as_slice-reads.ensures c.as_slice-leaves.ensures in
     omega (arith, pieces_are_few layout is frames c.requires.frames sink c.requires.left.1 c.as_slice-reads.result.now c.as_slice-leaves.result.now c.args.read.now.next c.args.left.now.next rows c.as_slice.result.now (c.as_slice.ensures ∙ c.in_ok-pieces.ensures))
 
-pub epoch_frames-requires-clause-cells : goal.epoch_frames-requires-clause-cells
-epoch_frames-requires-clause-cells c =
-    let layout = c.args.layout.now in
-    let is = c.requires.layout in
-    let frames = c.args.frames.now in
-    let sink = c.requires.left.0 in
-    let rows = rows_of layout frames sink c.args.read.now c.args.left.now c.as_slice-reads.result.now c.as_slice-leaves.result.now c.requires.read c.requires.left.2 c.as_slice-reads.ensures c.as_slice-leaves.ensures in
-    omega (arith, c.requires.read.next_is, c.requires.left.2.next_is, cells_end layout is frames c.requires.frames sink c.requires.left.1 c.as_slice-reads.result.now c.as_slice-leaves.result.now c.args.read.now.next c.args.left.now.next rows c.args.input.now c.args.kept.now c.as_slice-2.result.now (c.as_slice-2.ensures ∙ c.in_ok-filled.ensures))
-
-pub epoch_frames-requires-clause-few_cells : goal.epoch_frames-requires-clause-few_cells
-epoch_frames-requires-clause-few_cells c =
-    let layout = c.args.layout.now in
-    let is = c.requires.layout in
-    let frames = c.args.frames.now in
-    let sink = c.requires.left.0 in
-    let rows = rows_of layout frames sink c.args.read.now c.args.left.now c.as_slice-reads.result.now c.as_slice-leaves.result.now c.requires.read c.requires.left.2 c.as_slice-reads.ensures c.as_slice-leaves.ensures in
-    omega (arith, end_few layout is frames c.requires.frames sink c.requires.left.1 c.as_slice-reads.result.now c.as_slice-leaves.result.now c.args.read.now.next c.args.left.now.next rows, cells_end layout is frames c.requires.frames sink c.requires.left.1 c.as_slice-reads.result.now c.as_slice-leaves.result.now c.args.read.now.next c.args.left.now.next rows c.args.input.now c.args.kept.now c.as_slice-2.result.now (c.as_slice-2.ensures ∙ c.in_ok-filled.ensures))
+pub epoch_frames-requires-clause-waits : goal.epoch_frames-requires-clause-waits
+epoch_frames-requires-clause-waits c = ap length c.as_slice-waits.ensures.value ∙ c.in_ok-filled.ensures.frames
 
 pub place_by_frame-requires-clause-from : goal.place_by_frame-requires-clause-from
 place_by_frame-requires-clause-from c =
@@ -105,7 +121,7 @@ place_by_frame-requires-clause-from c =
     let frames = c.args.frames.now in
     let sink = c.requires.left.0 in
     let rows = rows_of layout frames sink c.args.read.now c.args.left.now c.as_slice-reads.result.now c.as_slice-leaves.result.now c.requires.read c.requires.left.2 c.as_slice-reads.ensures c.as_slice-leaves.ensures in
-    subst (λ n. All (λ (p : Piece). p.from < n) c.as_slice-3.result.now) (sym (plans_count c.as_slice-4.result.now layout frames c.as_slice.result.now c.as_slice-2.result.now (c.as_slice-4.ensures ∙ c.in_ok-plans.ensures))) (pieces_from_frames layout is frames c.requires.frames sink c.requires.left.1 c.as_slice-reads.result.now c.as_slice-leaves.result.now c.args.read.now.next c.args.left.now.next rows c.args.input.now c.args.kept.now c.as_slice-3.result.now (c.as_slice-3.ensures ∙ c.in_ok-pieces.ensures))
+    subst (λ n. All (λ (p : Piece). p.from < n) c.as_slice-2.result.now) (sym (plans_count c.as_slice-3.result.now layout frames c.as_slice.result.now c.as_slice-waits.result.now (c.as_slice-3.ensures ∙ c.in_ok-plans.ensures))) (pieces_from_frames layout is frames c.requires.frames sink c.requires.left.1 c.as_slice-reads.result.now c.as_slice-leaves.result.now c.args.read.now.next c.args.left.now.next rows c.args.input.now c.args.kept.now c.as_slice-2.result.now (c.as_slice-2.ensures ∙ c.in_ok-pieces.ensures))
 
 pub place_by_frame-requires-clause-few : goal.place_by_frame-requires-clause-few
 place_by_frame-requires-clause-few c =
@@ -114,7 +130,7 @@ place_by_frame-requires-clause-few c =
     let frames = c.args.frames.now in
     let sink = c.requires.left.0 in
     let rows = rows_of layout frames sink c.args.read.now c.args.left.now c.as_slice-reads.result.now c.as_slice-leaves.result.now c.requires.read c.requires.left.2 c.as_slice-reads.ensures c.as_slice-leaves.ensures in
-    omega (arith, pieces_are_few layout is frames c.requires.frames sink c.requires.left.1 c.as_slice-reads.result.now c.as_slice-leaves.result.now c.args.read.now.next c.args.left.now.next rows c.as_slice-3.result.now (c.as_slice-3.ensures ∙ c.in_ok-pieces.ensures))
+    omega (arith, pieces_are_few layout is frames c.requires.frames sink c.requires.left.1 c.as_slice-reads.result.now c.as_slice-leaves.result.now c.args.read.now.next c.args.left.now.next rows c.as_slice-2.result.now (c.as_slice-2.ensures ∙ c.in_ok-pieces.ensures))
 
 pub place_by_frame-requires-clause-places : goal.place_by_frame-requires-clause-places
 place_by_frame-requires-clause-places c =
@@ -123,16 +139,10 @@ place_by_frame-requires-clause-places c =
     let frames = c.args.frames.now in
     let sink = c.requires.left.0 in
     let rows = rows_of layout frames sink c.args.read.now c.args.left.now c.as_slice-reads.result.now c.as_slice-leaves.result.now c.requires.read c.requires.left.2 c.as_slice-reads.ensures c.as_slice-leaves.ensures in
-    subst (λ n. HasPlace c.as_slice-4.result.now c.as_slice-3.result.now n) (sym (plans_count c.as_slice-4.result.now layout frames c.as_slice.result.now c.as_slice-2.result.now (c.as_slice-4.ensures ∙ c.in_ok-plans.ensures))) (subst (λ ps. HasPlace c.as_slice-4.result.now ps (length frames)) (c.as_slice.ensures ∙ sym c.as_slice-3.ensures) (has_place layout frames c.as_slice.result.now c.as_slice-2.result.now c.as_slice-4.result.now (c.as_slice-4.ensures ∙ c.in_ok-plans.ensures)))
+    subst (λ n. HasPlace c.as_slice-3.result.now c.as_slice-2.result.now n) (sym (plans_count c.as_slice-3.result.now layout frames c.as_slice.result.now c.as_slice-waits.result.now (c.as_slice-3.ensures ∙ c.in_ok-plans.ensures))) (subst (λ ps. HasPlace c.as_slice-3.result.now ps (length frames)) (c.as_slice.ensures ∙ sym c.as_slice-2.ensures) (has_place layout frames c.as_slice.result.now c.as_slice-waits.result.now c.as_slice-3.result.now (c.as_slice-3.ensures ∙ c.in_ok-plans.ensures)))
 
-pub between-requires-clause-within : goal.between-requires-clause-within
-between-requires-clause-within c =
-    let layout = c.args.layout.now in
-    let is = c.requires.layout in
-    let frames = c.args.frames.now in
-    let sink = c.requires.left.0 in
-    let rows = rows_of layout frames sink c.args.read.now c.args.left.now c.as_slice-reads.result.now c.as_slice-leaves.result.now c.requires.read c.requires.left.2 c.as_slice-reads.ensures c.as_slice-leaves.ensures in
-    omega (arith, cells_end layout is frames c.requires.frames sink c.requires.left.1 c.as_slice-reads.result.now c.as_slice-leaves.result.now c.args.read.now.next c.args.left.now.next rows c.args.input.now c.args.kept.now c.as_slice-5.result.now (c.as_slice-5.ensures ∙ c.in_ok-filled.ensures))
+pub bounds-waits-frames : goal.bounds-waits-frames
+bounds-waits-frames c = omega (arith, ap length c.as_slice-waits.ensures.value, c.in_ok-filled.ensures.frames)
 
 pub overflow_cast-sink : goal.overflow_cast-sink
 overflow_cast-sink c =
@@ -149,11 +159,15 @@ returns c = λ sink can is_left.
     let is = c.requires.layout in
     let frames = c.args.frames.now in
     let rows = rows_of layout frames sink c.args.read.now c.args.left.now c.as_slice-reads.result.now c.as_slice-leaves.result.now c.requires.read is_left c.as_slice-reads.ensures c.as_slice-leaves.ensures in
-    plan_made layout is frames c.requires.frames sink can c.as_slice-reads.result.now c.as_slice-leaves.result.now c.args.read.now.next c.args.left.now.next rows c.args.input.now c.args.kept.now c.in_ok-filled.filled c.in_ok-pieces.pieces c.in_ok-plans.plans c.in_ok-placed.placed c.in_ok-numbers.numbers (c.args.left.now.next - c.args.read.now.next) c.empty.result c.len.result
-    c.in_ok-filled.ensures c.in_ok-pieces.ensures
-    (c.in_ok-plans.ensures ∙ ap (λ ps. map (epoch_frame layout frames ps c.as_slice-2.result.now) (range_with_len 0 (length frames))) c.as_slice.ensures ∙ ap (λ cs. map (epoch_frame layout frames c.in_ok-pieces.pieces cs) (range_with_len 0 (length frames))) c.as_slice-2.ensures)
-    (c.in_ok-placed.ensures ∙ ap (λ n. by_frame c.as_slice-3.result.now n) (plans_count c.as_slice-4.result.now layout frames c.as_slice.result.now c.as_slice-2.result.now (c.as_slice-4.ensures ∙ c.in_ok-plans.ensures)) ∙ ap (λ ps. by_frame ps (length frames)) c.as_slice-3.ensures)
+    let waits = c.as_slice-waits.result.now in
+    let waits_are = c.as_slice-waits.ensures.value in
+    plan_made layout is frames c.requires.frames sink can c.as_slice-reads.result.now c.as_slice-leaves.result.now c.args.read.now.next c.args.left.now.next rows c.args.input.now c.args.kept.now c.in_ok-filled.filled.cells waits c.in_ok-pieces.pieces c.in_ok-plans.plans c.in_ok-placed.placed c.in_ok-numbers.numbers (c.args.left.now.next - c.args.read.now.next) (get_or waits (length frames) 0) c.len.result
+    c.in_ok-filled.ensures.cells
+    (λ f lt. ap (λ xs. get_or xs f 0) waits_are ∙ c.in_ok-filled.ensures.waits f lt)
+    c.in_ok-pieces.ensures
+    (c.in_ok-plans.ensures ∙ ap (λ ps. map (epoch_frame layout frames ps waits) (range_with_len 0 (length frames))) c.as_slice.ensures)
+    (c.in_ok-placed.ensures ∙ ap (λ n. by_frame c.as_slice-2.result.now n) (plans_count c.as_slice-3.result.now layout frames c.as_slice.result.now waits (c.as_slice-3.ensures ∙ c.in_ok-plans.ensures)) ∙ ap (λ ps. by_frame ps (length frames)) c.as_slice-2.ensures)
     c.in_ok-numbers.ensures
     refl
-    (c.empty.ensures ∙ ap (count_by is_none) c.between.ensures ∙ ap (λ cs. count_by is_none (take (c.args.left.now.next - c.args.read.now.next) (drop c.args.read.now.next cs))) c.as_slice-5.ensures)
+    refl
     c.len.ensures
