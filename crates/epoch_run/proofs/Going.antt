@@ -2,12 +2,12 @@
 use Rattle.std.proofs.Common.{◌≡◌, ℕ, ◌<◌, ◌≤◌, ◌⊎◌, inl, inr, List, [], ◌++◌, Option, Some, None, Bool, true, false, cond, All, drop, length, map, take, refl, sym, ap, ◌∙◌, subst, arith, lit≤, lit<}
 use Rattle.std.specs.Prelude.{IfSome, nat_lt}
 use Rattle.std.proofs.lemmas.Bool.{cases_lt, lt-ltb}
-use Rattle.std.proofs.lemmas.List.{drop-append-le, length-append, length-take, take_min}
+use Rattle.std.proofs.lemmas.List.{drop-append-le, drop_all, length-append, length-take, take_min}
 use Rattle.std.proofs.lemmas.List.Elements.{All-nil}
 use Rattle.control_run.specs.Stretches.{RunSoFar, end_told, given_by, not_begun, remaining, whole}
 use Rattle.epoch_run_bodies.specs.Frames.{code_ends, frame_outcome}
 use Rattle.epoch_run_bodies.specs.Laws.{LaterActivationsChangeNothing}
-use Rattle.flow_core_epochs.specs.Epoch.{IsHeld}
+use Rattle.flow_core_epochs.specs.Epoch.{IsHeld, open_in}
 use Rattle.flow_core_epochs.specs.Laws.{HeldAtFirst}
 use Rattle.flow_core_laws.specs.Outcome.{has_end_at}
 use Rattle.flow_core_laws.specs.declared.elem.Elem.{Elem}
@@ -29,9 +29,10 @@ use Rattle.stream_match_layouts.specs.Layout.{TakesMore}
 use Rattle.stream_match_layouts.specs.Spans.{frame_count}
 use Rattle.stream_match_layouts.specs.declared.layout.Layout.{Layout}
 use Rattle.epoch_run.proofs.Step.{length-ends, stays_ended}
+use Rattle.epoch_run.proofs.Listing.{all_ended}
 use Rattle.epoch_run.specs.Held.{IsHeldOf, IsOpenEpoch}
 use Rattle.epoch_run.specs.Run.{AreBudgets, created}
-use Rattle.epoch_run.specs.Standing.{HasAdvanced, HasCreated, StandsAt}
+use Rattle.epoch_run.specs.Standing.{HasAdvanced, HasCreated, HasRun, StandsAt}
 use Rattle.epoch_run.specs.declared.held.Held.{Held}
 use Rattle.epoch_run.specs.declared.result.Budgets.{Budgets}
 use Rattle.epoch_run.specs.declared.standing.Standing.{Standing}
@@ -43,10 +44,10 @@ none_lawful n = record { activations_are_few = lit≤ tt; claims_are_lawful = Al
 module _ (code : Code) (input : List ℕ) (budgets : Budgets) where
   -- before the first epoch
   pub begins : HeldAtFirst → (layout : Layout) (held : Held) → 2 ≤ code.streams → IsLayoutOf layout [] → length layout.writers ≡ code.streams → layout.input_len ≡ length input
-      → held.ends.ends ≡ [] → held.ends.output ≡ [] → held.kept.items ≡ [] → (run : RunSoFar) → run ≡ not_begun (parts_of code) (length input) budgets.control
+      → held.ends.ends ≡ [] → held.ends.output ≡ [] → held.without_end ≡ [] → held.kept.items ≡ [] → (run : RunSoFar) → run ≡ not_begun (parts_of code) (length input) budgets.control
       → (activations : List Activation) → activations ≡ []
       → StandsAt code input budgets (record { control = run; activations = activations; first = 0; layout = layout; held = held })
-  begins first layout held two laid streams over ends output kept run is activations none = record {
+  begins first layout held two laid streams over ends output unended kept run is activations none = record {
     code_is = ap (λ (r : RunSoFar). r.code) is;
     input_is = ap (λ (r : RunSoFar). r.input_len) is;
     budget_is = ap (λ (r : RunSoFar). r.budget) is;
@@ -65,12 +66,31 @@ module _ (code : Code) (input : List ℕ) (budgets : Budgets) where
       no_given : given_by run ≡ []
       no_given = ap given_by is
 
-      nothing : IsHeldOf (parts_of code) [] input budgets.task held
-      nothing =
+      meant_first : IsHeld [] input (frame_outcome (parts_of code) [] budgets.task) held.ends.ends (map kept_of held.kept.items) held.ends.output
+      meant_first =
           subst (λ (es : List (Option TaskEnd)). IsHeld [] input (frame_outcome (parts_of code) [] budgets.task) es (map kept_of held.kept.items) held.ends.output) (sym ends)
           (subst (λ (ks : List Kept). IsHeld [] input (frame_outcome (parts_of code) [] budgets.task) [] (map kept_of ks) held.ends.output) (sym kept)
           (subst (λ (os : List (Option Elem)). IsHeld [] input (frame_outcome (parts_of code) [] budgets.task) [] [] os) (sym output)
           (first input (frame_outcome (parts_of code) [] budgets.task))))
+
+      nothing : IsHeldOf (parts_of code) [] input budgets.task held
+      nothing = record {
+        is_meant = meant_first;
+        are_open = unended ∙ sym (ap (λ (es : List (Option TaskEnd)). open_in es (length es)) ends);
+      }
+
+  -- where each activation has an end, all are given up
+  pub gave_up : (run : Standing) (given : List Activation) → HasRun code input budgets given run → length run.held.without_end ≡ 0 → (control : RunSoFar) (empty : List Activation) → empty ≡ []
+      → (first : ℕ) → first ≡ length run.held.ends.ends → HasRun code input budgets given (record run { control = control; activations = empty; first = first })
+  gave_up run given is none control empty is_empty first all = record {
+    are_last = is_empty ∙ sym (drop_all first given (omega (arith, as_many)));
+    have_ended = λ a lt. all_ended run.held.ends.ends run.held.without_end is.held.are_open none a (omega arith);
+    within = omega (arith, as_many);
+    held = is.held;
+  }
+    where
+      as_many : length run.held.ends.ends ≡ length given
+      as_many = ap length is.held.is_meant.ends_are_meant ∙ length-ends given input (frame_outcome (parts_of code) given budgets.task)
 
   module _ (run : Standing) (small : AreBudgets budgets) (stands : StandsAt code input budgets run) where
     abbrev all : List Activation
@@ -114,15 +134,20 @@ module _ (code : Code) (input : List ℕ) (budgets : Budgets) where
         → held.ends ≡ code_ends (parts_of code) all input budgets.task
     comes_to held slice is meant =
         let m = subst (λ (xs : List Activation). IsHeldOf (parts_of code) xs input budgets.task held) is meant in
-        ap (λ es. record { ends = es; output = held.ends.output }) m.ends_are_meant
-        ∙ ap (λ os. record { ends = (code_ends (parts_of code) all input budgets.task).ends; output = os }) m.output_is_meant
+        ap (λ es. record { ends = es; output = held.ends.output }) m.is_meant.ends_are_meant
+        ∙ ap (λ os. record { ends = (code_ends (parts_of code) all input budgets.task).ends; output = os }) m.is_meant.output_is_meant
 
     -- what has ended stays so, and each has an end or none
     pub stays_so : LaterActivationsChangeNothing → (after : Held) → IsHeldOf (parts_of code) all input budgets.task after → (a : ℕ) → a < run.first → has_end_at after.ends.ends a ≡ true
     stays_so later after meant a lt = stays_ended (parts_of code) all input budgets.task run.held after later stands.held meant a (stands.have_ended a lt)
 
+    -- so the run stands behind an epoch
+    pub has_run : LaterActivationsChangeNothing → (after : RunSoFar) (held : Held) → IsHeldOf (parts_of code) all input budgets.task held
+        → HasRun code input budgets all (record run { control = after; held = held })
+    has_run later after held meant = record { are_last = stands.are_last; have_ended = stays_so later held meant; within = stands.within; held = meant }
+
     pub as_many_ends : (after : Held) → IsHeldOf (parts_of code) all input budgets.task after → length after.ends.ends ≡ length all
-    as_many_ends after meant = ap length meant.ends_are_meant ∙ length-ends all input (frame_outcome (parts_of code) all budgets.task)
+    as_many_ends after meant = ap length meant.is_meant.ends_are_meant ∙ length-ends all input (frame_outcome (parts_of code) all budgets.task)
 
     -- where nothing has ended, the list has all
     pub are_all : run.held.ends.ends ≡ [] → run.activations ≡ all
@@ -163,24 +188,23 @@ module _ (code : Code) (input : List ℕ) (budgets : Budgets) where
       whole_is = ap whole made.is_run ∙ whole_now
 
       -- the run after the epoch
-      pub stands_next : (activations : List Activation) (first : ℕ) (layout : Layout) (held : Held) → activations ≡ drop first all ++ next
-          → ((a : ℕ) → a < first → has_end_at held.ends.ends a ≡ true) → first ≤ length all → IsLayoutOf layout (all ++ next)
-          → length layout.writers ≡ length run.layout.writers → layout.input_len ≡ run.layout.input_len → IsHeldOf (parts_of code) all input budgets.task held
-          → StandsAt code input budgets (record { control = after; activations = activations; first = first; layout = layout; held = held })
-      stands_next activations first layout held are ended within laid streams over is_held = record {
+      pub stands_next : (ran : Standing) → HasRun code input budgets all ran → (activations : List Activation) (layout : Layout) → activations ≡ ran.activations ++ next
+          → IsLayoutOf layout (all ++ next) → length layout.writers ≡ length run.layout.writers → layout.input_len ≡ run.layout.input_len
+          → StandsAt code input budgets (record { control = after; activations = activations; first = ran.first; layout = layout; held = ran.held })
+      stands_next ran is activations layout are laid streams over = record {
         code_is = after_code;
         input_is = ap (λ (r : RunSoFar). r.input_len) made.is_run ∙ stands.input_is;
         budget_is = ap (λ (r : RunSoFar). r.budget) made.is_run ∙ stands.budget_is;
-        are_last = are ∙ sym (drop-append-le first all next within) ∙ ap (drop first) given;
-        have_ended = ended;
-        within = let l = ap length given ∙ refl in let m = length-append all next in omega (arith, l, m, within);
+        are_last = are ∙ ap (λ xs. xs ++ next) is.are_last ∙ sym (drop-append-le ran.first all next is.within) ∙ ap (drop ran.first) given;
+        have_ended = is.have_ended;
+        within = let l = ap length given ∙ refl in let m = length-append all next in let w = is.within in omega (arith, l, m, w);
         fit = subst (λ (p : Parts). All (Fits p) (given_by after)) after_code made.fit;
         lawful = subst (AreLawful code.streams) given all_lawful;
         has_output = stands.has_output;
         streams = streams ∙ stands.streams;
         over = over ∙ stands.over;
         laid = subst (IsLayoutOf layout) given laid;
-        held = record { before = all; new = next; are_all = sym given; meant = is_held };
+        held = record { before = all; new = next; are_all = sym given; meant = is.held };
       }
 
       has_ended : after.has_ended ≡ nat_lt (length (remaining run.control)) count

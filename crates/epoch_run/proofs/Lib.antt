@@ -5,3 +5,4 @@ pub mod Moving
 pub mod Over
 pub mod Step
 pub mod Stretches
+pub mod Listing

@@ -1,7 +1,7 @@
 -- An epoch, from what is held before it to what is held after it.
 use Rattle.std.proofs.Common.{◌≡◌, ℕ, ℤ, ◌+◌, ◌<◌, ◌≤◌, ◌⊎◌, inl, inr, false, List, [], ◌∷◌, ◌++◌, Option, Some, None, All, get_or, length, map, refl, sym, ap, ◌∙◌, subst, arith}
 use Rattle.std.specs.Prelude.{filter, is_some, nat_lt, slice_index, sum_by, true}
-use Rattle.std.specs.Option.{option_map}
+use Rattle.std.specs.Option.{option_map, option_map_or}
 use Rattle.std.proofs.lemmas.Grind.{flat_map-append}
 use Rattle.std.proofs.lemmas.Bool.{cases_lt, ltb-false}
 use Rattle.std.proofs.lemmas.List.{append-nil, length-append, length-map}
@@ -12,7 +12,7 @@ use Rattle.std.proofs.lemmas.Option.{slice_get-get_or}
 use Rattle.epoch_run_bodies.specs.Frames.{TakesFrame, frame_outcome}
 use Rattle.epoch_run_bodies.specs.Laws.{LaterActivationsChangeNothing}
 use Rattle.flow_core_epochs.specs.Epoch as epoch
-use Rattle.flow_core_epochs.specs.Epoch.{IsCarried, IsEpoch, IsHeld, IsOutside, LeaveOutWaiting, ReadNoOutput, ServesAll, StandsForEpoch, carried_over, epoch_meaning, open_in, output_over, put_over}
+use Rattle.flow_core_epochs.specs.Epoch.{IsCarried, IsEpoch, IsHeld, IsOutside, LeaveOutWaiting, ReadNoOutput, ServesAll, StandsForEpoch, carried_over, epoch_meaning, number_in, open_in, output_over, put_over}
 use Rattle.flow_core_epochs.proofs.Choosing.{end_in}
 use Rattle.flow_core_epochs.proofs.Prefixes.{prefix_extends}
 use Rattle.flow_core_epochs.proofs.Serving.{serves_frames}
@@ -93,7 +93,7 @@ stays code activations input budget held count all is no_more = subst (λ (xs : 
 
     few : length is.new ≤ 0
     few =
-        let e = ap length is.meant.ends_are_meant ∙ length-ends is.before input (frame_outcome code is.before budget) in
+        let e = ap length is.meant.is_meant.ends_are_meant ∙ length-ends is.before input (frame_outcome code is.before budget) in
         let l = ap length is.are_all ∙ length-append is.before is.new in
         let ge = ltb-false (length held.ends.ends) count no_more in
         omega (arith, e, l, ge, all)
@@ -114,10 +114,10 @@ stays_ended code activations input budget held after later is meant a ended = so
     whole = stream_meaning all input (frame_outcome code all budget)
 
     held_ends : held.ends.ends ≡ ends_of earlier
-    held_ends = is.meant.ends_are_meant ∙ ap ends_of (later code is.before is.new input budget)
+    held_ends = is.meant.is_meant.ends_are_meant ∙ ap ends_of (later code is.before is.new input budget)
 
     after_ends : after.ends.ends ≡ ends_of whole
-    after_ends = meant.ends_are_meant ∙ ap (λ (xs : List Activation). ends_of (stream_meaning xs input (frame_outcome code xs budget))) is.are_all
+    after_ends = meant.is_meant.ends_are_meant ∙ ap (λ (xs : List Activation). ends_of (stream_meaning xs input (frame_outcome code xs budget))) is.are_all
 
     some_after : (o : Option Outcome) → outcome_at earlier a ≡ o → has_end_at after.ends.ends a ≡ true
     some_after (Some o) at =
@@ -131,6 +131,15 @@ stays_ended code activations input budget held after later is meant a ended = so
         ∙ sym (ap (λ (es : List (Option TaskEnd)). has_end_at es a) held_ends)
         ∙ ended in
         absurd (cc)
+
+-- there are no more ends than activations
+pub held_fewer : (layout : Layout) (code : Parts) (activations : List Activation) (input : List ℕ) (budget : ℕ) (held : Held) → IsHeldBefore code activations input budget held
+    → IsLayoutOf layout activations → length held.ends.ends ≤ frame_count layout
+held_fewer layout code activations input budget held is laid =
+    let e = ap length is.meant.is_meant.ends_are_meant ∙ length-ends is.before input (frame_outcome code is.before budget) in
+    let n = frame_count-is layout activations laid in
+    let l = ap length is.are_all ∙ length-append is.before is.new in
+    omega (arith, e, n, l)
 
 module _ (layout : Layout) (whole : IsLayout layout) (code : Parts) (activations : List Activation) (input : List ℕ) (budget : ℕ) (held : Held)
     (is : IsHeldBefore code activations input budget held) (laid : IsLayoutOf layout activations) (lawful : AreLawful (length layout.writers) activations)
@@ -170,17 +179,17 @@ module _ (layout : Layout) (whole : IsLayout layout) (code : Parts) (activations
 
   pub fewer : length held.ends.ends ≤ frame_count layout
   fewer =
-      let e = ap length is.meant.ends_are_meant ∙ length-ends is.before input (frame_outcome code is.before budget) in
+      let e = ap length is.meant.is_meant.ends_are_meant ∙ length-ends is.before input (frame_outcome code is.before budget) in
       omega (arith, count, length-append is.before is.new)
 
   pub shorter : length held.ends.output ≤ slice_index layout.writes 1
   shorter =
-      let e = ap length is.meant.output_is_meant ∙ length-output is.before input (stream_meaning is.before input (frame_outcome code is.before budget)) in
+      let e = ap length is.meant.is_meant.output_is_meant ∙ length-output is.before input (stream_meaning is.before input (frame_outcome code is.before budget)) in
       omega (arith, positions, written_more is.before is.new)
 
   module _ (later : LaterActivationsChangeNothing) (begins : BeginsEpoch) where
     held_now : IsHeld is.before input body held.ends.ends kept held.ends.output
-    held_now = same_held is.before input (frame_outcome code is.before budget) body held.ends.ends kept held.ends.output (later code is.before is.new input budget) is.meant
+    held_now = same_held is.before input (frame_outcome code is.before budget) body held.ends.ends kept held.ends.output (later code is.before is.new input budget) is.meant.is_meant
 
     abbrev Opens : Type 0
     Opens = IsOutside all frames kept × ((plan : Plan) (places : List streams.Place) → StandsForEpoch plan all input readers frames kept places → IsEpoch is.before is.new input body readers frames kept plan places)
@@ -256,9 +265,14 @@ module _ (layout : Layout) (whole : IsLayout layout) (code : Parts) (activations
         pub held_after : (after : Held) → after.ends.ends ≡ put_over held.ends.ends frames run.ends (frame_count layout)
             → after.ends.output ≡ output_over held.ends.output (map place_of places) run.output (slice_index layout.writes 1)
             → map kept_of after.kept.items ≡ carried_over activations (open_in after.ends.ends (frame_count layout)) kept (map place_of places) run.output
+            → after.without_end ≡ open_in after.ends.ends (frame_count layout)
             → IsHeldOf code activations input budget after
-        held_after after ends_put output_put carried = subst (λ (xs : List Activation). IsHeldOf code xs input budget after) (sym is.are_all) over
+        held_after after ends_put output_put carried are_open =
+            subst (λ (xs : List Activation). IsHeldOf code xs input budget after) (sym is.are_all) (record { is_meant = over; are_open = are_open ∙ ap (open_in after.ends.ends) (sym as_many) })
           where
+            as_many : length after.ends.ends ≡ frame_count layout
+            as_many = ap length ends_put ∙ length-map-range_with_len (λ a. option_map_or (outcome_at run.ends) (number_in frames a) (outcome_at held.ends.ends a)) 0 (frame_count layout)
+
             same_body : frame_outcome code activations budget ≡ body
             same_body = ap (λ (xs : List Activation). frame_outcome code xs budget) is.are_all
 

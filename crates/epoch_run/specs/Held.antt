@@ -1,7 +1,7 @@
 -- What is held between two epochs.
 use Rattle.std.specs.Prelude.{◌≡◌, ℕ, ◌≤◌, All, List, ◌++◌, length, map}
 use Rattle.epoch_run_bodies.specs.Frames.{frame_outcome}
-use Rattle.flow_core_epochs.specs.Epoch.{IsHeld}
+use Rattle.flow_core_epochs.specs.Epoch.{IsHeld, open_in}
 use Rattle.flow_core_laws.specs.declared.activation.Activation.{Activation}
 use Rattle.os_code.specs.Codes.{parts_of}
 use Rattle.os_code.specs.Tasks.{Fits}
@@ -13,10 +13,10 @@ use Rattle.stream_match_layouts.specs.Layout.{IsLayout, IsLayoutOf}
 use Rattle.stream_match_layouts.specs.declared.layout.Layout.{Layout}
 use Rattle.epoch_run.specs.declared.held.Held.{Held}
 
--- it is what the activations mean, with their tasks on the machine
-abbrev pub IsHeldOf : Parts → List Activation → (input : List ℕ) → (budget : ℕ) → Held → Type 0
-IsHeldOf code activations input budget held =
-    IsHeld activations input (frame_outcome code activations budget) held.ends.ends (map kept_of held.kept.items) held.ends.output
+-- it is what the activations mean, with their tasks on the machine, and those of them that have no end are listed
+pub record IsHeldOf (code : Parts) (activations : List Activation) (input : List ℕ) (budget : ℕ) (held : Held) : Type 0 where
+  pub is_meant : IsHeld activations input (frame_outcome code activations budget) held.ends.ends (map kept_of held.kept.items) held.ends.output
+  pub are_open : held.without_end ≡ open_in held.ends.ends (length held.ends.ends)
 
 -- it is what some of the activations mean, those before an epoch
 pub record IsHeldBefore (code : Parts) (activations : List Activation) (input : List ℕ) (budget : ℕ) (held : Held) : Type 0 where

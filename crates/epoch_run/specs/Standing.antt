@@ -8,7 +8,7 @@ use Rattle.os_code.specs.Tasks.{Fits}
 use Rattle.os_code.specs.declared.code.Code.{Code}
 use Rattle.stream_match_layouts.specs.Lawful.{AreLawful}
 use Rattle.stream_match_layouts.specs.Layout.{IsLayoutOf}
-use Rattle.epoch_run.specs.Held.{IsHeldBefore}
+use Rattle.epoch_run.specs.Held.{IsHeldBefore, IsHeldOf}
 use Rattle.epoch_run.specs.declared.result.Budgets.{Budgets}
 use Rattle.epoch_run.specs.declared.standing.Standing.{Standing}
 
@@ -45,3 +45,10 @@ pub record StandsAt (code : Code) (input : List ℕ) (budgets : Budgets) (run : 
   pub over : run.layout.input_len ≡ length input
   pub laid : IsLayoutOf run.layout (given_by run.control)
   pub held : IsHeldBefore (parts_of code) (given_by run.control) input budgets.task run.held
+
+-- An epoch over these activations was run. The list has all of them from a number on, and those before it have ended.
+pub record HasRun (code : Code) (input : List ℕ) (budgets : Budgets) (given : List Activation) (run : Standing) : Type 0 where
+  pub are_last : run.activations ≡ drop run.first given
+  pub have_ended : (a : ℕ) → a < run.first → has_end_at run.held.ends.ends a ≡ true
+  pub within : run.first ≤ length given
+  pub held : IsHeldOf (parts_of code) given input budgets.task run.held

@@ -6,7 +6,7 @@ ghost use Rattle.epoch_run.specs.Bodies.{HaveOpen, all_of};
 ghost use Rattle.epoch_run.specs.Held.{IsHeldOf, IsOpenEpoch};
 ghost use Rattle.epoch_run.specs.Standing.{HasAdvanced, HasCreated};
 
-use crate::epoch::{has_new, run_epoch};
+use crate::epoch::run_epoch;
 use crate::held::Held;
 use crate::open_bodies::OpenBodies;
 use crate::size::EpochSize;
@@ -18,39 +18,9 @@ use std::thread::{Threads, join_mut};
 use stream_match::Layout;
 use task_workers::Gate;
 
-/// Runs an epoch, and has the control program create the new activations of the next one: they are put behind those
+/// Runs an epoch, and at once has the control program create the new activations of the next one: they are put behind those
 /// of a list. After `Memory` all that was lent may be anything, and the caller gives the run up.
 pub(crate) fn run_and_advance<R: Threads + Sync, G: Gate>(
-    rt: &R,
-    alloc: Global,
-    bodies: &OpenBodies<'_>,
-    layout: &Layout,
-    input: &[u8],
-    workers: u32,
-    gate: &G,
-    held: &mut Held,
-    control: &mut ControlRun<'_>,
-    next: &mut List<Activation>,
-    size: EpochSize,
-) -> Result<(), Memory>
-    requires workers { (1 ≤ workers) × (workers ≤ 64) }
-    requires open { IsOpenEpoch bodies.now.code.now (all_of bodies.now) bodies.now.budgets.task layout.now input.now held.old }
-    requires there { HaveOpen bodies.now held.old.ends.ends }
-    requires some { 1 ≤ size.activations }
-    ensures held { OnOk result (IsHeldOf (parts_of bodies.now.code.now) (all_of bodies.now) input.now bodies.now.budgets.task held.new) }
-    ensures advanced { OnOk result (HasAdvanced size.activations control.old control.new next.old next.new) }
-{
-    if workers > 1 && has_new(bodies, held) {
-        return both(
-            rt, alloc, bodies, layout, input, workers, gate, held, control, next, size,
-        );
-    }
-    run_epoch(rt, alloc, bodies, layout, input, workers, gate, held)?;
-    advance(control, next, size)
-}
-
-/// Does both at once.
-fn both<R: Threads + Sync, G: Gate>(
     rt: &R,
     alloc: Global,
     bodies: &OpenBodies<'_>,
@@ -86,7 +56,7 @@ fn both<R: Threads + Sync, G: Gate>(
 }
 
 /// Has the control program create the new activations of an epoch, stretch by stretch.
-fn advance(
+pub(crate) fn advance(
     control: &mut ControlRun<'_>,
     next: &mut List<Activation>,
     size: EpochSize,

@@ -15,11 +15,12 @@ use crate::held::Held;
 use crate::open_bodies::OpenBodies;
 use crate::pace::Pace;
 use crate::plan::run_plan;
+use crate::unended::with_new;
 use epoch_run_bodies::CountedBodies;
 use epoch_run_bodies::laws::{bodies_serve, later_activations_change_nothing};
 use epoch_run_ready::ready_frames;
+use flow_core_epochs::FrameBodies;
 use flow_core_epochs::laws::run_in_epochs;
-use flow_core_epochs::{FrameBodies, open_frames};
 use flow_core_laws::{Bodies, Ends, Plan};
 use os_io::{List, Memory};
 use std::alloc::Global;
@@ -55,7 +56,7 @@ pub(crate) fn run_epoch<R: Threads + Sync, G: Gate>(
 }
 
 /// Whether some of the activations are new.
-pub(crate) fn has_new(bodies: &OpenBodies<'_>, held: &Held) -> bool
+fn has_new(bodies: &OpenBodies<'_>, held: &Held) -> bool
     ensures { result ≡ nat_lt (length held.now.ends.ends) bodies.now.count }
 {
     held.ends.ends.len() < bodies.count as usize
@@ -95,10 +96,18 @@ fn run_open<R: Threads + Sync, G: Gate>(
 
 /// The activations of a layout that have no end yet.
 fn open_activations(alloc: Global, layout: &Layout, held: &Held) -> Result<List<u32>, Memory>
-    requires { IsLayout layout.now }
+    requires layout { IsLayout layout.now }
+    requires listed { held.now.without_end ≡ open_in held.now.ends.ends (length held.now.ends.ends) }
+    requires more { length held.now.ends.ends ≤ frame_count layout.now }
     ensures { IfOk result (λ frames. frames ≡ open_in held.now.ends.ends (frame_count layout.now)) }
 {
-    let frames = open_frames(alloc, held.ends.ends.as_slice(), layout.frames() as u32)?;
+    let listed = held.without_end.as_slice();
+    let frames = with_new(
+        alloc,
+        listed,
+        held.ends.ends.as_slice(),
+        layout.frames() as u32,
+    )?;
     Ok(frames)
 }
 
@@ -136,7 +145,14 @@ fn run_these<R: Threads + Sync, G: Gate>(
         gate,
         &mut held.pace,
     )?;
-    held.take(alloc, layout, frames, epoch.places.as_slice(), &run)?;
+    held.take(
+        alloc,
+        layout,
+        readers,
+        frames,
+        epoch.places.as_slice(),
+        &run,
+    )?;
     Ok(())
 }
 

@@ -1,4 +1,5 @@
-ghost use Rattle.std.specs.Prelude.{◌≡◌, ◌<◌, ◌≤◌, [], All, List, IfOk, OnOk, length, map, slice_index};
+ghost use Rattle.std.specs.Prelude.{◌≡◌, ◌<◌, ◌≤◌, ℕ, [], None, Some, All, List, IfOk, OnOk, length, map, slice_get, slice_index};
+ghost use Rattle.flow_core_laws.specs.Outcome.{outcome_at};
 ghost use Rattle.flow_core_laws.specs.declared.activation.Activation.{Activation};
 ghost use Rattle.flow_core_epochs.specs.Epoch.{carried_over, open_in, output_over, put_over};
 ghost use Rattle.stream_match.specs.EpochPlan.{AreFrames};
@@ -8,8 +9,8 @@ ghost use Rattle.stream_match_layouts.specs.Spans.{frame_count};
 
 use crate::pace::Pace;
 use crate::putting::{take_ends, take_output};
+use crate::unended::still_open;
 use epoch_run_carrying::carry_over;
-use flow_core_epochs::open_frames;
 use flow_core_laws::Ends;
 use os_io::{List, Memory};
 use std::alloc::Global;
@@ -20,6 +21,8 @@ use stream_match::{Kept, Layout, Place};
 pub(crate) struct Held {
     /// How the activations so far ended, and the elements of the output.
     pub ends: Ends,
+    /// Those of them that have no end, ascending.
+    pub without_end: List<u32>,
     /// The elements that may still be read.
     pub kept: Vec<Kept>,
     /// How long the bodies of the last epoch were. It decides how the next one is run, and nothing of what it comes to.
@@ -31,6 +34,7 @@ impl Held {
     pub(crate) fn nothing(alloc: Global) -> Held
         ensures ends { result.ends.ends ≡ [] }
         ensures output { result.ends.output ≡ [] }
+        ensures without_end { result.without_end ≡ [] }
         ensures kept { result.kept.items ≡ [] }
     {
         Held {
@@ -38,22 +42,27 @@ impl Held {
                 ends: List::new(alloc),
                 output: List::new(alloc),
             },
+            without_end: List::new(alloc),
             kept: Vec::new(alloc),
             pace: Pace::Unknown,
         }
     }
 
-    /// Takes what the frames of an epoch came to, and keeps what may still be read.
+    /// Takes what the frames of an epoch came to, and keeps what may still be read. The readers are all activations that had no end
+    /// before it, and the frames are some of them.
     pub(crate) fn take(
         &mut self,
         alloc: Global,
         layout: &Layout,
+        readers: &[u32],
         frames: &[u32],
         places: &[Place],
         run: &Ends,
     ) -> Result<(), Memory>
         requires layout { IsLayout layout.now }
+        requires readers { readers.now ≡ open_in self.old.ends.ends (frame_count layout.now) }
         requires frames { AreFrames layout.now frames.now }
+        requires are_open { (f a : ℕ) → slice_get frames.now f ≡ Some a → outcome_at self.old.ends.ends a ≡ None }
         requires ends_fit { length run.now.ends ≡ length frames.now }
         requires values_fit { length run.now.output ≡ length places.now }
         requires more { length self.old.ends.ends ≤ frame_count layout.now }
@@ -62,6 +71,7 @@ impl Held {
         requires places_exist { All (λ p. p.stream < length layout.now.writers) places.now }
         ensures ends { OnOk result (self.new.ends.ends
             ≡ put_over self.old.ends.ends frames.now run.now.ends (frame_count layout.now)) }
+        ensures without_end { OnOk result (self.new.without_end ≡ open_in self.new.ends.ends (frame_count layout.now)) }
         ensures output { OnOk result (self.new.ends.output
             ≡ output_over self.old.ends.output (map place_of places.now) run.now.output (slice_index layout.now.writes 1)) }
         ensures kept { OnOk result ((activations : List Activation) → IsLayoutOf layout.now activations
@@ -81,11 +91,11 @@ impl Held {
             places,
             run.output.as_slice(),
         )?;
-        let open = open_frames(alloc, self.ends.ends.as_slice(), layout.frames() as u32)?;
+        self.without_end = still_open(alloc, readers, self.ends.ends.as_slice())?;
         self.kept = carry_over(
             alloc,
             layout,
-            open.as_slice(),
+            self.without_end.as_slice(),
             self.kept.as_slice(),
             places,
             run.output.as_slice(),

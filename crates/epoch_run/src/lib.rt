@@ -22,10 +22,10 @@ mod open_bodies;
 mod pace;
 mod plan;
 mod putting;
-mod releasing;
 mod result;
 mod size;
 mod standing;
+mod unended;
 
 pub use epochs::{run_epochs, run_epochs_of};
 pub use result::{Budgets, RunResult};

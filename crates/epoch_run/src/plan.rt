@@ -25,8 +25,9 @@ fn workers_for(asked: u32, frames: usize) -> u32
     asked
 }
 
-/// Runs a plan by so many workers, of which there are no more than frames. One worker runs it round by round, which needs no
-/// table of atomic words and no looks for frames. So do several, where the bodies are short for what the table costs.
+/// Runs a plan by so many workers, of which there are no more than frames. One worker runs frame by frame in this thread: it
+/// needs no table of atomic words and looks for no frames. Several run round by round, where the bodies are short for what the
+/// table costs, and else over the table.
 pub(crate) fn run_plan<R: Threads + Sync, B: Bodies, G: Gate>(
     rt: &R,
     alloc: Global,

@@ -1,19 +1,21 @@
-ghost use Rattle.std.specs.Prelude.{◌≡◌, ◌<◌, ◌≤◌, [], None, IfOk, IfSome, OnOk, length};
+ghost use Rattle.std.specs.Prelude.{◌≡◌, ◌<◌, ◌≤◌, ℕ, List, [], None, IfOk, IfSome, OnOk, length};
 ghost use Rattle.control_run.specs.Stretches.{given_by};
+ghost use Rattle.flow_core_laws.specs.declared.activation.Activation.{Activation};
 ghost use Rattle.os_code.specs.Codes.{parts_of};
+ghost use Rattle.os_code.specs.declared.code.Code.{Code};
 ghost use Rattle.os_code.specs.Outcomes.{control};
 ghost use Rattle.stream_match_layouts.specs.Layout.{IsLayout, IsLayoutOf};
 ghost use Rattle.epoch_run_bodies.specs.Frames.{code_ends};
 ghost use Rattle.epoch_run.specs.Run.{AreBudgets, created};
-ghost use Rattle.epoch_run.specs.Standing.{StandsAt};
+ghost use Rattle.epoch_run.specs.Standing.{HasAdvanced, HasRun, StandsAt};
+ghost use Rattle.epoch_run.specs.declared.result.Budgets.{Budgets};
 
 use crate::adding::add;
 use crate::at_once::run_at_once;
-use crate::beside::run_and_advance;
+use crate::beside::{advance, run_and_advance};
 use crate::epoch::run_epoch;
 use crate::held::Held;
 use crate::open_bodies::OpenBodies;
-use crate::releasing::give_up_ended;
 use crate::result::Budgets;
 use crate::size::EpochSize;
 use control_run::ControlRun;
@@ -24,6 +26,7 @@ use flow_core_laws::{Activation, ControlEnd};
 use os_code::Code;
 use os_io::{List, Memory};
 use std::alloc::Global;
+use std::mem;
 use std::thread::Threads;
 use stream_match::Layout;
 use task_workers::Gate;
@@ -89,8 +92,74 @@ impl<'c> Standing<'c> {
         ensures all { IfOk result (λ end. IfSome end (λ _. given_by self.new.control ≡ created (parts_of code.now) input.now budgets)) }
         ensures end { IfOk result (λ end. IfSome end (λ e. e ≡ (control (parts_of code.now) (length input.now) budgets.control).end)) }
     {
-        later_activations_change_nothing();
         let mut next = List::new(alloc);
+        self.run_and_create(
+            rt, alloc, code, input, budgets, workers, gate, &mut next, size,
+        )?;
+        add(alloc, &mut self.activations, &mut self.layout, next)?;
+        Ok(self.control.end())
+    }
+
+    /// Runs an epoch, and has the control program create the new activations of the next one, behind those of a list: beside the
+    /// epoch where several workers run it. One worker gives up what has ended before more is created, so that one epoch's
+    /// activations alone are held.
+    fn run_and_create<R: Threads + Sync, G: Gate>(
+        &mut self,
+        rt: &R,
+        alloc: Global,
+        code: &Code,
+        input: &[u8],
+        budgets: Budgets,
+        workers: u32,
+        gate: &G,
+        next: &mut List<Activation>,
+        size: EpochSize,
+    ) -> Result<(), Memory>
+        requires workers { (1 ≤ workers) × (workers ≤ 64) }
+        requires budgets { AreBudgets budgets }
+        requires stands { StandsAt code.now input.now budgets self.old }
+        requires some { 1 ≤ size.activations }
+        ensures run { OnOk result (HasRun code.now input.now budgets (given_by self.old.control) self.new) }
+        ensures advanced { OnOk result (HasAdvanced size.activations self.old.control self.new.control next.old next.new) }
+        ensures layout { OnOk result (self.new.layout ≡ self.old.layout) }
+    {
+        if workers > 1 && self.has_new() {
+            return self.run_beside(rt, alloc, code, input, budgets, workers, gate, next, size);
+        }
+        self.run(rt, alloc, code, input, budgets, workers, gate)?;
+        self.give_up_ended(alloc);
+        advance(&mut self.control, next, size)
+    }
+
+    /// Whether some of the activations are new.
+    fn has_new(&self) -> bool
+        requires { 1 ≤ length self.now.layout.starts }
+    {
+        self.held.ends.ends.len() < self.layout.frames()
+    }
+
+    /// Does both at once.
+    fn run_beside<R: Threads + Sync, G: Gate>(
+        &mut self,
+        rt: &R,
+        alloc: Global,
+        code: &Code,
+        input: &[u8],
+        budgets: Budgets,
+        workers: u32,
+        gate: &G,
+        next: &mut List<Activation>,
+        size: EpochSize,
+    ) -> Result<(), Memory>
+        requires workers { (1 ≤ workers) × (workers ≤ 64) }
+        requires budgets { AreBudgets budgets }
+        requires stands { StandsAt code.now input.now budgets self.old }
+        requires some { 1 ≤ size.activations }
+        ensures run { OnOk result (HasRun code.now input.now budgets (given_by self.old.control) self.new) }
+        ensures advanced { OnOk result (HasAdvanced size.activations self.old.control self.new.control next.old next.new) }
+        ensures layout { OnOk result (self.new.layout ≡ self.old.layout) }
+    {
+        later_activations_change_nothing();
         let bodies = OpenBodies {
             code,
             input_len: self.layout.input_len,
@@ -109,17 +178,64 @@ impl<'c> Standing<'c> {
             gate,
             &mut self.held,
             &mut self.control,
-            &mut next,
+            next,
             size,
         )?;
-        give_up_ended(
+        self.give_up_ended(alloc);
+        Ok(())
+    }
+
+    /// Runs the activations that have no end yet, and nothing else.
+    fn run<R: Threads + Sync, G: Gate>(
+        &mut self,
+        rt: &R,
+        alloc: Global,
+        code: &Code,
+        input: &[u8],
+        budgets: Budgets,
+        workers: u32,
+        gate: &G,
+    ) -> Result<(), Memory>
+        requires workers { (1 ≤ workers) × (workers ≤ 64) }
+        requires budgets { AreBudgets budgets }
+        requires stands { StandsAt code.now input.now budgets self.old }
+        ensures run { OnOk result (HasRun code.now input.now budgets (given_by self.old.control) self.new) }
+        ensures same { OnOk result (self.new ≡ record self.old { held = self.new.held }) }
+    {
+        later_activations_change_nothing();
+        let bodies = OpenBodies {
+            code,
+            input_len: self.layout.input_len,
+            budgets,
+            count: self.layout.frames() as u32,
+            first: self.first,
+            activations: self.activations.as_slice(),
+        };
+        run_epoch(
+            rt,
             alloc,
-            &mut self.activations,
-            &mut self.first,
-            self.held.ends.ends.as_slice(),
-        );
-        add(alloc, &mut self.activations, &mut self.layout, next)?;
-        Ok(self.control.end())
+            &bodies,
+            &self.layout,
+            input,
+            workers,
+            gate,
+            &mut self.held,
+        )?;
+        Ok(())
+    }
+
+    /// Gives up the activations of the list, where each of them has an end: the next ones are made in their lists.
+    fn give_up_ended(&mut self, alloc: Global)
+        requires { length self.old.held.ends.ends ≤ 65536 }
+        ensures run { (code : Code) (input : List ℕ) (budgets : Budgets) (given : List Activation) → HasRun code input budgets given self.old
+            → HasRun code input budgets given self.new }
+        ensures same { self.new ≡ record self.old { activations = self.new.activations; first = self.new.first } }
+    {
+        if self.held.without_end.len() == 0 {
+            self.first = self.held.ends.ends.len() as u32;
+            let ended = mem::replace(&mut self.activations, List::new(alloc));
+            self.control.reuse(ended);
+        }
     }
 
     /// Runs the last epoch. Where it is the first one too, its plan is that of the whole run.
@@ -196,24 +312,7 @@ impl<'c> Standing<'c> {
         ensures input { OnOk result (self.new.layout.input_len ≡ length input.now) }
         ensures ends { OnOk result (self.new.held.ends ≡ code_ends (parts_of code.now) (given_by self.old.control) input.now budgets.task) }
     {
-        let bodies = OpenBodies {
-            code,
-            input_len: self.layout.input_len,
-            budgets,
-            count: self.layout.frames() as u32,
-            first: self.first,
-            activations: self.activations.as_slice(),
-        };
-        run_epoch(
-            rt,
-            alloc,
-            &bodies,
-            &self.layout,
-            input,
-            workers,
-            gate,
-            &mut self.held,
-        )?;
+        self.run(rt, alloc, code, input, budgets, workers, gate)?;
         Ok(())
     }
 }

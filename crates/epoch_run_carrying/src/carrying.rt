@@ -6,7 +6,7 @@ ghost use Rattle.flow_core_epochs.specs.Epoch.{elements_at, carried_over};
 ghost use Rattle.stream_match.specs.Kept.{kept_of, place_of};
 ghost use Rattle.epoch_run_carrying.specs.Carrying.{is_behind, carried_by};
 
-use flow_core::Elem;
+use flow_core_laws::Elem;
 use os_io::Memory;
 use std::alloc::Global;
 use stream_match::{Kept, Layout, Place, read_cursors};

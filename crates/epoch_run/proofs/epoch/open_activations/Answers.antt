@@ -3,4 +3,4 @@ use Rattle.stream_match_layouts.proofs.Sums.{frames_bound}
 use Rattle.epoch_run.proofs.epoch.open_activations.Goals as goal
 
 pub overflow_cast-frames : goal.overflow_cast-frames
-overflow_cast-frames c = omega (arith, frames_bound c.args.layout.now c.requires, c.frames.ensures)
+overflow_cast-frames c = omega (arith, frames_bound c.args.layout.now c.requires.layout, c.frames.ensures)

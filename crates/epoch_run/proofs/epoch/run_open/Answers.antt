@@ -3,7 +3,9 @@ use Rattle.flow_core_epochs.proofs.Carried.{has_all}
 use Rattle.flow_core_epochs.proofs.Frames.{open_each}
 use Rattle.flow_core_epochs.specs.Epoch.{LeaveOutWaiting, open_in}
 use Rattle.stream_match_layouts.specs.Spans.{frame_count}
+use Rattle.os_code.specs.Codes.{parts_of}
 use Rattle.epoch_run.specs.Bodies.{all_of}
+use Rattle.epoch_run.proofs.Step.{held_fewer}
 use Rattle.epoch_run.proofs.epoch.run_open.Goals as goal
 
 pub ready_frames-requires-clause-readers : goal.ready_frames-requires-clause-readers
@@ -23,3 +25,12 @@ run_these-requires-clause-frames g c κs within =
     let input = c.args.input.now in
     subst (LeaveOutWaiting activations input c.args.held.now.ends.ends) (sym c.as_slice-3.ensures)
     (c.in_ok-frames.ensures activations input c.args.held.now.ends.ends o.laid (sym o.over) (c.as_slice.ensures ∙ c.in_ok-readers.ensures))
+
+pub open_activations-requires-clause-listed : goal.open_activations-requires-clause-listed
+open_activations-requires-clause-listed g c = c.requires.open.stands.meant.are_open
+
+pub open_activations-requires-clause-more : goal.open_activations-requires-clause-more
+open_activations-requires-clause-more g c =
+    let b = c.args.bodies.now in
+    let o = c.requires.open in
+    held_fewer c.args.layout.now (parts_of b.code.now) (all_of b) c.args.input.now b.budgets.task c.args.held.now o.stands o.laid

@@ -72,4 +72,4 @@ returns g c =
     held_after c.args.layout.now o.whole (parts_of c.args.bodies.now.code.now) (all_of c.args.bodies.now) c.args.input.now c.args.bodies.now.budgets.task
     c.args.held.now o.stands o.laid o.lawful c.args.readers.now c.args.frames.now c.requires.readers c.requires.frames
     c.later_activations_change_nothing.ensures c.run_in_epochs.ensures.begins c.in_ok-epoch.epoch.plan c.as_slice.result.now stands c.run_in_epochs.ensures.ends c.in_ok-run.run' c.in_ok-run.ensures.ends c.in_ok-run.ensures.output
-    c.take.new.self c.in_ok-take.ensures.ends c.in_ok-take.ensures.output (c.in_ok-take.ensures.kept (all_of c.args.bodies.now) o.laid)
+    c.take.new.self c.in_ok-take.ensures.ends c.in_ok-take.ensures.output (c.in_ok-take.ensures.kept (all_of c.args.bodies.now) o.laid) c.in_ok-take.ensures.without_end

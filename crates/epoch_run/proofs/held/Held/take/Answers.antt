@@ -1,16 +1,58 @@
-use Rattle.std.proofs.Common.{All, ◌<◌, ◌∙◌, arith, subst, sym}
-use Rattle.flow_core_epochs.specs.Epoch.{open_in}
-use Rattle.stream_match_layouts.proofs.Sums.{frames_bound}
+use Rattle.std.proofs.Common.{All, ◌≡◌, ◌<◌, ◌∙◌, List, ℕ, ap, map, refl, subst, sym}
+use Rattle.std.specs.Prelude.{Option, filter, is_none}
+use Rattle.flow_core_epochs.specs.Epoch.{carried_over, open_in, put_over}
+use Rattle.flow_core_laws.specs.Outcome.{outcome_at}
+use Rattle.flow_core_laws.specs.declared.elem.Elem.{Elem}
+use Rattle.flow_core_laws.specs.declared.task_end.TaskEnd.{TaskEnd}
+use Rattle.stream_match.specs.Kept.{kept_of, place_of}
+use Rattle.stream_match.specs.declared.kept.Kept.{Kept}
 use Rattle.stream_match_layouts.specs.Spans.{frame_count}
 use Rattle.epoch_run.proofs.Frames.{all_exist, are_frames}
+use Rattle.epoch_run.proofs.Listing.{still_listed}
 use Rattle.epoch_run.proofs.held.Held.take.Goals as goal
-
-pub overflow_cast-frames : goal.overflow_cast-frames
-overflow_cast-frames c = omega (arith, frames_bound c.args.layout.now c.requires.layout, c.frames-2.ensures)
 
 pub carry_over-requires-clause-exist : goal.carry_over-requires-clause-exist
 carry_over-requires-clause-exist c =
     let layout = c.args.layout.now in
-    let state = c.as_slice-4.result.now in
-    subst (All (λ f. f < frame_count layout)) (sym (c.as_slice-5.ensures ∙ c.in_ok-open.ensures))
-    (all_exist layout (open_in state c.frames-2.result) (are_frames layout state c.frames-2.result (sym c.frames-2.ensures)))
+    let old = c.args.self.now.ends.ends in
+    let frames : List ℕ = c.args.frames.now in
+    let readers : List ℕ = c.args.readers.now in
+    let count : ℕ = frame_count layout in
+    let after : List (Option TaskEnd) = c.take_ends.new.ends in
+    let put : after ≡ put_over old frames c.args.run.now.ends count =
+    c.in_ok-take_ends.ensures ∙ ap (λ (rs : List (Option TaskEnd)). put_over old frames rs c.frames.result) c.as_slice.ensures ∙ ap (put_over old frames c.args.run.now.ends) c.frames.ensures in
+    let is : c.in_ok-self.field-0 ≡ open_in after count =
+    c.in_ok-self.ensures ∙ ap (λ (es : List (Option TaskEnd)). filter (λ a. is_none (outcome_at es a)) readers) c.as_slice-4.ensures
+    ∙ still_listed old frames c.args.run.now.ends after readers count c.requires.are_open c.requires.readers put in
+    subst (All (λ f. f < count)) (sym (c.as_slice-5.ensures ∙ is)) (all_exist layout (open_in after count) (are_frames layout after count refl))
+
+pub returns-clause-without_end : goal.returns-clause-without_end
+returns-clause-without_end c =
+    let layout = c.args.layout.now in
+    let old = c.args.self.now.ends.ends in
+    let frames : List ℕ = c.args.frames.now in
+    let readers : List ℕ = c.args.readers.now in
+    let count : ℕ = frame_count layout in
+    let after : List (Option TaskEnd) = c.take_ends.new.ends in
+    let put : after ≡ put_over old frames c.args.run.now.ends count =
+    c.in_ok-take_ends.ensures ∙ ap (λ (rs : List (Option TaskEnd)). put_over old frames rs c.frames.result) c.as_slice.ensures ∙ ap (put_over old frames c.args.run.now.ends) c.frames.ensures in
+    c.in_ok-self.ensures ∙ ap (λ (es : List (Option TaskEnd)). filter (λ a. is_none (outcome_at es a)) readers) c.as_slice-4.ensures
+    ∙ still_listed old frames c.args.run.now.ends after readers count c.requires.are_open c.requires.readers put
+
+pub returns-clause-kept : goal.returns-clause-kept
+returns-clause-kept c = λ activations of.
+    let layout = c.args.layout.now in
+    let old = c.args.self.now.ends.ends in
+    let frames : List ℕ = c.args.frames.now in
+    let readers : List ℕ = c.args.readers.now in
+    let count : ℕ = frame_count layout in
+    let after : List (Option TaskEnd) = c.take_ends.new.ends in
+    let put : after ≡ put_over old frames c.args.run.now.ends count =
+    c.in_ok-take_ends.ensures ∙ ap (λ (rs : List (Option TaskEnd)). put_over old frames rs c.frames.result) c.as_slice.ensures ∙ ap (put_over old frames c.args.run.now.ends) c.frames.ensures in
+    let is : c.in_ok-self.field-0 ≡ open_in after count =
+    c.in_ok-self.ensures ∙ ap (λ (es : List (Option TaskEnd)). filter (λ a. is_none (outcome_at es a)) readers) c.as_slice-4.ensures
+    ∙ still_listed old frames c.args.run.now.ends after readers count c.requires.are_open c.requires.readers put in
+    c.in_ok-self-2.ensures activations of
+    ∙ ap (λ (fs : List ℕ). carried_over activations fs (map kept_of c.as_slice-6.result.now) (map place_of c.args.places.now) c.as_slice-7.result.now) (c.as_slice-5.ensures ∙ is)
+    ∙ ap (λ (ks : List Kept). carried_over activations (open_in after count) (map kept_of ks) (map place_of c.args.places.now) c.as_slice-7.result.now) c.as_slice-6.ensures.value
+    ∙ ap (λ (vs : List (Option Elem)). carried_over activations (open_in after count) (map kept_of c.args.self.now.kept.items) (map place_of c.args.places.now) vs) c.as_slice-7.ensures

@@ -1,0 +1,35 @@
+use Rattle.std.proofs.Common.{arith, ap, drop, List, subst, sym, take, ◌∙◌}
+use Rattle.flow_core_laws.specs.declared.activation.Activation.{Activation}
+use Rattle.os_code.specs.Codes.{parts_of}
+use Rattle.os_code.specs.Outcomes.{control}
+use Rattle.stream_match_layouts.proofs.Sums.{frames_bound}
+use Rattle.epoch_run.specs.Held.{IsHeldOf}
+use Rattle.epoch_run.proofs.Going.{first_created, has_run, opens, whole_layout}
+use Rattle.epoch_run.proofs.standing.Standing.run.Goals as goal
+
+pub overflow_cast-bodies : goal.overflow_cast-bodies
+overflow_cast-bodies g c =
+    omega (arith, frames_bound c.args.self.now.layout (whole_layout c.args.code.now c.args.input.now c.args.budgets c.args.self.now c.requires.budgets c.requires.stands), c.frames.ensures)
+
+pub run_epoch-requires-clause-open : goal.run_epoch-requires-clause-open
+run_epoch-requires-clause-open g c κs within =
+    let s = c.args.self.now in
+    opens c.args.code.now c.args.input.now c.args.budgets s c.requires.budgets c.requires.stands
+    (take c.frames.result (control (parts_of c.args.code.now) s.layout.input_len c.args.budgets.control).activations)
+    (first_created c.args.code.now c.args.input.now c.args.budgets s c.requires.budgets c.requires.stands c.frames.result s.layout.input_len c.frames.ensures c.requires.stands.over)
+
+pub run_epoch-requires-clause-there : goal.run_epoch-requires-clause-there
+run_epoch-requires-clause-there g c κs within =
+    let s = c.args.self.now in
+    record {
+      are_last = c.as_slice.ensures ∙ c.requires.stands.are_last ∙ ap (drop s.first) (sym (first_created c.args.code.now c.args.input.now c.args.budgets s c.requires.budgets c.requires.stands c.frames.result s.layout.input_len c.frames.ensures c.requires.stands.over));
+      have_ended = c.requires.stands.have_ended;
+    }
+
+pub returns-clause-run : goal.returns-clause-run
+returns-clause-run g c =
+    let s = c.args.self.now in
+    has_run c.args.code.now c.args.input.now c.args.budgets s c.requires.budgets c.requires.stands c.later_activations_change_nothing.ensures s.control c.run_epoch.new.held
+    (subst (λ (xs : List Activation). IsHeldOf (parts_of c.args.code.now) xs c.args.input.now c.args.budgets.task c.run_epoch.new.held)
+    (first_created c.args.code.now c.args.input.now c.args.budgets s c.requires.budgets c.requires.stands c.frames.result s.layout.input_len c.frames.ensures c.requires.stands.over)
+    c.in_ok-run_epoch.ensures)
