@@ -118,11 +118,6 @@ impl<'c> ControlRun<'c> {
         }
     }
 
-    /// Takes activations that are run no more: the next ones are made in their lists, which saves asking for memory anew.
-    pub fn reuse(&mut self, ended: List<Activation>)
-        ensures { self.new ≡ self.old }
-    {}
-
     /// How the run has ended, once `advance` has answered true.
     pub fn end(&self) -> Option<ControlEnd>
         ensures { result ≡ end_told self.now }

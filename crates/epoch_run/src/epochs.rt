@@ -80,7 +80,8 @@ pub fn run_epochs_of<R: Threads + Sync, G: Gate>(
 {
     let mut run = Standing::new(alloc, code, input, budgets)?;
     let end = 'epochs: loop {
-        let end = run.go_on(rt, alloc, code, input, budgets, workers, gate, size)?;
+        let next = size.with_waiting(run.held.without_end.len());
+        let end = run.go_on(rt, alloc, code, input, budgets, workers, gate, next)?;
         if let Some(end) = end {
             break 'epochs end;
         }
